@@ -1,0 +1,9 @@
+//! Rows of bits.
+#![tactic(auto)]
+
+mod bits;
+
+pub use bits::BitSet;
+
+#[cfg(test)]
+mod tests;

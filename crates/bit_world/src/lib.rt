@@ -1,0 +1,9 @@
+//! One world's cells as bits.
+#![tactic(auto)]
+
+mod grids;
+
+pub use grids::BitWorld;
+
+#[cfg(test)]
+mod tests;

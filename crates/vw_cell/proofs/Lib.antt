@@ -1,0 +1,4 @@
+pub mod Powers
+pub mod Squares
+pub mod Halves
+pub mod Overlaps

@@ -1,0 +1,4 @@
+pub mod Places
+pub mod Sides
+pub mod Counts
+pub mod Tests

@@ -1,0 +1,5 @@
+pub mod Outside
+pub mod Read
+pub mod Write
+pub mod Put
+pub mod Memory

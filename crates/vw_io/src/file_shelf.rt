@@ -1,0 +1,57 @@
+//! The files of the system as a shelf.
+ghost use Rattle.std.specs.Prelude.{◌≡◌, None};
+
+use crate::file_pieces::{read_file, write_file};
+use crate::shelves::{ReadRefused, Shelf, WriteRefused};
+use std::rt::Files;
+
+/// The files of the system, by path. It tells no content: what the system keeps and gives is trusted.
+///
+/// Each error of the system is a fault, but for a name that a read doesn't find and want of memory.
+/// So a folder in place of a file is a fault, and a write whose folder isn't found. Want of memory
+/// after a write has emptied its file is a fault too, since `Memory` says that no file has changed.
+#[derive(Drop)]
+pub struct FileShelf<R: Files + Drop> {
+    rt: R,
+    faults: u64,
+}
+
+impl<R: Files + Drop> FileShelf<R> {
+    /// A shelf that has counted no fault. It opens nothing.
+    pub fn new(rt: R) -> FileShelf<R>
+        ensures untold { ⟦<FileShelf<R> as Shelf>⟧.files result ≡ None }
+        ensures no_fault { ⟦<FileShelf<R> as Shelf>⟧.faults result ≡ 0 }
+    {
+        FileShelf { rt, faults: 0 }
+    }
+}
+
+impl<R: Files + Drop> Shelf for FileShelf<R> {
+    ghost files = { λ _. None };
+
+    ghost faults = { λ shelf. shelf.faults };
+
+    fn read(&mut self, name: &str, limit: u64, into: &mut Vec<u8>) -> Result<(), ReadRefused> {
+        let refused = match read_file(&self.rt, name, limit, into) {
+            Ok(()) => return Ok(()),
+            Err(refused) => refused,
+        };
+        into.clear();
+        if refused == ReadRefused::Memory {
+            return Err(ReadRefused::Memory);
+        }
+        if refused == ReadRefused::Failed || self.faults == u64::MAX {
+            self.faults = self.faults.saturating_add(1);
+            return Err(ReadRefused::Failed);
+        }
+        Err(refused)
+    }
+
+    fn write(&mut self, name: &str, bytes: &[u8]) -> Result<(), WriteRefused> {
+        let outcome = write_file(&self.rt, name, bytes);
+        if let Err(WriteRefused::Failed) = outcome {
+            self.faults = self.faults.saturating_add(1);
+        }
+        outcome
+    }
+}

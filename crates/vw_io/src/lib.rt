@@ -1,0 +1,24 @@
+//! Files by name and a place to put bytes, each as a trait, with an implementation in memory and one
+//! over the system.
+//!
+//! A trait's ghost members are what it holds, which it may leave untold, and how often it has failed.
+//! The implementations over the system tell no content: they are the trusted edge.
+#![tactic(auto)]
+
+mod file_pieces;
+mod file_shelf;
+mod memory_shelf;
+mod memory_sink;
+mod shelves;
+mod sinks;
+mod std_sink;
+
+pub use file_shelf::FileShelf;
+pub use memory_shelf::MemoryShelf;
+pub use memory_sink::MemorySink;
+pub use shelves::{ReadRefused, Shelf, WriteRefused};
+pub use sinks::{PutRefused, Sink};
+pub use std_sink::StdSink;
+
+#[cfg(test)]
+mod tests;

@@ -1,0 +1,96 @@
+//! Files by name, as a trait.
+ghost use Rattle.std.specs.Prelude.{◌≡◌, ℕ, ◌≤◌, [], length, Option, OnOk, OnErr};
+
+use std::alloc::{AllocError, AllocFailed};
+use thiserror::Error;
+
+/// Why a read gave no bytes.
+#[derive(Clone, Copy, Debug, PartialEq, Eq, Error)]
+pub enum ReadRefused {
+    /// The shelf has no file of that name.
+    #[error("no such file")]
+    Missing,
+    /// The file has more bytes than the limit.
+    #[error("the file is too long")]
+    TooLong,
+    /// The shelf itself failed, and its count of faults rose.
+    #[error("the file could not be read")]
+    Failed,
+    #[error("out of memory")]
+    Memory,
+}
+
+/// Why a write did not put all of its bytes in place.
+#[derive(Clone, Copy, Debug, PartialEq, Eq, Error)]
+pub enum WriteRefused {
+    /// The shelf itself failed, and its count of faults rose.
+    #[error("the file could not be written")]
+    Failed,
+    #[error("out of memory")]
+    Memory,
+}
+
+impl From<AllocError> for ReadRefused {
+    ghost use Rattle.vw_io.specs.declared.shelves.ReadRefused.TheVariants.{Memory};
+
+    ghost from_gives = { λ _ e. e ≡ Memory };
+
+    fn from(_: AllocError) -> ReadRefused {
+        ReadRefused::Memory
+    }
+}
+
+impl From<AllocError> for WriteRefused {
+    ghost use Rattle.vw_io.specs.declared.shelves.WriteRefused.TheVariants.{Memory};
+
+    ghost from_gives = { λ _ e. e ≡ Memory };
+
+    fn from(_: AllocError) -> WriteRefused {
+        WriteRefused::Memory
+    }
+}
+
+impl<T: Drop> From<AllocFailed<T>> for WriteRefused {
+    ghost use Rattle.vw_io.specs.declared.shelves.WriteRefused.TheVariants.{Memory};
+
+    ghost from_gives = { λ _ e. e ≡ Memory };
+
+    fn from(_: AllocFailed<T>) -> WriteRefused {
+        WriteRefused::Memory
+    }
+}
+
+/// Files by name. `Memory` may come at any call, and each other answer has its cause in the files or
+/// in a fault of the shelf.
+///
+/// The count of faults rises at a fault and at nothing else. Where it already stands at the last value
+/// of a `u64`, `Missing` and `TooLong` never come: such a call answers `Failed`.
+pub trait Shelf {
+    ghost use Rattle.vw_io.specs.Outside.{Files};
+    ghost use Rattle.vw_io.specs.Read.{ReadTold, ReadCause};
+    ghost use Rattle.vw_io.specs.Write.{WriteTold, WriteCause};
+
+    /// The files, where the shelf tells them.
+    ghost files: { Self → Option Files };
+
+    /// How often the shelf has failed, up to the last value of a `u64`.
+    ghost faults: { Self → ℕ };
+
+    /// Reads a whole file, of at most `limit` bytes, in place of what `into` had.
+    fn read(&mut self, name: &str, limit: u64, into: &mut Vec<u8>) -> Result<(), ReadRefused>
+        ensures told { ReadTold (files self.old) name.now limit result into.new.items }
+        ensures within { OnOk result (length into.new.items ≤ limit) }
+        ensures empty { OnErr result (into.new.items ≡ []) }
+        ensures unchanged { files self.new ≡ files self.old }
+
+        ensures cause { ReadCause result (faults self.old) (faults self.new) }
+        ensures never_falls { faults self.old ≤ faults self.new };
+
+    /// Makes `bytes` the whole file of that name. After `Failed` the file may hold some first bytes
+    /// of these, or what it held.
+    fn write(&mut self, name: &str, bytes: &[u8]) -> Result<(), WriteRefused>
+        ensures told { WriteTold (files self.old) (files self.new) name.now bytes.now result }
+
+        ensures cause { WriteCause result (faults self.old) (faults self.new) }
+        ensures never_falls { faults self.old ≤ faults self.new };
+}
