@@ -1,0 +1,11 @@
+//! The chunks of a VOX file, as slices of its bytes.
+#![tactic(auto)]
+
+mod chunks;
+mod faults;
+
+pub use chunks::{Chunk, Chunks};
+pub use faults::VoxFault;
+
+#[cfg(test)]
+mod tests;

@@ -1,0 +1,4 @@
+pub mod Bounds
+pub mod Marking
+pub mod Grouping
+pub mod Heading

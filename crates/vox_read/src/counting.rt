@@ -1,0 +1,62 @@
+ghost use Rattle.std.specs.Prelude.{◌≡◌, ◌+◌, ◌*◌, ◌^◌, ◌<◌, ◌≤◌, IfOk};
+ghost use Rattle.vw_cell.specs.Counts.{one_if};
+ghost use Rattle.vox_read.specs.Contents.{IsModel, IsSize, StandsIn, cells_of};
+ghost use Rattle.vox_read.specs.Places.{index_of, place_of, volume_of};
+
+use crate::models::Model;
+use crate::voxels::Voxel;
+use bit_set::BitSet;
+use std::alloc::Global;
+use vw_cell::{Cell, Memory};
+
+/// The number of places of the model whose last voxel has a colour other than 0.
+///
+/// It goes over the voxels once, with one bit for each place of the model's size.
+pub fn cell_count(alloc: Global, model: &Model) -> Result<u32, Memory>
+    requires { IsModel model.now }
+    ensures { IfOk result (λ n. n ≡ cells_of model.now) }
+{
+    let size = model.size;
+    let mut marked = BitSet::new(alloc, volume(size))?;
+    let mut cells: u32 = 0;
+    for voxel in &model.voxels {
+        let now = voxel.colour != 0;
+        let was = marked.put(index(size, *voxel), now);
+        cells = moved(cells, was, now);
+    }
+    Ok(cells)
+}
+
+// The number of places below a size.
+#[tactic(auto, using(crate::proofs::Bounds::volume_small))]
+fn volume(size: Cell) -> usize
+    requires { IsSize size }
+    ensures value { result ≡ volume_of size }
+    ensures bound { result ≤ 2 ^ 24 }
+{
+    usize::from(size.x) * (usize::from(size.y) * usize::from(size.z))
+}
+
+// The number of the voxel's place among those below the size.
+#[tactic(auto, using(crate::proofs::Bounds::index_fits))]
+fn index(size: Cell, v: Voxel) -> usize
+    requires size { IsSize size }
+    requires inside { StandsIn size v }
+    ensures { result ≡ index_of size (place_of v) }
+{
+    (usize::from(v.z) * usize::from(size.y) + usize::from(v.y)) * usize::from(size.x)
+        + usize::from(v.x)
+}
+
+// The count after one place's bit went from `was` to `now`.
+fn moved(cells: u32, was: bool, now: bool) -> u32
+    requires counted { one_if was ≤ cells }
+    requires room { cells + 1 < 2 ^ 32 }
+    ensures { result + one_if was ≡ cells + one_if now }
+{
+    match (was, now) {
+        (false, true) => cells + 1,
+        (true, false) => cells - 1,
+        _ => cells,
+    }
+}
