@@ -1,0 +1,5 @@
+pub mod BitRuns
+pub mod BoxBits
+pub mod BallBits
+pub mod WindowBits
+pub mod LeafLaws

@@ -1,0 +1,39 @@
+ghost use Rattle.std.specs.Prelude.{◌≡◌, ◌+◌, ◌*◌, ◌^◌, ◌<◌, ◌≤◌, ◌/◌, ◌%◌, Option};
+ghost use Rattle.node_shapes.specs.declared.names.Name.{Name};
+ghost use Rattle.node_places.specs.Words.{word_of_child, IsChildAt};
+
+use node_shapes::Name;
+
+/// What stands for a child in a node's key.
+pub fn child_word(child: Option<Name>) -> u32
+    ensures { result ≡ word_of_child child }
+{
+    match child {
+        None => 0,
+        Some(n) => 1 + (u32::from(n.bucket) * 256 + u32::from(n.slot)),
+    }
+}
+
+/// Two children's words as one word of a key, that of the lower octant in the low half.
+pub fn pair_word(low: u32, high: u32) -> u64
+    ensures { result ≡ low + 2 ^ 32 * high }
+{
+    u64::from(low) + (1 << 32) * u64::from(high)
+}
+
+/// The child that a word stands for, in a node of the level above `level`.
+#[tactic(auto, using(crate::proofs::Children::reads_back))]
+pub fn child_in(word: u32, level: u8) -> Option<Name>
+    requires { word ≤ 2 ^ 24 }
+    ensures { (child : Option Name) → IsChildAt level child → word ≡ word_of_child child → result ≡ child }
+{
+    if word == 0 {
+        return None;
+    }
+    let at = word - 1;
+    Some(Name {
+        level,
+        bucket: (at / 256) as u16,
+        slot: (at % 256) as u8,
+    })
+}

@@ -1,0 +1,26 @@
+//! What any store of nodes promises: names, shares, plans, keys and their buckets, and the traits of stores.
+//!
+//! A store keeps each node once. Whoever holds a share of a node may read it and all that stands below it, and may
+//! make a node of shares. What a store holds is seen as a list of trees of names.
+#![tactic(auto)]
+
+mod keys;
+mod laws;
+mod plans;
+mod shares;
+mod stores;
+mod turns;
+mod under;
+
+pub use keys::{Key, bucket_of};
+pub use laws::{children_are_reached, gathered_octants_join_or_go_back, keys_follow_shapes};
+pub use node_kernels::{ball_bits, box_bits, window_bits};
+pub use node_shapes::Name;
+pub use plans::Plan;
+pub use shares::{Full, NodeRefused, Share};
+pub use stores::{Blocks, NodeStore};
+pub use turns::Steps;
+pub use under::Under;
+
+#[cfg(test)]
+mod tests;

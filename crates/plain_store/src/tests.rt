@@ -1,0 +1,78 @@
+ghost use Rattle.std.specs.Prelude.{◌≡◌, ◌≢◌, ◌<◌, ◌≤◌, ◌+◌, ℕ, IfOk, OnOk, OnErr};
+ghost use Rattle.node_shapes.specs.Weights.{number_of};
+ghost use Rattle.node_words.specs.Held.{SameHeld};
+ghost use Rattle.plain_store.specs.Plain.{known_seen};
+
+use crate::PlainStore;
+use node_words::{Full, NodeStore, Plan, Share, Steps, Under};
+use std::marker::Brand;
+use std::sync::ledger::{Blank, Ledger};
+use std::test::Fail;
+use vw_cell::Side;
+
+// The bits of a leaf that was made, read under its share; all shares are given back.
+fn made_and_read<N: NodeStore, L: Ledger>(
+    store: &mut N,
+    bits: u64,
+    steps: &mut Steps<L>,
+) -> Result<u64, Full>
+    requires bits { bits ≢ 0 }
+    requires room { number_of (N.seen store.old).held ≤ 4000 }
+    ensures held { OnOk result (SameHeld (N.seen store.old).held (N.seen store.new).held) }
+    ensures bits { IfOk result (λ read. read ≡ bits) }
+{
+    let share = store.leaf(bits, steps)?;
+    let read = read_under(store, &share);
+    store.back(share, steps);
+    Ok(read)
+}
+
+ghost use Rattle.node_words.specs.Held.{HoldsName, ForHeld};
+ghost use Rattle.node_shapes.specs.Tree.{bits_in};
+
+fn read_under<N: NodeStore>(store: &mut N, share: &Share) -> u64
+    requires held { HoldsName (N.seen store.old).held share.now }
+    requires level { share.now.level ≡ 0 }
+    ensures bits { ForHeld (N.seen store.old).held share.now (λ t. result ≡ bits_in t) }
+    ensures seen { N.seen store.new ≡ N.seen store.old }
+{
+    let mut under = Under::of(store, share);
+    under.bits()
+}
+
+fn read_back<L: Ledger>(store: &mut PlainStore, bits: u64, blank: Blank) -> Result<u64, Full>
+    requires name { blank.name ≡ L.name }
+    requires parts { blank.parts ≡ L.parts }
+    requires some { 0 < L.parts }
+    requires bits { bits ≢ 0 }
+    requires room { number_of (known_seen store.old).held ≤ 4000 }
+    ensures held { OnOk result (SameHeld (known_seen store.old).held (known_seen store.new).held) }
+    ensures bits { IfOk result (λ read. read ≡ bits) }
+{
+    let mut steps: Steps<L> = Steps::start(blank);
+    made_and_read(store, bits, &mut steps)
+}
+
+#[test]
+fn leaves_are_read_back(rt: HostRuntime) -> Result<(), Fail> {
+    let side = Side::new(16).ok_or("a side")?;
+    let plan = Plan::even(side, 1, 2).ok_or("a plan")?;
+    let mut store = PlainStore::new(rt.alloc(), &plan)?;
+    for bits in [5u64, 1 << 63, 5, 1 << 63] {
+        if bits != 0 && store.held() == 0 {
+            let read = read_back::<Brand>(&mut store, bits, Blank::new(1));
+            assert!(rt; read == Ok(bits), "at {bits}");
+        }
+    }
+    if store.held() == 0 {
+        let read = read_back::<Brand>(&mut store, 7, Blank::new(1));
+        assert!(rt;
+            read == Err(Full {
+                level: 0,
+                bucket: 0
+            })
+        );
+    }
+    assert_eq!(rt; store.held(), 0);
+    Ok(())
+}
