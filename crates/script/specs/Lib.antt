@@ -1,0 +1,6 @@
+pub mod Lines
+pub mod Faults
+pub mod Numbers
+pub mod Commands
+pub mod Scripts
+pub mod Fitting

@@ -1,0 +1,20 @@
+//! Scripts: the commands that a text gives, line by line, or the first fault that it has.
+//!
+//! The language stands in `specs/`: its lines, words and numbers, a row for each command, and the
+//! order in which the faults of a line decide.
+#![tactic(auto)]
+
+mod boxes;
+mod commands;
+mod faults;
+mod lines;
+mod numbers;
+mod reading;
+mod words;
+
+pub use commands::{Command, Question, Script, ScriptLine};
+pub use faults::{ScriptFault, ScriptKind};
+pub use reading::read_script;
+
+#[cfg(test)]
+mod tests;
