@@ -1,0 +1,9 @@
+//! One script run over one world of bits.
+#![tactic(auto)]
+
+mod runs;
+
+pub use runs::{Ran, run_script};
+
+#[cfg(test)]
+mod tests;

@@ -1,0 +1,115 @@
+ghost use Rattle.std.specs.Prelude.{◌≡◌, ◌^◌, ◌≤◌, [], length, All, IfOk};
+ghost use Rattle.script.specs.Fitting.{CommandFits, IsBuilt};
+ghost use Rattle.history_model.specs.Logs.{Fits};
+ghost use Rattle.bit_run.specs.Runs.{IsRun};
+ghost use Rattle.bit_run.specs.Steps.{IsPut, Puts, Changes, Step};
+
+use bit_world::BitWorld;
+use history_model::{Act, Record};
+use script::{Command, Question, Script, ScriptLine};
+use std::alloc::Global;
+use transcript::{Answer, LineAnswer};
+use vw_cell::{Memory, Side};
+
+/// The most records of a history.
+const RECORDS: usize = 65_535;
+
+/// What a script's run leaves: the records of its accepted changes, all of session 0, and one answer
+/// for each of its commands.
+#[derive(Drop)]
+pub struct Ran {
+    pub records: Vec<Record>,
+    pub answers: Vec<LineAnswer>,
+}
+
+/// Runs a script that was read for a world of this side, from an empty world.
+///
+/// All memory is taken before the first command: one bit for each cell of the world, and room for all
+/// answers and records.
+pub fn run_script(alloc: Global, side: Side, script: &Script) -> Result<Ran, Memory>
+    requires fits { All (λ l. CommandFits (2 ^ side) [] l.command) script.now }
+    requires built { All (λ l. IsBuilt l.command) script.now }
+    ensures { IfOk result (λ ran. IsRun side script.now ran.records.items ran.answers.items) }
+{
+    let lines = script.lines.as_slice();
+    let mut world = BitWorld::new(alloc, side)?;
+    let mut answers = Vec::with_capacity(alloc, lines.len())?;
+    let mut records = Vec::with_capacity(alloc, lines.len().min(RECORDS))?;
+    for line in lines {
+        let a = answer(&mut world, &mut records, *line)?;
+        answers.push(a)?;
+    }
+    Ok(Ran { records, answers })
+}
+
+// Does what the line asks for, and answers it.
+fn answer(
+    world: &mut BitWorld,
+    records: &mut Vec<Record>,
+    l: ScriptLine,
+) -> Result<LineAnswer, Memory>
+    requires fits { CommandFits (2 ^ world.old.exponent) [] l.command }
+    requires built { IsBuilt l.command }
+    requires few { length records.old.items ≤ 65535 }
+    ensures { IfOk result (λ a. Step world.old records.old.items l world.new records.new.items a) }
+{
+    match l.command {
+        Command::Edit { act, once: _ } => change(world, records, l.line, act),
+        Command::Ask {
+            version: _,
+            question: Question::Count(part),
+        } => {
+            let cells = world.count(part);
+            Ok(answered(l.line, records.len(), Answer::Count(cells)))
+        }
+    }
+}
+
+// Accepts the change, or refuses it where the history is full.
+fn change(
+    world: &mut BitWorld,
+    records: &mut Vec<Record>,
+    line: u32,
+    act: Act,
+) -> Result<LineAnswer, Memory>
+    requires fits { Fits (2 ^ world.old.exponent) [] act }
+    requires built { IsPut act }
+    requires few { length records.old.items ≤ 65535 }
+    ensures { IfOk result (λ a. Changes world.old records.old.items line act world.new records.new.items a) }
+{
+    if records.len() >= RECORDS {
+        return Ok(answered(line, records.len(), Answer::LogFull));
+    }
+    put_act(world, act);
+    records.push(Record {
+        session: 0,
+        line,
+        act,
+    })?;
+    Ok(answered(line, records.len(), Answer::Done))
+}
+
+// The line's answer, where there are so many records now.
+fn answered(line: u32, now: usize, answer: Answer) -> LineAnswer
+    requires { now ≤ 65535 }
+    ensures { result ≡ record { line = line; at = now; answer = answer } }
+{
+    LineAnswer {
+        line,
+        at: now as u32,
+        answer,
+    }
+}
+
+// Makes the change in the bits.
+fn put_act(world: &mut BitWorld, act: Act)
+    requires fits { Fits (2 ^ world.old.exponent) [] act }
+    requires built { IsPut act }
+    ensures { Puts act world.old world.new }
+{
+    match act {
+        Act::Fill(b) => world.put(b, true),
+        Act::Erase(b) => world.put(b, false),
+        _ => unreachable!(),
+    }
+}

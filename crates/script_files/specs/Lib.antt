@@ -1,0 +1,4 @@
+pub mod Orders
+pub mod Asking
+pub mod Outcomes
+pub mod Stages

@@ -1,0 +1,124 @@
+-- What each stage of a run gives.
+use Rattle.std.specs.Prelude.{◌≡◌, ℕ, ◌⊎◌, ◌∷◌, [], List, length, Option, Some, None, Result, Ok, Err, ⊤}
+use Rattle.vw_io.specs.Outside.{Files, Rose, Stayed}
+use Rattle.vw_io.specs.Write.{WriteTold}
+use Rattle.vw_io.specs.declared.shelves.WriteRefused.TheVariants.{Failed}
+use Rattle.vox_read.specs.declared.faults.VoxFault.{VoxFault}
+use Rattle.vox_read.specs.declared.faults.VoxFault.TheVariants.{NotPlain}
+use Rattle.vox_read.specs.declared.faults.VoxFault.TheVariants as faults
+use Rattle.vox_read.specs.Contents.{Content}
+use Rattle.vox_read.specs.Plain.{IsPlainFile}
+use Rattle.history_model.specs.declared.histories.Record.{Record}
+use Rattle.history_model.specs.Journal.{journal_of}
+use Rattle.transcript.specs.declared.answers.LineAnswer.{LineAnswer}
+use Rattle.transcript.specs.Lines.{transcript_of}
+use Rattle.script.specs.declared.commands.ScriptLine.{ScriptLine}
+use Rattle.script.specs.declared.faults.ScriptFault.{ScriptFault}
+use Rattle.script.specs.declared.faults.ScriptKind.{ScriptKind}
+use Rattle.script.specs.declared.faults.ScriptKind.TheVariants as kinds
+use Rattle.script.specs.Commands.{names_now}
+use Rattle.script.specs.Fitting.{IsOfText}
+use Rattle.script.specs.Scripts.{commands_of}
+use Rattle.bit_run.specs.Runs.{log_of}
+use Rattle.script_files.specs.declared.orders.Written.{Written}
+use Rattle.script_files.specs.declared.orders.RunRefused.{RunRefused}
+use Rattle.script_files.specs.declared.orders.RunRefused.TheVariants.{Missing, ReadFault, TooLong, Vox, Script, Collides, WriteFault, Memory}
+use Rattle.script_files.specs.Orders.{Asked, Output, NoFile, FileIsOver, journal_output}
+use Rattle.script_files.specs.Orders as orders
+use Rattle.script_files.specs.Outcomes.{Misses, FailsAtInput, Exceeds, IsPlain, IsAccepted, AreWritten, FailsAt, transcript_output}
+
+-- an input of this name was not taken
+abbrev pub InputRefused : RunRefused → Option Files → List ℕ → ℕ → ℕ → ℕ → Type 0
+InputRefused (Missing at) files name limit faults risen = (at.now ≡ name) × (NoFile files name × Stayed faults risen)
+InputRefused (ReadFault at) files name limit faults risen = (at.now ≡ name) × Rose faults risen
+InputRefused (TooLong at) files name limit faults risen = (at.now ≡ name) × (FileIsOver files name limit × Stayed faults risen)
+InputRefused Memory files name limit faults risen = risen ≡ faults
+InputRefused _ files name limit faults risen = ⊥
+
+-- one of the inputs was not taken
+abbrev pub InputsRefused : RunRefused → Asked → Option Files → ℕ → ℕ → Type 0
+InputsRefused (Missing at) asked files faults risen = Misses asked files at.now × Stayed faults risen
+InputsRefused (ReadFault at) asked files faults risen = FailsAtInput asked files at.now × Rose faults risen
+InputsRefused (TooLong at) asked files faults risen = Exceeds asked files at.now × Stayed faults risen
+InputsRefused Memory asked files faults risen = risen ≡ faults
+InputsRefused _ asked files faults risen = ⊥
+
+-- the VOX file is refused
+abbrev pub NotPlainAt : VoxFault → List ℕ → Type 0
+NotPlainAt faults.Memory file = ⊥
+NotPlainAt (NotPlain at) file = (at ≡ 8) × ((models : List Content) → IsPlainFile file models → ⊥)
+
+abbrev pub FileRefused : RunRefused → List ℕ → Type 0
+FileRefused (Vox fault) file = NotPlainAt fault file
+FileRefused Memory file = ⊤
+FileRefused _ file = ⊥
+
+abbrev pub of_vox : VoxFault → RunRefused
+of_vox faults.Memory = Memory
+of_vox fault = Vox fault
+
+-- the script is refused
+abbrev pub of_kind : ScriptKind → ScriptFault → RunRefused
+of_kind kinds.Memory fault = Memory
+of_kind _ fault = Script fault
+
+abbrev pub of_fault : ScriptFault → RunRefused
+of_fault fault = of_kind fault.kind fault
+
+pub record IsFirst (fault : ScriptFault) (side : ℕ) (script : List ℕ) : Type 0 where
+  pub is_of_text : IsOfText fault.kind
+  pub first : commands_of names_now side [] script ≡ Err fault
+
+abbrev pub ScriptRefused : RunRefused → ℕ → List ℕ → Type 0
+ScriptRefused (Script fault) side script = IsFirst fault side script
+ScriptRefused Memory side script = ⊤
+ScriptRefused _ side script = ⊥
+
+-- the names collide
+pub record Collide (asked : Asked) (file script : List ℕ) : Type 0 where
+  pub plain : IsPlain file
+  pub lines : List ScriptLine
+  pub read : commands_of names_now asked.side [] script ≡ Ok lines
+  pub collides : orders.Collides asked
+
+-- the inputs were taken, and there is no run
+abbrev pub Declined : RunRefused → Asked → List ℕ → List ℕ → Type 0
+Declined (Vox fault) asked file script = NotPlainAt fault file
+Declined (Script fault) asked file script = IsPlain file × IsFirst fault asked.side script
+Declined Collides asked file script = Collide asked file script
+Declined Memory asked file script = ⊤
+Declined _ asked file script = ⊥
+
+-- the journal's text, where one is asked for
+abbrev pub JournalIs : Option (List ℕ) → List ℕ → List ℕ → Type 0
+JournalIs None text want = ⊤
+JournalIs (Some name) text want = text ≡ want
+
+-- the texts of a run's records and answers
+pub record AreTexts (asked : Asked) (records : List Record) (answers : List LineAnswer) (number : ℕ) (transcript journal : List ℕ) : Type 0 where
+  pub counted : number ≡ length records
+  pub transcript_is : transcript ≡ transcript_of answers
+  pub journal_is : JournalIs asked.journal journal (journal_of (log_of asked.side records))
+
+-- the inputs have no fault, and these are the texts of a run
+pub record IsPrepared (asked : Asked) (file script : List ℕ) (number : ℕ) (transcript journal : List ℕ) : Type 0 where
+  pub records : List Record
+  pub answers : List LineAnswer
+  pub accepted : IsAccepted asked file script records answers
+  pub texts : AreTexts asked records answers number transcript journal
+
+-- what the write of one output leaves
+abbrev pub WriteEnds : Result (Unit {0}) RunRefused → Written → List ℕ → List ℕ → Option Files → Option Files → ℕ → ℕ → Type 0
+WriteEnds (Ok done) w name bytes before now faults risen = WriteTold before now name bytes (Ok done) × (risen ≡ faults)
+WriteEnds (Err (WriteFault at)) w name bytes before now faults risen = (at ≡ w) × (WriteTold before now name bytes (Err Failed) × Rose faults risen)
+WriteEnds (Err Memory) w name bytes before now faults risen = (now ≡ before) × (risen ≡ faults)
+WriteEnds (Err _) w name bytes before now faults risen = ⊥
+
+-- what the writes of all outputs leave
+abbrev pub WritesEnd : Result (Unit {0}) RunRefused → Asked → List ℕ → List ℕ → Option Files → Option Files → ℕ → ℕ → Type 0
+WritesEnd (Ok _) asked transcript journal before now faults risen =
+    AreWritten (transcript_output asked transcript ∷ journal_output asked.journal journal) before now × (risen ≡ faults)
+WritesEnd (Err (WriteFault at)) asked transcript journal before now faults risen = FailsAt at asked transcript journal before now × Rose faults risen
+WritesEnd (Err Memory) asked transcript journal before now faults risen =
+    ((now ≡ before) ⊎ AreWritten (transcript_output asked transcript ∷ []) before now) × (risen ≡ faults)
+WritesEnd (Err _) asked transcript journal before now faults risen = ⊥

@@ -1,0 +1,158 @@
+ghost use Rattle.std.specs.Prelude.{None};
+
+use crate::{Order, RunRefused, Written, run_files};
+use script::{ScriptFault, ScriptKind};
+use std::alloc::Global;
+use std::test::Fail;
+use vox_read::VoxFault;
+use vw_cell::Side;
+use vw_io::{MemoryShelf, ReadRefused, Shelf, WriteRefused};
+
+/// A model of one cell, 64 bytes.
+const ONE: [u8; 64] =
+    *b"VOX \x96\0\0\0MAIN\0\0\0\0\x2c\0\0\0SIZE\x0c\0\0\0\0\0\0\0\x01\0\0\0\x01\0\0\0\x01\0\0\0XYZI\x08\0\0\0\0\0\0\0\x01\0\0\0\0\0\0\x01";
+
+const GOOD: &str = "fill 0 0 0 2 1 1\nerase 1 0 0 1 1 1\ncount 0 0 0 8 8 8\n";
+
+const ANSWERS: &str = "1 @1 ok\n2 @2 ok\n3 @2 count 1\n";
+
+const JOURNAL: &str =
+    "voxdag journal 1\nside 8\n1 0 1 fill 0 0 0 2 1 1\n2 0 2 erase 1 0 0 1 1 1\nend\n";
+
+const BAD: &str = "fill 0 0 0 0 1 1\n";
+
+const RANGE: ScriptFault = ScriptFault {
+    line: 1,
+    kind: ScriptKind::Range,
+};
+
+fn shelf(alloc: Global) -> Result<MemoryShelf, Fail> {
+    let mut shelf = MemoryShelf::new(alloc);
+    shelf.write("one.vox", &ONE)?;
+    shelf.write("good", GOOD.as_bytes())?;
+    shelf.write("bad", BAD.as_bytes())?;
+    shelf.write("empty.out", &ONE)?;
+    shelf.write("empty", b"")?;
+    shelf.write("bad.out", b"kept")?;
+    Ok(shelf)
+}
+
+#[test]
+fn runs_write_all_or_nothing(rt: HostRuntime) -> Result<(), Fail> {
+    let side = Side::new(8).ok_or("a side")?;
+    let range = Err(RunRefused::Script(RANGE));
+    let not_plain = Err(RunRefused::Vox(VoxFault::NotPlain(8)));
+    let collides = Err(RunRefused::Collides);
+    let missing = Err(RunRefused::Missing("no"));
+    let all = Some(ANSWERS);
+    for (file, script, journal, want, transcript, text) in [
+        ("one.vox", "good", Some("j"), Ok(2), all, Some(JOURNAL)),
+        ("one.vox", "good", None, Ok(2), all, None),
+        ("one.vox", "bad", Some("j"), range, Some("kept"), None),
+        ("good", "good", Some("j"), not_plain, None, None),
+        ("no", "no", Some("j"), missing, None, None),
+        ("one.vox", "no", Some("j"), missing, None, None),
+        ("one.vox", "good", Some("good"), collides, None, None),
+        ("one.vox", "good", Some("good.out"), collides, None, None),
+        ("one.vox", "good", Some("one.vox"), collides, None, None),
+    ] {
+        let mut shelf = shelf(rt.alloc())?;
+        let order = Order {
+            side,
+            journal,
+            file,
+            script,
+        };
+        let ended = run_files(rt.alloc(), order, &mut shelf);
+        assert_eq!(rt; ended, want, "at {file} {script}");
+        let name = format!(in rt.alloc(); "{script}.out")?;
+        let put = shelf.file(name.as_str());
+        assert_eq!(rt; put, transcript.map(|t| t.as_bytes()), "at {script}");
+        assert_eq!(rt; shelf.file("j"), text.map(|t| t.as_bytes()), "at {script}");
+    }
+    Ok(())
+}
+
+#[test]
+fn a_transcript_takes_no_input(rt: HostRuntime) -> Result<(), Fail> {
+    let side = Side::new(8).ok_or("a side")?;
+    let mut shelf = shelf(rt.alloc())?;
+    let order = Order {
+        side,
+        journal: None,
+        file: "empty.out",
+        script: "empty",
+    };
+    let ended = run_files(rt.alloc(), order, &mut shelf);
+    assert_eq!(rt; ended, Err(RunRefused::Collides));
+    assert_eq!(rt; shelf.file("empty.out"), Some(ONE.as_slice()));
+    Ok(())
+}
+
+/// Fails at the write after `left` more.
+#[derive(Drop)]
+struct BreakingShelf {
+    inner: MemoryShelf,
+    left: u32,
+    faults: u64,
+}
+
+impl Shelf for BreakingShelf {
+    ghost files = { λ _. None };
+
+    ghost faults = { λ shelf. shelf.faults };
+
+    fn read(&mut self, name: &str, limit: u64, into: &mut Vec<u8>) -> Result<(), ReadRefused> {
+        match self.inner.read(name, limit, into) {
+            Ok(()) => Ok(()),
+            Err(ReadRefused::Memory) => Err(ReadRefused::Memory),
+            Err(_) => {
+                self.faults = self.faults.saturating_add(1);
+                Err(ReadRefused::Failed)
+            }
+        }
+    }
+
+    fn write(&mut self, name: &str, bytes: &[u8]) -> Result<(), WriteRefused> {
+        if self.left == 0 {
+            self.faults = self.faults.saturating_add(1);
+            return Err(WriteRefused::Failed);
+        }
+        self.left -= 1;
+        self.inner
+            .write(name, bytes)
+            .map_err(|_| WriteRefused::Memory)
+    }
+}
+
+#[test]
+fn a_broken_write_is_named(rt: HostRuntime) -> Result<(), Fail> {
+    let side = Side::new(8).ok_or("a side")?;
+    let transcript = Err(RunRefused::WriteFault(Written::Transcript("good")));
+    let journal = Err(RunRefused::WriteFault(Written::Journal("j")));
+    for (left, want, put, text) in [
+        (0, transcript, None, None),
+        (1, journal, Some(ANSWERS), None),
+        (2, Ok(2), Some(ANSWERS), Some(JOURNAL)),
+    ] {
+        let inner = shelf(rt.alloc())?;
+        let mut shelf = BreakingShelf {
+            inner,
+            left,
+            faults: 0,
+        };
+        let order = Order {
+            side,
+            journal: Some("j"),
+            file: "one.vox",
+            script: "good",
+        };
+        let ended = run_files(rt.alloc(), order, &mut shelf);
+        assert_eq!(rt; ended, want, "at {left}");
+        let found = shelf.inner.file("good.out");
+        assert_eq!(rt; found, put.map(|t| t.as_bytes()), "at {left}");
+        let found = shelf.inner.file("j");
+        assert_eq!(rt; found, text.map(|t| t.as_bytes()), "at {left}");
+    }
+    Ok(())
+}
