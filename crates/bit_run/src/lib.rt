@@ -2,6 +2,7 @@
 #![tactic(auto)]
 
 mod runs;
+mod stencils;
 
 pub use runs::{Ran, run_script};
 

@@ -1,14 +1,17 @@
-ghost use Rattle.std.specs.Prelude.{◌≡◌, ◌^◌, ◌≤◌, [], length, All, IfOk};
+ghost use Rattle.std.specs.Prelude.{◌≡◌, ◌^◌, ◌≤◌, length, All, IfOk};
+ghost use Rattle.vox_read.specs.Contents.{AreModels};
 ghost use Rattle.script.specs.Fitting.{CommandFits, IsBuilt};
 ghost use Rattle.history_model.specs.Logs.{Fits};
 ghost use Rattle.bit_run.specs.Runs.{IsRun};
 ghost use Rattle.bit_run.specs.Steps.{IsPut, Puts, Changes, Step};
 
+use crate::stencils::{Stencil, stencils};
 use bit_world::BitWorld;
 use history_model::{Act, Record};
 use script::{Command, Question, Script, ScriptLine};
 use std::alloc::Global;
 use transcript::{Answer, LineAnswer};
+use vox_read::Models;
 use vw_cell::{Memory, Side};
 
 /// The most records of a history.
@@ -22,21 +25,28 @@ pub struct Ran {
     pub answers: Vec<LineAnswer>,
 }
 
-/// Runs a script that was read for a world of this side, from an empty world.
+/// Runs a script that was read for a world of this side and these models, from an empty world.
 ///
-/// All memory is taken before the first command: one bit for each cell of the world, and room for all
-/// answers and records.
-pub fn run_script(alloc: Global, side: Side, script: &Script) -> Result<Ran, Memory>
-    requires fits { All (λ l. CommandFits (2 ^ side) [] l.command) script.now }
+/// All memory is taken before the first command: one bit for each cell of the world, room for all
+/// answers and records, and a list of the cells of each model.
+pub fn run_script(
+    alloc: Global,
+    side: Side,
+    models: &Models,
+    script: &Script,
+) -> Result<Ran, Memory>
+    requires models { AreModels models.now }
+    requires fits { All (λ l. CommandFits (2 ^ side) models.now l.command) script.now }
     requires built { All (λ l. IsBuilt l.command) script.now }
-    ensures { IfOk result (λ ran. IsRun side script.now ran.records.items ran.answers.items) }
+    ensures { IfOk result (λ ran. IsRun side models.now script.now ran.records.items ran.answers.items) }
 {
     let lines = script.lines.as_slice();
+    let stencils = stencils(alloc, models)?;
     let mut world = BitWorld::new(alloc, side)?;
     let mut answers = Vec::with_capacity(alloc, lines.len())?;
     let mut records = Vec::with_capacity(alloc, lines.len().min(RECORDS))?;
     for line in lines {
-        let a = answer(&mut world, &mut records, *line)?;
+        let a = answer(&mut world, &mut records, &stencils, *line)?;
         answers.push(a)?;
     }
     Ok(Ran { records, answers })
@@ -46,15 +56,17 @@ pub fn run_script(alloc: Global, side: Side, script: &Script) -> Result<Ran, Mem
 fn answer(
     world: &mut BitWorld,
     records: &mut Vec<Record>,
+    stencils: &[Stencil],
     l: ScriptLine,
 ) -> Result<LineAnswer, Memory>
-    requires fits { CommandFits (2 ^ world.old.exponent) [] l.command }
+    requires small { world.old.exponent ≤ 12 }
+    requires fits { CommandFits (2 ^ world.old.exponent) stencils.now l.command }
     requires built { IsBuilt l.command }
     requires few { length records.old.items ≤ 65535 }
-    ensures { IfOk result (λ a. Step world.old records.old.items l world.new records.new.items a) }
+    ensures { IfOk result (λ a. Step stencils.now world.old records.old.items l world.new records.new.items a) }
 {
     match l.command {
-        Command::Edit { act, once: _ } => change(world, records, l.line, act),
+        Command::Edit { act, once: _ } => change(world, records, stencils, l.line, act),
         Command::Ask {
             version: _,
             question: Question::Count(part),
@@ -69,18 +81,20 @@ fn answer(
 fn change(
     world: &mut BitWorld,
     records: &mut Vec<Record>,
+    stencils: &[Stencil],
     line: u32,
     act: Act,
 ) -> Result<LineAnswer, Memory>
-    requires fits { Fits (2 ^ world.old.exponent) [] act }
+    requires small { world.old.exponent ≤ 12 }
+    requires fits { Fits (2 ^ world.old.exponent) stencils.now act }
     requires built { IsPut act }
     requires few { length records.old.items ≤ 65535 }
-    ensures { IfOk result (λ a. Changes world.old records.old.items line act world.new records.new.items a) }
+    ensures { IfOk result (λ a. Changes stencils.now world.old records.old.items line act world.new records.new.items a) }
 {
     if records.len() >= RECORDS {
         return Ok(answered(line, records.len(), Answer::LogFull));
     }
-    put_act(world, act);
+    put_act(world, stencils, act);
     records.push(Record {
         session: 0,
         line,
@@ -102,14 +116,16 @@ fn answered(line: u32, now: usize, answer: Answer) -> LineAnswer
 }
 
 // Makes the change in the bits.
-fn put_act(world: &mut BitWorld, act: Act)
-    requires fits { Fits (2 ^ world.old.exponent) [] act }
+fn put_act(world: &mut BitWorld, stencils: &[Stencil], act: Act)
+    requires small { world.old.exponent ≤ 12 }
+    requires fits { Fits (2 ^ world.old.exponent) stencils.now act }
     requires built { IsPut act }
-    ensures { Puts act world.old world.new }
+    ensures { Puts stencils.now act world.old world.new }
 {
     match act {
         Act::Fill(b) => world.put(b, true),
         Act::Erase(b) => world.put(b, false),
+        Act::Stamp(m, at) => stencils[usize::from(m)].stamp(world, at),
         _ => unreachable!(),
     }
 }

@@ -1,75 +1,62 @@
-ghost use Rattle.std.specs.Prelude.{◌≡◌, ◌+◌, ◌≤◌, [], ◌∷◌, IfOk, None, false};
-ghost use Rattle.script.specs.declared.commands.Command.TheVariants.{Edit, Ask};
-ghost use Rattle.script.specs.declared.commands.Question.TheVariants.{Count};
-ghost use Rattle.history_model.specs.Logs.{Fits};
-ghost use Rattle.script.specs.Fitting.{IsBuilt};
-ghost use Rattle.vw_cell.specs.Places.{FitsAt};
+ghost use Rattle.std.specs.Prelude.{◌≡◌, IfOk};
+ghost use Rattle.vox_read.specs.Contents.{AreModels};
 
 use crate::{Ran, run_script};
 use history_model::{Act, Record};
-use script::{Command, Question, Script, ScriptLine};
+use script::read_script;
 use std::alloc::Global;
 use std::test::Fail;
 use transcript::{Answer, LineAnswer};
+use vox_read::{Model, Models, Voxel};
 use vw_cell::{Boxed, Cell, Side};
 
-// A box at the x axis of the world of side 8.
-fn part(x: u16, width: u16, height: u16) -> Boxed
-    requires { (1 ≤ width) × (x + width ≤ 8) × (1 ≤ height) × (height ≤ 8) }
-    ensures { FitsAt result.at result.size 8 }
-{
-    Boxed {
-        at: Cell { x, y: 0, z: 0 },
-        size: Cell {
-            x: width,
-            y: height,
-            z: height,
-        },
-    }
-}
-
-fn edit(line: u32, act: Act) -> ScriptLine
-    ensures { result ≡ record { line = line; command = Edit act false } }
-{
-    ScriptLine {
-        line,
-        command: Command::Edit { act, once: false },
-    }
-}
-
-fn count(line: u32, part: Boxed) -> ScriptLine
-    ensures { result ≡ record { line = line; command = Ask None (Count part) } }
-{
-    ScriptLine {
-        line,
-        command: Command::Ask {
-            version: None,
-            question: Question::Count(part),
-        },
-    }
-}
-
-// A script of two changes and a count.
-fn script_of(alloc: Global, first: Act, second: Act, counted: Boxed) -> Result<Script, Fail>
-    ensures { IfOk result (λ s. s ≡ record { line = 1; command = Edit first false } ∷ record { line = 2; command = Edit second false } ∷ record { line = 3; command = Ask None (Count counted) } ∷ []) }
-{
-    let mut lines = Vec::with_capacity(alloc, 3)?;
-    lines.push(edit(1, first))?;
-    lines.push(edit(2, second))?;
-    lines.push(count(3, counted))?;
-    Ok(Script { lines })
-}
-
-// What the script of these leaves in the world of side 8.
-fn run(alloc: Global, first: Act, second: Act, counted: Boxed) -> Result<Ran, Fail>
-    requires first { Fits 8 [] first × IsBuilt (Edit first false) }
-    requires second { Fits 8 [] second × IsBuilt (Edit second false) }
-    requires counted { FitsAt counted.at counted.size 8 }
+// What the script of this text leaves in the world of side 8.
+fn run(alloc: Global, models: &Models, text: &[u8]) -> Result<Ran, Fail>
+    requires { AreModels models.now }
 {
     let side = Side::new(8).ok_or("a side")?;
-    let script = script_of(alloc, first, second, counted)?;
-    let ran = run_script(alloc, side, &script).map_err(|_| "out of memory")?;
+    let script = read_script(alloc, text, side, models).map_err(|_| "a script")?;
+    let ran = run_script(alloc, side, models, &script).map_err(|_| "out of memory")?;
     Ok(ran)
+}
+
+// The model of size 2 1 1 with two voxels at x = 1, of these colours.
+fn two_voxels(alloc: Global, first: u8, last: u8) -> Result<Models, Fail>
+    ensures { IfOk result AreModels }
+{
+    let size = Cell { x: 2, y: 1, z: 1 };
+    let mut voxels = Vec::with_capacity(alloc, 2)?;
+    voxels.push(voxel(first))?;
+    voxels.push(voxel(last))?;
+    let mut list = Vec::with_capacity(alloc, 1)?;
+    list.push(Model { size, voxels })?;
+    Ok(Models { list })
+}
+
+fn voxel(colour: u8) -> Voxel
+    ensures { result ≡ record { x = 1; y = 0; z = 0; colour = colour } }
+{
+    Voxel {
+        x: 1,
+        y: 0,
+        z: 0,
+        colour,
+    }
+}
+
+fn boxed(at: (u16, u16, u16), size: (u16, u16, u16)) -> Boxed {
+    Boxed {
+        at: Cell {
+            x: at.0,
+            y: at.1,
+            z: at.2,
+        },
+        size: Cell {
+            x: size.0,
+            y: size.1,
+            z: size.2,
+        },
+    }
 }
 
 fn answered(line: u32, at: u32, answer: Answer) -> LineAnswer {
@@ -86,19 +73,55 @@ fn entry(line: u32, act: Act) -> Record {
 
 #[test]
 fn changes_are_made_and_counted(rt: HostRuntime) -> Result<(), Fail> {
-    let pair = Act::Fill(part(0, 2, 1));
-    let erased = Act::Erase(part(1, 1, 1));
-    let ran = run(rt.alloc(), pair, erased, part(0, 8, 8))?;
+    let models = two_voxels(rt.alloc(), 1, 1)?;
+    let text = b"fill 0 0 0 2 1 1\nerase 1 0 0 1 1 1\ncount 0 0 0 8 8 8";
+    let ran = run(rt.alloc(), &models, text)?;
     let answers = [
         answered(1, 1, Answer::Done),
         answered(2, 2, Answer::Done),
         answered(3, 2, Answer::Count(1)),
     ];
     assert_eq!(rt; ran.answers.as_slice(), answers.as_slice());
-    let records = [entry(1, pair), entry(2, erased)];
+    let records = [
+        entry(1, Act::Fill(boxed((0, 0, 0), (2, 1, 1)))),
+        entry(2, Act::Erase(boxed((1, 0, 0), (1, 1, 1)))),
+    ];
     assert_eq!(rt; ran.records.as_slice(), records.as_slice());
-    let ran = run(rt.alloc(), Act::Fill(part(0, 8, 8)), pair, part(0, 8, 8))?;
+    let text = b"fill 0 0 0 8 8 8\nfill 0 0 0 2 1 1\ncount 0 0 0 8 8 8";
+    let ran = run(rt.alloc(), &models, text)?;
     let counted = ran.answers.last().ok_or("an answer")?;
     assert_eq!(rt; *counted, answered(3, 2, Answer::Count(512)));
+    Ok(())
+}
+
+#[test]
+fn stamps_set_the_cells_of_a_model(rt: HostRuntime) -> Result<(), Fail> {
+    let text = b"stamp 0 6 7 7\ncount 0 0 0 8 8 8\ncount 7 7 7 1 1 1";
+    for (first, last, cells) in [(5, 6, 1), (5, 0, 0), (0, 5, 1)] {
+        let models = two_voxels(rt.alloc(), first, last)?;
+        let ran = run(rt.alloc(), &models, text)?;
+        let answers = [
+            answered(1, 1, Answer::Done),
+            answered(2, 1, Answer::Count(cells)),
+            answered(3, 1, Answer::Count(cells)),
+        ];
+        assert_eq!(rt;
+            ran.answers.as_slice(),
+            answers.as_slice(),
+            "colours {first} and {last}"
+        );
+        let records = [entry(1, Act::Stamp(0, Cell { x: 6, y: 7, z: 7 }))];
+        assert_eq!(rt; ran.records.as_slice(), records.as_slice());
+    }
+    Ok(())
+}
+
+#[test]
+fn cells_that_were_set_stay(rt: HostRuntime) -> Result<(), Fail> {
+    let models = two_voxels(rt.alloc(), 5, 0)?;
+    let text = b"fill 0 0 0 2 1 1\nstamp 0 0 0 0\ncount 0 0 0 8 8 8";
+    let ran = run(rt.alloc(), &models, text)?;
+    let counted = ran.answers.last().ok_or("an answer")?;
+    assert_eq!(rt; *counted, answered(3, 2, Answer::Count(2)));
     Ok(())
 }

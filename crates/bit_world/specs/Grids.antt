@@ -1,5 +1,5 @@
 -- The cells of one world, as a row of bits.
-use Rattle.std.specs.Prelude.{◌≡◌, ℕ, ◌+◌, ◌*◌, ◌^◌, Bool, if◌then◌else◌, List, length}
+use Rattle.std.specs.Prelude.{◌≡◌, ℕ, ◌+◌, ◌*◌, ◌^◌, ◌==◌, ◌&&◌, ◌||◌, Bool, if◌then◌else◌, List, length}
 use Rattle.bit_set.specs.Bits.{is_set}
 use Rattle.vw_cell.specs.declared.cells.Cell.{Cell}
 use Rattle.vw_cell.specs.declared.boxes.Boxed.{Boxed}
@@ -22,6 +22,19 @@ pub record Shows (grid : Grid) (world : Cell → Bool) : Type 0 where
 -- the world with the cells of the box all set, or all clear
 abbrev pub put_in : Boxed → Bool → (Cell → Bool) → Cell → Bool
 put_in b value world c = if is_in_box b c then value else world c
+
+-- the two places are one
+abbrev pub is_at : Cell → Cell → Bool
+is_at c p = (c.x == p.x) && (c.y == p.y) && (c.z == p.z)
+
+-- the world with one more cell set
+abbrev pub set_in : Cell → (Cell → Bool) → Cell → Bool
+set_in c world p = is_at c p || world p
+
+-- the bit of one cell is set, and the others are as before
+pub record SetsCell (n : ℕ) (c : Cell) (old new : List ℕ) : Type 0 where
+  pub each : (p : Cell) → IsInWorld n p → is_set new (bit_number n p) ≡ set_in c (λ q. is_set old (bit_number n q)) p
+  pub same_length : length new ≡ length old
 
 -- the bits changed to `value` in the box, and nowhere else
 pub record PutsBox (n : ℕ) (b : Boxed) (value : Bool) (old new : List ℕ) : Type 0 where

@@ -1,14 +1,14 @@
 ghost use Rattle.std.specs.Prelude.{◌≡◌, ℕ, ◌+◌, ◌*◌, ◌^◌, ◌<◌, ◌≤◌, Bool, List, length, IfOk, false};
 ghost use Rattle.bit_set.specs.Bits.{is_set, number_set};
 ghost use Rattle.vw_cell.specs.declared.cells.Cell.{Cell};
-ghost use Rattle.vw_cell.specs.Places.{FitsAt};
+ghost use Rattle.vw_cell.specs.Places.{FitsAt, IsInWorld};
 ghost use Rattle.vw_cell.specs.Counts.{sum_below, one_if, number_in};
-ghost use Rattle.bit_world.specs.Grids.{Grid, Shows, put_in, bit_number, PutsBox, layer_of, layer_number};
+ghost use Rattle.bit_world.specs.Grids.{Grid, Shows, put_in, set_in, bit_number, PutsBox, SetsCell, layer_of, layer_number};
 
 use bit_set::BitSet;
 use std::alloc::{AllocError, Global};
 use std::marker::Model;
-use vw_cell::{Boxed, Side};
+use vw_cell::{Boxed, Cell, Side};
 
 /// The cells of a world as one bit each, taken whole when it is made. Contracts see the side's
 /// exponent and the words, and what they show of each cell.
@@ -46,6 +46,15 @@ impl BitWorld {
         put_layers(&mut self.cells, self.side.cells() as usize, b, value);
     }
 
+    /// Sets the cell, whatever it was.
+    pub fn set(&mut self, c: Cell)
+        requires { IsInWorld (2 ^ self.old.exponent) c }
+        ensures side { self.new.exponent ≡ self.old.exponent }
+        ensures cells { (world : Cell → Bool) → Shows self.old world → Shows self.new (set_in c world) }
+    {
+        set_cell(&mut self.cells, self.side.cells() as usize, c);
+    }
+
     /// The number of set cells of the box.
     #[tactic(auto, using(crate::proofs::Numbers::shown_number))]
     pub fn count(&self, b: Boxed) -> u64
@@ -81,6 +90,27 @@ fn put_layer(cells: &mut BitSet, n: usize, b: Boxed, value: bool, z: usize)
         let row = first_bit(n, b, y, z);
         cells.put_range(row, row + usize::from(b.size.x), value);
     }
+}
+
+#[tactic(auto, using(crate::proofs::Cells::sets_cell))]
+fn set_cell(cells: &mut BitSet, n: usize, c: Cell)
+    requires side { n ≤ 4096 }
+    requires room { n * (n * n) ≤ 64 * length cells.old }
+    requires inside { IsInWorld n c }
+    ensures { SetsCell n c cells.old cells.new }
+{
+    cells.put(cell_bit(n, c), true);
+}
+
+// The number of the cell's bit.
+#[tactic(auto, using(crate::proofs::Cells::bit_inside, crate::proofs::Rows::side_small))]
+fn cell_bit(n: usize, c: Cell) -> usize
+    requires side { n ≤ 4096 }
+    requires inside { IsInWorld n c }
+    ensures value { result ≡ bit_number n c }
+    ensures bound { result < n * (n * n) }
+{
+    (usize::from(c.z) * n + usize::from(c.y)) * n + usize::from(c.x)
 }
 
 // The number of the first bit of the box's row at this y and z.

@@ -10,10 +10,12 @@ mod faults;
 mod lines;
 mod numbers;
 mod reading;
+mod stamps;
 mod words;
 
 pub use commands::{Command, Question, Script, ScriptLine};
 pub use faults::{ScriptFault, ScriptKind};
+pub use numbers::number;
 pub use reading::read_script;
 
 #[cfg(test)]

@@ -2,6 +2,7 @@ ghost use Rattle.std.specs.Prelude.{◌≡◌, ◌∷◌, List, [], ℕ, true, n
 ghost use Rattle.std.specs.List.{position};
 ghost use Rattle.script.specs.Lines.{words_of, is_blank, is_comment, begins_word};
 ghost use Rattle.script.specs.Numbers.{Takes, next_word, nothing_more, three_words, box_words};
+ghost use Rattle.script.specs.Stamps.{stamp_words};
 
 use crate::faults::ScriptKind;
 use std::marker::Model;
@@ -43,6 +44,19 @@ impl<'l> Model for Places<'l> {
     ghost Value = { (List ℕ × List ℕ × List ℕ) × (List ℕ × List ℕ × List ℕ) };
 
     ghost view = { λ p. (p.at, p.size) };
+}
+
+/// The words of a stamp: that of its model, and those of its corner.
+#[derive(Drop)]
+pub(crate) struct StampWords<'l> {
+    pub(crate) model: &'l [u8],
+    pub(crate) at: ThreeWords<'l>,
+}
+
+impl<'l> Model for StampWords<'l> {
+    ghost Value = { List ℕ × (List ℕ × List ℕ × List ℕ) };
+
+    ghost view = { λ s. (s.model.now, s.at) };
 }
 
 impl<'l> Words<'l> {
@@ -89,6 +103,17 @@ impl<'l> Words<'l> {
         let size = self.three()?;
         self.end()?;
         Ok(Places { at, size })
+    }
+
+    // The four words of a stamp, which must be all.
+    #[tactic(auto, unfolding(crate::specs::Stamps::stamp_words))]
+    pub(crate) fn stamp(&mut self) -> Result<StampWords<'l>, ScriptKind>
+        ensures { result ≡ stamp_words self.old }
+    {
+        let model = self.word()?;
+        let at = self.three()?;
+        self.end()?;
+        Ok(StampWords { model, at })
     }
 
     // No word may follow.

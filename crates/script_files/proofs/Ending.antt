@@ -1,8 +1,6 @@
 -- What each stage gives, as an outcome of the whole run.
 use Rattle.std.proofs.Common.{◌≡◌, ℕ, inl, inr, List, [], ◌∷◌, Option, Some, None, Result, Ok, Err, refl, subst}
 use Rattle.vw_io.specs.Outside.{Files}
-use Rattle.vox_read.specs.declared.faults.VoxFault.TheVariants.{NotPlain}
-use Rattle.vox_read.specs.declared.faults.VoxFault.TheVariants as faults
 use Rattle.history_model.specs.Journal.{journal_of}
 use Rattle.transcript.specs.Lines.{transcript_of}
 use Rattle.bit_run.specs.Runs.{log_of}
@@ -32,13 +30,12 @@ not_accepted (ReadFault name) asked before faults file script taken declined = a
 not_accepted (TooLong name) asked before faults file script taken declined = absurd declined
 not_accepted (WriteFault w) asked before faults file script taken declined = absurd declined
 not_accepted Memory asked before faults file script taken declined = (inl refl, refl)
-not_accepted (Vox faults.Memory) asked before faults file script taken declined = absurd declined
-not_accepted (Vox (NotPlain at)) asked before faults file script taken declined =
-    ((declined.0, record { file = file; script = script; taken = taken; not_plain = declined.1 }), (refl, refl))
+not_accepted (Vox fault) asked before faults file script taken declined =
+    (record { file = file; script = script; taken = taken; says = declined }, (refl, refl))
 not_accepted (Script fault) asked before faults file script taken declined =
-    (record { file = file; script = script; taken = taken; plain = declined.0; is_of_text = declined.1.is_of_text; first = declined.1.first }, (refl, refl))
+    (record { file = file; script = script; taken = taken; models = declined.models; gives = declined.gives; is_of_text = declined.is_first.is_of_text; first = declined.is_first.first }, (refl, refl))
 not_accepted Collides asked before faults file script taken declined =
-    (record { file = file; script = script; taken = taken; plain = declined.plain; lines = declined.lines; read = declined.read; collides = declined.collides }, (refl, refl))
+    (record { file = file; script = script; taken = taken; models = declined.models; gives = declined.gives; lines = declined.lines; read = declined.read; collides = declined.collides }, (refl, refl))
 
 -- the outputs are those of the run
 same_journal : (name : Option (List ℕ)) (text want : List ℕ) → JournalIs name text want → journal_output name text ≡ journal_output name want

@@ -3,11 +3,9 @@ use Rattle.std.specs.Prelude.{◌≡◌, ℕ, ◌⊎◌, ◌∷◌, [], List, le
 use Rattle.vw_io.specs.Outside.{Files, Rose, Stayed}
 use Rattle.vw_io.specs.Write.{WriteTold}
 use Rattle.vw_io.specs.declared.shelves.WriteRefused.TheVariants.{Failed}
-use Rattle.vox_read.specs.declared.faults.VoxFault.{VoxFault}
-use Rattle.vox_read.specs.declared.faults.VoxFault.TheVariants.{NotPlain}
-use Rattle.vox_read.specs.declared.faults.VoxFault.TheVariants as faults
+use Rattle.vox_chunk.specs.declared.faults.VoxFault.{VoxFault}
 use Rattle.vox_read.specs.Contents.{Content}
-use Rattle.vox_read.specs.Plain.{IsPlainFile}
+use Rattle.vox_read.specs.Files.{Reads}
 use Rattle.history_model.specs.declared.histories.Record.{Record}
 use Rattle.history_model.specs.Journal.{journal_of}
 use Rattle.transcript.specs.declared.answers.LineAnswer.{LineAnswer}
@@ -49,47 +47,42 @@ pub record AreTaken (asked : Asked) (files : Option Files) (file script : List �
   pub file_taken : Taken files asked.file vox_limit file
   pub script_taken : Taken files asked.script script_limit script
 
-pub record IsPlain (bytes : List ℕ) : Type 0 where
-  pub models : List Content
-  pub plain : IsPlainFile bytes models
-
--- the VOX file is not plain
-pub record RefusesVox (asked : Asked) (files : Option Files) : Type 0 where
+-- the VOX file has this fault
+pub record RefusesVox (fault : VoxFault) (asked : Asked) (files : Option Files) : Type 0 where
   pub file : List ℕ
   pub script : List ℕ
   pub taken : AreTaken asked files file script
-  pub not_plain : (models : List Content) → IsPlainFile file models → ⊥
+  pub says : Reads file (Err fault)
 
-abbrev pub VoxCause : VoxFault → Asked → Option Files → Type 0
-VoxCause faults.Memory asked files = ⊥
-VoxCause (NotPlain at) asked files = (at ≡ 8) × RefusesVox asked files
-
--- the VOX file is plain, and this is the script's first fault
+-- the VOX file gives models, and this is the script's first fault
 pub record RefusesScript (fault : ScriptFault) (asked : Asked) (files : Option Files) : Type 0 where
   pub file : List ℕ
   pub script : List ℕ
   pub taken : AreTaken asked files file script
-  pub plain : IsPlain file
+  pub models : List Content
+  pub gives : Reads file (Ok models)
   pub is_of_text : IsOfText fault.kind
-  pub first : commands_of names_now asked.side [] script ≡ Err fault
+  pub first : commands_of names_now asked.side models script ≡ Err fault
 
--- the VOX file is plain and the script has no fault, and the names collide
+-- the VOX file gives models and the script has no fault, and the names collide
 pub record RefusesNames (asked : Asked) (files : Option Files) : Type 0 where
   pub file : List ℕ
   pub script : List ℕ
   pub taken : AreTaken asked files file script
-  pub plain : IsPlain file
+  pub models : List Content
+  pub gives : Reads file (Ok models)
   pub lines : List ScriptLine
-  pub read : commands_of names_now asked.side [] script ≡ Ok lines
+  pub read : commands_of names_now asked.side models script ≡ Ok lines
   pub collides : orders.Collides asked
 
 -- the inputs have no fault, and these are the records and answers of a run of the script
 pub record IsAccepted (asked : Asked) (file script : List ℕ) (records : List Record) (answers : List LineAnswer) : Type 0 where
-  pub plain : IsPlain file
+  pub models : List Content
+  pub gives : Reads file (Ok models)
   pub lines : List ScriptLine
-  pub read : commands_of names_now asked.side [] script ≡ Ok lines
+  pub read : commands_of names_now asked.side models script ≡ Ok lines
   pub apart : orders.Collides asked → ⊥
-  pub run : IsRun asked.side lines records answers
+  pub run : IsRun asked.side models lines records answers
 
 pub record Runs (asked : Asked) (files : Option Files) (records : List Record) (answers : List LineAnswer) : Type 0 where
   pub file : List ℕ
@@ -150,7 +143,7 @@ abbrev pub Refused : RunRefused → Asked → Option Files → Option Files → 
 Refused (Missing name) asked before now faults risen = Misses asked before name.now × (Stayed faults risen × (now ≡ before))
 Refused (ReadFault name) asked before now faults risen = FailsAtInput asked before name.now × (Rose faults risen × (now ≡ before))
 Refused (TooLong name) asked before now faults risen = Exceeds asked before name.now × (Stayed faults risen × (now ≡ before))
-Refused (Vox fault) asked before now faults risen = VoxCause fault asked before × ((risen ≡ faults) × (now ≡ before))
+Refused (Vox fault) asked before now faults risen = RefusesVox fault asked before × ((risen ≡ faults) × (now ≡ before))
 Refused (Script fault) asked before now faults risen = RefusesScript fault asked before × ((risen ≡ faults) × (now ≡ before))
 Refused Collides asked before now faults risen = RefusesNames asked before × ((risen ≡ faults) × (now ≡ before))
 Refused (WriteFault w) asked before now faults risen = Breaks w asked before now × Rose faults risen

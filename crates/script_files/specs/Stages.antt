@@ -3,19 +3,14 @@ use Rattle.std.specs.Prelude.{◌≡◌, ℕ, ◌⊎◌, ◌∷◌, [], List, le
 use Rattle.vw_io.specs.Outside.{Files, Rose, Stayed}
 use Rattle.vw_io.specs.Write.{WriteTold}
 use Rattle.vw_io.specs.declared.shelves.WriteRefused.TheVariants.{Failed}
-use Rattle.vox_read.specs.declared.faults.VoxFault.{VoxFault}
-use Rattle.vox_read.specs.declared.faults.VoxFault.TheVariants.{NotPlain}
-use Rattle.vox_read.specs.declared.faults.VoxFault.TheVariants as faults
 use Rattle.vox_read.specs.Contents.{Content}
-use Rattle.vox_read.specs.Plain.{IsPlainFile}
+use Rattle.vox_read.specs.Files.{Reads}
 use Rattle.history_model.specs.declared.histories.Record.{Record}
 use Rattle.history_model.specs.Journal.{journal_of}
 use Rattle.transcript.specs.declared.answers.LineAnswer.{LineAnswer}
 use Rattle.transcript.specs.Lines.{transcript_of}
 use Rattle.script.specs.declared.commands.ScriptLine.{ScriptLine}
 use Rattle.script.specs.declared.faults.ScriptFault.{ScriptFault}
-use Rattle.script.specs.declared.faults.ScriptKind.{ScriptKind}
-use Rattle.script.specs.declared.faults.ScriptKind.TheVariants as kinds
 use Rattle.script.specs.Commands.{names_now}
 use Rattle.script.specs.Fitting.{IsOfText}
 use Rattle.script.specs.Scripts.{commands_of}
@@ -25,7 +20,7 @@ use Rattle.script_files.specs.declared.orders.RunRefused.{RunRefused}
 use Rattle.script_files.specs.declared.orders.RunRefused.TheVariants.{Missing, ReadFault, TooLong, Vox, Script, Collides, WriteFault, Memory}
 use Rattle.script_files.specs.Orders.{Asked, Output, NoFile, FileIsOver, journal_output}
 use Rattle.script_files.specs.Orders as orders
-use Rattle.script_files.specs.Outcomes.{Misses, FailsAtInput, Exceeds, IsPlain, IsAccepted, AreWritten, FailsAt, transcript_output}
+use Rattle.script_files.specs.Outcomes.{Misses, FailsAtInput, Exceeds, IsAccepted, AreWritten, FailsAt, transcript_output}
 
 -- an input of this name was not taken
 abbrev pub InputRefused : RunRefused → Option Files → List ℕ → ℕ → ℕ → ℕ → Type 0
@@ -44,47 +39,38 @@ InputsRefused Memory asked files faults risen = risen ≡ faults
 InputsRefused _ asked files faults risen = ⊥
 
 -- the VOX file is refused
-abbrev pub NotPlainAt : VoxFault → List ℕ → Type 0
-NotPlainAt faults.Memory file = ⊥
-NotPlainAt (NotPlain at) file = (at ≡ 8) × ((models : List Content) → IsPlainFile file models → ⊥)
-
 abbrev pub FileRefused : RunRefused → List ℕ → Type 0
-FileRefused (Vox fault) file = NotPlainAt fault file
+FileRefused (Vox fault) file = Reads file (Err fault)
 FileRefused Memory file = ⊤
 FileRefused _ file = ⊥
 
-abbrev pub of_vox : VoxFault → RunRefused
-of_vox faults.Memory = Memory
-of_vox fault = Vox fault
-
 -- the script is refused
-abbrev pub of_kind : ScriptKind → ScriptFault → RunRefused
-of_kind kinds.Memory fault = Memory
-of_kind _ fault = Script fault
-
-abbrev pub of_fault : ScriptFault → RunRefused
-of_fault fault = of_kind fault.kind fault
-
-pub record IsFirst (fault : ScriptFault) (side : ℕ) (script : List ℕ) : Type 0 where
+pub record IsFirst (fault : ScriptFault) (side : ℕ) (models : List Content) (script : List ℕ) : Type 0 where
   pub is_of_text : IsOfText fault.kind
-  pub first : commands_of names_now side [] script ≡ Err fault
+  pub first : commands_of names_now side models script ≡ Err fault
 
-abbrev pub ScriptRefused : RunRefused → ℕ → List ℕ → Type 0
-ScriptRefused (Script fault) side script = IsFirst fault side script
-ScriptRefused Memory side script = ⊤
-ScriptRefused _ side script = ⊥
+abbrev pub ScriptRefused : RunRefused → ℕ → List Content → List ℕ → Type 0
+ScriptRefused (Script fault) side models script = IsFirst fault side models script
+ScriptRefused Memory side models script = ⊤
+ScriptRefused _ side models script = ⊥
 
--- the names collide
+-- the VOX file gives models, and the script is refused, or the names collide
+pub record FirstFault (fault : ScriptFault) (asked : Asked) (file script : List ℕ) : Type 0 where
+  pub models : List Content
+  pub gives : Reads file (Ok models)
+  pub is_first : IsFirst fault asked.side models script
+
 pub record Collide (asked : Asked) (file script : List ℕ) : Type 0 where
-  pub plain : IsPlain file
+  pub models : List Content
+  pub gives : Reads file (Ok models)
   pub lines : List ScriptLine
-  pub read : commands_of names_now asked.side [] script ≡ Ok lines
+  pub read : commands_of names_now asked.side models script ≡ Ok lines
   pub collides : orders.Collides asked
 
 -- the inputs were taken, and there is no run
 abbrev pub Declined : RunRefused → Asked → List ℕ → List ℕ → Type 0
-Declined (Vox fault) asked file script = NotPlainAt fault file
-Declined (Script fault) asked file script = IsPlain file × IsFirst fault asked.side script
+Declined (Vox fault) asked file script = Reads file (Err fault)
+Declined (Script fault) asked file script = FirstFault fault asked file script
 Declined Collides asked file script = Collide asked file script
 Declined Memory asked file script = ⊤
 Declined _ asked file script = ⊥

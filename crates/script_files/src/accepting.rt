@@ -1,22 +1,23 @@
-ghost use Rattle.std.specs.Prelude.{◌≡◌, ◌≤◌, ◌^◌, ◌↔◌, Ok, [], length, IsTrue, IfOk, IfErr, OnOk, string_bytes, All};
+ghost use Rattle.std.specs.Prelude.{◌≡◌, ◌≤◌, ◌^◌, ◌↔◌, Ok, length, IsTrue, IfOk, IfErr, All};
+ghost use Rattle.vox_read.specs.Contents.{AreModels};
+ghost use Rattle.vox_read.specs.Files.{Reads};
 ghost use Rattle.script.specs.Commands.{names_now};
 ghost use Rattle.script.specs.Fitting.{CommandFits, IsBuilt};
 ghost use Rattle.script.specs.Scripts.{commands_of};
-ghost use Rattle.bit_run.specs.Runs.{IsRun};
 ghost use Rattle.script_files.specs.Orders.{Collides, transcript_name};
 ghost use Rattle.script_files.specs.Asking.{asked_of};
-ghost use Rattle.script_files.specs.Outcomes.{IsPlain, IsAccepted};
-ghost use Rattle.script_files.specs.Stages.{FileRefused, ScriptRefused, Declined, of_fault, of_vox};
+ghost use Rattle.script_files.specs.Outcomes.{IsAccepted};
+ghost use Rattle.script_files.specs.Stages.{FileRefused, ScriptRefused, Declined};
 
 use crate::inputs::Inputs;
 use crate::orders::{Order, RunRefused};
 use bit_run::{Ran, run_script};
-use script::{Script, ScriptFault, ScriptKind, read_script};
+use script::{Script, read_script};
 use std::alloc::Global;
-use vox_read::{VoxFault, read_models};
+use vox_read::{Models, read_models};
 use vw_cell::Side;
 
-// Runs the script, where the VOX file is plain, the script has no fault, and the names don't collide.
+// Runs the script, where the VOX file gives models, the script has no fault, and the names don't collide.
 pub(crate) fn accept<'w>(
     alloc: Global,
     order: &Order<'w>,
@@ -29,13 +30,13 @@ pub(crate) fn accept<'w>(
     ensures declined { IfErr result (λ refused. Declined refused (asked_of order.now) inputs.file.items inputs.script.items) }
 {
     let Inputs { file, script: text } = inputs;
-    match check_file(alloc, file) {
-        Ok(()) => match parse(alloc, order.side, text) {
+    match models_of(alloc, file) {
+        Ok(models) => match parse(alloc, order.side, &models, text) {
             Ok(script) => {
                 if collides(order, transcript) {
                     return Err(RunRefused::Collides);
                 }
-                match run_script(alloc, order.side, &script) {
+                match run_script(alloc, order.side, &models, &script) {
                     Ok(ran) => Ok(ran),
                     Err(_) => Err(RunRefused::Memory),
                 }
@@ -46,50 +47,37 @@ pub(crate) fn accept<'w>(
     }
 }
 
-// The VOX file must be plain. Its bytes and its models are given back.
+// The models of the VOX file, whose bytes are given back.
 #[tactic(auto, using(crate::proofs::Refusing::vox_declined))]
-fn check_file<'w>(alloc: Global, file: Vec<u8>) -> Result<(), RunRefused<'w>>
+fn models_of<'w>(alloc: Global, file: Vec<u8>) -> Result<Models, RunRefused<'w>>
     requires { length file.items ≤ 2 ^ 28 }
-    ensures plain { OnOk result (IsPlain file.items) }
+    ensures gives { IfOk result (λ models. Reads file.items (Ok models)) }
+    ensures models { IfOk result AreModels }
     ensures refused { IfErr result (λ refused. FileRefused refused file.items) }
 {
     match read_models(alloc, file.as_slice()) {
-        Ok(_) => Ok(()),
-        Err(fault) => Err(vox_refused(fault)),
-    }
-}
-
-// The refusal of a VOX file's fault.
-fn vox_refused<'w>(fault: VoxFault) -> RunRefused<'w>
-    ensures { result ≡ of_vox fault }
-{
-    match fault {
-        VoxFault::Memory => RunRefused::Memory,
-        VoxFault::NotPlain(_) => RunRefused::Vox(fault),
+        Ok(models) => Ok(models),
+        Err(fault) => Err(RunRefused::from(fault)),
     }
 }
 
 // The commands of the script.
 #[tactic(auto, using(crate::proofs::Refusing::script_declined))]
-fn parse<'w>(alloc: Global, side: Side, text: Vec<u8>) -> Result<Script, RunRefused<'w>>
-    ensures read { IfOk result (λ script. commands_of names_now side [] text.items ≡ Ok script) }
-    ensures refused { IfErr result (λ refused. ScriptRefused refused side text.items) }
-    ensures fits { IfOk result (λ script. All (λ l. CommandFits (2 ^ side) [] l.command) script) }
+fn parse<'w>(
+    alloc: Global,
+    side: Side,
+    models: &Models,
+    text: Vec<u8>,
+) -> Result<Script, RunRefused<'w>>
+    requires { AreModels models.now }
+    ensures read { IfOk result (λ script. commands_of names_now side models.now text.items ≡ Ok script) }
+    ensures refused { IfErr result (λ refused. ScriptRefused refused side models.now text.items) }
+    ensures fits { IfOk result (λ script. All (λ l. CommandFits (2 ^ side) models.now l.command) script) }
     ensures built { IfOk result (λ script. All (λ l. IsBuilt l.command) script) }
 {
-    match read_script(alloc, text.as_slice(), side) {
+    match read_script(alloc, text.as_slice(), side, models) {
         Ok(script) => Ok(script),
-        Err(fault) => Err(script_refused(fault)),
-    }
-}
-
-// The refusal of a script's fault.
-fn script_refused<'w>(fault: ScriptFault) -> RunRefused<'w>
-    ensures { result ≡ of_fault fault }
-{
-    match fault.kind {
-        ScriptKind::Memory => RunRefused::Memory,
-        _ => RunRefused::Script(fault),
+        Err(fault) => Err(RunRefused::from(fault)),
     }
 }
 

@@ -21,6 +21,20 @@ pub(crate) struct Inputs {
     pub(crate) script: Vec<u8>,
 }
 
+/// Reads the VOX file of this name, of at most 256 MiB.
+pub fn read_vox<'w, S: Shelf>(
+    alloc: Global,
+    name: &'w str,
+    shelf: &mut S,
+) -> Result<Vec<u8>, RunRefused<'w>>
+    ensures taken { IfOk result (λ bytes. Taken (S.files shelf.old) name.now vox_limit bytes.items) }
+    ensures refused { IfErr result (λ refused. InputRefused refused (S.files shelf.old) name.now vox_limit (S.faults shelf.old) (S.faults shelf.new)) }
+    ensures unchanged { S.files shelf.new ≡ S.files shelf.old }
+    ensures calm { OnOk result (S.faults shelf.new ≡ S.faults shelf.old) }
+{
+    read_input(alloc, name, VOX_LIMIT, shelf)
+}
+
 // Reads the VOX file, and then the script.
 pub(crate) fn take_inputs<'w, S: Shelf>(
     alloc: Global,
@@ -32,7 +46,7 @@ pub(crate) fn take_inputs<'w, S: Shelf>(
     ensures unchanged { S.files shelf.new ≡ S.files shelf.old }
     ensures calm { OnOk result (S.faults shelf.new ≡ S.faults shelf.old) }
 {
-    match read_input(alloc, order.file, VOX_LIMIT, shelf) {
+    match read_vox(alloc, order.file, shelf) {
         Ok(file) => match read_input(alloc, order.script, SCRIPT_LIMIT, shelf) {
             Ok(script) => Ok(Inputs { file, script }),
             Err(refused) => Err(refused),

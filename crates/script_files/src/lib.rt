@@ -9,6 +9,7 @@ mod orders;
 mod outputs;
 mod runs;
 
+pub use inputs::read_vox;
 pub use orders::{Order, RunRefused, Written};
 pub use runs::run_files;
 

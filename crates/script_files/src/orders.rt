@@ -1,4 +1,4 @@
-use script::ScriptFault;
+use script::{ScriptFault, ScriptKind};
 use vox_read::VoxFault;
 use vw_cell::Side;
 
@@ -40,4 +40,32 @@ pub enum RunRefused<'w> {
     WriteFault(Written<'w>),
     /// Want of memory.
     Memory,
+}
+
+impl From<VoxFault> for RunRefused<'_> {
+    ghost use Rattle.std.specs.Prelude.{◌≡◌};
+    ghost use Rattle.script_files.specs.Refusals.{of_vox};
+
+    ghost from_gives = { λ fault refused. refused ≡ of_vox fault };
+
+    fn from(fault: VoxFault) -> Self {
+        match fault {
+            VoxFault::Memory => RunRefused::Memory,
+            _ => RunRefused::Vox(fault),
+        }
+    }
+}
+
+impl From<ScriptFault> for RunRefused<'_> {
+    ghost use Rattle.std.specs.Prelude.{◌≡◌};
+    ghost use Rattle.script_files.specs.Refusals.{of_fault};
+
+    ghost from_gives = { λ fault refused. refused ≡ of_fault fault };
+
+    fn from(fault: ScriptFault) -> Self {
+        match fault.kind {
+            ScriptKind::Memory => RunRefused::Memory,
+            _ => RunRefused::Script(fault),
+        }
+    }
 }

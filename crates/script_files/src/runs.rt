@@ -1,8 +1,10 @@
-ghost use Rattle.std.specs.Prelude.{◌≡◌, ◌≤◌, ◌^◌, length, IfOk, IfErr};
+ghost use Rattle.std.specs.Prelude.{◌≡◌, ◌≤◌, ◌^◌, Some, length, IfOk, IfErr};
+ghost use Rattle.vw_io.specs.Outside.{Files, Rose};
 ghost use Rattle.script_files.specs.Asking.{asked_of};
 ghost use Rattle.script_files.specs.Orders.{transcript_name};
 ghost use Rattle.script_files.specs.Outcomes.{AreTaken, Outcome};
 ghost use Rattle.script_files.specs.Stages.{Declined, IsPrepared};
+ghost use Rattle.script_files.specs.Verdicts.{Verdict, Judges, Follows};
 
 use crate::accepting::accept;
 use crate::inputs::{Inputs, take_inputs};
@@ -14,7 +16,7 @@ use vw_io::Shelf;
 /// Runs a script from files to files, and gives the number of records.
 ///
 /// It reads the VOX file, of at most 256 MiB, and the script, of at most 8 MiB. Where the VOX file is
-/// plain, the script has no fault and no output takes an input's name or another output's, it runs the
+/// accepted, the script has no fault and no output takes an input's name or another output's, it runs the
 /// script. Then it writes the transcript under the script's name with `.out` behind it, and after it
 /// the journal where one is asked for.
 pub fn run_files<'w, S: Shelf>(
@@ -22,7 +24,10 @@ pub fn run_files<'w, S: Shelf>(
     order: Order<'w>,
     shelf: &mut S,
 ) -> Result<u32, RunRefused<'w>>
+    // what each answer says
     ensures outcome { Outcome result (asked_of order.entry) (S.files shelf.old) (S.files shelf.new) (S.faults shelf.old) (S.faults shelf.new) }
+    // which answer must come, for a shelf that tells its files and does not fail
+    ensures comes { (files : Files) (v : Verdict) → S.files shelf.old ≡ Some files → (Rose (S.faults shelf.old) (S.faults shelf.new) → ⊥) → Judges files (asked_of order.entry) v → Follows v result }
 {
     let asked = Order {
         side: order.side,

@@ -19,6 +19,12 @@ const ANSWERS: &str = "1 @1 ok\n2 @2 ok\n3 @2 count 1\n";
 const JOURNAL: &str =
     "voxdag journal 1\nside 8\n1 0 1 fill 0 0 0 2 1 1\n2 0 2 erase 1 0 0 1 1 1\nend\n";
 
+const STAMP: &str = "stamp 0 7 7 7\ncount 0 0 0 8 8 8\n";
+
+const STAMPED: &str = "1 @1 ok\n2 @1 count 1\n";
+
+const STAMP_JOURNAL: &str = "voxdag journal 1\nside 8\n1 0 1 stamp 0 7 7 7\nend\n";
+
 const BAD: &str = "fill 0 0 0 0 1 1\n";
 
 const RANGE: ScriptFault = ScriptFault {
@@ -30,6 +36,7 @@ fn shelf(alloc: Global) -> Result<MemoryShelf, Fail> {
     let mut shelf = MemoryShelf::new(alloc);
     shelf.write("one.vox", &ONE)?;
     shelf.write("good", GOOD.as_bytes())?;
+    shelf.write("stamp", STAMP.as_bytes())?;
     shelf.write("bad", BAD.as_bytes())?;
     shelf.write("empty.out", &ONE)?;
     shelf.write("empty", b"")?;
@@ -41,15 +48,18 @@ fn shelf(alloc: Global) -> Result<MemoryShelf, Fail> {
 fn runs_write_all_or_nothing(rt: HostRuntime) -> Result<(), Fail> {
     let side = Side::new(8).ok_or("a side")?;
     let range = Err(RunRefused::Script(RANGE));
-    let not_plain = Err(RunRefused::Vox(VoxFault::NotPlain(8)));
+    let not_vox = Err(RunRefused::Vox(VoxFault::NotVox));
     let collides = Err(RunRefused::Collides);
     let missing = Err(RunRefused::Missing("no"));
     let all = Some(ANSWERS);
+    let stamped = Some(STAMPED);
+    let stamps = Some(STAMP_JOURNAL);
     for (file, script, journal, want, transcript, text) in [
         ("one.vox", "good", Some("j"), Ok(2), all, Some(JOURNAL)),
         ("one.vox", "good", None, Ok(2), all, None),
+        ("one.vox", "stamp", Some("j"), Ok(1), stamped, stamps),
         ("one.vox", "bad", Some("j"), range, Some("kept"), None),
-        ("good", "good", Some("j"), not_plain, None, None),
+        ("good", "good", Some("j"), not_vox, None, None),
         ("no", "no", Some("j"), missing, None, None),
         ("one.vox", "no", Some("j"), missing, None, None),
         ("one.vox", "good", Some("good"), collides, None, None),

@@ -2,6 +2,10 @@
 #![tactic(auto)]
 
 #[cfg(test)]
+mod asking;
+#[cfg(test)]
+mod count_tests;
+#[cfg(test)]
 mod fakes;
 #[cfg(test)]
-mod tests;
+mod run_tests;

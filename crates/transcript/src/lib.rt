@@ -2,9 +2,11 @@
 #![tactic(auto)]
 
 mod answers;
+mod laws;
 mod texts;
 
 pub use answers::{Answer, LineAnswer};
+pub use laws::transcripts_have_one_reading;
 pub use texts::transcript_text;
 
 #[cfg(test)]

@@ -30,7 +30,7 @@ pub record Bounds : Type 0 where
   pub first : ℕ
   pub end : ℕ
 
--- what the bytes begin with, in the order in which it is tested: the mark, the version, and MAIN's frame
+-- MAIN's frame, behind the mark and the version
 abbrev pub main_of : List ℕ → Result Bounds VoxFault
 main_of bytes =
     if nat_lt (length bytes) 20 then Err (Truncated 8)
@@ -38,14 +38,15 @@ main_of bytes =
     then (if nat_lt (length bytes) (end_of bytes 8) then Err (Truncated 8) else Ok (record { first = 20 + content_length bytes 8; end = end_of bytes 8 }))
     else Err NoMain)
 
-abbrev pub is_version : ℕ → List ℕ → Result Bounds VoxFault → Result Bounds VoxFault
-is_version version bytes then_main = if version == 150 || version == 200 then then_main else Err (Version version)
+abbrev pub under_version : ℕ → Result Bounds VoxFault → Result Bounds VoxFault
+under_version version main = if version == 150 || version == 200 then main else Err (Version version)
 
+-- what the bytes begin with, in the order in which it is tested: the mark, the version, and MAIN's frame
 abbrev pub header_of : List ℕ → Result Bounds VoxFault
 header_of bytes =
     if nat_lt (length bytes) 4 then Err NotVox
     else (if bytes_eq (id_at bytes 0) (codes "VOX ")
-    then (if nat_lt (length bytes) 8 then Err (Truncated 4) else is_version (number_at bytes 4) bytes (main_of bytes))
+    then (if nat_lt (length bytes) 8 then Err (Truncated 4) else under_version (number_at bytes 4) (main_of bytes))
     else Err NotVox)
 
 -- the frame of the child at a place ends where MAIN's children end, or before

@@ -5,7 +5,7 @@ use Rattle.vw_cell.specs.declared.cells.Cell.{Cell}
 use Rattle.vw_cell.specs.Counts.{IsBelow, number_below, number_below-le}
 use Rattle.vox_read.specs.declared.voxels.Voxel.{Voxel}
 use Rattle.vox_read.specs.Contents.{IsSize, StandsIn}
-use Rattle.vox_read.specs.Places.{place_of, index_of, volume_of}
+use Rattle.vox_read.specs.Places.{voxel_place, index_of, volume_of}
 
 pub layer_small : (size : Cell) → IsSize size → size.y * size.z ≤ 256 * 256
 layer_small size s = mul-le size.y size.z 256 256 s.y.1 s.z.1
@@ -20,15 +20,15 @@ row_below size c b = mul-add-lt c.z size.y c.y size.z b.z b.y
 pub index_below : (size c : Cell) → IsBelow size c → index_of size c < volume_of size
 index_below size c b = mul-add-lt (c.z * size.y + c.y) size.x c.x (size.y * size.z) (row_below size c b) b.x
 
-pub place_below : (size : Cell) (v : Voxel) → StandsIn size v → IsBelow size (place_of v)
+pub place_below : (size : Cell) (v : Voxel) → StandsIn size v → IsBelow size (voxel_place v)
 place_below size v s = record { x = s.x; y = s.y; z = s.z }
 
 -- what the arithmetic of a place's number passes through
 pub rows_fit : (size : Cell) (v : Voxel) → IsSize size → StandsIn size v → v.z * size.y + v.y < 65536
-rows_fit size v s inside = omega (arith, row_below size (place_of v) (place_below size v inside), layer_small size s)
+rows_fit size v s inside = omega (arith, row_below size (voxel_place v) (place_below size v inside), layer_small size s)
 
 pub index_fits : (size : Cell) (v : Voxel) → IsSize size → StandsIn size v → (v.z * size.y + v.y) * size.x + v.x < 16777216
-index_fits size v s inside = omega (arith, index_below size (place_of v) (place_below size v inside), volume_small size s)
+index_fits size v s inside = omega (arith, index_below size (voxel_place v) (place_below size v inside), volume_small size s)
 
 -- two places with one number are one place
 pub same_place : (size c d : Cell) → IsBelow size c → IsBelow size d → index_of size c ≡ index_of size d → (c.x ≡ d.x) × (c.y ≡ d.y) × (c.z ≡ d.z)

@@ -1,4 +1,7 @@
 pub mod Bounds
 pub mod Marking
+pub mod Gathering
 pub mod Grouping
-pub mod Heading
+pub mod Coming
+pub mod Sound
+pub mod Every

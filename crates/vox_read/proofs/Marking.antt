@@ -10,7 +10,7 @@ use Rattle.vw_cell.specs.declared.cells.Cell.{Cell}
 use Rattle.vw_cell.specs.Counts.{IsBelow, number_below, number_below-change, number_below-at, number_below-none, one_if}
 use Rattle.vox_read.specs.declared.voxels.Voxel.{Voxel}
 use Rattle.vox_read.specs.Contents.{is_cell, stands_at, colour_of, StandsIn, IsSize}
-use Rattle.vox_read.specs.Places.{place_of, index_of, volume_of}
+use Rattle.vox_read.specs.Places.{voxel_place, index_of, volume_of}
 use Rattle.vox_read.specs.Marks.{Marks}
 use Rattle.vox_read.proofs.Bounds.{place_below, same_place, count_small}
 
@@ -22,13 +22,16 @@ is_cell-more voxels v c = rw reverse-append (cases (stands_at c v)) where
   cases false = refl
 
 -- the test of a place, both ways
-stands : (c : Cell) (v : Voxel) → v.x ≡ c.x → v.y ≡ c.y → v.z ≡ c.z → stands_at c v ≡ true
+pub stands : (c : Cell) (v : Voxel) → v.x ≡ c.x → v.y ≡ c.y → v.z ≡ c.z → stands_at c v ≡ true
 stands c v x y z = rw (eq-eqb v.x c.x x, eq-eqb v.y c.y y, eq-eqb v.z c.z z) refl
 
-stands_tells : (c : Cell) (v : Voxel) → (stands_at c v ≡ true) → (v.x ≡ c.x) × (v.y ≡ c.y) × (v.z ≡ c.z)
+pub stands_tells : (c : Cell) (v : Voxel) → (stands_at c v ≡ true) → (v.x ≡ c.x) × (v.y ≡ c.y) × (v.z ≡ c.z)
 stands_tells c v h = (grind (arith, nat_tests), grind (arith, nat_tests), grind (arith, nat_tests))
 
-stands_not : (b : Bool) → (b ≡ true → ⊥) → b ≡ false
+pub one_place : (c : Cell) (v : Voxel) → (v.x ≡ c.x) × (v.y ≡ c.y) × (v.z ≡ c.z) → c ≡ voxel_place v
+one_place c v e = rw (e.0, e.1, e.2) refl
+
+pub stands_not : (b : Bool) → (b ≡ true → ⊥) → b ≡ false
 stands_not true h = absurd (h refl)
 stands_not false h = refl
 
@@ -42,17 +45,17 @@ here voxels v c at = rw (is_cell-more voxels v c, at) refl
 
 -- what the loop over the voxels keeps
 pub marks_more : (size : Cell) (voxels : List Voxel) (v : Voxel) (words words' : List ℕ) (cells cells' : ℕ) (was now : Bool) → StandsIn size v → Marks size voxels words cells
-    → was ≡ is_set words (index_of size (place_of v)) → is_set words' (index_of size (place_of v)) ≡ now
-    → ((j : ℕ) → j ≢ index_of size (place_of v) → is_set words' j ≡ is_set words j) → length words' ≡ length words → now ≡ not (v.colour == 0)
+    → was ≡ is_set words (index_of size (voxel_place v)) → is_set words' (index_of size (voxel_place v)) ≡ now
+    → ((j : ℕ) → j ≢ index_of size (voxel_place v) → is_set words' j ≡ is_set words j) → length words' ≡ length words → now ≡ not (v.colour == 0)
     → cells' + one_if was ≡ cells + one_if now → Marks size (voxels ++ v ∷ []) words' cells'
 marks_more size voxels v words words' cells cells' was now inside marks of_was of_here of_others of_length of_now of_count =
-    let at : Cell = place_of v in
+    let at : Cell = voxel_place v in
     let below : IsBelow size at = place_below size v inside in
     let was_cell : is_cell voxels at ≡ was = sym (marks.each at below) ∙ sym of_was in
     let now_cell : is_cell (voxels ++ v ∷ []) at ≡ now = here voxels v at (stands at v refl refl refl) ∙ sym of_now in
     let change : number_below size (is_cell (voxels ++ v ∷ [])) + one_if (is_cell voxels at) ≡ number_below size (is_cell voxels) + one_if (is_cell (voxels ++ v ∷ []) at) =
     number_below-change size at (is_cell voxels) (is_cell (voxels ++ v ∷ [])) below
-    (λ c _ other. sym (elsewhere voxels v c (λ t. other (one_place c (stands_tells c v t)))))
+    (λ c _ other. sym (elsewhere voxels v c (λ t. other (one_place c v (stands_tells c v t)))))
     in
     let of_change : number_below size (is_cell (voxels ++ v ∷ [])) + one_if was ≡ number_below size (is_cell voxels) + one_if now = rw (← was_cell, ← now_cell) change in
     let number : cells ≡ number_below size (is_cell voxels) = marks.number in
@@ -64,13 +67,10 @@ marks_more size voxels v words words' cells cells' was now inside marks of_was o
                 let same : (c.x ≡ v.x) × (c.y ≡ v.y) × (c.z ≡ v.z) = same_place size c at of_c below one in
                 (ap (is_set words') one ∙ of_here ∙ of_now ∙ sym (here voxels v c (stands c v (sym same.0) (sym same.1) (sym same.2))))
             | inr apart ↦
-                of_others (index_of size c) apart ∙ marks.each c of_c ∙ sym (elsewhere voxels v c (λ t. apart (ap (index_of size) (one_place c (stands_tells c v t)))))
+                of_others (index_of size c) apart ∙ marks.each c of_c ∙ sym (elsewhere voxels v c (λ t. apart (ap (index_of size) (one_place c v (stands_tells c v t)))))
           ];
       number = omega (arith, of_change, of_count, number);
     }
-  where
-    one_place : (c : Cell) → (v.x ≡ c.x) × (v.y ≡ c.y) × (v.z ≡ c.z) → c ≡ place_of v
-    one_place c e = rw (e.0, e.1, e.2) refl
 
 -- before the first voxel no bit is set
 pub marks_none : (size : Cell) (words : List ℕ) → volume_of size ≤ 64 * length words → ((i : ℕ) → is_set words i ≡ false) → Marks size [] words 0
@@ -78,22 +78,22 @@ marks_none size words room clear =
     record { room = room; each = λ c _. clear (index_of size c); number = sym (number_below-none size (is_cell []) (λ c. refl)) }
 
 -- a bit that is set is a cell that is counted
-pub counted : (size : Cell) (voxels : List Voxel) (words : List ℕ) (cells : ℕ) (v : Voxel) → StandsIn size v → Marks size voxels words cells → one_if (is_set words (index_of size (place_of v))) ≤ cells
+pub counted : (size : Cell) (voxels : List Voxel) (words : List ℕ) (cells : ℕ) (v : Voxel) → StandsIn size v → Marks size voxels words cells → one_if (is_set words (index_of size (voxel_place v))) ≤ cells
 counted size voxels words cells v inside marks =
-    let below : IsBelow size (place_of v) = place_below size v inside in
-    let e = marks.each (place_of v) below in
+    let below : IsBelow size (voxel_place v) = place_below size v inside in
+    let e = marks.each (voxel_place v) below in
     let number = marks.number in
-    rw (e, number) (number_below-at size (place_of v) (is_cell voxels) below)
+    rw (e, number) (number_below-at size (voxel_place v) (is_cell voxels) below)
 
 -- one turn of the loop: the voxel at place k of the list, whose bit is number i
 pub marks_step : (size seen : Cell) (voxels items : List Voxel) (k i : ℕ) (words words' : List ℕ) (cells cells' : ℕ) (was now : Bool) (d : Voxel) → size ≡ seen → items ≡ voxels
-    → k < length items → All (StandsIn seen) voxels → Marks size (take k voxels) words cells → i ≡ index_of size (place_of (get_or items k d))
+    → k < length items → All (StandsIn seen) voxels → Marks size (take k voxels) words cells → i ≡ index_of size (voxel_place (get_or items k d))
     → was ≡ is_set words i → is_set words' i ≡ now → ((j : ℕ) → j ≢ i → is_set words' j ≡ is_set words j) → length words' ≡ length words
     → now ≡ not ((get_or items k d).colour == 0) → cells' + one_if was ≡ cells + one_if now → Marks size (take (k + 1) voxels) words' cells'
 marks_step size seen voxels items k i words words' cells cells' was now d size_is same inside all marks of_i of_was of_here of_others of_length of_now of_count =
     let within : k < length voxels = rw (← same) inside in
     let item : get_or items k d ≡ get_or voxels k d = ap (λ (xs : List Voxel). get_or xs k d) same in
-    let at : i ≡ index_of size (place_of (get_or voxels k d)) = of_i ∙ ap (λ (v : Voxel). index_of size (place_of v)) item in
+    let at : i ≡ index_of size (voxel_place (get_or voxels k d)) = of_i ∙ ap (λ (v : Voxel). index_of size (voxel_place v)) item in
     let stands_in : StandsIn size (get_or voxels k d) = rw size_is (all k d within) in
     rw (take_more voxels k d within)
     (marks_more size (take k voxels) (get_or voxels k d) words words' cells cells' was now stands_in marks
@@ -102,12 +102,12 @@ marks_step size seen voxels items k i words words' cells cells' was now d size_i
 
 -- a bit that the loop finds set is counted
 pub counted_step : (size seen : Cell) (voxels items : List Voxel) (k i : ℕ) (words : List ℕ) (cells : ℕ) (was : Bool) (d : Voxel) → size ≡ seen → items ≡ voxels
-    → k < length items → All (StandsIn seen) voxels → Marks size (take k voxels) words cells → i ≡ index_of size (place_of (get_or items k d))
+    → k < length items → All (StandsIn seen) voxels → Marks size (take k voxels) words cells → i ≡ index_of size (voxel_place (get_or items k d))
     → was ≡ is_set words i → one_if was ≤ cells
 counted_step size seen voxels items k i words cells was d size_is same inside all marks of_i of_was =
     let within : k < length voxels = rw (← same) inside in
     let item : get_or items k d ≡ get_or voxels k d = ap (λ (xs : List Voxel). get_or xs k d) same in
-    let at : i ≡ index_of size (place_of (get_or voxels k d)) = of_i ∙ ap (λ (v : Voxel). index_of size (place_of v)) item in
+    let at : i ≡ index_of size (voxel_place (get_or voxels k d)) = of_i ∙ ap (λ (v : Voxel). index_of size (voxel_place v)) item in
     let stands_in : StandsIn size (get_or voxels k d) = rw size_is (all k d within) in
     rw (of_was, at) (counted size (take k voxels) words cells (get_or voxels k d) stands_in marks)
 

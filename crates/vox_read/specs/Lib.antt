@@ -1,8 +1,9 @@
-pub mod Reading
-pub mod Groups
-pub mod Heads
 pub mod Marks
+pub mod Cells
 pub mod Places
-pub mod Faults
 pub mod Contents
-pub mod Plain
+pub mod Fields
+pub mod Children
+pub mod Files
+pub mod Refusals
+pub mod Once

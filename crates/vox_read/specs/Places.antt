@@ -4,8 +4,8 @@ use Rattle.vw_cell.specs.declared.cells.Cell.{Cell}
 use Rattle.vox_read.specs.declared.voxels.Voxel.{Voxel}
 
 -- the place of a voxel
-abbrev pub place_of : Voxel → Cell
-place_of v = record { x = v.x; y = v.y; z = v.z }
+abbrev pub voxel_place : Voxel → Cell
+voxel_place v = record { x = v.x; y = v.y; z = v.z }
 
 -- the number of places below a size
 abbrev pub volume_of : Cell → ℕ

@@ -1,7 +1,8 @@
 ghost use Rattle.std.specs.Prelude.{◌≡◌, ◌+◌, ◌*◌, ◌^◌, ◌<◌, ◌≤◌, IfOk};
 ghost use Rattle.vw_cell.specs.Counts.{one_if};
 ghost use Rattle.vox_read.specs.Contents.{IsModel, IsSize, StandsIn, cells_of};
-ghost use Rattle.vox_read.specs.Places.{index_of, place_of, volume_of};
+ghost use Rattle.vox_read.specs.Marks.{Marks};
+ghost use Rattle.vox_read.specs.Places.{index_of, voxel_place, volume_of};
 
 use crate::models::Model;
 use crate::voxels::Voxel;
@@ -16,15 +17,31 @@ pub fn cell_count(alloc: Global, model: &Model) -> Result<u32, Memory>
     requires { IsModel model.now }
     ensures { IfOk result (λ n. n ≡ cells_of model.now) }
 {
+    let marked = mark_cells(alloc, model)?;
+    Ok(marked.cells)
+}
+
+/// The bits of a model's places, set at its cells, and the number of the set ones.
+#[derive(Drop)]
+pub(crate) struct Marked {
+    pub(crate) bits: BitSet,
+    pub(crate) cells: u32,
+}
+
+// Marks the cells of the model, in one pass over its voxels.
+pub(crate) fn mark_cells(alloc: Global, model: &Model) -> Result<Marked, Memory>
+    requires { IsModel model.now }
+    ensures { IfOk result (λ m. Marks model.now.size model.now.voxels m.bits m.cells) }
+{
     let size = model.size;
-    let mut marked = BitSet::new(alloc, volume(size))?;
+    let mut bits = BitSet::new(alloc, volume(size))?;
     let mut cells: u32 = 0;
     for voxel in &model.voxels {
         let now = voxel.colour != 0;
-        let was = marked.put(index(size, *voxel), now);
+        let was = bits.put(index(size, *voxel), now);
         cells = moved(cells, was, now);
     }
-    Ok(cells)
+    Ok(Marked { bits, cells })
 }
 
 // The number of places below a size.
@@ -39,10 +56,10 @@ fn volume(size: Cell) -> usize
 
 // The number of the voxel's place among those below the size.
 #[tactic(auto, using(crate::proofs::Bounds::index_fits))]
-fn index(size: Cell, v: Voxel) -> usize
+pub(crate) fn index(size: Cell, v: Voxel) -> usize
     requires size { IsSize size }
     requires inside { StandsIn size v }
-    ensures { result ≡ index_of size (place_of v) }
+    ensures { result ≡ index_of size (voxel_place v) }
 {
     (usize::from(v.z) * usize::from(size.y) + usize::from(v.y)) * usize::from(size.x)
         + usize::from(v.x)

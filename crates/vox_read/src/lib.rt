@@ -1,18 +1,18 @@
 //! Models of MagicaVoxel's VOX files, and the number of their cells.
 #![tactic(auto)]
 
+mod collecting;
 mod counting;
-mod faults;
-mod groups;
-mod heads;
+mod fields;
 mod models;
 mod reading;
 mod voxels;
 
+pub use collecting::cells;
 pub use counting::cell_count;
-pub use faults::VoxFault;
 pub use models::{Model, Models};
-pub use reading::{plain_files_have_one_reading, read_models};
+pub use reading::{files_have_a_reading, files_have_one_reading, read_models};
+pub use vox_chunk::VoxFault;
 pub use voxels::Voxel;
 
 #[cfg(test)]

@@ -1,42 +1,80 @@
-ghost use Rattle.std.specs.Prelude.{◌≡◌, ℕ, List, ◌≤◌, ◌^◌, length, IfOk, IfErr};
+ghost use Rattle.std.specs.Prelude.{◌≡◌, ℕ, List, ◌++◌, ◌≤◌, ◌^◌, length, None, Some, Ok, Err, Result, OnOk, IfOk, IfErr};
+ghost use Rattle.vox_chunk.specs.declared.faults.VoxFault.{VoxFault};
 ghost use Rattle.vox_read.specs.Contents.{AreModels, Content};
-ghost use Rattle.vox_read.specs.Plain.{IsPlainFile, Refuses};
+ghost use Rattle.vox_read.specs.Children.{waiting_behind, models_in, fields_fault};
+ghost use Rattle.vox_read.specs.Refusals.{SaysBroken};
+ghost use Rattle.vox_read.specs.Files.{Reads, Refuses};
 
-use crate::faults::VoxFault;
-use crate::groups::read_voxels;
-use crate::heads::{HEAD_LEN, head_bytes, read_head};
+use crate::fields::{read_model, read_size};
 use crate::models::{Model, Models};
 use std::alloc::Global;
+use vox_chunk::{Chunk, Chunks, VoxFault};
+use vw_cell::Cell;
 
-/// Reads the models of a file. A file is plain where it has one model in the layout that a writer of
-/// one model uses: SIZE and XYZI in MAIN, nothing between and nothing after, under version 150 or 200.
+/// The most models that a file may have.
+const MODELS: usize = 1024;
+
+/// Reads the models of a file, in the file's order, or tells its first fault: that of the header, or
+/// else of the first child of MAIN whose frame or fields break a rule.
 ///
-/// Every other file is refused as [`VoxFault::NotPlain`] at byte 8, where its chunks begin.
-/// Source of the layout: MagicaVoxel's format text, version 150.
+/// A model is an XYZI chunk with the size of the last SIZE chunk before it, which no XYZI stands
+/// between. All other chunks, and whatever stands behind the fields, in MAIN's content or behind MAIN,
+/// are passed over. Want of memory may come in place of any answer.
+/// Source of the layout: MagicaVoxel's format text, version 150; version 200 is read by the same rules.
 pub fn read_models(alloc: Global, bytes: &[u8]) -> Result<Models, VoxFault>
     requires { length bytes.now ≤ 2 ^ 28 }
     ensures models { IfOk result AreModels }
-    ensures read { IfOk result (IsPlainFile bytes.now) }
+    ensures read { IfOk result (λ models. Reads bytes.now (Ok models)) }
     ensures refused { IfErr result (λ fault. Refuses fault bytes.now) }
 {
-    let Some(head) = read_head(bytes) else {
-        return Err(VoxFault::NotPlain(8));
-    };
-    let text = head_bytes(alloc, &head)?;
-    if !bytes.starts_with(text.as_slice()) {
-        return Err(VoxFault::NotPlain(8));
+    let mut chunks = Chunks::new(bytes)?;
+    let mut waiting = None;
+    let mut list = Vec::new(alloc);
+    while let Some(next) = chunks.next() {
+        match next {
+            Ok(chunk) => waiting = take_chunk(alloc, &chunk, waiting, &mut list)?,
+            Err(fault) => return Err(fault),
+        }
     }
-    let (_, groups) = bytes.split_at(HEAD_LEN);
-    let voxels = read_voxels(alloc, head.size, groups, head.voxels as usize)?;
-    let mut list = Vec::with_capacity(alloc, 1)?;
-    list.push(Model {
-        size: head.size,
-        voxels,
-    })?;
     Ok(Models { list })
 }
 
-/// One list of bytes is the plain file of at most one list of models.
-pub fn plain_files_have_one_reading()
-    ensures { (bytes : List ℕ) (a b : List Content) → length bytes ≤ 2 ^ 28 → IsPlainFile bytes a → IsPlainFile bytes b → a ≡ b }
+// Reads the fields of a chunk, with the size that waits and the models so far. The answer is the size
+// that waits behind it.
+fn take_chunk(
+    alloc: Global,
+    chunk: &Chunk<'_>,
+    waiting: Option<Cell>,
+    list: &mut Vec<Model>,
+) -> Result<Option<Cell>, VoxFault>
+    requires { length chunk.now.content.now ≤ 2 ^ 28 }
+    ensures fine { OnOk result (fields_fault waiting (length list.old.items) chunk.now.id chunk.now.content.now chunk.now.at ≡ None) }
+    ensures waits { IfOk result (λ size. size ≡ waiting_behind chunk.now.id chunk.now.content.now waiting) }
+    ensures models { OnOk result (list.new.items ≡ list.old.items ++ models_in chunk.now.id chunk.now.content.now waiting) }
+    ensures refused { IfErr result (λ fault. SaysBroken fault (fields_fault waiting (length list.old.items) chunk.now.id chunk.now.content.now chunk.now.at)) }
+{
+    if chunk.id == *b"SIZE" {
+        return Ok(Some(read_size(chunk)?));
+    }
+    if chunk.id != *b"XYZI" {
+        return Ok(waiting);
+    }
+    let Some(size) = waiting else {
+        return Err(VoxFault::XyziWithoutSize(chunk.at));
+    };
+    if list.len() >= MODELS {
+        return Err(VoxFault::TooManyModels(chunk.at));
+    }
+    list.push(read_model(alloc, size, chunk)?)?;
+    Ok(None)
+}
+
+/// One list of bytes says one thing: its models, or its first fault.
+pub fn files_have_one_reading()
+    ensures { (bytes : List ℕ) (a b : Result (List Content) VoxFault) → Reads bytes a → Reads bytes b → a ≡ b }
+{}
+
+/// Every list of bytes says something: its models, or its first fault.
+pub fn files_have_a_reading()
+    ensures { (bytes : List ℕ) → (says : Result (List Content) VoxFault) × Reads bytes says }
 {}

@@ -1,10 +1,8 @@
-ghost use Rattle.std.specs.Prelude.{◌≤◌, ◌^◌, length};
-
-use crate::{VoxFault, cell_count, read_models};
-use std::alloc::Global;
+use crate::{VoxFault, Voxel, cell_count, cells, read_models};
 use std::test::Fail;
+use vw_cell::Cell;
 
-/// A model of one cell, 64 bytes.
+/// A model of one cell: MAIN with the children SIZE at 20 and XYZI at 44, 64 bytes in all.
 const ONE: [u8; 64] =
     *b"VOX \x96\0\0\0MAIN\0\0\0\0\x2c\0\0\0SIZE\x0c\0\0\0\0\0\0\0\x01\0\0\0\x01\0\0\0\x01\0\0\0XYZI\x08\0\0\0\0\0\0\0\x01\0\0\0\0\0\0\x01";
 
@@ -12,34 +10,49 @@ const ONE: [u8; 64] =
 const LAST: [u8; 76] =
     *b"VOX \xc8\0\0\0MAIN\0\0\0\0\x38\0\0\0SIZE\x0c\0\0\0\0\0\0\0\x02\0\0\0\x01\0\0\0\x01\0\0\0XYZI\x14\0\0\0\0\0\0\0\x04\0\0\0\0\0\0\x05\0\0\0\0\x01\0\0\x07\x01\0\0\x07";
 
-/// The same model with its last voxel at x = 2, outside.
-const OUTSIDE: [u8; 76] =
-    *b"VOX \xc8\0\0\0MAIN\0\0\0\0\x38\0\0\0SIZE\x0c\0\0\0\0\0\0\0\x02\0\0\0\x01\0\0\0\x01\0\0\0XYZI\x14\0\0\0\0\0\0\0\x04\0\0\0\0\0\0\x05\0\0\0\0\x01\0\0\0\x02\0\0\x07";
-
-fn cells(alloc: Global, bytes: &[u8]) -> Result<u32, VoxFault>
-    requires { length bytes.now ≤ 2 ^ 28 }
-{
-    let models = read_models(alloc, bytes)?;
-    let mut cells: u32 = 0;
-    for model in &models.list {
-        let more = cell_count(alloc, model).map_err(|_| VoxFault::Memory)?;
-        cells = cells.saturating_add(more);
-    }
-    Ok(cells)
-}
-
 #[test]
-fn plain_files_are_counted(rt: HostRuntime) -> Result<(), Fail> {
-    assert_eq!(rt; cells(rt.alloc(), &ONE), Ok(1));
-    assert_eq!(rt; cells(rt.alloc(), &LAST), Ok(1), "the last voxel decides");
-    assert_eq!(rt; cells(rt.alloc(), &OUTSIDE), Err(VoxFault::NotPlain(8)));
-    assert_eq!(rt; cells(rt.alloc(), b""), Err(VoxFault::NotPlain(8)));
+fn a_model_is_read_and_counted(rt: HostRuntime) -> Result<(), Fail> {
+    let models = read_models(rt.alloc(), &ONE)?;
+    assert_eq!(rt; models.list.len(), 1);
+    let model = &models.list[0];
+    assert_eq!(rt; model.size, Cell { x: 1, y: 1, z: 1 });
+    let voxel = Voxel {
+        x: 0,
+        y: 0,
+        z: 0,
+        colour: 1,
+    };
+    assert_eq!(rt; model.voxels.as_slice(), [voxel].as_slice());
+    assert_eq!(rt; cell_count(rt.alloc(), model)?, 1);
     Ok(())
 }
 
 #[test]
-fn faults_have_numbers(rt: HostRuntime) {
-    let fault = VoxFault::NotPlain(8);
-    assert_eq!(rt; (fault.kind(), fault.at()), (12, 8));
-    assert_eq!(rt; (VoxFault::Memory.kind(), VoxFault::Memory.at()), (11, 0));
+fn cells_are_listed_once(rt: HostRuntime) -> Result<(), Fail> {
+    let models = read_models(rt.alloc(), &LAST).map_err(|_| "a file")?;
+    let model = models.list.first().ok_or("a model")?;
+    let listed = cells(rt.alloc(), model).map_err(|_| "out of memory")?;
+    assert_eq!(rt; listed.len(), 1);
+    let voxel = listed.first().ok_or("a cell")?;
+    assert_eq!(rt; (voxel.x, voxel.y, voxel.z), (1, 0, 0));
+    Ok(())
+}
+
+#[test]
+fn a_fault_is_told_with_its_place(rt: HostRuntime) {
+    let mut two = ONE;
+    two[56] = 2;
+    let fault = VoxFault::ShortXyzi(44);
+    assert_eq!(rt;
+        read_models(rt.alloc(), &two).err(),
+        Some(fault),
+        "two voxels, bytes for one"
+    );
+    assert_eq!(rt; (fault.kind(), fault.at()), (8, 44));
+    let mut newer = ONE;
+    newer[4] = 151;
+    assert_eq!(rt;
+        read_models(rt.alloc(), &newer).err(),
+        Some(VoxFault::Version(151))
+    );
 }

@@ -1,2 +1,4 @@
+pub mod Sides
 pub mod StatusLaws
 pub mod ComingLaws
+pub mod VerdictLaws

@@ -1,147 +1,206 @@
--- What each status says, from the cause of the ending and the put of its line.
-use Rattle.std.proofs.Common.{◌≡◌, ℕ, inl, inr, List, Option, Result, Ok, Err, refl, sym, ◌∙◌, arith}
+-- What each status says, from what stands behind the ending and the put of its line.
+use Rattle.std.proofs.Common.{◌≡◌, ℕ, inl, inr, List, Option, Some, None, refl, sym, ap, subst, ◌∙◌, ◌⊎◌, arith}
 use Rattle.std.specs.Prelude.{IsTrue}
-use Rattle.vw_io.specs.Outside.{Files}
-use Rattle.vox_read.specs.declared.faults.VoxFault.TheVariants.{NotPlain}
-use Rattle.vox_read.specs.declared.faults.VoxFault.TheVariants as faults
-use Rattle.voxdag_top.specs.declared.refusals.Refusal.{Refusal}
-use Rattle.voxdag_top.specs.declared.refusals.Refusal.TheVariants.{Usage, Missing, ReadFault, Vox, TooLong, Memory}
-use Rattle.voxdag_top.specs.Lines.{Puts}
-use Rattle.voxdag_top.specs.Endings.{Causes, line_of, status_of}
-use Rattle.voxdag_top.specs.Finishing.{Finishes, put, failed, memory}
-use Rattle.voxdag_top.specs.Statuses.{IsOr, is_status, Counted, Unusable, Missed, Faulted, Refused, OutFailed, LacksMemory, Exceeded}
+use Rattle.vw_io.specs.Outside.{Files, Rose}
+use Rattle.script_files.specs.declared.orders.RunRefused.{RunRefused}
+use Rattle.script_files.specs.declared.orders.RunRefused.TheVariants.{Missing, ReadFault, TooLong, Vox, Script, Collides, WriteFault, Memory}
+use Rattle.voxdag_top.specs.declared.endings.Ending.{Ending}
+use Rattle.voxdag_top.specs.declared.endings.Ending.TheVariants.{Counted, Ran, Usage, Refused}
+use Rattle.voxdag_top.specs.Words.{Asking, CountOf, RunOf}
+use Rattle.voxdag_top.specs.Lines.{Puts, Begins, usage_line, memory_line}
+use Rattle.voxdag_top.specs.Endings.{EndsAs, line_of, status_of}
+use Rattle.voxdag_top.specs.Finishing.{Finishes, put, failed, failed_lacking, lacking}
+use Rattle.voxdag_top.specs.Statuses.{IsOr, is_status, Done, Unusable, Missed, Faulted, VoxRefused, ScriptRefused, WriteFailed, OutFailed, LacksMemory, Exceeded}
 
--- a run from its beginning to its status
-pub record Run (words : List (List ℕ)) (files : Option Files) (before now : ℕ) (out_before out_now : ℕ) (told told_now : Option (List ℕ)) (result : ℕ) : Type 0 where
-  pub ending : Result ℕ Refusal
-  pub cause : Causes ending words files before now
-  pub finish : Finishes (line_of ending) (status_of ending) out_before out_now told told_now result
+-- a run from its words to its status
+pub record Run (a : Option Asking) (before now : Option Files) (faults risen out_faults out_risen : ℕ) (told said : Option (List ℕ)) (result : ℕ) : Type 0 where
+  pub ending : Ending
+  pub ends : EndsAs a ending before now faults risen
+  pub finish : Finishes (line_of ending) (status_of ending) out_faults out_risen told said result
 
 -- a status of a line that was put is that of the ending
-ended : {line : List ℕ} {status k out_before out_now result : ℕ} {told told_now : Option (List ℕ)} → (k ≡ 7 → ⊥) → (k ≡ 8 → ⊥) → Finishes line status out_before out_now told told_now result → result ≡ k
-    → (status ≡ k) × Puts told told_now line
+ended : {line : List ℕ} {status k out_faults out_risen result : ℕ} {told said : Option (List ℕ)} → (k ≡ 7 → ⊥) → (k ≡ 8 → ⊥) → Finishes line status out_faults out_risen told said result → result ≡ k
+    → (status ≡ k) × Puts told said line
 ended not_7 not_8 (put is line) e = (sym is ∙ e, line)
-ended not_7 not_8 (failed is out) e = absurd (not_7 (sym e ∙ is))
-ended not_7 not_8 (memory is out) e = absurd (not_8 (sym e ∙ is))
+ended not_7 not_8 (failed is rose begun) e = absurd (not_7 (sym e ∙ is))
+ended not_7 not_8 (failed_lacking is rose begun) e = absurd (not_7 (sym e ∙ is))
+ended not_7 not_8 (lacking is line) e = absurd (not_8 (sym e ∙ is))
 
 -- where the ending is this, its status comes, or 7 or 8
-pub comes : {line : List ℕ} {status out_before out_now result : ℕ} {told told_now : Option (List ℕ)} → Finishes line status out_before out_now told told_now result → IsOr status result
+pub comes : {line : List ℕ} {status out_faults out_risen result : ℕ} {told said : Option (List ℕ)} → Finishes line status out_faults out_risen told said result → IsOr status result
 comes (put is line) = inl is
-comes (failed is out) = inr (inl is)
-comes (memory is out) = inr (inr is)
+comes (failed is rose begun) = inr (inl is)
+comes (failed_lacking is rose begun) = inr (inl is)
+comes (lacking is line) = inr (inr is)
+
+-- words outside the grammar end in status 1
+usage_status : (e : Ending) → e ≡ Usage → status_of e ≡ 1
+usage_status e is = ap status_of is
+
+refused_is_not_0 : (r : RunRefused) → status_of (Refused r) ≡ 0 → ⊥
+refused_is_not_0 (Missing name) is = omega arith
+refused_is_not_0 _ is = omega arith
 
 -- status 0
-done_at : (e : Result ℕ Refusal) (words : List (List ℕ)) (files : Option Files) (before now : ℕ) (told told_now : Option (List ℕ)) → Causes e words files before now → (status_of e ≡ 0) × Puts told told_now (line_of e) → Counted words files told told_now
-done_at (Ok number) words files before now told told_now cause end = record { number = number; counts = cause; line = end.1 }
-done_at (Err Usage) words files before now told told_now cause end = absurd (omega arith)
-done_at (Err (Missing name)) words files before now told told_now cause end = absurd (omega arith)
-done_at (Err (ReadFault name)) words files before now told told_now cause end = absurd (omega arith)
-done_at (Err (Vox fault)) words files before now told told_now cause end = absurd (omega arith)
-done_at (Err (TooLong name)) words files before now told told_now cause end = absurd (omega arith)
-done_at (Err Memory) words files before now told told_now cause end = absurd (omega arith)
-
-pub done_says : (words : List (List ℕ)) (files : Option Files) (before now : ℕ) (told told_now : Option (List ℕ)) (out_before out_now result : ℕ) → Run words files before now out_before out_now told told_now result → result ≡ 0 → Counted words files told told_now
-done_says words files before now told told_now out_before out_now result run e = done_at run.ending words files before now told told_now run.cause (ended (λ is. omega arith) (λ is. omega arith) run.finish e)
+done_at : (a : Option Asking) (e : Ending) (before now : Option Files) (faults risen : ℕ) (told said : Option (List ℕ)) → EndsAs a e before now faults risen → status_of e ≡ 0 → Puts told said (line_of e) → Done a before now told said
+done_at None e before now faults risen told said ends is puts = absurd (let usage = usage_status e ends.0 in omega (arith, is, usage))
+done_at (Some (CountOf file)) (Counted number) before now faults risen told said ends is puts = record { number = number; counts = ends.0; unchanged = ends.1; line = puts }
+done_at (Some (CountOf file)) (Ran number) before now faults risen told said ends is puts = absurd ends.0
+done_at (Some (RunOf asked)) (Ran number) before now faults risen told said ends is puts =
+    let done = ends.0 in
+    let accepted = done.runs.accepted in
+    record {
+      file = done.runs.file;
+      script = done.runs.script;
+      taken = done.runs.taken;
+      models = accepted.models;
+      gives = accepted.gives;
+      lines = accepted.lines;
+      read = accepted.read;
+      apart = accepted.apart;
+      records = done.records;
+      answers = done.answers;
+      written = done.whole;
+      legal = accepted.run.legal;
+      shown = accepted.run.shown;
+      agrees = accepted.run.agrees;
+      line = rw (sym done.counted) puts;
+    }
+done_at (Some (RunOf asked)) (Counted number) before now faults risen told said ends is puts = absurd ends
+done_at (Some a) Usage before now faults risen told said ends is puts = absurd (omega arith)
+done_at (Some a) (Refused r) before now faults risen told said ends is puts = absurd (refused_is_not_0 r is)
 
 -- status 1
-usage_at : (e : Result ℕ Refusal) (words : List (List ℕ)) (files : Option Files) (before now : ℕ) (told told_now : Option (List ℕ)) → Causes e words files before now → (status_of e ≡ 1) × Puts told told_now (line_of e) → Unusable words told told_now
-usage_at (Ok number) words files before now told told_now cause end = absurd (omega arith)
-usage_at (Err Usage) words files before now told told_now cause end = record { nothing = cause; line = end.1 }
-usage_at (Err (Missing name)) words files before now told told_now cause end = absurd (omega arith)
-usage_at (Err (ReadFault name)) words files before now told told_now cause end = absurd (omega arith)
-usage_at (Err (Vox fault)) words files before now told told_now cause end = absurd (omega arith)
-usage_at (Err (TooLong name)) words files before now told told_now cause end = absurd (omega arith)
-usage_at (Err Memory) words files before now told told_now cause end = absurd (omega arith)
-
-pub usage_says : (words : List (List ℕ)) (files : Option Files) (before now : ℕ) (told told_now : Option (List ℕ)) (out_before out_now result : ℕ) → Run words files before now out_before out_now told told_now result → result ≡ 1 → Unusable words told told_now
-usage_says words files before now told told_now out_before out_now result run e = usage_at run.ending words files before now told told_now run.cause (ended (λ is. omega arith) (λ is. omega arith) run.finish e)
+usage_at : (a : Option Asking) (e : Ending) (before now : Option Files) (faults risen : ℕ) (told said : Option (List ℕ)) → EndsAs a e before now faults risen → status_of e ≡ 1 → Puts told said (line_of e) → Unusable a before × (now ≡ before) × Puts told said usage_line
+usage_at None e before now faults risen told said ends is puts = (tt, ends.1, subst (λ (x : Ending). Puts told said (line_of x)) ends.0 puts)
+usage_at (Some (CountOf file)) (Refused Collides) before now faults risen told said ends is puts = absurd ends.0
+usage_at (Some (CountOf file)) Usage before now faults risen told said ends is puts = absurd ends.0
+usage_at (Some (RunOf asked)) (Refused Collides) before now faults risen told said ends is puts = (ends.0, ends.1.1, puts)
+usage_at (Some (RunOf asked)) Usage before now faults risen told said ends is puts = absurd ends
+usage_at (Some a) _ before now faults risen told said ends is puts = absurd (omega arith)
 
 -- status 2
-missing_at : (e : Result ℕ Refusal) (words : List (List ℕ)) (files : Option Files) (before now : ℕ) (told told_now : Option (List ℕ)) → Causes e words files before now → (status_of e ≡ 2) × Puts told told_now (line_of e) → Missed words files before now told told_now
-missing_at (Ok number) words files before now told told_now cause end = absurd (omega arith)
-missing_at (Err Usage) words files before now told told_now cause end = absurd (omega arith)
-missing_at (Err (Missing name)) words files before now told told_now cause end = record { file = name.now; misses = cause.0; no_fault = cause.1; line = end.1 }
-missing_at (Err (ReadFault name)) words files before now told told_now cause end = absurd (omega arith)
-missing_at (Err (Vox fault)) words files before now told told_now cause end = absurd (omega arith)
-missing_at (Err (TooLong name)) words files before now told told_now cause end = absurd (omega arith)
-missing_at (Err Memory) words files before now told told_now cause end = absurd (omega arith)
-
-pub missing_says : (words : List (List ℕ)) (files : Option Files) (before now : ℕ) (told told_now : Option (List ℕ)) (out_before out_now result : ℕ) → Run words files before now out_before out_now told told_now result → result ≡ 2 → Missed words files before now told told_now
-missing_says words files before now told told_now out_before out_now result run e = missing_at run.ending words files before now told told_now run.cause (ended (λ is. omega arith) (λ is. omega arith) run.finish e)
+missing_at : (a : Option Asking) (e : Ending) (before now : Option Files) (faults risen : ℕ) (told said : Option (List ℕ)) → EndsAs a e before now faults risen → status_of e ≡ 2 → Puts told said (line_of e) → Missed a before now faults risen told said
+missing_at None e before now faults risen told said ends is puts = absurd (let usage = usage_status e ends.0 in omega (arith, is, usage))
+missing_at (Some (CountOf file)) (Refused (Missing name)) before now faults risen told said ends is puts =
+    record { name = name.now; misses = (ends.0.0, ends.0.1.0); no_fault = ends.0.1.1; unchanged = ends.1; line = puts }
+missing_at (Some (RunOf asked)) (Refused (Missing name)) before now faults risen told said ends is puts =
+    record { name = name.now; misses = ends.0; no_fault = ends.1.0; unchanged = ends.1.1; line = puts }
+missing_at (Some a) _ before now faults risen told said ends is puts = absurd (omega arith)
 
 -- status 3
-read_fault_at : (e : Result ℕ Refusal) (words : List (List ℕ)) (files : Option Files) (before now : ℕ) (told told_now : Option (List ℕ)) → Causes e words files before now → (status_of e ≡ 3) × Puts told told_now (line_of e) → Faulted words before now told told_now
-read_fault_at (Ok number) words files before now told told_now cause end = absurd (omega arith)
-read_fault_at (Err Usage) words files before now told told_now cause end = absurd (omega arith)
-read_fault_at (Err (Missing name)) words files before now told told_now cause end = absurd (omega arith)
-read_fault_at (Err (ReadFault name)) words files before now told told_now cause end = record { file = name.now; asked = cause.0; rose = cause.1; line = end.1 }
-read_fault_at (Err (Vox fault)) words files before now told told_now cause end = absurd (omega arith)
-read_fault_at (Err (TooLong name)) words files before now told told_now cause end = absurd (omega arith)
-read_fault_at (Err Memory) words files before now told told_now cause end = absurd (omega arith)
-
-pub read_fault_says : (words : List (List ℕ)) (files : Option Files) (before now : ℕ) (told told_now : Option (List ℕ)) (out_before out_now result : ℕ) → Run words files before now out_before out_now told told_now result → result ≡ 3 → Faulted words before now told told_now
-read_fault_says words files before now told told_now out_before out_now result run e = read_fault_at run.ending words files before now told told_now run.cause (ended (λ is. omega arith) (λ is. omega arith) run.finish e)
+read_fault_at : (a : Option Asking) (e : Ending) (before now : Option Files) (faults risen : ℕ) (told said : Option (List ℕ)) → EndsAs a e before now faults risen → status_of e ≡ 3 → Puts told said (line_of e) → Faulted a before now faults risen told said
+read_fault_at None e before now faults risen told said ends is puts = absurd (let usage = usage_status e ends.0 in omega (arith, is, usage))
+read_fault_at (Some (CountOf file)) (Refused (ReadFault name)) before now faults risen told said ends is puts =
+    record { name = name.now; fails = ends.0.0; rose = ends.0.1; unchanged = ends.1; line = puts }
+read_fault_at (Some (RunOf asked)) (Refused (ReadFault name)) before now faults risen told said ends is puts =
+    record { name = name.now; fails = ends.0; rose = ends.1.0; unchanged = ends.1.1; line = puts }
+read_fault_at (Some a) _ before now faults risen told said ends is puts = absurd (omega arith)
 
 -- status 4
-refused_at : (e : Result ℕ Refusal) (words : List (List ℕ)) (files : Option Files) (before now : ℕ) (told told_now : Option (List ℕ)) → Causes e words files before now → (status_of e ≡ 4) × Puts told told_now (line_of e) → Refused words files told told_now
-refused_at (Ok number) words files before now told told_now cause end = absurd (omega arith)
-refused_at (Err Usage) words files before now told told_now cause end = absurd (omega arith)
-refused_at (Err (Missing name)) words files before now told told_now cause end = absurd (omega arith)
-refused_at (Err (ReadFault name)) words files before now told told_now cause end = absurd (omega arith)
-refused_at (Err (Vox faults.Memory)) words files before now told told_now cause end = absurd cause
-refused_at (Err (Vox (NotPlain at))) words files before now told told_now cause end = let at_is : at ≡ 8 = cause.0 in record { refuses = cause.1; line = rw (← at_is) end.1 }
-refused_at (Err (TooLong name)) words files before now told told_now cause end = absurd (omega arith)
-refused_at (Err Memory) words files before now told told_now cause end = absurd (omega arith)
+vox_refused_at : (a : Option Asking) (e : Ending) (before now : Option Files) (faults risen : ℕ) (told said : Option (List ℕ)) → EndsAs a e before now faults risen → status_of e ≡ 4 → Puts told said (line_of e) → VoxRefused a before now told said
+vox_refused_at None e before now faults risen told said ends is puts = absurd (let usage = usage_status e ends.0 in omega (arith, is, usage))
+vox_refused_at (Some (CountOf file)) (Refused (Vox fault)) before now faults risen told said ends is puts = record { fault = fault; refuses = ends.0; unchanged = ends.1; line = puts }
+vox_refused_at (Some (RunOf asked)) (Refused (Vox fault)) before now faults risen told said ends is puts = record { fault = fault; refuses = ends.0; unchanged = ends.1.1; line = puts }
+vox_refused_at (Some a) _ before now faults risen told said ends is puts = absurd (omega arith)
 
-pub refused_says : (words : List (List ℕ)) (files : Option Files) (before now : ℕ) (told told_now : Option (List ℕ)) (out_before out_now result : ℕ) → Run words files before now out_before out_now told told_now result → result ≡ 4 → Refused words files told told_now
-refused_says words files before now told told_now out_before out_now result run e = refused_at run.ending words files before now told told_now run.cause (ended (λ is. omega arith) (λ is. omega arith) run.finish e)
+-- status 5
+script_refused_at : (a : Option Asking) (e : Ending) (before now : Option Files) (faults risen : ℕ) (told said : Option (List ℕ)) → EndsAs a e before now faults risen → status_of e ≡ 5 → Puts told said (line_of e) → ScriptRefused a before now told said
+script_refused_at None e before now faults risen told said ends is puts = absurd (let usage = usage_status e ends.0 in omega (arith, is, usage))
+script_refused_at (Some (CountOf file)) (Refused (Script fault)) before now faults risen told said ends is puts = absurd ends.0
+script_refused_at (Some (RunOf asked)) (Refused (Script fault)) before now faults risen told said ends is puts = record { fault = fault; refuses = ends.0; unchanged = ends.1.1; line = puts }
+script_refused_at (Some a) _ before now faults risen told said ends is puts = absurd (omega arith)
+
+-- status 6
+write_fault_at : (a : Option Asking) (e : Ending) (before now : Option Files) (faults risen : ℕ) (told said : Option (List ℕ)) → EndsAs a e before now faults risen → status_of e ≡ 6 → Puts told said (line_of e) → WriteFailed a before now faults risen told said
+write_fault_at None e before now faults risen told said ends is puts = absurd (let usage = usage_status e ends.0 in omega (arith, is, usage))
+write_fault_at (Some (CountOf file)) (Refused (WriteFault w)) before now faults risen told said ends is puts = absurd ends.0
+write_fault_at (Some (RunOf asked)) (Refused (WriteFault w)) before now faults risen told said ends is puts = record { output = w; breaks = ends.0; rose = ends.1; line = puts }
+write_fault_at (Some a) _ before now faults risen told said ends is puts = absurd (omega arith)
 
 -- status 9
-too_long_at : (e : Result ℕ Refusal) (words : List (List ℕ)) (files : Option Files) (before now : ℕ) (told told_now : Option (List ℕ)) → Causes e words files before now → (status_of e ≡ 9) × Puts told told_now (line_of e) → Exceeded words files before now told told_now
-too_long_at (Ok number) words files before now told told_now cause end = absurd (omega arith)
-too_long_at (Err Usage) words files before now told told_now cause end = absurd (omega arith)
-too_long_at (Err (Missing name)) words files before now told told_now cause end = absurd (omega arith)
-too_long_at (Err (ReadFault name)) words files before now told told_now cause end = absurd (omega arith)
-too_long_at (Err (Vox fault)) words files before now told told_now cause end = absurd (omega arith)
-too_long_at (Err (TooLong name)) words files before now told told_now cause end = record { file = name.now; exceeds = cause.0; no_fault = cause.1; line = end.1 }
-too_long_at (Err Memory) words files before now told told_now cause end = absurd (omega arith)
-
-pub too_long_says : (words : List (List ℕ)) (files : Option Files) (before now : ℕ) (told told_now : Option (List ℕ)) (out_before out_now result : ℕ) → Run words files before now out_before out_now told told_now result → result ≡ 9 → Exceeded words files before now told told_now
-too_long_says words files before now told told_now out_before out_now result run e = too_long_at run.ending words files before now told told_now run.cause (ended (λ is. omega arith) (λ is. omega arith) run.finish e)
+too_long_at : (a : Option Asking) (e : Ending) (before now : Option Files) (faults risen : ℕ) (told said : Option (List ℕ)) → EndsAs a e before now faults risen → status_of e ≡ 9 → Puts told said (line_of e) → Exceeded a before now faults risen told said
+too_long_at None e before now faults risen told said ends is puts = absurd (let usage = usage_status e ends.0 in omega (arith, is, usage))
+too_long_at (Some (CountOf file)) (Refused (TooLong name)) before now faults risen told said ends is puts =
+    record { name = name.now; exceeds = (ends.0.0, ends.0.1.0); no_fault = ends.0.1.1; unchanged = ends.1; line = puts }
+too_long_at (Some (RunOf asked)) (Refused (TooLong name)) before now faults risen told said ends is puts =
+    record { name = name.now; exceeds = ends.0; no_fault = ends.1.0; unchanged = ends.1.1; line = puts }
+too_long_at (Some a) _ before now faults risen told said ends is puts = absurd (omega arith)
 
 -- statuses 7 and 8 come with the put alone, or, 8, with want of memory before it
-not_seven : (e : Result ℕ Refusal) → status_of e ≡ 7 → ⊥
-not_seven (Ok number) is = omega arith
-not_seven (Err Usage) is = omega arith
-not_seven (Err (Missing name)) is = omega arith
-not_seven (Err (ReadFault name)) is = omega arith
-not_seven (Err (Vox fault)) is = omega arith
-not_seven (Err (TooLong name)) is = omega arith
-not_seven (Err Memory) is = omega arith
+not_seven : (e : Ending) → status_of e ≡ 7 → ⊥
+not_seven (Counted number) is = omega arith
+not_seven (Ran number) is = omega arith
+not_seven Usage is = omega arith
+not_seven (Refused (Missing name)) is = omega arith
+not_seven (Refused _) is = omega arith
 
-pub out_fault_says : (ending : Result ℕ Refusal) (out_before out_now result : ℕ) (told told_now : Option (List ℕ)) → Finishes (line_of ending) (status_of ending) out_before out_now told told_now result → result ≡ 7 → OutFailed out_before out_now told told_now
-out_fault_says ending out_before out_now result told told_now (put is line) e = absurd (not_seven ending (sym is ∙ e))
-out_fault_says ending out_before out_now result told told_now (failed is out) e = out
-out_fault_says ending out_before out_now result told told_now (memory is out) e = absurd (omega arith)
+memory_line_of : (e : Ending) → status_of e ≡ 8 → line_of e ≡ memory_line
+memory_line_of (Refused Memory) is = refl
+memory_line_of _ is = absurd (omega arith)
 
-pub memory_says : (ending : Result ℕ Refusal) (out_before out_now result : ℕ) (told told_now : Option (List ℕ)) → Finishes (line_of ending) (status_of ending) out_before out_now told told_now result → result ≡ 8 → LacksMemory told told_now
-memory_says (Ok number) out_before out_now result told told_now (put is line) e = absurd (omega arith)
-memory_says (Err Usage) out_before out_now result told told_now (put is line) e = absurd (omega arith)
-memory_says (Err (Missing name)) out_before out_now result told told_now (put is line) e = absurd (omega arith)
-memory_says (Err (ReadFault name)) out_before out_now result told told_now (put is line) e = absurd (omega arith)
-memory_says (Err (Vox fault)) out_before out_now result told told_now (put is line) e = absurd (omega arith)
-memory_says (Err (TooLong name)) out_before out_now result told told_now (put is line) e = absurd (omega arith)
-memory_says (Err Memory) out_before out_now result told told_now (put is line) e = inl line
-memory_says ending out_before out_now result told told_now (failed is out) e = absurd (omega arith)
-memory_says ending out_before out_now result told told_now (memory is out) e = out
+known_ending : (e : Ending) → IsTrue (is_status (status_of e))
+known_ending (Refused Collides) = refl
+known_ending _ = refl
 
-pub known_status : (ending : Result ℕ Refusal) (out_before out_now result : ℕ) (told told_now : Option (List ℕ)) → Finishes (line_of ending) (status_of ending) out_before out_now told told_now result → IsTrue (is_status result)
-known_status (Ok number) out_before out_now result told told_now (put is line) = rw is refl
-known_status (Err Usage) out_before out_now result told told_now (put is line) = rw is refl
-known_status (Err (Missing name)) out_before out_now result told told_now (put is line) = rw is refl
-known_status (Err (ReadFault name)) out_before out_now result told told_now (put is line) = rw is refl
-known_status (Err (Vox fault)) out_before out_now result told told_now (put is line) = rw is refl
-known_status (Err (TooLong name)) out_before out_now result told told_now (put is line) = rw is refl
-known_status (Err Memory) out_before out_now result told told_now (put is line) = rw is refl
-known_status ending out_before out_now result told told_now (failed is out) = rw is refl
-known_status ending out_before out_now result told told_now (memory is out) = rw is refl
+-- ---- the clauses, of a whole run
+
+pub done_says : (a : Option Asking) (before now : Option Files) (f g h i : ℕ) (told said : Option (List ℕ)) (result : ℕ) → Run a before now f g h i told said result → result ≡ 0 → Done a before now told said
+done_says a before now f g h i told said result run e = let p = ended (λ is. omega arith) (λ is. omega arith) run.finish e in done_at a run.ending before now f g told said run.ends p.0 p.1
+
+pub usage_says : (a : Option Asking) (before now : Option Files) (f g h i : ℕ) (told said : Option (List ℕ)) (result : ℕ) → Run a before now f g h i told said result → result ≡ 1 → Unusable a before × (now ≡ before) × Puts told said usage_line
+usage_says a before now f g h i told said result run e = let p = ended (λ is. omega arith) (λ is. omega arith) run.finish e in usage_at a run.ending before now f g told said run.ends p.0 p.1
+
+pub missing_says : (a : Option Asking) (before now : Option Files) (f g h i : ℕ) (told said : Option (List ℕ)) (result : ℕ) → Run a before now f g h i told said result → result ≡ 2 → Missed a before now f g told said
+missing_says a before now f g h i told said result run e = let p = ended (λ is. omega arith) (λ is. omega arith) run.finish e in missing_at a run.ending before now f g told said run.ends p.0 p.1
+
+pub read_fault_says : (a : Option Asking) (before now : Option Files) (f g h i : ℕ) (told said : Option (List ℕ)) (result : ℕ) → Run a before now f g h i told said result → result ≡ 3 → Faulted a before now f g told said
+read_fault_says a before now f g h i told said result run e = let p = ended (λ is. omega arith) (λ is. omega arith) run.finish e in read_fault_at a run.ending before now f g told said run.ends p.0 p.1
+
+pub vox_refused_says : (a : Option Asking) (before now : Option Files) (f g h i : ℕ) (told said : Option (List ℕ)) (result : ℕ) → Run a before now f g h i told said result → result ≡ 4 → VoxRefused a before now told said
+vox_refused_says a before now f g h i told said result run e = let p = ended (λ is. omega arith) (λ is. omega arith) run.finish e in vox_refused_at a run.ending before now f g told said run.ends p.0 p.1
+
+pub script_refused_says : (a : Option Asking) (before now : Option Files) (f g h i : ℕ) (told said : Option (List ℕ)) (result : ℕ) → Run a before now f g h i told said result → result ≡ 5 → ScriptRefused a before now told said
+script_refused_says a before now f g h i told said result run e = let p = ended (λ is. omega arith) (λ is. omega arith) run.finish e in script_refused_at a run.ending before now f g told said run.ends p.0 p.1
+
+pub write_fault_says : (a : Option Asking) (before now : Option Files) (f g h i : ℕ) (told said : Option (List ℕ)) (result : ℕ) → Run a before now f g h i told said result → result ≡ 6 → WriteFailed a before now f g told said
+write_fault_says a before now f g h i told said result run e = let p = ended (λ is. omega arith) (λ is. omega arith) run.finish e in write_fault_at a run.ending before now f g told said run.ends p.0 p.1
+
+pub too_long_says : (a : Option Asking) (before now : Option Files) (f g h i : ℕ) (told said : Option (List ℕ)) (result : ℕ) → Run a before now f g h i told said result → result ≡ 9 → Exceeded a before now f g told said
+too_long_says a before now f g h i told said result run e = let p = ended (λ is. omega arith) (λ is. omega arith) run.finish e in too_long_at a run.ending before now f g told said run.ends p.0 p.1
+
+out_fault_by : {line : List ℕ} {status h i result : ℕ} {told said : Option (List ℕ)} → (status ≡ 7 → ⊥) → Finishes line status h i told said result → result ≡ 7 → Rose h i × (Begins told said line ⊎ Begins told said memory_line)
+out_fault_by not_7 (put is line) e = absurd (not_7 (sym is ∙ e))
+out_fault_by not_7 (failed is rose begun) e = (rose, inl begun)
+out_fault_by not_7 (failed_lacking is rose begun) e = (rose, inr begun)
+out_fault_by not_7 (lacking is line) e = absurd (omega arith)
+
+pub out_fault_says : (a : Option Asking) (before now : Option Files) (f g h i : ℕ) (told said : Option (List ℕ)) (result : ℕ) → Run a before now f g h i told said result → result ≡ 7 → OutFailed a before now f g h i told said
+out_fault_says a before now f g h i told said result run e =
+    let p = out_fault_by (not_seven run.ending) run.finish e in
+    record { ending = run.ending; ends = run.ends; rose = p.0; begun = p.1 }
+
+memory_by : {line : List ℕ} {status h i result : ℕ} {told said : Option (List ℕ)} → (status ≡ 8 → line ≡ memory_line) → Finishes line status h i told said result → result ≡ 8 → Puts told said memory_line ⊎ (said ≡ told)
+memory_by {told = told} {said = said} of_line (put is line) e = inl (subst (λ (l : List ℕ). Puts told said l) (of_line (sym is ∙ e)) line)
+memory_by of_line (failed is rose begun) e = absurd (omega arith)
+memory_by of_line (failed_lacking is rose begun) e = absurd (omega arith)
+memory_by of_line (lacking is line) e = line
+
+pub memory_says : (a : Option Asking) (before now : Option Files) (f g h i : ℕ) (told said : Option (List ℕ)) (result : ℕ) → Run a before now f g h i told said result → result ≡ 8 → LacksMemory a before now f g told said
+memory_says a before now f g h i told said result run e = record { ending = run.ending; ends = run.ends; line = memory_by (memory_line_of run.ending) run.finish e }
+
+known_by : {line : List ℕ} {status h i result : ℕ} {told said : Option (List ℕ)} → IsTrue (is_status status) → Finishes line status h i told said result → IsTrue (is_status result)
+known_by known (put is line) = rw is known
+known_by known (failed is rose begun) = rw is refl
+known_by known (failed_lacking is rose begun) = rw is refl
+known_by known (lacking is line) = rw is refl
+
+pub known_says : (ending : Ending) (h i : ℕ) (told said : Option (List ℕ)) (result : ℕ) → Finishes (line_of ending) (status_of ending) h i told said result → IsTrue (is_status result)
+known_says ending h i told said result finish = known_by (known_ending ending) finish
+
+-- the line of want of memory was put in place of the ending's
+pub put_instead : (line : List ℕ) (status faults risen : ℕ) (told said : Option (List ℕ)) (result : ℕ) → Finishes memory_line 8 faults risen told said result → Finishes line status faults risen told said result
+put_instead line status faults risen told said result (put is puts) = lacking is (inl puts)
+put_instead line status faults risen told said result (failed is rose begun) = failed_lacking is rose begun
+put_instead line status faults risen told said result (failed_lacking is rose begun) = failed_lacking is rose begun
+put_instead line status faults risen told said result (lacking is puts) = lacking is puts

@@ -1,96 +1,78 @@
--- How a run ends, and what each status says.
-use Rattle.std.specs.Prelude.{◌≡◌, ℕ, ◌<◌, ◌≤◌, ◌^◌, List, length, Option, Some, None, IsSomeAnd, Result, Ok, Err, ⊤}
+-- How the program ends, what stands behind each ending, and what it leaves on the shelf. `faults` and `risen` are the shelf's
+-- counts of faults before and after, `before` and `now` its files.
+use Rattle.std.specs.Prelude.{◌≡◌, ℕ, List, Option, Some, None, Ok, Err, ⊤}
 use Rattle.vw_io.specs.Outside.{Files, Rose, Stayed}
-use Rattle.vox_read.specs.declared.faults.VoxFault.{VoxFault}
-use Rattle.vox_read.specs.declared.faults.VoxFault.TheVariants.{NotPlain}
-use Rattle.vox_read.specs.declared.faults.VoxFault.TheVariants as faults
-use Rattle.vox_read.specs.Contents.{Content, cells_of_all}
-use Rattle.vox_read.specs.Plain.{IsPlainFile}
-use Rattle.vox_read.specs.Faults.{kind_of, position_of}
-use Rattle.voxdag_top.specs.declared.refusals.Refusal.{Refusal}
-use Rattle.voxdag_top.specs.declared.refusals.Refusal.TheVariants.{Usage, Missing, ReadFault, Vox, TooLong, Memory}
-use Rattle.voxdag_top.specs.Words.{counted_file}
-use Rattle.voxdag_top.specs.Lines.{count_line, usage_line, missing_line, read_fault_line, vox_line, too_long_line, memory_line}
+use Rattle.vox_chunk.specs.declared.faults.VoxFault.{VoxFault}
+use Rattle.vox_chunk.specs.Faults.{kind_of, position_of}
+use Rattle.vox_read.specs.Files.{Reads}
+use Rattle.script.specs.Faults.{number_of_kind}
+use Rattle.script_files.specs.declared.orders.RunRefused.{RunRefused}
+use Rattle.script_files.specs.declared.orders.RunRefused.TheVariants.{Missing, ReadFault, TooLong, Vox, Script, Collides, WriteFault, Memory}
+use Rattle.script_files.specs.Orders.{Taken, NoFile, FileIsOver, vox_limit}
+use Rattle.script_files.specs.Outcomes.{Outcome}
+use Rattle.script_files.specs.Writes.{written_name}
+use Rattle.voxdag_top.specs.declared.endings.Ending.{Ending}
+use Rattle.voxdag_top.specs.declared.endings.Ending.TheVariants.{Counted, Ran, Usage, Refused}
+use Rattle.voxdag_top.specs.Words.{Asking, CountOf, RunOf}
+use Rattle.voxdag_top.specs.Counting.{CountsFile}
+use Rattle.voxdag_top.specs.Lines.{count_line, run_line, usage_line, missing_line, read_fault_line, vox_line, script_line, write_fault_line, too_long_line, memory_line}
 
--- the most bytes that a VOX file may have
-abbrev pub vox_limit : ℕ
-vox_limit = 2 ^ 28
-
--- the file of this name has these bytes, where the files are told
-abbrev pub FileIs : Option Files → List ℕ → List ℕ → Type 0
-FileIs None name bytes = ⊤
-FileIs (Some files) name bytes = files name ≡ Some bytes
-
--- no file has this name, where the files are told
-abbrev pub NoFile : Option Files → List ℕ → Type 0
-NoFile None name = ⊤
-NoFile (Some files) name = files name ≡ None
-
--- the file of this name has more bytes than the limit, where the files are told
-abbrev pub FileIsOver : Option Files → List ℕ → ℕ → Type 0
-FileIsOver None name limit = ⊤
-FileIsOver (Some files) name limit = IsSomeAnd (files name) (λ bytes. limit < length bytes)
-
--- the words ask to count this file, which has these bytes
-pub record Asks (words : List (List ℕ)) (files : Option Files) (file bytes : List ℕ) : Type 0 where
-  pub asked : counted_file words ≡ Some file
-  pub is_file : FileIs files file bytes
-  pub within : length bytes ≤ vox_limit
-
--- the file is plain, and the number is that of the cells of its models
-pub record Counts (words : List (List ℕ)) (files : Option Files) (number : ℕ) : Type 0 where
-  pub file : List ℕ
+-- the file was taken, and the number is that of its models' cells
+pub record Counts (file : List ℕ) (files : Option Files) (number : ℕ) : Type 0 where
   pub bytes : List ℕ
-  pub asks : Asks words files file bytes
-  pub models : List Content
-  pub plain : IsPlainFile bytes models
-  pub counted : number ≡ cells_of_all models
+  pub taken : Taken files file vox_limit bytes
+  pub counts : CountsFile bytes number
 
--- the file is not plain
-pub record Refuses (words : List (List ℕ)) (files : Option Files) : Type 0 where
-  pub file : List ℕ
+-- the file was taken, and has this fault
+pub record HasFault (file : List ℕ) (files : Option Files) (fault : VoxFault) : Type 0 where
   pub bytes : List ℕ
-  pub asks : Asks words files file bytes
-  pub not_plain : (models : List Content) → IsPlainFile bytes models → ⊥
+  pub taken : Taken files file vox_limit bytes
+  pub says : Reads bytes (Err fault)
 
--- the words ask to count a file that is not there
-pub record Misses (words : List (List ℕ)) (files : Option Files) (file : List ℕ) : Type 0 where
-  pub asked : counted_file words ≡ Some file
-  pub no_file : NoFile files file
+-- why a file could not be counted
+abbrev pub CountRefused : RunRefused → List ℕ → Option Files → ℕ → ℕ → Type 0
+CountRefused (Missing name) file files faults risen = (name.now ≡ file) × (NoFile files file × Stayed faults risen)
+CountRefused (ReadFault name) file files faults risen = (name.now ≡ file) × Rose faults risen
+CountRefused (TooLong name) file files faults risen = (name.now ≡ file) × (FileIsOver files file vox_limit × Stayed faults risen)
+CountRefused (Vox fault) file files faults risen = HasFault file files fault
+CountRefused Memory file files faults risen = ⊤
+CountRefused _ file files faults risen = ⊥
 
--- the words ask to count a file that is too long
-pub record Exceeds (words : List (List ℕ)) (files : Option Files) (file : List ℕ) : Type 0 where
-  pub asked : counted_file words ≡ Some file
-  pub is_over : FileIsOver files file vox_limit
+-- an ending of `count FILE`, of `run`, and of words outside the grammar
+abbrev pub CountEnds : Ending → List ℕ → Option Files → ℕ → ℕ → Type 0
+CountEnds (Counted number) file files faults risen = Counts file files number
+CountEnds (Refused r) file files faults risen = CountRefused r file files faults risen
+CountEnds _ file files faults risen = ⊥
 
--- why a run of `count` ends as it does; `before` and `now` are the shelf's counts of faults
-abbrev pub VoxCause : VoxFault → List (List ℕ) → Option Files → Type 0
-VoxCause faults.Memory words files = ⊥
-VoxCause (NotPlain at) words files = (at ≡ 8) × Refuses words files
+abbrev pub EndsAs : Option Asking → Ending → Option Files → Option Files → ℕ → ℕ → Type 0
+EndsAs None e before now faults risen = (e ≡ Usage) × (now ≡ before)
+EndsAs (Some (CountOf file)) e before now faults risen = CountEnds e file before faults risen × (now ≡ before)
+EndsAs (Some (RunOf asked)) (Ran number) before now faults risen = Outcome (Ok number) asked before now faults risen
+EndsAs (Some (RunOf asked)) (Refused r) before now faults risen = Outcome (Err r) asked before now faults risen
+EndsAs (Some (RunOf asked)) _ before now faults risen = ⊥
 
-abbrev pub Causes : Result ℕ Refusal → List (List ℕ) → Option Files → ℕ → ℕ → Type 0
-Causes (Ok number) words files before now = Counts words files number
-Causes (Err Usage) words files before now = counted_file words ≡ None
-Causes (Err (Missing name)) words files before now = Misses words files name.now × Stayed before now
-Causes (Err (ReadFault name)) words files before now = (counted_file words ≡ Some name.now) × Rose before now
-Causes (Err (Vox fault)) words files before now = VoxCause fault words files
-Causes (Err (TooLong name)) words files before now = Exceeds words files name.now × Stayed before now
-Causes (Err Memory) words files before now = ⊤
+abbrev pub status_of : Ending → ℕ
+status_of (Counted number) = 0
+status_of (Ran number) = 0
+status_of Usage = 1
+status_of (Refused Collides) = 1
+status_of (Refused (Missing name)) = 2
+status_of (Refused (ReadFault name)) = 3
+status_of (Refused (Vox fault)) = 4
+status_of (Refused (Script fault)) = 5
+status_of (Refused (WriteFault w)) = 6
+status_of (Refused Memory) = 8
+status_of (Refused (TooLong name)) = 9
 
-abbrev pub status_of : Result ℕ Refusal → ℕ
-status_of (Ok number) = 0
-status_of (Err Usage) = 1
-status_of (Err (Missing name)) = 2
-status_of (Err (ReadFault name)) = 3
-status_of (Err (Vox fault)) = 4
-status_of (Err (TooLong name)) = 9
-status_of (Err Memory) = 8
-
-abbrev pub line_of : Result ℕ Refusal → List ℕ
-line_of (Ok number) = count_line number
-line_of (Err Usage) = usage_line
-line_of (Err (Missing name)) = missing_line name.now
-line_of (Err (ReadFault name)) = read_fault_line name.now
-line_of (Err (Vox fault)) = vox_line (kind_of fault) (position_of fault)
-line_of (Err (TooLong name)) = too_long_line name.now
-line_of (Err Memory) = memory_line
+abbrev pub line_of : Ending → List ℕ
+line_of (Counted number) = count_line number
+line_of (Ran number) = run_line number
+line_of Usage = usage_line
+line_of (Refused Collides) = usage_line
+line_of (Refused (Missing name)) = missing_line name.now
+line_of (Refused (ReadFault name)) = read_fault_line name.now
+line_of (Refused (Vox fault)) = vox_line (kind_of fault) (position_of fault)
+line_of (Refused (Script fault)) = script_line fault.line (number_of_kind fault.kind)
+line_of (Refused (WriteFault w)) = write_fault_line (written_name w)
+line_of (Refused Memory) = memory_line
+line_of (Refused (TooLong name)) = too_long_line name.now

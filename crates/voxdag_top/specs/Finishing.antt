@@ -1,10 +1,12 @@
 -- A line is put, and the status follows.
-use Rattle.std.specs.Prelude.{◌≡◌, ℕ, List, Option}
-use Rattle.voxdag_top.specs.Lines.{Puts}
-use Rattle.voxdag_top.specs.Statuses.{OutFailed, LacksMemory}
+use Rattle.std.specs.Prelude.{◌≡◌, ◌⊎◌, ℕ, List, Option}
+use Rattle.vw_io.specs.Outside.{Rose}
+use Rattle.voxdag_top.specs.Lines.{memory_line, Puts, Begins}
 
--- the status is the ending's, with its line put; or the output failed at the line, or memory did
-pub data Finishes (line : List ℕ) (status faults_before faults_now : ℕ) (before now : Option (List ℕ)) (result : ℕ) : Type 0 where
-  put : result ≡ status → Puts before now line → Finishes line status faults_before faults_now before now result
-  failed : result ≡ 7 → OutFailed faults_before faults_now before now → Finishes line status faults_before faults_now before now result
-  memory : result ≡ 8 → LacksMemory before now → Finishes line status faults_before faults_now before now result
+-- the status is the ending's, with its line put; or the output failed at that line, or at the one of want of memory in its
+-- place; or memory was wanted
+pub data Finishes (line : List ℕ) (status faults risen : ℕ) (told said : Option (List ℕ)) (result : ℕ) : Type 0 where
+  put : result ≡ status → Puts told said line → Finishes line status faults risen told said result
+  failed : result ≡ 7 → Rose faults risen → Begins told said line → Finishes line status faults risen told said result
+  failed_lacking : result ≡ 7 → Rose faults risen → Begins told said memory_line → Finishes line status faults risen told said result
+  lacking : result ≡ 8 → Puts told said memory_line ⊎ (said ≡ told) → Finishes line status faults risen told said result

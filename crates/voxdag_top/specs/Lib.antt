@@ -1,7 +1,8 @@
 pub mod Words
-pub mod Lines
-pub mod Endings
-pub mod Statuses
-pub mod Finishing
-pub mod Counting
 pub mod Asking
+pub mod Lines
+pub mod Counting
+pub mod Endings
+pub mod Finishing
+pub mod Statuses
+pub mod Verdicts

@@ -1,9 +1,14 @@
 -- The line that each ending puts on the output.
 use Rattle.std.specs.Prelude.{◌≡◌, ℕ, List, ◌++◌, Option, Some, None, codes}
 use Rattle.std.specs.Fmt.{decimal}
+use Rattle.vw_io.specs.Put.{AppendsPrefix}
 
 abbrev pub count_line : ℕ → List ℕ
 count_line n = decimal n ++ codes "\n"
+
+-- one script was run: the number of its records, and no marks
+abbrev pub run_line : ℕ → List ℕ
+run_line records = codes "scripts 1 records " ++ (decimal records ++ codes " marks 0\n")
 
 abbrev pub usage_line : List ℕ
 usage_line = codes "voxdag: usage\n"
@@ -17,6 +22,13 @@ read_fault_line name = codes "voxdag: read fault " ++ (name ++ codes "\n")
 abbrev pub vox_line : ℕ → ℕ → List ℕ
 vox_line kind at = codes "voxdag: vox " ++ (decimal kind ++ (codes " " ++ (decimal at ++ codes "\n")))
 
+-- scripts are counted from 0
+abbrev pub script_line : ℕ → ℕ → List ℕ
+script_line line kind = codes "voxdag: script 0 " ++ (decimal line ++ (codes " " ++ (decimal kind ++ codes "\n")))
+
+abbrev pub write_fault_line : List ℕ → List ℕ
+write_fault_line name = codes "voxdag: write fault " ++ (name ++ codes "\n")
+
 abbrev pub too_long_line : List ℕ → List ℕ
 too_long_line name = codes "voxdag: too long " ++ (name ++ codes "\n")
 
@@ -28,12 +40,8 @@ abbrev pub Puts : Option (List ℕ) → Option (List ℕ) → List ℕ → Type 
 Puts None now line = now ≡ None
 Puts (Some before) now line = now ≡ Some (before ++ line)
 
--- nothing that was put before is lost
-pub record Appends (before now : List ℕ) : Type 0 where
-  pub more : List ℕ
-  pub appended : now ≡ before ++ more
-
-abbrev pub OnlyAppends : Option (List ℕ) → Option (List ℕ) → Type 0
-OnlyAppends None now = now ≡ None
-OnlyAppends (Some before) None = ⊥
-OnlyAppends (Some before) (Some now) = Appends before now
+-- some first bytes of the line were appended, where the output tells that
+abbrev pub Begins : Option (List ℕ) → Option (List ℕ) → List ℕ → Type 0
+Begins None now line = now ≡ None
+Begins (Some before) None line = ⊥
+Begins (Some before) (Some now) line = AppendsPrefix before line now

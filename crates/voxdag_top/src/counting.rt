@@ -1,6 +1,7 @@
 ghost use Rattle.std.specs.Prelude.{◌≡◌, ◌≤◌, ◌^◌, length, IfOk, IfErr};
 ghost use Rattle.vox_read.specs.Contents.{AreModels, cells_of_all};
-ghost use Rattle.voxdag_top.specs.Counting.{CountsFile, RefusesFile};
+ghost use Rattle.vox_read.specs.Files.{Refuses};
+ghost use Rattle.voxdag_top.specs.Counting.{CountsFile};
 
 use std::alloc::Global;
 use vox_read::{Models, VoxFault, cell_count, read_models};
@@ -10,7 +11,7 @@ use vw_cell::Memory;
 pub(crate) fn count_cells(alloc: Global, bytes: Vec<u8>) -> Result<u64, VoxFault>
     requires { length bytes.items ≤ 2 ^ 28 }
     ensures counted { IfOk result (CountsFile bytes.items) }
-    ensures refused { IfErr result (λ fault. RefusesFile fault bytes.items) }
+    ensures refused { IfErr result (λ fault. Refuses fault bytes.items) }
 {
     let models = read_models(alloc, bytes.as_slice())?;
     drop(bytes);

@@ -3,8 +3,11 @@
 
 mod commands;
 mod counting;
+mod endings;
+mod laws;
 mod lines;
-mod refusals;
 mod words;
 
 pub use commands::voxdag;
+pub use endings::Ending;
+pub use laws::{verdicts_are_one, words_have_a_verdict};

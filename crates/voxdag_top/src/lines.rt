@@ -1,13 +1,20 @@
 ghost use Rattle.std.specs.Prelude.{◌≡◌, ◌++◌, codes, IfOk, string_bytes};
+ghost use Rattle.script.specs.Faults.{number_of_kind};
+ghost use Rattle.script_files.specs.Writes.{written_name};
+ghost use Rattle.voxdag_top.specs.Lines.{script_line, write_fault_line};
 ghost use Rattle.voxdag_top.specs.Endings.{line_of, status_of};
+ghost use Rattle.voxdag_top.specs.declared.endings.Ending.TheVariants.{Refused};
 ghost use Rattle.voxdag_top.specs.Finishing.{Finishes};
 
-use crate::refusals::Refusal;
+use crate::endings::Ending;
+use script::ScriptFault;
+use script_files::{RunRefused, Written};
 use std::alloc::{AllocError, Global};
 use vw_io::{PutRefused, Sink};
 
 // Puts the ending's line, and gives the status.
-pub(crate) fn finish<O: Sink>(alloc: Global, ending: &Result<u64, Refusal<'_>>, out: &mut O) -> u8
+#[tactic(auto, using(crate::proofs::StatusLaws::put_instead))]
+pub(crate) fn finish<O: Sink>(alloc: Global, ending: &Ending<'_>, out: &mut O) -> u8
     ensures { Finishes (line_of ending.now) (status_of ending.now) (O.faults out.old) (O.faults out.new) (O.told out.old) (O.told out.new) result }
 {
     match line(alloc, ending) {
@@ -26,34 +33,68 @@ fn put_line<O: Sink>(line: &[u8], status: u8, out: &mut O) -> u8
     }
 }
 
-fn status(ending: &Result<u64, Refusal<'_>>) -> u8
+fn status(ending: &Ending<'_>) -> u8
     ensures { result ≡ status_of ending.now }
 {
     match ending {
-        Ok(_) => 0,
-        Err(Refusal::Usage) => 1,
-        Err(Refusal::Missing(_)) => 2,
-        Err(Refusal::ReadFault(_)) => 3,
-        Err(Refusal::Vox(_)) => 4,
-        Err(Refusal::TooLong(_)) => 9,
-        Err(Refusal::Memory) => 8,
+        Ending::Counted(_) | Ending::Ran(_) => 0,
+        Ending::Usage | Ending::Refused(RunRefused::Collides) => 1,
+        Ending::Refused(RunRefused::Missing(_)) => 2,
+        Ending::Refused(RunRefused::ReadFault(_)) => 3,
+        Ending::Refused(RunRefused::Vox(_)) => 4,
+        Ending::Refused(RunRefused::Script(_)) => 5,
+        Ending::Refused(RunRefused::WriteFault(_)) => 6,
+        Ending::Refused(RunRefused::Memory) => 8,
+        Ending::Refused(RunRefused::TooLong(_)) => 9,
     }
 }
 
-fn line(alloc: Global, ending: &Result<u64, Refusal<'_>>) -> Result<String, AllocError>
+fn line(alloc: Global, ending: &Ending<'_>) -> Result<String, AllocError>
     ensures { IfOk result (λ text. string_bytes text ≡ line_of ending.now) }
 {
     match ending {
-        Ok(cells) => format!(in alloc; "{cells}\n"),
-        Err(Refusal::Usage) => format!(in alloc; "voxdag: usage\n"),
-        Err(Refusal::Missing(name)) => format!(in alloc; "voxdag: missing {name}\n"),
-        Err(Refusal::ReadFault(name)) => format!(in alloc; "voxdag: read fault {name}\n"),
-        Err(Refusal::Vox(fault)) => {
+        Ending::Counted(cells) => format!(in alloc; "{cells}\n"),
+        Ending::Ran(records) => format!(in alloc; "scripts 1 records {records} marks 0\n"),
+        Ending::Usage => format!(in alloc; "voxdag: usage\n"),
+        Ending::Refused(refused) => refused_line(alloc, refused),
+    }
+}
+
+fn refused_line(alloc: Global, refused: &RunRefused<'_>) -> Result<String, AllocError>
+    ensures { IfOk result (λ text. string_bytes text ≡ line_of (Refused refused.now)) }
+{
+    match refused {
+        RunRefused::Collides => format!(in alloc; "voxdag: usage\n"),
+        RunRefused::Missing(name) => format!(in alloc; "voxdag: missing {name}\n"),
+        RunRefused::ReadFault(name) => format!(in alloc; "voxdag: read fault {name}\n"),
+        RunRefused::Vox(fault) => {
             let kind = fault.kind();
             let at = fault.at();
             format!(in alloc; "voxdag: vox {kind} {at}\n")
         }
-        Err(Refusal::TooLong(name)) => format!(in alloc; "voxdag: too long {name}\n"),
-        Err(Refusal::Memory) => format!(in alloc; "voxdag: memory\n"),
+        RunRefused::Script(fault) => script_line(alloc, fault),
+        RunRefused::WriteFault(output) => write_fault_line(alloc, output),
+        RunRefused::TooLong(name) => format!(in alloc; "voxdag: too long {name}\n"),
+        RunRefused::Memory => format!(in alloc; "voxdag: memory\n"),
+    }
+}
+
+fn script_line(alloc: Global, fault: &ScriptFault) -> Result<String, AllocError>
+    ensures { IfOk result (λ text. string_bytes text ≡ script_line fault.now.line (number_of_kind fault.now.kind)) }
+{
+    let line = fault.line;
+    let kind = fault.kind.number();
+    format!(in alloc; "voxdag: script 0 {line} {kind}\n")
+}
+
+fn write_fault_line(alloc: Global, output: &Written<'_>) -> Result<String, AllocError>
+    ensures { IfOk result (λ text. string_bytes text ≡ write_fault_line (written_name output.now)) }
+{
+    match output {
+        Written::Transcript(script) => {
+            let name = format!(in alloc; "{script}.out")?;
+            format!(in alloc; "voxdag: write fault {name}\n")
+        }
+        Written::Journal(name) => format!(in alloc; "voxdag: write fault {name}\n"),
     }
 }

@@ -1,0 +1,5 @@
+use Rattle.transcript.proofs.Lines.{one_reading}
+use Rattle.transcript.proofs.laws.transcripts_have_one_reading.Goals as goal
+
+pub returns : goal.returns
+returns c = one_reading
