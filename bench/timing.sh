@@ -1,0 +1,49 @@
+# What the scripts of this folder share. They source it with `here` set to this folder.
+
+root=$(dirname "$here")
+work=$here/work
+product=${VOXDAG:-$root/.build/voxdag}
+
+# build TOOL..: builds C programs of this folder.
+build() {
+    mkdir -p "$work"
+    local tool
+    for tool in "$@"; do
+        cc -O2 -Wall -o "$work/$tool" "$here/$tool.c"
+    done
+}
+
+# The launcher proves and builds the program where that is needed. The timed runs start the program itself.
+need_product() {
+    [ -n "${VOXDAG:-}" ] || "$root/voxdag" count "$root/models/one.vox" >/dev/null
+}
+
+# make_once FILE MAKER WORD..: runs `MAKER WORD.. FILE`, unless the file is there and the maker's source is no newer.
+make_once() {
+    local file=$1 maker=$2
+    shift 2
+    [ -f "$file" ] && [ "$file" -nt "$here/$maker.c" ] && return
+    "$work/$maker" "$@" "$work/part"
+    mv "$work/part" "$file"
+}
+
+# measure COMMAND..: what it printed, in `printed`, and its `seconds` and `peak` bytes. It fails where the command does.
+measure() {
+    printed=$("$work/peak" "$work/result" "$@") || {
+        local status=$?
+        echo "status $status, and printed '$printed': $*" >&2
+        return "$status"
+    }
+    read -r seconds peak <"$work/result"
+}
+
+# The less of two numbers; the first may be empty.
+less() {
+    awk -v a="$1" -v b="$2" 'BEGIN { print a == "" || b < a ? b : a }'
+}
+
+# ratio ROUNDS PRODUCT PEER: the line of the two best times.
+ratio() {
+    awk -v rounds="$1" -v product="$2" -v peer="$3" 'BEGIN {
+        printf "  best of %d: product %.3f s, peer %.3f s, product/peer %.2f\n", rounds, product, peer, product / peer }'
+}
