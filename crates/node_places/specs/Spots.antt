@@ -1,5 +1,5 @@
 -- Where each word of a store and of its log stands in one table.
-use Rattle.std.specs.Prelude.{◌≡◌, ℕ, zero, suc, ◌+◌, ◌-◌, ◌*◌, ◌<◌, slice_index}
+use Rattle.std.specs.Prelude.{ℕ, zero, suc, ◌+◌, ◌-◌, ◌*◌, ◌<◌, slice_index}
 use Rattle.vw_cell.specs.Counts.{sum_below}
 use Rattle.node_words.specs.Plans.{Layout}
 

@@ -1,0 +1,150 @@
+ghost use Rattle.std.specs.Prelude.{◌≡◌, ℕ, ◌+◌, ◌-◌, ◌*◌, ◌^◌, ◌<◌, ◌≤◌, slice_index};
+ghost use Rattle.vw_cell.specs.Counts.{sum_below};
+ghost use Rattle.node_places.specs.Spots.{place, width, key_words, entry_words, entry_place, first_turn, Sessions, LogTurn, LogLength, Version, Turn, Key, Book, IsSpot, IsSlot};
+
+use node_words::Plan;
+use std::marker::Model;
+
+/// The place of the word that counts the sessions made.
+pub const SESSIONS: usize = 0;
+
+/// The place of the log's turn.
+pub const LOG_TURN: usize = 1;
+
+/// The place of the log's length.
+pub const LOG_LENGTH: usize = 2;
+
+/// Where the words of versions begin, eight of each.
+const FIRST_VERSION: usize = 3;
+
+/// Where the turns of buckets begin, behind the words of 65,536 versions.
+const FIRST_TURN: usize = 524_291;
+
+/// Where each word of a store and of its log stands in one table, by a plan. What the places of a level
+/// start from is found once, when it is made. Contracts see the plan.
+#[derive(Drop)]
+pub struct Places {
+    plan: Plan,
+    turns: [usize; 12],
+    entries: [usize; 12],
+}
+
+impl Model for Places {
+    ghost use Rattle.node_words.specs.Plans.{Layout};
+    ghost use Rattle.node_places.specs.Firsts.{AreFirsts};
+
+    ghost Value = { Layout };
+
+    ghost view = { λ p. p.plan };
+
+    ghost invariant = { λ p. AreFirsts p.plan p.turns p.entries };
+}
+
+impl Places {
+    /// The places of this plan's words.
+    pub fn new(plan: &Plan) -> Places
+        ensures { result ≡ plan.now }
+    {
+        let buckets = plan.buckets();
+        let turns = turns_of(&buckets);
+        let first = turns[levels_of(plan)];
+        let entries = entries_of(first, &buckets, plan.cap());
+        Places {
+            plan: *plan,
+            turns,
+            entries,
+        }
+    }
+
+    /// How many words the table has.
+    pub fn width(&self) -> usize
+        ensures { result ≡ width self.now }
+    {
+        self.entries[levels_of(&self.plan)]
+    }
+
+    /// The place of a version's word; a version has eight.
+    pub fn version(&self, version: u32, word: u8) -> usize
+        requires { IsSpot self.now (Version version word) }
+        ensures { result ≡ place self.now (Version version word) }
+    {
+        FIRST_VERSION + (version as usize * 8 + usize::from(word))
+    }
+
+    /// The place of a bucket's turn.
+    pub fn turn(&self, level: u8, bucket: u16) -> usize
+        requires { IsSpot self.now (Turn level bucket) }
+        ensures { result ≡ place self.now (Turn level bucket) }
+    {
+        self.turns[usize::from(level)] + usize::from(bucket)
+    }
+
+    /// The place of a word of the key in this slot; a leaf's key has one, a node's four.
+    pub fn key(&self, level: u8, bucket: u16, slot: u8, word: u8) -> usize
+        requires { IsSpot self.now (Key level bucket slot word) }
+        ensures { result ≡ place self.now (Key level bucket slot word) }
+    {
+        self.entry(level, bucket, slot) + usize::from(word)
+    }
+
+    /// The place of the book in this slot.
+    pub fn book(&self, level: u8, bucket: u16, slot: u8) -> usize
+        requires { IsSpot self.now (Book level bucket slot) }
+        ensures { result ≡ place self.now (Book level bucket slot) }
+    {
+        self.entry(level, bucket, slot) + key_words(level)
+    }
+
+    // The place of the first word in this slot.
+    fn entry(&self, level: u8, bucket: u16, slot: u8) -> usize
+        requires { IsSlot self.now level bucket slot }
+        ensures value { result ≡ entry_place self.now level bucket slot 0 }
+        ensures bound { result < 2 ^ 41 }
+    {
+        let cap = usize::from(self.plan.cap());
+        let number = usize::from(bucket) * cap + usize::from(slot);
+        self.entries[usize::from(level)] + number * (key_words(level) + 1)
+    }
+}
+
+// How many levels the plan's world has.
+fn levels_of(plan: &Plan) -> usize
+    ensures value { result ≡ plan.now.side - 1 }
+    ensures bound { result ≤ 11 }
+{
+    usize::from(plan.side().root_level()) + 1
+}
+
+// How many words a key of this level has.
+fn key_words(level: u8) -> usize
+    ensures value { result ≡ key_words level }
+    ensures bound { result ≤ 4 }
+{
+    if level == 0 { 1 } else { 4 }
+}
+
+// Where the turns of the first levels end, for each number of levels.
+fn turns_of(buckets: &[u16; 11]) -> [usize; 12]
+    ensures ends { (levels : ℕ) → levels ≤ 11 → slice_index result levels ≡ first_turn + sum_below levels (λ level. slice_index buckets.now level) }
+    ensures small { (levels : ℕ) → levels ≤ 11 → slice_index result levels < 2 ^ 21 }
+{
+    let mut ends = [FIRST_TURN; 12];
+    for level in 0..11 {
+        ends[level + 1] = ends[level] + usize::from(buckets[level]);
+    }
+    ends
+}
+
+// Where the entries of the first levels end, for each number of levels.
+fn entries_of(first: usize, buckets: &[u16; 11], cap: u16) -> [usize; 12]
+    requires { first < 2 ^ 21 }
+    ensures ends { (levels : ℕ) → levels ≤ 11 → slice_index result levels ≡ first + sum_below levels (λ level. entry_words level * (cap * slice_index buckets.now level)) }
+    ensures small { (levels : ℕ) → levels ≤ 11 → slice_index result levels < 2 ^ 40 }
+{
+    let mut ends = [first; 12];
+    for level in 0..11 {
+        let slots = usize::from(cap) * usize::from(buckets[level]);
+        ends[level + 1] = ends[level] + (key_words(level as u8) + 1) * slots;
+    }
+    ends
+}
