@@ -25,21 +25,7 @@ echo "peak memory of the product on models/one.vox: $peak_of_one bytes"
 
 for kind in ordered random; do
     file=$work/$kind.vox
-    best_product=
-    best_peer=
-    peak_of_product=0
-    for ((round = 1; round <= rounds; round++)); do
-        measure "$product" count "$file"
-        from_product=$printed
-        best_product=$(less "$best_product" "$seconds")
-        ((peak > peak_of_product)) && peak_of_product=$peak
-        measure "$peer" count "$file"
-        best_peer=$(less "$best_peer" "$seconds")
-        if [ "$from_product" != "$printed" ]; then
-            echo "$kind: the product printed '$from_product' and the peer '$printed'" >&2
-            exit 1
-        fi
-    done
+    compare "$rounds" "$file"
     bytes=$(wc -c <"$file")
     echo "$kind: both print $printed"
     ratio "$rounds" "$best_product" "$best_peer"

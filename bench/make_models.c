@@ -7,11 +7,10 @@
 //
 // The same bytes each time.
 
-#include <stdio.h>
-#include <stdlib.h>
 #include <string.h>
 
 #include "draw.h"
+#include "put.h"
 
 #define SEED 20240608
 #define MATERIALS 256
@@ -29,27 +28,6 @@ struct shape {
 
 static const struct shape large = {1, 256, 256 * 256 * 256};
 static const struct shape many = {1000, 64, 16777};
-
-static void put(FILE *file, const void *bytes, size_t length)
-{
-    if (fwrite(bytes, 1, length, file) != length) {
-        perror("make_models");
-        exit(1);
-    }
-}
-
-static void put_number(FILE *file, uint32_t number)
-{
-    uint8_t bytes[4] = {number & 255, number >> 8 & 255, number >> 16 & 255, number >> 24};
-    put(file, bytes, 4);
-}
-
-static void put_head(FILE *file, const char *name, uint32_t content, uint32_t children)
-{
-    put(file, name, 4);
-    put_number(file, content);
-    put_number(file, children);
-}
 
 static void put_passed(FILE *file, const char *name, uint32_t content)
 {

@@ -5,44 +5,14 @@
 //
 // The same bytes each time.
 
-#include <stdint.h>
-#include <stdio.h>
-#include <stdlib.h>
 #include <string.h>
+
+#include "draw.h"
+#include "put.h"
 
 #define SIDE 256
 #define ENTRIES (SIDE * SIDE * SIDE)
 #define SEED 20240607
-
-static void put(FILE *file, const void *bytes, size_t length)
-{
-    if (fwrite(bytes, 1, length, file) != length) {
-        perror("make_plain");
-        exit(1);
-    }
-}
-
-static void put_number(FILE *file, uint32_t number)
-{
-    uint8_t bytes[4] = {number & 255, number >> 8 & 255, number >> 16 & 255, number >> 24};
-    put(file, bytes, 4);
-}
-
-static void put_chunk(FILE *file, const char *name, uint32_t content, uint32_t children)
-{
-    put(file, name, 4);
-    put_number(file, content);
-    put_number(file, children);
-}
-
-// The next number of the generator splitmix64.
-static uint64_t next(uint64_t *state)
-{
-    uint64_t z = *state += 0x9e3779b97f4a7c15;
-    z = (z ^ z >> 30) * 0xbf58476d1ce4e5b9;
-    z = (z ^ z >> 27) * 0x94d049bb133111eb;
-    return z ^ z >> 31;
-}
 
 int main(int argc, char **argv)
 {
@@ -58,11 +28,11 @@ int main(int argc, char **argv)
     }
     put(file, "VOX ", 4);
     put_number(file, 150);
-    put_chunk(file, "MAIN", 0, 40 + 4 * ENTRIES);
-    put_chunk(file, "SIZE", 12, 0);
+    put_head(file, "MAIN", 0, 40 + 4 * ENTRIES);
+    put_head(file, "SIZE", 12, 0);
     for (int i = 0; i < 3; i++)
         put_number(file, SIDE);
-    put_chunk(file, "XYZI", 4 + 4 * ENTRIES, 0);
+    put_head(file, "XYZI", 4 + 4 * ENTRIES, 0);
     put_number(file, ENTRIES);
 
     uint64_t state = SEED;

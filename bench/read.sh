@@ -16,23 +16,7 @@ need_product
 
 for kind in large many; do
     file=$work/$kind.vox
-    best_product=
-    best_peer=
-    peak_of_product=0
-    peak_of_peer=0
-    for ((round = 1; round <= rounds; round++)); do
-        measure "$product" count "$file"
-        from_product=$printed
-        best_product=$(less "$best_product" "$seconds")
-        ((peak > peak_of_product)) && peak_of_product=$peak
-        measure "$peer" count "$file"
-        best_peer=$(less "$best_peer" "$seconds")
-        ((peak > peak_of_peer)) && peak_of_peer=$peak
-        if [ "$from_product" != "$printed" ]; then
-            echo "$kind: the product printed '$from_product' and the peer '$printed'" >&2
-            exit 1
-        fi
-    done
+    compare "$rounds" "$file"
     echo "$kind: $(wc -c <"$file") bytes, both print $printed"
     ratio "$rounds" "$best_product" "$best_peer"
     echo "  peak memory: product $peak_of_product bytes, peer $peak_of_peer bytes"

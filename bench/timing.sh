@@ -47,3 +47,23 @@ ratio() {
     awk -v rounds="$1" -v product="$2" -v peer="$3" 'BEGIN {
         printf "  best of %d: product %.3f s, peer %.3f s, product/peer %.2f\n", rounds, product, peer, product / peer }'
 }
+
+# compare ROUNDS FILE: the product and the peer count the same file in turn. It sets `best_product`, `best_peer`,
+# `peak_of_product` and `peak_of_peer`, and fails where they print two things.
+compare() {
+    local rounds=$1 file=$2 round from_product
+    best_product= best_peer= peak_of_product=0 peak_of_peer=0
+    for ((round = 1; round <= rounds; round++)); do
+        measure "$product" count "$file"
+        from_product=$printed
+        best_product=$(less "$best_product" "$seconds")
+        ((peak > peak_of_product)) && peak_of_product=$peak
+        measure "$peer" count "$file"
+        best_peer=$(less "$best_peer" "$seconds")
+        ((peak > peak_of_peer)) && peak_of_peer=$peak
+        if [ "$from_product" != "$printed" ]; then
+            echo "$file: the product printed '$from_product' and the peer '$printed'" >&2
+            return 1
+        fi
+    done
+}
