@@ -1,3 +1,4 @@
 pub mod Spots
 pub mod Words
 pub mod Firsts
+pub mod Names
