@@ -1,0 +1,4 @@
+pub mod WorldBlocks
+pub mod Multiples
+pub mod MarkLaws
+pub mod MarkReadings
