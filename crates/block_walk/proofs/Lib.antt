@@ -1,0 +1,6 @@
+pub mod BlockLaws
+pub mod LookLaws
+pub mod PartLaws
+mod Halving
+pub mod Octants
+mod AnswerLaws

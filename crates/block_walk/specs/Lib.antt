@@ -1,0 +1,4 @@
+pub mod Roots
+pub mod Parts
+pub mod Looks
+pub mod Answers
