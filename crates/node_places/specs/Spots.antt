@@ -1,7 +1,8 @@
 -- Where each word of a store and of its log stands in one table.
-use Rattle.std.specs.Prelude.{ℕ, zero, suc, ◌+◌, ◌-◌, ◌*◌, ◌<◌, slice_index}
+use Rattle.std.specs.Prelude.{ℕ, zero, suc, ◌+◌, ◌-◌, ◌*◌, ◌<◌}
 use Rattle.vw_cell.specs.Counts.{sum_below}
 use Rattle.node_words.specs.Plans.{Layout}
+pub use Rattle.node_words.specs.Plans.{buckets_at}
 
 -- the words: the number of sessions made, the log's turn and its length; the words of each version; the turn of each
 -- bucket; and of each entry the words of its key and its book
@@ -32,9 +33,6 @@ entry_words level = key_words level + 1
 -- the number of levels of the world
 abbrev pub levels : Layout → ℕ
 levels p = p.side - 1
-
-abbrev pub buckets_at : Layout → ℕ → ℕ
-buckets_at p level = slice_index p.buckets level
 
 -- the words of a level's entries
 abbrev pub level_words : Layout → ℕ → ℕ

@@ -9,7 +9,7 @@ use Rattle.std.proofs.lemmas.Nat.Bits.{same_from_bits_below, bit_at-lt, bit_at-z
 use Rattle.std.proofs.lemmas.Grind.{common_steps, pow_more}
 use Rattle.std.proofs.lemmas.Bool.Decides.{nat_tests}
 use Rattle.vw_cell.specs.Places.{block_side, half_x, half_y, half_z}
-use Rattle.node_shapes.specs.Shape.{Shape, Clear, Leaf, Branch, octant_shape, branch_of, bit_number, has, SameCells, HasCell, IsCanonical}
+use Rattle.node_shapes.specs.Shape.{Shape, Clear, Leaf, Branch, octant_shape, branch_of, bit_number, has, SameCells, HasCell, IsCanonical, IsCanonicalUpTo, IsPart, whole, within}
 
 pub block_side-suc : (level : ℕ) → block_side (suc level) ≡ 2 * block_side level
 block_side-suc level = let e : suc level ≡ level + 1 = omega arith in rw (e, pow_more) (omega arith)
@@ -186,3 +186,42 @@ pub branch_canonical : (level : ℕ) (octants : ℕ → Shape) (k : ℕ) → k <
 unfolding IsCanonical
 branch_canonical level f k lt ne h =
     ((k, lt, λ e. ne (sym (octant_shape-branch_of f k lt) ∙ e)), each_octant level f h)
+
+-- a part of a shape isn't clear
+pub part_some : (p s : Shape) → IsPart p s → p ≢ Clear
+part_some p s (whole ne) = ne
+part_some p s (within k h) = part_some p (octant_shape s k) h
+
+-- a clear shape has no part
+clear_partless : (p s : Shape) → s ≡ Clear → IsPart p s → ⊥
+clear_partless p s e (whole ne) = ne e
+clear_partless p s e (within k h) = clear_partless p (octant_shape s k) (ap (λ (t : Shape). octant_shape t k) e ∙ octant_shape-clear k) h
+
+leaf_octants : (s : Shape) (k : ℕ) → IsCanonical 0 s → octant_shape s k ≡ Clear
+unfolding IsCanonical
+leaf_octants Clear k h = octant_shape-clear k
+leaf_octants (Leaf b) zero h = refl
+leaf_octants (Leaf b) (suc k) h = refl
+leaf_octants (Branch a b c d e f g i) k h = absurd h
+
+-- a part of a canonical shape is canonical at a level up to the shape's
+pub part_canonical : (level : ℕ) (p s : Shape) → IsCanonical level s → IsPart p s → IsCanonicalUpTo level p
+part_canonical level p s h (whole ne) = record { at = level; up_to = omega arith; canonical = h }
+part_canonical zero p s h (within k q) = absurd (clear_partless p (octant_shape s k) (leaf_octants s k h) q)
+part_canonical (suc level) p s h (within k q) =
+    let below = part_canonical level p (octant_shape s k) (octant_canonical level s k h) q in
+    record { at = below.at; up_to = omega (arith, below.up_to); canonical = below.canonical }
+
+-- a canonical shape that isn't clear has one level
+pub one_level : (j k : ℕ) (s : Shape) → s ≢ Clear → IsCanonical j s → IsCanonical k s → j ≡ k
+unfolding IsCanonical
+one_level j k Clear ne p q = absurd (ne refl)
+one_level zero zero s ne p q = refl
+one_level zero (suc k) (Leaf b) ne p q = absurd q.0
+one_level zero (suc k) (Branch a b c d e f g h) ne p q = absurd p
+one_level (suc j) zero (Leaf b) ne p q = absurd p.0
+one_level (suc j) zero (Branch a b c d e f g h) ne p q = absurd q
+one_level (suc j) (suc k) (Leaf b) ne p q = absurd p.0
+one_level (suc j) (suc k) (Branch a b c d e f g h) ne p q =
+    let o = p.0 in
+    ap suc (one_level j k (octant_shape (Branch a b c d e f g h) o.0) o.2 (p.1 o.0) (q.1 o.0))

@@ -1,5 +1,5 @@
 -- Laws of trees: levels, octants and what stands below.
-use Rattle.std.proofs.Common.{◌≡◌, ℕ, zero, suc, ◌-◌, ◌<◌, ◌≤◌, Some, None, refl, subst, arith, inl, inr}
+use Rattle.std.proofs.Common.{◌≡◌, ◌≢◌, ℕ, zero, suc, ◌-◌, ◌<◌, ◌≤◌, Some, None, refl, subst, arith, inl, inr}
 use Rattle.std.proofs.lemmas.Bool.{cases_lt}
 use Rattle.node_shapes.specs.declared.names.Name.{Name}
 use Rattle.node_shapes.specs.Shape.{Shape, Clear, Leaf, octant_shape, branch_of, bits_of, IsPart, whole, within}
@@ -130,12 +130,19 @@ pub stands_further : {t u v : Tree} → StandsIn t u → StandsIn u v → Stands
 stands_further s itself = s
 stands_further s (below j r) = below j (stands_further s r)
 
--- the shape of a tree that stands in another is part of the other's
-pub part_from_stands : {t u : Tree} → StandsIn t u → IsPart (shape_of t) (shape_of u)
-part_from_stands itself = whole
-part_from_stands (below {u} {t} k s) = within k (subst (λ p. IsPart (shape_of u) p) (shape_of-child t k) (part_from_stands s))
+-- a tree with a name shows something
+pub shape_of-some : (t : Tree) → root_of t ≢ None → shape_of t ≢ Clear
+unfolding shape_of
+shape_of-some Gone ne e = ne refl
+shape_of-some (LeafAt n b) ne e = cc
+shape_of-some (NodeAt m a b c d e f g h) ne q = cc
+
+-- the shape of a node that stands in a tree is part of the tree's
+pub part_from_stands : {t u : Tree} → root_of t ≢ None → StandsIn t u → IsPart (shape_of t) (shape_of u)
+part_from_stands ne (itself {t}) = whole (shape_of-some t ne)
+part_from_stands ne (below {u} {t} k s) = within k (subst (λ p. IsPart (shape_of u) p) (shape_of-child t k) (part_from_stands ne s))
 
 -- a part of a part is a part
 pub part_further : {p q s : Shape} → IsPart p q → IsPart q s → IsPart p s
-part_further a whole = a
+part_further a (whole ne) = a
 part_further a (within k b) = within k (part_further a b)

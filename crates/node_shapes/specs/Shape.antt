@@ -1,5 +1,5 @@
 -- What a block of voxels contains, and the cells that this sets.
-use Rattle.std.specs.Prelude.{◌≡◌, ◌≢◌, ℕ, ◌+◌, ◌-◌, ◌*◌, ◌/◌, ◌%◌, ◌^◌, ◌<◌, Bool, true, ◌==◌}
+use Rattle.std.specs.Prelude.{◌≡◌, ◌≢◌, ℕ, ◌+◌, ◌-◌, ◌*◌, ◌/◌, ◌%◌, ◌^◌, ◌<◌, ◌≤◌, Bool, true, ◌==◌}
 use Rattle.std.proofs.Common.{zero, suc}
 use Rattle.std.specs.Int.{bit_at}
 use Rattle.vw_cell.specs.declared.cells.Cell.{Cell}
@@ -83,10 +83,16 @@ unfoldable pub IsCanonical : ℕ → Shape → Type 0
 IsCanonical zero s = IsLeafShape s
 IsCanonical (suc level) s = IsBranchShape s × ((k : ℕ) → IsCanonical level (octant_shape s k))
 
--- p is s, an octant of s or a part of an octant
+-- p is s, an octant of s or a part of an octant; what is clear is part of nothing
 pub data IsPart : Shape → Shape → Type 0 where
-  whole : {s : Shape} → IsPart s s
+  whole : {s : Shape} → s ≢ Clear → IsPart s s
   within : {p s : Shape} (k : ℕ) → IsPart p (octant_shape s k) → IsPart p s
+
+-- a shape that is canonical at some level up to this one
+pub record IsCanonicalUpTo (level : ℕ) (s : Shape) : Type 0 where
+  pub at : ℕ
+  pub up_to : at ≤ level
+  pub canonical : IsCanonical at s
 
 -- a shape above the leaves
 abbrev pub IsBranch : Shape → Type 0

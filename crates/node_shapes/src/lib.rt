@@ -3,11 +3,11 @@
 //! The definitions stand in `specs/`. The laws that crates above rest on are the contracts of the functions here.
 #![tactic(auto)]
 
-ghost use Rattle.std.specs.Prelude.{◌≡◌, ◌≢◌, ◌+◌, ◌<◌, ◌≤◌, ℕ, Bool, List, Some, slice_index};
+ghost use Rattle.std.specs.Prelude.{◌≡◌, ◌≢◌, ◌+◌, ◌<◌, ◌≤◌, ℕ, Bool, List, Some, None, slice_index};
 ghost use Rattle.vw_cell.specs.declared.cells.Cell.{Cell};
 ghost use Rattle.vw_cell.specs.declared.blocks.Block.{Block};
 ghost use Rattle.vw_cell.specs.Places.{octant_of};
-ghost use Rattle.node_shapes.specs.Shape.{Shape, Clear, SameCells, ShowsCells, HasCell, IsCanonical, octant_shape, IsPart};
+ghost use Rattle.node_shapes.specs.Shape.{Shape, Clear, SameCells, ShowsCells, HasCell, IsCanonical, IsCanonicalUpTo, octant_shape, IsPart};
 ghost use Rattle.node_shapes.specs.Tree.{Tree, root_of, child_of, shape_of, StandsIn, IsTreeAt};
 ghost use Rattle.node_shapes.specs.Weights.{weight_of, weight_below, put_row};
 ghost use Rattle.node_shapes.specs.Buckets.{bucket_of_shape};
@@ -36,11 +36,18 @@ pub fn shapes_have_cells()
     ensures { (level : ℕ) (s : Shape) → IsCanonical level s → s ≢ Clear → HasCell level s }
 {}
 
-/// Each name of a tree has the level of its depth, and what stands in a tree shows a part of its shape.
+/// A part of a shape isn't clear, and one of a canonical shape is canonical, at one level alone.
+pub fn parts_are_canonical()
+    ensures some { (p s : Shape) → IsPart p s → p ≢ Clear }
+    ensures level { (level : ℕ) (p s : Shape) → IsCanonical level s → IsPart p s → IsCanonicalUpTo level p }
+    ensures once { (j k : ℕ) (s : Shape) → s ≢ Clear → IsCanonical j s → IsCanonical k s → j ≡ k }
+{}
+
+/// Each name of a tree has the level of its depth, and a node that stands in a tree shows a part of its shape.
 pub fn trees_have_shapes()
     ensures level { (level : ℕ) (t : Tree) (n : Name) → IsTreeAt level t → root_of t ≡ Some n → n.level ≡ level }
     ensures octant { (t : Tree) (k : ℕ) → shape_of (child_of t k) ≡ octant_shape (shape_of t) k }
-    ensures part { (t u : Tree) → StandsIn t u → IsPart (shape_of t) (shape_of u) }
+    ensures part { (t u : Tree) → root_of t ≢ None → StandsIn t u → IsPart (shape_of t) (shape_of u) }
 {}
 
 /// A tree put in place of another of a row changes the row's weight by its own.

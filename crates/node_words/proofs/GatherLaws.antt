@@ -2,13 +2,14 @@
 use Rattle.std.proofs.Common.{◌≡◌, ◌≢◌, ℕ, suc, ◌+◌, ◌-◌, ◌<◌, ◌≤◌, Some, None, Option, List, ◌∷◌, length, set, refl, sym, ◌∙◌, ap, subst, arith, inl, inr, add-one, get_or-set_other, get_or-set_same}
 use Rattle.std.proofs.lemmas.Bool.{cases_eq}
 use Rattle.node_shapes.specs.declared.names.Name.{Name}
-use Rattle.node_shapes.specs.Shape.{Shape, octant_shape, branch_of, IsPart, whole, within}
+use Rattle.node_shapes.specs.Shape.{Shape, Clear, octant_shape, branch_of, IsPart, whole, within}
 use Rattle.node_shapes.specs.Tree.{Tree, Gone, LeafAt, node_at, root_of, child_of, shape_of}
 use Rattle.node_shapes.specs.Weights.{weigh, number_of, put_row}
 use Rattle.node_shapes.specs.Shape as shape
 use Rattle.node_shapes.proofs.TreeLaws.{root_from_child, IsTreeAt-below, level_of, gone_at, leaf_at, node_levels, shape_of-leaf, shape_of-node}
 use Rattle.node_shapes.proofs.WeightLaws.{weight_of-gone, weight_of-there, weight_below-part, weight_below-put, weight_below-one, put_row-same, put_row-other}
-use Rattle.node_words.specs.Held.{Seen, AreHeld, AreBelow, Gains, Joins, Grants, OnlyHeldChanges, OnlyMeets, name_in}
+use Rattle.node_words.specs.Plans.{Layout}
+use Rattle.node_words.specs.Held.{Seen, IsSought, AreHeld, AreBelow, Gains, Joins, Grants, OnlyHeldChanges, OnlyMeets, name_in}
 use Rattle.node_words.specs.Gathering.{IsTreeOf, Comes, MayHold, Loses, LosesAll, Grew, unchanged, one, Grows, Fails, Gathered}
 use Rattle.node_words.proofs.HeldLaws.{Keeps, reached_more, reached_child}
 
@@ -124,22 +125,22 @@ grew_into h unchanged = unchanged
 grew_into h (one x q) = one (h _ x) (grew_into h q)
 
 pub grows_none : (target : Shape) (a : Seen) → Grows target a a
-grows_none target a = record { side = refl; made = unchanged; met = refl }
+grows_none target a = record { plan = refl; made = unchanged; met = refl }
 
 pub grows_held : (target : Shape) (a b c : Seen) → Grows target a b → OnlyHeldChanges b c → Grows target a c
-grows_held target a b c p q = record { side = q.side ∙ p.side; made = subst (λ m. Grew (λ x. IsPart x target) a.made m) (sym q.made) p.made; met = q.met ∙ p.met }
+grows_held target a b c p q = record { plan = q.plan ∙ p.plan; made = subst (λ m. Grew (λ x. IsPart x target) a.made m) (sym q.made) p.made; met = q.met ∙ p.met }
 
 -- an octant grew
 pub grows_octant : (target : Shape) (k : ℕ) (a b c : Seen) → Grows target a b → Grows (octant_shape target k) b c → Grows target a c
-grows_octant target k a b c p q = record { side = q.side ∙ p.side; made = grew_more p.made (grew_into (λ x h. within k h) q.made); met = q.met ∙ p.met }
+grows_octant target k a b c p q = record { plan = q.plan ∙ p.plan; made = grew_more p.made (grew_into (λ x h. within k h) q.made); met = q.met ∙ p.met }
 
 -- the target itself was granted
-pub grows_granted : (target made : Shape) (a b c : Seen) → made ≡ target → Grows target a b → Grants b made c → Grows target a c
-grows_granted target made a b c e g m = record {
-  side = m.side ∙ g.side;
+pub grows_granted : (target made : Shape) (a b c : Seen) → made ≢ Clear → made ≡ target → Grows target a b → Grants b made c → Grows target a c
+grows_granted target made a b c ne e g m = record {
+  plan = m.plan ∙ g.plan;
   made = elim m.made [
     | inl q ↦ subst (λ xs. Grew (λ p. IsPart p target) a.made xs) (sym q) g.made
-    | inr q ↦ subst (λ xs. Grew (λ p. IsPart p target) a.made xs) (sym q) (one (subst (λ p. IsPart p target) (sym e) whole) g.made)
+    | inr q ↦ subst (λ xs. Grew (λ p. IsPart p target) a.made xs) (sym q) (one (subst (λ p. IsPart made p) e (whole ne)) g.made)
   ];
   met = m.met ∙ g.met;
 }
@@ -147,10 +148,11 @@ grows_granted target made a b c e g m = record {
 -- an octant met a full bucket, and what was gathered went back
 pub octant_fails : (target : Shape) (k level bucket : ℕ) (a b c d : Seen) (l n : ℕ) (cs : List (Option Name)) → Grows target a b → Fails (octant_shape target k) level bucket b c → OnlyHeldChanges c d → (g : Gathered a.held l target cs n b.held) → LosesAll c.held g.row 8 d.held → Fails target level bucket a d
 octant_fails target k level bucket a b c d l n cs p q o g r = record {
-  side = o.side ∙ q.side ∙ p.side;
+  plan = o.plan ∙ q.plan ∙ p.plan;
   made = subst (λ m. Grew (λ x. IsPart x target) a.made m) (sym o.made) (grew_more p.made (grew_into (λ x h. within k h) q.made));
   wanted = q.wanted;
   is_part = within k q.is_part;
+  sought = subst (λ (p : Layout). IsSought p (record { level = level; bucket = bucket; shape = q.wanted })) p.plan q.sought;
   met = o.met ∙ q.met ∙ ap (λ m. record { level = level; bucket = bucket; shape = q.wanted } ∷ m) p.met;
   held = λ f. omega (arith, r.weighs f, q.held f, g.weighs f);
 }
@@ -158,10 +160,11 @@ octant_fails target k level bucket a b c d l n cs p q o g r = record {
 -- the node met a full bucket, and its octants went back
 pub node_fails : (target wanted : Shape) (level bucket l n : ℕ) (a b c d : Seen) (cs : List (Option Name)) → wanted ≡ target → Grows target a b → OnlyMeets b level bucket wanted c → OnlyHeldChanges c d → (g : Gathered a.held l target cs n b.held) → LosesAll c.held g.row 8 d.held → Fails target level bucket a d
 node_fails target wanted level bucket l n a b c d cs e p q o g r = record {
-  side = o.side ∙ q.side ∙ p.side;
+  plan = o.plan ∙ q.plan ∙ p.plan;
   made = subst (λ m. Grew (λ x. IsPart x target) a.made m) (sym (o.made ∙ q.made)) p.made;
   wanted = wanted;
-  is_part = subst (λ x. IsPart x target) (sym e) whole;
+  is_part = subst (λ x. IsPart wanted x) e (whole q.sought.some);
+  sought = subst (λ (p : Layout). IsSought p (record { level = level; bucket = bucket; shape = wanted })) p.plan q.sought;
   met = o.met ∙ q.met ∙ ap (λ m. record { level = level; bucket = bucket; shape = wanted } ∷ m) p.met;
   held = λ f. omega (arith, r.weighs f, ap (weigh f) q.held, g.weighs f);
 }
@@ -169,10 +172,11 @@ node_fails target wanted level bucket l n a b c d cs e p q o g r = record {
 -- the leaf met a full bucket
 pub leaf_fails : (level bucket bits : ℕ) (a b : Seen) → OnlyMeets a level bucket (shape.Leaf bits) b → Fails (shape.Leaf bits) level bucket a b
 leaf_fails level bucket bits a b q = record {
-  side = q.side;
+  plan = q.plan;
   made = subst (λ m. Grew (λ x. IsPart x (shape.Leaf bits)) a.made m) (sym q.made) unchanged;
   wanted = shape.Leaf bits;
-  is_part = whole;
+  is_part = whole q.sought.some;
+  sought = q.sought;
   met = q.met;
   held = λ f. ap (weigh f) q.held;
 }

@@ -1,10 +1,13 @@
 -- Laws of what is held, and of what is reached from it.
-use Rattle.std.proofs.Common.{◌≡◌, ℕ, zero, suc, ◌+◌, ◌-◌, ◌≤◌, Some, None, List, refl, sym, ◌∙◌, ap, subst, arith}
+use Rattle.std.proofs.Common.{◌≡◌, ℕ, zero, suc, ◌+◌, ◌-◌, ◌<◌, ◌≤◌, Some, None, Option, List, refl, sym, ◌∙◌, ap, subst, arith}
 use Rattle.node_shapes.specs.declared.names.Name.{Name}
-use Rattle.node_shapes.specs.Tree.{Tree, Gone, root_of, child_of, StandsIn, LeafAt, NodeAt, itself, below, IsTreeAt}
+use Rattle.node_shapes.specs.Shape.{IsCanonical, branch_of}
+use Rattle.node_shapes.specs.Tree.{Tree, Gone, root_of, child_of, shape_of, StandsIn, LeafAt, NodeAt, itself, below, IsTreeAt}
 use Rattle.node_shapes.specs.Weights.{weigh, number_of}
-use Rattle.node_shapes.proofs.TreeLaws.{stands_child, level_of, IsTreeAt-child, IsTreeAt-below, child_of-gone}
-use Rattle.node_words.specs.Held.{SameHeld, Seen, IsHeld, IsReached, HoldsName, ReachesName, Gains, OnlyHeldChanges, AreTrees}
+use Rattle.node_shapes.proofs.ShapeLaws.{branch_canonical, clear_canonical}
+use Rattle.node_shapes.proofs.WeightLaws.{weight_of-there, weight_below-part}
+use Rattle.node_shapes.proofs.TreeLaws.{stands_child, level_of, IsTreeAt-child, IsTreeAt-below, child_of-gone, gone_from_root, shape_of-some, shape_of-gone}
+use Rattle.node_words.specs.Held.{SameHeld, Seen, IsHeld, IsReached, HoldsName, ReachesName, Gains, OnlyHeldChanges, AreTrees, AreCanonical, AreHeld, AreBelow, HasChild, name_in}
 
 -- all that a holds, b holds too, as often
 pub record Keeps (a b : List Tree) : Type 0 where
@@ -52,10 +55,10 @@ pub reaches_child : (held : List Tree) (t : Tree) (k : ℕ) (n : Name) → IsRea
 reaches_child held t k n r e = record { tree = child_of t k; reached = reached_child held t k r; root = e }
 
 pub only_nothing : (a : Seen) → OnlyHeldChanges a a
-only_nothing a = record { side = refl; made = refl; met = refl }
+only_nothing a = record { plan = refl; made = refl; met = refl }
 
 pub only_on : (a b c : Seen) → OnlyHeldChanges a b → OnlyHeldChanges b c → OnlyHeldChanges a c
-only_on a b c p q = record { side = q.side ∙ p.side; made = q.made ∙ p.made; met = q.met ∙ p.met }
+only_on a b c p q = record { plan = q.plan ∙ p.plan; made = q.made ∙ p.made; met = q.met ∙ p.met }
 
 -- nothing stands below a leaf
 leaf_octants : (t : Tree) (k : ℕ) → IsTreeAt 0 t → child_of t k ≡ Gone
@@ -102,3 +105,20 @@ same_on a b c p q = record { weighs = λ f. omega (arith, p.weighs f, q.weighs f
 
 pub same_number : (a b : List Tree) → SameHeld a b → number_of b ≡ number_of a
 same_number a b p = p.weighs (λ _. 1)
+
+-- a child of a row that is held
+pub row_held : (held : List Tree) (children : List (Option Name)) (row : ℕ → Tree) (k : ℕ) (n : Name) → AreHeld held children row → k < 8 → root_of (row k) ≡ Some n → IsHeld held (row k)
+row_held held children row k n a lt e = record { weighs = λ f. omega (arith, a.weighs f, weight_below-part f row k 8 lt, weight_of-there f (row k) n e) }
+
+octant_canonical : (held : List Tree) (level : ℕ) (t : Tree) (child : Option Name) → AreCanonical held → root_of t ≡ child → ((n : Name) → child ≡ Some n → IsHeld held t × (n.level ≡ level)) → IsCanonical level (shape_of t)
+octant_canonical held level t None c e h = rw (gone_from_root t e, shape_of-gone) (clear_canonical level)
+octant_canonical held level t (Some n) c e h = let (there, at) = h n refl in subst (λ (l : ℕ). IsCanonical l (shape_of t)) at (c.each t n there e)
+
+-- a node over children that are held has a canonical shape
+pub children_canonical : (level : ℕ) (held : List Tree) (children : List (Option Name)) (row : ℕ → Tree) → AreCanonical held → 1 ≤ level → HasChild children → AreBelow level children → AreHeld held children row → IsCanonical level (branch_of (λ k. shape_of (row k)))
+children_canonical zero held children row c above some low a = absurd (omega arith)
+children_canonical (suc level) held children row c above some low a =
+    branch_canonical level (λ k. shape_of (row k)) some.octant some.below
+    (shape_of-some (row some.octant) (λ e. some.there (sym (a.names some.octant some.below) ∙ e)))
+    (λ k lt. octant_canonical held level (row k) (name_in children k) c (a.names k lt) (λ n e.
+    (row_held held children row k n a lt (a.names k lt ∙ e), omega (arith, low.each k n lt e))))

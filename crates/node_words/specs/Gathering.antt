@@ -4,7 +4,7 @@ use Rattle.node_shapes.specs.declared.names.Name.{Name}
 use Rattle.node_shapes.specs.Shape.{Shape, octant_shape, IsPart}
 use Rattle.node_shapes.specs.Tree.{Tree, Gone, root_of, shape_of, IsTreeAt}
 use Rattle.node_shapes.specs.Weights.{weigh, weight_of, weight_below}
-use Rattle.node_words.specs.Held.{Seen, IsReached, name_in}
+use Rattle.node_words.specs.Held.{Seen, IsSought, IsReached, name_in}
 
 -- t is the tree of a block of this level: of a name that is reached, or of no node
 pub record IsTreeOf (held : List Tree) (level : ℕ) (t : Tree) (name : Option Name) : Type 0 where
@@ -39,16 +39,17 @@ pub data Grew {A : Type 0} (P : A → Type 0) (old : List A) : List A → Type 0
 
 -- parts of the target may have been made, and nothing met a full bucket
 pub record Grows (target : Shape) (old new : Seen) : Type 0 where
-  pub side : new.side ≡ old.side
+  pub plan : new.plan ≡ old.plan
   pub made : Grew (λ p. IsPart p target) old.made new.made
   pub met : new.met ≡ old.met
 
--- a part of the target met this full bucket, and the store holds what it held
+-- a part of the target met this full bucket, which is its own, and the store holds what it held
 pub record Fails (target : Shape) (level bucket : ℕ) (old new : Seen) : Type 0 where
-  pub side : new.side ≡ old.side
+  pub plan : new.plan ≡ old.plan
   pub made : Grew (λ p. IsPart p target) old.made new.made
   pub wanted : Shape
   pub is_part : IsPart wanted target
+  pub sought : IsSought old.plan (record { level = level; bucket = bucket; shape = wanted })
   pub met : new.met ≡ record { level = level; bucket = bucket; shape = wanted } ∷ old.met
   pub held : (f : Tree → ℕ) → weigh f new.held ≡ weigh f old.held
 

@@ -2,9 +2,11 @@
 -- are alike where they weigh the same by every weight.
 use Rattle.std.specs.Prelude.{◌≡◌, ◌≢◌, ℕ, ◌+◌, ◌*◌, ◌<◌, ◌≤◌, ◌⊎◌, Option, Some, None, List, ◌∷◌, slice_index_or, All, AllPairs, length}
 use Rattle.node_shapes.specs.declared.names.Name.{Name}
-use Rattle.node_shapes.specs.Shape.{Shape, IsBranch, IsCanonical, IsPart}
+use Rattle.node_shapes.specs.Shape.{Shape, Clear, IsBranch, IsCanonical, IsPart}
+use Rattle.node_shapes.specs.Buckets.{bucket_of_shape}
 use Rattle.node_shapes.specs.Tree.{Tree, root_of, shape_of, node_at, StandsIn, IsTreeAt}
 use Rattle.node_shapes.specs.Weights.{weigh, weight_below}
+use Rattle.node_words.specs.Plans.{Layout, buckets_at}
 
 -- what a call that met a full bucket wanted
 pub record Wanted : Type 0 where
@@ -12,10 +14,17 @@ pub record Wanted : Type 0 where
   pub bucket : ℕ
   pub shape : Shape
 
--- what a store is seen as, besides what no call changes: the side of its world as a power of two, the trees of the
--- shares held, the shapes of the entries added, and what met a full bucket
+-- a node that a call may want: its shape is canonical and not clear, and its bucket is the one that the plan gives it
+pub record IsSought (p : Layout) (w : Wanted) : Type 0 where
+  pub canonical : IsCanonical w.level w.shape
+  pub some : w.shape ≢ Clear
+  pub bucket_is : w.bucket ≡ bucket_of_shape p.buckets w.level w.shape
+  pub bucket_in : w.bucket < buckets_at p w.level
+
+-- what a store is seen as: its plan, which no call changes, the trees of the shares held, the shapes of the entries
+-- added, and what met a full bucket
 pub record Seen : Type 0 where
-  pub side : ℕ
+  pub plan : Layout
   pub held : List Tree
   pub made : List Shape
   pub met : List Wanted
@@ -92,20 +101,21 @@ pub record Joins (old : List Tree) (row : ℕ → Tree) (n : Name) (new : List T
 
 -- what is held changes and nothing else
 pub record OnlyHeldChanges (old new : Seen) : Type 0 where
-  pub side : new.side ≡ old.side
+  pub plan : new.plan ≡ old.plan
   pub made : new.made ≡ old.made
   pub met : new.met ≡ old.met
 
--- nothing changes but that this level, bucket and shape join what met a full bucket
+-- nothing changes but that this level, bucket and shape join what met a full bucket, which is the shape's bucket
 pub record OnlyMeets (old : Seen) (level bucket : ℕ) (shape : Shape) (new : Seen) : Type 0 where
-  pub side : new.side ≡ old.side
+  pub sought : IsSought old.plan (record { level = level; bucket = bucket; shape = shape })
+  pub plan : new.plan ≡ old.plan
   pub held : new.held ≡ old.held
   pub made : new.made ≡ old.made
   pub met : new.met ≡ record { level = level; bucket = bucket; shape = shape } ∷ old.met
 
 -- a share came: an entry was added for its shape, or there was one; and nothing met a full bucket
 pub record Grants (old : Seen) (shape : Shape) (new : Seen) : Type 0 where
-  pub side : new.side ≡ old.side
+  pub plan : new.plan ≡ old.plan
   pub made : (new.made ≡ old.made) ⊎ (new.made ≡ shape ∷ old.made)
   pub met : new.met ≡ old.met
 

@@ -1,5 +1,5 @@
 -- How a store of nodes is laid out.
-use Rattle.std.specs.Prelude.{ℕ, ◌≤◌, List, [], ◌∷◌, Bool, false, if◌then◌else◌, nat_le, IsTrue}
+use Rattle.std.specs.Prelude.{ℕ, ◌≡◌, ◌≤◌, List, [], ◌∷◌, Bool, false, if◌then◌else◌, nat_le, IsTrue, length, slice_index}
 use Rattle.std.specs.List.{list_all}
 
 -- the side of the world as a power of two, the number of buckets on each level, and the slots of each bucket
@@ -17,10 +17,15 @@ is_number_of_buckets n = is_from_to 1 4096 n
 abbrev pub is_cap : ℕ → Bool
 is_cap n = is_from_to 1 256 n
 
--- a plan has 1 to 4,096 buckets on each level and 1 to 256 slots in each bucket
+-- the number of buckets on a level
+abbrev pub buckets_at : Layout → ℕ → ℕ
+buckets_at p level = slice_index p.buckets level
+
+-- a plan has 1 to 4,096 buckets on each of the levels 0 to 10, and 1 to 256 slots in each bucket
 pub record IsPlan (p : Layout) : Type 0 where
   pub side_low : 2 ≤ p.side
   pub side_high : p.side ≤ 12
+  pub levels : length p.buckets ≡ 11
   pub buckets : IsTrue (list_all is_number_of_buckets p.buckets)
   pub cap_low : 1 ≤ p.cap
   pub cap_high : p.cap ≤ 256

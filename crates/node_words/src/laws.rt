@@ -1,11 +1,11 @@
 ghost use Rattle.std.specs.Prelude.{◌≡◌, ◌+◌, ◌≤◌, ℕ, List, Some, slice_index};
 ghost use Rattle.node_shapes.specs.declared.names.Name.{Name};
-ghost use Rattle.node_shapes.specs.Shape.{Shape};
+ghost use Rattle.node_shapes.specs.Shape.{Shape, IsCanonical};
 ghost use Rattle.node_shapes.specs.Buckets.{bucket_of_shape};
-ghost use Rattle.node_shapes.specs.Tree.{Tree, root_of, child_of};
+ghost use Rattle.node_shapes.specs.Tree.{Tree, root_of, child_of, shape_of};
 ghost use Rattle.node_words.specs.declared.keys.Key.{Key};
 ghost use Rattle.node_words.specs.Keys.{bucket_of_key, IsKeyOf};
-ghost use Rattle.node_words.specs.Held.{IsReached, HoldsName, ReachesName, AreTrees};
+ghost use Rattle.node_words.specs.Held.{IsReached, HoldsName, ReachesName, AreTrees, AreCanonical, AreHeld, AreBelow, HasChild};
 
 /// A key's bucket is that of the shape of its node, where its children stand in the buckets of theirs.
 pub fn keys_follow_shapes()
@@ -17,6 +17,11 @@ pub fn children_are_reached()
     ensures held { (held : List Tree) (n : Name) → HoldsName held n → ReachesName held n }
     ensures child { (held : List Tree) (t : Tree) (k : ℕ) (m : Name) → IsReached held t → root_of (child_of t k) ≡ Some m → ReachesName held m }
     ensures level { (side : ℕ) (held : List Tree) (t : Tree) (k : ℕ) (n m : Name) → AreTrees side held → IsReached held t → root_of t ≡ Some n → root_of (child_of t k) ≡ Some m → 1 ≤ n.level → m.level + 1 ≡ n.level }
+{}
+
+/// A node over children that are held has a canonical shape. For implementers of a store.
+pub fn held_children_make_canonical_shapes()
+    ensures { (level : ℕ) (held : List Tree) (children : List (Option Name)) (row : ℕ → Tree) → AreCanonical held → 1 ≤ level → HasChild children → AreBelow level children → AreHeld held children row → IsCanonical level (branch_of (λ k. shape_of (row k))) }
 {}
 
 ghost use Rattle.std.specs.Prelude.{Option};

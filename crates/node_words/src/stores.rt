@@ -12,7 +12,8 @@ use std::sync::ledger::Ledger;
 
 /// Nodes that can be read. A node may be read while a share of it, or of a node above it, is held.
 pub trait Blocks {
-    /// What is held, made and met, and the side of the world. A store that adds nothing has made and met nothing.
+    /// The plan, and what is held, made and met. No call changes the plan. Blocks that no call adds to have made
+    /// and met nothing, and their plan tells the side alone.
     ghost seen: { Self → Seen };
 
     /// Two states of one store that agree in all that no call of this trait or of `NodeStore` changes.
@@ -23,7 +24,7 @@ pub trait Blocks {
         requires reached { ReachesName (seen self.old).held n }
         requires level { n.level ≡ 0 }
         ensures bits { ForReached (seen self.old).held n (λ t. result ≡ bits_in t) }
-        ensures trees { AreTrees (seen self.old).side (seen self.old).held }
+        ensures trees { AreTrees (seen self.old).plan.side (seen self.old).held }
         ensures seen { seen self.new ≡ seen self.old }
         ensures rests { rests self.old self.new };
 
@@ -33,7 +34,7 @@ pub trait Blocks {
         requires level { 1 ≤ n.level }
         requires octant { octant < 8 }
         ensures child { ForReached (seen self.old).held n (λ t. result ≡ root_of (child_of t octant)) }
-        ensures trees { AreTrees (seen self.old).side (seen self.old).held }
+        ensures trees { AreTrees (seen self.old).plan.side (seen self.old).held }
         ensures seen { seen self.new ≡ seen self.old }
         ensures rests { rests self.old self.new };
 
@@ -46,12 +47,12 @@ pub trait Blocks {
 
 /// A store that keeps each node once and counts the shares of it.
 ///
-/// A node is added where there is none of its content, and is gone with its last share.
+/// A node is added where there is none of its content. When one is given up is the store's to say.
 pub trait NodeStore: Blocks {
     /// How many shares are held.
     fn held(&self) -> u32
         ensures number { result ≡ number_of (Self.seen self.now).held }
-        ensures trees { AreTrees (Self.seen self.now).side (Self.seen self.now).held }
+        ensures trees { AreTrees (Self.seen self.now).plan.side (Self.seen self.now).held }
         ensures canonical { AreCanonical (Self.seen self.now).held };
 
     /// A share of the leaf with these bits, or the bucket that had no room for it.
@@ -75,7 +76,7 @@ pub trait NodeStore: Blocks {
         children: [Option<Share>; 8],
         steps: &mut Steps<L>,
     ) -> Result<Share, NodeRefused>
-        requires level { (1 ≤ level) × (level + 2 ≤ (Self.seen self.old).side) }
+        requires level { (1 ≤ level) × (level + 2 ≤ (Self.seen self.old).plan.side) }
         requires some { HasChild children }
         requires below { AreBelow level children }
         requires held { HoldsChildren (Self.seen self.old).held children }

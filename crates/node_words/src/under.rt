@@ -45,7 +45,7 @@ impl<'a, B: Blocks> Under<'a, B> {
         requires reached { ReachesName (B.seen self.old.store.now).held self.old.name }
         requires level { self.old.name.level ≡ 0 }
         ensures bits { ForReached (B.seen self.old.store.now).held self.old.name (λ t. result ≡ bits_in t) }
-        ensures trees { AreTrees (B.seen self.old.store.now).side (B.seen self.old.store.now).held }
+        ensures trees { AreTrees (B.seen self.old.store.now).plan.side (B.seen self.old.store.now).held }
         ensures seen { B.seen self.new.store.now ≡ B.seen self.old.store.now }
         ensures rests { B.rests self.old.store.now self.new.store.now }
         ensures same { (self.new.name ≡ self.old.name) × (self.new.store.ghost_name ≡ self.old.store.ghost_name) }
@@ -59,7 +59,7 @@ impl<'a, B: Blocks> Under<'a, B> {
         requires level { 1 ≤ self.old.name.level }
         requires octant { octant < 8 }
         ensures child { ForReached (B.seen self.old.store.now).held self.old.name (λ t. IsTrue result ↔ (root_of (child_of t octant) ≢ None)) }
-        ensures trees { AreTrees (B.seen self.old.store.now).side (B.seen self.old.store.now).held }
+        ensures trees { AreTrees (B.seen self.old.store.now).plan.side (B.seen self.old.store.now).held }
         ensures seen { B.seen self.new.store.now ≡ B.seen self.old.store.now }
         ensures rests { B.rests self.old.store.now self.new.store.now }
         ensures same { (self.new.name ≡ self.old.name) × (self.new.store.ghost_name ≡ self.old.store.ghost_name) }
@@ -75,7 +75,7 @@ impl<'a, B: Blocks> Under<'a, B> {
         requires octant { octant < 8 }
         ensures some { IfSome result (λ c. ForReached (B.seen self.entry.now.store.now).held self.entry.now.name (λ t. root_of (child_of t octant) ≡ Some c.name)) }
         ensures none { result ≡ None → ForReached (B.seen self.entry.now.store.now).held self.entry.now.name (λ t. root_of (child_of t octant) ≡ None) }
-        ensures trees { AreTrees (B.seen self.entry.now.store.now).side (B.seen self.entry.now.store.now).held }
+        ensures trees { AreTrees (B.seen self.entry.now.store.now).plan.side (B.seen self.entry.now.store.now).held }
         ensures seen { IfSome result (λ c. B.seen c.store.now ≡ B.seen self.entry.now.store.now) }
         ensures rests { IfSome result (λ c. B.rests self.entry.now.store.now c.store.now) }
     {
@@ -95,7 +95,7 @@ impl<'a, B: Blocks> Under<'a, B> {
         requires octant { octant < 8 }
         requires child { ForReached (B.seen self.old.store.now).held self.old.name (λ t. root_of (child_of t octant) ≢ None) }
         ensures child { ForReached (B.seen self.entry.now.store.now).held self.entry.now.name (λ t. root_of (child_of t octant) ≡ Some result.name) }
-        ensures trees { AreTrees (B.seen self.entry.now.store.now).side (B.seen self.entry.now.store.now).held }
+        ensures trees { AreTrees (B.seen self.entry.now.store.now).plan.side (B.seen self.entry.now.store.now).held }
         ensures seen { B.seen result.store.now ≡ B.seen self.entry.now.store.now }
         ensures rests { B.rests self.entry.now.store.now result.store.now }
         ensures* lends { sem 𝓛 (LendsStore B.row self.entry result) }
@@ -137,7 +137,7 @@ fn child_name<B: Blocks>(store: &mut B, n: Name, octant: u8) -> Name
     requires octant { octant < 8 }
     requires child { ForReached (B.seen store.old).held n (λ t. root_of (child_of t octant) ≢ None) }
     ensures child { ForReached (B.seen store.old).held n (λ t. root_of (child_of t octant) ≡ Some result) }
-    ensures trees { AreTrees (B.seen store.old).side (B.seen store.old).held }
+    ensures trees { AreTrees (B.seen store.old).plan.side (B.seen store.old).held }
     ensures seen { B.seen store.new ≡ B.seen store.old }
     ensures rests { B.rests store.old store.new }
 {

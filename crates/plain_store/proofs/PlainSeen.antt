@@ -1,22 +1,43 @@
 -- What the calls of a plain store do to what it is seen as.
 use Rattle.std.proofs.Common.{◌≡◌, ◌≢◌, ℕ, zero, suc, ◌+◌, ◌-◌, ◌<◌, ◌≤◌, Some, None, Option, List, [], ◌∷◌, length, refl, sym, ◌∙◌, ap, subst, arith, inl, inr, Result, Ok, Err, length-append}
-use Rattle.std.specs.Prelude.{slice_index, slice_set, IfOk, IfErr, OnOk, IsOkAnd}
-use Rattle.std.proofs.lemmas.List.{length-set}
+use Rattle.std.specs.Prelude.{◌^◌, replicate, slice_index, slice_set, IfOk, IfErr, OnOk, IsOkAnd}
+use Rattle.std.proofs.lemmas.List.{length-set, get_or-replicate}
 use Rattle.node_shapes.specs.declared.names.Name.{Name}
-use Rattle.node_shapes.specs.Shape.{Shape, branch_of}
+use Rattle.node_shapes.specs.Shape.{Shape, Clear, branch_of, IsCanonical}
 use Rattle.node_shapes.specs.Shape as shape
 use Rattle.node_shapes.specs.Tree.{Tree, LeafAt, node_at, root_of, child_of, shape_of, bits_in}
 use Rattle.node_shapes.specs.Weights.{weigh, weight_of, weight_below}
 use Rattle.node_shapes.proofs.TreeLaws.{child_of-node_at, shape_of-leaf, shape_of-node}
+use Rattle.node_shapes.proofs.BucketLaws.{shape_bucket_below}
 use Rattle.node_shapes.proofs.WeightLaws.{weight_of-there, weight_of-gone, weight_below-part}
 use Rattle.node_words.specs.declared.keys.Key.{Key}
 use Rattle.node_words.specs.declared.keys.Key.TheVariants.{Leaf, Node}
-use Rattle.node_words.specs.Held.{IsHeld, IsReached, ReachesName, name_in, HasChild, AreBelow, AreHeld, HoldsChildren, Gains, Joins, Grants, OnlyHeldChanges, OnlyMeets}
-use Rattle.node_words.proofs.HeldLaws.{held_reached}
+use Rattle.node_words.specs.Held.{IsHeld, IsReached, ReachesName, name_in, HasChild, AreBelow, AreHeld, HoldsChildren, Gains, Joins, Grants, OnlyHeldChanges, OnlyMeets, IsSought}
+use Rattle.node_words.proofs.HeldLaws.{held_reached, children_canonical}
 use Rattle.plain_store.specs.declared.kept.Kept.{Kept}
-use Rattle.plain_store.specs.Plain.{index_of, name_at, kept_at, key_bits, key_child, child_tree, tree_at, tree_of, held_below, made_below, Fits, IsSound, IsStore, Known, known_seen, raised, lowered, Takes, shared, added, counts_without, without_one, Refuses, wanted_shape}
-use Rattle.plain_store.proofs.PlainTrees.{Octant, clear, there, octant_of_tree, index-name, name-index, tree_root, tree_named, counted, IsNamed, reached_named, node_key, leaf_key}
+use Rattle.plain_store.specs.Plain.{plain_plan, index_of, name_at, kept_at, key_bits, key_child, child_tree, tree_at, tree_of, held_below, made_below, Fits, IsSound, IsStore, Known, known_seen, raised, lowered, Takes, shared, added, counts_without, without_one, Refuses, wanted_shape}
+use Rattle.plain_store.proofs.PlainTrees.{Octant, clear, there, octant_of_tree, index-name, name-index, tree_root, tree_named, counted, IsNamed, reached_named, node_key, leaf_key, are_canonical}
 use Rattle.plain_store.proofs.PlainSteps.{gains_one, loses_one, gains_new, made_new, new_leaf, new_node, IsRow, is_row, same_names, node_at-same, sound-append}
+
+one_bucket : (n level : ℕ) → level < n → slice_index (replicate n 1) level ≡ 1
+one_bucket n level h = get_or-replicate n level 1 0 h
+
+-- each shape's bucket is the one that its level has
+pub plain_sought : (side room level : ℕ) (s : Shape) → level + 2 ≤ side → IsCanonical level s → s ≢ Clear → IsSought (plain_plan side room) (record { level = level; bucket = 0; shape = s })
+plain_sought side room level s inside canonical some =
+    let one = one_bucket (side - 1) level (omega arith) in
+    let below = shape_bucket_below (replicate (side - 1) 1) level s (omega (arith, one)) in
+    record { canonical = canonical; some = some; bucket_is = omega (arith, one, below); bucket_in = omega (arith, one) }
+
+leaf_some : {bits : ℕ} → shape.Leaf bits ≢ Clear
+leaf_some e = cc
+
+branch_some : (octants : ℕ → Shape) → branch_of octants ≢ Clear
+branch_some octants e = cc
+
+leaf_canonical : (bits : ℕ) → 0 < bits → bits < 2 ^ 64 → IsCanonical 0 (shape.Leaf bits)
+unfolding IsCanonical
+leaf_canonical bits some fits = (some, fits)
 
 -- a sound store, as its calls see it
 pub record IsFine (v : Known) : Type 0 where
@@ -72,10 +93,10 @@ raised_gains v w t n s q r e =
     rw q (gains_one v.nodes v.counts _ (index_of n) (slice_index v.counts (index_of n) + 1) t m.names.inside s.wide m.is refl refl)
 
 pub raised_only : (v w : Known) (i : ℕ) → w ≡ raised v i → OnlyHeldChanges (known_seen v) (known_seen w)
-raised_only v w i q = rw q (record { side = refl; made = refl; met = refl })
+raised_only v w i q = rw q (record { plan = refl; made = refl; met = refl })
 
 pub lowered_only : (v w : Known) (i : ℕ) → w ≡ lowered v i → OnlyHeldChanges (known_seen v) (known_seen w)
-lowered_only v w i q = rw q (record { side = refl; made = refl; met = refl })
+lowered_only v w i q = rw q (record { plan = refl; made = refl; met = refl })
 
 -- what is held is counted
 pub count_held : (ks : List Kept) (cs : List ℕ) (t : Tree) (n : Name) → IsHeld (held_below ks cs (length ks)) t → root_of t ≡ Some n → 1 ≤ slice_index cs (index_of n)
@@ -112,7 +133,7 @@ took_leaf v w kept bits n s z q (shared i lt e) =
     record {
       held = gains_one v.nodes v.counts _ i (slice_index v.counts i + 1) _ lt s.wide (ap (λ (m : Name). LeafAt m bits) (sym name) ∙ sym p.1) refl refl;
       level = p.0;
-      grants = record { side = refl; made = inl refl; met = refl };
+      grants = record { plan = refl; made = inl refl; met = refl };
     }
 took_leaf v w kept bits n s z q (added new) =
     let t = new_leaf v.nodes kept bits z q in
@@ -120,7 +141,7 @@ took_leaf v w kept bits n s z q (added new) =
     record {
       held = gains_new v.side v.nodes kept v.counts _ s.sound s.wide (t ∙ ap (λ (m : Name). LeafAt m bits) name);
       level = z;
-      grants = record { side = refl; made = inr (made_new v.side v.nodes kept (LeafAt (name_at 0 (length v.nodes)) bits) s.sound t ∙ ap (λ x. x ∷ made_below v.nodes (length v.nodes)) (shape_of-leaf _ bits)); met = refl };
+      grants = record { plan = refl; made = inr (made_new v.side v.nodes kept (LeafAt (name_at 0 (length v.nodes)) bits) s.sound t ∙ ap (λ x. x ∷ made_below v.nodes (length v.nodes)) (shape_of-leaf _ bits)); met = refl };
     }
 
 leaf_key_at : (v : Known) (level i bits : ℕ) (m : Name) → IsFine v → i < length v.nodes → (kept_at v.nodes i).level ≡ level → LeafAt m bits ≡ tree_at v.nodes level i → (kept_at v.nodes i).key ≡ Leaf bits
@@ -148,8 +169,10 @@ leaf_shared v w kept bits n m s q (added new) r = let h = leaf_hit v bits m s r 
 pub leaf_not_refused : (v w : Known) (kept : Kept) (bits : ℕ) (m : Name) → IsFine v → kept.key ≡ Leaf bits → Refuses v kept w → IsReached (known_seen v).held (LeafAt m bits) → ⊥
 leaf_not_refused v w kept bits m s q f r = let h = leaf_hit v bits m s r in f.none.each (index_of m) h.0 (h.1 ∙ sym q)
 
-pub leaf_refused : (v w : Known) (kept : Kept) (bits level bucket : ℕ) → kept.level ≡ 0 → kept.key ≡ Leaf bits → Refuses v kept w → level ≡ kept.level → bucket ≡ 0 → OnlyMeets (known_seen v) level bucket (shape.Leaf bits) (known_seen w)
-leaf_refused v w kept bits level bucket z q f l b = rw (f.is, l, b, q) (record { side = refl; held = refl; made = refl; met = refl })
+pub leaf_refused : (v w : Known) (kept : Kept) (bits level bucket : ℕ) → IsFine v → 0 < bits → bits < 2 ^ 64 → kept.level ≡ 0 → kept.key ≡ Leaf bits → Refuses v kept w → level ≡ kept.level → bucket ≡ 0 → OnlyMeets (known_seen v) level bucket (shape.Leaf bits) (known_seen w)
+leaf_refused v w kept bits level bucket s some fits z q f l b =
+    let sought = plain_sought v.side v.room 0 (shape.Leaf bits) s.sound.side_low (leaf_canonical bits some fits) leaf_some in
+    rw (f.is, l, b, q, z) (record { sought = sought; plan = refl; held = refl; made = refl; met = refl })
 
 -- the shares of children that are held and go, and what they were
 record CountsThere (ks : List Kept) (cs : List ℕ) (names : List (Option Name)) (row : ℕ → Tree) (k : ℕ) : Type 0 where
@@ -209,9 +232,9 @@ pub if_ok : {A E : Type 0} {P Q : A → Type 0} (r : Result A E) → ((a : A) �
 if_ok (Ok a) h p = h a p
 if_ok (Err e) h p = tt
 
-pub if_err : {A E : Type 0} {P Q : E → Type 0} (r : Result A E) → ((e : E) → P e → Q e) → IfErr r P → IfErr r Q
-if_err (Ok a) h p = tt
-if_err (Err e) h p = h e p
+pub if_err : {A E : Type 0} {P Q S : E → Type 0} (r : Result A E) → ((e : E) → P e → Q e → S e) → IfErr r P → IfErr r Q → IfErr r S
+if_err (Ok a) h p q = tt
+if_err (Err e) h p q = h e p q
 
 pub on_ok : {A E : Type 0} {P : A → Type 0} {Q : Type 0} (r : Result A E) → ((a : A) → P a → Q) → IfOk r P → OnOk r Q
 on_ok (Ok a) h p = h a p
@@ -256,7 +279,7 @@ took_node v w kept level children row n s z q fits h b a (shared i lt e) =
     record {
       held = gains_one v.nodes v.counts _ i (slice_index v.counts i + 1) _ lt s.wide (ap (λ (m : Name). node_at m row) (sym name) ∙ sym p) refl refl;
       level_is = l;
-      grants = record { side = refl; made = inl refl; met = refl };
+      grants = record { plan = refl; made = inl refl; met = refl };
       fine = record { sound = s.sound; wide = length-set v.counts i _ ∙ s.wide };
     }
 took_node v w kept level children row n s z q fits h b a (added new) =
@@ -266,7 +289,7 @@ took_node v w kept level children row n s z q fits h b a (added new) =
     record {
       held = gains_new v.side v.nodes kept v.counts _ s.sound s.wide (t ∙ ap (λ (m : Name). node_at m row) name);
       level_is = z;
-      grants = record { side = refl; made = inr (made_new v.side v.nodes kept (node_at (name_at (suc level) (length v.nodes)) row) s.sound t ∙ ap (λ x. x ∷ made_below v.nodes (length v.nodes)) (shape_of-node (name_at (suc level) (length v.nodes)) row)); met = refl };
+      grants = record { plan = refl; made = inr (made_new v.side v.nodes kept (node_at (name_at (suc level) (length v.nodes)) row) s.sound t ∙ ap (λ x. x ∷ made_below v.nodes (length v.nodes)) (shape_of-node (name_at (suc level) (length v.nodes)) row)); met = refl };
       fine = record { sound = sound-append v.side v.nodes kept s.sound fits new.each; wide = omega (arith, s.wide, length-append v.nodes (kept ∷ []), length-append v.counts (1 ∷ [])) };
     }
 
@@ -313,14 +336,16 @@ node_not_refused v w kept children row m s q len a f r = let h = node_hit v chil
 branch-same : (row other : ℕ → Shape) → ((k : ℕ) → k < 8 → row k ≡ other k) → branch_of row ≡ branch_of other
 branch-same row other h = cc (h 0 (omega arith), h 1 (omega arith), h 2 (omega arith), h 3 (omega arith), h 4 (omega arith), h 5 (omega arith), h 6 (omega arith), h 7 (omega arith))
 
-pub node_refused : (v w : Known) (kept : Kept) (level bucket lv : ℕ) (children : List (Option Name)) (row : ℕ → Tree) → IsFine v → kept.level ≡ suc lv → kept.key ≡ Node children → AreBelow (suc lv) children → AreHeld (known_seen v).held children row → Refuses v kept w → level ≡ kept.level → bucket ≡ 0 → OnlyMeets (known_seen v) level bucket (branch_of (λ k. shape_of (row k))) (known_seen w)
-node_refused v w kept level bucket lv children row s z q b a f l o =
+pub node_refused : (v w : Known) (kept : Kept) (level bucket lv : ℕ) (children : List (Option Name)) (row : ℕ → Tree) → IsFine v → suc lv + 2 ≤ v.side → kept.level ≡ suc lv → kept.key ≡ Node children → HasChild children → AreBelow (suc lv) children → AreHeld (known_seen v).held children row → Refuses v kept w → level ≡ kept.level → bucket ≡ 0 → OnlyMeets (known_seen v) level bucket (branch_of (λ k. shape_of (row k))) (known_seen w)
+node_refused v w kept level bucket lv children row s inside z q some b a f l o =
+    let canonical : IsCanonical (suc lv) (branch_of (λ k. shape_of (row k))) = children_canonical (suc lv) (known_seen v).held children row (are_canonical v.side v.nodes v.counts s.sound) (omega arith) some b a in
+    let sought = plain_sought v.side v.room (suc lv) (branch_of (λ k. shape_of (row k))) inside canonical (branch_some (λ k. shape_of (row k))) in
     let r = is_row v.side v.nodes v.counts lv children row s.sound a b in
     let down : kept.level - 1 ≡ lv = omega arith in
     let same : branch_of (λ k. shape_of (child_tree (λ j. tree_at v.nodes (kept.level - 1) j) (name_in children k))) ≡ branch_of (λ k. shape_of (row k)) =
     branch-same _ _ (λ k lt. ap (λ (m : ℕ). shape_of (child_tree (λ j. tree_at v.nodes m j) (name_in children k))) down ∙ ap shape_of (sym (r.each k lt))) in
     let wanted : wanted_shape v.nodes kept.level kept.key ≡ branch_of (λ k. shape_of (row k)) = ap (λ (x : Key). wanted_shape v.nodes kept.level x) q ∙ same in
-    rw (f.is, l, o) (record { side = refl; held = refl; made = refl; met = ap (λ (x : Shape). record { level = kept.level; bucket = 0; shape = x } ∷ v.met) wanted })
+    rw (f.is, l, o) (record { sought = subst (λ (m : ℕ). IsSought (plain_plan v.side v.room) (record { level = m; bucket = 0; shape = branch_of (λ k. shape_of (row k)) })) (sym z) sought; plan = refl; held = refl; made = refl; met = ap (λ (x : Shape). record { level = kept.level; bucket = 0; shape = x } ∷ v.met) wanted })
 
 -- what is asked before a node is wanted
 pub record NodeAsk (v : Known) (level : ℕ) (names : List (Option Name)) : Type 0 where
@@ -350,10 +375,10 @@ node_took v w level names row n s k a t =
 pub node_met : (v w : Known) (level full bucket : ℕ) (names : List (Option Name)) (row : ℕ → Tree) → IsFine v → NodeAsk v level names → AreHeld (known_seen v).held names row → Refuses v (node_kept level names) w → full ≡ level → bucket ≡ 0 → OnlyMeets (known_seen v) full bucket (branch_of (λ k. shape_of (row k))) (known_seen w)
 node_met v w level full bucket names row s k a f l o =
     let z : level ≡ suc (level - 1) = omega (arith, k.above) in
-    node_refused v w (node_kept level names) full bucket (level - 1) names row s z refl (subst (λ (l : ℕ). AreBelow l names) z k.below) a f l o
+    node_refused v w (node_kept level names) full bucket (level - 1) names row s (omega (arith, z, k.in_world)) z refl k.some (subst (λ (l : ℕ). AreBelow l names) z k.below) a f l o
 
 pub still_granted : (v w x : Known) (s : Shape) (cs : List ℕ) → x ≡ record w { counts = cs } → Grants (known_seen v) s (known_seen w) → Grants (known_seen v) s (known_seen x)
-still_granted v w x s cs e g = rw e (record { side = g.side; made = g.made; met = g.met })
+still_granted v w x s cs e g = rw e (record { plan = g.plan; made = g.made; met = g.met })
 
 pub still_made : (v w x : Known) (cs : List ℕ) → x ≡ record w { counts = cs } → (known_seen w).made ≡ (known_seen v).made → (known_seen x).made ≡ (known_seen v).made
 still_made v w x cs e m = ap (λ (y : Known). (known_seen y).made) e ∙ m

@@ -8,6 +8,7 @@ use Rattle.node_shapes.specs.Shape.{Shape}
 use Rattle.node_shapes.specs.Tree.{Tree, Gone, LeafAt, node_at, shape_of}
 use Rattle.node_words.specs.declared.keys.Key.{Key}
 use Rattle.node_words.specs.declared.keys.Key.TheVariants.{Leaf, Node}
+use Rattle.node_words.specs.Plans.{Layout}
 use Rattle.node_words.specs.Held.{Seen, Wanted, name_in, HasChild}
 use Rattle.plain_store.specs.declared.kept.Kept.{Kept}
 
@@ -51,8 +52,12 @@ unfoldable pub made_below : List Kept → ℕ → List Shape
 made_below ks zero = []
 made_below ks (suc n) = shape_of (tree_of ks n) ∷ made_below ks n
 
-abbrev pub plain_seen : ℕ → List Kept → List ℕ → List Wanted → Seen
-plain_seen side ks counts met = record { side = side; held = held_below ks counts (length ks); made = made_below ks (length ks); met = met }
+-- the plan of a plain store: one bucket on each level of its world, of as many slots as there is room
+abbrev pub plain_plan : ℕ → ℕ → Layout
+plain_plan side room = record { side = side; buckets = replicate (side - 1) 1; cap = room }
+
+abbrev pub plain_seen : ℕ → ℕ → List Kept → List ℕ → List Wanted → Seen
+plain_seen side room ks counts met = record { plan = plain_plan side room; held = held_below ks counts (length ks); made = made_below ks (length ks); met = met }
 
 -- the name of a node that is kept
 pub record Names (ks : List Kept) (n : Name) : Type 0 where
@@ -99,7 +104,7 @@ pub record Known : Type 0 where
   pub met : List Wanted
 
 abbrev pub known_seen : Known → Seen
-known_seen v = plain_seen v.side v.nodes v.counts v.met
+known_seen v = plain_seen v.side v.room v.nodes v.counts v.met
 
 -- the counts fit the nodes, and the vectors have room
 pub record IsStore (side room : ℕ) (ks : List Kept) (counts : List ℕ) (number nodes_room counts_room : ℕ) : Type 0 where

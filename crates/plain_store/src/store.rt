@@ -1,4 +1,4 @@
-ghost use Rattle.std.specs.Prelude.{◌≡◌, ◌≢◌, ◌+◌, ◌-◌, ◌*◌, ◌<◌, ◌≤◌, ℕ, [], ◌∷◌, List, Some, None, IfOk, IfErr, IfSome, true, false, length, vec_capacity, slice_index};
+ghost use Rattle.std.specs.Prelude.{◌≡◌, ◌≢◌, ◌+◌, ◌-◌, ◌*◌, ◌^◌, min, ◌<◌, ◌≤◌, ℕ, [], ◌∷◌, List, Some, None, IfOk, IfErr, IfSome, true, false, length, vec_capacity, slice_index};
 ghost use Rattle.node_words.specs.declared.keys.Key.{Key};
 ghost use Rattle.plain_store.specs.declared.kept.Kept.{Kept};
 ghost use Rattle.plain_store.specs.Plain.{index_of, name_at, kept_at, key_bits, key_child, Fits, IsNew, wanted_shape};
@@ -49,7 +49,8 @@ impl PlainStore {
     /// An empty store for a world of the plan's side. It has room for as many nodes, of all levels
     /// together, as the plan has for leaves.
     pub fn new(alloc: Global, plan: &Plan) -> Result<PlainStore, AllocError>
-        ensures { IfOk result (λ s. (s.side ≡ plan.now.side) × (s.nodes ≡ []) × (s.counts ≡ []) × (s.met ≡ [])) }
+        ensures empty { IfOk result (λ s. (s.side ≡ plan.now.side) × (s.nodes ≡ []) × (s.counts ≡ []) × (s.met ≡ [])) }
+        ensures room { IfOk result (λ s. s.room ≡ min (slice_index plan.now.buckets 0 * plan.now.cap) (2 ^ 20)) }
     {
         let side = plan.side();
         let _cells = side.cells();

@@ -8,4 +8,4 @@ pub returns-clause-octant : goal.returns-clause-octant
 returns-clause-octant c = shape_of-child
 
 pub returns-clause-part : goal.returns-clause-part
-returns-clause-part c t u s = part_from_stands s
+returns-clause-part c t u ne s = part_from_stands ne s

@@ -1,7 +1,8 @@
-use Rattle.std.proofs.Common.{refl, subst}
+use Rattle.std.proofs.Common.{◌<◌, refl, subst, arith}
+use Rattle.std.specs.Prelude.{◌^◌}
 use Rattle.node_words.specs.declared.keys.Key.TheVariants.{Leaf}
 use Rattle.plain_store.specs.Plain.{Known}
-use Rattle.plain_store.proofs.PlainSeen.{IsFine, took_leaf, leaf_shared, leaf_not_refused, if_ok, on_ok, ok_and}
+use Rattle.plain_store.proofs.PlainSeen.{IsFine, took_leaf, leaf_shared, leaf_not_refused, leaf_refused, if_err, if_ok, on_ok, ok_and}
 use Rattle.plain_store.proofs.traits.PlainStoreNodeStore.leaf.Goals as goal
 
 pub returns-clause-held : goal.returns-clause-held
@@ -21,3 +22,10 @@ returns-clause-hit g c m r =
     (λ n t. leaf_shared c.args.self.now c.take.new.self (record { level = 0; key = Leaf c.args.bits }) c.args.bits n m fine refl t r)
     (λ e f. leaf_not_refused c.args.self.now c.take.new.self (record { level = 0; key = Leaf c.args.bits }) c.args.bits m fine refl f r)
     c.take.ensures.takes c.take.ensures.refuses
+
+pub returns-clause-full : goal.returns-clause-full
+returns-clause-full g c =
+    let fine = subst (λ (v : Known). IsFine v) c.self.view_is (record { sound = c.self.invariant.sound; wide = c.self.invariant.wide }) in
+    let fits : c.args.bits < 2 ^ 64 = omega arith in
+    let some : 0 < c.args.bits = omega (arith, c.requires.bits) in
+    if_err c.take.result (λ e f full. leaf_refused c.args.self.now c.take.new.self (record { level = 0; key = Leaf c.args.bits }) c.args.bits e.level e.bucket fine some fits refl refl f full.0 full.1) c.take.ensures.refuses c.take.ensures.full
