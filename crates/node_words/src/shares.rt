@@ -24,8 +24,8 @@ impl Share {
         self.name
     }
 
-    /// For implementers of a store: a reference that the store has counted. One that no store counted
-    /// meets the condition of no store's call.
+    /// For implementers of a store: a reference that the store has counted. A call can't tell one that
+    /// nobody counted from a counted one of the same name, so nothing but a store is to make one.
     pub fn of_store(name: Name) -> Share
         ensures { result ≡ name }
     {

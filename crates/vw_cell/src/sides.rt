@@ -42,6 +42,14 @@ impl Side {
         Some(Side { exponent })
     }
 
+    /// The exponent of the power of two, from 2 to 12.
+    pub fn exponent(&self) -> u8
+        ensures value { result ≡ self.now }
+        ensures bounds { (2 ≤ result) × (result ≤ 12) }
+    {
+        self.exponent
+    }
+
     /// The side in cells, from 4 to 4,096.
     #[tactic(auto, using(crate::proofs::Powers::side_bounds))]
     pub fn cells(&self) -> u32

@@ -12,9 +12,10 @@ fn cell(x: u16, y: u16, z: u16) -> Cell
 
 #[test]
 fn sides_are_powers_of_two(rt: HostRuntime) -> Result<(), Fail> {
-    for (cells, root_level) in [(4, 0), (8, 1), (256, 6), (4096, 10)] {
+    for (cells, exponent, root_level) in [(4, 2, 0), (8, 3, 1), (256, 8, 6), (4096, 12, 10)] {
         let side = Side::new(cells).ok_or("a side")?;
         assert_eq!(rt; side.cells(), cells);
+        assert_eq!(rt; side.exponent(), exponent);
         assert_eq!(rt; side.root_level(), root_level);
     }
     for cells in [0, 1, 2, 3, 5, 12, 4095, 8192] {
