@@ -6,3 +6,4 @@ pub mod Journal
 pub mod Laws
 pub mod LegalLaws
 pub mod PositionLaws
+pub mod Making

@@ -1,0 +1,16 @@
+pub mod States
+pub mod Standing
+pub mod Counting
+pub mod Soundness
+pub mod Making
+pub mod Events
+pub mod LogEvents
+pub mod Returning
+pub mod Blocks
+pub mod EntryStatements
+pub mod StepStatements
+pub mod ShapeStatements
+pub mod SeenStatements
+pub mod ReturnStatements
+pub mod VersionStatements
+pub mod NumberStatements

@@ -1,0 +1,23 @@
+-- Which cells the next record may make.
+use Rattle.std.specs.Prelude.{◌≡◌, ℕ, ◌+◌, true, false, List, length}
+use Rattle.vox_read.specs.Contents.{Content}
+use Rattle.history_model.specs.declared.acts.Act.{Act}
+use Rattle.history_model.specs.declared.histories.Record.{Record}
+use Rattle.history_model.specs.Making.{MayMake}
+use Rattle.history_model.specs.Moments.{has}
+use Rattle.history_model.specs.Positions.{next_position, position_after}
+use Rattle.history_model.specs.Worlds.{World, is_edit}
+use Rattle.block_contents.specs.Versions.{SameWorld}
+
+-- the version whose cells an undo or a redo after these records gives
+abbrev pub version_gone_to : List Record → Act → ℕ
+version_gone_to records act = (next_position (length records + 1) act (position_after records)).now
+
+-- the act after these records makes these cells: an edit of the newest ones, an undo or a redo
+-- those of the version that it goes to
+pub record Makes (side : ℕ) (models : List Content) (records : List Record) (act : Act)
+    (cells : World) : Type 0 where
+  pub edit : is_edit act ≡ true
+      → MayMake side models act (has models records (length records)) cells
+  pub other : is_edit act ≡ false
+      → SameWorld side cells (has models records (version_gone_to records act))
