@@ -1,0 +1,6 @@
+pub mod EndLaws
+pub mod SlotLaws
+pub mod WordLaws
+pub mod ReadLaws
+pub mod TagLaws
+pub mod FindLaws

@@ -1,0 +1,96 @@
+-- What is read from words, as the look-ups see it.
+use Rattle.std.proofs.Common.{◌≡◌, ◌≢◌, ℕ, zero, suc, ◌-◌, ◌/◌, ◌%◌, ◌^◌, ◌<◌, ◌≤◌, Some, List, [], ◌∷◌, length, refl, ap, sym, ◌∙◌, arith, true, false, Bool, ◌&&◌}
+use Rattle.std.specs.Prelude.{slice_index, slice_index_or, IsTrue}
+use Rattle.std.specs.List.{list_all}
+use Rattle.std.proofs.lemmas.Bool.Decides.{nat_tests}
+use Rattle.node_shapes.specs.declared.names.Name.{Name}
+use Rattle.node_words.specs.declared.keys.Key.TheVariants.{Node}
+use Rattle.node_words.specs.Plans.{Layout, IsPlan, is_number_of_buckets}
+use Rattle.node_places.specs.Names.{IsName, HasNames, key_child}
+use Rattle.entry_words.specs.declared.key_words.Rest.{Rest}
+use Rattle.entry_words.specs.Coding.{child_of_half, key_of_words, word_number, half_number}
+use Rattle.entry_words.specs.Words.{Written, rest_at, no_rest}
+use Rattle.entry_words.proofs.WordLaws.{one_first, one_rest}
+
+-- the child in an octant, by the word and the half that have it
+child_read : (level first : ℕ) (rest : Rest) (k : ℕ) → k < 8 → child_of_half level (half_number (word_number first rest (k / 2)) (k % 2)) ≡ key_child (key_of_words (suc level) first rest) k
+child_read level first rest zero lt = refl
+child_read level first rest (suc zero) lt = refl
+child_read level first rest (suc (suc zero)) lt = refl
+child_read level first rest (suc (suc (suc zero))) lt = refl
+child_read level first rest (suc (suc (suc (suc zero)))) lt = refl
+child_read level first rest (suc (suc (suc (suc (suc zero))))) lt = refl
+child_read level first rest (suc (suc (suc (suc (suc (suc zero)))))) lt = refl
+child_read level first rest (suc (suc (suc (suc (suc (suc (suc zero))))))) lt = refl
+child_read level first rest (suc (suc (suc (suc (suc (suc (suc (suc k)))))))) lt = absurd (omega arith)
+
+pub child_read_at : (level first : ℕ) (rest : Rest) (k half : ℕ) → 1 ≤ level → k < 8 → half ≡ half_number (word_number first rest (k / 2)) (k % 2) → child_of_half (level - 1) half ≡ key_child (key_of_words level first rest) k
+child_read_at zero first rest k half h lt e = absurd (omega arith)
+child_read_at (suc level) first rest k half h lt e =
+    let z : suc level - 1 ≡ level = omega arith in
+    ap (λ (l : ℕ). child_of_half l half) z ∙ ap (λ (w : ℕ). child_of_half level w) e ∙ child_read level first rest k lt
+
+-- buckets are few
+few : (n : ℕ) → IsTrue (is_number_of_buckets n) → n ≤ 4096
+few n h = grind (arith, nat_tests)
+
+number : Bool → ℕ
+number true = 0
+number false = 1
+
+never : false ≡ true → ⊥
+unfolding number
+never e = let n : number false ≡ number true = ap number e in omega (arith, n)
+
+pub untrue : true ≡ false → ⊥
+untrue e = never (sym e)
+
+both : (a b : Bool) → IsTrue (a && b) → IsTrue a × IsTrue b
+both true true h = (h, h)
+both true false h = let q : false ≡ true = h in absurd (never q)
+both false b h = let q : false ≡ true = h in absurd (never q)
+
+buckets_few : (bs : List ℕ) (i : ℕ) → IsTrue (list_all is_number_of_buckets bs) → slice_index bs i ≤ 4096
+buckets_few [] i h = grind arith
+buckets_few (b ∷ bs) zero h = few b (both (is_number_of_buckets b) (list_all is_number_of_buckets bs) h).0
+buckets_few (b ∷ bs) (suc i) h = buckets_few bs i (both (is_number_of_buckets b) (list_all is_number_of_buckets bs) h).1
+
+-- what stands for a child of the plan is small
+half_small : (p : Layout) (level half : ℕ) → IsPlan p → ((n : Name) → child_of_half level half ≡ Some n → IsName p n) → half ≤ 2 ^ 24
+half_small p level zero h f = omega arith
+half_small p level (suc at) h f = let n = f _ refl in let b = buckets_few p.buckets level h.buckets in omega (arith, n.bucket_in, b)
+
+pub child_small : (p : Layout) (level first : ℕ) (rest : Rest) (k half : ℕ) → IsPlan p → 1 ≤ level → k < 8 → HasNames p (key_of_words level first rest) → half ≡ half_number (word_number first rest (k / 2)) (k % 2) → half ≤ 2 ^ 24
+child_small p level first rest k half h above lt f e = half_small p (level - 1) half h (λ n q. f.each k n lt (sym (child_read_at level first rest k half above lt e) ∙ q))
+
+-- the eight children of a node's key
+pub eight_children : (level first : ℕ) (rest : Rest) → 1 ≤ level → Node (key_child (key_of_words level first rest) 0 ∷ key_child (key_of_words level first rest) 1 ∷ key_child (key_of_words level first rest) 2 ∷ key_child (key_of_words level first rest) 3 ∷ key_child (key_of_words level first rest) 4 ∷ key_child (key_of_words level first rest) 5 ∷ key_child (key_of_words level first rest) 6 ∷ key_child (key_of_words level first rest) 7 ∷ []) ≡ key_of_words level first rest
+eight_children zero first rest h = absurd (omega arith)
+eight_children (suc level) first rest h = refl
+
+-- an item that is there doesn't depend on what would stand in its place
+pub default_any : {A : Type 0} (xs : List A) (i : ℕ) (a b : A) → i < length xs → slice_index_or xs i a ≡ slice_index_or xs i b
+default_any [] i a b lt = absurd (omega arith)
+default_any (x ∷ xs) zero a b lt = refl
+default_any (x ∷ xs) (suc i) a b lt = default_any xs i a b (omega arith)
+
+-- what was read at a place of the first words, and of the words behind them
+pub first_read : (v w : Written) (i y : ℕ) → v ≡ w → i < length w.firsts → y ≡ slice_index_or v.firsts i y → slice_index w.firsts i ≡ y
+first_read v w i y e lt q = sym (q ∙ ap (λ (u : Written). slice_index_or u.firsts i y) e ∙ default_any w.firsts i y 0 lt)
+
+pub rest_read : (v w : Written) (i : ℕ) (y : Rest) → v ≡ w → i < length w.rests → y ≡ slice_index_or v.rests i y → rest_at w.rests i ≡ y
+rest_read v w i y e lt q = sym (q ∙ ap (λ (u : Written). slice_index_or u.rests i y) e ∙ default_any w.rests i y no_rest lt)
+
+-- two rows of words say one key or two
+pub same_words : (level a b : ℕ) (r s : Rest) → a ≡ b → r ≡ s → key_of_words level a r ≡ key_of_words level b s
+same_words level a b r s e f = cc
+
+pub first_apart : (level a b : ℕ) (r s : Rest) → a ≢ b → key_of_words level a r ≢ key_of_words level b s
+first_apart level a b r s ne = λ q. ne (one_first level a b r s q)
+
+pub rest_apart : (level a b : ℕ) (r s : Rest) → level ≢ 0 → r ≢ s → key_of_words level a r ≢ key_of_words level b s
+rest_apart level a b r s above ne = λ q. ne (one_rest level a b r s (omega arith) q)
+
+-- a test that failed stands for a fact that doesn't hold
+pub no_iff : {P : Type 0} → (P → ⊥) → (IsTrue false → P) × (P → IsTrue false)
+no_iff n = (λ f. let q : false ≡ true = f in absurd (never q), λ p. absurd (n p))

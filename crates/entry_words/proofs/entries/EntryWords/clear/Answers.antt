@@ -1,0 +1,22 @@
+use Rattle.std.proofs.Common.{◌<◌, ◌∙◌, ap, sym, subst, length}
+use Rattle.node_places.specs.Names.{IsName}
+use Rattle.entry_words.specs.Slots.{slot_place}
+use Rattle.entry_words.specs.Words.{Written}
+use Rattle.entry_words.specs.Changes.{SetsBook}
+use Rattle.entry_words.proofs.TagLaws.{sets_book, with_book, entries_clear}
+use Rattle.entry_words.proofs.entries.EntryWords.clear.Goals as goal
+
+pub invariant_of-self : goal.invariant_of-self
+invariant_of-self c =
+    let e = sym c.self.view_is in
+    entries_clear _ _ _ c.place-i.result c.self.invariant (subst (λ (w : Written). c.place-i.result < length w.books) e c.place-i.ensures.books)
+
+pub returns : goal.returns
+returns c =
+    let e = sym c.self.view_is in
+    let at = c.place-i.ensures.value ∙ ap (λ (w : Written). slot_place w.plan c.args.n) e in
+    let name = subst (λ (w : Written). IsName w.plan c.args.n) e c.requires in
+    let inside = subst (λ (w : Written). c.place-i.result < length w.books) e c.place-i.ensures.books in
+    let s = c.self.inside in
+    let was : Written = record { plan = s.plan; books = s.books.items; firsts = s.firsts.items; rests = s.rests.items } in
+    subst (λ (w : Written). SetsBook w c.args.n 0 (with_book was c.place-i.result 0)) c.self.view_is (sets_book was c.args.n c.place-i.result 0 name at inside)

@@ -1,0 +1,44 @@
+use Rattle.std.proofs.Common.{◌≡◌, ◌+◌, ℕ, ap, sym, subst, arith, List, refl, ◌∙◌, Bool}
+use Rattle.std.specs.Prelude.{slice_index, IsTrue}
+use Rattle.entry_words.specs.Coding.{key_of, key_of_words}
+use Rattle.entry_words.specs.Words.{Written, rest_at}
+use Rattle.entry_words.specs.Tags.{AreTagged, LacksByte, IsFirstPlace}
+use Rattle.entry_words.proofs.FindLaws.{has_key, lacks_to, lacks_one}
+use Rattle.entry_words.proofs.ReadLaws.{untrue}
+use Rattle.entry_words.proofs.entries.EntryWords.find.Goals as goal
+
+pub returns-then-has_words-clause-found : goal.returns-then-has_words-clause-found
+returns-then-has_words-clause-found c =
+    let start = c.start-start.result in
+    let end : ℕ = start + c.from.result in
+    let cap = ap (λ (w : Written). w.plan.cap) c.self.view_is in
+    let tagged = subst (λ (w : Written). AreTagged w c.self.inside.tags.items) c.self.view_is c.self.invariant.tagged in
+    let place = subst (λ (tags : List ℕ). IsFirstPlace tags c.loop-i.from end c.tag_of-tag.result c.in-Some.i) c.deref.ensures.value c.in-Some.ensures.found in
+    has_key c.args.self.now c.self.inside.tags.items c.args.level c.args.bucket start end c.in-Some.i c.loop-i.from c.args.words.first c.tag_of-tag.result c.args.words.rest
+    tagged c.requires c.start-start.ensures.value (omega (arith, cap, c.from.ensures, c.cap.ensures.value)) c.tag_of-tag.ensures c.loop-i.invariant.low place (subst (λ (b : Bool). IsTrue b → key_of_words c.args.level (slice_index c.args.self.now.firsts c.in-Some.i) (rest_at c.args.self.now.rests c.in-Some.i) ≡ key_of c.args.level c.args.words) c.if-has_words.true c.has_words.ensures.0 refl)
+
+pub loop-i-preserved : goal.loop-i-preserved
+loop-i-preserved c =
+    let start = c.start-start.result in
+    let end : ℕ = start + c.from.result in
+    let tagged = subst (λ (w : Written). AreTagged w c.self.inside.tags.items) c.self.view_is c.self.invariant.tagged in
+    let place = subst (λ (tags : List ℕ). IsFirstPlace tags c.loop-i.from end c.tag_of-tag.result c.in-Some.i) c.deref.ensures.value c.in-Some.ensures.found in
+    let before = lacks_to c.args.self.now c.self.inside.tags.items c.args.level c.args.bucket start c.loop-i.from c.in-Some.i c.args.words.first c.tag_of-tag.result c.args.words.rest
+    tagged c.requires c.start-start.ensures.value c.tag_of-tag.ensures c.loop-i.invariant.lacks place.earlier in
+    record {
+      low = omega (arith, c.loop-i.invariant.low, place.at_least);
+      high = omega (arith, place.below);
+      lacks = lacks_one c.args.self.now c.args.level c.args.bucket start c.in-Some.i c.args.words.first c.args.words.rest c.start-start.ensures.value before (λ q. untrue (sym (c.has_words.ensures.1 q) ∙ c.if-has_words.false));
+    }
+
+pub returns-clause-none : goal.returns-clause-none
+returns-clause-none c q =
+    let start = c.start-start.result in
+    let end : ℕ = start + c.from.result in
+    let cap = ap (λ (w : Written). w.plan.cap) c.self.view_is in
+    let tagged = subst (λ (w : Written). AreTagged w c.self.inside.tags.items) c.self.view_is c.self.invariant.tagged in
+    let none = subst (λ (tags : List ℕ). LacksByte tags c.loop-i.from end c.tag_of-tag.result) c.deref.ensures.value (c.position.ensures.none c.in_default.is) in
+    record {
+      each = λ s lt live. lacks_to c.args.self.now c.self.inside.tags.items c.args.level c.args.bucket start c.loop-i.from end c.args.words.first c.tag_of-tag.result c.args.words.rest
+          tagged c.requires c.start-start.ensures.value c.tag_of-tag.ensures c.loop-i.invariant.lacks none s lt (omega (arith, cap, c.from.ensures, c.cap.ensures.value)) live;
+    }

@@ -1,0 +1,25 @@
+use Rattle.std.proofs.Common.{◌+◌, ℕ, ap, subst, arith, List}
+use Rattle.entry_words.specs.Words.{Written}
+use Rattle.entry_words.specs.Tags.{AreTagged, LacksByte, IsFirstPlace}
+use Rattle.entry_words.proofs.FindLaws.{lowest_free, lives_below}
+use Rattle.entry_words.proofs.entries.EntryWords.free.Goals as goal
+
+pub returns-in-Some-clause-lowest : goal.returns-in-Some-clause-lowest
+returns-in-Some-clause-lowest c =
+    let start = c.start-start.result in
+    let end : ℕ = start + c.from.result in
+    let cap = ap (λ (w : Written). w.plan.cap) c.self.view_is in
+    let tagged = subst (λ (w : Written). AreTagged w c.self.inside.tags.items) c.self.view_is c.self.invariant.tagged in
+    let first = subst (λ (tags : List ℕ). IsFirstPlace tags start end 0 c.in-Some.i) c.deref.ensures.value c.in-Some.ensures.found in
+    lowest_free c.args.self.now c.self.inside.tags.items c.args.level c.args.bucket start end c.in-Some.i tagged c.requires c.start-start.ensures.value
+    (omega (arith, cap, c.from.ensures, c.cap.ensures.value)) first
+
+pub returns-in-None-clause-full : goal.returns-in-None-clause-full
+returns-in-None-clause-full c q =
+    let start = c.start-start.result in
+    let end : ℕ = start + c.from.result in
+    let cap = ap (λ (w : Written). w.plan.cap) c.self.view_is in
+    let tagged = subst (λ (w : Written). AreTagged w c.self.inside.tags.items) c.self.view_is c.self.invariant.tagged in
+    let none = subst (λ (tags : List ℕ). LacksByte tags start end 0) c.deref.ensures.value (c.in-None.ensures.none q) in
+    lives_below c.args.self.now c.self.inside.tags.items c.args.level c.args.bucket start end c.args.self.now.plan.cap tagged c.requires c.start-start.ensures.value
+    (omega arith) (omega (arith, cap, c.from.ensures, c.cap.ensures.value)) none

@@ -1,0 +1,28 @@
+use Rattle.std.proofs.Common.{◌<◌, ◌∙◌, ap, sym, subst, length}
+use Rattle.node_places.specs.Names.{IsName}
+use Rattle.entry_words.specs.Slots.{slot_place}
+use Rattle.entry_words.specs.Coding.{key_of}
+use Rattle.entry_words.specs.Words.{Written}
+use Rattle.entry_words.specs.Changes.{PutsEntry}
+use Rattle.entry_words.proofs.TagLaws.{puts_entry, with_entry, entries_entry}
+use Rattle.entry_words.proofs.entries.EntryWords.open.Goals as goal
+
+pub invariant_of-self : goal.invariant_of-self
+invariant_of-self c =
+    let e = sym c.self.view_is in
+    let at = c.place-i.ensures.value ∙ ap (λ (w : Written). slot_place w.plan c.args.n) e in
+    let name = subst (λ (w : Written). IsName w.plan c.args.n) e c.requires.name in
+    entries_entry _ _ _ c.args.n c.place-i.result c.args.words.first c.tag_of.result c.args.words.rest c.self.invariant name at c.tag_of.ensures
+
+pub returns : goal.returns
+returns c =
+    let e = sym c.self.view_is in
+    let at = c.place-i.ensures.value ∙ ap (λ (w : Written). slot_place w.plan c.args.n) e in
+    let name = subst (λ (w : Written). IsName w.plan c.args.n) e c.requires.name in
+    let in_books = subst (λ (w : Written). c.place-i.result < length w.books) e c.place-i.ensures.books in
+    let in_firsts = subst (λ (w : Written). c.place-i.result < length w.firsts) e c.place-i.ensures.firsts in
+    let in_rests = subst (λ (w : Written). c.place-i.result < length w.rests) e c.place-i.ensures.rests in
+    let s = c.self.inside in
+    let was : Written = record { plan = s.plan; books = s.books.items; firsts = s.firsts.items; rests = s.rests.items } in
+    subst (λ (w : Written). PutsEntry w c.args.n (key_of c.args.n.level c.args.words) (with_entry was c.place-i.result c.args.words.first c.args.words.rest)) c.self.view_is
+    (puts_entry was c.args.n c.place-i.result c.args.words.first c.args.words.rest name at in_books in_firsts in_rests)

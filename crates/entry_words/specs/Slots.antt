@@ -1,0 +1,28 @@
+-- Where the slots of a plan stand in one row: level by level, and bucket by bucket.
+use Rattle.std.specs.Prelude.{◌≡◌, ℕ, ◌+◌, ◌*◌, ◌^◌, ◌<◌, ◌≤◌, List, slice_index}
+use Rattle.vw_cell.specs.Counts.{sum_below}
+use Rattle.node_shapes.specs.declared.names.Name.{Name}
+use Rattle.node_words.specs.Plans.{Layout}
+use Rattle.node_places.specs.Spots.{levels, buckets_at}
+
+-- the slots of a level
+abbrev pub slots_at : Layout → ℕ → ℕ
+slots_at p level = p.cap * buckets_at p level
+
+-- the place of a name's slot
+abbrev pub slot_place : Layout → Name → ℕ
+slot_place p n = sum_below n.level (slots_at p) + (n.bucket * p.cap + n.slot)
+
+-- how many slots there are
+abbrev pub number_of_slots : Layout → ℕ
+number_of_slots p = sum_below (levels p) (slots_at p)
+
+-- a bucket of the plan
+pub record IsBucket (p : Layout) (level bucket : ℕ) : Type 0 where
+  pub level_in : level < levels p
+  pub bucket_in : bucket < buckets_at p level
+
+-- for each number of levels, where the slots of so many levels end
+pub record AreEnds (p : Layout) (ends : List ℕ) : Type 0 where
+  pub end : (level : ℕ) → level ≤ 11 → slice_index ends level ≡ sum_below level (slots_at p)
+  pub small : (level : ℕ) → level ≤ 11 → slice_index ends level < 2 ^ 40

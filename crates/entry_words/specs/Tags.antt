@@ -1,0 +1,60 @@
+-- A byte beside the words of each slot, by which a key is found. No contract for users shows it.
+use Rattle.std.specs.Prelude.{◌≡◌, ◌≢◌, ℕ, ◌+◌, ◌*◌, ◌/◌, ◌%◌, ◌^◌, ◌<◌, ◌≤◌, List, length, slice_index}
+use Rattle.std.proofs.Common.{zero, suc}
+use Rattle.node_shapes.specs.declared.names.Name.{Name}
+use Rattle.node_words.specs.Plans.{IsPlan}
+use Rattle.node_places.specs.Names.{IsName}
+use Rattle.entry_words.specs.declared.key_words.Rest.{Rest}
+use Rattle.entry_words.specs.declared.key_words.KeyWords.{KeyWords}
+use Rattle.entry_words.specs.Slots.{slot_place, number_of_slots, AreEnds}
+use Rattle.entry_words.specs.Words.{Written, book_in, first_in, rest_in}
+
+-- a word of 64 bits times a number, and a sum of two, as far as 64 bits go
+abbrev pub times : ℕ → ℕ → ℕ
+times word number = word * number % 2 ^ 64
+
+abbrev pub plus : ℕ → ℕ → ℕ
+plus a b = (a + b) % 2 ^ 64
+
+-- the words of a node's key mixed into one. A leaf's key is its first word alone
+unfoldable pub mixed_words : ℕ → ℕ → Rest → ℕ
+mixed_words zero first rest = times first 0x9E3779B97F4A7C15
+mixed_words (suc level) first rest =
+    plus (plus (times first 0x9E3779B97F4A7C15) (times rest.second 0xBF58476D1CE4E5B9))
+    (plus (times rest.third 0x94D049BB133111EB) (times rest.fourth 0xD6E8FEB86659FD93))
+
+-- a byte that tells most keys of a bucket apart, and isn't 0
+unfoldable pub tag_of_word : ℕ → ℕ
+tag_of_word word = word / 2 ^ 56 % 255 + 1
+
+abbrev pub tag_of_words : ℕ → ℕ → Rest → ℕ
+tag_of_words level first rest = tag_of_word (mixed_words level first rest)
+
+abbrev pub tag_of : ℕ → KeyWords → ℕ
+tag_of level words = tag_of_words level words.first words.rest
+
+-- a live slot has the tag of its key's words, and a free one has 0
+pub record AreTagged (w : Written) (tags : List ℕ) : Type 0 where
+  pub free : (n : Name) → IsName w.plan n → book_in w n ≡ 0 → slice_index tags (slot_place w.plan n) ≡ 0
+  pub live : (n : Name) → IsName w.plan n → 1 ≤ book_in w n → slice_index tags (slot_place w.plan n) ≡ tag_of_words n.level (first_in w n) (rest_in w n)
+
+-- there are words and a tag for each slot of the plan
+pub record AreEntries (w : Written) (ends tags : List ℕ) : Type 0 where
+  pub plan_is : IsPlan w.plan
+  pub ends_are : AreEnds w.plan ends
+  pub books_are : length w.books ≡ number_of_slots w.plan
+  pub firsts_are : length w.firsts ≡ number_of_slots w.plan
+  pub rests_are : length w.rests ≡ number_of_slots w.plan
+  pub tags_are : length tags ≡ number_of_slots w.plan
+  pub tagged : AreTagged w tags
+
+-- no byte of this part of a row is the one
+abbrev pub LacksByte : List ℕ → ℕ → ℕ → ℕ → Type 0
+LacksByte row from to byte = (i : ℕ) → from ≤ i → i < to → slice_index row i ≢ byte
+
+-- the first place of the byte in this part of a row
+pub record IsFirstPlace (row : List ℕ) (from to byte i : ℕ) : Type 0 where
+  pub at_least : from ≤ i
+  pub below : i < to
+  pub there : slice_index row i ≡ byte
+  pub earlier : LacksByte row from i byte

@@ -1,0 +1,57 @@
+-- The words of all slots of a plan, and how they are read as books and keys.
+use Rattle.std.specs.Prelude.{◌≡◌, ◌≢◌, ℕ, ◌<◌, ◌≤◌, List, slice_index, slice_index_or}
+use Rattle.node_shapes.specs.declared.names.Name.{Name}
+use Rattle.node_words.specs.declared.keys.Key.{Key}
+use Rattle.node_words.specs.Plans.{Layout}
+use Rattle.node_places.specs.Names.{IsName, named}
+use Rattle.entry_words.specs.declared.key_words.Rest.{Rest}
+use Rattle.entry_words.specs.Slots.{slot_place}
+use Rattle.entry_words.specs.Coding.{key_of_words}
+
+-- by place, the book of each slot, the first word of its key, and the words behind it
+pub record Written : Type 0 where
+  pub plan : Layout
+  pub books : List ℕ
+  pub firsts : List ℕ
+  pub rests : List Rest
+
+abbrev pub no_rest : Rest
+no_rest = record { second = 0; third = 0; fourth = 0 }
+
+abbrev pub rest_at : List Rest → ℕ → Rest
+rest_at rests i = slice_index_or rests i no_rest
+
+-- the book of a name; it is live where this isn't 0
+abbrev pub book_in : Written → Name → ℕ
+book_in w n = slice_index w.books (slot_place w.plan n)
+
+-- the first word and the further words of a name's key
+abbrev pub first_in : Written → Name → ℕ
+first_in w n = slice_index w.firsts (slot_place w.plan n)
+
+abbrev pub rest_in : Written → Name → Rest
+rest_in w n = rest_at w.rests (slot_place w.plan n)
+
+-- the key of a name. A slot that was freed keeps its key
+abbrev pub key_in : Written → Name → Key
+key_in w n = key_of_words n.level (first_in w n) (rest_in w n)
+
+-- a live name has the key
+pub record HasEntry (w : Written) (n : Name) (key : Key) : Type 0 where
+  pub is_name : IsName w.plan n
+  pub live : 1 ≤ book_in w n
+  pub key_is : key_in w n ≡ key
+
+-- no live slot of the bucket has the key
+pub record LacksKey (w : Written) (level bucket : ℕ) (key : Key) : Type 0 where
+  pub each : (slot : ℕ) → slot < w.plan.cap → 1 ≤ book_in w (named level bucket slot) → key_in w (named level bucket slot) ≢ key
+
+-- the slots of a bucket below this one are live
+abbrev pub AreLiveBelow : Written → ℕ → ℕ → ℕ → Type 0
+AreLiveBelow w level bucket slots = (k : ℕ) → k < slots → 1 ≤ book_in w (named level bucket k)
+
+-- the lowest slot of the bucket that isn't live
+pub record IsLowestFree (w : Written) (level bucket slot : ℕ) : Type 0 where
+  pub below : slot < w.plan.cap
+  pub free : book_in w (named level bucket slot) ≡ 0
+  pub lower : AreLiveBelow w level bucket slot

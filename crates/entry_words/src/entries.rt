@@ -1,0 +1,249 @@
+ghost use Rattle.std.specs.Prelude.{◌≡◌, ◌↔◌, ℕ, ◌+◌, ◌<◌, ◌≤◌, ◌^◌, None, IfOk, IfSome, IsTrue, length, slice_index};
+ghost use Rattle.node_shapes.specs.declared.names.Name.{Name};
+ghost use Rattle.node_words.specs.declared.keys.Key.TheVariants.{Node};
+ghost use Rattle.node_words.specs.Plans.{IsPlan};
+ghost use Rattle.node_words.specs.Keys.{bucket_of_key};
+ghost use Rattle.node_places.specs.Spots.{levels, buckets_at};
+ghost use Rattle.node_places.specs.Names.{IsName, HasNames, named, key_bits, key_child};
+ghost use Rattle.entry_words.specs.Slots.{slot_place, IsBucket};
+ghost use Rattle.entry_words.specs.Coding.{key_of, key_of_words, word_number};
+ghost use Rattle.entry_words.specs.Words.{rest_at, book_in, key_in, HasEntry, LacksKey, IsLowestFree, AreLiveBelow};
+ghost use Rattle.entry_words.specs.Changes.{SetsBook, PutsEntry};
+
+use crate::ends::ends_of;
+use crate::key_words::{KeyWords, NO_REST, Rest, child_of, half_of};
+use crate::tags::{position, tag_of};
+use node_words::{Key, Name, Plan, bucket_of};
+use std::alloc::{AllocError, Global};
+use std::marker::Model;
+use vw_cell::Side;
+
+/// The books and keys of all slots of a plan. It takes all its memory when it is made.
+///
+/// Beside the words of each slot there is a byte, its tag, by which searches pass over most slots. Contracts don't
+/// see it.
+#[derive(Drop)]
+pub struct EntryWords {
+    plan: Plan,
+    ends: [usize; 12],
+    books: Vec<u32>,
+    firsts: Vec<u64>,
+    rests: Vec<Rest>,
+    tags: Vec<u8>,
+}
+
+impl Model for EntryWords {
+    ghost use Rattle.entry_words.specs.Words.{Written};
+    ghost use Rattle.entry_words.specs.Tags.{AreEntries};
+
+    ghost Value = { Written };
+
+    ghost view = { λ w. record { plan = w.plan; books = w.books.items; firsts = w.firsts.items; rests = w.rests.items } };
+
+    ghost invariant = { λ w. AreEntries (record { plan = w.plan; books = w.books.items; firsts = w.firsts.items; rests = w.rests.items }) w.ends w.tags.items };
+}
+
+impl EntryWords {
+    /// Free slots, as many as the plan has.
+    pub fn begin(alloc: Global, plan: &Plan) -> Result<EntryWords, AllocError>
+        ensures plan { IfOk result (λ w. w.plan ≡ plan.now) }
+        ensures free { IfOk result (λ w. (n : Name) → book_in w n ≡ 0) }
+    {
+        let ends = ends_of(&plan.buckets(), plan.cap());
+        let size = ends[usize::from(plan.side().root_level()) + 1];
+        Ok(EntryWords {
+            plan: *plan,
+            ends,
+            books: vec![in alloc; 0; size]?,
+            firsts: vec![in alloc; 0; size]?,
+            rests: vec![in alloc; NO_REST; size]?,
+            tags: vec![in alloc; 0; size]?,
+        })
+    }
+
+    /// The plan.
+    pub fn plan(&self) -> Plan
+        ensures plan { result ≡ self.now.plan }
+        ensures is_plan { IsPlan self.now.plan }
+    {
+        self.plan
+    }
+
+    /// The bucket of a key on this level.
+    pub fn bucket(&self, level: u8, key: &Key) -> u16
+        requires { level < levels self.now.plan }
+        ensures bucket { result ≡ bucket_of_key key.now (buckets_at self.now.plan level) }
+        ensures below { IsBucket self.now.plan level result }
+    {
+        bucket_of(key, self.plan.buckets()[usize::from(level)])
+    }
+
+    /// How many references the name has; 0 where no node is there.
+    pub fn book(&self, n: Name) -> u32
+        requires { IsName self.now.plan n }
+        ensures { result ≡ book_in self.now n }
+    {
+        self.books[self.place(n)]
+    }
+
+    /// A live node has so many references now.
+    pub fn set_book(&mut self, n: Name, book: u32)
+        requires name { IsName self.old.plan n }
+        requires live { 1 ≤ book_in self.old n }
+        requires some { 1 ≤ book }
+        ensures { SetsBook self.old n book self.new }
+    {
+        let i = self.place(n);
+        self.books[i] = book;
+    }
+
+    /// A node of this key comes into the name's slot, which is free, with one reference.
+    pub fn open(&mut self, n: Name, words: KeyWords)
+        requires name { IsName self.old.plan n }
+        requires free { book_in self.old n ≡ 0 }
+        ensures { PutsEntry self.old n (key_of n.level words) self.new }
+    {
+        let i = self.place(n);
+        self.firsts[i] = words.first;
+        self.rests[i] = words.rest;
+        self.tags[i] = tag_of(n.level, &words);
+        self.books[i] = 1;
+    }
+
+    /// The name's slot is free.
+    pub fn clear(&mut self, n: Name)
+        requires { IsName self.old.plan n }
+        ensures { SetsBook self.old n 0 self.new }
+    {
+        let i = self.place(n);
+        self.tags[i] = 0;
+        self.books[i] = 0;
+    }
+
+    /// The bits of a leaf.
+    pub fn bits(&self, n: Name) -> u64
+        requires name { IsName self.now.plan n }
+        requires level { n.level ≡ 0 }
+        ensures { result ≡ key_bits (key_in self.now n) }
+    {
+        self.firsts[self.place(n)]
+    }
+
+    /// The child in an octant of a node.
+    pub fn child(&self, n: Name, octant: u8) -> Option<Name>
+        requires name { IsName self.now.plan n }
+        requires level { 1 ≤ n.level }
+        requires octant { octant < 8 }
+        requires names { HasNames self.now.plan (key_in self.now n) }
+        ensures { result ≡ key_child (key_in self.now n) octant }
+    {
+        let _plan = self.plan;
+        let word = self.word(self.place(n), octant / 2);
+        child_of(n.level - 1, half_of(word, octant % 2))
+    }
+
+    /// The children of a node.
+    #[tactic(auto, using(crate::proofs::ReadLaws::eight_children))]
+    pub fn children(&self, n: Name) -> [Option<Name>; 8]
+        requires name { IsName self.now.plan n }
+        requires level { 1 ≤ n.level }
+        requires names { HasNames self.now.plan (key_in self.now n) }
+        ensures { Node result ≡ key_in self.now n }
+    {
+        [
+            self.child(n, 0),
+            self.child(n, 1),
+            self.child(n, 2),
+            self.child(n, 3),
+            self.child(n, 4),
+            self.child(n, 5),
+            self.child(n, 6),
+            self.child(n, 7),
+        ]
+    }
+
+    /// The slot of a bucket whose live node has this key.
+    pub fn find(&self, level: u8, bucket: u16, words: KeyWords) -> Option<u8>
+        requires { IsBucket self.now.plan level bucket }
+        ensures found { IfSome result (λ slot. HasEntry self.now (named level bucket slot) (key_of level words)) }
+        ensures none { result ≡ None → LacksKey self.now level bucket (key_of level words) }
+    {
+        let start = self.start(level, bucket);
+        let end = start + usize::from(self.plan.cap());
+        let tag = tag_of(level, &words);
+        let mut from = start;
+        while let Some(i) = position(&self.tags, from, end, tag) {
+            if self.has_words(i, level, &words) {
+                return Some((i - start) as u8);
+            }
+            from = i + 1;
+        }
+        None
+    }
+
+    /// The lowest free slot of a bucket.
+    pub fn free(&self, level: u8, bucket: u16) -> Option<u8>
+        requires { IsBucket self.now.plan level bucket }
+        ensures lowest { IfSome result (IsLowestFree self.now level bucket) }
+        ensures full { result ≡ None → AreLiveBelow self.now level bucket self.now.plan.cap }
+    {
+        let start = self.start(level, bucket);
+        let end = start + usize::from(self.plan.cap());
+        match position(&self.tags, start, end, 0) {
+            Some(i) => Some((i - start) as u8),
+            None => None,
+        }
+    }
+
+    // The place of the name's slot.
+    fn place(&self, n: Name) -> usize
+        requires { IsName self.now.plan n }
+        ensures value { result ≡ slot_place self.now.plan n }
+        ensures books { result < length self.now.books }
+        ensures firsts { result < length self.now.firsts }
+        ensures rests { result < length self.now.rests }
+    {
+        let cap = usize::from(self.plan.cap());
+        let slot = usize::from(n.bucket) * cap + usize::from(n.slot);
+        self.ends[usize::from(n.level)] + slot
+    }
+
+    // The place of a bucket's first slot.
+    fn start(&self, level: u8, bucket: u16) -> usize
+        requires { IsBucket self.now.plan level bucket }
+        ensures value { result ≡ slot_place self.now.plan (named level bucket 0) }
+        ensures inside { result + self.now.plan.cap ≤ length self.now.books }
+        ensures small { result < 2 ^ 41 }
+    {
+        let cap = usize::from(self.plan.cap());
+        self.ends[usize::from(level)] + usize::from(bucket) * cap
+    }
+
+    // A word of the key in the slot at a place.
+    fn word(&self, i: usize, number: u8) -> u64
+        requires firsts { i < length self.now.firsts }
+        requires rests { i < length self.now.rests }
+        requires number { number < 4 }
+        ensures { result ≡ word_number (slice_index self.now.firsts i) (rest_at self.now.rests i) number }
+    {
+        if number == 0 {
+            return self.firsts[i];
+        }
+        self.rests[i].word(number)
+    }
+
+    // Whether the words of the slot at a place say the same key.
+    fn has_words(&self, i: usize, level: u8, words: &KeyWords) -> bool
+        requires firsts { i < length self.now.firsts }
+        requires rests { i < length self.now.rests }
+        ensures { IsTrue result ↔ (key_of_words level (slice_index self.now.firsts i) (rest_at self.now.rests i) ≡ key_of level words.now) }
+    {
+        if self.firsts[i] != words.first {
+            return false;
+        }
+        if level == 0 {
+            return true;
+        }
+        self.rests[i].is(&words.rest)
+    }
+}

@@ -1,0 +1,23 @@
+//! The words of a store for one thread: of each slot its book and its key's words, each kind in one row, so that what
+//! a search reads of a bucket lies side by side.
+#![tactic(auto)]
+
+mod ends;
+mod entries;
+mod key_words;
+mod tags;
+
+ghost use Rattle.std.specs.Prelude.{◌≡◌, ◌<◌};
+ghost use Rattle.node_shapes.specs.declared.names.Name.{Name};
+ghost use Rattle.node_words.specs.Plans.{Layout};
+ghost use Rattle.node_places.specs.Names.{IsName};
+ghost use Rattle.entry_words.specs.Slots.{slot_place, number_of_slots};
+
+pub use entries::EntryWords;
+pub use key_words::{KeyWords, Rest, words_of};
+
+/// Each name's slot has a place, and two names have two places.
+pub fn slots_are_apart()
+    ensures inside { (p : Layout) (n : Name) → IsName p n → slot_place p n < number_of_slots p }
+    ensures apart { (p : Layout) (m n : Name) → IsName p m → IsName p n → slot_place p m ≡ slot_place p n → m ≡ n }
+{}
