@@ -1,2 +1,12 @@
 pub mod Texts
 pub mod Rows
+pub mod Unpacking
+pub mod Standing
+pub mod SpellingLaws
+pub mod EntryLaws
+pub mod MarkLaws
+pub mod JournalLaws
+pub mod GoingOn
+pub mod TakingLaws
+pub mod ReadLaws
+pub mod OnceLaws

@@ -4,12 +4,25 @@
 #![tactic(auto)]
 
 mod acts;
+mod entries;
 mod histories;
 mod journal;
+mod packing;
+mod placing;
+mod positions;
+mod questions;
+mod reading;
+mod spelling;
+mod stacks;
+mod ways;
 
 pub use acts::Act;
 pub use histories::{History, Mark, Record};
 pub use journal::journal_text;
-
-#[cfg(test)]
-mod tests;
+pub use packing::{pack, unpack};
+pub use positions::position;
+pub use questions::Question;
+pub use reading::{JournalFault, read_journal};
+pub use spelling::{Spelled, Three, read_act};
+pub use stacks::Position;
+pub use ways::Way;

@@ -1,0 +1,43 @@
+-- How the lines of a journal go on behind those of a history: with a record, with a mark, or with the last line.
+use Rattle.std.specs.Prelude.{◌≡◌, ℕ, ◌+◌, ◌<◌, ◌⊎◌, List, [], ◌∷◌, ◌++◌, length}
+use Rattle.plain_text.specs.Parts.{words}
+use Rattle.history_model.specs.declared.histories.Record.{Record}
+use Rattle.history_model.specs.declared.histories.Mark.{Mark}
+use Rattle.history_model.specs.Logs.{Log}
+use Rattle.history_model.specs.Entries.{IsRecord, IsNextMark, IsTold, record_list, mark_list, line_of, front_lines, last_lines, next_version}
+
+-- the lines are those of a journal
+abbrev pub IsJournalLines : List (List ℕ) → Type 0
+IsJournalLines all = (log : Log) × IsTold log × (all ≡ front_lines log ++ last_lines)
+
+-- a further record, which stands before all marks
+pub record GoesRecord (log : Log) (rest : List (List ℕ)) : Type 0 where
+  pub r : Record
+  pub more : List (List ℕ)
+  pub unmarked : log.marks ≡ []
+  pub fits : IsRecord log.side r
+  pub few : length log.records < 65535
+  pub is : rest ≡ line_of (record_list (length log.records + 1) r) ∷ more
+  pub some : 0 < length more
+
+-- a further mark
+pub record GoesMark (log : Log) (rest : List (List ℕ)) : Type 0 where
+  pub m : Mark
+  pub more : List (List ℕ)
+  pub fits : IsNextMark (length log.records) (next_version 0 log.marks) m
+  pub is : rest ≡ line_of (mark_list m) ∷ more
+  pub some : 0 < length more
+
+abbrev pub Goes : Log → List (List ℕ) → Type 0
+Goes log rest = (rest ≡ last_lines) ⊎ (GoesRecord log rest ⊎ GoesMark log rest)
+
+-- the record of a line, where no mark was seen
+pub record RecordIn (log : Log) (line : List ℕ) (r : Record) : Type 0 where
+  pub unmarked : log.marks ≡ []
+  pub few : length log.records < 65535
+  pub fits : IsRecord log.side r
+  pub is : record_list (length log.records + 1) r ≡ words line
+
+-- no record is in the line
+abbrev pub NoRecordIn : Log → List ℕ → Type 0
+NoRecordIn log line = (r : Record) → RecordIn log line r → ⊥

@@ -1,0 +1,92 @@
+ghost use Rattle.std.specs.Prelude.{◌≡◌, ◌^◌, ◌<◌, ◌≤◌, MatchOption};
+ghost use Rattle.history_model.specs.declared.spelling.Spelled.TheVariants.{Copy, Stamp};
+ghost use Rattle.vw_cell.specs.Places.{FitsAt, IsInWorld};
+ghost use Rattle.history_model.specs.Worlds.{box_at};
+ghost use Rattle.history_model.specs.Reach.{GivesWhere, LiesIn};
+ghost use Rattle.history_model.specs.Spelled.{act_of};
+ghost use Rattle.history_model.specs.Spelling.{IsLarge};
+
+use crate::acts::Act;
+use crate::spelling::{Spelled, Three};
+use vw_cell::{Ball, Boxed, Cell, Side};
+
+/// The act that was spelled, where it lies in the world of this side.
+pub(crate) fn place(spelled: &Spelled, side: Side) -> Option<Act>
+    ensures { GivesWhere (LiesIn (2 ^ side) (act_of spelled.now)) (act_of spelled.now) result }
+{
+    match *spelled {
+        Spelled::Fill(at, size) => Some(Act::Fill(place_box(at, size, side)?)),
+        Spelled::Erase(at, size) => Some(Act::Erase(place_box(at, size, side)?)),
+        Spelled::Ball(centre, radius) => Some(Act::Ball(place_ball(centre, radius, side)?)),
+        Spelled::Carve(centre, radius) => Some(Act::Carve(place_ball(centre, radius, side)?)),
+        Spelled::Copy(at, size, to) => place_copy(at, size, to, side),
+        Spelled::Stamp(model, at) => place_stamp(model, at, side),
+        Spelled::Undo => Some(Act::Undo),
+        Spelled::Redo => Some(Act::Redo),
+    }
+}
+
+fn place_box(at: Three, size: Three, side: Side) -> Option<Boxed>
+    ensures { GivesWhere (FitsAt at size (2 ^ side)) (box_at at size) result }
+{
+    let _side = side.cells();
+    let at = cell(at)?;
+    let size = cell(size)?;
+    Boxed::new(at, size, side)
+}
+
+fn place_ball(centre: Three, radius: u32, side: Side) -> Option<Ball>
+    ensures { GivesWhere
+        (IsInWorld (2 ^ side) centre × (radius ≤ 4095))
+        (record { centre = centre; radius = radius })
+        result }
+{
+    let _side = side.cells();
+    if radius > 4095 {
+        return None;
+    }
+    let centre = cell(centre)?;
+    Ball::new(centre, radius as u16, side)
+}
+
+fn place_copy(at: Three, size: Three, to: Three, side: Side) -> Option<Act>
+    ensures { GivesWhere
+        (FitsAt at size (2 ^ side) × FitsAt to size (2 ^ side))
+        (act_of (Copy at size to))
+        result }
+{
+    let from = place_box(at, size, side)?;
+    let there = place_box(to, size, side)?;
+    Some(Act::Copy(from, there.at))
+}
+
+fn place_stamp(model: u32, at: Three, side: Side) -> Option<Act>
+    ensures { GivesWhere
+        ((model < 1024) × IsInWorld (2 ^ side) at)
+        (act_of (Stamp model at))
+        result }
+{
+    let _side = side.cells();
+    if model > 1023 {
+        return None;
+    }
+    let at = cell(at)?;
+    if !at.is_in_world(side) {
+        return None;
+    }
+    Some(Act::Stamp(model as u16, at))
+}
+
+// The cell of three numbers that are small enough for one.
+fn cell(numbers: Three) -> Option<Cell>
+    ensures { MatchOption result (IsLarge numbers) (λ c. c ≡ numbers) }
+{
+    if numbers.x > 65535 || numbers.y > 65535 || numbers.z > 65535 {
+        return None;
+    }
+    Some(Cell {
+        x: numbers.x as u16,
+        y: numbers.y as u16,
+        z: numbers.z as u16,
+    })
+}

@@ -1,0 +1,18 @@
+use history_model::{Act, Record};
+use vw_cell::{Ball, Boxed, Cell};
+
+pub fn cell(x: u16, y: u16, z: u16) -> Cell {
+    Cell { x, y, z }
+}
+
+pub fn boxed(at: Cell, size: Cell) -> Boxed {
+    Boxed { at, size }
+}
+
+pub fn ball(centre: Cell, radius: u16) -> Ball {
+    Ball { centre, radius }
+}
+
+pub fn record(session: u16, line: u32, act: Act) -> Record {
+    Record { session, line, act }
+}
