@@ -4,7 +4,7 @@ use Rattle.std.proofs.lemmas.Bool.{cases_order}
 use Rattle.std.proofs.lemmas.Nat.{mul-add-lt, same_from_place}
 use Rattle.vw_cell.specs.Counts.{sum_below, sum_below-suc}
 use Rattle.node_words.specs.Plans.{Layout}
-use Rattle.node_places.specs.Spots.{Spot, Sessions, LogTurn, LogLength, Version, Turn, Key, Book, place, width, IsSpot, IsSlot, levels, buckets_at, level_words, entry_words, key_words, first_turn, first_entry, entry_place, version_words, versions}
+use Rattle.node_places.specs.Spots.{Spot, Sessions, LogTurn, LogLength, Version, Turn, Key, Book, place, width, IsSpot, IsSlot, levels, buckets_at, bucket_words, level_words, entry_words, key_words, first_turn, first_entry, lane_place, version_words, versions}
 
 -- a longer sum is no less
 sum_grows : (f : ℕ → ℕ) (l d : ℕ) → sum_below l f ≤ sum_below (l + d) f
@@ -37,9 +37,12 @@ parts f l m i j of_l of_m same =
           ]
     ]
 
--- a word of an entry stands in its level's words
-in_level : (p : Layout) (l b s k : ℕ) → IsSlot p l b s → k < entry_words l → (b * p.cap + s) * entry_words l + k < level_words p l
-in_level p l b s k slot word = mul-add-lt (b * p.cap + s) (entry_words l) k (p.cap * buckets_at p l) (mul-add-lt b p.cap s (buckets_at p l) slot.bucket_in slot.slot_in) word
+-- a word of an entry stands in its bucket's words, and these in their level's
+in_bucket : (p : Layout) (l b s k : ℕ) → IsSlot p l b s → k < entry_words l → k * p.cap + s < bucket_words p l
+in_bucket p l b s k slot lane = mul-add-lt k p.cap s (entry_words l) lane slot.slot_in
+
+in_level : (p : Layout) (l b s k : ℕ) → IsSlot p l b s → k < entry_words l → b * bucket_words p l + (k * p.cap + s) < level_words p l
+in_level p l b s k slot lane = mul-add-lt b (bucket_words p l) (k * p.cap + s) (buckets_at p l) slot.bucket_in (in_bucket p l b s k slot lane)
 
 -- where the regions lie
 version_low : (v k : ℕ) → v < versions → k < version_words → 3 + (v * version_words + k) < first_turn
@@ -48,15 +51,15 @@ version_low v k of_v of_k = let inside = mul-add-lt v version_words k versions o
 turn_low : (p : Layout) (l b : ℕ) → l < levels p → b < buckets_at p l → first_turn + (sum_below l (buckets_at p) + b) < first_entry p
 turn_low p l b of_l of_b = let ends = part_ends (buckets_at p) l (levels p) b of_l of_b in omega (arith, ends)
 
-entry_low : (p : Layout) (l b s k : ℕ) → IsSlot p l b s → k < entry_words l → entry_place p l b s k < width p
-entry_low p l b s k slot word =
-    let ends = part_ends (level_words p) l (levels p) ((b * p.cap + s) * entry_words l + k) slot.level_in (in_level p l b s k slot word) in
+entry_low : (p : Layout) (l b s k : ℕ) → IsSlot p l b s → k < entry_words l → lane_place p l b k s < width p
+entry_low p l b s k slot lane =
+    let ends = part_ends (level_words p) l (levels p) (b * bucket_words p l + (k * p.cap + s)) slot.level_in (in_level p l b s k slot lane) in
     omega (arith, ends)
 
-key_in : (l k : ℕ) → k < key_words l → k < entry_words l
+key_in : (l k : ℕ) → k < key_words l → k + 1 < entry_words l
 key_in l k h = omega (arith, h)
 
-book_in : (l : ℕ) → key_words l < entry_words l
+book_in : (l : ℕ) → 0 < entry_words l
 book_in l = omega arith
 
 pub place_low : (p : Layout) (s : Spot) → IsSpot p s → place p s < width p
@@ -65,8 +68,8 @@ place_low p LogTurn is = omega arith
 place_low p LogLength is = omega arith
 place_low p (Version v k) is = let low = version_low v k is.0 is.1 in omega (arith, low)
 place_low p (Turn l b) is = let low = turn_low p l b is.0 is.1 in omega (arith, low)
-place_low p (Key l b s k) is = entry_low p l b s k is.0 (key_in l k is.1)
-place_low p (Book l b s) is = entry_low p l b s (key_words l) is (book_in l)
+place_low p (Key l b s k) is = entry_low p l b s (k + 1) is.0 (key_in l k is.1)
+place_low p (Book l b s) is = entry_low p l b s 0 is (book_in l)
 
 -- one place of entries is one word of one entry
 record SameEntry (l b s k l' b' s' k' : ℕ) : Type 0 where
@@ -75,18 +78,18 @@ record SameEntry (l b s k l' b' s' k' : ℕ) : Type 0 where
   slot : s ≡ s'
   word : k ≡ k'
 
-same_entry : (p : Layout) (l b s k l' b' s' k' : ℕ) → IsSlot p l b s → k < entry_words l → IsSlot p l' b' s' → k' < entry_words l' → entry_place p l b s k ≡ entry_place p l' b' s' k' → SameEntry l b s k l' b' s' k'
-same_entry p l b s k l' b' s' k' slot word slot' word' e =
-    let i : ℕ = (b * p.cap + s) * entry_words l + k in
-    let j : ℕ = (b' * p.cap + s') * entry_words l' + k' in
+same_entry : (p : Layout) (l b s k l' b' s' k' : ℕ) → IsSlot p l b s → k < entry_words l → IsSlot p l' b' s' → k' < entry_words l' → lane_place p l b k s ≡ lane_place p l' b' k' s' → SameEntry l b s k l' b' s' k'
+same_entry p l b s k l' b' s' k' slot lane slot' lane' e =
+    let i : ℕ = b * bucket_words p l + (k * p.cap + s) in
+    let j : ℕ = b' * bucket_words p l' + (k' * p.cap + s') in
     let offsets : sum_below l (level_words p) + i ≡ sum_below l' (level_words p) + j = omega (arith, e) in
-    let level = parts (level_words p) l l' i j (in_level p l b s k slot word) (in_level p l' b' s' k' slot' word') offsets in
-    let words : entry_words l' ≡ entry_words l = ap entry_words (sym level.0) in
-    let same : (b * p.cap + s) * entry_words l + k ≡ (b' * p.cap + s') * entry_words l + k' = level.1 ∙ ap (λ (w : ℕ). (b' * p.cap + s') * w + k') words in
-    let small : k' < entry_words l = subst (λ (w : ℕ). k' < w) words word' in
-    let outer = same_from_place (b * p.cap + s) k (b' * p.cap + s') k' (entry_words l) word small same in
-    let inner = same_from_place b s b' s' p.cap slot.slot_in slot'.slot_in outer.0 in
-    record { level = level.0; bucket = inner.0; slot = inner.1; word = outer.1 }
+    let level = parts (level_words p) l l' i j (in_level p l b s k slot lane) (in_level p l' b' s' k' slot' lane') offsets in
+    let words : bucket_words p l' ≡ bucket_words p l = ap (λ (m : ℕ). bucket_words p m) (sym level.0) in
+    let same : b * bucket_words p l + (k * p.cap + s) ≡ b' * bucket_words p l + (k' * p.cap + s') = level.1 ∙ ap (λ (w : ℕ). b' * w + (k' * p.cap + s')) words in
+    let small : k' * p.cap + s' < bucket_words p l = subst (λ (w : ℕ). k' * p.cap + s' < w) words (in_bucket p l' b' s' k' slot' lane') in
+    let outer = same_from_place b (k * p.cap + s) b' (k' * p.cap + s') (bucket_words p l) (in_bucket p l b s k slot lane) small same in
+    let inner = same_from_place k s k' s' p.cap slot.slot_in slot'.slot_in outer.1 in
+    record { level = level.0; bucket = outer.0; slot = inner.1; word = inner.0 }
 
 pub place_one : (p : Layout) (s t : Spot) → IsSpot p s → IsSpot p t → place p s ≡ place p t → s ≡ t
 place_one p Sessions Sessions of_s of_t e = refl
@@ -129,12 +132,12 @@ place_one p (Key l b s k) LogTurn of_s of_t e = absurd (omega (arith, e))
 place_one p (Key l b s k) LogLength of_s of_t e = absurd (omega (arith, e))
 place_one p (Key l b s k) (Version v' k') of_s of_t e = let low0 = version_low v' k' of_t.0 of_t.1 in absurd (omega (arith, e, low0))
 place_one p (Key l b s k) (Turn l' b') of_s of_t e = let low0 = turn_low p l' b' of_t.0 of_t.1 in absurd (omega (arith, e, low0))
-place_one p (Key l b s k) (Key l' b' s' k') of_s of_t e = let same = same_entry p l b s k l' b' s' k' of_s.0 (key_in l k of_s.1) of_t.0 (key_in l' k' of_t.1) e in rw (same.level, same.bucket, same.slot, same.word) refl
-place_one p (Key l b s k) (Book l' b' s') of_s of_t e = let same = same_entry p l b s k l' b' s' (key_words l') of_s.0 (key_in l k of_s.1) of_t (book_in l') e in let word : k < key_words l' = subst (λ (n : ℕ). k < key_words n) same.level of_s.1 in absurd (omega (arith, same.word, word))
+place_one p (Key l b s k) (Key l' b' s' k') of_s of_t e = let same = same_entry p l b s (k + 1) l' b' s' (k' + 1) of_s.0 (key_in l k of_s.1) of_t.0 (key_in l' k' of_t.1) e in let word : k ≡ k' = omega (arith, same.word) in rw (same.level, same.bucket, same.slot, word) refl
+place_one p (Key l b s k) (Book l' b' s') of_s of_t e = let same = same_entry p l b s (k + 1) l' b' s' 0 of_s.0 (key_in l k of_s.1) of_t (book_in l') e in absurd (omega (arith, same.word))
 place_one p (Book l b s) Sessions of_s of_t e = absurd (omega (arith, e))
 place_one p (Book l b s) LogTurn of_s of_t e = absurd (omega (arith, e))
 place_one p (Book l b s) LogLength of_s of_t e = absurd (omega (arith, e))
 place_one p (Book l b s) (Version v' k') of_s of_t e = let low0 = version_low v' k' of_t.0 of_t.1 in absurd (omega (arith, e, low0))
 place_one p (Book l b s) (Turn l' b') of_s of_t e = let low0 = turn_low p l' b' of_t.0 of_t.1 in absurd (omega (arith, e, low0))
-place_one p (Book l b s) (Key l' b' s' k') of_s of_t e = let same = same_entry p l b s (key_words l) l' b' s' k' of_s (book_in l) of_t.0 (key_in l' k' of_t.1) e in let word : k' < key_words l = subst (λ (n : ℕ). k' < key_words n) (sym same.level) of_t.1 in absurd (omega (arith, same.word, word))
-place_one p (Book l b s) (Book l' b' s') of_s of_t e = let same = same_entry p l b s (key_words l) l' b' s' (key_words l') of_s (book_in l) of_t (book_in l') e in rw (same.level, same.bucket, same.slot) refl
+place_one p (Book l b s) (Key l' b' s' k') of_s of_t e = let same = same_entry p l b s 0 l' b' s' (k' + 1) of_s (book_in l) of_t.0 (key_in l' k' of_t.1) e in absurd (omega (arith, same.word))
+place_one p (Book l b s) (Book l' b' s') of_s of_t e = let same = same_entry p l b s 0 l' b' s' 0 of_s (book_in l) of_t (book_in l') e in rw (same.level, same.bucket, same.slot) refl

@@ -1,3 +1,5 @@
 pub mod Apart
 pub mod Children
+pub mod KeyLaws
+pub mod SpotTests
 pub mod Prefixes

@@ -42,5 +42,5 @@ pub words_small : (level : ℕ) → entry_words level ≤ 5
 words_small zero = omega arith
 words_small (suc level) = omega arith
 
-pub level_small : (level cap buckets : ℕ) → cap ≤ 65535 → buckets ≤ 65535 → entry_words level * (cap * buckets) ≤ 5 * (65535 * 65535)
-level_small level cap buckets of_cap of_buckets = mul-le (entry_words level) (cap * buckets) 5 (65535 * 65535) (words_small level) (mul-le cap buckets 65535 65535 of_cap of_buckets)
+pub level_small : (level cap buckets : ℕ) → cap ≤ 65535 → buckets ≤ 65535 → cap * entry_words level * buckets ≤ 65535 * 5 * 65535
+level_small level cap buckets of_cap of_buckets = mul-le (cap * entry_words level) buckets (65535 * 5) 65535 (mul-le cap (entry_words level) 65535 5 of_cap (words_small level)) of_buckets

@@ -2,3 +2,4 @@ pub mod Spots
 pub mod Words
 pub mod Firsts
 pub mod Names
+pub mod KeyWords

@@ -14,6 +14,7 @@ pub data Spot : Type 0 where
   Turn : (level bucket : ℕ) → Spot
   Key : (level bucket slot word : ℕ) → Spot
   Book : (level bucket slot : ℕ) → Spot
+  deriving Discrete as Spot-discrete
 
 -- how many versions a log has, the first of no record included, and the words of each
 abbrev pub versions : ℕ
@@ -22,11 +23,12 @@ versions = 65536
 abbrev pub version_words : ℕ
 version_words = 8
 
--- a leaf's key has one word and a node's has four, and its book stands behind them
+-- a leaf's key has one word and a node's has four
 abbrev pub key_words : ℕ → ℕ
 key_words zero = 1
 key_words (suc level) = 4
 
+-- an entry has its book and the words of its key
 abbrev pub entry_words : ℕ → ℕ
 entry_words level = key_words level + 1
 
@@ -34,9 +36,12 @@ entry_words level = key_words level + 1
 abbrev pub levels : Layout → ℕ
 levels p = p.side - 1
 
--- the words of a level's entries
+-- the words of a bucket, and of all buckets of a level
+abbrev pub bucket_words : Layout → ℕ → ℕ
+bucket_words p level = p.cap * entry_words level
+
 abbrev pub level_words : Layout → ℕ → ℕ
-level_words p level = entry_words level * (p.cap * buckets_at p level)
+level_words p level = bucket_words p level * buckets_at p level
 
 -- the turns stand behind the versions, and the entries behind the turns
 abbrev pub first_turn : ℕ
@@ -45,10 +50,11 @@ first_turn = 3 + version_words * versions
 abbrev pub first_entry : Layout → ℕ
 first_entry p = first_turn + sum_below (levels p) (buckets_at p)
 
--- the place of a word of an entry, its book counted as the last of them
-abbrev pub entry_place : Layout → ℕ → ℕ → ℕ → ℕ → ℕ
-entry_place p level bucket slot word =
-    first_entry p + (sum_below level (level_words p) + ((bucket * p.cap + slot) * entry_words level + word))
+-- In a bucket the books of all slots stand side by side, then the first words of their keys, then the second ones, and
+-- so on. The place of the word of this lane, of which lane 0 has the books.
+abbrev pub lane_place : Layout → ℕ → ℕ → ℕ → ℕ → ℕ
+lane_place p level bucket lane slot =
+    first_entry p + (sum_below level (level_words p) + (bucket * bucket_words p level + (lane * p.cap + slot)))
 
 abbrev pub place : Layout → Spot → ℕ
 place p Sessions = 0
@@ -56,8 +62,8 @@ place p LogTurn = 1
 place p LogLength = 2
 place p (Version version word) = 3 + (version * version_words + word)
 place p (Turn level bucket) = first_turn + (sum_below level (buckets_at p) + bucket)
-place p (Key level bucket slot word) = entry_place p level bucket slot word
-place p (Book level bucket slot) = entry_place p level bucket slot (key_words level)
+place p (Key level bucket slot word) = lane_place p level bucket (word + 1) slot
+place p (Book level bucket slot) = lane_place p level bucket 0 slot
 
 -- how many words there are
 abbrev pub width : Layout → ℕ

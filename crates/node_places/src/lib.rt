@@ -5,9 +5,12 @@ mod laws;
 mod places;
 mod words;
 
-pub use laws::{child_words_tell_children, places_are_apart, places_are_in_the_table};
-pub use places::{LOG_LENGTH, LOG_TURN, Places, SESSIONS};
-pub use words::{child_in, child_word, pair_word};
+pub use laws::{
+    child_words_tell_children, keys_and_words_tell_each_other, places_are_apart,
+    places_are_in_the_table, words_can_be_told,
+};
+pub use places::Places;
+pub use words::{child_in, child_word, halves, pair_word};
 
 #[cfg(test)]
 mod tests;

@@ -1,18 +1,9 @@
 ghost use Rattle.std.specs.Prelude.{◌≡◌, ℕ, ◌+◌, ◌-◌, ◌*◌, ◌^◌, ◌<◌, ◌≤◌, slice_index};
 ghost use Rattle.vw_cell.specs.Counts.{sum_below};
-ghost use Rattle.node_places.specs.Spots.{place, width, key_words, entry_words, entry_place, first_turn, Sessions, LogTurn, LogLength, Version, Turn, Key, Book, IsSpot, IsSlot};
+ghost use Rattle.node_places.specs.Spots.{place, width, key_words, entry_words, bucket_words, lane_place, first_turn, Sessions, LogTurn, LogLength, Version, Turn, Key, Book, IsSpot};
 
 use node_words::Plan;
 use std::marker::Model;
-
-/// The place of the word that counts the sessions made.
-pub const SESSIONS: usize = 0;
-
-/// The place of the log's turn.
-pub const LOG_TURN: usize = 1;
-
-/// The place of the log's length.
-pub const LOG_LENGTH: usize = 2;
 
 /// Where the words of versions begin, eight of each.
 const FIRST_VERSION: usize = 3;
@@ -63,6 +54,27 @@ impl Places {
         self.entries[levels_of(&self.plan)]
     }
 
+    /// The place of the word that counts the sessions made.
+    pub fn sessions(&self) -> usize
+        ensures { result ≡ place self.now Sessions }
+    {
+        0
+    }
+
+    /// The place of the log's turn.
+    pub fn log_turn(&self) -> usize
+        ensures { result ≡ place self.now LogTurn }
+    {
+        1
+    }
+
+    /// The place of the log's length.
+    pub fn log_length(&self) -> usize
+        ensures { result ≡ place self.now LogLength }
+    {
+        2
+    }
+
     /// The place of a version's word; a version has eight.
     pub fn version(&self, version: u32, word: u8) -> usize
         requires { IsSpot self.now (Version version word) }
@@ -84,7 +96,8 @@ impl Places {
         requires { IsSpot self.now (Key level bucket slot word) }
         ensures { result ≡ place self.now (Key level bucket slot word) }
     {
-        self.entry(level, bucket, slot) + usize::from(word)
+        let lane = usize::from(word) + 1;
+        self.bucket(level, bucket) + (lane * usize::from(self.plan.cap()) + usize::from(slot))
     }
 
     /// The place of the book in this slot.
@@ -92,18 +105,18 @@ impl Places {
         requires { IsSpot self.now (Book level bucket slot) }
         ensures { result ≡ place self.now (Book level bucket slot) }
     {
-        self.entry(level, bucket, slot) + key_words(level)
+        self.bucket(level, bucket) + usize::from(slot)
     }
 
-    // The place of the first word in this slot.
-    fn entry(&self, level: u8, bucket: u16, slot: u8) -> usize
-        requires { IsSlot self.now level bucket slot }
-        ensures value { result ≡ entry_place self.now level bucket slot 0 }
+    /// The place of a bucket's first word. From it on stand the books of the bucket's slots side by side, then the
+    /// first words of their keys, and so on, each run as long as the plan's cap.
+    pub fn bucket(&self, level: u8, bucket: u16) -> usize
+        requires { IsSpot self.now (Turn level bucket) }
+        ensures value { result ≡ lane_place self.now level bucket 0 0 }
         ensures bound { result < 2 ^ 41 }
     {
-        let cap = usize::from(self.plan.cap());
-        let number = usize::from(bucket) * cap + usize::from(slot);
-        self.entries[usize::from(level)] + number * (key_words(level) + 1)
+        let words = usize::from(self.plan.cap()) * (key_words(level) + 1);
+        self.entries[usize::from(level)] + usize::from(bucket) * words
     }
 }
 
@@ -138,13 +151,13 @@ fn turns_of(buckets: &[u16; 11]) -> [usize; 12]
 // Where the entries of the first levels end, for each number of levels.
 fn entries_of(first: usize, buckets: &[u16; 11], cap: u16) -> [usize; 12]
     requires { first < 2 ^ 21 }
-    ensures ends { (levels : ℕ) → levels ≤ 11 → slice_index result levels ≡ first + sum_below levels (λ level. entry_words level * (cap * slice_index buckets.now level)) }
+    ensures ends { (levels : ℕ) → levels ≤ 11 → slice_index result levels ≡ first + sum_below levels (λ level. cap * entry_words level * slice_index buckets.now level) }
     ensures small { (levels : ℕ) → levels ≤ 11 → slice_index result levels < 2 ^ 40 }
 {
     let mut ends = [first; 12];
     for level in 0..11 {
-        let slots = usize::from(cap) * usize::from(buckets[level]);
-        ends[level + 1] = ends[level] + (key_words(level as u8) + 1) * slots;
+        let words = usize::from(cap) * (key_words(level as u8) + 1);
+        ends[level + 1] = ends[level] + words * usize::from(buckets[level]);
     }
     ends
 }

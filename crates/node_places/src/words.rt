@@ -1,6 +1,7 @@
 ghost use Rattle.std.specs.Prelude.{◌≡◌, ◌+◌, ◌*◌, ◌^◌, ◌<◌, ◌≤◌, ◌/◌, ◌%◌, Option};
 ghost use Rattle.node_shapes.specs.declared.names.Name.{Name};
-ghost use Rattle.node_places.specs.Words.{word_of_child, IsChildAt};
+ghost use Rattle.node_places.specs.Words.{word_of_child};
+ghost use Rattle.node_places.specs.KeyWords.{half, child_of_word};
 
 use node_shapes::Name;
 
@@ -21,11 +22,21 @@ pub fn pair_word(low: u32, high: u32) -> u64
     u64::from(low) + (1 << 32) * u64::from(high)
 }
 
+/// The two children's words in a word of a key, that of the lower octant first.
+#[tactic(auto, using(crate::proofs::KeyLaws::low_half, crate::proofs::KeyLaws::high_half))]
+pub fn halves(word: u64) -> (u32, u32)
+    ensures halves { (result.0 ≡ half 0 word) × (result.1 ≡ half 1 word) }
+    ensures back { result.0 + 2 ^ 32 * result.1 ≡ word }
+{
+    ((word % (1 << 32)) as u32, (word >> 32) as u32)
+}
+
 /// The child that a word stands for, in a node of the level above `level`.
-#[tactic(auto, using(crate::proofs::Children::reads_back))]
+#[tactic(auto, using(crate::proofs::KeyLaws::child_read, crate::proofs::KeyLaws::word_back))]
 pub fn child_in(word: u32, level: u8) -> Option<Name>
     requires { word ≤ 2 ^ 24 }
-    ensures { (child : Option Name) → IsChildAt level child → word ≡ word_of_child child → result ≡ child }
+    ensures child { result ≡ child_of_word level word }
+    ensures word { word_of_child result ≡ word }
 {
     if word == 0 {
         return None;

@@ -1,3 +1,4 @@
 pub mod HeldLaws
 pub mod KeyLaws
 pub mod GatherLaws
+pub mod PlanLaws

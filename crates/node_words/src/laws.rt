@@ -5,6 +5,7 @@ ghost use Rattle.node_shapes.specs.Buckets.{bucket_of_shape};
 ghost use Rattle.node_shapes.specs.Tree.{Tree, root_of, child_of, shape_of};
 ghost use Rattle.node_words.specs.declared.keys.Key.{Key};
 ghost use Rattle.node_words.specs.Keys.{bucket_of_key, IsKeyOf};
+ghost use Rattle.node_words.specs.Plans.{Layout, IsPlan, buckets_at};
 ghost use Rattle.node_words.specs.Held.{IsReached, HoldsName, ReachesName, AreTrees, AreCanonical, AreHeld, AreBelow, HasChild};
 
 /// A key's bucket is that of the shape of its node, where its children stand in the buckets of theirs.
@@ -17,6 +18,12 @@ pub fn children_are_reached()
     ensures held { (held : List Tree) (n : Name) → HoldsName held n → ReachesName held n }
     ensures child { (held : List Tree) (t : Tree) (k : ℕ) (m : Name) → IsReached held t → root_of (child_of t k) ≡ Some m → ReachesName held m }
     ensures level { (side : ℕ) (held : List Tree) (t : Tree) (k : ℕ) (n m : Name) → AreTrees side held → IsReached held t → root_of t ≡ Some n → root_of (child_of t k) ≡ Some m → 1 ≤ n.level → m.level + 1 ≡ n.level }
+{}
+
+/// A plan has 1 to 4,096 buckets on each of the levels 0 to 10.
+pub fn plans_have_buckets()
+    ensures some { (p : Layout) (level : ℕ) → IsPlan p → level ≤ 10 → 1 ≤ buckets_at p level }
+    ensures few { (p : Layout) (level : ℕ) → IsPlan p → buckets_at p level ≤ 4096 }
 {}
 
 /// A node over children that are held has a canonical shape. For implementers of a store.
