@@ -1,0 +1,3 @@
+pub mod PaintLaws
+pub mod WorldLaws
+pub mod PartLaws

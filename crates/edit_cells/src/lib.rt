@@ -1,0 +1,9 @@
+//! What an edit makes of a block, told by cells: the trait of tasks, and what edits share that set or clear the cells
+//! of a test.
+#![tactic(auto)]
+
+mod paints;
+mod tasks;
+
+pub use paints::{clears_nothing, filled, old_whole, paint};
+pub use tasks::{Task, Whole};

@@ -1,0 +1,144 @@
+-- What a memo keeps stays true: blocks that are reached stay so while shares come and are joined.
+use Rattle.std.proofs.Common.{◌≡◌, ℕ, ◌+◌, ◌-◌, ◌<◌, ◌≤◌, ◌⊎◌, Some, None, Option, List, [], ◌∷◌, set, slice_index_or, length, sym, ◌∙◌, ap, subst, arith, inl, inr, get_or-set_other, get_or-set_same}
+use Rattle.std.proofs.lemmas.Bool.{cases_eq}
+use Rattle.node_shapes.specs.declared.names.Name.{Name}
+use Rattle.node_shapes.specs.Shape.{Shape, octant_shape}
+use Rattle.node_shapes.specs.Tree.{Tree, shape_of}
+use Rattle.node_shapes.proofs.WeightLaws.{weight_of-there}
+use Rattle.node_words.specs.Held.{Seen, IsHeld}
+use Rattle.node_words.proofs.HeldLaws.{Keeps, held_reached}
+use Rattle.cell_shapes.specs.CellShapes.{Cells, SameIn, shape_with}
+use Rattle.cell_shapes.proofs.CellShapeLaws.{shape_with-same}
+use Rattle.edit_cells.specs.Tasks.{Making}
+use Rattle.edit_blocks.specs.Blocks.{Aside, Came, Reaches, Joined}
+use Rattle.edit_blocks.proofs.JoinLaws.{gathers_one, gathers_none}
+use Rattle.edit_blocks.proofs.ReachLaws.{keeps_reaches, came_keeps, tree_reached}
+use Rattle.edit_walk.specs.declared.memos.Kept.{Kept}
+use Rattle.edit_walk.specs.declared.memos.Row.{Row}
+use Rattle.edit_walk.specs.declared.memos.Memo.{Memo}
+use Rattle.edit_walk.specs.Memos.{kept_in, empty_row, rows_of, row_of, IsKeptIn, IsKept, IsMade, Recalls}
+use Rattle.edit_walk.specs.Walks.{Walk, walk_at, Begins, Built, Partway}
+use Rattle.edit_walk.proofs.WalkLaws.{part_starts, starts_none, starts_held}
+
+-- places and rows
+
+pub row_push : {T : Type 0} (old : Row T) (places : List (Option (Kept T))) (kept e : Kept T) (k : ℕ) → k < 8 → places ≡ set (kept_in old) k (Some kept) → (j : ℕ) → slice_index_or places j None ≡ Some e → (e ≡ kept) ⊎ IsKeptIn old e
+row_push old places kept e k lt q j h = elim (cases_eq j k) [
+  | inl same ↦
+      let at : slice_index_or places j None ≡ Some kept =
+      ap (λ (ps : List (Option (Kept _))). slice_index_or ps j None) q ∙ ap (λ (i : ℕ). slice_index_or (set (kept_in old) k (Some kept)) i None) same ∙ get_or-set_same (kept_in old) k (Some kept) None (omega arith)
+      in
+      inl (let w : Some e ≡ Some kept = sym h ∙ at in cc)
+  | inr other ↦
+      let at : slice_index_or places j None ≡ slice_index_or (kept_in old) j None =
+      ap (λ (ps : List (Option (Kept _))). slice_index_or ps j None) q ∙ get_or-set_other (kept_in old) k j (Some kept) None other
+      in
+      inr (j, sym at ∙ h)
+]
+
+-- what holds of the row of a level, for another name of the level
+pub row_at : {T : Type 0} (old new : Memo T) (level at : ℕ) (kept : Kept T) → level ≡ at → ((e : Kept T) → IsKeptIn (row_of new at) e → (e ≡ kept) ⊎ IsKeptIn (row_of old at) e)
+    → (e : Kept T) → IsKeptIn (row_of new level) e → (e ≡ kept) ⊎ IsKeptIn (row_of old level) e
+row_at old new level at kept same h = subst (λ (l : ℕ). (e : Kept _) → IsKeptIn (row_of new l) e → (e ≡ kept) ⊎ IsKeptIn (row_of old l) e) (sym same) h
+
+pub memo_with : (T : Type 0) (old new : Memo T) (level : ℕ) (kept : Kept T) (row : Row T) → level ≤ 10 → rows_of new ≡ set (rows_of old) level row
+    → ((e : Kept T) → IsKeptIn row e → (e ≡ kept) ⊎ IsKept old level e) → (l : ℕ) (e : Kept T) → IsKept new l e → ((l ≡ level) × (e ≡ kept)) ⊎ IsKept old l e
+memo_with T old new level kept row le q with_one l e h = elim (cases_eq l level) [
+  | inl same ↦
+      let at : slice_index_or (rows_of new) l empty_row ≡ row =
+      ap (λ (rs : List (Row T)). slice_index_or rs l empty_row) q ∙ ap (λ (j : ℕ). slice_index_or (set (rows_of old) level row) j empty_row) same ∙ get_or-set_same (rows_of old) level row empty_row (omega arith)
+      in
+      from_row same (with_one e (subst (λ (r : Row T). IsKeptIn r e) at h))
+  | inr other ↦
+      let at : slice_index_or (rows_of new) l empty_row ≡ slice_index_or (rows_of old) l empty_row =
+      ap (λ (rs : List (Row T)). slice_index_or rs l empty_row) q ∙ get_or-set_other (rows_of old) level l row empty_row other
+      in
+      inr (subst (λ (r : Row T). IsKeptIn r e) at h)
+]
+  where
+    from_row : l ≡ level → (e ≡ kept) ⊎ IsKept old level e → ((l ≡ level) × (e ≡ kept)) ⊎ IsKept old l e
+    from_row s (inl is) = inl (s, is)
+    from_row s (inr k) = inr (subst (λ (j : ℕ). IsKept old j e) (sym s) k)
+
+-- the memo
+
+pub recalls_on : {T : Type 0} (makes : T → Making) (base a b : List Tree) (memo : Memo T) → Reaches a b → Recalls makes base a memo → Recalls makes base b memo
+recalls_on makes base a b memo r h = record {
+  each = λ level e k. let m = h.each level e k in record { tree = m.tree; of = tree_reached a b level m.tree e.name r m.of; cells = m.cells; made = m.made; shape = m.shape };
+}
+
+pub recalls_nothing : {T : Type 0} (makes : T → Making) (base held : List Tree) (memo : Memo T) → ((level : ℕ) (e : Kept T) → IsKept memo level e → ⊥) → Recalls makes base held memo
+recalls_nothing makes base held memo none = record { each = λ level e k. absurd (none level e k) }
+
+-- a block that came is kept
+pub recalls_came : (T : Type 0) (makes : T → Making) (base rest : List Tree) (level : ℕ) (task : T) (cells : Cells) (kept name : Option Name) (seen : Seen) (full : Option Name) (old new : Memo T)
+    → ((l : ℕ) (e : Kept T) → IsKept new l e → ((l ≡ level) × (e ≡ record { task = task; name = kept })) ⊎ IsKept old l e) → kept ≡ name
+    → makes task base level cells → Built makes base rest level (shape_with level cells) name (walk_at seen full old) → Built makes base rest level (shape_with level cells) name (walk_at seen full new)
+recalls_came T makes base rest level task cells kept name seen full old new keeps same m b = record { came = b.came; recalls = record { each = λ l e k. cases l e (keeps l e k) } }
+  where
+    is_held : (n : Name) → kept ≡ Some n → IsHeld b.came.now b.came.comes.tree
+    is_held n e = record { weighs = λ f. omega (arith, b.came.comes.weighs f, weight_of-there f b.came.comes.tree n (b.came.comes.root ∙ sym same ∙ e)) }
+
+    itself : IsMade makes base b.came.now level (record { task = task; name = kept })
+    itself = record {
+      tree = b.came.comes.tree;
+      of = record { root = b.came.comes.root ∙ sym same; reached = λ n e. held_reached b.came.now b.came.comes.tree (is_held n e); levels = b.came.comes.levels };
+      cells = cells;
+      made = m;
+      shape = b.came.comes.shape;
+    }
+
+    cases : (l : ℕ) (e : Kept T) → ((l ≡ level) × (e ≡ record { task = task; name = kept })) ⊎ IsKept old l e → IsMade makes base b.came.now l e
+    cases l e (inl (p, q)) = subst (λ (j : ℕ). IsMade makes base b.came.now j e) (sym p) (subst (λ (k : Kept T). IsMade makes base b.came.now level k) (sym q) itself)
+    cases l e (inr k) = b.recalls.each l e k
+
+-- one more share of a block that is remembered
+pub hit_built : {T : Type 0} (makes : T → Making) (base rest : List Tree) (level : ℕ) (cells : Cells) (e : Kept T) (name : Option Name) (walk : Walk T)
+    → Recalls makes base rest walk.memo → (d : IsMade makes base rest level e) → SameIn level cells d.cells → Came rest level (shape_of d.tree) name walk.seen.held walk.full → Built makes base rest level (shape_with level cells) name walk
+hit_built makes base rest level cells e name walk r d same w =
+    let v = subst (λ (s : Shape). Came rest level s name walk.seen.held walk.full) (d.shape ∙ sym (shape_with-same level cells d.cells same)) w in
+    record { came = v; recalls = recalls_on makes base rest v.now walk.memo (keeps_reaches rest v.now (came_keeps rest walk.seen.held level _ name walk.full v)) r }
+
+-- a share that came while the memo stayed
+pub came_built : {T : Type 0} (makes : T → Making) (base rest : List Tree) (level : ℕ) (target : Shape) (name : Option Name) (walk : Walk T)
+    → Recalls makes base rest walk.memo → Came rest level target name walk.seen.held walk.full → Built makes base rest level target name walk
+came_built makes base rest level target name walk r w = record { came = w; recalls = recalls_on makes base rest w.now walk.memo (keeps_reaches rest w.now (came_keeps rest walk.seen.held level target name walk.full w)) r }
+
+pub joined_built : {T : Type 0} (makes : T → Making) (base rest was : List Tree) (level : ℕ) (target : Shape) (name : Option Name) (walk : Walk T)
+    → Recalls makes base was walk.memo → Joined rest was level target name walk.seen.held walk.full → Built makes base rest level target name walk
+joined_built makes base rest was level target name walk r j = record { came = j.came; recalls = recalls_on makes base was j.came.now walk.memo j.reaches r }
+
+pub target_built : {T : Type 0} (makes : T → Making) (base rest : List Tree) (level : ℕ) (s t : Shape) (name : Option Name) (walk : Walk T)
+    → s ≡ t → Built makes base rest level s name walk → Built makes base rest level t name walk
+target_built makes base rest level s t name walk e b = subst (λ (u : Shape). Built makes base rest level u name walk) e b
+
+-- nothing was gathered yet, and one more octant came
+pub partway_none : {T : Type 0} (makes : T → Making) (base rest : List Tree) (level : ℕ) (task : T) (cells : Cells) (walk : Walk T)
+    → Begins makes base rest level task cells walk → Partway makes base rest level task cells (None ∷ None ∷ None ∷ None ∷ None ∷ None ∷ None ∷ None ∷ []) 0 walk
+partway_none makes base rest level task cells walk b = record { keeps = b.starts.keeps; made = b.made; gathers = gathers_none walk.seen.held rest walk.full (level - 1) (shape_with level cells) b.starts.aside; recalls = b.recalls }
+
+pub partway_one : {T : Type 0} (makes : T → Making) (base rest : List Tree) (level : ℕ) (task : T) (cells : Cells) (cs ds : List (Option Name)) (k : ℕ) (name : Option Name) (old new : Walk T)
+    → k < 8 → length cs ≡ 8 → (p : Partway makes base rest level task cells cs k old) → Built makes base p.gathers.now (level - 1) (octant_shape (shape_with level cells) k) name new → ds ≡ set cs k name → Partway makes base rest level task cells ds (k + 1) new
+partway_one makes base rest level task cells cs ds k name old new lt e p b d = record {
+  keeps = p.keeps;
+  made = p.made;
+  gathers = gathers_one rest old.seen.held new.seen.held old.full new.full (level - 1) (shape_with level cells) cs ds k name lt e p.gathers b.came d;
+  recalls = b.recalls;
+}
+
+-- the first block of a walk
+pub begins_none : {T : Type 0} (makes : T → Making) (base : List Tree) (seen : Seen) (level : ℕ) (task : T) (cells : Cells) (memo : Memo T) → Keeps base seen.held → ((l : ℕ) (e : Kept T) → IsKept memo l e → ⊥) → makes task base level cells → Begins makes base seen.held level task cells (walk_at seen None memo)
+begins_none makes base seen level task cells memo k none m = record { starts = starts_none base seen k; made = m; recalls = recalls_nothing makes base seen.held memo none }
+
+-- an octant, after those before it
+pub part_begins : {T : Type 0} (makes : T → Making) (base rest : List Tree) (level : ℕ) (task part : T) (cells at : Cells) (cs : List (Option Name)) (k : ℕ) (a b : Seen) (full : Option Name) (memo : Memo T)
+    → b ≡ a → (p : Partway makes base rest level task cells cs k (walk_at a full memo)) → makes part base (level - 1) at → Begins makes base p.gathers.now (level - 1) part at (walk_at b full memo)
+part_begins makes base rest level task part cells at cs k a b full memo e p m = record {
+  starts = record { keeps = (part_starts base rest a full (level - 1) _ cs k p.keeps p.gathers).keeps; aside = subst (λ (v : Seen). Aside v.held full p.gathers.now) (sym e) p.gathers.aside };
+  made = m;
+  recalls = p.recalls;
+}
+
+pub part_keeps : {T : Type 0} (makes : T → Making) (base rest : List Tree) (level : ℕ) (task : T) (cells : Cells) (cs : List (Option Name)) (k : ℕ) (walk : Walk T)
+    → Partway makes base rest level task cells cs k walk → Keeps base walk.seen.held
+part_keeps makes base rest level task cells cs k walk p = starts_held base p.gathers.now walk.seen walk.full (part_starts base rest walk.seen walk.full (level - 1) _ cs k p.keeps p.gathers)

@@ -1,0 +1,285 @@
+ghost use Rattle.std.specs.Prelude.{◌≡◌, ◌≢◌, ◌+◌, ◌*◌, ◌-◌, ◌^◌, ◌<◌, ◌≤◌, ℕ, IfOk, OnOk, IfErr, OnErr, max};
+ghost use Rattle.vw_cell.specs.Counts.{sum_below};
+ghost use Rattle.node_shapes.specs.Weights.{number_of};
+ghost use Rattle.node_words.specs.Gathering.{Comes, Grows, Fails};
+ghost use Rattle.cell_shapes.specs.CellShapes.{shape_with};
+ghost use Rattle.edit_cells.specs.Tasks.{MakesCells, ForCells};
+ghost use Rattle.edit_blocks.specs.Blocks.{height, Aside, Came, Refuses};
+ghost use Rattle.edit_walk.specs.Walks.{walk_at, Built, CanBuild, Builds, BuildsParts, StopsAt, LeavesRest, GathersAll, CanGoOn, ForOctant, CanBeWhole, ForWhole};
+
+use crate::memos::{Kept, Memo};
+use edit_blocks::{again, back_all, back_if, full_block, join, leaf, named, put};
+use edit_cells::{Task, Whole};
+use node_words::{Full, NodeStore, Share, Steps};
+use std::sync::ledger::Ledger;
+
+// A share of the block that the task makes, where a cell of it is set, or the full bucket that was met.
+#[cycle(walk)]
+fn build<T: Task, N: NodeStore, L: Ledger>(
+    store: &mut N,
+    level: u8,
+    task: &T,
+    full: &mut Option<Share>,
+    memo: &mut Memo<T>,
+    steps: &mut Steps<L>,
+) -> Result<Option<Share>, Full>
+    requires level { (level ≤ 10) × (level + 2 ≤ (N.seen store.old).plan.side) }
+    requires task { CanBuild T.makes level task.now (walk_at (N.seen store.old) full.old memo.old) }
+    requires room { number_of (N.seen store.old).held + 9 * level ≤ 4000 }
+    ensures ok { IfOk result (λ r. Builds T.makes level task.now
+        (walk_at (N.seen store.old) full.old memo.old) r (walk_at (N.seen store.new) full.new memo.new)) }
+    ensures grows { OnOk result (BuildsParts T.makes level task.now
+        (walk_at (N.seen store.old) full.old memo.old) (N.seen store.new)) }
+    ensures full { IfErr result (λ e. StopsAt T.makes level task.now
+        (walk_at (N.seen store.old) full.old memo.old) e.level e.bucket (N.seen store.new)) }
+    ensures rest { OnErr result (LeavesRest T.makes level task.now
+        (walk_at (N.seen store.old) full.old memo.old) (N.seen store.new) full.new) }
+    ensures rests { N.rests store.old store.new }
+    ensures turns { OnOk result (steps.new + 16 * height full.old
+        ≤ steps.old + 16 * height full.new + 1 + 25 * T.mixed level task.now) }
+    ensures height { OnOk result (height full.new ≤ max (height full.old) (level + 1)) }
+{
+    let whole = task.whole(level);
+    if !whole.is_mixed() {
+        return match known(store, level, whole, full, steps) {
+            Ok(share) => Ok(share),
+            Err(e) => Err(e),
+        };
+    }
+    match memo.find(level, task) {
+        Some(kept) => Ok(again(store, kept.name, steps)),
+        None => match fresh(store, level, task, full, memo, steps) {
+            Ok(share) => Ok(share),
+            Err(e) => Err(e),
+        },
+    }
+}
+
+// A block that isn't remembered, and is from here on.
+#[cycle(walk)]
+fn fresh<T: Task, N: NodeStore, L: Ledger>(
+    store: &mut N,
+    level: u8,
+    task: &T,
+    full: &mut Option<Share>,
+    memo: &mut Memo<T>,
+    steps: &mut Steps<L>,
+) -> Result<Option<Share>, Full>
+    requires level { (level ≤ 10) × (level + 2 ≤ (N.seen store.old).plan.side) }
+    requires task { CanBuild T.makes level task.now (walk_at (N.seen store.old) full.old memo.old) }
+    requires room { number_of (N.seen store.old).held + 9 * level ≤ 4000 }
+    requires mixed { 1 ≤ level → 1 + sum_below 8 (T.mixed_in level task.now) ≤ T.mixed level task.now }
+    ensures ok { IfOk result (λ r. Builds T.makes level task.now
+        (walk_at (N.seen store.old) full.old memo.old) r (walk_at (N.seen store.new) full.new memo.new)) }
+    ensures grows { OnOk result (BuildsParts T.makes level task.now
+        (walk_at (N.seen store.old) full.old memo.old) (N.seen store.new)) }
+    ensures full { IfErr result (λ e. StopsAt T.makes level task.now
+        (walk_at (N.seen store.old) full.old memo.old) e.level e.bucket (N.seen store.new)) }
+    ensures rest { OnErr result (LeavesRest T.makes level task.now
+        (walk_at (N.seen store.old) full.old memo.old) (N.seen store.new) full.new) }
+    ensures rests { N.rests store.old store.new }
+    ensures turns { OnOk result (steps.new + 16 * height full.old
+        ≤ steps.old + 16 * height full.new + 1 + 25 * T.mixed level task.now) }
+    ensures height { OnOk result (height full.new ≤ max (height full.old) (level + 1)) }
+{
+    match made(store, level, task, full, memo, steps) {
+        Ok(share) => {
+            let name = named(&share);
+            memo.keep(level, Kept { task: *task, name });
+            Ok(share)
+        }
+        Err(e) => Err(e),
+    }
+}
+
+// A block from its bits or its octants.
+#[cycle(walk)]
+fn made<T: Task, N: NodeStore, L: Ledger>(
+    store: &mut N,
+    level: u8,
+    task: &T,
+    full: &mut Option<Share>,
+    memo: &mut Memo<T>,
+    steps: &mut Steps<L>,
+) -> Result<Option<Share>, Full>
+    requires level { (level ≤ 10) × (level + 2 ≤ (N.seen store.old).plan.side) }
+    requires task { CanBuild T.makes level task.now (walk_at (N.seen store.old) full.old memo.old) }
+    requires room { number_of (N.seen store.old).held + 9 * level ≤ 4000 }
+    requires mixed { 1 ≤ level → 1 + sum_below 8 (T.mixed_in level task.now) ≤ T.mixed level task.now }
+    ensures ok { IfOk result (λ r. Builds T.makes level task.now
+        (walk_at (N.seen store.old) full.old memo.old) r (walk_at (N.seen store.new) full.new memo.new)) }
+    ensures grows { OnOk result (BuildsParts T.makes level task.now
+        (walk_at (N.seen store.old) full.old memo.old) (N.seen store.new)) }
+    ensures full { IfErr result (λ e. StopsAt T.makes level task.now
+        (walk_at (N.seen store.old) full.old memo.old) e.level e.bucket (N.seen store.new)) }
+    ensures rest { OnErr result (LeavesRest T.makes level task.now
+        (walk_at (N.seen store.old) full.old memo.old) (N.seen store.new) full.new) }
+    ensures rests { N.rests store.old store.new }
+    ensures turns { OnOk result (steps.new + 16 * height full.old
+        ≤ steps.old + 16 * height full.new + 1 + 25 * T.mixed level task.now) }
+    ensures height { OnOk result (height full.new ≤ max (height full.old) (level + 1)) }
+{
+    if level == 0 {
+        let bits = task.bits(store);
+        return match leaf(store, bits, steps) {
+            Ok(share) => Ok(share),
+            Err(e) => Err(e),
+        };
+    }
+    let children = gather(store, level, task, full, memo, steps)?;
+    match join(store, level, children, steps) {
+        Ok(share) => Ok(share),
+        Err(e) => Err(e),
+    }
+}
+
+// A block that is known as a whole.
+fn known<N: NodeStore, L: Ledger>(
+    store: &mut N,
+    level: u8,
+    whole: Whole,
+    full: &mut Option<Share>,
+    steps: &mut Steps<L>,
+) -> Result<Option<Share>, Full>
+    requires level { level + 2 ≤ (N.seen store.old).plan.side }
+    requires known { CanBeWhole level whole (N.seen store.old) full.old }
+    requires whole { whole ≢ Whole.Mixed }
+    requires room { number_of (N.seen store.old).held ≤ 4000 }
+    ensures ok { IfOk result (λ r. ForWhole level whole (N.seen store.old) full.old
+        (λ rest target. Came rest level target r (N.seen store.new).held full.new)) }
+    ensures grows { OnOk result (ForWhole level whole (N.seen store.old) full.old
+        (λ rest target. Grows target (N.seen store.old) (N.seen store.new))) }
+    ensures full { IfErr result (λ e. ForWhole level whole (N.seen store.old) full.old
+        (λ rest target. Refuses target e.level e.bucket (N.seen store.old) (N.seen store.new))) }
+    ensures rest { OnErr result (ForWhole level whole (N.seen store.old) full.old
+        (λ rest target. Aside (N.seen store.new).held full.new rest)) }
+    ensures rests { N.rests store.old store.new }
+    ensures turns { OnOk result
+        (steps.new + 16 * height full.old ≤ steps.old + 16 * height full.new + 1) }
+    ensures height { OnOk result (height full.new ≤ max (height full.old) (level + 1)) }
+{
+    match whole {
+        Whole::Nothing | Whole::Mixed => Ok(None),
+        Whole::Old(n) => Ok(Some(store.keep_at(n, steps))),
+        Whole::All => match full_block(store, level, full, steps) {
+            Ok(share) => Ok(share),
+            Err(e) => Err(e),
+        },
+    }
+}
+
+// Shares of the octants of the block that the task makes.
+#[cycle(walk)]
+fn gather<T: Task, N: NodeStore, L: Ledger>(
+    store: &mut N,
+    level: u8,
+    task: &T,
+    full: &mut Option<Share>,
+    memo: &mut Memo<T>,
+    steps: &mut Steps<L>,
+) -> Result<[Option<Share>; 8], Full>
+    requires above { 1 ≤ level }
+    requires level { (level ≤ 10) × (level + 2 ≤ (N.seen store.old).plan.side) }
+    requires task { CanBuild T.makes level task.now (walk_at (N.seen store.old) full.old memo.old) }
+    requires room { number_of (N.seen store.old).held + 9 * level ≤ 4000 }
+    ensures ok { IfOk result (λ r. GathersAll T.makes level task.now
+        (walk_at (N.seen store.old) full.old memo.old) r (walk_at (N.seen store.new) full.new memo.new)) }
+    ensures grows { OnOk result (BuildsParts T.makes level task.now
+        (walk_at (N.seen store.old) full.old memo.old) (N.seen store.new)) }
+    ensures full { IfErr result (λ e. StopsAt T.makes level task.now
+        (walk_at (N.seen store.old) full.old memo.old) e.level e.bucket (N.seen store.new)) }
+    ensures rest { OnErr result (LeavesRest T.makes level task.now
+        (walk_at (N.seen store.old) full.old memo.old) (N.seen store.new) full.new) }
+    ensures rests { N.rests store.old store.new }
+    ensures turns { OnOk result (steps.new + 16 * height full.old
+        ≤ steps.old + 16 * height full.new + 8 + 25 * sum_below 8 (T.mixed_in level task.now)) }
+    ensures height { OnOk result (height full.new ≤ max (height full.old) level) }
+{
+    let mut children: [Option<Share>; 8] = [None, None, None, None, None, None, None, None];
+    for k in 0..8usize {
+        match octant(store, level, task, k as u8, &children, full, memo, steps) {
+            Ok(share) => put(&mut children, k, share),
+            Err(e) => {
+                back_all(store, children, steps);
+                return Err(e);
+            }
+        }
+    }
+    Ok(children)
+}
+
+// A share of octant k of the block that the task makes, those before it being in hand.
+#[cycle(walk)]
+fn octant<T: Task, N: NodeStore, L: Ledger>(
+    store: &mut N,
+    level: u8,
+    task: &T,
+    k: u8,
+    children: &[Option<Share>; 8],
+    full: &mut Option<Share>,
+    memo: &mut Memo<T>,
+    steps: &mut Steps<L>,
+) -> Result<Option<Share>, Full>
+    requires above { 1 ≤ level }
+    requires level { (level ≤ 10) × (level + 2 ≤ (N.seen store.old).plan.side) }
+    requires octant { k < 8 }
+    requires task { CanGoOn T.makes level task.now children.now k (walk_at (N.seen store.old) full.old memo.old) }
+    requires room { number_of (N.seen store.old).held + 9 * (level - 1) ≤ 4000 }
+    ensures ok { IfOk result (λ r. ForOctant T.makes level task.now children.now k
+        (walk_at (N.seen store.old) full.old memo.old)
+        (λ base rest target. Built T.makes base rest (level - 1) target r
+        (walk_at (N.seen store.new) full.new memo.new))) }
+    ensures grows { OnOk result (ForOctant T.makes level task.now children.now k
+        (walk_at (N.seen store.old) full.old memo.old)
+        (λ base rest target. Grows target (N.seen store.old) (N.seen store.new))) }
+    ensures full { IfErr result (λ e. ForOctant T.makes level task.now children.now k
+        (walk_at (N.seen store.old) full.old memo.old)
+        (λ base rest target. Refuses target e.level e.bucket (N.seen store.old) (N.seen store.new))) }
+    ensures rest { OnErr result (ForOctant T.makes level task.now children.now k
+        (walk_at (N.seen store.old) full.old memo.old)
+        (λ base rest target. Aside (N.seen store.new).held full.new rest)) }
+    ensures rests { N.rests store.old store.new }
+    ensures turns { OnOk result (steps.new + 16 * height full.old
+        ≤ steps.old + 16 * height full.new + 1 + 25 * T.mixed_in level task.now k) }
+    ensures height { OnOk result (height full.new ≤ max (height full.old) level) }
+{
+    let part = task.octant(store, level, k);
+    match build(store, level - 1, &part, full, memo, steps) {
+        Ok(share) => Ok(share),
+        Err(e) => Err(e),
+    }
+}
+
+/// A share of the block that the task makes, where a cell of it is set. A store that met a full bucket holds
+/// what it held.
+pub fn rebuild<T: Task, N: NodeStore, L: Ledger>(
+    store: &mut N,
+    level: u8,
+    task: &T,
+    steps: &mut Steps<L>,
+) -> Result<Option<Share>, Full>
+    requires level { (level ≤ 10) × (level + 2 ≤ (N.seen store.old).plan.side) }
+    requires task { MakesCells (T.makes task.now) (N.seen store.old).held level }
+    requires room { number_of (N.seen store.old).held ≤ 3910 }
+    ensures ok { IfOk result (λ r. ForCells (T.makes task.now) (N.seen store.old).held level
+        (λ base cells. Comes (N.seen store.old).held level (shape_with level cells) r (N.seen store.new).held)) }
+    ensures grows { OnOk result (ForCells (T.makes task.now) (N.seen store.old).held level
+        (λ base cells. Grows (shape_with level cells) (N.seen store.old) (N.seen store.new))) }
+    ensures full { IfErr result (λ e. ForCells (T.makes task.now) (N.seen store.old).held level
+        (λ base cells. Fails (shape_with level cells) e.level e.bucket (N.seen store.old) (N.seen store.new))) }
+    ensures rests { N.rests store.old store.new }
+    ensures turns { OnOk result (steps.new ≤ steps.old + 25 * T.mixed level task.now + 25 * (level + 1)) }
+{
+    let mut full: Option<Share> = None;
+    let mut memo = Memo::empty();
+    match build(store, level, task, &mut full, &mut memo, steps) {
+        Ok(share) => {
+            back_if(store, full, steps);
+            Ok(share)
+        }
+        Err(e) => {
+            back_if(store, full, steps);
+            Err(e)
+        }
+    }
+}
