@@ -10,7 +10,7 @@ use Rattle.core_laws.specs.States.{State, IsLive}
 use Rattle.node_places.specs.Names.{IsName}
 use Rattle.core_laws.specs.Counting.{weight, children_weight, if_live, entry_weight, rooted, holdings}
 use Rattle.core_laws.specs.Soundness.{FitsLevel, SoundEntries}
-use Rattle.core_laws.specs.Events.{Trades, EntriesStay, OthersStay, RootsStay, Rests, PutsRoot, TakesRoot, StoreStep, rests, raises, adds, lowers, frees, puts_root, takes_root, Raises, Adds, Lowers, Frees, no_name, one_name, at_most_one, children_of}
+use Rattle.core_laws.specs.Events.{Trades, EntriesStay, OthersStay, RootsStay, Rests, PutsRoot, TakesRoot, StoreStep, rests, raises, adds, lowers, frees, puts_root, takes_root, Raises, Adds, Lowers, Frees, no_name, one_name, at_most_one, children_named}
 use Rattle.core_laws.proofs.Sums.{is_name, if_live_live}
 use Rattle.core_laws.proofs.Lives.{named_lives, holdings-at}
 use Rattle.core_laws.specs.Events.{KeysStay}
@@ -189,7 +189,7 @@ add_entries p holder n key old new s e =
     let free = e.free in let b = e.book in
     one_changes p holder n old new s e.name e.others e.roots
     (record {
-      gives = children_of key;
+      gives = children_named key;
       takes = one_name n;
       held = e.held;
       weighs = λ f. (
@@ -216,7 +216,7 @@ free_entries p holder n old new s e =
     one_changes p holder n old new s e.name e.others e.roots
     (record {
       gives = one_name n;
-      takes = children_of (old.key n);
+      takes = children_named (old.key n);
       held = e.held;
       weighs = λ f. (
           let before : old.book n * f n ≡ 0 * f n + f n = one_more (old.book n) 0 (f n) last in

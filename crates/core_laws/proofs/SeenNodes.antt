@@ -12,7 +12,7 @@ use Rattle.core_laws.specs.States.{State, IsLive, tree_at, tree_of, trees_of}
 use Rattle.node_places.specs.Names.{key_bits, key_child}
 use Rattle.core_laws.specs.Counting.{weight, children_weight}
 use Rattle.core_laws.specs.Soundness.{SoundEntries}
-use Rattle.core_laws.specs.Events.{Adds, Frees, children_of, one_name}
+use Rattle.core_laws.specs.Events.{Adds, Frees, children_named, one_name}
 use Rattle.core_laws.proofs.Sums.{is_name, weight_there}
 use Rattle.core_laws.proofs.Lives.{child_level, child_lives}
 use Rattle.core_laws.specs.Events.{KeysStay}
@@ -72,7 +72,7 @@ given_child p holder n key old new k m s e lt at =
     let here : 0 < weight (is_name m) (key_child key k) = weight_there m (key_child key k) at in
     let all : weight (is_name m) (key_child key k) ≤ children_weight (is_name m) key =
     sum_below-at 8 k (λ j. weight (is_name m) (key_child key j)) lt in
-    given_lives p old holder (children_of key) (one_name n) new.held m s e.held (omega arith)
+    given_lives p old holder (children_named key) (one_name n) new.held m s e.held (omega arith)
 
 children_by_trees : (p : Layout) (f : Tree → ℕ) (g : Name → ℕ) (state : State) (level : ℕ)
     (key : Key)
@@ -115,7 +115,7 @@ add_joins p holder n key old new level s up e =
     node_tree new.key n.level level n up ∙ node_at-same n _ _ rows in
     record {
       weighs = λ f. (
-          let r = seen_trades p holder (children_of key) (one_name n) old new f s t keys e.held in
+          let r = seen_trades p holder (children_named key) (one_name n) old new f s t keys e.held in
           let all = r.weighs in
           let of_n = r.is_weight.after n live ∙ ap f tree in
           let of_children =
@@ -144,7 +144,7 @@ add_gains p holder n bits old new s low e =
     ∙ ap (λ (x : Key). LeafAt n (key_bits x)) e.new_key in
     record {
       weighs = λ f. (
-          let r = seen_trades p holder (children_of (Leaf bits))
+          let r = seen_trades p holder (children_named (Leaf bits))
           (one_name n) old new f s t keys e.held in
           let all = r.weighs in
           let of_n = r.is_weight.after n (record { name = e.name; book = omega arith })
@@ -168,7 +168,7 @@ free_parts p holder n old new level s up e =
     record {
       weighs = λ f. (
           let r = seen_trades p holder (one_name n)
-          (children_of (old.key n)) old new f s t keys e.held in
+          (children_named (old.key n)) old new f s t keys e.held in
           let all = r.weighs in
           let of_n = r.is_weight.before n live ∙ ap f tree in
           let of_children =

@@ -31,8 +31,8 @@ one_name n f = f n
 abbrev pub at_most_one : Option Name → (Name → ℕ) → ℕ
 at_most_one n f = weight f n
 
-abbrev pub children_of : Key → (Name → ℕ) → ℕ
-children_of key f = children_weight f key
+abbrev pub children_named : Key → (Name → ℕ) → ℕ
+children_named key f = children_weight f key
 
 -- all entries stay
 pub record EntriesStay (p : Layout) (old new : State) : Type 0 where
@@ -83,7 +83,7 @@ pub record Adds (p : Layout) (holder : ℕ) (n : Name) (key : Key) (old new : St
   pub new_key : new.key n ≡ key
   pub others : OthersStay p n old new
   pub roots : RootsStay old new
-  pub held : Trades old.held holder (children_of key) (one_name n) new.held
+  pub held : Trades old.held holder (children_named key) (one_name n) new.held
 
 -- the holder gives a share back, which isn't the last one
 pub record Lowers (p : Layout) (holder : ℕ) (n : Name) (old new : State) : Type 0 where
@@ -102,7 +102,7 @@ pub record Frees (p : Layout) (holder : ℕ) (n : Name) (old new : State) : Type
   pub book : new.book n ≡ 0
   pub others : OthersStay p n old new
   pub roots : RootsStay old new
-  pub held : Trades old.held holder (one_name n) (children_of (old.key n)) new.held
+  pub held : Trades old.held holder (one_name n) (children_named (old.key n)) new.held
 
 -- a root comes to a place that keeps none; the holder gives its share
 pub record PutsRoot (p : Layout) (holder place : ℕ) (root : Option Name)

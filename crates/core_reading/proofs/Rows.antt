@@ -1,0 +1,31 @@
+-- A word of the row that is written is one word of the table.
+use Rattle.std.proofs.Common.{◌≡◌, ℕ, ◌∙◌, arith, List, length, set, get_or}
+use Rattle.std.proofs.lemmas.List.{get_or-set_same, get_or-set_other}
+use Rattle.node_words.specs.Plans.{Layout}
+use Rattle.node_places.specs.Spots.{Spot, IsSpot, place, width}
+use Rattle.node_places.proofs.SpotTests.{spot_dec}
+use Rattle.node_places.proofs.Apart.{place_low, place_one}
+use Rattle.core_reading.specs.Reading.{Wrote, where_there, word_at}
+
+there : {A : Type 0} (d : Dec A) (n : ℕ) → A → where_there d n ≡ n
+there (yes h) n a = λ i. n
+there (no absent) n a = absurd (absent a)
+
+-- a word is as before where its place, if it has one, has the same
+same_word : {A : Type 0} (d : Dec A) (m n : ℕ) → (A → m ≡ n) → where_there d m ≡ where_there d n
+same_word (yes h) m n same = same h
+same_word (no absent) m n same = λ i. 0
+
+pub row_written : (p : Layout) (words : List ℕ) (x : Spot) (n : ℕ) → length words ≡ width p
+    → IsSpot p x → Wrote (word_at p words) x n (word_at p (set words (place p x) n))
+unfolding word_at
+row_written p words x n wide is =
+    let low = place_low p x is in
+    record {
+      here = there (spot_dec p x) (get_or (set words (place p x) n) (place p x) 0) is
+          ∙ get_or-set_same words (place p x) n 0 (omega arith);
+      others =
+          λ y other. same_word (spot_dec p y) _ _
+          (λ of_y. get_or-set_other words (place p x)
+          (place p y) n 0 (λ same. other (place_one p y x of_y is same)));
+    }

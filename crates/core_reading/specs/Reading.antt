@@ -1,0 +1,60 @@
+-- The core's state as the words of one table and what each seat holds show it.
+use Rattle.std.specs.Prelude.{◌≡◌, ◌≢◌, ℕ, zero, suc, ◌/◌, ◌%◌, Bool, true, false, nat_lt, Option, Some, None, List, [], ◌∷◌, map, slice_index}
+use Rattle.node_shapes.specs.declared.names.Name.{Name}
+use Rattle.node_shapes.specs.Tree.{Tree, root_of}
+use Rattle.node_words.specs.declared.keys.Key as key
+use Rattle.node_words.specs.declared.keys.Key.TheVariants.{Leaf, Node}
+use Rattle.node_words.specs.Plans.{Layout}
+use Rattle.node_places.proofs.SpotTests.{spot_dec}
+use Rattle.node_places.specs.Names.{named}
+use Rattle.node_places.specs.Spots.{Spot, LogLength, Version, Key, Book, place}
+use Rattle.node_places.specs.KeyWords.{child_of_word, key_of_words}
+use Rattle.history_model.specs.Logs.{Log}
+use Rattle.block_contents.specs.Aligned.{top}
+use Rattle.core_laws.specs.States.{State}
+
+-- the name that a tree begins with, and names of the trees that a seat holds
+abbrev pub name_or : Option Name → Name
+name_or None = named 0 0 0
+name_or (Some n) = n
+
+abbrev pub names_of : List Tree → List Name
+names_of held = map (λ t. name_or (root_of t)) held
+
+-- the place of a name's book
+abbrev pub book_of : Name → Spot
+book_of n = Book n.level n.bucket n.slot
+
+-- the root that a version's word stands for, whether or not the version is kept
+abbrev pub root_word : Layout → (Spot → ℕ) → ℕ → Option Name
+root_word p mem v = child_of_word (top p.side) (mem (Version v 5))
+
+-- the root of a version: none past the log's length, and none with a mark
+abbrev pub kept_root : Bool → ℕ → Option Name → Option Name
+kept_root true mark root = None
+kept_root false zero root = root
+kept_root false (suc mark) root = None
+
+-- the state, where the log's words are read in this way
+abbrev pub read : Layout → ((Spot → ℕ) → Log) → (Spot → ℕ) → List (List Name) → State
+read p log_in mem held = record {
+  book = λ n. mem (book_of n);
+  key = λ n. key_of_words n.level (λ i. mem (Key n.level n.bucket n.slot i));
+  root = λ v. kept_root (nat_lt (mem LogLength) v) (mem (Version v 6)) (root_word p mem v);
+  log = log_in mem;
+  held = held;
+}
+
+-- the word at x became n, and no other changed
+pub record Wrote (old : Spot → ℕ) (x : Spot) (n : ℕ) (new : Spot → ℕ) : Type 0 where
+  pub here : new x ≡ n
+  pub others : (y : Spot) → y ≢ x → new y ≡ old y
+
+-- a word where the table has one, and 0 where it has none
+abbrev pub where_there : {A : Type 0} → Dec A → ℕ → ℕ
+where_there (yes there) n = n
+where_there (no absent) n = 0
+
+-- the words of one row, each at its place
+unfoldable pub word_at : Layout → List ℕ → Spot → ℕ
+word_at p words x = where_there (spot_dec p x) (slice_index words (place p x))
