@@ -1,9 +1,7 @@
 -- The core's state as the words of one table and what each seat holds show it.
-use Rattle.std.specs.Prelude.{◌≡◌, ◌≢◌, ℕ, zero, suc, ◌/◌, ◌%◌, Bool, true, false, nat_lt, Option, Some, None, List, [], ◌∷◌, map, slice_index}
+use Rattle.std.specs.Prelude.{◌≡◌, ◌≢◌, ℕ, zero, suc, Bool, true, false, nat_lt, Option, Some, None, List, map, slice_index}
 use Rattle.node_shapes.specs.declared.names.Name.{Name}
 use Rattle.node_shapes.specs.Tree.{Tree, root_of}
-use Rattle.node_words.specs.declared.keys.Key as key
-use Rattle.node_words.specs.declared.keys.Key.TheVariants.{Leaf, Node}
 use Rattle.node_words.specs.Plans.{Layout}
 use Rattle.node_places.proofs.SpotTests.{spot_dec}
 use Rattle.node_places.specs.Names.{named}
