@@ -2,3 +2,4 @@ pub mod HeldLaws
 pub mod KeyLaws
 pub mod GatherLaws
 pub mod PlanLaws
+pub mod WalkLaws

@@ -1,5 +1,5 @@
 pub mod Held
 pub mod Plans
 pub mod Keys
-pub mod Lending
 pub mod Gathering
+pub mod Walks

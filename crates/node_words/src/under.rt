@@ -1,15 +1,17 @@
 ghost use Rattle.std.specs.Prelude.{◌≡◌, ◌≢◌, ◌+◌, ◌<◌, ◌≤◌, ℕ, Some, None, IfSome, IsTrue, ◌↔◌};
-ghost use Rattle.node_shapes.specs.Tree.{root_of, bits_in, child_of};
+ghost use Rattle.vw_cell.specs.declared.cells.Cell.{Cell};
+ghost use Rattle.vw_cell.specs.Places.{IsInBlock, LiesIn};
+ghost use Rattle.node_shapes.specs.Tree.{root_of, bits_in, child_of, shape_of};
 ghost use Rattle.node_shapes.specs.Weights.{number_of};
-ghost use Rattle.node_words.specs.Held.{HoldsName, ReachesName, ForReached, Gains, OnlyHeldChanges, AreTrees};
-ghost use Rattle.std.specs.Borrow.{sem};
-ghost use Rattle.node_words.specs.Lending.{LendsStore};
+ghost use Rattle.node_words.specs.Walks.{TellsCell};
+ghost use Rattle.node_words.specs.Held.{HoldsName, ReachesName, ForHeld, ForReached, Gains, OnlyHeldChanges, AreTrees};
 
 use crate::shares::Share;
 use crate::stores::{Blocks, NodeStore};
 use crate::turns::Steps;
-use node_shapes::Name;
+use node_shapes::{Name, is_set, octant_with};
 use std::sync::ledger::Ledger;
+use vw_cell::{Block, Cell};
 
 /// A node at or below a held share, lent with its store. While it lives neither the share nor the store
 /// can give anything back.
@@ -88,25 +90,21 @@ impl<'a, B: Blocks> Under<'a, B> {
         }
     }
 
-    /// The child that [`Under::has_child`] told of. Afterwards this node has its store back.
-    pub fn below(&mut self, octant: u8) -> Under<'_, B>
-        requires reached { ReachesName (B.seen self.old.store.now).held self.old.name }
-        requires level { 1 ≤ self.old.name.level }
+    /// The child that [`Under::has_child`] told of, in place of this node, whose store it has from now on.
+    pub fn below(self, octant: u8) -> Under<'a, B>
+        requires reached { ReachesName (B.seen self.store.now).held self.name }
+        requires level { 1 ≤ self.name.level }
         requires octant { octant < 8 }
-        requires child { ForReached (B.seen self.old.store.now).held self.old.name (λ t. root_of (child_of t octant) ≢ None) }
-        ensures child { ForReached (B.seen self.entry.now.store.now).held self.entry.now.name (λ t. root_of (child_of t octant) ≡ Some result.name) }
-        ensures trees { AreTrees (B.seen self.entry.now.store.now).plan.side (B.seen self.entry.now.store.now).held }
-        ensures seen { B.seen result.store.now ≡ B.seen self.entry.now.store.now }
-        ensures rests { B.rests self.entry.now.store.now result.store.now }
-        ensures* lends { sem 𝓛 (LendsStore B.row self.entry result) }
+        requires child { ForReached (B.seen self.store.now).held self.name (λ t. root_of (child_of t octant) ≢ None) }
+        ensures child { ForReached (B.seen self.entry.store.now).held self.entry.name (λ t. root_of (child_of t octant) ≡ Some result.name) }
+        ensures trees { AreTrees (B.seen self.entry.store.now).plan.side (B.seen self.entry.store.now).held }
+        ensures store { result.store.ghost_name ≡ self.entry.store.ghost_name }
+        ensures seen { B.seen result.store.now ≡ B.seen self.entry.store.now }
+        ensures rests { B.rests self.entry.store.now result.store.now }
     {
-        let name = child_name(&mut *self.store, self.name, octant);
-        let share = self.share;
-        Under {
-            store: &mut *self.store,
-            share,
-            name,
-        }
+        let Under { store, share, name } = self;
+        let name = child_name(store, name, octant);
+        Under { store, share, name }
     }
 }
 
@@ -128,6 +126,31 @@ impl<'a, N: NodeStore> Under<'a, N> {
         } = self;
         store.keep_at(name, steps)
     }
+}
+
+/// Whether the cell of the block is set, of the node of the share: read by the nodes on the way down to the cell's
+/// leaf.
+pub fn has_cell<B: Blocks>(store: &mut B, share: &Share, block: Block, c: Cell) -> bool
+    requires held { HoldsName (B.seen store.old).held share.now }
+    requires level { (block.level ≡ share.now.level) × (block.level ≤ 10) }
+    requires inside { LiesIn 4096 block }
+    requires cell { IsInBlock block c }
+    ensures set { ForHeld (B.seen store.old).held share.now (λ t. TellsCell block (shape_of t) c result) }
+    ensures seen { B.seen store.new ≡ B.seen store.old }
+    ensures rests { B.rests store.old store.new }
+{
+    let mut node = Under::of(store, share);
+    let mut block = block;
+    while 1 <= block.level {
+        let octant = octant_with(block, c);
+        if !node.has_child(octant) {
+            return false;
+        }
+        node = node.below(octant);
+        block = block.child(octant);
+    }
+    let bits = node.bits();
+    is_set(bits, block, c)
 }
 
 // The name of the child that is there.
