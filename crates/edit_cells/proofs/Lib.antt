@@ -1,3 +1,4 @@
 pub mod PaintLaws
 pub mod WorldLaws
 pub mod PartLaws
+pub mod WorldPaints

@@ -1,5 +1,7 @@
 -- The part of a box in an octant has the box's cells there, and what is known of a box that misses or holds a block.
-use Rattle.std.proofs.Common.{◌≡◌, ℕ, ◌<◌, Bool, true, false, refl, sym, arith}
+use Rattle.std.proofs.Common.{◌≡◌, ℕ, ◌%◌, ◌^◌, ◌<◌, ◌≤◌, Bool, true, false, refl, sym, arith}
+use lib.Pow.{pow_mono, pow_pos}
+use native.Mathlib.Nat.{mod-eq_of_lt}
 use Rattle.vw_cell.specs.declared.boxes.Boxed.{Boxed}
 use Rattle.vw_cell.specs.Counts.{cell_at}
 use Rattle.vw_cell.specs.Places.{block_side, IsInBlock, is_in_box, Meets, HoldsBlock}
@@ -30,3 +32,10 @@ box_missed b level missed = record {
 -- the box has each cell of the block
 pub box_held : (b : Boxed) (level : ℕ) → HoldsBlock b (block_at_origin level) → SameIn level (world_cells (is_in_box b)) all_cells
 box_held b level h = record { each = λ x y z p q r. is_in_box_holds b (cell_at x y z) (h.each (cell_at x y z) (at_origin level x y z p q r)) }
+
+-- the side of a block, as the code tells it
+pub side_bound : (n : ℕ) → n ≤ 10 → (1 ≤ block_side n) × (block_side n ≤ 4096)
+side_bound n h = let p : 2 ^ n ≤ 2 ^ 10 = pow_mono h in let q : 1 ≤ 2 ^ n = pow_pos n in (omega (arith, q), omega (arith, p))
+
+pub side_exact : (n : ℕ) → n ≤ 10 → block_side n % 2 ^ 32 ≡ block_side n
+side_exact n h = let p = side_bound n h in mod-eq_of_lt (omega (arith, p.1))

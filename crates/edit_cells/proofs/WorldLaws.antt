@@ -133,11 +133,15 @@ pub leaf_from : (bits : ℕ) (at : Cell) (world : Cell → Bool) → LeafShows b
 unfolding has
 leaf_from bits at world h = record { each = λ x y z p q r. h.each x y z p q r }
 
+zero_first : (x y z : ℕ) → cell_at (0 + x) (0 + y) (0 + z) ≡ cell_at x y z
+zero_first x y z = rw (zero-add x, zero-add y, zero-add z) refl
+
 pub leaf_places : (bits : ℕ) (world : Cell → Bool) → LeafShows bits (block_at_origin 0) world → SameIn 0 (has 0 (Leaf bits)) (world_cells world)
 leaf_places bits world h = record { each = λ x y z p q r. (leaf_from bits (cell_at 0 0 0) world h).each x y z p q r ∙ ap world (zero_first x y z) }
-  where
-    zero_first : (x y z : ℕ) → cell_at (0 + x) (0 + y) (0 + z) ≡ cell_at x y z
-    zero_first x y z = rw (zero-add x, zero-add y, zero-add z) refl
+
+-- the cells from the origin on are those of the world
+pub from_nowhere : (level : ℕ) (world : Cell → Bool) → SameIn level (world_cells world) (cells_from (cell_at 0 0 0) world)
+from_nowhere level world = record { each = λ x y z p q r. ap world (sym (zero_first x y z)) }
 
 -- a test on the places of a cube is one on those of the block of that side
 pub in_side : (level side : ℕ) (test : Cells) (value : Bool) → side ≡ block_side level → ((x y z : ℕ) → x < side → y < side → z < side → test x y z ≡ value) → SameIn level test (λ x y z. value)

@@ -3,7 +3,9 @@
 #![tactic(auto)]
 
 mod paints;
+mod sides;
 mod tasks;
 
 pub use paints::{clears_nothing, filled, old_whole, paint};
+pub use sides::side_of;
 pub use tasks::{Task, Whole};

@@ -1,0 +1,67 @@
+-- What an edit of a ball makes of a block, and bounds of the distances from it.
+use Rattle.std.proofs.Common.{◌≡◌, ℕ, ◌+◌, ◌-◌, ◌*◌, ◌<◌, ◌≤◌, Bool, true, false, Option, List, refl, arith, max, []}
+use Rattle.std.specs.Prelude.{nat_le, if◌then◌else◌, ◌&&◌, ◌||◌, not}
+use Rattle.std.specs.Int.{abs_diff}
+use Rattle.std.proofs.lemmas.Bool.Decides.{nat_tests}
+use Rattle.std.proofs.Math.Nat.{mul-le-mul}
+use Rattle.vw_cell.specs.declared.cells.Cell.{Cell}
+use Rattle.vw_cell.specs.declared.balls.Ball.{Ball}
+use Rattle.vw_cell.specs.Counts.{cell_at}
+use Rattle.vw_cell.specs.Places.{is_in_ball, square, octant_of}
+use Rattle.node_shapes.specs.declared.names.Name.{Name}
+use Rattle.node_shapes.specs.Tree.{Tree, root_of, child_of}
+use Rattle.node_words.specs.Held.{AreTrees, AreCanonical}
+use Rattle.cell_shapes.specs.CellShapes.{Cells, octant_cells}
+use Rattle.edit_cells.specs.Worlds.{world_cells, ShowsWorld}
+use Rattle.edit_cells.proofs.PaintLaws.{paints_octant}
+use Rattle.edit_cells.proofs.WorldLaws.{placed_octant, octant_lies, world_lies, from_nowhere}
+use Rattle.edit_cells.proofs.WorldPaints.{world_paints}
+use Rattle.history_model.specs.Worlds.{edited}
+use Rattle.edit_ops.specs.declared.balls.BallTask.{BallTask}
+use Rattle.edit_ops.specs.Balls.{MakesBall, ball_act}
+
+pub square_bound : (n : ℕ) → n ≤ 69631 → n * n ≤ 69631 * 69631
+square_bound n h = mul-le-mul h h
+
+pub near_below : (centre at side d i : ℕ) → d ≡ max (at - centre) (centre - (at + side - 1)) → i < side → square d ≤ square (abs_diff centre (at + i))
+near_below centre at side d i e h = let less : d ≤ abs_diff centre (at + i) = omega arith in mul-le-mul less less
+
+pub far_above : (centre at side d i : ℕ) → d ≡ max (abs_diff centre at) (abs_diff centre (at + side - 1)) → i < side → square (abs_diff centre (at + i)) ≤ square d
+far_above centre at side d i e h = let less : abs_diff centre (at + i) ≤ d = omega arith in mul-le-mul less less
+
+pub outside : (x y z a b c most : ℕ) → most < x + y + z → x ≤ a → y ≤ b → z ≤ c → nat_le (a + b + c) most ≡ false
+outside x y z a b c most out p q r = grind (arith, nat_tests)
+
+pub inside : (x y z a b c most : ℕ) → x + y + z ≤ most → a ≤ x → b ≤ y → c ≤ z → nat_le (a + b + c) most ≡ true
+inside x y z a b c most within p q r = grind (arith, nat_tests)
+
+-- the task of an octant
+pub ball_octant : (base : List Tree) (level : ℕ) (task : BallTask) (cells : Cells) (k : ℕ) (old : Option Name) → 1 ≤ level → k < 8 → (m : MakesBall task base level cells) → old ≡ root_of (child_of m.paints.tree k)
+    → MakesBall (record { old = old; ball = task.ball; at = (octant_of (record { level = level; at = task.at }) k).at; set = task.set }) base (level - 1) (octant_cells (level - 1) cells k)
+ball_octant base level task cells k old one lt m e = record {
+  small = omega (arith, m.small);
+  inside = octant_lies level task.at k one lt m.inside;
+  paints = paints_octant base level task.old old task.set _ _ cells k one lt m.paints e (placed_octant (level - 1) task.at (is_in_ball task.ball) k);
+}
+
+pub ball_edits : (set : Bool) (b : Ball) (before : Cell → Bool) (c : Cell) → edited [] (ball_act set b) before c ≡ (if is_in_ball b c then set else before c)
+ball_edits true b before c = either (is_in_ball b c) (before c)
+  where
+    either : (p q : Bool) → (p || q) ≡ (if p then true else q)
+    either true q = refl
+    either false q = refl
+ball_edits false b before c = either (is_in_ball b c) (before c)
+  where
+    either : (p q : Bool) → (q && not p) ≡ (if p then false else q)
+    either true true = refl
+    either true false = refl
+    either false true = refl
+    either false false = refl
+
+-- the task of the whole world
+pub ball_world : (side level : ℕ) (held : List Tree) (set : Bool) (b : Ball) (o : Option Name) (before : Cell → Bool) → level ≤ 10 → AreTrees side held → AreCanonical held → ShowsWorld held level o before → MakesBall (record { old = o; ball = b; at = cell_at 0 0 0; set = set }) held level (world_cells (edited [] (ball_act set b) before))
+ball_world side level held set b o before small a c w = record {
+  small = small;
+  inside = world_lies level small;
+  paints = world_paints side level held o before _ set (is_in_ball b) _ a c w (ball_edits set b before) (from_nowhere level (is_in_ball b));
+}

@@ -1,0 +1,139 @@
+ghost use Rattle.std.specs.Prelude.{◌≡◌, ◌+◌, ◌-◌, ◌*◌, ◌^◌, ◌<◌, ◌≤◌, ℕ, Bool, true, false, IsTrue};
+ghost use Rattle.std.specs.Int.{abs_diff};
+ghost use Rattle.vw_cell.specs.Counts.{cell_at};
+ghost use Rattle.vw_cell.specs.Places.{square, is_in_ball};
+
+use block_walk::{leaf_bits, octant_name};
+use edit_cells::{Task, Whole, clears_nothing, filled, old_whole, paint, side_of};
+use node_shapes::Name;
+use node_words::{Blocks, ball_bits};
+use vw_cell::{Ball, Block, Cell};
+
+/// Sets or clears the cells of a ball in the block at a place of the world.
+#[derive(Clone, Copy, Debug, PartialEq, Eq)]
+pub struct BallTask {
+    pub(crate) old: Option<Name>,
+    pub(crate) ball: Ball,
+    pub(crate) at: Cell,
+    pub(crate) set: bool,
+}
+
+impl Task for BallTask {
+    ghost use Rattle.std.specs.Prelude.{◌-◌};
+    ghost use Rattle.edit_cells.specs.Tasks.{blocks_in};
+    ghost use Rattle.edit_ops.specs.Balls.{MakesBall};
+
+    ghost makes = { MakesBall };
+
+    ghost mixed = { λ level t. blocks_in level };
+
+    ghost mixed_in = { λ level t k. blocks_in (level - 1) };
+
+    fn octant<B: Blocks>(&self, store: &mut B, level: u8, octant: u8) -> BallTask {
+        let old = octant_name(store, level, self.old, octant);
+        let block = Block { level, at: self.at };
+        let part = block.child(octant);
+        BallTask {
+            old,
+            ball: self.ball,
+            at: part.at,
+            set: self.set,
+        }
+    }
+
+    fn whole(&self, level: u8) -> Whole {
+        let side = side_of(level);
+        if is_outside(self.ball, self.at, side) {
+            return old_whole(self.old);
+        }
+        if is_inside(self.ball, self.at, side) {
+            return filled(self.set);
+        }
+        if clears_nothing(self.set, self.old) {
+            return Whole::Nothing;
+        }
+        Whole::Mixed
+    }
+
+    fn bits<B: Blocks>(&self, store: &mut B) -> u64 {
+        let old = leaf_bits(store, self.old);
+        let inside = ball_bits(
+            self.ball,
+            Block {
+                level: 0,
+                at: self.at,
+            },
+        );
+        paint(self.set, old, inside)
+    }
+
+    // Blocks at different places of a ball's edge have different cells.
+    fn is_same(&self, _other: &BallTask) -> bool {
+        false
+    }
+}
+
+// Whether the nearest place of the cube from `at` on lies outside the ball.
+#[tactic(auto, using(crate::proofs::BallLaws::outside))]
+fn is_outside(ball: Ball, at: Cell, side: u32) -> bool
+    requires side { (1 ≤ side) × (side ≤ 4096) }
+    ensures { IsTrue result → (x y z : ℕ) → x < side → y < side → z < side
+        → is_in_ball ball (cell_at (at.x + x) (at.y + y) (at.z + z)) ≡ false }
+{
+    let x = nearest(ball.centre.x, at.x, side);
+    let y = nearest(ball.centre.y, at.y, side);
+    let z = nearest(ball.centre.z, at.z, side);
+    squared(u32::from(ball.radius)) < x + y + z
+}
+
+// Whether the farthest place of the cube from `at` on lies in the ball.
+#[tactic(auto, using(crate::proofs::BallLaws::inside))]
+fn is_inside(ball: Ball, at: Cell, side: u32) -> bool
+    requires side { (1 ≤ side) × (side ≤ 4096) }
+    ensures { IsTrue result → (x y z : ℕ) → x < side → y < side → z < side
+        → is_in_ball ball (cell_at (at.x + x) (at.y + y) (at.z + z)) ≡ true }
+{
+    let x = farthest(ball.centre.x, at.x, side);
+    let y = farthest(ball.centre.y, at.y, side);
+    let z = farthest(ball.centre.z, at.z, side);
+    x + y + z <= squared(u32::from(ball.radius))
+}
+
+// The greatest square of a distance on one axis.
+const FAR: u64 = 69631 * 69631;
+
+#[tactic(auto, using(crate::proofs::BallLaws::square_bound))]
+fn squared(n: u32) -> u64
+    requires { n ≤ 69631 }
+    ensures value { result ≡ square n }
+    ensures bound { result ≤ FAR }
+{
+    u64::from(n) * u64::from(n)
+}
+
+// No more than the square of any distance of the centre from the `side` places from `at` on.
+#[tactic(auto, using(crate::proofs::BallLaws::near_below))]
+fn nearest(centre: u16, at: u16, side: u32) -> u64
+    requires side { (1 ≤ side) × (side ≤ 4096) }
+    ensures below { (i : ℕ) → i < side → result ≤ square (abs_diff centre (at + i)) }
+    ensures bound { result ≤ FAR }
+{
+    let centre = u32::from(centre);
+    let at = u32::from(at);
+    squared(
+        at.saturating_sub(centre)
+            .max(centre.saturating_sub(at + side - 1)),
+    )
+}
+
+// No less than the square of any distance of the centre from the `side` places from `at` on.
+#[tactic(auto, using(crate::proofs::BallLaws::far_above))]
+fn farthest(centre: u16, at: u16, side: u32) -> u64
+    requires side { (1 ≤ side) × (side ≤ 4096) }
+    ensures above { (i : ℕ) → i < side → square (abs_diff centre (at + i)) ≤ result }
+    ensures bound { result ≤ FAR }
+{
+    let centre = u32::from(centre);
+    let at = u32::from(at);
+    squared(centre.abs_diff(at).max(centre.abs_diff(at + side - 1)))
+}

@@ -1,0 +1,83 @@
+ghost use Rattle.std.specs.Prelude.{◌≡◌, ◌+◌, ◌-◌, ◌*◌, ◌^◌, ◌<◌, ◌≤◌, ℕ, IsTrue};
+
+use block_walk::{half_side, leaf_bits, octant_name, part_of, same_boxes, same_names};
+use edit_cells::{Task, Whole, clears_nothing, filled, old_whole, paint};
+use node_shapes::Name;
+use node_words::{Blocks, box_bits};
+use vw_cell::{Block, Boxed, Cell};
+
+/// Sets or clears the cells of a box in one block. The box is told by its places in the block.
+#[derive(Clone, Copy, Debug, PartialEq, Eq)]
+pub struct BoxTask {
+    pub(crate) old: Option<Name>,
+    pub(crate) part: Boxed,
+    pub(crate) set: bool,
+}
+
+const ORIGIN: Cell = Cell { x: 0, y: 0, z: 0 };
+
+impl Task for BoxTask {
+    ghost use Rattle.std.specs.Prelude.{◌-◌};
+    ghost use Rattle.vw_cell.specs.Places.{block_side};
+    ghost use Rattle.block_walk.specs.Parts.{part_in};
+    ghost use Rattle.edit_ops.specs.Boxes.{MakesBox, parts_met};
+
+    ghost makes = { MakesBox };
+
+    ghost mixed = { λ level t. parts_met level t.part };
+
+    ghost mixed_in = { λ level t k. parts_met (level - 1) (part_in (block_side (level - 1)) t.part k) };
+
+    fn octant<B: Blocks>(&self, store: &mut B, level: u8, octant: u8) -> BoxTask {
+        let old = octant_name(store, level, self.old, octant);
+        let half = half_side(level);
+        let part = part_of(half, self.part, octant);
+        BoxTask {
+            old,
+            part,
+            set: self.set,
+        }
+    }
+
+    fn whole(&self, level: u8) -> Whole {
+        let block = Block { level, at: ORIGIN };
+        if !self.part.meets(block) {
+            return old_whole(self.old);
+        }
+        if self.part.holds_block(block) {
+            return filled(self.set);
+        }
+        if clears_nothing(self.set, self.old) {
+            return Whole::Nothing;
+        }
+        Whole::Mixed
+    }
+
+    fn bits<B: Blocks>(&self, store: &mut B) -> u64 {
+        let old = leaf_bits(store, self.old);
+        let inside = box_bits(
+            self.part,
+            Block {
+                level: 0,
+                at: ORIGIN,
+            },
+        );
+        paint(self.set, old, inside)
+    }
+
+    fn is_same(&self, other: &BoxTask) -> bool {
+        same_tasks(self, other)
+    }
+}
+
+fn same_tasks(a: &BoxTask, b: &BoxTask) -> bool
+    ensures { IsTrue result → a.now ≡ b.now }
+{
+    if !same_names(a.old, b.old) {
+        return false;
+    }
+    if !same_boxes(a.part, b.part) {
+        return false;
+    }
+    a.set == b.set
+}

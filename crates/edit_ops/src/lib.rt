@@ -1,0 +1,10 @@
+//! Edits that set or clear the cells of a box or a ball, over any store of nodes.
+#![tactic(auto)]
+
+mod balls;
+mod boxes;
+mod laws;
+mod rebuild;
+
+pub use laws::{mixed_blocks_are_the_worlds, tests_tell_what_is_partly_met};
+pub use rebuild::{rebuild_ball, rebuild_box};

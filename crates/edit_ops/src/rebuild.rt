@@ -1,0 +1,97 @@
+ghost use Rattle.std.specs.Prelude.{◌≡◌, ◌+◌, ◌-◌, ◌*◌, ◌≤◌, ◌^◌, IfOk, IfErr, OnOk, [], option_copied};
+ghost use Rattle.vw_cell.specs.Places.{FitsAt, IsInWorld};
+ghost use Rattle.node_shapes.specs.Weights.{number_of};
+ghost use Rattle.node_words.specs.Gathering.{Grows, Fails};
+ghost use Rattle.history_model.specs.Worlds.{edited};
+ghost use Rattle.block_walk.specs.Roots.{HoldsRoot};
+ghost use Rattle.edit_cells.specs.Worlds.{ForEdited, Rebuilt, world_shape};
+ghost use Rattle.edit_ops.specs.Boxes.{box_act};
+ghost use Rattle.edit_ops.specs.Balls.{ball_act};
+ghost use Rattle.edit_ops.specs.Partly.{world_partly};
+
+use crate::balls::BallTask;
+use crate::boxes::BoxTask;
+use block_walk::name_of;
+use edit_walk::rebuild_world;
+use node_words::{Full, NodeStore, Share, Steps};
+use std::sync::ledger::Ledger;
+use vw_cell::{Ball, Boxed, Cell, Side};
+
+/// A share of the root of the world with the cells of the box set or cleared, where a cell is set then. A store
+/// that met a full bucket holds what it held.
+pub fn rebuild_box<N: NodeStore, L: Ledger>(
+    store: &mut N,
+    old: Option<&Share>,
+    side: Side,
+    b: Boxed,
+    set: bool,
+    steps: &mut Steps<L>,
+) -> Result<Option<Share>, Full>
+    requires side { side ≡ (N.seen store.old).plan.side }
+    requires inside { FitsAt b.at b.size (2 ^ side) }
+    requires old { HoldsRoot (N.seen store.old).held side (option_copied old) }
+    requires room { number_of (N.seen store.old).held ≤ 3910 }
+    ensures ok { IfOk result (λ r.
+        ForEdited (N.seen store.old) side (option_copied old.entry) (edited [] (box_act set b))
+        (λ world. Rebuilt (side - 2) world r (N.seen store.old) (N.seen store.new))) }
+    ensures grows { OnOk result (
+        ForEdited (N.seen store.old) side (option_copied old.entry) (edited [] (box_act set b))
+        (λ world. Grows (world_shape (side - 2) world) (N.seen store.old) (N.seen store.new))) }
+    ensures full { IfErr result (λ e.
+        ForEdited (N.seen store.old) side (option_copied old.entry) (edited [] (box_act set b))
+        (λ world. Fails (world_shape (side - 2) world) e.level e.bucket (N.seen store.old) (N.seen store.new))) }
+    ensures rests { N.rests store.old store.new }
+    // 25 turns a block of the world that meets the box without lying in it, and 25 a level.
+    ensures turns { OnOk result (steps.new ≤ steps.old + 25 * world_partly side b + 25 * (side - 1)) }
+{
+    let task = BoxTask {
+        old: name_of(old),
+        part: b,
+        set,
+    };
+    let _held = store.held();
+    let _level = side.root_level();
+    match rebuild_world(store, side, &task, steps) {
+        Ok(share) => Ok(share),
+        Err(e) => Err(e),
+    }
+}
+
+/// A share of the root of the world with the cells of the ball set or cleared, where a cell is set then. A store
+/// that met a full bucket holds what it held.
+pub fn rebuild_ball<N: NodeStore, L: Ledger>(
+    store: &mut N,
+    old: Option<&Share>,
+    side: Side,
+    ball: Ball,
+    set: bool,
+    steps: &mut Steps<L>,
+) -> Result<Option<Share>, Full>
+    requires side { side ≡ (N.seen store.old).plan.side }
+    requires inside { IsInWorld (2 ^ side) ball.centre }
+    requires old { HoldsRoot (N.seen store.old).held side (option_copied old) }
+    requires room { number_of (N.seen store.old).held ≤ 3910 }
+    ensures ok { IfOk result (λ r.
+        ForEdited (N.seen store.old) side (option_copied old.entry) (edited [] (ball_act set ball))
+        (λ world. Rebuilt (side - 2) world r (N.seen store.old) (N.seen store.new))) }
+    ensures grows { OnOk result (
+        ForEdited (N.seen store.old) side (option_copied old.entry) (edited [] (ball_act set ball))
+        (λ world. Grows (world_shape (side - 2) world) (N.seen store.old) (N.seen store.new))) }
+    ensures full { IfErr result (λ e.
+        ForEdited (N.seen store.old) side (option_copied old.entry) (edited [] (ball_act set ball))
+        (λ world. Fails (world_shape (side - 2) world) e.level e.bucket (N.seen store.old) (N.seen store.new))) }
+    ensures rests { N.rests store.old store.new }
+{
+    let task = BallTask {
+        old: name_of(old),
+        ball,
+        at: Cell { x: 0, y: 0, z: 0 },
+        set,
+    };
+    let _held = store.held();
+    let _level = side.root_level();
+    match rebuild_world(store, side, &task, steps) {
+        Ok(share) => Ok(share),
+        Err(e) => Err(e),
+    }
+}
