@@ -1,6 +1,7 @@
 //! One script's run from files to files, over any shelf.
 //!
-//! All inputs are read before anything is written, and `specs/Outcomes.antt` says what each answer means.
+//! Where an input or a name is refused, nothing on the shelf has changed, and `specs/Outcomes.antt` says what
+//! each answer means.
 #![tactic(auto)]
 
 mod accepting;

@@ -21,21 +21,15 @@ use vw_io::Shelf;
 /// the journal where one is asked for.
 pub fn run_files<'w, S: Shelf>(
     alloc: Global,
-    order: Order<'w>,
+    order: &Order<'w>,
     shelf: &mut S,
 ) -> Result<u32, RunRefused<'w>>
     // what each answer says
-    ensures outcome { Outcome result (asked_of order.entry) (S.files shelf.old) (S.files shelf.new) (S.faults shelf.old) (S.faults shelf.new) }
+    ensures outcome { Outcome result (asked_of order.now) (S.files shelf.old) (S.files shelf.new) (S.faults shelf.old) (S.faults shelf.new) }
     // which answer must come, for a shelf that tells its files and does not fail
-    ensures comes { (files : Files) (v : Verdict) → S.files shelf.old ≡ Some files → (Rose (S.faults shelf.old) (S.faults shelf.new) → ⊥) → Judges files (asked_of order.entry) v → Follows v result }
+    ensures comes { (files : Files) (v : Verdict) → S.files shelf.old ≡ Some files → (Rose (S.faults shelf.old) (S.faults shelf.new) → ⊥) → Judges files (asked_of order.now) v → Follows v result }
 {
-    let asked = Order {
-        side: order.side,
-        journal: order.journal,
-        file: order.file,
-        script: order.script,
-    };
-    run(alloc, &asked, shelf)
+    run(alloc, order, shelf)
 }
 
 // The run of an order.

@@ -73,7 +73,7 @@ fn runs_write_all_or_nothing(rt: HostRuntime) -> Result<(), Fail> {
             file,
             script,
         };
-        let ended = run_files(rt.alloc(), order, &mut shelf);
+        let ended = run_files(rt.alloc(), &order, &mut shelf);
         assert_eq!(rt; ended, want, "at {file} {script}");
         let name = format!(in rt.alloc(); "{script}.out")?;
         let put = shelf.file(name.as_str());
@@ -93,7 +93,7 @@ fn a_transcript_takes_no_input(rt: HostRuntime) -> Result<(), Fail> {
         file: "empty.out",
         script: "empty",
     };
-    let ended = run_files(rt.alloc(), order, &mut shelf);
+    let ended = run_files(rt.alloc(), &order, &mut shelf);
     assert_eq!(rt; ended, Err(RunRefused::Collides));
     assert_eq!(rt; shelf.file("empty.out"), Some(ONE.as_slice()));
     Ok(())
@@ -157,7 +157,7 @@ fn a_broken_write_is_named(rt: HostRuntime) -> Result<(), Fail> {
             file: "one.vox",
             script: "good",
         };
-        let ended = run_files(rt.alloc(), order, &mut shelf);
+        let ended = run_files(rt.alloc(), &order, &mut shelf);
         assert_eq!(rt; ended, want, "at {left}");
         let found = shelf.inner.file("good.out");
         assert_eq!(rt; found, put.map(|t| t.as_bytes()), "at {left}");

@@ -8,4 +8,6 @@ mod count_tests;
 #[cfg(test)]
 mod fakes;
 #[cfg(test)]
+mod file_tests;
+#[cfg(test)]
 mod run_tests;

@@ -1,16 +1,9 @@
-use crate::asking::{ONE, ask, words_of};
+use crate::asking::{ANSWERS, GOOD, JOURNAL, ONE, TWO, ask, words_of};
 use crate::fakes::{FailingShelf, RefusingSink};
 use std::alloc::Global;
 use std::test::Fail;
 use voxdag_top::voxdag;
 use vw_io::{MemoryShelf, PutRefused, Shelf};
-
-const GOOD: &str = "fill 0 0 0 2 1 1\nerase 1 0 0 1 1 1\ncount 0 0 0 8 8 8\n";
-
-const ANSWERS: &str = "1 @1 ok\n2 @2 ok\n3 @2 count 1\n";
-
-const JOURNAL: &str =
-    "voxdag journal 1\nside 8\n1 0 1 fill 0 0 0 2 1 1\n2 0 2 erase 1 0 0 1 1 1\nend\n";
 
 // Of a script with these changes in the lines 4 and 5.
 const LATER_JOURNAL: &str =
@@ -29,8 +22,6 @@ const USAGE: &str = "voxdag: usage\n";
 const NONE: &str = "scripts 1 records 0 marks 0\n";
 
 const SINGLE: &str = "scripts 1 records 1 marks 0\n";
-
-const TWO: &str = "scripts 1 records 2 marks 0\n";
 
 // A shelf with the file of one cell and the script `s`.
 fn shelf(alloc: Global, script: &[u8]) -> Result<MemoryShelf, Fail> {

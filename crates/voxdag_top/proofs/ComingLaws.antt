@@ -67,13 +67,13 @@ over_follows file (Some bytes) v over judges =
     subst (λ r. JudgesFile r v) at judges
 
 count_follows : (e : Ending) (file : List ℕ) (files : Files) (faults risen : ℕ) (v : Verdict) → CountEnds e file (Some files) faults risen → (Rose faults risen → ⊥) → JudgesFile (input_at files file vox_limit) v → EndFollows v e
-count_follows (Counted number) file files faults risen v ends calm judges = bytes_follow file ends.bytes files v (Ok ends.counts.models) ends.taken ends.counts.gives judges
+count_follows (Counted number) file files faults risen v ends calm judges = bytes_follow file ends.0.bytes files v (Ok ends.0.counts.models) ends.0.taken ends.0.counts.gives judges
 count_follows (Ran number) file files faults risen v ends calm judges = absurd ends
 count_follows Usage file files faults risen v ends calm judges = absurd ends
 count_follows (Refused (Missing name)) file files faults risen v ends calm judges = missing_follows file (files file) v ends.1.0 judges ∙ ap LacksInput (sym ends.0)
 count_follows (Refused (ReadFault name)) file files faults risen v ends calm judges = absurd (calm ends.1)
 count_follows (Refused (TooLong name)) file files faults risen v ends calm judges = over_follows file (files file) v ends.1.0 judges ∙ ap InputIsLong (sym ends.0)
-count_follows (Refused (Vox fault)) file files faults risen v ends calm judges = bytes_follow file ends.bytes files v (Err fault) ends.taken ends.says judges
+count_follows (Refused (Vox fault)) file files faults risen v ends calm judges = bytes_follow file ends.0.bytes files v (Err fault) ends.0.taken ends.0.says judges
 count_follows (Refused Memory) file files faults risen v ends calm judges = tt
 count_follows (Refused (Script fault)) file files faults risen v ends calm judges = absurd ends
 count_follows (Refused Collides) file files faults risen v ends calm judges = absurd ends

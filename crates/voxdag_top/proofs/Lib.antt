@@ -2,3 +2,4 @@ pub mod Sides
 pub mod StatusLaws
 pub mod ComingLaws
 pub mod VerdictLaws
+pub mod Rooms

@@ -34,18 +34,18 @@ abbrev pub CountRefused : RunRefused → List ℕ → Option Files → ℕ → �
 CountRefused (Missing name) file files faults risen = (name.now ≡ file) × (NoFile files file × Stayed faults risen)
 CountRefused (ReadFault name) file files faults risen = (name.now ≡ file) × Rose faults risen
 CountRefused (TooLong name) file files faults risen = (name.now ≡ file) × (FileIsOver files file vox_limit × Stayed faults risen)
-CountRefused (Vox fault) file files faults risen = HasFault file files fault
-CountRefused Memory file files faults risen = ⊤
+CountRefused (Vox fault) file files faults risen = HasFault file files fault × (risen ≡ faults)
+CountRefused Memory file files faults risen = risen ≡ faults
 CountRefused _ file files faults risen = ⊥
 
 -- an ending of `count FILE`, of `run`, and of words outside the grammar
 abbrev pub CountEnds : Ending → List ℕ → Option Files → ℕ → ℕ → Type 0
-CountEnds (Counted number) file files faults risen = Counts file files number
+CountEnds (Counted number) file files faults risen = Counts file files number × (risen ≡ faults)
 CountEnds (Refused r) file files faults risen = CountRefused r file files faults risen
 CountEnds _ file files faults risen = ⊥
 
 abbrev pub EndsAs : Option Asking → Ending → Option Files → Option Files → ℕ → ℕ → Type 0
-EndsAs None e before now faults risen = (e ≡ Usage) × (now ≡ before)
+EndsAs None e before now faults risen = (e ≡ Usage) × ((risen ≡ faults) × (now ≡ before))
 EndsAs (Some (CountOf file)) e before now faults risen = CountEnds e file before faults risen × (now ≡ before)
 EndsAs (Some (RunOf asked)) (Ran number) before now faults risen = Outcome (Ok number) asked before now faults risen
 EndsAs (Some (RunOf asked)) (Refused r) before now faults risen = Outcome (Err r) asked before now faults risen
@@ -76,3 +76,9 @@ line_of (Refused (Script fault)) = script_line fault.line (number_of_kind fault.
 line_of (Refused (WriteFault w)) = write_fault_line (written_name w)
 line_of (Refused Memory) = memory_line
 line_of (Refused (TooLong name)) = too_long_line name.now
+
+-- the ending's line may lack memory, and then the one of want of memory stands for it: not at a fault of an output, whose
+-- file may be half written
+abbrev pub MayLackLine : Ending → Type 0
+MayLackLine (Refused (WriteFault w)) = ⊥
+MayLackLine _ = ⊤

@@ -27,7 +27,7 @@ use Rattle.script_files.specs.Writes.{written_name}
 use Rattle.voxdag_top.specs.Words.{Asking, CountOf, RunOf}
 use Rattle.voxdag_top.specs.Lines.{count_line, run_line, missing_line, read_fault_line, vox_line, script_line, write_fault_line, too_long_line, memory_line, Puts, Begins}
 use Rattle.voxdag_top.specs.declared.endings.Ending.{Ending}
-use Rattle.voxdag_top.specs.Endings.{Counts, HasFault, EndsAs, line_of}
+use Rattle.voxdag_top.specs.Endings.{Counts, HasFault, EndsAs, line_of, MayLackLine}
 
 abbrev pub is_status : ℕ → Bool
 is_status n = list_any (λ status. status == n) (0 ∷ 1 ∷ 2 ∷ 3 ∷ 4 ∷ 5 ∷ 6 ∷ 7 ∷ 8 ∷ 9 ∷ [])
@@ -153,15 +153,17 @@ pub record WriteFailed (a : Option Asking) (before now : Option Files) (faults r
 -- ---- statuses 7 and 8: the run had this ending, with all that stands behind it and all that it leaves on the shelf, and its line
 -- could not be put
 
--- status 7: the output failed at the ending's line, or at the one of want of memory in its place
+-- status 7: the output failed at the ending's line, or at the one of want of memory in its place. After a fault at an output
+-- no other line stands in the place of its own
 pub record OutFailed (a : Option Asking) (before now : Option Files) (faults risen out_faults out_risen : ℕ) (told said : Option (List ℕ)) : Type 0 where
   pub ending : Ending
   pub ends : EndsAs a ending before now faults risen
   pub rose : Rose out_faults out_risen
-  pub begun : Begins told said (line_of ending) ⊎ Begins told said memory_line
+  pub begun : Begins told said (line_of ending) ⊎ (MayLackLine ending × Begins told said memory_line)
 
--- status 8: want of memory in the run or for its line, told by its own line or by none
+-- status 8: want of memory in the run or for its line, told by its own line or by none. After a fault at an output it is the
+-- put of that fault's line that memory was wanted for, and nothing is told
 pub record LacksMemory (a : Option Asking) (before now : Option Files) (faults risen : ℕ) (told said : Option (List ℕ)) : Type 0 where
   pub ending : Ending
   pub ends : EndsAs a ending before now faults risen
-  pub line : Puts told said memory_line ⊎ (said ≡ told)
+  pub line : (MayLackLine ending × Puts told said memory_line) ⊎ (said ≡ told)

@@ -1,17 +1,19 @@
-ghost use Rattle.std.specs.Prelude.{◌≡◌, ℕ, Some, None, IsTrue, Option};
+ghost use Rattle.std.specs.Prelude.{◌≡◌, ℕ, [], Some, None, IsTrue, Option, string_bytes, string_capacity};
 ghost use Rattle.vw_io.specs.Outside.{Files, Rose};
+ghost use Rattle.script_files.specs.Asking.{asked_of};
 ghost use Rattle.script_files.specs.Verdicts.{Verdict};
-ghost use Rattle.voxdag_top.specs.Words.{texts, asking_of, Asking, CountOf};
+ghost use Rattle.voxdag_top.specs.Words.{texts, asking_of, Asking, CountOf, RunOf};
 ghost use Rattle.voxdag_top.specs.Endings.{CountEnds, EndsAs};
+ghost use Rattle.voxdag_top.specs.Finishing.{HasRoom};
 ghost use Rattle.voxdag_top.specs.Verdicts.{Judges, status_for};
 ghost use Rattle.voxdag_top.specs.Statuses.{IsOr, is_status, Done, Unusable, Missed, Faulted, VoxRefused, ScriptRefused, WriteFailed, OutFailed, LacksMemory, Exceeded};
 ghost use Rattle.voxdag_top.specs.Lines.{usage_line, Puts};
 
 use crate::counting::count_cells;
 use crate::endings::Ending;
-use crate::lines::finish;
+use crate::lines::{finish, write_fault_room};
 use crate::words::{Command, read_words};
-use script_files::{RunRefused, read_vox, run_files};
+use script_files::{Order, RunRefused, read_vox, run_files};
 use std::alloc::Global;
 use vw_io::{Shelf, Sink};
 
@@ -45,20 +47,54 @@ pub fn voxdag<S: Shelf, O: Sink>(alloc: Global, words: &[String], shelf: &mut S,
     ensures usage_comes { asking_of (texts words.now) ≡ None → IsOr 1 result }
     ensures comes { (files : Files) (v : Verdict) → S.files shelf.old ≡ Some files → (Rose (S.faults shelf.old) (S.faults shelf.new) → ⊥) → Judges (asking_of (texts words.now)) files v → IsOr (status_for v) result }
 {
-    let ending = run(alloc, words, shelf);
-    finish(alloc, &ending, out)
+    let mut room = String::new(alloc);
+    let ending = run(alloc, words, shelf, &mut room);
+    finish(alloc, &ending, room, out)
 }
 
-fn run<'w, S: Shelf>(alloc: Global, words: &'w [String], shelf: &mut S) -> Ending<'w>
-    ensures { EndsAs (asking_of (texts words.now)) result (S.files shelf.old) (S.files shelf.new) (S.faults shelf.old) (S.faults shelf.new) }
+// Does what the words ask for. The room is enough for the line of the ending, where that must not lack memory.
+fn run<'w, S: Shelf>(
+    alloc: Global,
+    words: &'w [String],
+    shelf: &mut S,
+    room: &mut String,
+) -> Ending<'w>
+    requires { string_bytes room.old ≡ [] }
+    ensures ends { EndsAs (asking_of (texts words.now)) result (S.files shelf.old) (S.files shelf.new)
+        (S.faults shelf.old) (S.faults shelf.new) }
+    ensures empty { string_bytes room.new ≡ [] }
+    ensures room { HasRoom result (string_capacity room.new) }
 {
     match read_words(words) {
         None => Ending::Usage,
         Some(Command::Count(file)) => count(alloc, file, shelf),
-        Some(Command::Run(order)) => match run_files(alloc, order, shelf) {
-            Ok(records) => Ending::Ran(records),
-            Err(refused) => Ending::Refused(refused),
-        },
+        Some(Command::Run(order)) => run_order(alloc, &order, shelf, room),
+    }
+}
+
+// Runs the script, once there is room for the line of a fault at an output.
+#[tactic(auto, using(crate::proofs::Rooms::has_room))]
+fn run_order<'w, S: Shelf>(
+    alloc: Global,
+    order: &Order<'w>,
+    shelf: &mut S,
+    room: &mut String,
+) -> Ending<'w>
+    requires { string_bytes room.old ≡ [] }
+    ensures ends { EndsAs (Some (RunOf (asked_of order.now))) result (S.files shelf.old) (S.files shelf.new)
+        (S.faults shelf.old) (S.faults shelf.new) }
+    ensures empty { string_bytes room.new ≡ [] }
+    ensures room { HasRoom result (string_capacity room.new) }
+{
+    if room
+        .reserve_exact(write_fault_room(order.script, order.journal))
+        .is_err()
+    {
+        return Ending::Refused(RunRefused::Memory);
+    }
+    match run_files(alloc, order, shelf) {
+        Ok(records) => Ending::Ran(records),
+        Err(refused) => Ending::Refused(refused),
     }
 }
 

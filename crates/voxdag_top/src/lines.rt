@@ -1,10 +1,11 @@
-ghost use Rattle.std.specs.Prelude.{◌≡◌, ◌++◌, codes, IfOk, string_bytes};
+ghost use Rattle.std.specs.Prelude.{◌≡◌, ◌≤◌, [], length, codes, IfOk, IsOkAnd, IfSome, OnErr, string_bytes, string_capacity};
 ghost use Rattle.script.specs.Faults.{number_of_kind};
+ghost use Rattle.script_files.specs.Orders.{transcript_name};
 ghost use Rattle.script_files.specs.Writes.{written_name};
 ghost use Rattle.voxdag_top.specs.Lines.{script_line, write_fault_line};
-ghost use Rattle.voxdag_top.specs.Endings.{line_of, status_of};
+ghost use Rattle.voxdag_top.specs.Endings.{line_of, status_of, MayLackLine};
 ghost use Rattle.voxdag_top.specs.declared.endings.Ending.TheVariants.{Refused};
-ghost use Rattle.voxdag_top.specs.Finishing.{Finishes};
+ghost use Rattle.voxdag_top.specs.Finishing.{PutEnds, Finishes, HasRoom};
 
 use crate::endings::Ending;
 use script::ScriptFault;
@@ -12,19 +13,22 @@ use script_files::{RunRefused, Written};
 use std::alloc::{AllocError, Global};
 use vw_io::{PutRefused, Sink};
 
-// Puts the ending's line, and gives the status.
-#[tactic(auto, using(crate::proofs::StatusLaws::put_instead))]
-pub(crate) fn finish<O: Sink>(alloc: Global, ending: &Ending<'_>, out: &mut O) -> u8
-    ensures { Finishes (line_of ending.now) (status_of ending.now) (O.faults out.old) (O.faults out.new) (O.told out.old) (O.told out.new) result }
+// Puts the ending's line, and gives the status. The room is for a line that must not lack memory.
+pub(crate) fn finish<O: Sink>(alloc: Global, ending: &Ending<'_>, room: String, out: &mut O) -> u8
+    requires empty { string_bytes room ≡ [] }
+    requires room { HasRoom ending.now (string_capacity room) }
+    ensures { Finishes ending.now (O.faults out.old) (O.faults out.new)
+        (O.told out.old) (O.told out.new) result }
 {
-    match line(alloc, ending) {
+    match line(alloc, ending, room) {
         Ok(text) => put_line(text.as_bytes(), status(ending), out),
         Err(_) => put_line(b"voxdag: memory\n", 8, out),
     }
 }
 
 fn put_line<O: Sink>(line: &[u8], status: u8, out: &mut O) -> u8
-    ensures { Finishes line.now status (O.faults out.old) (O.faults out.new) (O.told out.old) (O.told out.new) result }
+    ensures { PutEnds line.now status (O.faults out.old) (O.faults out.new)
+        (O.told out.old) (O.told out.new) result }
 {
     match out.put(line) {
         Ok(()) => status,
@@ -49,19 +53,25 @@ fn status(ending: &Ending<'_>) -> u8
     }
 }
 
-fn line(alloc: Global, ending: &Ending<'_>) -> Result<String, AllocError>
-    ensures { IfOk result (λ text. string_bytes text ≡ line_of ending.now) }
+fn line(alloc: Global, ending: &Ending<'_>, room: String) -> Result<String, AllocError>
+    requires empty { string_bytes room ≡ [] }
+    requires room { HasRoom ending.now (string_capacity room) }
+    ensures text { IfOk result (λ text. string_bytes text ≡ line_of ending.now) }
+    ensures lacking { OnErr result (MayLackLine ending.now) }
 {
     match ending {
         Ending::Counted(cells) => format!(in alloc; "{cells}\n"),
         Ending::Ran(records) => format!(in alloc; "scripts 1 records {records} marks 0\n"),
         Ending::Usage => format!(in alloc; "voxdag: usage\n"),
-        Ending::Refused(refused) => refused_line(alloc, refused),
+        Ending::Refused(refused) => refused_line(alloc, refused, room),
     }
 }
 
-fn refused_line(alloc: Global, refused: &RunRefused<'_>) -> Result<String, AllocError>
-    ensures { IfOk result (λ text. string_bytes text ≡ line_of (Refused refused.now)) }
+fn refused_line(alloc: Global, refused: &RunRefused<'_>, room: String) -> Result<String, AllocError>
+    requires empty { string_bytes room ≡ [] }
+    requires room { HasRoom (Refused refused.now) (string_capacity room) }
+    ensures text { IfOk result (λ text. string_bytes text ≡ line_of (Refused refused.now)) }
+    ensures lacking { OnErr result (MayLackLine (Refused refused.now)) }
 {
     match refused {
         RunRefused::Collides => format!(in alloc; "voxdag: usage\n"),
@@ -73,7 +83,7 @@ fn refused_line(alloc: Global, refused: &RunRefused<'_>) -> Result<String, Alloc
             format!(in alloc; "voxdag: vox {kind} {at}\n")
         }
         RunRefused::Script(fault) => script_line(alloc, fault),
-        RunRefused::WriteFault(output) => write_fault_line(alloc, output),
+        RunRefused::WriteFault(output) => write_fault_line(output, room),
         RunRefused::TooLong(name) => format!(in alloc; "voxdag: too long {name}\n"),
         RunRefused::Memory => format!(in alloc; "voxdag: memory\n"),
     }
@@ -87,14 +97,33 @@ fn script_line(alloc: Global, fault: &ScriptFault) -> Result<String, AllocError>
     format!(in alloc; "voxdag: script 0 {line} {kind}\n")
 }
 
-fn write_fault_line(alloc: Global, output: &Written<'_>) -> Result<String, AllocError>
-    ensures { IfOk result (λ text. string_bytes text ≡ write_fault_line (written_name output.now)) }
+// The line is made in this room, and so lacks no memory.
+fn write_fault_line(output: &Written<'_>, room: String) -> Result<String, AllocError>
+    requires empty { string_bytes room ≡ [] }
+    requires room { length (write_fault_line (written_name output.now)) ≤ string_capacity room }
+    ensures { IsOkAnd result (λ text. string_bytes text ≡ write_fault_line (written_name output.now)) }
 {
+    let mut line = room;
+    line.push_str("voxdag: write fault ")?;
     match output {
         Written::Transcript(script) => {
-            let name = format!(in alloc; "{script}.out")?;
-            format!(in alloc; "voxdag: write fault {name}\n")
+            line.push_str(script)?;
+            line.push_str(".out")?;
         }
-        Written::Journal(name) => format!(in alloc; "voxdag: write fault {name}\n"),
+        Written::Journal(name) => line.push_str(name)?,
     }
+    line.push_str("\n")?;
+    Ok(line)
+}
+
+// The length of the longest line that tells a fault of an output.
+pub(crate) fn write_fault_room(script: &str, journal: Option<&str>) -> usize
+    ensures transcript { length (write_fault_line (transcript_name script.now)) ≤ result }
+    ensures journal { IfSome journal.entry (λ name. length (write_fault_line name.now) ≤ result) }
+{
+    let longest = match journal {
+        None => script.len() + 4,
+        Some(name) => name.len().max(script.len() + 4),
+    };
+    longest + 21
 }

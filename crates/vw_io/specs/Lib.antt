@@ -3,3 +3,5 @@ pub mod Read
 pub mod Write
 pub mod Put
 pub mod Memory
+pub mod Streams
+pub mod System

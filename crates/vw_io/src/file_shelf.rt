@@ -1,7 +1,9 @@
 //! The files of the system as a shelf.
-ghost use Rattle.std.specs.Prelude.{◌≡◌, None};
+ghost use Rattle.std.specs.Prelude.{◌≡◌, ◌≤◌, None, Err};
+ghost use Rattle.vw_io.specs.Read.{ReadCause};
+ghost use Rattle.vw_io.specs.System.{answer_of_read, faults_after_read, faults_after_write};
 
-use crate::file_pieces::{read_file, write_file};
+use crate::files::{read_file, write_file};
 use crate::shelves::{ReadRefused, Shelf, WriteRefused};
 use std::rt::Files;
 
@@ -24,6 +26,11 @@ impl<R: Files + Drop> FileShelf<R> {
     {
         FileShelf { rt, faults: 0 }
     }
+
+    #[cfg(test)]
+    pub(crate) fn faults(&self) -> u64 {
+        self.faults
+    }
 }
 
 impl<R: Files + Drop> Shelf for FileShelf<R> {
@@ -32,26 +39,49 @@ impl<R: Files + Drop> Shelf for FileShelf<R> {
     ghost faults = { λ shelf. shelf.faults };
 
     fn read(&mut self, name: &str, limit: u64, into: &mut Vec<u8>) -> Result<(), ReadRefused> {
-        let refused = match read_file(&self.rt, name, limit, into) {
-            Ok(()) => return Ok(()),
-            Err(refused) => refused,
-        };
-        into.clear();
-        if refused == ReadRefused::Memory {
-            return Err(ReadRefused::Memory);
+        match read_file(&self.rt, name, limit, into) {
+            Ok(()) => Ok(()),
+            Err(refused) => {
+                into.clear();
+                Err(answer_read(&mut self.faults, refused))
+            }
         }
-        if refused == ReadRefused::Failed || self.faults == u64::MAX {
-            self.faults = self.faults.saturating_add(1);
-            return Err(ReadRefused::Failed);
-        }
-        Err(refused)
     }
 
     fn write(&mut self, name: &str, bytes: &[u8]) -> Result<(), WriteRefused> {
-        let outcome = write_file(&self.rt, name, bytes);
-        if let Err(WriteRefused::Failed) = outcome {
-            self.faults = self.faults.saturating_add(1);
+        match write_file(&self.rt, name, bytes) {
+            Ok(()) => Ok(()),
+            Err(refused) => {
+                count_write(&mut self.faults, refused);
+                Err(refused)
+            }
         }
-        outcome
+    }
+}
+
+/// Counts the refusal of a read, and gives the answer to it.
+fn answer_read(faults: &mut u64, refused: ReadRefused) -> ReadRefused
+    ensures answer { result ≡ answer_of_read refused faults.old }
+    ensures count { faults.new ≡ faults_after_read result faults.old }
+    ensures cause { ReadCause (Err result) faults.old faults.new }
+    ensures never_falls { faults.old ≤ faults.new }
+{
+    let answer = match refused {
+        ReadRefused::Missing | ReadRefused::TooLong if *faults == u64::MAX => ReadRefused::Failed,
+        other => other,
+    };
+    if let ReadRefused::Failed = answer {
+        *faults = faults.saturating_add(1);
+    }
+    answer
+}
+
+/// Counts the refusal of a write.
+fn count_write(faults: &mut u64, refused: WriteRefused)
+    ensures count { faults.new ≡ faults_after_write refused faults.old }
+    ensures never_falls { faults.old ≤ faults.new }
+{
+    if let WriteRefused::Failed = refused {
+        *faults = faults.saturating_add(1);
     }
 }

@@ -5,13 +5,15 @@
 //! The implementations over the system tell no content: they are the trusted edge.
 #![tactic(auto)]
 
-mod file_pieces;
 mod file_shelf;
+mod files;
 mod memory_shelf;
 mod memory_sink;
+mod readers;
 mod shelves;
 mod sinks;
 mod std_sink;
+mod writers;
 
 pub use file_shelf::FileShelf;
 pub use memory_shelf::MemoryShelf;
@@ -20,5 +22,9 @@ pub use shelves::{ReadRefused, Shelf, WriteRefused};
 pub use sinks::{PutRefused, Sink};
 pub use std_sink::StdSink;
 
+#[cfg(test)]
+mod file_tests;
+#[cfg(test)]
+mod stream_tests;
 #[cfg(test)]
 mod tests;

@@ -1,10 +1,11 @@
 //! Standard output as a sink.
-ghost use Rattle.std.specs.Prelude.{◌≡◌, ◌≤◌, length, take, None, IfOk, OnOk, OnErr, IsErrOf};
-ghost use Rattle.std.specs.Io.KnownBytes.{Appends, Keeps};
+ghost use Rattle.std.specs.Prelude.{◌≡◌, ◌≤◌, None};
+ghost use Rattle.vw_io.specs.System.{faults_after_put};
 
 use crate::sinks::{PutRefused, Sink};
+use crate::writers::write_whole;
 use std::io;
-use std::io::{ErrorKind, Print, Write};
+use std::io::Print;
 
 /// Standard output, unbuffered. It tells no bytes: where they go is the system's, and trusted.
 ///
@@ -24,6 +25,11 @@ impl<R: Print + Drop> StdSink<R> {
     {
         StdSink { rt, faults: 0 }
     }
+
+    #[cfg(test)]
+    pub(crate) fn faults(&self) -> u64 {
+        self.faults
+    }
 }
 
 impl<R: Print + Drop> Sink for StdSink<R> {
@@ -32,49 +38,22 @@ impl<R: Print + Drop> Sink for StdSink<R> {
     ghost faults = { λ sink. sink.faults };
 
     fn put(&mut self, bytes: &[u8]) -> Result<(), PutRefused> {
-        let outcome = put_all(&mut io::writer(&self.rt), bytes);
-        if let Err(PutRefused::Failed) = outcome {
-            self.faults = self.faults.saturating_add(1);
+        match write_whole(&mut io::writer(&self.rt), bytes) {
+            Ok(()) => Ok(()),
+            Err(refused) => {
+                count_put(&mut self.faults, refused);
+                Err(refused)
+            }
         }
-        outcome
     }
 }
 
-/// Writes all of `bytes`. `Memory` comes only while none has gone out.
-fn put_all<W: Write>(to: &mut W, bytes: &[u8]) -> Result<(), PutRefused>
-    ensures whole { OnOk result (Appends (W.contents to.old) (W.contents to.new) bytes.now) }
-    ensures none { IsErrOf result PutRefused.Memory → Keeps (W.contents to.old) (W.contents to.new) }
+/// Counts the refusal of a put.
+fn count_put(faults: &mut u64, refused: PutRefused)
+    ensures count { faults.new ≡ faults_after_put refused faults.old }
+    ensures never_falls { faults.old ≤ faults.new }
 {
-    let mut done = 0;
-    'pieces: for _ in 0..u64::MAX {
-        if done == bytes.len() {
-            return Ok(());
-        }
-        match put_piece(to, &bytes[done..]) {
-            Ok(taken) => done += taken,
-            Err(PutRefused::Memory) if done == 0 => return Err(PutRefused::Memory),
-            Err(_) => return Err(PutRefused::Failed),
-        }
+    if let PutRefused::Failed = refused {
+        *faults = faults.saturating_add(1);
     }
-    Err(PutRefused::Failed)
-}
-
-/// One write, tried again where a signal cuts it off. It returns how many bytes were taken, at least one.
-fn put_piece<W: Write>(to: &mut W, bytes: &[u8]) -> Result<usize, PutRefused>
-    ensures within { IfOk result (λ taken. taken ≤ length bytes.now) }
-    ensures taken { IfOk result (λ taken. Appends (W.contents to.old) (W.contents to.new) (take taken bytes.now)) }
-    ensures none { OnErr result (Keeps (W.contents to.old) (W.contents to.new)) }
-{
-    'tries: for _ in 0..u64::MAX {
-        match to.write(bytes) {
-            Ok(0) => return Err(PutRefused::Failed),
-            Ok(taken) => return Ok(taken),
-            Err(e) => match e.kind() {
-                ErrorKind::Interrupted => {}
-                ErrorKind::OutOfMemory => return Err(PutRefused::Memory),
-                _ => return Err(PutRefused::Failed),
-            },
-        }
-    }
-    Err(PutRefused::Failed)
 }

@@ -1,6 +1,6 @@
 use Rattle.vw_io.proofs.Pieces.{piece_written}
 use Rattle.std.proofs.Common.{arith, drop, length, ◌-◌, length-drop, length-take}
-use Rattle.vw_io.proofs.std_sink.put_all.Goals as goal
+use Rattle.vw_io.proofs.writers.write_whole.Goals as goal
 
 pub pieces-preserved : goal.pieces-preserved
 pieces-preserved g c =

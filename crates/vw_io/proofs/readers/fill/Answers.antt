@@ -1,5 +1,5 @@
 use Rattle.vw_io.proofs.Pieces.{piece_read}
-use Rattle.vw_io.proofs.file_pieces.fill.Goals as goal
+use Rattle.vw_io.proofs.readers.fill.Goals as goal
 
 pub pieces-preserved : goal.pieces-preserved
 pieces-preserved g c =

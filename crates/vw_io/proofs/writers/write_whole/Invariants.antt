@@ -1,7 +1,7 @@
 -- What has gone out so far are the first bytes.
 use Rattle.std.proofs.Common.{◌≤◌, length, take}
 use Rattle.std.specs.Io.KnownBytes.{Appends}
-use Rattle.vw_io.proofs.std_sink.put_all.Given as goal
+use Rattle.vw_io.proofs.writers.write_whole.Given as goal
 
 abbrev pub invariant-pieces : goal.invariant-pieces
 invariant-pieces g l = record {
