@@ -84,7 +84,7 @@ ones_bit zero h = refl
 ones_bit (suc zero) h = refl
 ones_bit (suc (suc b)) h = absurd (omega arith)
 
-ones_low : (piece n : ℕ) → ones (n % 2 ^ piece) ≡ sum_below piece (λ m. one_if (bit_at n m == 1))
+pub ones_low : (piece n : ℕ) → ones (n % 2 ^ piece) ≡ sum_below piece (λ m. one_if (bit_at n m == 1))
 unfolding sum_below ones ones_in
 ones_low zero n = let none : n % 2 ^ 0 ≡ 0 = omega (arith, mod_below n 1 (lit< tt)) in ap ones none
 ones_low (suc piece) n =

@@ -1,10 +1,12 @@
 -- The part of a box in an octant has the box's cells there.
-use Rattle.std.proofs.Common.{◌≡◌, ℕ, zero, suc, ◌+◌, ◌*◌, ◌<◌, Bool, true, false, refl, sym, arith}
+use Rattle.std.proofs.Common.{◌≡◌, ℕ, zero, suc, ◌+◌, ◌-◌, ◌*◌, ◌^◌, ◌<◌, ◌≤◌, Bool, true, false, refl, sym, arith}
 use Rattle.std.specs.Prelude.{◌&&◌}
+use Rattle.vw_cell.specs.declared.cells.Cell.{Cell}
 use Rattle.vw_cell.specs.declared.boxes.Boxed.{Boxed}
-use Rattle.vw_cell.specs.Places.{half_x, half_y, half_z, IsWithin, is_within}
+use Rattle.vw_cell.specs.Places.{block_side, half_x, half_y, half_z, IsWithin, is_within, IsInWorld, FitsAt}
 use Rattle.vw_cell.specs.Tests.{is_within_tells, is_within_holds}
-use Rattle.block_walk.specs.Parts.{half_at, half_size, part_in, HasCellsOf}
+use Rattle.block_walk.specs.Parts.{half_at, half_size, part_in, placed, HasCellsOf, EndsBy}
+use Rattle.block_walk.proofs.LookLaws.{twice, root_side}
 
 same_test : (a b : Bool) → (a ≡ true → b ≡ true) → (b ≡ true → a ≡ true) → a ≡ b
 same_test true b f h = sym (f refl)
@@ -36,3 +38,24 @@ part_has_cells half octant b = record {
       (half_test half (half_y octant) b.at.y b.size.y c.y (omega arith) i.y)
       (half_test half (half_z octant) b.at.z b.size.z c.z (omega arith) i.z);
 }
+
+-- a place of a half lies in the whole
+in_whole : (half i x side : ℕ) → side ≡ 2 * half → i < 2 → x < half → i * half + x < side
+in_whole half zero x side d lt h = omega arith
+in_whole half (suc zero) x side d lt h = omega arith
+in_whole half (suc (suc i)) x side d lt h = absurd (omega arith)
+
+-- a place of an octant lies in the block
+pub placed_in : (level k : ℕ) (c : Cell) → 1 ≤ level → k < 8 → IsInWorld (block_side (level - 1)) c → IsInWorld (block_side level) (placed (block_side (level - 1)) k c)
+placed_in level k c h lt i =
+    let d = twice level h in
+    record { x = in_whole _ (half_x k) c.x _ d (omega arith) i.x; y = in_whole _ (half_y k) c.y _ d (omega arith) i.y; z = in_whole _ (half_z k) c.z _ d (omega arith) i.z }
+
+-- a box of the root's world ends in its block
+pub box_in_root : (level side : ℕ) (b : Boxed) → level ≡ side - 2 → 2 ≤ side → FitsAt b.at b.size (2 ^ side) → EndsBy (block_side level) b
+box_in_root level side b e h fits =
+    let whole = root_side level side e h in
+    let x = fits.x in
+    let y = fits.y in
+    let z = fits.z in
+    record { x = omega (arith, whole, x.1); y = omega (arith, whole, y.1); z = omega (arith, whole, z.1) }

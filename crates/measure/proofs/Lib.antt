@@ -1,0 +1,7 @@
+mod LeafCounts
+mod TallyLaws
+mod SubjectLaws
+mod AxisLaws
+mod BareLaws
+mod BareLeaves
+mod FaceLaws

@@ -1,0 +1,5 @@
+pub mod Leaves
+pub mod Tallies
+pub mod Subjects
+pub mod Bare
+pub mod Faces

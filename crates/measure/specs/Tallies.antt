@@ -1,0 +1,24 @@
+-- Numbers of the cells of a part of a block that count, by what is known of the block.
+use Rattle.std.specs.Prelude.{◌≡◌, ℕ, ◌-◌, Bool, false, List}
+use Rattle.vw_cell.specs.declared.cells.Cell.{Cell}
+use Rattle.vw_cell.specs.Places.{block_side, IsInWorld}
+use Rattle.vw_cell.specs.Counts.{number_in}
+use Rattle.node_shapes.specs.Tree.{Tree}
+use Rattle.block_walk.specs.Parts.{placed}
+use Rattle.measure.specs.declared.tallies.Part.{Part}
+
+-- which cells of a block of some level count, for what a subject says of the block while some trees are held
+abbrev pub Counting : Type 0 → Type 1
+Counting S = List Tree → ℕ → S → (Cell → Bool) → Type 0
+
+-- the same test, of the cells of an octant
+abbrev pub in_octant : ℕ → ℕ → (Cell → Bool) → Cell → Bool
+in_octant level k test c = test (placed (block_side (level - 1)) k c)
+
+-- no cell of a block of this level passes
+pub record PassesNone (level : ℕ) (test : Cell → Bool) : Type 0 where
+  pub each : (c : Cell) → IsInWorld (block_side level) c → test c ≡ false
+
+-- the number is that of the part's cells that count
+abbrev pub IsTally : {S : Type 0} → Counting S → List Tree → Part S → ℕ → Type 0
+IsTally counts held p number = (test : Cell → Bool) → counts held p.level p.subject test → number ≡ number_in p.part test

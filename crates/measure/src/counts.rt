@@ -1,0 +1,94 @@
+ghost use Rattle.std.specs.Prelude.{◌≡◌, ◌^◌, ℕ, option_copied};
+ghost use Rattle.vw_cell.specs.Places.{FitsAt, IsInWorld};
+ghost use Rattle.vw_cell.specs.Counts.{number_in};
+ghost use Rattle.block_walk.specs.Roots.{HoldsRoot, ForWorld};
+ghost use Rattle.measure.specs.Subjects.{PassesSet};
+
+use crate::tallies::{Part, Subject, tally};
+use block_walk::{Answers, leaf_bits, look, name_of, octant_name, same_names};
+use node_shapes::Name;
+use node_words::{Blocks, Share};
+use vw_cell::{Boxed, Cell, Side};
+
+/// Whether the cell of the root's world is set.
+pub fn get<B: Blocks>(store: &mut B, root: Option<&Share>, side: Side, c: Cell) -> bool
+    requires root { HoldsRoot (B.seen store.old).held side (option_copied root) }
+    requires cell { IsInWorld (2 ^ side) c }
+    ensures value {
+        ForWorld (B.seen store.old).held side (option_copied root.entry) (λ cells. result ≡ cells c)
+    }
+    ensures seen { B.seen store.new ≡ B.seen store.old }
+    ensures rests { B.rests store.old store.new }
+{
+    look(store, side.root_level(), name_of(root), c).is_none()
+}
+
+/// The number of set cells of a box of the root's world.
+pub fn count<B: Blocks>(store: &mut B, root: Option<&Share>, side: Side, b: Boxed) -> u64
+    requires root { HoldsRoot (B.seen store.old).held side (option_copied root) }
+    requires inside { FitsAt b.at b.size (2 ^ side) }
+    ensures number {
+        ForWorld (B.seen store.old).held side (option_copied root.entry)
+            (λ cells. result ≡ number_in b cells)
+    }
+    ensures seen { B.seen store.new ≡ B.seen store.old }
+    ensures rests { B.rests store.old store.new }
+{
+    let mut answers = Answers::new();
+    let subject = SetCells {
+        block: name_of(root),
+    };
+    let level = side.root_level();
+    let of = Part {
+        subject,
+        level,
+        part: b,
+    };
+    tally(store, &mut answers, of)
+}
+
+// The set cells of what stands in a block.
+#[derive(Clone, Copy)]
+struct SetCells {
+    block: Option<Name>,
+}
+
+impl Subject for SetCells {
+    ghost counts = { λ held level s test. PassesSet held level s.block test };
+
+    fn is_nothing(&self) -> bool {
+        self.block.is_none()
+    }
+
+    fn leaf<B: Blocks>(&self, store: &mut B) -> u64 {
+        leaf_bits(store, self.block)
+    }
+
+    fn octant<B: Blocks>(&self, store: &mut B, level: u8, octant: u8) -> SetCells {
+        SetCells {
+            block: octant_name(store, level, self.block, octant),
+        }
+    }
+
+    fn is_same(&self, other: &SetCells) -> bool {
+        same_names(self.block, other.block)
+    }
+
+    fn mark(&self) -> usize {
+        name_mark(self.block)
+    }
+}
+
+/// A number that differs where names do, more often than not.
+pub(crate) fn name_mark(block: Option<Name>) -> usize
+    ensures { result < 2 ^ 24 }
+{
+    match block {
+        Some(n) => {
+            usize::from(n.bucket) + 61 * usize::from(n.slot) + 17 * usize::from(n.level)
+        }
+        None => 0,
+    }
+}
+
+ghost use Rattle.std.specs.Prelude.{◌<◌};

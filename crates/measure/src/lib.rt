@@ -1,0 +1,12 @@
+//! How many cells of a world are set and where, and how many of their sides are bare, over any store that can be
+//! read. A walk goes by different nodes and parts, not by blocks: what it found of one it tells of all that are
+//! alike.
+#![tactic(auto)]
+
+mod counts;
+mod bare_sides;
+mod leaves;
+mod tallies;
+
+pub use counts::{count, get};
+pub use bare_sides::faces;

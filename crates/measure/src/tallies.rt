@@ -1,0 +1,152 @@
+ghost use Rattle.std.specs.Prelude.{◌≡◌, ◌-◌, ◌<◌, ◌≤◌, ℕ, IsTrue, Bool, List};
+ghost use Rattle.vw_cell.specs.declared.cells.Cell.{Cell};
+ghost use Rattle.vw_cell.specs.Places.{block_side};
+ghost use Rattle.vw_cell.specs.Counts.{number_in};
+ghost use Rattle.node_shapes.specs.Tree.{Tree};
+ghost use Rattle.block_walk.specs.Answers.{AreRight};
+ghost use Rattle.block_walk.specs.Parts.{EndsBy};
+ghost use Rattle.measure.specs.Leaves.{Tells};
+ghost use Rattle.measure.specs.Tallies.{in_octant, PassesNone, IsTally};
+
+use crate::leaves::count_leaf;
+use block_walk::{Answers, Query, half_side, is_empty, part_of, same_boxes};
+use node_words::Blocks;
+use vw_cell::Boxed;
+
+/// What stands in a block, and with it which of the block's cells count.
+pub(crate) trait Subject: Copy {
+    /// The cells that count in a block of this level, while these trees are held.
+    ghost counts: { List Tree → ℕ → Self → (Cell → Bool) → Type 0 };
+
+    /// Whether no cell counts. It may miss that none does.
+    fn is_nothing(&self) -> bool
+        ensures { IsTrue result → (held : List Tree) (level : ℕ) (test : Cell → Bool)
+            → counts held level self.now test → PassesNone level test };
+
+    /// The bits of a leaf's cells that count.
+    fn leaf<B: Blocks>(&self, store: &mut B) -> u64
+        requires { (test : Cell → Bool) × counts (B.seen store.old).held 0 self.now test }
+        ensures bits { (test : Cell → Bool) → counts (B.seen store.old).held 0 self.now test
+            → Tells result test }
+        ensures seen { B.seen store.new ≡ B.seen store.old }
+        ensures rests { B.rests store.old store.new };
+
+    /// What stands in an octant.
+    fn octant<B: Blocks>(&self, store: &mut B, level: u8, octant: u8) -> Self
+        requires level { 1 ≤ level }
+        requires octant { octant < 8 }
+        requires block { (test : Cell → Bool) × counts (B.seen store.old).held level self.now test }
+        ensures octant { (test : Cell → Bool) → counts (B.seen store.old).held level self.now test
+            → counts (B.seen store.old).held (level - 1) result (in_octant level octant test) }
+        ensures seen { B.seen store.new ≡ B.seen store.old }
+        ensures rests { B.rests store.old store.new };
+
+    /// Whether both say the same of a block. It may miss that they do.
+    fn is_same(&self, other: &Self) -> bool
+        ensures { IsTrue result → self.now ≡ other.now };
+
+    /// A number that differs where subjects do, more often than not.
+    fn mark(&self) -> usize
+        ensures { result < 2 ^ 32 };
+}
+
+ghost use Rattle.std.specs.Prelude.{◌^◌};
+
+/// A part of a block of some level, and what stands in the block.
+#[derive(Clone, Copy)]
+pub(crate) struct Part<S> {
+    pub(crate) subject: S,
+    pub(crate) level: u8,
+    pub(crate) part: Boxed,
+}
+
+impl<S: Subject> Query for Part<S> {
+    ghost tells = { IsTally S.counts };
+
+    fn is_same(&self, other: &Part<S>) -> bool {
+        self.level == other.level
+            && self.subject.is_same(&other.subject)
+            && same_boxes(self.part, other.part)
+    }
+
+    fn place(&self) -> usize {
+        (self.subject.mark() + part_mark(self.part)) % 256
+    }
+}
+
+// A number that differs where parts do, more often than not.
+fn part_mark(part: Boxed) -> usize
+    ensures { result < 2 ^ 24 }
+{
+    let at = usize::from(part.at.x) + 3 * usize::from(part.at.y) + 5 * usize::from(part.at.z);
+    let x = 7 * usize::from(part.size.x);
+    let y = 11 * usize::from(part.size.y);
+    let z = 13 * usize::from(part.size.z);
+    at + x + y + z
+}
+
+/// How many cells of the part count. Parts that are alike have one number, which is remembered.
+#[cycle(tally)]
+pub(crate) fn tally<S: Subject, B: Blocks>(
+    store: &mut B,
+    answers: &mut Answers<Part<S>>,
+    of: Part<S>,
+) -> u64
+    requires level { of.level ≤ 10 }
+    requires block { (test : Cell → Bool) × S.counts (B.seen store.old).held of.level of.subject test }
+    requires part { EndsBy (block_side of.level) of.part }
+    requires answers { AreRight (IsTally S.counts) (B.seen store.old).held answers.old.places }
+    ensures number { IsTally S.counts (B.seen store.old).held of result }
+    ensures answers { AreRight (IsTally S.counts) (B.seen store.old).held answers.new.places }
+    ensures seen { B.seen store.new ≡ B.seen store.old }
+    ensures rests { B.rests store.old store.new }
+{
+    if of.subject.is_nothing() {
+        return 0;
+    }
+    if is_empty(of.part) {
+        return 0;
+    }
+    if of.level == 0 {
+        let bits = of.subject.leaf(store);
+        return count_leaf(bits, of.part);
+    }
+    if let Some(number) = answers.find(&of) {
+        return number;
+    }
+    let number = tally_octants(store, answers, of);
+    answers.keep(of, number);
+    number
+}
+
+// The same, octant by octant.
+#[cycle(tally)]
+fn tally_octants<S: Subject, B: Blocks>(
+    store: &mut B,
+    answers: &mut Answers<Part<S>>,
+    of: Part<S>,
+) -> u64
+    requires level { (1 ≤ of.level) × (of.level ≤ 10) }
+    requires block { (test : Cell → Bool) × S.counts (B.seen store.old).held of.level of.subject test }
+    requires part { EndsBy (block_side of.level) of.part }
+    requires answers { AreRight (IsTally S.counts) (B.seen store.old).held answers.old.places }
+    ensures number { IsTally S.counts (B.seen store.old).held of result }
+    ensures answers { AreRight (IsTally S.counts) (B.seen store.old).held answers.new.places }
+    ensures seen { B.seen store.new ≡ B.seen store.old }
+    ensures rests { B.rests store.old store.new }
+{
+    let half = half_side(of.level);
+    let level = of.level - 1;
+    let mut number = 0;
+    for octant in 0..8u8 {
+        let subject = of.subject.octant(store, of.level, octant);
+        let part = part_of(half, of.part, octant);
+        let inner = Part {
+            subject,
+            level,
+            part,
+        };
+        number += tally(store, answers, inner);
+    }
+    number
+}
