@@ -5,3 +5,4 @@ mod AxisLaws
 mod BareLaws
 mod BareLeaves
 mod FaceLaws
+mod WideningLaws

@@ -3,3 +3,4 @@ pub mod Tallies
 pub mod Subjects
 pub mod Bare
 pub mod Faces
+pub mod Widening

@@ -3,10 +3,12 @@
 //! alike.
 #![tactic(auto)]
 
-mod counts;
 mod bare_sides;
+mod counts;
+mod extents;
 mod leaves;
 mod tallies;
 
-pub use counts::{count, get};
 pub use bare_sides::faces;
+pub use counts::{count, get};
+pub use extents::bounds;
