@@ -15,3 +15,4 @@ pub mod Entries
 pub mod Following
 pub mod Refusals
 pub mod Ways
+pub mod Rays

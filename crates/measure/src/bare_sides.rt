@@ -25,10 +25,8 @@ use world_questions::Direction;
 pub fn faces<B: Blocks>(store: &mut B, root: Option<&Share>, side: Side, b: Boxed) -> u64
     requires root { HoldsRoot (B.seen store.old).held side (option_copied root) }
     requires inside { FitsAt b.at b.size (2 ^ side) }
-    ensures number {
-        ForWorld (B.seen store.old).held side (option_copied root.entry)
-            (λ cells. result ≡ faces_in (2 ^ side) cells b)
-    }
+    ensures number { ForWorld (B.seen store.old).held side (option_copied root.entry)
+        (λ cells. result ≡ faces_in (2 ^ side) cells b) }
     ensures seen { B.seen store.new ≡ B.seen store.old }
     ensures rests { B.rests store.old store.new }
 {
@@ -40,10 +38,8 @@ fn faces_in_block<B: Blocks>(store: &mut B, level: u8, block: Option<Name>, b: B
     requires level { level ≤ 10 }
     requires block { HasBlock (B.seen store.old).held level block }
     requires part { EndsBy (block_side level) b }
-    ensures number {
-        ForBlock (B.seen store.old).held level block
-            (λ s. result ≡ faces_in (block_side level) (cells_of level s) b)
-    }
+    ensures number { ForBlock (B.seen store.old).held level block
+        (λ s. result ≡ faces_in (block_side level) (cells_of level s) b) }
     ensures seen { B.seen store.new ≡ B.seen store.old }
     ensures rests { B.rests store.old store.new }
 {
@@ -70,10 +66,8 @@ fn bare_towards<B: Blocks>(
     requires block { HasBlock (B.seen store.old).held level block }
     requires part { EndsBy (block_side level) part }
     requires answers { AreRight (IsTally passes_bare) (B.seen store.old).held answers.old.places }
-    ensures number {
-        ForBlock (B.seen store.old).held level block
-            (λ s. result ≡ number_in part (is_bare direction (block_side level) (cells_of level s)))
-    }
+    ensures number { ForBlock (B.seen store.old).held level block
+        (λ s. result ≡ number_in part (is_bare direction (block_side level) (cells_of level s))) }
     ensures bound { result ≤ 2 ^ 36 }
     ensures block { HasBlock (B.seen store.new).held level block }
     ensures answers { AreRight (IsTally passes_bare) (B.seen store.old).held answers.new.places }
@@ -201,9 +195,7 @@ fn stays(direction: Direction, octant: u8) -> bool
 
 // Which cells of a leaf have a set cell next to them in this direction.
 fn next_bits(direction: Direction, bits: u64, beside: u64) -> u64
-    ensures next {
-        (s u : Shape) → bits ≡ bits_of s → beside ≡ bits_of u → Tells result (is_next_set direction 0 s u)
-    }
+    ensures next { (s u : Shape) → bits ≡ bits_of s → beside ≡ bits_of u → Tells result (is_next_set direction 0 s u) }
     ensures bound { result < 2 ^ 64 }
 {
     match direction {

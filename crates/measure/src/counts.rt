@@ -14,9 +14,7 @@ use vw_cell::{Boxed, Cell, Side};
 pub fn get<B: Blocks>(store: &mut B, root: Option<&Share>, side: Side, c: Cell) -> bool
     requires root { HoldsRoot (B.seen store.old).held side (option_copied root) }
     requires cell { IsInWorld (2 ^ side) c }
-    ensures value {
-        ForWorld (B.seen store.old).held side (option_copied root.entry) (λ cells. result ≡ cells c)
-    }
+    ensures value { ForWorld (B.seen store.old).held side (option_copied root.entry) (λ cells. result ≡ cells c) }
     ensures seen { B.seen store.new ≡ B.seen store.old }
     ensures rests { B.rests store.old store.new }
 {
@@ -27,10 +25,8 @@ pub fn get<B: Blocks>(store: &mut B, root: Option<&Share>, side: Side, c: Cell) 
 pub fn count<B: Blocks>(store: &mut B, root: Option<&Share>, side: Side, b: Boxed) -> u64
     requires root { HoldsRoot (B.seen store.old).held side (option_copied root) }
     requires inside { FitsAt b.at b.size (2 ^ side) }
-    ensures number {
-        ForWorld (B.seen store.old).held side (option_copied root.entry)
-            (λ cells. result ≡ number_in b cells)
-    }
+    ensures number { ForWorld (B.seen store.old).held side (option_copied root.entry)
+        (λ cells. result ≡ number_in b cells) }
     ensures seen { B.seen store.new ≡ B.seen store.old }
     ensures rests { B.rests store.old store.new }
 {
@@ -84,9 +80,7 @@ pub(crate) fn name_mark(block: Option<Name>) -> usize
     ensures { result < 2 ^ 24 }
 {
     match block {
-        Some(n) => {
-            usize::from(n.bucket) + 61 * usize::from(n.slot) + 17 * usize::from(n.level)
-        }
+        Some(n) => { usize::from(n.bucket) + 61 * usize::from(n.slot) + 17 * usize::from(n.level) }
         None => 0,
     }
 }

@@ -15,10 +15,8 @@ use vw_cell::{Block, Boxed, Cell, Side};
 /// The least box of all set cells of the root's world. `None` exactly where no cell is set.
 pub fn bounds<B: Blocks>(store: &mut B, root: Option<&Share>, side: Side) -> Option<Boxed>
     requires root { HoldsRoot (B.seen store.old).held side (option_copied root) }
-    ensures extent {
-        ForWorld (B.seen store.old).held side (option_copied root.entry)
-            (λ cells. IsExtent (2 ^ side) cells result)
-    }
+    ensures extent { ForWorld (B.seen store.old).held side (option_copied root.entry)
+        (λ cells. IsExtent (2 ^ side) cells result) }
     ensures seen { B.seen store.new ≡ B.seen store.old }
     ensures rests { B.rests store.old store.new }
 {
@@ -76,10 +74,8 @@ fn widened_in<B: Blocks>(
     requires inside { LiesIn 4096 place }
     requires octant { octant < 8 }
     requires found { EndsInside found }
-    ensures widens {
-        ForPlace (B.seen store.old).held block place
-            (λ cells. Widens (IsSetIn (octant_of place octant) cells) (IsSetIn place cells) found result)
-    }
+    ensures widens { ForPlace (B.seen store.old).held block place
+        (λ cells. Widens (IsSetIn (octant_of place octant) cells) (IsSetIn place cells) found result) }
     ensures found { EndsInside result }
     ensures block { HasBlock (B.seen store.new).held place.level block }
     ensures seen { B.seen store.new ≡ B.seen store.old }
@@ -103,10 +99,8 @@ fn widened_by_others<B: Blocks>(
     requires inside { LiesIn 4096 place }
     requires corner { corner < 8 }
     requires found { EndsInside found }
-    ensures widens {
-        ForPlace (B.seen store.old).held block place
-            (λ cells. Widens (IsSetInSome place cells (IsOther corner 8)) (IsSetIn place cells) found result)
-    }
+    ensures widens { ForPlace (B.seen store.old).held block place
+        (λ cells. Widens (IsSetInSome place cells (IsOther corner 8)) (IsSetIn place cells) found result) }
     ensures found { EndsInside result }
     ensures seen { B.seen store.new ≡ B.seen store.old }
     ensures rests { B.rests store.old store.new }
@@ -134,10 +128,8 @@ fn widened_apart<B: Blocks>(
     requires corner { corner < 8 }
     requires octant { octant < 8 }
     requires found { EndsInside found }
-    ensures widens {
-        ForPlace (B.seen store.old).held block place
-            (λ cells. Widens (IsSetInSome place cells (IsOtherAt corner octant)) (IsSetIn place cells) found result)
-    }
+    ensures widens { ForPlace (B.seen store.old).held block place
+        (λ cells. Widens (IsSetInSome place cells (IsOtherAt corner octant)) (IsSetIn place cells) found result) }
     ensures found { EndsInside result }
     ensures block { HasBlock (B.seen store.new).held place.level block }
     ensures seen { B.seen store.new ≡ B.seen store.old }
@@ -167,10 +159,8 @@ fn with_leaf(bits: u64, place: Block, found: Option<Boxed>) -> Option<Boxed>
     requires level { place.level ≡ 0 }
     requires inside { LiesIn 4096 place }
     requires found { EndsInside found }
-    ensures widens {
-        (cells : Cell → Bool) → LeafShows bits place cells
-        → Widens (IsSetIn place cells) (IsSetIn place cells) found result
-    }
+    ensures widens { (cells : Cell → Bool) → LeafShows bits place cells
+        → Widens (IsSetIn place cells) (IsSetIn place cells) found result }
     ensures found { EndsInside result }
 {
     let mut wide = found;
@@ -186,10 +176,8 @@ fn with_bit(bits: u64, place: Block, bit: u8, found: Option<Boxed>) -> Option<Bo
     requires inside { LiesIn 4096 place }
     requires bit { bit < 64 }
     requires found { EndsInside found }
-    ensures widens {
-        (cells : Cell → Bool) → LeafShows bits place cells
-        → Widens (IsSetAt place cells (λ n. n ≡ bit)) (IsSetIn place cells) found result
-    }
+    ensures widens { (cells : Cell → Bool) → LeafShows bits place cells
+        → Widens (IsSetAt place cells (λ n. n ≡ bit)) (IsSetIn place cells) found result }
     ensures found { EndsInside result }
 {
     if !has_bit(bits, bit) {

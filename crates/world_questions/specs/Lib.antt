@@ -1,3 +1,2 @@
 pub mod Faces
 pub mod Extents
-pub mod Rays

@@ -33,8 +33,7 @@ widened_by_others-loop-octant-preserved g t c =
 
 pub widened_in-widened-requires : goal.widened_in-widened-requires
 widened_in-widened-requires g t c κs within =
-    let level = child_level c.args.place c.child.result c.args.octant c.child.ensures in
-    (
+    let level = child_level c.args.place c.child.result c.args.octant c.child.ensures in (
       omega (arith, c.decreases, c.requires.level.0, level),
       (
         within,

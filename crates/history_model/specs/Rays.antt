@@ -1,34 +1,8 @@
 -- A ray from the centre of a cell by whole steps, and the first set cell that it meets.
-use Rattle.std.specs.Prelude.{◌≡◌, ℕ, ◌+◌, ◌*◌, ◌<◌, ◌≤◌, max, ℤ, pos, negsuc, Bool, true, false, Option, Some, None}
-use Rattle.std.proofs.Common.{suc}
+use Rattle.std.specs.Prelude.{◌≡◌, ℕ, ◌+◌, ◌*◌, ◌<◌, ◌≤◌, max, ℤ, Bool, true, false, Option, Some, None}
 use Rattle.vw_cell.specs.declared.cells.Cell.{Cell}
 use Rattle.vw_cell.specs.Places.{IsInWorld}
-
--- the steps that a ray takes on the three axes
-pub record Heading : Type 0 where
-  pub dx : ℤ
-  pub dy : ℤ
-  pub dz : ℤ
-
--- how far a step goes towards higher places, and how far towards lower
-abbrev pub ahead : ℤ → ℕ
-ahead (pos n) = n
-ahead (negsuc n) = 0
-
-abbrev pub behind : ℤ → ℕ
-behind (pos n) = 0
-behind (negsuc n) = suc n
-
--- a step is from -1,024 to 1,024
-abbrev pub IsStep : ℤ → Type 0
-IsStep d = ahead d + behind d ≤ 1024
-
--- such steps, not all of which are 0
-pub record IsHeading (h : Heading) : Type 0 where
-  pub dx : IsStep h.dx
-  pub dy : IsStep h.dy
-  pub dz : IsStep h.dz
-  pub some : 1 ≤ ahead h.dx + behind h.dx + (ahead h.dy + behind h.dy) + (ahead h.dz + behind h.dz)
+use Rattle.history_model.specs.Ways.{Heading, ahead, behind}
 
 -- the size of a step that isn't 0
 abbrev pub factor : ℤ → ℕ
@@ -38,8 +12,8 @@ factor d = max 1 (ahead d + behind d)
 abbrev pub scale : Heading → ℕ
 scale h = 2 * (factor h.dx * (factor h.dy * factor h.dz))
 
--- c is (l (2 o + 1) + k d) / 2 l, rounded down: where a ray is on one axis at instant k, which began at the centre
--- of o and goes by steps of d, an instant being 1 / 2 l of the time that a whole step takes
+-- c is (l (2 o + 1) + k d) / 2 l, rounded down: the place on one axis at instant k of a ray that begins at the centre
+-- of cell o and goes by steps of d, where an instant is 1 / 2 l of the time of a whole step
 abbrev pub Passes : ℕ → ℕ → ℤ → ℕ → ℕ → Type 0
 Passes l o d k c =
     (2 * l * c + k * behind d ≤ l * (2 * o + 1) + k * ahead d)
@@ -56,7 +30,7 @@ pub record ClearBefore (from : Cell) (h : Heading) (side : ℕ) (cells : Cell �
   pub each : (j : ℕ) (c : Cell) → j < k → IsAt from h j c → IsInWorld side c → cells c ≡ false
 
 -- c is set, and there is no set cell at an earlier instant
-pub record IsFirst (from : Cell) (h : Heading) (side : ℕ) (cells : Cell → Bool) (c : Cell) : Type 0 where
+pub record IsHit (from : Cell) (h : Heading) (side : ℕ) (cells : Cell → Bool) (c : Cell) : Type 0 where
   pub instant : ℕ
   pub at : IsAt from h instant c
   pub in_world : IsInWorld side c
@@ -64,10 +38,10 @@ pub record IsFirst (from : Cell) (h : Heading) (side : ℕ) (cells : Cell → Bo
   pub before : ClearBefore from h side cells instant
 
 -- at no instant does the ray meet a set cell
-pub record Misses (from : Cell) (h : Heading) (side : ℕ) (cells : Cell → Bool) : Type 0 where
+pub record HasNoHit (from : Cell) (h : Heading) (side : ℕ) (cells : Cell → Bool) : Type 0 where
   pub each : (k : ℕ) (c : Cell) → IsAt from h k c → IsInWorld side c → cells c ≡ false
 
 -- the set cell that the ray meets first, none where it meets none
 abbrev pub Hits : Cell → Heading → ℕ → (Cell → Bool) → Option Cell → Type 0
-Hits from h side cells None = Misses from h side cells
-Hits from h side cells (Some c) = IsFirst from h side cells c
+Hits from h side cells None = HasNoHit from h side cells
+Hits from h side cells (Some c) = IsHit from h side cells c
