@@ -13,9 +13,11 @@ rounds=5
 mkdir -p "$work/crates/bench_one_store/src"
 cp "$root/HANDLES" "$work/"
 for name in $crates; do
-    rm -rf "$work/crates/$name/src" "$work/crates/$name/specs" "$work/crates/$name/proofs"
     mkdir -p "$work/crates/$name"
-    cp -a "$root/crates/$name/." "$work/crates/$name/"
+    for part in src specs proofs; do
+        rm -rf "$work/crates/$name/$part"
+        [ ! -d "$root/crates/$name/$part" ] || cp -a "$root/crates/$name/$part" "$work/crates/$name/"
+    done
 done
 cp "$here/one_store/main.rt.in" "$work/crates/bench_one_store/src/main.rt"
 {

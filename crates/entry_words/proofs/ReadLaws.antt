@@ -50,7 +50,7 @@ both true true h = (h, h)
 both true false h = let q : false ≡ true = h in absurd (never q)
 both false b h = let q : false ≡ true = h in absurd (never q)
 
-buckets_few : (bs : List ℕ) (i : ℕ) → IsTrue (list_all is_number_of_buckets bs) → slice_index bs i ≤ 4096
+pub buckets_few : (bs : List ℕ) (i : ℕ) → IsTrue (list_all is_number_of_buckets bs) → slice_index bs i ≤ 4096
 buckets_few [] i h = grind arith
 buckets_few (b ∷ bs) zero h = few b (both (is_number_of_buckets b) (list_all is_number_of_buckets bs) h).0
 buckets_few (b ∷ bs) (suc i) h = buckets_few bs i (both (is_number_of_buckets b) (list_all is_number_of_buckets bs) h).1

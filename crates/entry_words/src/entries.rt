@@ -47,6 +47,7 @@ impl EntryWords {
     /// Free slots, as many as the plan has.
     pub fn begin(alloc: Global, plan: &Plan) -> Result<EntryWords, AllocError>
         ensures plan { IfOk result (λ w. w.plan ≡ plan.now) }
+        ensures is_plan { IfOk result (λ w. IsPlan w.plan) }
         ensures free { IfOk result (λ w. (n : Name) → book_in w n ≡ 0) }
     {
         let ends = ends_of(&plan.buckets(), plan.cap());

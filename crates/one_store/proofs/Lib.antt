@@ -1,0 +1,6 @@
+pub mod StateLaws
+pub mod StoreLaws
+pub mod AddLaws
+pub mod BackLaws
+pub mod TraitLaws
+pub mod NodeLaws

@@ -1,0 +1,27 @@
+use Rattle.std.proofs.Common.{refl}
+use Rattle.one_store.proofs.TraitLaws.{leaf_holds, leaf_count, leaf_found, leaf_hit, leaf_missed, leaf_added, leaf_met, if_ok, if_errs}
+use Rattle.one_store.proofs.traits.OneStoreNodeStore.leaf.Goals as goal
+
+pub add-requires-clause-held : goal.add-requires-clause-held
+add-requires-clause-held g c = leaf_holds c.args.self.now _ c.args.bits _ c.seek-sought.ensures.key
+
+pub add-requires-clause-children : goal.add-requires-clause-children
+add-requires-clause-children g c = leaf_count _ c.args.bits c.seek-sought.ensures.key
+
+pub returns-in-Some-clause-held : goal.returns-in-Some-clause-held
+returns-in-Some-clause-held g c = leaf_found c.args.self.now c.raise.new.self c.seek-sought.result c.in-Some.n c.raise.result c.args.bits _ c.number-number.ensures.store c.seek-sought.ensures.level c.seek-sought.ensures.key c.in-Some.ensures.found c.raise.ensures.raises c.raise.ensures.share
+
+pub returns-in-Some-clause-hit : goal.returns-in-Some-clause-hit
+returns-in-Some-clause-hit g c m r = leaf_hit c.args.self.now c.raise.new.self c.seek-sought.result c.in-Some.n m c.raise.result c.args.bits _ c.number-number.ensures.store c.seek-sought.ensures.level c.seek-sought.ensures.key c.in-Some.ensures.found c.raise.ensures.raises c.raise.ensures.share r
+
+pub returns-in-None-clause-held : goal.returns-in-None-clause-held
+returns-in-None-clause-held g c = if_ok c.add.result (λ n a. leaf_added c.args.self.now c.add.new.self c.seek-sought.result n c.args.bits c.seek-sought.ensures.level c.seek-sought.ensures.key a) c.add.ensures.adds
+
+pub returns-in-None-clause-hit : goal.returns-in-None-clause-hit
+returns-in-None-clause-hit g c m r = absurd (leaf_missed c.args.self.now c.seek-sought.result m c.args.bits _ c.number-number.ensures.store c.seek-sought.ensures.level c.seek-sought.ensures.key (c.in-None.ensures.none refl) r)
+
+pub returns-in-None-clause-full : goal.returns-in-None-clause-full
+returns-in-None-clause-full g c =
+    if_errs c.add.result
+    (λ e m f. leaf_met c.args.self.now c.add.new.self c.seek-sought.result e.level e.bucket c.args.bits c.seek-sought.ensures.sought m f.0 f.1 c.seek-sought.ensures.level c.seek-sought.ensures.key)
+    c.add.ensures.meets c.add.ensures.full

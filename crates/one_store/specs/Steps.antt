@@ -1,0 +1,105 @@
+-- The steps of a store for one thread.
+use Rattle.std.specs.Prelude.{◌≡◌, ℕ, ◌+◌, ◌-◌, ◌<◌, Option, Some, List}
+use Rattle.std.proofs.Common.{zero, suc}
+use Rattle.node_shapes.specs.declared.names.Name.{Name}
+use Rattle.node_shapes.specs.Shape.{Shape, Leaf, branch_of}
+use Rattle.node_shapes.specs.Tree.{Tree, LeafAt, node_at, shape_of}
+use Rattle.node_words.specs.declared.keys.Key.{Key}
+use Rattle.node_words.specs.Held.{HoldsName}
+use Rattle.node_words.specs.Gathering.{Loses, LosesAll}
+use Rattle.node_words.specs.Keys.{bucket_of_key}
+use Rattle.node_words.specs.Plans.{Layout}
+use Rattle.node_places.specs.Names.{HasNames, named, key_bits}
+use Rattle.node_places.specs.Spots.{levels, buckets_at}
+use Rattle.core_laws.specs.Soundness.{FitsLevel}
+use Rattle.core_laws.specs.Returning.{FreesParts}
+use Rattle.entry_words.specs.Slots.{IsBucket}
+use Rattle.entry_words.specs.Coding.{key_of}
+use Rattle.entry_words.specs.Words.{Written, book_in, key_in, IsLowestFree, AreLiveBelow}
+use Rattle.entry_words.specs.Changes.{SetsBook, PutsEntry}
+use Rattle.store_notes.specs.Changes.{MakesNothing, NotesGain, NotesLoss, NotesFreeing, NotesEntry, NotesFull}
+use Rattle.one_store.specs.declared.sought.SoughtKey.{SoughtKey}
+use Rattle.one_store.specs.Known.{Known, tree_in, row_of}
+
+-- the same keys with other books
+abbrev pub with_books : Written → List ℕ → Written
+with_books w books = record w { books = books }
+
+-- only books and notes changed
+pub record Moves (old new : Known) : Type 0 where
+  pub words : new.words ≡ with_books old.words new.words.books
+  pub roots : new.roots ≡ old.roots
+
+-- one more share of a name
+pub record RaisesShare (old : Known) (n : Name) (new : Known) : Type 0 where
+  pub words : SetsBook old.words n (book_in old.words n + 1) new.words
+  pub roots : new.roots ≡ old.roots
+  pub told : NotesGain old.told (tree_in old n) new.told
+
+-- one share less, where another reference is left
+pub record LowersShare (old : Known) (n : Name) (new : Known) : Type 0 where
+  pub words : SetsBook old.words n (book_in old.words n - 1) new.words
+  pub roots : new.roots ≡ old.roots
+  pub told : NotesLoss old.told (tree_in old n) new.told
+
+-- the last share of a node goes: its slot is free, and the children's shares come
+pub record FreesNode (old : Known) (n : Name) (new : Known) : Type 0 where
+  pub words : SetsBook old.words n 0 new.words
+  pub roots : new.roots ≡ old.roots
+  pub told : NotesFreeing old.told (tree_in old n) (row_of (key_in old.words) (n.level - 1) (key_in old.words n)) new.told
+
+-- a share was given back, where there was a node, and what only it kept was freed
+pub record Releases (old : Known) (t : Tree) (new : Known) (steps now : ℕ) : Type 0 where
+  pub moves : Moves old new
+  pub only : MakesNothing old.told new.told
+  pub loses : Loses old.told.held t new.told.held
+  pub frees : FreesParts old.words.plan (key_in old.words) (shape_of t) 1 (book_in old.words) (book_in new.words) steps now
+
+-- the shares of the first k trees of a row were given back
+pub record ReleasesRow (old : Known) (row : ℕ → Tree) (k : ℕ) (new : Known) (steps now : ℕ) : Type 0 where
+  pub moves : Moves old new
+  pub only : MakesNothing old.told new.told
+  pub loses : LosesAll old.told.held row k new.told.held
+  pub frees : FreesParts old.words.plan (key_in old.words) (branch_of (λ j. shape_of (row j))) k (book_in old.words) (book_in new.words) steps now
+
+-- a share of the child is held, which is of the level below this
+pub record HoldsChild (held : List Tree) (level : ℕ) (child : Option Name) : Type 0 where
+  pub name : (n : Name) → child ≡ Some n → HoldsName held n
+  pub below : (n : Name) → child ≡ Some n → n.level + 1 ≡ level
+
+-- the key that is sought
+abbrev pub sought_key : SoughtKey → Key
+sought_key s = key_of s.level s.words
+
+-- a key that fits its level, of children of the plan, with its bucket
+pub record IsSoughtKey (p : Layout) (s : SoughtKey) : Type 0 where
+  pub level_in : s.level < levels p
+  pub fits : FitsLevel s.level (sought_key s)
+  pub names : HasNames p (sought_key s)
+  pub bucket_is : s.bucket ≡ bucket_of_key (sought_key s) (buckets_at p s.level)
+  pub bucket_in : IsBucket p s.level s.bucket
+
+-- the tree and the shape of a new entry of this level and key
+abbrev pub tree_over : ℕ → (Name → Key) → Name → Key → Tree
+tree_over zero key n k = LeafAt n (key_bits k)
+tree_over (suc level) key n k = node_at n (row_of key level k)
+
+abbrev pub shape_over : ℕ → (Name → Key) → Key → Shape
+shape_over zero key k = Leaf (key_bits k)
+shape_over (suc level) key k = branch_of (λ j. shape_of (row_of key level k j))
+
+-- a new entry for the key in the lowest free slot of its bucket, over the shares of its children
+pub record AddsNode (old : Known) (s : SoughtKey) (n : Name) (new : Known) : Type 0 where
+  pub name_is : n ≡ named s.level s.bucket n.slot
+  pub lowest : IsLowestFree old.words s.level s.bucket n.slot
+  pub words : PutsEntry old.words n (sought_key s) new.words
+  pub roots : new.roots ≡ old.roots
+  pub told : NotesEntry old.told (row_of (key_in old.words) (s.level - 1) (sought_key s)) (tree_over s.level (key_in old.words) n (sought_key s))
+      (shape_over s.level (key_in old.words) (sought_key s)) new.told
+
+-- each slot of the key's bucket is live, and this was noted
+pub record MeetsFull (old : Known) (s : SoughtKey) (new : Known) : Type 0 where
+  pub words : new.words ≡ old.words
+  pub roots : new.roots ≡ old.roots
+  pub full : AreLiveBelow old.words s.level s.bucket old.words.plan.cap
+  pub told : NotesFull old.told (record { level = s.level; bucket = s.bucket; shape = shape_over s.level (key_in old.words) (sought_key s) }) new.told
