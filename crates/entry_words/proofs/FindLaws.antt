@@ -6,7 +6,7 @@ use Rattle.node_shapes.specs.declared.names.Name.{Name}
 use Rattle.node_places.specs.Names.{IsName, named}
 use Rattle.entry_words.specs.declared.key_words.Rest.{Rest}
 use Rattle.entry_words.specs.Slots.{slot_place, IsBucket}
-use Rattle.entry_words.specs.Coding.{key_of_words}
+use Rattle.entry_words.specs.Coding.{key_from}
 use Rattle.entry_words.specs.Words.{Written, rest_at, book_in, key_in, HasEntry, IsLowestFree, AreLiveBelow}
 use Rattle.entry_words.specs.Tags.{tag_of_words, AreTagged, LacksByte, IsFirstPlace}
 use Rattle.entry_words.proofs.SlotLaws.{place_slot, slot_name}
@@ -43,7 +43,7 @@ lowest_free w tags level bucket start end i t b e f first =
     }
 
 -- a slot with the tag and the words of the key has the key
-pub has_key : (w : Written) (tags : List ℕ) (level bucket start end i from first tag : ℕ) (rest : Rest) → AreTagged w tags → IsBucket w.plan level bucket → start ≡ slot_place w.plan (named level bucket 0) → end ≡ start + w.plan.cap → tag ≡ tag_of_words level first rest → start ≤ from → IsFirstPlace tags from end tag i → key_of_words level (slice_index w.firsts i) (rest_at w.rests i) ≡ key_of_words level first rest → HasEntry w (named level bucket (i - start)) (key_of_words level first rest)
+pub has_key : (w : Written) (tags : List ℕ) (level bucket start end i from first tag : ℕ) (rest : Rest) → AreTagged w tags → IsBucket w.plan level bucket → start ≡ slot_place w.plan (named level bucket 0) → end ≡ start + w.plan.cap → tag ≡ tag_of_words level first rest → start ≤ from → IsFirstPlace tags from end tag i → key_from level (slice_index w.firsts i) (rest_at w.rests i) ≡ key_from level first rest → HasEntry w (named level bucket (i - start)) (key_from level first rest)
 has_key w tags level bucket start end i from first tag rest t b e f g le place key =
     let low : start ≤ i = omega (arith, place.at_least) in
     let high : i < end = place.below in
@@ -53,13 +53,13 @@ has_key w tags level bucket start end i from first tag rest t b e f g le place k
     record {
       is_name = name;
       live = live_slot w tags (named level bucket (i - start)) t name (λ z. omega (arith, z, ap (slice_index tags) at, place.there, g, tag_some level first rest));
-      key_is = ap (λ (k : ℕ). key_of_words level (slice_index w.firsts k) (rest_at w.rests k)) at ∙ key;
+      key_is = ap (λ (k : ℕ). key_from level (slice_index w.firsts k) (rest_at w.rests k)) at ∙ key;
     }
 
 -- no live slot of the bucket before the place `to` has the key
 abbrev pub LacksBefore : Written → ℕ → ℕ → ℕ → ℕ → ℕ → Rest → Type 0
 LacksBefore w level bucket start to first rest =
-    (s : ℕ) → s < w.plan.cap → start + s < to → 1 ≤ book_in w (named level bucket s) → key_in w (named level bucket s) ≢ key_of_words level first rest
+    (s : ℕ) → s < w.plan.cap → start + s < to → 1 ≤ book_in w (named level bucket s) → key_in w (named level bucket s) ≢ key_from level first rest
 
 -- slots with other tags have other keys
 pub lacks_to : (w : Written) (tags : List ℕ) (level bucket start from to first tag : ℕ) (rest : Rest) → AreTagged w tags → IsBucket w.plan level bucket → start ≡ slot_place w.plan (named level bucket 0) → tag ≡ tag_of_words level first rest → LacksBefore w level bucket start from first rest → LacksByte tags from to tag → LacksBefore w level bucket start to first rest
@@ -71,10 +71,10 @@ lacks_to w tags level bucket start from to first tag rest t b e g before none s 
 ]
 
 -- a slot with other words has another key
-pub lacks_one : (w : Written) (level bucket start i first : ℕ) (rest : Rest) → start ≡ slot_place w.plan (named level bucket 0) → LacksBefore w level bucket start i first rest → key_of_words level (slice_index w.firsts i) (rest_at w.rests i) ≢ key_of_words level first rest → LacksBefore w level bucket start (i + 1) first rest
+pub lacks_one : (w : Written) (level bucket start i first : ℕ) (rest : Rest) → start ≡ slot_place w.plan (named level bucket 0) → LacksBefore w level bucket start i first rest → key_from level (slice_index w.firsts i) (rest_at w.rests i) ≢ key_from level first rest → LacksBefore w level bucket start (i + 1) first rest
 lacks_one w level bucket start i first rest e before other s lt le live = elim (cases_lt (start + s) i) [
   | inl less ↦ before s lt less live
   | inr more ↦ (let at = slot_after w.plan level bucket start s e in
       let same : slot_place w.plan (named level bucket s) ≡ i = omega arith in
-      λ q. other (ap (λ (k : ℕ). key_of_words level (slice_index w.firsts k) (rest_at w.rests k)) (sym same) ∙ q))
+      λ q. other (ap (λ (k : ℕ). key_from level (slice_index w.firsts k) (rest_at w.rests k)) (sym same) ∙ q))
 ]

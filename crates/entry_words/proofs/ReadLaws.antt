@@ -1,19 +1,19 @@
 -- What is read from words, as the look-ups see it.
-use Rattle.std.proofs.Common.{◌≡◌, ◌≢◌, ℕ, zero, suc, ◌-◌, ◌/◌, ◌%◌, ◌^◌, ◌<◌, ◌≤◌, Some, List, [], ◌∷◌, length, refl, ap, sym, ◌∙◌, arith, true, false, Bool, ◌&&◌}
+use Rattle.std.proofs.Common.{◌≡◌, ◌≢◌, ℕ, zero, suc, ◌-◌, ◌/◌, ◌%◌, ◌^◌, ◌<◌, ◌≤◌, Some, List, [], ◌∷◌, length, refl, ap, sym, ◌∙◌, arith, true, false, Bool}
 use Rattle.std.specs.Prelude.{slice_index, slice_index_or, IsTrue}
-use Rattle.std.specs.List.{list_all}
-use Rattle.std.proofs.lemmas.Bool.Decides.{nat_tests}
 use Rattle.node_shapes.specs.declared.names.Name.{Name}
 use Rattle.node_words.specs.declared.keys.Key.TheVariants.{Node}
-use Rattle.node_words.specs.Plans.{Layout, IsPlan, is_number_of_buckets}
+use Rattle.node_words.specs.Plans.{Layout, IsPlan}
+use Rattle.node_words.proofs.PlanLaws.{few_buckets}
 use Rattle.node_places.specs.Names.{IsName, HasNames, key_child}
 use Rattle.entry_words.specs.declared.key_words.Rest.{Rest}
-use Rattle.entry_words.specs.Coding.{child_of_half, key_of_words, word_number, half_number}
+use Rattle.node_places.specs.KeyWords.{child_of_word, half}
+use Rattle.entry_words.specs.Coding.{key_from, word_number}
 use Rattle.entry_words.specs.Words.{Written, rest_at, no_rest}
 use Rattle.entry_words.proofs.WordLaws.{one_first, one_rest}
 
 -- the child in an octant, by the word and the half that have it
-child_read : (level first : ℕ) (rest : Rest) (k : ℕ) → k < 8 → child_of_half level (half_number (word_number first rest (k / 2)) (k % 2)) ≡ key_child (key_of_words (suc level) first rest) k
+child_read : (level first : ℕ) (rest : Rest) (k : ℕ) → k < 8 → child_of_word level (half (k % 2) (word_number first rest (k / 2))) ≡ key_child (key_from (suc level) first rest) k
 child_read level first rest zero lt = refl
 child_read level first rest (suc zero) lt = refl
 child_read level first rest (suc (suc zero)) lt = refl
@@ -24,16 +24,13 @@ child_read level first rest (suc (suc (suc (suc (suc (suc zero)))))) lt = refl
 child_read level first rest (suc (suc (suc (suc (suc (suc (suc zero))))))) lt = refl
 child_read level first rest (suc (suc (suc (suc (suc (suc (suc (suc k)))))))) lt = absurd (omega arith)
 
-pub child_read_at : (level first : ℕ) (rest : Rest) (k half : ℕ) → 1 ≤ level → k < 8 → half ≡ half_number (word_number first rest (k / 2)) (k % 2) → child_of_half (level - 1) half ≡ key_child (key_of_words level first rest) k
-child_read_at zero first rest k half h lt e = absurd (omega arith)
-child_read_at (suc level) first rest k half h lt e =
+pub child_read_at : (level first : ℕ) (rest : Rest) (k found : ℕ) → 1 ≤ level → k < 8 → found ≡ half (k % 2) (word_number first rest (k / 2)) → child_of_word (level - 1) found ≡ key_child (key_from level first rest) k
+child_read_at zero first rest k found h lt e = absurd (omega arith)
+child_read_at (suc level) first rest k found h lt e =
     let z : suc level - 1 ≡ level = omega arith in
-    ap (λ (l : ℕ). child_of_half l half) z ∙ ap (λ (w : ℕ). child_of_half level w) e ∙ child_read level first rest k lt
+    ap (λ (l : ℕ). child_of_word l found) z ∙ ap (λ (w : ℕ). child_of_word level w) e ∙ child_read level first rest k lt
 
--- buckets are few
-few : (n : ℕ) → IsTrue (is_number_of_buckets n) → n ≤ 4096
-few n h = grind (arith, nat_tests)
-
+-- a test is true or isn't
 number : Bool → ℕ
 number true = 0
 number false = 1
@@ -45,26 +42,16 @@ never e = let n : number false ≡ number true = ap number e in omega (arith, n)
 pub untrue : true ≡ false → ⊥
 untrue e = never (sym e)
 
-both : (a b : Bool) → IsTrue (a && b) → IsTrue a × IsTrue b
-both true true h = (h, h)
-both true false h = let q : false ≡ true = h in absurd (never q)
-both false b h = let q : false ≡ true = h in absurd (never q)
-
-pub buckets_few : (bs : List ℕ) (i : ℕ) → IsTrue (list_all is_number_of_buckets bs) → slice_index bs i ≤ 4096
-buckets_few [] i h = grind arith
-buckets_few (b ∷ bs) zero h = few b (both (is_number_of_buckets b) (list_all is_number_of_buckets bs) h).0
-buckets_few (b ∷ bs) (suc i) h = buckets_few bs i (both (is_number_of_buckets b) (list_all is_number_of_buckets bs) h).1
-
 -- what stands for a child of the plan is small
-half_small : (p : Layout) (level half : ℕ) → IsPlan p → ((n : Name) → child_of_half level half ≡ Some n → IsName p n) → half ≤ 2 ^ 24
+half_small : (p : Layout) (level found : ℕ) → IsPlan p → ((n : Name) → child_of_word level found ≡ Some n → IsName p n) → found ≤ 2 ^ 24
 half_small p level zero h f = omega arith
-half_small p level (suc at) h f = let n = f _ refl in let b = buckets_few p.buckets level h.buckets in omega (arith, n.bucket_in, b)
+half_small p level (suc at) h f = let n = f _ refl in let b = few_buckets p level h in omega (arith, n.bucket_in, b)
 
-pub child_small : (p : Layout) (level first : ℕ) (rest : Rest) (k half : ℕ) → IsPlan p → 1 ≤ level → k < 8 → HasNames p (key_of_words level first rest) → half ≡ half_number (word_number first rest (k / 2)) (k % 2) → half ≤ 2 ^ 24
-child_small p level first rest k half h above lt f e = half_small p (level - 1) half h (λ n q. f.each k n lt (sym (child_read_at level first rest k half above lt e) ∙ q))
+pub child_small : (p : Layout) (level first : ℕ) (rest : Rest) (k found : ℕ) → IsPlan p → 1 ≤ level → k < 8 → HasNames p (key_from level first rest) → found ≡ half (k % 2) (word_number first rest (k / 2)) → found ≤ 2 ^ 24
+child_small p level first rest k found h above lt f e = half_small p (level - 1) found h (λ n q. f.each k n lt (sym (child_read_at level first rest k found above lt e) ∙ q))
 
 -- the eight children of a node's key
-pub eight_children : (level first : ℕ) (rest : Rest) → 1 ≤ level → Node (key_child (key_of_words level first rest) 0 ∷ key_child (key_of_words level first rest) 1 ∷ key_child (key_of_words level first rest) 2 ∷ key_child (key_of_words level first rest) 3 ∷ key_child (key_of_words level first rest) 4 ∷ key_child (key_of_words level first rest) 5 ∷ key_child (key_of_words level first rest) 6 ∷ key_child (key_of_words level first rest) 7 ∷ []) ≡ key_of_words level first rest
+pub eight_children : (level first : ℕ) (rest : Rest) → 1 ≤ level → Node (key_child (key_from level first rest) 0 ∷ key_child (key_from level first rest) 1 ∷ key_child (key_from level first rest) 2 ∷ key_child (key_from level first rest) 3 ∷ key_child (key_from level first rest) 4 ∷ key_child (key_from level first rest) 5 ∷ key_child (key_from level first rest) 6 ∷ key_child (key_from level first rest) 7 ∷ []) ≡ key_from level first rest
 eight_children zero first rest h = absurd (omega arith)
 eight_children (suc level) first rest h = refl
 
@@ -82,13 +69,13 @@ pub rest_read : (v w : Written) (i : ℕ) (y : Rest) → v ≡ w → i < length 
 rest_read v w i y e lt q = sym (q ∙ ap (λ (u : Written). slice_index_or u.rests i y) e ∙ default_any w.rests i y no_rest lt)
 
 -- two rows of words say one key or two
-pub same_words : (level a b : ℕ) (r s : Rest) → a ≡ b → r ≡ s → key_of_words level a r ≡ key_of_words level b s
+pub same_words : (level a b : ℕ) (r s : Rest) → a ≡ b → r ≡ s → key_from level a r ≡ key_from level b s
 same_words level a b r s e f = cc
 
-pub first_apart : (level a b : ℕ) (r s : Rest) → a ≢ b → key_of_words level a r ≢ key_of_words level b s
+pub first_apart : (level a b : ℕ) (r s : Rest) → a ≢ b → key_from level a r ≢ key_from level b s
 first_apart level a b r s ne = λ q. ne (one_first level a b r s q)
 
-pub rest_apart : (level a b : ℕ) (r s : Rest) → level ≢ 0 → r ≢ s → key_of_words level a r ≢ key_of_words level b s
+pub rest_apart : (level a b : ℕ) (r s : Rest) → level ≢ 0 → r ≢ s → key_from level a r ≢ key_from level b s
 rest_apart level a b r s above ne = λ q. ne (one_rest level a b r s (omega arith) q)
 
 -- a test that failed stands for a fact that doesn't hold

@@ -7,7 +7,7 @@ use Rattle.node_shapes.specs.declared.names.Name.{Name}
 use Rattle.node_places.specs.Names.{IsName}
 use Rattle.entry_words.specs.declared.key_words.Rest.{Rest}
 use Rattle.entry_words.specs.Slots.{slot_place}
-use Rattle.entry_words.specs.Coding.{key_of_words}
+use Rattle.entry_words.specs.Coding.{key_from}
 use Rattle.entry_words.specs.Words.{Written, rest_at, no_rest, book_in}
 use Rattle.entry_words.specs.Tags.{tag_of_word, tag_of_words, mixed_words, AreTagged, AreEntries}
 use Rattle.entry_words.specs.Changes.{OtherBooksStay, SetsBook, PutsEntry}
@@ -20,7 +20,7 @@ unfolding tag_of_word
 tag_some level first rest = omega arith
 
 -- one key has one tag
-pub tag_same : (level a b : ℕ) (r s : Rest) → key_of_words level a r ≡ key_of_words level b s → tag_of_words level a r ≡ tag_of_words level b s
+pub tag_same : (level a b : ℕ) (r s : Rest) → key_from level a r ≡ key_from level b s → tag_of_words level a r ≡ tag_of_words level b s
 unfolding mixed_words
 tag_same zero a b r s e = let f : a ≡ b = one_first zero a b r s e in ap (λ (x : ℕ). tag_of_words zero x s) f
 tag_same (suc level) a b r s e =
@@ -52,7 +52,7 @@ sets_book w n i book b e lt = record {
   others = other_books w n i book b e;
 }
 
-pub puts_entry : (w : Written) (n : Name) (i first : ℕ) (rest : Rest) → IsName w.plan n → i ≡ slot_place w.plan n → i < length w.books → i < length w.firsts → i < length w.rests → PutsEntry w n (key_of_words n.level first rest) (with_entry w i first rest)
+pub puts_entry : (w : Written) (n : Name) (i first : ℕ) (rest : Rest) → IsName w.plan n → i ≡ slot_place w.plan n → i < length w.books → i < length w.firsts → i < length w.rests → PutsEntry w n (key_from n.level first rest) (with_entry w i first rest)
 puts_entry w n i first rest b e lt lt' lt'' = record {
   plan = refl;
   key_is = rw (sym e) (same_words n.level _ _ _ _ (get_or-set_same w.firsts i first 0 lt') (get_or-set_same w.rests i rest no_rest lt''));

@@ -6,7 +6,7 @@ use Rattle.node_words.specs.Plans.{Layout}
 use Rattle.node_places.specs.Names.{IsName, named}
 use Rattle.entry_words.specs.declared.key_words.Rest.{Rest}
 use Rattle.entry_words.specs.Slots.{slot_place}
-use Rattle.entry_words.specs.Coding.{key_of_words}
+use Rattle.entry_words.specs.Coding.{key_from}
 
 -- by place, the book of each slot, the first word of its key, and the words behind it
 pub record Written : Type 0 where
@@ -34,7 +34,7 @@ rest_in w n = rest_at w.rests (slot_place w.plan n)
 
 -- the key of a name. A slot that was freed keeps its key
 abbrev pub key_in : Written → Name → Key
-key_in w n = key_of_words n.level (first_in w n) (rest_in w n)
+key_in w n = key_from n.level (first_in w n) (rest_in w n)
 
 -- a live name has the key
 pub record HasEntry (w : Written) (n : Name) (key : Key) : Type 0 where

@@ -6,13 +6,14 @@ ghost use Rattle.node_words.specs.Keys.{bucket_of_key};
 ghost use Rattle.node_places.specs.Spots.{levels, buckets_at};
 ghost use Rattle.node_places.specs.Names.{IsName, HasNames, named, key_bits, key_child};
 ghost use Rattle.entry_words.specs.Slots.{slot_place, IsBucket};
-ghost use Rattle.entry_words.specs.Coding.{key_of, key_of_words, word_number};
+ghost use Rattle.entry_words.specs.Coding.{key_of, key_from, word_number};
 ghost use Rattle.entry_words.specs.Words.{rest_at, book_in, key_in, HasEntry, LacksKey, IsLowestFree, AreLiveBelow};
 ghost use Rattle.entry_words.specs.Changes.{SetsBook, PutsEntry};
 
 use crate::ends::ends_of;
-use crate::key_words::{KeyWords, NO_REST, Rest, child_of, half_of};
+use crate::key_words::{KeyWords, NO_REST, Rest, half_of};
 use crate::tags::{position, tag_of};
+use node_places::child_in;
 use node_words::{Key, Name, Plan, bucket_of};
 use std::alloc::{AllocError, Global};
 use std::marker::Model;
@@ -140,7 +141,7 @@ impl EntryWords {
     {
         let _plan = self.plan;
         let word = self.word(self.place(n), octant / 2);
-        child_of(n.level - 1, half_of(word, octant % 2))
+        child_in(half_of(word, octant % 2), n.level - 1)
     }
 
     /// The children of a node.
@@ -237,7 +238,7 @@ impl EntryWords {
     fn has_words(&self, i: usize, level: u8, words: &KeyWords) -> bool
         requires firsts { i < length self.now.firsts }
         requires rests { i < length self.now.rests }
-        ensures { IsTrue result ↔ (key_of_words level (slice_index self.now.firsts i) (rest_at self.now.rests i) ≡ key_of level words.now) }
+        ensures { IsTrue result ↔ (key_from level (slice_index self.now.firsts i) (rest_at self.now.rests i) ≡ key_of level words.now) }
     {
         if self.firsts[i] != words.first {
             return false;

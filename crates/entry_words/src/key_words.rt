@@ -1,9 +1,10 @@
-ghost use Rattle.std.specs.Prelude.{◌≡◌, ◌↔◌, ◌+◌, ◌*◌, ◌%◌, ◌/◌, ◌^◌, ◌<◌, ◌≤◌, Option, IsTrue};
+ghost use Rattle.std.specs.Prelude.{◌≡◌, ◌↔◌, ◌+◌, ◌*◌, ◌^◌, ◌<◌, ◌≤◌, Option, IsTrue};
 ghost use Rattle.node_shapes.specs.declared.names.Name.{Name};
 ghost use Rattle.node_places.specs.Words.{word_of_child};
-ghost use Rattle.entry_words.specs.Coding.{key_of, HasLevel, rest_word, half_number, child_of_half};
+ghost use Rattle.node_places.specs.KeyWords.{IsKeyAt, half};
+ghost use Rattle.entry_words.specs.Coding.{key_of, rest_word};
 
-use node_places::{child_word, pair_word};
+use node_places::{child_word, halves, pair_word};
 use node_words::{Key, Name};
 
 /// The words of a key: the bits of a leaf, or two children in each word of a node.
@@ -52,7 +53,7 @@ impl Rest {
 /// The words of a key of this level.
 #[tactic(auto, using(crate::proofs::WordLaws::leaf_words, crate::proofs::WordLaws::node_words))]
 pub fn words_of(level: u8, key: &Key) -> KeyWords
-    requires { HasLevel level key.now }
+    requires { IsKeyAt level key.now }
     ensures { key_of level result ≡ key.now }
 {
     match key {
@@ -73,38 +74,18 @@ pub fn words_of(level: u8, key: &Key) -> KeyWords
 
 // The word of two children, the first in its low half.
 fn pair(low: Option<Name>, high: Option<Name>) -> u64
-    ensures word { result ≡ word_of_child low + 2 ^ 32 * word_of_child high }
-    ensures small { word_of_child low < 2 ^ 32 }
+    ensures { result ≡ word_of_child low + 2 ^ 32 * word_of_child high }
 {
     let low = child_word(low);
     let high = child_word(high);
     pair_word(low, high)
 }
 
-// The low half of a word, or its high half.
-pub(crate) fn half_of(word: u64, half: u8) -> u32
-    requires { half < 2 }
-    ensures { result ≡ half_number word half }
+// A half of a word, the low one first.
+pub(crate) fn half_of(word: u64, number: u8) -> u32
+    requires { number < 2 }
+    ensures { result ≡ half number word }
 {
-    if half == 0 {
-        (word % (1 << 32)) as u32
-    } else {
-        (word >> 32) as u32
-    }
-}
-
-// The child of this level that half of a word stands for.
-pub(crate) fn child_of(level: u8, half: u32) -> Option<Name>
-    requires { half ≤ 2 ^ 24 }
-    ensures { result ≡ child_of_half level half }
-{
-    if half == 0 {
-        return None;
-    }
-    let at = half - 1;
-    Some(Name {
-        level,
-        bucket: (at / 256) as u16,
-        slot: (at % 256) as u8,
-    })
+    let (low, high) = halves(word);
+    if number == 0 { low } else { high }
 }

@@ -18,11 +18,12 @@ use Rattle.node_words.specs.Plans.{Layout, IsPlan}
 use Rattle.node_words.specs.Keys.{bucket_of_key}
 use Rattle.node_places.specs.Spots.{buckets_at, versions}
 use Rattle.node_places.specs.Names.{IsName, HasNames, named, key_bits, key_child}
-use Rattle.node_places.specs.Words.{IsChildAt}
+use Rattle.node_places.specs.KeyWords.{FitsHalf, IsKeyAt}
+use Rattle.node_words.proofs.PlanLaws.{few_buckets}
 use Rattle.core_laws.specs.States.{IsLive, tree_at, shape_in}
 use Rattle.core_laws.specs.Counting.{weight, children_weight}
 use Rattle.core_laws.specs.Soundness.{FitsLevel, SoundEntries, HasEnough, IsFull}
-use Rattle.core_laws.specs.Events.{Adds, IsMissing, one_name, children_of}
+use Rattle.core_laws.specs.Events.{Adds, IsMissing, one_name, children_named}
 use Rattle.core_laws.specs.Standing.{AllStand}
 use Rattle.core_laws.proofs.Enough.{enough}
 use Rattle.core_laws.proofs.EntrySteps.{add_entries, add_keys, given_lives}
@@ -32,7 +33,6 @@ use Rattle.core_laws.proofs.SeenNodes.{leaf_tree, node_tree}
 use Rattle.core_laws.proofs.StepLaws.{tree_kept}
 use Rattle.core_laws.proofs.Trees.{node_at-same, tree_stays}
 use Rattle.core_laws.proofs.Sums.{is_name}
-use Rattle.entry_words.specs.Coding.{HasLevel}
 use Rattle.entry_words.specs.Words.{Written, book_in, key_in}
 use Rattle.entry_words.proofs.SlotLaws.{slot_name}
 use Rattle.store_notes.specs.Told.{nothing_told}
@@ -44,16 +44,22 @@ use Rattle.one_store.specs.Steps.{AddsNode, MeetsFull, IsSoughtKey, sought_key, 
 use Rattle.one_store.proofs.StateLaws.{root_weight, trade, row_weighs, row_number, holdings-one, child_weighs, stand_again}
 
 -- a key that fits, of children of the plan, can be said by words
-child_fits : (p : Layout) (level : ℕ) (o : Option Name) → IsPlan p → ((n : Name) → o ≡ Some n → IsName p n × (n.level + 1 ≡ level)) → IsChildAt (level - 1) o
-child_fits p level None plan f = tt
-child_fits p level (Some n) plan f = let c = f n refl in (omega (arith, c.1), omega (arith, c.0.slot_in, plan.cap_high))
+child_fits : (p : Layout) (level : ℕ) (o : Option Name) → IsPlan p → ((n : Name) → o ≡ Some n → IsName p n × (n.level + 1 ≡ level)) → FitsHalf (level - 1) o
+child_fits p level None plan f = record { is_child = tt; low = omega arith }
+child_fits p level (Some n) plan f =
+    let c = f n refl in
+    let few = few_buckets p n.level plan in
+    record { is_child = (omega (arith, c.1), omega (arith, c.0.slot_in, plan.cap_high)); low = omega (arith, c.0.bucket_in, c.0.slot_in, plan.cap_high, few) }
 
-pub fits_words : (p : Layout) (level : ℕ) (k : Key) → IsPlan p → FitsLevel level k → HasNames p k → HasLevel level k
+pub fits_words : (p : Layout) (level : ℕ) (k : Key) → IsPlan p → FitsLevel level k → HasNames p k → IsKeyAt level k
 fits_words p zero (Leaf bits) plan f names = refl
 fits_words p zero (Node children) plan f names = absurd f
 fits_words p (suc level) (Leaf bits) plan f names = absurd f
-fits_words p (suc level) (Node children) plan f names =
-    (omega arith, f.0, λ k lt. child_fits p (suc level) (name_in children k) plan (λ n e. (names.each k n lt e, f.1.each k n lt e)))
+fits_words p (suc level) (Node children) plan f names = record {
+  above = omega arith;
+  eight = f.0;
+  each = λ k lt. child_fits p (suc level) (name_in children k) plan (λ n e. (names.each k n lt e, f.1.each k n lt e));
+}
 
 root_over : (level : ℕ) (key : Name → Key) (n : Name) (k : Key) → root_of (tree_over level key n k) ≡ Some n
 root_over zero key n k = refl
@@ -85,7 +91,7 @@ add_event old new s n q missing h a =
         key = λ m l ne. a.words.other_keys.each m l.name ne;
       };
       roots = λ v. ap (λ (r : List (Option Name)). root_in r v) a.roots;
-      held = trade old.told.held new.told.held (children_of k) (one_name n)
+      held = trade old.told.held new.told.held (children_named k) (one_name n)
           (λ f. omega (arith, h.weighs (root_weight f), row_weighs f (key_in old.words) (s.level - 1) k))
           (λ f. let root : root_weight f (tree_over s.level (key_in old.words) n k) ≡ f n = ap (λ (o : Option Name). weight f o) (root_over s.level (key_in old.words) n k) in
           omega (arith, a.told.closes.weighs (root_weight f), root, row_weighs f (key_in old.words) (s.level - 1) k));
@@ -103,7 +109,7 @@ module _ (old new : Known) (s : SoughtKey) (n : Name) (event : Adds old.words.pl
   -- the children of the new key are live, and keep their trees
   child_live : (k : Key) (m : Name) (j : ℕ) → k ≡ sought_key s → j < 8 → key_child k j ≡ Some m → IsLive old.words.plan (core_of old) m
   child_live k m j e lt c =
-      given_lives old.words.plan (core_of old) 0 (children_of (sought_key s)) (one_name n) (core_of new).held m so event.held
+      given_lives old.words.plan (core_of old) 0 (children_named (sought_key s)) (one_name n) (core_of new).held m so event.held
       (subst (λ (x : Key). 0 < children_weight (is_name m) x) e (child_weighs k m j lt c))
 
   octant_same : (level j : ℕ) → j < 8 → FitsLevel (suc level) (sought_key s) → tree_at (key_in new.words) level (key_child (sought_key s) j) ≡ tree_at (key_in old.words) level (key_child (sought_key s) j)

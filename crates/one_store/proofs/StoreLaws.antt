@@ -17,12 +17,12 @@ use Rattle.core_laws.specs.States.{IsLive, tree_at, shape_in}
 use Rattle.core_laws.specs.Counting.{weight, children_weight}
 use Rattle.core_laws.specs.Soundness.{SoundEntries, HasEnough}
 use Rattle.core_laws.specs.Standing.{AllStand}
-use Rattle.core_laws.specs.Events.{Raises, Lowers, Frees, OthersStay, RootsStay, no_name, one_name, children_of}
+use Rattle.core_laws.specs.Events.{Raises, Lowers, Frees, OthersStay, RootsStay, no_name, one_name, children_named}
 use Rattle.core_laws.proofs.EntrySteps.{raise_entries, lower_entries, free_entries, raise_keys, lower_keys, free_keys}
 use Rattle.core_laws.proofs.Bounds.{book_small}
 use Rattle.entry_words.specs.Words.{Written, book_in, key_in}
 use Rattle.entry_words.specs.Changes.{SetsBook}
-use Rattle.entry_words.proofs.ReadLaws.{buckets_few}
+use Rattle.node_words.proofs.PlanLaws.{few_buckets}
 use Rattle.store_notes.specs.Changes.{MakesNothing}
 use Rattle.store_notes.proofs.HeldLists.{held_gained, held_lost, held_parted}
 use Rattle.one_store.specs.Known.{Known, IsStore, IsStoreOf, core_of, tree_in, row_of, root_in}
@@ -102,7 +102,7 @@ ones_weigh (t ∷ ts) = omega (arith, weigh-cons (root_weight (λ _. 1)) t ts, w
 pub book_low : (v : Known) (number : ℕ) (n : Name) → IsStore v number → IsLive v.words.plan (core_of v) n → book_in v.words n ≤ 92340224 + number_of v.told.held
 book_low v number n s l =
     let p = v.words.plan in
-    let small = book_small p (core_of v) n 4096 s.sound (λ level lt. buckets_few p.buckets level s.plan.buckets) l in
+    let small = book_small p (core_of v) n 4096 s.sound (λ level lt. few_buckets p level s.plan) l in
     let cap : p.cap * 8 ≤ 2048 = omega (arith, s.plan.cap_high) in
     let one : 4096 * (p.cap * 8) ≤ 8388608 = omega (arith, cap) in
     let all : levels p * (4096 * (p.cap * 8)) ≤ 11 * 8388608 = mul-le (levels p) (4096 * (p.cap * 8)) 11 8388608 (omega (arith, s.plan.side_high)) one in
@@ -162,7 +162,7 @@ free_event old new n number s h last r = record {
   book = r.words.book_is;
   others = book_others old.words.plan old new n _ refl r.words;
   roots = roots_stay old new r.roots;
-  held = trade old.told.held new.told.held (one_name n) (children_of (key_in old.words n)) (λ f. held_weighs old n f h)
+  held = trade old.told.held new.told.held (one_name n) (children_named (key_in old.words n)) (λ f. held_weighs old n f h)
       (λ f. omega (arith, r.told.parts.weighs (root_weight f), tree_weighs old n f, row_weighs f (key_in old.words) (n.level - 1) (key_in old.words n)));
 }
 

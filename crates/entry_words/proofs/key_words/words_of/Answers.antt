@@ -1,15 +1,11 @@
 use Rattle.std.proofs.Common.{◌∙◌, sym, subst}
 use Rattle.node_words.specs.declared.keys.Key.{Key}
-use Rattle.entry_words.specs.Coding.{HasLevel}
+use Rattle.node_places.specs.KeyWords.{IsKeyAt}
 use Rattle.entry_words.proofs.WordLaws.{node_words}
 use Rattle.entry_words.proofs.key_words.words_of.Goals as goal
 
 pub returns-in-Node : goal.returns-in-Node
 returns-in-Node c =
-    let h = subst (λ (k : Key). HasLevel c.args.level k) c.in-Node.is c.requires in
-    node_words c.args.level c.pair.result c.pair-in-Node.result c.pair-in-Node-2.result c.pair-in-Node-3.result c.in-Node.children h
-    (record { word_is = c.pair.ensures.word; small = c.pair.ensures.small })
-    (record { word_is = c.pair-in-Node.ensures.word; small = c.pair-in-Node.ensures.small })
-    (record { word_is = c.pair-in-Node-2.ensures.word; small = c.pair-in-Node-2.ensures.small })
-    (record { word_is = c.pair-in-Node-3.ensures.word; small = c.pair-in-Node-3.ensures.small })
+    let h = subst (λ (k : Key). IsKeyAt c.args.level k) c.in-Node.is c.requires in
+    node_words c.args.level c.pair.result c.pair-in-Node.result c.pair-in-Node-2.result c.pair-in-Node-3.result c.in-Node.children h c.pair.ensures c.pair-in-Node.ensures c.pair-in-Node-2.ensures c.pair-in-Node-3.ensures
     ∙ sym c.in-Node.is

@@ -1,6 +1,6 @@
 use Rattle.std.proofs.Common.{◌≡◌, ◌+◌, ℕ, ap, sym, subst, arith, List, refl, ◌∙◌, Bool}
 use Rattle.std.specs.Prelude.{slice_index, IsTrue}
-use Rattle.entry_words.specs.Coding.{key_of, key_of_words}
+use Rattle.entry_words.specs.Coding.{key_of, key_from}
 use Rattle.entry_words.specs.Words.{Written, rest_at}
 use Rattle.entry_words.specs.Tags.{AreTagged, LacksByte, IsFirstPlace}
 use Rattle.entry_words.proofs.FindLaws.{has_key, lacks_to, lacks_one}
@@ -15,7 +15,7 @@ returns-then-has_words-clause-found c =
     let tagged = subst (λ (w : Written). AreTagged w c.self.inside.tags.items) c.self.view_is c.self.invariant.tagged in
     let place = subst (λ (tags : List ℕ). IsFirstPlace tags c.loop-i.from end c.tag_of-tag.result c.in-Some.i) c.deref.ensures.value c.in-Some.ensures.found in
     has_key c.args.self.now c.self.inside.tags.items c.args.level c.args.bucket start end c.in-Some.i c.loop-i.from c.args.words.first c.tag_of-tag.result c.args.words.rest
-    tagged c.requires c.start-start.ensures.value (omega (arith, cap, c.from.ensures, c.cap.ensures.value)) c.tag_of-tag.ensures c.loop-i.invariant.low place (subst (λ (b : Bool). IsTrue b → key_of_words c.args.level (slice_index c.args.self.now.firsts c.in-Some.i) (rest_at c.args.self.now.rests c.in-Some.i) ≡ key_of c.args.level c.args.words) c.if-has_words.true c.has_words.ensures.0 refl)
+    tagged c.requires c.start-start.ensures.value (omega (arith, cap, c.from.ensures, c.cap.ensures.value)) c.tag_of-tag.ensures c.loop-i.invariant.low place (subst (λ (b : Bool). IsTrue b → key_from c.args.level (slice_index c.args.self.now.firsts c.in-Some.i) (rest_at c.args.self.now.rests c.in-Some.i) ≡ key_of c.args.level c.args.words) c.if-has_words.true c.has_words.ensures.0 refl)
 
 pub loop-i-preserved : goal.loop-i-preserved
 loop-i-preserved c =
