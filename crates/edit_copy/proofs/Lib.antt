@@ -1,0 +1,4 @@
+pub mod WindowLaws
+pub mod CopyLaws
+pub mod CopyBits
+pub mod StartLaws

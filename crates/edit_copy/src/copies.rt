@@ -1,0 +1,130 @@
+ghost use Rattle.std.specs.Prelude.{◌≡◌, ◌+◌, ◌-◌, ◌*◌, ◌^◌, ◌<◌, ◌≤◌, ℕ, IsTrue, bit_and, bit_or};
+ghost use Rattle.std.specs.Int.{bit_not, w64};
+
+use crate::sources::{are_none, leaves_in, same_sources, sources_in, step_to};
+use block_walk::{half_side, leaf_bits, octant_name, part_of, same_boxes, same_cells, same_names};
+use edit_cells::{Task, Whole, old_whole};
+use node_shapes::Name;
+use node_words::{Blocks, box_bits, window_bits};
+use vw_cell::{Block, Boxed, Cell};
+
+/// Copies into one block. The cells of a box, told by their places in the block, are taken from a cube of eight
+/// blocks of the block's size, from an offset on.
+#[derive(Clone, Copy, Debug)]
+pub struct CopyTask {
+    pub(crate) old: Option<Name>,
+    pub(crate) sources: [Option<Name>; 8],
+    pub(crate) offset: Cell,
+    pub(crate) part: Boxed,
+}
+
+pub(crate) const ORIGIN: Cell = Cell { x: 0, y: 0, z: 0 };
+
+impl Task for CopyTask {
+    ghost use Rattle.std.specs.Prelude.{◌-◌};
+    ghost use Rattle.edit_cells.specs.Tasks.{blocks_in};
+    ghost use Rattle.edit_copy.specs.Copies.{MakesCopy};
+
+    ghost makes = { MakesCopy };
+
+    ghost mixed = { λ level t. blocks_in level };
+
+    ghost mixed_in = { λ level t k. blocks_in (level - 1) };
+
+    fn octant<B: Blocks>(&self, store: &mut B, level: u8, octant: u8) -> CopyTask {
+        let half = half_side(level);
+        let part = part_of(half, self.part, octant);
+        let old = kept_old(store, level, self.old, octant, part);
+        let step = step_to(self.offset, level - 1, octant);
+        let sources = sources_in(store, level, &self.sources, step.at, step.rest);
+        CopyTask {
+            old,
+            sources,
+            offset: step.rest,
+            part,
+        }
+    }
+
+    fn whole(&self, level: u8) -> Whole {
+        let block = Block { level, at: ORIGIN };
+        if !self.part.meets(block) {
+            return old_whole(self.old);
+        }
+        if self.part.holds_block(block) {
+            if same_cells(self.offset, ORIGIN) {
+                return old_whole(self.sources[0]);
+            }
+            if are_none(&self.sources) {
+                return Whole::Nothing;
+            }
+        }
+        Whole::Mixed
+    }
+
+    fn bits<B: Blocks>(&self, store: &mut B) -> u64 {
+        let old = leaf_bits(store, self.old);
+        let leaves = leaves_in(store, &self.sources);
+        let moved = window_bits(
+            &leaves,
+            self.offset.x as u8,
+            self.offset.y as u8,
+            self.offset.z as u8,
+        );
+        let inside = box_bits(
+            self.part,
+            Block {
+                level: 0,
+                at: ORIGIN,
+            },
+        );
+        mix(old, moved, inside)
+    }
+
+    fn is_same(&self, other: &CopyTask) -> bool {
+        if !same_names(self.old, other.old) {
+            return false;
+        }
+        if !same_cells(self.offset, other.offset) {
+            return false;
+        }
+        if !same_boxes(self.part, other.part) {
+            return false;
+        }
+        same_sources(&self.sources, &other.sources)
+    }
+}
+
+// What stands in an octant now, where the copy leaves cells of it: none where the box holds the whole octant.
+fn kept_old<B: Blocks>(
+    store: &mut B,
+    level: u8,
+    old: Option<Name>,
+    octant: u8,
+    part: Boxed,
+) -> Option<Name>
+    requires level { (1 ≤ level) × (level ≤ 10) }
+    requires octant { octant < 8 }
+    requires block { HasBlock (B.seen store.old).held level old }
+    ensures old { IsKeptOld (B.seen store.old).held level old octant part result }
+    ensures seen { B.seen store.new ≡ B.seen store.old }
+    ensures rests { B.rests store.old store.new }
+{
+    let block = Block {
+        level: level - 1,
+        at: ORIGIN,
+    };
+    if part.holds_block(block) {
+        return None;
+    }
+    octant_name(store, level, old, octant)
+}
+
+ghost use Rattle.block_walk.specs.Roots.{HasBlock};
+ghost use Rattle.edit_copy.specs.Copies.{IsKeptOld};
+
+// The bits that moved where those inside are set, and the old ones elsewhere.
+fn mix(old: u64, moved: u64, inside: u64) -> u64
+    ensures { result ≡ bit_or (bit_and old (bit_not w64 inside)) (bit_and moved inside) }
+{
+    old & !inside | moved & inside
+}
