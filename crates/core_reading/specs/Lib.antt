@@ -1,2 +1,4 @@
 pub mod Reading
 pub mod WordStatements
+pub mod Slots
+pub mod SlotStatements

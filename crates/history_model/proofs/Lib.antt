@@ -10,3 +10,4 @@ pub mod GoingOn
 pub mod TakingLaws
 pub mod ReadLaws
 pub mod OnceLaws
+pub mod MakingLaws

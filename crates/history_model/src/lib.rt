@@ -5,8 +5,10 @@
 
 mod acts;
 mod entries;
+mod fitting;
 mod histories;
 mod journal;
+mod making;
 mod packing;
 mod placing;
 mod positions;
@@ -19,6 +21,7 @@ mod ways;
 pub use acts::Act;
 pub use histories::{History, Mark, Record};
 pub use journal::journal_text;
+pub use making::may_make;
 pub use packing::{pack, unpack};
 pub use positions::position;
 pub use questions::Question;
