@@ -1,0 +1,37 @@
+use Rattle.std.proofs.Common.{refl, sym, subst, true}
+use Rattle.std.proofs.lemmas.Bool.{false≢true}
+use Rattle.vw_cell.specs.declared.cells.Cell.{Cell}
+use Rattle.vw_cell.specs.Places.{Meets, HoldsBlock}
+use Rattle.edit_cells.specs.declared.tasks.Whole.{Whole}
+use Rattle.edit_cells.specs.Tasks.{IsWhole}
+use Rattle.edit_cells.proofs.PaintLaws.{paints_missed, paints_held}
+use Rattle.edit_cells.proofs.WorldLaws.{blocks_some}
+use Rattle.edit_stamp.proofs.StampLaws.{stamp_missed, stamp_empty, stamp_full}
+use Rattle.edit_stamp.proofs.stamps.StampTaskTask.whole.Goals as goal
+
+pub returns-then-not-meets-clause-whole : goal.returns-then-not-meets-clause-whole
+returns-then-not-meets-clause-whole c base cells m =
+    subst (λ (w : Whole). IsWhole base c.args.level cells w) (sym c.old_whole.ensures)
+    (paints_missed base c.args.level c.args.self.now.old _ _ cells
+    (stamp_missed c.args.self.now.stencil.now c.args.self.now.place (record { level = c.args.level; at = c.args.self.now.at })
+    (λ h. false≢true (c.if-not-meets.ensures.1 (subst (λ (s : Cell). Meets (record { at = c.args.self.now.place; size = s }) (record { level = c.args.level; at = c.args.self.now.at })) (sym c.size.ensures.value) h)))) m.paints)
+
+pub side_of-side-requires : goal.side_of-side-requires
+side_of-side-requires c = let (base, cells, m) = c.requires.task in m.small
+
+pub returns-then-is_all-clause-whole : goal.returns-then-is_all-clause-whole
+returns-then-is_all-clause-whole c base cells m =
+    subst (λ (w : Whole). IsWhole base c.args.level cells w) (sym c.old_whole-then-is_all.ensures)
+    (paints_missed base c.args.level c.args.self.now.old _ _ cells (stamp_empty c.args.self.now.stencil.now c.args.self.now.place c.args.self.now.at c.args.level _ c.side_of-side.ensures.value (c.if-is_all.ensures refl)) m.paints)
+
+pub returns-then-is_all-2-clause-whole : goal.returns-then-is_all-2-clause-whole
+returns-then-is_all-2-clause-whole c base cells m =
+    paints_held base c.args.level _ true _ cells
+    (stamp_full c.args.self.now.stencil.now c.args.self.now.place c.args.self.now.at c.args.level _ c.side_of-side.ensures.value (c.if-is_all-2.ensures refl)
+    (subst (λ (s : Cell). HoldsBlock (record { at = c.args.self.now.place; size = s }) (record { level = c.args.level; at = c.args.self.now.at })) c.size.ensures.value (c.if-not-holds_block.ensures.0 refl))) m.paints
+
+pub returns-clause-mixed : goal.returns-clause-mixed
+returns-clause-mixed c e h = blocks_some c.args.level h
+
+pub returns-then-not-holds_block-clause-mixed : goal.returns-then-not-holds_block-clause-mixed
+returns-then-not-holds_block-clause-mixed c e h = blocks_some c.args.level h

@@ -1,0 +1,27 @@
+-- What a stamp makes of one block.
+use Rattle.std.specs.Prelude.{ℕ, ◌≤◌, ◌&&◌, ◌||◌, Bool, true, List}
+use Rattle.vw_cell.specs.declared.cells.Cell.{Cell}
+use Rattle.vw_cell.specs.Places.{is_in_box, LiesIn}
+use Rattle.node_shapes.specs.Tree.{Tree}
+use Rattle.history_model.specs.Worlds.{box_at, less}
+use Rattle.cell_shapes.specs.CellShapes.{Cells}
+use Rattle.edit_cells.specs.Paints.{Paints}
+use Rattle.edit_cells.specs.Worlds.{cells_from}
+use Rattle.node_shapes.specs.declared.names.Name.{Name}
+use Rattle.std.specs.Prelude.{Option}
+use Rattle.edit_stamp.specs.Drawings.{Drawn, drawn_cells}
+
+-- the cell is one of the drawn model's, with its least corner at this place
+abbrev pub is_stamped : Drawn → Cell → Cell → Bool
+is_stamped drawn place p = is_in_box (box_at place drawn.size) p && drawn_cells drawn (less p place)
+
+-- over these trees the block at this place of the world gets the stamp
+pub record MakesStamp (old : Option Name) (drawn : Drawn) (place at : Cell) (base : List Tree) (level : ℕ) (cells : Cells) : Type 0 where
+  pub small : level ≤ 10
+  pub inside : LiesIn 4096 (record { level = level; at = at })
+  pub stands : (place.x ≤ 4096) × (place.y ≤ 4096) × (place.z ≤ 4096)
+  pub paints : Paints base level old true (cells_from at (is_stamped drawn place)) cells
+
+-- the world with the cells of the drawn model, whose least corner is at this place
+abbrev pub stamped : Drawn → Cell → (Cell → Bool) → Cell → Bool
+stamped drawn place before p = is_stamped drawn place p || before p

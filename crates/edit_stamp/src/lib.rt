@@ -1,0 +1,12 @@
+//! Stamps of models over any store of nodes.
+#![tactic(auto)]
+
+mod laws;
+mod rebuild;
+mod scans;
+mod stamps;
+mod stencils;
+
+pub use laws::stencils_stamp_their_models;
+pub use rebuild::rebuild_stamp;
+pub use stencils::Stencil;

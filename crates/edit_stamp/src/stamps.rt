@@ -1,0 +1,78 @@
+ghost use Rattle.std.specs.Prelude.{◌≡◌, ◌+◌, ◌-◌, ◌*◌, ◌^◌, ◌<◌, ◌≤◌, ℕ, IsTrue};
+
+use crate::stencils::Stencil;
+use block_walk::{leaf_bits, octant_name};
+use edit_cells::{Task, Whole, old_whole, paint, side_of};
+use node_shapes::Name;
+use node_words::Blocks;
+use vw_cell::{Block, Boxed, Cell};
+
+/// Sets the cells of a model, whose least corner is at `place`, in the block at `at`.
+#[derive(Clone, Copy)]
+pub struct StampTask<'s> {
+    pub(crate) old: Option<Name>,
+    pub(crate) stencil: &'s Stencil,
+    pub(crate) place: Cell,
+    pub(crate) at: Cell,
+}
+
+impl<'s> Task for StampTask<'s> {
+    ghost use Rattle.std.specs.Prelude.{◌-◌};
+    ghost use Rattle.edit_cells.specs.Tasks.{blocks_in};
+    ghost use Rattle.edit_stamp.specs.Stamps.{MakesStamp};
+
+    ghost makes = { λ t. MakesStamp t.old t.stencil.now t.place t.at };
+
+    ghost mixed = { λ level t. blocks_in level };
+
+    ghost mixed_in = { λ level t k. blocks_in (level - 1) };
+
+    fn octant<B: Blocks>(&self, store: &mut B, level: u8, octant: u8) -> StampTask<'s> {
+        let old = octant_name(store, level, self.old, octant);
+        let block = Block { level, at: self.at };
+        let part = block.child(octant);
+        StampTask {
+            old,
+            stencil: self.stencil,
+            place: self.place,
+            at: part.at,
+        }
+    }
+
+    fn whole(&self, level: u8) -> Whole {
+        let place = Boxed {
+            at: self.place,
+            size: self.stencil.size(),
+        };
+        let block = Block { level, at: self.at };
+        if !place.meets(block) {
+            return old_whole(self.old);
+        }
+        let side = side_of(level);
+        if self.stencil.is_all(self.place, self.at, side, false) {
+            return old_whole(self.old);
+        }
+        if !place.holds_block(block) {
+            return Whole::Mixed;
+        }
+        if self.stencil.is_all(self.place, self.at, side, true) {
+            return Whole::All;
+        }
+        Whole::Mixed
+    }
+
+    fn bits<B: Blocks>(&self, store: &mut B) -> u64 {
+        let old = leaf_bits(store, self.old);
+        let block = Block {
+            level: 0,
+            at: self.at,
+        };
+        let inside = self.stencil.leaf_bits(self.place, block);
+        paint(true, old, inside)
+    }
+
+    // Blocks at different places of a stamp have different cells.
+    fn is_same(&self, _other: &StampTask<'s>) -> bool {
+        false
+    }
+}

@@ -1,0 +1,151 @@
+ghost use Rattle.std.specs.Prelude.{IsTrue};
+ghost use Rattle.std.specs.Prelude.{◌≡◌, ◌+◌, ◌-◌, ◌*◌, ◌/◌, ◌%◌, ◌^◌, ◌<◌, ◌≤◌, ℕ, slice_index, bit_and};
+ghost use Rattle.std.specs.Prelude.{IfOk, ◌==◌, ◌&&◌, ◌||◌};
+ghost use Rattle.std.specs.Int.{bit_at};
+ghost use Rattle.node_shapes.specs.Shape.{bit_number};
+ghost use Rattle.vox_read.specs.Contents.{IsModel, IsSize, StandsIn};
+ghost use Rattle.vw_cell.specs.declared.blocks.Block.{Block};
+ghost use Rattle.node_kernels.specs.Leaves.{LeafShows};
+ghost use Rattle.edit_stamp.specs.Drawings.{IsWord, Draws, AllDrawn, leaves_of, leaf_number};
+ghost use Rattle.edit_stamp.specs.Stamps.{is_stamped};
+
+use crate::scans::{are_all, touched};
+use node_words::{box_bits, window_bits};
+use std::alloc::Global;
+use vox_read::{Model, Voxel, cells};
+use vw_cell::{Block, Boxed, Cell, Memory};
+
+/// The cells of a model as the bits of leaves. Contracts see the model's size and its cells.
+#[derive(Drop)]
+pub struct Stencil {
+    size: Cell,
+    words: Vec<u64>,
+}
+
+impl std::marker::Model for Stencil {
+    ghost use Rattle.edit_stamp.specs.Drawings.{Drawn, HasLeaves};
+
+    ghost Value = { Drawn };
+
+    ghost view = { λ s. record { size = s.size; words = s.words.items } };
+
+    ghost invariant = { λ s. HasLeaves s.size s.words.items };
+}
+
+impl Stencil {
+    /// Draws the cells of the model, once for all of its stamps.
+    pub fn new(alloc: Global, model: &Model) -> Result<Stencil, Memory>
+        requires { IsModel model.now }
+        ensures { IfOk result (λ s. Draws model.now s) }
+    {
+        let cells = cells(alloc, model)?;
+        let size = model.size;
+        let mut words: Vec<u64> = vec![in alloc; 0; leaf_count(size)]?;
+        for voxel in &cells {
+            let leaf = leaf_of(size, *voxel);
+            let word = words[leaf];
+            words[leaf] = with_cell(word, *voxel);
+        }
+        Ok(Stencil { size, words })
+    }
+
+    /// The model's size.
+    pub fn size(&self) -> Cell
+        ensures value { result ≡ self.now.size }
+        ensures bounds { (result.x ≤ 256) × (result.y ≤ 256) × (result.z ≤ 256) }
+    {
+        self.size
+    }
+
+    /// Whether the model's places in a cube of the world are all set, or all unset. It may miss some that are.
+    pub fn is_all(&self, place: Cell, at: Cell, side: u32, set: bool) -> bool
+        requires side { side ≤ 4096 }
+        ensures { IsTrue result → AllDrawn self.now place at side set }
+    {
+        let size = self.size();
+        let want = all_bits(set);
+        let leaves = touched(size, place, at, side);
+        are_all(size, &self.words, leaves, want)
+    }
+
+    // The bits of a leaf, counted from 1,024 leaves before the model's least corner, where there is one.
+    fn word(&self, x: u16, y: u16, z: u16) -> u64
+        ensures { IsWord self.now x y z result }
+    {
+        let i = usize::from(x.saturating_sub(1024));
+        let j = usize::from(y.saturating_sub(1024));
+        let k = usize::from(z.saturating_sub(1024));
+        let wide = usize::from((self.size.x + 3) / 4);
+        let deep = usize::from((self.size.y + 3) / 4);
+        let number = (k * deep + j) * wide + i;
+        if number < self.words.len() {
+            self.words[number]
+        } else {
+            0
+        }
+    }
+
+    /// Which cells of the leaf's block the model sets, with its least corner at this place.
+    pub fn leaf_bits(&self, place: Cell, block: Block) -> u64
+        requires level { block.level ≡ 0 }
+        requires block { (block.at.x + 4 ≤ 4096) × (block.at.y + 4 ≤ 4096) × (block.at.z + 4 ≤ 4096) }
+        requires place { (place.x ≤ 4096) × (place.y ≤ 4096) × (place.z ≤ 4096) }
+        ensures bits { LeafShows result block (is_stamped self.now place) }
+        ensures bound { result < 2 ^ 64 }
+    {
+        let x = block.at.x + 4096 - place.x;
+        let y = block.at.y + 4096 - place.y;
+        let z = block.at.z + 4096 - place.z;
+        let mut leaves: [u64; 8] = [0; 8];
+        for j in 0..8usize {
+            let word = self.word(
+                x / 4 + (j % 2) as u16,
+                y / 4 + (j / 2 % 2) as u16,
+                z / 4 + (j / 4 % 2) as u16,
+            );
+            leaves[j] = word;
+        }
+        let moved = window_bits(&leaves, (x % 4) as u8, (y % 4) as u8, (z % 4) as u8);
+        let size = self.size();
+        let inside = box_bits(Boxed { at: place, size }, block);
+        moved & inside
+    }
+}
+
+// How many leaves there are in a size.
+fn leaf_count(size: Cell) -> usize
+    requires { IsSize size }
+    ensures value { result ≡ leaves_of size.z * leaves_of size.y * leaves_of size.x }
+    ensures bound { result ≤ 262144 }
+{
+    let x = usize::from((size.x + 3) / 4);
+    let y = usize::from((size.y + 3) / 4);
+    let z = usize::from((size.z + 3) / 4);
+    z * y * x
+}
+
+// The number of the leaf that the voxel stands in.
+fn leaf_of(size: Cell, v: Voxel) -> usize
+    requires size { IsSize size }
+    requires inside { StandsIn size v }
+    ensures value { result ≡ leaf_number size (v.x / 4) (v.y / 4) (v.z / 4) }
+    ensures bound { result < leaves_of size.z * leaves_of size.y * leaves_of size.x }
+{
+    let wide = usize::from((size.x + 3) / 4);
+    let deep = usize::from((size.y + 3) / 4);
+    (usize::from(v.z / 4) * deep + usize::from(v.y / 4)) * wide + usize::from(v.x / 4)
+}
+
+// The word with the bit of the voxel's place set.
+fn with_cell(word: u64, v: Voxel) -> u64
+    ensures { (m : ℕ) → m < 64 → (bit_at result m == 1) ≡ ((m == bit_number (v.x % 4) (v.y % 4) (v.z % 4)) || (bit_at word m == 1)) }
+{
+    let bit = u32::from(v.x % 4 + 4 * (v.y % 4) + 16 * (v.z % 4));
+    word | 1 << bit
+}
+
+fn all_bits(set: bool) -> u64
+    ensures { (b : ℕ) → b < 64 → (bit_at result b == 1) ≡ set }
+{
+    if set { u64::MAX } else { 0 }
+}
