@@ -35,7 +35,7 @@ moves_on a b c p q = record { words = q.words ∙ ap (λ (w : Written). with_boo
 pub moves_itself : (a : Known) → Moves a a
 moves_itself a = record { words = refl; roots = refl }
 
-only_on : (a b c : Told) → MakesNothing a b → MakesNothing b c → MakesNothing a c
+pub only_on : (a b c : Told) → MakesNothing a b → MakesNothing b c → MakesNothing a c
 only_on a b c p q = record { made = q.made ∙ p.made; met = q.met ∙ p.met }
 
 tree_weight : (v : Known) (n : Name) (f : Tree → ℕ) → weight_of f (tree_in v n) ≡ f (tree_in v n)

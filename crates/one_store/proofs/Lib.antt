@@ -4,3 +4,5 @@ pub mod AddLaws
 pub mod BackLaws
 pub mod TraitLaws
 pub mod NodeLaws
+pub mod RootLaws
+pub mod CountLaws

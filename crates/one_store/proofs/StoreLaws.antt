@@ -80,13 +80,13 @@ held_is v number t n s h e = sym (standing_at v.words.plan (core_of v) t n (inr 
 pub held_tree : (v : Known) (number : ℕ) (n : Name) → IsStore v number → HoldsName v.told.held n → IsHeld v.told.held (tree_in v n)
 held_tree v number n s h = subst (λ t. IsHeld v.told.held t) (held_is v number h.tree n s h.is_held h.root) h.is_held
 
-held_some : (v : Known) (number : ℕ) (n : Name) → IsStore v number → HoldsName v.told.held n → 1 ≤ number
+pub held_some : (v : Known) (number : ℕ) (n : Name) → IsStore v number → HoldsName v.told.held n → 1 ≤ number
 held_some v number n s h = omega (arith, s.number_is, h.is_held.weighs (λ _. 1))
 
-held_weighs : (v : Known) (n : Name) (f : Name → ℕ) → HoldsName v.told.held n → f n ≤ weigh (root_weight f) v.told.held
+pub held_weighs : (v : Known) (n : Name) (f : Name → ℕ) → HoldsName v.told.held n → f n ≤ weigh (root_weight f) v.told.held
 held_weighs v n f h = let same : root_weight f h.tree ≡ f n = ap (weight f) h.root in omega (arith, h.is_held.weighs (root_weight f), same)
 
-tree_weighs : (v : Known) (n : Name) (f : Name → ℕ) → root_weight f (tree_in v n) ≡ f n
+pub tree_weighs : (v : Known) (n : Name) (f : Name → ℕ) → root_weight f (tree_in v n) ≡ f n
 tree_weighs v n f = ap (weight f) (tree_root (key_in v.words) n.level n)
 
 one_root : (t : Tree) → root_weight (λ _. 1) t ≤ 1

@@ -12,6 +12,7 @@ use Rattle.node_places.specs.Names.{key_child}
 use Rattle.node_places.specs.Spots.{versions}
 use Rattle.entry_words.specs.Words.{Written, book_in, key_in}
 use Rattle.store_notes.specs.Told.{Told}
+use Rattle.block_contents.specs.Aligned.{top}
 use Rattle.core_laws.specs.States.{State, IsLive, tree_at, shape_in}
 use Rattle.core_laws.specs.Soundness.{SoundEntries, HasEnough}
 use Rattle.core_laws.specs.Standing.{AllStand}
@@ -55,6 +56,10 @@ tree_in v n = tree_at (key_in v.words) n.level (Some n)
 abbrev pub row_of : (Name → Key) → ℕ → Key → ℕ → Tree
 row_of key level k octant = tree_at key level (key_child k octant)
 
+-- the tree of a root, which is of the top level
+abbrev pub root_tree : Known → Option Name → Tree
+root_tree v root = tree_at (key_in v.words) (top v.words.plan.side) root
+
 -- the entries are sound, what is held stands in them and is counted; each live entry was made, and each full bucket
 -- that was met had enough different shapes made; and there are places for roots, which are of the top level
 pub record IsStoreOf (p : Layout) (v : Known) (number : ℕ) : Type 0 where
@@ -65,7 +70,7 @@ pub record IsStoreOf (p : Layout) (v : Known) (number : ℕ) : Type 0 where
   pub listed : (n : Name) → IsLive p (core_of v) n → Contains v.told.made (shape_in (core_of v) n)
   pub enough : All (λ w. HasEnough p v.told.made w.level w.bucket) v.told.met
   pub places : length v.roots ≡ versions
-  pub tops : (place : ℕ) (n : Name) → root_in v.roots place ≡ Some n → n.level + 2 ≡ p.side
+  pub tops : (place : ℕ) (n : Name) → root_in v.roots place ≡ Some n → n.level ≡ top p.side
 
 -- so many shares are held of a store
 abbrev pub IsStore : Known → ℕ → Type 0

@@ -1,5 +1,5 @@
 -- The steps of a store for one thread.
-use Rattle.std.specs.Prelude.{◌≡◌, ℕ, ◌+◌, ◌-◌, ◌<◌, Option, Some, List}
+use Rattle.std.specs.Prelude.{◌≡◌, ◌≢◌, ℕ, ◌+◌, ◌-◌, ◌<◌, Option, Some, None, List}
 use Rattle.std.proofs.Common.{zero, suc}
 use Rattle.node_shapes.specs.declared.names.Name.{Name}
 use Rattle.node_shapes.specs.Shape.{Shape, Leaf, branch_of}
@@ -19,7 +19,7 @@ use Rattle.entry_words.specs.Words.{Written, book_in, key_in, IsLowestFree, AreL
 use Rattle.entry_words.specs.Changes.{SetsBook, PutsEntry}
 use Rattle.store_notes.specs.Changes.{MakesNothing, NotesGain, NotesLoss, NotesFreeing, NotesEntry, NotesFull}
 use Rattle.one_store.specs.declared.sought.SoughtKey.{SoughtKey}
-use Rattle.one_store.specs.Known.{Known, tree_in, row_of}
+use Rattle.one_store.specs.Known.{Known, tree_in, row_of, root_in, root_tree}
 
 -- the same keys with other books
 abbrev pub with_books : Written → List ℕ → Written
@@ -103,3 +103,19 @@ pub record MeetsFull (old : Known) (s : SoughtKey) (new : Known) : Type 0 where
   pub roots : new.roots ≡ old.roots
   pub full : AreLiveBelow old.words s.level s.bucket old.words.plan.cap
   pub told : NotesFull old.told (record { level = s.level; bucket = s.bucket; shape = shape_over s.level (key_in old.words) (sought_key s) }) new.told
+
+-- the root came to its place, and its share went, where there is one
+pub record KeepsRoot (old : Known) (place : ℕ) (root : Option Name) (new : Known) : Type 0 where
+  pub words : new.words ≡ old.words
+  pub here : root_in new.roots place ≡ root
+  pub elsewhere : (other : ℕ) → other ≢ place → root_in new.roots other ≡ root_in old.roots other
+  pub only : MakesNothing old.told new.told
+  pub loses : Loses old.told.held (root_tree old root) new.told.held
+
+-- the place is empty, and a share of the root that it had came, where there was one
+pub record GivesRoot (old : Known) (place : ℕ) (new : Known) : Type 0 where
+  pub words : new.words ≡ old.words
+  pub here : root_in new.roots place ≡ None
+  pub elsewhere : (other : ℕ) → other ≢ place → root_in new.roots other ≡ root_in old.roots other
+  pub only : MakesNothing old.told new.told
+  pub gains : Loses new.told.held (root_tree old (root_in old.roots place)) old.told.held

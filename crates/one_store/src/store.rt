@@ -1,19 +1,25 @@
 ghost use Rattle.std.specs.Prelude.{◌≡◌, ◌+◌, ◌*◌, ◌-◌, ◌<◌, ◌≤◌, ◌^◌, ℕ, [], None, Some, Option, IfOk, IfErr, IfSome, replicate};
+ghost use Rattle.std.specs.Option.{ForSome};
 ghost use Rattle.node_shapes.specs.declared.names.Name.{Name};
 ghost use Rattle.node_shapes.specs.Weights.{number_of};
 ghost use Rattle.node_words.specs.declared.keys.Key.TheVariants.{Node};
 ghost use Rattle.node_words.specs.Held.{HoldsName, AreBelow};
-ghost use Rattle.node_places.specs.Spots.{levels};
+ghost use Rattle.node_places.specs.Spots.{levels, versions};
 ghost use Rattle.node_places.specs.Names.{IsName, HasNames};
 ghost use Rattle.core_laws.specs.States.{IsLive, tree_at};
-ghost use Rattle.core_laws.specs.Counting.{weight, children_weight};
+ghost use Rattle.core_laws.specs.Counting.{weight, children_weight, if_live};
 ghost use Rattle.core_laws.specs.Soundness.{FitsLevel};
-ghost use Rattle.core_laws.specs.Events.{IsMissing};
+ghost use Rattle.core_laws.specs.Blocks.{RootsShow, HasBlocks, live_in, live_number};
+ghost use Rattle.core_laws.specs.Events.{IsMissing, PutsRoot, TakesRoot};
+ghost use Rattle.history_model.specs.Worlds.{World};
+ghost use Rattle.block_contents.specs.Aligned.{top};
+ghost use Rattle.entry_words.specs.Slots.{IsBucket};
 ghost use Rattle.entry_words.specs.Words.{book_in, key_in, HasEntry};
 ghost use Rattle.store_notes.specs.Told.{nothing_told};
 ghost use Rattle.store_notes.specs.Changes.{HoldsRow};
 ghost use Rattle.one_store.specs.Known.{Known, IsStore, core_of, known_seen, tree_in, row_of, root_in};
 ghost use Rattle.one_store.specs.Steps.{RaisesShare, LowersShare, FreesNode, Releases, ReleasesRow, HoldsChild};
+ghost use Rattle.one_store.specs.Steps.{KeepsRoot, GivesRoot};
 ghost use Rattle.one_store.specs.Steps.{IsSoughtKey, AddsNode, MeetsFull, sought_key};
 
 use crate::sought::SoughtKey;
@@ -63,6 +69,101 @@ impl OneStore {
             number: 0,
             notes: Notes::new(alloc)?,
         })
+    }
+
+    /// The share moves from the held ones into the place.
+    pub fn keep_root(&mut self, place: u32, root: Option<Share>)
+        requires place { place < versions }
+        requires empty { root_in self.old.roots place ≡ None }
+        requires held { ForSome root (λ n. HoldsName self.old.told.held n) }
+        requires top { ForSome root (λ n. n.level ≡ top self.old.words.plan.side) }
+        ensures keeps { KeepsRoot self.old place root self.new }
+        ensures event { PutsRoot self.old.words.plan 0 place root (core_of self.old) (core_of self.new) }
+    {
+        match root {
+            Some(share) => self.place_root(place as usize, share.spend()),
+            None => {}
+        }
+    }
+
+    fn place_root(&mut self, place: usize, n: Name)
+        requires place { place < versions }
+        requires empty { root_in self.old.roots place ≡ None }
+        requires held { HoldsName self.old.told.held n }
+        requires top { n.level ≡ top self.old.words.plan.side }
+        ensures keeps { KeepsRoot self.old place (Some n) self.new }
+        ensures event { PutsRoot self.old.words.plan 0 place (Some n) (core_of self.old) (core_of self.new) }
+    {
+        tell_loss::<Brand>(&mut self.notes, &self.words, n);
+        self.roots[place] = Some(n);
+        self.number -= 1;
+    }
+
+    /// The root of the place, whose share is held again; the place is empty. Shares of the roots of all places may
+    /// be held at once.
+    pub fn take_root(&mut self, place: u32) -> Option<Share>
+        requires place { place < versions }
+        requires room { number_of self.old.told.held ≤ 69631 }
+        ensures root { result ≡ root_in self.old.roots place }
+        ensures top { IfSome result (λ n. n.level ≡ top self.old.words.plan.side) }
+        ensures gives { GivesRoot self.old place self.new }
+        ensures event { TakesRoot self.old.words.plan 0 place (core_of self.old) (core_of self.new) }
+    {
+        let _number = self.number;
+        match self.roots[place as usize] {
+            Some(n) => {
+                self.empty_place(place as usize, n);
+                Some(Share::of_store(n))
+            }
+            None => None,
+        }
+    }
+
+    fn empty_place(&mut self, place: usize, n: Name)
+        requires place { place < versions }
+        requires root { root_in self.old.roots place ≡ Some n }
+        requires room { number_of self.old.told.held ≤ 69631 }
+        ensures top { n.level ≡ top self.old.words.plan.side }
+        ensures gives { GivesRoot self.old place self.new }
+        ensures event { TakesRoot self.old.words.plan 0 place (core_of self.old) (core_of self.new) }
+    {
+        tell_gain::<Brand>(&mut self.notes, &self.words, n);
+        self.roots[place] = None;
+        self.number += 1;
+    }
+
+    /// How many nodes of this level are live. Where no share is held, these are as many as the different blocks
+    /// with a set cell that the roots in places have.
+    pub fn live(&self, level: u8) -> u32
+        requires { level < levels self.now.words.plan }
+        ensures number { result ≡ live_number self.now.words.plan (core_of self.now) level }
+        ensures blocks { (cells : ℕ → World) → RootsShow self.now.words.plan cells (core_of self.now) → number_of self.now.told.held ≡ 0 → HasBlocks self.now.words.plan cells (core_of self.now) level result }
+    {
+        let _number = self.number;
+        let buckets = self.words.plan().buckets()[usize::from(level)];
+        let mut number = 0;
+        for bucket in 0..buckets {
+            number += self.live_in(level, bucket);
+        }
+        number
+    }
+
+    // How many nodes of a bucket are live.
+    fn live_in(&self, level: u8, bucket: u16) -> u32
+        requires { IsBucket self.now.words.plan level bucket }
+        ensures number { result ≡ live_in self.now.words.plan (core_of self.now) level bucket }
+        ensures few { result ≤ 256 }
+    {
+        let mut number = 0;
+        for slot in 0..self.words.plan().cap() {
+            let n = Name {
+                level,
+                bucket,
+                slot: slot as u8,
+            };
+            number += one_where_live(self.words.book(n));
+        }
+        number
     }
 
     // How many shares are held.
@@ -258,6 +359,13 @@ pub(crate) fn number_in(children: &[Option<Name>; 8]) -> u32
         + one_in(children[6])
         + one_in(children[7]);
     low + high
+}
+
+fn one_where_live(book: u32) -> u32
+    ensures value { result ≡ if_live book 1 }
+    ensures one { result ≤ 1 }
+{
+    if book > 0 { 1 } else { 0 }
 }
 
 fn one_in(child: Option<Name>) -> u32

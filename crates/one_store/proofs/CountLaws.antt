@@ -1,0 +1,38 @@
+-- Live nodes are counted slot by slot and bucket by bucket.
+use Rattle.std.proofs.Common.{◌≡◌, ℕ, zero, suc, ◌+◌, ◌<◌, List, [], ◌∷◌, refl, sym, ◌∙◌, ap, subst, arith}
+use Rattle.vw_cell.specs.Counts.{sum_below, sum_below-suc, sum_below-zero}
+use Rattle.node_shapes.specs.declared.names.Name.{Name}
+use Rattle.node_shapes.specs.Tree.{Tree}
+use Rattle.node_shapes.specs.Weights.{weigh, number_of}
+use Rattle.node_shapes.proofs.WeightLaws.{weigh-nil, weigh-cons}
+use Rattle.history_model.specs.Worlds.{World}
+use Rattle.node_places.specs.Spots.{levels}
+use Rattle.core_laws.specs.Blocks.{IsIdle, RootsShow, HasBlocks, live_number}
+use Rattle.core_laws.specs.Counting.{if_live}
+use Rattle.core_laws.proofs.LiveNumbers.{live_numbers}
+use Rattle.one_store.specs.Known.{Known, IsStore, core_of}
+use Rattle.one_store.proofs.StateLaws.{root_weight, holdings-one}
+
+pub live_one : (book : ℕ) → 0 < book → 1 ≡ if_live book 1
+live_one zero some = absurd (omega arith)
+live_one (suc book) some = refl
+
+pub live_none : (book : ℕ) → book ≡ 0 → 0 ≡ if_live book 1
+live_none book none = ap (λ (b : ℕ). if_live b 1) (sym none)
+
+pub counted_none : (f : ℕ → ℕ) → 0 ≡ sum_below 0 f
+counted_none f = sym (sum_below-zero f)
+
+pub counted_next : (f : ℕ → ℕ) (n x y : ℕ) → x ≡ sum_below n f → y ≡ f n → x + y ≡ sum_below (n + 1) f
+counted_next f n x y e g =
+    let z : n + 1 ≡ suc n = omega arith in
+    rw z (omega (arith, e, g, sum_below-suc n f))
+
+nothing_held : (ts : List Tree) (f : Tree → ℕ) → number_of ts ≡ 0 → weigh f ts ≡ 0
+nothing_held [] f e = weigh-nil f
+nothing_held (t ∷ ts) f e = absurd (omega (arith, e, weigh-cons (λ _. 1) t ts))
+
+-- where no share is held, the live nodes of a level are as many as the different blocks of the roots
+pub live_blocks : (v : Known) (number level : ℕ) (cells : ℕ → World) → IsStore v number → level < levels v.words.plan → RootsShow v.words.plan cells (core_of v) → number_of v.told.held ≡ 0 → HasBlocks v.words.plan cells (core_of v) level (live_number v.words.plan (core_of v) level)
+live_blocks v number level cells s lt roots none =
+    live_numbers v.words.plan cells (core_of v) level s.sound roots (record { weighs = λ f. holdings-one f v.told.held ∙ nothing_held v.told.held (root_weight f) none }) lt

@@ -1,0 +1,8 @@
+use Rattle.std.proofs.Common.{Some}
+use Rattle.core_laws.specs.States.{tree_at}
+use Rattle.entry_words.specs.Words.{key_in}
+use Rattle.store_notes.proofs.Picks.{gained}
+use Rattle.one_store.proofs.store.OneStore.empty_place.Given as goal
+
+abbrev pub ghosts-tell_gain : goal.ghosts-tell_gain
+ghosts-tell_gain a = record { next = gained a.notes.now (tree_at (key_in a.words.now) a.n.level (Some a.n)) }

@@ -1,0 +1,8 @@
+use Rattle.std.proofs.Common.{Some}
+use Rattle.core_laws.specs.States.{tree_at}
+use Rattle.entry_words.specs.Words.{key_in}
+use Rattle.store_notes.proofs.Picks.{lost}
+use Rattle.one_store.proofs.store.OneStore.place_root.Given as goal
+
+abbrev pub ghosts-tell_loss : goal.ghosts-tell_loss
+ghosts-tell_loss a = record { next = lost a.notes.now (tree_at (key_in a.words.now) a.n.level (Some a.n)) }
