@@ -1,13 +1,12 @@
 -- Live nodes are counted slot by slot and bucket by bucket.
-use Rattle.std.proofs.Common.{◌≡◌, ℕ, zero, suc, ◌+◌, ◌<◌, List, [], ◌∷◌, refl, sym, ◌∙◌, ap, subst, arith}
+use Rattle.std.proofs.Common.{◌≡◌, ℕ, zero, suc, ◌+◌, ◌<◌, List, [], ◌∷◌, refl, sym, ◌∙◌, ap, arith}
 use Rattle.vw_cell.specs.Counts.{sum_below, sum_below-suc, sum_below-zero}
-use Rattle.node_shapes.specs.declared.names.Name.{Name}
 use Rattle.node_shapes.specs.Tree.{Tree}
 use Rattle.node_shapes.specs.Weights.{weigh, number_of}
 use Rattle.node_shapes.proofs.WeightLaws.{weigh-nil, weigh-cons}
 use Rattle.history_model.specs.Worlds.{World}
 use Rattle.node_places.specs.Spots.{levels}
-use Rattle.core_laws.specs.Blocks.{IsIdle, RootsShow, HasBlocks, live_number}
+use Rattle.core_laws.specs.Blocks.{RootsShow, HasBlocks, live_number}
 use Rattle.core_laws.specs.Counting.{if_live}
 use Rattle.core_laws.proofs.LiveNumbers.{live_numbers}
 use Rattle.one_store.specs.Known.{Known, IsStore, core_of}

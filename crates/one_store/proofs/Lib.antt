@@ -6,3 +6,4 @@ pub mod TraitLaws
 pub mod NodeLaws
 pub mod RootLaws
 pub mod CountLaws
+pub mod CallLaws

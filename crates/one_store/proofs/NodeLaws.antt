@@ -153,7 +153,7 @@ pub record IsThere (o : Option Name) : Type 0 where
   pub name : Name
   pub is : o ≡ Some name
 
-some_name : (o : Option Name) → o ≢ None → IsThere o
+pub some_name : (o : Option Name) → o ≢ None → IsThere o
 some_name None ne = absurd (ne refl)
 some_name (Some n) ne = record { name = n; is = refl }
 

@@ -1,5 +1,5 @@
 -- Roots come to their places and leave them.
-use Rattle.std.proofs.Common.{◌≡◌, ◌≢◌, ℕ, ◌+◌, ◌-◌, ◌<◌, ◌≤◌, Some, None, Option, List, length, set, refl, sym, ◌∙◌, ap, subst, arith, inl, inr, get_or-set_same, get_or-set_other}
+use Rattle.std.proofs.Common.{◌≡◌, ℕ, ◌+◌, ◌-◌, ◌<◌, Some, None, Option, List, length, set, refl, sym, ◌∙◌, ap, subst, arith, inl, inr, get_or-set_same, get_or-set_other}
 use Rattle.std.specs.Prelude.{All}
 use Rattle.std.specs.List.{Contains}
 use Rattle.std.proofs.lemmas.Bool.{cases_eq}
@@ -7,30 +7,28 @@ use Rattle.std.proofs.lemmas.Option.{none-some, same_Some}
 use Rattle.std.proofs.lemmas.List.{length-set}
 use Rattle.node_shapes.specs.declared.names.Name.{Name}
 use Rattle.node_shapes.specs.Shape.{Shape}
-use Rattle.node_shapes.specs.Tree.{Tree, root_of}
-use Rattle.node_shapes.specs.Weights.{weigh, weight_of, number_of}
+use Rattle.node_shapes.specs.Weights.{weight_of, number_of}
 use Rattle.node_shapes.proofs.WeightLaws.{weight_of-there}
-use Rattle.node_words.specs.Held.{IsHeld, HoldsName, Wanted}
+use Rattle.node_words.specs.Held.{HoldsName, Wanted}
 use Rattle.node_words.specs.Gathering.{Loses}
-use Rattle.node_words.specs.Plans.{Layout}
 use Rattle.node_places.specs.Spots.{versions}
 use Rattle.block_contents.specs.Aligned.{top}
-use Rattle.core_laws.specs.States.{State, IsLive, tree_at, shape_in}
+use Rattle.core_laws.specs.States.{IsLive, tree_at, shape_in}
 use Rattle.core_laws.specs.Counting.{weight}
 use Rattle.core_laws.specs.Events.{PutsRoot, TakesRoot, EntriesStay, no_name, at_most_one}
 use Rattle.core_laws.specs.Soundness.{SoundEntries, HasEnough}
-use Rattle.core_laws.specs.Standing.{Stands, AllStand}
+use Rattle.core_laws.specs.Standing.{AllStand}
 use Rattle.core_laws.proofs.EntrySteps.{put_root_entries, take_root_entries, keys_stay}
 use Rattle.core_laws.proofs.Lives.{root_lives}
-use Rattle.entry_words.specs.Words.{Written, book_in, key_in}
+use Rattle.entry_words.specs.Words.{key_in}
 use Rattle.store_notes.specs.Told.{Told}
 use Rattle.store_notes.specs.Changes.{MakesNothing, NotesGain, NotesLoss}
 use Rattle.store_notes.proofs.HeldLists.{held_gained, held_lost}
 use Rattle.one_store.specs.Known.{Known, IsStore, core_of, tree_in, root_in, root_tree}
 use Rattle.one_store.specs.Steps.{KeepsRoot, GivesRoot}
 use Rattle.one_store.proofs.StateLaws.{root_weight, trade, tree_root, stand_again}
-use Rattle.one_store.proofs.StoreLaws.{held_name, held_tree, held_weighs, tree_weighs, held_some}
-use Rattle.one_store.proofs.BackLaws.{only_on, released_none}
+use Rattle.one_store.proofs.StoreLaws.{held_weighs, tree_weighs}
+use Rattle.one_store.proofs.BackLaws.{released_none}
 
 -- the store with other roots and notes
 abbrev pub with_roots : Known → List (Option Name) → Told → Known
@@ -96,7 +94,7 @@ keep_store old told place n number st lt none h e t =
     let event = keep_event old told place n number st lt none h t in
     let sound = put_root_entries p 0 place (Some n) (core_of old) (core_of new) st.sound event in
     let stand = stand_again p old new st.sound sound (keys_stay p (core_of old) (core_of new) event.entries)
-        (λ u i. inl (st.stand.each u (held_lost old.told.held told.held (tree_in old n) u t.loses i))) in
+    (λ u i. inl (st.stand.each u (held_lost old.told.held told.held (tree_in old n) u t.loses i))) in
     rooted_store old roots told number (number - 1) st t.only sound stand (omega (arith, st.number_is, t.loses.weighs (λ _. 1)))
     (length-set old.roots place (Some n) ∙ st.places) (λ at m q. set_tops p.side old.roots place at n m (omega (arith, lt, st.places)) e st.tops q)
 
@@ -160,10 +158,10 @@ take_store old told place n number st lt e t =
     let event = take_event old told place n number st lt e t in
     let sound = take_root_entries p 0 place (core_of old) (core_of new) st.sound event in
     let stand = stand_again p old new st.sound sound (keys_stay p (core_of old) (core_of new) event.entries)
-        (λ u i. elim (held_gained old.told.held told.held (tree_in old n) u t.gains i) [
-          | inl q ↦ inl (record { name = n; live = live; tree = sym q })
-          | inr j ↦ inl (st.stand.each u j)
-        ]) in
+    (λ u i. elim (held_gained old.told.held told.held (tree_in old n) u t.gains i) [
+      | inl q ↦ inl (record { name = n; live = live; tree = sym q })
+      | inr j ↦ inl (st.stand.each u j)
+    ]) in
     rooted_store old roots told number (number + 1) st t.only sound stand (omega (arith, st.number_is, t.gains.weighs (λ _. 1)))
     (length-set old.roots place None ∙ st.places) (λ at m q. empty_tops p.side old.roots place at m (omega (arith, lt, st.places)) st.tops q)
 

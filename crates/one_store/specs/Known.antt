@@ -1,6 +1,6 @@
 -- What a store for one thread is: words for its entries, roots in places, and what it noted. It is sound where the state
 -- of a core that these are read as is.
-use Rattle.std.specs.Prelude.{◌≡◌, ℕ, ◌+◌, Option, Some, None, List, [], ◌∷◌, All, length, slice_index_or}
+use Rattle.std.specs.Prelude.{◌≡◌, ℕ, Option, Some, None, List, [], ◌∷◌, All, length, slice_index_or}
 use Rattle.std.specs.List.{Contains}
 use Rattle.node_shapes.specs.declared.names.Name.{Name}
 use Rattle.node_shapes.specs.Tree.{Tree, root_of}

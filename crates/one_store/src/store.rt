@@ -1,4 +1,4 @@
-ghost use Rattle.std.specs.Prelude.{◌≡◌, ◌+◌, ◌*◌, ◌-◌, ◌<◌, ◌≤◌, ◌^◌, ℕ, [], None, Some, Option, IfOk, IfErr, IfSome, replicate};
+ghost use Rattle.std.specs.Prelude.{◌≡◌, ◌+◌, ◌*◌, ◌-◌, ◌<◌, ◌≤◌, ◌^◌, ℕ, [], None, Some, Option, IfOk, IfErr, IfSome, All, replicate};
 ghost use Rattle.std.specs.Option.{ForSome};
 ghost use Rattle.node_shapes.specs.declared.names.Name.{Name};
 ghost use Rattle.node_shapes.specs.Weights.{number_of};
@@ -8,7 +8,7 @@ ghost use Rattle.node_places.specs.Spots.{levels, versions};
 ghost use Rattle.node_places.specs.Names.{IsName, HasNames};
 ghost use Rattle.core_laws.specs.States.{IsLive, tree_at};
 ghost use Rattle.core_laws.specs.Counting.{weight, children_weight, if_live};
-ghost use Rattle.core_laws.specs.Soundness.{FitsLevel};
+ghost use Rattle.core_laws.specs.Soundness.{FitsLevel, HasEnough};
 ghost use Rattle.core_laws.specs.Blocks.{RootsShow, HasBlocks, live_in, live_number};
 ghost use Rattle.core_laws.specs.Events.{IsMissing, PutsRoot, TakesRoot};
 ghost use Rattle.history_model.specs.Worlds.{World};
@@ -20,6 +20,7 @@ ghost use Rattle.store_notes.specs.Changes.{HoldsRow};
 ghost use Rattle.one_store.specs.Known.{Known, IsStore, core_of, known_seen, tree_in, row_of, root_in};
 ghost use Rattle.one_store.specs.Steps.{RaisesShare, LowersShare, FreesNode, Releases, ReleasesRow, HoldsChild};
 ghost use Rattle.one_store.specs.Steps.{KeepsRoot, GivesRoot};
+ghost use Rattle.one_store.specs.Calls.{GivesBack};
 ghost use Rattle.one_store.specs.Steps.{IsSoughtKey, AddsNode, MeetsFull, sought_key};
 
 use crate::sought::SoughtKey;
@@ -166,6 +167,13 @@ impl OneStore {
         number
     }
 
+    /// Whatever met a full bucket, as many different shapes of that level and bucket were made as it has slots.
+    pub fn full_buckets_had_enough(&self)
+        ensures { All (λ w. HasEnough self.now.words.plan self.now.told.made w.level w.bucket) self.now.told.met }
+    {
+        let _number = self.number;
+    }
+
     // How many shares are held.
     pub(crate) fn number(&self) -> u32
         ensures number { result ≡ number_of (known_seen self.now).held }
@@ -288,7 +296,8 @@ impl OneStore {
     pub(crate) fn release<L: Ledger>(&mut self, n: Name, steps: &mut Steps<L>)
         requires held { HoldsName self.old.told.held n }
         requires room { number_of self.old.told.held + 8 * n.level ≤ 8192 }
-        ensures { Releases self.old (tree_in self.old n) self.new steps.old steps.new }
+        ensures releases { Releases self.old (tree_in self.old n) self.new steps.old steps.new }
+        ensures book { GivesBack self.old n self.new }
     {
         steps.tick();
         let book = self.words.book(n);

@@ -7,13 +7,14 @@ use Rattle.one_store.specs.Known.{Known, IsStore}
 use Rattle.one_store.specs.Steps.{Releases, HoldsChild}
 use Rattle.one_store.proofs.StoreLaws.{held_name}
 use Rattle.one_store.proofs.BackLaws.{released_none, released_left, released_leaf, released_node, leaf_number, live_names, node_below, node_holds, node_room, book_one, row_more, holds_next, row_room}
+use Rattle.one_store.proofs.CallLaws.{gave_one, gave_last, gave_node}
 use Rattle.one_store.proofs.store.OneStore.+back.Goals as goal
 
 pub release-book-book-requires : goal.release-book-book-requires
 release-book-book-requires g t c = (held_name _ _ c.args.n c.self.invariant (subst (λ (v : Known). HoldsName v.told.held c.args.n) (sym c.self.view_is) c.requires.held)).name
 
-pub release-returns-then-book-gt1 : goal.release-returns-then-book-gt1
-release-returns-then-book-gt1 g t c = released_left c.args.self.now c.lower.new.self c.args.n c.args.steps.now c.tick.new.self c.lower.ensures c.tick.ensures
+pub release-returns-then-book-gt1-clause-releases : goal.release-returns-then-book-gt1-clause-releases
+release-returns-then-book-gt1-clause-releases g t c = released_left c.args.self.now c.lower.new.self c.args.n c.args.steps.now c.tick.new.self c.lower.ensures c.tick.ensures
 
 pub release-free-requires-clause-last : goal.release-free-requires-clause-last
 release-free-requires-clause-last g t c =
@@ -26,8 +27,8 @@ release-free-requires-clause-children g t c =
     let s = subst (λ (v : Known). IsStore v c.self.inside.number) c.self.view_is c.self.invariant in
     leaf_number c.args.self.now _ c.args.n s c.requires.held c.if-n-eq0.true
 
-pub release-returns-then-n-eq0 : goal.release-returns-then-n-eq0
-release-returns-then-n-eq0 g t c =
+pub release-returns-then-n-eq0-clause-releases : goal.release-returns-then-n-eq0-clause-releases
+release-returns-then-n-eq0-clause-releases g t c =
     let s = subst (λ (v : Known). IsStore v c.self.inside.number) c.self.view_is c.self.invariant in
     let book = c.book-book.ensures ∙ ap (λ (v : Known). book_in v.words c.args.n) c.self.view_is in
     let one = book_one _ (held_name c.args.self.now _ c.args.n s c.requires.held).book (omega (arith, book, c.if-book-gt1.false)) in
@@ -55,8 +56,8 @@ release-release_row-requires g t c κs within =
     let room = node_room c.args.self.now c.free-2.new.self c.args.n above c.requires.room c.free-2.ensures in
     search (rules, arith, above, below, holds, room)
 
-pub release-returns : goal.release-returns
-release-returns g t c =
+pub release-returns-clause-releases : goal.release-returns-clause-releases
+release-returns-clause-releases g t c =
     let s = subst (λ (v : Known). IsStore v c.self.inside.number) c.self.view_is c.self.invariant in
     let k = c.children-children.ensures ∙ ap (λ (v : Known). key_in v.words c.args.n) c.self.view_is in
     let above : 1 ≤ c.args.n.level = omega (arith, c.if-n-eq0.false) in
@@ -81,3 +82,23 @@ release_row-loop-k-preserved g t c =
 pub release_some-returns-in-None : goal.release_some-returns-in-None
 release_some-returns-in-None g t c =
     subst (λ (o : Option Name). Releases c.args.self.now (tree_at (key_in c.args.self.now.words) (c.args.level - 1) o) c.args.self.now c.args.steps.now c.args.steps.now) (sym c.in-None.is) (released_none c.args.self.now c.args.steps.now (c.args.level - 1))
+
+pub release-returns-then-book-gt1-clause-book : goal.release-returns-then-book-gt1-clause-book
+release-returns-then-book-gt1-clause-book g t c =
+    let book = c.book-book.ensures ∙ ap (λ (v : Known). book_in v.words c.args.n) c.self.view_is in
+    gave_one c.args.self.now c.lower.new.self c.args.n c.lower.ensures (omega (arith, book, c.if-book-gt1.true))
+
+pub release-returns-then-n-eq0-clause-book : goal.release-returns-then-n-eq0-clause-book
+release-returns-then-n-eq0-clause-book g t c =
+    let s = subst (λ (v : Known). IsStore v c.self.inside.number) c.self.view_is c.self.invariant in
+    let book = c.book-book.ensures ∙ ap (λ (v : Known). book_in v.words c.args.n) c.self.view_is in
+    let one = book_one _ (held_name c.args.self.now _ c.args.n s c.requires.held).book (omega (arith, book, c.if-book-gt1.false)) in
+    gave_last c.args.self.now c.free.new.self c.args.n c.free.ensures one
+
+pub release-returns-clause-book : goal.release-returns-clause-book
+release-returns-clause-book g t c =
+    let s = subst (λ (v : Known). IsStore v c.self.inside.number) c.self.view_is c.self.invariant in
+    let live = held_name c.args.self.now _ c.args.n s c.requires.held in
+    let book = c.book-book.ensures ∙ ap (λ (v : Known). book_in v.words c.args.n) c.self.view_is in
+    let one = book_one _ live.book (omega (arith, book, c.if-book-gt1.false)) in
+    gave_node c.args.self.now c.free-2.new.self c.release_row.new.self c.args.n _ c.tick.new.self c.release_row.new.steps live c.free-2.ensures c.release_row.ensures one

@@ -1,4 +1,4 @@
-use Rattle.std.proofs.Common.{sym, subst, set, ◌≡◌, ◌≤◌, arith, None, Some, ℕ}
+use Rattle.std.proofs.Common.{sym, subst, set, ◌≡◌, ◌≤◌, arith, None, Some}
 use Rattle.node_shapes.specs.Weights.{number_of}
 use Rattle.block_contents.specs.Aligned.{top}
 use Rattle.core_laws.specs.Events.{TakesRoot}

@@ -1,4 +1,4 @@
-use Rattle.std.proofs.Common.{sym, subst, Option, None}
+use Rattle.std.proofs.Common.{sym, subst, Option}
 use Rattle.node_shapes.specs.declared.names.Name.{Name}
 use Rattle.core_laws.specs.Events.{PutsRoot}
 use Rattle.one_store.specs.Known.{core_of}

@@ -2,7 +2,6 @@ use Rattle.std.proofs.Common.{ap, sym, subst, ◌∙◌, ◌≡◌, arith, ℕ, 
 use Rattle.vw_cell.specs.Counts.{sum_below}
 use Rattle.node_words.specs.Plans.{Layout}
 use Rattle.node_places.specs.Spots.{buckets_at}
-use Rattle.node_shapes.specs.Weights.{number_of}
 use Rattle.core_laws.specs.Blocks.{live_in, HasBlocks}
 use Rattle.one_store.specs.Known.{Known, IsStore, core_of}
 use Rattle.one_store.proofs.CountLaws.{counted_none, counted_next, live_blocks}
@@ -22,9 +21,9 @@ returns-clause-blocks c cells roots none =
     let v = c.args.self.now in
     let s = subst (λ (w : Known). IsStore w c.self.inside.number) c.self.view_is c.self.invariant in
     let end : get_or c.buckets.result c.from.result 0 ≡ buckets_at v.words.plan c.args.level =
-        ap (λ (bs : List ℕ). get_or bs c.from.result 0) c.buckets.ensures.value
-        ∙ ap (λ (p : Layout). get_or p.buckets c.from.result 0) (c.plan.ensures.plan ∙ ap (λ (w : Known). w.words.plan) c.self.view_is)
-        ∙ ap (λ (i : ℕ). get_or v.words.plan.buckets i 0) c.from.ensures in
+    ap (λ (bs : List ℕ). get_or bs c.from.result 0) c.buckets.ensures.value
+    ∙ ap (λ (p : Layout). get_or p.buckets c.from.result 0) (c.plan.ensures.plan ∙ ap (λ (w : Known). w.words.plan) c.self.view_is)
+    ∙ ap (λ (i : ℕ). get_or v.words.plan.buckets i 0) c.from.ensures in
     let all : c.loop-bucket.bucket ≡ buckets_at v.words.plan c.args.level = omega (arith, end, c.loop-bucket.auto.bucket-end, c.loop-bucket-test.false) in
     let number = c.loop-bucket.invariant.number_is ∙ ap (λ (b : ℕ). sum_below b (live_in v.words.plan (core_of v) c.args.level)) all in
     subst (λ (n : ℕ). HasBlocks v.words.plan cells (core_of v) c.args.level n) (sym number) (live_blocks v _ c.args.level cells s c.requires roots none)

@@ -1,4 +1,4 @@
-use Rattle.std.proofs.Common.{sym, subst, set, ◌≡◌, None, Some, ℕ}
+use Rattle.std.proofs.Common.{sym, subst, set, ◌≡◌, None, Some}
 use Rattle.node_words.specs.Held.{HoldsName}
 use Rattle.block_contents.specs.Aligned.{top}
 use Rattle.core_laws.specs.Events.{PutsRoot}

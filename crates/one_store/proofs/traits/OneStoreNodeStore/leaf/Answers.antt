@@ -1,5 +1,6 @@
 use Rattle.std.proofs.Common.{refl}
 use Rattle.one_store.proofs.TraitLaws.{leaf_holds, leaf_count, leaf_found, leaf_hit, leaf_missed, leaf_added, leaf_met, if_ok, if_errs}
+use Rattle.one_store.proofs.CallLaws.{shares_found, leaf_level_of, missing_no_entry, found_not_missing, match_result, adds_entry, finds_full}
 use Rattle.one_store.proofs.traits.OneStoreNodeStore.leaf.Goals as goal
 
 pub add-requires-clause-held : goal.add-requires-clause-held
@@ -25,3 +26,22 @@ returns-in-None-clause-full g c =
     if_errs c.add.result
     (λ e m f. leaf_met c.args.self.now c.add.new.self c.seek-sought.result e.level e.bucket c.args.bits c.seek-sought.ensures.sought m f.0 f.1 c.seek-sought.ensures.level c.seek-sought.ensures.key)
     c.add.ensures.meets c.add.ensures.full
+
+pub returns-in-Some-clause-shared : goal.returns-in-Some-clause-shared
+returns-in-Some-clause-shared g c m h =
+    let st = c.number-number.ensures.store in
+    shares_found c.args.self.now c.raise.new.self c.seek-sought.result c.in-Some.n m c.raise.result _ 0 _ st c.seek-sought.ensures.level c.seek-sought.ensures.key c.in-Some.ensures.found c.raise.ensures.raises c.raise.ensures.share h (leaf_level_of c.args.self.now _ c.args.bits m st h)
+
+pub returns-in-Some-clause-added : goal.returns-in-Some-clause-added
+returns-in-Some-clause-added g c missing = absurd (found_not_missing c.args.self.now c.seek-sought.result c.in-Some.n 0 _ c.seek-sought.ensures.level c.seek-sought.ensures.key c.in-Some.ensures.found missing)
+
+pub returns-in-None-clause-shared : goal.returns-in-None-clause-shared
+returns-in-None-clause-shared g c m h =
+    absurd (missing_no_entry c.args.self.now c.seek-sought.result m 0 _ c.seek-sought.ensures.level c.seek-sought.ensures.key (c.in-None.ensures.none refl) h (leaf_level_of c.args.self.now _ c.args.bits m c.number-number.ensures.store h))
+
+pub returns-in-None-clause-added : goal.returns-in-None-clause-added
+returns-in-None-clause-added g c missing =
+    match_result c.add.result
+    (λ n a. adds_entry c.args.self.now c.add.new.self c.seek-sought.result n 0 _ c.seek-sought.ensures.sought c.seek-sought.ensures.level c.seek-sought.ensures.key a)
+    (λ e m f. finds_full c.args.self.now c.add.new.self c.seek-sought.result 0 e.bucket _ c.seek-sought.ensures.sought c.seek-sought.ensures.level c.seek-sought.ensures.key f.1 m)
+    c.add.ensures.adds c.add.ensures.meets c.add.ensures.full

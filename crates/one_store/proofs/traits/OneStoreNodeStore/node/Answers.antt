@@ -1,5 +1,7 @@
-use Rattle.std.proofs.Common.{◌≡◌, refl, length, arith}
+use Rattle.std.proofs.Common.{◌≡◌, ◌∙◌, ap, refl, length, arith}
+use Rattle.node_words.specs.declared.keys.Key.TheVariants.{Node}
 use Rattle.one_store.proofs.NodeLaws.{asks, held_under, node_fits, node_names, raised_holds, sought_holds, node_joined, node_turns, node_hit, node_missed, node_added, node_grants, node_met}
+use Rattle.one_store.proofs.CallLaws.{joins_found, node_level_of, missing_no_entry, found_not_missing, adds_entry, finds_full}
 use Rattle.one_store.proofs.traits.OneStoreNodeStore.node.Goals as goal
 
 pub seek-sought-requires-clause-fits : goal.seek-sought-requires-clause-fits
@@ -116,3 +118,39 @@ returns-in-Err-clause-full g c row a =
     let q = asks c.args.self.now c.args.level names c.args.children e len c.requires.level.0 c.requires.level.1 c.requires.some c.requires.below c.requires.held in
     let r = held_under c.args.self.now.told.held names c.args.children row e a in
     node_met c.args.self.now c.add.new.self c.seek-sought.result _ c.args.level _ _ names row st c.seek-sought.ensures.sought q c.seek-sought.ensures.level c.seek-sought.ensures.key c.in-Err.ensures.meets c.in-Err.ensures.full.0 c.in-Err.ensures.full.1 r
+
+pub returns-in-Some-clause-shared : goal.returns-in-Some-clause-shared
+returns-in-Some-clause-shared g c m h =
+    let st = c.number-number.ensures.store in
+    let key = c.seek-sought.ensures.key ∙ ap Node c.names_of-names.ensures in
+    let level = node_level_of c.args.self.now _ c.args.level c.args.children m st c.requires.below c.requires.some h in
+    joins_found c.args.self.now c.raise-share.new.self c.release_row.new.self c.seek-sought.result c.in-Some.n m c.raise-share.result _ c.args.level c.tick.new.self c.release_row.new.steps _ _ st c.seek-sought.ensures.level key c.in-Some.ensures.found c.raise-share.ensures.raises c.release_row.ensures c.raise-share.ensures.share h level
+
+pub returns-in-Some-clause-added : goal.returns-in-Some-clause-added
+returns-in-Some-clause-added g c missing =
+    let key = c.seek-sought.ensures.key ∙ ap Node c.names_of-names.ensures in
+    absurd (found_not_missing c.args.self.now c.seek-sought.result c.in-Some.n c.args.level _ c.seek-sought.ensures.level key c.in-Some.ensures.found missing)
+
+pub returns-in-Ok-clause-shared : goal.returns-in-Ok-clause-shared
+returns-in-Ok-clause-shared g c m h =
+    let st = c.number-number.ensures.store in
+    let key = c.seek-sought.ensures.key ∙ ap Node c.names_of-names.ensures in
+    let level = node_level_of c.args.self.now _ c.args.level c.args.children m st c.requires.below c.requires.some h in
+    absurd (missing_no_entry c.args.self.now c.seek-sought.result m c.args.level _ c.seek-sought.ensures.level key (c.in-None.ensures.none refl) h level)
+
+pub returns-in-Err-clause-shared : goal.returns-in-Err-clause-shared
+returns-in-Err-clause-shared g c m h =
+    let st = c.number-number.ensures.store in
+    let key = c.seek-sought.ensures.key ∙ ap Node c.names_of-names.ensures in
+    let level = node_level_of c.args.self.now _ c.args.level c.args.children m st c.requires.below c.requires.some h in
+    absurd (missing_no_entry c.args.self.now c.seek-sought.result m c.args.level _ c.seek-sought.ensures.level key (c.in-None.ensures.none refl) h level)
+
+pub returns-in-Ok-clause-added : goal.returns-in-Ok-clause-added
+returns-in-Ok-clause-added g c missing =
+    let key = c.seek-sought.ensures.key ∙ ap Node c.names_of-names.ensures in
+    adds_entry c.args.self.now c.add.new.self c.seek-sought.result c.in-Ok.share c.args.level _ c.seek-sought.ensures.sought c.seek-sought.ensures.level key c.in-Ok.ensures.adds
+
+pub returns-in-Err-clause-added : goal.returns-in-Err-clause-added
+returns-in-Err-clause-added g c missing =
+    let key = c.seek-sought.ensures.key ∙ ap Node c.names_of-names.ensures in
+    finds_full c.args.self.now c.add.new.self c.seek-sought.result c.args.level c.in-Err.full.bucket _ c.seek-sought.ensures.sought c.seek-sought.ensures.level key c.in-Err.ensures.full.1 c.in-Err.ensures.meets
