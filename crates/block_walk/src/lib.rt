@@ -12,6 +12,6 @@ mod sameness;
 pub use answers::{Answers, Query};
 pub use blocks::{half_side, leaf_bits, name_of, octant_name};
 pub use laws::{octants_count_their_cells, parts_have_the_cells_of_their_box};
-pub use looks::{leaf_has, look, outward, whole_block};
+pub use looks::{leaf_has, look, octant_at, outward, whole_block};
 pub use parts::{is_empty, part_of};
 pub use sameness::{same_boxes, same_cells, same_names};

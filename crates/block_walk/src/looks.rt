@@ -74,9 +74,9 @@ pub fn leaf_has(bits: u64, c: Cell) -> bool
     bits >> bit & 1 == 1
 }
 
-// The octant that has the cell, and the cell's place in it.
+/// The octant that has the cell of a block, and the cell's place in it.
 #[tactic(auto, using(crate::proofs::LookLaws::halves_tell, crate::proofs::LookLaws::twice))]
-fn octant_at(level: u8, c: Cell) -> (u8, Cell)
+pub fn octant_at(level: u8, c: Cell) -> (u8, Cell)
     requires level { (1 ≤ level) × (level ≤ 10) }
     requires cell { IsInWorld (block_side level) c }
     ensures octant { result.0 < 8 }
