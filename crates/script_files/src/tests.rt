@@ -1,12 +1,10 @@
-ghost use Rattle.std.specs.Prelude.{None};
-
 use crate::{Order, RunRefused, Written, run_files};
 use script::{ScriptFault, ScriptKind};
 use std::alloc::Global;
 use std::test::Fail;
 use vox_read::VoxFault;
 use vw_cell::Side;
-use vw_io::{MemoryShelf, ReadRefused, Shelf, WriteRefused};
+use vw_io::{FaultyShelf, MemoryShelf, Shelf};
 
 /// A model of one cell, 64 bytes.
 const ONE: [u8; 64] =
@@ -99,58 +97,18 @@ fn a_transcript_takes_no_input(rt: HostRuntime) -> Result<(), Fail> {
     Ok(())
 }
 
-/// Fails at the write after `left` more.
-#[derive(Drop)]
-struct BreakingShelf {
-    inner: MemoryShelf,
-    left: u32,
-    faults: u64,
-}
-
-impl Shelf for BreakingShelf {
-    ghost files = { λ _. None };
-
-    ghost faults = { λ shelf. shelf.faults };
-
-    fn read(&mut self, name: &str, limit: u64, into: &mut Vec<u8>) -> Result<(), ReadRefused> {
-        match self.inner.read(name, limit, into) {
-            Ok(()) => Ok(()),
-            Err(ReadRefused::Memory) => Err(ReadRefused::Memory),
-            Err(_) => {
-                self.faults = self.faults.saturating_add(1);
-                Err(ReadRefused::Failed)
-            }
-        }
-    }
-
-    fn write(&mut self, name: &str, bytes: &[u8]) -> Result<(), WriteRefused> {
-        if self.left == 0 {
-            self.faults = self.faults.saturating_add(1);
-            return Err(WriteRefused::Failed);
-        }
-        self.left -= 1;
-        self.inner
-            .write(name, bytes)
-            .map_err(|_| WriteRefused::Memory)
-    }
-}
-
 #[test]
 fn a_broken_write_is_named(rt: HostRuntime) -> Result<(), Fail> {
     let side = Side::new(8).ok_or("a side")?;
     let transcript = Err(RunRefused::WriteFault(Written::Transcript("good")));
     let journal = Err(RunRefused::WriteFault(Written::Journal("j")));
-    for (left, want, put, text) in [
-        (0, transcript, None, None),
-        (1, journal, Some(ANSWERS), None),
-        (2, Ok(2), Some(ANSWERS), Some(JOURNAL)),
+    for (call, want, put, text) in [
+        (3, transcript, Some("1 @1"), None),
+        (4, journal, Some(ANSWERS), Some("voxd")),
+        (5, Ok(2), Some(ANSWERS), Some(JOURNAL)),
     ] {
-        let inner = shelf(rt.alloc())?;
-        let mut shelf = BreakingShelf {
-            inner,
-            left,
-            faults: 0,
-        };
+        let fails = Vec::from_slice(rt.alloc(), &[(call, 4u32)])?;
+        let mut shelf = FaultyShelf::new(shelf(rt.alloc())?, fails);
         let order = Order {
             side,
             journal: Some("j"),
@@ -158,11 +116,11 @@ fn a_broken_write_is_named(rt: HostRuntime) -> Result<(), Fail> {
             script: "good",
         };
         let ended = run_files(rt.alloc(), &order, &mut shelf);
-        assert_eq!(rt; ended, want, "at {left}");
-        let found = shelf.inner.file("good.out");
-        assert_eq!(rt; found, put.map(|t| t.as_bytes()), "at {left}");
-        let found = shelf.inner.file("j");
-        assert_eq!(rt; found, text.map(|t| t.as_bytes()), "at {left}");
+        assert_eq!(rt; ended, want, "at {call}");
+        let found = shelf.files().file("good.out");
+        assert_eq!(rt; found, put.map(|t| t.as_bytes()), "at {call}");
+        let found = shelf.files().file("j");
+        assert_eq!(rt; found, text.map(|t| t.as_bytes()), "at {call}");
     }
     Ok(())
 }

@@ -38,3 +38,8 @@ pub fn ask<S: Shelf>(
     let status = voxdag(alloc, words.as_slice(), shelf, &mut out);
     Ok((status, out))
 }
+
+/// One call that fails, of this number, and how many bytes go through at it.
+pub fn one_fault(alloc: Global, call: u32, passes: u32) -> Result<Vec<(u32, u32)>, AllocError> {
+    Vec::from_slice(alloc, &[(call, passes)])
+}

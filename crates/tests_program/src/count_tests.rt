@@ -1,9 +1,8 @@
-use crate::asking::{ONE, ask, words_of};
-use crate::fakes::{RefusingShelf, RefusingSink};
+use crate::asking::{ONE, ask, one_fault, words_of};
 use std::alloc::Global;
 use std::test::Fail;
 use voxdag_top::voxdag;
-use vw_io::{MemoryShelf, MemorySink, PutRefused, ReadRefused, Shelf};
+use vw_io::{FaultyShelf, FaultySink, MemoryShelf, MemorySink, Shelf};
 
 /// Size 2 1 1 under version 200. At x = 0 a colour and then none; at x = 1 a colour twice.
 const LAST: [u8; 76] =
@@ -91,13 +90,9 @@ fn no_words_are_usage(rt: HostRuntime) -> Result<(), Fail> {
 }
 
 #[test]
-fn refused_reads_have_their_lines(rt: HostRuntime) -> Result<(), Fail> {
-    for (refusal, status, want) in [
-        (ReadRefused::Failed, 3, "voxdag: read fault one.vox\n"),
-        (ReadRefused::TooLong, 9, "voxdag: too long one.vox\n"),
-        (ReadRefused::Memory, 8, "voxdag: memory\n"),
-    ] {
-        let mut shelf = RefusingShelf { refusal, faults: 0 };
+fn a_fault_has_its_line(rt: HostRuntime) -> Result<(), Fail> {
+    let mut shelf = FaultyShelf::new(shelf(rt.alloc())?, one_fault(rt.alloc(), 1, 0)?);
+    for (status, want) in [(3, "voxdag: read fault one.vox\n"), (0, "1\n")] {
         let (ended, out) = ask(rt.alloc(), "count one.vox", &mut shelf)?;
         assert_eq!(rt; ended, status, "at {want}");
         assert_eq!(rt; out.bytes(), want.as_bytes());
@@ -106,15 +101,18 @@ fn refused_reads_have_their_lines(rt: HostRuntime) -> Result<(), Fail> {
 }
 
 #[test]
-fn refused_puts_change_the_status(rt: HostRuntime) -> Result<(), Fail> {
+fn a_line_that_fails_is_status_7(rt: HostRuntime) -> Result<(), Fail> {
     let mut shelf = shelf(rt.alloc())?;
-    for (refusal, status) in [(PutRefused::Failed, 7), (PutRefused::Memory, 8)] {
-        for line in ["count one.vox", "count no.vox", "count"] {
-            let mut out = RefusingSink { refusal, faults: 0 };
-            let words = words_of(rt.alloc(), line)?;
-            let ended = voxdag(rt.alloc(), words.as_slice(), &mut shelf, &mut out);
-            assert_eq!(rt; ended, status, "at {line}");
-        }
+    for (line, passes, want) in [
+        ("count one.vox", 0, ""),
+        ("count no.vox", 8, "voxdag: "),
+        ("count", 99, "voxdag: usage\n"),
+    ] {
+        let mut out = FaultySink::new(rt.alloc(), one_fault(rt.alloc(), 1, passes)?);
+        let words = words_of(rt.alloc(), line)?;
+        let ended = voxdag(rt.alloc(), words.as_slice(), &mut shelf, &mut out);
+        assert_eq!(rt; ended, 7, "at {line}");
+        assert_eq!(rt; out.bytes(), want.as_bytes(), "at {line}");
     }
     Ok(())
 }

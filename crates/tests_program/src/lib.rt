@@ -6,8 +6,6 @@ mod asking;
 #[cfg(test)]
 mod count_tests;
 #[cfg(test)]
-mod fakes;
-#[cfg(test)]
 mod file_tests;
 #[cfg(test)]
 mod run_tests;

@@ -1,9 +1,8 @@
-use crate::asking::{ANSWERS, GOOD, JOURNAL, ONE, TWO, ask, words_of};
-use crate::fakes::{FailingShelf, RefusingSink};
+use crate::asking::{ANSWERS, GOOD, JOURNAL, ONE, TWO, ask, one_fault, words_of};
 use std::alloc::Global;
 use std::test::Fail;
 use voxdag_top::voxdag;
-use vw_io::{MemoryShelf, PutRefused, Shelf};
+use vw_io::{FaultyShelf, FaultySink, MemoryShelf, Shelf};
 
 // Of a script with these changes in the lines 4 and 5.
 const LATER_JOURNAL: &str =
@@ -191,40 +190,40 @@ fn long_scripts_are_refused(rt: HostRuntime) -> Result<(), Fail> {
 
 #[test]
 fn each_call_can_fail(rt: HostRuntime) -> Result<(), Fail> {
-    for (fails_at, status, printed, transcript, journal) in [
+    for (call, status, printed, transcript, journal) in [
         (1, 3, "voxdag: read fault one.vox\n", None, None),
         (2, 3, "voxdag: read fault s\n", None, None),
-        (3, 6, "voxdag: write fault s.out\n", None, None),
-        (4, 6, "voxdag: write fault j\n", Some(ANSWERS), None),
+        (3, 6, "voxdag: write fault s.out\n", Some("1 @1 "), None),
+        (
+            4,
+            6,
+            "voxdag: write fault j\n",
+            Some(ANSWERS),
+            Some("voxda"),
+        ),
         (5, 0, TWO, Some(ANSWERS), Some(JOURNAL)),
     ] {
         let inner = shelf(rt.alloc(), GOOD.as_bytes())?;
-        let mut shelf = FailingShelf {
-            inner,
-            fails_at,
-            calls: 0,
-            faults: 0,
-        };
+        let mut shelf = FaultyShelf::new(inner, one_fault(rt.alloc(), call, 5)?);
         let line = "run --side 8 --journal j one.vox s";
         let (ended, out) = ask(rt.alloc(), line, &mut shelf)?;
         assert_eq!(rt; ended, status, "at {printed}");
         assert_eq!(rt; out.bytes(), printed.as_bytes());
-        assert!(rt; has(&shelf.inner, "s.out", transcript), "at {printed}");
-        assert!(rt; has(&shelf.inner, "j", journal), "at {printed}");
+        assert!(rt; has(shelf.files(), "s.out", transcript), "at {printed}");
+        assert!(rt; has(shelf.files(), "j", journal), "at {printed}");
     }
     Ok(())
 }
 
 #[test]
 fn outputs_are_whole_where_no_line_is_put(rt: HostRuntime) -> Result<(), Fail> {
-    for (refusal, status) in [(PutRefused::Failed, 7), (PutRefused::Memory, 8)] {
-        let mut shelf = shelf(rt.alloc(), GOOD.as_bytes())?;
-        let mut out = RefusingSink { refusal, faults: 0 };
-        let words = words_of(rt.alloc(), "run --side 8 --journal j one.vox s")?;
-        let ended = voxdag(rt.alloc(), words.as_slice(), &mut shelf, &mut out);
-        assert_eq!(rt; ended, status);
-        assert!(rt; has(&shelf, "s.out", Some(ANSWERS)), "at {status}");
-        assert!(rt; has(&shelf, "j", Some(JOURNAL)), "at {status}");
-    }
+    let mut shelf = shelf(rt.alloc(), GOOD.as_bytes())?;
+    let mut out = FaultySink::new(rt.alloc(), one_fault(rt.alloc(), 1, 3)?);
+    let words = words_of(rt.alloc(), "run --side 8 --journal j one.vox s")?;
+    let ended = voxdag(rt.alloc(), words.as_slice(), &mut shelf, &mut out);
+    assert_eq!(rt; ended, 7);
+    assert_eq!(rt; out.bytes(), b"scr".as_slice());
+    assert!(rt; has(&shelf, "s.out", Some(ANSWERS)));
+    assert!(rt; has(&shelf, "j", Some(JOURNAL)));
     Ok(())
 }

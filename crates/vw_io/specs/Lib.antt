@@ -5,3 +5,4 @@ pub mod Put
 pub mod Memory
 pub mod Streams
 pub mod System
+pub mod Faulty

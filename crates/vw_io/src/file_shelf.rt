@@ -1,8 +1,7 @@
 //! The files of the system as a shelf.
-ghost use Rattle.std.specs.Prelude.{◌≡◌, ◌≤◌, None, Err};
-ghost use Rattle.vw_io.specs.Read.{ReadCause};
-ghost use Rattle.vw_io.specs.System.{answer_of_read, faults_after_read, faults_after_write};
+ghost use Rattle.std.specs.Prelude.{◌≡◌, None};
 
+use crate::faults::{answer_read, count_write};
 use crate::files::{read_file, write_file};
 use crate::shelves::{ReadRefused, Shelf, WriteRefused};
 use std::rt::Files;
@@ -56,32 +55,5 @@ impl<R: Files + Drop> Shelf for FileShelf<R> {
                 Err(refused)
             }
         }
-    }
-}
-
-/// Counts the refusal of a read, and gives the answer to it.
-fn answer_read(faults: &mut u64, refused: ReadRefused) -> ReadRefused
-    ensures answer { result ≡ answer_of_read refused faults.old }
-    ensures count { faults.new ≡ faults_after_read result faults.old }
-    ensures cause { ReadCause (Err result) faults.old faults.new }
-    ensures never_falls { faults.old ≤ faults.new }
-{
-    let answer = match refused {
-        ReadRefused::Missing | ReadRefused::TooLong if *faults == u64::MAX => ReadRefused::Failed,
-        other => other,
-    };
-    if let ReadRefused::Failed = answer {
-        *faults = faults.saturating_add(1);
-    }
-    answer
-}
-
-/// Counts the refusal of a write.
-fn count_write(faults: &mut u64, refused: WriteRefused)
-    ensures count { faults.new ≡ faults_after_write refused faults.old }
-    ensures never_falls { faults.old ≤ faults.new }
-{
-    if let WriteRefused::Failed = refused {
-        *faults = faults.saturating_add(1);
     }
 }

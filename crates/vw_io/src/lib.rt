@@ -5,6 +5,9 @@
 //! The implementations over the system tell no content: they are the trusted edge.
 #![tactic(auto)]
 
+mod faults;
+mod faulty_shelf;
+mod faulty_sink;
 mod file_shelf;
 mod files;
 mod memory_shelf;
@@ -15,6 +18,8 @@ mod sinks;
 mod std_sink;
 mod writers;
 
+pub use faulty_shelf::FaultyShelf;
+pub use faulty_sink::FaultySink;
 pub use file_shelf::FileShelf;
 pub use memory_shelf::MemoryShelf;
 pub use memory_sink::MemorySink;

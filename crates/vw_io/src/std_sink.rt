@@ -1,7 +1,7 @@
 //! Standard output as a sink.
-ghost use Rattle.std.specs.Prelude.{◌≡◌, ◌≤◌, None};
-ghost use Rattle.vw_io.specs.System.{faults_after_put};
+ghost use Rattle.std.specs.Prelude.{◌≡◌, None};
 
+use crate::faults::count_put;
 use crate::sinks::{PutRefused, Sink};
 use crate::writers::write_whole;
 use std::io;
@@ -45,15 +45,5 @@ impl<R: Print + Drop> Sink for StdSink<R> {
                 Err(refused)
             }
         }
-    }
-}
-
-/// Counts the refusal of a put.
-fn count_put(faults: &mut u64, refused: PutRefused)
-    ensures count { faults.new ≡ faults_after_put refused faults.old }
-    ensures never_falls { faults.old ≤ faults.new }
-{
-    if let PutRefused::Failed = refused {
-        *faults = faults.saturating_add(1);
     }
 }

@@ -1,4 +1,7 @@
-use crate::{MemoryShelf, MemorySink, ReadRefused, Shelf, Sink};
+use crate::{
+    FaultyShelf, FaultySink, MemoryShelf, MemorySink, PutRefused, ReadRefused, Shelf, Sink,
+    WriteRefused,
+};
 use std::test::Fail;
 
 #[test]
@@ -37,5 +40,37 @@ fn memory_sink(rt: HostRuntime) -> Result<(), Fail> {
     sink.put(b"one ")?;
     sink.put(b"two")?;
     assert_eq!(rt; sink.bytes(), b"one two".as_slice());
+    Ok(())
+}
+
+#[test]
+fn faulty_shelf(rt: HostRuntime) -> Result<(), Fail> {
+    let mut files = MemoryShelf::new(rt.alloc());
+    files.write("a", b"first")?;
+    let fails = Vec::from_slice(rt.alloc(), &[(2u32, 9u32), (3, 4), (5, 9)])?;
+    let mut shelf = FaultyShelf::new(files, fails);
+    let mut into = Vec::new(rt.alloc());
+    assert_eq!(rt; shelf.read("a", 9, &mut into), Ok(()));
+    assert_eq!(rt; shelf.read("a", 9, &mut into), Err(ReadRefused::Failed));
+    assert!(rt; into.is_empty());
+    assert_eq!(rt; shelf.write("a", b"second"), Err(WriteRefused::Failed));
+    let found = shelf.files().file("a").ok_or("a file")?;
+    assert_eq!(rt; found, b"seco".as_slice());
+    assert_eq!(rt; shelf.write("a", b"third"), Ok(()));
+    assert_eq!(rt; shelf.write("b", b"fourth"), Err(WriteRefused::Failed));
+    let found = shelf.files().file("b").ok_or("a file")?;
+    assert_eq!(rt; found, b"fourth".as_slice());
+    assert_eq!(rt; shelf.read("a", 4, &mut into), Err(ReadRefused::TooLong));
+    Ok(())
+}
+
+#[test]
+fn faulty_sink(rt: HostRuntime) -> Result<(), Fail> {
+    let fails = Vec::from_slice(rt.alloc(), &[(2u32, 1u32)])?;
+    let mut sink = FaultySink::new(rt.alloc(), fails);
+    assert_eq!(rt; sink.put(b"one "), Ok(()));
+    assert_eq!(rt; sink.put(b"two "), Err(PutRefused::Failed));
+    assert_eq!(rt; sink.put(b"hree"), Ok(()));
+    assert_eq!(rt; sink.bytes(), b"one three".as_slice());
     Ok(())
 }
