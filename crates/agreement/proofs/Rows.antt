@@ -11,7 +11,7 @@ use Rattle.history_model.specs.Worlds.{box_at}
 use Rattle.history_model.specs.Logs.{Log}
 use Rattle.history_model.specs.Moments.{has}
 use Rattle.script.specs.declared.commands.Command.TheVariants.{Edit, Ask}
-use Rattle.script.specs.declared.commands.Question.TheVariants as questions
+use Rattle.history_model.specs.declared.questions.Question.TheVariants as questions
 use Rattle.script.specs.declared.commands.ScriptLine.{ScriptLine}
 use Rattle.transcript.specs.declared.answers.Answer.{Answer}
 use Rattle.transcript.specs.declared.answers.Answer.TheVariants.{Done, Count}

@@ -13,7 +13,7 @@ use Rattle.history_model.specs.Moments.{has}
 use Rattle.history_model.specs.Laws.{has_stays}
 use Rattle.script.specs.declared.commands.Command.{Command}
 use Rattle.script.specs.declared.commands.Command.TheVariants.{Edit, Ask}
-use Rattle.script.specs.declared.commands.Question.TheVariants as questions
+use Rattle.history_model.specs.declared.questions.Question.TheVariants as questions
 use Rattle.script.specs.declared.commands.ScriptLine.{ScriptLine}
 use Rattle.transcript.specs.declared.answers.Answer.{Answer}
 use Rattle.transcript.specs.declared.answers.Answer.TheVariants.{Done, Count, LogFull}
@@ -57,10 +57,8 @@ answer_stays : (models : List Content) (log : Log) (more : List Record) (session
     → Answers models log session line command n answer → Answers models (longer log more) session line command n answer
 answer_stays models log more session line (Edit act once) n Done within fits = is_record_stays log.records more n session line act fits
 answer_stays models log more session line (Edit act once) n LogFull within fits = (fits.0, has_way_stays log more session line n act within fits.1)
-answer_stays models log more session line (Edit act once) n (Count cells) within fits = absurd fits
 answer_stays models log more session line (Ask version (questions.Count part)) n (Count cells) within fits = counted_stays models log more session line n (asked_version version n) cells part within fits
-answer_stays models log more session line (Ask version (questions.Count part)) n Done within fits = absurd fits
-answer_stays models log more session line (Ask version (questions.Count part)) n LogFull within fits = absurd fits
+answer_stays models log more session line _ n _ within fits = absurd fits
 
 pub line_stays : (models : List Content) (log : Log) (more : List Record) (session : ℕ) (l : ScriptLine) (a : LineAnswer) → LineFits models log session l a → LineFits models (longer log more) session l a
 line_stays models log more session l a fits =

@@ -6,14 +6,13 @@ use Rattle.history_model.specs.declared.histories.Record.{Record}
 use Rattle.history_model.specs.Logs.{Log}
 use Rattle.script.specs.declared.commands.ScriptLine.{ScriptLine}
 use Rattle.transcript.specs.declared.answers.Answer.{Answer}
-use Rattle.transcript.specs.declared.answers.Answer.TheVariants.{Done, Count, LogFull}
+use Rattle.transcript.specs.declared.answers.Answer.TheVariants.{Done}
 use Rattle.transcript.specs.declared.answers.LineAnswer.{LineAnswer}
 use Rattle.agreement.specs.Answers.{LineFits}
 
 abbrev pub is_done : Answer → Bool
 is_done Done = true
-is_done (Count cells) = false
-is_done LogFull = false
+is_done _ = false
 
 -- the moments of the accepted changes of a transcript
 abbrev pub done_moments : List LineAnswer → List ℕ

@@ -12,7 +12,7 @@ use Rattle.history_model.specs.Logs.{Log}
 use Rattle.history_model.specs.Moments.{has}
 use Rattle.script.specs.declared.commands.Command.{Command}
 use Rattle.script.specs.declared.commands.Command.TheVariants.{Edit, Ask}
-use Rattle.script.specs.declared.commands.Question.TheVariants as questions
+use Rattle.history_model.specs.declared.questions.Question.TheVariants as questions
 use Rattle.script.specs.declared.commands.ScriptLine.{ScriptLine}
 use Rattle.transcript.specs.declared.answers.Answer.{Answer}
 use Rattle.transcript.specs.declared.answers.Answer.TheVariants.{Done, Count, LogFull}
@@ -49,11 +49,9 @@ asked_version (Some version) n = version
 abbrev pub Answers : List Content → Log → ℕ → ℕ → Command → ℕ → Answer → Type 0
 Answers models log session line (Edit act once) n Done = IsRecord log.records n session line act
 Answers models log session line (Edit act once) n LogFull = (n ≡ 65535) × HasWay log session line n act
-Answers models log session line (Edit act once) n (Count cells) = ⊥
 Answers models log session line (Ask version (questions.Count part)) n (Count cells) =
     IsReadable log.marks session line n (asked_version version n) × (cells ≡ number_in part (has models log.records (asked_version version n)))
-Answers models log session line (Ask version question) n Done = ⊥
-Answers models log session line (Ask version question) n LogFull = ⊥
+Answers models log session line _ n _ = ⊥
 
 -- a transcript's line answers the script's line, at a moment of the history
 pub record LineFits (models : List Content) (log : Log) (session : ℕ) (l : ScriptLine) (a : LineAnswer) : Type 0 where

@@ -4,10 +4,10 @@ use Rattle.std.specs.List.{slice_get}
 use Rattle.history_model.specs.declared.histories.Record.{Record}
 use Rattle.history_model.specs.Logs.{Log}
 use Rattle.script.specs.declared.commands.Command.{Command}
-use Rattle.script.specs.declared.commands.Command.TheVariants.{Edit, Ask}
+use Rattle.script.specs.declared.commands.Command.TheVariants.{Edit}
 use Rattle.script.specs.declared.commands.ScriptLine.{ScriptLine}
 use Rattle.transcript.specs.declared.answers.Answer.{Answer}
-use Rattle.transcript.specs.declared.answers.Answer.TheVariants.{Done, Count, LogFull}
+use Rattle.transcript.specs.declared.answers.Answer.TheVariants.{Done}
 use Rattle.transcript.specs.declared.answers.LineAnswer.{LineAnswer}
 
 -- a moment and the record that an accepted change became at it
@@ -18,9 +18,7 @@ pub record Accepted : Type 0 where
 -- what an answer to a command shows: the change, where it was accepted
 abbrev pub accepted_by : ℕ → ℕ → Command → ℕ → Answer → List Accepted
 accepted_by session line (Edit act once) n Done = record { at = n; entry = record { session = session; line = line; act = act } } ∷ []
-accepted_by session line (Edit act once) n (Count cells) = []
-accepted_by session line (Edit act once) n LogFull = []
-accepted_by session line (Ask version question) n answer = []
+accepted_by session line _ n _ = []
 
 -- the accepted changes of one session, and of all sessions from this one on
 abbrev pub accepted_in : ℕ → List ScriptLine → List LineAnswer → List Accepted

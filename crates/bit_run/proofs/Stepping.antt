@@ -19,9 +19,9 @@ use Rattle.history_model.specs.Laws.{has_of_edit, has_at_0}
 use Rattle.history_model.specs.LegalLaws.{legal_empty, legal_next, edit_follows}
 use Rattle.script.specs.declared.commands.Command.{Command}
 use Rattle.script.specs.declared.commands.Command.TheVariants.{Edit, Ask}
-use Rattle.script.specs.declared.commands.Question.TheVariants as questions
+use Rattle.history_model.specs.declared.questions.Question.TheVariants as questions
 use Rattle.script.specs.declared.commands.ScriptLine.{ScriptLine}
-use Rattle.script.specs.Fitting.{CommandFits, IsBuilt}
+use Rattle.script.specs.Fitting.{CommandFits, IsForBits}
 use Rattle.transcript.specs.declared.answers.Answer.{Answer}
 use Rattle.transcript.specs.declared.answers.Answer.TheVariants.{Done, Count, LogFull}
 use Rattle.transcript.specs.declared.answers.LineAnswer.{LineAnswer}
@@ -126,7 +126,7 @@ run_more side models script records answers l a r run legal fits now done own on
     }
 
 -- an act that is built is an edit, lies in the world, and needs no version to go to
-edit_of_built : (act : Act) (once : Bool) → IsBuilt (Edit act once) → is_edit act ≡ true
+edit_of_built : (act : Act) (once : Bool) → IsForBits (Edit act once) → is_edit act ≡ true
 edit_of_built (Fill b) once built = refl
 edit_of_built (Erase b) once built = refl
 edit_of_built (Ball ball) once built = absurd built
@@ -136,7 +136,7 @@ edit_of_built (Stamp m at) once built = refl
 edit_of_built Undo once built = absurd built
 edit_of_built Redo once built = absurd built
 
-way_of_built : (log : Log) (line n : ℕ) (act : Act) (once : Bool) → IsBuilt (Edit act once) → HasWay log 0 line n act
+way_of_built : (log : Log) (line n : ℕ) (act : Act) (once : Bool) → IsForBits (Edit act once) → HasWay log 0 line n act
 way_of_built log line n (Fill b) once built = tt
 way_of_built log line n (Erase b) once built = tt
 way_of_built log line n (Ball ball) once built = absurd built
@@ -159,7 +159,7 @@ abbrev entry : ℕ → Act → Record
 entry line act = record { session = 0; line = line; act = act }
 
 -- a change is accepted
-accepted_step : (side : ℕ) (models : List Content) (script : List ScriptLine) (old new : Grid) (records : List Record) (answers : List LineAnswer) (line answered at : ℕ) (act : Act) (once : Bool) → IsBuilt (Edit act once) → Fits (2 ^ side) models act
+accepted_step : (side : ℕ) (models : List Content) (script : List ScriptLine) (old new : Grid) (records : List Record) (answers : List LineAnswer) (line answered at : ℕ) (act : Act) (once : Bool) → IsForBits (Edit act once) → Fits (2 ^ side) models act
     → IsState side models script old records answers → answered ≡ line → at ≡ length (records ++ entry line act ∷ []) → length records < 65535 → Puts models act old new
     → IsState side models (script ++ edit_line line act once ∷ []) new (records ++ entry line act ∷ []) (answers ++ answer_of answered at Done ∷ [])
 accepted_step side models script old new records answers line answered at act once built fits state same moment room puts =
@@ -179,7 +179,7 @@ accepted_step side models script old new records answers line answered at act on
     }
 
 -- a change is refused
-refused_step : (side : ℕ) (models : List Content) (script : List ScriptLine) (grid : Grid) (records : List Record) (answers : List LineAnswer) (line answered at : ℕ) (act : Act) (once : Bool) → IsBuilt (Edit act once)
+refused_step : (side : ℕ) (models : List Content) (script : List ScriptLine) (grid : Grid) (records : List Record) (answers : List LineAnswer) (line answered at : ℕ) (act : Act) (once : Bool) → IsForBits (Edit act once)
     → IsState side models script grid records answers → answered ≡ line → at ≡ length records → length records ≡ 65535
     → IsState side models (script ++ edit_line line act once ∷ []) grid records (answers ++ answer_of answered at LogFull ∷ [])
 refused_step side models script grid records answers line answered at act once built state same moment full =
@@ -205,7 +205,7 @@ counted_step side models script grid records answers line answered at cells b st
     }
 
 -- the same, by the answer
-edit_step : (side : ℕ) (models : List Content) (script : List ScriptLine) (old new : Grid) (records now : List Record) (answers : List LineAnswer) (line answered at : ℕ) (act : Act) (once : Bool) (answer : Answer) → IsBuilt (Edit act once)
+edit_step : (side : ℕ) (models : List Content) (script : List ScriptLine) (old new : Grid) (records now : List Record) (answers : List LineAnswer) (line answered at : ℕ) (act : Act) (once : Bool) (answer : Answer) → IsForBits (Edit act once)
     → Fits (2 ^ side) models act → IsState side models script old records answers → answered ≡ line → at ≡ length now → Changed models old records line act new now answer
     → IsState side models (script ++ edit_line line act once ∷ []) new now (answers ++ answer_of answered at answer ∷ [])
 edit_step side models script old new records now answers line answered at act once Done built fits state same moment does =
@@ -215,16 +215,15 @@ edit_step side models script old new records now answers line answered at act on
     subst (λ (rs : List Record). IsState side models (script ++ edit_line line act once ∷ []) new rs (answers ++ answer_of answered at LogFull ∷ [])) (sym does.1)
     (subst (λ (g : Grid). IsState side models (script ++ edit_line line act once ∷ []) g records (answers ++ answer_of answered at LogFull ∷ [])) (sym does.2)
     (refused_step side models script old records answers line answered at act once built state same (moment ∙ ap length does.1) does.0))
-edit_step side models script old new records now answers line answered at act once (Count cells) built fits state same moment does = absurd does
+edit_step side models script old new records now answers line answered at act once _ built fits state same moment does = absurd does
 
 count_step : (side : ℕ) (models : List Content) (script : List ScriptLine) (grid : Grid) (records : List Record) (answers : List LineAnswer) (line answered at : ℕ) (b : Boxed) (answer : Answer) → IsState side models script grid records answers → answered ≡ line
     → at ≡ length records → Counted grid b answer → IsState side models (script ++ count_line line b ∷ []) grid records (answers ++ answer_of answered at answer ∷ [])
 count_step side models script grid records answers line answered at b (Count cells) state same moment counted = counted_step side models script grid records answers line answered at cells b state same moment counted
-count_step side models script grid records answers line answered at b Done state same moment counted = absurd counted
-count_step side models script grid records answers line answered at b LogFull state same moment counted = absurd counted
+count_step side models script grid records answers line answered at b _ state same moment counted = absurd counted
 
 -- and by the command
-line_step : (side : ℕ) (models : List Content) (script : List ScriptLine) (old new : Grid) (records now : List Record) (answers : List LineAnswer) (line : ℕ) (command : Command) (a : LineAnswer) → IsBuilt command → CommandFits (2 ^ side) models command
+line_step : (side : ℕ) (models : List Content) (script : List ScriptLine) (old new : Grid) (records now : List Record) (answers : List LineAnswer) (line : ℕ) (command : Command) (a : LineAnswer) → IsForBits command → CommandFits (2 ^ side) models command
     → IsState side models script old records answers → Does models old records line command new now a → IsState side models (script ++ record { line = line; command = command } ∷ []) new now (answers ++ a ∷ [])
 line_step side models script old new records now answers line (Edit act once) a built fits state does =
     edit_step side models script old new records now answers line a.line a.at act once a.answer built fits state does.same_line does.moment does.does
@@ -232,15 +231,15 @@ line_step side models script old new records now answers line (Ask None (questio
     subst (λ (rs : List Record). IsState side models (script ++ count_line line b ∷ []) new rs (answers ++ a ∷ [])) (sym does.same_records)
     (subst (λ (g : Grid). IsState side models (script ++ count_line line b ∷ []) g records (answers ++ a ∷ [])) (sym does.same_world)
     (count_step side models script old records answers line a.line a.at b a.answer state does.same_line (does.moment ∙ ap length does.same_records) does.counted))
-line_step side models script old new records now answers line (Ask (Some version) question) a built fits state does = absurd does
+line_step side models script old new records now answers line _ a built fits state does = absurd does
 
 -- the loop goes on
 pub next_line : (side : ℕ) (models seen : List Content) (lines script : List ScriptLine) (i : ℕ) (d : ScriptLine) (old new : Grid) (records now : List Record) (answers more : List LineAnswer) (a : LineAnswer) → lines ≡ script → i < length lines
-    → All (λ l. IsBuilt l.command) script → All (λ l. CommandFits (2 ^ side) models l.command) script → IsState side models (take i lines) old records answers → seen ≡ models → Step seen old records (get_or lines i d) new now a → more ≡ answers ++ a ∷ []
+    → All (λ l. IsForBits l.command) script → All (λ l. CommandFits (2 ^ side) models l.command) script → IsState side models (take i lines) old records answers → seen ≡ models → Step seen old records (get_or lines i d) new now a → more ≡ answers ++ a ∷ []
     → IsState side models (take (i + 1) lines) new now more
 next_line side models seen lines script i d old new records now answers more a same lt all_built all_fit state listed step pushed =
     let l : ScriptLine = get_or lines i d in
-    let built = subst (All (λ k. IsBuilt k.command)) (sym same) all_built i d lt in
+    let built = subst (All (λ k. IsForBits k.command)) (sym same) all_built i d lt in
     let fits = subst (All (λ k. CommandFits (2 ^ side) models k.command)) (sym same) all_fit i d lt in
     subst (λ (ls : List ScriptLine). IsState side models ls new now more) (sym (take_more lines i d lt))
     (subst (λ (bs : List LineAnswer). IsState side models (take i lines ++ l ∷ []) new now bs) (sym pushed) (line_step side models (take i lines) old new records now answers l.line l.command a built fits state (subst (λ (ms : List Content). Does ms old records l.line l.command new now a) listed step.does)))

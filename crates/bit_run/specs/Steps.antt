@@ -11,7 +11,7 @@ use Rattle.history_model.specs.Worlds.{World, edited}
 use Rattle.history_model.specs.Moments.{has}
 use Rattle.script.specs.declared.commands.Command.{Command}
 use Rattle.script.specs.declared.commands.Command.TheVariants.{Edit, Ask}
-use Rattle.script.specs.declared.commands.Question.TheVariants as questions
+use Rattle.history_model.specs.declared.questions.Question.TheVariants as questions
 use Rattle.script.specs.declared.commands.ScriptLine.{ScriptLine}
 use Rattle.transcript.specs.declared.answers.Answer.{Answer}
 use Rattle.transcript.specs.declared.answers.Answer.TheVariants.{Done, Count, LogFull}
@@ -34,13 +34,12 @@ pub record Puts (models : List Content) (act : Act) (old new : Grid) : Type 0 wh
 abbrev pub Changed : List Content → Grid → List Record → ℕ → Act → Grid → List Record → Answer → Type 0
 Changed models old records line act new now Done = (length records < 65535) × (now ≡ records ++ record { session = 0; line = line; act = act } ∷ []) × Puts models act old new
 Changed models old records line act new now LogFull = (length records ≡ 65535) × (now ≡ records) × (new ≡ old)
-Changed models old records line act new now (Count cells) = ⊥
+Changed models old records line act new now _ = ⊥
 
 -- the answer is the number of set cells of the box
 abbrev pub Counted : Grid → Boxed → Answer → Type 0
 Counted grid b (Count cells) = (w : World) → Shows grid w → cells ≡ number_in b w
-Counted grid b Done = ⊥
-Counted grid b LogFull = ⊥
+Counted grid b _ = ⊥
 
 pub record Changes (models : List Content) (old : Grid) (records : List Record) (line : ℕ) (act : Act) (new : Grid) (now : List Record) (a : LineAnswer) : Type 0 where
   pub same_line : a.line ≡ line
@@ -57,7 +56,7 @@ pub record Counts (old : Grid) (records : List Record) (line : ℕ) (b : Boxed) 
 abbrev pub Does : List Content → Grid → List Record → ℕ → Command → Grid → List Record → LineAnswer → Type 0
 Does models old records line (Edit act once) new now a = Changes models old records line act new now a
 Does models old records line (Ask None (questions.Count b)) new now a = Counts old records line b new now a
-Does models old records line (Ask (Some version) question) new now a = ⊥
+Does models old records line _ new now a = ⊥
 
 -- what one line makes of the bits and the records, and its answer
 pub record Step (models : List Content) (old : Grid) (records : List Record) (l : ScriptLine) (new : Grid) (now : List Record) (a : LineAnswer) : Type 0 where

@@ -1,14 +1,14 @@
 ghost use Rattle.std.specs.Prelude.{◌≡◌, ◌^◌, ◌≤◌, length, All, IfOk};
 ghost use Rattle.vox_read.specs.Contents.{AreModels};
-ghost use Rattle.script.specs.Fitting.{CommandFits, IsBuilt};
+ghost use Rattle.script.specs.Fitting.{CommandFits, IsForBits};
 ghost use Rattle.history_model.specs.Logs.{Fits};
 ghost use Rattle.bit_run.specs.Runs.{IsRun};
 ghost use Rattle.bit_run.specs.Steps.{IsPut, Puts, Changes, Step};
 
 use crate::stencils::{Stencil, stencils};
 use bit_world::BitWorld;
-use history_model::{Act, Record};
-use script::{Command, Question, Script, ScriptLine};
+use history_model::{Act, Question, Record};
+use script::{Command, Script, ScriptLine};
 use std::alloc::Global;
 use transcript::{Answer, LineAnswer};
 use vox_read::Models;
@@ -37,7 +37,7 @@ pub fn run_script(
 ) -> Result<Ran, Memory>
     requires models { AreModels models.now }
     requires fits { All (λ l. CommandFits (2 ^ side) models.now l.command) script.now }
-    requires built { All (λ l. IsBuilt l.command) script.now }
+    requires for_bits { All (λ l. IsForBits l.command) script.now }
     ensures { IfOk result (λ ran. IsRun side models.now script.now ran.records.items ran.answers.items) }
 {
     let lines = script.lines.as_slice();
@@ -61,7 +61,7 @@ fn answer(
 ) -> Result<LineAnswer, Memory>
     requires small { world.old.exponent ≤ 12 }
     requires fits { CommandFits (2 ^ world.old.exponent) stencils.now l.command }
-    requires built { IsBuilt l.command }
+    requires for_bits { IsForBits l.command }
     requires few { length records.old.items ≤ 65535 }
     ensures { IfOk result (λ a. Step stencils.now world.old records.old.items l world.new records.new.items a) }
 {
@@ -74,6 +74,7 @@ fn answer(
             let cells = world.count(part);
             Ok(answered(l.line, records.len(), Answer::Count(cells)))
         }
+        _ => unreachable!(),
     }
 }
 
@@ -87,7 +88,7 @@ fn change(
 ) -> Result<LineAnswer, Memory>
     requires small { world.old.exponent ≤ 12 }
     requires fits { Fits (2 ^ world.old.exponent) stencils.now act }
-    requires built { IsPut act }
+    requires for_bits { IsPut act }
     requires few { length records.old.items ≤ 65535 }
     ensures { IfOk result (λ a. Changes stencils.now world.old records.old.items line act world.new records.new.items a) }
 {
@@ -119,7 +120,7 @@ fn answered(line: u32, now: usize, answer: Answer) -> LineAnswer
 fn put_act(world: &mut BitWorld, stencils: &[Stencil], act: Act)
     requires small { world.old.exponent ≤ 12 }
     requires fits { Fits (2 ^ world.old.exponent) stencils.now act }
-    requires built { IsPut act }
+    requires for_bits { IsPut act }
     ensures { Puts stencils.now act world.old world.new }
 {
     match act {

@@ -3,7 +3,7 @@ ghost use Rattle.vox_read.specs.Contents.{AreModels};
 
 use crate::{Ran, run_script};
 use history_model::{Act, Record};
-use script::read_script;
+use script::read_bit_script;
 use std::alloc::Global;
 use std::test::Fail;
 use transcript::{Answer, LineAnswer};
@@ -15,7 +15,7 @@ fn run(alloc: Global, models: &Models, text: &[u8]) -> Result<Ran, Fail>
     requires { AreModels models.now }
 {
     let side = Side::new(8).ok_or("a side")?;
-    let script = read_script(alloc, text, side, models).map_err(|_| "a script")?;
+    let script = read_bit_script(alloc, text, side, models).map_err(|_| "a script")?;
     let ran = run_script(alloc, side, models, &script).map_err(|_| "out of memory")?;
     Ok(ran)
 }

@@ -26,6 +26,6 @@ pub use packing::{pack, unpack};
 pub use positions::position;
 pub use questions::Question;
 pub use reading::{JournalFault, read_journal};
-pub use spelling::{Spelled, Three, read_act};
+pub use spelling::{Spelled, Three, read_act, read_box, three_numbers};
 pub use stacks::Position;
 pub use ways::Way;

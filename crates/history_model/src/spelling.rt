@@ -150,7 +150,7 @@ fn read_alone<'l, W: WordSource<'l>>(act: Spelled, words: &mut W) -> Result<Spel
 }
 
 #[tactic(auto, unfolding(crate::specs::Spelling::box_spelled))]
-fn read_box<'l, W: WordSource<'l>>(words: &mut W) -> Result<(Three, Three), WordFault>
+pub fn read_box<'l, W: WordSource<'l>>(words: &mut W) -> Result<(Three, Three), WordFault>
     ensures { Gives (λ b. box_at b.0 b.1) result (box_spelled W.spells (W.words words.old)) }
 {
     let at = take_three(words)?;
@@ -191,7 +191,7 @@ fn read_places<'l, W: WordSource<'l>>(
 }
 
 #[tactic(auto, unfolding(crate::specs::Spelling::three_numbers))]
-pub(crate) fn three_numbers<'l, W: WordSource<'l>>(words: &ThreeWords) -> Result<Three, WordFault>
+pub fn three_numbers<'l, W: WordSource<'l>>(words: &ThreeWords) -> Result<Three, WordFault>
     ensures { Gives (λ t. t) result (three_numbers W.spells words.now) }
 {
     let x = number_by::<W>(words.x)?;

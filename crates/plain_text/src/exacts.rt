@@ -3,28 +3,25 @@ ghost use Rattle.plain_text.specs.Numbers.{begins_exactly, number_from, exact};
 
 /// The number that a word spells in its one form: digits without leading zeros. `None` for any other word,
 /// and for a number over 32 bits.
-#[tactic(auto, unfolding(crate::specs::Numbers::exact))]
 pub fn exact_number(word: &[u8]) -> Option<u32>
     ensures { result ≡ exact (2 ^ 32) word.now }
 {
-    if !begins_exactly(word) {
-        return None;
-    }
-    match digits(word, 4_294_967_295) {
+    match exact_up_to(word, 4_294_967_295) {
         Some(n) => Some(n as u32),
         None => None,
     }
 }
 
-/// The same of a number of up to 64 bits.
+/// The same of a number that is at most `most`.
 #[tactic(auto, unfolding(crate::specs::Numbers::exact))]
-pub fn exact_long(word: &[u8]) -> Option<u64>
-    ensures { result ≡ exact (2 ^ 64) word.now }
+pub fn exact_up_to(word: &[u8], most: u64) -> Option<u64>
+    ensures number { result ≡ exact (most + 1) word.now }
+    ensures bounded { IfSome result (λ n. n ≤ most) }
 {
     if !begins_exactly(word) {
         return None;
     }
-    digits(word, u64::MAX)
+    digits(word, most)
 }
 
 // Whether the word begins with 0 only where it is no more than that.

@@ -8,7 +8,7 @@ mod sources;
 mod taking;
 
 pub use cuts::{cut, split_line};
-pub use exacts::{exact_long, exact_number};
+pub use exacts::{exact_number, exact_up_to};
 pub use faults::WordFault;
 pub use sources::{ExactWords, WordSource};
 pub use taking::{ThreeWords, must_be, number_by, take_end, take_three, take_word};

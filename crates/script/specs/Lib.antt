@@ -1,7 +1,9 @@
 pub mod Lines
-pub mod Faults
 pub mod Numbers
 pub mod Commands
-pub mod Stamps
+pub mod Known
+pub mod Placing
+pub mod Said
 pub mod Scripts
+pub mod Faults
 pub mod Fitting

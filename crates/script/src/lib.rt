@@ -4,19 +4,18 @@
 //! order in which the faults of a line decide.
 #![tactic(auto)]
 
-mod boxes;
 mod commands;
 mod faults;
 mod lines;
+mod names;
 mod numbers;
+mod placing;
 mod reading;
-mod stamps;
+mod said;
+mod spelling;
 mod words;
 
-pub use commands::{Command, Question, Script, ScriptLine};
+pub use commands::{Command, SaveName, Script, ScriptLine};
 pub use faults::{ScriptFault, ScriptKind};
 pub use numbers::number;
-pub use reading::read_script;
-
-#[cfg(test)]
-mod tests;
+pub use reading::{read_bit_script, read_script};

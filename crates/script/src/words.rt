@@ -1,10 +1,10 @@
 ghost use Rattle.std.specs.Prelude.{◌≡◌, ◌∷◌, List, [], ℕ, true, not, MatchOption};
 ghost use Rattle.std.specs.List.{position};
 ghost use Rattle.script.specs.Lines.{words_of, is_blank, is_comment, begins_word};
-ghost use Rattle.script.specs.Numbers.{Takes, next_word, nothing_more, three_words, box_words};
-ghost use Rattle.script.specs.Stamps.{stamp_words};
+ghost use Rattle.script.specs.Numbers.{loose};
 
-use crate::faults::ScriptKind;
+use crate::numbers::number;
+use plain_text::WordSource;
 use std::marker::Model;
 
 /// The words of a line that are still to be read. Contracts see them as a list.
@@ -19,46 +19,6 @@ impl<'l> Model for Words<'l> {
     ghost view = { λ w. words_of w.rest.now };
 }
 
-/// Three words that follow one another.
-#[derive(Drop)]
-pub(crate) struct ThreeWords<'l> {
-    pub(crate) x: &'l [u8],
-    pub(crate) y: &'l [u8],
-    pub(crate) z: &'l [u8],
-}
-
-impl<'l> Model for ThreeWords<'l> {
-    ghost Value = { List ℕ × List ℕ × List ℕ };
-
-    ghost view = { λ t. (t.x.now, t.y.now, t.z.now) };
-}
-
-/// The words of a box: those of its corner, and those of its size.
-#[derive(Drop)]
-pub(crate) struct Places<'l> {
-    pub(crate) at: ThreeWords<'l>,
-    pub(crate) size: ThreeWords<'l>,
-}
-
-impl<'l> Model for Places<'l> {
-    ghost Value = { (List ℕ × List ℕ × List ℕ) × (List ℕ × List ℕ × List ℕ) };
-
-    ghost view = { λ p. (p.at, p.size) };
-}
-
-/// The words of a stamp: that of its model, and those of its corner.
-#[derive(Drop)]
-pub(crate) struct StampWords<'l> {
-    pub(crate) model: &'l [u8],
-    pub(crate) at: ThreeWords<'l>,
-}
-
-impl<'l> Model for StampWords<'l> {
-    ghost Value = { List ℕ × (List ℕ × List ℕ × List ℕ) };
-
-    ghost view = { λ s. (s.model.now, s.at) };
-}
-
 impl<'l> Words<'l> {
     pub(crate) fn new(line: &'l [u8]) -> Words<'l>
         ensures { result ≡ words_of line.now }
@@ -67,7 +27,7 @@ impl<'l> Words<'l> {
     }
 
     // The next word. After the last one it stays at the end.
-    pub(crate) fn next(&mut self) -> Option<&'l [u8]>
+    pub(crate) fn next_word(&mut self) -> Option<&'l [u8]>
         ensures { MatchOption result (self.old ≡ []) (λ word. self.old ≡ word.now ∷ self.new) }
     {
         let from = skip_blanks(self.rest)?;
@@ -75,55 +35,21 @@ impl<'l> Words<'l> {
         self.rest = rest;
         Some(word)
     }
+}
 
-    // The next word, which must be there.
-    pub(crate) fn word(&mut self) -> Result<&'l [u8], ScriptKind>
-        ensures { Takes (λ w. w.now) result self.new (next_word self.old) }
-    {
-        self.next().ok_or(ScriptKind::Missing)
+impl<'l> WordSource<'l> for Words<'l> {
+    ghost words = { λ w. w };
+
+    ghost spells = { loose };
+
+    fn next(&mut self) -> Option<&'l [u8]> {
+        self.next_word()
     }
 
-    // The next three words, which must be there.
-    #[tactic(auto, unfolding(crate::specs::Numbers::three_words))]
-    pub(crate) fn three(&mut self) -> Result<ThreeWords<'l>, ScriptKind>
-        ensures { Takes (λ w. w) result self.new (three_words self.old) }
+    fn number(word: &[u8]) -> Option<u32>
+        ensures { result ≡ loose word.now }
     {
-        let x = self.word()?;
-        let y = self.word()?;
-        let z = self.word()?;
-        Ok(ThreeWords { x, y, z })
-    }
-
-    // The six words of a box, which must be all.
-    #[tactic(auto, unfolding(crate::specs::Numbers::box_words))]
-    pub(crate) fn places(&mut self) -> Result<Places<'l>, ScriptKind>
-        ensures { result ≡ box_words self.old }
-    {
-        let at = self.three()?;
-        let size = self.three()?;
-        self.end()?;
-        Ok(Places { at, size })
-    }
-
-    // The four words of a stamp, which must be all.
-    #[tactic(auto, unfolding(crate::specs::Stamps::stamp_words))]
-    pub(crate) fn stamp(&mut self) -> Result<StampWords<'l>, ScriptKind>
-        ensures { result ≡ stamp_words self.old }
-    {
-        let model = self.word()?;
-        let at = self.three()?;
-        self.end()?;
-        Ok(StampWords { model, at })
-    }
-
-    // No word may follow.
-    pub(crate) fn end(&mut self) -> Result<(), ScriptKind>
-        ensures { result ≡ nothing_more self.old }
-    {
-        if self.next().is_some() {
-            return Err(ScriptKind::Extra);
-        }
-        Ok(())
+        number(word).ok()
     }
 }
 

@@ -9,7 +9,7 @@ use Rattle.vox_read.specs.Files.{Reads}
 use Rattle.vox_read.specs.Once.{one_reading}
 use Rattle.script.specs.declared.commands.ScriptLine.{ScriptLine}
 use Rattle.script.specs.declared.faults.ScriptFault.{ScriptFault}
-use Rattle.script.specs.Commands.{names_now}
+use Rattle.script.specs.Commands.{is_for_bits}
 use Rattle.script.specs.Scripts.{commands_of}
 use Rattle.script_files.specs.declared.orders.RunRefused.{RunRefused}
 use Rattle.script_files.specs.declared.orders.RunRefused.TheVariants.{Missing, ReadFault, TooLong, Vox, Script, Collides, WriteFault, Memory}
@@ -28,7 +28,7 @@ names_once asked (Ok lines) v w (inr (apart, of_v)) (inr (far, of_w)) = of_v ∙
 
 script_once : (asked : Asked) (script : List ℕ) (reading : Result (List Content) VoxFault) (v w : Verdict) → JudgesScript asked script reading v → JudgesScript asked script reading w → v ≡ w
 script_once asked script (Err fault) v w of_v of_w = of_v ∙ sym of_w
-script_once asked script (Ok models) v w of_v of_w = names_once asked (commands_of names_now asked.side models script) v w of_v of_w
+script_once asked script (Ok models) v w of_v of_w = names_once asked (commands_of is_for_bits asked.side models script) v w of_v of_w
 
 pub inputs_once : (asked : Asked) (inputs : Result (List ℕ × List ℕ) Verdict) (v w : Verdict) → JudgesInputs asked inputs v → JudgesInputs asked inputs w → v ≡ w
 inputs_once asked (Err early) v w of_v of_w = of_v ∙ sym of_w

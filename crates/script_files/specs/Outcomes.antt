@@ -12,7 +12,7 @@ use Rattle.transcript.specs.declared.answers.LineAnswer.{LineAnswer}
 use Rattle.transcript.specs.Lines.{transcript_of}
 use Rattle.script.specs.declared.commands.ScriptLine.{ScriptLine}
 use Rattle.script.specs.declared.faults.ScriptFault.{ScriptFault}
-use Rattle.script.specs.Commands.{names_now}
+use Rattle.script.specs.Commands.{is_for_bits}
 use Rattle.script.specs.Fitting.{IsOfText}
 use Rattle.script.specs.Scripts.{commands_of}
 use Rattle.bit_run.specs.Runs.{IsRun, log_of}
@@ -62,7 +62,7 @@ pub record RefusesScript (fault : ScriptFault) (asked : Asked) (files : Option F
   pub models : List Content
   pub gives : Reads file (Ok models)
   pub is_of_text : IsOfText fault.kind
-  pub first : commands_of names_now asked.side models script ≡ Err fault
+  pub first : commands_of is_for_bits asked.side models script ≡ Err fault
 
 -- the VOX file gives models and the script has no fault, and the names collide
 pub record RefusesNames (asked : Asked) (files : Option Files) : Type 0 where
@@ -72,7 +72,7 @@ pub record RefusesNames (asked : Asked) (files : Option Files) : Type 0 where
   pub models : List Content
   pub gives : Reads file (Ok models)
   pub lines : List ScriptLine
-  pub read : commands_of names_now asked.side models script ≡ Ok lines
+  pub read : commands_of is_for_bits asked.side models script ≡ Ok lines
   pub collides : orders.Collides asked
 
 -- the inputs have no fault, and these are the records and answers of a run of the script
@@ -80,7 +80,7 @@ pub record IsAccepted (asked : Asked) (file script : List ℕ) (records : List R
   pub models : List Content
   pub gives : Reads file (Ok models)
   pub lines : List ScriptLine
-  pub read : commands_of names_now asked.side models script ≡ Ok lines
+  pub read : commands_of is_for_bits asked.side models script ≡ Ok lines
   pub apart : orders.Collides asked → ⊥
   pub run : IsRun asked.side models lines records answers
 

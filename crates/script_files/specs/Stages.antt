@@ -11,7 +11,7 @@ use Rattle.transcript.specs.declared.answers.LineAnswer.{LineAnswer}
 use Rattle.transcript.specs.Lines.{transcript_of}
 use Rattle.script.specs.declared.commands.ScriptLine.{ScriptLine}
 use Rattle.script.specs.declared.faults.ScriptFault.{ScriptFault}
-use Rattle.script.specs.Commands.{names_now}
+use Rattle.script.specs.Commands.{is_for_bits}
 use Rattle.script.specs.Fitting.{IsOfText}
 use Rattle.script.specs.Scripts.{commands_of}
 use Rattle.bit_run.specs.Runs.{log_of}
@@ -47,7 +47,7 @@ FileRefused _ file = ⊥
 -- the script is refused
 pub record IsFirst (fault : ScriptFault) (side : ℕ) (models : List Content) (script : List ℕ) : Type 0 where
   pub is_of_text : IsOfText fault.kind
-  pub first : commands_of names_now side models script ≡ Err fault
+  pub first : commands_of is_for_bits side models script ≡ Err fault
 
 abbrev pub ScriptRefused : RunRefused → ℕ → List Content → List ℕ → Type 0
 ScriptRefused (Script fault) side models script = IsFirst fault side models script
@@ -64,7 +64,7 @@ pub record Collide (asked : Asked) (file script : List ℕ) : Type 0 where
   pub models : List Content
   pub gives : Reads file (Ok models)
   pub lines : List ScriptLine
-  pub read : commands_of names_now asked.side models script ≡ Ok lines
+  pub read : commands_of is_for_bits asked.side models script ≡ Ok lines
   pub collides : orders.Collides asked
 
 -- the inputs were taken, and there is no run

@@ -6,8 +6,8 @@ use Rattle.vox_read.specs.Contents.{Content}
 use Rattle.vox_read.specs.Files.{Reads}
 use Rattle.script.specs.declared.commands.ScriptLine.{ScriptLine}
 use Rattle.script.specs.declared.faults.ScriptFault.{ScriptFault}
-use Rattle.script.specs.Numbers.{◌>>=◌}
-use Rattle.script.specs.Commands.{names_now}
+use Rattle.plain_text.specs.Steps.{◌>>=◌}
+use Rattle.script.specs.Commands.{is_for_bits}
 use Rattle.script.specs.Scripts.{commands_of}
 use Rattle.script_files.specs.declared.orders.RunRefused.{RunRefused}
 use Rattle.script_files.specs.declared.orders.RunRefused.TheVariants.{Missing, ReadFault, TooLong, Vox, Script, Collides, WriteFault, Memory}
@@ -43,7 +43,7 @@ JudgesNames asked (Ok lines) v = (orders.Collides asked × (v ≡ NamesCollide))
 
 abbrev pub JudgesScript : Asked → List ℕ → Result (List Content) VoxFault → Verdict → Type 0
 JudgesScript asked script (Err fault) v = v ≡ HasVoxFault fault
-JudgesScript asked script (Ok models) v = JudgesNames asked (commands_of names_now asked.side models script) v
+JudgesScript asked script (Ok models) v = JudgesNames asked (commands_of is_for_bits asked.side models script) v
 
 pub record JudgesTexts (asked : Asked) (file script : List ℕ) (v : Verdict) : Type 0 where
   pub reading : Result (List Content) VoxFault

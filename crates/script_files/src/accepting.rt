@@ -1,8 +1,8 @@
 ghost use Rattle.std.specs.Prelude.{◌≡◌, ◌≤◌, ◌^◌, ◌↔◌, Ok, length, IsTrue, IfOk, IfErr, All};
 ghost use Rattle.vox_read.specs.Contents.{AreModels};
 ghost use Rattle.vox_read.specs.Files.{Reads};
-ghost use Rattle.script.specs.Commands.{names_now};
-ghost use Rattle.script.specs.Fitting.{CommandFits, IsBuilt};
+ghost use Rattle.script.specs.Commands.{is_for_bits};
+ghost use Rattle.script.specs.Fitting.{CommandFits, IsForBits};
 ghost use Rattle.script.specs.Scripts.{commands_of};
 ghost use Rattle.script_files.specs.Orders.{Collides, transcript_name};
 ghost use Rattle.script_files.specs.Asking.{asked_of};
@@ -12,7 +12,7 @@ ghost use Rattle.script_files.specs.Stages.{FileRefused, ScriptRefused, Declined
 use crate::inputs::Inputs;
 use crate::orders::{Order, RunRefused};
 use bit_run::{Ran, run_script};
-use script::{Script, read_script};
+use script::{Script, read_bit_script};
 use std::alloc::Global;
 use vox_read::{Models, read_models};
 use vw_cell::Side;
@@ -70,12 +70,12 @@ fn parse<'w>(
     text: Vec<u8>,
 ) -> Result<Script, RunRefused<'w>>
     requires { AreModels models.now }
-    ensures read { IfOk result (λ script. commands_of names_now side models.now text.items ≡ Ok script) }
+    ensures read { IfOk result (λ script. commands_of is_for_bits side models.now text.items ≡ Ok script) }
     ensures refused { IfErr result (λ refused. ScriptRefused refused side models.now text.items) }
     ensures fits { IfOk result (λ script. All (λ l. CommandFits (2 ^ side) models.now l.command) script) }
-    ensures built { IfOk result (λ script. All (λ l. IsBuilt l.command) script) }
+    ensures for_bits { IfOk result (λ script. All (λ l. IsForBits l.command) script) }
 {
-    match read_script(alloc, text.as_slice(), side, models) {
+    match read_bit_script(alloc, text.as_slice(), side, models) {
         Ok(script) => Ok(script),
         Err(fault) => Err(RunRefused::from(fault)),
     }

@@ -1,1 +1,4 @@
-pub mod Lines
+pub mod AnswerLaws
+pub mod TextLaws
+pub mod ReadingLaws
+pub mod MomentLaws

@@ -1,11 +1,25 @@
 -- The numbers that an answer can hold.
-use Rattle.std.specs.Prelude.{◌^◌, ◌<◌}
+use Rattle.std.specs.Prelude.{◌^◌, ◌<◌, Some}
+use Rattle.vw_cell.specs.declared.cells.Cell.{Cell}
 use Rattle.transcript.specs.declared.answers.Answer.{Answer}
-use Rattle.transcript.specs.declared.answers.Answer.TheVariants.{Count}
+use Rattle.transcript.specs.declared.answers.Answer.TheVariants.{Forgot, Count, Faces, Extent, Hit, Saved, Full, NoVersion, Forgotten, Stale}
 use Rattle.transcript.specs.declared.answers.LineAnswer.{LineAnswer}
 
+-- numbers of 16 bits
+abbrev pub IsCell : Cell → Type 0
+IsCell c = (c.x < 2 ^ 16) × (c.y < 2 ^ 16) × (c.z < 2 ^ 16)
+
 abbrev pub IsAnswer : Answer → Type 0
+IsAnswer (Forgot v) = v < 2 ^ 32
 IsAnswer (Count cells) = cells < 2 ^ 64
+IsAnswer (Faces number) = number < 2 ^ 64
+IsAnswer (Extent (Some b)) = IsCell b.at × IsCell b.size
+IsAnswer (Hit (Some c)) = IsCell c
+IsAnswer (Saved cells) = cells < 2 ^ 64
+IsAnswer (Full level bucket) = (level < 2 ^ 8) × (bucket < 2 ^ 16)
+IsAnswer (NoVersion v) = v < 2 ^ 32
+IsAnswer (Forgotten v) = v < 2 ^ 32
+IsAnswer (Stale base) = base < 2 ^ 32
 IsAnswer _ = Unit {0}
 
 pub record IsLineAnswer (a : LineAnswer) : Type 0 where

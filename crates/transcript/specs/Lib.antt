@@ -1,2 +1,5 @@
 pub mod Lines
 pub mod Bounds
+pub mod Rows
+pub mod Refusals
+pub mod Moments

@@ -1,19 +1,57 @@
--- The text of a transcript.
-use Rattle.std.specs.Prelude.{ℕ, List, ◌++◌, codes}
-use Rattle.std.specs.List.{flat_map}
+-- The words of answers, and the text of a transcript.
+use Rattle.std.specs.Prelude.{ℕ, true, false, Some, None, List, [], ◌∷◌, ◌++◌, codes}
+use Rattle.std.specs.List.{flat_map, join_with_byte}
 use Rattle.std.specs.Fmt.{decimal}
+use Rattle.vw_cell.specs.declared.cells.Cell.{Cell}
 use Rattle.transcript.specs.declared.answers.Answer.{Answer}
-use Rattle.transcript.specs.declared.answers.Answer.TheVariants.{Done, Count, LogFull}
+use Rattle.transcript.specs.declared.answers.Answer.TheVariants.{Done, Forgot, Is, Count, Faces, Extent, Hit, Same, Head, Saved, Full, NoVersion, Forgotten, IsHead, NothingToUndo, NothingToRedo, LogFull, Stale}
 use Rattle.transcript.specs.declared.answers.LineAnswer.{LineAnswer}
 
-abbrev pub answer_words : Answer → List ℕ
-answer_words Done = codes "ok"
-answer_words (Count cells) = codes "count " ++ decimal cells
-answer_words LogFull = codes "log full"
+-- the three words of a cell, before others
+abbrev pub cell_list : Cell → List (List ℕ) → List (List ℕ)
+cell_list c more = decimal c.x ∷ decimal c.y ∷ decimal c.z ∷ more
+
+abbrev pub answer_list : Answer → List (List ℕ)
+answer_list Done = codes "ok" ∷ []
+answer_list (Forgot v) = codes "forgot" ∷ decimal v ∷ []
+answer_list (Is true) = codes "set" ∷ []
+answer_list (Is false) = codes "clear" ∷ []
+answer_list (Count cells) = codes "count" ∷ decimal cells ∷ []
+answer_list (Faces number) = codes "faces" ∷ decimal number ∷ []
+answer_list (Extent None) = codes "bounds" ∷ codes "none" ∷ []
+answer_list (Extent (Some b)) = codes "bounds" ∷ cell_list b.at (cell_list b.size [])
+answer_list (Hit None) = codes "miss" ∷ []
+answer_list (Hit (Some c)) = codes "hit" ∷ cell_list c []
+answer_list (Same true) = codes "same" ∷ []
+answer_list (Same false) = codes "different" ∷ []
+answer_list Head = codes "head" ∷ []
+answer_list (Saved cells) = codes "saved" ∷ decimal cells ∷ []
+answer_list (Full level bucket) = codes "full" ∷ decimal level ∷ decimal bucket ∷ []
+answer_list (NoVersion v) = codes "no" ∷ codes "version" ∷ decimal v ∷ []
+answer_list (Forgotten v) = codes "forgotten" ∷ decimal v ∷ []
+answer_list IsHead = codes "is" ∷ codes "head" ∷ []
+answer_list NothingToUndo = codes "nothing" ∷ codes "to" ∷ codes "undo" ∷ []
+answer_list NothingToRedo = codes "nothing" ∷ codes "to" ∷ codes "redo" ∷ []
+answer_list LogFull = codes "log" ∷ codes "full" ∷ []
+answer_list (Stale base) = codes "stale" ∷ decimal base ∷ []
 
 -- `L @n A`
+abbrev pub line_list : LineAnswer → List (List ℕ)
+line_list l = decimal l.line ∷ (codes "@" ++ decimal l.at) ∷ answer_list l.answer
+
+-- words with one space between any two
+abbrev pub line_of : List (List ℕ) → List ℕ
+line_of words = join_with_byte 32 words
+
+abbrev pub answer_text : Answer → List ℕ
+answer_text answer = line_of (answer_list answer)
+
+abbrev pub cell_text : Cell → List ℕ
+cell_text c = line_of (cell_list c [])
+
+-- each line has its newline
 abbrev pub line_text : LineAnswer → List ℕ
-line_text l = decimal l.line ++ (codes " @" ++ (decimal l.at ++ (codes " " ++ (answer_words l.answer ++ codes "\n"))))
+line_text l = line_of (line_list l) ++ codes "\n"
 
 abbrev pub transcript_of : List LineAnswer → List ℕ
 transcript_of lines = flat_map line_text lines

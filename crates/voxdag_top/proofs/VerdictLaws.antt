@@ -10,7 +10,7 @@ use Rattle.vox_read.specs.Files.{Reads}
 use Rattle.vox_read.specs.Once.{one_reading}
 use Rattle.script.specs.declared.commands.ScriptLine.{ScriptLine}
 use Rattle.script.specs.declared.faults.ScriptFault.{ScriptFault}
-use Rattle.script.specs.Commands.{names_now}
+use Rattle.script.specs.Commands.{is_for_bits}
 use Rattle.script.specs.Scripts.{commands_of}
 use Rattle.script_files.specs.Orders.{Asked, Collides, CollidesWith, transcript_name, vox_limit}
 use Rattle.script_files.specs.Verdicts.{Verdict, Fine, HasVoxFault, HasScriptFault, NamesCollide, input_at, inputs_at, JudgesNames, JudgesScript, JudgesInputs}
@@ -51,7 +51,7 @@ names_verdict asked (Ok lines) = names_at asked lines (collides_or_not asked ask
 
 script_verdict : (asked : Asked) (script : List ℕ) (reading : Result (List Content) VoxFault) → (v : Verdict) × JudgesScript asked script reading v
 script_verdict asked script (Err fault) = (HasVoxFault fault, refl)
-script_verdict asked script (Ok models) = names_verdict asked (commands_of names_now asked.side models script)
+script_verdict asked script (Ok models) = names_verdict asked (commands_of is_for_bits asked.side models script)
 
 inputs_verdict : ((bytes : List ℕ) → (says : Result (List Content) VoxFault) × Reads bytes says) → (asked : Asked) (inputs : Result (List ℕ × List ℕ) Verdict) → (v : Verdict) × JudgesInputs asked inputs v
 inputs_verdict readings asked (Err early) = (early, refl)

@@ -13,7 +13,7 @@ use Rattle.transcript.specs.declared.answers.LineAnswer.{LineAnswer}
 use Rattle.script.specs.declared.commands.ScriptLine.{ScriptLine}
 use Rattle.script.specs.declared.faults.ScriptFault.{ScriptFault}
 use Rattle.script.specs.Faults.{number_of_kind}
-use Rattle.script.specs.Commands.{names_now}
+use Rattle.script.specs.Commands.{is_for_bits}
 use Rattle.script.specs.Scripts.{commands_of}
 use Rattle.agreement.specs.Agreeing.{Agrees}
 use Rattle.agreement.specs.Shown.{IsShown}
@@ -53,7 +53,7 @@ pub record ScriptRan (asked : Asked) (before now : Option Files) (told said : Op
   pub models : List Content
   pub gives : Reads file (Ok models)
   pub lines : List ScriptLine
-  pub read : commands_of names_now asked.side models script ≡ Ok lines
+  pub read : commands_of is_for_bits asked.side models script ≡ Ok lines
   pub apart : orders.Collides asked → ⊥
   pub records : List Record
   pub answers : List LineAnswer

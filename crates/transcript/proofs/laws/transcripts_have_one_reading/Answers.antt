@@ -1,4 +1,4 @@
-use Rattle.transcript.proofs.Lines.{one_reading}
+use Rattle.transcript.proofs.ReadingLaws.{one_reading}
 use Rattle.transcript.proofs.laws.transcripts_have_one_reading.Goals as goal
 
 pub returns : goal.returns

@@ -1,0 +1,40 @@
+-- The command that some words spelled.
+use Rattle.std.specs.Prelude.{ℤ, None}
+use Rattle.history_model.specs.Worlds.{box_at}
+use Rattle.history_model.specs.Ways.{heading_of, Heading}
+use Rattle.history_model.specs.Spelled.{act_of}
+use Rattle.history_model.specs.declared.questions.Question.{Question}
+use Rattle.history_model.specs.declared.questions.Question.TheVariants as questions
+use Rattle.script.specs.Numbers.{signed}
+use Rattle.script.specs.declared.commands.Command.{Command}
+use Rattle.script.specs.declared.commands.Command.TheVariants as commands
+use Rattle.script.specs.declared.said.Asked.{Asked}
+use Rattle.script.specs.declared.said.Asked.TheVariants.{Get, Count, Bounds, Faces, Ray}
+use Rattle.script.specs.declared.said.Said.{Said}
+use Rattle.script.specs.declared.said.Said.TheVariants.{Edit, Forget, Ask, Same, Head}
+use Rattle.script.specs.declared.said.Step.{Step}
+use Rattle.script.specs.declared.said.Steps.{Steps}
+
+abbrev pub step_said : Step → ℤ
+step_said s = signed s.low s.size
+
+abbrev pub way_said : Steps → Heading
+way_said s = heading_of (step_said s.x) (step_said s.y) (step_said s.z)
+
+abbrev pub question_said : Asked → Question
+question_said (Get c) = questions.Get c
+question_said (Count at size) = questions.Count (box_at at size)
+question_said Bounds = questions.Bounds
+question_said (Faces at size) = questions.Faces (box_at at size)
+question_said (Ray from steps) = questions.Ray from (way_said steps)
+
+-- a question of the newest version
+abbrev pub asked_command : Asked → Command
+asked_command asked = commands.Ask None (question_said asked)
+
+abbrev pub command_said : Said → Command
+command_said (Edit act once) = commands.Edit (act_of act) once
+command_said (Forget v) = commands.Forget v
+command_said (Ask version question) = commands.Ask version (question_said question)
+command_said (Same v w) = commands.Same v w
+command_said Head = commands.Head

@@ -1,0 +1,189 @@
+ghost use Rattle.std.specs.Prelude.{◌≡◌, ◌^◌, ◌<◌, IfOk, OnOk, MatchResult};
+ghost use Rattle.std.specs.List.{slice_get};
+ghost use Rattle.vox_read.specs.Contents.{AreModels};
+ghost use Rattle.history_model.specs.Spelled.{act_of};
+ghost use Rattle.history_model.specs.Worlds.{box_at};
+ghost use Rattle.script.specs.declared.faults.ScriptKind.TheVariants.{Range};
+ghost use Rattle.script.specs.Numbers.{IsLarge, IsLong, box_in, cell_in, ball_in, way_in};
+ghost use Rattle.script.specs.Placing.{model_size, corner_in, stamp_placed, copy_placed, act_placed, ray_placed, question_placed, command_placed};
+ghost use Rattle.script.specs.Said.{step_said, way_said, question_said, command_said};
+
+use crate::commands::Command;
+use crate::faults::ScriptKind;
+use crate::said::{Asked, Said, Step, Steps};
+use history_model::{Act, Question, Spelled, Three, Way};
+use vox_read::Models;
+use vw_cell::{Ball, Boxed, Cell, Side};
+
+/// The command that was spelled, where what it names is there.
+pub(crate) fn place_command(said: &Said, side: Side, models: &Models) -> Result<Command, ScriptKind>
+    requires { AreModels models.now }
+    ensures { result ≡ command_placed (2 ^ side) models.now (command_said said.now) }
+{
+    match *said {
+        Said::Edit(act, once) => {
+            let act = place_act(&act, side, models)?;
+            Ok(Command::Edit { act, once })
+        }
+        Said::Forget(v) => Ok(Command::Forget(v)),
+        Said::Ask(version, asked) => {
+            let question = place_question(&asked, side)?;
+            Ok(Command::Ask { version, question })
+        }
+        Said::Same(v, w) => Ok(Command::Same(v, w)),
+        Said::Head => Ok(Command::Head),
+    }
+}
+
+fn place_act(spelled: &Spelled, side: Side, models: &Models) -> Result<Act, ScriptKind>
+    requires { AreModels models.now }
+    ensures { result ≡ act_placed (2 ^ side) models.now (act_of spelled.now) }
+{
+    match *spelled {
+        Spelled::Fill(at, size) => Ok(Act::Fill(make_box(at, size, side)?)),
+        Spelled::Erase(at, size) => Ok(Act::Erase(make_box(at, size, side)?)),
+        Spelled::Ball(centre, radius) => Ok(Act::Ball(make_ball(centre, radius, side)?)),
+        Spelled::Carve(centre, radius) => Ok(Act::Carve(make_ball(centre, radius, side)?)),
+        Spelled::Copy(at, size, to) => place_copy(at, size, to, side),
+        Spelled::Stamp(model, at) => place_stamp(model, at, side, models),
+        Spelled::Undo => Ok(Act::Undo),
+        Spelled::Redo => Ok(Act::Redo),
+    }
+}
+
+#[tactic(auto, unfolding(crate::specs::Placing::copy_placed))]
+fn place_copy(at: Three, size: Three, to: Three, side: Side) -> Result<Act, ScriptKind>
+    ensures { result ≡ copy_placed (2 ^ side) (box_at at size) to }
+{
+    let from = make_box(at, size, side)?;
+    let there = make_box(to, size, side)?;
+    Ok(Act::Copy(from, there.at))
+}
+
+#[tactic(auto, unfolding(crate::specs::Placing::stamp_placed))]
+fn place_stamp(model: u32, at: Three, side: Side, models: &Models) -> Result<Act, ScriptKind>
+    requires { AreModels models.now }
+    ensures { result ≡ stamp_placed (2 ^ side) models.now model at }
+{
+    let size = size_of(models, model)?;
+    let at = make_corner(at, size, side)?;
+    Ok(Act::Stamp(model as u16, at))
+}
+
+fn place_question(asked: &Asked, side: Side) -> Result<Question, ScriptKind>
+    ensures { result ≡ question_placed (2 ^ side) (question_said asked.now) }
+{
+    match *asked {
+        Asked::Get(c) => Ok(Question::Get(make_cell(c, side)?)),
+        Asked::Count(at, size) => Ok(Question::Count(make_box(at, size, side)?)),
+        Asked::Bounds => Ok(Question::Bounds),
+        Asked::Faces(at, size) => Ok(Question::Faces(make_box(at, size, side)?)),
+        Asked::Ray(from, steps) => place_ray(from, &steps, side),
+    }
+}
+
+#[tactic(auto, unfolding(crate::specs::Placing::ray_placed))]
+fn place_ray(from: Three, steps: &Steps, side: Side) -> Result<Question, ScriptKind>
+    ensures { result ≡ ray_placed (2 ^ side) from (way_said steps.now) }
+{
+    let from = make_cell(from, side)?;
+    let way = make_way(steps)?;
+    Ok(Question::Ray(from, way))
+}
+
+// The size of the model of this number.
+fn size_of(models: &Models, number: u32) -> Result<Cell, ScriptKind>
+    requires { AreModels models.now }
+    ensures value { result ≡ model_size (slice_get models.now number) }
+    ensures few { OnOk result (number < 1024) }
+{
+    match models.list.get(number as usize) {
+        Some(model) => Ok(model.size),
+        None => Err(ScriptKind::NoModel),
+    }
+}
+
+// The corner, where a model of this size has room there.
+#[tactic(auto, using(crate::proofs::Fitting::corner_large), unfolding(crate::specs::Placing::corner_in))]
+fn make_corner(corner: Three, size: Cell, side: Side) -> Result<Cell, ScriptKind>
+    ensures { result ≡ corner_in (2 ^ side) corner size }
+{
+    let at = cell(corner)?;
+    match Boxed::new(at, size, side) {
+        Some(_) => Ok(at),
+        None => Err(ScriptKind::Range),
+    }
+}
+
+#[tactic(auto, using(crate::proofs::Fitting::large_corner, crate::proofs::Fitting::large_extent, crate::proofs::Fitting::box_made))]
+fn make_box(at: Three, size: Three, side: Side) -> Result<Boxed, ScriptKind>
+    ensures { result ≡ box_in (2 ^ side) at size }
+{
+    let at = cell(at)?;
+    let size = cell(size)?;
+    Boxed::new(at, size, side).ok_or(ScriptKind::Range)
+}
+
+#[tactic(auto, using(crate::proofs::Fitting::large_cell, crate::proofs::Fitting::cell_there, crate::proofs::Fitting::cell_outside))]
+fn make_cell(numbers: Three, side: Side) -> Result<Cell, ScriptKind>
+    ensures { result ≡ cell_in (2 ^ side) numbers }
+{
+    let c = cell(numbers)?;
+    if !c.is_in_world(side) {
+        return Err(ScriptKind::Range);
+    }
+    Ok(c)
+}
+
+#[tactic(auto, using(crate::proofs::Fitting::large_radius, crate::proofs::Fitting::large_centre, crate::proofs::Fitting::ball_made))]
+fn make_ball(centre: Three, radius: u32, side: Side) -> Result<Ball, ScriptKind>
+    ensures { result ≡ ball_in (2 ^ side) centre radius }
+{
+    if radius > 4095 {
+        return Err(ScriptKind::Range);
+    }
+    let centre = cell(centre)?;
+    Ball::new(centre, radius as u16, side).ok_or(ScriptKind::Range)
+}
+
+#[tactic(auto, using(crate::proofs::Fitting::long_dx, crate::proofs::Fitting::long_dy, crate::proofs::Fitting::long_dz, crate::proofs::Fitting::way_made))]
+fn make_way(steps: &Steps) -> Result<Way, ScriptKind>
+    ensures { result ≡ way_in (way_said steps.now) }
+{
+    let dx = make_step(&steps.x)?;
+    let dy = make_step(&steps.y)?;
+    let dz = make_step(&steps.z)?;
+    Way::new(dx, dy, dz).ok_or(ScriptKind::Range)
+}
+
+// The step, where it is none too long.
+fn make_step(step: &Step) -> Result<i16, ScriptKind>
+    ensures { MatchResult result
+        (λ d. d ≡ step_said step.now)
+        (λ kind. (kind ≡ Range) × IsLong (step_said step.now)) }
+{
+    if step.size > 1024 {
+        return Err(ScriptKind::Range);
+    }
+    let size = step.size as i16;
+    if step.low {
+        return Ok(-size);
+    }
+    Ok(size)
+}
+
+// The cell of numbers that are small enough for one.
+fn cell(numbers: Three) -> Result<Cell, ScriptKind>
+    ensures { MatchResult result
+        (λ c. c ≡ numbers)
+        (λ kind. (kind ≡ Range) × IsLarge numbers) }
+{
+    if numbers.x > 65535 || numbers.y > 65535 || numbers.z > 65535 {
+        return Err(ScriptKind::Range);
+    }
+    Ok(Cell {
+        x: numbers.x as u16,
+        y: numbers.y as u16,
+        z: numbers.z as u16,
+    })
+}

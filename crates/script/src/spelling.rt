@@ -1,0 +1,233 @@
+ghost use Rattle.std.specs.Prelude.{◌≡◌, false, Err, None};
+ghost use Rattle.script.specs.declared.commands.Command.TheVariants.{Ask, Head};
+ghost use Rattle.history_model.specs.declared.questions.Question.TheVariants.{Bounds};
+ghost use Rattle.plain_text.specs.declared.faults.WordFault.TheVariants.{Word};
+ghost use Rattle.plain_text.specs.Steps.{Gives};
+ghost use Rattle.script.specs.Commands.{change_row, question_rows, other_rows, read_by, read_known, at_words, get_spelled, count_spelled, faces_spelled, alone_spelled, way_spelled, sized, step_by, ray_spelled, forget_spelled, same_spelled, command_spelled};
+ghost use Rattle.script.specs.Known.{knows};
+ghost use Rattle.script.specs.Said.{step_said, way_said, asked_command, command_said};
+
+use crate::names::{Known, is_change, is_question};
+use crate::numbers::number;
+use crate::said::{Asked, Said, Step, Steps};
+use crate::words::Words;
+use history_model::{read_act, read_box, three_numbers};
+use plain_text::{ThreeWords, WordFault, number_by, take_end, take_three, take_word};
+
+const GET: &[u8] = b"get";
+
+const COUNT: &[u8] = b"count";
+
+const FACES: &[u8] = b"faces";
+
+const BOUNDS: &[u8] = b"bounds";
+
+const RAY: &[u8] = b"ray";
+
+const FORGET: &[u8] = b"forget";
+
+const SAME: &[u8] = b"same";
+
+const HEAD: &[u8] = b"head";
+
+const AT: &[u8] = b"at";
+
+/// The command of this name with the words that follow it, wherever it may lie.
+#[tactic(auto, using(crate::proofs::RowLaws::change_found, crate::proofs::RowLaws::question_found, crate::proofs::RowLaws::other_found))]
+pub(crate) fn spell_command(name: &[u8], words: &mut Words, known: Known) -> Result<Said, WordFault>
+    ensures { Gives command_said result (command_spelled (knows known) name.now words.old) }
+{
+    if is_change(name) {
+        return spell_change(name, words, known);
+    }
+    if is_question(name) {
+        return spell_ask(name, words, known);
+    }
+    spell_other(name, words, known)
+}
+
+fn spell_change(name: &[u8], words: &mut Words, known: Known) -> Result<Said, WordFault>
+    ensures { Gives command_said result
+        (read_known (knows known) ((change_row false name.now).read words.old) name.now) }
+{
+    if !known.has(name) {
+        return Err(WordFault::Word);
+    }
+    let act = read_act(name, words)?;
+    Ok(Said::Edit(act, false))
+}
+
+fn spell_ask(name: &[u8], words: &mut Words, known: Known) -> Result<Said, WordFault>
+    ensures { Gives command_said result
+        (read_known (knows known)
+        (read_by question_rows (Err Word) name.now words.old) name.now) }
+{
+    let asked = spell_question(name, words, known)?;
+    Ok(Said::Ask(None, asked))
+}
+
+// The question of this name with the words that follow it.
+#[tactic(auto, using(crate::proofs::RowLaws::not_save), unfolding(crate::specs::Commands::question_rows))]
+fn spell_question(name: &[u8], words: &mut Words, known: Known) -> Result<Asked, WordFault>
+    ensures { Gives asked_command result
+        (read_known (knows known)
+        (read_by question_rows (Err Word) name.now words.old) name.now) }
+{
+    if !known.has(name) {
+        return Err(WordFault::Word);
+    }
+    if name == GET {
+        return spell_get(words);
+    }
+    if name == COUNT {
+        return spell_count(words);
+    }
+    if name == FACES {
+        return spell_faces(words);
+    }
+    if name == BOUNDS {
+        return spell_bounds(words);
+    }
+    if name == RAY {
+        return spell_ray(words);
+    }
+    Err(WordFault::Word)
+}
+
+#[tactic(auto, unfolding(crate::specs::Commands::get_spelled))]
+fn spell_get(words: &mut Words) -> Result<Asked, WordFault>
+    ensures { Gives asked_command result (get_spelled words.old) }
+{
+    let at = take_three(words)?;
+    take_end(words)?;
+    let at = three_numbers::<Words>(&at)?;
+    Ok(Asked::Get(at))
+}
+
+fn spell_count(words: &mut Words) -> Result<Asked, WordFault>
+    ensures { Gives asked_command result (count_spelled words.old) }
+{
+    let (at, size) = read_box(words)?;
+    Ok(Asked::Count(at, size))
+}
+
+fn spell_faces(words: &mut Words) -> Result<Asked, WordFault>
+    ensures { Gives asked_command result (faces_spelled words.old) }
+{
+    let (at, size) = read_box(words)?;
+    Ok(Asked::Faces(at, size))
+}
+
+fn spell_bounds(words: &mut Words) -> Result<Asked, WordFault>
+    ensures { Gives asked_command result (alone_spelled (Ask None Bounds) words.old) }
+{
+    take_end(words)?;
+    Ok(Asked::Bounds)
+}
+
+#[tactic(auto, unfolding(crate::specs::Commands::ray_spelled))]
+fn spell_ray(words: &mut Words) -> Result<Asked, WordFault>
+    ensures { Gives asked_command result (ray_spelled words.old) }
+{
+    let at = take_three(words)?;
+    let steps = take_three(words)?;
+    take_end(words)?;
+    let from = three_numbers::<Words>(&at)?;
+    let steps = read_steps(&steps)?;
+    Ok(Asked::Ray(from, steps))
+}
+
+#[tactic(auto, unfolding(crate::specs::Commands::way_spelled))]
+fn read_steps(words: &ThreeWords) -> Result<Steps, WordFault>
+    ensures { Gives way_said result (way_spelled words.now) }
+{
+    let x = read_step(words.x)?;
+    let y = read_step(words.y)?;
+    let z = read_step(words.z)?;
+    Ok(Steps { x, y, z })
+}
+
+// A step of a ray, which may have one `-` before its digits.
+fn read_step(word: &[u8]) -> Result<Step, WordFault>
+    ensures { Gives step_said result (step_by word.now) }
+{
+    match word.strip_prefix(b"-") {
+        Some(digits) => read_size(digits, true),
+        None => read_size(word, false),
+    }
+}
+
+fn read_size(digits: &[u8], low: bool) -> Result<Step, WordFault>
+    ensures { Gives step_said result (sized low digits.now) }
+{
+    match number(digits) {
+        Ok(size) => Ok(Step { low, size }),
+        Err(_) => Err(WordFault::Number),
+    }
+}
+
+// A command that is no change and no question.
+#[tactic(auto, using(crate::proofs::RowLaws::not_try), unfolding(crate::specs::Commands::other_rows))]
+fn spell_other(name: &[u8], words: &mut Words, known: Known) -> Result<Said, WordFault>
+    ensures { Gives command_said result
+        (read_known (knows known)
+        (read_by (other_rows (knows known)) (Err Word) name.now words.old) name.now) }
+{
+    if !known.has(name) {
+        return Err(WordFault::Word);
+    }
+    if name == FORGET {
+        return spell_forget(words);
+    }
+    if name == SAME {
+        return spell_same(words);
+    }
+    if name == HEAD {
+        return spell_head(words);
+    }
+    if name == AT {
+        return spell_at(words, known);
+    }
+    Err(WordFault::Word)
+}
+
+#[tactic(auto, unfolding(crate::specs::Commands::forget_spelled))]
+fn spell_forget(words: &mut Words) -> Result<Said, WordFault>
+    ensures { Gives command_said result (forget_spelled words.old) }
+{
+    let version = take_word(words)?;
+    take_end(words)?;
+    let v = number_by::<Words>(version)?;
+    Ok(Said::Forget(v))
+}
+
+#[tactic(auto, unfolding(crate::specs::Commands::same_spelled))]
+fn spell_same(words: &mut Words) -> Result<Said, WordFault>
+    ensures { Gives command_said result (same_spelled words.old) }
+{
+    let first = take_word(words)?;
+    let second = take_word(words)?;
+    take_end(words)?;
+    let v = number_by::<Words>(first)?;
+    let w = number_by::<Words>(second)?;
+    Ok(Said::Same(v, w))
+}
+
+fn spell_head(words: &mut Words) -> Result<Said, WordFault>
+    ensures { Gives command_said result (alone_spelled Head words.old) }
+{
+    take_end(words)?;
+    Ok(Said::Head)
+}
+
+// A question of the version that stands before it.
+#[tactic(auto, unfolding(crate::specs::Commands::at_words))]
+fn spell_at(words: &mut Words, known: Known) -> Result<Said, WordFault>
+    ensures { Gives command_said result (at_words (knows known) words.old) }
+{
+    let version = take_word(words)?;
+    let name = take_word(words)?;
+    let asked = spell_question(name, words, known)?;
+    let v = number_by::<Words>(version)?;
+    Ok(Said::Ask(Some(v), asked))
+}
