@@ -1,0 +1,10 @@
+pub mod GoingOn
+pub mod Lists
+pub mod Running
+pub mod LineKinds
+pub mod Refusals
+pub mod Parts
+pub mod Seeing
+pub mod Moments
+pub mod Samples
+pub mod Rows

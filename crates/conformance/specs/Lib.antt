@@ -1,0 +1,9 @@
+pub mod Telling
+pub mod Answers
+pub mod Shown
+pub mod Agreeing
+pub mod Running
+pub mod Kinds
+pub mod Refusing
+pub mod Passes
+pub mod Statements

@@ -1,0 +1,23 @@
+-- Which answer tells what is asked of a world.
+use Rattle.std.specs.Prelude.{◌≡◌, ℕ, Bool, Option}
+use Rattle.vw_cell.specs.declared.cells.Cell.{Cell}
+use Rattle.vw_cell.specs.declared.boxes.Boxed.{Boxed}
+use Rattle.vw_cell.specs.Counts.{number_in}
+use Rattle.world_questions.specs.Faces.{faces_in}
+use Rattle.world_questions.specs.Extents.{IsExtent}
+use Rattle.history_model.specs.Ways.{Heading}
+use Rattle.history_model.specs.Rays.{Hits}
+use Rattle.history_model.specs.Worlds.{World}
+use Rattle.history_model.specs.declared.questions.Question.{Question}
+use Rattle.history_model.specs.declared.questions.Question.TheVariants.{Get, Count, Bounds, Faces, Ray}
+use Rattle.transcript.specs.declared.answers.Answer.{Answer}
+use Rattle.transcript.specs.declared.answers.Answer.TheVariants as answers
+
+-- the answer tells what the question asks of a world of this side; a new question adds its row here alone
+pub data Tells (side : ℕ) (w : World) : Question → Answer → Type 0 where
+  is : (c : Cell) (set : Bool) → w c ≡ set → Tells side w (Get c) (answers.Is set)
+  count : (b : Boxed) (cells : ℕ) → cells ≡ number_in b w → Tells side w (Count b) (answers.Count cells)
+  faces : (b : Boxed) (number : ℕ) → number ≡ faces_in side w b → Tells side w (Faces b) (answers.Faces number)
+  extent : (least : Option Boxed) → IsExtent side w least → Tells side w Bounds (answers.Extent least)
+  hit : (from : Cell) (h : Heading) (found : Option Cell) → Hits from h side w found
+      → Tells side w (Ray from h) (answers.Hit found)
