@@ -8,11 +8,13 @@ set -eu
 here=$(cd "$(dirname "$0")" && pwd)
 root=$(dirname "$here")
 work=$here/work/one_store
-crates="vw_cell node_shapes node_kernels node_words node_places entry_words"
+crates=$(cd "$root" && awk -F"[: ]+" '/^one_store:/ { for (i = 2; i <= NF; i++) print $i }' crates.txt)
+crates="one_store node_kernels bit_set vox_chunk $crates"
 rounds=5
 mkdir -p "$work/crates/bench_one_store/src"
 cp "$root/HANDLES" "$work/"
 for name in $crates; do
+    [ -d "$root/crates/$name" ] || continue
     mkdir -p "$work/crates/$name"
     for part in src specs proofs; do
         rm -rf "$work/crates/$name/$part"
@@ -20,13 +22,26 @@ for name in $crates; do
     done
 done
 cp "$here/one_store/main.rt.in" "$work/crates/bench_one_store/src/main.rt"
+mkdir -p "$work/crates/bench_one_store/proofs/main"
+cat > "$work/crates/bench_one_store/proofs/main/Invariants.antt" <<'END'
+use Rattle.bench_one_store.proofs.main.Given as goal
+
+abbrev pub ghosts-whole_calls : goal.ghosts-whole_calls
+ghosts-whole_calls a = record { name = a.blank.name; parts = a.blank.parts }
+END
 {
-    for name in $crates; do grep -E "^$name:" "$root/crates.txt"; done
-    echo "bench_one_store: entry_words node_places node_words vw_cell"
+    for name in $crates; do grep -E "^$name:" "$root/crates.txt" || true; done
+    echo "bench_one_store: one_store entry_words node_places node_words node_shapes vw_cell"
 } > "$work/crates.txt"
 rustc -O -C target-cpu=x86-64-v2 -o "$work/plain" "$here/one_store/plain.rs"
 cd "$work/crates/bench_one_store"
+[ "${1:-}" != prepare ] || exit 0
 rt run > "$work/build.log" 2>&1 || { tail -20 "$work/build.log" >&2; exit 1; }
+cc -O2 -o "$work/peak" "$here/peak.c"
+"$work/peak" "$work/usual" out/bench_one_store usual > "$work/said"
+"$work/peak" "$work/large" out/bench_one_store large plan >> "$work/said"
+awk '{ printf "peak memory of a store, side 4,096, usual plan: %.1f MB\n", $2 / 1e6 }' "$work/usual"
+awk '{ printf "peak memory of a store, side 256, 4,096 buckets a level, cap 256: %.1f MB\n", $2 / 1e6 }' "$work/large"
 : > "$work/times"
 for ((round = 1; round <= rounds; round++)); do
     out/bench_one_store | sed 's/^/product /' >> "$work/times"
@@ -39,6 +54,7 @@ awk '
     END {
         for (i = 1; i <= number; i++) {
             kind = kinds[i]; product = best["product " kind]; peer = best["peer " kind]
+            if (kind == "staying") { if (sum["product " kind] != sum["peer " kind]) failed = 1; continue }
             if (kind == "clear") { printf "begin: %.1f times a plain clear of as much memory\n", best["product begin"] / peer; continue }
             if (sum["product " kind] != sum["peer " kind]) { print kind ": the two gave other names"; failed = 1 }
             printf "%-10s product %6.1f, peer %6.1f %s, product/peer %.2f\n", kind, product / (kind == "begin" ? 1000 : 10), peer / (kind == "begin" ? 1000 : 10), kind == "begin" ? "ms" : "ns", product / peer

@@ -6,6 +6,8 @@ const BUCKETS: [usize; 11] = [4096, 4096, 4096, 1024, 1024, 256, 256, 256, 256, 
 const CAP: usize = 128;
 const NUMBER: u64 = 262_144;
 const FURTHER: u64 = 8_192;
+const STAYING: u64 = 3_840;
+const CALLS: u64 = 1_000_000;
 
 #[derive(Clone, Copy, PartialEq, Eq)]
 struct Words {
@@ -14,6 +16,7 @@ struct Words {
 }
 
 struct Plain {
+    buckets: [usize; 11],
     bases: [usize; 12],
     books: Vec<u32>,
     firsts: Vec<u64>,
@@ -80,13 +83,14 @@ fn position(tags: &[u8], from: usize, tag: u8) -> Option<usize> {
 }
 
 impl Plain {
-    fn begin() -> Plain {
+    fn begin(buckets: [usize; 11]) -> Plain {
         let mut bases = [0; 12];
         for level in 0..11 {
-            bases[level + 1] = bases[level] + CAP * BUCKETS[level];
+            bases[level + 1] = bases[level] + CAP * buckets[level];
         }
         let size = bases[11];
         Plain {
+            buckets,
             bases,
             books: filled(size, 0),
             firsts: filled(size, 0),
@@ -135,7 +139,7 @@ impl Plain {
     #[inline(never)]
     fn leaf(&mut self, bits: u64) -> u64 {
         let hash = mixed(0x9E37_79B9_7F4A_7C15, bits);
-        let bucket = (finished(hash) >> 32) as usize % BUCKETS[0];
+        let bucket = (finished(hash) >> 32) as usize % self.buckets[0];
         self.take(
             0,
             bucket,
@@ -144,6 +148,24 @@ impl Plain {
                 rest: [0; 3],
             },
         )
+    }
+
+    // One reference less to a leaf.
+    fn back(&mut self, code: u64) {
+        let i = (code / 256) as usize * CAP + (code % 256) as usize;
+        self.books[i] -= 1;
+        if self.books[i] == 0 {
+            self.tags[i] = 0;
+        }
+    }
+
+    #[inline(never)]
+    fn take_and_back(&mut self, bits: u64) -> u64 {
+        let code = self.leaf(bits);
+        if code != 0xF000_0000 {
+            self.back(code);
+        }
+        code
     }
 
     #[inline(never)]
@@ -157,7 +179,7 @@ impl Plain {
         });
         let pair = |k: usize| term(children[k]) + (term(children[k + 1]) << 32);
         let hash = mixed(mixed(mixed(mixed(0x9E37_79B9_7F4A_7C15, pair(0)), pair(2)), pair(4)), pair(6));
-        let bucket = (finished(hash) >> 32) as usize % BUCKETS[1];
+        let bucket = (finished(hash) >> 32) as usize % self.buckets[1];
         let said = |k: usize| word(children[k]) + (word(children[k + 1]) << 32);
         self.take(
             1,
@@ -188,6 +210,10 @@ fn leaves(words: &mut Plain, from: u64, to: u64) -> u64 {
     (from..to).fold(0, |sum: u64, i| sum.rotate_left(1) ^ words.leaf(random(i)))
 }
 
+fn calls(words: &mut Plain, from: u64, to: u64) -> u64 {
+    (0..CALLS).fold(0, |sum: u64, turn| sum.rotate_left(1) ^ words.take_and_back(random(from + turn % (to - from))))
+}
+
 fn nodes(words: &mut Plain, from: u64, to: u64) -> u64 {
     (from..to).fold(0, |sum: u64, i| sum.rotate_left(1) ^ words.node(i))
 }
@@ -198,7 +224,7 @@ fn main() {
     println!("clear {} 0", start.elapsed().as_nanos() / 1000);
     drop(black_box(bytes));
     let start = Instant::now();
-    let mut words = Plain::begin();
+    let mut words = Plain::begin(BUCKETS);
     println!("begin {} 0", start.elapsed().as_nanos() / 1000);
     timed("leaf_fill", NUMBER, || leaves(&mut words, 0, NUMBER));
     timed("leaf_hit", NUMBER, || leaves(&mut words, 0, NUMBER));
@@ -206,4 +232,8 @@ fn main() {
     timed("node_fill", NUMBER, || nodes(&mut words, 0, NUMBER));
     timed("node_hit", NUMBER, || nodes(&mut words, 0, NUMBER));
     timed("node_miss", FURTHER, || nodes(&mut words, 1_000_000, 1_000_000 + FURTHER));
+    let mut words = Plain::begin([60; 11]);
+    println!("staying 0 {}", leaves(&mut words, 0, STAYING));
+    timed("call_hit", CALLS, || calls(&mut words, 0, STAYING));
+    timed("call_miss", CALLS, || calls(&mut words, 1_000_000, 1_100_000));
 }
