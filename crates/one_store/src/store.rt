@@ -62,6 +62,8 @@ impl OneStore {
     /// An empty store.
     pub fn begin(alloc: Global, plan: &Plan) -> Result<OneStore, AllocError>
         ensures plan { IfOk result (λ s. s.words.plan ≡ plan.now) }
+        ensures free { IfOk result (λ s. (n : Name) → book_in s.words n ≡ 0) }
+        ensures roots { IfOk result (λ s. (place : ℕ) → root_in s.roots place ≡ None) }
         ensures told { IfOk result (λ s. s.told ≡ nothing_told) }
     {
         Ok(OneStore {

@@ -69,7 +69,7 @@ pub release_row-release_some-requires : goal.release_row-release_some-requires
 release_row-release_some-requires g t c κs within =
     let z : c.args.level - 1 + 1 ≡ c.args.level = omega (arith, c.requires.level) in
     let below = subst (λ (l : ℕ). AreBelow l c.args.children.now) (sym z) c.requires.below in
-    let child = holds_next c.args.self.now c.loop-k.self (c.args.level - 1) c.args.children.now c.loop-k.k c.args.steps.now c.loop-k.steps c.loop-k-test.true c.requires.held below c.loop-k.invariant in
+    let child = holds_next c.args.self.now c.loop-k.self (c.args.level - 1) c.args.children.now c.loop-k.k c.args.steps.now c.loop-k.steps (omega arith) c.requires.held below c.loop-k.invariant in
     let held = subst (λ (l : ℕ). HoldsChild c.loop-k.self.told.held l (name_in c.args.children.now c.loop-k.k)) z child in
     let room = row_room c.args.self.now c.loop-k.self _ c.loop-k.k c.args.steps.now c.loop-k.steps (c.args.level - 1) c.requires.room c.loop-k.invariant in
     let above = c.requires.level in
@@ -77,7 +77,7 @@ release_row-release_some-requires g t c κs within =
 
 pub release_row-loop-k-preserved : goal.release_row-loop-k-preserved
 release_row-loop-k-preserved g t c =
-    row_more c.args.self.now c.loop-k.self c.release_some.new.self (c.args.level - 1) c.args.children.now c.loop-k.k c.args.steps.now c.loop-k.steps c.release_some.new.steps c.loop-k-test.true c.loop-k.invariant c.release_some.ensures
+    row_more c.args.self.now c.loop-k.self c.release_some.new.self (c.args.level - 1) c.args.children.now c.loop-k.k c.args.steps.now c.loop-k.steps c.release_some.new.steps (omega arith) c.loop-k.invariant c.release_some.ensures
 
 pub release_some-returns-in-None : goal.release_some-returns-in-None
 release_some-returns-in-None g t c =

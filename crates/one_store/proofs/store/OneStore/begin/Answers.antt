@@ -15,3 +15,6 @@ invariant_of-result c =
     let empty = λ (place : ℕ). ap (λ (r : List (Option Name)). root_in r place) e ∙ no_roots 65536 place in
     subst (λ (t : Told). IsStore (record { words = w; roots = roots; told = t }) 0) (sym c.in_ok-new.ensures)
     (begun_store w roots c.in_ok-begin.ensures.is_plan c.in_ok-begin.ensures.free long empty)
+
+pub returns-clause-roots : goal.returns-clause-roots
+returns-clause-roots c place = ap (λ (r : List (Option Name)). root_in r place) c.in_ok-no_roots.ensures ∙ no_roots 65536 place
