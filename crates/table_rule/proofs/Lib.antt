@@ -1,0 +1,7 @@
+pub mod Lookups
+pub mod KnownWords
+pub mod Standings
+pub mod TellingLaw
+pub mod PartA
+pub mod PartC
+pub mod StateSteps

@@ -1,0 +1,12 @@
+pub mod TurnSteps
+pub mod Loads
+pub mod Shares
+pub mod Books
+pub mod Publishing
+pub mod AnyTree
+pub mod Small
+pub mod Opening
+pub mod NumberSteps
+pub mod Dealing
+pub mod Lift
+pub mod LiftSeats
