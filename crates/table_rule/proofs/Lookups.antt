@@ -12,14 +12,18 @@ module _ {A : Type 0} where
   get_std (x ∷ xs) zero a e = ap Some (some-injective x a e)
   get_std (x ∷ xs) (suc i) a e = get_std xs i a e
 
-  pub get_set : (l : List A) (i j : ℕ) (a b : A) → slice_get (set l i a) j ≡ Some b → ((j ≡ i) × (a ≡ b)) ⊎ ((j ≢ i) × (slice_get l j ≡ Some b))
+  pub get_set : (l : List A) (i j : ℕ) (a b : A) → slice_get (set l i a) j ≡ Some b
+      → ((j ≡ i) × (a ≡ b)) ⊎ ((j ≢ i) × (slice_get l j ≡ Some b))
   get_set [] i j a b e = absurd (none-some b e)
   get_set (x ∷ xs) zero zero a b e = inl (refl, same_Some a b e)
   get_set (x ∷ xs) zero (suc j) a b e = inr ((λ h. omega arith), e)
   get_set (x ∷ xs) (suc i) zero a b e = inr ((λ h. omega arith), e)
-  get_set (x ∷ xs) (suc i) (suc j) a b e = ⊎_elim (λ t. inl (ap suc t.0, t.1)) (λ t. let n = t.0 in inr ((λ h. n (omega arith)), t.1)) (get_set xs i j a b e)
+  get_set (x ∷ xs) (suc i) (suc j) a b e =
+      ⊎_elim (λ t. inl (ap suc t.0, t.1)) (λ t. let n = t.0 in inr ((λ h. n (omega arith)), t.1))
+      (get_set xs i j a b e)
 
-  pub get_set_same : (l : List A) (i : ℕ) (a b : A) → slice_get l i ≡ Some b → slice_get (set l i a) i ≡ Some a
+  pub get_set_same : (l : List A) (i : ℕ) (a b : A) → slice_get l i ≡ Some b
+      → slice_get (set l i a) i ≡ Some a
   get_set_same [] i a b e = absurd (none-some b e)
   get_set_same (x ∷ xs) zero a b e = refl
   get_set_same (x ∷ xs) (suc i) a b e = get_set_same xs i a b e
@@ -30,7 +34,11 @@ module _ {A : Type 0} where
   set_again (x ∷ xs) (suc i) a e = λ k. x ∷ set_again xs i a e k
 
   -- what holds of the new view and of each other one holds of each
-  pub each : (P : ℕ → A → Type 0) (views : List A) (seat : ℕ) (w : A) → P seat w → ((j : ℕ) (d : A) → j ≢ seat → slice_get views j ≡ Some d → P j d)
+  pub each : (P : ℕ → A → Type 0) (views : List A) (seat : ℕ) (w : A) → P seat w
+      → ((j : ℕ) (d : A) → j ≢ seat → slice_get views j ≡ Some d → P j d)
       → (j : ℕ) (d : A) → slice_get (set views seat w) j ≡ Some d → P j d
-  each P views seat w mine others j d e = ⊎_elim (λ (t : (j ≡ seat) × (w ≡ d)). subst (λ (x : ℕ × A). P x.0 x.1) (λ i. (sym t.0 i, t.1 i)) mine)
-      (λ (t : (j ≢ seat) × (slice_get views j ≡ Some d)). others j d t.0 t.1) (get_set views seat j w d e)
+  each P views seat w mine others j d e =
+      ⊎_elim (λ (t : (j ≡ seat) × (w ≡ d)). subst (λ (x : ℕ × A). P x.0 x.1)
+      (λ i. (sym t.0 i, t.1 i)) mine)
+      (λ (t : (j ≢ seat) × (slice_get views j ≡ Some d)). others j d t.0 t.1)
+      (get_set views seat j w d e)

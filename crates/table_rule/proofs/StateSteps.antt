@@ -31,7 +31,12 @@ use Rattle.table_rule.proofs.Lookups.{set_again}
 use Rattle.table_rule.proofs.PartC.{knows_step}
 
 pub same_mem : (old new : Spot → ℕ) (x : Spot) → Wrote old x (old x) new → new ≡ old
-same_mem old new x wrote = λ i y. let e : new y ≡ old y = elim (spot_same y x) [ yes e ↦ ap new e ∙ (wrote.here ∙ ap old (sym e)) | no ne ↦ wrote.others y ne ] in e i
+same_mem old new x wrote = λ i y. let e : new y ≡ old y =
+    elim (spot_same y x) [
+      | yes e ↦ ap new e ∙ (wrote.here ∙ ap old (sym e))
+      | no ne ↦
+          wrote.others y ne
+    ] in e i
 
 pub no_change : (old : Spot → ℕ) (x : Spot) → Wrote old x (old x) old
 no_change old x = record { here = refl; others = λ _ _. refl }
@@ -72,7 +77,10 @@ module _ (p : Layout) (models : List Content) (old new : Spot → ℕ) (views : 
   }
 
   -- what the seat of a step that changes no entry owes
-  quiet_owes : EntriesStay p c d → w.plan ≡ v.plan → w.models ≡ v.models → w.alive ≡ v.alive → w.held ≡ v.held → w.made ≡ v.made → ((m : Wanted) → Contains w.met m → Contains v.met m ⊎ HasEnough p (all_made (set views seat w)) m.level m.bucket)
+  quiet_owes : EntriesStay p c d → w.plan ≡ v.plan → w.models ≡ v.models → w.alive ≡ v.alive
+      → w.held ≡ v.held → w.made ≡ v.made
+      → ((m : Wanted) → Contains w.met m
+      → Contains v.met m ⊎ HasEnough p (all_made (set views seat w)) m.level m.bucket)
       → Owes p c d (set views seat w) v w
   quiet_owes same plan models alive held made met = record {
     plan = plan;
@@ -114,8 +122,10 @@ module _ (p : Layout) (models : List Content) (old new : Spot → ℕ) (views : 
       )
 
   -- a word that no entry has
-  pub entries_same : (x : Spot) (n : ℕ) → Wrote old x n new → ((m : Name) → book_of m ≢ x) → ((m : Name) (i : ℕ) → Key m.level m.bucket m.slot i ≢ x) → EntriesStay p c d
+  pub entries_same : (x : Spot) (n : ℕ) → Wrote old x n new → ((m : Name) → book_of m ≢ x)
+      → ((m : Name) (i : ℕ) → Key m.level m.bucket m.slot i ≢ x) → EntriesStay p c d
   entries_same x n wrote no_book no_key = record {
     book = λ m is. wrote.others (book_of m) (no_book m);
-    key = λ m live. keys_same m.level _ _ (λ i. wrote.others (Key m.level m.bucket m.slot i) (no_key m i));
+    key = λ m live. keys_same m.level _ _
+        (λ i. wrote.others (Key m.level m.bucket m.slot i) (no_key m i));
   }

@@ -29,26 +29,40 @@ use Rattle.table_rule.specs.Telling.{tree_word, Agrees, Tells, TellsInUse}
 use Rattle.table_rule.proofs.Standings.{root_at, standing_at, reached_stands}
 
 -- the words of a node's key are those of its tree
-node_word : (level : ℕ) (n : Name) (key : Key) (row : ℕ → Tree) (i : ℕ) → FitsLevel (suc level) key → i < 4 → ((k : ℕ) → k < 8 → root_of (row k) ≡ key_child key k) → key_word key i ≡ tree_word (node_at n row) i
+node_word : (level : ℕ) (n : Name) (key : Key) (row : ℕ → Tree) (i : ℕ) → FitsLevel (suc level) key
+    → i < 4 → ((k : ℕ) → k < 8 → root_of (row k) ≡ key_child key k)
+    → key_word key i ≡ tree_word (node_at n row) i
 node_word level n (Leaf bits) row i fits lt names = absurd fits
 node_word level n (Node children) row i fits lt names =
-    let low : root_of (child_of (node_at n row) (2 * i)) ≡ name_in children (2 * i) = ap root_of (child_of-node_at n row (2 * i) (omega arith)) ∙ names (2 * i) (omega arith) in
-    let high : root_of (child_of (node_at n row) (2 * i + 1)) ≡ name_in children (2 * i + 1) = ap root_of (child_of-node_at n row (2 * i + 1) (omega arith)) ∙ names (2 * i + 1) (omega arith) in
+    let low : root_of (child_of (node_at n row) (2 * i)) ≡ name_in children (2 * i) =
+    ap root_of (child_of-node_at n row (2 * i) (omega arith)) ∙ names (2 * i) (omega arith) in
+    let high : root_of (child_of (node_at n row) (2 * i + 1)) ≡ name_in children (2 * i + 1) =
+    ap root_of (child_of-node_at n row (2 * i + 1) (omega arith))
+    ∙ names (2 * i + 1) (omega arith) in
     λ j. word_of_child (sym low j) + 2 ^ 32 * word_of_child (sym high j)
 
-leaf_word : (level : ℕ) (key : Key) (i : ℕ) → level ≡ 0 → FitsLevel level key → key_word key i ≡ key_bits key
+leaf_word : (level : ℕ) (key : Key) (i : ℕ) → level ≡ 0 → FitsLevel level key
+    → key_word key i ≡ key_bits key
 leaf_word level (Leaf bits) i e fits = refl
-leaf_word level (Node children) i e fits = absurd (subst (λ (l : ℕ). FitsLevel l (Node children)) e fits)
+leaf_word level (Node children) i e fits =
+    absurd (subst (λ (l : ℕ). FitsLevel l (Node children)) e fits)
 
 -- the words of the key that a live name has are those of its tree
-pub word_of_tree : (c : State) (level : ℕ) (n : Name) (i : ℕ) → n.level ≡ level → FitsLevel n.level (c.key n) → i < key_words n.level → key_word (c.key n) i ≡ tree_word (tree_of c n) i
-word_of_tree c zero n i of fits lt = leaf_word n.level (c.key n) i of fits ∙ ap (λ (t : Tree). tree_word t i) (sym (leaf_tree c.key n.level n of))
+pub word_of_tree : (c : State) (level : ℕ) (n : Name) (i : ℕ) → n.level ≡ level
+    → FitsLevel n.level (c.key n) → i < key_words n.level
+    → key_word (c.key n) i ≡ tree_word (tree_of c n) i
+word_of_tree c zero n i of fits lt = leaf_word n.level (c.key n) i of fits
+    ∙ ap (λ (t : Tree). tree_word t i) (sym (leaf_tree c.key n.level n of))
 word_of_tree c (suc level) n i of fits lt =
     let low : i < 4 = subst (λ (l : ℕ). i < key_words l) of lt in
-    node_word level n (c.key n) (λ k. tree_at c.key level (key_child (c.key n) k)) i (subst (λ (l : ℕ). FitsLevel l (c.key n)) of fits) low (λ k lt. root_at c.key level (key_child (c.key n) k))
+    node_word level n (c.key n)
+    (λ k. tree_at c.key level (key_child (c.key n) k)) i
+    (subst (λ (l : ℕ). FitsLevel l (c.key n)) of fits) low
+    (λ k lt. root_at c.key level (key_child (c.key n) k))
     ∙ ap (λ (t : Tree). tree_word t i) (sym (node_tree c.key n.level level n of))
 
-module _ (p : Layout) (models : List Content) (mem : Spot → ℕ) (views : List SeatView) (seat : ℕ) (v : SeatView) (r : KeepsRule p models mem views) (at : slice_get views seat ≡ Some v) where
+module _ (p : Layout) (models : List Content) (mem : Spot → ℕ) (views : List SeatView) (seat : ℕ)
+    (v : SeatView) (r : KeepsRule p models mem views) (at : slice_get views seat ≡ Some v) where
   abbrev pub c : State
   c = state_of p mem views
 
@@ -58,7 +72,8 @@ module _ (p : Layout) (models : List Content) (mem : Spot → ℕ) (views : List
   pub reached : (t : Tree) → IsReached v.held t → StandsOrGone p c t
   reached t h = reached_stands p c sound v.held (r.knows.held seat v at) t h
 
-  pub lives : (t : Tree) (n : Name) → IsReached v.held t → root_of t ≡ Some n → IsLive p c n × (tree_of c n ≡ t)
+  pub lives : (t : Tree) (n : Name) → IsReached v.held t → root_of t ≡ Some n → IsLive p c n
+      × (tree_of c n ≡ t)
   lives t n h e = standing_at p c t n (reached t h) e
 
   lives_at : (n : Name) → IsLive p c n → LivesAt p c n.level n
@@ -77,16 +92,23 @@ module _ (p : Layout) (models : List Content) (mem : Spot → ℕ) (views : List
       (one_lives p c n.level n (lives_at n b.0))
       (ap shape_of up ∙ same ∙ ap shape_of (sym b.1)))
 
-  pub reached_word : (t : Tree) (n : Name) (i : ℕ) → IsReached v.held t → root_of t ≡ Some n → i < key_words n.level → mem (key_spot n i) ≡ tree_word t i
+  pub reached_word : (t : Tree) (n : Name) (i : ℕ) → IsReached v.held t → root_of t ≡ Some n
+      → i < key_words n.level → mem (key_spot n i) ≡ tree_word t i
   reached_word t n i h e lt =
       let l = lives t n h e in
-      sym (key_back n.level (λ j. mem (key_spot n j)) i lt) ∙ word_of_tree c n.level n i refl (sound.fits n l.0) lt ∙ ap (λ (u : Tree). tree_word u i) l.1
+      sym (key_back n.level (λ j. mem (key_spot n j)) i lt)
+      ∙ word_of_tree c n.level n i refl (sound.fits n l.0) lt
+      ∙ ap (λ (u : Tree). tree_word u i) l.1
 
-  agrees : (t : Tree) (n : Name) → IsReached v.held t → root_of t ≡ Some n → v.turn ≡ Some (bucket_of n) → Agrees v t n
+  agrees : (t : Tree) (n : Name) → IsReached v.held t → root_of t ≡ Some n
+      → v.turn ≡ Some (bucket_of n) → Agrees v t n
   agrees t n h e has = let l = lives t n h e in record {
-    book = λ k is. (let word = r.turns.known seat v at (bucket_of n) (book_of n) k has (refl, refl) is in let some = l.0.book in omega arith);
+    book = λ k is.
+        (let word = r.turns.known seat v at (bucket_of n) (book_of n) k has (refl, refl) is in
+        let some = l.0.book in omega arith);
     key = λ i k lt is.
-        sym (r.turns.known seat v at (bucket_of n) (key_spot n i) k has (refl, refl) is) ∙ reached_word t n i h e lt;
+        sym (r.turns.known seat v at (bucket_of n) (key_spot n i) k has (refl, refl) is)
+        ∙ reached_word t n i h e lt;
   }
 
   all_stand : AllStand p c v.held

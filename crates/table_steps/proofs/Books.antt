@@ -36,12 +36,19 @@ use Rattle.table_rule.proofs.StateSteps.{LogStays, ruled_step}
 use Rattle.table_steps.specs.Changes.{holding, Raised, Lowered, Freed}
 use Rattle.table_steps.proofs.Shares.{take_one, held_cons, held_append, row_list, row_list-weighs, row_held}
 
-pub book_log : (old new : Spot → ℕ) (n : Name) (k : ℕ) → Wrote old (book_of n) k new → LogStays old new
-book_log old new n k wrote = record { length = wrote.others LogLength (λ e. (let no : ⊥ = cc in no)); version = λ u i. wrote.others (Version u i) (λ e. (let no : ⊥ = cc in no)) }
+pub book_log : (old new : Spot → ℕ) (n : Name) (k : ℕ) → Wrote old (book_of n) k new
+    → LogStays old new
+book_log old new n k wrote =
+    record {
+      length = wrote.others LogLength (λ e. (let no : ⊥ = cc in no));
+      version = λ u i. wrote.others (Version u i) (λ e. (let no : ⊥ = cc in no));
+    }
 
 -- a tree of the rest is one of the list
-pub kept_held : (held rest : List Tree) (u : Tree) → ((f : Tree → ℕ) → weigh f rest ≤ weigh f held) → IsHeld rest u → IsHeld held u
-kept_held held rest u less h = record { weighs = λ f. (let a = less f in let b = h.weighs f in omega arith) }
+pub kept_held : (held rest : List Tree) (u : Tree) → ((f : Tree → ℕ) → weigh f rest ≤ weigh f held)
+    → IsHeld rest u → IsHeld held u
+kept_held held rest u less h =
+    record { weighs = λ f. (let a = less f in let b = h.weighs f in omega arith) }
 
 -- by the names of trees
 pub by_name : (Name → ℕ) → Tree → ℕ
@@ -55,20 +62,29 @@ pub by_root : (f : Name → ℕ) (t : Tree) (n : Name) → root_of t ≡ Some n 
 unfolding by_name
 by_root f t n e = ap (λ o. f (name_or o)) e
 
-child_weighs : (f : Name → ℕ) (o : Option Name) (t : Tree) → root_of t ≡ o → weight f o ≡ weight_of (by_name f) t
+child_weighs : (f : Name → ℕ) (o : Option Name) (t : Tree) → root_of t ≡ o
+    → weight f o ≡ weight_of (by_name f) t
 child_weighs f None t e = sym (weight_of-gone (by_name f) t e)
 child_weighs f (Some n) t e = sym (weight_of-there (by_name f) t n e ∙ by_root f t n e)
 
-row_sum : (h : ℕ → ℕ) (f : Tree → ℕ) (row : ℕ → Tree) (n : ℕ) → ((k : ℕ) → k < n → h k ≡ weight_of f (row k)) → sum_below n h ≡ weight_below f row n
+row_sum : (h : ℕ → ℕ) (f : Tree → ℕ) (row : ℕ → Tree) (n : ℕ)
+    → ((k : ℕ) → k < n → h k ≡ weight_of f (row k)) → sum_below n h ≡ weight_below f row n
 unfolding sum_below
 row_sum h f row zero same = refl
-row_sum h f row (suc n) same = let below = row_sum h f row n (λ k lt. same k (omega arith)) in let last = same n (omega arith) in omega arith
+row_sum h f row (suc n) same = let below = row_sum h f row n (λ k lt. same k (omega arith)) in
+    let last = same n (omega arith) in omega arith
 
-pub children_weigh : (f : Name → ℕ) (key : keys.Key) (row : ℕ → Tree) → ((k : ℕ) → k < 8 → root_of (row k) ≡ key_child key k) → children_named key f ≡ weight_below (by_name f) row 8
+pub children_weigh : (f : Name → ℕ) (key : keys.Key) (row : ℕ → Tree)
+    → ((k : ℕ) → k < 8 → root_of (row k) ≡ key_child key k)
+    → children_named key f ≡ weight_below (by_name f) row 8
 unfolding children_weight
-children_weigh f key row names = row_sum (λ k. weight f (key_child key k)) (by_name f) row 8 (λ k lt. child_weighs f (key_child key k) (row k) (names k lt))
+children_weigh f key row names =
+    row_sum (λ k. weight f (key_child key k))
+    (by_name f) row 8 (λ k lt. child_weighs f (key_child key k) (row k) (names k lt))
 
-module _ (p : Layout) (models : List Content) (old new : Spot → ℕ) (views : List SeatView) (seat : ℕ) (v w : SeatView) (r : KeepsRule p models old views) (at : slice_get views seat ≡ Some v) where
+module _ (p : Layout) (models : List Content) (old new : Spot → ℕ) (views : List SeatView)
+    (seat : ℕ) (v w : SeatView) (r : KeepsRule p models old views)
+    (at : slice_get views seat ≡ Some v) where
   abbrev pub c : State
   c = state_of p old views
 
@@ -76,15 +92,25 @@ module _ (p : Layout) (models : List Content) (old new : Spot → ℕ) (views : 
   d = state_of p new (set views seat w)
 
   -- Part A where the book of n is written under its turn
-  pub book_turns : (n : Name) (k : ℕ) → v.turn ≡ Some (bucket_of n) → Wrote old (book_of n) k new → w.numbers ≡ v.numbers → w.right ≡ v.right → w.next ≡ v.next → w.turn ≡ v.turn → w.words ≡ (book_of n, k) ∷ v.words → KeepsTurns p new (set views seat w)
+  pub book_turns : (n : Name) (k : ℕ) → v.turn ≡ Some (bucket_of n) → Wrote old (book_of n) k new
+      → w.numbers ≡ v.numbers → w.right ≡ v.right → w.next ≡ v.next → w.turn ≡ v.turn
+      → w.words ≡ (book_of n, k) ∷ v.words → KeepsTurns p new (set views seat w)
   book_turns n k has wrote numbers right next turn words =
-      word_step p old views r.turns seat v at new w (record { numbers = numbers; right = right; next = next }) (wrote.others Sessions (λ e. (let no : ⊥ = cc in no))) (bucket_of n) (book_of n) k has (refl, refl) wrote turn words
+      word_step p old views r.turns seat v at new w
+      (record { numbers = numbers; right = right; next = next })
+      (wrote.others Sessions (λ e. (let no : ⊥ = cc in no))) (bucket_of n)
+      (book_of n) k has (refl, refl) wrote turn words
 
   -- the rule where a book is written and no entry is new
-  book_ruled : (n : Name) (k : ℕ) → v.turn ≡ Some (bucket_of n) → Wrote old (book_of n) k new → StoreStep p seat c d → ((m : Name) → IsLive p d m → IsLive p c m) → (held : List Tree) → w ≡ holding v n k held → ((t : Tree) → IsHeld held t → Stands p c t) → number_of held ≤ 4096 → KeepsRule p models new (set views seat w)
+  book_ruled : (n : Name) (k : ℕ) → v.turn ≡ Some (bucket_of n) → Wrote old (book_of n) k new
+      → StoreStep p seat c d → ((m : Name) → IsLive p d m → IsLive p c m) → (held : List Tree)
+      → w ≡ holding v n k held → ((t : Tree) → IsHeld held t → Stands p c t)
+      → number_of held ≤ 4096 → KeepsRule p models new (set views seat w)
   book_ruled n k has wrote step before held is stands few =
       ruled_step p models old new views seat v w r at
-      (book_turns n k has wrote (ap (λ (x : SeatView). x.numbers) is) (ap (λ (x : SeatView). x.right) is) (ap (λ (x : SeatView). x.next) is) (ap (λ (x : SeatView). x.turn) is) (ap (λ (x : SeatView). x.words) is))
+      (book_turns n k has wrote (ap (λ (x : SeatView). x.numbers) is)
+      (ap (λ (x : SeatView). x.right) is) (ap (λ (x : SeatView). x.next) is)
+      (ap (λ (x : SeatView). x.turn) is) (ap (λ (x : SeatView). x.words) is))
       step (book_log old new n k wrote)
       (record {
         plan = ap (λ (x : SeatView). x.plan) is;
@@ -98,20 +124,33 @@ module _ (p : Layout) (models : List Content) (old new : Spot → ℕ) (views : 
       })
 
 -- who is live after the book of a live entry was written, was live
-still_live : (p : Layout) (c d : State) (n : Name) → OthersStay p n c d → IsLive p c n → (m : Name) → IsLive p d m → IsLive p c m
+still_live : (p : Layout) (c d : State) (n : Name) → OthersStay p n c d → IsLive p c n → (m : Name)
+    → IsLive p d m → IsLive p c m
 still_live p c d n others live m now = elim (Name-discrete m n) [
   | yes same ↦ subst (λ (x : Name). IsLive p c x) (sym same) live
-  | no other ↦ record { name = now.name; book = (let e = others.book m now.name other in let b = now.book in omega arith) }
+  | no other ↦
+      record {
+        name = now.name;
+        book = (let e = others.book m now.name other in let b = now.book in omega arith);
+      }
 ]
 
--- kind 9
-pub raises_share : (p : Layout) (seat : ℕ) (v : SeatView) (n : Name) (book : ℕ) → v.turn ≡ Some (bucket_of n) → n.slot < p.cap → known_at (book_of n) v.words ≡ Some book → 0 < book → number_of v.held ≤ 4095
-    → MayWrite p seat v (book_of n) (λ _. book + 1) (Raises p seat n) (λ _ w. Raised v n (book + 1) w)
+-- a share comes
+pub raises_share : (p : Layout) (seat : ℕ) (v : SeatView) (n : Name) (book : ℕ)
+    → v.turn ≡ Some (bucket_of n) → n.slot < p.cap → known_at (book_of n) v.words ≡ Some book
+    → 0 < book → number_of v.held ≤ 4095
+    → MayWrite p seat v (book_of n) (λ _. book + 1) (Raises p seat n)
+    (λ _ w. Raised v n (book + 1) w)
 raises_share p seat v n book has low known some room models old views r at =
     let c : State = state_of p old views in
     let turn = (r.turns.turn seat v at (bucket_of n) has).0 in
-    let was : old (book_of n) ≡ book = r.turns.known seat v at (bucket_of n) (book_of n) book has (refl, refl) known in
-    let live : IsLive p c n = record { name = record { level_in = turn.0; bucket_in = turn.1; slot_in = low }; book = omega arith } in
+    let was : old (book_of n) ≡ book =
+    r.turns.known seat v at (bucket_of n) (book_of n) book has (refl, refl) known in
+    let live : IsLive p c n =
+    record {
+      name = record { level_in = turn.0; bucket_in = turn.1; slot_in = low };
+      book = omega arith;
+    } in
     let t : Tree = tree_of c n in
     let w : SeatView = holding v n (book + 1) (t ∷ v.held) in
     let root : root_of t ≡ Some n = root_at c.key n.level (Some n) in
@@ -149,18 +188,26 @@ raises_share p seat v n book has low known some room models old views r at =
     }
 
 -- what is held loses one
-loses_one : (f : Name → ℕ) (v w : SeatView) (t : Tree) (n : Name) → root_of t ≡ Some n → ((g : Tree → ℕ) → weigh g v.held ≡ g t + weigh g w.held) → sum_by f (names_held w) + f n ≡ sum_by f (names_held v)
-loses_one f v w t n root weighs = let a = weigh_names f v in let b = weigh_names f w in let e = weighs (by_name f) in let s = by_root f t n root in omega arith
+loses_one : (f : Name → ℕ) (v w : SeatView) (t : Tree) (n : Name) → root_of t ≡ Some n
+    → ((g : Tree → ℕ) → weigh g v.held ≡ g t + weigh g w.held)
+    → sum_by f (names_held w) + f n ≡ sum_by f (names_held v)
+loses_one f v w t n root weighs = let a = weigh_names f v in let b = weigh_names f w in
+    let e = weighs (by_name f) in let s = by_root f t n root in omega arith
 
-holds_one : (f : Name → ℕ) (v : SeatView) (t : Tree) (n : Name) → root_of t ≡ Some n → IsHeld v.held t → f n ≤ sum_by f (names_held v)
-holds_one f v t n root h = let a = weigh_names f v in let e = h.weighs (by_name f) in let s = by_root f t n root in omega arith
+holds_one : (f : Name → ℕ) (v : SeatView) (t : Tree) (n : Name) → root_of t ≡ Some n
+    → IsHeld v.held t → f n ≤ sum_by f (names_held v)
+holds_one f v t n root h = let a = weigh_names f v in let e = h.weighs (by_name f) in
+    let s = by_root f t n root in omega arith
 
--- kind 10
-pub lowers_share : (p : Layout) (seat : ℕ) (v : SeatView) (t : Tree) (n : Name) (book : ℕ) → v.turn ≡ Some (bucket_of n) → IsHeld v.held t → root_of t ≡ Some n → known_at (book_of n) v.words ≡ Some (book + 1) → 0 < book
+-- a share goes
+pub lowers_share : (p : Layout) (seat : ℕ) (v : SeatView) (t : Tree) (n : Name) (book : ℕ)
+    → v.turn ≡ Some (bucket_of n) → IsHeld v.held t → root_of t ≡ Some n
+    → known_at (book_of n) v.words ≡ Some (book + 1) → 0 < book
     → MayWrite p seat v (book_of n) (λ _. book) (Lowers p seat n) (λ _ w. Lowered v t n book w)
 lowers_share p seat v t n book has held root known some models old views r at =
     let c : State = state_of p old views in
-    let was : old (book_of n) ≡ book + 1 = r.turns.known seat v at (bucket_of n) (book_of n) (book + 1) has (refl, refl) known in
+    let was : old (book_of n) ≡ book + 1 =
+    r.turns.known seat v at (bucket_of n) (book_of n) (book + 1) has (refl, refl) known in
     let stands = standing_at p c t n (inr (r.knows.held seat v at t held)) root in
     let rest = take_one v.held t held in
     let w : SeatView = holding v n book rest.rest in
@@ -188,33 +235,51 @@ lowers_share p seat v t n book has held root known some models old views r at =
     }
 
 -- the children of a node's tree are those of its key
-tree_names : (c : State) (level : ℕ) (n : Name) (k : ℕ) → n.level ≡ level → FitsLevel n.level (c.key n) → k < 8 → root_of (child_of (tree_of c n) k) ≡ key_child (c.key n) k
-tree_names c zero n k of fits lt = ap (λ (t : Tree). root_of (child_of t k)) (leaf_tree c.key n.level n of) ∙ sym (no_child n.level (c.key n) k of fits)
+tree_names : (c : State) (level : ℕ) (n : Name) (k : ℕ) → n.level ≡ level
+    → FitsLevel n.level (c.key n) → k < 8
+    → root_of (child_of (tree_of c n) k) ≡ key_child (c.key n) k
+tree_names c zero n k of fits lt =
+    ap (λ (t : Tree). root_of (child_of t k)) (leaf_tree c.key n.level n of)
+    ∙ sym (no_child n.level (c.key n) k of fits)
   where
-    no_child : (level : ℕ) (key : keys.Key) (k : ℕ) → level ≡ 0 → FitsLevel level key → key_child key k ≡ None
+    no_child : (level : ℕ) (key : keys.Key) (k : ℕ) → level ≡ 0 → FitsLevel level key
+        → key_child key k ≡ None
     no_child level (Leaf bits) k e fits = refl
-    no_child level (Node children) k e fits = absurd (subst (λ (l : ℕ). FitsLevel l (Node children)) e fits)
+    no_child level (Node children) k e fits =
+        absurd (subst (λ (l : ℕ). FitsLevel l (Node children)) e fits)
 tree_names c (suc level) n k of fits lt =
-    ap (λ (t : Tree). root_of (child_of t k)) (node_tree c.key n.level level n of) ∙ ap root_of (child_of-node_at n (λ j. tree_at c.key level (key_child (c.key n) j)) k lt)
+    ap (λ (t : Tree). root_of (child_of t k)) (node_tree c.key n.level level n of)
+    ∙ ap root_of (child_of-node_at n (λ j. tree_at c.key level (key_child (c.key n) j)) k lt)
     ∙ root_at c.key level (key_child (c.key n) k)
 
 -- what is held loses one and gains its children
-frees_one : (f : Name → ℕ) (v w : SeatView) (t : Tree) (n : Name) (key : keys.Key) → root_of t ≡ Some n → ((k : ℕ) → k < 8 → root_of (child_of t k) ≡ key_child key k) → ((g : Tree → ℕ) → weigh g w.held + g t ≡ weight_below g (λ k. child_of t k) 8 + weigh g v.held)
+frees_one : (f : Name → ℕ) (v w : SeatView) (t : Tree) (n : Name) (key : keys.Key)
+    → root_of t ≡ Some n → ((k : ℕ) → k < 8 → root_of (child_of t k) ≡ key_child key k)
+    → ((g : Tree → ℕ)
+    → weigh g w.held + g t ≡ weight_below g (λ k. child_of t k) 8 + weigh g v.held)
     → sum_by f (names_held w) + f n ≡ sum_by f (names_held v) + children_named key f
 frees_one f v w t n key root names weighs =
-    let a = weigh_names f v in let b = weigh_names f w in let e = weighs (by_name f) in let s = by_root f t n root in let k = children_weigh f key (λ k. child_of t k) names in omega arith
+    let a = weigh_names f v in let b = weigh_names f w in let e = weighs (by_name f) in
+    let s = by_root f t n root in let k = children_weigh f key (λ k. child_of t k) names in
+    omega arith
 
--- kind 11
-pub frees_share : (p : Layout) (seat : ℕ) (v : SeatView) (t : Tree) (n : Name) → v.turn ≡ Some (bucket_of n) → IsHeld v.held t → root_of t ≡ Some n → known_at (book_of n) v.words ≡ Some 1 → number_of v.held ≤ 4089
+-- a share goes, and the entry with it
+pub frees_share : (p : Layout) (seat : ℕ) (v : SeatView) (t : Tree) (n : Name)
+    → v.turn ≡ Some (bucket_of n) → IsHeld v.held t → root_of t ≡ Some n
+    → known_at (book_of n) v.words ≡ Some 1 → number_of v.held ≤ 4089
     → MayWrite p seat v (book_of n) (λ _. 0) (Frees p seat n) (λ _ w. Freed v t n w)
 frees_share p seat v t n has held root known room models old views r at =
     let c : State = state_of p old views in
-    let was : old (book_of n) ≡ 1 = r.turns.known seat v at (bucket_of n) (book_of n) 1 has (refl, refl) known in
+    let was : old (book_of n) ≡ 1 =
+    r.turns.known seat v at (bucket_of n) (book_of n) 1 has (refl, refl) known in
     let stands = standing_at p c t n (inr (r.knows.held seat v at t held)) root in
     let rest = take_one v.held t held in
     let row : ℕ → Tree = λ k. child_of t k in
     let all : List Tree = row_list row 8 ++ rest.rest in
-    let weighs : (f : Tree → ℕ) → weigh f all + f t ≡ weight_below f row 8 + weigh f v.held = λ f. (let a = weigh-append f (row_list row 8) rest.rest in let b = row_list-weighs f row 8 in let e = rest.weighs f in omega arith) in
+    let weighs : (f : Tree → ℕ)
+    → weigh f all + f t ≡ weight_below f row 8 + weigh f v.held =
+    λ f. (let a = weigh-append f (row_list row 8) rest.rest in
+    let b = row_list-weighs f row 8 in let e = rest.weighs f in omega arith) in
     let w : SeatView = holding v n 0 all in
     let names : (k : ℕ) → k < 8 → root_of (row k) ≡ key_child (c.key n) k =
     λ k lt. subst (λ (u : Tree). root_of (child_of u k) ≡ key_child (c.key n) k) stands.1

@@ -31,27 +31,39 @@ use Rattle.table_rule.proofs.PartC.{contains_left, contains_right, contains_part
 
 module _ {A : Type 0} where
   -- the new element stands at the end
-  pub get_end : (l : List A) (a b : A) (j : ℕ) → slice_get (l ++ a ∷ []) j ≡ Some b → (slice_get l j ≡ Some b) ⊎ ((j ≡ length l) × (a ≡ b))
+  pub get_end : (l : List A) (a b : A) (j : ℕ) → slice_get (l ++ a ∷ []) j ≡ Some b
+      → (slice_get l j ≡ Some b) ⊎ ((j ≡ length l) × (a ≡ b))
   get_end [] a b zero e = inr (refl, same_Some a b e)
   get_end [] a b (suc j) e = absurd (none-some b e)
   get_end (x ∷ xs) a b zero e = inl e
-  get_end (x ∷ xs) a b (suc j) e = ⊎_elim inl (λ t. let n = t.0 in inr (omega arith, t.1)) (get_end xs a b j e)
+  get_end (x ∷ xs) a b (suc j) e =
+      ⊎_elim inl (λ t. let n = t.0 in inr (omega arith, t.1)) (get_end xs a b j e)
 
-made_left : (xs ys : List SeatView) (s : Shape) → Contains (all_made xs) s → Contains (all_made (xs ++ ys)) s
+made_left : (xs ys : List SeatView) (s : Shape) → Contains (all_made xs) s
+    → Contains (all_made (xs ++ ys)) s
 made_left [] ys s c = absurd (let k = c.1 in omega arith)
-made_left (v ∷ xs) ys s c = ⊎_elim (λ l. contains_left v.made (all_made (xs ++ ys)) s l) (λ r. contains_right v.made (all_made (xs ++ ys)) s (made_left xs ys s r)) (contains_parts v.made (all_made xs) s c)
+made_left (v ∷ xs) ys s c =
+    ⊎_elim (λ l. contains_left v.made (all_made (xs ++ ys)) s l)
+    (λ r. contains_right v.made (all_made (xs ++ ys)) s (made_left xs ys s r))
+    (contains_parts v.made (all_made xs) s c)
 
-held_end : (f : Name → ℕ) (views : List SeatView) (v : SeatView) → v.held ≡ [] → holdings f (map names_held (views ++ v ∷ [])) ≡ holdings f (map names_held views)
+held_end : (f : Name → ℕ) (views : List SeatView) (v : SeatView) → v.held ≡ []
+    → holdings f (map names_held (views ++ v ∷ [])) ≡ holdings f (map names_held views)
 unfolding holdings
 held_end f [] v none =
     let all = sum_by-cons (λ (ns : List Name). sum_by f ns) (names_held v) [] in
-    let e : sum_by f (names_held v) ≡ 0 = ap (λ (ts : List Tree). sum_by f (names_of ts)) none in omega (arith, all, e)
+    let e : sum_by f (names_held v) ≡ 0 = ap (λ (ts : List Tree). sum_by f (names_of ts)) none in
+    omega (arith, all, e)
 held_end f (x ∷ views) v none =
     let more = held_end f views v none in
-    let a = sum_by-cons (λ (ns : List Name). sum_by f ns) (names_held x) (map names_held (views ++ v ∷ [])) in
-    let b = sum_by-cons (λ (ns : List Name). sum_by f ns) (names_held x) (map names_held views) in omega (arith, more, a, b)
+    let a = sum_by-cons (λ (ns : List Name). sum_by f ns) (names_held x)
+    (map names_held (views ++ v ∷ [])) in
+    let b = sum_by-cons (λ (ns : List Name). sum_by f ns) (names_held x) (map names_held views) in
+    omega (arith, more, a, b)
 
-module _ (p : Layout) (models : List Content) (mem : Spot → ℕ) (views : List SeatView) (seat : ℕ) (v : SeatView) (r : KeepsRule p models mem views) (at : slice_get views seat ≡ Some v) (right : v.right ≡ true) (some : v.numbers ≢ []) where
+module _ (p : Layout) (models : List Content) (mem : Spot → ℕ) (views : List SeatView) (seat : ℕ)
+    (v : SeatView) (r : KeepsRule p models mem views) (at : slice_get views seat ≡ Some v)
+    (right : v.right ≡ true) (some : v.numbers ≢ []) where
   abbrev a : SeatView
   a = handing v
 
@@ -65,15 +77,20 @@ module _ (p : Layout) (models : List Content) (mem : Spot → ℕ) (views : List
   all = after ++ b ∷ []
 
   -- what holds of the old views, of the one that hands on and of the new one
-  dealt : (P : ℕ → SeatView → Type 0) → P seat a → ((j : ℕ) (d : SeatView) → j ≢ seat → slice_get views j ≡ Some d → P j d) → P (length after) b → (j : ℕ) (d : SeatView) → slice_get all j ≡ Some d → P j d
+  dealt : (P : ℕ → SeatView → Type 0) → P seat a
+      → ((j : ℕ) (d : SeatView) → j ≢ seat → slice_get views j ≡ Some d → P j d)
+      → P (length after) b → (j : ℕ) (d : SeatView) → slice_get all j ≡ Some d → P j d
   dealt P mine others new j d e = ⊎_elim (each P views seat a mine others j d)
-      (λ (t : (j ≡ length after) × (b ≡ d)). subst (λ (x : ℕ × SeatView). P x.0 x.1) (λ i. (sym t.0 i, t.1 i)) new) (get_end after b d j e)
+      (λ (t : (j ≡ length after) × (b ≡ d)). subst (λ (x : ℕ × SeatView). P x.0 x.1)
+      (λ i. (sym t.0 i, t.1 i)) new) (get_end after b d j e)
 
   none_has : (n : ℕ) (A : Type 0) → Contains {X = ℕ} [] n → A
   none_has n A c = absurd (let k = c.1 in omega arith)
 
-  one_right : (j : ℕ) (d : SeatView) (A : Type 0) → j ≢ seat → slice_get views j ≡ Some d → d.right ≡ true → A
-  one_right j d A ne e h = absurd (ne (sym (r.turns.right j d e h).0 ∙ (r.turns.right seat v at right).0))
+  one_right : (j : ℕ) (d : SeatView) (A : Type 0) → j ≢ seat → slice_get views j ≡ Some d
+      → d.right ≡ true → A
+  one_right j d A ne e h =
+      absurd (ne (sym (r.turns.right j d e h).0 ∙ (r.turns.right seat v at right).0))
 
   long : length all ≡ length views + 1
   long = length-append after (b ∷ []) ∙ (let l = length-set views seat a in omega arith)
@@ -84,15 +101,32 @@ module _ (p : Layout) (models : List Content) (mem : Spot → ℕ) (views : List
     keeper = length after;
     few = r.turns.few;
     seats = (let f = r.turns.fresh seat v at right some in let l = long in omega arith);
-    fresh = dealt (λ i d. d.right ≡ true → d.numbers ≢ [] → length all ≤ mem Sessions) (λ h ne. absurd (let no : ⊥ = cc in no)) (λ j d ne e h x. one_right j d _ ne e h) (λ h ne. absurd (ne refl));
-    owned = dealt (λ i d. (n : ℕ) → Contains d.numbers n → (n < mem Sessions) × (r.turns.owner n ≡ i)) (r.turns.owned seat v at) (λ j d _ e. r.turns.owned j d e) (λ n c. none_has n _ c);
-    right = dealt (λ i d. d.right ≡ true → (length after ≡ i) × (mem Sessions ≡ d.next)) (λ h. absurd (let no : ⊥ = cc in no)) (λ j d ne e h. one_right j d _ ne e h) (λ h. (refl, (r.turns.right seat v at right).1));
-    turn = dealt (λ i d. (c : BucketAt) → d.turn ≡ Some c → IsSpot p (turn_of c) × IsMarked d (mem (turn_of c)))
-        (λ c h. let t = r.turns.turn seat v at c h in (t.0, record { number = t.1.number; carried = t.1.carried; is = t.1.is })) (λ j d _ e. r.turns.turn j d e) (λ c h. absurd (none-some c h));
-    back = dealt (λ i d. (c : BucketAt) → IsSpot p (turn_of c) → IsMarked d (mem (turn_of c)) → d.turn ≡ Some c)
-        (λ c low m. r.turns.back seat v at c low (record { number = m.number; carried = m.carried; is = m.is })) (λ j d _ e. r.turns.back j d e) (λ c low m. none_has m.number _ m.carried);
+    fresh = dealt (λ i d. d.right ≡ true → d.numbers ≢ [] → length all ≤ mem Sessions)
+        (λ h ne. absurd (let no : ⊥ = cc in no)) (λ j d ne e h x. one_right j d _ ne e h)
+        (λ h ne. absurd (ne refl));
+    owned = dealt
+        (λ i d. (n : ℕ) → Contains d.numbers n → (n < mem Sessions) × (r.turns.owner n ≡ i))
+        (r.turns.owned seat v at) (λ j d _ e. r.turns.owned j d e) (λ n c. none_has n _ c);
+    right = dealt (λ i d. d.right ≡ true → (length after ≡ i) × (mem Sessions ≡ d.next))
+        (λ h. absurd (let no : ⊥ = cc in no)) (λ j d ne e h. one_right j d _ ne e h)
+        (λ h. (refl, (r.turns.right seat v at right).1));
+    turn = dealt
+        (λ i d. (c : BucketAt) → d.turn ≡ Some c → IsSpot p (turn_of c)
+        × IsMarked d (mem (turn_of c)))
+        (λ c h. let t = r.turns.turn seat v at c h in
+        (t.0, record { number = t.1.number; carried = t.1.carried; is = t.1.is }))
+        (λ j d _ e. r.turns.turn j d e) (λ c h. absurd (none-some c h));
+    back = dealt
+        (λ i d. (c : BucketAt) → IsSpot p (turn_of c) → IsMarked d (mem (turn_of c))
+        → d.turn ≡ Some c)
+        (λ c low m. r.turns.back seat v at c low
+        (record { number = m.number; carried = m.carried; is = m.is }))
+        (λ j d _ e. r.turns.back j d e) (λ c low m. none_has m.number _ m.carried);
     named = r.turns.named;
-    known = dealt (λ i d. (c : BucketAt) (x : Spot) (n : ℕ) → d.turn ≡ Some c → IsOf c x → known_at x d.words ≡ Some n → mem x ≡ n) (r.turns.known seat v at) (λ j d _ e. r.turns.known j d e) (λ c x n h of l. absurd (none-some c h));
+    known = dealt
+        (λ i d. (c : BucketAt) (x : Spot) (n : ℕ) → d.turn ≡ Some c → IsOf c x
+        → known_at x d.words ≡ Some n → mem x ≡ n) (r.turns.known seat v at)
+        (λ j d _ e. r.turns.known j d e) (λ c x n h of l. absurd (none-some c h));
   }
 
   held_same : (f : Name → ℕ)
@@ -105,20 +139,35 @@ module _ (p : Layout) (models : List Content) (mem : Spot → ℕ) (views : List
       (slice_get-map names_held views seat ∙ ap (option_map names_held) at))
 
   grows : (s : Shape) → Contains (all_made views) s → Contains (all_made all) s
-  grows s c = made_left after (b ∷ []) s (made_grows views seat v a at (record { made = λ s h. h }) s c)
+  grows s c =
+      made_left after (b ∷ []) s (made_grows views seat v a at (record { made = λ s h. h }) s c)
 
   stands : (t : Tree) → Stands p (state_of p mem views) t → Stands p (state_of p mem all) t
-  stands t s = record { name = s.name; live = record { name = s.live.name; book = s.live.book }; tree = s.tree }
+  stands t s =
+      record {
+        name = s.name;
+        live = record { name = s.live.name; book = s.live.book };
+        tree = s.tree;
+      }
 
   deal_knows : Knows p models (state_of p mem all) all
   deal_knows = record {
-    plan = dealt (λ i d. d.alive ≡ true → d.plan ≡ p) (r.knows.plan seat v at) (λ j d _ e. r.knows.plan j d e) (r.knows.plan seat v at);
-    same_models = dealt (λ i d. d.alive ≡ true → d.models ≡ models) (r.knows.same_models seat v at) (λ j d _ e. r.knows.same_models j d e) (r.knows.same_models seat v at);
-    held = dealt (λ i d. (t : Tree) → IsHeld d.held t → Stands p (state_of p mem all) t) (λ t h. stands t (r.knows.held seat v at t h)) (λ j d _ e t h. stands t (r.knows.held j d e t h))
+    plan = dealt (λ i d. d.alive ≡ true → d.plan ≡ p) (r.knows.plan seat v at)
+        (λ j d _ e. r.knows.plan j d e) (r.knows.plan seat v at);
+    same_models =
+        dealt (λ i d. d.alive ≡ true → d.models ≡ models) (r.knows.same_models seat v at)
+        (λ j d _ e. r.knows.same_models j d e) (r.knows.same_models seat v at);
+    held = dealt (λ i d. (t : Tree) → IsHeld d.held t → Stands p (state_of p mem all) t)
+        (λ t h. stands t (r.knows.held seat v at t h))
+        (λ j d _ e t h. stands t (r.knows.held j d e t h))
         (λ t h. absurd (let e = h.weighs (λ _. 1) in let n = weigh-nil (λ _. 1) in omega arith));
-    few = dealt (λ i d. number_of d.held ≤ 4096) (r.knows.few seat v at) (λ j d _ e. r.knows.few j d e) (let n = weigh-nil (λ _. 1) in omega arith);
+    few = dealt (λ i d. number_of d.held ≤ 4096) (r.knows.few seat v at)
+        (λ j d _ e. r.knows.few j d e) (let n = weigh-nil (λ _. 1) in omega arith);
     made = λ n live. grows _ (r.knows.made n (record { name = live.name; book = live.book }));
-    met = dealt (λ i d. (m : Wanted) → Contains d.met m → HasEnough p (all_made all) m.level m.bucket) (λ m h. enough_grows p _ _ m.level m.bucket grows (r.knows.met seat v at m h)) (λ j d _ e m h. enough_grows p _ _ m.level m.bucket grows (r.knows.met j d e m h))
+    met = dealt
+        (λ i d. (m : Wanted) → Contains d.met m → HasEnough p (all_made all) m.level m.bucket)
+        (λ m h. enough_grows p _ _ m.level m.bucket grows (r.knows.met seat v at m h))
+        (λ j d _ e m h. enough_grows p _ _ m.level m.bucket grows (r.knows.met j d e m h))
         (λ m c. absurd (let k = c.1 in omega arith));
   }
 

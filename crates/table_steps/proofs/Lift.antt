@@ -30,7 +30,8 @@ StepTells tells old k new =
     (new.1 ≡ old.1) × TellsInUse new.0 × SameSession old.0 new.0 × tells k new.0
 
 pub allows : (p : Layout) (models : List Content) (slots seat : ℕ) (me : Me ℕ SeatView) (x : Spot)
-    (f : ℕ → ℕ) (tells : ℕ → SeatView → Type 0) → IsSpot p x → MayWrite p seat me.0 x f (StoreStep p seat) tells
+    (f : ℕ → ℕ) (tells : ℕ → SeatView → Type 0) → IsSpot p x
+    → MayWrite p seat me.0 x f (StoreStep p seat) tells
     → Allows (IsRuled p models) slots seat me (place p x) f (λ k m. StepTells tells me k m)
 allows p models slots seat me x f tells is may s r deep at fits =
     let k : ℕ = get_or s.words (place p x) 0 in

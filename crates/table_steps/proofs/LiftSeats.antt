@@ -59,7 +59,9 @@ pub nothing_tells : (v : SeatView) → v.held ≡ [] → Tells v
 nothing_tells v none = record {
   trees = record { each = λ t h. no t h; named = λ t u h k e. unreached t h };
   canonical = record { each = λ t n h e. no t h };
-  few = (let n = weigh-nil (λ _. 1) in let e = ap (λ (ts : List Tree). Rattle.node_shapes.specs.Weights.number_of ts) none in omega arith);
+  few = (let n = weigh-nil (λ _. 1) in
+      let e = ap (λ (ts : List Tree). Rattle.node_shapes.specs.Weights.number_of ts) none in
+      omega arith);
   names = λ t n h e. unreached t h;
   buckets = λ t n h e. unreached t h;
   once = λ t m h e u n k f l s. unreached t h;
@@ -67,7 +69,10 @@ nothing_tells v none = record {
 }
   where
     no : {A : Type 0} (t : Tree) → IsHeld v.held t → A
-    no t h = absurd (let e = h.weighs (λ _. 1) in let n = weigh-nil (λ _. 1) in let s = ap (λ (ts : List Tree). Rattle.node_shapes.specs.Weights.number_of ts) none in omega arith)
+    no t h =
+        absurd (let e = h.weighs (λ _. 1) in let n = weigh-nil (λ _. 1) in
+        let s = ap (λ (ts : List Tree). Rattle.node_shapes.specs.Weights.number_of ts) none in
+        omega arith)
 
     unreached : {A : Type 0} (t : Tree) → IsReached v.held t → A
     unreached t h = no h.over h.is_held

@@ -126,7 +126,8 @@ pub meets : (p : Layout) (seat : ℕ) (v : SeatView) (b : BucketAt) (x : Spot) (
 meets p seat v b x m has full level bucket models old views r at =
     let w : SeatView = meeting v m in
     let after : List SeatView = set views seat w in
-    let all = full_enough p models old views seat v w b r at has full (record { made = λ s h. h }) in
+    let all =
+    full_enough p models old views seat v w b r at has full (record { made = λ s h. h }) in
     let of_m : HasEnough p (all_made after) m.level m.bucket =
     subst (λ (z : ℕ × ℕ). HasEnough p (all_made after) z.0 z.1)
     (λ i. (sym level i, sym bucket i)) all in

@@ -35,7 +35,10 @@ contains_cons x xs n c = go c.0 c.1 c.2
     go zero lt e = inl e
     go (suc k) lt e = inr (k, omega arith, e)
 
-module _ (p : Layout) (old new : Spot → ℕ) (views : List SeatView) (a : KeepsTurns p old views) (seat : ℕ) (v : SeatView) (at : slice_get views seat ≡ Some v) (right : v.right ≡ true) (bare : v.numbers ≡ []) (room : v.next < 64) (wrote : Wrote old Sessions (1 + v.next) new) where
+module _ (p : Layout) (old new : Spot → ℕ) (views : List SeatView) (a : KeepsTurns p old views)
+    (seat : ℕ) (v : SeatView) (at : slice_get views seat ≡ Some v) (right : v.right ≡ true)
+    (bare : v.numbers ≡ []) (room : v.next < 64)
+    (wrote : Wrote old Sessions (1 + v.next) new) where
   abbrev w : SeatView
   w = numbered v
 
@@ -48,7 +51,8 @@ module _ (p : Layout) (old new : Spot → ℕ) (views : List SeatView) (a : Keep
   turns_stay : (b : BucketAt) → new (turn_of b) ≡ old (turn_of b)
   turns_stay b = wrote.others (turn_of b) (λ e. (let no : ⊥ = cc in no))
 
-  older : (j : ℕ) (d : SeatView) (n : ℕ) → slice_get views j ≡ Some d → Contains d.numbers n → (n < new Sessions) × (own n ≡ j)
+  older : (j : ℕ) (d : SeatView) (n : ℕ) → slice_get views j ≡ Some d → Contains d.numbers n
+      → (n < new Sessions) × (own n ≡ j)
   unfolding own
   older j d n e c =
       let o = a.owned j d e n c in let low = o.0 in let s = was in let h = wrote.here in
@@ -56,7 +60,12 @@ module _ (p : Layout) (old new : Spot → ℕ) (views : List SeatView) (a : Keep
 
   mine : (n : ℕ) → Contains w.numbers n → (n < new Sessions) × (own n ≡ seat)
   unfolding own
-  mine n c = ⊎_elim (λ (e : v.next ≡ n). (let h = wrote.here in omega arith, pick_yes (number_dec n v.next) seat (a.owner n) (sym e)))
+  mine n c =
+      ⊎_elim (λ (e : v.next ≡ n). (
+        let h = wrote.here in
+            omega arith,
+        pick_yes (number_dec n v.next) seat (a.owner n) (sym e),
+      ))
       (λ o. older seat v n at o) (contains_cons v.next v.numbers n c)
 
   number_turns : KeepsTurns p new (set views seat w)
@@ -64,32 +73,65 @@ module _ (p : Layout) (old new : Spot → ℕ) (views : List SeatView) (a : Keep
     owner = own;
     keeper = a.keeper;
     few = (let h = wrote.here in omega arith);
-    seats = (let l = length-set views seat w in let s = a.seats in let o = was in let h = wrote.here in omega arith);
-    fresh = each (λ i d. d.right ≡ true → d.numbers ≢ [] → length (set views seat w) ≤ new Sessions) views seat w
-        (λ r ne. (let l = length-set views seat w in let s = a.seats in let o = was in let h = wrote.here in omega arith))
-        (λ j d ne e r x. (let l = length-set views seat w in let s = a.seats in let o = was in let h = wrote.here in omega arith));
-    owned = each (λ i d. (n : ℕ) → Contains d.numbers n → (n < new Sessions) × (own n ≡ i)) views seat w mine (λ j d _ e n c. older j d n e c);
-    right = each (λ i d. d.right ≡ true → (a.keeper ≡ i) × (new Sessions ≡ d.next)) views seat w (λ r. ((a.right seat v at right).0, wrote.here))
+    seats = (let l = length-set views seat w in let s = a.seats in let o = was in
+        let h = wrote.here in omega arith);
+    fresh = each
+        (λ i d. d.right ≡ true → d.numbers ≢ []
+        → length (set views seat w) ≤ new Sessions) views seat w
+        (λ r ne.
+        (let l = length-set views seat w in let s = a.seats in let o = was in
+        let h = wrote.here in omega arith))
+        (λ j d ne e r x.
+        (let l = length-set views seat w in let s = a.seats in let o = was in
+        let h = wrote.here in omega arith));
+    owned = each
+        (λ i d. (n : ℕ) → Contains d.numbers n → (n < new Sessions)
+        × (own n ≡ i)) views seat w mine (λ j d _ e n c. older j d n e c);
+    right = each (λ i d. d.right ≡ true → (a.keeper ≡ i) × (new Sessions ≡ d.next)) views seat w
+        (λ r. ((a.right seat v at right).0, wrote.here))
         (λ j d ne e r. absurd (ne (sym (a.right j d e r).0 ∙ (a.right seat v at right).0)));
-    turn = each (λ i d. (b : BucketAt) → d.turn ≡ Some b → IsSpot p (turn_of b) × IsMarked d (new (turn_of b))) views seat w
+    turn = each
+        (λ i d. (b : BucketAt) → d.turn ≡ Some b → IsSpot p (turn_of b)
+        × IsMarked d (new (turn_of b))) views seat w
         (λ b h. let t = a.turn seat v at b h in absurd (no_mark (old (turn_of b)) t.1))
-        (λ j d _ e b h. let t = a.turn j d e b h in (t.0, record { number = t.1.number; carried = t.1.carried; is = turns_stay b ∙ t.1.is }));
-    back = each (λ i d. (b : BucketAt) → IsSpot p (turn_of b) → IsMarked d (new (turn_of b)) → d.turn ≡ Some b) views seat w
+        (λ j d _ e b h. let t = a.turn j d e b h in (
+          t.0,
+          record {
+            number = t.1.number;
+            carried = t.1.carried;
+            is = turns_stay b ∙ t.1.is;
+          },
+        ));
+    back = each
+        (λ i d. (b : BucketAt) → IsSpot p (turn_of b) → IsMarked d (new (turn_of b))
+        → d.turn ≡ Some b) views seat w
         (λ b low m. absurd (not_next b low m))
-        (λ j d _ e b low m. a.back j d e b low (record { number = m.number; carried = m.carried; is = sym (turns_stay b) ∙ m.is }));
-    named = λ b low. (let n = a.named b low in let e = turns_stay b in let o = was in let h = wrote.here in omega arith);
-    known = each (λ i d. (b : BucketAt) (x : Spot) (n : ℕ) → d.turn ≡ Some b → IsOf b x → known_at x d.words ≡ Some n → new x ≡ n) views seat w
-        (λ b x n h of l. wrote.others x (λ e. of_not_sessions b x of (sym e)) ∙ a.known seat v at b x n h of l)
-        (λ j d _ e b x n h of l. wrote.others x (λ e. of_not_sessions b x of (sym e)) ∙ a.known j d e b x n h of l);
+        (λ j d _ e b low m. a.back j d e b low
+        (record { number = m.number; carried = m.carried; is = sym (turns_stay b) ∙ m.is }));
+    named = λ b low.
+        (let n = a.named b low in let e = turns_stay b in let o = was in let h = wrote.here in
+        omega arith);
+    known = each
+        (λ i d. (b : BucketAt) (x : Spot) (n : ℕ) → d.turn ≡ Some b → IsOf b x
+        → known_at x d.words ≡ Some n → new x ≡ n) views seat w
+        (λ b x n h of l. wrote.others x (λ e. of_not_sessions b x of (sym e))
+        ∙ a.known seat v at b x n h of l)
+        (λ j d _ e b x n h of l. wrote.others x (λ e. of_not_sessions b x of (sym e))
+        ∙ a.known j d e b x n h of l);
   }
     where
       no_mark : (word : ℕ) → IsMarked v word → ⊥
-      no_mark word m = (let c = subst (λ (l : List ℕ). Contains l m.number) bare m.carried in let k = c.1 in absurd (omega arith))
+      no_mark word m =
+          (let c = subst (λ (l : List ℕ). Contains l m.number) bare m.carried in let k = c.1 in
+          absurd (omega arith))
 
       not_next : (b : BucketAt) → IsSpot p (turn_of b) → IsMarked w (new (turn_of b)) → ⊥
       not_next b low m = ⊎_elim
-          (λ (e : v.next ≡ m.number). (let i = m.is in let t = turns_stay b in let n = a.named b low in let o = was in absurd (omega arith)))
-          (λ o. no_mark (old (turn_of b)) (record { number = m.number; carried = o; is = sym (turns_stay b) ∙ m.is }))
+          (λ (e : v.next ≡ m.number).
+          (let i = m.is in let t = turns_stay b in let n = a.named b low in let o = was in
+          absurd (omega arith)))
+          (λ o. no_mark (old (turn_of b))
+          (record { number = m.number; carried = o; is = sym (turns_stay b) ∙ m.is }))
           (contains_cons v.next v.numbers m.number m.carried)
 
 -- the rule after the next number was taken

@@ -57,8 +57,10 @@ module _ (p : Layout) (models : List Content) (mem : Spot → ℕ) (none : (x : 
   views = starting p models ∷ []
 
   -- what holds of the first view holds of each
-  only : (P : ℕ → SeatView → Type 0) → P 0 (starting p models) → (i : ℕ) (v : SeatView) → slice_get views i ≡ Some v → P i v
-  only P h i v e = let t = alone (starting p models) i v e in subst (λ (x : ℕ × SeatView). P x.0 x.1) (λ j. (sym t.0 j, t.1 j)) h
+  only : (P : ℕ → SeatView → Type 0) → P 0 (starting p models) → (i : ℕ) (v : SeatView)
+      → slice_get views i ≡ Some v → P i v
+  only P h i v e = let t = alone (starting p models) i v e in
+      subst (λ (x : ℕ × SeatView). P x.0 x.1) (λ j. (sym t.0 j, t.1 j)) h
 
   no_number : (n : ℕ) (A : Type 0) → Contains {X = ℕ} [] n → A
   no_number n A c = absurd (let k = c.1 in omega arith)
@@ -69,19 +71,29 @@ module _ (p : Layout) (models : List Content) (mem : Spot → ℕ) (none : (x : 
     keeper = 0;
     few = (let e = none Sessions in omega arith);
     seats = omega arith;
-    fresh = only (λ i v. v.right ≡ true → v.numbers ≢ [] → length views ≤ mem Sessions) (λ r ne. absurd (ne refl));
-    owned = only (λ i v. (n : ℕ) → Contains v.numbers n → (n < mem Sessions) × (0 ≡ i)) (λ n c. no_number n _ c);
-    right = only (λ i v. v.right ≡ true → (0 ≡ i) × (mem Sessions ≡ v.next)) (λ r. (refl, none Sessions));
-    turn = only (λ i v. (b : BucketAt) → v.turn ≡ Some b → IsSpot p (turn_of b) × IsMarked v (mem (turn_of b))) (λ b e. absurd (none-some b e));
-    back = only (λ i v. (b : BucketAt) → IsSpot p (turn_of b) → IsMarked v (mem (turn_of b)) → v.turn ≡ Some b) (λ b low m. no_number m.number _ m.carried);
+    fresh = only (λ i v. v.right ≡ true → v.numbers ≢ [] → length views ≤ mem Sessions)
+        (λ r ne. absurd (ne refl));
+    owned = only (λ i v. (n : ℕ) → Contains v.numbers n → (n < mem Sessions) × (0 ≡ i))
+        (λ n c. no_number n _ c);
+    right = only (λ i v. v.right ≡ true → (0 ≡ i) × (mem Sessions ≡ v.next))
+        (λ r. (refl, none Sessions));
+    turn = only
+        (λ i v. (b : BucketAt) → v.turn ≡ Some b → IsSpot p (turn_of b)
+        × IsMarked v (mem (turn_of b))) (λ b e. absurd (none-some b e));
+    back = only
+        (λ i v. (b : BucketAt) → IsSpot p (turn_of b) → IsMarked v (mem (turn_of b))
+        → v.turn ≡ Some b) (λ b low m. no_number m.number _ m.carried);
     named = λ b low. (let e = none (turn_of b) in omega arith);
-    known = only (λ i v. (b : BucketAt) (x : Spot) (n : ℕ) → v.turn ≡ Some b → IsOf b x → known_at x v.words ≡ Some n → mem x ≡ n) (λ b x n e of is. absurd (none-some b e));
+    known = only
+        (λ i v. (b : BucketAt) (x : Spot) (n : ℕ) → v.turn ≡ Some b → IsOf b x
+        → known_at x v.words ≡ Some n → mem x ≡ n) (λ b x n e of is. absurd (none-some b e));
   }
 
   is_empty : IsUntouched p (state_of p mem views)
   is_empty = record {
     book = λ n is. none _;
-    root = λ v. no_root (top p.side) (nat_lt (mem LogLength) v) (mem (Version v 6)) (mem (Version v 5)) (none _) (none _);
+    root = λ v. no_root (top p.side) (nat_lt (mem LogLength) v) (mem (Version v 6))
+        (mem (Version v 5)) (none _) (none _);
     log = refl;
     held = no_holding;
   }
@@ -90,10 +102,12 @@ module _ (p : Layout) (models : List Content) (mem : Spot → ℕ) (none : (x : 
   opening_knows = record {
     plan = only (λ i v. v.alive ≡ true → v.plan ≡ p) (λ a. refl);
     same_models = only (λ i v. v.alive ≡ true → v.models ≡ models) (λ a. refl);
-    held = only (λ i v. (t : _) → IsHeld v.held t → Stands p (state_of p mem views) t) (λ t h. absurd (let e = h.weighs (λ _. 1) in let n = weigh-nil (λ _. 1) in omega arith));
+    held = only (λ i v. (t : _) → IsHeld v.held t → Stands p (state_of p mem views) t)
+        (λ t h. absurd (let e = h.weighs (λ _. 1) in let n = weigh-nil (λ _. 1) in omega arith));
     few = only (λ i v. number_of v.held ≤ 4096) (let n = weigh-nil (λ _. 1) in omega arith);
     made = λ n live. absurd (let b = live.book in let e = none (book_of n) in omega arith);
-    met = only (λ i v. (m : Wanted) → Contains v.met m → _) (λ m c. absurd (let k = c.1 in omega arith));
+    met = only (λ i v. (m : Wanted) → Contains v.met m → _)
+        (λ m c. absurd (let k = c.1 in omega arith));
   }
 
 -- a table of words that are 0 meets the rule, with the first seat

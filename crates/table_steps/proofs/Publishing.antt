@@ -54,7 +54,8 @@ root_for n (Leaf bits) row = refl
 root_for n (Node children) row = refl
 
 -- what a new entry needs
-pub record MayPublish (p : Layout) (v : SeatView) (n : Name) (key : keys.Key) (row : ℕ → Tree) : Type 0 where
+pub record MayPublish (p : Layout) (v : SeatView) (n : Name) (key : keys.Key)
+    (row : ℕ → Tree) : Type 0 where
   pub turn : v.turn ≡ Some (bucket_of n)
   pub slot : n.slot < p.cap
   pub free : known_at (book_of n) v.words ≡ Some 0
@@ -67,34 +68,52 @@ pub record MayPublish (p : Layout) (v : SeatView) (n : Name) (key : keys.Key) (r
   pub room : number_of v.held ≤ 4095
 
 -- the tree of the new entry, where its children stand
-tree_new : (p : Layout) (c : State) (level : ℕ) (n : Name) (key : keys.Key) (row : ℕ → Tree) → n.level ≡ level → FitsLevel n.level key → c.key n ≡ key → ((k : ℕ) → k < 8 → root_of (row k) ≡ key_child key k)
-    → ((k : ℕ) (m : Name) → k < 8 → key_child key k ≡ Some m → tree_of c m ≡ row k) → tree_of c n ≡ tree_for n key row
-tree_new p c zero n (Leaf bits) row of fits is names stand = leaf_tree c.key n.level n of ∙ ap (λ (k : keys.Key). LeafAt n (key_bits k)) is
-tree_new p c zero n (Node children) row of fits is names stand = absurd (subst (λ (l : ℕ). FitsLevel l (Node children)) of fits)
-tree_new p c (suc level) n (Leaf bits) row of fits is names stand = absurd (subst (λ (l : ℕ). FitsLevel l (Leaf bits)) of fits)
+tree_new : (p : Layout) (c : State) (level : ℕ) (n : Name) (key : keys.Key) (row : ℕ → Tree)
+    → n.level ≡ level → FitsLevel n.level key → c.key n ≡ key
+    → ((k : ℕ) → k < 8 → root_of (row k) ≡ key_child key k)
+    → ((k : ℕ) (m : Name) → k < 8 → key_child key k ≡ Some m → tree_of c m ≡ row k)
+    → tree_of c n ≡ tree_for n key row
+tree_new p c zero n (Leaf bits) row of fits is names stand = leaf_tree c.key n.level n of
+    ∙ ap (λ (k : keys.Key). LeafAt n (key_bits k)) is
+tree_new p c zero n (Node children) row of fits is names stand =
+    absurd (subst (λ (l : ℕ). FitsLevel l (Node children)) of fits)
+tree_new p c (suc level) n (Leaf bits) row of fits is names stand =
+    absurd (subst (λ (l : ℕ). FitsLevel l (Leaf bits)) of fits)
 tree_new p c (suc level) n (Node cs) row of fits is names stand =
-    node_tree c.key n.level level n of ∙ ap (λ (k : keys.Key). node_at n (λ j. tree_at c.key level (key_child k j))) is
-    ∙ node_at-same n (λ j. tree_at c.key level (key_child (Node cs) j)) row (λ k lt. at_child k lt (key_child (Node cs) k) refl)
+    node_tree c.key n.level level n of
+    ∙ ap (λ (k : keys.Key). node_at n (λ j. tree_at c.key level (key_child k j))) is
+    ∙ node_at-same n (λ j. tree_at c.key level (key_child (Node cs) j)) row
+    (λ k lt. at_child k lt (key_child (Node cs) k) refl)
   where
-    at_child : (k : ℕ) → k < 8 → (o : Option Name) → key_child (Node cs) k ≡ o → tree_at c.key level o ≡ row k
+    at_child : (k : ℕ) → k < 8 → (o : Option Name) → key_child (Node cs) k ≡ o
+        → tree_at c.key level o ≡ row k
     at_child k lt None e = gone_tree c.key level ∙ sym (gone_from_root (row k) (names k lt ∙ e))
     at_child k lt (Some m) e =
         let lower = child_level n.level (Node cs) m k fits lt e in
         let same : level ≡ m.level = omega arith in
         ap (λ (l : ℕ). tree_at c.key l (Some m)) same ∙ stand k m lt e
 
-module _ (p : Layout) (models : List Content) (old : Spot → ℕ) (views : List SeatView) (seat : ℕ) (v : SeatView) (n : Name) (key : keys.Key) (row : ℕ → Tree) (r : KeepsRule p models old views) (at : slice_get views seat ≡ Some v) (may : MayPublish p v n key row) where
+module _ (p : Layout) (models : List Content) (old : Spot → ℕ) (views : List SeatView) (seat : ℕ)
+    (v : SeatView) (n : Name) (key : keys.Key) (row : ℕ → Tree) (r : KeepsRule p models old views)
+    (at : slice_get views seat ≡ Some v) (may : MayPublish p v n key row) where
   abbrev c : State
   c = state_of p old views
 
   name : IsName p n
-  name = let t = (r.turns.turn seat v at (bucket_of n) may.turn).0 in record { level_in = t.0; bucket_in = t.1; slot_in = may.slot }
+  name = let t = (r.turns.turn seat v at (bucket_of n) may.turn).0 in
+      record { level_in = t.0; bucket_in = t.1; slot_in = may.slot }
 
   -- the tree of each child stands
-  child_stands : (k : ℕ) (m : Name) → k < 8 → key_child key k ≡ Some m → IsLive p c m × (tree_of c m ≡ row k)
+  child_stands : (k : ℕ) (m : Name) → k < 8 → key_child key k ≡ Some m → IsLive p c m
+      × (tree_of c m ≡ row k)
   child_stands k m lt e =
       let root : root_of (row k) ≡ Some m = may.names k lt ∙ e in
-      let held : IsHeld v.held (row k) = record { weighs = λ f. (let a = weight_of-there f (row k) m root in let b = weight_below-part f row k 8 lt in let h = may.held f in omega arith) } in
+      let held : IsHeld v.held (row k) =
+      record {
+        weighs =
+            λ f. (let a = weight_of-there f (row k) m root in
+            let b = weight_below-part f row k 8 lt in let h = may.held f in omega arith);
+      } in
       standing_at p c (row k) m (inr (r.knows.held seat v at (row k) held)) root
 
   half_fits : (k : ℕ) → k < 8 → (o : Option Name) → key_child key k ≡ o → FitsHalf (n.level - 1) o
@@ -102,7 +121,8 @@ module _ (p : Layout) (models : List Content) (old : Spot → ℕ) (views : List
   half_fits k lt (Some m) e =
       let live = (child_stands k m lt e).0.name in
       let lower = child_level n.level key m k may.fits lt e in
-      let slot = live.slot_in in let cap = r.plan.cap_high in let bucket = live.bucket_in in let few = few_buckets p m.level r.plan in
+      let slot = live.slot_in in let cap = r.plan.cap_high in let bucket = live.bucket_in in
+      let few = few_buckets p m.level r.plan in
       record { is_child = (omega arith, omega arith); low = omega arith }
 
   key_is : c.key n ≡ key
@@ -112,32 +132,47 @@ module _ (p : Layout) (models : List Content) (old : Spot → ℕ) (views : List
       (refl, refl) (may.has_key.each i lt))
 
   -- no live entry of the level has the key
-  passed : (m : Name) → m.level ≡ n.level → m.bucket ≡ n.bucket → Passes v.words key m → 0 < old (book_of m) → c.key m ≢ key
-  passed m level bucket (inl free) some e = (let z = r.turns.known seat v at (bucket_of n) (book_of m) 0 may.turn (level, bucket) free in absurd (omega arith))
+  passed : (m : Name) → m.level ≡ n.level → m.bucket ≡ n.bucket → Passes v.words key m
+      → 0 < old (book_of m) → c.key m ≢ key
+  passed m level bucket (inl free) some e =
+      (let z = r.turns.known seat v at (bucket_of n) (book_of m) 0 may.turn (level, bucket) free in
+      absurd (omega arith))
   passed m level bucket (inr other) some e =
-      let word = r.turns.known seat v at (bucket_of n) (key_spot m other.word) other.found may.turn (level, bucket) other.known in
-      other.other (sym word ∙ sym (key_back m.level (λ j. old (key_spot m j)) other.word other.inside) ∙ ap (λ (k : keys.Key). key_word k other.word) e)
+      let word =
+      r.turns.known seat v at (bucket_of n)
+      (key_spot m other.word) other.found may.turn (level, bucket) other.known in
+      other.other
+      (sym word ∙ sym (key_back m.level (λ j. old (key_spot m j)) other.word other.inside)
+      ∙ ap (λ (k : keys.Key). key_word k other.word) e)
 
   none_has : (m : Name) → IsLive p c m → m.level ≡ n.level → c.key m ≢ key
   none_has m live level = missing_in_bucket p c n.level key r.sound.entries
-      (λ slot lt some. subst (λ (b : ℕ). 0 < old (book_of (named n.level b slot)) → c.key (named n.level b slot) ≢ key) may.bucket (passed (named n.level n.bucket slot) refl refl (may.missing.each slot lt)) some)
+      (λ slot lt some. subst
+      (λ (b : ℕ). 0 < old (book_of (named n.level b slot))
+      → c.key (named n.level b slot) ≢ key) may.bucket
+      (passed (named n.level n.bucket slot) refl refl (may.missing.each slot lt)) some)
       m live level
 
-  -- kind 7
-  module _ (rest : List Tree) (weighs : (f : Tree → ℕ) → weight_below f row 8 + weigh f rest ≡ weigh f v.held) where
+  -- the step itself, where the children leave these trees
+  module _ (rest : List Tree)
+      (weighs : (f : Tree → ℕ) → weight_below f row 8 + weigh f rest ≡ weigh f v.held) where
     abbrev tree : Tree
     tree = tree_for n key row
 
     abbrev w : SeatView
     w = making v n (tree ∷ rest) (shape_of tree)
 
-    gains_name : (f : Name → ℕ) → sum_by f (names_held w) + children_named key f ≡ sum_by f (names_held v) + f n
+    gains_name : (f : Name → ℕ)
+        → sum_by f (names_held w) + children_named key f ≡ sum_by f (names_held v) + f n
     gains_name f =
-        let a = weigh_names f v in let b = weigh_names f w in let e = weighs (by_name f) in let s = by_root f tree n (root_for n key row) in
-        let t = weigh-cons (by_name f) tree rest in let k = children_weigh f key row may.names in omega arith
+        let a = weigh_names f v in let b = weigh_names f w in let e = weighs (by_name f) in
+        let s = by_root f tree n (root_for n key row) in
+        let t = weigh-cons (by_name f) tree rest in let k = children_weigh f key row may.names in
+        omega arith
 
     gives_children : (f : Name → ℕ) → children_named key f ≤ sum_by f (names_held v)
-    gives_children f = let a = weigh_names f v in let e = may.held (by_name f) in let k = children_weigh f key row may.names in omega arith
+    gives_children f = let a = weigh_names f v in let e = may.held (by_name f) in
+        let k = children_weigh f key row may.names in omega arith
 
     module _ (new : Spot → ℕ) (wrote : Wrote old (book_of n) 1 new) where
       abbrev d : State
@@ -161,33 +196,55 @@ module _ (p : Layout) (models : List Content) (old : Spot → ℕ) (views : List
       new_live = record { name = name; book = (let b = adds_entry.book in omega arith) }
 
       new_tree : tree_of d n ≡ tree
-      new_tree = tree_new p d n.level n key row refl may.fits adds_entry.new_key may.names (λ k m lt e. (
+      new_tree =
+          tree_new p d n.level n key row refl may.fits adds_entry.new_key may.names (λ k m lt e. (
           let s = child_stands k m lt e in
-          let live : IsLive p d m = child_lives p d n m k sound' new_live lt (ap (λ (x : keys.Key). key_child x k) adds_entry.new_key ∙ e) in
-          tree_kept p c d m r.sound.entries sound' (add_keys p seat n key c d adds_entry) s.0 live ∙ s.1))
+          let live : IsLive p d m =
+          child_lives p d n m k sound' new_live lt
+          (ap (λ (x : keys.Key). key_child x k) adds_entry.new_key ∙ e) in
+          tree_kept p c d m r.sound.entries sound' (add_keys p seat n key c d adds_entry) s.0 live
+          ∙ s.1))
 
-      new_or_old : (m : Name) → IsLive p d m → IsLive p c m ⊎ Contains (all_made (set views seat w)) (shape_in d m)
+      new_or_old : (m : Name) → IsLive p d m
+          → IsLive p c m ⊎ Contains (all_made (set views seat w)) (shape_in d m)
       new_or_old m live = elim (Name-discrete m n) [
-        | yes same ↦ inr (made_here views seat v w (shape_in d m) at (0, omega arith, sym (ap (λ (x : Name). shape_in d x) same ∙ ap shape_of new_tree)))
-        | no other ↦ inl (record { name = live.name; book = (let e = adds_entry.others.book m live.name other in let b = live.book in omega arith) })
+        | yes same ↦
+            inr (made_here views seat v w (shape_in d m) at
+            (0, omega arith, sym (ap (λ (x : Name). shape_in d x) same ∙ ap shape_of new_tree)))
+        | no other ↦
+            inl (record {
+              name = live.name;
+              book = (let e = adds_entry.others.book m live.name other in let b = live.book in
+                  omega arith);
+            })
       ]
 
       pub published : KeepsRule p models new (set views seat w)
-      published = ruled_step p models old new views seat v w r at (book_turns p models old new views seat v w r at n 1 may.turn wrote refl refl refl refl refl) (adds n key adds_entry)
+      published =
+          ruled_step p models old new views seat v w r at
+          (book_turns p models old new views seat v w r at n 1 may.turn wrote refl refl refl refl
+          refl) (adds n key adds_entry)
           (book_log old new n 1 wrote)
           (record {
             plan = refl;
             same_models = refl;
             alive = λ e. e;
             grew = record { made = λ s h. contains_more (shape_of tree) v.made s h };
-            held = λ u h. ⊎_elim (λ e. inr (record { name = n; live = new_live; tree = new_tree ∙ sym e }))
-                (λ o. inl (r.knows.held seat v at u (kept_held v.held rest u (λ f. (let e = weighs f in omega arith)) o))) (held_cons tree u rest h);
-            few = (let e = weighs (λ _. 1) in let a = weigh-cons (λ _. 1) tree rest in let m = may.room in omega arith);
+            held = λ u h. ⊎_elim
+                (λ e. inr (record { name = n; live = new_live; tree = new_tree ∙ sym e }))
+                (λ o. inl
+                (r.knows.held seat v at u
+                (kept_held v.held rest u (λ f. (let e = weighs f in omega arith)) o)))
+                (held_cons tree u rest h);
+            few = (let e = weighs (λ _. 1) in let a = weigh-cons (λ _. 1) tree rest in
+                let m = may.room in omega arith);
             made = new_or_old;
             met = λ m h. inl h;
           })
 
-pub publishes : (p : Layout) (seat : ℕ) (v : SeatView) (n : Name) (key : keys.Key) (row : ℕ → Tree) → MayPublish p v n key row → MayWrite p seat v (book_of n) (λ _. 1) (Adds p seat n key) (λ _ w. Published v n key row w)
+pub publishes : (p : Layout) (seat : ℕ) (v : SeatView) (n : Name) (key : keys.Key) (row : ℕ → Tree)
+    → MayPublish p v n key row
+    → MayWrite p seat v (book_of n) (λ _. 1) (Adds p seat n key) (λ _ w. Published v n key row w)
 publishes p seat v n key row may models old views r at =
     let all = take_row v.held row 8 may.held in
     let t : Tree = tree_for n key row in

@@ -23,20 +23,27 @@ use Rattle.table_rule.proofs.PartC.{names_weigh}
 use Rattle.table_steps.proofs.Loads.{looks}
 
 -- all shares are at most so many for each seat
-few_held : (views : List SeatView) → ((i : ℕ) (v : SeatView) → slice_get views i ≡ Some v → number_of v.held ≤ 4096) → holdings (λ _. 1) (map names_held views) ≤ 4096 * length views
+few_held : (views : List SeatView)
+    → ((i : ℕ) (v : SeatView) → slice_get views i ≡ Some v → number_of v.held ≤ 4096)
+    → holdings (λ _. 1) (map names_held views) ≤ 4096 * length views
 unfolding holdings
 few_held [] few = omega arith
 few_held (v ∷ views) few =
     let more = few_held views (λ i u e. few (suc i) u e) in
     let here = few 0 v refl in
     let names = names_weigh (λ _. 1) v.held in
-    let all = sum_by-cons (λ (xs : List Name). sum_by (λ _. 1) xs) (names_held v) (map names_held views) in omega arith
+    let all =
+    sum_by-cons (λ (xs : List Name). sum_by (λ _. 1) xs) (names_held v)
+    (map names_held views) in omega arith
 
-pub small : (p : Layout) (models : List Content) (mem : Spot → ℕ) (views : List SeatView) (n : Name) → KeepsRule p models mem views → IsName p n → mem (book_of n) < 2 ^ 40
+pub small : (p : Layout) (models : List Content) (mem : Spot → ℕ) (views : List SeatView)
+    (n : Name) → KeepsRule p models mem views → IsName p n → mem (book_of n) < 2 ^ 40
 small p models mem views n r is = elim (cases_lt 0 (mem (book_of n))) [
   | inr none ↦ (let e : mem (book_of n) ≡ 0 = omega arith in omega arith)
   | inl some ↦ (
-      let most = book_small p (state_of p mem views) n 4096 r.sound.entries (λ level lt. few_buckets p level r.plan) (record { name = is; book = some }) in
+      let most =
+      book_small p (state_of p mem views) n 4096 r.sound.entries
+      (λ level lt. few_buckets p level r.plan) (record { name = is; book = some }) in
       let held = few_held views r.knows.few in
       let seats = r.turns.seats in let few = r.turns.few in
       let low : levels p ≤ 11 = (let s = r.plan.side_high in omega arith) in
@@ -45,9 +52,12 @@ small p models mem views n r is = elim (cases_lt 0 (mem (book_of n))) [
       omega arith)
 ]
 
--- kind 5, of a book
-pub looks_book : (p : Layout) (seat : ℕ) (v : SeatView) (n : Name) → v.turn ≡ Some (bucket_of n) → IsName p n
-    → MayWrite p seat v (book_of n) (λ k. k) (Rests p) (λ k w. (w ≡ knowing v (book_of n) k) × ((m : ℕ) → known_at (book_of n) v.words ≡ Some m → k ≡ m) × (k < 2 ^ 40))
+-- a book is loaded
+pub looks_book : (p : Layout) (seat : ℕ) (v : SeatView) (n : Name) → v.turn ≡ Some (bucket_of n)
+    → IsName p n
+    → MayWrite p seat v (book_of n) (λ k. k) (Rests p)
+    (λ k w. (w ≡ knowing v (book_of n) k)
+    × ((m : ℕ) → known_at (book_of n) v.words ≡ Some m → k ≡ m) × (k < 2 ^ 40))
 looks_book p seat v n has is models mem views r at =
     let t = looks p seat v (bucket_of n) (book_of n) has (refl, refl) models mem views r at in
     record {

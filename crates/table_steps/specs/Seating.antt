@@ -6,7 +6,8 @@ use Rattle.table_rule.specs.Views.{SeatView}
 abbrev pub numbered : SeatView → SeatView
 numbered v = record v { numbers = v.next ∷ v.numbers; next = 1 + v.next }
 
--- the right to the next number goes to a new view, which has nothing else but the plan and the models
+-- the right to the next number goes to a new view, which has nothing else but the plan and the
+-- models
 abbrev pub handing : SeatView → SeatView
 handing v = record v { right = false; next = 0 }
 

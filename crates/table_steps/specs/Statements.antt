@@ -1,4 +1,5 @@
--- What the laws say of each kind of step. In each the seat's view is v, what was found is k, and the new view is w.
+-- What the laws say of each kind of step. In each the seat's view is v, what was found is k, and
+-- the new view is w.
 use Rattle.std.specs.Prelude.{◌≡◌, ◌≢◌, ℕ, ◌+◌, ◌^◌, ◌<◌, ◌≤◌, eqb, true, Some, None, List, [], ◌∷◌, ◌++◌, replicate, slice_set}
 use Rattle.std.specs.List.{slice_get, Contains}
 use prog.Atomic.{either}
@@ -22,7 +23,8 @@ use Rattle.table_rule.specs.Telling.{Tells, tree_word}
 use Rattle.table_steps.specs.Changes.{turned, knowing, meeting, children_of_key, wanted, IsFullIn, IsReady, Published, Raised, Lowered, Freed}
 use Rattle.table_steps.specs.Seating.{numbered, handing, handed}
 
--- a turn is exchanged for 1 plus a number of the seat where it is 0: the turn comes, or nothing does
+-- a turn is exchanged for 1 plus a number of the seat where it is 0: the turn comes, or nothing
+-- does
 abbrev pub TurnsAreTaken : Type 0
 TurnsAreTaken = (p : Layout) (seat : ℕ) (v : SeatView) (b : BucketAt) (number : ℕ) → v.turn ≡ None
     → IsSpot p (turn_of b) → Contains v.numbers number
