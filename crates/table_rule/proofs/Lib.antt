@@ -1,4 +1,5 @@
 pub mod Lookups
+pub mod Containing
 pub mod KnownWords
 pub mod Standings
 pub mod TellingLaw

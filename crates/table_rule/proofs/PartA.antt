@@ -7,9 +7,9 @@ use Rattle.node_words.specs.Plans.{Layout}
 use Rattle.node_places.specs.Spots.{Spot, Sessions, Key, Book, IsSpot}
 use Rattle.core_reading.specs.Reading.{Wrote}
 use Rattle.table_rule.specs.Views.{SeatView, BucketAt, known_at}
-use Rattle.table_rule.specs.Turning.{IsOf, turn_of, IsMarked, KeepsTurns}
+use Rattle.table_rule.specs.Turning.{IsOf, turn_of, IsMarked, IsCarried, KeepsTurns}
 use Rattle.table_rule.specs.Owing.{SameSeat}
-use Rattle.table_rule.proofs.Lookups.{each}
+use Rattle.table_rule.proofs.Lookups.{each, get_set_same, get_set_kept}
 use Rattle.table_rule.proofs.KnownWords.{known_cases}
 
 pub of_not_turn : (b c : BucketAt) (x : Spot) → IsOf b x → turn_of c ≢ x
@@ -62,6 +62,26 @@ remarked v w m n numbers same k =
       is = same ∙ k.is;
     }
 
+-- a number is carried still where one view keeps its numbers
+pub carried_set : (views : List SeatView) (seat : ℕ) (v w : SeatView) (n : ℕ)
+    → slice_get views seat ≡ Some v → (Contains v.numbers n → Contains w.numbers n)
+    → IsCarried views n → IsCarried (set views seat w) n
+carried_set views seat v w n at keeps c = elim (cases_eq c.seat seat) [
+  | inl same ↦ record {
+    seat = seat;
+    view = w;
+    there = get_set_same views seat w v at;
+    has = keeps (subst (λ (u : SeatView). Contains u.numbers n) (same_Some c.view v
+        (sym c.there ∙ ap (slice_get views) same ∙ at)) c.has);
+  }
+  | inr other ↦ record {
+    seat = c.seat;
+    view = c.view;
+    there = get_set_kept views seat c.seat w c.view other c.there;
+    has = c.has;
+  }
+]
+
 module _ (p : Layout) (old : Spot → ℕ) (views : List SeatView) (a : KeepsTurns p old views)
     (seat : ℕ) (v : SeatView) (at : slice_get views seat ≡ Some v) where
   -- one seat alone has the turn of a bucket
@@ -85,6 +105,12 @@ module _ (p : Layout) (old : Spot → ℕ) (views : List SeatView) (a : KeepsTur
         (subst (λ (k : ℕ). n < k) (sym sessions) o.0, o.1))
         (λ j d _ e n h. let o = a.owned j d e n h in
         (subst (λ (k : ℕ). n < k) (sym sessions) o.0, o.1))
+
+    carried' : (n : ℕ) → n < new Sessions → IsCarried (set views seat w) n
+    carried' n lt =
+        carried_set views seat v w n at
+        (λ h. subst (λ (l : List ℕ). Contains l n) (sym same.numbers) h)
+        (a.carried n (subst (λ (k : ℕ). n < k) sessions lt))
 
     few' : new Sessions ≤ 64
     few' = let f = a.few in omega arith
@@ -122,6 +148,7 @@ module _ (p : Layout) (old : Spot → ℕ) (views : List SeatView) (a : KeepsTur
       seats = seats';
       fresh = fresh';
       owned = owned';
+      carried = carried';
       right = right';
       turn = each
           (λ i d. (c : BucketAt) → d.turn ≡ Some c → IsSpot p (turn_of c)
@@ -178,6 +205,7 @@ module _ (p : Layout) (old : Spot → ℕ) (views : List SeatView) (a : KeepsTur
         seats = seats';
         fresh = fresh';
         owned = owned';
+        carried = carried';
         right = right';
         turn = each
             (λ i d. (c : BucketAt) → d.turn ≡ Some c → IsSpot p (turn_of c)
@@ -242,6 +270,7 @@ module _ (p : Layout) (old : Spot → ℕ) (views : List SeatView) (a : KeepsTur
         seats = seats';
         fresh = fresh';
         owned = owned';
+        carried = carried';
         right = right';
         turn = each
             (λ i d. (c : BucketAt) → d.turn ≡ Some c → IsSpot p (turn_of c)
@@ -290,6 +319,7 @@ module _ (p : Layout) (old : Spot → ℕ) (views : List SeatView) (a : KeepsTur
         seats = seats';
         fresh = fresh';
         owned = owned';
+        carried = carried';
         right = right';
         turn = each
             (λ i d. (c : BucketAt) → d.turn ≡ Some c → IsSpot p (turn_of c)

@@ -1,5 +1,5 @@
 -- Part C after a step of one seat that is an event of the store.
-use Rattle.std.proofs.Common.{◌≡◌, ◌≢◌, ◌⊎◌, ℕ, zero, suc, ◌<◌, ◌≤◌, true, Some, List, [], ◌∷◌, ◌++◌, length, get_or, set, refl, sym, ap, ◌∙◌, subst, ⊎_elim, inl, inr, arith, sum_by}
+use Rattle.std.proofs.Common.{◌≡◌, ◌≢◌, ℕ, zero, suc, ◌≤◌, true, Some, List, [], ◌∷◌, set, refl, sym, ap, ◌∙◌, subst, ⊎_elim, arith, sum_by}
 use Rattle.std.specs.Prelude.{map}
 use Rattle.std.specs.List.{slice_get, Contains}
 use Rattle.std.proofs.lemmas.List.Sums.{sum_by-cons}
@@ -23,6 +23,7 @@ use Rattle.table_rule.specs.Views.{SeatView, names_held}
 use Rattle.core_laws.specs.Standing.{Stands}
 use Rattle.table_rule.specs.Knowing.{all_made, Knows}
 use Rattle.table_rule.specs.Owing.{Grew, Owes}
+use Rattle.table_rule.proofs.Containing.{contains_left, contains_right, contains_parts}
 use Rattle.table_rule.proofs.Lookups.{each, get_set_same}
 use Rattle.table_rule.proofs.Standings.{root_stands}
 
@@ -47,42 +48,6 @@ holds_name views seat v t n at h e = record {
       λ f. (let w = h.weighs (λ u. f (name_or (root_of u))) in let s = names_weigh f v.held in
       let r = ap (λ o. f (name_or o)) e in omega arith);
 }
-
--- what one list has, a longer one has
-contains_cons : (x : Shape) (xs ys : List Shape) (s : Shape) → (Contains xs s → Contains ys s)
-    → Contains (x ∷ xs) s → Contains (x ∷ ys) s
-contains_cons x xs ys s f c = go c.0 c.1 c.2
-  where
-    go : (k : ℕ) → k < length (x ∷ xs) → get_or (x ∷ xs) k s ≡ s → Contains (x ∷ ys) s
-    go zero lt e = (0, omega arith, e)
-    go (suc k) lt e = let more = f (k, omega arith, e) in
-        (suc more.0, (let l = more.1 in omega arith), more.2)
-
-pub contains_left : (xs ys : List Shape) (s : Shape) → Contains xs s → Contains (xs ++ ys) s
-contains_left [] ys s c = absurd (let k = c.1 in omega arith)
-contains_left (x ∷ xs) ys s c = contains_cons x xs (xs ++ ys) s (λ t. contains_left xs ys s t) c
-
-pub contains_right : (xs ys : List Shape) (s : Shape) → Contains ys s → Contains (xs ++ ys) s
-contains_right [] ys s c = c
-contains_right (x ∷ xs) ys s c = let more = contains_right xs ys s c in
-    (suc more.0, (let l = more.1 in omega arith), more.2)
-
-contains_cases : (x : Shape) (xs zs ys : List Shape) (s : Shape)
-    → (Contains zs s → Contains xs s ⊎ Contains ys s) → Contains (x ∷ zs) s
-    → Contains (x ∷ xs) s ⊎ Contains ys s
-contains_cases x xs zs ys s f c = go c.0 c.1 c.2
-  where
-    go : (k : ℕ) → k < length (x ∷ zs) → get_or (x ∷ zs) k s ≡ s
-        → Contains (x ∷ xs) s ⊎ Contains ys s
-    go zero lt e = inl (0, omega arith, e)
-    go (suc k) lt e =
-        ⊎_elim (λ c. inl (suc c.0, (let l = c.1 in omega arith), c.2)) inr (f (k, omega arith, e))
-
-pub contains_parts : (xs ys : List Shape) (s : Shape) → Contains (xs ++ ys) s
-    → Contains xs s ⊎ Contains ys s
-contains_parts [] ys s c = inr c
-contains_parts (x ∷ xs) ys s c =
-    contains_cases x xs (xs ++ ys) ys s (λ t. contains_parts xs ys s t) c
 
 pub made_grows : (views : List SeatView) (seat : ℕ) (v w : SeatView)
     → slice_get views seat ≡ Some v → Grew v w → (s : Shape) → Contains (all_made views) s
@@ -177,7 +142,3 @@ module _ (p : Layout) (models : List Content) (c d : State) (views : List SeatVi
         (λ new. new) (o.met m h))
         (λ j u _ e m h. enough_grows p _ _ m.level m.bucket grows (k.met j u e m h));
   }
-
--- a longer list has what the shorter has
-pub contains_more : (x : Shape) (xs : List Shape) (s : Shape) → Contains xs s → Contains (x ∷ xs) s
-contains_more x xs s c = (suc c.0, (let l = c.1 in omega arith), c.2)

@@ -1,6 +1,6 @@
 -- Part A of the rule: turns and seats.
 use Rattle.std.specs.Prelude.{◌≡◌, ◌≢◌, ℕ, length, [], ◌+◌, ◌<◌, ◌≤◌, true, Some, List}
-use Rattle.std.specs.List.{Contains}
+use Rattle.std.specs.List.{slice_get, Contains}
 use Rattle.node_words.specs.Plans.{Layout}
 use Rattle.node_places.specs.Spots.{Spot, Sessions, Turn, Key, Book, IsSpot}
 use Rattle.table_rule.specs.Views.{SeatView, BucketAt, known_at, Each}
@@ -20,10 +20,17 @@ pub record IsMarked (v : SeatView) (word : ℕ) : Type 0 where
   pub carried : Contains v.numbers number
   pub is : word ≡ 1 + number
 
--- each number below the sessions' word has one owner, and each number that a view carries is one
--- of them and the view's own; one view at most has the right to take the next number, which is
--- that word. A view has a bucket's turn exactly where the turn's word is marked by it, and what it
--- knows of the bucket's words is what they are
+-- some view carries the number
+pub record IsCarried (views : List SeatView) (n : ℕ) : Type 0 where
+  pub seat : ℕ
+  pub view : SeatView
+  pub there : slice_get views seat ≡ Some view
+  pub has : Contains view.numbers n
+
+-- each number below the sessions' word is carried by just one view, its owner, and no other number
+-- is carried; one view at most has the right to take the next number, which is that word. A view
+-- has a bucket's turn exactly where the turn's word is marked by it, and what it knows of the
+-- bucket's words is what they are
 pub record KeepsTurns (p : Layout) (mem : Spot → ℕ) (views : List SeatView) : Type 0 where
   pub owner : ℕ → ℕ
   pub keeper : ℕ
@@ -32,6 +39,7 @@ pub record KeepsTurns (p : Layout) (mem : Spot → ℕ) (views : List SeatView) 
   pub fresh : Each views (λ seat v. v.right ≡ true → v.numbers ≢ [] → length views ≤ mem Sessions)
   pub owned : Each views (λ seat v. (n : ℕ) → Contains v.numbers n
       → (n < mem Sessions) × (owner n ≡ seat))
+  pub carried : (n : ℕ) → n < mem Sessions → IsCarried views n
   pub right : Each views (λ seat v. v.right ≡ true → (keeper ≡ seat) × (mem Sessions ≡ v.next))
   pub turn : Each views (λ seat v. (b : BucketAt) → v.turn ≡ Some b
       → IsSpot p (turn_of b) × IsMarked v (mem (turn_of b)))

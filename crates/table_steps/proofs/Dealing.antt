@@ -21,13 +21,15 @@ use Rattle.core_laws.specs.LogEvents.{Reseats}
 use Rattle.core_laws.proofs.StepLaws.{reseats_sound}
 use Rattle.core_reading.specs.Reading.{names_of}
 use Rattle.table_rule.specs.Views.{SeatView, BucketAt, names_held, known_at}
-use Rattle.table_rule.specs.Turning.{IsOf, turn_of, IsMarked, KeepsTurns}
+use Rattle.table_rule.specs.Turning.{IsOf, turn_of, IsMarked, KeepsTurns, IsCarried}
 use Rattle.table_rule.specs.Knowing.{all_made, Knows}
 use Rattle.core_laws.specs.Standing.{Stands}
 use Rattle.table_rule.specs.Rules.{KeepsRule, state_of}
 use Rattle.table_steps.specs.Seating.{handing, handed}
 use Rattle.table_rule.proofs.Lookups.{each, set_again}
-use Rattle.table_rule.proofs.PartC.{contains_left, contains_right, contains_parts, made_grows, enough_grows}
+use Rattle.table_rule.proofs.Containing.{contains_left, contains_right, contains_parts}
+use Rattle.table_rule.proofs.PartA.{carried_set}
+use Rattle.table_rule.proofs.PartC.{made_grows, enough_grows}
 
 module _ {A : Type 0} where
   -- the new element stands at the end
@@ -38,6 +40,12 @@ module _ {A : Type 0} where
   get_end (x ∷ xs) a b zero e = inl e
   get_end (x ∷ xs) a b (suc j) e =
       ⊎_elim inl (λ t. let n = t.0 in inr (omega arith, t.1)) (get_end xs a b j e)
+
+  pub get_front : (l : List A) (a b : A) (j : ℕ) → slice_get l j ≡ Some b
+      → slice_get (l ++ a ∷ []) j ≡ Some b
+  get_front [] a b j e = absurd (none-some b e)
+  get_front (x ∷ xs) a b zero e = e
+  get_front (x ∷ xs) a b (suc j) e = get_front xs a b j e
 
 made_left : (xs ys : List SeatView) (s : Shape) → Contains (all_made xs) s
     → Contains (all_made (xs ++ ys)) s
@@ -95,6 +103,16 @@ module _ (p : Layout) (models : List Content) (mem : Spot → ℕ) (views : List
   long : length all ≡ length views + 1
   long = length-append after (b ∷ []) ∙ (let l = length-set views seat a in omega arith)
 
+  still_carried : (n : ℕ) → n < mem Sessions → IsCarried all n
+  still_carried n lt =
+      let c = carried_set views seat v a n at (λ h. h) (r.turns.carried n lt) in
+      record {
+        seat = c.seat;
+        view = c.view;
+        there = get_front after b c.view c.seat c.there;
+        has = c.has;
+      }
+
   deal_turns : KeepsTurns p mem all
   deal_turns = record {
     owner = r.turns.owner;
@@ -122,6 +140,7 @@ module _ (p : Layout) (models : List Content) (mem : Spot → ℕ) (views : List
         (λ c low m. r.turns.back seat v at c low
         (record { number = m.number; carried = m.carried; is = m.is }))
         (λ j d _ e. r.turns.back j d e) (λ c low m. none_has m.number _ m.carried);
+    carried = still_carried;
     named = r.turns.named;
     known = dealt
         (λ i d. (c : BucketAt) (x : Spot) (n : ℕ) → d.turn ≡ Some c → IsOf c x

@@ -8,5 +8,6 @@ pub mod Small
 pub mod Opening
 pub mod NumberSteps
 pub mod Dealing
+pub mod Joining
 pub mod Lift
 pub mod LiftSeats

@@ -1,6 +1,7 @@
 -- What the steps of beginning owe is what the table asks.
-use Rattle.std.proofs.Common.{◌≡◌, ◌≢◌, ℕ, ◌+◌, ◌<◌, true, List, [], set, refl, sym, ap, ◌∙◌, subst, length-set, arith}
-use Rattle.atomic_table.specs.Table.{Me, keeps, Allows, Splits}
+use Rattle.std.proofs.Common.{◌≡◌, ⊎_elim, Some, None, false, ◌≢◌, ℕ, ◌+◌, ◌<◌, true, List, [], set, refl, sym, ap, ◌∙◌, subst, length-set, arith}
+use Rattle.std.specs.List.{slice_get}
+use Rattle.atomic_table.specs.Table.{Me, keeps, Allows, Splits, Joins}
 use Rattle.node_shapes.proofs.WeightLaws.{weigh-nil}
 use Rattle.node_shapes.specs.Tree.{Tree}
 use Rattle.node_words.specs.Plans.{Layout}
@@ -9,14 +10,15 @@ use Rattle.node_places.specs.Spots.{Spot, Sessions}
 use Rattle.core_reading.specs.Reading.{Wrote, word_at}
 use Rattle.core_reading.proofs.Rows.{row_written}
 use Rattle.vox_read.specs.Contents.{Content}
-use Rattle.table_rule.specs.Views.{SeatView}
+use Rattle.table_rule.specs.Views.{SeatView, spent}
 use Rattle.table_rule.specs.Rules.{IsRuled}
 use Rattle.table_rule.specs.Telling.{TellsInUse, Tells}
-use Rattle.table_steps.specs.Seating.{numbered, handing, handed}
-use Rattle.table_rule.proofs.Lookups.{get_std, get_set_same}
+use Rattle.table_steps.specs.Seating.{numbered, handing, handed, joined}
+use Rattle.table_rule.proofs.Lookups.{get_std, get_set, get_set_same}
 use Rattle.table_rule.proofs.TellingLaw.{tells_in_use}
 use Rattle.table_steps.proofs.NumberSteps.{numbers_itself}
 use Rattle.table_steps.proofs.Dealing.{deals}
+use Rattle.table_steps.proofs.Joining.{joins}
 
 pub numbers_allowed : (p : Layout) (models : List Content) (slots seat : ℕ) (me : Me ℕ SeatView)
     (n : ℕ) → me.0.right ≡ true → me.0.numbers ≡ [] → me.0.next ≡ n → n < 64
@@ -53,6 +55,21 @@ deals_allowed p models seat v right has s r at = record {
   rule = deals p models (word_at p s.words) s.views seat v r.rule (get_std s.views seat v at)
       right has;
 }
+
+pub joins_allowed : (p : Layout) (models : List Content) (seat : ℕ) (v : SeatView) (other : ℕ)
+    (w : SeatView) → v.right ≡ false → w.held ≡ [] → w.turn ≡ None
+    → Joins (IsRuled p models) seat v other w (joined v w) spent
+joins_allowed p models seat v other w right bare idle s r at apart there =
+    let both : SeatView = joined v w in
+    let at_other : slice_get s.views other ≡ Some w =
+    ⊎_elim (λ (t : (other ≡ seat) × (both ≡ w)). absurd (apart t.0))
+    (λ (t : (other ≢ seat) × (slice_get s.views other ≡ Some w)). t.1)
+    (get_set s.views seat other both w (get_std (set s.views seat both) other w there)) in
+    record {
+      wide = r.wide;
+      rule = joins p models (word_at p s.words) s.views seat other v w r.rule
+          (get_std s.views seat v at) at_other apart right bare idle;
+    }
 
 -- a view that holds nothing tells little
 pub nothing_tells : (v : SeatView) → v.held ≡ [] → Tells v

@@ -1,5 +1,6 @@
 -- Kind 2: the seat that has the right takes the next number.
 use Rattle.std.proofs.Common.{◌≡◌, ◌≢◌, ◌⊎◌, ℕ, zero, suc, ◌+◌, ◌<◌, ◌≤◌, true, Some, List, [], ◌∷◌, length, length-set, get_or, set, refl, sym, ◌∙◌, subst, ⊎_elim, inl, inr, arith}
+use Rattle.std.proofs.lemmas.Bool.{cases_eq}
 use Rattle.std.specs.List.{slice_get, Contains}
 use Rattle.vox_read.specs.Contents.{Content}
 use Rattle.node_words.specs.Plans.{Layout}
@@ -10,20 +11,21 @@ use Rattle.table_rule.specs.Turning.{IsOf, turn_of, IsMarked, KeepsTurns}
 use Rattle.core_laws.specs.Events.{Rests}
 use Rattle.table_rule.specs.Rules.{KeepsRule, state_of}
 use Rattle.table_steps.specs.Seating.{numbered}
-use Rattle.table_rule.proofs.Lookups.{each}
-use Rattle.table_rule.proofs.PartA.{of_not_sessions}
+use Rattle.table_rule.proofs.Lookups.{each, get_set_same}
+use Rattle.table_rule.proofs.PartA.{of_not_sessions, carried_set}
+use Rattle.table_rule.proofs.Containing.{contains_more}
 use Rattle.table_rule.proofs.StateSteps.{quiet, entries_same}
 
-pick : {A : Type 0} → Dec A → ℕ → ℕ → ℕ
+pub pick : {A : Type 0} → Dec A → ℕ → ℕ → ℕ
 pick (yes e) a b = a
 pick (no ne) a b = b
 
-pick_yes : {A : Type 0} (d : Dec A) (a b : ℕ) → A → pick d a b ≡ a
+pub pick_yes : {A : Type 0} (d : Dec A) (a b : ℕ) → A → pick d a b ≡ a
 unfolding pick
 pick_yes (yes e) a b h = refl
 pick_yes (no ne) a b h = absurd (ne h)
 
-pick_no : {A : Type 0} (d : Dec A) (a b : ℕ) → (A → ⊥) → pick d a b ≡ b
+pub pick_no : {A : Type 0} (d : Dec A) (a b : ℕ) → (A → ⊥) → pick d a b ≡ b
 unfolding pick
 pick_no (yes e) a b h = absurd (h e)
 pick_no (no ne) a b h = refl
@@ -87,6 +89,17 @@ module _ (p : Layout) (old new : Spot → ℕ) (views : List SeatView) (a : Keep
     owned = each
         (λ i d. (n : ℕ) → Contains d.numbers n → (n < new Sessions)
         × (own n ≡ i)) views seat w mine (λ j d _ e n c. older j d n e c);
+    carried = λ n lt. elim (cases_eq n v.next) [
+      | inl next ↦ record {
+        seat = seat;
+        view = w;
+        there = get_set_same views seat w v at;
+        has = (0, omega arith, sym next);
+      }
+      | inr other ↦
+          carried_set views seat v w n at (λ h. contains_more v.next v.numbers n h)
+          (a.carried n (let o = was in let h = wrote.here in omega arith))
+    ];
     right = each (λ i d. d.right ≡ true → (a.keeper ≡ i) × (new Sessions ≡ d.next)) views seat w
         (λ r. ((a.right seat v at right).0, wrote.here))
         (λ j d ne e r. absurd (ne (sym (a.right j d e r).0 ∙ (a.right seat v at right).0)));

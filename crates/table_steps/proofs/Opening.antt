@@ -83,6 +83,7 @@ module _ (p : Layout) (models : List Content) (mem : Spot → ℕ) (none : (x : 
     back = only
         (λ i v. (b : BucketAt) → IsSpot p (turn_of b) → IsMarked v (mem (turn_of b))
         → v.turn ≡ Some b) (λ b low m. no_number m.number _ m.carried);
+    carried = λ n lt. absurd (let e = none Sessions in omega arith);
     named = λ b low. (let e = none (turn_of b) in omega arith);
     known = only
         (λ i v. (b : BucketAt) (x : Spot) (n : ℕ) → v.turn ≡ Some b → IsOf b x

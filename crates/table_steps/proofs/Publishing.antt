@@ -34,7 +34,8 @@ use Rattle.table_rule.specs.Views.{SeatView, bucket_of, key_spot, known_at, name
 use Rattle.table_rule.specs.Knowing.{all_made}
 use Rattle.table_rule.specs.Rules.{KeepsRule, state_of, log_in, MayWrite}
 use Rattle.table_rule.proofs.Standings.{standing_at}
-use Rattle.table_rule.proofs.PartC.{made_here, contains_more}
+use Rattle.table_rule.proofs.PartC.{made_here}
+use Rattle.table_rule.proofs.Containing.{contains_more}
 use Rattle.table_rule.proofs.StateSteps.{ruled_step}
 use Rattle.table_steps.specs.Changes.{making, HasKey, Passes, PassesBelow, tree_for, Published}
 use Rattle.table_steps.proofs.Shares.{take_row, held_cons}

@@ -1,5 +1,5 @@
 -- What the steps of beginning make of views.
-use Rattle.std.specs.Prelude.{◌+◌, false, None, [], ◌∷◌}
+use Rattle.std.specs.Prelude.{◌+◌, false, None, [], ◌∷◌, ◌++◌}
 use Rattle.table_rule.specs.Views.{SeatView}
 
 -- the next number is the view's
@@ -13,3 +13,8 @@ handing v = record v { right = false; next = 0 }
 
 abbrev pub handed : SeatView → SeatView
 handed v = record v { numbers = []; turn = None; words = []; held = []; made = []; met = [] }
+
+-- a seat is joined: its numbers and what it made and met go over
+abbrev pub joined : SeatView → SeatView → SeatView
+joined v w =
+    record v { numbers = w.numbers ++ v.numbers; made = w.made ++ v.made; met = w.met ++ v.met }

@@ -1,6 +1,6 @@
 -- What the laws say of each kind of step. In each the seat's view is v, what was found is k, and
 -- the new view is w.
-use Rattle.std.specs.Prelude.{◌≡◌, ◌≢◌, ℕ, ◌+◌, ◌^◌, ◌<◌, ◌≤◌, eqb, true, Some, None, List, [], ◌∷◌, ◌++◌, replicate, slice_set}
+use Rattle.std.specs.Prelude.{◌≡◌, ◌≢◌, ℕ, ◌+◌, ◌^◌, ◌<◌, ◌≤◌, eqb, true, false, Some, None, List, [], ◌∷◌, ◌++◌, replicate, slice_set}
 use Rattle.std.specs.List.{slice_get, Contains}
 use prog.Atomic.{either}
 use Rattle.atomic_table.specs.Table.{opening}
@@ -16,12 +16,12 @@ use Rattle.node_places.specs.Spots.{Spot, Sessions, IsSpot, key_words, width}
 use Rattle.core_laws.specs.Events.{Rests, Raises, Adds, Lowers, Frees}
 use Rattle.core_laws.specs.LogEvents.{Reseats}
 use Rattle.core_reading.specs.Reading.{Wrote, book_of}
-use Rattle.table_rule.specs.Views.{SeatView, BucketAt, bucket_of, key_spot, known_at, starting}
+use Rattle.table_rule.specs.Views.{SeatView, BucketAt, bucket_of, key_spot, known_at, starting, spent}
 use Rattle.table_rule.specs.Turning.{IsOf, turn_of}
 use Rattle.table_rule.specs.Rules.{KeepsRule, IsRuled, state_of, MayWrite}
 use Rattle.table_rule.specs.Telling.{Tells, tree_word}
 use Rattle.table_steps.specs.Changes.{turned, knowing, meeting, children_of_key, wanted, IsFullIn, IsReady, Published, Raised, Lowered, Freed}
-use Rattle.table_steps.specs.Seating.{numbered, handing, handed}
+use Rattle.table_steps.specs.Seating.{numbered, handing, handed, joined}
 
 -- a turn is exchanged for 1 plus a number of the seat where it is 0: the turn comes, or nothing
 -- does
@@ -122,6 +122,16 @@ RightsAreHandedOn = (p : Layout) (models : List Content) (mem : Spot → ℕ) (v
     → KeepsRule p models mem (slice_set views seat (handing v) ++ handed v ∷ [])
     × Reseats p (state_of p mem views)
     (state_of p mem (slice_set views seat (handing v) ++ handed v ∷ []))
+
+-- a seat without the right takes in what another one has that holds no share and has no turn
+abbrev pub SeatsAreJoined : Type 0
+SeatsAreJoined = (p : Layout) (models : List Content) (mem : Spot → ℕ) (views : List SeatView)
+    (seat other : ℕ) (v w : SeatView) → KeepsRule p models mem views
+    → slice_get views seat ≡ Some v → slice_get views other ≡ Some w → other ≢ seat
+    → v.right ≡ false → w.held ≡ [] → w.turn ≡ None
+    → KeepsRule p models mem (slice_set (slice_set views seat (joined v w)) other spent)
+    × Reseats p (state_of p mem views)
+    (state_of p mem (slice_set (slice_set views seat (joined v w)) other spent))
 
 -- a table of words that are 0 meets the rule, with the first seat alone
 abbrev pub TablesOpen : Type 0

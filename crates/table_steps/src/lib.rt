@@ -10,5 +10,5 @@ mod seats;
 mod turns;
 
 pub use entries::{entries_come_and_go, shares_come_and_go};
-pub use seats::{seats_are_numbered, tables_open};
+pub use seats::{seats_are_joined, seats_are_numbered, tables_open};
 pub use turns::{held_words_are_read, turns_come_and_go, words_are_loaded, words_are_stored};
