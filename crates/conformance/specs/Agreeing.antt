@@ -10,26 +10,31 @@ use Rattle.transcript.specs.declared.answers.LineAnswer.{LineAnswer}
 use Rattle.conformance.specs.Answers.{LineFits}
 use Rattle.conformance.specs.Shown.{IsShown}
 
--- moments never fall, an accepted change is later than all before it, and what made a change stale had been seen by none
+-- moments never fall, an accepted change is later than all before it, and what made a change stale
+-- had been seen by none
 pub record InOrder (a b : LineAnswer) : Type 0 where
   pub no_earlier : a.at ≤ b.at
   pub later : b.answer ≡ answers.Done → a.at < b.at
   pub unseen : (base : ℕ) → b.answer ≡ answers.Stale base → a.at ≤ base
 
 -- one session: each command has its line, in order, and each line fits
-pub record SessionAgrees (p : Layout) (models : List Content) (log : Log) (session : ℕ) (script : List ScriptLine) (transcript : List LineAnswer) : Type 0 where
+pub record SessionAgrees (p : Layout) (models : List Content) (log : Log) (session : ℕ)
+    (script : List ScriptLine) (transcript : List LineAnswer) : Type 0 where
   pub lines : AllZip (LineFits p models log session) script transcript
   pub moments : AllPairs InOrder transcript
 
 -- all sessions from this one on
-abbrev pub SessionsAgree : Layout → List Content → Log → ℕ → List (List ScriptLine) → List (List LineAnswer) → Type 0
+abbrev pub SessionsAgree : Layout → List Content → Log → ℕ → List (List ScriptLine)
+    → List (List LineAnswer) → Type 0
 SessionsAgree p models log session [] [] = ⊤
 SessionsAgree p models log session [] (transcript ∷ transcripts) = ⊥
 SessionsAgree p models log session (script ∷ scripts) [] = ⊥
 SessionsAgree p models log session (script ∷ scripts) (transcript ∷ transcripts) =
-    SessionAgrees p models log session script transcript × SessionsAgree p models log (session + 1) scripts transcripts
+    SessionAgrees p models log session script transcript
+        × SessionsAgree p models log (session + 1) scripts transcripts
 
 -- the history, the scripts and the transcripts agree
-pub record Agrees (p : Layout) (models : List Content) (log : Log) (scripts : List (List ScriptLine)) (transcripts : List (List LineAnswer)) : Type 0 where
+pub record Agrees (p : Layout) (models : List Content) (log : Log)
+    (scripts : List (List ScriptLine)) (transcripts : List (List LineAnswer)) : Type 0 where
   pub sessions : SessionsAgree p models log 0 scripts transcripts
   pub shown : IsShown scripts transcripts log

@@ -25,12 +25,14 @@ use Rattle.vw_cell.specs.Counts.{number_in}
 use Rattle.script.specs.declared.commands.SaveName.{SaveName}
 use Rattle.conformance.specs.Telling.{Tells}
 
--- the version isn't surely forgotten: no mark forgets it below n, or by an earlier line of this session
+-- the version isn't surely forgotten: no mark forgets it below n, or by an earlier line of this
+-- session
 pub record IsStanding (marks : List Mark) (session line n version : ℕ) : Type 0 where
   pub later : All (λ mark. mark.version ≡ version → n ≤ mark.at) marks
   pub own : All (λ mark. mark.version ≡ version → mark.session ≡ session → line ≤ mark.line) marks
 
--- the version is possibly forgotten: a mark forgets it at n or below, which isn't by this line or a later one of this session
+-- the version is possibly forgotten: a mark forgets it at n or below, which isn't by this line or a
+-- later one of this session
 pub record IsForgotten (marks : List Mark) (session line n version : ℕ) : Type 0 where
   pub mark : Mark
   pub listed : Contains marks mark
@@ -49,7 +51,8 @@ pub record IsRecord (records : List Record) (n session line : ℕ) (act : Act) :
   pub is : slice_get records (n - 1) ≡ Some (record { session = session; line = line; act = act })
 
 abbrev pub mark_of : ℕ → ℕ → ℕ → ℕ → Mark
-mark_of version n session line = record { version = version; at = n; session = session; line = line }
+mark_of version n session line = record
+    { version = version; at = n; session = session; line = line }
 
 abbrev pub first_of : List ℕ → Option ℕ
 first_of [] = None
@@ -63,7 +66,8 @@ target_at records n edit = None
 
 -- an undo or a redo has a version to go to
 abbrev pub HasWay : (ℕ → Type 0) → List Record → ℕ → Act → Type 0
-HasWay Stands records n act = is_edit act ≢ true → (to : ℕ) × (target_at records n act ≡ Some to) × IsReadable Stands n to
+HasWay Stands records n act = is_edit act ≢ true → (to : ℕ) × (target_at records n act ≡ Some to)
+    × IsReadable Stands n to
 
 -- a question without a version is asked of that of its moment
 abbrev pub asked_version : Option ℕ → ℕ → ℕ
@@ -90,36 +94,55 @@ LooksUp Stands records n (Save version name part) v = Names Stands n (Save versi
 LooksUp Stands records n (Same u w) v = Names Stands n (Same u w) v
 LooksUp Stands records n Head v = ⊥
 
--- the answer to the command of this session and line, decided at moment n of the history, where `Stands` says of which
+-- the answer to the command of this session and line, decided at moment n of the history, where
+-- `Stands` says of which
 -- versions it is known that they aren't surely forgotten
-pub data Answers (p : Layout) (models : List Content) (log : Log) (Stands : ℕ → Type 0) (session line n : ℕ) : Command → Answer → Type 0 where
-  done : (act : Act) (once : Bool) → IsRecord log.records n session line act → Answers p models log Stands session line n (Edit act once) answers.Done
-  forgot : (v : ℕ) → Contains log.marks (mark_of v n session line) → Answers p models log Stands session line n (Forget v) (answers.Forgot v)
-  tells : (version : Option ℕ) (question : Question) (answer : Answer) → IsReadable Stands n (asked_version version n) → Tells (2 ^ log.side) (has models log.records (asked_version version n)) question answer
+pub data Answers (p : Layout) (models : List Content) (log : Log) (Stands : ℕ → Type 0)
+    (session line n : ℕ) : Command → Answer → Type 0 where
+  done : (act : Act) (once : Bool) → IsRecord log.records n session line act
+      → Answers p models log Stands session line n (Edit act once) answers.Done
+  forgot : (v : ℕ) → Contains log.marks (mark_of v n session line)
+      → Answers p models log Stands session line n (Forget v) (answers.Forgot v)
+  tells : (version : Option ℕ) (question : Question) (answer : Answer)
+      → IsReadable Stands n (asked_version version n)
+      → Tells (2 ^ log.side) (has models log.records (asked_version version n)) question answer
       → Answers p models log Stands session line n (Ask version question) answer
-  saves : (version : Option ℕ) (name : SaveName) (part : Boxed) (cells : ℕ) → IsReadable Stands n (asked_version version n)
+  saves : (version : Option ℕ) (name : SaveName) (part : Boxed) (cells : ℕ)
+      → IsReadable Stands n (asked_version version n)
       → cells ≡ number_in part (has models log.records (asked_version version n))
       → Answers p models log Stands session line n (Save version name part) (answers.Saved cells)
-  same : (v w : ℕ) → IsReadable Stands n v → IsReadable Stands n w → SameWorld (2 ^ log.side) (has models log.records v) (has models log.records w)
+  same : (v w : ℕ) → IsReadable Stands n v → IsReadable Stands n w
+      → SameWorld (2 ^ log.side) (has models log.records v) (has models log.records w)
       → Answers p models log Stands session line n (Same v w) (answers.Same true)
-  different : (v w : ℕ) → IsReadable Stands n v → IsReadable Stands n w → ¬ SameWorld (2 ^ log.side) (has models log.records v) (has models log.records w)
+  different : (v w : ℕ) → IsReadable Stands n v → IsReadable Stands n w
+      → ¬ SameWorld (2 ^ log.side) (has models log.records v) (has models log.records w)
       → Answers p models log Stands session line n (Same v w) (answers.Same false)
   head : Answers p models log Stands session line n Head answers.Head
-  no_version : (command : Command) (v : ℕ) → Names Stands n command v → n < v → Answers p models log Stands session line n command (answers.NoVersion v)
-  forgotten : (command : Command) (v : ℕ) → LooksUp Stands log.records n command v → IsForgotten log.marks session line n v → Answers p models log Stands session line n command (answers.Forgotten v)
+  no_version : (command : Command) (v : ℕ) → Names Stands n command v → n < v
+      → Answers p models log Stands session line n command (answers.NoVersion v)
+  forgotten : (command : Command) (v : ℕ) → LooksUp Stands log.records n command v
+      → IsForgotten log.marks session line n v
+      → Answers p models log Stands session line n command (answers.Forgotten v)
   is_head : Answers p models log Stands session line n (Forget n) answers.IsHead
-  nothing_to_undo : (once : Bool) → target_at log.records n Undo ≡ None → Answers p models log Stands session line n (Edit Undo once) answers.NothingToUndo
-  nothing_to_redo : (once : Bool) → target_at log.records n Redo ≡ None → Answers p models log Stands session line n (Edit Redo once) answers.NothingToRedo
-  log_full : (act : Act) (once : Bool) → n ≡ 65535 → HasWay Stands log.records n act → Answers p models log Stands session line n (Edit act once) answers.LogFull
-  stale : (act : Act) (base : ℕ) → base < n → n < 65535 → Answers p models log Stands session line n (Edit act true) (answers.Stale base)
-  full : (act : Act) (once : Bool) (level bucket : ℕ) → is_edit act ≡ true → level ≤ top p.side → bucket < slice_index p.buckets level
+  nothing_to_undo : (once : Bool) → target_at log.records n Undo ≡ None
+      → Answers p models log Stands session line n (Edit Undo once) answers.NothingToUndo
+  nothing_to_redo : (once : Bool) → target_at log.records n Redo ≡ None
+      → Answers p models log Stands session line n (Edit Redo once) answers.NothingToRedo
+  log_full : (act : Act) (once : Bool) → n ≡ 65535 → HasWay Stands log.records n act
+      → Answers p models log Stands session line n (Edit act once) answers.LogFull
+  stale : (act : Act) (base : ℕ) → base < n → n < 65535
+      → Answers p models log Stands session line n (Edit act true) (answers.Stale base)
+  full : (act : Act) (once : Bool) (level bucket : ℕ) → is_edit act ≡ true → level ≤ top p.side
+      → bucket < slice_index p.buckets level
       → Answers p models log Stands session line n (Edit act once) (answers.Full level bucket)
 
 -- a transcript's line answers the script's line, at a moment of the history
-pub record LineFits (p : Layout) (models : List Content) (log : Log) (session : ℕ) (l : ScriptLine) (a : LineAnswer) : Type 0 where
+pub record LineFits (p : Layout) (models : List Content) (log : Log) (session : ℕ) (l : ScriptLine)
+    (a : LineAnswer) : Type 0 where
   pub same_line : a.line ≡ l.line
   pub within : a.at ≤ length log.records
-  pub answers : Answers p models log (IsStanding log.marks session l.line a.at) session l.line a.at l.command a.answer
+  pub answers : Answers p models log (IsStanding log.marks session l.line a.at) session l.line a.at
+      l.command a.answer
 
 -- the newer history has the records of the older one first, and all its marks
 pub record GoesOn (old new : Log) : Type 0 where

@@ -19,24 +19,31 @@ lines_of script = map (λ l. l.line) script
 
 -- the mark is by an earlier session, or by one of these lines of this one
 abbrev pub IsBy : ℕ → List ScriptLine → Mark → Type 0
-IsBy session script mark = (mark.session < session) ⊎ ((mark.session ≡ session) × Contains (lines_of script) mark.line)
+IsBy session script mark = (mark.session < session)
+    ⊎ ((mark.session ≡ session) × Contains (lines_of script) mark.line)
 
 -- some scripts were run, and of the next one these lines
-pub record IsSoFar (p : Layout) (models : List Content) (scripts : List (List ScriptLine)) (transcripts : List (List LineAnswer)) (script : List ScriptLine) (transcript : List LineAnswer) (log : Log) : Type 0 where
+pub record IsSoFar (p : Layout) (models : List Content) (scripts : List (List ScriptLine))
+    (transcripts : List (List LineAnswer)) (script : List ScriptLine)
+    (transcript : List LineAnswer) (log : Log) : Type 0 where
   pub legal : IsLegal (2 ^ p.side) models log
   pub before : SessionsAgree p models log 0 scripts transcripts
   pub lines : AllZip (LineFits p models log (length scripts)) script transcript
   pub moments : AllPairs InOrder transcript
-  pub records : SameItems (numbered 1 log.records) (accepted_of 0 scripts transcripts ++ accepted_in (length scripts) script transcript)
-  pub marks : SameItems log.marks (forgotten_of 0 scripts transcripts ++ forgotten_in (length scripts) script transcript)
+  pub records : SameItems (numbered 1 log.records)
+      (accepted_of 0 scripts transcripts ++ accepted_in (length scripts) script transcript)
+  pub marks : SameItems log.marks
+      (forgotten_of 0 scripts transcripts ++ forgotten_in (length scripts) script transcript)
   pub by : All (IsBy (length scripts) script) log.marks
 
 -- a mark is one of the older ones, or was made by this line at this length
 abbrev pub IsOldOrNew : List Mark → ℕ → ℕ → ℕ → Mark → Type 0
-IsOldOrNew old n session line mark = Contains old mark ⊎ ((n ≤ mark.at) × (mark.session ≡ session) × (mark.line ≡ line))
+IsOldOrNew old n session line mark = Contains old mark
+    ⊎ ((n ≤ mark.at) × (mark.session ≡ session) × (mark.line ≡ line))
 
 -- what one line of a session makes of the history, and its answer
-pub record LineStep (p : Layout) (models : List Content) (session : ℕ) (l : ScriptLine) (old new : Log) (a : LineAnswer) : Type 0 where
+pub record LineStep (p : Layout) (models : List Content) (session : ℕ) (l : ScriptLine)
+    (old new : Log) (a : LineAnswer) : Type 0 where
   pub legal : IsLegal (2 ^ p.side) models new
   pub goes_on : GoesOn old new
   pub new_marks : All (IsOldOrNew old.marks (length old.records) session l.line) new.marks
@@ -44,7 +51,8 @@ pub record LineStep (p : Layout) (models : List Content) (session : ℕ) (l : Sc
   pub later : a.answer ≡ answers.Done → length old.records < a.at
   pub unseen : (base : ℕ) → a.answer ≡ answers.Stale base → length old.records ≤ base
   pub fits : LineFits p models new session l a
-  pub records : SameItems (numbered 1 new.records) (numbered 1 old.records ++ accepted_by session l.line l.command a.at a.answer)
+  pub records : SameItems (numbered 1 new.records)
+      (numbered 1 old.records ++ accepted_by session l.line l.command a.at a.answer)
   pub marks : SameItems new.marks (old.marks ++ forgotten_by session l.line a.at a.answer)
 
 -- the history with one more record, legal as it was
@@ -55,7 +63,8 @@ pub record GrowsBy (p : Layout) (models : List Content) (r : Record) (old new : 
   pub marks : new.marks ≡ old.marks
 
 -- the history with one more mark, which was made at its length
-pub record ForgetsBy (p : Layout) (models : List Content) (mark : Mark) (old new : Log) : Type 0 where
+pub record ForgetsBy (p : Layout) (models : List Content) (mark : Mark)
+    (old new : Log) : Type 0 where
   pub legal : IsLegal (2 ^ p.side) models new
   pub side : new.side ≡ old.side
   pub records : new.records ≡ old.records

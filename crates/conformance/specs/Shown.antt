@@ -32,7 +32,10 @@ is_done _ = false
 
 -- the change that an answer to a command shows, where it was accepted
 abbrev pub accepted_by : ℕ → ℕ → Command → ℕ → Answer → List Accepted
-accepted_by session line (Edit act once) n answer = if is_done answer then record { at = n; entry = record { session = session; line = line; act = act } } ∷ [] else []
+accepted_by session line (Edit act once) n answer =
+    if is_done answer
+    then record { at = n; entry = record { session = session; line = line; act = act } } ∷ []
+    else []
 accepted_by session line _ n answer = []
 
 -- the mark that an answer shows, where a version was forgotten
@@ -44,18 +47,22 @@ forgotten_by session line n _ = []
 abbrev pub accepted_in : ℕ → List ScriptLine → List LineAnswer → List Accepted
 accepted_in session [] answers = []
 accepted_in session (l ∷ lines) [] = []
-accepted_in session (l ∷ lines) (a ∷ answers) = accepted_by session l.line l.command a.at a.answer ++ accepted_in session lines answers
+accepted_in session (l ∷ lines) (a ∷ answers) = accepted_by session l.line l.command a.at a.answer
+    ++ accepted_in session lines answers
 
 abbrev pub forgotten_in : ℕ → List ScriptLine → List LineAnswer → List Mark
 forgotten_in session [] answers = []
 forgotten_in session (l ∷ lines) [] = []
-forgotten_in session (l ∷ lines) (a ∷ answers) = forgotten_by session l.line a.at a.answer ++ forgotten_in session lines answers
+forgotten_in session (l ∷ lines) (a ∷ answers) = forgotten_by session l.line a.at a.answer
+    ++ forgotten_in session lines answers
 
 -- those of all sessions from this one on
-abbrev pub of_sessions : {X : Type 0} → (ℕ → List ScriptLine → List LineAnswer → List X) → ℕ → List (List ScriptLine) → List (List LineAnswer) → List X
+abbrev pub of_sessions : {X : Type 0} → (ℕ → List ScriptLine → List LineAnswer → List X) → ℕ
+    → List (List ScriptLine) → List (List LineAnswer) → List X
 of_sessions of session [] transcripts = []
 of_sessions of session (script ∷ scripts) [] = []
-of_sessions of session (script ∷ scripts) (transcript ∷ transcripts) = of session script transcript ++ of_sessions of (session + 1) scripts transcripts
+of_sessions of session (script ∷ scripts) (transcript ∷ transcripts) = of session script transcript
+    ++ of_sessions of (session + 1) scripts transcripts
 
 abbrev pub accepted_of : ℕ → List (List ScriptLine) → List (List LineAnswer) → List Accepted
 accepted_of session scripts transcripts = of_sessions accepted_in session scripts transcripts
@@ -63,9 +70,11 @@ accepted_of session scripts transcripts = of_sessions accepted_in session script
 abbrev pub forgotten_of : ℕ → List (List ScriptLine) → List (List LineAnswer) → List Mark
 forgotten_of session scripts transcripts = of_sessions forgotten_in session scripts transcripts
 
--- the history has as its records, by their numbers, just the accepted changes by their moments, and as its marks, by
+-- the history has as its records, by their numbers, just the accepted changes by their moments, and
+-- as its marks, by
 -- rising version, just the forgettings, each once
-pub record IsShown (scripts : List (List ScriptLine)) (transcripts : List (List LineAnswer)) (log : Log) : Type 0 where
+pub record IsShown (scripts : List (List ScriptLine)) (transcripts : List (List LineAnswer))
+    (log : Log) : Type 0 where
   pub records : SameItems (numbered 1 log.records) (accepted_of 0 scripts transcripts)
   pub marks : SameItems log.marks (forgotten_of 0 scripts transcripts)
   pub rising : AllPairs (λ a b. a.version < b.version) log.marks

@@ -26,11 +26,13 @@ use Rattle.conformance.specs.Running.{IsSoFar, LineStep, GrowsBy, ForgetsBy}
 use Rattle.conformance.specs.Passes.{Found, PassSoFar, PassStep, Closes, ArePartly}
 use Rattle.conformance.specs.Refusing.{spans_of, refused_of, FullOnlyWherePossible}
 
--- an answer that fits a history fits every one that goes on from it, as long as the versions stand that it rests on
+-- an answer that fits a history fits every one that goes on from it, as long as the versions stand
+-- that it rests on
 abbrev pub AnswersGoOn : Type 0
 AnswersGoOn = (old new : Log) → GoesOn old new → (n : ℕ) → n ≤ length old.records
     → (session line : ℕ)
-    → ((v : ℕ) → v ≤ n → IsStanding old.marks session line n v → IsStanding new.marks session line n v)
+    → ((v : ℕ) → v ≤ n → IsStanding old.marks session line n v
+        → IsStanding new.marks session line n v)
     → (p : Layout) (models : List Content) (command : Command) (answer : Answer)
     → Answers p models old (IsStanding old.marks session line n) session line n command answer
     → Answers p models new (IsStanding new.marks session line n) session line n command answer
@@ -74,7 +76,8 @@ AcceptedChangesAreSteps = (p : Layout) (models : List Content) (session line : �
 abbrev pub ForgettingsAreSteps : Type 0
 ForgettingsAreSteps = (p : Layout) (models : List Content) (mark : Mark) (old new : Log)
     → ForgetsBy p models mark old new
-    → LineStep p models mark.session (record { line = mark.line; command = Forget mark.version }) old new
+    → LineStep p models mark.session (record { line = mark.line; command = Forget mark.version })
+        old new
     (record { line = mark.line; at = length old.records; answer = answers.Forgot mark.version })
 
 abbrev pub RestingAnswersAreSteps : Type 0
@@ -110,8 +113,10 @@ RedosGoToFuture = (records : List Record)
 -- an edit has its way, and so has an undo or a redo whose target is kept
 abbrev pub KeptTargetsAreWays : Type 0
 KeptTargetsAreWays = (log : Log) (session line : ℕ) (act : Act)
-    → (is_edit act ≡ true) ⊎ ((to : ℕ) × (target_at log.records (length log.records) act ≡ Some to) × IsKept log to)
-    → HasWay (IsStanding log.marks session line (length log.records)) log.records (length log.records) act
+    → (is_edit act ≡ true)
+        ⊎ ((to : ℕ) × (target_at log.records (length log.records) act ≡ Some to) × IsKept log to)
+    → HasWay (IsStanding log.marks session line (length log.records)) log.records
+        (length log.records) act
 
 -- ---- sessions beside each other
 
@@ -123,7 +128,8 @@ PassesGoOn = (p : Layout) (models : List Content) (session : ℕ) (script : List
     → PassStep p models session l old new found more records now own mine a
     → PassSoFar p models session (script ++ l ∷ []) (transcript ++ a ∷ []) new more now mine
 
--- at the end a session agrees with the whole history, as long as that forgets no version before the session found it
+-- at the end a session agrees with the whole history, as long as that forgets no version before the
+-- session found it
 abbrev pub PassesAgree : Type 0
 PassesAgree = (p : Layout) (models : List Content) (session : ℕ) (script : List ScriptLine)
     (transcript : List LineAnswer) (seen whole : Log) (found : List Found) (records : List Accepted)
@@ -134,32 +140,37 @@ PassesAgree = (p : Layout) (models : List Content) (session : ℕ) (script : Lis
 
 -- what all sessions show is what each of them shows, both ways, for records and for marks
 abbrev pub OwnRecordsAreAll : Type 0
-OwnRecordsAreAll = (log : Log) (scripts : List (List ScriptLine)) (transcripts : List (List LineAnswer))
+OwnRecordsAreAll = (log : Log) (scripts : List (List ScriptLine))
+    (transcripts : List (List LineAnswer))
     → All (λ c. c.entry.session < length scripts) (numbered 1 log.records)
     → ArePartly (λ c. c.entry.session) accepted_in (numbered 1 log.records) 0 scripts transcripts
     → SameItems (numbered 1 log.records) (accepted_of 0 scripts transcripts)
 
 abbrev pub OwnMarksAreAll : Type 0
-OwnMarksAreAll = (log : Log) (scripts : List (List ScriptLine)) (transcripts : List (List LineAnswer))
+OwnMarksAreAll = (log : Log) (scripts : List (List ScriptLine))
+    (transcripts : List (List LineAnswer))
     → All (λ m. m.session < length scripts) log.marks
     → ArePartly (λ m. m.session) forgotten_in log.marks 0 scripts transcripts
     → SameItems log.marks (forgotten_of 0 scripts transcripts)
 
 abbrev pub AllRecordsAreOwn : Type 0
-AllRecordsAreOwn = (log : Log) (scripts : List (List ScriptLine)) (transcripts : List (List LineAnswer))
+AllRecordsAreOwn = (log : Log) (scripts : List (List ScriptLine))
+    (transcripts : List (List LineAnswer))
     → length scripts ≡ length transcripts
     → SameItems (numbered 1 log.records) (accepted_of 0 scripts transcripts)
     → ArePartly (λ c. c.entry.session) accepted_in (numbered 1 log.records) 0 scripts transcripts
 
 abbrev pub AllMarksAreOwn : Type 0
-AllMarksAreOwn = (log : Log) (scripts : List (List ScriptLine)) (transcripts : List (List LineAnswer))
+AllMarksAreOwn = (log : Log) (scripts : List (List ScriptLine))
+    (transcripts : List (List LineAnswer))
     → length scripts ≡ length transcripts
     → SameItems log.marks (forgotten_of 0 scripts transcripts)
     → ArePartly (λ m. m.session) forgotten_in log.marks 0 scripts transcripts
 
 -- ---- what is shown
 
--- each number from 1 to that of the records is the moment of just one accepted change, which weighs what that record
+-- each number from 1 to that of the records is the moment of just one accepted change, which weighs
+-- what that record
 -- weighs, by every weight
 abbrev pub RecordsAreShownOnce : Type 0
 RecordsAreShownOnce = (records : List Record) (accepted : List Accepted)

@@ -13,11 +13,15 @@ use Rattle.history_model.specs.declared.questions.Question.TheVariants.{Get, Cou
 use Rattle.transcript.specs.declared.answers.Answer.{Answer}
 use Rattle.transcript.specs.declared.answers.Answer.TheVariants as answers
 
--- the answer tells what the question asks of a world of this side; a new question adds its row here alone
+-- the answer tells what the question asks of a world of this side; a new question adds its row here
+-- alone
 pub data Tells (side : ℕ) (w : World) : Question → Answer → Type 0 where
   is : (c : Cell) (set : Bool) → w c ≡ set → Tells side w (Get c) (answers.Is set)
-  count : (b : Boxed) (cells : ℕ) → cells ≡ number_in b w → Tells side w (Count b) (answers.Count cells)
-  faces : (b : Boxed) (number : ℕ) → number ≡ faces_in side w b → Tells side w (Faces b) (answers.Faces number)
-  extent : (least : Option Boxed) → IsExtent side w least → Tells side w Bounds (answers.Extent least)
+  count : (b : Boxed) (cells : ℕ) → cells ≡ number_in b w
+      → Tells side w (Count b) (answers.Count cells)
+  faces : (b : Boxed) (number : ℕ) → number ≡ faces_in side w b
+      → Tells side w (Faces b) (answers.Faces number)
+  extent : (least : Option Boxed) → IsExtent side w least
+      → Tells side w Bounds (answers.Extent least)
   hit : (from : Cell) (h : Heading) (found : Option Cell) → Hits from h side w found
       → Tells side w (Ray from h) (answers.Hit found)

@@ -22,31 +22,39 @@ content_of w b x y z = w (cell_at (b.at.x + x) (b.at.y + y) (b.at.z + z))
 
 -- how many cells of a block of this level are set
 abbrev pub number_of_cells : ℕ → Cells → ℕ
-number_of_cells level cells = number_below (cell_at (block_side level) (block_side level) (block_side level)) (λ c. cells c.x c.y c.z)
+number_of_cells level cells = number_below (cell_at (block_side level) (block_side level)
+    (block_side level)) (λ c. cells c.x c.y c.z)
 
--- what stands in a node's hash for an octant with so many set cells and this bucket: 0 where no cell is set
+-- what stands in a node's hash for an octant with so many set cells and this bucket: 0 where no
+-- cell is set
 abbrev pub content_term : ℕ → ℕ → ℕ
 content_term zero bucket = 0
 content_term (suc cells) bucket = 1 + bucket
 
--- the bucket of a content of this level, by a plan's numbers of buckets from level 0 up: from the 64 bits of a leaf, or
+-- the bucket of a content of this level, by a plan's numbers of buckets from level 0 up: from the
+-- 64 bits of a leaf, or
 -- from the buckets of the eight octants
 unfoldable pub bucket_of_cells : List ℕ → ℕ → Cells → ℕ
 bucket_of_cells buckets zero cells = leaf_bucket (bits_with cells) (slice_index buckets 0)
 bucket_of_cells buckets (suc level) cells =
-    node_bucket (λ k. content_term (number_of_cells level (octant_cells level cells k)) (bucket_of_cells buckets level (octant_cells level cells k))) (slice_index buckets (suc level))
+    node_bucket (λ k. content_term (number_of_cells level (octant_cells level cells k))
+        (bucket_of_cells buckets level (octant_cells level cells k)))
+        (slice_index buckets (suc level))
 
 -- the world that an edit makes of a version
 abbrev pub made_of : List Content → List Record → Act → ℕ → World
 made_of models records act version = edited models act (has models records version)
 
--- the edit makes of the version a world that has this block of this level, with a set cell and a content of this bucket
-pub record IsNeeded (p : Layout) (models : List Content) (records : List Record) (act : Act) (version level bucket : ℕ) (b : Block) : Type 0 where
+-- the edit makes of the version a world that has this block of this level, with a set cell and a
+-- content of this bucket
+pub record IsNeeded (p : Layout) (models : List Content) (records : List Record) (act : Act)
+    (version level bucket : ℕ) (b : Block) : Type 0 where
   pub edit : is_edit act ≡ true
   pub aligned : IsAligned (world_block p.side) b
   pub same_level : b.level ≡ level
   pub some : HasCellIn b (made_of models records act version)
-  pub of_bucket : bucket_of_cells p.buckets level (content_of (made_of models records act version) b) ≡ bucket
+  pub of_bucket : bucket_of_cells p.buckets level
+      (content_of (made_of models records act version) b) ≡ bucket
 
 -- a script's act, and the moments between which it was answered
 pub record Span : Type 0 where
@@ -61,7 +69,8 @@ pub record Need : Type 0 where
   pub block : Block
 
 -- the block is needed by an act of the run, of a version of its moments
-pub record IsNeed (p : Layout) (models : List Content) (records : List Record) (spans : List Span) (level bucket : ℕ) (need : Need) : Type 0 where
+pub record IsNeed (p : Layout) (models : List Content) (records : List Record) (spans : List Span)
+    (level bucket : ℕ) (need : Need) : Type 0 where
   pub span : Span
   pub listed : Contains spans span
   pub same_act : need.act ≡ span.act
@@ -71,7 +80,8 @@ pub record IsNeed (p : Layout) (models : List Content) (records : List Record) (
 
 -- the content that is needed
 abbrev pub content_needed : List Content → List Record → Need → Cells
-content_needed models records need = content_of (made_of models records need.act need.version) need.block
+content_needed models records need = content_of (made_of models records need.act need.version)
+    need.block
 
 -- the two blocks have the same content
 abbrev pub SameNeed : List Content → List Record → ℕ → Need → Need → Type 0
@@ -79,12 +89,14 @@ SameNeed models records level s t =
     SameIn level (content_needed models records s) (content_needed models records t)
 
 -- some block of this level and bucket is needed
-pub record NeedsSome (p : Layout) (models : List Content) (records : List Record) (act : Act) (version level bucket : ℕ) : Type 0 where
+pub record NeedsSome (p : Layout) (models : List Content) (records : List Record) (act : Act)
+    (version level bucket : ℕ) : Type 0 where
   pub block : Block
   pub needed : IsNeeded p models records act version level bucket block
 
 -- the acts of the run need so many different contents of this level and bucket, or more
-pub record IsPossible (p : Layout) (models : List Content) (records : List Record) (spans : List Span) (level bucket number : ℕ) : Type 0 where
+pub record IsPossible (p : Layout) (models : List Content) (records : List Record)
+    (spans : List Span) (level bucket number : ℕ) : Type 0 where
   pub needs : List Need
   pub as_many : number ≤ length needs
   pub each : All (IsNeed p models records spans level bucket) needs

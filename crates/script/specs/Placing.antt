@@ -48,8 +48,10 @@ copy_placed side b to = do
 abbrev pub act_placed : ℕ → List Content → Act → Result Act ScriptKind
 act_placed side models (Fill b) = box_in side b.at b.size >>= λ there. Ok (Fill there)
 act_placed side models (Erase b) = box_in side b.at b.size >>= λ there. Ok (Erase there)
-act_placed side models (Ball ball) = ball_in side ball.centre ball.radius >>= λ there. Ok (Ball there)
-act_placed side models (Carve ball) = ball_in side ball.centre ball.radius >>= λ there. Ok (Carve there)
+act_placed side models (Ball ball) = ball_in side ball.centre ball.radius >>= λ there. Ok
+    (Ball there)
+act_placed side models (Carve ball) = ball_in side ball.centre ball.radius >>= λ there. Ok
+    (Carve there)
 act_placed side models (Copy b to) = copy_placed side b to
 act_placed side models (Stamp m at) = stamp_placed side models m at
 act_placed side models Undo = Ok Undo
@@ -81,7 +83,8 @@ begins_name (b ∷ _) = is_letter b || is_digit b
 
 -- 1 to 64 of these, of which the first is a letter or a digit
 abbrev pub is_save_name : SaveName → Bool
-is_save_name name = nat_le name.len 64 && (begins_name (take name.len name.bytes) && list_all is_name_byte (take name.len name.bytes))
+is_save_name name = nat_le name.len 64
+    && (begins_name (take name.len name.bytes) && list_all is_name_byte (take name.len name.bytes))
 
 -- a box that a file can have, of a name that a file can have
 abbrev pub save_placed : ℕ → Option ℕ → SaveName → Boxed → Result Command ScriptKind
@@ -91,9 +94,11 @@ save_placed side version name b =
 
 -- the command, where what it names is there
 abbrev pub command_placed : ℕ → List Content → Command → Result Command ScriptKind
-command_placed side models (Edit act once) = act_placed side models act >>= λ there. Ok (Edit there once)
+command_placed side models (Edit act once) = act_placed side models act >>= λ there. Ok
+    (Edit there once)
 command_placed side models (Forget v) = Ok (Forget v)
-command_placed side models (Ask version question) = question_placed side question >>= λ there. Ok (Ask version there)
+command_placed side models (Ask version question) = question_placed side question >>= λ there. Ok
+    (Ask version there)
 command_placed side models (Save version name part) = save_placed side version name part
 command_placed side models (Same v w) = Ok (Same v w)
 command_placed side models Head = Ok Head
@@ -104,5 +109,7 @@ spelled (Ok command) = Ok command
 spelled (Err fault) = Err (kind_of fault)
 
 -- the command of this name with the words behind it, in a world of this side and with these models
-unfoldable pub command_read : (List ℕ → Bool) → ℕ → List Content → List ℕ → List (List ℕ) → Result Command ScriptKind
-command_read known side models name words = spelled (command_spelled known name words) >>= command_placed side models
+unfoldable pub command_read : (List ℕ → Bool) → ℕ → List Content → List ℕ → List (List ℕ)
+    → Result Command ScriptKind
+command_read known side models name words = spelled (command_spelled known name words) >>=
+    command_placed side models

@@ -61,7 +61,8 @@ no_said words = do
   Ok (NoVersion v)
 
 abbrev pub way_said : List ℕ → Result Answer WordFault
-way_said word = if bytes_eq word (codes "undo") then Ok NothingToUndo else (must_be (codes "redo") word >>= λ is. Ok NothingToRedo)
+way_said word = if bytes_eq word (codes "undo") then Ok NothingToUndo
+    else (must_be (codes "redo") word >>= λ is. Ok NothingToRedo)
 
 -- `to undo`, `to redo`
 unfoldable pub way_to : List (List ℕ) → Result Answer WordFault
@@ -102,7 +103,8 @@ box_said first words = do
 unfoldable pub bounds_said : List (List ℕ) → Result Answer WordFault
 bounds_said words = do
   first ← next_word words
-  if bytes_eq first.0 (codes "none") then nothing_said (Extent None) first.1 else box_said first.0 first.1
+  if bytes_eq first.0 (codes "none") then nothing_said (Extent None) first.1
+      else box_said first.0 first.1
 
 -- ---- answers and lines
 
@@ -144,9 +146,11 @@ short_rows =
     ∷ []
 
 -- what the row of this name reads; where none has it, this instead
-abbrev pub read_by : List Row → Result Answer WordFault → List ℕ → List (List ℕ) → Result Answer WordFault
+abbrev pub read_by : List Row → Result Answer WordFault → List ℕ → List (List ℕ)
+    → Result Answer WordFault
 read_by [] other name words = other
-read_by (row ∷ rows) other name words = if bytes_eq name row.name then row.read words else read_by rows other name words
+read_by (row ∷ rows) other name words = if bytes_eq name row.name then row.read words
+    else read_by rows other name words
 
 abbrev pub short_spelled : List ℕ → List (List ℕ) → Result Answer WordFault
 short_spelled name words = read_by short_rows (Err Word) name words

@@ -1,0 +1,49 @@
+#!/usr/bin/env bash
+# Times the readers of journals and transcripts against the same readers in plain Rust: bench/texts.sh
+#
+# The program bench/texts/main.rt.in stands in no crates.txt, and not under the name of a source, so that the gate
+# doesn't ask for its proof. This makes a folder of copies, proves and builds the program there, writes a journal of
+# 65,535 records and a transcript of 100,000 lines, and runs the program and the peer (built by rustc) in turn. It needs
+# rustc and Python.
+set -eu
+here=$(cd "$(dirname "$0")" && pwd)
+root=$(dirname "$here")
+work=$here/work/texts
+crates="vw_cell bit_set vox_chunk vox_read plain_text history_model transcript"
+rounds=5
+mkdir -p "$work/crates/bench_texts/src"
+cp "$root/HANDLES" "$work/"
+for name in $crates; do
+    mkdir -p "$work/crates/$name"
+    for part in src specs proofs; do
+        rm -rf "$work/crates/$name/$part"
+        [ ! -d "$root/crates/$name/$part" ] || cp -a "$root/crates/$name/$part" "$work/crates/$name/"
+    done
+done
+cp "$here/texts/main.rt.in" "$work/crates/bench_texts/src/main.rt"
+{
+    for name in $crates; do grep -E "^$name:" "$root/crates.txt"; done
+    echo "bench_texts: plain_text vw_cell vox_read history_model transcript"
+} > "$work/crates.txt"
+rustc -O -C target-cpu=x86-64-v2 -o "$work/plain" "$here/texts/plain.rs"
+cd "$work"
+python3 "$here/texts/make.py"
+(cd crates/bench_texts && rt run > "$work/build.log" 2>&1) || true
+[ -x crates/bench_texts/out/bench_texts ] || { tail -20 "$work/build.log" >&2; exit 1; }
+: > times
+for ((round = 1; round <= rounds; round++)); do
+    crates/bench_texts/out/bench_texts | sed 's/^/product /' >> times
+    ./plain | sed 's/^/peer /' >> times
+done
+# Lines are SIDE KIND MICROSECONDS SUM.
+awk '
+    !($2 in seen) { kinds[++number] = $2; seen[$2] = 1 }
+    { at = $1 " " $2; if (!(at in best) || $3 < best[at]) best[at] = $3; sum[at] = $4 }
+    END {
+        for (i = 1; i <= number; i++) {
+            kind = kinds[i]; product = best["product " kind]; peer = best["peer " kind]
+            if (sum["product " kind] != sum["peer " kind]) { print kind ": the two read other things"; failed = 1 }
+            printf "%-10s product %7.2f ms, peer %7.2f ms, product/peer %.2f\n", kind, product / 1000, peer / 1000, product / peer
+        }
+        exit failed
+    }' times
