@@ -1,8 +1,9 @@
--- What a fault says of its text, it says as a refusal of the run.
+-- What a fault says of its text, it says as a refusal of the command.
 use Rattle.std.proofs.Common.{◌≡◌, ℕ, List, refl}
 use Rattle.vox_chunk.specs.declared.faults.VoxFault.{VoxFault}
 use Rattle.vox_chunk.specs.declared.faults.VoxFault.TheVariants as faults
 use Rattle.vox_read.specs.Contents.{Content}
+use Rattle.vox_read.specs.Files.{Reads}
 use Rattle.vox_read.specs.Files as files
 use Rattle.script.specs.declared.faults.ScriptFault.{ScriptFault}
 use Rattle.script.specs.declared.faults.ScriptKind.{ScriptKind}
@@ -10,33 +11,36 @@ use Rattle.script.specs.declared.faults.ScriptKind.TheVariants.{Word, Number, Ra
 use Rattle.script.specs.Commands.{is_for_bits}
 use Rattle.script.specs.Scripts.{commands_of}
 use Rattle.script.specs.Scripts as scripts
+use Rattle.std.specs.Prelude.{Ok}
+use Rattle.script_files.specs.Requests.{Asking, Asked, RunOf}
+use Rattle.script_files.specs.Meanings.{file_in, script_in, RefusesTexts}
 use Rattle.script_files.specs.Refusals.{of_vox, of_kind, of_fault}
-use Rattle.script_files.specs.Stages.{FileRefused, ScriptRefused}
 
-pub vox_declined : (fault : VoxFault) (bytes : List ℕ) → files.Refuses fault bytes → FileRefused (of_vox fault) bytes
-vox_declined faults.NotVox bytes refuses = refuses
-vox_declined (faults.Version version) bytes refuses = refuses
-vox_declined faults.NoMain bytes refuses = refuses
-vox_declined (faults.Truncated at) bytes refuses = refuses
-vox_declined (faults.ShortSize at) bytes refuses = refuses
-vox_declined (faults.SizeRange at) bytes refuses = refuses
-vox_declined (faults.XyziWithoutSize at) bytes refuses = refuses
-vox_declined (faults.ShortXyzi at) bytes refuses = refuses
-vox_declined (faults.VoxelOutside at) bytes refuses = refuses
-vox_declined (faults.TooManyModels at) bytes refuses = refuses
-vox_declined faults.Memory bytes refuses = tt
+pub vox_refused : (fault : VoxFault) (a : Asking) (texts : List (List ℕ)) → files.Refuses fault (file_in texts) → RefusesTexts (of_vox fault) a texts
+vox_refused faults.NotVox a texts refuses = refuses
+vox_refused (faults.Version version) a texts refuses = refuses
+vox_refused faults.NoMain a texts refuses = refuses
+vox_refused (faults.Truncated at) a texts refuses = refuses
+vox_refused (faults.ShortSize at) a texts refuses = refuses
+vox_refused (faults.SizeRange at) a texts refuses = refuses
+vox_refused (faults.XyziWithoutSize at) a texts refuses = refuses
+vox_refused (faults.ShortXyzi at) a texts refuses = refuses
+vox_refused (faults.VoxelOutside at) a texts refuses = refuses
+vox_refused (faults.TooManyModels at) a texts refuses = refuses
+vox_refused faults.Memory a texts refuses = tt
 
-declined_at : (kind : ScriptKind) (fault : ScriptFault) (side : ℕ) (models : List Content) (text : List ℕ) → fault.kind ≡ kind → scripts.RefusesAs kind fault (commands_of is_for_bits side models text) → ScriptRefused (of_kind kind fault) side models text
-declined_at Memory fault side models text is refuses = tt
-declined_at Word fault side models text is refuses = record { is_of_text = rw is tt; first = refuses }
-declined_at Number fault side models text is refuses = record { is_of_text = rw is tt; first = refuses }
-declined_at Range fault side models text is refuses = record { is_of_text = rw is tt; first = refuses }
-declined_at Missing fault side models text is refuses = record { is_of_text = rw is tt; first = refuses }
-declined_at Extra fault side models text is refuses = record { is_of_text = rw is tt; first = refuses }
-declined_at NoModel fault side models text is refuses = record { is_of_text = rw is tt; first = refuses }
-declined_at TooManyLines fault side models text is refuses = record { is_of_text = rw is tt; first = refuses }
-declined_at TooManySaves fault side models text is refuses = record { is_of_text = rw is tt; first = refuses }
-declined_at NotAscii fault side models text is refuses = record { is_of_text = rw is tt; first = refuses }
+refused_at : (kind : ScriptKind) (fault : ScriptFault) (asked : Asked) (models : List Content) (texts : List (List ℕ)) → fault.kind ≡ kind → Reads (file_in texts) (Ok models)
+    → scripts.RefusesAs kind fault (commands_of is_for_bits asked.side models (script_in texts)) → RefusesTexts (of_kind kind fault) (RunOf asked) texts
+refused_at Memory fault asked models texts is gives refuses = tt
+refused_at Word fault asked models texts is gives refuses = record { models = models; gives = gives; is_of_text = rw is tt; first = refuses }
+refused_at Number fault asked models texts is gives refuses = record { models = models; gives = gives; is_of_text = rw is tt; first = refuses }
+refused_at Range fault asked models texts is gives refuses = record { models = models; gives = gives; is_of_text = rw is tt; first = refuses }
+refused_at Missing fault asked models texts is gives refuses = record { models = models; gives = gives; is_of_text = rw is tt; first = refuses }
+refused_at Extra fault asked models texts is gives refuses = record { models = models; gives = gives; is_of_text = rw is tt; first = refuses }
+refused_at NoModel fault asked models texts is gives refuses = record { models = models; gives = gives; is_of_text = rw is tt; first = refuses }
+refused_at TooManyLines fault asked models texts is gives refuses = record { models = models; gives = gives; is_of_text = rw is tt; first = refuses }
+refused_at TooManySaves fault asked models texts is gives refuses = record { models = models; gives = gives; is_of_text = rw is tt; first = refuses }
+refused_at NotAscii fault asked models texts is gives refuses = record { models = models; gives = gives; is_of_text = rw is tt; first = refuses }
 
-pub script_declined : (fault : ScriptFault) (side : ℕ) (models : List Content) (text : List ℕ) → scripts.Refuses fault (commands_of is_for_bits side models text) → ScriptRefused (of_fault fault) side models text
-script_declined fault side models text refuses = declined_at fault.kind fault side models text refl refuses
+pub script_refused : (fault : ScriptFault) (asked : Asked) (models : List Content) (texts : List (List ℕ)) → Reads (file_in texts) (Ok models) → scripts.Refuses fault (commands_of is_for_bits asked.side models (script_in texts)) → RefusesTexts (of_fault fault) (RunOf asked) texts
+script_refused fault asked models texts gives refuses = refused_at fault.kind fault asked models texts refl gives refuses

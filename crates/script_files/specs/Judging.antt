@@ -1,95 +1,116 @@
--- An order over told files has one verdict, and a run over a shelf that doesn't fail ends by it.
-use Rattle.std.proofs.Common.{◌≡◌, ℕ, ◌<◌, ◌≤◌, List, length, Option, Some, None, Result, Ok, Err, refl, sym, ap, subst, ◌∙◌, inl, inr}
+-- A command over told files has one verdict, and where the shelf doesn't fail it ends by it.
+use Rattle.std.proofs.Common.{◌≡◌, ℕ, ◌<◌, List, [], ◌∷◌, ◌++◌, length, Option, Some, None, Result, Ok, Err, refl, sym, ap, subst, ◌∙◌}
 use Rattle.std.specs.Prelude.{IsSomeAnd}
 use Rattle.std.proofs.lemmas.Bool.{lt-ltb, le-ltb}
-use Rattle.vw_io.specs.Outside.{Files, Rose}
+use Rattle.vw_io.specs.Outside.{Files, Rose, ShelfState}
+use Rattle.vw_io.specs.Inputs.{Wanted, Taken, AreTaken, StopsAt}
+use Rattle.vw_io.specs.declared.shelves.ReadRefused.{ReadRefused}
+use Rattle.vw_io.specs.declared.shelves.ReadRefused.TheVariants.{Missing, TooLong, Failed, Memory}
+use Rattle.vw_io.specs.Outputs.{Named, StopsWith}
+use Rattle.vw_io.specs.declared.shelves.WriteRefused.{WriteRefused}
+use Rattle.vw_io.specs.declared.shelves.WriteRefused.TheVariants as writes
 use Rattle.vox_chunk.specs.declared.faults.VoxFault.{VoxFault}
 use Rattle.vox_read.specs.Contents.{Content}
 use Rattle.vox_read.specs.Files.{Reads}
 use Rattle.vox_read.specs.Once.{one_reading}
-use Rattle.script.specs.declared.commands.ScriptLine.{ScriptLine}
 use Rattle.script.specs.declared.faults.ScriptFault.{ScriptFault}
-use Rattle.script.specs.Commands.{is_for_bits}
-use Rattle.script.specs.Scripts.{commands_of}
-use Rattle.script_files.specs.declared.orders.RunRefused.{RunRefused}
-use Rattle.script_files.specs.declared.orders.RunRefused.TheVariants.{Missing, ReadFault, TooLong, Vox, Script, Collides, WriteFault, Memory}
-use Rattle.script_files.specs.Orders.{Asked, vox_limit, script_limit}
-use Rattle.script_files.specs.Outcomes.{AreTaken, Misses, Exceeds, Outcome}
-use Rattle.script_files.specs.Verdicts.{Verdict, Fine, LacksInput, InputIsLong, HasVoxFault, HasScriptFault, NamesCollide, input_within, input_at, inputs_at, JudgesNames, JudgesScript, JudgesInputs, Judges, Follows}
+use Rattle.script_files.specs.declared.refusals.CommandRefused.{CommandRefused}
+use Rattle.script_files.specs.declared.refusals.CommandRefused.TheVariants as refusals
+use Rattle.script_files.specs.declared.refusals.TextRefused.{TextRefused}
+use Rattle.script_files.specs.declared.refusals.TextRefused.TheVariants as texts
+use Rattle.script_files.specs.Requests.{Asking, CountOf, RunOf, inputs_of}
+use Rattle.script_files.specs.Meanings.{file_in, Gives, RefusesScript, RefusesNames}
+use Rattle.script_files.specs.Outcomes.{RefusesFiles, Outcome}
+use Rattle.script_files.specs.Verdicts.{Verdict, Fine, LacksInput, InputIsLong, HasScriptFault, NamesCollide, input_within, inputs_at, verdict_of, JudgesTexts, JudgesInputs, Judges, FollowsRead, FollowsWrite, FollowsText, Follows}
 
 -- ---- one verdict
 
-names_once : (asked : Asked) (commands : Result (List ScriptLine) ScriptFault) (v w : Verdict) → JudgesNames asked commands v → JudgesNames asked commands w → v ≡ w
-names_once asked (Err fault) v w of_v of_w = of_v ∙ sym of_w
-names_once asked (Ok lines) v w (inl (hit, of_v)) (inl (hits, of_w)) = of_v ∙ sym of_w
-names_once asked (Ok lines) v w (inl (hit, of_v)) (inr (apart, of_w)) = absurd (apart hit)
-names_once asked (Ok lines) v w (inr (apart, of_v)) (inl (hit, of_w)) = absurd (apart hit)
-names_once asked (Ok lines) v w (inr (apart, of_v)) (inr (far, of_w)) = of_v ∙ sym of_w
+pub inputs_once : (a : Asking) (inputs : Result (List (List ℕ)) Verdict) (v w : Verdict) → JudgesInputs a inputs v → JudgesInputs a inputs w → v ≡ w
+inputs_once a (Err early) v w of_v of_w = of_v ∙ sym of_w
+inputs_once a (Ok texts) v w of_v of_w = of_v.follows ∙ ap (verdict_of a texts) (one_reading (file_in texts) of_v.reading of_w.reading of_v.says of_w.says) ∙ sym of_w.follows
 
-script_once : (asked : Asked) (script : List ℕ) (reading : Result (List Content) VoxFault) (v w : Verdict) → JudgesScript asked script reading v → JudgesScript asked script reading w → v ≡ w
-script_once asked script (Err fault) v w of_v of_w = of_v ∙ sym of_w
-script_once asked script (Ok models) v w of_v of_w = names_once asked (commands_of is_for_bits asked.side models script) v w of_v of_w
+-- ---- the inputs, one after the other
 
-pub inputs_once : (asked : Asked) (inputs : Result (List ℕ × List ℕ) Verdict) (v w : Verdict) → JudgesInputs asked inputs v → JudgesInputs asked inputs w → v ≡ w
-inputs_once asked (Err early) v w of_v of_w = of_v ∙ sym of_w
-inputs_once asked (Ok inputs) v w of_v of_w =
-    let same : of_w.reading ≡ of_v.reading = one_reading inputs.0 of_w.reading of_v.reading of_w.says of_v.says in
-    script_once asked inputs.1 of_v.reading v w of_v.follows (subst (λ r. JudgesScript asked inputs.1 r w) same of_w.follows)
+taken_at : (files : Files) (input : Wanted) (bytes : List ℕ) → Taken (Some files) input bytes → input_within input (files input.name) ≡ Ok bytes
+taken_at files input bytes taken = rw (taken.is_file, le-ltb input.limit (length bytes) taken.within) refl
 
--- ---- the verdict of each answer
+all_taken : (files : Files) (inputs : List Wanted) (texts : List (List ℕ)) → AreTaken (Some files) inputs texts → inputs_at files inputs ≡ Ok texts
+all_taken files [] [] taken = refl
+all_taken files [] (text ∷ texts) taken = absurd taken
+all_taken files (input ∷ inputs) [] taken = absurd taken
+all_taken files (input ∷ inputs) (text ∷ texts) taken = rw (taken_at files input text taken.0, all_taken files inputs texts taken.1) refl
 
-taken_at : (name bytes : List ℕ) (limit : ℕ) (file : Option (List ℕ)) → file ≡ Some bytes → length bytes ≤ limit → input_within name limit file ≡ Ok bytes
-taken_at name bytes limit file is within = rw (is, le-ltb limit (length bytes) within) refl
+stops_after : (files : Files) (before after : List Wanted) (input : Wanted) (texts : List (List ℕ)) (v : Verdict) → AreTaken (Some files) before texts → input_within input (files input.name) ≡ Err v → inputs_at files (before ++ input ∷ after) ≡ Err v
+stops_after files [] after input [] v taken stops = rw stops refl
+stops_after files [] after input (text ∷ texts) v taken stops = absurd taken
+stops_after files (first ∷ before) after input [] v taken stops = absurd taken
+stops_after files (first ∷ before) after input (text ∷ texts) v taken stops = rw (taken_at files first text taken.0, stops_after files before after input texts v taken.1 stops) refl
 
-lacking_at : (name : List ℕ) (limit : ℕ) (file : Option (List ℕ)) → file ≡ None → input_within name limit file ≡ Err (LacksInput name)
-lacking_at name limit file is = rw is refl
+lacking_at : (input : Wanted) (found : Option (List ℕ)) → found ≡ None → input_within input found ≡ Err (LacksInput input.name)
+lacking_at input found is = rw is refl
 
-long_at : (name : List ℕ) (limit : ℕ) (file : Option (List ℕ)) → IsSomeAnd file (λ bytes. limit < length bytes) → input_within name limit file ≡ Err (InputIsLong name)
-long_at name limit None over = absurd over
-long_at name limit (Some bytes) over = rw (lt-ltb limit (length bytes) over) refl
+long_at : (input : Wanted) (found : Option (List ℕ)) → IsSomeAnd found (λ bytes. input.limit < length bytes) → input_within input found ≡ Err (InputIsLong input.name)
+long_at input None over = absurd over
+long_at input (Some bytes) over = rw (lt-ltb input.limit (length bytes) over) refl
 
-both_taken : (files : Files) (asked : Asked) (file script : List ℕ) → AreTaken asked (Some files) file script → inputs_at files asked ≡ Ok (file, script)
-both_taken files asked file script taken =
-    rw (taken_at asked.file file vox_limit (files asked.file) taken.file_taken.is_file taken.file_taken.within, taken_at asked.script script script_limit (files asked.script) taken.script_taken.is_file taken.script_taken.within) refl
+by_stop : (a : Asking) (files : Files) (inputs : List Wanted) (why : ReadRefused) (name : List ℕ) (faults risen : ℕ) (v w : Verdict) → (stops : StopsAt why name inputs (Some files) faults risen)
+    → input_within stops.input (files stops.input.name) ≡ Err w → JudgesInputs a (inputs_at files inputs) v → v ≡ w
+by_stop a files inputs why name faults risen v w stops is judges =
+    let at : inputs_at files inputs ≡ Err w =
+    ap (λ is. inputs_at files is) stops.reached.parts ∙ stops_after files stops.reached.before stops.reached.after stops.input stops.reached.texts w stops.reached.taken is in
+    subst (λ r. JudgesInputs a r v) at judges
 
-by_texts : (files : Files) (asked : Asked) (file script : List ℕ) (v : Verdict) → AreTaken asked (Some files) file script → (reading : Result (List Content) VoxFault) → Reads file reading → JudgesScript asked script reading v → Judges files asked v
-by_texts files asked file script v taken reading says follows =
-    subst (λ r. JudgesInputs asked r v) (sym (both_taken files asked file script taken)) (record { reading = reading; says = says; follows = follows })
+read_follows : (why : ReadRefused) (name : List ℕ) (a : Asking) (files : Files) (faults risen : ℕ) (v : Verdict) → StopsAt why name (inputs_of a) (Some files) faults risen → (Rose faults risen → ⊥) → Judges files a v → FollowsRead v why name
+read_follows Missing name a files faults risen v stops calm judges =
+    by_stop a files (inputs_of a) Missing name faults risen v (LacksInput stops.input.name) stops (lacking_at stops.input (files stops.input.name) stops.cause.0) judges ∙ ap LacksInput (sym stops.named)
+read_follows TooLong name a files faults risen v stops calm judges =
+    by_stop a files (inputs_of a) TooLong name faults risen v (InputIsLong stops.input.name) stops (long_at stops.input (files stops.input.name) stops.cause.0) judges ∙ ap InputIsLong (sym stops.named)
+read_follows Failed name a files faults risen v stops calm judges = absurd (calm stops.cause)
+read_follows Memory name a files faults risen v stops calm judges = tt
 
-misses_judge : (files : Files) (asked : Asked) (name : List ℕ) → Misses asked (Some files) name → Judges files asked (LacksInput name)
-misses_judge files asked name (inl (is, none)) =
-    let first : input_at files asked.file vox_limit ≡ Err (LacksInput asked.file) = lacking_at asked.file vox_limit (files asked.file) (ap files (sym is) ∙ none) in
-    rw (first, is) refl
-misses_judge files asked name (inr (takes, (is, none))) =
-    let first : input_at files asked.file vox_limit ≡ Ok takes.bytes = taken_at asked.file takes.bytes vox_limit (files asked.file) takes.taken.is_file takes.taken.within in
-    let second : input_at files asked.script script_limit ≡ Err (LacksInput asked.script) = lacking_at asked.script script_limit (files asked.script) (ap files (sym is) ∙ none) in
-    rw (first, second, is) refl
+write_follows : (why : WriteRefused) (name : List ℕ) (outputs : List Named) (old new : Option Files) (faults risen : ℕ) → StopsWith why name outputs old new faults risen → (Rose faults risen → ⊥) → FollowsWrite why
+write_follows writes.Failed name outputs old new faults risen stops calm = absurd (calm stops.1)
+write_follows writes.Memory name outputs old new faults risen stops calm = tt
 
-exceeds_judge : (files : Files) (asked : Asked) (name : List ℕ) → Exceeds asked (Some files) name → Judges files asked (InputIsLong name)
-exceeds_judge files asked name (inl (is, over)) = rw (long_at asked.file vox_limit (files asked.file) (subst (λ n. IsSomeAnd (files n) (λ bytes. vox_limit < length bytes)) is over), is) refl
-exceeds_judge files asked name (inr (takes, (is, over))) =
-    let first : input_at files asked.file vox_limit ≡ Ok takes.bytes = taken_at asked.file takes.bytes vox_limit (files asked.file) takes.taken.is_file takes.taken.within in
-    rw (first, long_at asked.script script_limit (files asked.script) (subst (λ n. IsSomeAnd (files n) (λ bytes. script_limit < length bytes)) is over), is) refl
+-- ---- the texts
+
+by_reading : (a : Asking) (files : Files) (texts : List (List ℕ)) (v : Verdict) (reading : Result (List Content) VoxFault) → AreTaken (Some files) (inputs_of a) texts → Reads (file_in texts) reading → Judges files a v → v ≡ verdict_of a texts reading
+by_reading a files texts v reading taken says judges =
+    let j : JudgesTexts a texts v = subst (λ r. JudgesInputs a r v) (all_taken files (inputs_of a) texts taken) judges in
+    j.follows ∙ ap (verdict_of a texts) (one_reading (file_in texts) j.reading reading j.says says)
+
+gives_follow : (a : Asking) (files : Files) (texts : List (List ℕ)) (number : ℕ) (outputs : List Named) (v : Verdict) → AreTaken (Some files) (inputs_of a) texts → Gives a texts number outputs → Judges files a v → v ≡ Fine
+gives_follow (CountOf file) files texts number outputs v taken gives judges = by_reading (CountOf file) files texts v (Ok gives.models) taken gives.gives judges
+gives_follow (RunOf asked) files texts number outputs v taken gives judges =
+    let fine : verdict_of (RunOf asked) texts (Ok gives.accepted.models) ≡ Fine = rw (gives.accepted.read, gives.accepted.apart) refl in
+    by_reading (RunOf asked) files texts v (Ok gives.accepted.models) taken gives.accepted.gives judges ∙ fine
+
+script_follows : (a : Asking) (files : Files) (texts : List (List ℕ)) (v : Verdict) (fault : ScriptFault) → AreTaken (Some files) (inputs_of a) texts → RefusesScript a texts fault → Judges files a v → v ≡ HasScriptFault fault
+script_follows (CountOf file) files texts v fault taken says judges = absurd says
+script_follows (RunOf asked) files texts v fault taken says judges =
+    let first : verdict_of (RunOf asked) texts (Ok says.models) ≡ HasScriptFault fault = rw (says.first) refl in
+    by_reading (RunOf asked) files texts v (Ok says.models) taken says.gives judges ∙ first
+
+names_follow : (a : Asking) (files : Files) (texts : List (List ℕ)) (v : Verdict) → AreTaken (Some files) (inputs_of a) texts → RefusesNames a texts → Judges files a v → v ≡ NamesCollide
+names_follow (CountOf file) files texts v taken says judges = absurd says
+names_follow (RunOf asked) files texts v taken says judges =
+    let taken_name : verdict_of (RunOf asked) texts (Ok says.models) ≡ NamesCollide = rw (says.read, says.collides) refl in
+    by_reading (RunOf asked) files texts v (Ok says.models) taken says.gives judges ∙ taken_name
 
 -- ---- so the answer follows the verdict
 
-ends : (r : Result ℕ RunRefused) (asked : Asked) (files : Files) (now : Option Files) (faults risen : ℕ) (v : Verdict) → Outcome r asked (Some files) now faults risen → (Rose faults risen → ⊥) → Judges files asked v → Follows v r
-ends (Ok number) asked files now faults risen v outcome calm judges =
-    let runs = outcome.0.runs in
-    inputs_once asked (inputs_at files asked) v Fine judges (by_texts files asked runs.file runs.script Fine runs.taken (Ok runs.accepted.models) runs.accepted.gives (rw (runs.accepted.read) (inr (runs.accepted.apart, refl))))
-ends (Err (Missing name)) asked files now faults risen v outcome calm judges = inputs_once asked (inputs_at files asked) v (LacksInput name.now) judges (misses_judge files asked name.now outcome.0)
-ends (Err (TooLong name)) asked files now faults risen v outcome calm judges = inputs_once asked (inputs_at files asked) v (InputIsLong name.now) judges (exceeds_judge files asked name.now outcome.0)
-ends (Err (Vox fault)) asked files now faults risen v outcome calm judges =
-    inputs_once asked (inputs_at files asked) v (HasVoxFault fault) judges (by_texts files asked outcome.0.file outcome.0.script (HasVoxFault fault) outcome.0.taken (Err fault) outcome.0.says refl)
-ends (Err (Script fault)) asked files now faults risen v outcome calm judges =
-    let r = outcome.0 in
-    inputs_once asked (inputs_at files asked) v (HasScriptFault fault) judges (by_texts files asked r.file r.script (HasScriptFault fault) r.taken (Ok r.models) r.gives (rw (r.first) refl))
-ends (Err Collides) asked files now faults risen v outcome calm judges =
-    let r = outcome.0 in
-    inputs_once asked (inputs_at files asked) v NamesCollide judges (by_texts files asked r.file r.script NamesCollide r.taken (Ok r.models) r.gives (rw (r.read) (inl (r.collides, refl))))
-ends (Err Memory) asked files now faults risen v outcome calm judges = tt
-ends (Err (ReadFault name)) asked files now faults risen v outcome calm judges = absurd (calm outcome.1.0)
-ends (Err (WriteFault w)) asked files now faults risen v outcome calm judges = absurd (calm outcome.1)
+text_follows : (r : TextRefused) (a : Asking) (files : Files) (v : Verdict) → RefusesFiles r a (Some files) → Judges files a v → FollowsText v r
+text_follows (texts.Vox fault) a files v refuses judges = by_reading a files refuses.texts v (Err fault) refuses.taken refuses.says judges
+text_follows (texts.Script fault) a files v refuses judges = script_follows a files refuses.texts v fault refuses.taken refuses.says judges
+text_follows texts.Collides a files v refuses judges = names_follow a files refuses.texts v refuses.taken refuses.says judges
+text_follows texts.Memory a files v refuses judges = tt
 
-pub outcome_follows : (r : Result ℕ RunRefused) (asked : Asked) (before now : Option Files) (faults risen : ℕ) → Outcome r asked before now faults risen → (files : Files) (v : Verdict) → before ≡ Some files → (Rose faults risen → ⊥) → Judges files asked v → Follows v r
-outcome_follows r asked before now faults risen outcome files v told calm judges = ends r asked files now faults risen v (subst (λ b. Outcome r asked b now faults risen) told outcome) calm judges
+follows_told : (r : Result ℕ CommandRefused) (a : Asking) (files : Files) (faults : ℕ) (new : ShelfState) (v : Verdict) → Outcome r a (record { files = Some files; faults = faults }) new → (Rose faults new.faults → ⊥) → Judges files a v → Follows v r
+follows_told (Ok number) a files faults new v outcome calm judges = gives_follow a files outcome.comes.texts number outcome.outputs v outcome.comes.taken outcome.comes.gives judges
+follows_told (Err (refusals.Input r)) a files faults new v outcome calm judges = read_follows r.why r.name.now a files faults new.faults v outcome.0 calm judges
+follows_told (Err (refusals.Text r)) a files faults new v outcome calm judges = text_follows r a files v outcome.0 judges
+follows_told (Err (refusals.Output r)) a files faults new v outcome calm judges = write_follows r.why r.name.now outcome.outputs (Some files) new.files faults new.faults outcome.stops calm
+
+pub outcome_follows : (r : Result ℕ CommandRefused) (a : Asking) (old new : ShelfState) → Outcome r a old new → (files : Files) (v : Verdict) → old.files ≡ Some files → (Rose old.faults new.faults → ⊥) → Judges files a v → Follows v r
+outcome_follows r a old new outcome files v told calm judges =
+    follows_told r a files old.faults new v (subst (λ (f : Option Files). Outcome r a (record { files = f; faults = old.faults }) new) told outcome) calm judges

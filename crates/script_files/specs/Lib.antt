@@ -1,8 +1,7 @@
-pub mod Orders
-pub mod Asking
+pub mod Requests
+pub mod Meanings
 pub mod Outcomes
+pub mod Refusals
 pub mod Stages
 pub mod Verdicts
-pub mod Writes
-pub mod Refusals
 pub mod Judging

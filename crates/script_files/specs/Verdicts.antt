@@ -1,6 +1,12 @@
--- What a run of an order over told files has to come to, as long as the shelf doesn't fail and memory is there.
-use Rattle.std.specs.Prelude.{◌≡◌, ℕ, ◌⊎◌, List, length, nat_lt, if◌then◌else◌, Option, Some, None, Result, Ok, Err, ⊤}
+-- What a command over told files has to come to, as long as the shelf doesn't fail and memory is there.
+use Rattle.std.specs.Prelude.{◌≡◌, ℕ, List, [], ◌∷◌, length, nat_lt, if◌then◌else◌, Option, Some, None, Result, Ok, Err, ⊤}
 use Rattle.vw_io.specs.Outside.{Files}
+use Rattle.vw_io.specs.Inputs.{Wanted}
+use Rattle.vw_io.specs.Names.{collide}
+use Rattle.vw_io.specs.declared.shelves.ReadRefused.{ReadRefused}
+use Rattle.vw_io.specs.declared.shelves.ReadRefused.TheVariants as reads
+use Rattle.vw_io.specs.declared.shelves.WriteRefused.{WriteRefused}
+use Rattle.vw_io.specs.declared.shelves.WriteRefused.TheVariants as writes
 use Rattle.vox_chunk.specs.declared.faults.VoxFault.{VoxFault}
 use Rattle.vox_read.specs.Contents.{Content}
 use Rattle.vox_read.specs.Files.{Reads}
@@ -9,10 +15,12 @@ use Rattle.script.specs.declared.faults.ScriptFault.{ScriptFault}
 use Rattle.plain_text.specs.Steps.{◌>>=◌}
 use Rattle.script.specs.Commands.{is_for_bits}
 use Rattle.script.specs.Scripts.{commands_of}
-use Rattle.script_files.specs.declared.orders.RunRefused.{RunRefused}
-use Rattle.script_files.specs.declared.orders.RunRefused.TheVariants.{Missing, ReadFault, TooLong, Vox, Script, Collides, WriteFault, Memory}
-use Rattle.script_files.specs.Orders.{Asked, vox_limit, script_limit}
-use Rattle.script_files.specs.Orders as orders
+use Rattle.script_files.specs.declared.refusals.CommandRefused.{CommandRefused}
+use Rattle.script_files.specs.declared.refusals.CommandRefused.TheVariants.{Input, Text, Output}
+use Rattle.script_files.specs.declared.refusals.TextRefused.{TextRefused}
+use Rattle.script_files.specs.declared.refusals.TextRefused.TheVariants.{Vox, Script, Collides, Memory}
+use Rattle.script_files.specs.Requests.{Asked, Asking, CountOf, RunOf, inputs_of, output_names}
+use Rattle.script_files.specs.Meanings.{file_in, script_in}
 
 -- the first thing that is wrong with the inputs and the names, if anything is
 pub data Verdict : Type 0 where
@@ -24,47 +32,57 @@ pub data Verdict : Type 0 where
   NamesCollide : Verdict
 
 -- the bytes of an input, where it can be taken
-abbrev pub input_within : List ℕ → ℕ → Option (List ℕ) → Result (List ℕ) Verdict
-input_within name limit None = Err (LacksInput name)
-input_within name limit (Some bytes) = if nat_lt limit (length bytes) then Err (InputIsLong name) else Ok bytes
+abbrev pub input_within : Wanted → Option (List ℕ) → Result (List ℕ) Verdict
+input_within input None = Err (LacksInput input.name)
+input_within input (Some bytes) = if nat_lt input.limit (length bytes) then Err (InputIsLong input.name) else Ok bytes
 
-abbrev pub input_at : Files → List ℕ → ℕ → Result (List ℕ) Verdict
-input_at files name limit = input_within name limit (files name)
-
--- the VOX file comes before the script
-abbrev pub inputs_at : Files → Asked → Result (List ℕ × List ℕ) Verdict
-inputs_at files asked =
-    input_at files asked.file vox_limit >>= λ file. input_at files asked.script script_limit >>= λ script. Ok (file, script)
+-- the bytes of all inputs, or what is wrong with the first that can't be taken
+abbrev pub inputs_at : Files → List Wanted → Result (List (List ℕ)) Verdict
+inputs_at files [] = Ok []
+inputs_at files (input ∷ inputs) =
+    input_within input (files input.name) >>= λ bytes. inputs_at files inputs >>= λ texts. Ok (bytes ∷ texts)
 
 -- then what the VOX file says, then what the script says, then the names
-abbrev pub JudgesNames : Asked → Result (List ScriptLine) ScriptFault → Verdict → Type 0
-JudgesNames asked (Err fault) v = v ≡ HasScriptFault fault
-JudgesNames asked (Ok lines) v = (orders.Collides asked × (v ≡ NamesCollide)) ⊎ ((orders.Collides asked → ⊥) × (v ≡ Fine))
+abbrev pub verdict_of_names : Asked → Result (List ScriptLine) ScriptFault → Verdict
+verdict_of_names asked (Err fault) = HasScriptFault fault
+verdict_of_names asked (Ok lines) = if collide (output_names asked) (inputs_of (RunOf asked)) then NamesCollide else Fine
 
-abbrev pub JudgesScript : Asked → List ℕ → Result (List Content) VoxFault → Verdict → Type 0
-JudgesScript asked script (Err fault) v = v ≡ HasVoxFault fault
-JudgesScript asked script (Ok models) v = JudgesNames asked (commands_of is_for_bits asked.side models script) v
+abbrev pub verdict_of : Asking → List (List ℕ) → Result (List Content) VoxFault → Verdict
+verdict_of a texts (Err fault) = HasVoxFault fault
+verdict_of (CountOf file) texts (Ok models) = Fine
+verdict_of (RunOf asked) texts (Ok models) = verdict_of_names asked (commands_of is_for_bits asked.side models (script_in texts))
 
-pub record JudgesTexts (asked : Asked) (file script : List ℕ) (v : Verdict) : Type 0 where
+pub record JudgesTexts (a : Asking) (texts : List (List ℕ)) (v : Verdict) : Type 0 where
   pub reading : Result (List Content) VoxFault
-  pub says : Reads file reading
-  pub follows : JudgesScript asked script reading v
+  pub says : Reads (file_in texts) reading
+  pub follows : v ≡ verdict_of a texts reading
 
-abbrev pub JudgesInputs : Asked → Result (List ℕ × List ℕ) Verdict → Verdict → Type 0
-JudgesInputs asked (Err early) v = v ≡ early
-JudgesInputs asked (Ok inputs) v = JudgesTexts asked inputs.0 inputs.1 v
+abbrev pub JudgesInputs : Asking → Result (List (List ℕ)) Verdict → Verdict → Type 0
+JudgesInputs a (Err early) v = v ≡ early
+JudgesInputs a (Ok texts) v = JudgesTexts a texts v
 
-abbrev pub Judges : Files → Asked → Verdict → Type 0
-Judges files asked v = JudgesInputs asked (inputs_at files asked) v
+abbrev pub Judges : Files → Asking → Verdict → Type 0
+Judges files a v = JudgesInputs a (inputs_at files (inputs_of a)) v
 
 -- the answer is the one of this verdict, or want of memory
-abbrev pub Follows : Verdict → Result ℕ RunRefused → Type 0
+abbrev pub FollowsRead : Verdict → ReadRefused → List ℕ → Type 0
+FollowsRead v reads.Missing name = v ≡ LacksInput name
+FollowsRead v reads.TooLong name = v ≡ InputIsLong name
+FollowsRead v reads.Failed name = ⊥
+FollowsRead v reads.Memory name = ⊤
+
+abbrev pub FollowsWrite : WriteRefused → Type 0
+FollowsWrite writes.Failed = ⊥
+FollowsWrite writes.Memory = ⊤
+
+abbrev pub FollowsText : Verdict → TextRefused → Type 0
+FollowsText v (Vox fault) = v ≡ HasVoxFault fault
+FollowsText v (Script fault) = v ≡ HasScriptFault fault
+FollowsText v Collides = v ≡ NamesCollide
+FollowsText v Memory = ⊤
+
+abbrev pub Follows : Verdict → Result ℕ CommandRefused → Type 0
 Follows v (Ok number) = v ≡ Fine
-Follows v (Err (Missing name)) = v ≡ LacksInput name.now
-Follows v (Err (TooLong name)) = v ≡ InputIsLong name.now
-Follows v (Err (Vox fault)) = v ≡ HasVoxFault fault
-Follows v (Err (Script fault)) = v ≡ HasScriptFault fault
-Follows v (Err Collides) = v ≡ NamesCollide
-Follows v (Err Memory) = ⊤
-Follows v (Err (ReadFault name)) = ⊥
-Follows v (Err (WriteFault w)) = ⊥
+Follows v (Err (Input r)) = FollowsRead v r.why r.name.now
+Follows v (Err (Text r)) = FollowsText v r
+Follows v (Err (Output r)) = FollowsWrite r.why

@@ -1,17 +1,19 @@
-//! One script's run from files to files, over any shelf.
+//! The commands of the program from files to files, over any shelf: the cells of a file are counted, a script is run.
 //!
-//! Where an input or a name is refused, nothing on the shelf has changed, and `specs/Outcomes.antt` says what
+//! Where an input, a text or a name is refused, nothing on the shelf has changed, and `specs/Outcomes.antt` says what
 //! each answer means.
 #![tactic(auto)]
 
-mod accepting;
-mod inputs;
-mod orders;
-mod outputs;
+mod counts;
+mod refusals;
+mod requests;
 mod runs;
+mod scripts;
+mod texts;
 
-pub use inputs::read_vox;
-pub use orders::{Order, RunRefused, Written};
+pub use counts::count_file;
+pub use refusals::{CommandRefused, TextRefused};
+pub use requests::Order;
 pub use runs::run_files;
 
 #[cfg(test)]

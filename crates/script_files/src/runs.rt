@@ -1,90 +1,101 @@
-ghost use Rattle.std.specs.Prelude.{◌≡◌, ◌≤◌, ◌^◌, Some, length, IfOk, IfErr};
-ghost use Rattle.vw_io.specs.Outside.{Files, Rose};
-ghost use Rattle.script_files.specs.Asking.{asked_of};
-ghost use Rattle.script_files.specs.Orders.{transcript_name};
-ghost use Rattle.script_files.specs.Outcomes.{AreTaken, Outcome};
-ghost use Rattle.script_files.specs.Stages.{Declined, IsPrepared};
-ghost use Rattle.script_files.specs.Verdicts.{Verdict, Judges, Follows};
+ghost use Rattle.std.specs.Prelude.{◌≡◌, ◌≤◌, ◌^◌, length, IfOk, IfErr};
+ghost use Rattle.script_files.specs.Requests.{RunOf, inputs_of, outputs_of, transcript_name};
+ghost use Rattle.script_files.specs.Meanings.{file_in, RefusesTexts};
+ghost use Rattle.script_files.specs.Outcomes.{Outcome};
+ghost use Rattle.script_files.specs.Stages.{IsPrepared, WritesEnd};
 
-use crate::accepting::accept;
-use crate::inputs::{Inputs, take_inputs};
-use crate::orders::{Order, RunRefused};
-use crate::outputs::{Texts, texts_of, write_outputs};
+use crate::refusals::{CommandRefused, TextRefused};
+use crate::requests::{Order, SCRIPT_LIMIT, VOX_LIMIT};
+use crate::scripts::run_texts;
+use crate::texts::{Texts, texts_of};
 use std::alloc::Global;
-use vw_io::Shelf;
+use vw_io::{Input, Output, OutputRefused, Shelf, Text, read_all, write_all};
 
 /// Runs a script from files to files, and gives the number of records.
 ///
 /// It reads the VOX file, of at most 256 MiB, and the script, of at most 8 MiB. Where the VOX file is
 /// accepted, the script has no fault and no output takes an input's name or another output's, it runs the
-/// script. Then it writes the transcript under the script's name with `.out` behind it, and after it
-/// the journal where one is asked for.
+/// script. Then it writes the transcript under its name, which is the script's with `.out` behind it, and
+/// after it the journal where one is asked for.
+#[tactic(auto, using(crate::proofs::Ending::file_within, crate::proofs::Ending::not_accepted, crate::proofs::Ending::not_written))]
 pub fn run_files<'w, S: Shelf>(
     alloc: Global,
     order: &Order<'w>,
+    transcript: &'w str,
     shelf: &mut S,
-) -> Result<u32, RunRefused<'w>>
-    // what each answer says
-    ensures outcome { Outcome result (asked_of order.now) (S.files shelf.old) (S.files shelf.new) (S.faults shelf.old) (S.faults shelf.new) }
-    // which answer must come, for a shelf that tells its files and does not fail
-    ensures comes { (files : Files) (v : Verdict) → S.files shelf.old ≡ Some files → (Rose (S.faults shelf.old) (S.faults shelf.new) → ⊥) → Judges files (asked_of order.now) v → Follows v result }
+) -> Result<u32, CommandRefused<'w>>
+    requires { transcript.now ≡ transcript_name order.now.script }
+    ensures { Outcome result (RunOf order.now) (S.state shelf.old) (S.state shelf.new) }
 {
-    run(alloc, order, shelf)
-}
-
-// The run of an order.
-#[tactic(auto, using(crate::proofs::Ending::not_taken))]
-fn run<'w, S: Shelf>(alloc: Global, order: &Order<'w>, shelf: &mut S) -> Result<u32, RunRefused<'w>>
-    ensures { Outcome result (asked_of order.now) (S.files shelf.old) (S.files shelf.new) (S.faults shelf.old) (S.faults shelf.new) }
-{
-    match take_inputs(alloc, order, shelf) {
-        Ok(inputs) => match format!(in alloc; "{}.out", order.script) {
-            Ok(name) => finish(alloc, order, name.as_str(), inputs, shelf),
-            Err(_) => Err(RunRefused::Memory),
+    let inputs = [
+        Input {
+            name: order.file,
+            limit: VOX_LIMIT,
         },
-        Err(refused) => Err(refused),
-    }
-}
-
-// Runs the script of these inputs, and writes its outputs.
-#[tactic(auto, using(crate::proofs::Ending::not_accepted, crate::proofs::Ending::ends))]
-fn finish<'w, S: Shelf>(
-    alloc: Global,
-    order: &Order<'w>,
-    name: &str,
-    inputs: Inputs,
-    shelf: &mut S,
-) -> Result<u32, RunRefused<'w>>
-    requires taken { AreTaken (asked_of order.now) (S.files shelf.old) inputs.file.items inputs.script.items }
-    requires named { name.now ≡ transcript_name order.now.script.now }
-    ensures { Outcome result (asked_of order.now) (S.files shelf.old) (S.files shelf.new) (S.faults shelf.old) (S.faults shelf.new) }
-{
-    match prepare(alloc, order, name, inputs) {
-        Ok(texts) => match write_outputs(order, name, &texts, shelf) {
-            Ok(()) => Ok(texts.number),
-            Err(refused) => Err(refused),
+        Input {
+            name: order.script,
+            limit: SCRIPT_LIMIT,
         },
-        Err(refused) => Err(refused),
+    ];
+    match read_all(alloc, &inputs, shelf) {
+        Ok(texts) => match prepare(alloc, order, transcript, &inputs, texts) {
+            Ok(prepared) => match write(order, transcript, &prepared, shelf) {
+                Ok(()) => Ok(prepared.number),
+                Err(refused) => Err(CommandRefused::Output(refused)),
+            },
+            Err(refused) => Err(CommandRefused::Text(refused)),
+        },
+        Err(refused) => Err(CommandRefused::Input(refused)),
     }
 }
 
 // The texts of the run, where nothing is refused.
-fn prepare<'w>(
+fn prepare(
     alloc: Global,
-    order: &Order<'w>,
-    name: &str,
-    inputs: Inputs,
-) -> Result<Texts, RunRefused<'w>>
-    requires within { length inputs.file.items ≤ 2 ^ 28 }
-    requires named { name.now ≡ transcript_name order.now.script.now }
-    ensures prepared { IfOk result (λ texts. IsPrepared (asked_of order.now) inputs.file.items inputs.script.items texts.number texts.transcript.items texts.journal.items) }
-    ensures declined { IfErr result (λ refused. Declined refused (asked_of order.now) inputs.file.items inputs.script.items) }
+    order: &Order<'_>,
+    transcript: &str,
+    inputs: &[Input<'_>],
+    texts: Vec<Text>,
+) -> Result<Texts, TextRefused>
+    requires two { length texts.items ≡ 2 }
+    requires within { length (file_in texts.items) ≤ 2 ^ 28 }
+    requires inputs { inputs.now ≡ inputs_of (RunOf order.now) }
+    requires named { transcript.now ≡ transcript_name order.now.script }
+    ensures prepared { IfOk result (λ done. IsPrepared order.now texts.items
+        done.number done.transcript.items done.journal.items) }
+    ensures refused { IfErr result (λ refused. RefusesTexts refused (RunOf order.now) texts.items) }
 {
-    match accept(alloc, order, inputs, name) {
-        Ok(ran) => match texts_of(alloc, order, ran) {
-            Ok(texts) => Ok(texts),
-            Err(_) => Err(RunRefused::Memory),
-        },
-        Err(refused) => Err(refused),
+    let ran = match order.journal {
+        None => run_texts(alloc, order, &[transcript], inputs, texts)?,
+        Some(journal) => run_texts(alloc, order, &[transcript, journal], inputs, texts)?,
+    };
+    Ok(texts_of(alloc, order, ran)?)
+}
+
+// Writes the transcript, and then the journal where it is asked for.
+fn write<'w, S: Shelf>(
+    order: &Order<'w>,
+    transcript: &'w str,
+    texts: &Texts,
+    shelf: &mut S,
+) -> Result<(), OutputRefused<'w>>
+    requires { transcript.now ≡ transcript_name order.now.script }
+    ensures { WritesEnd result
+        (outputs_of order.now texts.now.transcript.items texts.now.journal.items)
+        (S.state shelf.old) (S.state shelf.new) }
+{
+    let first = Output {
+        name: transcript,
+        bytes: texts.transcript.as_slice(),
+    };
+    match order.journal {
+        None => write_all(&[first], shelf),
+        Some(name) => {
+            let journal = Output {
+                name,
+                bytes: texts.journal.as_slice(),
+            };
+            write_all(&[first, journal], shelf)
+        }
     }
 }

@@ -1,10 +1,12 @@
-use crate::{Order, RunRefused, Written, run_files};
+use crate::{CommandRefused, Order, TextRefused, count_file, run_files};
 use script::{ScriptFault, ScriptKind};
 use std::alloc::Global;
 use std::test::Fail;
 use vox_read::VoxFault;
 use vw_cell::Side;
-use vw_io::{FaultyShelf, MemoryShelf, Shelf};
+use vw_io::{
+    FaultyShelf, InputRefused, MemoryShelf, OutputRefused, ReadRefused, Shelf, WriteRefused,
+};
 
 /// A model of one cell, 64 bytes.
 const ONE: [u8; 64] =
@@ -45,10 +47,13 @@ fn shelf(alloc: Global) -> Result<MemoryShelf, Fail> {
 #[test]
 fn runs_write_all_or_nothing(rt: HostRuntime) -> Result<(), Fail> {
     let side = Side::new(8).ok_or("a side")?;
-    let range = Err(RunRefused::Script(RANGE));
-    let not_vox = Err(RunRefused::Vox(VoxFault::NotVox));
-    let collides = Err(RunRefused::Collides);
-    let missing = Err(RunRefused::Missing("no"));
+    let range = Err(CommandRefused::Text(TextRefused::Script(RANGE)));
+    let not_vox = Err(CommandRefused::Text(TextRefused::Vox(VoxFault::NotVox)));
+    let collides = Err(CommandRefused::Text(TextRefused::Collides));
+    let missing = Err(CommandRefused::Input(InputRefused {
+        name: "no",
+        why: ReadRefused::Missing,
+    }));
     let all = Some(ANSWERS);
     let stamped = Some(STAMPED);
     let stamps = Some(STAMP_JOURNAL);
@@ -71,9 +76,9 @@ fn runs_write_all_or_nothing(rt: HostRuntime) -> Result<(), Fail> {
             file,
             script,
         };
-        let ended = run_files(rt.alloc(), &order, &mut shelf);
-        assert_eq!(rt; ended, want, "at {file} {script}");
         let name = format!(in rt.alloc(); "{script}.out")?;
+        let ended = run_files(rt.alloc(), &order, name.as_str(), &mut shelf);
+        assert_eq!(rt; ended, want, "at {file} {script}");
         let put = shelf.file(name.as_str());
         assert_eq!(rt; put, transcript.map(|t| t.as_bytes()), "at {script}");
         assert_eq!(rt; shelf.file("j"), text.map(|t| t.as_bytes()), "at {script}");
@@ -91,17 +96,32 @@ fn a_transcript_takes_no_input(rt: HostRuntime) -> Result<(), Fail> {
         file: "empty.out",
         script: "empty",
     };
-    let ended = run_files(rt.alloc(), &order, &mut shelf);
-    assert_eq!(rt; ended, Err(RunRefused::Collides));
+    let ended = run_files(rt.alloc(), &order, "empty.out", &mut shelf);
+    assert_eq!(rt; ended, Err(CommandRefused::Text(TextRefused::Collides)));
     assert_eq!(rt; shelf.file("empty.out"), Some(ONE.as_slice()));
+    Ok(())
+}
+
+// The refusal where the write of this output failed.
+fn write_fault(name: &str) -> CommandRefused<'_> {
+    CommandRefused::Output(OutputRefused {
+        name,
+        why: WriteRefused::Failed,
+    })
+}
+
+#[test]
+fn a_file_is_counted(rt: HostRuntime) -> Result<(), Fail> {
+    let mut shelf = shelf(rt.alloc())?;
+    assert_eq!(rt; count_file(rt.alloc(), "one.vox", &mut shelf), Ok(1));
     Ok(())
 }
 
 #[test]
 fn a_broken_write_is_named(rt: HostRuntime) -> Result<(), Fail> {
     let side = Side::new(8).ok_or("a side")?;
-    let transcript = Err(RunRefused::WriteFault(Written::Transcript("good")));
-    let journal = Err(RunRefused::WriteFault(Written::Journal("j")));
+    let transcript = Err(write_fault("good.out"));
+    let journal = Err(write_fault("j"));
     for (call, want, put, text) in [
         (3, transcript, Some("1 @1"), None),
         (4, journal, Some(ANSWERS), Some("voxd")),
@@ -115,7 +135,7 @@ fn a_broken_write_is_named(rt: HostRuntime) -> Result<(), Fail> {
             file: "one.vox",
             script: "good",
         };
-        let ended = run_files(rt.alloc(), &order, &mut shelf);
+        let ended = run_files(rt.alloc(), &order, "good.out", &mut shelf);
         assert_eq!(rt; ended, want, "at {call}");
         let found = shelf.files().file("good.out");
         assert_eq!(rt; found, put.map(|t| t.as_bytes()), "at {call}");

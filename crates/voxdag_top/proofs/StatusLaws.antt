@@ -1,26 +1,25 @@
 -- What each status says, from what stands behind the ending and the put of its line.
 use Rattle.std.proofs.Common.{◌≡◌, ℕ, inl, inr, List, Option, Some, None, refl, sym, ap, subst, ◌∙◌, ◌⊎◌, arith}
 use Rattle.std.specs.Prelude.{IsTrue}
-use Rattle.vw_io.specs.Outside.{Files, Rose}
-use Rattle.script_files.specs.declared.orders.RunRefused.{RunRefused}
-use Rattle.script_files.specs.declared.orders.RunRefused.TheVariants.{Missing, ReadFault, TooLong, Vox, Script, Collides, WriteFault, Memory}
+use Rattle.vw_io.specs.Outside.{Rose, SinkState, Outside}
+use Rattle.vw_io.specs.Inputs.{StopsAt}
+use Rattle.vw_io.specs.declared.shelves.ReadRefused.{ReadRefused}
+use Rattle.vw_io.specs.declared.shelves.ReadRefused.TheVariants as reads
+use Rattle.vw_io.specs.declared.shelves.WriteRefused.{WriteRefused}
+use Rattle.vw_io.specs.declared.shelves.WriteRefused.TheVariants as writes
+use Rattle.script_files.specs.declared.refusals.CommandRefused.TheVariants.{Input, Text, Output}
+use Rattle.script_files.specs.declared.refusals.TextRefused.TheVariants.{Vox, Script, Collides, Memory}
+use Rattle.script_files.specs.Requests.{Asking, CountOf, RunOf, inputs_of}
+use Rattle.script_files.specs.Outcomes.{Breaks}
 use Rattle.voxdag_top.specs.declared.endings.Ending.{Ending}
 use Rattle.voxdag_top.specs.declared.endings.Ending.TheVariants.{Counted, Ran, Usage, Refused}
-use Rattle.voxdag_top.specs.Words.{Asking, CountOf, RunOf}
-use Rattle.voxdag_top.specs.Lines.{Puts, Begins, usage_line, memory_line}
-use Rattle.voxdag_top.specs.Endings.{EndsAs, line_of, status_of, MayLackLine}
-use Rattle.voxdag_top.specs.Finishing.{PutEnds, Finishes, put, failed, lacking}
+use Rattle.voxdag_top.specs.Lines.{Puts, Begins, memory_line, input_line, output_line}
+use Rattle.voxdag_top.specs.Endings.{EndsAs, line_of, status_of, input_status, output_status, MayLackLine, WriteMayLackLine}
+use Rattle.voxdag_top.specs.Finishing.{Finishes, Runs, put, failed, lacking}
 use Rattle.voxdag_top.specs.Statuses.{IsOr, is_status, Done, Unusable, Missed, Faulted, VoxRefused, ScriptRefused, WriteFailed, OutFailed, LacksMemory, Exceeded}
 
--- a run from its words to its status
-pub record Run (a : Option Asking) (before now : Option Files) (faults risen out_faults out_risen : ℕ) (told said : Option (List ℕ)) (result : ℕ) : Type 0 where
-  pub ending : Ending
-  pub ends : EndsAs a ending before now faults risen
-  pub finish : Finishes ending out_faults out_risen told said result
-
 -- a status of a line that was put is that of the ending
-ended : (e : Ending) {k out_faults out_risen result : ℕ} {told said : Option (List ℕ)} → (k ≡ 7 → ⊥) → (k ≡ 8 → ⊥) → Finishes e out_faults out_risen told said result → result ≡ k
-    → (status_of e ≡ k) × Puts told said (line_of e)
+ended : (e : Ending) {k result : ℕ} {old new : SinkState} → (k ≡ 7 → ⊥) → (k ≡ 8 → ⊥) → Finishes e old new result → result ≡ k → (status_of e ≡ k) × Puts old.told new.told (line_of e)
 ended e not_7 not_8 (inl (put is line)) same = (sym is ∙ same, line)
 ended e not_7 not_8 (inl (failed is rose begun)) same = absurd (not_7 (sym same ∙ is))
 ended e not_7 not_8 (inl (lacking is none)) same = absurd (not_8 (sym same ∙ is))
@@ -29,7 +28,7 @@ ended e not_7 not_8 (inr (may, failed is rose begun)) same = absurd (not_7 (sym 
 ended e not_7 not_8 (inr (may, lacking is none)) same = absurd (not_8 (sym same ∙ is))
 
 -- where the ending is this, its status comes, or 7 or 8
-pub comes : (e : Ending) {out_faults out_risen result : ℕ} {told said : Option (List ℕ)} → Finishes e out_faults out_risen told said result → IsOr (status_of e) result
+pub comes : (e : Ending) {result : ℕ} {old new : SinkState} → Finishes e old new result → IsOr (status_of e) result
 comes e (inl (put is line)) = inl is
 comes e (inl (failed is rose begun)) = inr (inl is)
 comes e (inl (lacking is none)) = inr (inr is)
@@ -41,139 +40,267 @@ comes e (inr (may, lacking is none)) = inr (inr is)
 usage_status : (e : Ending) → e ≡ Usage → status_of e ≡ 1
 usage_status e is = ap status_of is
 
-refused_is_not_0 : (r : RunRefused) → status_of (Refused r) ≡ 0 → ⊥
-refused_is_not_0 (Missing name) is = omega arith
-refused_is_not_0 _ is = omega arith
+-- ---- which refusals have a status
+
+is_missing : (why : ReadRefused) → input_status why ≡ 2 → why ≡ reads.Missing
+is_missing reads.Missing is = refl
+is_missing reads.TooLong is = absurd (omega arith)
+is_missing reads.Failed is = absurd (omega arith)
+is_missing reads.Memory is = absurd (omega arith)
+
+is_read_fault : (why : ReadRefused) → input_status why ≡ 3 → why ≡ reads.Failed
+is_read_fault reads.Missing is = absurd (omega arith)
+is_read_fault reads.TooLong is = absurd (omega arith)
+is_read_fault reads.Failed is = refl
+is_read_fault reads.Memory is = absurd (omega arith)
+
+is_too_long : (why : ReadRefused) → input_status why ≡ 9 → why ≡ reads.TooLong
+is_too_long reads.Missing is = absurd (omega arith)
+is_too_long reads.TooLong is = refl
+is_too_long reads.Failed is = absurd (omega arith)
+is_too_long reads.Memory is = absurd (omega arith)
+
+is_write_fault : (why : WriteRefused) → output_status why ≡ 6 → why ≡ writes.Failed
+is_write_fault writes.Failed is = refl
+is_write_fault writes.Memory is = absurd (omega arith)
+
+input_not_0 : (why : ReadRefused) → input_status why ≡ 0 → ⊥
+input_not_0 reads.Missing is = omega arith
+input_not_0 reads.TooLong is = omega arith
+input_not_0 reads.Failed is = omega arith
+input_not_0 reads.Memory is = omega arith
+
+input_not_1 : (why : ReadRefused) → input_status why ≡ 1 → ⊥
+input_not_1 reads.Missing is = omega arith
+input_not_1 reads.TooLong is = omega arith
+input_not_1 reads.Failed is = omega arith
+input_not_1 reads.Memory is = omega arith
+
+input_not_4 : (why : ReadRefused) → input_status why ≡ 4 → ⊥
+input_not_4 reads.Missing is = omega arith
+input_not_4 reads.TooLong is = omega arith
+input_not_4 reads.Failed is = omega arith
+input_not_4 reads.Memory is = omega arith
+
+input_not_5 : (why : ReadRefused) → input_status why ≡ 5 → ⊥
+input_not_5 reads.Missing is = omega arith
+input_not_5 reads.TooLong is = omega arith
+input_not_5 reads.Failed is = omega arith
+input_not_5 reads.Memory is = omega arith
+
+input_not_6 : (why : ReadRefused) → input_status why ≡ 6 → ⊥
+input_not_6 reads.Missing is = omega arith
+input_not_6 reads.TooLong is = omega arith
+input_not_6 reads.Failed is = omega arith
+input_not_6 reads.Memory is = omega arith
+
+input_not_7 : (why : ReadRefused) → input_status why ≡ 7 → ⊥
+input_not_7 reads.Missing is = omega arith
+input_not_7 reads.TooLong is = omega arith
+input_not_7 reads.Failed is = omega arith
+input_not_7 reads.Memory is = omega arith
+
+output_not_0 : (why : WriteRefused) → output_status why ≡ 0 → ⊥
+output_not_0 writes.Failed is = omega arith
+output_not_0 writes.Memory is = omega arith
+
+output_not_1 : (why : WriteRefused) → output_status why ≡ 1 → ⊥
+output_not_1 writes.Failed is = omega arith
+output_not_1 writes.Memory is = omega arith
+
+output_not_2 : (why : WriteRefused) → output_status why ≡ 2 → ⊥
+output_not_2 writes.Failed is = omega arith
+output_not_2 writes.Memory is = omega arith
+
+output_not_3 : (why : WriteRefused) → output_status why ≡ 3 → ⊥
+output_not_3 writes.Failed is = omega arith
+output_not_3 writes.Memory is = omega arith
+
+output_not_4 : (why : WriteRefused) → output_status why ≡ 4 → ⊥
+output_not_4 writes.Failed is = omega arith
+output_not_4 writes.Memory is = omega arith
+
+output_not_5 : (why : WriteRefused) → output_status why ≡ 5 → ⊥
+output_not_5 writes.Failed is = omega arith
+output_not_5 writes.Memory is = omega arith
+
+output_not_7 : (why : WriteRefused) → output_status why ≡ 7 → ⊥
+output_not_7 writes.Failed is = omega arith
+output_not_7 writes.Memory is = omega arith
+
+output_not_9 : (why : WriteRefused) → output_status why ≡ 9 → ⊥
+output_not_9 writes.Failed is = omega arith
+output_not_9 writes.Memory is = omega arith
+
+-- ---- each status
 
 -- status 0
-done_at : (a : Option Asking) (e : Ending) (before now : Option Files) (faults risen : ℕ) (told said : Option (List ℕ)) → EndsAs a e before now faults risen → status_of e ≡ 0 → Puts told said (line_of e) → Done a before now told said
-done_at None e before now faults risen told said ends is puts = absurd (let usage = usage_status e ends.0 in omega (arith, is, usage))
-done_at (Some (CountOf file)) (Counted number) before now faults risen told said ends is puts = record { number = number; counts = ends.0.0; unchanged = ends.1; line = puts }
-done_at (Some (CountOf file)) (Ran number) before now faults risen told said ends is puts = absurd ends.0
-done_at (Some (RunOf asked)) (Ran number) before now faults risen told said ends is puts =
-    let done = ends.0 in
-    let accepted = done.runs.accepted in
-    record {
-      file = done.runs.file;
-      script = done.runs.script;
-      taken = done.runs.taken;
-      models = accepted.models;
-      gives = accepted.gives;
-      lines = accepted.lines;
-      read = accepted.read;
-      apart = accepted.apart;
-      records = done.records;
-      answers = done.answers;
-      written = done.whole;
-      legal = accepted.run.legal;
-      shown = accepted.run.shown;
-      agrees = accepted.run.agrees;
-      line = rw (sym done.counted) puts;
-    }
-done_at (Some (RunOf asked)) (Counted number) before now faults risen told said ends is puts = absurd ends
-done_at (Some a) Usage before now faults risen told said ends is puts = absurd (omega arith)
-done_at (Some a) (Refused r) before now faults risen told said ends is puts = absurd (refused_is_not_0 r is)
+done_at : (a : Option Asking) (e : Ending) (old new : Outside) → EndsAs a e old.shelf new.shelf → status_of e ≡ 0 → Puts old.out.told new.out.told (line_of e) → Done a old new
+done_at None e old new ends is puts = absurd (let usage = usage_status e ends.0 in omega (arith, is, usage))
+done_at (Some (CountOf file)) (Counted number) old new ends is puts = record { number = number; done = ends.1; line = puts }
+done_at (Some (RunOf asked)) (Counted number) old new ends is puts = absurd ends.0
+done_at (Some (CountOf file)) (Ran number) old new ends is puts = absurd ends.0
+done_at (Some (RunOf asked)) (Ran number) old new ends is puts = record { number = number; done = ends.1; line = puts }
+done_at (Some a) Usage old new ends is puts = absurd ends
+done_at (Some a) (Refused (Input r)) old new ends is puts = absurd (input_not_0 r.why is)
+done_at (Some a) (Refused (Text (Vox fault))) old new ends is puts = absurd (omega arith)
+done_at (Some a) (Refused (Text (Script fault))) old new ends is puts = absurd (omega arith)
+done_at (Some a) (Refused (Text Collides)) old new ends is puts = absurd (omega arith)
+done_at (Some a) (Refused (Output r)) old new ends is puts = absurd (output_not_0 r.why is)
+done_at (Some a) (Refused (Text Memory)) old new ends is puts = absurd (omega arith)
 
 -- status 1
-usage_at : (a : Option Asking) (e : Ending) (before now : Option Files) (faults risen : ℕ) (told said : Option (List ℕ)) → EndsAs a e before now faults risen → status_of e ≡ 1 → Puts told said (line_of e) → Unusable a before × (now ≡ before) × Puts told said usage_line
-usage_at None e before now faults risen told said ends is puts = (tt, ends.1.1, subst (λ (x : Ending). Puts told said (line_of x)) ends.0 puts)
-usage_at (Some (CountOf file)) (Refused Collides) before now faults risen told said ends is puts = absurd ends.0
-usage_at (Some (CountOf file)) Usage before now faults risen told said ends is puts = absurd ends.0
-usage_at (Some (RunOf asked)) (Refused Collides) before now faults risen told said ends is puts = (ends.0, ends.1.1, puts)
-usage_at (Some (RunOf asked)) Usage before now faults risen told said ends is puts = absurd ends
-usage_at (Some a) _ before now faults risen told said ends is puts = absurd (omega arith)
+usage_at : (a : Option Asking) (e : Ending) (old new : Outside) → EndsAs a e old.shelf new.shelf → status_of e ≡ 1 → Puts old.out.told new.out.told (line_of e) → Unusable a old new
+usage_at None e old new ends is puts = record { cause = tt; unchanged = ends.1; line = subst (λ (x : Ending). Puts old.out.told new.out.told (line_of x)) ends.0 puts }
+usage_at (Some a) (Counted number) old new ends is puts = absurd (omega arith)
+usage_at (Some a) (Ran number) old new ends is puts = absurd (omega arith)
+usage_at (Some a) Usage old new ends is puts = absurd ends
+usage_at (Some a) (Refused (Input r)) old new ends is puts = absurd (input_not_1 r.why is)
+usage_at (Some a) (Refused (Text (Vox fault))) old new ends is puts = absurd (omega arith)
+usage_at (Some a) (Refused (Text (Script fault))) old new ends is puts = absurd (omega arith)
+usage_at (Some a) (Refused (Text Collides)) old new ends is puts = record { cause = ends.0; unchanged = ends.1; line = puts }
+usage_at (Some a) (Refused (Output r)) old new ends is puts = absurd (output_not_1 r.why is)
+usage_at (Some a) (Refused (Text Memory)) old new ends is puts = absurd (omega arith)
 
 -- status 2
-missing_at : (a : Option Asking) (e : Ending) (before now : Option Files) (faults risen : ℕ) (told said : Option (List ℕ)) → EndsAs a e before now faults risen → status_of e ≡ 2 → Puts told said (line_of e) → Missed a before now faults risen told said
-missing_at None e before now faults risen told said ends is puts = absurd (let usage = usage_status e ends.0 in omega (arith, is, usage))
-missing_at (Some (CountOf file)) (Refused (Missing name)) before now faults risen told said ends is puts =
-    record { name = name.now; misses = (ends.0.0, ends.0.1.0); no_fault = ends.0.1.1; unchanged = ends.1; line = puts }
-missing_at (Some (RunOf asked)) (Refused (Missing name)) before now faults risen told said ends is puts =
-    record { name = name.now; misses = ends.0; no_fault = ends.1.0; unchanged = ends.1.1; line = puts }
-missing_at (Some a) _ before now faults risen told said ends is puts = absurd (omega arith)
+missing_at : (a : Option Asking) (e : Ending) (old new : Outside) → EndsAs a e old.shelf new.shelf → status_of e ≡ 2 → Puts old.out.told new.out.told (line_of e) → Missed a old new
+missing_at None e old new ends is puts = absurd (let usage = usage_status e ends.0 in omega (arith, is, usage))
+missing_at (Some a) (Counted number) old new ends is puts = absurd (omega arith)
+missing_at (Some a) (Ran number) old new ends is puts = absurd (omega arith)
+missing_at (Some a) Usage old new ends is puts = absurd ends
+missing_at (Some a) (Refused (Input r)) old new ends is puts =
+    let which : r.why ≡ reads.Missing = is_missing r.why is in
+    record {
+      name = r.name.now;
+      stops = subst (λ (why : ReadRefused). StopsAt why r.name.now (inputs_of a) old.shelf.files old.shelf.faults new.shelf.faults) which ends.0;
+      unchanged = ends.1;
+      line = subst (λ (why : ReadRefused). Puts old.out.told new.out.told (input_line why r.name.now)) which puts;
+    }
+missing_at (Some a) (Refused (Text (Vox fault))) old new ends is puts = absurd (omega arith)
+missing_at (Some a) (Refused (Text (Script fault))) old new ends is puts = absurd (omega arith)
+missing_at (Some a) (Refused (Text Collides)) old new ends is puts = absurd (omega arith)
+missing_at (Some a) (Refused (Output r)) old new ends is puts = absurd (output_not_2 r.why is)
+missing_at (Some a) (Refused (Text Memory)) old new ends is puts = absurd (omega arith)
 
 -- status 3
-read_fault_at : (a : Option Asking) (e : Ending) (before now : Option Files) (faults risen : ℕ) (told said : Option (List ℕ)) → EndsAs a e before now faults risen → status_of e ≡ 3 → Puts told said (line_of e) → Faulted a before now faults risen told said
-read_fault_at None e before now faults risen told said ends is puts = absurd (let usage = usage_status e ends.0 in omega (arith, is, usage))
-read_fault_at (Some (CountOf file)) (Refused (ReadFault name)) before now faults risen told said ends is puts =
-    record { name = name.now; fails = ends.0.0; rose = ends.0.1; unchanged = ends.1; line = puts }
-read_fault_at (Some (RunOf asked)) (Refused (ReadFault name)) before now faults risen told said ends is puts =
-    record { name = name.now; fails = ends.0; rose = ends.1.0; unchanged = ends.1.1; line = puts }
-read_fault_at (Some a) _ before now faults risen told said ends is puts = absurd (omega arith)
-
--- status 4
-vox_refused_at : (a : Option Asking) (e : Ending) (before now : Option Files) (faults risen : ℕ) (told said : Option (List ℕ)) → EndsAs a e before now faults risen → status_of e ≡ 4 → Puts told said (line_of e) → VoxRefused a before now told said
-vox_refused_at None e before now faults risen told said ends is puts = absurd (let usage = usage_status e ends.0 in omega (arith, is, usage))
-vox_refused_at (Some (CountOf file)) (Refused (Vox fault)) before now faults risen told said ends is puts = record { fault = fault; refuses = ends.0.0; unchanged = ends.1; line = puts }
-vox_refused_at (Some (RunOf asked)) (Refused (Vox fault)) before now faults risen told said ends is puts = record { fault = fault; refuses = ends.0; unchanged = ends.1.1; line = puts }
-vox_refused_at (Some a) _ before now faults risen told said ends is puts = absurd (omega arith)
-
--- status 5
-script_refused_at : (a : Option Asking) (e : Ending) (before now : Option Files) (faults risen : ℕ) (told said : Option (List ℕ)) → EndsAs a e before now faults risen → status_of e ≡ 5 → Puts told said (line_of e) → ScriptRefused a before now told said
-script_refused_at None e before now faults risen told said ends is puts = absurd (let usage = usage_status e ends.0 in omega (arith, is, usage))
-script_refused_at (Some (CountOf file)) (Refused (Script fault)) before now faults risen told said ends is puts = absurd ends.0
-script_refused_at (Some (RunOf asked)) (Refused (Script fault)) before now faults risen told said ends is puts = record { fault = fault; refuses = ends.0; unchanged = ends.1.1; line = puts }
-script_refused_at (Some a) _ before now faults risen told said ends is puts = absurd (omega arith)
-
--- status 6
-write_fault_at : (a : Option Asking) (e : Ending) (before now : Option Files) (faults risen : ℕ) (told said : Option (List ℕ)) → EndsAs a e before now faults risen → status_of e ≡ 6 → Puts told said (line_of e) → WriteFailed a before now faults risen told said
-write_fault_at None e before now faults risen told said ends is puts = absurd (let usage = usage_status e ends.0 in omega (arith, is, usage))
-write_fault_at (Some (CountOf file)) (Refused (WriteFault w)) before now faults risen told said ends is puts = absurd ends.0
-write_fault_at (Some (RunOf asked)) (Refused (WriteFault w)) before now faults risen told said ends is puts = record { output = w; breaks = ends.0; rose = ends.1; line = puts }
-write_fault_at (Some a) _ before now faults risen told said ends is puts = absurd (omega arith)
+read_fault_at : (a : Option Asking) (e : Ending) (old new : Outside) → EndsAs a e old.shelf new.shelf → status_of e ≡ 3 → Puts old.out.told new.out.told (line_of e) → Faulted a old new
+read_fault_at None e old new ends is puts = absurd (let usage = usage_status e ends.0 in omega (arith, is, usage))
+read_fault_at (Some a) (Counted number) old new ends is puts = absurd (omega arith)
+read_fault_at (Some a) (Ran number) old new ends is puts = absurd (omega arith)
+read_fault_at (Some a) Usage old new ends is puts = absurd ends
+read_fault_at (Some a) (Refused (Input r)) old new ends is puts =
+    let which : r.why ≡ reads.Failed = is_read_fault r.why is in
+    record {
+      name = r.name.now;
+      stops = subst (λ (why : ReadRefused). StopsAt why r.name.now (inputs_of a) old.shelf.files old.shelf.faults new.shelf.faults) which ends.0;
+      unchanged = ends.1;
+      line = subst (λ (why : ReadRefused). Puts old.out.told new.out.told (input_line why r.name.now)) which puts;
+    }
+read_fault_at (Some a) (Refused (Text (Vox fault))) old new ends is puts = absurd (omega arith)
+read_fault_at (Some a) (Refused (Text (Script fault))) old new ends is puts = absurd (omega arith)
+read_fault_at (Some a) (Refused (Text Collides)) old new ends is puts = absurd (omega arith)
+read_fault_at (Some a) (Refused (Output r)) old new ends is puts = absurd (output_not_3 r.why is)
+read_fault_at (Some a) (Refused (Text Memory)) old new ends is puts = absurd (omega arith)
 
 -- status 9
-too_long_at : (a : Option Asking) (e : Ending) (before now : Option Files) (faults risen : ℕ) (told said : Option (List ℕ)) → EndsAs a e before now faults risen → status_of e ≡ 9 → Puts told said (line_of e) → Exceeded a before now faults risen told said
-too_long_at None e before now faults risen told said ends is puts = absurd (let usage = usage_status e ends.0 in omega (arith, is, usage))
-too_long_at (Some (CountOf file)) (Refused (TooLong name)) before now faults risen told said ends is puts =
-    record { name = name.now; exceeds = (ends.0.0, ends.0.1.0); no_fault = ends.0.1.1; unchanged = ends.1; line = puts }
-too_long_at (Some (RunOf asked)) (Refused (TooLong name)) before now faults risen told said ends is puts =
-    record { name = name.now; exceeds = ends.0; no_fault = ends.1.0; unchanged = ends.1.1; line = puts }
-too_long_at (Some a) _ before now faults risen told said ends is puts = absurd (omega arith)
+too_long_at : (a : Option Asking) (e : Ending) (old new : Outside) → EndsAs a e old.shelf new.shelf → status_of e ≡ 9 → Puts old.out.told new.out.told (line_of e) → Exceeded a old new
+too_long_at None e old new ends is puts = absurd (let usage = usage_status e ends.0 in omega (arith, is, usage))
+too_long_at (Some a) (Counted number) old new ends is puts = absurd (omega arith)
+too_long_at (Some a) (Ran number) old new ends is puts = absurd (omega arith)
+too_long_at (Some a) Usage old new ends is puts = absurd ends
+too_long_at (Some a) (Refused (Input r)) old new ends is puts =
+    let which : r.why ≡ reads.TooLong = is_too_long r.why is in
+    record {
+      name = r.name.now;
+      stops = subst (λ (why : ReadRefused). StopsAt why r.name.now (inputs_of a) old.shelf.files old.shelf.faults new.shelf.faults) which ends.0;
+      unchanged = ends.1;
+      line = subst (λ (why : ReadRefused). Puts old.out.told new.out.told (input_line why r.name.now)) which puts;
+    }
+too_long_at (Some a) (Refused (Text (Vox fault))) old new ends is puts = absurd (omega arith)
+too_long_at (Some a) (Refused (Text (Script fault))) old new ends is puts = absurd (omega arith)
+too_long_at (Some a) (Refused (Text Collides)) old new ends is puts = absurd (omega arith)
+too_long_at (Some a) (Refused (Output r)) old new ends is puts = absurd (output_not_9 r.why is)
+too_long_at (Some a) (Refused (Text Memory)) old new ends is puts = absurd (omega arith)
 
--- statuses 7 and 8 come with the put alone, or, 8, with want of memory before it
+-- status 4
+vox_refused_at : (a : Option Asking) (e : Ending) (old new : Outside) → EndsAs a e old.shelf new.shelf → status_of e ≡ 4 → Puts old.out.told new.out.told (line_of e) → VoxRefused a old new
+vox_refused_at None e old new ends is puts = absurd (let usage = usage_status e ends.0 in omega (arith, is, usage))
+vox_refused_at (Some a) (Counted number) old new ends is puts = absurd (omega arith)
+vox_refused_at (Some a) (Ran number) old new ends is puts = absurd (omega arith)
+vox_refused_at (Some a) Usage old new ends is puts = absurd ends
+vox_refused_at (Some a) (Refused (Input r)) old new ends is puts = absurd (input_not_4 r.why is)
+vox_refused_at (Some a) (Refused (Text (Vox fault))) old new ends is puts = record { fault = fault; refuses = ends.0; unchanged = ends.1; line = puts }
+vox_refused_at (Some a) (Refused (Text (Script fault))) old new ends is puts = absurd (omega arith)
+vox_refused_at (Some a) (Refused (Text Collides)) old new ends is puts = absurd (omega arith)
+vox_refused_at (Some a) (Refused (Output r)) old new ends is puts = absurd (output_not_4 r.why is)
+vox_refused_at (Some a) (Refused (Text Memory)) old new ends is puts = absurd (omega arith)
+
+-- status 5
+script_refused_at : (a : Option Asking) (e : Ending) (old new : Outside) → EndsAs a e old.shelf new.shelf → status_of e ≡ 5 → Puts old.out.told new.out.told (line_of e) → ScriptRefused a old new
+script_refused_at None e old new ends is puts = absurd (let usage = usage_status e ends.0 in omega (arith, is, usage))
+script_refused_at (Some a) (Counted number) old new ends is puts = absurd (omega arith)
+script_refused_at (Some a) (Ran number) old new ends is puts = absurd (omega arith)
+script_refused_at (Some a) Usage old new ends is puts = absurd ends
+script_refused_at (Some a) (Refused (Input r)) old new ends is puts = absurd (input_not_5 r.why is)
+script_refused_at (Some a) (Refused (Text (Vox fault))) old new ends is puts = absurd (omega arith)
+script_refused_at (Some a) (Refused (Text (Script fault))) old new ends is puts = record { fault = fault; refuses = ends.0; unchanged = ends.1; line = puts }
+script_refused_at (Some a) (Refused (Text Collides)) old new ends is puts = absurd (omega arith)
+script_refused_at (Some a) (Refused (Output r)) old new ends is puts = absurd (output_not_5 r.why is)
+script_refused_at (Some a) (Refused (Text Memory)) old new ends is puts = absurd (omega arith)
+
+-- status 6
+write_fault_at : (a : Option Asking) (e : Ending) (old new : Outside) → EndsAs a e old.shelf new.shelf → status_of e ≡ 6 → Puts old.out.told new.out.told (line_of e) → WriteFailed a old new
+write_fault_at None e old new ends is puts = absurd (let usage = usage_status e ends.0 in omega (arith, is, usage))
+write_fault_at (Some a) (Counted number) old new ends is puts = absurd (omega arith)
+write_fault_at (Some a) (Ran number) old new ends is puts = absurd (omega arith)
+write_fault_at (Some a) Usage old new ends is puts = absurd ends
+write_fault_at (Some a) (Refused (Input r)) old new ends is puts = absurd (input_not_6 r.why is)
+write_fault_at (Some a) (Refused (Text (Vox fault))) old new ends is puts = absurd (omega arith)
+write_fault_at (Some a) (Refused (Text (Script fault))) old new ends is puts = absurd (omega arith)
+write_fault_at (Some a) (Refused (Text Collides)) old new ends is puts = absurd (omega arith)
+write_fault_at (Some a) (Refused (Output r)) old new ends is puts =
+    let which : r.why ≡ writes.Failed = is_write_fault r.why is in
+    record {
+      name = r.name.now;
+      breaks = subst (λ (why : WriteRefused). Breaks why r.name.now a old.shelf new.shelf) which ends;
+      line = subst (λ (why : WriteRefused). Puts old.out.told new.out.told (output_line why r.name.now)) which puts;
+    }
+write_fault_at (Some a) (Refused (Text Memory)) old new ends is puts = absurd (omega arith)
+
+-- ---- statuses 7 and 8 come with the put alone, or, 8, with want of memory before it
 not_seven : (e : Ending) → status_of e ≡ 7 → ⊥
 not_seven (Counted number) is = omega arith
 not_seven (Ran number) is = omega arith
 not_seven Usage is = omega arith
-not_seven (Refused (Missing name)) is = omega arith
-not_seven (Refused _) is = omega arith
+not_seven (Refused (Input r)) is = input_not_7 r.why is
+not_seven (Refused (Output r)) is = output_not_7 r.why is
+not_seven (Refused (Text (Vox fault))) is = omega arith
+not_seven (Refused (Text (Script fault))) is = omega arith
+not_seven (Refused (Text Collides)) is = omega arith
+not_seven (Refused (Text Memory)) is = omega arith
+
+input_lacks : (why : ReadRefused) (name : List ℕ) → input_status why ≡ 8 → input_line why name ≡ memory_line
+input_lacks reads.Memory name is = refl
+input_lacks reads.Missing name is = absurd (omega arith)
+input_lacks reads.TooLong name is = absurd (omega arith)
+input_lacks reads.Failed name is = absurd (omega arith)
+
+output_lacks : (why : WriteRefused) (name : List ℕ) → output_status why ≡ 8 → WriteMayLackLine why × (output_line why name ≡ memory_line)
+output_lacks writes.Memory name is = (tt, refl)
+output_lacks writes.Failed name is = absurd (omega arith)
 
 memory_line_of : (e : Ending) → status_of e ≡ 8 → MayLackLine e × (line_of e ≡ memory_line)
-memory_line_of (Refused Memory) is = (tt, refl)
-memory_line_of _ is = absurd (omega arith)
+memory_line_of (Refused (Text Memory)) is = (tt, refl)
+memory_line_of (Refused (Input r)) is = (tt, input_lacks r.why r.name.now is)
+memory_line_of (Refused (Output r)) is = output_lacks r.why r.name.now is
+memory_line_of (Counted number) is = absurd (omega arith)
+memory_line_of (Ran number) is = absurd (omega arith)
+memory_line_of Usage is = absurd (omega arith)
+memory_line_of (Refused (Text (Vox fault))) is = absurd (omega arith)
+memory_line_of (Refused (Text (Script fault))) is = absurd (omega arith)
+memory_line_of (Refused (Text Collides)) is = absurd (omega arith)
 
-known_ending : (e : Ending) → IsTrue (is_status (status_of e))
-known_ending (Refused Collides) = refl
-known_ending _ = refl
-
--- ---- the clauses, of a whole run
-
-pub done_says : (a : Option Asking) (before now : Option Files) (f g h i : ℕ) (told said : Option (List ℕ)) (result : ℕ) → Run a before now f g h i told said result → result ≡ 0 → Done a before now told said
-done_says a before now f g h i told said result run e = let p = ended run.ending (λ is. omega arith) (λ is. omega arith) run.finish e in done_at a run.ending before now f g told said run.ends p.0 p.1
-
-pub usage_says : (a : Option Asking) (before now : Option Files) (f g h i : ℕ) (told said : Option (List ℕ)) (result : ℕ) → Run a before now f g h i told said result → result ≡ 1 → Unusable a before × (now ≡ before) × Puts told said usage_line
-usage_says a before now f g h i told said result run e = let p = ended run.ending (λ is. omega arith) (λ is. omega arith) run.finish e in usage_at a run.ending before now f g told said run.ends p.0 p.1
-
-pub missing_says : (a : Option Asking) (before now : Option Files) (f g h i : ℕ) (told said : Option (List ℕ)) (result : ℕ) → Run a before now f g h i told said result → result ≡ 2 → Missed a before now f g told said
-missing_says a before now f g h i told said result run e = let p = ended run.ending (λ is. omega arith) (λ is. omega arith) run.finish e in missing_at a run.ending before now f g told said run.ends p.0 p.1
-
-pub read_fault_says : (a : Option Asking) (before now : Option Files) (f g h i : ℕ) (told said : Option (List ℕ)) (result : ℕ) → Run a before now f g h i told said result → result ≡ 3 → Faulted a before now f g told said
-read_fault_says a before now f g h i told said result run e = let p = ended run.ending (λ is. omega arith) (λ is. omega arith) run.finish e in read_fault_at a run.ending before now f g told said run.ends p.0 p.1
-
-pub vox_refused_says : (a : Option Asking) (before now : Option Files) (f g h i : ℕ) (told said : Option (List ℕ)) (result : ℕ) → Run a before now f g h i told said result → result ≡ 4 → VoxRefused a before now told said
-vox_refused_says a before now f g h i told said result run e = let p = ended run.ending (λ is. omega arith) (λ is. omega arith) run.finish e in vox_refused_at a run.ending before now f g told said run.ends p.0 p.1
-
-pub script_refused_says : (a : Option Asking) (before now : Option Files) (f g h i : ℕ) (told said : Option (List ℕ)) (result : ℕ) → Run a before now f g h i told said result → result ≡ 5 → ScriptRefused a before now told said
-script_refused_says a before now f g h i told said result run e = let p = ended run.ending (λ is. omega arith) (λ is. omega arith) run.finish e in script_refused_at a run.ending before now f g told said run.ends p.0 p.1
-
-pub write_fault_says : (a : Option Asking) (before now : Option Files) (f g h i : ℕ) (told said : Option (List ℕ)) (result : ℕ) → Run a before now f g h i told said result → result ≡ 6 → WriteFailed a before now f g told said
-write_fault_says a before now f g h i told said result run e = let p = ended run.ending (λ is. omega arith) (λ is. omega arith) run.finish e in write_fault_at a run.ending before now f g told said run.ends p.0 p.1
-
-pub too_long_says : (a : Option Asking) (before now : Option Files) (f g h i : ℕ) (told said : Option (List ℕ)) (result : ℕ) → Run a before now f g h i told said result → result ≡ 9 → Exceeded a before now f g told said
-too_long_says a before now f g h i told said result run e = let p = ended run.ending (λ is. omega arith) (λ is. omega arith) run.finish e in too_long_at a run.ending before now f g told said run.ends p.0 p.1
-
-out_fault_by : (e : Ending) {h i result : ℕ} {told said : Option (List ℕ)} → Finishes e h i told said result → result ≡ 7 → Rose h i × (Begins told said (line_of e) ⊎ (MayLackLine e × Begins told said memory_line))
+out_fault_by : (e : Ending) {result : ℕ} {old new : SinkState} → Finishes e old new result → result ≡ 7 → Rose old.faults new.faults × (Begins old.told new.told (line_of e) ⊎ (MayLackLine e × Begins old.told new.told memory_line))
 out_fault_by e (inl (put is line)) same = absurd (not_seven e (sym is ∙ same))
 out_fault_by e (inl (failed is rose begun)) same = (rose, inl begun)
 out_fault_by e (inl (lacking is none)) same = absurd (omega arith)
@@ -181,25 +308,38 @@ out_fault_by e (inr (may, put is line)) same = absurd (omega arith)
 out_fault_by e (inr (may, failed is rose begun)) same = (rose, inr (may, begun))
 out_fault_by e (inr (may, lacking is none)) same = absurd (omega arith)
 
-pub out_fault_says : (a : Option Asking) (before now : Option Files) (f g h i : ℕ) (told said : Option (List ℕ)) (result : ℕ) → Run a before now f g h i told said result → result ≡ 7 → OutFailed a before now f g h i told said
-out_fault_says a before now f g h i told said result run e =
-    let p = out_fault_by run.ending run.finish e in
-    record { ending = run.ending; ends = run.ends; rose = p.0; begun = p.1 }
-
-memory_by : (e : Ending) {h i result : ℕ} {told said : Option (List ℕ)} → Finishes e h i told said result → result ≡ 8 → (MayLackLine e × Puts told said memory_line) ⊎ (said ≡ told)
-memory_by e {told = told} {said = said} (inl (put is line)) same =
+memory_by : (e : Ending) {result : ℕ} {old new : SinkState} → Finishes e old new result → result ≡ 8 → (MayLackLine e × Puts old.told new.told memory_line) ⊎ (new.told ≡ old.told)
+memory_by e {old = old} {new = new} (inl (put is line)) same =
     let of_line = memory_line_of e (sym is ∙ same) in
-    inl (of_line.0, subst (λ (l : List ℕ). Puts told said l) of_line.1 line)
+    inl (of_line.0, subst (λ (l : List ℕ). Puts old.told new.told l) of_line.1 line)
 memory_by e (inl (failed is rose begun)) same = absurd (omega arith)
 memory_by e (inl (lacking is none)) same = inr none
 memory_by e (inr (may, put is line)) same = inl (may, line)
 memory_by e (inr (may, failed is rose begun)) same = absurd (omega arith)
 memory_by e (inr (may, lacking is none)) same = inr none
 
-pub memory_says : (a : Option Asking) (before now : Option Files) (f g h i : ℕ) (told said : Option (List ℕ)) (result : ℕ) → Run a before now f g h i told said result → result ≡ 8 → LacksMemory a before now f g told said
-memory_says a before now f g h i told said result run e = record { ending = run.ending; ends = run.ends; line = memory_by run.ending run.finish e }
+known_input : (why : ReadRefused) → IsTrue (is_status (input_status why))
+known_input reads.Missing = refl
+known_input reads.TooLong = refl
+known_input reads.Failed = refl
+known_input reads.Memory = refl
 
-known_by : (e : Ending) {h i result : ℕ} {told said : Option (List ℕ)} → IsTrue (is_status (status_of e)) → Finishes e h i told said result → IsTrue (is_status result)
+known_output : (why : WriteRefused) → IsTrue (is_status (output_status why))
+known_output writes.Failed = refl
+known_output writes.Memory = refl
+
+known_ending : (e : Ending) → IsTrue (is_status (status_of e))
+known_ending (Counted number) = refl
+known_ending (Ran number) = refl
+known_ending Usage = refl
+known_ending (Refused (Input r)) = known_input r.why
+known_ending (Refused (Output r)) = known_output r.why
+known_ending (Refused (Text (Vox fault))) = refl
+known_ending (Refused (Text (Script fault))) = refl
+known_ending (Refused (Text Collides)) = refl
+known_ending (Refused (Text Memory)) = refl
+
+known_by : (e : Ending) {result : ℕ} {old new : SinkState} → IsTrue (is_status (status_of e)) → Finishes e old new result → IsTrue (is_status result)
 known_by e known (inl (put is line)) = rw is known
 known_by e known (inl (failed is rose begun)) = rw is refl
 known_by e known (inl (lacking is none)) = rw is refl
@@ -207,5 +347,37 @@ known_by e known (inr (may, put is line)) = rw is refl
 known_by e known (inr (may, failed is rose begun)) = rw is refl
 known_by e known (inr (may, lacking is none)) = rw is refl
 
-pub known_says : (ending : Ending) (h i : ℕ) (told said : Option (List ℕ)) (result : ℕ) → Finishes ending h i told said result → IsTrue (is_status result)
-known_says ending h i told said result finish = known_by ending (known_ending ending) finish
+-- ---- the clauses, of a whole run
+
+pub known_says : (a : Option Asking) (old new : Outside) (result : ℕ) → Runs a old new result → IsTrue (is_status result)
+known_says a old new result run = known_by run.ending (known_ending run.ending) run.finish
+
+pub done_says : (a : Option Asking) (old new : Outside) (result : ℕ) → Runs a old new result → result ≡ 0 → Done a old new
+done_says a old new result run is = let p = ended run.ending (λ s. omega arith) (λ s. omega arith) run.finish is in done_at a run.ending old new run.ends p.0 p.1
+
+pub usage_says : (a : Option Asking) (old new : Outside) (result : ℕ) → Runs a old new result → result ≡ 1 → Unusable a old new
+usage_says a old new result run is = let p = ended run.ending (λ s. omega arith) (λ s. omega arith) run.finish is in usage_at a run.ending old new run.ends p.0 p.1
+
+pub missing_says : (a : Option Asking) (old new : Outside) (result : ℕ) → Runs a old new result → result ≡ 2 → Missed a old new
+missing_says a old new result run is = let p = ended run.ending (λ s. omega arith) (λ s. omega arith) run.finish is in missing_at a run.ending old new run.ends p.0 p.1
+
+pub read_fault_says : (a : Option Asking) (old new : Outside) (result : ℕ) → Runs a old new result → result ≡ 3 → Faulted a old new
+read_fault_says a old new result run is = let p = ended run.ending (λ s. omega arith) (λ s. omega arith) run.finish is in read_fault_at a run.ending old new run.ends p.0 p.1
+
+pub vox_refused_says : (a : Option Asking) (old new : Outside) (result : ℕ) → Runs a old new result → result ≡ 4 → VoxRefused a old new
+vox_refused_says a old new result run is = let p = ended run.ending (λ s. omega arith) (λ s. omega arith) run.finish is in vox_refused_at a run.ending old new run.ends p.0 p.1
+
+pub script_refused_says : (a : Option Asking) (old new : Outside) (result : ℕ) → Runs a old new result → result ≡ 5 → ScriptRefused a old new
+script_refused_says a old new result run is = let p = ended run.ending (λ s. omega arith) (λ s. omega arith) run.finish is in script_refused_at a run.ending old new run.ends p.0 p.1
+
+pub write_fault_says : (a : Option Asking) (old new : Outside) (result : ℕ) → Runs a old new result → result ≡ 6 → WriteFailed a old new
+write_fault_says a old new result run is = let p = ended run.ending (λ s. omega arith) (λ s. omega arith) run.finish is in write_fault_at a run.ending old new run.ends p.0 p.1
+
+pub too_long_says : (a : Option Asking) (old new : Outside) (result : ℕ) → Runs a old new result → result ≡ 9 → Exceeded a old new
+too_long_says a old new result run is = let p = ended run.ending (λ s. omega arith) (λ s. omega arith) run.finish is in too_long_at a run.ending old new run.ends p.0 p.1
+
+pub out_fault_says : (a : Option Asking) (old new : Outside) (result : ℕ) → Runs a old new result → result ≡ 7 → OutFailed a old new
+out_fault_says a old new result run is = let p = out_fault_by run.ending run.finish is in record { ending = run.ending; ends = run.ends; rose = p.0; begun = p.1 }
+
+pub memory_says : (a : Option Asking) (old new : Outside) (result : ℕ) → Runs a old new result → result ≡ 8 → LacksMemory a old new
+memory_says a old new result run is = record { ending = run.ending; ends = run.ends; line = memory_by run.ending run.finish is }

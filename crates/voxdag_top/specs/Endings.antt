@@ -1,84 +1,97 @@
--- How the program ends, what stands behind each ending, and what it leaves on the shelf. `faults` and `risen` are the shelf's
--- counts of faults before and after, `before` and `now` its files.
+-- How the program ends, what stands behind each ending, its status and its line.
 use Rattle.std.specs.Prelude.{◌≡◌, ℕ, List, Option, Some, None, Ok, Err, ⊤}
-use Rattle.vw_io.specs.Outside.{Files, Rose, Stayed}
-use Rattle.vox_chunk.specs.declared.faults.VoxFault.{VoxFault}
+use Rattle.vw_io.specs.Outside.{ShelfState}
+use Rattle.vw_io.specs.declared.shelves.ReadRefused.{ReadRefused}
+use Rattle.vw_io.specs.declared.shelves.ReadRefused.TheVariants as reads
+use Rattle.vw_io.specs.declared.shelves.WriteRefused.{WriteRefused}
+use Rattle.vw_io.specs.declared.shelves.WriteRefused.TheVariants as writes
 use Rattle.vox_chunk.specs.Faults.{kind_of, position_of}
-use Rattle.vox_read.specs.Files.{Reads}
 use Rattle.script.specs.Faults.{number_of_kind}
-use Rattle.script_files.specs.declared.orders.RunRefused.{RunRefused}
-use Rattle.script_files.specs.declared.orders.RunRefused.TheVariants.{Missing, ReadFault, TooLong, Vox, Script, Collides, WriteFault, Memory}
-use Rattle.script_files.specs.Orders.{Taken, NoFile, FileIsOver, vox_limit}
+use Rattle.script_files.specs.declared.refusals.CommandRefused.{CommandRefused}
+use Rattle.script_files.specs.declared.refusals.CommandRefused.TheVariants.{Input, Text, Output}
+use Rattle.script_files.specs.declared.refusals.TextRefused.{TextRefused}
+use Rattle.script_files.specs.declared.refusals.TextRefused.TheVariants.{Vox, Script, Collides, Memory}
+use Rattle.script_files.specs.Requests.{Asking, CountOf, RunOf}
 use Rattle.script_files.specs.Outcomes.{Outcome}
-use Rattle.script_files.specs.Writes.{written_name}
 use Rattle.voxdag_top.specs.declared.endings.Ending.{Ending}
 use Rattle.voxdag_top.specs.declared.endings.Ending.TheVariants.{Counted, Ran, Usage, Refused}
-use Rattle.voxdag_top.specs.Words.{Asking, CountOf, RunOf}
-use Rattle.voxdag_top.specs.Counting.{CountsFile}
-use Rattle.voxdag_top.specs.Lines.{count_line, run_line, usage_line, missing_line, read_fault_line, vox_line, script_line, write_fault_line, too_long_line, memory_line}
+use Rattle.voxdag_top.specs.Lines.{count_line, run_line, usage_line, vox_line, script_line, input_line, output_line, memory_line}
 
--- the file was taken, and the number is that of its models' cells
-pub record Counts (file : List ℕ) (files : Option Files) (number : ℕ) : Type 0 where
-  pub bytes : List ℕ
-  pub taken : Taken files file vox_limit bytes
-  pub counts : CountsFile bytes number
+abbrev pub IsCount : Asking → Type 0
+IsCount (CountOf file) = ⊤
+IsCount (RunOf asked) = ⊥
 
--- the file was taken, and has this fault
-pub record HasFault (file : List ℕ) (files : Option Files) (fault : VoxFault) : Type 0 where
-  pub bytes : List ℕ
-  pub taken : Taken files file vox_limit bytes
-  pub says : Reads bytes (Err fault)
+abbrev pub IsRunOf : Asking → Type 0
+IsRunOf (CountOf file) = ⊥
+IsRunOf (RunOf asked) = ⊤
 
--- why a file could not be counted
-abbrev pub CountRefused : RunRefused → List ℕ → Option Files → ℕ → ℕ → Type 0
-CountRefused (Missing name) file files faults risen = (name.now ≡ file) × (NoFile files file × Stayed faults risen)
-CountRefused (ReadFault name) file files faults risen = (name.now ≡ file) × Rose faults risen
-CountRefused (TooLong name) file files faults risen = (name.now ≡ file) × (FileIsOver files file vox_limit × Stayed faults risen)
-CountRefused (Vox fault) file files faults risen = HasFault file files fault × (risen ≡ faults)
-CountRefused Memory file files faults risen = risen ≡ faults
-CountRefused _ file files faults risen = ⊥
+-- an ending of a command
+abbrev pub CommandEnds : Ending → Asking → ShelfState → ShelfState → Type 0
+CommandEnds (Counted number) a old new = IsCount a × Outcome (Ok number) a old new
+CommandEnds (Ran number) a old new = IsRunOf a × Outcome (Ok number) a old new
+CommandEnds Usage a old new = ⊥
+CommandEnds (Refused r) a old new = Outcome (Err r) a old new
 
--- an ending of `count FILE`, of `run`, and of words outside the grammar
-abbrev pub CountEnds : Ending → List ℕ → Option Files → ℕ → ℕ → Type 0
-CountEnds (Counted number) file files faults risen = Counts file files number × (risen ≡ faults)
-CountEnds (Refused r) file files faults risen = CountRefused r file files faults risen
-CountEnds _ file files faults risen = ⊥
+-- and of what was asked for, which is nothing where the words are outside the grammar
+abbrev pub EndsAs : Option Asking → Ending → ShelfState → ShelfState → Type 0
+EndsAs None e old new = (e ≡ Usage) × (new ≡ old)
+EndsAs (Some a) e old new = CommandEnds e a old new
 
-abbrev pub EndsAs : Option Asking → Ending → Option Files → Option Files → ℕ → ℕ → Type 0
-EndsAs None e before now faults risen = (e ≡ Usage) × ((risen ≡ faults) × (now ≡ before))
-EndsAs (Some (CountOf file)) e before now faults risen = CountEnds e file before faults risen × (now ≡ before)
-EndsAs (Some (RunOf asked)) (Ran number) before now faults risen = Outcome (Ok number) asked before now faults risen
-EndsAs (Some (RunOf asked)) (Refused r) before now faults risen = Outcome (Err r) asked before now faults risen
-EndsAs (Some (RunOf asked)) _ before now faults risen = ⊥
+abbrev pub input_status : ReadRefused → ℕ
+input_status reads.Missing = 2
+input_status reads.Failed = 3
+input_status reads.Memory = 8
+input_status reads.TooLong = 9
+
+abbrev pub output_status : WriteRefused → ℕ
+output_status writes.Failed = 6
+output_status writes.Memory = 8
+
+abbrev pub text_status : TextRefused → ℕ
+text_status (Vox fault) = 4
+text_status (Script fault) = 5
+text_status Collides = 1
+text_status Memory = 8
+
+abbrev pub refused_status : CommandRefused → ℕ
+refused_status (Input r) = input_status r.why
+refused_status (Text r) = text_status r
+refused_status (Output r) = output_status r.why
 
 abbrev pub status_of : Ending → ℕ
 status_of (Counted number) = 0
 status_of (Ran number) = 0
 status_of Usage = 1
-status_of (Refused Collides) = 1
-status_of (Refused (Missing name)) = 2
-status_of (Refused (ReadFault name)) = 3
-status_of (Refused (Vox fault)) = 4
-status_of (Refused (Script fault)) = 5
-status_of (Refused (WriteFault w)) = 6
-status_of (Refused Memory) = 8
-status_of (Refused (TooLong name)) = 9
+status_of (Refused r) = refused_status r
+
+abbrev pub text_line : TextRefused → List ℕ
+text_line (Vox fault) = vox_line (kind_of fault) (position_of fault)
+text_line (Script fault) = script_line fault.line (number_of_kind fault.kind)
+text_line Collides = usage_line
+text_line Memory = memory_line
+
+abbrev pub refused_line : CommandRefused → List ℕ
+refused_line (Input r) = input_line r.why r.name.now
+refused_line (Text r) = text_line r
+refused_line (Output r) = output_line r.why r.name.now
 
 abbrev pub line_of : Ending → List ℕ
 line_of (Counted number) = count_line number
 line_of (Ran number) = run_line number
 line_of Usage = usage_line
-line_of (Refused Collides) = usage_line
-line_of (Refused (Missing name)) = missing_line name.now
-line_of (Refused (ReadFault name)) = read_fault_line name.now
-line_of (Refused (Vox fault)) = vox_line (kind_of fault) (position_of fault)
-line_of (Refused (Script fault)) = script_line fault.line (number_of_kind fault.kind)
-line_of (Refused (WriteFault w)) = write_fault_line (written_name w)
-line_of (Refused Memory) = memory_line
-line_of (Refused (TooLong name)) = too_long_line name.now
+line_of (Refused r) = refused_line r
 
 -- the ending's line may lack memory, and then the one of want of memory stands for it: not at a fault of an output, whose
 -- file may be half written
+abbrev pub WriteMayLackLine : WriteRefused → Type 0
+WriteMayLackLine writes.Failed = ⊥
+WriteMayLackLine writes.Memory = ⊤
+
+abbrev pub RefusalMayLackLine : CommandRefused → Type 0
+RefusalMayLackLine (Input r) = ⊤
+RefusalMayLackLine (Text r) = ⊤
+RefusalMayLackLine (Output r) = WriteMayLackLine r.why
+
 abbrev pub MayLackLine : Ending → Type 0
-MayLackLine (Refused (WriteFault w)) = ⊥
+MayLackLine (Refused r) = RefusalMayLackLine r
 MayLackLine _ = ⊤

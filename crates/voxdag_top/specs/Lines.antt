@@ -2,6 +2,11 @@
 use Rattle.std.specs.Prelude.{◌≡◌, ℕ, List, ◌++◌, Option, Some, None, codes}
 use Rattle.std.specs.Fmt.{decimal}
 use Rattle.vw_io.specs.Put.{AppendsPrefix}
+use Rattle.vw_io.specs.declared.shelves.ReadRefused.{ReadRefused}
+use Rattle.vw_io.specs.declared.shelves.ReadRefused.TheVariants as reads
+use Rattle.vw_io.specs.declared.shelves.WriteRefused.{WriteRefused}
+use Rattle.vw_io.specs.declared.shelves.WriteRefused.TheVariants as writes
+use Rattle.script_files.specs.Requests.{Asking, CountOf, RunOf}
 
 abbrev pub count_line : ℕ → List ℕ
 count_line n = decimal n ++ codes "\n"
@@ -34,6 +39,22 @@ too_long_line name = codes "voxdag: too long " ++ (name ++ codes "\n")
 
 abbrev pub memory_line : List ℕ
 memory_line = codes "voxdag: memory\n"
+
+-- the line of an input that was not taken, and of an output that was not written
+abbrev pub input_line : ReadRefused → List ℕ → List ℕ
+input_line reads.Missing name = missing_line name
+input_line reads.TooLong name = too_long_line name
+input_line reads.Failed name = read_fault_line name
+input_line reads.Memory name = memory_line
+
+abbrev pub output_line : WriteRefused → List ℕ → List ℕ
+output_line writes.Failed name = write_fault_line name
+output_line writes.Memory name = memory_line
+
+-- the line of a command that came to its end
+abbrev pub done_line : Asking → ℕ → List ℕ
+done_line (CountOf file) number = count_line number
+done_line (RunOf asked) number = run_line number
 
 -- the line was appended to what was put before, where the output tells that
 abbrev pub Puts : Option (List ℕ) → Option (List ℕ) → List ℕ → Type 0

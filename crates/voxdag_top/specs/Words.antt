@@ -4,7 +4,7 @@ use Rattle.std.specs.Global.{Global}
 use Rattle.std.specs.Str.{bytes_eq}
 use Rattle.script.specs.declared.faults.ScriptKind.{ScriptKind}
 use Rattle.script.specs.Numbers.{number_of}
-use Rattle.script_files.specs.Orders.{Asked}
+use Rattle.script_files.specs.Requests.{Asking, CountOf, RunOf}
 
 -- the bytes of each word
 abbrev pub texts : List (String Global) → List (List ℕ)
@@ -14,11 +14,6 @@ texts words = map string_bytes words
 abbrev pub is_operand : List ℕ → Bool
 is_operand [] = false
 is_operand (first ∷ others) = not (first == 45)
-
--- what words ask for: to count the cells of a file, or to run a script
-pub data Asking : Type 0 where
-  CountOf : List ℕ → Asking
-  RunOf : Asked → Asking
 
 -- `count FILE`
 abbrev pub counted : List (List ℕ) → Option Asking
@@ -70,6 +65,6 @@ run_words words = if begins_with (codes "--side") words then with_side words els
 
 -- what the words ask for, where they are in the grammar: `count FILE`, or `run`, then at most one pair `--side s`, then at
 -- most one pair `--journal J`, then `FILE SCRIPT`
-abbrev pub asking_of : List (List ℕ) → Option Asking
-asking_of [] = None
-asking_of (command ∷ others) = if bytes_eq command (codes "count") then counted others else (if bytes_eq command (codes "run") then run_words others else None)
+abbrev pub request_of : List (List ℕ) → Option Asking
+request_of [] = None
+request_of (command ∷ others) = if bytes_eq command (codes "count") then counted others else (if bytes_eq command (codes "run") then run_words others else None)

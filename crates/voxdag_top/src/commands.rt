@@ -1,19 +1,18 @@
-ghost use Rattle.std.specs.Prelude.{◌≡◌, ℕ, [], Some, None, IsTrue, Option, string_bytes, string_capacity};
-ghost use Rattle.vw_io.specs.Outside.{Files, Rose};
-ghost use Rattle.script_files.specs.Asking.{asked_of};
+ghost use Rattle.std.specs.Prelude.{◌≡◌, ◌≤◌, [], Some, None, IsTrue, IfSome, length, string_bytes, string_capacity};
+ghost use Rattle.vw_io.specs.Outside.{Files, Rose, outside};
+ghost use Rattle.script_files.specs.Requests.{CountOf, RunOf, transcript_name};
 ghost use Rattle.script_files.specs.Verdicts.{Verdict};
-ghost use Rattle.voxdag_top.specs.Words.{texts, asking_of, Asking, CountOf, RunOf};
-ghost use Rattle.voxdag_top.specs.Endings.{CountEnds, EndsAs};
-ghost use Rattle.voxdag_top.specs.Finishing.{HasRoom};
+ghost use Rattle.voxdag_top.specs.Words.{texts, request_of};
+ghost use Rattle.voxdag_top.specs.Endings.{CommandEnds};
+ghost use Rattle.voxdag_top.specs.Finishing.{Runs, HasRoom};
 ghost use Rattle.voxdag_top.specs.Verdicts.{Judges, status_for};
 ghost use Rattle.voxdag_top.specs.Statuses.{IsOr, is_status, Done, Unusable, Missed, Faulted, VoxRefused, ScriptRefused, WriteFailed, OutFailed, LacksMemory, Exceeded};
-ghost use Rattle.voxdag_top.specs.Lines.{usage_line, Puts};
+ghost use Rattle.voxdag_top.specs.Lines.{write_fault_line};
 
-use crate::counting::count_cells;
 use crate::endings::Ending;
 use crate::lines::{finish, write_fault_room};
 use crate::words::{Command, read_words};
-use script_files::{Order, RunRefused, read_vox, run_files};
+use script_files::{CommandRefused, Order, TextRefused, count_file, run_files};
 use std::alloc::Global;
 use vw_io::{Shelf, Sink};
 
@@ -32,81 +31,123 @@ pub fn voxdag<S: Shelf, O: Sink>(alloc: Global, words: &[String], shelf: &mut S,
     ensures known { IsTrue (is_status result) }
 
     // what each status says
-    ensures done { result ≡ 0 → Done (asking_of (texts words.now)) (S.files shelf.old) (S.files shelf.new) (O.told out.old) (O.told out.new) }
-    ensures usage { result ≡ 1 → Unusable (asking_of (texts words.now)) (S.files shelf.old) × (S.files shelf.new ≡ S.files shelf.old) × Puts (O.told out.old) (O.told out.new) usage_line }
-    ensures missing { result ≡ 2 → Missed (asking_of (texts words.now)) (S.files shelf.old) (S.files shelf.new) (S.faults shelf.old) (S.faults shelf.new) (O.told out.old) (O.told out.new) }
-    ensures read_fault { result ≡ 3 → Faulted (asking_of (texts words.now)) (S.files shelf.old) (S.files shelf.new) (S.faults shelf.old) (S.faults shelf.new) (O.told out.old) (O.told out.new) }
-    ensures vox_refused { result ≡ 4 → VoxRefused (asking_of (texts words.now)) (S.files shelf.old) (S.files shelf.new) (O.told out.old) (O.told out.new) }
-    ensures script_refused { result ≡ 5 → ScriptRefused (asking_of (texts words.now)) (S.files shelf.old) (S.files shelf.new) (O.told out.old) (O.told out.new) }
-    ensures write_fault { result ≡ 6 → WriteFailed (asking_of (texts words.now)) (S.files shelf.old) (S.files shelf.new) (S.faults shelf.old) (S.faults shelf.new) (O.told out.old) (O.told out.new) }
-    ensures out_fault { result ≡ 7 → OutFailed (asking_of (texts words.now)) (S.files shelf.old) (S.files shelf.new) (S.faults shelf.old) (S.faults shelf.new) (O.faults out.old) (O.faults out.new) (O.told out.old) (O.told out.new) }
-    ensures memory { result ≡ 8 → LacksMemory (asking_of (texts words.now)) (S.files shelf.old) (S.files shelf.new) (S.faults shelf.old) (S.faults shelf.new) (O.told out.old) (O.told out.new) }
-    ensures too_long { result ≡ 9 → Exceeded (asking_of (texts words.now)) (S.files shelf.old) (S.files shelf.new) (S.faults shelf.old) (S.faults shelf.new) (O.told out.old) (O.told out.new) }
+    ensures done { result ≡ 0 → Done (request_of (texts words.now))
+        (outside (S.state shelf.old) (O.state out.old)) (outside (S.state shelf.new) (O.state out.new)) }
+    ensures usage { result ≡ 1 → Unusable (request_of (texts words.now))
+        (outside (S.state shelf.old) (O.state out.old)) (outside (S.state shelf.new) (O.state out.new)) }
+    ensures missing { result ≡ 2 → Missed (request_of (texts words.now))
+        (outside (S.state shelf.old) (O.state out.old)) (outside (S.state shelf.new) (O.state out.new)) }
+    ensures read_fault { result ≡ 3 → Faulted (request_of (texts words.now))
+        (outside (S.state shelf.old) (O.state out.old)) (outside (S.state shelf.new) (O.state out.new)) }
+    ensures vox_refused { result ≡ 4 → VoxRefused (request_of (texts words.now))
+        (outside (S.state shelf.old) (O.state out.old)) (outside (S.state shelf.new) (O.state out.new)) }
+    ensures script_refused { result ≡ 5 → ScriptRefused (request_of (texts words.now))
+        (outside (S.state shelf.old) (O.state out.old)) (outside (S.state shelf.new) (O.state out.new)) }
+    ensures write_fault { result ≡ 6 → WriteFailed (request_of (texts words.now))
+        (outside (S.state shelf.old) (O.state out.old)) (outside (S.state shelf.new) (O.state out.new)) }
+    ensures out_fault { result ≡ 7 → OutFailed (request_of (texts words.now))
+        (outside (S.state shelf.old) (O.state out.old)) (outside (S.state shelf.new) (O.state out.new)) }
+    ensures memory { result ≡ 8 → LacksMemory (request_of (texts words.now))
+        (outside (S.state shelf.old) (O.state out.old)) (outside (S.state shelf.new) (O.state out.new)) }
+    ensures too_long { result ≡ 9 → Exceeded (request_of (texts words.now))
+        (outside (S.state shelf.old) (O.state out.old)) (outside (S.state shelf.new) (O.state out.new)) }
 
-    // which status must come: for words outside the grammar, and for all others over a shelf that tells its files and does not fail
-    ensures usage_comes { asking_of (texts words.now) ≡ None → IsOr 1 result }
-    ensures comes { (files : Files) (v : Verdict) → S.files shelf.old ≡ Some files → (Rose (S.faults shelf.old) (S.faults shelf.new) → ⊥) → Judges (asking_of (texts words.now)) files v → IsOr (status_for v) result }
+    // which status must come: for words outside the grammar, and for all others over a shelf that tells
+    // its files and does not fail
+    ensures usage_comes { request_of (texts words.now) ≡ None → IsOr 1 result }
+    ensures comes { (files : Files) (v : Verdict) → (S.state shelf.old).files ≡ Some files
+        → (Rose (S.state shelf.old).faults (S.state shelf.new).faults → ⊥)
+        → Judges (request_of (texts words.now)) files v → IsOr (status_for v) result }
 {
-    let mut room = String::new(alloc);
-    let ending = run(alloc, words, shelf, &mut room);
-    finish(alloc, &ending, room, out)
+    answer(alloc, words, shelf, out)
 }
 
-// Does what the words ask for. The room is enough for the line of the ending, where that must not lack memory.
-fn run<'w, S: Shelf>(
-    alloc: Global,
-    words: &'w [String],
-    shelf: &mut S,
-    room: &mut String,
-) -> Ending<'w>
-    requires { string_bytes room.old ≡ [] }
-    ensures ends { EndsAs (asking_of (texts words.now)) result (S.files shelf.old) (S.files shelf.new)
-        (S.faults shelf.old) (S.faults shelf.new) }
-    ensures empty { string_bytes room.new ≡ [] }
-    ensures room { HasRoom result (string_capacity room.new) }
+// Does what the words ask for, and puts its line.
+fn answer<S: Shelf, O: Sink>(alloc: Global, words: &[String], shelf: &mut S, out: &mut O) -> u8
+    ensures { Runs (request_of (texts words.now))
+        (outside (S.state shelf.old) (O.state out.old)) (outside (S.state shelf.new) (O.state out.new)) result }
 {
     match read_words(words) {
-        None => Ending::Usage,
-        Some(Command::Count(file)) => count(alloc, file, shelf),
-        Some(Command::Run(order)) => run_order(alloc, &order, shelf, room),
+        None => finish(alloc, &Ending::Usage, String::new(alloc), out),
+        Some(Command::Count(file)) => count(alloc, file, shelf, out),
+        Some(Command::Run(order)) => run(alloc, &order, shelf, out),
     }
 }
 
-// Runs the script, once there is room for the line of a fault at an output.
-#[tactic(auto, using(crate::proofs::Rooms::has_room))]
-fn run_order<'w, S: Shelf>(
-    alloc: Global,
-    order: &Order<'w>,
-    shelf: &mut S,
-    room: &mut String,
-) -> Ending<'w>
-    requires { string_bytes room.old ≡ [] }
-    ensures ends { EndsAs (Some (RunOf (asked_of order.now))) result (S.files shelf.old) (S.files shelf.new)
-        (S.faults shelf.old) (S.faults shelf.new) }
-    ensures empty { string_bytes room.new ≡ [] }
-    ensures room { HasRoom result (string_capacity room.new) }
+fn count<S: Shelf, O: Sink>(alloc: Global, file: &str, shelf: &mut S, out: &mut O) -> u8
+    ensures { Runs (Some (CountOf file.now))
+        (outside (S.state shelf.old) (O.state out.old)) (outside (S.state shelf.new) (O.state out.new)) result }
 {
-    if room
-        .reserve_exact(write_fault_room(order.script, order.journal))
-        .is_err()
-    {
-        return Ending::Refused(RunRefused::Memory);
-    }
-    match run_files(alloc, order, shelf) {
-        Ok(records) => Ending::Ran(records),
+    let ending = counted(alloc, file, shelf);
+    finish(alloc, &ending, String::new(alloc), out)
+}
+
+#[tactic(auto, using(crate::proofs::Rooms::count_refusal))]
+fn counted<'w, S: Shelf>(alloc: Global, file: &'w str, shelf: &mut S) -> Ending<'w>
+    ensures ends { CommandEnds result (CountOf file.now) (S.state shelf.old) (S.state shelf.new) }
+    ensures room { HasRoom result 0 }
+{
+    match count_file(alloc, file, shelf) {
+        Ok(cells) => Ending::Counted(cells),
         Err(refused) => Ending::Refused(refused),
     }
 }
 
-fn count<'w, S: Shelf>(alloc: Global, file: &'w str, shelf: &mut S) -> Ending<'w>
-    ensures ends { CountEnds result file.now (S.files shelf.old) (S.faults shelf.old) (S.faults shelf.new) }
-    ensures unchanged { S.files shelf.new ≡ S.files shelf.old }
+// Runs the script, once there is the transcript's name, and room for the line of a fault at an output.
+fn run<S: Shelf, O: Sink>(alloc: Global, order: &Order<'_>, shelf: &mut S, out: &mut O) -> u8
+    ensures { Runs (Some (RunOf order.now))
+        (outside (S.state shelf.old) (O.state out.old)) (outside (S.state shelf.new) (O.state out.new)) result }
 {
-    match read_vox(alloc, file, shelf) {
-        Ok(bytes) => match count_cells(alloc, bytes) {
-            Ok(cells) => Ending::Counted(cells),
-            Err(fault) => Ending::Refused(RunRefused::from(fault)),
+    let lacking = Ending::Refused(CommandRefused::Text(TextRefused::Memory));
+    match format!(in alloc; "{}.out", order.script) {
+        Ok(name) => match String::with_capacity(
+            alloc,
+            write_fault_room(name.as_str(), order.journal),
+        ) {
+            Ok(room) => run_named(alloc, order, name.as_str(), room, shelf, out),
+            Err(_) => finish(alloc, &lacking, String::new(alloc), out),
         },
+        Err(_) => finish(alloc, &lacking, String::new(alloc), out),
+    }
+}
+
+#[tactic(auto, using(crate::proofs::Rooms::run_has_room))]
+fn run_named<S: Shelf, O: Sink>(
+    alloc: Global,
+    order: &Order<'_>,
+    transcript: &str,
+    room: String,
+    shelf: &mut S,
+    out: &mut O,
+) -> u8
+    requires named { transcript.now ≡ transcript_name order.now.script }
+    requires empty { string_bytes room ≡ [] }
+    requires transcript { length (write_fault_line transcript.now) ≤ string_capacity room }
+    requires journal { IfSome order.now.journal (λ name. length (write_fault_line name) ≤ string_capacity room) }
+    ensures { Runs (Some (RunOf order.now))
+        (outside (S.state shelf.old) (O.state out.old)) (outside (S.state shelf.new) (O.state out.new)) result }
+{
+    let asked = Order {
+        side: order.side,
+        journal: order.journal,
+        file: order.file,
+        script: order.script,
+    };
+    let ending = ran(alloc, &asked, transcript, shelf);
+    finish(alloc, &ending, room, out)
+}
+
+fn ran<'w, S: Shelf>(
+    alloc: Global,
+    order: &Order<'w>,
+    transcript: &'w str,
+    shelf: &mut S,
+) -> Ending<'w>
+    requires { transcript.now ≡ transcript_name order.now.script }
+    ensures { CommandEnds result (RunOf order.now) (S.state shelf.old) (S.state shelf.new) }
+{
+    match run_files(alloc, order, transcript, shelf) {
+        Ok(records) => Ending::Ran(records),
         Err(refused) => Ending::Refused(refused),
     }
 }

@@ -1,4 +1,4 @@
-use script_files::RunRefused;
+use script_files::CommandRefused;
 
 /// How the program ends, before the line that says it is put. The clauses of [`crate::voxdag`] speak of it where the line
 /// could not be put; no call gives one.
@@ -10,6 +10,6 @@ pub enum Ending<'w> {
     Ran(u32),
     /// The words are not in the grammar.
     Usage,
-    /// An input, a name or an output was refused, or memory ran out.
-    Refused(RunRefused<'w>),
+    /// The command was refused at one of its stages.
+    Refused(CommandRefused<'w>),
 }

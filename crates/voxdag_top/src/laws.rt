@@ -1,7 +1,7 @@
 ghost use Rattle.std.specs.Prelude.{◌≡◌, Some, Option};
 ghost use Rattle.vw_io.specs.Outside.{Files};
 ghost use Rattle.script_files.specs.Verdicts.{Verdict};
-ghost use Rattle.voxdag_top.specs.Words.{Asking};
+ghost use Rattle.script_files.specs.Requests.{Asking};
 ghost use Rattle.voxdag_top.specs.Verdicts.{Judges};
 
 use vox_read::files_have_a_reading;

@@ -2,7 +2,6 @@
 #![tactic(auto)]
 
 mod commands;
-mod counting;
 mod endings;
 mod laws;
 mod lines;

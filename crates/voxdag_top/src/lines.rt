@@ -1,24 +1,20 @@
 ghost use Rattle.std.specs.Prelude.{◌≡◌, ◌≤◌, [], length, codes, IfOk, IsOkAnd, IfSome, OnErr, string_bytes, string_capacity};
 ghost use Rattle.script.specs.Faults.{number_of_kind};
-ghost use Rattle.script_files.specs.Orders.{transcript_name};
-ghost use Rattle.script_files.specs.Writes.{written_name};
-ghost use Rattle.voxdag_top.specs.Lines.{script_line, write_fault_line};
-ghost use Rattle.voxdag_top.specs.Endings.{line_of, status_of, MayLackLine};
-ghost use Rattle.voxdag_top.specs.declared.endings.Ending.TheVariants.{Refused};
-ghost use Rattle.voxdag_top.specs.Finishing.{PutEnds, Finishes, HasRoom};
+ghost use Rattle.voxdag_top.specs.Lines.{script_line, input_line, output_line, write_fault_line};
+ghost use Rattle.voxdag_top.specs.Endings.{line_of, refused_line, text_line, status_of, refused_status, MayLackLine, RefusalMayLackLine, WriteMayLackLine};
+ghost use Rattle.voxdag_top.specs.Finishing.{PutEnds, Finishes, HasRoom, RefusalHasRoom, WriteHasRoom};
 
 use crate::endings::Ending;
 use script::ScriptFault;
-use script_files::{RunRefused, Written};
+use script_files::{CommandRefused, TextRefused};
 use std::alloc::{AllocError, Global};
-use vw_io::{PutRefused, Sink};
+use vw_io::{InputRefused, OutputRefused, PutRefused, ReadRefused, Sink, WriteRefused};
 
 // Puts the ending's line, and gives the status. The room is for a line that must not lack memory.
 pub(crate) fn finish<O: Sink>(alloc: Global, ending: &Ending<'_>, room: String, out: &mut O) -> u8
     requires empty { string_bytes room ≡ [] }
     requires room { HasRoom ending.now (string_capacity room) }
-    ensures { Finishes ending.now (O.faults out.old) (O.faults out.new)
-        (O.told out.old) (O.told out.new) result }
+    ensures { Finishes ending.now (O.state out.old) (O.state out.new) result }
 {
     match line(alloc, ending, room) {
         Ok(text) => put_line(text.as_bytes(), status(ending), out),
@@ -27,8 +23,7 @@ pub(crate) fn finish<O: Sink>(alloc: Global, ending: &Ending<'_>, room: String, 
 }
 
 fn put_line<O: Sink>(line: &[u8], status: u8, out: &mut O) -> u8
-    ensures { PutEnds line.now status (O.faults out.old) (O.faults out.new)
-        (O.told out.old) (O.told out.new) result }
+    ensures { PutEnds line.now status (O.state out.old) (O.state out.new) result }
 {
     match out.put(line) {
         Ok(()) => status,
@@ -42,14 +37,31 @@ fn status(ending: &Ending<'_>) -> u8
 {
     match ending {
         Ending::Counted(_) | Ending::Ran(_) => 0,
-        Ending::Usage | Ending::Refused(RunRefused::Collides) => 1,
-        Ending::Refused(RunRefused::Missing(_)) => 2,
-        Ending::Refused(RunRefused::ReadFault(_)) => 3,
-        Ending::Refused(RunRefused::Vox(_)) => 4,
-        Ending::Refused(RunRefused::Script(_)) => 5,
-        Ending::Refused(RunRefused::WriteFault(_)) => 6,
-        Ending::Refused(RunRefused::Memory) => 8,
-        Ending::Refused(RunRefused::TooLong(_)) => 9,
+        Ending::Usage => 1,
+        Ending::Refused(refused) => refused_status(refused),
+    }
+}
+
+fn refused_status(refused: &CommandRefused<'_>) -> u8
+    ensures { result ≡ refused_status refused.now }
+{
+    match refused {
+        CommandRefused::Input(input) => match input.why {
+            ReadRefused::Missing => 2,
+            ReadRefused::Failed => 3,
+            ReadRefused::Memory => 8,
+            ReadRefused::TooLong => 9,
+        },
+        CommandRefused::Text(text) => match text {
+            TextRefused::Collides => 1,
+            TextRefused::Vox(_) => 4,
+            TextRefused::Script(_) => 5,
+            TextRefused::Memory => 8,
+        },
+        CommandRefused::Output(output) => match output.why {
+            WriteRefused::Failed => 6,
+            WriteRefused::Memory => 8,
+        },
     }
 }
 
@@ -67,25 +79,47 @@ fn line(alloc: Global, ending: &Ending<'_>, room: String) -> Result<String, Allo
     }
 }
 
-fn refused_line(alloc: Global, refused: &RunRefused<'_>, room: String) -> Result<String, AllocError>
+fn refused_line(
+    alloc: Global,
+    refused: &CommandRefused<'_>,
+    room: String,
+) -> Result<String, AllocError>
     requires empty { string_bytes room ≡ [] }
-    requires room { HasRoom (Refused refused.now) (string_capacity room) }
-    ensures text { IfOk result (λ text. string_bytes text ≡ line_of (Refused refused.now)) }
-    ensures lacking { OnErr result (MayLackLine (Refused refused.now)) }
+    requires room { RefusalHasRoom refused.now (string_capacity room) }
+    ensures text { IfOk result (λ text. string_bytes text ≡ refused_line refused.now) }
+    ensures lacking { OnErr result (RefusalMayLackLine refused.now) }
 {
     match refused {
-        RunRefused::Collides => format!(in alloc; "voxdag: usage\n"),
-        RunRefused::Missing(name) => format!(in alloc; "voxdag: missing {name}\n"),
-        RunRefused::ReadFault(name) => format!(in alloc; "voxdag: read fault {name}\n"),
-        RunRefused::Vox(fault) => {
+        CommandRefused::Input(input) => input_line(alloc, input),
+        CommandRefused::Text(text) => text_line(alloc, text),
+        CommandRefused::Output(output) => output_line(alloc, output, room),
+    }
+}
+
+fn input_line(alloc: Global, input: &InputRefused<'_>) -> Result<String, AllocError>
+    ensures { IfOk result (λ text. string_bytes text ≡ input_line input.now.why input.now.name.now) }
+{
+    let name = input.name;
+    match input.why {
+        ReadRefused::Missing => format!(in alloc; "voxdag: missing {name}\n"),
+        ReadRefused::TooLong => format!(in alloc; "voxdag: too long {name}\n"),
+        ReadRefused::Failed => format!(in alloc; "voxdag: read fault {name}\n"),
+        ReadRefused::Memory => format!(in alloc; "voxdag: memory\n"),
+    }
+}
+
+fn text_line(alloc: Global, text: &TextRefused) -> Result<String, AllocError>
+    ensures { IfOk result (λ line. string_bytes line ≡ text_line text.now) }
+{
+    match text {
+        TextRefused::Vox(fault) => {
             let kind = fault.kind();
             let at = fault.at();
             format!(in alloc; "voxdag: vox {kind} {at}\n")
         }
-        RunRefused::Script(fault) => script_line(alloc, fault),
-        RunRefused::WriteFault(output) => write_fault_line(output, room),
-        RunRefused::TooLong(name) => format!(in alloc; "voxdag: too long {name}\n"),
-        RunRefused::Memory => format!(in alloc; "voxdag: memory\n"),
+        TextRefused::Script(fault) => script_line(alloc, fault),
+        TextRefused::Collides => format!(in alloc; "voxdag: usage\n"),
+        TextRefused::Memory => format!(in alloc; "voxdag: memory\n"),
     }
 }
 
@@ -97,33 +131,43 @@ fn script_line(alloc: Global, fault: &ScriptFault) -> Result<String, AllocError>
     format!(in alloc; "voxdag: script 0 {line} {kind}\n")
 }
 
-// The line is made in this room, and so lacks no memory.
-fn write_fault_line(output: &Written<'_>, room: String) -> Result<String, AllocError>
+fn output_line(
+    alloc: Global,
+    output: &OutputRefused<'_>,
+    room: String,
+) -> Result<String, AllocError>
     requires empty { string_bytes room ≡ [] }
-    requires room { length (write_fault_line (written_name output.now)) ≤ string_capacity room }
-    ensures { IsOkAnd result (λ text. string_bytes text ≡ write_fault_line (written_name output.now)) }
+    requires room { WriteHasRoom output.now.why output.now.name.now (string_capacity room) }
+    ensures text { IfOk result (λ text. string_bytes text ≡ output_line output.now.why output.now.name.now) }
+    ensures lacking { OnErr result (WriteMayLackLine output.now.why) }
+{
+    match output.why {
+        WriteRefused::Failed => write_fault_line(output.name, room),
+        WriteRefused::Memory => format!(in alloc; "voxdag: memory\n"),
+    }
+}
+
+// The line is made in this room, and so lacks no memory.
+fn write_fault_line(name: &str, room: String) -> Result<String, AllocError>
+    requires empty { string_bytes room ≡ [] }
+    requires room { length (write_fault_line name.now) ≤ string_capacity room }
+    ensures { IsOkAnd result (λ text. string_bytes text ≡ write_fault_line name.now) }
 {
     let mut line = room;
     line.push_str("voxdag: write fault ")?;
-    match output {
-        Written::Transcript(script) => {
-            line.push_str(script)?;
-            line.push_str(".out")?;
-        }
-        Written::Journal(name) => line.push_str(name)?,
-    }
+    line.push_str(name)?;
     line.push_str("\n")?;
     Ok(line)
 }
 
 // The length of the longest line that tells a fault of an output.
-pub(crate) fn write_fault_room(script: &str, journal: Option<&str>) -> usize
-    ensures transcript { length (write_fault_line (transcript_name script.now)) ≤ result }
+pub(crate) fn write_fault_room(transcript: &str, journal: Option<&str>) -> usize
+    ensures transcript { length (write_fault_line transcript.now) ≤ result }
     ensures journal { IfSome journal.entry (λ name. length (write_fault_line name.now) ≤ result) }
 {
     let longest = match journal {
-        None => script.len() + 4,
-        Some(name) => name.len().max(script.len() + 4),
+        None => transcript.len(),
+        Some(name) => name.len().max(transcript.len()),
     };
     longest + 21
 }

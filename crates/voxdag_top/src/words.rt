@@ -1,6 +1,6 @@
 ghost use Rattle.std.specs.Prelude.{◌≡◌, ◌^◌, None, Some, MatchOption};
 ghost use Rattle.std.specs.Option.{option_map};
-ghost use Rattle.voxdag_top.specs.Words.{texts, exponent_of, asking_of, counted, run_words, begins_with, with_side, behind_side, with_journal, run_names, side_of, is_operand};
+ghost use Rattle.voxdag_top.specs.Words.{texts, exponent_of, request_of, counted, run_words, begins_with, with_side, behind_side, with_journal, run_names, side_of, is_operand};
 ghost use Rattle.voxdag_top.specs.Asking.{asking};
 
 use script::number;
@@ -8,7 +8,7 @@ use script_files::Order;
 use vw_cell::Side;
 
 /// What the words ask for.
-#[derive(Clone, Copy, Debug, PartialEq, Eq)]
+#[derive(Drop)]
 pub(crate) enum Command<'w> {
     /// Count the cells of this file.
     Count(&'w str),
@@ -18,7 +18,7 @@ pub(crate) enum Command<'w> {
 
 // Reads the words. `None` where they are not in the grammar.
 pub(crate) fn read_words(words: &[String]) -> Option<Command<'_>>
-    ensures { option_map asking result ≡ asking_of (texts words.now) }
+    ensures { option_map asking result ≡ request_of (texts words.now) }
 {
     match words {
         [command, others @ ..] if command.as_str() == "count" => count_words(others),

@@ -6,3 +6,6 @@ pub mod Memory
 pub mod Streams
 pub mod System
 pub mod Faulty
+pub mod Inputs
+pub mod Outputs
+pub mod Names

@@ -16,3 +16,21 @@ Stayed before now = (now ≡ before) × ¬ Rose before now
 -- every other name has what it had
 abbrev pub SameElsewhere : Files → Files → List ℕ → Type 0
 SameElsewhere before now name = (other : List ℕ) → other ≢ name → now other ≡ before other
+
+-- a shelf as contracts see it: its files, where it tells them, and how often it has failed, up to the last value of a `u64`
+pub record ShelfState : Type 0 where
+  pub files : Option Files
+  pub faults : ℕ
+
+-- a sink: the bytes put so far, where it tells them, and how often it has failed
+pub record SinkState : Type 0 where
+  pub told : Option (List ℕ)
+  pub faults : ℕ
+
+-- all that is outside of a program: its files and its output
+pub record Outside : Type 0 where
+  pub shelf : ShelfState
+  pub out : SinkState
+
+abbrev pub outside : ShelfState → SinkState → Outside
+outside shelf out = record { shelf = shelf; out = out }

@@ -46,9 +46,7 @@ impl FaultyShelf {
 }
 
 impl Shelf for FaultyShelf {
-    ghost files = { λ shelf. Some (files_of shelf.inner) };
-
-    ghost faults = { λ shelf. shelf.faults };
+    ghost state = { λ shelf. record { files = Some (files_of shelf.inner); faults = shelf.faults } };
 
     fn read(&mut self, name: &str, limit: u64, into: &mut Vec<u8>) -> Result<(), ReadRefused>
         ensures told { ReadTold (Some (files_of self.old.inner)) name.now limit result into.new.items }

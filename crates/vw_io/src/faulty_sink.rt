@@ -43,9 +43,7 @@ impl FaultySink {
 }
 
 impl Sink for FaultySink {
-    ghost told = { λ sink. Some sink.sent.items };
-
-    ghost faults = { λ sink. sink.faults };
+    ghost state = { λ sink. record { told = Some sink.sent.items; faults = sink.faults } };
 
     fn put(&mut self, bytes: &[u8]) -> Result<(), PutRefused>
         ensures told { PutTold (Some self.old.sent.items) (Some self.new.sent.items) bytes.now result }

@@ -20,8 +20,8 @@ pub struct FileShelf<R: Files + Drop> {
 impl<R: Files + Drop> FileShelf<R> {
     /// A shelf that has counted no fault. It opens nothing.
     pub fn new(rt: R) -> FileShelf<R>
-        ensures untold { ⟦<FileShelf<R> as Shelf>⟧.files result ≡ None }
-        ensures no_fault { ⟦<FileShelf<R> as Shelf>⟧.faults result ≡ 0 }
+        ensures untold { (⟦<FileShelf<R> as Shelf>⟧.state result).files ≡ None }
+        ensures no_fault { (⟦<FileShelf<R> as Shelf>⟧.state result).faults ≡ 0 }
     {
         FileShelf { rt, faults: 0 }
     }
@@ -33,9 +33,7 @@ impl<R: Files + Drop> FileShelf<R> {
 }
 
 impl<R: Files + Drop> Shelf for FileShelf<R> {
-    ghost files = { λ _. None };
-
-    ghost faults = { λ shelf. shelf.faults };
+    ghost state = { λ shelf. record { files = None; faults = shelf.faults } };
 
     fn read(&mut self, name: &str, limit: u64, into: &mut Vec<u8>) -> Result<(), ReadRefused> {
         match read_file(&self.rt, name, limit, into) {

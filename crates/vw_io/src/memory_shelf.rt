@@ -40,9 +40,7 @@ impl MemoryShelf {
 impl Shelf for MemoryShelf {
     ghost use Rattle.vw_io.specs.Memory.{files_of};
 
-    ghost files = { λ shelf. Some (files_of shelf) };
-
-    ghost faults = { λ _. 0 };
+    ghost state = { λ shelf. record { files = Some (files_of shelf); faults = 0 } };
 
     fn read(&mut self, name: &str, limit: u64, into: &mut Vec<u8>) -> Result<(), ReadRefused> {
         into.clear();

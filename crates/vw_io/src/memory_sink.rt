@@ -37,9 +37,7 @@ impl MemorySink {
 }
 
 impl Sink for MemorySink {
-    ghost told = { λ sink. Some sink };
-
-    ghost faults = { λ _. 0 };
+    ghost state = { λ sink. record { told = Some sink; faults = 0 } };
 
     fn put(&mut self, bytes: &[u8]) -> Result<(), PutRefused> {
         self.sent.extend_from_slice(bytes)?;

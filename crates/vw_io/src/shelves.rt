@@ -40,6 +40,16 @@ impl From<AllocError> for ReadRefused {
     }
 }
 
+impl<T: Drop> From<AllocFailed<T>> for ReadRefused {
+    ghost use Rattle.vw_io.specs.declared.shelves.ReadRefused.TheVariants.{Memory};
+
+    ghost from_gives = { λ _ e. e ≡ Memory };
+
+    fn from(_: AllocFailed<T>) -> ReadRefused {
+        ReadRefused::Memory
+    }
+}
+
 impl From<AllocError> for WriteRefused {
     ghost use Rattle.vw_io.specs.declared.shelves.WriteRefused.TheVariants.{Memory};
 
@@ -66,31 +76,28 @@ impl<T: Drop> From<AllocFailed<T>> for WriteRefused {
 /// The count of faults rises at a fault and at nothing else. Where it already stands at the last value
 /// of a `u64`, `Missing` and `TooLong` never come: such a call answers `Failed`.
 pub trait Shelf {
-    ghost use Rattle.vw_io.specs.Outside.{Files};
+    ghost use Rattle.vw_io.specs.Outside.{ShelfState};
     ghost use Rattle.vw_io.specs.Read.{ReadTold, ReadCause};
     ghost use Rattle.vw_io.specs.Write.{WriteTold, WriteCause};
 
-    /// The files, where the shelf tells them.
-    ghost files: { Self → Option Files };
-
-    /// How often the shelf has failed, up to the last value of a `u64`.
-    ghost faults: { Self → ℕ };
+    /// The files, where the shelf tells them, and how often it has failed.
+    ghost state: { Self → ShelfState };
 
     /// Reads a whole file, of at most `limit` bytes, in place of what `into` had.
     fn read(&mut self, name: &str, limit: u64, into: &mut Vec<u8>) -> Result<(), ReadRefused>
-        ensures told { ReadTold (files self.old) name.now limit result into.new.items }
+        ensures told { ReadTold (state self.old).files name.now limit result into.new.items }
         ensures within { OnOk result (length into.new.items ≤ limit) }
         ensures empty { OnErr result (into.new.items ≡ []) }
-        ensures unchanged { files self.new ≡ files self.old }
+        ensures unchanged { (state self.new).files ≡ (state self.old).files }
 
-        ensures cause { ReadCause result (faults self.old) (faults self.new) }
-        ensures never_falls { faults self.old ≤ faults self.new };
+        ensures cause { ReadCause result (state self.old).faults (state self.new).faults }
+        ensures never_falls { (state self.old).faults ≤ (state self.new).faults };
 
     /// Makes `bytes` the whole file of that name. After `Failed` the file may hold some first bytes
     /// of these, or what it held.
     fn write(&mut self, name: &str, bytes: &[u8]) -> Result<(), WriteRefused>
-        ensures told { WriteTold (files self.old) (files self.new) name.now bytes.now result }
+        ensures told { WriteTold (state self.old).files (state self.new).files name.now bytes.now result }
 
-        ensures cause { WriteCause result (faults self.old) (faults self.new) }
-        ensures never_falls { faults self.old ≤ faults self.new };
+        ensures cause { WriteCause result (state self.old).faults (state self.new).faults }
+        ensures never_falls { (state self.old).faults ≤ (state self.new).faults };
 }

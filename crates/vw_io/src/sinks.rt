@@ -27,18 +27,16 @@ impl From<AllocError> for PutRefused {
 /// A place that takes bytes one after another. `Memory` may come at any call. The count of faults
 /// rises at a fault of the sink and at nothing else.
 pub trait Sink {
+    ghost use Rattle.vw_io.specs.Outside.{SinkState};
     ghost use Rattle.vw_io.specs.Put.{PutTold, PutCause};
 
-    /// The bytes put so far, where the sink tells them.
-    ghost told: { Self → Option (List ℕ) };
-
-    /// How often the sink has failed, up to the last value of a `u64`.
-    ghost faults: { Self → ℕ };
+    /// The bytes put so far, where the sink tells them, and how often it has failed.
+    ghost state: { Self → SinkState };
 
     /// Appends `bytes`. After `Failed` only some first bytes of these may have gone out.
     fn put(&mut self, bytes: &[u8]) -> Result<(), PutRefused>
-        ensures told { PutTold (told self.old) (told self.new) bytes.now result }
+        ensures told { PutTold (state self.old).told (state self.new).told bytes.now result }
 
-        ensures cause { PutCause result (faults self.old) (faults self.new) }
-        ensures never_falls { faults self.old ≤ faults self.new };
+        ensures cause { PutCause result (state self.old).faults (state self.new).faults }
+        ensures never_falls { (state self.old).faults ≤ (state self.new).faults };
 }

@@ -20,8 +20,8 @@ pub struct StdSink<R: Print + Drop> {
 impl<R: Print + Drop> StdSink<R> {
     /// A sink that has counted no fault. It writes nothing.
     pub fn new(rt: R) -> StdSink<R>
-        ensures untold { ⟦<StdSink<R> as Sink>⟧.told result ≡ None }
-        ensures no_fault { ⟦<StdSink<R> as Sink>⟧.faults result ≡ 0 }
+        ensures untold { (⟦<StdSink<R> as Sink>⟧.state result).told ≡ None }
+        ensures no_fault { (⟦<StdSink<R> as Sink>⟧.state result).faults ≡ 0 }
     {
         StdSink { rt, faults: 0 }
     }
@@ -33,9 +33,7 @@ impl<R: Print + Drop> StdSink<R> {
 }
 
 impl<R: Print + Drop> Sink for StdSink<R> {
-    ghost told = { λ _. None };
-
-    ghost faults = { λ sink. sink.faults };
+    ghost state = { λ sink. record { told = None; faults = sink.faults } };
 
     fn put(&mut self, bytes: &[u8]) -> Result<(), PutRefused> {
         match write_whole(&mut io::writer(&self.rt), bytes) {

@@ -1,6 +1,6 @@
 use crate::{
-    FaultyShelf, FaultySink, MemoryShelf, MemorySink, PutRefused, ReadRefused, Shelf, Sink,
-    WriteRefused,
+    FaultyShelf, FaultySink, Input, InputRefused, MemoryShelf, MemorySink, Output, PutRefused,
+    ReadRefused, Shelf, Sink, WriteRefused, collide, read_all, write_all,
 };
 use std::test::Fail;
 
@@ -72,5 +72,66 @@ fn faulty_sink(rt: HostRuntime) -> Result<(), Fail> {
     assert_eq!(rt; sink.put(b"two "), Err(PutRefused::Failed));
     assert_eq!(rt; sink.put(b"hree"), Ok(()));
     assert_eq!(rt; sink.bytes(), b"one three".as_slice());
+    Ok(())
+}
+
+#[test]
+fn lists_of_files(rt: HostRuntime) -> Result<(), Fail> {
+    let mut shelf = MemoryShelf::new(rt.alloc());
+    let a = Output {
+        name: "a",
+        bytes: b"first",
+    };
+    let b = Output {
+        name: "b",
+        bytes: b"2",
+    };
+    assert_eq!(rt; write_all(&[a, b], &mut shelf), Ok(()));
+    let inputs = [
+        Input {
+            name: "a",
+            limit: 5,
+        },
+        Input {
+            name: "b",
+            limit: 1,
+        },
+    ];
+    let mut all = Vec::new(rt.alloc());
+    match read_all(rt.alloc(), &inputs, &mut shelf) {
+        Ok(texts) => {
+            for text in &texts {
+                all.extend_from_slice(text.as_slice())?;
+            }
+        }
+        Err(_) => assert!(rt; false, "the inputs"),
+    }
+    assert_eq!(rt; all.as_slice(), b"first2".as_slice());
+    for (names, want) in [(["c", "d"], false), (["c", "b"], true), (["c", "c"], true)] {
+        assert_eq!(rt; collide(&names, &inputs), want);
+    }
+    Ok(())
+}
+
+#[test]
+fn lists_stop_at_the_first_refusal(rt: HostRuntime) -> Result<(), Fail> {
+    let mut shelf = MemoryShelf::new(rt.alloc());
+    shelf.write("a", b"first")?;
+    for (limit, name, why) in [
+        (4, "a", ReadRefused::TooLong),
+        (5, "no", ReadRefused::Missing),
+    ] {
+        let inputs = [
+            Input { name: "a", limit },
+            Input {
+                name: "no",
+                limit: 9,
+            },
+        ];
+        match read_all(rt.alloc(), &inputs, &mut shelf) {
+            Ok(_) => assert!(rt; false, "at {limit}"),
+            Err(refused) => assert_eq!(rt; refused, InputRefused { name, why }),
+        }
+    }
     Ok(())
 }

@@ -1,6 +1,20 @@
-use Rattle.script_files.specs.Asking.{asked_of}
-use Rattle.script_files.specs.Judging.{outcome_follows}
+use Rattle.std.proofs.Common.{rules, ◌≡◌}
+use Rattle.vw_io.specs.Inputs.{AreTaken}
+use Rattle.vw_io.specs.Outputs.{AreWritten}
+use Rattle.script_files.specs.Requests.{RunOf, inputs_of, outputs_of}
+use Rattle.script_files.specs.Stages.{IsPrepared}
+use Rattle.script_files.proofs.Ending.{same_state, all_written}
 use Rattle.script_files.proofs.runs.run_files.Goals as goal
 
-pub returns-clause-comes : goal.returns-clause-comes
-returns-clause-comes g c = outcome_follows c.run.result (asked_of c.args.order.now) _ _ _ _ c.run.ensures
+pub returns-in-Ok-write : goal.returns-in-Ok-write
+returns-in-Ok-write g c =
+    let asked = c.args.order.now in
+    let old = g.S.Shelf.state c.args.shelf.now in
+    let mid = g.S.Shelf.state c.read_all.new.shelf in
+    let new = g.S.Shelf.state c.write.new.shelf in
+    let texts = c.in-Ok-prepare.prepared in
+    let taken : AreTaken old.files (inputs_of (RunOf asked)) c.in-Ok.texts.items = search rules in
+    let prepared : IsPrepared asked c.in-Ok.texts.items texts.number texts.transcript.items texts.journal.items = search rules in
+    let whole : AreWritten (outputs_of asked texts.transcript.items texts.journal.items) mid.files new.files = search rules in
+    let calm : new.faults ≡ mid.faults = search rules in
+    all_written asked c.in-Ok.texts.items texts.number texts.transcript.items texts.journal.items old mid new taken prepared (same_state old mid c.in-Ok.ensures.unchanged c.in-Ok.ensures.calm) whole calm

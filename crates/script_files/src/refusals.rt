@@ -1,0 +1,67 @@
+use script::{ScriptFault, ScriptKind};
+use vox_read::VoxFault;
+use vw_cell::Memory;
+use vw_io::{InputRefused, OutputRefused};
+
+/// Why a command did not come to its end, by the stage at which it stopped.
+#[derive(Clone, Copy, Debug, PartialEq, Eq)]
+pub enum CommandRefused<'w> {
+    /// An input was not taken.
+    Input(InputRefused<'w>),
+    /// The inputs were taken, and their texts are refused.
+    Text(TextRefused),
+    /// An output was not written.
+    Output(OutputRefused<'w>),
+}
+
+/// Why the texts of a command's inputs, or the names of its outputs, are refused.
+#[derive(Clone, Copy, Debug, PartialEq, Eq)]
+pub enum TextRefused {
+    /// The VOX file has this fault, which isn't want of memory.
+    Vox(VoxFault),
+    /// The script has this fault, which isn't want of memory.
+    Script(ScriptFault),
+    /// An output's name is an input's, or another output's.
+    Collides,
+    /// Want of memory.
+    Memory,
+}
+
+impl From<VoxFault> for TextRefused {
+    ghost use Rattle.std.specs.Prelude.{◌≡◌};
+    ghost use Rattle.script_files.specs.Refusals.{of_vox};
+
+    ghost from_gives = { λ fault refused. refused ≡ of_vox fault };
+
+    fn from(fault: VoxFault) -> Self {
+        match fault {
+            VoxFault::Memory => TextRefused::Memory,
+            _ => TextRefused::Vox(fault),
+        }
+    }
+}
+
+impl From<ScriptFault> for TextRefused {
+    ghost use Rattle.std.specs.Prelude.{◌≡◌};
+    ghost use Rattle.script_files.specs.Refusals.{of_fault};
+
+    ghost from_gives = { λ fault refused. refused ≡ of_fault fault };
+
+    fn from(fault: ScriptFault) -> Self {
+        match fault.kind {
+            ScriptKind::Memory => TextRefused::Memory,
+            _ => TextRefused::Script(fault),
+        }
+    }
+}
+
+impl From<Memory> for TextRefused {
+    ghost use Rattle.std.specs.Prelude.{◌≡◌};
+    ghost use Rattle.script_files.specs.declared.refusals.TextRefused.TheVariants as texts;
+
+    ghost from_gives = { λ _ refused. refused ≡ texts.Memory };
+
+    fn from(_: Memory) -> Self {
+        TextRefused::Memory
+    }
+}

@@ -1,0 +1,32 @@
+ghost use Rattle.std.specs.Option.{option_map};
+ghost use Rattle.script_files.specs.Requests.{Asked};
+
+use std::marker::Model;
+use vw_cell::Side;
+
+/// The most bytes that a VOX file may have: 256 MiB.
+pub(crate) const VOX_LIMIT: u64 = 268_435_456;
+
+/// The most bytes that a script may have: 8 MiB.
+pub(crate) const SCRIPT_LIMIT: u64 = 8_388_608;
+
+/// What a run is asked for: the world's side, the journal's name where there is one, and the names of
+/// the VOX file and of the script. Contracts see the exponent of the side, and the names.
+#[derive(Drop)]
+pub struct Order<'w> {
+    pub side: Side,
+    pub journal: Option<&'w str>,
+    pub file: &'w str,
+    pub script: &'w str,
+}
+
+impl<'w> Model for Order<'w> {
+    ghost Value = { Asked };
+
+    ghost view = { λ order. record {
+      side = order.side;
+      journal = option_map (λ name. name.now) order.journal;
+      file = order.file.now;
+      script = order.script.now;
+    } };
+}
