@@ -23,7 +23,7 @@ pub use plans::Plan;
 pub use shares::{Full, NodeRefused, Share};
 pub use stores::{Blocks, NodeStore};
 pub use turns::Steps;
-pub use under::Under;
+pub use under::{Under, has_cell};
 
 #[cfg(test)]
 mod tests;

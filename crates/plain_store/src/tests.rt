@@ -4,11 +4,11 @@ ghost use Rattle.node_words.specs.Held.{SameHeld};
 ghost use Rattle.plain_store.specs.Plain.{known_seen};
 
 use crate::PlainStore;
-use node_words::{Full, NodeStore, Plan, Share, Steps, Under};
+use node_words::{Full, NodeStore, Plan, Share, Steps, Under, has_cell};
 use std::marker::Brand;
 use std::sync::ledger::{Blank, Ledger};
 use std::test::Fail;
-use vw_cell::Side;
+use vw_cell::{Block, Cell, Side};
 
 // The bits of a leaf that was made, read under its share; all shares are given back.
 fn made_and_read<N: NodeStore, L: Ledger>(
@@ -38,6 +38,46 @@ fn read_under<N: NodeStore>(store: &mut N, share: &Share) -> u64
 {
     let mut under = Under::of(store, share);
     under.bits()
+}
+
+// Whether the cell at (2, 0, 0) of a leaf with that cell alone is set, asked on the way down from the leaf's share.
+fn made_and_asked<N: NodeStore, L: Ledger>(
+    store: &mut N,
+    steps: &mut Steps<L>,
+) -> Result<bool, Full>
+    requires room { number_of (N.seen store.old).held ≤ 4000 }
+    ensures held { OnOk result (SameHeld (N.seen store.old).held (N.seen store.new).held) }
+{
+    let share = store.leaf(4, steps)?;
+    let at = Cell { x: 0, y: 0, z: 0 };
+    let asked = Cell { x: 2, y: 0, z: 0 };
+    let set = has_cell(store, &share, Block { level: 0, at }, asked);
+    store.back(share, steps);
+    Ok(set)
+}
+
+fn ask_cell<L: Ledger>(store: &mut PlainStore, blank: Blank) -> Result<bool, Full>
+    requires name { blank.name ≡ L.name }
+    requires parts { blank.parts ≡ L.parts }
+    requires some { 0 < L.parts }
+    requires room { number_of (known_seen store.old).held ≤ 4000 }
+    ensures held { OnOk result (SameHeld (known_seen store.old).held (known_seen store.new).held) }
+{
+    let mut steps: Steps<L> = Steps::start(blank);
+    made_and_asked(store, &mut steps)
+}
+
+#[test]
+fn cells_are_found_on_the_way_down(rt: HostRuntime) -> Result<(), Fail> {
+    let side = Side::new(16).ok_or("a side")?;
+    let plan = Plan::even(side, 1, 2).ok_or("a plan")?;
+    let mut store = PlainStore::new(rt.alloc(), &plan)?;
+    if store.held() == 0 {
+        let set = ask_cell::<Brand>(&mut store, Blank::new(1));
+        assert!(rt; set == Ok(true));
+    }
+    assert_eq!(rt; store.held(), 0);
+    Ok(())
 }
 
 fn read_back<L: Ledger>(store: &mut PlainStore, bits: u64, blank: Blank) -> Result<u64, Full>
