@@ -31,7 +31,7 @@ SessionsAgree p models log session [] (transcript ∷ transcripts) = ⊥
 SessionsAgree p models log session (script ∷ scripts) [] = ⊥
 SessionsAgree p models log session (script ∷ scripts) (transcript ∷ transcripts) =
     SessionAgrees p models log session script transcript
-        × SessionsAgree p models log (session + 1) scripts transcripts
+    × SessionsAgree p models log (session + 1) scripts transcripts
 
 -- the history, the scripts and the transcripts agree
 pub record Agrees (p : Layout) (models : List Content) (log : Log)

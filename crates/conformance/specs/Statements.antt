@@ -32,7 +32,7 @@ abbrev pub AnswersGoOn : Type 0
 AnswersGoOn = (old new : Log) → GoesOn old new → (n : ℕ) → n ≤ length old.records
     → (session line : ℕ)
     → ((v : ℕ) → v ≤ n → IsStanding old.marks session line n v
-        → IsStanding new.marks session line n v)
+    → IsStanding new.marks session line n v)
     → (p : Layout) (models : List Content) (command : Command) (answer : Answer)
     → Answers p models old (IsStanding old.marks session line n) session line n command answer
     → Answers p models new (IsStanding new.marks session line n) session line n command answer
@@ -77,7 +77,7 @@ abbrev pub ForgettingsAreSteps : Type 0
 ForgettingsAreSteps = (p : Layout) (models : List Content) (mark : Mark) (old new : Log)
     → ForgetsBy p models mark old new
     → LineStep p models mark.session (record { line = mark.line; command = Forget mark.version })
-        old new
+    old new
     (record { line = mark.line; at = length old.records; answer = answers.Forgot mark.version })
 
 abbrev pub RestingAnswersAreSteps : Type 0
@@ -114,9 +114,9 @@ RedosGoToFuture = (records : List Record)
 abbrev pub KeptTargetsAreWays : Type 0
 KeptTargetsAreWays = (log : Log) (session line : ℕ) (act : Act)
     → (is_edit act ≡ true)
-        ⊎ ((to : ℕ) × (target_at log.records (length log.records) act ≡ Some to) × IsKept log to)
+    ⊎ ((to : ℕ) × (target_at log.records (length log.records) act ≡ Some to) × IsKept log to)
     → HasWay (IsStanding log.marks session line (length log.records)) log.records
-        (length log.records) act
+    (length log.records) act
 
 -- ---- sessions beside each other
 

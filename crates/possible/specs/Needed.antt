@@ -38,8 +38,8 @@ unfoldable pub bucket_of_cells : List ℕ → ℕ → Cells → ℕ
 bucket_of_cells buckets zero cells = leaf_bucket (bits_with cells) (slice_index buckets 0)
 bucket_of_cells buckets (suc level) cells =
     node_bucket (λ k. content_term (number_of_cells level (octant_cells level cells k))
-        (bucket_of_cells buckets level (octant_cells level cells k)))
-        (slice_index buckets (suc level))
+    (bucket_of_cells buckets level (octant_cells level cells k)))
+    (slice_index buckets (suc level))
 
 -- the world that an edit makes of a version
 abbrev pub made_of : List Content → List Record → Act → ℕ → World
