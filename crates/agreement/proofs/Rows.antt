@@ -4,7 +4,8 @@ use Rattle.std.specs.Prelude.{None, Some}
 use Rattle.std.specs.List.{AllZip, AllPairs, slice_get}
 use Rattle.std.proofs.lemmas.List.Elements.{All-nil, All-from_recursion}
 use Rattle.vw_cell.specs.declared.boxes.Boxed.{Boxed}
-use Rattle.vw_cell.specs.Counts.{cell_at, number_in, sum_below}
+use Rattle.sums.specs.Sums.{sum_below}
+use Rattle.vw_cell.specs.Counts.{cell_at, number_in}
 use Rattle.history_model.specs.declared.acts.Act.{Act}
 use Rattle.history_model.specs.declared.acts.Act.TheVariants.{Fill, Erase}
 use Rattle.history_model.specs.Worlds.{box_at}

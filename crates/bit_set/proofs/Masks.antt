@@ -1,60 +1,25 @@
 -- Runs of bits of one word.
-use Rattle.std.proofs.Common.{◌≡◌, ℕ, zero, suc, ◌+◌, ◌-◌, ◌*◌, ◌/◌, ◌%◌, ◌^◌, ◌<◌, ◌≤◌, ◌⊎◌, inl, inr, Bool, true, false, ◌==◌, refl, ap, sym, ◌∙◌, arith, max, min, lit<}
+use Rattle.std.proofs.Common.{◌≡◌, ℕ, zero, suc, ◌+◌, ◌-◌, ◌*◌, ◌/◌, ◌%◌, ◌^◌, ◌<◌, ◌≤◌, Bool, true, false, ◌==◌, refl, ap, ◌∙◌, arith, max, min, lit<}
 use Rattle.std.specs.Prelude.{bit_and, bit_or, count_ones}
 use Rattle.std.specs.Int.{bit_at, bit_not, w64}
-use Rattle.std.proofs.lemmas.Nat.{pow-add, ones_cat, and_mask, mod_below, pow_pos, mod-pow-add, shr-shr}
-use Rattle.std.proofs.lemmas.Nat.Bits.{ones_shr, bit_at_or, bit_at_and, bit_at_not, bit_at_mask_inside, bit_at_mask_below, bit_at_mask_above, bit_at-lt}
+use Rattle.std.proofs.lemmas.Nat.{ones_cat, and_mask, mod_below, pow_pos, mod-pow-add, shr-shr}
+use Rattle.std.proofs.lemmas.Nat.Bits.{bit_at_or, bit_at_and, bit_at_not, bit_at-lt}
 use lib.Count.{ones, ones_in}
-use lib.Pow.{pow_mono}
-use native.Mathlib.Nat.{mod-eq_of_lt, mul-sub, mul_comm, mul-one}
-use Rattle.vw_cell.specs.Counts.{sum_below, one_if, sum_below-same, sum_below-le, one_if-le}
+use Rattle.sums.specs.Sums.{sum_below, one_if, sum_below-same, sum_below-le, one_if-le}
+use Rattle.word_bits.specs.Runs.{low_ones, mask_small, in_run, off_run}
 use Rattle.bit_set.specs.Bits.{PutsBits}
-
--- `MAX` shifted down to `piece` bits
-low_ones : (piece : ℕ) → piece ≤ 64 → (2 ^ 64 - 1) / 2 ^ (64 - piece) ≡ 2 ^ piece - 1
-low_ones piece inside =
-    let shifted : (2 ^ 64 - 1) / 2 ^ (64 - piece) ≡ 2 ^ (64 - (64 - piece)) - 1 = ones_shr 64 (64 - piece) (omega arith) in
-    let left : 64 - (64 - piece) ≡ piece = omega arith in
-    shifted ∙ ap (λ (n : ℕ). 2 ^ n - 1) left
-
-shifted_ones : (k piece : ℕ) → (2 ^ piece - 1) * 2 ^ k ≡ 2 ^ (k + piece) - 2 ^ k
-shifted_ones k piece =
-    mul_comm (2 ^ piece - 1) (2 ^ k) ∙ mul-sub (2 ^ k) (2 ^ piece) 1 ∙ ap (λ (n : ℕ). 2 ^ k * 2 ^ piece - n) (mul-one (2 ^ k))
-    ∙ ap (λ (n : ℕ). n - 2 ^ k) (sym (pow-add 2 k piece))
-
-mask_small : (k piece : ℕ) → k + piece ≤ 64 → 2 ^ (k + piece) - 2 ^ k < 2 ^ 64
-mask_small k piece inside =
-    let whole : 2 ^ (k + piece) ≤ 2 ^ 64 = pow_mono inside in
-    let some : 0 < 2 ^ k = pow_pos k in
-    omega (arith, whole, some)
-
--- the mask of `piece` bits from bit k on
-pub mask_is : (k piece : ℕ) → 1 ≤ piece → k + piece ≤ 64 → (2 ^ 64 - 1) / 2 ^ (64 - piece) * 2 ^ k % 2 ^ 64 ≡ 2 ^ (k + piece) - 2 ^ k
-mask_is k piece some inside =
-    let product : (2 ^ 64 - 1) / 2 ^ (64 - piece) * 2 ^ k ≡ 2 ^ (k + piece) - 2 ^ k =
-    ap (λ (n : ℕ). n * 2 ^ k) (low_ones piece (omega arith)) ∙ shifted_ones k piece
-    in
-    ap (λ (n : ℕ). n % 2 ^ 64) product ∙ mod-eq_of_lt (mask_small k piece inside)
-
--- the bits of the mask
-in_mask : (k piece m : ℕ) → k ≤ m → m < k + piece → bit_at (2 ^ (k + piece) - 2 ^ k) m ≡ 1
-in_mask k piece m low high = bit_at_mask_inside k (k + piece) m low high
-
-off_mask : (k piece m : ℕ) → (m < k) ⊎ (k + piece ≤ m) → bit_at (2 ^ (k + piece) - 2 ^ k) m ≡ 0
-off_mask k piece m (inl below) = bit_at_mask_below k (k + piece) m below
-off_mask k piece m (inr above) = bit_at_mask_above k (k + piece) m above
 
 pub sets_bits : (word k piece : ℕ) (value : Bool) (mask : ℕ) → value ≡ true → mask ≡ 2 ^ (k + piece) - 2 ^ k → PutsBits k piece value word (bit_or word mask)
 sets_bits word k piece value mask yes_value is =
     record {
       inside = λ m low high.
-          let of_mask : bit_at mask m ≡ 1 = ap (λ (n : ℕ). bit_at n m) is ∙ in_mask k piece m low high in
+          let of_mask : bit_at mask m ≡ 1 = ap (λ (n : ℕ). bit_at n m) is ∙ in_run k piece m low high in
           let joined : bit_at (bit_or word mask) m ≡ max (bit_at word m) (bit_at mask m) = bit_at_or word mask m in
           let small : bit_at word m < 2 = bit_at-lt word m in
           let one : bit_at (bit_or word mask) m ≡ 1 = omega (arith, of_mask, joined, small) in
           rw (one, yes_value) refl;
       outside = λ m within off.
-          let of_mask : bit_at mask m ≡ 0 = ap (λ (n : ℕ). bit_at n m) is ∙ off_mask k piece m off in
+          let of_mask : bit_at mask m ≡ 0 = ap (λ (n : ℕ). bit_at n m) is ∙ off_run k piece m off in
           let joined : bit_at (bit_or word mask) m ≡ max (bit_at word m) (bit_at mask m) = bit_at_or word mask m in
           omega (arith, of_mask, joined);
     }
@@ -64,13 +29,13 @@ clears_bits word k piece value mask no_value inside is =
     let small : mask < 2 ^ 64 = rw is (mask_small k piece inside) in
     record {
       inside = λ m low high.
-          let of_mask : bit_at mask m ≡ 1 = ap (λ (n : ℕ). bit_at n m) is ∙ in_mask k piece m low high in
+          let of_mask : bit_at mask m ≡ 1 = ap (λ (n : ℕ). bit_at n m) is ∙ in_run k piece m low high in
           let of_not : bit_at (bit_not w64 mask) m ≡ 1 - bit_at mask m = bit_at_not w64 mask m small (omega arith) in
           let joined : bit_at (bit_and word (bit_not w64 mask)) m ≡ min (bit_at word m) (bit_at (bit_not w64 mask) m) = bit_at_and word (bit_not w64 mask) m in
           let none : bit_at (bit_and word (bit_not w64 mask)) m ≡ 0 = omega (arith, of_mask, of_not, joined) in
           rw (none, no_value) refl;
       outside = λ m within off.
-          let of_mask : bit_at mask m ≡ 0 = ap (λ (n : ℕ). bit_at n m) is ∙ off_mask k piece m off in
+          let of_mask : bit_at mask m ≡ 0 = ap (λ (n : ℕ). bit_at n m) is ∙ off_run k piece m off in
           let of_not : bit_at (bit_not w64 mask) m ≡ 1 - bit_at mask m = bit_at_not w64 mask m small within in
           let joined : bit_at (bit_and word (bit_not w64 mask)) m ≡ min (bit_at word m) (bit_at (bit_not w64 mask) m) = bit_at_and word (bit_not w64 mask) m in
           let binary : bit_at word m < 2 = bit_at-lt word m in

@@ -4,7 +4,7 @@ use Rattle.std.specs.Int.{bit_at}
 use Rattle.std.proofs.lemmas.Nat.{div-add-mod', mod_below}
 use Rattle.std.proofs.lemmas.Bool.{cases_eq, cases_lt}
 use Rattle.std.proofs.lemmas.List.{get_or_default}
-use Rattle.vw_cell.specs.Counts.{sum_below, one_if, sum_below-add, sum_below-same, sum_below-zero}
+use Rattle.sums.specs.Sums.{sum_below, one_if, sum_below-add, sum_below-same, sum_below-zero}
 use Rattle.bit_set.specs.Bits.{is_set, number_set, PutsRange, PutsBits}
 
 pub range_none : (from : ℕ) (value : Bool) (words : List ℕ) → PutsRange from from value words words

@@ -1,7 +1,7 @@
 -- A row of bits, as 64-bit words.
 use Rattle.std.specs.Prelude.{◌≡◌, ◌≢◌, ◌<◌, ◌≤◌, ◌⊎◌, ◌+◌, ◌-◌, ℕ, ◌/◌, ◌%◌, List, Bool, ◌==◌, slice_index, length}
 use Rattle.std.specs.Int.{bit_at}
-use Rattle.vw_cell.specs.Counts.{sum_below, one_if}
+use Rattle.sums.specs.Sums.{sum_below, one_if}
 
 -- whether bit i is set: bit i mod 64 of word i / 64
 abbrev pub is_set : List ℕ → ℕ → Bool

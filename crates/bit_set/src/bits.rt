@@ -1,6 +1,6 @@
 ghost use Rattle.std.specs.Prelude.{◌≡◌, ◌≢◌, ℕ, ◌+◌, ◌*◌, ◌/◌, ◌%◌, ◌-◌, ◌^◌, ◌<◌, ◌≤◌, ◌==◌, List, false, length, IfOk};
 ghost use Rattle.std.specs.Int.{bit_at};
-ghost use Rattle.vw_cell.specs.Counts.{sum_below, one_if};
+ghost use Rattle.sums.specs.Sums.{sum_below, one_if};
 ghost use Rattle.bit_set.specs.Bits.{is_set, number_set, Keeps, PutsRange, PutsBits};
 
 use std::alloc::{AllocError, Global};
@@ -92,7 +92,7 @@ fn piece_at(at: usize, to: usize) -> usize
 }
 
 // The bits from bit k on, `piece` of them, as a mask.
-#[tactic(auto, using(crate::proofs::Masks::mask_is))]
+#[tactic(auto, using(word_bits::specs::Runs::mask_is))]
 fn mask(k: usize, piece: usize) -> u64
     requires some { 1 ≤ piece }
     requires in_word { k + piece ≤ 64 }

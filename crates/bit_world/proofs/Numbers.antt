@@ -6,7 +6,8 @@ use Rattle.bit_set.specs.Bits.{is_set, number_set}
 use Rattle.vw_cell.specs.declared.cells.Cell.{Cell}
 use Rattle.vw_cell.specs.declared.boxes.Boxed.{Boxed}
 use Rattle.vw_cell.specs.Places.{FitsAt}
-use Rattle.vw_cell.specs.Counts.{number_in, cell_at, sum_below, one_if, one_if-le, sum_below-suc, sum_below-zero, sum_below-same, sum_below-le, number_below-same}
+use Rattle.sums.specs.Sums.{sum_below, one_if, one_if-le, sum_below-suc, sum_below-zero, sum_below-same, sum_below-le}
+use Rattle.vw_cell.specs.Counts.{number_in, cell_at, number_below-same}
 use Rattle.bit_world.specs.Grids.{Grid, Shows, bit_number, row_number, rows_number, layer_number}
 
 row_bits : (n : ℕ) (b : Boxed) (words : List ℕ) (y z row : ℕ) → row ≡ (z * n + y) * n + b.at.x → number_set words row (row + b.size.x) ≡ row_number n b words y z

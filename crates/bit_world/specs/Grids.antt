@@ -4,7 +4,8 @@ use Rattle.bit_set.specs.Bits.{is_set}
 use Rattle.vw_cell.specs.declared.cells.Cell.{Cell}
 use Rattle.vw_cell.specs.declared.boxes.Boxed.{Boxed}
 use Rattle.vw_cell.specs.Places.{IsInWorld, is_in_box}
-use Rattle.vw_cell.specs.Counts.{cell_at, sum_below, one_if}
+use Rattle.sums.specs.Sums.{sum_below, one_if}
+use Rattle.vw_cell.specs.Counts.{cell_at}
 
 -- the bits of a world of side 2 ^ exponent
 pub record Grid : Type 0 where

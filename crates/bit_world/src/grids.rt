@@ -2,7 +2,8 @@ ghost use Rattle.std.specs.Prelude.{◌≡◌, ℕ, ◌+◌, ◌*◌, ◌^◌, �
 ghost use Rattle.bit_set.specs.Bits.{is_set, number_set};
 ghost use Rattle.vw_cell.specs.declared.cells.Cell.{Cell};
 ghost use Rattle.vw_cell.specs.Places.{FitsAt, IsInWorld};
-ghost use Rattle.vw_cell.specs.Counts.{sum_below, one_if, number_in};
+ghost use Rattle.sums.specs.Sums.{sum_below, one_if};
+ghost use Rattle.vw_cell.specs.Counts.{number_in};
 ghost use Rattle.bit_world.specs.Grids.{Grid, Shows, put_in, set_in, bit_number, PutsBox, SetsCell, layer_of, layer_number};
 
 use bit_set::BitSet;

@@ -1,7 +1,7 @@
 -- The canonical shape of given cells. An edit or a version names what a block has to be by the cells alone.
 use Rattle.std.specs.Prelude.{◌≡◌, ℕ, ◌+◌, ◌-◌, ◌*◌, ◌/◌, ◌%◌, ◌^◌, ◌<◌, Bool, true, false, ◌&&◌, if◌then◌else◌}
 use Rattle.std.proofs.Common.{zero, suc}
-use Rattle.vw_cell.specs.Counts.{one_if}
+use Rattle.sums.specs.Sums.{one_if}
 use Rattle.vw_cell.specs.Places.{block_side, half_x, half_y, half_z}
 use Rattle.node_shapes.specs.Shape.{Shape, Clear, Leaf, branch_of}
 

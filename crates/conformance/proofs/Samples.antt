@@ -6,7 +6,8 @@ use Rattle.std.proofs.lemmas.Bool.{false≢true}
 use Rattle.std.proofs.lemmas.List.Elements.{All-nil, All-cons, All-head}
 use Rattle.vw_cell.specs.declared.cells.Cell.{Cell}
 use Rattle.vw_cell.specs.declared.boxes.Boxed.{Boxed}
-use Rattle.vw_cell.specs.Counts.{cell_at, number_in, sum_below}
+use Rattle.sums.specs.Sums.{sum_below}
+use Rattle.vw_cell.specs.Counts.{cell_at, number_in}
 use Rattle.history_model.specs.declared.acts.Act.TheVariants.{Fill, Erase, Undo}
 use Rattle.history_model.specs.declared.histories.Mark.{Mark}
 use Rattle.history_model.specs.Worlds.{box_at}

@@ -1,7 +1,7 @@
 -- An empty state is sound, and roots tell the cells of their versions.
 use Rattle.std.proofs.Common.{◌≡◌, ℕ, ◌*◌, ◌^◌, ◌≤◌, refl, sym, ◌∙◌, ap, subst, arith, None, Option, List, length, false}
 use Rattle.std.proofs.lemmas.Option.{none-some}
-use Rattle.vw_cell.specs.Counts.{sum_below-le}
+use Rattle.sums.specs.Sums.{sum_below-le}
 use Rattle.vw_cell.specs.declared.cells.Cell.{Cell}
 use Rattle.vw_cell.specs.Places.{IsInWorld}
 use Rattle.vox_read.specs.Contents.{Content}

@@ -1,6 +1,6 @@
 -- A new node takes its children's trees in, and an entry that is freed gives them back.
 use Rattle.std.proofs.Common.{◌≡◌, ℕ, zero, suc, ◌<◌, ◌≤◌, refl, sym, ◌∙◌, ap, arith, Some, None, Option}
-use Rattle.vw_cell.specs.Counts.{sum_below, sum_below-at, sum_below-le}
+use Rattle.sums.specs.Sums.{sum_below, sum_below-at, sum_below-le}
 use Rattle.node_shapes.specs.declared.names.Name.{Name}
 use Rattle.node_shapes.specs.Tree.{Tree, Gone, LeafAt, node_at}
 use Rattle.node_shapes.specs.Weights.{weight_of, weight_below}

@@ -1,7 +1,7 @@
 -- Sums over the names of a plan, and what each term of them is.
 use Rattle.std.proofs.Common.{◌≡◌, ◌≢◌, ℕ, zero, suc, ◌+◌, ◌*◌, ◌<◌, ◌≤◌, refl, sym, ◌∙◌, ap, arith, inl, inr, Some, None, Option}
 use Rattle.std.proofs.lemmas.Bool.{cases_lt}
-use Rattle.vw_cell.specs.Counts.{sum_below, sum_below-same, sum_below-change, sum_below-at}
+use Rattle.sums.specs.Sums.{sum_below, sum_below-same, sum_below-change, sum_below-at}
 use Rattle.node_shapes.specs.declared.names.Name.{Name}
 use Rattle.node_shapes.proofs.TreeEqual.{Name-discrete}
 use Rattle.node_words.specs.Plans.{Layout}

@@ -1,7 +1,7 @@
 -- Which blocks the versions have, and how many of a level are different.
 use Rattle.std.specs.Prelude.{Bool, ◌≡◌, ◌≢◌, ℕ, ◌<◌, Some, None, List, length, All}
 use Rattle.std.specs.List.{AllPairs, Contains}
-use Rattle.vw_cell.specs.Counts.{sum_below}
+use Rattle.sums.specs.Sums.{sum_below}
 use Rattle.vw_cell.specs.declared.cells.Cell.{Cell}
 use Rattle.vw_cell.specs.declared.blocks.Block.{Block}
 use Rattle.history_model.specs.Worlds.{World}

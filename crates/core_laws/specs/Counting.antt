@@ -1,7 +1,7 @@
 -- How often names are named. Each weight of names gives one number for each place where names
 -- stand, and two places name the same names as often where their numbers agree for every weight.
 use Rattle.std.specs.Prelude.{ℕ, zero, suc, ◌*◌, Option, Some, None, List, sum_by}
-use Rattle.vw_cell.specs.Counts.{sum_below}
+use Rattle.sums.specs.Sums.{sum_below}
 use Rattle.node_shapes.specs.declared.names.Name.{Name}
 use Rattle.node_words.specs.declared.keys.Key.{Key}
 use Rattle.node_words.specs.Plans.{Layout}

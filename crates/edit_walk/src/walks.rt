@@ -1,5 +1,5 @@
 ghost use Rattle.std.specs.Prelude.{◌≡◌, ◌≢◌, ◌+◌, ◌*◌, ◌-◌, ◌^◌, ◌<◌, ◌≤◌, ℕ, IfOk, OnOk, IfErr, OnErr, max};
-ghost use Rattle.vw_cell.specs.Counts.{sum_below};
+ghost use Rattle.sums.specs.Sums.{sum_below};
 ghost use Rattle.node_shapes.specs.Weights.{number_of};
 ghost use Rattle.node_words.specs.Gathering.{Comes, Grows, Fails};
 ghost use Rattle.cell_shapes.specs.CellShapes.{shape_with};

@@ -1,5 +1,5 @@
 ghost use Rattle.std.specs.Prelude.{◌≡◌, ℕ, ◌+◌, ◌*◌, ◌^◌, ◌<◌, ◌≤◌, slice_index};
-ghost use Rattle.vw_cell.specs.Counts.{sum_below};
+ghost use Rattle.sums.specs.Sums.{sum_below};
 
 /// Where the slots of the first levels end, for each number of levels.
 pub(crate) fn ends_of(buckets: &[u16; 11], cap: u16) -> [usize; 12]

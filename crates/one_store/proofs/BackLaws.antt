@@ -1,6 +1,6 @@
 -- What is given back on the way down.
 use Rattle.std.proofs.Common.{◌≡◌, ℕ, zero, suc, ◌+◌, ◌-◌, ◌*◌, ◌≤◌, ◌<◌, Some, None, Option, List, refl, sym, ◌∙◌, ap, subst, arith}
-use Rattle.vw_cell.specs.Counts.{sum_below}
+use Rattle.sums.specs.Sums.{sum_below}
 use Rattle.node_shapes.specs.declared.names.Name.{Name}
 use Rattle.node_shapes.specs.Shape.{Shape, branch_of, octant_shape, IsBranch}
 use Rattle.node_shapes.specs.Tree.{Tree, Gone, node_at, root_of, shape_of}

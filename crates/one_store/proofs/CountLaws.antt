@@ -1,6 +1,6 @@
 -- Live nodes are counted slot by slot and bucket by bucket.
 use Rattle.std.proofs.Common.{◌≡◌, ℕ, zero, suc, ◌+◌, ◌<◌, List, [], ◌∷◌, refl, sym, ◌∙◌, ap, arith}
-use Rattle.vw_cell.specs.Counts.{sum_below, sum_below-suc, sum_below-zero}
+use Rattle.sums.specs.Sums.{sum_below, sum_below-suc, sum_below-zero}
 use Rattle.node_shapes.specs.Tree.{Tree}
 use Rattle.node_shapes.specs.Weights.{weigh, number_of}
 use Rattle.node_shapes.proofs.WeightLaws.{weigh-nil, weigh-cons}

@@ -2,7 +2,7 @@
 use Rattle.std.proofs.Common.{◌≡◌, ◌≢◌, ℕ, zero, suc, ◌+◌, ◌-◌, ◌<◌, ◌≤◌, ◌⊎◌, Some, None, Option, List, [], ◌∷◌, refl, sym, ◌∙◌, ap, subst, arith, inl, inr, sum_by}
 use Rattle.std.proofs.lemmas.List.Sums.{sum_by-cons}
 use Rattle.std.proofs.lemmas.Option.{same_Some, none-some}
-use Rattle.vw_cell.specs.Counts.{sum_below, sum_below-at, sum_below-suc, sum_below-zero, sum_below-le}
+use Rattle.sums.specs.Sums.{sum_below, sum_below-at, sum_below-suc, sum_below-zero, sum_below-le}
 use Rattle.node_shapes.specs.declared.names.Name.{Name}
 use Rattle.node_shapes.specs.Tree.{Tree, Gone, LeafAt, NodeAt, root_of}
 use Rattle.node_shapes.specs.Weights.{weigh, weight_of, weight_below}

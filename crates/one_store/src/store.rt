@@ -359,7 +359,7 @@ fn no_roots(alloc: Global) -> Result<Vec<Option<Name>>, AllocError>
 }
 
 // How many names there are.
-#[tactic(auto, unfolding(core_laws::specs::Counting::children_weight, vw_cell::specs::Counts::sum_below))]
+#[tactic(auto, unfolding(core_laws::specs::Counting::children_weight, sums::specs::Sums::sum_below))]
 pub(crate) fn number_in(children: &[Option<Name>; 8]) -> u32
     ensures value { result ≡ children_weight (λ _. 1) (Node children.now) }
     ensures few { result ≤ 8 }

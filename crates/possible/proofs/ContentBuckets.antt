@@ -2,7 +2,8 @@
 use Rattle.std.proofs.Common.{◌≡◌, ◌≢◌, ℕ, zero, suc, ◌+◌, ◌≤◌, true, false, refl, sym, ◌∙◌, ap, arith, List}
 use Rattle.std.specs.Prelude.{slice_index}
 use Rattle.vw_cell.specs.declared.cells.Cell.{Cell}
-use Rattle.vw_cell.specs.Counts.{one_if, cell_at, number_below-same, number_below-none, number_below-at}
+use Rattle.sums.specs.Sums.{one_if}
+use Rattle.vw_cell.specs.Counts.{cell_at, number_below-same, number_below-none, number_below-at}
 use Rattle.vw_cell.specs.Places.{block_side}
 use Rattle.node_shapes.specs.Shape.{Shape, Clear, Leaf, Branch, octant_shape, bits_of, has, HasCell, IsCanonical}
 use Rattle.node_shapes.specs.Buckets.{leaf_bucket, octant_term, bucket_of_shape}

@@ -7,7 +7,8 @@ use Rattle.std.proofs.lemmas.Bool.Decides.{nat_tests}
 use Rattle.std.proofs.Common.{eq-eqb, inl, inr}
 use Rattle.bit_set.specs.Bits.{is_set}
 use Rattle.vw_cell.specs.declared.cells.Cell.{Cell}
-use Rattle.vw_cell.specs.Counts.{IsBelow, number_below, number_below-change, number_below-at, number_below-none, one_if}
+use Rattle.sums.specs.Sums.{one_if}
+use Rattle.vw_cell.specs.Counts.{IsBelow, number_below, number_below-change, number_below-at, number_below-none}
 use Rattle.vox_read.specs.declared.voxels.Voxel.{Voxel}
 use Rattle.vox_read.specs.Contents.{is_cell, stands_at, colour_of, StandsIn, IsSize}
 use Rattle.vox_read.specs.Places.{voxel_place, index_of, volume_of}

@@ -1,5 +1,5 @@
 use Rattle.std.proofs.Common.{add-one, refl, sym, ◌∙◌, ap, subst, arith, ℕ, ◌≡◌, ◌≤◌, ◌<◌, ◌+◌, ◌-◌, ◌^◌}
-use Rattle.vw_cell.specs.Counts.{sum_below, sum_below-suc, sum_below-zero}
+use Rattle.sums.specs.Sums.{sum_below, sum_below-suc, sum_below-zero}
 use Rattle.node_shapes.specs.Weights.{number_of}
 use Rattle.node_words.specs.Plans.{Layout}
 use Rattle.node_words.specs.Held.{Seen}

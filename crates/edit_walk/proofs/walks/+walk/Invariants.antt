@@ -1,5 +1,5 @@
 use Rattle.std.proofs.Common.{◌≡◌, ◌+◌, ◌*◌, ◌≤◌, max, List, length}
-use Rattle.vw_cell.specs.Counts.{sum_below}
+use Rattle.sums.specs.Sums.{sum_below}
 use Rattle.node_shapes.specs.Tree.{Tree}
 use Rattle.node_words.specs.Gathering.{Grows}
 use Rattle.cell_shapes.specs.CellShapes.{Cells, shape_with}

@@ -1,5 +1,5 @@
 use Rattle.std.proofs.Common.{◌+◌, arith, refl, sym, ◌∙◌}
-use Rattle.vw_cell.specs.Counts.{sum_below-zero}
+use Rattle.sums.specs.Sums.{sum_below-zero}
 use Rattle.measure.proofs.TallyLaws.{none_tallied, empty_tallied, tallied_step, tallied_all, tallied_fits, right_again}
 use Rattle.measure.proofs.tallies.+tally.Goals as goal
 

@@ -1,5 +1,5 @@
 use Rattle.std.proofs.Common.{◌≡◌, ◌≤◌}
-use Rattle.vw_cell.specs.Counts.{sum_below}
+use Rattle.sums.specs.Sums.{sum_below}
 use Rattle.node_places.specs.Names.{named}
 use Rattle.core_laws.specs.Counting.{if_live}
 use Rattle.entry_words.specs.Words.{book_in}
