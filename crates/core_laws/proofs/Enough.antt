@@ -11,7 +11,8 @@ use Rattle.node_shapes.specs.Buckets.{bucket_of_shape}
 use Rattle.node_words.specs.Plans.{Layout}
 use Rattle.core_laws.specs.States.{State, shape_in}
 use Rattle.node_places.specs.Names.{named}
-use Rattle.core_laws.specs.Soundness.{SoundEntries, IsFull, HasEnough}
+use Rattle.node_words.specs.Enough.{HasEnough}
+use Rattle.core_laws.specs.Soundness.{SoundEntries, IsFull}
 use Rattle.core_laws.proofs.LiveShapes.{LivesAt, one_lives, shape_once, canonical_at, bucket_at, not_clear_at}
 
 -- the shapes of the first slots of a bucket, the last one first

@@ -10,7 +10,8 @@ use Rattle.node_words.specs.Plans.{Layout}
 use Rattle.node_places.specs.Names.{named, key_bits, key_child}
 use Rattle.core_laws.specs.States.{State, IsLive, tree_at, tree_of, shape_in}
 use Rattle.core_laws.specs.Standing.{StandsOrGone}
-use Rattle.core_laws.specs.Soundness.{SoundEntries, IsFull, HasEnough}
+use Rattle.node_words.specs.Enough.{HasEnough}
+use Rattle.core_laws.specs.Soundness.{SoundEntries, IsFull}
 use Rattle.core_laws.specs.Returning.{IsStored}
 
 -- no node stands where there is no name

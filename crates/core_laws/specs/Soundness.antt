@@ -62,15 +62,6 @@ pub record IsFull (p : Layout) (state : State) (level bucket : ℕ) : Type 0 whe
   pub bucket_in : bucket < buckets_at p level
   pub each : (slot : ℕ) → slot < p.cap → 0 < state.book (named level bucket slot)
 
--- a list with as many different shapes of this level and bucket as a bucket has slots
-pub record HasEnough (p : Layout) (made : List Shape) (level bucket : ℕ) : Type 0 where
-  pub shapes : List Shape
-  pub number : length shapes ≡ p.cap
-  pub different : AllPairs (λ s t. s ≢ t) shapes
-  pub of_level : All (λ s. IsCanonical level s × (s ≢ Clear)) shapes
-  pub of_bucket : All (λ s. bucket_of_shape p.buckets level s ≡ bucket) shapes
-  pub listed : All (λ s. Contains made s) shapes
-
 -- nothing was done yet: no entry is live, no root is kept, no record was appended, nobody holds a
 -- share
 pub record IsUntouched (p : Layout) (state : State) : Type 0 where

@@ -3,3 +3,4 @@ pub mod Plans
 pub mod Keys
 pub mod Gathering
 pub mod Walks
+pub mod Enough

@@ -6,6 +6,8 @@ ghost use Rattle.node_shapes.specs.Tree.{Tree, root_of, child_of, shape_of};
 ghost use Rattle.node_words.specs.declared.keys.Key.{Key};
 ghost use Rattle.node_words.specs.Keys.{bucket_of_key, IsKeyOf};
 ghost use Rattle.node_words.specs.Plans.{Layout, IsPlan, buckets_at};
+ghost use Rattle.node_words.specs.Enough.{HasEnough};
+ghost use Rattle.std.specs.List.{Contains};
 ghost use Rattle.node_words.specs.Held.{IsReached, HoldsName, ReachesName, AreTrees, AreCanonical, AreHeld, AreBelow, HasChild};
 
 /// A key's bucket is that of the shape of its node, where its children stand in the buckets of theirs.
@@ -24,6 +26,14 @@ pub fn children_are_reached()
 pub fn plans_have_buckets()
     ensures some { (p : Layout) (level : ℕ) → IsPlan p → level ≤ 10 → 1 ≤ buckets_at p level }
     ensures few { (p : Layout) (level : ℕ) → IsPlan p → buckets_at p level ≤ 4096 }
+{}
+
+/// A list of shapes that contains all of another has enough for a bucket where that one has.
+#[tactic(auto, using(crate::specs::Enough::enough_stays))]
+pub fn longer_lists_have_enough()
+    ensures { (p : Layout) (made more : List Shape) (level bucket : ℕ)
+        → ((s : Shape) → Contains made s → Contains more s)
+        → HasEnough p made level bucket → HasEnough p more level bucket }
 {}
 
 /// A node over children that are held has a canonical shape. For implementers of a store.

@@ -15,7 +15,7 @@ mod under;
 pub use keys::{Key, bucket_of};
 pub use laws::{
     children_are_reached, gathered_octants_join_or_go_back, held_children_make_canonical_shapes,
-    keys_follow_shapes, plans_have_buckets,
+    keys_follow_shapes, longer_lists_have_enough, plans_have_buckets,
 };
 pub use node_kernels::{ball_bits, box_bits, window_bits};
 pub use node_shapes::Name;

@@ -22,7 +22,8 @@ use Rattle.node_places.specs.KeyWords.{FitsHalf, IsKeyAt}
 use Rattle.node_words.proofs.PlanLaws.{few_buckets}
 use Rattle.core_laws.specs.States.{IsLive, tree_at, shape_in}
 use Rattle.core_laws.specs.Counting.{weight, children_weight}
-use Rattle.core_laws.specs.Soundness.{FitsLevel, SoundEntries, HasEnough, IsFull}
+use Rattle.node_words.specs.Enough.{HasEnough, enough_stays}
+use Rattle.core_laws.specs.Soundness.{FitsLevel, SoundEntries, IsFull}
 use Rattle.core_laws.specs.Events.{Adds, IsMissing, one_name, children_named}
 use Rattle.core_laws.specs.Standing.{AllStand}
 use Rattle.core_laws.proofs.Enough.{enough}
@@ -148,14 +149,8 @@ tail_there : (s t : Shape) (made : List Shape) → Contains made t → Contains 
 tail_there s t made h = (suc h.0, omega (arith, h.1), h.2)
 
 pub enough_more : (p : Layout) (s : Shape) (made : List Shape) (level bucket : ℕ) → HasEnough p made level bucket → HasEnough p (s ∷ made) level bucket
-enough_more p s made level bucket h = record {
-  shapes = h.shapes;
-  number = h.number;
-  different = h.different;
-  of_level = h.of_level;
-  of_bucket = h.of_bucket;
-  listed = All-weaker (λ t. Contains made t) (λ t. Contains (s ∷ made) t) (λ t c. tail_there s t made c) h.shapes h.listed;
-}
+enough_more p s made level bucket h =
+    enough_stays p made (s ∷ made) level bucket (λ t c. tail_there s t made c) h
 
 pub add_store : (old new : Known) (s : SoughtKey) (n : Name) (number children : ℕ) → IsStore old number → IsSoughtKey old.words.plan s → IsMissing old.words.plan (core_of old) s.level (sought_key s) → HoldsRow old.told.held (row_of (key_in old.words) (s.level - 1) (sought_key s)) → children ≡ children_weight (λ _. 1) (sought_key s) → AddsNode old s n new → IsStore new (number + 1 - children)
 add_store old new s n number children st q missing h c a =

@@ -16,7 +16,8 @@ use Rattle.block_contents.specs.Aligned.{top}
 use Rattle.core_laws.specs.States.{IsLive, tree_at, shape_in}
 use Rattle.core_laws.specs.Counting.{weight}
 use Rattle.core_laws.specs.Events.{PutsRoot, TakesRoot, EntriesStay, no_name, at_most_one}
-use Rattle.core_laws.specs.Soundness.{SoundEntries, HasEnough}
+use Rattle.node_words.specs.Enough.{HasEnough}
+use Rattle.core_laws.specs.Soundness.{SoundEntries}
 use Rattle.core_laws.specs.Standing.{AllStand}
 use Rattle.core_laws.proofs.EntrySteps.{put_root_entries, take_root_entries, keys_stay}
 use Rattle.core_laws.proofs.Lives.{root_lives}

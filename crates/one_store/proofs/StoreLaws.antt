@@ -15,7 +15,8 @@ use Rattle.node_places.specs.Names.{IsName}
 use Rattle.node_places.specs.Spots.{levels}
 use Rattle.core_laws.specs.States.{IsLive, tree_at, shape_in}
 use Rattle.core_laws.specs.Counting.{weight, children_weight}
-use Rattle.core_laws.specs.Soundness.{SoundEntries, HasEnough}
+use Rattle.node_words.specs.Enough.{HasEnough}
+use Rattle.core_laws.specs.Soundness.{SoundEntries}
 use Rattle.core_laws.specs.Standing.{AllStand}
 use Rattle.core_laws.specs.Events.{Raises, Lowers, Frees, OthersStay, RootsStay, no_name, one_name, children_named}
 use Rattle.core_laws.proofs.EntrySteps.{raise_entries, lower_entries, free_entries, raise_keys, lower_keys, free_keys}

@@ -14,7 +14,8 @@ use Rattle.entry_words.specs.Words.{Written, book_in, key_in}
 use Rattle.store_notes.specs.Told.{Told}
 use Rattle.block_contents.specs.Aligned.{top}
 use Rattle.core_laws.specs.States.{State, IsLive, tree_at, shape_in}
-use Rattle.core_laws.specs.Soundness.{SoundEntries, HasEnough}
+use Rattle.node_words.specs.Enough.{HasEnough}
+use Rattle.core_laws.specs.Soundness.{SoundEntries}
 use Rattle.core_laws.specs.Standing.{AllStand}
 
 -- the words of the entries, the roots by place, and what was noted

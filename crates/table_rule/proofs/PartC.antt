@@ -13,7 +13,8 @@ use Rattle.node_shapes.specs.Weights.{weigh, number_of}
 use Rattle.node_words.specs.Plans.{Layout}
 use Rattle.node_words.specs.Held.{IsHeld, Wanted}
 use Rattle.core_laws.specs.States.{State, Holds, itself}
-use Rattle.core_laws.specs.Soundness.{SoundEntries, HasEnough}
+use Rattle.node_words.specs.Enough.{HasEnough, enough_stays}
+use Rattle.core_laws.specs.Soundness.{SoundEntries}
 use Rattle.core_laws.specs.Events.{StoreStep}
 use Rattle.core_laws.proofs.Lives.{held_lives}
 use Rattle.core_laws.proofs.EntrySteps.{step_entries, step_keys}
@@ -71,18 +72,6 @@ made_here (x ∷ views) zero v w s at c = contains_left w.made (all_made views) 
 made_here (x ∷ views) (suc seat) v w s at c =
     contains_right x.made (all_made (set views seat w)) s (made_here views seat v w s at c)
 
-pub enough_grows : (p : Layout) (made more : List Shape) (level bucket : ℕ)
-    → ((s : Shape) → Contains made s → Contains more s) → HasEnough p made level bucket
-    → HasEnough p more level bucket
-enough_grows p made more level bucket grow e = record {
-  shapes = e.shapes;
-  number = e.number;
-  different = e.different;
-  of_level = e.of_level;
-  of_bucket = e.of_bucket;
-  listed = λ k s lt. grow _ (e.listed k s lt);
-}
-
 module _ (p : Layout) (models : List Content) (c d : State) (views : List SeatView) (seat : ℕ)
     (v w : SeatView) (k : Knows p models c views) (sound : SoundEntries p c)
     (step : StoreStep p seat c d)
@@ -138,7 +127,7 @@ module _ (p : Layout) (models : List Content) (c d : State) (views : List SeatVi
     met = each
         (λ i u. (m : Wanted) → Contains u.met m
         → HasEnough p (all_made (set views seat w)) m.level m.bucket) views seat w
-        (λ m h. ⊎_elim (λ old. enough_grows p _ _ m.level m.bucket grows (k.met seat v at m old))
+        (λ m h. ⊎_elim (λ old. enough_stays p _ _ m.level m.bucket grows (k.met seat v at m old))
         (λ new. new) (o.met m h))
-        (λ j u _ e m h. enough_grows p _ _ m.level m.bucket grows (k.met j u e m h));
+        (λ j u _ e m h. enough_stays p _ _ m.level m.bucket grows (k.met j u e m h));
   }

@@ -15,7 +15,7 @@ use Rattle.node_words.specs.Held.{IsHeld, Wanted}
 use Rattle.node_places.specs.KeyWords.{child_of_word}
 use Rattle.node_places.specs.Spots.{Spot, LogLength, Version, Key}
 use Rattle.core_laws.specs.States.{State}
-use Rattle.core_laws.specs.Soundness.{HasEnough}
+use Rattle.node_words.specs.Enough.{HasEnough}
 use Rattle.core_laws.specs.Events.{EntriesStay, RootsStay, Rests, StoreStep, rests}
 use Rattle.core_laws.specs.LogEvents.{stores}
 use Rattle.core_laws.proofs.EntrySteps.{was_live}

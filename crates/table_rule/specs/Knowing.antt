@@ -10,7 +10,7 @@ use Rattle.node_words.specs.Plans.{Layout}
 use Rattle.node_words.specs.Held.{Wanted, IsHeld}
 use Rattle.core_laws.specs.States.{State, IsLive, shape_in}
 use Rattle.core_laws.specs.Standing.{Stands}
-use Rattle.core_laws.specs.Soundness.{HasEnough}
+use Rattle.node_words.specs.Enough.{HasEnough}
 use Rattle.table_rule.specs.Views.{SeatView, Each}
 
 -- the shapes that all seats have made

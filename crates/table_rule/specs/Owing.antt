@@ -9,7 +9,7 @@ use Rattle.node_words.specs.Held.{Wanted, IsHeld}
 use Rattle.node_words.specs.Plans.{Layout}
 use Rattle.core_laws.specs.States.{State, IsLive, shape_in}
 use Rattle.core_laws.specs.Standing.{Stands}
-use Rattle.core_laws.specs.Soundness.{HasEnough}
+use Rattle.node_words.specs.Enough.{HasEnough}
 use Rattle.table_rule.specs.Views.{SeatView}
 use Rattle.table_rule.specs.Knowing.{all_made}
 

@@ -16,7 +16,7 @@ use Rattle.node_words.specs.Plans.{Layout}
 use Rattle.node_words.specs.Held.{IsHeld, Wanted}
 use Rattle.node_places.specs.Spots.{Spot, Sessions, IsSpot}
 use Rattle.core_laws.specs.Counting.{holdings}
-use Rattle.core_laws.specs.Soundness.{HasEnough}
+use Rattle.node_words.specs.Enough.{HasEnough, enough_stays}
 use Rattle.core_laws.specs.LogEvents.{Reseats}
 use Rattle.core_laws.proofs.StepLaws.{reseats_sound}
 use Rattle.core_reading.specs.Reading.{names_of}
@@ -29,7 +29,7 @@ use Rattle.table_steps.specs.Seating.{handing, handed}
 use Rattle.table_rule.proofs.Lookups.{each, set_again}
 use Rattle.table_rule.proofs.Containing.{contains_left, contains_right, contains_parts}
 use Rattle.table_rule.proofs.PartA.{carried_set}
-use Rattle.table_rule.proofs.PartC.{made_grows, enough_grows}
+use Rattle.table_rule.proofs.PartC.{made_grows}
 
 module _ {A : Type 0} where
   -- the new element stands at the end
@@ -185,8 +185,8 @@ module _ (p : Layout) (models : List Content) (mem : Spot → ℕ) (views : List
     made = λ n live. grows _ (r.knows.made n (record { name = live.name; book = live.book }));
     met = dealt
         (λ i d. (m : Wanted) → Contains d.met m → HasEnough p (all_made all) m.level m.bucket)
-        (λ m h. enough_grows p _ _ m.level m.bucket grows (r.knows.met seat v at m h))
-        (λ j d _ e m h. enough_grows p _ _ m.level m.bucket grows (r.knows.met j d e m h))
+        (λ m h. enough_stays p _ _ m.level m.bucket grows (r.knows.met seat v at m h))
+        (λ j d _ e m h. enough_stays p _ _ m.level m.bucket grows (r.knows.met j d e m h))
         (λ m c. absurd (let k = c.1 in omega arith));
   }
 

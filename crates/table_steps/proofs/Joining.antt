@@ -17,7 +17,7 @@ use Rattle.node_words.specs.Held.{IsHeld, Wanted}
 use Rattle.node_places.specs.Spots.{Spot, Sessions, IsSpot}
 use Rattle.core_laws.specs.Standing.{Stands}
 use Rattle.core_laws.specs.Counting.{holdings}
-use Rattle.core_laws.specs.Soundness.{HasEnough}
+use Rattle.node_words.specs.Enough.{HasEnough, enough_stays}
 use Rattle.core_laws.specs.LogEvents.{Reseats}
 use Rattle.core_laws.proofs.StepLaws.{reseats_sound}
 use Rattle.core_reading.specs.Reading.{names_of}
@@ -27,7 +27,6 @@ use Rattle.table_rule.specs.Knowing.{all_made, Knows}
 use Rattle.table_rule.specs.Rules.{KeepsRule, state_of}
 use Rattle.table_rule.proofs.Containing.{contains_left, contains_right, contains_parts}
 use Rattle.table_rule.proofs.Lookups.{each, set_again, get_set_same, get_set_kept}
-use Rattle.table_rule.proofs.PartC.{enough_grows}
 use Rattle.table_steps.specs.Seating.{joined}
 use Rattle.table_steps.proofs.NumberSteps.{pick, pick_yes, pick_no}
 
@@ -248,11 +247,11 @@ module _ (p : Layout) (models : List Content) (mem : Spot → ℕ) (views : List
     made = λ n live. grows _ (r.knows.made n (record { name = live.name; book = live.book }));
     met = everyone
         (λ i d. (m : Wanted) → Contains d.met m → HasEnough p (all_made all) m.level m.bucket)
-        (λ m c. enough_grows p _ _ m.level m.bucket grows (⊎_elim
+        (λ m c. enough_stays p _ _ m.level m.bucket grows (⊎_elim
         (λ l. r.knows.met other w at_other m l) (λ n. r.knows.met seat v at m n)
         (contains_parts w.met v.met m c)))
         (λ m c. absurd (let k = c.1 in omega arith))
-        (λ j d _ _ e m h. enough_grows p _ _ m.level m.bucket grows (r.knows.met j d e m h));
+        (λ j d _ _ e m h. enough_stays p _ _ m.level m.bucket grows (r.knows.met j d e m h));
   }
 
   pub joined_event : Reseats p (state_of p mem views) (state_of p mem all)

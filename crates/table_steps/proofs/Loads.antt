@@ -10,7 +10,7 @@ use Rattle.node_words.specs.Plans.{Layout}
 use Rattle.node_places.specs.Names.{named}
 use Rattle.node_places.specs.Spots.{Spot, LogLength, Version, Sessions, Book, key_words}
 use Rattle.core_laws.specs.Events.{EntriesStay, Rests}
-use Rattle.core_laws.specs.Soundness.{HasEnough}
+use Rattle.node_words.specs.Enough.{HasEnough}
 use Rattle.core_laws.proofs.Enough.{enough}
 use Rattle.core_reading.specs.Reading.{Wrote, book_of}
 use Rattle.core_reading.proofs.Readings.{readies_key}
