@@ -1,0 +1,183 @@
+use crate::acts::{ONE, ball, boxed, cell};
+use history_model::{Act, Question, Way};
+use script::{Command, ScriptLine, number, read_bit_script, read_script};
+use std::test::Fail;
+use vox_read::read_models;
+use vw_cell::Side;
+
+fn edit(act: Act) -> Command {
+    Command::Edit { act, once: false }
+}
+
+fn ask(question: Question) -> Command {
+    Command::Ask {
+        version: None,
+        question,
+    }
+}
+
+fn ask_of(version: u32, question: Question) -> Command {
+    Command::Ask {
+        version: Some(version),
+        question,
+    }
+}
+
+// Whether the script has this one command, on line 1.
+fn is_only(lines: &[ScriptLine], command: Command) -> bool {
+    match lines {
+        [one] => one.line == 1 && one.command == command,
+        _ => false,
+    }
+}
+
+fn filled() -> Command {
+    edit(Act::Fill(boxed(cell(0, 0, 0), cell(1, 1, 1))))
+}
+
+fn changes() -> [(&'static str, Command); 12] {
+    let origin = cell(0, 0, 0);
+    let all = boxed(origin, cell(4096, 4096, 4096));
+    [
+        ("fill 0 0 0 1 1 1", filled()),
+        ("fill 0 0 0 1 1 1\n", filled()),
+        ("fill 0 0 0 1 1 1\r\n", filled()),
+        ("\t fill\t 0  0 0\t\t1 1 1 \t\n", filled()),
+        ("fill 000000000 00 0 000000001 01 1", filled()),
+        ("erase 0 0 0 4096 4096 4096", edit(Act::Erase(all))),
+        (
+            "ball 4 5 6 4095",
+            edit(Act::Ball(ball(cell(4, 5, 6), 4095))),
+        ),
+        (
+            "carve 4095 0 7 0",
+            edit(Act::Carve(ball(cell(4095, 0, 7), 0))),
+        ),
+        (
+            "copy 0 0 0 4 1 1 to 1 0 0",
+            edit(Act::Copy(boxed(origin, cell(4, 1, 1)), cell(1, 0, 0))),
+        ),
+        (
+            "stamp 0 4095 4095 4095",
+            edit(Act::Stamp(0, cell(4095, 4095, 4095))),
+        ),
+        ("undo", edit(Act::Undo)),
+        ("redo", edit(Act::Redo)),
+    ]
+}
+
+fn questions(way: Way, back: Way) -> [(&'static str, Command); 14] {
+    let part = boxed(cell(1, 2, 3), cell(4, 5, 6));
+    [
+        ("get 4095 0 0", ask(Question::Get(cell(4095, 0, 0)))),
+        ("count 1 2 3 4 5 6", ask(Question::Count(part))),
+        ("faces 1 2 3 4 5 6", ask(Question::Faces(part))),
+        ("bounds", ask(Question::Bounds)),
+        ("ray 0 1 0 1 -1 0", ask(Question::Ray(cell(0, 1, 0), way))),
+        (
+            "ray 0 1 0 -1024 01024 -0",
+            ask(Question::Ray(cell(0, 1, 0), back)),
+        ),
+        ("at 3 get 0 0 7", ask_of(3, Question::Get(cell(0, 0, 7)))),
+        ("at 0 count 1 2 3 4 5 6", ask_of(0, Question::Count(part))),
+        ("at 999999999 bounds", ask_of(999_999_999, Question::Bounds)),
+        (
+            "at 07 ray 0 1 0 1 -1 0",
+            ask_of(7, Question::Ray(cell(0, 1, 0), way)),
+        ),
+        (
+            "at 65536 faces 1 2 3 4 5 6",
+            ask_of(65536, Question::Faces(part)),
+        ),
+        ("forget 999999999", Command::Forget(999_999_999)),
+        ("same 0 00000002", Command::Same(0, 2)),
+        ("head", Command::Head),
+    ]
+}
+
+#[test]
+fn every_change_is_read(rt: HostRuntime) -> Result<(), Fail> {
+    let side = Side::new(4096).ok_or("a side")?;
+    let models = read_models(rt.alloc(), &ONE)?;
+    for (text, command) in changes() {
+        let script = read_script(rt.alloc(), text.as_bytes(), side, &models)?;
+        assert!(rt; is_only(&script.lines, command), "at {text}");
+    }
+    Ok(())
+}
+
+#[test]
+fn every_question_is_read(rt: HostRuntime) -> Result<(), Fail> {
+    let side = Side::new(4096).ok_or("a side")?;
+    let models = read_models(rt.alloc(), &ONE)?;
+    let way = Way::new(1, -1, 0).ok_or("a way")?;
+    let back = Way::new(-1024, 1024, 0).ok_or("a way")?;
+    for (text, command) in questions(way, back) {
+        let script = read_script(rt.alloc(), text.as_bytes(), side, &models)?;
+        assert!(rt; is_only(&script.lines, command), "at {text}");
+    }
+    Ok(())
+}
+
+// The numbers of the lines that have a command, one digit each.
+fn lines_of(lines: &[ScriptLine]) -> u64 {
+    let mut all: u64 = 0;
+    for line in lines {
+        all = all.wrapping_mul(10).wrapping_add(u64::from(line.line));
+    }
+    all
+}
+
+#[test]
+fn comments_and_empty_lines_are_no_commands(rt: HostRuntime) -> Result<(), Fail> {
+    let side = Side::new(8).ok_or("a side")?;
+    let models = read_models(rt.alloc(), &ONE)?;
+    for (text, lines) in [
+        ("", 0),
+        ("\n\n", 0),
+        (" \t\r\n#", 0),
+        ("# head\nhead\n", 2),
+        ("head\n\n \t\n  #head\n#\nhead\nhead", 167),
+        ("head\r\n\r\nhead\r", 13),
+    ] {
+        let script = read_script(rt.alloc(), text.as_bytes(), side, &models)?;
+        assert_eq!(rt; lines_of(&script.lines), lines, "at {text}");
+    }
+    Ok(())
+}
+
+#[test]
+fn a_run_over_bits_knows_four_commands(rt: HostRuntime) -> Result<(), Fail> {
+    let side = Side::new(8).ok_or("a side")?;
+    let models = read_models(rt.alloc(), &ONE)?;
+    for (text, known) in [
+        ("fill 0 0 0 1 1 1", true),
+        ("erase 0 0 0 1 1 1", true),
+        ("stamp 0 0 0 0", true),
+        ("count 0 0 0 1 1 1", true),
+        ("ball 0 0 0 1", false),
+        ("undo", false),
+        ("at 0 count 0 0 0 1 1 1", false),
+    ] {
+        let read = read_bit_script(rt.alloc(), text.as_bytes(), side, &models);
+        assert!(rt; read.is_ok() == known, "at {text}");
+    }
+    Ok(())
+}
+
+#[test]
+fn numbers_have_one_to_nine_digits(rt: HostRuntime) {
+    for (word, value) in [
+        ("0", Some(0)),
+        ("000000007", Some(7)),
+        ("999999999", Some(999_999_999)),
+        ("", None),
+        ("0000000007", None),
+        ("1000000000", None),
+        ("+1", None),
+        ("-1", None),
+        ("1a", None),
+    ] {
+        assert!(rt; number(word.as_bytes()).ok() == value, "at {word}");
+    }
+}
