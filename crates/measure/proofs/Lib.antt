@@ -6,3 +6,4 @@ mod BareLaws
 mod BareLeaves
 mod FaceLaws
 mod WideningLaws
+mod PruningLaws

@@ -4,3 +4,4 @@ pub mod Subjects
 pub mod Bare
 pub mod Faces
 pub mod Widening
+pub mod Pruning

@@ -4,10 +4,13 @@ ghost use Rattle.vw_cell.specs.Places.{IsInBlock, IsInWorld, LiesIn, octant_of};
 ghost use Rattle.node_kernels.specs.Leaves.{LeafShows};
 ghost use Rattle.world_questions.specs.Extents.{IsExtent};
 ghost use Rattle.block_walk.specs.Roots.{HasBlock, HoldsRoot, ForWorld};
+ghost use Rattle.block_walk.specs.Answers.{AreRight};
 ghost use Rattle.block_walk.specs.Parts.{EndsBy};
+ghost use Rattle.measure.specs.Pruning.{tells_within};
 ghost use Rattle.measure.specs.Widening.{IsFound, EndsInside, Widens, IsSetIn, IsSetInSome, IsOther, IsOtherAt, IsSetAt, ForPlace, WidensBy};
 
-use block_walk::{leaf_bits, name_of, octant_name};
+use crate::pruning::{Within, is_known, note};
+use block_walk::{Answers, leaf_bits, name_of, octant_name};
 use node_shapes::Name;
 use node_words::{Blocks, Share};
 use vw_cell::{Block, Boxed, Cell, Side};
@@ -20,16 +23,19 @@ pub fn bounds<B: Blocks>(store: &mut B, root: Option<&Share>, side: Side) -> Opt
     ensures seen { B.seen store.new ≡ B.seen store.old }
     ensures rests { B.rests store.old store.new }
 {
+    let mut answers = Answers::new();
     let level = side.root_level();
     let at = Cell { x: 0, y: 0, z: 0 };
-    widened(store, name_of(root), Block { level, at }, 0, None)
+    let place = Block { level, at };
+    widened(store, &mut answers, name_of(root), place, 0, None)
 }
 
-// The box widened by the set cells of a block. A block that lies in the box found so far is passed over. The corner
-// of its own block that an octant lies at comes first, and the opposite one next, so the box is soon wide.
+// The box widened by the set cells of a block. A block that can't widen the box found so far is passed over: one that
+// lies in it, and one like an earlier block that lies as far within it.
 #[cycle(widen)]
 fn widened<B: Blocks>(
     store: &mut B,
+    answers: &mut Answers<Within>,
     block: Option<Name>,
     place: Block,
     corner: u8,
@@ -40,8 +46,10 @@ fn widened<B: Blocks>(
     requires inside { LiesIn 4096 place }
     requires corner { corner < 8 }
     requires found { EndsInside found }
+    requires answers { AreRight tells_within (B.seen store.old).held answers.old.places }
     ensures widens { WidensBy (B.seen store.old).held block place found result }
     ensures found { EndsInside result }
+    ensures answers { AreRight tells_within (B.seen store.old).held answers.new.places }
     ensures seen { B.seen store.new ≡ B.seen store.old }
     ensures rests { B.rests store.old store.new }
 {
@@ -55,40 +63,20 @@ fn widened<B: Blocks>(
         let bits = leaf_bits(store, block);
         return with_leaf(bits, place, found);
     }
-    let found = widened_in(store, block, place, corner, found);
-    let found = widened_in(store, block, place, 7 - corner, found);
-    widened_by_others(store, block, place, corner, found)
+    if is_known(answers, block, place, found) {
+        return found;
+    }
+    let wide = widened_by_octants(store, answers, block, place, corner, found);
+    note(answers, block, place, wide);
+    wide
 }
 
-// The box widened by the set cells of one octant.
+// The box widened by the set cells of all octants. The corner of its own block that an octant lies at comes first, and
+// the opposite one next, so the box is soon wide.
 #[cycle(widen)]
-fn widened_in<B: Blocks>(
+fn widened_by_octants<B: Blocks>(
     store: &mut B,
-    block: Option<Name>,
-    place: Block,
-    octant: u8,
-    found: Option<Boxed>,
-) -> Option<Boxed>
-    requires level { (1 ≤ place.level) × (place.level ≤ 10) }
-    requires block { HasBlock (B.seen store.old).held place.level block }
-    requires inside { LiesIn 4096 place }
-    requires octant { octant < 8 }
-    requires found { EndsInside found }
-    ensures widens { ForPlace (B.seen store.old).held block place
-        (λ cells. Widens (IsSetIn (octant_of place octant) cells) (IsSetIn place cells) found result) }
-    ensures found { EndsInside result }
-    ensures block { HasBlock (B.seen store.new).held place.level block }
-    ensures seen { B.seen store.new ≡ B.seen store.old }
-    ensures rests { B.rests store.old store.new }
-{
-    let child = octant_name(store, place.level, block, octant);
-    widened(store, child, place.child(octant), octant, found)
-}
-
-// The box widened by the set cells of all octants but that of the corner and its opposite.
-#[cycle(widen)]
-fn widened_by_others<B: Blocks>(
-    store: &mut B,
+    answers: &mut Answers<Within>,
     block: Option<Name>,
     place: Block,
     corner: u8,
@@ -99,15 +87,72 @@ fn widened_by_others<B: Blocks>(
     requires inside { LiesIn 4096 place }
     requires corner { corner < 8 }
     requires found { EndsInside found }
+    requires answers { AreRight tells_within (B.seen store.old).held answers.old.places }
+    ensures widens { WidensBy (B.seen store.old).held block place found result }
+    ensures found { EndsInside result }
+    ensures answers { AreRight tells_within (B.seen store.old).held answers.new.places }
+    ensures seen { B.seen store.new ≡ B.seen store.old }
+    ensures rests { B.rests store.old store.new }
+{
+    let found = widened_in(store, answers, block, place, corner, found);
+    let found = widened_in(store, answers, block, place, 7 - corner, found);
+    widened_by_others(store, answers, block, place, corner, found)
+}
+
+// The box widened by the set cells of one octant.
+#[cycle(widen)]
+fn widened_in<B: Blocks>(
+    store: &mut B,
+    answers: &mut Answers<Within>,
+    block: Option<Name>,
+    place: Block,
+    octant: u8,
+    found: Option<Boxed>,
+) -> Option<Boxed>
+    requires level { (1 ≤ place.level) × (place.level ≤ 10) }
+    requires block { HasBlock (B.seen store.old).held place.level block }
+    requires inside { LiesIn 4096 place }
+    requires octant { octant < 8 }
+    requires found { EndsInside found }
+    requires answers { AreRight tells_within (B.seen store.old).held answers.old.places }
+    ensures widens { ForPlace (B.seen store.old).held block place
+        (λ cells. Widens (IsSetIn (octant_of place octant) cells) (IsSetIn place cells) found result) }
+    ensures found { EndsInside result }
+    ensures answers { AreRight tells_within (B.seen store.old).held answers.new.places }
+    ensures block { HasBlock (B.seen store.new).held place.level block }
+    ensures seen { B.seen store.new ≡ B.seen store.old }
+    ensures rests { B.rests store.old store.new }
+{
+    let child = octant_name(store, place.level, block, octant);
+    widened(store, answers, child, place.child(octant), octant, found)
+}
+
+// The box widened by the set cells of all octants but that of the corner and its opposite.
+#[cycle(widen)]
+fn widened_by_others<B: Blocks>(
+    store: &mut B,
+    answers: &mut Answers<Within>,
+    block: Option<Name>,
+    place: Block,
+    corner: u8,
+    found: Option<Boxed>,
+) -> Option<Boxed>
+    requires level { (1 ≤ place.level) × (place.level ≤ 10) }
+    requires block { HasBlock (B.seen store.old).held place.level block }
+    requires inside { LiesIn 4096 place }
+    requires corner { corner < 8 }
+    requires found { EndsInside found }
+    requires answers { AreRight tells_within (B.seen store.old).held answers.old.places }
     ensures widens { ForPlace (B.seen store.old).held block place
         (λ cells. Widens (IsSetInSome place cells (IsOther corner 8)) (IsSetIn place cells) found result) }
     ensures found { EndsInside result }
+    ensures answers { AreRight tells_within (B.seen store.old).held answers.new.places }
     ensures seen { B.seen store.new ≡ B.seen store.old }
     ensures rests { B.rests store.old store.new }
 {
     let mut wide = found;
     for octant in 0..8u8 {
-        wide = widened_apart(store, block, place, corner, octant, wide);
+        wide = widened_apart(store, answers, block, place, corner, octant, wide);
     }
     wide
 }
@@ -116,6 +161,7 @@ fn widened_by_others<B: Blocks>(
 #[cycle(widen)]
 fn widened_apart<B: Blocks>(
     store: &mut B,
+    answers: &mut Answers<Within>,
     block: Option<Name>,
     place: Block,
     corner: u8,
@@ -128,9 +174,11 @@ fn widened_apart<B: Blocks>(
     requires corner { corner < 8 }
     requires octant { octant < 8 }
     requires found { EndsInside found }
+    requires answers { AreRight tells_within (B.seen store.old).held answers.old.places }
     ensures widens { ForPlace (B.seen store.old).held block place
         (λ cells. Widens (IsSetInSome place cells (IsOtherAt corner octant)) (IsSetIn place cells) found result) }
     ensures found { EndsInside result }
+    ensures answers { AreRight tells_within (B.seen store.old).held answers.new.places }
     ensures block { HasBlock (B.seen store.new).held place.level block }
     ensures seen { B.seen store.new ≡ B.seen store.old }
     ensures rests { B.rests store.old store.new }
@@ -141,7 +189,7 @@ fn widened_apart<B: Blocks>(
     if octant == 7 - corner {
         return found;
     }
-    widened_in(store, block, place, octant, found)
+    widened_in(store, answers, block, place, octant, found)
 }
 
 // Whether the box has each cell of the block.

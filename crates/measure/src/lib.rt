@@ -7,6 +7,7 @@ mod bare_sides;
 mod counts;
 mod extents;
 mod leaves;
+mod pruning;
 mod tallies;
 
 pub use bare_sides::faces;

@@ -74,8 +74,8 @@ impl<S: Subject> Query for Part<S> {
     }
 }
 
-// A number that differs where parts do, more often than not.
-fn part_mark(part: Boxed) -> usize
+/// A number that differs where parts do, more often than not.
+pub(crate) fn part_mark(part: Boxed) -> usize
     ensures { result < 2 ^ 24 }
 {
     let at = usize::from(part.at.x) + 3 * usize::from(part.at.y) + 5 * usize::from(part.at.z);

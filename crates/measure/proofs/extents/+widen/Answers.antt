@@ -1,6 +1,7 @@
 use Rattle.std.proofs.Common.{arith, ◌∙◌}
 use Rattle.block_walk.proofs.LookLaws.{is_nothing, block_still}
 use Rattle.measure.proofs.WideningLaws.{nothing_widens, leaf_widens, all_octants, octant_widens, octant_lies, child_level, child_there, others_more}
+use Rattle.measure.proofs.PruningLaws.{right_still, right_after}
 use Rattle.measure.proofs.extents.+widen.Goals as goal
 
 pub widened-returns-then-is_none-clause-widens : goal.widened-returns-then-is_none-clause-widens
@@ -9,8 +10,8 @@ widened-returns-then-is_none-clause-widens g t c = nothing_widens _ c.args.block
 pub widened-returns-then-place-eq0-clause-widens : goal.widened-returns-then-place-eq0-clause-widens
 widened-returns-then-place-eq0-clause-widens g t c = leaf_widens _ c.args.block c.args.place c.leaf_bits-bits.result c.args.found _ (omega arith) c.leaf_bits-bits.ensures.bits c.with_leaf.ensures.widens
 
-pub widened-returns-clause-widens : goal.widened-returns-clause-widens
-widened-returns-clause-widens g t c cells u o shows =
+pub widened_by_octants-returns-clause-widens : goal.widened_by_octants-returns-clause-widens
+widened_by_octants-returns-clause-widens g t c cells u o shows =
     let seen = g.B.Blocks.seen in
     let e1 = c.widened_in-found.ensures.seen in
     let e2 = c.widened_in-found-2.ensures.seen ∙ e1 in
@@ -26,6 +27,7 @@ widened_by_others-loop-octant-preserved g t c =
       widens = λ cells u o shows. others_more c.args.place cells c.args.corner c.loop-octant.octant c.args.found c.loop-octant.wide _ (c.loop-octant.invariant.widens cells u o shows)
           (c.widened_apart-wide.ensures.widens cells u (block_still (seen c.args.store.now) (seen c.loop-octant.store) _ c.args.block u c.loop-octant.invariant.same o) shows);
       ends = c.widened_apart-wide.ensures.found;
+      right = right_still (seen c.args.store.now) (seen c.loop-octant.store) _ c.loop-octant.invariant.same c.widened_apart-wide.ensures.answers;
       block = c.widened_apart-wide.ensures.block;
       same = c.widened_apart-wide.ensures.seen ∙ c.loop-octant.invariant.same;
       rests = g.met.B.Blocks.rests_on _ _ _ c.loop-octant.invariant.rests c.widened_apart-wide.ensures.rests;
@@ -41,7 +43,7 @@ widened_in-widened-requires g t c κs within =
           omega (arith, c.requires.level.1, level),
           (
             child_there (g.B.Blocks.seen c.args.store.now) (g.B.Blocks.seen c.octant_name-child.new.store) c.args.place c.child.result c.args.octant c.args.block _ c.octant_name-child.ensures.seen c.child.ensures c.requires.block c.octant_name-child.ensures.octant,
-            (octant_lies c.args.place c.child.result c.args.octant c.requires.level.0 c.requires.octant c.child.ensures c.requires.inside, (c.requires.octant, c.requires.found)),
+            (octant_lies c.args.place c.child.result c.args.octant c.requires.level.0 c.requires.octant c.child.ensures c.requires.inside, (c.requires.octant, (c.requires.found, right_after (g.B.Blocks.seen c.args.store.now) (g.B.Blocks.seen c.octant_name-child.new.store) _ c.octant_name-child.ensures.seen c.requires.answers))),
           ),
         ),
       ),
@@ -50,3 +52,6 @@ widened_in-widened-requires g t c κs within =
 pub widened_in-returns-clause-widens : goal.widened_in-returns-clause-widens
 widened_in-returns-clause-widens g t c =
     octant_widens (g.B.Blocks.seen c.args.store.now) (g.B.Blocks.seen c.octant_name-child.new.store) c.args.block _ c.args.place c.child.result c.args.octant c.args.found _ c.octant_name-child.ensures.seen c.requires.level.0 c.requires.octant c.child.ensures c.octant_name-child.ensures.octant c.widened.ensures.widens
+
+pub widened-returns-clause-answers : goal.widened-returns-clause-answers
+widened-returns-clause-answers g t c = c.note.ensures _ c.args.found c.widened_by_octants-wide.ensures.answers c.widened_by_octants-wide.ensures.widens

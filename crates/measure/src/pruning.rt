@@ -1,0 +1,144 @@
+ghost use Rattle.std.specs.Prelude.{◌≡◌, ◌≤◌, ◌<◌, ◌+◌, ◌^◌, ℕ, IsTrue, Bool, List, Option};
+ghost use Rattle.vw_cell.specs.Places.{LiesIn, IsInBox, IsInWorld, IsWithin, block_side};
+ghost use Rattle.node_shapes.specs.Tree.{Tree};
+ghost use Rattle.block_walk.specs.Answers.{AreRight};
+ghost use Rattle.block_walk.specs.Parts.{EndsBy};
+ghost use Rattle.measure.specs.Widening.{EndsInside, WidensBy};
+ghost use Rattle.measure.specs.Pruning.{from_corner, tells_within};
+
+use crate::counts::name_mark;
+use crate::tallies::part_mark;
+use block_walk::{Answers, Query, same_boxes, same_names};
+use node_shapes::Name;
+use vw_cell::{Block, Boxed, Cell};
+
+/// What stands in a block, and a part of the block that has all of its set cells.
+#[derive(Clone, Copy)]
+pub(crate) struct Within {
+    block: Option<Name>,
+    level: u8,
+    part: Boxed,
+}
+
+impl Query for Within {
+    ghost tells = { tells_within };
+
+    fn is_same(&self, other: &Within) -> bool {
+        self.level == other.level
+            && same_names(self.block, other.block)
+            && same_boxes(self.part, other.part)
+    }
+
+    fn place(&self) -> usize {
+        (name_mark(self.block) + part_mark(self.part)) % 256
+    }
+}
+
+/// Whether it is remembered that the box found so far has all set cells of the block.
+pub(crate) fn is_known(
+    answers: &Answers<Within>,
+    block: Option<Name>,
+    place: Block,
+    found: Option<Boxed>,
+) -> bool
+    requires level { place.level ≤ 10 }
+    requires inside { LiesIn 4096 place }
+    requires found { EndsInside found }
+    ensures { IsTrue result → (held : List Tree) → AreRight tells_within held answers.now.places
+        → WidensBy held block place found found }
+{
+    match found {
+        Some(b) => {
+            let within = Within {
+                block,
+                level: place.level,
+                part: part_at(b, place),
+            };
+            answers.find(&within).is_some()
+        }
+        None => false,
+    }
+}
+
+/// Remembers that a box has all set cells of the block, by which it was widened.
+pub(crate) fn note(
+    answers: &mut Answers<Within>,
+    block: Option<Name>,
+    place: Block,
+    wide: Option<Boxed>,
+)
+    requires level { place.level ≤ 10 }
+    requires inside { LiesIn 4096 place }
+    requires wide { EndsInside wide }
+    ensures { (held : List Tree) (found : Option Boxed) → AreRight tells_within held answers.old.places
+        → WidensBy held block place found wide → AreRight tells_within held answers.new.places }
+{
+    match wide {
+        Some(b) => {
+            let within = Within {
+                block,
+                level: place.level,
+                part: part_at(b, place),
+            };
+            answers.keep(within, 0);
+        }
+        None => {}
+    }
+}
+
+// What of a box lies in a block, told from the block's corner. A part without a cell has a size 0.
+fn part_at(b: Boxed, place: Block) -> Boxed
+    requires level { place.level ≤ 10 }
+    requires inside { LiesIn 4096 place }
+    requires ends { EndsBy 4096 b }
+    ensures from { (c : Cell) → IsInWorld (block_side place.level) c → IsInBox result c
+        → IsInBox b (from_corner place c) }
+    ensures to { (c : Cell) → IsInWorld (block_side place.level) c → IsInBox b (from_corner place c)
+        → IsInBox result c }
+{
+    let side = side_of(place.level);
+    let x = stretch_at(b.at.x, b.size.x, place.at.x, side);
+    let y = stretch_at(b.at.y, b.size.y, place.at.y, side);
+    let z = stretch_at(b.at.z, b.size.z, place.at.z, side);
+    let at = Cell {
+        x: x.at,
+        y: y.at,
+        z: z.at,
+    };
+    let size = Cell {
+        x: x.size,
+        y: y.size,
+        z: z.size,
+    };
+    Boxed { at, size }
+}
+
+#[tactic(auto, using(block_walk::proofs::LookLaws::whole_side))]
+fn side_of(level: u8) -> u16
+    requires { level ≤ 10 }
+    ensures { result ≡ block_side level }
+{
+    4 << level
+}
+
+#[derive(Clone, Copy)]
+struct Stretch {
+    at: u16,
+    size: u16,
+}
+
+// What of a stretch lies in the `side` places from `low` on, told from there.
+fn stretch_at(at: u16, size: u16, low: u16, side: u16) -> Stretch
+    requires { at + size ≤ 4096 }
+    ensures from { (c : ℕ) → c < side → IsWithin result.at result.size c → IsWithin at size (low + c) }
+    ensures to { (c : ℕ) → c < side → IsWithin at size (low + c) → IsWithin result.at result.size c }
+{
+    let from = at.saturating_sub(low).min(side);
+    let to = (at + size).saturating_sub(low).min(side);
+    Stretch {
+        at: from,
+        size: to.saturating_sub(from),
+    }
+}
+
+ghost use Rattle.vw_cell.specs.declared.cells.Cell.{Cell};
