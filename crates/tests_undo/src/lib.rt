@@ -1,0 +1,7 @@
+//! Tests of where undos and redos go, over the words of a log.
+#![tactic(auto)]
+
+#[cfg(test)]
+mod logs;
+#[cfg(test)]
+mod tests;
