@@ -1,0 +1,20 @@
+ghost use Rattle.std.specs.Prelude.{◌≡◌, ℕ, List};
+ghost use Rattle.vox_read.specs.Contents.{Content, AreModels};
+ghost use Rattle.history_model.specs.Journal.{journal_of};
+ghost use Rattle.history_model.specs.Logs.{Log, IsLegal};
+ghost use Rattle.history_model.specs.Entries.{IsSide, IsTold};
+ghost use Rattle.journal_laws.specs.Signing.{AreSigned};
+
+/// A law: a legal history can be told by a journal, so that its text is read back as it.
+///
+/// Whether a history is legal doesn't rest on who did what, so that is asked for besides: a run has
+/// sessions below 64, and lines of 32 bits.
+pub fn legal_histories_can_be_told()
+    ensures { (side : ℕ) (models : List Content) (log : Log) → IsSide log.side
+        → AreModels models → IsLegal side models log → AreSigned log → IsTold log }
+{}
+
+/// A law: a text is the journal of one history at most.
+pub fn journals_tell_one_history()
+    ensures { (a b : Log) → IsTold a → IsTold b → journal_of a ≡ journal_of b → a ≡ b }
+{}
