@@ -1,0 +1,88 @@
+ghost use Rattle.std.specs.Prelude.{IfSome};
+ghost use Rattle.vox_read.specs.Contents.{AreModels};
+
+use edit_stamp::Stencil;
+use std::alloc::{AllocError, Global};
+use vox_read::{Models, read_models};
+use vw_cell::Cell;
+
+/// A model as a file tells it: its size, and voxels of a place and a colour each.
+#[derive(Drop)]
+pub struct Drawing {
+    pub size: [u8; 3],
+    pub voxels: Vec<[u8; 4]>,
+}
+
+impl Drawing {
+    /// The size on each axis.
+    pub fn cells(&self) -> Cell {
+        Cell {
+            x: u16::from(self.size[0]),
+            y: u16::from(self.size[1]),
+            z: u16::from(self.size[2]),
+        }
+    }
+
+    /// Whether the model sets the place: the last voxel there has a colour other than 0.
+    pub fn has(&self, place: Cell) -> bool {
+        let mut is_set = false;
+        for voxel in &self.voxels {
+            let [x, y, z, colour] = *voxel;
+            if u16::from(x) == place.x && u16::from(y) == place.y && u16::from(z) == place.z {
+                is_set = colour != 0;
+            }
+        }
+        is_set
+    }
+
+    /// The stencil of the model, read from its file. `None` where a voxel stands outside, or memory is short.
+    pub fn stencil(&self, alloc: Global) -> Option<Stencil> {
+        let bytes = self.file(alloc).ok()?;
+        let models = models(alloc, &bytes)?;
+        first(alloc, &models)
+    }
+
+    // A file of the model alone.
+    fn file(&self, alloc: Global) -> Result<Vec<u8>, AllocError> {
+        let mut bytes: Vec<u8> = Vec::new(alloc);
+        let number = (self.voxels.len() % 65536) as u32;
+        let content = 4 * number + 4;
+        bytes.extend_from_slice(b"VOX \x96\0\0\0MAIN\0\0\0\0")?;
+        bytes.extend_from_slice(&(content + 36).to_le_bytes())?;
+        bytes.extend_from_slice(b"SIZE\x0c\0\0\0\0\0\0\0")?;
+        let [x, y, z] = self.size;
+        bytes.extend_from_slice(&[x, 0, 0, 0, y, 0, 0, 0, z, 0, 0, 0])?;
+        bytes.extend_from_slice(b"XYZI")?;
+        bytes.extend_from_slice(&content.to_le_bytes())?;
+        bytes.extend_from_slice(b"\0\0\0\0")?;
+        bytes.extend_from_slice(&number.to_le_bytes())?;
+        for voxel in &self.voxels {
+            bytes.extend_from_slice(voxel)?;
+        }
+        Ok(bytes)
+    }
+}
+
+fn models(alloc: Global, bytes: &[u8]) -> Option<Models>
+    ensures { IfSome result AreModels }
+{
+    if bytes.len() > 1 << 28 {
+        return None;
+    }
+    match read_models(alloc, bytes) {
+        Ok(models) => Some(models),
+        Err(_) => None,
+    }
+}
+
+fn first(alloc: Global, models: &Models) -> Option<Stencil>
+    requires { AreModels models.now }
+{
+    match models.list.first() {
+        None => None,
+        Some(model) => match Stencil::new(alloc, model) {
+            Ok(stencil) => Some(stencil),
+            Err(_) => None,
+        },
+    }
+}

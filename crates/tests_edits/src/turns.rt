@@ -1,0 +1,182 @@
+ghost use Rattle.std.specs.Prelude.{◌≡◌, ◌+◌, ◌<◌, ◌≤◌, ◌^◌};
+ghost use Rattle.vw_cell.specs.Places.{FitsAt};
+
+use edit_ops::rebuild_box;
+use node_words::{Blocks, Full, Name, NodeRefused, NodeStore, Plan, Share, Steps};
+use one_store::OneStore;
+use std::alloc::Global;
+use std::marker::Brand;
+use std::sync::ledger::{Blank, Ledger};
+use std::test::Fail;
+use vw_cell::{Boxed, Cell, Side};
+
+/// A store for one thread that counts its turns as it goes, since a ledger of steps leaves no number behind.
+#[derive(Drop)]
+pub struct TurnStore {
+    store: OneStore,
+    turns: u32,
+}
+
+impl TurnStore {
+    // How many nodes of the levels up to this one are live.
+    fn live(&self, top: u8) -> u32
+        requires { top + 2 ≤ self.now.store.words.plan.side }
+    {
+        let mut live: u32 = 0;
+        for level in 0..=top {
+            live = live.saturating_add(self.store.live(level));
+        }
+        live
+    }
+}
+
+impl Blocks for TurnStore {
+    ghost use Rattle.one_store.specs.Known.{known_seen};
+    ghost use Rattle.std.proofs.Common.{refl, ◌∙◌};
+
+    ghost seen = { λ s. known_seen s.store };
+
+    ghost rests = { λ a b. b.store.roots ≡ a.store.roots };
+
+    fn bits_at(&mut self, n: Name) -> u64 {
+        self.store.bits_at(n)
+    }
+
+    fn child_at(&mut self, n: Name, octant: u8) -> Option<Name> {
+        self.store.child_at(n, octant)
+    }
+
+    ghost rests_itself = { λ a. refl };
+
+    ghost rests_on = { λ a b c f g. g ∙ f };
+}
+
+impl NodeStore for TurnStore {
+    fn held(&self) -> u32 {
+        self.store.held()
+    }
+
+    fn leaf<L: Ledger>(&mut self, bits: u64, steps: &mut Steps<L>) -> Result<Share, Full> {
+        self.turns = self.turns.saturating_add(1);
+        self.store.leaf(bits, steps)
+    }
+
+    // One turn, and one for each child where the node was there before.
+    fn node<L: Ledger>(
+        &mut self,
+        level: u8,
+        children: [Option<Share>; 8],
+        steps: &mut Steps<L>,
+    ) -> Result<Share, NodeRefused> {
+        let number = number_of(&children);
+        let before = self.store.live(level);
+        match self.store.node(level, children, steps) {
+            Ok(share) => {
+                let was_there = self.store.live(level) == before;
+                let turns = if was_there { 1 + number } else { 1 };
+                self.turns = self.turns.saturating_add(turns);
+                Ok(share)
+            }
+            Err(refused) => Err(refused),
+        }
+    }
+
+    fn more<L: Ledger>(&mut self, share: &Share, steps: &mut Steps<L>) -> Share {
+        self.turns = self.turns.saturating_add(1);
+        self.store.more(share, steps)
+    }
+
+    fn keep_at<L: Ledger>(&mut self, n: Name, steps: &mut Steps<L>) -> Share {
+        self.turns = self.turns.saturating_add(1);
+        self.store.keep_at(n, steps)
+    }
+
+    // One turn, and at most eight for each node that goes with the share.
+    fn back<L: Ledger>(&mut self, share: Share, steps: &mut Steps<L>) {
+        let _held = self.store.held();
+        let level = share.name().level;
+        let before = self.live(level);
+        self.store.back(share, steps);
+        let gone = before.saturating_sub(self.live(level));
+        self.turns = self
+            .turns
+            .saturating_add(gone.saturating_mul(8).saturating_add(1));
+    }
+}
+
+fn number_of(children: &[Option<Share>; 8]) -> u32
+    ensures { result ≤ 8 }
+{
+    let mut number: u32 = 0;
+    for k in 0..8usize {
+        number = number.saturating_add(u32::from(children[k].is_some()));
+    }
+    number.min(8)
+}
+
+fn spend(root: Option<Share>) {
+    match root {
+        Some(share) => {
+            let _name = share.spend();
+        }
+        None => {}
+    }
+}
+
+// Whether the box could be filled, in an empty world.
+fn fills<L: Ledger>(store: &mut TurnStore, side: Side, b: Boxed, blank: Blank) -> bool
+    requires name { blank.name ≡ L.name }
+    requires parts { blank.parts ≡ L.parts }
+    requires some { 0 < L.parts }
+    requires side { side ≡ store.old.store.words.plan.side }
+    requires inside { FitsAt b.at b.size (2 ^ side) }
+{
+    if store.held() > 0 {
+        return false;
+    }
+    let mut steps: Steps<L> = Steps::start(blank);
+    match rebuild_box(store, None, side, b, true, &mut steps) {
+        Ok(root) => {
+            spend(root);
+            true
+        }
+        Err(_) => false,
+    }
+}
+
+// The turns of filling the box in an empty world of side 4,096.
+fn turns_of(alloc: Global, at: [u16; 3], size: [u16; 3]) -> Result<u32, Fail> {
+    let [x, y, z] = at;
+    let at = Cell { x, y, z };
+    let [x, y, z] = size;
+    let size = Cell { x, y, z };
+    let side = Side::new(4096).ok_or("a side")?;
+    let b = Boxed::new(at, size, side).ok_or("a box")?;
+    let plan = Plan::even(side, 4, 64).ok_or("a plan")?;
+    let mut store = TurnStore {
+        store: OneStore::begin(alloc, &plan)?,
+        turns: 0,
+    };
+    if !fills::<Brand>(&mut store, side, b, Blank::new(1)) {
+        return Err(Fail::from("a full bucket"));
+    }
+    Ok(store.turns)
+}
+
+#[test]
+fn large_fills_take_few_turns(rt: HostRuntime) -> Result<(), Fail> {
+    for (at, size, most) in [
+        ([0, 0, 0], [4096, 4096, 4096], 299),
+        ([1, 1, 1], [4095, 4095, 4095], 4999),
+        ([0, 0, 0], [4095, 4095, 4095], 4999),
+        ([1, 1, 1], [4094, 4094, 4094], 4999),
+        ([1, 3, 5], [4094, 4001, 4000], 4999),
+        ([5, 0, 77], [1, 4095, 3001], 4999),
+        ([1, 2, 3], [1, 1, 1], 4999),
+    ] {
+        let turns = turns_of(rt.alloc(), at, size)?;
+        println!(rt; "{at:?} {size:?} {turns}")?;
+        assert!(rt; turns <= most, "{turns} turns at {at:?} of {size:?}");
+    }
+    Ok(())
+}
