@@ -9,7 +9,7 @@ set -eu
 here=$(cd "$(dirname "$0")" && pwd)
 root=$(dirname "$here")
 work=$here/work/texts
-crates="vw_cell bit_set vox_chunk vox_read plain_text history_model transcript"
+crates="sums word_bits vw_cell bit_set vox_chunk vox_read plain_text history_model transcript"
 rounds=5
 mkdir -p "$work/crates/bench_texts/src"
 cp "$root/HANDLES" "$work/"
