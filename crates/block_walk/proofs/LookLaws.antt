@@ -58,12 +58,12 @@ pub same_cell : (c : Cell) (x y z : ℕ) → c.x ≡ x → c.y ≡ y → c.z ≡
 same_cell c x y z p q r = rw (← p, ← q, ← r) refl
 
 -- the halves of a place, and the place in them
-pub halves_tell : (half i j k : ℕ) (c : Cell) → 0 < half → i < 2 → j < 2 → k < 2 → i ≡ c.x / half → j ≡ c.y / half → k ≡ c.z / half → c ≡ placed half (i + 2 * j + 4 * k) (cell_at (c.x % half) (c.y % half) (c.z % half))
-halves_tell half i j k c some p q r ei ej ek =
+pub halves_join : (half i j k : ℕ) (c inner : Cell) → i < 2 → j < 2 → k < 2 → c.x ≡ i * half + inner.x → c.y ≡ j * half + inner.y → c.z ≡ k * half + inner.z → c ≡ placed half (i + 2 * j + 4 * k) inner
+halves_join half i j k c inner p q r ex ey ez =
     let hx : half_x (i + 2 * j + 4 * k) ≡ i = omega arith in
     let hy : half_y (i + 2 * j + 4 * k) ≡ j = omega arith in
     let hz : half_z (i + 2 * j + 4 * k) ≡ k = omega arith in
-    same_cell c _ _ _ (rw (hx, ei) (omega arith)) (rw (hy, ej) (omega arith)) (rw (hz, ek) (omega arith))
+    same_cell c _ _ _ (rw hx ex) (rw hy ey) (rw hz ez)
 
 -- what ends by a half ends by the whole
 in_twice : (half i at size side : ℕ) → side ≡ 2 * half → i < 2 → at + size ≤ half → i * half + at + size ≤ side

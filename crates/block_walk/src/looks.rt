@@ -75,7 +75,7 @@ pub fn leaf_has(bits: u64, c: Cell) -> bool
 }
 
 /// The octant that has the cell of a block, and the cell's place in it.
-#[tactic(auto, using(crate::proofs::LookLaws::halves_tell, crate::proofs::LookLaws::twice))]
+#[tactic(auto, using(crate::proofs::LookLaws::halves_join, crate::proofs::LookLaws::twice))]
 pub fn octant_at(level: u8, c: Cell) -> (u8, Cell)
     requires level { (1 ≤ level) × (level ≤ 10) }
     requires cell { IsInWorld (block_side level) c }
@@ -88,23 +88,33 @@ pub fn octant_at(level: u8, c: Cell) -> (u8, Cell)
     let y = half_of(c.y, half);
     let z = half_of(c.z, half);
     let inner = Cell {
-        x: c.x % half,
-        y: c.y % half,
-        z: c.z % half,
+        x: x.place,
+        y: y.place,
+        z: z.place,
     };
-    (x + 2 * y + 4 * z, inner)
+    (x.upper + 2 * y.upper + 4 * z.upper, inner)
 }
 
-// Which half has the place.
-#[tactic(auto, using(std::proofs::lemmas::Nat::div_below))]
-fn half_of(place: u16, half: u16) -> u8
-    requires half { 1 ≤ half }
-    requires place { place < half * 2 }
-    ensures half { result ≡ place / half }
-    ensures below { result < 2 }
+// The lower or the upper half, and a place in it.
+#[derive(Clone, Copy)]
+struct Half {
+    upper: u8,
+    place: u16,
+}
+
+// Which half has the place. It divides by nothing, since a walk asks this thrice a level.
+fn half_of(place: u16, half: u16) -> Half
+    requires { place < half * 2 }
+    ensures place { place ≡ result.upper * half + result.place }
+    ensures upper { result.upper < 2 }
+    ensures below { result.place < half }
 {
-    let half = place / half;
-    half as u8
+    if place < half {
+        Half { upper: 0, place }
+    } else {
+        let place = place - half;
+        Half { upper: 1, place }
+    }
 }
 
 /// A box of an octant, told from the block's corner.
