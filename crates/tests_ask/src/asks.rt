@@ -1,0 +1,162 @@
+use crate::plain::{plain_bounds, plain_cells, plain_count, plain_faces};
+use crate::rays::{first_cell, first_instant};
+use history_model::{Question, Way};
+use node_words::Plan;
+use std::alloc::Global;
+use std::test::Fail;
+use test_worlds::{Drawing, Draws, Found, Grid, StoredWorld};
+use vox_read::Voxel;
+use vw_cell::{Boxed, Cell, Side};
+
+/// A world in a store and the same cells beside it.
+#[derive(Drop)]
+pub struct Twins {
+    pub stored: StoredWorld,
+    pub plain: Grid,
+}
+
+/// A world of this side after so many random edits.
+pub fn drawn_twins(alloc: Global, draws: &mut Draws, side: u32, edits: u32) -> Result<Twins, Fail> {
+    let side = Side::new(side).ok_or("a side")?;
+    let plan = Plan::even(side, 64, 64).ok_or("a plan")?;
+    let mut stored = StoredWorld::empty(alloc, &plan)?;
+    let cells = side.cells() as u16;
+    let mut plain = Grid::empty(alloc, cells).map_err(|_| "out of memory")?;
+    let model = Drawing {
+        size: [3, 2, 4],
+        voxels: vec![in alloc; [0, 0, 0, 1], [2, 0, 3, 1], [1, 1, 1, 1], [0, 1, 2, 1]]?,
+    };
+    let stencil = model.stencil(alloc).ok_or("a stencil")?;
+    for _ in 0..edits {
+        let act = draws.act(cells, model.cells());
+        stored.edit(&act, &stencil).map_err(|_| "an edit")?;
+        plain = plain
+            .after(alloc, &act, &model)
+            .map_err(|_| "out of memory")?;
+    }
+    Ok(Twins { stored, plain })
+}
+
+/// A box that touches sides of the world.
+pub fn touching(draws: &mut Draws, side: u16) -> Boxed {
+    let (x, width) = touching_stretch(draws, side);
+    let (y, depth) = touching_stretch(draws, side);
+    let (z, height) = touching_stretch(draws, side);
+    Boxed {
+        at: Cell { x, y, z },
+        size: Cell {
+            x: width,
+            y: depth,
+            z: height,
+        },
+    }
+}
+
+fn touching_stretch(draws: &mut Draws, side: u16) -> (u16, u16) {
+    let number = draws.below(side).saturating_add(1);
+    match draws.below(3) {
+        0 => (0, number),
+        1 => (side.saturating_sub(number), number),
+        _ => (0, side),
+    }
+}
+
+/// How many of the questions of this box are answered otherwise than by plain cells.
+pub fn wrong_of_box(alloc: Global, twins: &mut Twins, b: Boxed) -> Result<u32, Fail> {
+    let count = twins.stored.ask(&Question::Count(b));
+    let faces = twins.stored.ask(&Question::Faces(b));
+    let mut voxels: Vec<Voxel> = vec![in alloc; FIRST]?;
+    let listed = twins.stored.cells(b, &mut voxels);
+    let plain = &twins.plain;
+    let same_cells = follow(&voxels, &plain_cells(alloc, plain, b)?);
+    Ok(
+        u32::from(count != Some(Found::Number(plain_count(plain, b))))
+            .saturating_add(u32::from(faces != Some(Found::Number(plain_faces(plain, b)))))
+            .saturating_add(u32::from(!listed || !same_cells)),
+    )
+}
+
+const FIRST: Voxel = Voxel {
+    x: 9,
+    y: 9,
+    z: 9,
+    colour: 9,
+};
+
+// Whether the first list is `FIRST` with the second after it.
+fn follow(all: &[Voxel], more: &[Voxel]) -> bool {
+    match all.split_first() {
+        Some((first, rest)) => *first == FIRST && rest == more,
+        None => false,
+    }
+}
+
+/// Whether the bounds are those of plain cells.
+pub fn bounds_agree(twins: &mut Twins) -> bool {
+    let bounds = twins.stored.ask(&Question::Bounds);
+    bounds == Some(Found::Extent(plain_bounds(&twins.plain)))
+}
+
+/// A way whose steps are 0, small, or up to 1,024.
+pub fn way(draws: &mut Draws) -> Option<Way> {
+    let dx = step(draws);
+    let dy = step(draws);
+    let dz = step(draws);
+    Way::new(dx, dy, dz)
+}
+
+fn step(draws: &mut Draws) -> i16 {
+    let size = match draws.below(4) {
+        0 => 0,
+        1 => 1,
+        2 => draws.below(4),
+        _ => draws.below(1025),
+    };
+    let size = size.min(1024) as i16;
+    if draws.below(2) == 0 { size } else { -size }
+}
+
+/// A cell of the world, from which the next set one is taken half of the time.
+pub fn start(draws: &mut Draws, plain: &Grid) -> Cell {
+    let side = plain.side();
+    let c = draws.cell(Cell {
+        x: side,
+        y: side,
+        z: side,
+    });
+    if draws.below(2) == 0 {
+        set_in_row(plain, c)
+    } else {
+        c
+    }
+}
+
+// The last set cell of the cell's row along x, or the cell.
+fn set_in_row(plain: &Grid, c: Cell) -> Cell {
+    let mut found = c;
+    for x in 0..plain.side() {
+        let at = Cell { x, y: c.y, z: c.z };
+        if plain.has(at) {
+            found = at;
+        }
+    }
+    found
+}
+
+/// Whether the ray hits what plain cells say; where all steps are small, instant by instant too.
+pub fn ray_agrees(twins: &mut Twins, from: Cell, way: Way) -> bool {
+    let found = twins.stored.ask(&Question::Ray(from, way));
+    let plain = &twins.plain;
+    if found != Some(Found::Hit(first_cell(plain, from, &way))) {
+        return false;
+    }
+    !is_slow(&way) || found == Some(Found::Hit(first_instant(plain, from, &way)))
+}
+
+fn is_slow(way: &Way) -> bool {
+    is_small(way.dx()) && is_small(way.dy()) && is_small(way.dz())
+}
+
+fn is_small(d: i16) -> bool {
+    -4 < d && d < 4
+}

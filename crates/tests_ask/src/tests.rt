@@ -1,0 +1,131 @@
+use crate::asks::{bounds_agree, drawn_twins, ray_agrees, start, touching, way, wrong_of_box};
+use std::alloc::Global;
+use std::test::Fail;
+use test_worlds::Draws;
+use vw_cell::{Boxed, Cell};
+
+/// A world of random edits, and how much is asked of it.
+#[derive(Clone, Copy)]
+struct Trial {
+    side: u32,
+    edits: u32,
+    boxes: u32,
+    rays: u32,
+}
+
+const TRIALS: [Trial; 9] = [
+    Trial {
+        side: 4,
+        edits: 0,
+        boxes: 4,
+        rays: 8,
+    },
+    Trial {
+        side: 4,
+        edits: 2,
+        boxes: 30,
+        rays: 60,
+    },
+    Trial {
+        side: 4,
+        edits: 7,
+        boxes: 30,
+        rays: 60,
+    },
+    Trial {
+        side: 8,
+        edits: 2,
+        boxes: 30,
+        rays: 80,
+    },
+    Trial {
+        side: 8,
+        edits: 9,
+        boxes: 30,
+        rays: 80,
+    },
+    Trial {
+        side: 16,
+        edits: 2,
+        boxes: 20,
+        rays: 60,
+    },
+    Trial {
+        side: 16,
+        edits: 9,
+        boxes: 20,
+        rays: 60,
+    },
+    Trial {
+        side: 32,
+        edits: 2,
+        boxes: 10,
+        rays: 30,
+    },
+    Trial {
+        side: 32,
+        edits: 9,
+        boxes: 10,
+        rays: 30,
+    },
+];
+
+#[test]
+fn random_boxes_are_answered_by_plain_cells(rt: HostRuntime) -> Result<(), Fail> {
+    let mut draws = Draws::new(3);
+    for trial in TRIALS {
+        let wrong = boxes_wrong(rt.alloc(), &mut draws, trial)?;
+        assert_eq!(rt; wrong, 0, "side {} edits {}", trial.side, trial.edits);
+    }
+    Ok(())
+}
+
+// How many questions of boxes are answered wrongly in a world.
+fn boxes_wrong(alloc: Global, draws: &mut Draws, trial: Trial) -> Result<u32, Fail> {
+    let mut twins = drawn_twins(alloc, draws, trial.side, trial.edits)?;
+    let side = twins.plain.side();
+    let whole = Boxed {
+        at: Cell { x: 0, y: 0, z: 0 },
+        size: Cell {
+            x: side,
+            y: side,
+            z: side,
+        },
+    };
+    let mut wrong = wrong_of_box(alloc, &mut twins, whole)?;
+    wrong = wrong.saturating_add(u32::from(!bounds_agree(&mut twins)));
+    for k in 0..trial.boxes {
+        let b = if k % 3 == 0 {
+            touching(draws, side)
+        } else {
+            draws.boxed(side)
+        };
+        wrong = wrong.saturating_add(wrong_of_box(alloc, &mut twins, b)?);
+    }
+    Ok(wrong)
+}
+
+#[test]
+fn random_rays_hit_the_first_plain_cell(rt: HostRuntime) -> Result<(), Fail> {
+    let mut draws = Draws::new(5);
+    for trial in TRIALS {
+        let wrong = rays_wrong(rt.alloc(), &mut draws, trial)?;
+        assert_eq!(rt; wrong, 0, "side {} edits {}", trial.side, trial.edits);
+    }
+    Ok(())
+}
+
+// How many rays are answered wrongly in a world.
+fn rays_wrong(alloc: Global, draws: &mut Draws, trial: Trial) -> Result<u32, Fail> {
+    let mut twins = drawn_twins(alloc, draws, trial.side, trial.edits)?;
+    let mut wrong: u32 = 0;
+    for _ in 0..trial.rays {
+        let from = start(draws, &twins.plain);
+        let agrees = match way(draws) {
+            Some(way) => ray_agrees(&mut twins, from, way),
+            None => true,
+        };
+        wrong = wrong.saturating_add(u32::from(!agrees));
+    }
+    Ok(wrong)
+}
