@@ -1,3 +1,3 @@
-pub mod Showing
 pub mod Stepping
 pub mod Stamping
+pub mod Singles

@@ -1,9 +1,9 @@
--- One more line of the script.
-use Rattle.std.proofs.Common.{◌≡◌, ◌≢◌, ℕ, ◌+◌, ◌-◌, ◌^◌, ◌<◌, ◌≤◌, Bool, true, false, List, [], ◌∷◌, ◌++◌, length, take, get_or, refl, ap, sym, subst, ◌∙◌, arith, append-nil}
-use Rattle.std.specs.Prelude.{Some, None}
-use Rattle.std.specs.List.{All, AllZip, slice_get}
-use Rattle.std.proofs.lemmas.List.{length_push, take_more}
-use Rattle.std.proofs.lemmas.List.Elements.{All-push, All-weaker, All-nil, All-cons}
+-- One more line, and one more script.
+use Rattle.std.proofs.Common.{◌≡◌, ℕ, zero, suc, ◌+◌, ◌^◌, ◌<◌, ◌≤◌, true, List, [], ◌∷◌, ◌++◌, length, take, get_or, refl, ap, sym, subst, ◌∙◌, inl, arith}
+use Rattle.std.specs.Prelude.{None}
+use Rattle.std.specs.List.{All}
+use Rattle.std.proofs.lemmas.List.{length_push, take_more, take_all}
+use Rattle.std.proofs.lemmas.List.Elements.{All-nil, All-cons, All-head, All-tail, All-push}
 use Rattle.vw_cell.specs.declared.boxes.Boxed.{Boxed}
 use Rattle.vw_cell.specs.Counts.{number_in}
 use Rattle.vox_read.specs.Contents.{Content}
@@ -11,122 +11,46 @@ use Rattle.bit_world.specs.Grids.{Grid, Shows}
 use Rattle.history_model.specs.declared.acts.Act.{Act}
 use Rattle.history_model.specs.declared.acts.Act.TheVariants.{Fill, Erase, Ball, Carve, Copy, Stamp, Undo, Redo}
 use Rattle.history_model.specs.declared.histories.Record.{Record}
-use Rattle.history_model.specs.Worlds.{World, nothing, edited, is_edit}
+use Rattle.history_model.specs.declared.histories.Mark.{Mark}
+use Rattle.history_model.specs.declared.questions.Question.TheVariants as questions
+use Rattle.history_model.specs.Worlds.{nothing, edited, is_edit}
 use Rattle.history_model.specs.Positions.{position_after}
 use Rattle.history_model.specs.Moments.{has}
-use Rattle.history_model.specs.Logs.{Log, Fits, IsLegal}
+use Rattle.history_model.specs.Logs.{Log, Fits}
 use Rattle.history_model.specs.Laws.{has_of_edit, has_at_0}
-use Rattle.history_model.specs.LegalLaws.{legal_empty, legal_next, edit_follows}
+use Rattle.history_model.specs.LegalLaws.{legal_next, edit_follows}
+use Rattle.node_words.specs.Plans.{Layout}
 use Rattle.script.specs.declared.commands.Command.{Command}
 use Rattle.script.specs.declared.commands.Command.TheVariants.{Edit, Ask}
-use Rattle.history_model.specs.declared.questions.Question.TheVariants as questions
 use Rattle.script.specs.declared.commands.ScriptLine.{ScriptLine}
-use Rattle.script.specs.Fitting.{CommandFits, IsForBits}
+use Rattle.script.specs.Fitting.{CommandFits, IsForBits, RisesFrom}
 use Rattle.transcript.specs.declared.answers.Answer.{Answer}
-use Rattle.transcript.specs.declared.answers.Answer.TheVariants.{Done, Count, LogFull}
+use Rattle.transcript.specs.declared.answers.Answer.TheVariants.{Done, Count, LogFull, Full}
 use Rattle.transcript.specs.declared.answers.LineAnswer.{LineAnswer}
-use Rattle.agreement.specs.Answers.{IsReadable, IsRecord, HasWay, LineFits}
-use Rattle.agreement.specs.Agreeing.{is_done, done_moments, own_numbers, InOrder}
-use Rattle.agreement.specs.Shown.{Accepted, accepted_by, accepted_of}
-use Rattle.agreement.proofs.Lists.{get_last, zip_push, zip_map, pairs_nil, pairs_push}
-use Rattle.agreement.proofs.Staying.{line_stays}
-use Rattle.bit_run.specs.Runs.{log_of, IsRun}
-use Rattle.bit_run.specs.Steps.{Puts, Changed, Counted, Does, Step, IsState}
+use Rattle.conformance.specs.Answers.{IsReadable, IsStanding, tells, log_full}
+use Rattle.conformance.specs.Kinds.{IsAfter}
+use Rattle.conformance.specs.Refusing.{Refusal, WasPossible, refusal_with, refused_by, refused_in, refused_of, spans_of}
+use Rattle.conformance.specs.Running.{LineStep}
+use Rattle.conformance.specs.Runs.{AllRan, IsFree, is_free}
+use Rattle.conformance.specs.Telling.{count}
+use Rattle.conformance.proofs.LineKinds.{done_line, resting_line, full_way}
+use Rattle.conformance.proofs.Running.{no_lines, next_line, next_script, all_lines}
+use Rattle.bit_run.specs.Steps.{Bits, bits_of, unmarked, Draws, IsSame, Changed, Counted, Does, DoesLine, IsState, RanLines}
 use Rattle.bit_run.proofs.Stamping.{shows_same}
-use Rattle.bit_run.proofs.Showing.{done_push, own_push, accepted_next, of_shown, to_shown, records_push}
 
--- before the first line
-pub no_lines : (side : ℕ) (models : List Content) (grid : Grid) → grid.exponent ≡ side → Shows grid nothing → IsState side models [] grid [] []
-no_lines side models grid same clear =
-    record {
-      run =
-          record {
-            legal = legal_empty (2 ^ side) models side refl;
-            agrees = record { sessions = (record { lines = tt; moments = pairs_nil InOrder; records = refl; marks = All-nil _ }, tt); no_others = All-nil _; no_other_marks = All-nil _ };
-            shown = record { is_record = All-nil _; numbered = All-nil _; once = pairs_nil (λ (c d : Accepted). c.at ≢ d.at); all = refl; no_marks = refl };
-          };
-      same_side = same;
-      shows = shows_same grid (has models [] 0) nothing clear (has_at_0 models []);
-    }
+-- ---- before the first line
 
--- all moments are within the history
-moments_within : (models : List Content) (log : Log) (script : List ScriptLine) (answers : List LineAnswer) → AllZip (LineFits models log 0) script answers → All (λ a. a.at ≤ length log.records) answers
-moments_within models log [] [] all = All-nil _
-moments_within models log [] (a ∷ answers) all = absurd all
-moments_within models log (l ∷ script) [] all = absurd all
-moments_within models log (l ∷ script) (a ∷ answers) all = All-cons (λ b. b.at ≤ length log.records) a answers all.0.within (moments_within models log script answers all.1)
+pub empty_state : (p : Layout) (models : List Content) (grid : Grid) → grid.exponent ≡ p.side → Shows grid nothing → IsState p models [] [] [] [] (bits_of grid [])
+empty_state p models grid same clear = record {
+  run = no_lines p models;
+  same_side = same;
+  shows = shows_same grid (has models [] 0) nothing clear (has_at_0 models []);
+}
 
-not_done : (answer : Answer) → is_done answer ≡ false → answer ≡ Done → ⊥
-not_done answer other done = let so : is_done answer ≡ true = ap is_done done in let no : ⊥ = cc in no
+-- ---- one line
 
--- an answer that changes nothing
-run_same : (side : ℕ) (models : List Content) (script : List ScriptLine) (records : List Record) (answers : List LineAnswer) (l : ScriptLine) (a : LineAnswer) → IsRun side models script records answers → LineFits models (log_of side records) 0 l a
-    → a.at ≡ length records → is_done a.answer ≡ false → accepted_by 0 l.line l.command a.at a.answer ≡ [] → IsRun side models (script ++ l ∷ []) records (answers ++ a ∷ [])
-run_same side models script records answers l a run fits now other none =
-    let session = run.agrees.sessions.0 in
-    let before : All (λ b. b.at ≤ length records) answers = moments_within models (log_of side records) script answers session.lines in
-    let not_later : a.answer ≡ Done → ⊥ = not_done a.answer other in
-    let no_moment : done_moments (a ∷ []) ≡ [] = rw other refl in
-    let shown_same : accepted_of 0 ((script ++ l ∷ []) ∷ []) ((answers ++ a ∷ []) ∷ []) ≡ accepted_of 0 (script ∷ []) (answers ∷ []) =
-    accepted_next (LineFits models (log_of side records) 0) script answers l a session.lines ∙ ap (λ (cs : List Accepted). accepted_of 0 (script ∷ []) (answers ∷ []) ++ cs) none ∙ append-nil _
-    in
-    record {
-      legal = run.legal;
-      agrees =
-          record {
-            sessions = (
-              record {
-                lines = zip_push (LineFits models (log_of side records) 0) script answers l a session.lines fits;
-                moments = pairs_push InOrder answers a session.moments (All-weaker (λ b. b.at ≤ length records) (λ b. InOrder b a) (λ b le. record { no_earlier = omega arith; later = λ e. absurd (not_later e) }) answers before);
-                records = session.records ∙ sym (append-nil (done_moments answers)) ∙ ap (λ (ns : List ℕ). done_moments answers ++ ns) (sym no_moment) ∙ sym (done_push answers a);
-                marks = session.marks;
-              },
-              tt,
-            );
-            no_others = run.agrees.no_others;
-            no_other_marks = run.agrees.no_other_marks;
-          };
-      shown = to_shown side ((script ++ l ∷ []) ∷ []) ((answers ++ a ∷ []) ∷ []) (accepted_of 0 (script ∷ []) (answers ∷ [])) records shown_same (of_shown side (script ∷ []) (answers ∷ []) records run.shown);
-    }
-
--- an accepted change
-run_more : (side : ℕ) (models : List Content) (script : List ScriptLine) (records : List Record) (answers : List LineAnswer) (l : ScriptLine) (a : LineAnswer) (r : Record) → IsRun side models script records answers
-    → IsLegal (2 ^ side) models (log_of side (records ++ r ∷ [])) → LineFits models (log_of side (records ++ r ∷ [])) 0 l a → a.at ≡ length records + 1 → a.answer ≡ Done → r.session ≡ 0
-    → accepted_by 0 l.line l.command a.at a.answer ≡ record { at = a.at; entry = r } ∷ [] → IsRun side models (script ++ l ∷ []) (records ++ r ∷ []) (answers ++ a ∷ [])
-run_more side models script records answers l a r run legal fits now done own one =
-    let session = run.agrees.sessions.0 in
-    let before : All (λ b. b.at ≤ length records) answers = moments_within models (log_of side records) script answers session.lines in
-    let accepted : is_done a.answer ≡ true = ap is_done done in
-    let moment : done_moments (a ∷ []) ≡ (1 + length records) ∷ [] = rw accepted (ap (λ (n : ℕ). n ∷ []) (let same : a.at ≡ 1 + length records = omega arith in same)) in
-    let ours : own_numbers 0 1 (records ++ r ∷ []) ≡ own_numbers 0 1 records ++ (1 + length records) ∷ [] = own_push 0 1 records r (rw own refl) in
-    let shown_more : accepted_of 0 ((script ++ l ∷ []) ∷ []) ((answers ++ a ∷ []) ∷ []) ≡ accepted_of 0 (script ∷ []) (answers ∷ []) ++ record { at = a.at; entry = r } ∷ [] =
-    accepted_next (LineFits models (log_of side records) 0) script answers l a session.lines ∙ ap (λ (cs : List Accepted). accepted_of 0 (script ∷ []) (answers ∷ []) ++ cs) one
-    in
-    record {
-      legal = legal;
-      agrees =
-          record {
-            sessions = (
-              record {
-                lines =
-                    zip_push (LineFits models (log_of side (records ++ r ∷ [])) 0) script answers l a
-                    (zip_map (LineFits models (log_of side records) 0) (LineFits models (log_of side (records ++ r ∷ [])) 0) script answers (λ k b. line_stays models (log_of side records) (r ∷ []) 0 k b) session.lines) fits;
-                moments = pairs_push InOrder answers a session.moments (All-weaker (λ b. b.at ≤ length records) (λ b. InOrder b a) (λ b le. record { no_earlier = omega arith; later = λ _. omega arith }) answers before);
-                records = ours ∙ ap (λ (ns : List ℕ). ns ++ (1 + length records) ∷ []) session.records ∙ ap (λ (ns : List ℕ). done_moments answers ++ ns) (sym moment) ∙ sym (done_push answers a);
-                marks = session.marks;
-              },
-              tt,
-            );
-            no_others = All-push (λ s. s.session < 1) records r run.agrees.no_others (omega arith);
-            no_other_marks = run.agrees.no_other_marks;
-          };
-      shown =
-          to_shown side ((script ++ l ∷ []) ∷ []) ((answers ++ a ∷ []) ∷ []) (accepted_of 0 (script ∷ []) (answers ∷ []) ++ record { at = a.at; entry = r } ∷ []) (records ++ r ∷ []) shown_more
-          (records_push (accepted_of 0 (script ∷ []) (answers ∷ [])) records (record { at = a.at; entry = r }) (of_shown side (script ∷ []) (answers ∷ []) records run.shown) now);
-    }
-
--- an act that is built is an edit, lies in the world, and needs no version to go to
-edit_of_built : (act : Act) (once : Bool) → IsForBits (Edit act once) → is_edit act ≡ true
+-- an act that is built is an edit
+edit_of_built : (act : Act) (once : _) → IsForBits (Edit act once) → is_edit act ≡ true
 edit_of_built (Fill b) once built = refl
 edit_of_built (Erase b) once built = refl
 edit_of_built (Ball ball) once built = absurd built
@@ -136,110 +60,227 @@ edit_of_built (Stamp m at) once built = refl
 edit_of_built Undo once built = absurd built
 edit_of_built Redo once built = absurd built
 
-way_of_built : (log : Log) (line n : ℕ) (act : Act) (once : Bool) → IsForBits (Edit act once) → HasWay log 0 line n act
-way_of_built log line n (Fill b) once built = tt
-way_of_built log line n (Erase b) once built = tt
-way_of_built log line n (Ball ball) once built = absurd built
-way_of_built log line n (Carve ball) once built = absurd built
-way_of_built log line n (Copy b to) once built = absurd built
-way_of_built log line n (Stamp m at) once built = tt
-way_of_built log line n Undo once built = absurd built
-way_of_built log line n Redo once built = absurd built
-
-abbrev edit_line : ℕ → Act → Bool → ScriptLine
-edit_line line act once = record { line = line; command = Edit act once }
-
-abbrev count_line : ℕ → Boxed → ScriptLine
-count_line line b = record { line = line; command = Ask None (questions.Count b) }
-
 abbrev answer_of : ℕ → ℕ → Answer → LineAnswer
 answer_of line at answer = record { line = line; at = at; answer = answer }
 
-abbrev entry : ℕ → Act → Record
-entry line act = record { session = 0; line = line; act = act }
+abbrev record_of : ℕ → ℕ → Act → Record
+record_of session line act = record { session = session; line = line; act = act }
 
--- a change is accepted
-accepted_step : (side : ℕ) (models : List Content) (script : List ScriptLine) (old new : Grid) (records : List Record) (answers : List LineAnswer) (line answered at : ℕ) (act : Act) (once : Bool) → IsForBits (Edit act once) → Fits (2 ^ side) models act
-    → IsState side models script old records answers → answered ≡ line → at ≡ length (records ++ entry line act ∷ []) → length records < 65535 → Puts models act old new
-    → IsState side models (script ++ edit_line line act once ∷ []) new (records ++ entry line act ∷ []) (answers ++ answer_of answered at Done ∷ [])
-accepted_step side models script old new records answers line answered at act once built fits state same moment room puts =
-    let r : Record = entry line act in
-    let edit : is_edit act ≡ true = edit_of_built act once built in
-    let longer : length (records ++ r ∷ []) ≡ length records + 1 = length_push records r in
-    let place : length records ≡ at - 1 = omega arith in
-    let legal = legal_next (2 ^ side) models (log_of side records) r state.run.legal room fits (edit_follows [] (length records + 1) act (position_after records) edit) in
-    let is : IsRecord (records ++ r ∷ []) at 0 line act = record { first = omega arith; is = subst (λ (n : ℕ). slice_get (records ++ r ∷ []) n ≡ Some r) place (get_last records r) } in
-    record {
-      run =
-          run_more side models script records answers (edit_line line act once) (answer_of answered at Done) r state.run legal (record { same_line = same; within = omega arith; answers = is }) (omega arith) refl refl refl;
-      same_side = puts.same_side ∙ state.same_side;
-      shows =
-          shows_same new (has models (records ++ r ∷ []) (length (records ++ r ∷ []))) (edited models act (has models records (length records))) (puts.each (has models records (length records)) state.shows)
-          (λ c. ap (λ (n : ℕ). has models (records ++ r ∷ []) n c) longer ∙ has_of_edit models records r c edit);
-    }
+module _ (p : Layout) (models : List Content) (scripts : List (List ScriptLine)) (transcripts : List (List LineAnswer)) (script : List ScriptLine) (transcript : List LineAnswer) (l : ScriptLine) (after : IsAfter script l) where
+  IsNext : Bits → LineAnswer → Type 0
+  IsNext bits a = IsState p models scripts transcripts (script ++ l ∷ []) (transcript ++ a ∷ []) bits
 
--- a change is refused
-refused_step : (side : ℕ) (models : List Content) (script : List ScriptLine) (grid : Grid) (records : List Record) (answers : List LineAnswer) (line answered at : ℕ) (act : Act) (once : Bool) → IsForBits (Edit act once)
-    → IsState side models script grid records answers → answered ≡ line → at ≡ length records → length records ≡ 65535
-    → IsState side models (script ++ edit_line line act once ∷ []) grid records (answers ++ answer_of answered at LogFull ∷ [])
-refused_step side models script grid records answers line answered at act once built state same moment full =
-    record {
-      run =
-          run_same side models script records answers (edit_line line act once) (answer_of answered at LogFull) state.run
-          (record { same_line = same; within = omega arith; answers = (moment ∙ full, way_of_built (log_of side records) line at act once built) }) moment refl refl;
-      same_side = state.same_side;
-      shows = state.shows;
-    }
+  -- the answer may be told with another line's number and another moment that are the same
+  told : (bits : Bits) (line at n : ℕ) (answer : Answer) → line ≡ l.line → at ≡ n → IsNext bits (answer_of l.line n answer) → IsNext bits (answer_of line at answer)
+  told bits line at n answer same moment next =
+      subst (λ (k : ℕ). IsNext bits (answer_of k at answer)) (sym same) (subst (λ (k : ℕ). IsNext bits (answer_of l.line k answer)) (sym moment) next)
 
--- a count is answered
-counted_step : (side : ℕ) (models : List Content) (script : List ScriptLine) (grid : Grid) (records : List Record) (answers : List LineAnswer) (line answered at cells : ℕ) (b : Boxed) → IsState side models script grid records answers → answered ≡ line
-    → at ≡ length records → ((w : World) → Shows grid w → cells ≡ number_in b w) → IsState side models (script ++ count_line line b ∷ []) grid records (answers ++ answer_of answered at (Count cells) ∷ [])
-counted_step side models script grid records answers line answered at cells b state same moment counted =
-    let readable : IsReadable [] 0 line at at = record { there = omega arith; later = All-nil _; own = All-nil _ } in
-    let number : cells ≡ number_in b (has models records at) = counted (has models records (length records)) state.shows ∙ ap (λ (n : ℕ). number_in b (has models records n)) (sym moment) in
-    record {
-      run =
-          run_same side models script records answers (count_line line b) (answer_of answered at (Count cells)) state.run (record { same_line = same; within = omega arith; answers = (readable, number) }) moment refl refl;
-      same_side = state.same_side;
-      shows = state.shows;
-    }
+  stepped : (old new : Bits) (a : LineAnswer) → IsState p models scripts transcripts script transcript old → LineStep p models (length scripts) l (unmarked p.side old.records) (unmarked p.side new.records) a → new.grid.exponent ≡ old.grid.exponent
+      → Shows new.grid (has models new.records (length new.records)) → IsNext new a
+  unfolding IsNext
+  stepped old new a s step same shows = record {
+    run = next_line p models scripts transcripts script transcript l (unmarked p.side old.records) (unmarked p.side new.records) a s.run after step;
+    same_side = same ∙ s.same_side;
+    shows = shows;
+  }
 
--- the same, by the answer
-edit_step : (side : ℕ) (models : List Content) (script : List ScriptLine) (old new : Grid) (records now : List Record) (answers : List LineAnswer) (line answered at : ℕ) (act : Act) (once : Bool) (answer : Answer) → IsForBits (Edit act once)
-    → Fits (2 ^ side) models act → IsState side models script old records answers → answered ≡ line → at ≡ length now → Changed models old records line act new now answer
-    → IsState side models (script ++ edit_line line act once ∷ []) new now (answers ++ answer_of answered at answer ∷ [])
-edit_step side models script old new records now answers line answered at act once Done built fits state same moment does =
-    subst (λ (rs : List Record). IsState side models (script ++ edit_line line act once ∷ []) new rs (answers ++ answer_of answered at Done ∷ [])) (sym does.1)
-    (accepted_step side models script old new records answers line answered at act once built fits state same (moment ∙ ap length does.1) does.0 does.2)
-edit_step side models script old new records now answers line answered at act once LogFull built fits state same moment does =
-    subst (λ (rs : List Record). IsState side models (script ++ edit_line line act once ∷ []) new rs (answers ++ answer_of answered at LogFull ∷ [])) (sym does.1)
-    (subst (λ (g : Grid). IsState side models (script ++ edit_line line act once ∷ []) g records (answers ++ answer_of answered at LogFull ∷ [])) (sym does.2)
-    (refused_step side models script old records answers line answered at act once built state same (moment ∙ ap length does.1) does.0))
-edit_step side models script old new records now answers line answered at act once _ built fits state same moment does = absurd does
+  -- a change is accepted
+  accepted : (act : Act) (once : _) (old : Bits) (grid : Grid) → l.command ≡ Edit act once → IsForBits (Edit act once) → Fits (2 ^ p.side) models act → IsState p models scripts transcripts script transcript old
+      → length old.records < 65535 → Draws models act old.grid grid
+      → IsNext (bits_of grid (old.records ++ record_of (length scripts) l.line act ∷ [])) (answer_of l.line (length old.records + 1) Done)
+  accepted act once old grid is built fits s room draws =
+      let r : Record = record_of (length scripts) l.line act in
+      let edit : is_edit act ≡ true = edit_of_built act once built in
+      let longer : length (old.records ++ r ∷ []) ≡ length old.records + 1 = length_push old.records r in
+      let legal = legal_next (2 ^ p.side) models (unmarked p.side old.records) r s.run.legal room fits (edit_follows [] (length old.records + 1) act (position_after old.records) edit) in
+      let step = done_line p models (length scripts) l.line act once (unmarked p.side old.records) (unmarked p.side (old.records ++ r ∷ [])) (record { legal = legal; side = refl; records = refl; marks = refl }) in
+      stepped old (bits_of grid (old.records ++ r ∷ [])) (answer_of l.line (length old.records + 1) Done) s
+      (subst (λ (c : Command). LineStep p models (length scripts) (record { line = l.line; command = c }) (unmarked p.side old.records) (unmarked p.side (old.records ++ r ∷ [])) (answer_of l.line (length old.records + 1) Done)) (sym is) step) draws.same_side
+      (shows_same grid (has models (old.records ++ r ∷ []) (length (old.records ++ r ∷ []))) (edited models act (has models old.records (length old.records))) (draws.each (has models old.records (length old.records)) s.shows)
+      (λ c. ap (λ (n : ℕ). has models (old.records ++ r ∷ []) n c) longer ∙ has_of_edit models old.records r c edit))
 
-count_step : (side : ℕ) (models : List Content) (script : List ScriptLine) (grid : Grid) (records : List Record) (answers : List LineAnswer) (line answered at : ℕ) (b : Boxed) (answer : Answer) → IsState side models script grid records answers → answered ≡ line
-    → at ≡ length records → Counted grid b answer → IsState side models (script ++ count_line line b ∷ []) grid records (answers ++ answer_of answered at answer ∷ [])
-count_step side models script grid records answers line answered at b (Count cells) state same moment counted = counted_step side models script grid records answers line answered at cells b state same moment counted
-count_step side models script grid records answers line answered at b _ state same moment counted = absurd counted
+  -- an answer that changes nothing
+  rested : (bits : Bits) (a : LineAnswer) → IsState p models scripts transcripts script transcript bits → LineStep p models (length scripts) l (unmarked p.side bits.records) (unmarked p.side bits.records) a → IsNext bits a
+  rested bits a s step = stepped bits bits a s step refl s.shows
 
--- and by the command
-line_step : (side : ℕ) (models : List Content) (script : List ScriptLine) (old new : Grid) (records now : List Record) (answers : List LineAnswer) (line : ℕ) (command : Command) (a : LineAnswer) → IsForBits command → CommandFits (2 ^ side) models command
-    → IsState side models script old records answers → Does models old records line command new now a → IsState side models (script ++ record { line = line; command = command } ∷ []) new now (answers ++ a ∷ [])
-line_step side models script old new records now answers line (Edit act once) a built fits state does =
-    edit_step side models script old new records now answers line a.line a.at act once a.answer built fits state does.same_line does.moment does.does
-line_step side models script old new records now answers line (Ask None (questions.Count b)) a built fits state does =
-    subst (λ (rs : List Record). IsState side models (script ++ count_line line b ∷ []) new rs (answers ++ a ∷ [])) (sym does.same_records)
-    (subst (λ (g : Grid). IsState side models (script ++ count_line line b ∷ []) g records (answers ++ a ∷ [])) (sym does.same_world)
-    (count_step side models script old records answers line a.line a.at b a.answer state does.same_line (does.moment ∙ ap length does.same_records) does.counted))
-line_step side models script old new records now answers line _ a built fits state does = absurd does
+  refused : (act : Act) (once : _) (bits : Bits) → l.command ≡ Edit act once → IsForBits (Edit act once) → IsState p models scripts transcripts script transcript bits → length bits.records ≡ 65535 → IsNext bits (answer_of l.line (length bits.records) LogFull)
+  refused act once bits is built s full =
+      let log : Log = unmarked p.side bits.records in
+      rested bits (answer_of l.line (length bits.records) LogFull) s
+      (subst (λ (c : Command). LineStep p models (length scripts) (record { line = l.line; command = c }) log log (answer_of l.line (length bits.records) LogFull)) (sym is)
+      (resting_line p models (length scripts) (record { line = l.line; command = Edit act once }) log LogFull s.run.legal refl
+      (log_full act once full (full_way log (length scripts) l.line act (inl (edit_of_built act once built))))))
 
--- the loop goes on
-pub next_line : (side : ℕ) (models seen : List Content) (lines script : List ScriptLine) (i : ℕ) (d : ScriptLine) (old new : Grid) (records now : List Record) (answers more : List LineAnswer) (a : LineAnswer) → lines ≡ script → i < length lines
-    → All (λ l. IsForBits l.command) script → All (λ l. CommandFits (2 ^ side) models l.command) script → IsState side models (take i lines) old records answers → seen ≡ models → Step seen old records (get_or lines i d) new now a → more ≡ answers ++ a ∷ []
-    → IsState side models (take (i + 1) lines) new now more
-next_line side models seen lines script i d old new records now answers more a same lt all_built all_fit state listed step pushed =
+  counted : (b : Boxed) (cells : ℕ) (bits : Bits) → l.command ≡ Ask None (questions.Count b) → IsState p models scripts transcripts script transcript bits → cells ≡ number_in b (has models bits.records (length bits.records))
+      → IsNext bits (answer_of l.line (length bits.records) (Count cells))
+  counted b cells bits is s number =
+      let log : Log = unmarked p.side bits.records in
+      let readable : IsReadable (IsStanding [] (length scripts) l.line (length bits.records)) (length bits.records) (length bits.records) = record { there = omega arith; stands = record { later = All-nil _; own = All-nil _ } } in
+      rested bits (answer_of l.line (length bits.records) (Count cells)) s
+      (subst (λ (c : Command). LineStep p models (length scripts) (record { line = l.line; command = c }) log log (answer_of l.line (length bits.records) (Count cells))) (sym is)
+      (resting_line p models (length scripts) (record { line = l.line; command = Ask None (questions.Count b) }) log (Count cells) s.run.legal refl (tells None (questions.Count b) (Count cells) readable (count b cells number))))
+
+  -- the same bits
+  same_bits : (old new : Bits) (a : LineAnswer) → IsSame old new → IsNext old a → IsNext new a
+  same_bits old new a same next =
+      subst (λ (g : Grid). IsNext (bits_of g new.records) a) (sym same.grid) (subst (λ (rs : List Record). IsNext (bits_of old.grid rs) a) (sym same.records) next)
+
+  -- by the answer
+  change_step : (act : Act) (once : _) (old new : Bits) (line at : ℕ) (answer : Answer) → l.command ≡ Edit act once → IsForBits (Edit act once) → Fits (2 ^ p.side) models act → IsState p models scripts transcripts script transcript old
+      → line ≡ l.line → at ≡ length new.records → Changed models (record_of (length scripts) l.line act) old new answer → IsNext new (answer_of line at answer)
+  change_step act once old new line at Done is built fits s same moment does =
+      let r : Record = record_of (length scripts) l.line act in
+      let longer : length (old.records ++ r ∷ []) ≡ length old.records + 1 = length_push old.records r in
+      subst (λ (rs : List Record). IsNext (bits_of new.grid rs) (answer_of line at Done)) (sym does.records)
+      (told (bits_of new.grid (old.records ++ r ∷ [])) line at (length old.records + 1) Done same (moment ∙ ap length does.records ∙ longer) (accepted act once old new.grid is built fits s does.room does.draws))
+  change_step act once old new line at LogFull is built fits s same moment does =
+      same_bits old new (answer_of line at LogFull) does.1 (told old line at (length old.records) LogFull same (moment ∙ ap length does.1.records) (refused act once old is built s does.0))
+  change_step act once old new line at _ is built fits s same moment does = absurd does
+
+  count_step : (b : Boxed) (old new : Bits) (line at : ℕ) (answer : Answer) → l.command ≡ Ask None (questions.Count b) → IsState p models scripts transcripts script transcript old → line ≡ l.line → at ≡ length new.records
+      → IsSame old new → Counted old.grid b answer → IsNext new (answer_of line at answer)
+  count_step b old new line at (Count cells) is s same moment stays number =
+      same_bits old new (answer_of line at (Count cells)) stays
+      (told old line at (length old.records) (Count cells) same (moment ∙ ap length stays.records) (counted b cells old is s (number (has models old.records (length old.records)) s.shows)))
+  count_step b old new line at _ is s same moment stays number = absurd number
+
+  -- and by the command
+  command_step : (command : Command) (old new : Bits) (a : LineAnswer) → l.command ≡ command → IsForBits command → CommandFits (2 ^ p.side) models command → IsState p models scripts transcripts script transcript old → a.line ≡ l.line
+      → a.at ≡ length new.records → Does models (length scripts) l command old new a.answer → IsNext new a
+  command_step (Edit act once) old new a is built fits s same moment does = change_step act once old new a.line a.at a.answer is built fits s same moment does
+  command_step (Ask None (questions.Count b)) old new a is built fits s same moment does = count_step b old new a.line a.at a.answer is s same moment does.0 does.1
+  command_step _ old new a is built fits s same moment does = absurd does
+
+  pub next_state : (old new : Bits) (a : LineAnswer) → IsForBits l.command → CommandFits (2 ^ p.side) models l.command → IsState p models scripts transcripts script transcript old → DoesLine models (length scripts) l old new a
+      → IsState p models scripts transcripts (script ++ l ∷ []) (transcript ++ a ∷ []) new
+  unfolding IsNext
+  next_state old new a built fits s does = command_step l.command old new a refl built fits s does.same_line does.moment does.does
+
+-- ---- the loop over lines
+
+-- lines that rise from a number on stand at it or later
+from_number : (n : ℕ) (lines : List ScriptLine) (i : ℕ) (d : ScriptLine) → RisesFrom n lines → i < length lines → n ≤ (get_or lines i d).line
+from_number n [] i d rises lt = absurd (omega arith)
+from_number n (k ∷ lines) zero d rises lt = rises.0
+from_number n (k ∷ lines) (suc i) d rises lt = let later = from_number (k.line + 1) lines i d rises.2 (omega arith) in let first = rises.0 in omega arith
+
+earlier : (n : ℕ) (lines : List ScriptLine) (i : ℕ) (d : ScriptLine) → RisesFrom n lines → i < length lines → IsAfter (take i lines) (get_or lines i d)
+earlier n lines zero d rises lt = All-nil _
+earlier n [] (suc i) d rises lt = absurd (omega arith)
+earlier n (k ∷ lines) (suc i) d rises lt =
+    let low = from_number (k.line + 1) lines i d rises.2 (omega arith) in
+    All-cons (λ m. m.line < (get_or lines i d).line) k (take i lines) (omega arith) (earlier (k.line + 1) lines i d rises.2 (omega arith))
+
+pub first_lines : (models : List Content) (session : ℕ) (bits : Bits) → RanLines models session [] [] bits bits
+first_lines models session bits p scripts transcripts number s = s
+
+pub more_lines : (models : List Content) (session : ℕ) (lines script : List ScriptLine) (i : ℕ) (d : ScriptLine) (answers more : List LineAnswer) (start old new : Bits) (a : LineAnswer) → lines ≡ script → i < length lines → RisesFrom 1 script
+    → All (λ l. IsForBits l.command) script → All (λ l. CommandFits (2 ^ start.grid.exponent) models l.command) script → RanLines models session (take i lines) answers start old
+    → DoesLine models session (get_or lines i d) old new a → more ≡ answers ++ a ∷ [] → RanLines models session (take (i + 1) lines) more start new
+more_lines models session lines script i d answers more start old new a same lt rises all_built all_fit ran does pushed p scripts transcripts number begun =
     let l : ScriptLine = get_or lines i d in
-    let built = subst (All (λ k. IsForBits k.command)) (sym same) all_built i d lt in
-    let fits = subst (All (λ k. CommandFits (2 ^ side) models k.command)) (sym same) all_fit i d lt in
-    subst (λ (ls : List ScriptLine). IsState side models ls new now more) (sym (take_more lines i d lt))
-    (subst (λ (bs : List LineAnswer). IsState side models (take i lines ++ l ∷ []) new now bs) (sym pushed) (line_step side models (take i lines) old new records now answers l.line l.command a built fits state (subst (λ (ms : List Content). Does ms old records l.line l.command new now a) listed step.does)))
+    let after : IsAfter (take i lines) l = earlier 1 lines i d (subst (RisesFrom 1) (sym same) rises) lt in
+    let built : IsForBits l.command = subst (All (λ k. IsForBits k.command)) (sym same) all_built i d lt in
+    let fits_start : CommandFits (2 ^ start.grid.exponent) models l.command = subst (All (λ k. CommandFits (2 ^ start.grid.exponent) models k.command)) (sym same) all_fit i d lt in
+    let fits : CommandFits (2 ^ p.side) models l.command = subst (λ (n : ℕ). CommandFits (2 ^ n) models l.command) begun.same_side fits_start in
+    subst (λ (ls : List ScriptLine). IsState p models scripts transcripts ls more new) (sym (take_more lines i d lt))
+    (subst (λ (bs : List LineAnswer). IsState p models scripts transcripts (take i lines ++ l ∷ []) bs new) (sym pushed)
+    (next_state p models scripts transcripts (take i lines) answers l after old new a built fits (ran p scripts transcripts number begun) (subst (λ (k : ℕ). DoesLine models k l old new a) (sym number) does)))
+
+-- what the bits answer is free
+free_change : (models : List Content) (r : Record) (old new : Bits) (answer : Answer) → Changed models r old new answer → is_free answer ≡ true
+free_change models r old new Done does = refl
+free_change models r old new LogFull does = refl
+free_change models r old new _ does = absurd does
+
+free_count : (grid : Grid) (b : Boxed) (answer : Answer) → Counted grid b answer → is_free answer ≡ true
+free_count grid b (Count cells) does = refl
+free_count grid b _ does = absurd does
+
+free_by : (models : List Content) (session : ℕ) (l : ScriptLine) (command : Command) (old new : Bits) (answer : Answer) → Does models session l command old new answer → is_free answer ≡ true
+free_by models session l (Edit act once) old new answer does = free_change models (record_of session l.line act) old new answer does
+free_by models session l (Ask None (questions.Count b)) old new answer does = free_count old.grid b answer does.1
+free_by models session l _ old new answer does = absurd does
+
+pub more_free : (models : List Content) (session : ℕ) (l : ScriptLine) (old new : Bits) (answers more : List LineAnswer) (a : LineAnswer) → DoesLine models session l old new a → All IsFree answers → more ≡ answers ++ a ∷ [] → All IsFree more
+more_free models session l old new answers more a does free pushed = subst (All IsFree) (sym pushed) (All-push IsFree answers a free (free_by models session l l.command old new a.answer does.does))
+
+-- how many records there are, and the side
+few_by : (models : List Content) (session : ℕ) (l : ScriptLine) (command : Command) (old new : Bits) (answer : Answer) → Does models session l command old new answer → length old.records ≤ 65535
+    → (length new.records ≤ 65535) × (new.grid.exponent ≡ old.grid.exponent)
+few_by models session l (Edit act once) old new answer does few = few_change old new answer does few
+  where
+    few_change : (old new : Bits) (answer : Answer) → Changed models (record_of session l.line act) old new answer → length old.records ≤ 65535 → (length new.records ≤ 65535) × (new.grid.exponent ≡ old.grid.exponent)
+    few_change old new Done does few = (let longer = ap length does.records ∙ length_push old.records (record_of session l.line act) in let room = does.room in omega arith, does.draws.same_side)
+    few_change old new LogFull does few = (let same = ap length does.1.records in omega arith, ap (λ (g : Grid). g.exponent) does.1.grid)
+    few_change old new _ does few = absurd does
+few_by models session l (Ask None (questions.Count b)) old new answer does few = (let same = ap length does.0.records in omega arith, ap (λ (g : Grid). g.exponent) does.0.grid)
+few_by models session l _ old new answer does few = absurd does
+
+pub still_few : (models : List Content) (session : ℕ) (l : ScriptLine) (old new : Bits) (a : LineAnswer) → DoesLine models session l old new a → length old.records ≤ 65535 → (length new.records ≤ 65535) × (new.grid.exponent ≡ old.grid.exponent)
+still_few models session l old new a does few = few_by models session l l.command old new a.answer does.does few
+
+-- ---- the loop over scripts
+
+-- these scripts were run
+pub record RanScripts (p : Layout) (models : List Content) (scripts : List (List ScriptLine)) (transcripts : List (List LineAnswer)) (bits : Bits) : Type 0 where
+  pub state : IsState p models scripts transcripts [] [] bits
+  pub as_many : length transcripts ≡ length scripts
+  pub free : All (All IsFree) transcripts
+
+pub no_scripts : (p : Layout) (models : List Content) (grid : Grid) → grid.exponent ≡ p.side → Shows grid nothing → RanScripts p models [] [] (bits_of grid [])
+no_scripts p models grid same clear = record { state = empty_state p models grid same clear; as_many = refl; free = All-nil _ }
+
+pub next_scripts : (p : Layout) (models : List Content) (scripts : List (List ScriptLine)) (i : ℕ) (d script : List ScriptLine) (transcripts more : List (List LineAnswer)) (answers : List LineAnswer) (session : ℕ) (old new : Bits) → i < length scripts
+    → RanScripts p models (take i scripts) transcripts old → script ≡ get_or scripts i d → session ≡ length transcripts → RanLines models session script answers old new → All IsFree answers → more ≡ transcripts ++ answers ∷ []
+    → RanScripts p models (take (i + 1) scripts) more new
+next_scripts p models scripts i d script transcripts more answers session old new lt ran this number lines free pushed =
+    let here : length (take i scripts) ≡ session = sym ran.as_many ∙ sym number in
+    let s = lines p (take i scripts) transcripts here ran.state in
+    let all : RanScripts p models (take i scripts ++ script ∷ []) (transcripts ++ answers ∷ []) new = record {
+      state = record { run = next_script p models (take i scripts) transcripts script answers (unmarked p.side new.records) s.run; same_side = s.same_side; shows = s.shows };
+      as_many = length_push transcripts answers ∙ ap (λ (n : ℕ). n + 1) ran.as_many ∙ sym (length_push (take i scripts) script);
+      free = All-push (All IsFree) transcripts answers ran.free free;
+    } in
+    subst (λ (ts : List (List LineAnswer)). RanScripts p models (take (i + 1) scripts) ts new) (sym pushed)
+    (subst (λ (ss : List (List ScriptLine)). RanScripts p models ss (transcripts ++ answers ∷ []) new) (ap (λ (s : List ScriptLine). take i scripts ++ s ∷ []) this ∙ sym (take_more scripts i d lt)) all)
+
+-- no free answer refuses a change for a full bucket
+none_with : (act : Act) (n : ℕ) (answer : Answer) → is_free answer ≡ true → refusal_with act n answer ≡ []
+none_with act n (Full level bucket) free = absurd (let no : ⊥ = cc in no)
+none_with act n _ free = refl
+
+none_by : (command : Command) (n : ℕ) (answer : Answer) → is_free answer ≡ true → refused_by command n answer ≡ []
+none_by (Edit act once) n answer free = none_with act n answer free
+none_by _ n answer free = refl
+
+none_in : (script : List ScriptLine) (transcript : List LineAnswer) → All IsFree transcript → refused_in script transcript ≡ []
+none_in [] transcript free = refl
+none_in (l ∷ script) [] free = refl
+none_in (l ∷ script) (a ∷ transcript) free = rw (none_by l.command a.at a.answer (All-head IsFree a transcript free)) (none_in script transcript (All-tail IsFree a transcript free))
+
+none_of : (scripts : List (List ScriptLine)) (transcripts : List (List LineAnswer)) → All (All IsFree) transcripts → refused_of scripts transcripts ≡ []
+none_of [] transcripts free = refl
+none_of (script ∷ scripts) [] free = refl
+none_of (script ∷ scripts) (transcript ∷ transcripts) free = rw (none_in script transcript (All-head (All IsFree) transcript transcripts free)) (none_of scripts transcripts (All-tail (All IsFree) transcript transcripts free))
+
+pub all_scripts : (p : Layout) (models : List Content) (scripts : List (List ScriptLine)) (transcripts : List (List LineAnswer)) (bits : Bits) (log : Log) (i : ℕ) → length scripts ≤ i → log ≡ unmarked p.side bits.records → RanScripts p models (take i scripts) transcripts bits
+    → AllRan p models scripts transcripts log
+all_scripts p models scripts transcripts bits log i past is ran =
+    let s : IsState p models scripts transcripts [] [] bits = subst (λ (ss : List (List ScriptLine)). IsState p models ss transcripts [] [] bits) (take_all i scripts past) ran.state in
+    let end = all_lines p models scripts transcripts (unmarked p.side bits.records) s.run in
+    subst (λ (g : Log). AllRan p models scripts transcripts g) (sym is) (record {
+      legal = end.0;
+      agrees = end.1;
+      full = record { each = subst (λ (rs : List Refusal). All (WasPossible p models bits.records (spans_of scripts transcripts)) rs) (sym (none_of scripts transcripts ran.free)) (All-nil _) };
+    })
+
+abbrev log_with : ℕ → List Record → List Mark → Log
+log_with side records marks = record { side = side; records = records; marks = marks }
+
+pub history_is : (side n : ℕ) (records : List Record) (marks : List Mark) → side ≡ n → marks ≡ [] → log_with side records marks ≡ unmarked n records
+history_is side n records marks same none = ap (λ (k : ℕ). log_with k records marks) same ∙ ap (λ (ms : List Mark). log_with n records ms) none
+
+-- the lines ran over the same models
+pub ran_same : (seen models : List Content) (session : ℕ) (script : List ScriptLine) (answers : List LineAnswer) (old new : Bits) → seen ≡ models → RanLines seen session script answers old new → RanLines models session script answers old new
+ran_same seen models session script answers old new same ran = subst (λ (ms : List Content). RanLines ms session script answers old new) same ran

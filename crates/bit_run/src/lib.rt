@@ -1,10 +1,10 @@
-//! One script run over one world of bits.
+//! Scripts run one after another over one world of bits.
 #![tactic(auto)]
 
 mod runs;
 mod stencils;
 
-pub use runs::{Ran, run_script};
+pub use runs::run_scripts;
 
 #[cfg(test)]
 mod tests;

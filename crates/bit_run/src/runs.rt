@@ -1,55 +1,101 @@
-ghost use Rattle.std.specs.Prelude.{◌≡◌, ◌^◌, ◌≤◌, length, All, IfOk};
+ghost use Rattle.std.specs.Prelude.{◌≡◌, ◌^◌, ◌≤◌, false, length, All, IfOk};
 ghost use Rattle.vox_read.specs.Contents.{AreModels};
-ghost use Rattle.script.specs.Fitting.{CommandFits, IsForBits};
+ghost use Rattle.script.specs.Fitting.{CommandFits, IsForBits, RisesFrom};
 ghost use Rattle.history_model.specs.Logs.{Fits};
-ghost use Rattle.bit_run.specs.Runs.{IsRun};
-ghost use Rattle.bit_run.specs.Steps.{IsPut, Puts, Changes, Step};
+ghost use Rattle.script.specs.declared.commands.Command.TheVariants.{Edit};
+ghost use Rattle.conformance.specs.Runs.{AllRan, RanFreely, IsFree};
+ghost use Rattle.bit_run.specs.Steps.{bits_of, Changed, Draws, DoesLine, RanLines};
 
 use crate::stencils::{Stencil, stencils};
 use bit_world::BitWorld;
-use history_model::{Act, Question, Record};
+use conformance::{Ran, Transcript};
+use history_model::{Act, History, Question, Record};
+use node_words::Plan;
 use script::{Command, Script, ScriptLine};
 use std::alloc::Global;
 use transcript::{Answer, LineAnswer};
 use vox_read::Models;
-use vw_cell::{Memory, Side};
+use vw_cell::Memory;
 
 /// The most records of a history.
 const RECORDS: usize = 65_535;
 
-/// What a script's run leaves: the records of its accepted changes, all of session 0, and one answer
-/// for each of its commands.
-#[derive(Drop)]
-pub struct Ran {
-    pub records: Vec<Record>,
-    pub answers: Vec<LineAnswer>,
-}
-
-/// Runs a script that was read for a world of this side and these models, from an empty world.
+/// Runs scripts one after another, script k as session k, from an empty world of the plan's side.
 ///
-/// All memory is taken before the first command: one bit for each cell of the world, room for all
-/// answers and records, and a list of the cells of each model.
-pub fn run_script(
+/// All memory but that of the answers is taken before the first command: one bit for each cell of the
+/// world, room for all records, and a list of the cells of each model. The room of an answer list is
+/// taken before its script's first command.
+pub fn run_scripts(
     alloc: Global,
-    side: Side,
+    plan: &Plan,
     models: &Models,
-    script: &Script,
+    scripts: &[Script],
 ) -> Result<Ran, Memory>
     requires models { AreModels models.now }
-    requires fits { All (λ l. CommandFits (2 ^ side) models.now l.command) script.now }
-    requires for_bits { All (λ l. IsForBits l.command) script.now }
-    ensures { IfOk result (λ ran. IsRun side models.now script.now ran.records.items ran.answers.items) }
+    requires few { length scripts.now ≤ 64 }
+    requires rise { All (RisesFrom 1) scripts.now }
+    requires fit { All (All (λ l. CommandFits (2 ^ plan.now.side) models.now l.command)) scripts.now }
+    requires for_bits { All (All (λ l. IsForBits l.command)) scripts.now }
+    ensures ran { IfOk result (λ ran. AllRan plan.now models.now scripts.now
+        ran.transcripts.items ran.history) }
+    ensures freely { IfOk result (λ ran. RanFreely ran.transcripts.items ran.history) }
 {
-    let lines = script.lines.as_slice();
+    let side = plan.side();
     let stencils = stencils(alloc, models)?;
     let mut world = BitWorld::new(alloc, side)?;
+    let mut records = Vec::with_capacity(alloc, most_records(scripts))?;
+    let mut transcripts = Vec::with_capacity(alloc, scripts.len())?;
+    for script in scripts {
+        let session = transcripts.len() as u16;
+        let lines = run_script(alloc, &mut world, &mut records, &stencils, session, script)?;
+        transcripts.push(Transcript { lines })?;
+    }
+    let marks = Vec::new(alloc);
+    let history = History {
+        side,
+        records,
+        marks,
+    };
+    Ok(Ran {
+        history,
+        transcripts,
+    })
+}
+
+// As many as the scripts have commands, and no more than a history has.
+fn most_records(scripts: &[Script]) -> usize {
+    let mut most: usize = 0;
+    for script in scripts {
+        most = most.saturating_add(script.lines.len());
+    }
+    most.min(RECORDS)
+}
+
+// Runs one script as the session of this number.
+fn run_script(
+    alloc: Global,
+    world: &mut BitWorld,
+    records: &mut Vec<Record>,
+    stencils: &[Stencil],
+    session: u16,
+    script: &Script,
+) -> Result<Vec<LineAnswer>, Memory>
+    requires small { world.old.exponent ≤ 12 }
+    requires few { length records.old.items ≤ 65535 }
+    requires rises { RisesFrom 1 script.now }
+    requires fit { All (λ l. CommandFits (2 ^ world.old.exponent) stencils.now l.command) script.now }
+    requires for_bits { All (λ l. IsForBits l.command) script.now }
+    ensures ran { IfOk result (λ answers. RanLines stencils.now session script.now answers.items
+        (bits_of world.old records.old.items) (bits_of world.new records.new.items)) }
+    ensures freely { IfOk result (λ answers. All IsFree answers.items) }
+{
+    let lines = script.lines.as_slice();
     let mut answers = Vec::with_capacity(alloc, lines.len())?;
-    let mut records = Vec::with_capacity(alloc, lines.len().min(RECORDS))?;
     for line in lines {
-        let a = answer(&mut world, &mut records, &stencils, *line)?;
+        let a = answer(world, records, stencils, session, *line)?;
         answers.push(a)?;
     }
-    Ok(Ran { records, answers })
+    Ok(answers)
 }
 
 // Does what the line asks for, and answers it.
@@ -57,16 +103,26 @@ fn answer(
     world: &mut BitWorld,
     records: &mut Vec<Record>,
     stencils: &[Stencil],
+    session: u16,
     l: ScriptLine,
 ) -> Result<LineAnswer, Memory>
     requires small { world.old.exponent ≤ 12 }
+    requires few { length records.old.items ≤ 65535 }
     requires fits { CommandFits (2 ^ world.old.exponent) stencils.now l.command }
     requires for_bits { IsForBits l.command }
-    requires few { length records.old.items ≤ 65535 }
-    ensures { IfOk result (λ a. Step stencils.now world.old records.old.items l world.new records.new.items a) }
+    ensures { IfOk result (DoesLine stencils.now session l
+        (bits_of world.old records.old.items) (bits_of world.new records.new.items)) }
 {
     match l.command {
-        Command::Edit { act, once: _ } => change(world, records, stencils, l.line, act),
+        Command::Edit { act, once: _ } => {
+            let entry = Record {
+                session,
+                line: l.line,
+                act,
+            };
+            let answer = change(world, records, stencils, entry)?;
+            Ok(answered(l.line, records.len(), answer))
+        }
         Command::Ask {
             version: _,
             question: Question::Count(part),
@@ -83,25 +139,22 @@ fn change(
     world: &mut BitWorld,
     records: &mut Vec<Record>,
     stencils: &[Stencil],
-    line: u32,
-    act: Act,
-) -> Result<LineAnswer, Memory>
+    entry: Record,
+) -> Result<Answer, Memory>
     requires small { world.old.exponent ≤ 12 }
-    requires fits { Fits (2 ^ world.old.exponent) stencils.now act }
-    requires for_bits { IsPut act }
     requires few { length records.old.items ≤ 65535 }
-    ensures { IfOk result (λ a. Changes stencils.now world.old records.old.items line act world.new records.new.items a) }
+    requires fits { Fits (2 ^ world.old.exponent) stencils.now entry.act }
+    requires for_bits { IsForBits (Edit entry.act false) }
+    ensures changed { IfOk result (Changed stencils.now entry
+        (bits_of world.old records.old.items) (bits_of world.new records.new.items)) }
+    ensures few { length records.new.items ≤ 65535 }
 {
     if records.len() >= RECORDS {
-        return Ok(answered(line, records.len(), Answer::LogFull));
+        return Ok(Answer::LogFull);
     }
-    put_act(world, stencils, act);
-    records.push(Record {
-        session: 0,
-        line,
-        act,
-    })?;
-    Ok(answered(line, records.len(), Answer::Done))
+    draw(world, stencils, entry.act);
+    records.push(entry)?;
+    Ok(Answer::Done)
 }
 
 // The line's answer, where there are so many records now.
@@ -117,11 +170,11 @@ fn answered(line: u32, now: usize, answer: Answer) -> LineAnswer
 }
 
 // Makes the change in the bits.
-fn put_act(world: &mut BitWorld, stencils: &[Stencil], act: Act)
+fn draw(world: &mut BitWorld, stencils: &[Stencil], act: Act)
     requires small { world.old.exponent ≤ 12 }
     requires fits { Fits (2 ^ world.old.exponent) stencils.now act }
-    requires for_bits { IsPut act }
-    ensures { Puts stencils.now act world.old world.new }
+    requires for_bits { IsForBits (Edit act false) }
+    ensures { Draws stencils.now act world.old world.new }
 {
     match act {
         Act::Fill(b) => world.put(b, true),

@@ -7,3 +7,4 @@ pub mod Kinds
 pub mod Refusing
 pub mod Passes
 pub mod Statements
+pub mod Runs

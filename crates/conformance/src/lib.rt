@@ -1,13 +1,15 @@
-//! Which answers fit a history, when a history, scripts and transcripts agree, and how a run keeps that line
-//! by line.
+//! Which answers fit a history, when a history, scripts and transcripts agree, how a run keeps that line by
+//! line, and what a run of scripts gives.
 //!
 //! The definitions stand in `specs/`, and speak of cells and records alone. The laws are the contracts of the
 //! functions here.
 #![tactic(auto)]
 
 mod laws;
+mod runs;
 
 pub use laws::{
     answers_go_on, each_answer_is_a_step, full_only_where_possible, runs_go_on,
     sessions_agree_beside_others, shown_records_are_accepted_once,
 };
+pub use runs::{Ran, Transcript};

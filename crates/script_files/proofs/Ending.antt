@@ -4,12 +4,14 @@ use Rattle.vw_io.specs.Outside.{Files, ShelfState}
 use Rattle.vw_io.specs.Inputs.{Wanted, AreTaken}
 use Rattle.vw_io.specs.Outputs.{AreWritten, StopsWith}
 use Rattle.history_model.specs.Journal.{journal_of}
-use Rattle.bit_run.specs.Runs.{log_of}
 use Rattle.script_files.specs.declared.refusals.CommandRefused.TheVariants.{Text, Output}
 use Rattle.script_files.specs.declared.refusals.TextRefused.{TextRefused}
 use Rattle.script_files.specs.declared.refusals.TextRefused.TheVariants.{Vox, Script, Collides, Memory}
 use Rattle.vw_io.specs.declared.outputs.OutputRefused.{OutputRefused}
-use Rattle.script_files.specs.Requests.{Asked, Asking, CountOf, RunOf, inputs_of, journal_output, outputs_of, texts_written}
+use Rattle.script_files.specs.declared.requests.Request.{Request}
+use Rattle.script_files.specs.declared.requests.Request.TheVariants.{Count, Run}
+use Rattle.script_files.specs.Orders.{Asked}
+use Rattle.script_files.specs.Requests.{inputs_of, journal_output, outputs_of, texts_written}
 use Rattle.script_files.specs.Meanings.{file_in, Gives, RefusesTexts}
 use Rattle.script_files.specs.Outcomes.{Outcome}
 use Rattle.script_files.specs.Stages.{CountsFile, JournalIs, IsPrepared, WritesEnd}
@@ -29,8 +31,8 @@ same_state old new files faults = rw (files, faults) refl
 
 -- ---- `count`
 
-pub counted : (file : List ℕ) (texts : List (List ℕ)) (number : ℕ) (old new : ShelfState) → AreTaken old.files (inputs_of (CountOf file)) texts → CountsFile (file_in texts) number → new.files ≡ old.files → new.faults ≡ old.faults
-    → Outcome (Ok number) (CountOf file) old new
+pub counted : (file : List ℕ) (texts : List (List ℕ)) (number : ℕ) (old new : ShelfState) → AreTaken old.files (inputs_of (Count file)) texts → CountsFile (file_in texts) number → new.files ≡ old.files → new.faults ≡ old.faults
+    → Outcome (Ok number) (Count file) old new
 counted file texts number old new taken counts files faults =
     record {
       outputs = [];
@@ -42,7 +44,7 @@ counted file texts number old new taken counts files faults =
 -- ---- every command
 
 -- the inputs were taken, and their texts are refused
-pub not_accepted : (r : TextRefused) (a : Asking) (texts : List (List ℕ)) (old new : ShelfState) → AreTaken old.files (inputs_of a) texts → RefusesTexts r a texts → new.files ≡ old.files → new.faults ≡ old.faults → Outcome (Err (Text r)) a old new
+pub not_accepted : (r : TextRefused) (a : Request) (texts : List (List ℕ)) (old new : ShelfState) → AreTaken old.files (inputs_of a) texts → RefusesTexts r a texts → new.files ≡ old.files → new.faults ≡ old.faults → Outcome (Err (Text r)) a old new
 not_accepted (Vox fault) a texts old new taken says files faults = (record { texts = texts; taken = taken; says = says }, same_state old new files faults)
 not_accepted (Script fault) a texts old new taken says files faults = (record { texts = texts; taken = taken; says = says }, same_state old new files faults)
 not_accepted Collides a texts old new taken says files faults = (record { texts = texts; taken = taken; says = says }, same_state old new files faults)
@@ -55,16 +57,16 @@ same_journal : (name : Option (List ℕ)) (text want : List ℕ) → JournalIs n
 same_journal None text want is = refl
 same_journal (Some name) text want is = rw is refl
 
-same_outputs : (asked : Asked) (texts : List (List ℕ)) (number : ℕ) (transcript journal : List ℕ) → (p : IsPrepared asked texts number transcript journal) → outputs_of asked transcript journal ≡ texts_written asked p.records p.answers
+same_outputs : (asked : Asked) (texts : List (List ℕ)) (number : ℕ) (transcript journal : List ℕ) → (p : IsPrepared asked texts number transcript journal) → outputs_of asked transcript journal ≡ texts_written asked p.log p.transcripts
 same_outputs asked texts number transcript journal p =
-    rw (p.are.transcript_is, same_journal asked.journal journal (journal_of (log_of asked.side p.records)) p.are.journal_is) refl
+    rw (p.are.transcript_is, same_journal asked.journal journal (journal_of p.log) p.are.journal_is) refl
 
-gives_run : (asked : Asked) (texts : List (List ℕ)) (number : ℕ) (transcript journal : List ℕ) → IsPrepared asked texts number transcript journal → Gives (RunOf asked) texts number (outputs_of asked transcript journal)
+gives_run : (asked : Asked) (texts : List (List ℕ)) (number : ℕ) (transcript journal : List ℕ) → IsPrepared asked texts number transcript journal → Gives (Run asked) texts number (outputs_of asked transcript journal)
 gives_run asked texts number transcript journal p =
-    record { records = p.records; answers = p.answers; accepted = p.accepted; counted = p.are.counted; are = same_outputs asked texts number transcript journal p }
+    record { log = p.log; transcripts = p.transcripts; accepted = p.accepted; counted = p.are.counted; are = same_outputs asked texts number transcript journal p }
 
-pub all_written : (asked : Asked) (texts : List (List ℕ)) (number : ℕ) (transcript journal : List ℕ) (old mid new : ShelfState) → AreTaken old.files (inputs_of (RunOf asked)) texts
-    → IsPrepared asked texts number transcript journal → mid ≡ old → AreWritten (outputs_of asked transcript journal) mid.files new.files → new.faults ≡ mid.faults → Outcome (Ok number) (RunOf asked) old new
+pub all_written : (asked : Asked) (texts : List (List ℕ)) (number : ℕ) (transcript journal : List ℕ) (old mid new : ShelfState) → AreTaken old.files (inputs_of (Run asked)) texts
+    → IsPrepared asked texts number transcript journal → mid ≡ old → AreWritten (outputs_of asked transcript journal) mid.files new.files → new.faults ≡ mid.faults → Outcome (Ok number) (Run asked) old new
 all_written asked texts number transcript journal old mid new taken p same whole calm =
     record {
       outputs = outputs_of asked transcript journal;
@@ -73,8 +75,8 @@ all_written asked texts number transcript journal old mid new taken p same whole
       no_fault = calm ∙ ap (λ s. s.faults) same;
     }
 
-pub not_written : (r : OutputRefused) (asked : Asked) (texts : List (List ℕ)) (number : ℕ) (transcript journal : List ℕ) (old mid new : ShelfState) → AreTaken old.files (inputs_of (RunOf asked)) texts
-    → IsPrepared asked texts number transcript journal → mid ≡ old → WritesEnd (Err r) (outputs_of asked transcript journal) mid new → Outcome (Err (Output r)) (RunOf asked) old new
+pub not_written : (r : OutputRefused) (asked : Asked) (texts : List (List ℕ)) (number : ℕ) (transcript journal : List ℕ) (old mid new : ShelfState) → AreTaken old.files (inputs_of (Run asked)) texts
+    → IsPrepared asked texts number transcript journal → mid ≡ old → WritesEnd (Err r) (outputs_of asked transcript journal) mid new → Outcome (Err (Output r)) (Run asked) old new
 not_written r asked texts number transcript journal old mid new taken p same ends =
     record {
       number = number;

@@ -1,3 +1,4 @@
+pub mod Orders
 pub mod Requests
 pub mod Meanings
 pub mod Outcomes

@@ -1,20 +1,24 @@
--- What the texts of the inputs mean to each command: its number and its outputs, or what is refused.
+-- What the texts of the inputs mean to each command: its number and its outputs, or what is
+-- refused.
 use Rattle.std.specs.Prelude.{◌≡◌, ℕ, ◌∷◌, [], false, List, length, IsTrue, Ok, Err, ⊤}
 use Rattle.vw_io.specs.Outputs.{Named}
 use Rattle.vw_io.specs.Names.{collide}
 use Rattle.vox_read.specs.Contents.{Content, cells_of_all}
 use Rattle.vox_read.specs.Files.{Reads}
-use Rattle.history_model.specs.declared.histories.Record.{Record}
+use Rattle.history_model.specs.Logs.{Log}
 use Rattle.transcript.specs.declared.answers.LineAnswer.{LineAnswer}
 use Rattle.script.specs.declared.commands.ScriptLine.{ScriptLine}
 use Rattle.script.specs.declared.faults.ScriptFault.{ScriptFault}
 use Rattle.script.specs.Commands.{is_for_bits}
 use Rattle.script.specs.Fitting.{IsOfText}
 use Rattle.script.specs.Scripts.{commands_of}
-use Rattle.bit_run.specs.Runs.{IsRun}
+use Rattle.conformance.specs.Runs.{AllRan, RanFreely}
 use Rattle.script_files.specs.declared.refusals.TextRefused.{TextRefused}
 use Rattle.script_files.specs.declared.refusals.TextRefused.TheVariants.{Vox, Script, Collides, Memory}
-use Rattle.script_files.specs.Requests.{Asked, Asking, CountOf, RunOf, inputs_of, output_names, texts_written}
+use Rattle.script_files.specs.declared.requests.Request.{Request}
+use Rattle.script_files.specs.declared.requests.Request.TheVariants.{Count, Run}
+use Rattle.script_files.specs.Orders.{Asked}
+use Rattle.script_files.specs.Requests.{plan_of, inputs_of, output_names, texts_written}
 
 -- the text of the VOX file is the first, and that of the script the second
 abbrev pub file_in : List (List ℕ) → List ℕ
@@ -35,29 +39,33 @@ pub record CellsCounted (texts : List (List ℕ)) (number : ℕ) (outputs : List
 
 -- the names of a run's outputs are those of no input, and of no other output
 abbrev pub AreApart : Asked → Type 0
-AreApart asked = collide (output_names asked) (inputs_of (RunOf asked)) ≡ false
+AreApart asked = collide (output_names asked) (inputs_of (Run asked)) ≡ false
 
--- `run`: the file gives models, the script has no fault, no names collide, and these are the records and the answers of the script's run
-pub record IsAccepted (asked : Asked) (texts : List (List ℕ)) (records : List Record) (answers : List LineAnswer) : Type 0 where
+-- `run`: the file gives models, the script has no fault, no names collide, and these are the
+-- history and the transcripts of the run of the one script, of which no change was in the way of
+-- another
+pub record IsAccepted (asked : Asked) (texts : List (List ℕ)) (log : Log)
+    (transcripts : List (List LineAnswer)) : Type 0 where
   pub models : List Content
   pub gives : Reads (file_in texts) (Ok models)
   pub lines : List ScriptLine
   pub read : commands_of is_for_bits asked.side models (script_in texts) ≡ Ok lines
   pub apart : AreApart asked
-  pub run : IsRun asked.side models lines records answers
+  pub run : AllRan (plan_of asked) models (lines ∷ []) transcripts log
+  pub freely : RanFreely transcripts log
 
 -- the number is that of the records, and the outputs are the transcript and the journal
 pub record ScriptRan (asked : Asked) (texts : List (List ℕ)) (number : ℕ) (outputs : List Named) : Type 0 where
-  pub records : List Record
-  pub answers : List LineAnswer
-  pub accepted : IsAccepted asked texts records answers
-  pub counted : number ≡ length records
-  pub are : outputs ≡ texts_written asked records answers
+  pub log : Log
+  pub transcripts : List (List LineAnswer)
+  pub accepted : IsAccepted asked texts log transcripts
+  pub counted : number ≡ length log.records
+  pub are : outputs ≡ texts_written asked log transcripts
 
 -- what a command gives where nothing is refused
-abbrev pub Gives : Asking → List (List ℕ) → ℕ → List Named → Type 0
-Gives (CountOf file) texts number outputs = CellsCounted texts number outputs
-Gives (RunOf asked) texts number outputs = ScriptRan asked texts number outputs
+abbrev pub Gives : Request → List (List ℕ) → ℕ → List Named → Type 0
+Gives (Count file) texts number outputs = CellsCounted texts number outputs
+Gives (Run asked) texts number outputs = ScriptRan asked texts number outputs
 
 -- the VOX file gives models, and this is the script's first fault
 pub record HasScriptFault (asked : Asked) (texts : List (List ℕ)) (fault : ScriptFault) : Type 0 where
@@ -66,9 +74,9 @@ pub record HasScriptFault (asked : Asked) (texts : List (List ℕ)) (fault : Scr
   pub is_of_text : IsOfText fault.kind
   pub first : commands_of is_for_bits asked.side models (script_in texts) ≡ Err fault
 
-abbrev pub RefusesScript : Asking → List (List ℕ) → ScriptFault → Type 0
-RefusesScript (CountOf file) texts fault = ⊥
-RefusesScript (RunOf asked) texts fault = HasScriptFault asked texts fault
+abbrev pub RefusesScript : Request → List (List ℕ) → ScriptFault → Type 0
+RefusesScript (Count file) texts fault = ⊥
+RefusesScript (Run asked) texts fault = HasScriptFault asked texts fault
 
 -- the VOX file gives models and the script has no fault, and a name of an output is taken
 pub record HasTakenName (asked : Asked) (texts : List (List ℕ)) : Type 0 where
@@ -76,14 +84,14 @@ pub record HasTakenName (asked : Asked) (texts : List (List ℕ)) : Type 0 where
   pub gives : Reads (file_in texts) (Ok models)
   pub lines : List ScriptLine
   pub read : commands_of is_for_bits asked.side models (script_in texts) ≡ Ok lines
-  pub collides : IsTrue (collide (output_names asked) (inputs_of (RunOf asked)))
+  pub collides : IsTrue (collide (output_names asked) (inputs_of (Run asked)))
 
-abbrev pub RefusesNames : Asking → List (List ℕ) → Type 0
-RefusesNames (CountOf file) texts = ⊥
-RefusesNames (RunOf asked) texts = HasTakenName asked texts
+abbrev pub RefusesNames : Request → List (List ℕ) → Type 0
+RefusesNames (Count file) texts = ⊥
+RefusesNames (Run asked) texts = HasTakenName asked texts
 
 -- why the texts, or the names of outputs, are refused
-abbrev pub RefusesTexts : TextRefused → Asking → List (List ℕ) → Type 0
+abbrev pub RefusesTexts : TextRefused → Request → List (List ℕ) → Type 0
 RefusesTexts (Vox fault) a texts = Reads (file_in texts) (Err fault)
 RefusesTexts (Script fault) a texts = RefusesScript a texts fault
 RefusesTexts Collides a texts = RefusesNames a texts

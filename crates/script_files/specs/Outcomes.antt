@@ -1,4 +1,5 @@
--- How a command ends, one case for each answer, and what it leaves on the shelf. This is said once, for every command.
+-- How a command ends, one case for each answer, and what it leaves on the shelf. This is said once,
+-- for every command.
 use Rattle.std.specs.Prelude.{◌≡◌, ℕ, List, Option, Result, Ok, Err, ⊤}
 use Rattle.vw_io.specs.Outside.{Files, ShelfState}
 use Rattle.vw_io.specs.Inputs.{AreTaken, StopsAt}
@@ -8,49 +9,51 @@ use Rattle.script_files.specs.declared.refusals.CommandRefused.{CommandRefused}
 use Rattle.script_files.specs.declared.refusals.CommandRefused.TheVariants.{Input, Text, Output}
 use Rattle.script_files.specs.declared.refusals.TextRefused.{TextRefused}
 use Rattle.script_files.specs.declared.refusals.TextRefused.TheVariants.{Vox, Script, Collides, Memory}
-use Rattle.script_files.specs.Requests.{Asking, inputs_of}
+use Rattle.script_files.specs.declared.requests.Request.{Request}
+use Rattle.script_files.specs.Requests.{inputs_of}
 use Rattle.script_files.specs.Meanings.{Gives, RefusesTexts}
 
 -- all inputs were taken, and with these outputs the command gives this number
-pub record Comes (number : ℕ) (outputs : List Named) (a : Asking) (files : Option Files) : Type 0 where
+pub record Comes (number : ℕ) (outputs : List Named) (a : Request) (files : Option Files) : Type 0 where
   pub texts : List (List ℕ)
   pub taken : AreTaken files (inputs_of a) texts
   pub gives : Gives a texts number outputs
 
 -- it came to its end: all outputs are whole, and nothing else has changed
-pub record Done (number : ℕ) (a : Asking) (old new : ShelfState) : Type 0 where
+pub record Done (number : ℕ) (a : Request) (old new : ShelfState) : Type 0 where
   pub outputs : List Named
   pub comes : Comes number outputs a old.files
   pub whole : AreWritten outputs old.files new.files
   pub no_fault : new.faults ≡ old.faults
 
 -- the outputs up to the one of this name were written, and that one was not
-pub record Breaks (why : WriteRefused) (name : List ℕ) (a : Asking) (old new : ShelfState) : Type 0 where
+pub record Breaks (why : WriteRefused) (name : List ℕ) (a : Request) (old new : ShelfState) : Type 0 where
   pub number : ℕ
   pub outputs : List Named
   pub comes : Comes number outputs a old.files
   pub stops : StopsWith why name outputs old.files new.files old.faults new.faults
 
 -- all inputs were taken, and their texts are refused
-pub record TextsRefused (r : TextRefused) (a : Asking) (files : Option Files) : Type 0 where
+pub record TextsRefused (r : TextRefused) (a : Request) (files : Option Files) : Type 0 where
   pub texts : List (List ℕ)
   pub taken : AreTaken files (inputs_of a) texts
   pub says : RefusesTexts r a texts
 
 -- the same, but that want of memory says nothing of the inputs
-abbrev pub RefusesFiles : TextRefused → Asking → Option Files → Type 0
+abbrev pub RefusesFiles : TextRefused → Request → Option Files → Type 0
 RefusesFiles (Vox fault) a files = TextsRefused (Vox fault) a files
 RefusesFiles (Script fault) a files = TextsRefused (Script fault) a files
 RefusesFiles Collides a files = TextsRefused Collides a files
 RefusesFiles Memory a files = ⊤
 
 -- why it did not come to its end
-abbrev pub Refused : CommandRefused → Asking → ShelfState → ShelfState → Type 0
+abbrev pub Refused : CommandRefused → Request → ShelfState → ShelfState → Type 0
 Refused (Input r) a old new =
-    StopsAt r.why r.name.now (inputs_of a) old.files old.faults new.faults × (new.files ≡ old.files)
+    StopsAt r.why r.name.now (inputs_of a) old.files old.faults new.faults
+    × (new.files ≡ old.files)
 Refused (Text r) a old new = RefusesFiles r a old.files × (new ≡ old)
 Refused (Output r) a old new = Breaks r.why r.name.now a old new
 
-abbrev pub Outcome : Result ℕ CommandRefused → Asking → ShelfState → ShelfState → Type 0
+abbrev pub Outcome : Result ℕ CommandRefused → Request → ShelfState → ShelfState → Type 0
 Outcome (Ok number) a old new = Done number a old new
 Outcome (Err refused) a old new = Refused refused a old new

@@ -1,24 +1,19 @@
--- What is asked for: what it reads, and what it writes.
+-- What a request reads, and what it writes.
 use Rattle.std.specs.Prelude.{ℕ, ◌^◌, ◌++◌, ◌∷◌, [], List, Option, Some, None, codes}
 use Rattle.vw_io.specs.Inputs.{Wanted}
 use Rattle.vw_io.specs.Outputs.{Named}
-use Rattle.history_model.specs.declared.histories.Record.{Record}
 use Rattle.history_model.specs.Journal.{journal_of}
+use Rattle.history_model.specs.Logs.{Log}
+use Rattle.node_words.specs.Plans.{Layout, usual_buckets}
+use Rattle.script_files.specs.Orders.{Asked}
+use Rattle.script_files.specs.declared.requests.Request.{Request}
+use Rattle.script_files.specs.declared.requests.Request.TheVariants.{Count, Run}
 use Rattle.transcript.specs.declared.answers.LineAnswer.{LineAnswer}
 use Rattle.transcript.specs.Lines.{transcript_of}
-use Rattle.bit_run.specs.Runs.{log_of}
 
--- a run: the exponent of the world's side, the journal's name where there is one, and the names of the VOX file and the script
-pub record Asked : Type 0 where
-  pub side : ℕ
-  pub journal : Option (List ℕ)
-  pub file : List ℕ
-  pub script : List ℕ
-
--- to count the cells of a file, or to run a script
-pub data Asking : Type 0 where
-  CountOf : List ℕ → Asking
-  RunOf : Asked → Asking
+-- a run is laid out by the usual plan of its side
+abbrev pub plan_of : Asked → Layout
+plan_of asked = record { side = asked.side; buckets = usual_buckets; cap = 128 }
 
 -- the most bytes of a VOX file and of a script
 abbrev pub vox_limit : ℕ
@@ -28,9 +23,11 @@ abbrev pub script_limit : ℕ
 script_limit = 2 ^ 23
 
 -- what is read, in order: a VOX file first, and then the script
-abbrev pub inputs_of : Asking → List Wanted
-inputs_of (CountOf file) = record { name = file; limit = vox_limit } ∷ []
-inputs_of (RunOf asked) = record { name = asked.file; limit = vox_limit } ∷ record { name = asked.script; limit = script_limit } ∷ []
+abbrev pub inputs_of : Request → List Wanted
+inputs_of (Count file) = record { name = file; limit = vox_limit } ∷ []
+inputs_of (Run asked) =
+    record { name = asked.file; limit = vox_limit }
+    ∷ record { name = asked.script; limit = script_limit } ∷ []
 
 -- the transcript's name is the script's with `.out` behind it
 abbrev pub transcript_name : List ℕ → List ℕ
@@ -50,8 +47,16 @@ journal_output (Some name) text = record { name = name; bytes = text } ∷ []
 
 -- what a run writes, in order
 abbrev pub outputs_of : Asked → List ℕ → List ℕ → List Named
-outputs_of asked transcript journal = record { name = transcript_name asked.script; bytes = transcript } ∷ journal_output asked.journal journal
+outputs_of asked transcript journal =
+    record { name = transcript_name asked.script; bytes = transcript }
+    ∷ journal_output asked.journal journal
 
--- the texts of a run's answers and records
-abbrev pub texts_written : Asked → List Record → List LineAnswer → List Named
-texts_written asked records answers = outputs_of asked (transcript_of answers) (journal_of (log_of asked.side records))
+-- the answers to the one script
+abbrev pub transcript_in : List (List LineAnswer) → List LineAnswer
+transcript_in [] = []
+transcript_in (transcript ∷ others) = transcript
+
+-- the texts of a run's history and transcripts
+abbrev pub texts_written : Asked → Log → List (List LineAnswer) → List Named
+texts_written asked log transcripts =
+    outputs_of asked (transcript_of (transcript_in transcripts)) (journal_of log)

@@ -1,4 +1,5 @@
--- What a command over told files has to come to, as long as the shelf doesn't fail and memory is there.
+-- What a command over told files has to come to, as long as the shelf doesn't fail and memory is
+-- there.
 use Rattle.std.specs.Prelude.{◌≡◌, ℕ, List, [], ◌∷◌, length, nat_lt, if◌then◌else◌, Option, Some, None, Result, Ok, Err, ⊤}
 use Rattle.vw_io.specs.Outside.{Files}
 use Rattle.vw_io.specs.Inputs.{Wanted}
@@ -19,7 +20,10 @@ use Rattle.script_files.specs.declared.refusals.CommandRefused.{CommandRefused}
 use Rattle.script_files.specs.declared.refusals.CommandRefused.TheVariants.{Input, Text, Output}
 use Rattle.script_files.specs.declared.refusals.TextRefused.{TextRefused}
 use Rattle.script_files.specs.declared.refusals.TextRefused.TheVariants.{Vox, Script, Collides, Memory}
-use Rattle.script_files.specs.Requests.{Asked, Asking, CountOf, RunOf, inputs_of, output_names}
+use Rattle.script_files.specs.declared.requests.Request.{Request}
+use Rattle.script_files.specs.declared.requests.Request.TheVariants.{Count, Run}
+use Rattle.script_files.specs.Orders.{Asked}
+use Rattle.script_files.specs.Requests.{inputs_of, output_names}
 use Rattle.script_files.specs.Meanings.{file_in, script_in}
 
 -- the first thing that is wrong with the inputs and the names, if anything is
@@ -34,34 +38,38 @@ pub data Verdict : Type 0 where
 -- the bytes of an input, where it can be taken
 abbrev pub input_within : Wanted → Option (List ℕ) → Result (List ℕ) Verdict
 input_within input None = Err (LacksInput input.name)
-input_within input (Some bytes) = if nat_lt input.limit (length bytes) then Err (InputIsLong input.name) else Ok bytes
+input_within input (Some bytes) =
+    if nat_lt input.limit (length bytes) then Err (InputIsLong input.name) else Ok bytes
 
 -- the bytes of all inputs, or what is wrong with the first that can't be taken
 abbrev pub inputs_at : Files → List Wanted → Result (List (List ℕ)) Verdict
 inputs_at files [] = Ok []
 inputs_at files (input ∷ inputs) =
-    input_within input (files input.name) >>= λ bytes. inputs_at files inputs >>= λ texts. Ok (bytes ∷ texts)
+    input_within input (files input.name) >>= λ bytes. inputs_at files inputs
+    >>= λ texts. Ok (bytes ∷ texts)
 
 -- then what the VOX file says, then what the script says, then the names
 abbrev pub verdict_of_names : Asked → Result (List ScriptLine) ScriptFault → Verdict
 verdict_of_names asked (Err fault) = HasScriptFault fault
-verdict_of_names asked (Ok lines) = if collide (output_names asked) (inputs_of (RunOf asked)) then NamesCollide else Fine
+verdict_of_names asked (Ok lines) =
+    if collide (output_names asked) (inputs_of (Run asked)) then NamesCollide else Fine
 
-abbrev pub verdict_of : Asking → List (List ℕ) → Result (List Content) VoxFault → Verdict
+abbrev pub verdict_of : Request → List (List ℕ) → Result (List Content) VoxFault → Verdict
 verdict_of a texts (Err fault) = HasVoxFault fault
-verdict_of (CountOf file) texts (Ok models) = Fine
-verdict_of (RunOf asked) texts (Ok models) = verdict_of_names asked (commands_of is_for_bits asked.side models (script_in texts))
+verdict_of (Count file) texts (Ok models) = Fine
+verdict_of (Run asked) texts (Ok models) =
+    verdict_of_names asked (commands_of is_for_bits asked.side models (script_in texts))
 
-pub record JudgesTexts (a : Asking) (texts : List (List ℕ)) (v : Verdict) : Type 0 where
+pub record JudgesTexts (a : Request) (texts : List (List ℕ)) (v : Verdict) : Type 0 where
   pub reading : Result (List Content) VoxFault
   pub says : Reads (file_in texts) reading
   pub follows : v ≡ verdict_of a texts reading
 
-abbrev pub JudgesInputs : Asking → Result (List (List ℕ)) Verdict → Verdict → Type 0
+abbrev pub JudgesInputs : Request → Result (List (List ℕ)) Verdict → Verdict → Type 0
 JudgesInputs a (Err early) v = v ≡ early
 JudgesInputs a (Ok texts) v = JudgesTexts a texts v
 
-abbrev pub Judges : Files → Asking → Verdict → Type 0
+abbrev pub Judges : Files → Request → Verdict → Type 0
 Judges files a v = JudgesInputs a (inputs_at files (inputs_of a)) v
 
 -- the answer is the one of this verdict, or want of memory

@@ -1,13 +1,13 @@
 ghost use Rattle.std.specs.Prelude.{◌≡◌, ◌≤◌, ◌^◌, length, IfOk, IfErr};
 ghost use Rattle.vox_read.specs.Contents.{AreModels, cells_of_all};
 ghost use Rattle.vox_read.specs.Files.{Refuses};
-ghost use Rattle.script_files.specs.Requests.{CountOf};
+ghost use Rattle.script_files.specs.declared.requests.Request.TheVariants.{Count};
 ghost use Rattle.script_files.specs.Meanings.{file_in};
 ghost use Rattle.script_files.specs.Outcomes.{Outcome};
 ghost use Rattle.script_files.specs.Stages.{CountsFile};
 
 use crate::refusals::{CommandRefused, TextRefused};
-use crate::requests::VOX_LIMIT;
+use crate::requests::{FileName, VOX_LIMIT};
 use std::alloc::Global;
 use vox_read::{Models, VoxFault, cell_count, read_models};
 use vw_cell::Memory;
@@ -17,13 +17,13 @@ use vw_io::{Input, Shelf, Text, read_all};
 #[tactic(auto, using(crate::proofs::Ending::file_within, crate::proofs::Ending::counted, crate::proofs::Ending::not_accepted, crate::proofs::Refusing::vox_refused))]
 pub fn count_file<'w, S: Shelf>(
     alloc: Global,
-    file: &'w str,
+    file: FileName<'w>,
     shelf: &mut S,
 ) -> Result<u64, CommandRefused<'w>>
-    ensures { Outcome result (CountOf file.now) (S.state shelf.old) (S.state shelf.new) }
+    ensures { Outcome result (Count file.entry) (S.state shelf.old) (S.state shelf.new) }
 {
     let inputs = [Input {
-        name: file,
+        name: file.text,
         limit: VOX_LIMIT,
     }];
     match read_all(alloc, &inputs, shelf) {

@@ -13,7 +13,7 @@ mod texts;
 
 pub use counts::count_file;
 pub use refusals::{CommandRefused, TextRefused};
-pub use requests::Order;
+pub use requests::{FileName, Order, Request};
 pub use runs::run_files;
 
 #[cfg(test)]

@@ -1,6 +1,3 @@
-ghost use Rattle.std.specs.Option.{option_map};
-ghost use Rattle.script_files.specs.Requests.{Asked};
-
 use std::marker::Model;
 use vw_cell::Side;
 
@@ -9,6 +6,29 @@ pub(crate) const VOX_LIMIT: u64 = 268_435_456;
 
 /// The most bytes that a script may have: 8 MiB.
 pub(crate) const SCRIPT_LIMIT: u64 = 8_388_608;
+
+/// What the words after the program's name ask for. Contracts see the names as their bytes.
+#[derive(Drop)]
+pub enum Request<'w> {
+    /// To count the cells of this file.
+    Count(FileName<'w>),
+    /// To run a script.
+    Run(Order<'w>),
+}
+
+/// The name of a file. Contracts see its bytes.
+#[derive(Drop)]
+pub struct FileName<'w> {
+    pub text: &'w str,
+}
+
+impl<'w> Model for FileName<'w> {
+    ghost use Rattle.std.specs.Prelude.{ℕ, List};
+
+    ghost Value = { List ℕ };
+
+    ghost view = { λ name. name.text.now };
+}
 
 /// What a run is asked for: the world's side, the journal's name where there is one, and the names of
 /// the VOX file and of the script. Contracts see the exponent of the side, and the names.
@@ -21,6 +41,9 @@ pub struct Order<'w> {
 }
 
 impl<'w> Model for Order<'w> {
+    ghost use Rattle.std.specs.Option.{option_map};
+    ghost use Rattle.script_files.specs.Orders.{Asked};
+
     ghost Value = { Asked };
 
     ghost view = { λ order. record {

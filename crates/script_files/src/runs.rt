@@ -1,5 +1,6 @@
 ghost use Rattle.std.specs.Prelude.{◌≡◌, ◌≤◌, ◌^◌, length, IfOk, IfErr};
-ghost use Rattle.script_files.specs.Requests.{RunOf, inputs_of, outputs_of, transcript_name};
+ghost use Rattle.script_files.specs.declared.requests.Request.TheVariants.{Run};
+ghost use Rattle.script_files.specs.Requests.{inputs_of, outputs_of, transcript_name};
 ghost use Rattle.script_files.specs.Meanings.{file_in, RefusesTexts};
 ghost use Rattle.script_files.specs.Outcomes.{Outcome};
 ghost use Rattle.script_files.specs.Stages.{IsPrepared, WritesEnd};
@@ -25,7 +26,7 @@ pub fn run_files<'w, S: Shelf>(
     shelf: &mut S,
 ) -> Result<u32, CommandRefused<'w>>
     requires { transcript.now ≡ transcript_name order.now.script }
-    ensures { Outcome result (RunOf order.now) (S.state shelf.old) (S.state shelf.new) }
+    ensures { Outcome result (Run order.now) (S.state shelf.old) (S.state shelf.new) }
 {
     let inputs = [
         Input {
@@ -59,11 +60,11 @@ fn prepare(
 ) -> Result<Texts, TextRefused>
     requires two { length texts.items ≡ 2 }
     requires within { length (file_in texts.items) ≤ 2 ^ 28 }
-    requires inputs { inputs.now ≡ inputs_of (RunOf order.now) }
+    requires inputs { inputs.now ≡ inputs_of (Run order.now) }
     requires named { transcript.now ≡ transcript_name order.now.script }
     ensures prepared { IfOk result (λ done. IsPrepared order.now texts.items
         done.number done.transcript.items done.journal.items) }
-    ensures refused { IfErr result (λ refused. RefusesTexts refused (RunOf order.now) texts.items) }
+    ensures refused { IfErr result (λ refused. RefusesTexts refused (Run order.now) texts.items) }
 {
     let ran = match order.journal {
         None => run_texts(alloc, order, &[transcript], inputs, texts)?,

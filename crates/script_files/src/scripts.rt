@@ -1,10 +1,13 @@
 ghost use Rattle.std.specs.Prelude.{◌≡◌, ◌≤◌, ◌^◌, ◌∷◌, [], length, map, IfOk, IfErr};
-ghost use Rattle.script_files.specs.Requests.{RunOf, inputs_of, output_names};
+ghost use Rattle.script_files.specs.declared.requests.Request.TheVariants.{Run};
+ghost use Rattle.script_files.specs.Requests.{inputs_of, output_names};
 ghost use Rattle.script_files.specs.Meanings.{file_in, IsAccepted, RefusesTexts};
 
 use crate::refusals::TextRefused;
 use crate::requests::Order;
-use bit_run::{Ran, run_script};
+use bit_run::run_scripts;
+use conformance::Ran;
+use node_words::Plan;
 use script::read_bit_script;
 use std::alloc::Global;
 use vox_read::read_models;
@@ -20,11 +23,11 @@ pub(crate) fn run_texts(
 ) -> Result<Ran, TextRefused>
     requires two { length texts.items ≡ 2 }
     requires within { length (file_in texts.items) ≤ 2 ^ 28 }
-    requires inputs { inputs.now ≡ inputs_of (RunOf order.now) }
+    requires inputs { inputs.now ≡ inputs_of (Run order.now) }
     requires names { map (λ name. name.now) names.now ≡ output_names order.now }
     ensures accepted { IfOk result (λ ran. IsAccepted order.now texts.items
-        ran.records.items ran.answers.items) }
-    ensures refused { IfErr result (λ refused. RefusesTexts refused (RunOf order.now) texts.items) }
+        ran.history ran.transcripts.items) }
+    ensures refused { IfErr result (λ refused. RefusesTexts refused (Run order.now) texts.items) }
 {
     let mut texts = texts;
     let script = texts.pop();
@@ -46,11 +49,11 @@ fn run_two(
     script: Text,
 ) -> Result<Ran, TextRefused>
     requires within { length file ≤ 2 ^ 28 }
-    requires inputs { inputs.now ≡ inputs_of (RunOf order.now) }
+    requires inputs { inputs.now ≡ inputs_of (Run order.now) }
     requires names { map (λ name. name.now) names.now ≡ output_names order.now }
     ensures accepted { IfOk result (λ ran. IsAccepted order.now (file ∷ script ∷ [])
-        ran.records.items ran.answers.items) }
-    ensures refused { IfErr result (λ refused. RefusesTexts refused (RunOf order.now)
+        ran.history ran.transcripts.items) }
+    ensures refused { IfErr result (λ refused. RefusesTexts refused (Run order.now)
         (file ∷ script ∷ [])) }
 {
     let models = read_models(alloc, file.as_slice())?;
@@ -59,5 +62,6 @@ fn run_two(
     if collide(names, inputs) {
         return Err(TextRefused::Collides);
     }
-    Ok(run_script(alloc, order.side, &models, &script)?)
+    let plan = Plan::usual(order.side);
+    Ok(run_scripts(alloc, &plan, &models, &[script])?)
 }

@@ -1,4 +1,4 @@
-use crate::{CommandRefused, Order, TextRefused, count_file, run_files};
+use crate::{CommandRefused, FileName, Order, TextRefused, count_file, run_files};
 use script::{ScriptFault, ScriptKind};
 use std::alloc::Global;
 use std::test::Fail;
@@ -113,7 +113,8 @@ fn write_fault(name: &str) -> CommandRefused<'_> {
 #[test]
 fn a_file_is_counted(rt: HostRuntime) -> Result<(), Fail> {
     let mut shelf = shelf(rt.alloc())?;
-    assert_eq!(rt; count_file(rt.alloc(), "one.vox", &mut shelf), Ok(1));
+    let file = FileName { text: "one.vox" };
+    assert_eq!(rt; count_file(rt.alloc(), file, &mut shelf), Ok(1));
     Ok(())
 }
 

@@ -7,7 +7,7 @@ use Rattle.vw_io.specs.declared.shelves.WriteRefused.{WriteRefused}
 use Rattle.vw_io.specs.declared.shelves.WriteRefused.TheVariants as writes
 use Rattle.script_files.specs.declared.refusals.CommandRefused.TheVariants.{Input, Text, Output}
 use Rattle.script_files.specs.declared.refusals.TextRefused.TheVariants.{Vox, Script, Collides, Memory}
-use Rattle.script_files.specs.Requests.{Asking}
+use Rattle.script_files.specs.declared.requests.Request.{Request}
 use Rattle.script_files.specs.Verdicts.{Verdict, Fine, FollowsRead, FollowsWrite, Follows}
 use Rattle.script_files.specs.Judging.{outcome_follows}
 use Rattle.voxdag_top.specs.declared.endings.Ending.{Ending}
@@ -55,24 +55,24 @@ status_follows v (Refused (Text Collides)) result follows is = by_status (status
 status_follows v (Refused (Output r)) result follows is = write_status v r.why result follows is
 status_follows v (Refused (Text Memory)) result follows is = memory_or (status_for v) result is
 
-command_follows : (a : Asking) (e : Ending) (old new : ShelfState) (files : Files) (v : Verdict) → CommandEnds e a old new → old.files ≡ Some files → (Rose old.faults new.faults → ⊥) → Judges (Some a) files v → EndFollows v e
+command_follows : (a : Request) (e : Ending) (old new : ShelfState) (files : Files) (v : Verdict) → CommandEnds e a old new → old.files ≡ Some files → (Rose old.faults new.faults → ⊥) → Judges (Some a) files v → EndFollows v e
 command_follows a (Counted number) old new files v ends told calm judges = outcome_follows (Ok number) a old new ends.1 files v told calm judges
 command_follows a (Ran number) old new files v ends told calm judges = outcome_follows (Ok number) a old new ends.1 files v told calm judges
 command_follows a Usage old new files v ends told calm judges = absurd ends
 command_follows a (Refused r) old new files v ends told calm judges = outcome_follows (Err r) a old new ends files v told calm judges
 
-end_follows : (a : Option Asking) (e : Ending) (old new : ShelfState) (files : Files) (v : Verdict) → EndsAs a e old new → old.files ≡ Some files → (Rose old.faults new.faults → ⊥) → Judges a files v → EndFollows v e
+end_follows : (a : Option Request) (e : Ending) (old new : ShelfState) (files : Files) (v : Verdict) → EndsAs a e old new → old.files ≡ Some files → (Rose old.faults new.faults → ⊥) → Judges a files v → EndFollows v e
 end_follows None e old new files v ends told calm judges = absurd judges
 end_follows (Some a) e old new files v ends told calm judges = command_follows a e old new files v ends told calm judges
 
-pub comes_by : (a : Option Asking) (old new : Outside) (result : ℕ) → Runs a old new result → (files : Files) (v : Verdict) → old.shelf.files ≡ Some files → (Rose old.shelf.faults new.shelf.faults → ⊥) → Judges a files v → IsOr (status_for v) result
+pub comes_by : (a : Option Request) (old new : Outside) (result : ℕ) → Runs a old new result → (files : Files) (v : Verdict) → old.shelf.files ≡ Some files → (Rose old.shelf.faults new.shelf.faults → ⊥) → Judges a files v → IsOr (status_for v) result
 comes_by a old new result run files v told calm judges =
     status_follows v run.ending result (end_follows a run.ending old.shelf new.shelf files v run.ends told calm judges) (comes run.ending run.finish)
 
 -- words outside the grammar
-usage_at : (a : Option Asking) (e : Ending) (old new : ShelfState) (result : ℕ) → EndsAs a e old new → IsOr (status_of e) result → a ≡ None → IsOr 1 result
+usage_at : (a : Option Request) (e : Ending) (old new : ShelfState) (result : ℕ) → EndsAs a e old new → IsOr (status_of e) result → a ≡ None → IsOr 1 result
 usage_at None e old new result ends is none = by_status 1 (status_of e) result (ap status_of ends.0) is
 usage_at (Some a) e old new result ends is none = absurd (let no : ⊥ = cc in no)
 
-pub usage_by : (a : Option Asking) (old new : Outside) (result : ℕ) → Runs a old new result → a ≡ None → IsOr 1 result
+pub usage_by : (a : Option Request) (old new : Outside) (result : ℕ) → Runs a old new result → a ≡ None → IsOr 1 result
 usage_by a old new result run none = usage_at a run.ending old.shelf new.shelf result run.ends (comes run.ending run.finish) none

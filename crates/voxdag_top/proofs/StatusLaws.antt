@@ -9,7 +9,9 @@ use Rattle.vw_io.specs.declared.shelves.WriteRefused.{WriteRefused}
 use Rattle.vw_io.specs.declared.shelves.WriteRefused.TheVariants as writes
 use Rattle.script_files.specs.declared.refusals.CommandRefused.TheVariants.{Input, Text, Output}
 use Rattle.script_files.specs.declared.refusals.TextRefused.TheVariants.{Vox, Script, Collides, Memory}
-use Rattle.script_files.specs.Requests.{Asking, CountOf, RunOf, inputs_of}
+use Rattle.script_files.specs.declared.requests.Request.{Request}
+use Rattle.script_files.specs.declared.requests.Request.TheVariants.{Count, Run}
+use Rattle.script_files.specs.Requests.{inputs_of}
 use Rattle.script_files.specs.Outcomes.{Breaks}
 use Rattle.voxdag_top.specs.declared.endings.Ending.{Ending}
 use Rattle.voxdag_top.specs.declared.endings.Ending.TheVariants.{Counted, Ran, Usage, Refused}
@@ -135,12 +137,12 @@ output_not_9 writes.Memory is = omega arith
 -- ---- each status
 
 -- status 0
-done_at : (a : Option Asking) (e : Ending) (old new : Outside) → EndsAs a e old.shelf new.shelf → status_of e ≡ 0 → Puts old.out.told new.out.told (line_of e) → Done a old new
+done_at : (a : Option Request) (e : Ending) (old new : Outside) → EndsAs a e old.shelf new.shelf → status_of e ≡ 0 → Puts old.out.told new.out.told (line_of e) → Done a old new
 done_at None e old new ends is puts = absurd (let usage = usage_status e ends.0 in omega (arith, is, usage))
-done_at (Some (CountOf file)) (Counted number) old new ends is puts = record { number = number; done = ends.1; line = puts }
-done_at (Some (RunOf asked)) (Counted number) old new ends is puts = absurd ends.0
-done_at (Some (CountOf file)) (Ran number) old new ends is puts = absurd ends.0
-done_at (Some (RunOf asked)) (Ran number) old new ends is puts = record { number = number; done = ends.1; line = puts }
+done_at (Some (Count file)) (Counted number) old new ends is puts = record { number = number; done = ends.1; line = puts }
+done_at (Some (Run asked)) (Counted number) old new ends is puts = absurd ends.0
+done_at (Some (Count file)) (Ran number) old new ends is puts = absurd ends.0
+done_at (Some (Run asked)) (Ran number) old new ends is puts = record { number = number; done = ends.1; line = puts }
 done_at (Some a) Usage old new ends is puts = absurd ends
 done_at (Some a) (Refused (Input r)) old new ends is puts = absurd (input_not_0 r.why is)
 done_at (Some a) (Refused (Text (Vox fault))) old new ends is puts = absurd (omega arith)
@@ -150,7 +152,7 @@ done_at (Some a) (Refused (Output r)) old new ends is puts = absurd (output_not_
 done_at (Some a) (Refused (Text Memory)) old new ends is puts = absurd (omega arith)
 
 -- status 1
-usage_at : (a : Option Asking) (e : Ending) (old new : Outside) → EndsAs a e old.shelf new.shelf → status_of e ≡ 1 → Puts old.out.told new.out.told (line_of e) → Unusable a old new
+usage_at : (a : Option Request) (e : Ending) (old new : Outside) → EndsAs a e old.shelf new.shelf → status_of e ≡ 1 → Puts old.out.told new.out.told (line_of e) → Unusable a old new
 usage_at None e old new ends is puts = record { cause = tt; unchanged = ends.1; line = subst (λ (x : Ending). Puts old.out.told new.out.told (line_of x)) ends.0 puts }
 usage_at (Some a) (Counted number) old new ends is puts = absurd (omega arith)
 usage_at (Some a) (Ran number) old new ends is puts = absurd (omega arith)
@@ -163,7 +165,7 @@ usage_at (Some a) (Refused (Output r)) old new ends is puts = absurd (output_not
 usage_at (Some a) (Refused (Text Memory)) old new ends is puts = absurd (omega arith)
 
 -- status 2
-missing_at : (a : Option Asking) (e : Ending) (old new : Outside) → EndsAs a e old.shelf new.shelf → status_of e ≡ 2 → Puts old.out.told new.out.told (line_of e) → Missed a old new
+missing_at : (a : Option Request) (e : Ending) (old new : Outside) → EndsAs a e old.shelf new.shelf → status_of e ≡ 2 → Puts old.out.told new.out.told (line_of e) → Missed a old new
 missing_at None e old new ends is puts = absurd (let usage = usage_status e ends.0 in omega (arith, is, usage))
 missing_at (Some a) (Counted number) old new ends is puts = absurd (omega arith)
 missing_at (Some a) (Ran number) old new ends is puts = absurd (omega arith)
@@ -183,7 +185,7 @@ missing_at (Some a) (Refused (Output r)) old new ends is puts = absurd (output_n
 missing_at (Some a) (Refused (Text Memory)) old new ends is puts = absurd (omega arith)
 
 -- status 3
-read_fault_at : (a : Option Asking) (e : Ending) (old new : Outside) → EndsAs a e old.shelf new.shelf → status_of e ≡ 3 → Puts old.out.told new.out.told (line_of e) → Faulted a old new
+read_fault_at : (a : Option Request) (e : Ending) (old new : Outside) → EndsAs a e old.shelf new.shelf → status_of e ≡ 3 → Puts old.out.told new.out.told (line_of e) → Faulted a old new
 read_fault_at None e old new ends is puts = absurd (let usage = usage_status e ends.0 in omega (arith, is, usage))
 read_fault_at (Some a) (Counted number) old new ends is puts = absurd (omega arith)
 read_fault_at (Some a) (Ran number) old new ends is puts = absurd (omega arith)
@@ -203,7 +205,7 @@ read_fault_at (Some a) (Refused (Output r)) old new ends is puts = absurd (outpu
 read_fault_at (Some a) (Refused (Text Memory)) old new ends is puts = absurd (omega arith)
 
 -- status 9
-too_long_at : (a : Option Asking) (e : Ending) (old new : Outside) → EndsAs a e old.shelf new.shelf → status_of e ≡ 9 → Puts old.out.told new.out.told (line_of e) → Exceeded a old new
+too_long_at : (a : Option Request) (e : Ending) (old new : Outside) → EndsAs a e old.shelf new.shelf → status_of e ≡ 9 → Puts old.out.told new.out.told (line_of e) → Exceeded a old new
 too_long_at None e old new ends is puts = absurd (let usage = usage_status e ends.0 in omega (arith, is, usage))
 too_long_at (Some a) (Counted number) old new ends is puts = absurd (omega arith)
 too_long_at (Some a) (Ran number) old new ends is puts = absurd (omega arith)
@@ -223,7 +225,7 @@ too_long_at (Some a) (Refused (Output r)) old new ends is puts = absurd (output_
 too_long_at (Some a) (Refused (Text Memory)) old new ends is puts = absurd (omega arith)
 
 -- status 4
-vox_refused_at : (a : Option Asking) (e : Ending) (old new : Outside) → EndsAs a e old.shelf new.shelf → status_of e ≡ 4 → Puts old.out.told new.out.told (line_of e) → VoxRefused a old new
+vox_refused_at : (a : Option Request) (e : Ending) (old new : Outside) → EndsAs a e old.shelf new.shelf → status_of e ≡ 4 → Puts old.out.told new.out.told (line_of e) → VoxRefused a old new
 vox_refused_at None e old new ends is puts = absurd (let usage = usage_status e ends.0 in omega (arith, is, usage))
 vox_refused_at (Some a) (Counted number) old new ends is puts = absurd (omega arith)
 vox_refused_at (Some a) (Ran number) old new ends is puts = absurd (omega arith)
@@ -236,7 +238,7 @@ vox_refused_at (Some a) (Refused (Output r)) old new ends is puts = absurd (outp
 vox_refused_at (Some a) (Refused (Text Memory)) old new ends is puts = absurd (omega arith)
 
 -- status 5
-script_refused_at : (a : Option Asking) (e : Ending) (old new : Outside) → EndsAs a e old.shelf new.shelf → status_of e ≡ 5 → Puts old.out.told new.out.told (line_of e) → ScriptRefused a old new
+script_refused_at : (a : Option Request) (e : Ending) (old new : Outside) → EndsAs a e old.shelf new.shelf → status_of e ≡ 5 → Puts old.out.told new.out.told (line_of e) → ScriptRefused a old new
 script_refused_at None e old new ends is puts = absurd (let usage = usage_status e ends.0 in omega (arith, is, usage))
 script_refused_at (Some a) (Counted number) old new ends is puts = absurd (omega arith)
 script_refused_at (Some a) (Ran number) old new ends is puts = absurd (omega arith)
@@ -249,7 +251,7 @@ script_refused_at (Some a) (Refused (Output r)) old new ends is puts = absurd (o
 script_refused_at (Some a) (Refused (Text Memory)) old new ends is puts = absurd (omega arith)
 
 -- status 6
-write_fault_at : (a : Option Asking) (e : Ending) (old new : Outside) → EndsAs a e old.shelf new.shelf → status_of e ≡ 6 → Puts old.out.told new.out.told (line_of e) → WriteFailed a old new
+write_fault_at : (a : Option Request) (e : Ending) (old new : Outside) → EndsAs a e old.shelf new.shelf → status_of e ≡ 6 → Puts old.out.told new.out.told (line_of e) → WriteFailed a old new
 write_fault_at None e old new ends is puts = absurd (let usage = usage_status e ends.0 in omega (arith, is, usage))
 write_fault_at (Some a) (Counted number) old new ends is puts = absurd (omega arith)
 write_fault_at (Some a) (Ran number) old new ends is puts = absurd (omega arith)
@@ -349,35 +351,35 @@ known_by e known (inr (may, lacking is none)) = rw is refl
 
 -- ---- the clauses, of a whole run
 
-pub known_says : (a : Option Asking) (old new : Outside) (result : ℕ) → Runs a old new result → IsTrue (is_status result)
+pub known_says : (a : Option Request) (old new : Outside) (result : ℕ) → Runs a old new result → IsTrue (is_status result)
 known_says a old new result run = known_by run.ending (known_ending run.ending) run.finish
 
-pub done_says : (a : Option Asking) (old new : Outside) (result : ℕ) → Runs a old new result → result ≡ 0 → Done a old new
+pub done_says : (a : Option Request) (old new : Outside) (result : ℕ) → Runs a old new result → result ≡ 0 → Done a old new
 done_says a old new result run is = let p = ended run.ending (λ s. omega arith) (λ s. omega arith) run.finish is in done_at a run.ending old new run.ends p.0 p.1
 
-pub usage_says : (a : Option Asking) (old new : Outside) (result : ℕ) → Runs a old new result → result ≡ 1 → Unusable a old new
+pub usage_says : (a : Option Request) (old new : Outside) (result : ℕ) → Runs a old new result → result ≡ 1 → Unusable a old new
 usage_says a old new result run is = let p = ended run.ending (λ s. omega arith) (λ s. omega arith) run.finish is in usage_at a run.ending old new run.ends p.0 p.1
 
-pub missing_says : (a : Option Asking) (old new : Outside) (result : ℕ) → Runs a old new result → result ≡ 2 → Missed a old new
+pub missing_says : (a : Option Request) (old new : Outside) (result : ℕ) → Runs a old new result → result ≡ 2 → Missed a old new
 missing_says a old new result run is = let p = ended run.ending (λ s. omega arith) (λ s. omega arith) run.finish is in missing_at a run.ending old new run.ends p.0 p.1
 
-pub read_fault_says : (a : Option Asking) (old new : Outside) (result : ℕ) → Runs a old new result → result ≡ 3 → Faulted a old new
+pub read_fault_says : (a : Option Request) (old new : Outside) (result : ℕ) → Runs a old new result → result ≡ 3 → Faulted a old new
 read_fault_says a old new result run is = let p = ended run.ending (λ s. omega arith) (λ s. omega arith) run.finish is in read_fault_at a run.ending old new run.ends p.0 p.1
 
-pub vox_refused_says : (a : Option Asking) (old new : Outside) (result : ℕ) → Runs a old new result → result ≡ 4 → VoxRefused a old new
+pub vox_refused_says : (a : Option Request) (old new : Outside) (result : ℕ) → Runs a old new result → result ≡ 4 → VoxRefused a old new
 vox_refused_says a old new result run is = let p = ended run.ending (λ s. omega arith) (λ s. omega arith) run.finish is in vox_refused_at a run.ending old new run.ends p.0 p.1
 
-pub script_refused_says : (a : Option Asking) (old new : Outside) (result : ℕ) → Runs a old new result → result ≡ 5 → ScriptRefused a old new
+pub script_refused_says : (a : Option Request) (old new : Outside) (result : ℕ) → Runs a old new result → result ≡ 5 → ScriptRefused a old new
 script_refused_says a old new result run is = let p = ended run.ending (λ s. omega arith) (λ s. omega arith) run.finish is in script_refused_at a run.ending old new run.ends p.0 p.1
 
-pub write_fault_says : (a : Option Asking) (old new : Outside) (result : ℕ) → Runs a old new result → result ≡ 6 → WriteFailed a old new
+pub write_fault_says : (a : Option Request) (old new : Outside) (result : ℕ) → Runs a old new result → result ≡ 6 → WriteFailed a old new
 write_fault_says a old new result run is = let p = ended run.ending (λ s. omega arith) (λ s. omega arith) run.finish is in write_fault_at a run.ending old new run.ends p.0 p.1
 
-pub too_long_says : (a : Option Asking) (old new : Outside) (result : ℕ) → Runs a old new result → result ≡ 9 → Exceeded a old new
+pub too_long_says : (a : Option Request) (old new : Outside) (result : ℕ) → Runs a old new result → result ≡ 9 → Exceeded a old new
 too_long_says a old new result run is = let p = ended run.ending (λ s. omega arith) (λ s. omega arith) run.finish is in too_long_at a run.ending old new run.ends p.0 p.1
 
-pub out_fault_says : (a : Option Asking) (old new : Outside) (result : ℕ) → Runs a old new result → result ≡ 7 → OutFailed a old new
+pub out_fault_says : (a : Option Request) (old new : Outside) (result : ℕ) → Runs a old new result → result ≡ 7 → OutFailed a old new
 out_fault_says a old new result run is = let p = out_fault_by run.ending run.finish is in record { ending = run.ending; ends = run.ends; rose = p.0; begun = p.1 }
 
-pub memory_says : (a : Option Asking) (old new : Outside) (result : ℕ) → Runs a old new result → result ≡ 8 → LacksMemory a old new
+pub memory_says : (a : Option Request) (old new : Outside) (result : ℕ) → Runs a old new result → result ≡ 8 → LacksMemory a old new
 memory_says a old new result run is = record { ending = run.ending; ends = run.ends; line = memory_by run.ending run.finish is }

@@ -11,29 +11,30 @@ use Rattle.script_files.specs.declared.refusals.CommandRefused.{CommandRefused}
 use Rattle.script_files.specs.declared.refusals.CommandRefused.TheVariants.{Input, Text, Output}
 use Rattle.script_files.specs.declared.refusals.TextRefused.{TextRefused}
 use Rattle.script_files.specs.declared.refusals.TextRefused.TheVariants.{Vox, Script, Collides, Memory}
-use Rattle.script_files.specs.Requests.{Asking, CountOf, RunOf}
+use Rattle.script_files.specs.declared.requests.Request.{Request}
+use Rattle.script_files.specs.declared.requests.Request.TheVariants.{Count, Run}
 use Rattle.script_files.specs.Outcomes.{Outcome}
 use Rattle.voxdag_top.specs.declared.endings.Ending.{Ending}
 use Rattle.voxdag_top.specs.declared.endings.Ending.TheVariants.{Counted, Ran, Usage, Refused}
 use Rattle.voxdag_top.specs.Lines.{count_line, run_line, usage_line, vox_line, script_line, input_line, output_line, memory_line}
 
-abbrev pub IsCount : Asking → Type 0
-IsCount (CountOf file) = ⊤
-IsCount (RunOf asked) = ⊥
+abbrev pub IsCount : Request → Type 0
+IsCount (Count file) = ⊤
+IsCount (Run asked) = ⊥
 
-abbrev pub IsRunOf : Asking → Type 0
-IsRunOf (CountOf file) = ⊥
-IsRunOf (RunOf asked) = ⊤
+abbrev pub IsRunOf : Request → Type 0
+IsRunOf (Count file) = ⊥
+IsRunOf (Run asked) = ⊤
 
 -- an ending of a command
-abbrev pub CommandEnds : Ending → Asking → ShelfState → ShelfState → Type 0
+abbrev pub CommandEnds : Ending → Request → ShelfState → ShelfState → Type 0
 CommandEnds (Counted number) a old new = IsCount a × Outcome (Ok number) a old new
 CommandEnds (Ran number) a old new = IsRunOf a × Outcome (Ok number) a old new
 CommandEnds Usage a old new = ⊥
 CommandEnds (Refused r) a old new = Outcome (Err r) a old new
 
 -- and of what was asked for, which is nothing where the words are outside the grammar
-abbrev pub EndsAs : Option Asking → Ending → ShelfState → ShelfState → Type 0
+abbrev pub EndsAs : Option Request → Ending → ShelfState → ShelfState → Type 0
 EndsAs None e old new = (e ≡ Usage) × (new ≡ old)
 EndsAs (Some a) e old new = CommandEnds e a old new
 
@@ -81,8 +82,8 @@ line_of (Ran number) = run_line number
 line_of Usage = usage_line
 line_of (Refused r) = refused_line r
 
--- the ending's line may lack memory, and then the one of want of memory stands for it: not at a fault of an output, whose
--- file may be half written
+-- the ending's line may lack memory, and then the one of want of memory stands for it: not at a
+-- fault of an output, whose file may be half written
 abbrev pub WriteMayLackLine : WriteRefused → Type 0
 WriteMayLackLine writes.Failed = ⊥
 WriteMayLackLine writes.Memory = ⊤

@@ -5,24 +5,29 @@ use Rattle.vw_io.specs.declared.shelves.WriteRefused.{WriteRefused}
 use Rattle.vw_io.specs.declared.shelves.WriteRefused.TheVariants as writes
 use Rattle.script_files.specs.declared.refusals.CommandRefused.{CommandRefused}
 use Rattle.script_files.specs.declared.refusals.CommandRefused.TheVariants.{Input, Text, Output}
-use Rattle.script_files.specs.Requests.{Asking}
+use Rattle.script_files.specs.declared.requests.Request.{Request}
 use Rattle.voxdag_top.specs.declared.endings.Ending.{Ending}
 use Rattle.voxdag_top.specs.declared.endings.Ending.TheVariants.{Refused}
 use Rattle.voxdag_top.specs.Endings.{EndsAs, line_of, status_of, MayLackLine}
 use Rattle.voxdag_top.specs.Lines.{memory_line, write_fault_line, Puts, Begins}
 
--- the put of a line: the status is the line's; or the output failed at it; or memory was wanted, and nothing was put
+-- the put of a line: the status is the line's; or the output failed at it; or memory was wanted,
+-- and nothing was put
 pub data PutEnds (line : List ℕ) (status : ℕ) (old new : SinkState) (result : ℕ) : Type 0 where
   put : result ≡ status → Puts old.told new.told line → PutEnds line status old new result
-  failed : result ≡ 7 → Rose old.faults new.faults → Begins old.told new.told line → PutEnds line status old new result
+  failed : result ≡ 7 → Rose old.faults new.faults → Begins old.told new.told line
+      → PutEnds line status old new result
   lacking : result ≡ 8 → new.told ≡ old.told → PutEnds line status old new result
 
--- the ending's line was put, or in its place the one of want of memory, where the ending's may lack memory
+-- the ending's line was put, or in its place the one of want of memory, where the ending's may lack
+-- memory
 abbrev pub Finishes : Ending → SinkState → SinkState → ℕ → Type 0
-Finishes e old new result = PutEnds (line_of e) (status_of e) old new result ⊎ (MayLackLine e × PutEnds memory_line 8 old new result)
+Finishes e old new result =
+    PutEnds (line_of e) (status_of e) old new result
+    ⊎ (MayLackLine e × PutEnds memory_line 8 old new result)
 
 -- the program from its request to its status
-pub record Runs (a : Option Asking) (old new : Outside) (result : ℕ) : Type 0 where
+pub record Runs (a : Option Request) (old new : Outside) (result : ℕ) : Type 0 where
   pub ending : Ending
   pub ends : EndsAs a ending old.shelf new.shelf
   pub finish : Finishes ending old.out new.out result

@@ -1,5 +1,4 @@
 pub mod Words
-pub mod Asking
 pub mod Lines
 pub mod Endings
 pub mod Finishing

@@ -6,7 +6,8 @@ use Rattle.vw_io.specs.declared.shelves.ReadRefused.{ReadRefused}
 use Rattle.vw_io.specs.declared.shelves.ReadRefused.TheVariants as reads
 use Rattle.vw_io.specs.declared.shelves.WriteRefused.{WriteRefused}
 use Rattle.vw_io.specs.declared.shelves.WriteRefused.TheVariants as writes
-use Rattle.script_files.specs.Requests.{Asking, CountOf, RunOf}
+use Rattle.script_files.specs.declared.requests.Request.{Request}
+use Rattle.script_files.specs.declared.requests.Request.TheVariants.{Count, Run}
 
 abbrev pub count_line : ℕ → List ℕ
 count_line n = decimal n ++ codes "\n"
@@ -25,11 +26,13 @@ abbrev pub read_fault_line : List ℕ → List ℕ
 read_fault_line name = codes "voxdag: read fault " ++ (name ++ codes "\n")
 
 abbrev pub vox_line : ℕ → ℕ → List ℕ
-vox_line kind at = codes "voxdag: vox " ++ (decimal kind ++ (codes " " ++ (decimal at ++ codes "\n")))
+vox_line kind at =
+    codes "voxdag: vox " ++ (decimal kind ++ (codes " " ++ (decimal at ++ codes "\n")))
 
 -- scripts are counted from 0
 abbrev pub script_line : ℕ → ℕ → List ℕ
-script_line line kind = codes "voxdag: script 0 " ++ (decimal line ++ (codes " " ++ (decimal kind ++ codes "\n")))
+script_line line kind =
+    codes "voxdag: script 0 " ++ (decimal line ++ (codes " " ++ (decimal kind ++ codes "\n")))
 
 abbrev pub write_fault_line : List ℕ → List ℕ
 write_fault_line name = codes "voxdag: write fault " ++ (name ++ codes "\n")
@@ -52,9 +55,9 @@ output_line writes.Failed name = write_fault_line name
 output_line writes.Memory name = memory_line
 
 -- the line of a command that came to its end
-abbrev pub done_line : Asking → ℕ → List ℕ
-done_line (CountOf file) number = count_line number
-done_line (RunOf asked) number = run_line number
+abbrev pub done_line : Request → ℕ → List ℕ
+done_line (Count file) number = count_line number
+done_line (Run asked) number = run_line number
 
 -- the line was appended to what was put before, where the output tells that
 abbrev pub Puts : Option (List ℕ) → Option (List ℕ) → List ℕ → Type 0

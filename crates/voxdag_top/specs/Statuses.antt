@@ -12,14 +12,16 @@ use Rattle.script.specs.declared.faults.ScriptFault.{ScriptFault}
 use Rattle.script.specs.Faults.{number_of_kind}
 use Rattle.script_files.specs.declared.refusals.TextRefused.{TextRefused}
 use Rattle.script_files.specs.declared.refusals.TextRefused.TheVariants as texts
-use Rattle.script_files.specs.Requests.{Asking, inputs_of}
+use Rattle.script_files.specs.declared.requests.Request.{Request}
+use Rattle.script_files.specs.Requests.{inputs_of}
 use Rattle.script_files.specs.Outcomes as outcomes
 use Rattle.voxdag_top.specs.Lines.{usage_line, input_line, vox_line, script_line, write_fault_line, memory_line, done_line, Puts, Begins}
 use Rattle.voxdag_top.specs.declared.endings.Ending.{Ending}
 use Rattle.voxdag_top.specs.Endings.{EndsAs, line_of, MayLackLine}
 
 abbrev pub is_status : ℕ → Bool
-is_status n = list_any (λ status. status == n) (0 ∷ 1 ∷ 2 ∷ 3 ∷ 4 ∷ 5 ∷ 6 ∷ 7 ∷ 8 ∷ 9 ∷ [])
+is_status n =
+    list_any (λ status. status == n) (0 ∷ 1 ∷ 2 ∷ 3 ∷ 4 ∷ 5 ∷ 6 ∷ 7 ∷ 8 ∷ 9 ∷ [])
 
 -- this status, or that of a line which could not be put, or want of memory
 abbrev pub IsOr : ℕ → ℕ → Type 0
@@ -27,54 +29,57 @@ IsOr status result = (result ≡ status) ⊎ (result ≡ 7) ⊎ (result ≡ 8)
 
 -- ---- status 0: the command came to its end, and its number was put
 
-pub record CommandDone (a : Asking) (old new : Outside) : Type 0 where
+pub record CommandDone (a : Request) (old new : Outside) : Type 0 where
   pub number : ℕ
   pub done : outcomes.Done number a old.shelf new.shelf
   pub line : Puts old.out.told new.out.told (done_line a number)
 
-abbrev pub Done : Option Asking → Outside → Outside → Type 0
+abbrev pub Done : Option Request → Outside → Outside → Type 0
 Done None old new = ⊥
 Done (Some a) old new = CommandDone a old new
 
--- ---- status 1: the words are outside the grammar, or all inputs are accepted and a name of an output is taken
+-- ---- status 1: the words are outside the grammar, or all inputs are accepted and a name of an
+-- output is taken
 
-abbrev pub IsUnusable : Option Asking → Option Files → Type 0
+abbrev pub IsUnusable : Option Request → Option Files → Type 0
 IsUnusable None files = ⊤
 IsUnusable (Some a) files = outcomes.TextsRefused texts.Collides a files
 
-pub record Unusable (a : Option Asking) (old new : Outside) : Type 0 where
+pub record Unusable (a : Option Request) (old new : Outside) : Type 0 where
   pub cause : IsUnusable a old.shelf.files
   pub unchanged : new.shelf ≡ old.shelf
   pub line : Puts old.out.told new.out.told usage_line
 
--- ---- statuses 2, 3 and 9: the first input that was not taken is missing, could not be read, or is over its limit
+-- ---- statuses 2, 3 and 9: the first input that was not taken is missing, could not be read, or is
+-- over its limit
 
-abbrev pub StopsOn : ReadRefused → List ℕ → Option Asking → ShelfState → ShelfState → Type 0
+abbrev pub StopsOn : ReadRefused → List ℕ → Option Request → ShelfState → ShelfState
+    → Type 0
 StopsOn why name None old new = ⊥
 StopsOn why name (Some a) old new = StopsAt why name (inputs_of a) old.files old.faults new.faults
 
-pub record InputRefused (why : ReadRefused) (a : Option Asking) (old new : Outside) : Type 0 where
+pub record InputRefused (why : ReadRefused) (a : Option Request) (old new : Outside) : Type 0 where
   pub name : List ℕ
   pub stops : StopsOn why name a old.shelf new.shelf
   pub unchanged : new.shelf.files ≡ old.shelf.files
   pub line : Puts old.out.told new.out.told (input_line why name)
 
-abbrev pub Missed : Option Asking → Outside → Outside → Type 0
+abbrev pub Missed : Option Request → Outside → Outside → Type 0
 Missed a old new = InputRefused reads.Missing a old new
 
-abbrev pub Faulted : Option Asking → Outside → Outside → Type 0
+abbrev pub Faulted : Option Request → Outside → Outside → Type 0
 Faulted a old new = InputRefused reads.Failed a old new
 
-abbrev pub Exceeded : Option Asking → Outside → Outside → Type 0
+abbrev pub Exceeded : Option Request → Outside → Outside → Type 0
 Exceeded a old new = InputRefused reads.TooLong a old new
 
 -- ---- status 4: all inputs were taken, and this is the first fault of the VOX file
 
-abbrev pub RefusesText : TextRefused → Option Asking → Option Files → Type 0
+abbrev pub RefusesText : TextRefused → Option Request → Option Files → Type 0
 RefusesText r None files = ⊥
 RefusesText r (Some a) files = outcomes.TextsRefused r a files
 
-pub record VoxRefused (a : Option Asking) (old new : Outside) : Type 0 where
+pub record VoxRefused (a : Option Request) (old new : Outside) : Type 0 where
   pub fault : VoxFault
   pub refuses : RefusesText (texts.Vox fault) a old.shelf.files
   pub unchanged : new.shelf ≡ old.shelf
@@ -82,37 +87,41 @@ pub record VoxRefused (a : Option Asking) (old new : Outside) : Type 0 where
 
 -- ---- status 5: the VOX file is accepted, and this is the first fault of the script
 
-pub record ScriptRefused (a : Option Asking) (old new : Outside) : Type 0 where
+pub record ScriptRefused (a : Option Request) (old new : Outside) : Type 0 where
   pub fault : ScriptFault
   pub refuses : RefusesText (texts.Script fault) a old.shelf.files
   pub unchanged : new.shelf ≡ old.shelf
   pub line : Puts old.out.told new.out.told (script_line fault.line (number_of_kind fault.kind))
 
--- ---- status 6: the shelf failed at an output; those before it are whole, and none after it was written
+-- ---- status 6: the shelf failed at an output; those before it are whole, and none after it was
+-- written
 
-abbrev pub BreaksOn : List ℕ → Option Asking → ShelfState → ShelfState → Type 0
+abbrev pub BreaksOn : List ℕ → Option Request → ShelfState → ShelfState → Type 0
 BreaksOn name None old new = ⊥
 BreaksOn name (Some a) old new = outcomes.Breaks writes.Failed name a old new
 
-pub record WriteFailed (a : Option Asking) (old new : Outside) : Type 0 where
+pub record WriteFailed (a : Option Request) (old new : Outside) : Type 0 where
   pub name : List ℕ
   pub breaks : BreaksOn name a old.shelf new.shelf
   pub line : Puts old.out.told new.out.told (write_fault_line name)
 
--- ---- statuses 7 and 8: the run had this ending, with all that stands behind it and all that it leaves on the shelf, and its line
--- could not be put
+-- ---- statuses 7 and 8: the run had this ending, with all that stands behind it and all that it
+-- leaves on the shelf, and its line could not be put
 
--- status 7: the output failed at the ending's line, or at the one of want of memory in its place. After a fault at an output
--- no other line stands in the place of its own
-pub record OutFailed (a : Option Asking) (old new : Outside) : Type 0 where
+-- status 7: the output failed at the ending's line, or at the one of want of memory in its place.
+-- After a fault at an output no other line stands in the place of its own
+pub record OutFailed (a : Option Request) (old new : Outside) : Type 0 where
   pub ending : Ending
   pub ends : EndsAs a ending old.shelf new.shelf
   pub rose : Rose old.out.faults new.out.faults
-  pub begun : Begins old.out.told new.out.told (line_of ending) ⊎ (MayLackLine ending × Begins old.out.told new.out.told memory_line)
+  pub begun : Begins old.out.told new.out.told (line_of ending)
+      ⊎ (MayLackLine ending × Begins old.out.told new.out.told memory_line)
 
--- status 8: want of memory in the run or for its line, told by its own line or by none. After a fault at an output it is the
--- put of that fault's line that memory was wanted for, and nothing is told
-pub record LacksMemory (a : Option Asking) (old new : Outside) : Type 0 where
+-- status 8: want of memory in the run or for its line, told by its own line or by none. After a
+-- fault at an output it is the put of that fault's line that memory was wanted for, and nothing is
+-- told
+pub record LacksMemory (a : Option Request) (old new : Outside) : Type 0 where
   pub ending : Ending
   pub ends : EndsAs a ending old.shelf new.shelf
-  pub line : (MayLackLine ending × Puts old.out.told new.out.told memory_line) ⊎ (new.out.told ≡ old.out.told)
+  pub line : (MayLackLine ending × Puts old.out.told new.out.told memory_line)
+      ⊎ (new.out.told ≡ old.out.told)

@@ -1,12 +1,12 @@
 -- Which status must come, for what the words ask of a shelf that tells its files.
 use Rattle.std.specs.Prelude.{ℕ, Option, Some, None}
 use Rattle.vw_io.specs.Outside.{Files}
-use Rattle.script_files.specs.Requests.{Asking}
+use Rattle.script_files.specs.declared.requests.Request.{Request}
 use Rattle.script_files.specs.Verdicts.{Verdict, Fine, LacksInput, InputIsLong, HasVoxFault, HasScriptFault, NamesCollide}
 use Rattle.script_files.specs.Verdicts as commands
 
 -- the first thing that is wrong with the inputs and the names, if anything is
-abbrev pub Judges : Option Asking → Files → Verdict → Type 0
+abbrev pub Judges : Option Request → Files → Verdict → Type 0
 Judges None files v = ⊥
 Judges (Some a) files v = commands.Judges files a v
 

@@ -4,7 +4,8 @@ use Rattle.std.specs.Global.{Global}
 use Rattle.std.specs.Str.{bytes_eq}
 use Rattle.script.specs.declared.faults.ScriptKind.{ScriptKind}
 use Rattle.script.specs.Numbers.{number_of}
-use Rattle.script_files.specs.Requests.{Asking, CountOf, RunOf}
+use Rattle.script_files.specs.declared.requests.Request.{Request}
+use Rattle.script_files.specs.declared.requests.Request.TheVariants.{Count, Run}
 
 -- the bytes of each word
 abbrev pub texts : List (String Global) → List (List ℕ)
@@ -16,8 +17,8 @@ is_operand [] = false
 is_operand (first ∷ others) = not (first == 45)
 
 -- `count FILE`
-abbrev pub counted : List (List ℕ) → Option Asking
-counted (file ∷ []) = if is_operand file then Some (CountOf file) else None
+abbrev pub counted : List (List ℕ) → Option Request
+counted (file ∷ []) = if is_operand file then Some (Count file) else None
 counted _ = None
 
 -- the exponent of a side from 4 to 256
@@ -33,8 +34,11 @@ abbrev pub side_of : List ℕ → Option ℕ
 side_of word = if nat_le (length word) 6 then side_spelled (number_of word) else None
 
 -- `FILE SCRIPT`, the last words of `run`
-abbrev pub run_names : ℕ → Option (List ℕ) → List (List ℕ) → Option Asking
-run_names side journal (file ∷ script ∷ []) = if is_operand file && is_operand script then Some (RunOf (record { side = side; journal = journal; file = file; script = script })) else None
+abbrev pub run_names : ℕ → Option (List ℕ) → List (List ℕ) → Option Request
+run_names side journal (file ∷ script ∷ []) =
+    if is_operand file && is_operand script
+    then Some (Run (record { side = side; journal = journal; file = file; script = script }))
+    else None
 run_names side journal _ = None
 
 abbrev pub begins_with : List ℕ → List (List ℕ) → Bool
@@ -42,29 +46,35 @@ begins_with option [] = false
 begins_with option (word ∷ others) = bytes_eq word option
 
 -- `--journal J` and then the names
-abbrev pub with_journal : ℕ → List (List ℕ) → Option Asking
-with_journal side (option ∷ name ∷ others) = if is_operand name then run_names side (Some name) others else None
+abbrev pub with_journal : ℕ → List (List ℕ) → Option Request
+with_journal side (option ∷ name ∷ others) =
+    if is_operand name then run_names side (Some name) others else None
 with_journal side _ = None
 
 -- the journal may be left out
-abbrev pub behind_side : ℕ → List (List ℕ) → Option Asking
-behind_side side words = if begins_with (codes "--journal") words then with_journal side words else run_names side None words
+abbrev pub behind_side : ℕ → List (List ℕ) → Option Request
+behind_side side words =
+    if begins_with (codes "--journal") words then with_journal side words
+    else run_names side None words
 
 -- `--side s` and then the rest
-abbrev pub behind_word : Option ℕ → List (List ℕ) → Option Asking
+abbrev pub behind_word : Option ℕ → List (List ℕ) → Option Request
 behind_word None words = None
 behind_word (Some side) words = behind_side side words
 
-abbrev pub with_side : List (List ℕ) → Option Asking
+abbrev pub with_side : List (List ℕ) → Option Request
 with_side (option ∷ word ∷ others) = behind_word (side_of word) others
 with_side _ = None
 
 -- the side may be left out, and is then 256, of exponent 8
-abbrev pub run_words : List (List ℕ) → Option Asking
-run_words words = if begins_with (codes "--side") words then with_side words else behind_side 8 words
+abbrev pub run_words : List (List ℕ) → Option Request
+run_words words =
+    if begins_with (codes "--side") words then with_side words else behind_side 8 words
 
--- what the words ask for, where they are in the grammar: `count FILE`, or `run`, then at most one pair `--side s`, then at
--- most one pair `--journal J`, then `FILE SCRIPT`
-abbrev pub request_of : List (List ℕ) → Option Asking
+-- what the words ask for, where they are in the grammar: `count FILE`, or `run`, then at most one
+-- pair `--side s`, then at most one pair `--journal J`, then `FILE SCRIPT`
+abbrev pub request_of : List (List ℕ) → Option Request
 request_of [] = None
-request_of (command ∷ others) = if bytes_eq command (codes "count") then counted others else (if bytes_eq command (codes "run") then run_words others else None)
+request_of (command ∷ others) =
+    if bytes_eq command (codes "count") then counted others
+    else (if bytes_eq command (codes "run") then run_words others else None)

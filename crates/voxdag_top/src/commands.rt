@@ -1,6 +1,7 @@
 ghost use Rattle.std.specs.Prelude.{◌≡◌, ◌≤◌, [], Some, None, IsTrue, IfSome, length, string_bytes, string_capacity};
 ghost use Rattle.vw_io.specs.Outside.{Files, Rose, outside};
-ghost use Rattle.script_files.specs.Requests.{CountOf, RunOf, transcript_name};
+ghost use Rattle.script_files.specs.declared.requests.Request.TheVariants.{Count, Run};
+ghost use Rattle.script_files.specs.Requests.{transcript_name};
 ghost use Rattle.script_files.specs.Verdicts.{Verdict};
 ghost use Rattle.voxdag_top.specs.Words.{texts, request_of};
 ghost use Rattle.voxdag_top.specs.Endings.{CommandEnds};
@@ -11,8 +12,8 @@ ghost use Rattle.voxdag_top.specs.Lines.{write_fault_line};
 
 use crate::endings::Ending;
 use crate::lines::{finish, write_fault_room};
-use crate::words::{Command, read_words};
-use script_files::{CommandRefused, Order, TextRefused, count_file, run_files};
+use crate::words::read_words;
+use script_files::{CommandRefused, FileName, Order, Request, TextRefused, count_file, run_files};
 use std::alloc::Global;
 use vw_io::{Shelf, Sink};
 
@@ -69,13 +70,13 @@ fn answer<S: Shelf, O: Sink>(alloc: Global, words: &[String], shelf: &mut S, out
 {
     match read_words(words) {
         None => finish(alloc, &Ending::Usage, String::new(alloc), out),
-        Some(Command::Count(file)) => count(alloc, file, shelf, out),
-        Some(Command::Run(order)) => run(alloc, &order, shelf, out),
+        Some(Request::Count(file)) => count(alloc, file, shelf, out),
+        Some(Request::Run(order)) => run(alloc, &order, shelf, out),
     }
 }
 
-fn count<S: Shelf, O: Sink>(alloc: Global, file: &str, shelf: &mut S, out: &mut O) -> u8
-    ensures { Runs (Some (CountOf file.now))
+fn count<S: Shelf, O: Sink>(alloc: Global, file: FileName<'_>, shelf: &mut S, out: &mut O) -> u8
+    ensures { Runs (Some (Count file.entry))
         (outside (S.state shelf.old) (O.state out.old)) (outside (S.state shelf.new) (O.state out.new)) result }
 {
     let ending = counted(alloc, file, shelf);
@@ -83,8 +84,8 @@ fn count<S: Shelf, O: Sink>(alloc: Global, file: &str, shelf: &mut S, out: &mut 
 }
 
 #[tactic(auto, using(crate::proofs::Rooms::count_refusal))]
-fn counted<'w, S: Shelf>(alloc: Global, file: &'w str, shelf: &mut S) -> Ending<'w>
-    ensures ends { CommandEnds result (CountOf file.now) (S.state shelf.old) (S.state shelf.new) }
+fn counted<'w, S: Shelf>(alloc: Global, file: FileName<'w>, shelf: &mut S) -> Ending<'w>
+    ensures ends { CommandEnds result (Count file.entry) (S.state shelf.old) (S.state shelf.new) }
     ensures room { HasRoom result 0 }
 {
     match count_file(alloc, file, shelf) {
@@ -95,7 +96,7 @@ fn counted<'w, S: Shelf>(alloc: Global, file: &'w str, shelf: &mut S) -> Ending<
 
 // Runs the script, once there is the transcript's name, and room for the line of a fault at an output.
 fn run<S: Shelf, O: Sink>(alloc: Global, order: &Order<'_>, shelf: &mut S, out: &mut O) -> u8
-    ensures { Runs (Some (RunOf order.now))
+    ensures { Runs (Some (Run order.now))
         (outside (S.state shelf.old) (O.state out.old)) (outside (S.state shelf.new) (O.state out.new)) result }
 {
     let lacking = Ending::Refused(CommandRefused::Text(TextRefused::Memory));
@@ -124,7 +125,7 @@ fn run_named<S: Shelf, O: Sink>(
     requires empty { string_bytes room ≡ [] }
     requires transcript { length (write_fault_line transcript.now) ≤ string_capacity room }
     requires journal { IfSome order.now.journal (λ name. length (write_fault_line name) ≤ string_capacity room) }
-    ensures { Runs (Some (RunOf order.now))
+    ensures { Runs (Some (Run order.now))
         (outside (S.state shelf.old) (O.state out.old)) (outside (S.state shelf.new) (O.state out.new)) result }
 {
     let asked = Order {
@@ -144,7 +145,7 @@ fn ran<'w, S: Shelf>(
     shelf: &mut S,
 ) -> Ending<'w>
     requires { transcript.now ≡ transcript_name order.now.script }
-    ensures { CommandEnds result (RunOf order.now) (S.state shelf.old) (S.state shelf.new) }
+    ensures { CommandEnds result (Run order.now) (S.state shelf.old) (S.state shelf.new) }
 {
     match run_files(alloc, order, transcript, shelf) {
         Ok(records) => Ending::Ran(records),

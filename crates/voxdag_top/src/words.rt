@@ -1,24 +1,14 @@
 ghost use Rattle.std.specs.Prelude.{◌≡◌, ◌^◌, None, Some, MatchOption};
 ghost use Rattle.std.specs.Option.{option_map};
 ghost use Rattle.voxdag_top.specs.Words.{texts, exponent_of, request_of, counted, run_words, begins_with, with_side, behind_side, with_journal, run_names, side_of, is_operand};
-ghost use Rattle.voxdag_top.specs.Asking.{asking};
 
 use script::number;
-use script_files::Order;
+use script_files::{FileName, Order, Request};
 use vw_cell::Side;
 
-/// What the words ask for.
-#[derive(Drop)]
-pub(crate) enum Command<'w> {
-    /// Count the cells of this file.
-    Count(&'w str),
-    /// Run this order's script.
-    Run(Order<'w>),
-}
-
 // Reads the words. `None` where they are not in the grammar.
-pub(crate) fn read_words(words: &[String]) -> Option<Command<'_>>
-    ensures { option_map asking result ≡ request_of (texts words.now) }
+pub(crate) fn read_words(words: &[String]) -> Option<Request<'_>>
+    ensures { result ≡ request_of (texts words.now) }
 {
     match words {
         [command, others @ ..] if command.as_str() == "count" => count_words(others),
@@ -28,18 +18,20 @@ pub(crate) fn read_words(words: &[String]) -> Option<Command<'_>>
 }
 
 // `FILE`, the words of `count`.
-fn count_words(words: &[String]) -> Option<Command<'_>>
-    ensures { option_map asking result ≡ counted (texts words.now) }
+fn count_words(words: &[String]) -> Option<Request<'_>>
+    ensures { result ≡ counted (texts words.now) }
 {
     match words {
-        [file] if is_name(file.as_str()) => Some(Command::Count(file.as_str())),
+        [file] if is_name(file.as_str()) => Some(Request::Count(FileName {
+            text: file.as_str(),
+        })),
         _ => None,
     }
 }
 
 // The words behind `run`.
-fn run_words(words: &[String]) -> Option<Command<'_>>
-    ensures { option_map asking result ≡ run_words (texts words.now) }
+fn run_words(words: &[String]) -> Option<Request<'_>>
+    ensures { result ≡ run_words (texts words.now) }
 {
     if begins_with(words, "--side") {
         return with_side(words);
@@ -61,8 +53,8 @@ fn begins_with(words: &[String], option: &str) -> bool
 }
 
 // `--side s` and the words behind it.
-fn with_side(words: &[String]) -> Option<Command<'_>>
-    ensures { option_map asking result ≡ with_side (texts words.now) }
+fn with_side(words: &[String]) -> Option<Request<'_>>
+    ensures { result ≡ with_side (texts words.now) }
 {
     match words {
         [_, word, others @ ..] => match side_of(word.as_str()) {
@@ -74,8 +66,8 @@ fn with_side(words: &[String]) -> Option<Command<'_>>
 }
 
 // The words behind the side: the journal may be left out.
-fn behind_side(side: Side, words: &[String]) -> Option<Command<'_>>
-    ensures { option_map asking result ≡ behind_side side (texts words.now) }
+fn behind_side(side: Side, words: &[String]) -> Option<Request<'_>>
+    ensures { result ≡ behind_side side (texts words.now) }
 {
     if begins_with(words, "--journal") {
         with_journal(side, words)
@@ -85,8 +77,8 @@ fn behind_side(side: Side, words: &[String]) -> Option<Command<'_>>
 }
 
 // `--journal J` and the names behind it.
-fn with_journal(side: Side, words: &[String]) -> Option<Command<'_>>
-    ensures { option_map asking result ≡ with_journal side (texts words.now) }
+fn with_journal(side: Side, words: &[String]) -> Option<Request<'_>>
+    ensures { result ≡ with_journal side (texts words.now) }
 {
     match words {
         [_, name, others @ ..] if is_name(name.as_str()) => run_names(
@@ -99,11 +91,11 @@ fn with_journal(side: Side, words: &[String]) -> Option<Command<'_>>
 }
 
 // The names that end the words of `run`.
-fn run_names<'w>(side: Side, journal: Option<&'w str>, words: &'w [String]) -> Option<Command<'w>>
-    ensures { option_map asking result ≡ run_names side (option_map (λ name. name.now) journal.entry) (texts words.now) }
+fn run_names<'w>(side: Side, journal: Option<&'w str>, words: &'w [String]) -> Option<Request<'w>>
+    ensures { result ≡ run_names side (option_map (λ name. name.now) journal.entry) (texts words.now) }
 {
     match words {
-        [file, script] if is_name(file.as_str()) && is_name(script.as_str()) => Some(Command::Run(
+        [file, script] if is_name(file.as_str()) && is_name(script.as_str()) => Some(Request::Run(
             Order {
                 side,
                 journal,

@@ -1,7 +1,8 @@
 use Rattle.std.proofs.Common.{rules, ◌≡◌}
 use Rattle.vw_io.specs.Inputs.{AreTaken}
 use Rattle.vw_io.specs.Outputs.{AreWritten}
-use Rattle.script_files.specs.Requests.{RunOf, inputs_of, outputs_of}
+use Rattle.script_files.specs.declared.requests.Request.TheVariants.{Run}
+use Rattle.script_files.specs.Requests.{inputs_of, outputs_of}
 use Rattle.script_files.specs.Stages.{IsPrepared}
 use Rattle.script_files.proofs.Ending.{same_state, all_written}
 use Rattle.script_files.proofs.runs.run_files.Goals as goal
@@ -13,7 +14,7 @@ returns-in-Ok-write g c =
     let mid = g.S.Shelf.state c.read_all.new.shelf in
     let new = g.S.Shelf.state c.write.new.shelf in
     let texts = c.in-Ok-prepare.prepared in
-    let taken : AreTaken old.files (inputs_of (RunOf asked)) c.in-Ok.texts.items = search rules in
+    let taken : AreTaken old.files (inputs_of (Run asked)) c.in-Ok.texts.items = search rules in
     let prepared : IsPrepared asked c.in-Ok.texts.items texts.number texts.transcript.items texts.journal.items = search rules in
     let whole : AreWritten (outputs_of asked texts.transcript.items texts.journal.items) mid.files new.files = search rules in
     let calm : new.faults ≡ mid.faults = search rules in
