@@ -1,7 +1,5 @@
 use crate::acts::{ball, boxed, cell, record};
-use history_model::{
-    Act, History, JournalFault, Mark, journal_text, pack, position, read_journal, unpack,
-};
+use history_model::{Act, History, JournalFault, Mark, journal_text, position, read_journal};
 use std::alloc::Global;
 use std::test::Fail;
 use vw_cell::Side;
@@ -63,32 +61,6 @@ fn journals_are_exact(rt: HostRuntime) -> Result<(), Fail> {
         };
         let text = journal_text(rt.alloc(), &history).map_err(|_| "out of memory")?;
         assert!(rt; text.as_slice() == want.as_bytes(), "side {}", side.cells());
-    }
-    Ok(())
-}
-
-#[test]
-fn acts_are_unpacked(rt: HostRuntime) -> Result<(), Fail> {
-    let at = cell(4095, 0, 7);
-    let size = cell(1, 2, 3);
-    for act in [
-        Act::Fill(boxed(at, size)),
-        Act::Copy(boxed(at, size), cell(0, 9, 0)),
-        Act::Stamp(1023, at),
-        Act::Undo,
-    ] {
-        assert!(rt; unpack(pack(&act)) == Some(act), "an act");
-    }
-    assert!(rt;
-        pack(&Act::Fill(boxed(at, size))) == [0, 4095 + (7 << 32), 1 + (2 << 16) + (3 << 32), 0]
-    );
-    for words in [
-        [8, 0, 0, 0],
-        [6, 0, 0, 1],
-        [0, 4095, 2 + (1 << 16) + (1 << 32), 0],
-        [5, 0, 1024, 0],
-    ] {
-        assert!(rt; unpack(words).is_none(), "no act");
     }
     Ok(())
 }

@@ -10,6 +10,8 @@ mod broken_journals;
 #[cfg(test)]
 mod journal_tests;
 #[cfg(test)]
+mod packing_tests;
+#[cfg(test)]
 mod plain_tests;
 #[cfg(test)]
 mod script_faults;
