@@ -1,0 +1,4 @@
+mod Absent
+pub mod Cells
+mod Counted
+mod Empty

@@ -1,0 +1,9 @@
+pub mod Keeping
+pub mod ShareLaws
+pub mod LowerLaws
+pub mod AddLaws
+pub mod VersionLaws
+pub mod UnderLaws
+pub mod DoingLaws
+pub mod MadeLaws
+pub mod BeginLaws

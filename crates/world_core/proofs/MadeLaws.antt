@@ -1,0 +1,273 @@
+-- Roots that show what an act makes.
+use Rattle.std.proofs.Common.{◌≡◌, ◌≢◌, ℕ, zero, suc, ◌+◌, ◌-◌, ◌^◌, ◌<◌, ◌≤◌, Bool, true, false, cond, refl, sym, ◌∙◌, ap, subst, arith, inl, inr, Some, None, Option, List, [], ◌∷◌, length, get_or}
+use Rattle.std.proofs.Common.{Result, Ok, Err}
+use Rattle.vw_cell.specs.declared.memory.Memory.{Memory}
+use Rattle.std.specs.Prelude.{All, IfOk, nat_lt, nat_le, ◌&&◌, ◌||◌, if◌then◌else◌, not}
+use Rattle.std.proofs.lemmas.Bool.{cases_Bool, ltb-true, leb-true}
+use Rattle.vw_cell.specs.declared.cells.Cell.{Cell}
+use Rattle.vw_cell.specs.declared.boxes.Boxed.{Boxed}
+use Rattle.vw_cell.specs.Places.{IsInWorld, IsInBlock, FitsAt, is_in_box, is_within, block_side}
+use Rattle.vox_read.specs.Contents.{Content}
+use Rattle.node_shapes.specs.declared.names.Name.{Name}
+use Rattle.node_shapes.specs.Shape.{Shape, ShowsCells}
+use Rattle.node_shapes.specs.Shape as shapes
+use Rattle.node_shapes.specs.Tree.{shape_of}
+use Rattle.node_shapes.proofs.ShowLaws.{shown_once}
+use Rattle.node_words.specs.declared.keys.Key.{Key}
+use Rattle.history_model.specs.declared.acts.Act.{Act}
+use Rattle.history_model.specs.declared.acts.Act.TheVariants.{Fill, Erase, Ball, Carve, Copy, Stamp, Undo, Redo}
+use Rattle.history_model.specs.declared.histories.Record.{Record}
+use Rattle.history_model.specs.Logs.{Log, Fits, MayFollow, HasTarget, IsHeld}
+use Rattle.history_model.specs.PositionLaws.{names_below}
+use Rattle.core_laws.specs.Making.{version_gone_to}
+use Rattle.block_contents.specs.Versions.{IsUnmarked}
+use Rattle.history_model.specs.LegalLaws.{edit_follows}
+use Rattle.history_model.specs.Making.{MayMake}
+use Rattle.history_model.specs.Moments.{has}
+use Rattle.history_model.specs.Positions.{position_after}
+use Rattle.history_model.specs.Worlds.{World, edited, is_edit, box_at, plus, less}
+use Rattle.block_contents.specs.Aligned.{top, world_block}
+use Rattle.block_contents.specs.Versions.{IsKept}
+use Rattle.block_contents.proofs.WorldBlocks.{in_world, in_block, world_wide}
+use Rattle.core_laws.specs.States.{State, IsLive, tree_at}
+use Rattle.core_laws.proofs.Lives.{root_lives}
+use Rattle.core_laws.proofs.LogSteps.{root_in_range}
+use Rattle.core_laws.proofs.LiveShapes.{AreLive, shape_once, canonical_at}
+use Rattle.world_core.specs.Lawful.{IsMade}
+use Rattle.world_core.specs.Shown.{first_of, target_of, world_of}
+use Rattle.world_core.specs.Stored.{Stored, IsStored, root_in, state_of}
+
+less_zero : (level : ℕ) (s : Shape) (q : Cell)
+    → shapes.has level s (q.x - 0) (q.y - 0) (q.z - 0) ≡ shapes.has level s q.x q.y q.z
+less_zero level s q =
+    let x : q.x - 0 ≡ q.x = omega arith in
+    let y : q.y - 0 ≡ q.y = omega arith in
+    let z : q.z - 0 ≡ q.z = omega arith in
+    ap (λ (k : ℕ). shapes.has level s k (q.y - 0) (q.z - 0)) x
+    ∙ ap (λ (k : ℕ). shapes.has level s q.x k (q.z - 0)) y
+    ∙ ap (λ (k : ℕ). shapes.has level s q.x q.y k) z
+
+pub shows_own : (side : ℕ) (key : Name → Key) (root : Option Name)
+    → ShowsCells (world_block side) (shape_of (tree_at key (top side) root)) (world_of key (top side) root)
+shows_own side key root = record { each = λ q inside. less_zero (top side) (shape_of (tree_at key (top side) root)) q }
+
+own_cell : (side : ℕ) (key : Name → Key) (root : Option Name) (cells : World) (q : Cell) → 2 ≤ side
+    → ShowsCells (world_block side) (shape_of (tree_at key (top side) root)) cells
+    → IsInWorld (2 ^ side) q → world_of key (top side) root q ≡ cells q
+own_cell side key root cells q low shows inside =
+    sym (less_zero (top side) (shape_of (tree_at key (top side) root)) q) ∙ shows.each q (in_block side q low inside)
+
+and_both : (a b : Bool) → a && b ≡ true → (a ≡ true) × (b ≡ true)
+and_both true b e = (refl, e)
+and_both false b e = absurd (let no : ⊥ = cc in no)
+
+-- an edit makes the same of worlds that are the same
+in_axis : (low size p at side : ℕ) → is_within low size p ≡ true → at + size ≤ side
+    → at + (p - low) < side
+in_axis low size p at side e fits =
+    let w = and_both (nat_le low p) (nat_lt p (low + size)) e in
+    let le = leb-true low p w.0 in let lt = ltb-true p (low + size) w.1 in omega arith
+
+copied_in : (side : ℕ) (b : Boxed) (to q : Cell) → FitsAt b.at b.size side
+    → is_in_box (box_at to b.size) q ≡ true → IsInWorld side (plus b.at (less q to))
+copied_in side b to q fits inside =
+    let all = and_both (is_within to.x b.size.x q.x && is_within to.y b.size.y q.y) (is_within to.z b.size.z q.z) inside in
+    let both = and_both (is_within to.x b.size.x q.x) (is_within to.y b.size.y q.y) all.0 in
+    record {
+      x = in_axis to.x b.size.x q.x b.at.x side both.0 fits.x.1;
+      y = in_axis to.y b.size.y q.y b.at.y side both.1 fits.y.1;
+      z = in_axis to.z b.size.z q.z b.at.z side all.1 fits.z.1;
+    }
+
+pub edited_same : (side : ℕ) (models : List Content) (act : Act) (v w : World) (q : Cell) → Fits side models act
+    → ((p : Cell) → IsInWorld side p → v p ≡ w p) → IsInWorld side q → edited models act v q ≡ edited models act w q
+edited_same side models (Fill b) v w q fits same inside = ap (λ (x : Bool). is_in_box b q || x) (same q inside)
+edited_same side models (Erase b) v w q fits same inside = ap (λ (x : Bool). x && not (is_in_box b q)) (same q inside)
+edited_same side models (Ball ball) v w q fits same inside = ap (λ (x : Bool). Rattle.vw_cell.specs.Places.is_in_ball ball q || x) (same q inside)
+edited_same side models (Carve ball) v w q fits same inside = ap (λ (x : Bool). x && not (Rattle.vw_cell.specs.Places.is_in_ball ball q)) (same q inside)
+edited_same side models (Copy b to) v w q fits same inside = elim (cases_Bool (is_in_box (box_at to b.size) q)) [
+  | inl inner ↦ ap (λ (t : Bool). if t then v (plus b.at (less q to)) else v q) inner
+      ∙ same (plus b.at (less q to)) (copied_in side b to q fits.0 inner)
+      ∙ sym (ap (λ (t : Bool). if t then w (plus b.at (less q to)) else w q) inner)
+  | inr outer ↦ ap (λ (t : Bool). if t then v (plus b.at (less q to)) else v q) outer
+      ∙ same q inside
+      ∙ sym (ap (λ (t : Bool). if t then w (plus b.at (less q to)) else w q) outer)
+]
+edited_same side models (Stamp m at) v w q fits same inside = ap (λ (x : Bool). Rattle.history_model.specs.Worlds.is_in_stamp (Rattle.std.specs.List.slice_get models m) at q || x) (same q inside)
+edited_same side models Undo v w q fits same inside = same q inside
+edited_same side models Redo v w q fits same inside = same q inside
+
+-- the newest version is kept
+pub head_kept : (s : Stored) → IsStored s → IsKept s.log (length s.log.records)
+head_kept s is = record {
+  there = omega arith;
+  unmarked = λ k m lt same. (let dates = is.sound.versions.legal.marked k m lt in
+      let before = dates.0 in let late = dates.1 in omega arith);
+}
+
+module _ (s : Stored) (act : Act) (root : Option Name) (is : IsStored s) where
+  head : World
+  head = world_of (state_of s).key (top s.plan.side) (root_in s.roots (length s.log.records))
+
+  head_cell : (q : Cell) → IsInWorld (2 ^ s.plan.side) q
+      → world_of (state_of s).key (top s.plan.side) (root_in s.roots (length s.log.records)) q
+      ≡ has s.models s.log.records (length s.log.records) q
+  head_cell q inside = own_cell s.plan.side (state_of s).key (root_in s.roots (length s.log.records))
+      (has s.models s.log.records (length s.log.records)) q is.plan.side_low
+      (is.sound.versions.shown (length s.log.records) (head_kept s is)) inside
+
+  pub edit_made : Fits (2 ^ s.plan.side) s.models act → is_edit act ≡ true
+      → MayMake (2 ^ s.plan.side) s.models act
+      (world_of (state_of s).key (top s.plan.side) (root_in s.roots (length s.log.records)))
+      (world_of (state_of s).key (top s.plan.side) root)
+      → IsMade s.plan s.models act root (state_of s)
+  edit_made fits edit made = record {
+    follows = edit_follows s.log.marks (length s.log.records + 1) act (position_after s.log.records) edit;
+    cells = world_of (state_of s).key (top s.plan.side) root;
+    shows = shows_own s.plan.side (state_of s).key root;
+    makes = record {
+      edit = λ _. record {
+        each = λ q inside. made.each q inside ∙ edited_same (2 ^ s.plan.side) s.models act _ _ q fits head_cell inside;
+      };
+      other = λ other. absurd (Rattle.std.proofs.lemmas.Bool.both_ways (is_edit act) other edit);
+    };
+  }
+
+  pub made_edit : Fits (2 ^ s.plan.side) s.models act → is_edit act ≡ true
+      → IsMade s.plan s.models act root (state_of s)
+      → MayMake (2 ^ s.plan.side) s.models act
+      (world_of (state_of s).key (top s.plan.side) (root_in s.roots (length s.log.records)))
+      (world_of (state_of s).key (top s.plan.side) root)
+  made_edit fits edit made = record {
+    each = λ q inside. own_cell s.plan.side (state_of s).key root made.cells q is.plan.side_low made.shows inside
+        ∙ (made.makes.edit edit).each q inside
+        ∙ sym (edited_same (2 ^ s.plan.side) s.models act _ _ q fits head_cell inside);
+  }
+
+  -- an undo or a redo makes the root of the version that it goes to
+  pub other_made : (v : ℕ) → is_edit act ≡ false → IsKept s.log v
+      → Rattle.history_model.specs.Logs.MayFollow s.log.marks (length s.log.records + 1) act (position_after s.log.records)
+      → Rattle.core_laws.specs.Making.version_gone_to s.log.records act ≡ v → root ≡ root_in s.roots v
+      → IsMade s.plan s.models act root (state_of s)
+  other_made v other kept follows goes same = record {
+    follows = follows;
+    cells = has s.models s.log.records v;
+    shows = subst (λ (o : Option Name). ShowsCells (world_block s.plan.side) (shape_of (tree_at (state_of s).key (top s.plan.side) o)) (has s.models s.log.records v)) (sym same)
+        (is.sound.versions.shown v kept);
+    makes = record {
+      edit = λ edit. absurd (Rattle.std.proofs.lemmas.Bool.both_ways (is_edit act) other edit);
+      other = λ _. record { each = λ q inside. ap (λ (w : ℕ). has s.models s.log.records w q) (sym goes) };
+    };
+  }
+
+  pub made_other : (v : ℕ) → is_edit act ≡ false → IsKept s.log v
+      → Rattle.core_laws.specs.Making.version_gone_to s.log.records act ≡ v
+      → ((n : Name) → root ≡ Some n → IsLive s.plan (state_of s) n × (n.level ≡ top s.plan.side))
+      → IsMade s.plan s.models act root (state_of s) → root ≡ root_in s.roots v
+  made_other v other kept goes live made =
+      let p = s.plan in
+      let lives : AreLive p (state_of s) (top p.side) root = λ n some. record { live = (live n some).0; same_level = (live n some).1 } in
+      let its : AreLive p (state_of s) (top p.side) (root_in s.roots v) = λ n some. record { live = root_lives p (state_of s) v n is.sound.entries (root_in_range p s.models (state_of s) v n is.sound.versions some) some; same_level = is.sound.versions.level v n some } in
+      let shows : ShowsCells (world_block p.side) (shape_of (tree_at (state_of s).key (top p.side) (root_in s.roots v))) made.cells = record {
+        each = λ q in_b. (is.sound.versions.shown v kept).each q in_b
+            ∙ ap (λ (w : ℕ). has s.models s.log.records w q) (sym goes)
+            ∙ sym ((made.makes.other other).each q (in_world p.side q is.plan.side_low in_b));
+      } in
+      shape_once p (state_of s) is.sound.entries (top p.side) root (root_in s.roots v) lives its
+      (shown_once (world_block p.side) _ _ made.cells (canonical_at p (state_of s) is.sound.entries (top p.side) root lives)
+      (canonical_at p (state_of s) is.sound.entries (top p.side) (root_in s.roots v) its) made.shows shows)
+
+-- where an undo or a redo goes
+goes_undo : (past : List ℕ) (now : ℕ) (future : List ℕ) (v : ℕ) → first_of past ≡ Some v
+    → (Rattle.history_model.specs.Positions.undone past now future).now ≡ v
+goes_undo [] now future v e = absurd (Rattle.std.proofs.lemmas.Option.none-some v e)
+goes_undo (to ∷ past) now future v e = Rattle.std.proofs.lemmas.Option.same_Some to v e
+
+goes_redo : (past : List ℕ) (now : ℕ) (future : List ℕ) (v : ℕ) → first_of future ≡ Some v
+    → (Rattle.history_model.specs.Positions.redone past now future).now ≡ v
+goes_redo past now [] v e = absurd (Rattle.std.proofs.lemmas.Option.none-some v e)
+goes_redo past now (to ∷ future) v e = Rattle.std.proofs.lemmas.Option.same_Some to v e
+
+pub target_goes : (records : List Record) (act : Act) (v : ℕ) → target_of act (position_after records) ≡ Some v
+    → version_gone_to records act ≡ v
+target_goes records (Fill b) v e = absurd (Rattle.std.proofs.lemmas.Option.none-some v e)
+target_goes records (Erase b) v e = absurd (Rattle.std.proofs.lemmas.Option.none-some v e)
+target_goes records (Ball b) v e = absurd (Rattle.std.proofs.lemmas.Option.none-some v e)
+target_goes records (Carve b) v e = absurd (Rattle.std.proofs.lemmas.Option.none-some v e)
+target_goes records (Copy b to) v e = absurd (Rattle.std.proofs.lemmas.Option.none-some v e)
+target_goes records (Stamp m at) v e = absurd (Rattle.std.proofs.lemmas.Option.none-some v e)
+target_goes records Undo v e = goes_undo (position_after records).past (position_after records).now (position_after records).future v e
+target_goes records Redo v e = goes_redo (position_after records).past (position_after records).now (position_after records).future v e
+
+-- a version that comes first may be gone to where it isn't marked
+held_unmarked : (log : Log) (v : ℕ) → All (λ mark. (mark.version < mark.at) × (mark.at ≤ length log.records)) log.marks
+    → IsHeld log.marks (length log.records + 1) v → IsUnmarked log.marks v
+held_unmarked log v dated held k m lt same = let at = held k m lt same in let late = (dated k m lt).1 in omega arith
+
+unmarked_held : (log : Log) (v : ℕ) → IsUnmarked log.marks v → IsHeld log.marks (length log.records + 1) v
+unmarked_held log v unmarked k m lt same = absurd (unmarked k m lt same)
+
+target_in : (log : Log) (versions : List ℕ) (v : ℕ) → first_of versions ≡ Some v
+    → IsHeld log.marks (length log.records + 1) v → HasTarget log.marks (length log.records + 1) versions
+target_in log [] v e held = absurd (Rattle.std.proofs.lemmas.Option.none-some v e)
+target_in log (to ∷ more) v e held = subst (λ (w : ℕ). IsHeld log.marks (length log.records + 1) w) (sym (Rattle.std.proofs.lemmas.Option.same_Some to v e)) held
+
+in_target : (log : Log) (versions : List ℕ) (v : ℕ) → first_of versions ≡ Some v
+    → HasTarget log.marks (length log.records + 1) versions → IsHeld log.marks (length log.records + 1) v
+in_target log [] v e has = absurd has
+in_target log (to ∷ more) v e has = subst (λ (w : ℕ). IsHeld log.marks (length log.records + 1) w) (Rattle.std.proofs.lemmas.Option.same_Some to v e) has
+
+no_target : (log : Log) (versions : List ℕ) → first_of versions ≡ None
+    → HasTarget log.marks (length log.records + 1) versions → ⊥
+no_target log [] e has = has
+no_target log (to ∷ more) e has = Rattle.std.proofs.lemmas.Option.none-some to (sym e)
+
+first_below : (versions : List ℕ) (v n : ℕ) → first_of versions ≡ Some v → All (λ w. w < n) versions → v < n
+first_below [] v n e below = absurd (Rattle.std.proofs.lemmas.Option.none-some v e)
+first_below (to ∷ more) v n e below = subst (λ (w : ℕ). w < n) (Rattle.std.proofs.lemmas.Option.same_Some to v e) (below 0 0 (omega arith))
+
+module _ (s : Stored) (act : Act) (is : IsStored s) (other : is_edit act ≡ false) where
+  pub gone_nowhere : target_of act (position_after s.log.records) ≡ None
+      → MayFollow s.log.marks (length s.log.records + 1) act (position_after s.log.records) → ⊥
+  gone_nowhere = go act other
+    where
+      go : (a : Act) → is_edit a ≡ false → target_of a (position_after s.log.records) ≡ None
+          → MayFollow s.log.marks (length s.log.records + 1) a (position_after s.log.records) → ⊥
+      go Undo o e f = no_target s.log (position_after s.log.records).past e f
+      go Redo o e f = no_target s.log (position_after s.log.records).future e f
+      go _ o e f = (let no : ⊥ = cc in no)
+
+  pub gone_below : (v : ℕ) → target_of act (position_after s.log.records) ≡ Some v → v ≤ length s.log.records
+  gone_below v = go act other
+    where
+      go : (a : Act) → is_edit a ≡ false → target_of a (position_after s.log.records) ≡ Some v → v ≤ length s.log.records
+      go Undo o e = let lt = first_below (position_after s.log.records).past v (length s.log.records + 1) e (names_below s.log.records).past in omega arith
+      go Redo o e = let lt = first_below (position_after s.log.records).future v (length s.log.records + 1) e (names_below s.log.records).future in omega arith
+      go _ o e = absurd (let no : ⊥ = cc in no)
+
+  pub gone_follows : (v : ℕ) → target_of act (position_after s.log.records) ≡ Some v
+      → IsUnmarked s.log.marks v
+      → MayFollow s.log.marks (length s.log.records + 1) act (position_after s.log.records)
+  gone_follows v e unmarked = go act other e
+    where
+      go : (a : Act) → is_edit a ≡ false → target_of a (position_after s.log.records) ≡ Some v
+          → MayFollow s.log.marks (length s.log.records + 1) a (position_after s.log.records)
+      go Undo o at = target_in s.log (position_after s.log.records).past v at (unmarked_held s.log v unmarked)
+      go Redo o at = target_in s.log (position_after s.log.records).future v at (unmarked_held s.log v unmarked)
+      go _ o at = absurd (let no : ⊥ = cc in no)
+
+  pub follows_unmarked : (v : ℕ) → target_of act (position_after s.log.records) ≡ Some v
+      → MayFollow s.log.marks (length s.log.records + 1) act (position_after s.log.records)
+      → IsUnmarked s.log.marks v
+  follows_unmarked v = go act other
+    where
+      go : (a : Act) → is_edit a ≡ false → target_of a (position_after s.log.records) ≡ Some v
+          → MayFollow s.log.marks (length s.log.records + 1) a (position_after s.log.records) → IsUnmarked s.log.marks v
+      go Undo o at f = held_unmarked s.log v is.sound.versions.legal.marked (in_target s.log (position_after s.log.records).past v at f)
+      go Redo o at f = held_unmarked s.log v is.sound.versions.legal.marked (in_target s.log (position_after s.log.records).future v at f)
+      go _ o at f = absurd (let no : ⊥ = cc in no)
+
+-- what holds of an answer where there is one
+pub ok_map : (r : Result Bool Memory) (P Q : Bool → Type 0) → ((b : Bool) → P b → Q b) → IfOk r P → IfOk r Q
+ok_map (Ok b) P Q map h = map b h
+ok_map (Err e) P Q map h = tt
