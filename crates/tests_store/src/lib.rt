@@ -7,3 +7,5 @@ mod calls;
 mod slots;
 #[cfg(test)]
 mod tests;
+#[cfg(test)]
+mod under;

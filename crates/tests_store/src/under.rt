@@ -1,10 +1,12 @@
-ghost use Rattle.std.specs.Prelude.{◌≡◌, ◌≢◌, ◌<◌, ◌≤◌, ◌+◌, ℕ, IfOk, OnOk, OnErr};
+//! Reading below a share, by code that knows the traits of a store alone.
+ghost use Rattle.std.specs.Prelude.{◌≡◌, ◌≢◌, ◌<◌, ◌≤◌, IfOk, OnOk};
+ghost use Rattle.node_shapes.specs.Tree.{bits_in};
 ghost use Rattle.node_shapes.specs.Weights.{number_of};
-ghost use Rattle.node_words.specs.Held.{SameHeld};
-ghost use Rattle.plain_store.specs.Plain.{known_seen};
+ghost use Rattle.node_words.specs.Held.{HoldsName, ForHeld, SameHeld};
+ghost use Rattle.one_store.specs.Known.{known_seen};
 
-use crate::PlainStore;
 use node_words::{Full, NodeStore, Plan, Share, Steps, Under, has_cell};
+use one_store::OneStore;
 use std::marker::Brand;
 use std::sync::ledger::{Blank, Ledger};
 use std::test::Fail;
@@ -27,9 +29,6 @@ fn made_and_read<N: NodeStore, L: Ledger>(
     Ok(read)
 }
 
-ghost use Rattle.node_words.specs.Held.{HoldsName, ForHeld};
-ghost use Rattle.node_shapes.specs.Tree.{bits_in};
-
 fn read_under<N: NodeStore>(store: &mut N, share: &Share) -> u64
     requires held { HoldsName (N.seen store.old).held share.now }
     requires level { share.now.level ≡ 0 }
@@ -40,47 +39,52 @@ fn read_under<N: NodeStore>(store: &mut N, share: &Share) -> u64
     under.bits()
 }
 
-// Whether the cell at (2, 0, 0) of a leaf with that cell alone is set, asked on the way down from the leaf's share.
+// Whether the cell at (x, 0, 0) of a leaf with the cell (2, 0, 0) alone is set, asked on the way down.
 fn made_and_asked<N: NodeStore, L: Ledger>(
     store: &mut N,
+    x: u16,
     steps: &mut Steps<L>,
 ) -> Result<bool, Full>
+    requires cell { x < 4 }
     requires room { number_of (N.seen store.old).held ≤ 4000 }
     ensures held { OnOk result (SameHeld (N.seen store.old).held (N.seen store.new).held) }
 {
     let share = store.leaf(4, steps)?;
     let at = Cell { x: 0, y: 0, z: 0 };
-    let asked = Cell { x: 2, y: 0, z: 0 };
+    let asked = Cell { x, y: 0, z: 0 };
     let set = has_cell(store, &share, Block { level: 0, at }, asked);
     store.back(share, steps);
     Ok(set)
 }
 
-fn ask_cell<L: Ledger>(store: &mut PlainStore, blank: Blank) -> Result<bool, Full>
+fn ask_cell<L: Ledger>(store: &mut OneStore, x: u16, blank: Blank) -> Result<bool, Full>
     requires name { blank.name ≡ L.name }
     requires parts { blank.parts ≡ L.parts }
     requires some { 0 < L.parts }
+    requires cell { x < 4 }
     requires room { number_of (known_seen store.old).held ≤ 4000 }
     ensures held { OnOk result (SameHeld (known_seen store.old).held (known_seen store.new).held) }
 {
     let mut steps: Steps<L> = Steps::start(blank);
-    made_and_asked(store, &mut steps)
+    made_and_asked(store, x, &mut steps)
 }
 
 #[test]
 fn cells_are_found_on_the_way_down(rt: HostRuntime) -> Result<(), Fail> {
     let side = Side::new(16).ok_or("a side")?;
     let plan = Plan::even(side, 1, 2).ok_or("a plan")?;
-    let mut store = PlainStore::new(rt.alloc(), &plan)?;
-    if store.held() == 0 {
-        let set = ask_cell::<Brand>(&mut store, Blank::new(1));
-        assert!(rt; set == Ok(true));
+    let mut store = OneStore::begin(rt.alloc(), &plan)?;
+    for (x, want) in [(2u16, true), (1, false)] {
+        if store.held() == 0 {
+            let set = ask_cell::<Brand>(&mut store, x, Blank::new(1));
+            assert!(rt; set == Ok(want), "at {x}");
+        }
     }
     assert_eq!(rt; store.held(), 0);
     Ok(())
 }
 
-fn read_back<L: Ledger>(store: &mut PlainStore, bits: u64, blank: Blank) -> Result<u64, Full>
+fn read_back<L: Ledger>(store: &mut OneStore, bits: u64, blank: Blank) -> Result<u64, Full>
     requires name { blank.name ≡ L.name }
     requires parts { blank.parts ≡ L.parts }
     requires some { 0 < L.parts }
@@ -97,22 +101,13 @@ fn read_back<L: Ledger>(store: &mut PlainStore, bits: u64, blank: Blank) -> Resu
 fn leaves_are_read_back(rt: HostRuntime) -> Result<(), Fail> {
     let side = Side::new(16).ok_or("a side")?;
     let plan = Plan::even(side, 1, 2).ok_or("a plan")?;
-    let mut store = PlainStore::new(rt.alloc(), &plan)?;
-    for bits in [5u64, 1 << 63, 5, 1 << 63] {
+    let mut store = OneStore::begin(rt.alloc(), &plan)?;
+    for bits in [5u64, 1 << 63, 5] {
         if bits != 0 && store.held() == 0 {
             let read = read_back::<Brand>(&mut store, bits, Blank::new(1));
             assert!(rt; read == Ok(bits), "at {bits}");
         }
     }
-    if store.held() == 0 {
-        let read = read_back::<Brand>(&mut store, 7, Blank::new(1));
-        assert!(rt;
-            read == Err(Full {
-                level: 0,
-                bucket: 0
-            })
-        );
-    }
-    assert_eq!(rt; store.held(), 0);
+    assert_eq!(rt; store.live(0), 0);
     Ok(())
 }

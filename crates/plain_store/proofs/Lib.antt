@@ -1,3 +1,0 @@
-pub mod PlainTrees
-pub mod PlainSteps
-pub mod PlainSeen

@@ -1,0 +1,90 @@
+# The launcher ../voxdag reads this file where standard error is a terminal: what the program's line means, in plain words.
+
+# Runs the program, puts its line on standard output, and says on standard error what it means. What stands on standard
+# output, and the status, are those of the program alone: it has written all its files before it puts its one line, so a
+# line that can't be put is status 7 here as there.
+run_in_plain_words() {
+    local LC_ALL=C line status
+    trap '' PIPE
+    line=$("$program" "$@"; status=$?; printf .; exit "$status")
+    status=$?
+    line=${line%.}
+    if [ -n "$line" ]; then
+        { printf '%s' "$line"; } 2>/dev/null || status=7
+    fi
+    case $status in
+        [1-9]) plain_words "$status" "${line%$'\n'}" "$@" >&2 ;;
+    esac
+    exit "$status"
+}
+
+# plain_words STATUS LINE WORD ..
+plain_words() {
+    local status=$1 line=$2 name
+    shift 2
+    name=${line#voxdag: * }
+    case $status in
+        1) plain_usage ;;
+        2) printf '%s: there is no such file\n' "$name" ;;
+        3) printf '%s: can'\''t be read: it may be a folder, or a file without leave to read it\n' "${line#voxdag: read fault }" ;;
+        4) plain_vox "$(named_file "$@")" $name ;;
+        5) plain_script "${@: -1}" $name ;;
+        6) printf '%s: can'\''t be written; what was to be written after it is not there\n' "${line#voxdag: write fault }" ;;
+        7) printf 'standard output took no line, or a part of it; all files are written\n' ;;
+        8) printf 'there was not enough memory\n' ;;
+        9) printf '%s: too long: a VOX file has at most 256 MiB, a script 8 MiB\n' "${line#voxdag: too long }" ;;
+    esac
+}
+
+plain_usage() {
+    printf '%s\n' \
+        'voxdag takes these words, in this order:' \
+        '    voxdag count FILE' \
+        '    voxdag run [--side s] [--journal J] FILE SCRIPT' \
+        's is 4, 8, 16, 32, 64, 128 or 256. No name is empty or begins with -. SCRIPT.out and J are written, so neither' \
+        'may be the name of FILE, of SCRIPT or of the other.'
+}
+
+# The VOX file among the words of a command: that of count, or the first word of run that belongs to no option.
+named_file() {
+    local command=$1
+    shift
+    while [ "$command" = run ] && [ "${1:0:2}" = -- ]; do shift 2; done
+    printf '%s' "$1"
+}
+
+# plain_vox FILE KIND AT
+plain_vox() {
+    local meaning
+    case $2 in
+        1) meaning='no VOX file: it doesn'\''t begin with "VOX "' ;;
+        2) meaning='a version other than 150 and 200' ;;
+        3) meaning='the first chunk is not MAIN' ;;
+        4) meaning='the file ends inside this chunk, or the chunk runs past the end of MAIN' ;;
+        5) meaning='a SIZE of less than 12 bytes' ;;
+        6) meaning='a model with a size of 0 or over 256 on some axis' ;;
+        7) meaning='voxels without a size before them' ;;
+        8) meaning='a list of voxels that its chunk doesn'\''t hold' ;;
+        9) meaning='a voxel outside its model'\''s size' ;;
+        10) meaning='more than 1,024 models' ;;
+    esac
+    printf '%s, byte %s: %s\n' "$1" "$3" "$meaning"
+}
+
+# plain_script SCRIPT NUMBER LINE KIND. The line itself is read, and what stands before it.
+plain_script() {
+    local meaning text
+    case $4 in
+        1) meaning='the first word is no command' ;;
+        2) meaning='a word that is no number of 1 to 9 digits' ;;
+        3) meaning='something reaches out of the world, or a size is 0' ;;
+        4) meaning='a word is missing' ;;
+        5) meaning='a word too many' ;;
+        6) meaning='the VOX file has no such model' ;;
+        7) meaning='more than 100,000 lines' ;;
+        8) meaning='more than 16 saves' ;;
+        9) meaning='a byte that is no plain text' ;;
+    esac
+    text=$(sed -n "$3{p;q;}" -- "$1" 2>/dev/null | tr -d '\r' | cut -c 1-200 | cat -v)
+    printf '%s, line %s: %s: %s\n' "$1" "$3" "$meaning" "$text"
+}
