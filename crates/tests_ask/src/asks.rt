@@ -1,6 +1,6 @@
 use crate::plain::{plain_bounds, plain_cells, plain_count, plain_faces};
 use crate::rays::{first_cell, first_instant};
-use history_model::{Question, Way};
+use history_model::{Act, Question, Way};
 use node_words::Plan;
 use std::alloc::Global;
 use std::test::Fail;
@@ -15,8 +15,14 @@ pub struct Twins {
     pub plain: Grid,
 }
 
-/// A world of this side after so many random edits.
-pub fn drawn_twins(alloc: Global, draws: &mut Draws, side: u32, edits: u32) -> Result<Twins, Fail> {
+/// A world of this side after so many random edits, and then with so many boxes of a few cells.
+pub fn drawn_twins(
+    alloc: Global,
+    draws: &mut Draws,
+    side: u32,
+    edits: u32,
+    specks: u32,
+) -> Result<Twins, Fail> {
     let side = Side::new(side).ok_or("a side")?;
     let plan = Plan::even(side, 64, 64).ok_or("a plan")?;
     let mut stored = StoredWorld::empty(alloc, &plan)?;
@@ -27,14 +33,31 @@ pub fn drawn_twins(alloc: Global, draws: &mut Draws, side: u32, edits: u32) -> R
         voxels: vec![in alloc; [0, 0, 0, 1], [2, 0, 3, 1], [1, 1, 1, 1], [0, 1, 2, 1]]?,
     };
     let stencil = model.stencil(alloc).ok_or("a stencil")?;
-    for _ in 0..edits {
-        let act = draws.act(cells, model.cells());
+    for k in 0..edits.saturating_add(specks) {
+        let act = if k < edits {
+            draws.act(cells, model.cells())
+        } else {
+            speck(draws, cells)
+        };
         stored.edit(&act, &stencil).map_err(|_| "an edit")?;
         plain = plain
             .after(alloc, &act, &model)
             .map_err(|_| "out of memory")?;
     }
     Ok(Twins { stored, plain })
+}
+
+// Sets one or two cells on each axis.
+fn speck(draws: &mut Draws, side: u16) -> Act {
+    let size = Cell {
+        x: draws.below(2).saturating_add(1),
+        y: draws.below(2).saturating_add(1),
+        z: draws.below(2).saturating_add(1),
+    };
+    Act::Fill(Boxed {
+        at: draws.place(side, size),
+        size,
+    })
 }
 
 /// A box that touches sides of the world.

@@ -4,11 +4,12 @@ use std::test::Fail;
 use test_worlds::Draws;
 use vw_cell::{Boxed, Cell};
 
-/// A world of random edits, and how much is asked of it.
+/// A world of random edits, or of a few cells here and there, and how much is asked of it.
 #[derive(Clone, Copy)]
 struct Trial {
     side: u32,
     edits: u32,
+    specks: u32,
     boxes: u32,
     rays: u32,
 }
@@ -17,56 +18,65 @@ const TRIALS: [Trial; 9] = [
     Trial {
         side: 4,
         edits: 0,
+        specks: 0,
         boxes: 4,
-        rays: 8,
+        rays: 20,
     },
     Trial {
         side: 4,
-        edits: 2,
-        boxes: 30,
-        rays: 60,
+        edits: 3,
+        specks: 0,
+        boxes: 60,
+        rays: 400,
     },
     Trial {
         side: 4,
-        edits: 7,
-        boxes: 30,
-        rays: 60,
-    },
-    Trial {
-        side: 8,
-        edits: 2,
-        boxes: 30,
-        rays: 80,
+        edits: 0,
+        specks: 4,
+        boxes: 60,
+        rays: 400,
     },
     Trial {
         side: 8,
         edits: 9,
-        boxes: 30,
-        rays: 80,
+        specks: 0,
+        boxes: 60,
+        rays: 400,
     },
     Trial {
-        side: 16,
-        edits: 2,
-        boxes: 20,
-        rays: 60,
+        side: 8,
+        edits: 0,
+        specks: 16,
+        boxes: 60,
+        rays: 400,
     },
     Trial {
         side: 16,
         edits: 9,
-        boxes: 20,
-        rays: 60,
+        specks: 0,
+        boxes: 60,
+        rays: 400,
     },
     Trial {
-        side: 32,
-        edits: 2,
-        boxes: 10,
-        rays: 30,
+        side: 16,
+        edits: 0,
+        specks: 60,
+        boxes: 60,
+        rays: 400,
     },
     Trial {
         side: 32,
         edits: 9,
-        boxes: 10,
-        rays: 30,
+        specks: 0,
+        boxes: 20,
+        rays: 200,
+    },
+    Trial {
+        side: 32,
+        edits: 0,
+        specks: 120,
+        boxes: 20,
+        rays: 400,
     },
 ];
 
@@ -82,7 +92,7 @@ fn random_boxes_are_answered_by_plain_cells(rt: HostRuntime) -> Result<(), Fail>
 
 // How many questions of boxes are answered wrongly in a world.
 fn boxes_wrong(alloc: Global, draws: &mut Draws, trial: Trial) -> Result<u32, Fail> {
-    let mut twins = drawn_twins(alloc, draws, trial.side, trial.edits)?;
+    let mut twins = drawn_twins(alloc, draws, trial.side, trial.edits, trial.specks)?;
     let side = twins.plain.side();
     let whole = Boxed {
         at: Cell { x: 0, y: 0, z: 0 },
@@ -117,7 +127,7 @@ fn random_rays_hit_the_first_plain_cell(rt: HostRuntime) -> Result<(), Fail> {
 
 // How many rays are answered wrongly in a world.
 fn rays_wrong(alloc: Global, draws: &mut Draws, trial: Trial) -> Result<u32, Fail> {
-    let mut twins = drawn_twins(alloc, draws, trial.side, trial.edits)?;
+    let mut twins = drawn_twins(alloc, draws, trial.side, trial.edits, trial.specks)?;
     let mut wrong: u32 = 0;
     for _ in 0..trial.rays {
         let from = start(draws, &twins.plain);

@@ -208,10 +208,10 @@ fn full_buckets_are_told(rt: HostRuntime) -> Result<(), Fail> {
 fn random_edits_are_those_of_plain_cells(rt: HostRuntime) -> Result<(), Fail> {
     let mut draws = Draws::new(7);
     for (side, model, number) in [
-        (4, [3, 4, 2], 100),
-        (8, [5, 4, 3], 100),
-        (16, [9, 6, 7], 60),
-        (32, [9, 12, 7], 24),
+        (4, [3, 4, 2], 400),
+        (8, [5, 4, 3], 400),
+        (16, [9, 6, 7], 200),
+        (32, [9, 12, 7], 80),
     ] {
         let side = Side::new(side).ok_or("a side")?;
         let model = drawing(rt.alloc(), &mut draws, model)?;
@@ -233,11 +233,10 @@ fn full_buckets_leave_the_store_as_it_was(rt: HostRuntime) -> Result<(), Fail> {
         for cap in 1..=32u16 {
             let plan = Plan::even(side, 1, cap).ok_or("a plan")?;
             let mut world = StoredWorld::empty(rt.alloc(), &plan)?;
-            let tally = play(rt.alloc(), &mut world, &mut draws, &model, 12)?;
+            let tally = play(rt.alloc(), &mut world, &mut draws, &model, 30)?;
             assert_eq!(rt; tally.wrong, 0, "side {} cap {cap}", side.cells());
             full = full.saturating_add(tally.full);
         }
-        println!(rt; "side {} full {full}", side.cells())?;
         assert!(rt; full > 0, "side {}", side.cells());
     }
     Ok(())

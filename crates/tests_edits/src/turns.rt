@@ -175,7 +175,6 @@ fn large_fills_take_few_turns(rt: HostRuntime) -> Result<(), Fail> {
         ([1, 2, 3], [1, 1, 1], 4999),
     ] {
         let turns = turns_of(rt.alloc(), at, size)?;
-        println!(rt; "{at:?} {size:?} {turns}")?;
         assert!(rt; turns <= most, "{turns} turns at {at:?} of {size:?}");
     }
     Ok(())
