@@ -35,12 +35,12 @@ use Rattle.conformance.specs.Runs.{AllRan, IsFree, is_free}
 use Rattle.conformance.specs.Telling.{count}
 use Rattle.conformance.proofs.LineKinds.{done_line, resting_line, full_way}
 use Rattle.conformance.proofs.Running.{no_lines, next_line, next_script, all_lines}
-use Rattle.bit_run.specs.Steps.{Bits, bits_of, unmarked, Draws, IsSame, Changed, Counted, Does, DoesLine, IsState, RanLines}
+use Rattle.bit_run.specs.Steps.{Bits, run_state, unmarked, DrawsAct, IsSame, Changed, Counted, Does, DoesLine, IsState, RanLines}
 use Rattle.bit_run.proofs.Stamping.{shows_same}
 
 -- ---- before the first line
 
-pub empty_state : (p : Layout) (models : List Content) (grid : Grid) → grid.exponent ≡ p.side → Shows grid nothing → IsState p models [] [] [] [] (bits_of grid [])
+pub empty_state : (p : Layout) (models : List Content) (grid : Grid) → grid.exponent ≡ p.side → Shows grid nothing → IsState p models [] [] [] [] (run_state grid [])
 empty_state p models grid same clear = record {
   run = no_lines p models;
   same_side = same;
@@ -86,15 +86,15 @@ module _ (p : Layout) (models : List Content) (scripts : List (List ScriptLine))
 
   -- a change is accepted
   accepted : (act : Act) (once : _) (old : Bits) (grid : Grid) → l.command ≡ Edit act once → IsForBits (Edit act once) → Fits (2 ^ p.side) models act → IsState p models scripts transcripts script transcript old
-      → length old.records < 65535 → Draws models act old.grid grid
-      → IsNext (bits_of grid (old.records ++ record_of (length scripts) l.line act ∷ [])) (answer_of l.line (length old.records + 1) Done)
+      → length old.records < 65535 → DrawsAct models act old.grid grid
+      → IsNext (run_state grid (old.records ++ record_of (length scripts) l.line act ∷ [])) (answer_of l.line (length old.records + 1) Done)
   accepted act once old grid is built fits s room draws =
       let r : Record = record_of (length scripts) l.line act in
       let edit : is_edit act ≡ true = edit_of_built act once built in
       let longer : length (old.records ++ r ∷ []) ≡ length old.records + 1 = length_push old.records r in
       let legal = legal_next (2 ^ p.side) models (unmarked p.side old.records) r s.run.legal room fits (edit_follows [] (length old.records + 1) act (position_after old.records) edit) in
       let step = done_line p models (length scripts) l.line act once (unmarked p.side old.records) (unmarked p.side (old.records ++ r ∷ [])) (record { legal = legal; side = refl; records = refl; marks = refl }) in
-      stepped old (bits_of grid (old.records ++ r ∷ [])) (answer_of l.line (length old.records + 1) Done) s
+      stepped old (run_state grid (old.records ++ r ∷ [])) (answer_of l.line (length old.records + 1) Done) s
       (subst (λ (c : Command). LineStep p models (length scripts) (record { line = l.line; command = c }) (unmarked p.side old.records) (unmarked p.side (old.records ++ r ∷ [])) (answer_of l.line (length old.records + 1) Done)) (sym is) step) draws.same_side
       (shows_same grid (has models (old.records ++ r ∷ []) (length (old.records ++ r ∷ []))) (edited models act (has models old.records (length old.records))) (draws.each (has models old.records (length old.records)) s.shows)
       (λ c. ap (λ (n : ℕ). has models (old.records ++ r ∷ []) n c) longer ∙ has_of_edit models old.records r c edit))
@@ -123,7 +123,7 @@ module _ (p : Layout) (models : List Content) (scripts : List (List ScriptLine))
   -- the same bits
   same_bits : (old new : Bits) (a : LineAnswer) → IsSame old new → IsNext old a → IsNext new a
   same_bits old new a same next =
-      subst (λ (g : Grid). IsNext (bits_of g new.records) a) (sym same.grid) (subst (λ (rs : List Record). IsNext (bits_of old.grid rs) a) (sym same.records) next)
+      subst (λ (g : Grid). IsNext (run_state g new.records) a) (sym same.grid) (subst (λ (rs : List Record). IsNext (run_state old.grid rs) a) (sym same.records) next)
 
   -- by the answer
   change_step : (act : Act) (once : _) (old new : Bits) (line at : ℕ) (answer : Answer) → l.command ≡ Edit act once → IsForBits (Edit act once) → Fits (2 ^ p.side) models act → IsState p models scripts transcripts script transcript old
@@ -131,8 +131,8 @@ module _ (p : Layout) (models : List Content) (scripts : List (List ScriptLine))
   change_step act once old new line at Done is built fits s same moment does =
       let r : Record = record_of (length scripts) l.line act in
       let longer : length (old.records ++ r ∷ []) ≡ length old.records + 1 = length_push old.records r in
-      subst (λ (rs : List Record). IsNext (bits_of new.grid rs) (answer_of line at Done)) (sym does.records)
-      (told (bits_of new.grid (old.records ++ r ∷ [])) line at (length old.records + 1) Done same (moment ∙ ap length does.records ∙ longer) (accepted act once old new.grid is built fits s does.room does.draws))
+      subst (λ (rs : List Record). IsNext (run_state new.grid rs) (answer_of line at Done)) (sym does.records)
+      (told (run_state new.grid (old.records ++ r ∷ [])) line at (length old.records + 1) Done same (moment ∙ ap length does.records ∙ longer) (accepted act once old new.grid is built fits s does.room does.draws))
   change_step act once old new line at LogFull is built fits s same moment does =
       same_bits old new (answer_of line at LogFull) does.1 (told old line at (length old.records) LogFull same (moment ∙ ap length does.1.records) (refused act once old is built s does.0))
   change_step act once old new line at _ is built fits s same moment does = absurd does
@@ -228,7 +228,7 @@ pub record RanScripts (p : Layout) (models : List Content) (scripts : List (List
   pub as_many : length transcripts ≡ length scripts
   pub free : All (All IsFree) transcripts
 
-pub no_scripts : (p : Layout) (models : List Content) (grid : Grid) → grid.exponent ≡ p.side → Shows grid nothing → RanScripts p models [] [] (bits_of grid [])
+pub no_scripts : (p : Layout) (models : List Content) (grid : Grid) → grid.exponent ≡ p.side → Shows grid nothing → RanScripts p models [] [] (run_state grid [])
 no_scripts p models grid same clear = record { state = empty_state p models grid same clear; as_many = refl; free = All-nil _ }
 
 pub next_scripts : (p : Layout) (models : List Content) (scripts : List (List ScriptLine)) (i : ℕ) (d script : List ScriptLine) (transcripts more : List (List LineAnswer)) (answers : List LineAnswer) (session : ℕ) (old new : Bits) → i < length scripts

@@ -24,15 +24,15 @@ pub record Bits : Type 0 where
   pub grid : Grid
   pub records : List Record
 
-abbrev pub bits_of : Grid → List Record → Bits
-bits_of grid records = record { grid = grid; records = records }
+abbrev pub run_state : Grid → List Record → Bits
+run_state grid records = record { grid = grid; records = records }
 
 -- the history of these records, without marks
 abbrev pub unmarked : ℕ → List Record → Log
 unmarked side records = record { side = side; records = records; marks = [] }
 
 -- the bits changed as the act changes the world that they show
-pub record Draws (models : List Content) (act : Act) (old new : Grid) : Type 0 where
+pub record DrawsAct (models : List Content) (act : Act) (old new : Grid) : Type 0 where
   pub same_side : new.exponent ≡ old.exponent
   pub each : (w : World) → Shows old w → Shows new (edited models act w)
 
@@ -40,7 +40,7 @@ pub record Draws (models : List Content) (act : Act) (old new : Grid) : Type 0 w
 pub record Accepts (models : List Content) (r : Record) (old new : Bits) : Type 0 where
   pub room : length old.records < 65535
   pub records : new.records ≡ old.records ++ r ∷ []
-  pub draws : Draws models r.act old.grid new.grid
+  pub draws : DrawsAct models r.act old.grid new.grid
 
 pub record IsSame (old new : Bits) : Type 0 where
   pub grid : new.grid ≡ old.grid

@@ -4,7 +4,7 @@ ghost use Rattle.script.specs.Fitting.{CommandFits, IsForBits, RisesFrom};
 ghost use Rattle.history_model.specs.Logs.{Fits};
 ghost use Rattle.script.specs.declared.commands.Command.TheVariants.{Edit};
 ghost use Rattle.conformance.specs.Runs.{AllRan, RanFreely, IsFree};
-ghost use Rattle.bit_run.specs.Steps.{bits_of, Changed, Draws, DoesLine, RanLines};
+ghost use Rattle.bit_run.specs.Steps.{run_state, Changed, DrawsAct, DoesLine, RanLines};
 
 use crate::stencils::{Stencil, stencils};
 use bit_world::BitWorld;
@@ -86,7 +86,7 @@ fn run_script(
     requires fit { All (λ l. CommandFits (2 ^ world.old.exponent) stencils.now l.command) script.now }
     requires for_bits { All (λ l. IsForBits l.command) script.now }
     ensures ran { IfOk result (λ answers. RanLines stencils.now session script.now answers.items
-        (bits_of world.old records.old.items) (bits_of world.new records.new.items)) }
+        (run_state world.old records.old.items) (run_state world.new records.new.items)) }
     ensures freely { IfOk result (λ answers. All IsFree answers.items) }
 {
     let lines = script.lines.as_slice();
@@ -111,7 +111,7 @@ fn answer(
     requires fits { CommandFits (2 ^ world.old.exponent) stencils.now l.command }
     requires for_bits { IsForBits l.command }
     ensures { IfOk result (DoesLine stencils.now session l
-        (bits_of world.old records.old.items) (bits_of world.new records.new.items)) }
+        (run_state world.old records.old.items) (run_state world.new records.new.items)) }
 {
     match l.command {
         Command::Edit { act, once: _ } => {
@@ -146,7 +146,7 @@ fn change(
     requires fits { Fits (2 ^ world.old.exponent) stencils.now entry.act }
     requires for_bits { IsForBits (Edit entry.act false) }
     ensures changed { IfOk result (Changed stencils.now entry
-        (bits_of world.old records.old.items) (bits_of world.new records.new.items)) }
+        (run_state world.old records.old.items) (run_state world.new records.new.items)) }
     ensures few { length records.new.items ≤ 65535 }
 {
     if records.len() >= RECORDS {
@@ -174,7 +174,7 @@ fn draw(world: &mut BitWorld, stencils: &[Stencil], act: Act)
     requires small { world.old.exponent ≤ 12 }
     requires fits { Fits (2 ^ world.old.exponent) stencils.now act }
     requires for_bits { IsForBits (Edit act false) }
-    ensures { Draws stencils.now act world.old world.new }
+    ensures { DrawsAct stencils.now act world.old world.new }
 {
     match act {
         Act::Fill(b) => world.put(b, true),

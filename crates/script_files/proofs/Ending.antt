@@ -12,7 +12,7 @@ use Rattle.script_files.specs.declared.requests.Request.{Request}
 use Rattle.script_files.specs.declared.requests.Request.TheVariants.{Count, Run}
 use Rattle.script_files.specs.Orders.{Asked}
 use Rattle.script_files.specs.Requests.{inputs_of, journal_output, outputs_of, texts_written}
-use Rattle.script_files.specs.Meanings.{file_in, Gives, RefusesTexts}
+use Rattle.script_files.specs.Meanings.{file_in, GivesOutputs, RefusesTexts}
 use Rattle.script_files.specs.Outcomes.{Outcome}
 use Rattle.script_files.specs.Stages.{CountsFile, JournalIs, IsPrepared, WritesEnd}
 
@@ -61,7 +61,7 @@ same_outputs : (asked : Asked) (texts : List (List ℕ)) (number : ℕ) (transcr
 same_outputs asked texts number transcript journal p =
     rw (p.are.transcript_is, same_journal asked.journal journal (journal_of p.log) p.are.journal_is) refl
 
-gives_run : (asked : Asked) (texts : List (List ℕ)) (number : ℕ) (transcript journal : List ℕ) → IsPrepared asked texts number transcript journal → Gives (Run asked) texts number (outputs_of asked transcript journal)
+gives_run : (asked : Asked) (texts : List (List ℕ)) (number : ℕ) (transcript journal : List ℕ) → IsPrepared asked texts number transcript journal → GivesOutputs (Run asked) texts number (outputs_of asked transcript journal)
 gives_run asked texts number transcript journal p =
     record { log = p.log; transcripts = p.transcripts; accepted = p.accepted; counted = p.are.counted; are = same_outputs asked texts number transcript journal p }
 

@@ -21,7 +21,7 @@ use Rattle.script_files.specs.declared.refusals.TextRefused.TheVariants as texts
 use Rattle.script_files.specs.declared.requests.Request.{Request}
 use Rattle.script_files.specs.declared.requests.Request.TheVariants.{Count, Run}
 use Rattle.script_files.specs.Requests.{inputs_of}
-use Rattle.script_files.specs.Meanings.{file_in, Gives, RefusesScript, RefusesNames}
+use Rattle.script_files.specs.Meanings.{file_in, GivesOutputs, RefusesScript, RefusesNames}
 use Rattle.script_files.specs.Outcomes.{RefusesFiles, Outcome}
 use Rattle.script_files.specs.Verdicts.{Verdict, Fine, LacksInput, InputIsLong, HasScriptFault, NamesCollide, input_within, inputs_at, verdict_of, JudgesTexts, JudgesInputs, Judges, FollowsRead, FollowsWrite, FollowsText, Follows}
 
@@ -81,7 +81,7 @@ by_reading a files texts v reading taken says judges =
     let j : JudgesTexts a texts v = subst (λ r. JudgesInputs a r v) (all_taken files (inputs_of a) texts taken) judges in
     j.follows ∙ ap (verdict_of a texts) (one_reading (file_in texts) j.reading reading j.says says)
 
-gives_follow : (a : Request) (files : Files) (texts : List (List ℕ)) (number : ℕ) (outputs : List Named) (v : Verdict) → AreTaken (Some files) (inputs_of a) texts → Gives a texts number outputs → Judges files a v → v ≡ Fine
+gives_follow : (a : Request) (files : Files) (texts : List (List ℕ)) (number : ℕ) (outputs : List Named) (v : Verdict) → AreTaken (Some files) (inputs_of a) texts → GivesOutputs a texts number outputs → Judges files a v → v ≡ Fine
 gives_follow (Count file) files texts number outputs v taken gives judges = by_reading (Count file) files texts v (Ok gives.models) taken gives.gives judges
 gives_follow (Run asked) files texts number outputs v taken gives judges =
     let fine : verdict_of (Run asked) texts (Ok gives.accepted.models) ≡ Fine = rw (gives.accepted.read, gives.accepted.apart) refl in

@@ -63,9 +63,9 @@ pub record ScriptRan (asked : Asked) (texts : List (List ℕ)) (number : ℕ) (o
   pub are : outputs ≡ texts_written asked log transcripts
 
 -- what a command gives where nothing is refused
-abbrev pub Gives : Request → List (List ℕ) → ℕ → List Named → Type 0
-Gives (Count file) texts number outputs = CellsCounted texts number outputs
-Gives (Run asked) texts number outputs = ScriptRan asked texts number outputs
+abbrev pub GivesOutputs : Request → List (List ℕ) → ℕ → List Named → Type 0
+GivesOutputs (Count file) texts number outputs = CellsCounted texts number outputs
+GivesOutputs (Run asked) texts number outputs = ScriptRan asked texts number outputs
 
 -- the VOX file gives models, and this is the script's first fault
 pub record HasScriptFault (asked : Asked) (texts : List (List ℕ)) (fault : ScriptFault) : Type 0 where

@@ -11,26 +11,26 @@ use Rattle.script_files.specs.declared.refusals.TextRefused.{TextRefused}
 use Rattle.script_files.specs.declared.refusals.TextRefused.TheVariants.{Vox, Script, Collides, Memory}
 use Rattle.script_files.specs.declared.requests.Request.{Request}
 use Rattle.script_files.specs.Requests.{inputs_of}
-use Rattle.script_files.specs.Meanings.{Gives, RefusesTexts}
+use Rattle.script_files.specs.Meanings.{GivesOutputs, RefusesTexts}
 
 -- all inputs were taken, and with these outputs the command gives this number
-pub record Comes (number : ℕ) (outputs : List Named) (a : Request) (files : Option Files) : Type 0 where
+pub record ComesTo (number : ℕ) (outputs : List Named) (a : Request) (files : Option Files) : Type 0 where
   pub texts : List (List ℕ)
   pub taken : AreTaken files (inputs_of a) texts
-  pub gives : Gives a texts number outputs
+  pub gives : GivesOutputs a texts number outputs
 
 -- it came to its end: all outputs are whole, and nothing else has changed
-pub record Done (number : ℕ) (a : Request) (old new : ShelfState) : Type 0 where
+pub record Completes (number : ℕ) (a : Request) (old new : ShelfState) : Type 0 where
   pub outputs : List Named
-  pub comes : Comes number outputs a old.files
+  pub comes : ComesTo number outputs a old.files
   pub whole : AreWritten outputs old.files new.files
   pub no_fault : new.faults ≡ old.faults
 
 -- the outputs up to the one of this name were written, and that one was not
-pub record Breaks (why : WriteRefused) (name : List ℕ) (a : Request) (old new : ShelfState) : Type 0 where
+pub record BreaksOff (why : WriteRefused) (name : List ℕ) (a : Request) (old new : ShelfState) : Type 0 where
   pub number : ℕ
   pub outputs : List Named
-  pub comes : Comes number outputs a old.files
+  pub comes : ComesTo number outputs a old.files
   pub stops : StopsWith why name outputs old.files new.files old.faults new.faults
 
 -- all inputs were taken, and their texts are refused
@@ -52,8 +52,8 @@ Refused (Input r) a old new =
     StopsAt r.why r.name.now (inputs_of a) old.files old.faults new.faults
     × (new.files ≡ old.files)
 Refused (Text r) a old new = RefusesFiles r a old.files × (new ≡ old)
-Refused (Output r) a old new = Breaks r.why r.name.now a old new
+Refused (Output r) a old new = BreaksOff r.why r.name.now a old new
 
 abbrev pub Outcome : Result ℕ CommandRefused → Request → ShelfState → ShelfState → Type 0
-Outcome (Ok number) a old new = Done number a old new
+Outcome (Ok number) a old new = Completes number a old new
 Outcome (Err refused) a old new = Refused refused a old new

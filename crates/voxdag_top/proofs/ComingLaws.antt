@@ -15,7 +15,7 @@ use Rattle.voxdag_top.specs.declared.endings.Ending.TheVariants.{Counted, Ran, U
 use Rattle.voxdag_top.specs.Endings.{CommandEnds, EndsAs, status_of, input_status, output_status}
 use Rattle.voxdag_top.specs.Finishing.{Runs}
 use Rattle.voxdag_top.specs.Statuses.{IsOr}
-use Rattle.voxdag_top.specs.Verdicts.{Judges, status_for}
+use Rattle.voxdag_top.specs.Verdicts.{JudgesWords, status_for}
 use Rattle.voxdag_top.proofs.StatusLaws.{comes}
 
 -- want of memory may come in place of any status
@@ -55,17 +55,17 @@ status_follows v (Refused (Text Collides)) result follows is = by_status (status
 status_follows v (Refused (Output r)) result follows is = write_status v r.why result follows is
 status_follows v (Refused (Text Memory)) result follows is = memory_or (status_for v) result is
 
-command_follows : (a : Request) (e : Ending) (old new : ShelfState) (files : Files) (v : Verdict) → CommandEnds e a old new → old.files ≡ Some files → (Rose old.faults new.faults → ⊥) → Judges (Some a) files v → EndFollows v e
+command_follows : (a : Request) (e : Ending) (old new : ShelfState) (files : Files) (v : Verdict) → CommandEnds e a old new → old.files ≡ Some files → (Rose old.faults new.faults → ⊥) → JudgesWords (Some a) files v → EndFollows v e
 command_follows a (Counted number) old new files v ends told calm judges = outcome_follows (Ok number) a old new ends.1 files v told calm judges
 command_follows a (Ran number) old new files v ends told calm judges = outcome_follows (Ok number) a old new ends.1 files v told calm judges
 command_follows a Usage old new files v ends told calm judges = absurd ends
 command_follows a (Refused r) old new files v ends told calm judges = outcome_follows (Err r) a old new ends files v told calm judges
 
-end_follows : (a : Option Request) (e : Ending) (old new : ShelfState) (files : Files) (v : Verdict) → EndsAs a e old new → old.files ≡ Some files → (Rose old.faults new.faults → ⊥) → Judges a files v → EndFollows v e
+end_follows : (a : Option Request) (e : Ending) (old new : ShelfState) (files : Files) (v : Verdict) → EndsAs a e old new → old.files ≡ Some files → (Rose old.faults new.faults → ⊥) → JudgesWords a files v → EndFollows v e
 end_follows None e old new files v ends told calm judges = absurd judges
 end_follows (Some a) e old new files v ends told calm judges = command_follows a e old new files v ends told calm judges
 
-pub comes_by : (a : Option Request) (old new : Outside) (result : ℕ) → Runs a old new result → (files : Files) (v : Verdict) → old.shelf.files ≡ Some files → (Rose old.shelf.faults new.shelf.faults → ⊥) → Judges a files v → IsOr (status_for v) result
+pub comes_by : (a : Option Request) (old new : Outside) (result : ℕ) → Runs a old new result → (files : Files) (v : Verdict) → old.shelf.files ≡ Some files → (Rose old.shelf.faults new.shelf.faults → ⊥) → JudgesWords a files v → IsOr (status_for v) result
 comes_by a old new result run files v told calm judges =
     status_follows v run.ending result (end_follows a run.ending old.shelf new.shelf files v run.ends told calm judges) (comes run.ending run.finish)
 

@@ -10,12 +10,12 @@ use Rattle.script_files.specs.declared.refusals.CommandRefused.TheVariants.{Inpu
 use Rattle.script_files.specs.declared.requests.Request.TheVariants.{Count, Run}
 use Rattle.script_files.specs.Orders.{Asked}
 use Rattle.script_files.specs.Requests.{transcript_name, journal_output, outputs_of}
-use Rattle.script_files.specs.Outcomes.{Outcome, Breaks}
+use Rattle.script_files.specs.Outcomes.{Outcome, BreaksOff}
 use Rattle.voxdag_top.specs.declared.endings.Ending.{Ending}
 use Rattle.voxdag_top.specs.declared.endings.Ending.TheVariants.{Counted, Ran, Usage, Refused}
 use Rattle.voxdag_top.specs.Endings.{CommandEnds}
 use Rattle.voxdag_top.specs.Lines.{write_fault_line}
-use Rattle.voxdag_top.specs.Finishing.{WriteHasRoom, RefusalHasRoom, HasRoom}
+use Rattle.voxdag_top.specs.Finishing.{WriteHasRoom, RefusalHasRoom, HasLineRoom}
 
 -- a line fits in so many bytes
 abbrev pub FitsIn : ℕ → List ℕ → Type 0
@@ -41,7 +41,7 @@ nothing_parts : (outputs first others : List Named) (output : Named) → outputs
 nothing_parts outputs [] others output none parts = cc
 nothing_parts outputs (o ∷ first) others output none parts = cc
 
-count_write : (why : WriteRefused) (name : List ℕ) (file : List ℕ) (old new : ShelfState) → Breaks why name (Count file) old new → WriteHasRoom why name 0
+count_write : (why : WriteRefused) (name : List ℕ) (file : List ℕ) (old new : ShelfState) → BreaksOff why name (Count file) old new → WriteHasRoom why name 0
 count_write writes.Failed name file old new breaks = absurd (nothing_parts breaks.outputs breaks.stops.0.first breaks.stops.0.others breaks.stops.0.output breaks.comes.gives.none breaks.stops.0.parts)
 count_write writes.Memory name file old new breaks = tt
 
@@ -50,7 +50,7 @@ count_refusal (Output r) file old new outcome = count_write r.why r.name.now fil
 count_refusal (Input r) file old new outcome = tt
 count_refusal (Text r) file old new outcome = tt
 
-run_write : (why : WriteRefused) (name : List ℕ) (asked : Asked) (old new : ShelfState) (room : ℕ) → Breaks why name (Run asked) old new → FitsIn room (transcript_name asked.script) → IfSome asked.journal (FitsIn room) → WriteHasRoom why name room
+run_write : (why : WriteRefused) (name : List ℕ) (asked : Asked) (old new : ShelfState) (room : ℕ) → BreaksOff why name (Run asked) old new → FitsIn room (transcript_name asked.script) → IfSome asked.journal (FitsIn room) → WriteHasRoom why name room
 run_write writes.Failed name asked old new room breaks of_transcript of_journal =
     let at = breaks.stops.0 in
     subst (λ (n : List ℕ). FitsIn room n) (sym at.named)
@@ -62,7 +62,7 @@ run_refusal (Output r) asked old new room outcome of_transcript of_journal = run
 run_refusal (Input r) asked old new room outcome of_transcript of_journal = tt
 run_refusal (Text r) asked old new room outcome of_transcript of_journal = tt
 
-pub run_has_room : (e : Ending) (asked : Asked) (old new : ShelfState) (room : ℕ) → CommandEnds e (Run asked) old new → FitsIn room (transcript_name asked.script) → IfSome asked.journal (FitsIn room) → HasRoom e room
+pub run_has_room : (e : Ending) (asked : Asked) (old new : ShelfState) (room : ℕ) → CommandEnds e (Run asked) old new → FitsIn room (transcript_name asked.script) → IfSome asked.journal (FitsIn room) → HasLineRoom e room
 run_has_room (Counted number) asked old new room ends of_transcript of_journal = tt
 run_has_room (Ran number) asked old new room ends of_transcript of_journal = tt
 run_has_room Usage asked old new room ends of_transcript of_journal = tt

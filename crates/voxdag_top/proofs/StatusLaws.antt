@@ -1,6 +1,8 @@
 -- What each status says, from what stands behind the ending and the put of its line.
-use Rattle.std.proofs.Common.{◌≡◌, ℕ, inl, inr, List, Option, Some, None, refl, sym, ap, subst, ◌∙◌, ◌⊎◌, arith}
-use Rattle.std.specs.Prelude.{IsTrue}
+use Rattle.std.proofs.Common.{◌≡◌, ℕ, false, inl, inr, List, [], ◌∷◌, Option, Some, None, refl, sym, ap, subst, ◌∙◌, ◌⊎◌, arith}
+use Rattle.std.specs.Prelude.{IsTrue, ◌==◌}
+use Rattle.std.specs.List.{list_any}
+use Rattle.std.proofs.lemmas.Bool.{false≢true}
 use Rattle.vw_io.specs.Outside.{Rose, SinkState, Outside}
 use Rattle.vw_io.specs.Inputs.{StopsAt}
 use Rattle.vw_io.specs.declared.shelves.ReadRefused.{ReadRefused}
@@ -12,16 +14,16 @@ use Rattle.script_files.specs.declared.refusals.TextRefused.TheVariants.{Vox, Sc
 use Rattle.script_files.specs.declared.requests.Request.{Request}
 use Rattle.script_files.specs.declared.requests.Request.TheVariants.{Count, Run}
 use Rattle.script_files.specs.Requests.{inputs_of}
-use Rattle.script_files.specs.Outcomes.{Breaks}
+use Rattle.script_files.specs.Outcomes.{BreaksOff}
 use Rattle.voxdag_top.specs.declared.endings.Ending.{Ending}
 use Rattle.voxdag_top.specs.declared.endings.Ending.TheVariants.{Counted, Ran, Usage, Refused}
-use Rattle.voxdag_top.specs.Lines.{Puts, Begins, memory_line, input_line, output_line}
-use Rattle.voxdag_top.specs.Endings.{EndsAs, line_of, status_of, input_status, output_status, MayLackLine, WriteMayLackLine}
+use Rattle.voxdag_top.specs.Lines.{Puts, PutsBeginning, memory_line, input_line, output_line}
+use Rattle.voxdag_top.specs.Endings.{EndsAs, ending_line, status_of, input_status, output_status, MayLackLine, WriteMayLackLine}
 use Rattle.voxdag_top.specs.Finishing.{Finishes, Runs, put, failed, lacking}
-use Rattle.voxdag_top.specs.Statuses.{IsOr, is_status, Done, Unusable, Missed, Faulted, VoxRefused, ScriptRefused, WriteFailed, OutFailed, LacksMemory, Exceeded}
+use Rattle.voxdag_top.specs.Statuses.{IsOr, is_status, Finished, Unusable, Missed, Faulted, VoxRefused, ScriptRefused, WriteFailed, OutFailed, LacksMemory, Exceeded}
 
 -- a status of a line that was put is that of the ending
-ended : (e : Ending) {k result : ℕ} {old new : SinkState} → (k ≡ 7 → ⊥) → (k ≡ 8 → ⊥) → Finishes e old new result → result ≡ k → (status_of e ≡ k) × Puts old.told new.told (line_of e)
+ended : (e : Ending) {k result : ℕ} {old new : SinkState} → (k ≡ 7 → ⊥) → (k ≡ 8 → ⊥) → Finishes e old new result → result ≡ k → (status_of e ≡ k) × Puts old.told new.told (ending_line e)
 ended e not_7 not_8 (inl (put is line)) same = (sym is ∙ same, line)
 ended e not_7 not_8 (inl (failed is rose begun)) same = absurd (not_7 (sym same ∙ is))
 ended e not_7 not_8 (inl (lacking is none)) same = absurd (not_8 (sym same ∙ is))
@@ -66,106 +68,49 @@ is_write_fault : (why : WriteRefused) → output_status why ≡ 6 → why ≡ wr
 is_write_fault writes.Failed is = refl
 is_write_fault writes.Memory is = absurd (omega arith)
 
-input_not_0 : (why : ReadRefused) → input_status why ≡ 0 → ⊥
-input_not_0 reads.Missing is = omega arith
-input_not_0 reads.TooLong is = omega arith
-input_not_0 reads.Failed is = omega arith
-input_not_0 reads.Memory is = omega arith
+-- an input that was not taken has one of four statuses, and an output that was not written one of two
+not_input : (why : ReadRefused) (k : ℕ) → input_status why ≡ k → list_any (λ n. n == k) (2 ∷ 3 ∷ 8 ∷ 9 ∷ []) ≡ false → ⊥
+not_input reads.Missing k is other = false≢true (sym (subst (λ (n : ℕ). list_any (λ m. m == n) (2 ∷ 3 ∷ 8 ∷ 9 ∷ []) ≡ false) (sym is) other))
+not_input reads.TooLong k is other = false≢true (sym (subst (λ (n : ℕ). list_any (λ m. m == n) (2 ∷ 3 ∷ 8 ∷ 9 ∷ []) ≡ false) (sym is) other))
+not_input reads.Failed k is other = false≢true (sym (subst (λ (n : ℕ). list_any (λ m. m == n) (2 ∷ 3 ∷ 8 ∷ 9 ∷ []) ≡ false) (sym is) other))
+not_input reads.Memory k is other = false≢true (sym (subst (λ (n : ℕ). list_any (λ m. m == n) (2 ∷ 3 ∷ 8 ∷ 9 ∷ []) ≡ false) (sym is) other))
 
-input_not_1 : (why : ReadRefused) → input_status why ≡ 1 → ⊥
-input_not_1 reads.Missing is = omega arith
-input_not_1 reads.TooLong is = omega arith
-input_not_1 reads.Failed is = omega arith
-input_not_1 reads.Memory is = omega arith
-
-input_not_4 : (why : ReadRefused) → input_status why ≡ 4 → ⊥
-input_not_4 reads.Missing is = omega arith
-input_not_4 reads.TooLong is = omega arith
-input_not_4 reads.Failed is = omega arith
-input_not_4 reads.Memory is = omega arith
-
-input_not_5 : (why : ReadRefused) → input_status why ≡ 5 → ⊥
-input_not_5 reads.Missing is = omega arith
-input_not_5 reads.TooLong is = omega arith
-input_not_5 reads.Failed is = omega arith
-input_not_5 reads.Memory is = omega arith
-
-input_not_6 : (why : ReadRefused) → input_status why ≡ 6 → ⊥
-input_not_6 reads.Missing is = omega arith
-input_not_6 reads.TooLong is = omega arith
-input_not_6 reads.Failed is = omega arith
-input_not_6 reads.Memory is = omega arith
-
-input_not_7 : (why : ReadRefused) → input_status why ≡ 7 → ⊥
-input_not_7 reads.Missing is = omega arith
-input_not_7 reads.TooLong is = omega arith
-input_not_7 reads.Failed is = omega arith
-input_not_7 reads.Memory is = omega arith
-
-output_not_0 : (why : WriteRefused) → output_status why ≡ 0 → ⊥
-output_not_0 writes.Failed is = omega arith
-output_not_0 writes.Memory is = omega arith
-
-output_not_1 : (why : WriteRefused) → output_status why ≡ 1 → ⊥
-output_not_1 writes.Failed is = omega arith
-output_not_1 writes.Memory is = omega arith
-
-output_not_2 : (why : WriteRefused) → output_status why ≡ 2 → ⊥
-output_not_2 writes.Failed is = omega arith
-output_not_2 writes.Memory is = omega arith
-
-output_not_3 : (why : WriteRefused) → output_status why ≡ 3 → ⊥
-output_not_3 writes.Failed is = omega arith
-output_not_3 writes.Memory is = omega arith
-
-output_not_4 : (why : WriteRefused) → output_status why ≡ 4 → ⊥
-output_not_4 writes.Failed is = omega arith
-output_not_4 writes.Memory is = omega arith
-
-output_not_5 : (why : WriteRefused) → output_status why ≡ 5 → ⊥
-output_not_5 writes.Failed is = omega arith
-output_not_5 writes.Memory is = omega arith
-
-output_not_7 : (why : WriteRefused) → output_status why ≡ 7 → ⊥
-output_not_7 writes.Failed is = omega arith
-output_not_7 writes.Memory is = omega arith
-
-output_not_9 : (why : WriteRefused) → output_status why ≡ 9 → ⊥
-output_not_9 writes.Failed is = omega arith
-output_not_9 writes.Memory is = omega arith
+not_output : (why : WriteRefused) (k : ℕ) → output_status why ≡ k → list_any (λ n. n == k) (6 ∷ 8 ∷ []) ≡ false → ⊥
+not_output writes.Failed k is other = false≢true (sym (subst (λ (n : ℕ). list_any (λ m. m == n) (6 ∷ 8 ∷ []) ≡ false) (sym is) other))
+not_output writes.Memory k is other = false≢true (sym (subst (λ (n : ℕ). list_any (λ m. m == n) (6 ∷ 8 ∷ []) ≡ false) (sym is) other))
 
 -- ---- each status
 
 -- status 0
-done_at : (a : Option Request) (e : Ending) (old new : Outside) → EndsAs a e old.shelf new.shelf → status_of e ≡ 0 → Puts old.out.told new.out.told (line_of e) → Done a old new
+done_at : (a : Option Request) (e : Ending) (old new : Outside) → EndsAs a e old.shelf new.shelf → status_of e ≡ 0 → Puts old.out.told new.out.told (ending_line e) → Finished a old new
 done_at None e old new ends is puts = absurd (let usage = usage_status e ends.0 in omega (arith, is, usage))
 done_at (Some (Count file)) (Counted number) old new ends is puts = record { number = number; done = ends.1; line = puts }
 done_at (Some (Run asked)) (Counted number) old new ends is puts = absurd ends.0
 done_at (Some (Count file)) (Ran number) old new ends is puts = absurd ends.0
 done_at (Some (Run asked)) (Ran number) old new ends is puts = record { number = number; done = ends.1; line = puts }
 done_at (Some a) Usage old new ends is puts = absurd ends
-done_at (Some a) (Refused (Input r)) old new ends is puts = absurd (input_not_0 r.why is)
+done_at (Some a) (Refused (Input r)) old new ends is puts = absurd (not_input r.why 0 is refl)
 done_at (Some a) (Refused (Text (Vox fault))) old new ends is puts = absurd (omega arith)
 done_at (Some a) (Refused (Text (Script fault))) old new ends is puts = absurd (omega arith)
 done_at (Some a) (Refused (Text Collides)) old new ends is puts = absurd (omega arith)
-done_at (Some a) (Refused (Output r)) old new ends is puts = absurd (output_not_0 r.why is)
+done_at (Some a) (Refused (Output r)) old new ends is puts = absurd (not_output r.why 0 is refl)
 done_at (Some a) (Refused (Text Memory)) old new ends is puts = absurd (omega arith)
 
 -- status 1
-usage_at : (a : Option Request) (e : Ending) (old new : Outside) → EndsAs a e old.shelf new.shelf → status_of e ≡ 1 → Puts old.out.told new.out.told (line_of e) → Unusable a old new
-usage_at None e old new ends is puts = record { cause = tt; unchanged = ends.1; line = subst (λ (x : Ending). Puts old.out.told new.out.told (line_of x)) ends.0 puts }
+usage_at : (a : Option Request) (e : Ending) (old new : Outside) → EndsAs a e old.shelf new.shelf → status_of e ≡ 1 → Puts old.out.told new.out.told (ending_line e) → Unusable a old new
+usage_at None e old new ends is puts = record { cause = tt; unchanged = ends.1; line = subst (λ (x : Ending). Puts old.out.told new.out.told (ending_line x)) ends.0 puts }
 usage_at (Some a) (Counted number) old new ends is puts = absurd (omega arith)
 usage_at (Some a) (Ran number) old new ends is puts = absurd (omega arith)
 usage_at (Some a) Usage old new ends is puts = absurd ends
-usage_at (Some a) (Refused (Input r)) old new ends is puts = absurd (input_not_1 r.why is)
+usage_at (Some a) (Refused (Input r)) old new ends is puts = absurd (not_input r.why 1 is refl)
 usage_at (Some a) (Refused (Text (Vox fault))) old new ends is puts = absurd (omega arith)
 usage_at (Some a) (Refused (Text (Script fault))) old new ends is puts = absurd (omega arith)
 usage_at (Some a) (Refused (Text Collides)) old new ends is puts = record { cause = ends.0; unchanged = ends.1; line = puts }
-usage_at (Some a) (Refused (Output r)) old new ends is puts = absurd (output_not_1 r.why is)
+usage_at (Some a) (Refused (Output r)) old new ends is puts = absurd (not_output r.why 1 is refl)
 usage_at (Some a) (Refused (Text Memory)) old new ends is puts = absurd (omega arith)
 
 -- status 2
-missing_at : (a : Option Request) (e : Ending) (old new : Outside) → EndsAs a e old.shelf new.shelf → status_of e ≡ 2 → Puts old.out.told new.out.told (line_of e) → Missed a old new
+missing_at : (a : Option Request) (e : Ending) (old new : Outside) → EndsAs a e old.shelf new.shelf → status_of e ≡ 2 → Puts old.out.told new.out.told (ending_line e) → Missed a old new
 missing_at None e old new ends is puts = absurd (let usage = usage_status e ends.0 in omega (arith, is, usage))
 missing_at (Some a) (Counted number) old new ends is puts = absurd (omega arith)
 missing_at (Some a) (Ran number) old new ends is puts = absurd (omega arith)
@@ -181,11 +126,11 @@ missing_at (Some a) (Refused (Input r)) old new ends is puts =
 missing_at (Some a) (Refused (Text (Vox fault))) old new ends is puts = absurd (omega arith)
 missing_at (Some a) (Refused (Text (Script fault))) old new ends is puts = absurd (omega arith)
 missing_at (Some a) (Refused (Text Collides)) old new ends is puts = absurd (omega arith)
-missing_at (Some a) (Refused (Output r)) old new ends is puts = absurd (output_not_2 r.why is)
+missing_at (Some a) (Refused (Output r)) old new ends is puts = absurd (not_output r.why 2 is refl)
 missing_at (Some a) (Refused (Text Memory)) old new ends is puts = absurd (omega arith)
 
 -- status 3
-read_fault_at : (a : Option Request) (e : Ending) (old new : Outside) → EndsAs a e old.shelf new.shelf → status_of e ≡ 3 → Puts old.out.told new.out.told (line_of e) → Faulted a old new
+read_fault_at : (a : Option Request) (e : Ending) (old new : Outside) → EndsAs a e old.shelf new.shelf → status_of e ≡ 3 → Puts old.out.told new.out.told (ending_line e) → Faulted a old new
 read_fault_at None e old new ends is puts = absurd (let usage = usage_status e ends.0 in omega (arith, is, usage))
 read_fault_at (Some a) (Counted number) old new ends is puts = absurd (omega arith)
 read_fault_at (Some a) (Ran number) old new ends is puts = absurd (omega arith)
@@ -201,11 +146,11 @@ read_fault_at (Some a) (Refused (Input r)) old new ends is puts =
 read_fault_at (Some a) (Refused (Text (Vox fault))) old new ends is puts = absurd (omega arith)
 read_fault_at (Some a) (Refused (Text (Script fault))) old new ends is puts = absurd (omega arith)
 read_fault_at (Some a) (Refused (Text Collides)) old new ends is puts = absurd (omega arith)
-read_fault_at (Some a) (Refused (Output r)) old new ends is puts = absurd (output_not_3 r.why is)
+read_fault_at (Some a) (Refused (Output r)) old new ends is puts = absurd (not_output r.why 3 is refl)
 read_fault_at (Some a) (Refused (Text Memory)) old new ends is puts = absurd (omega arith)
 
 -- status 9
-too_long_at : (a : Option Request) (e : Ending) (old new : Outside) → EndsAs a e old.shelf new.shelf → status_of e ≡ 9 → Puts old.out.told new.out.told (line_of e) → Exceeded a old new
+too_long_at : (a : Option Request) (e : Ending) (old new : Outside) → EndsAs a e old.shelf new.shelf → status_of e ≡ 9 → Puts old.out.told new.out.told (ending_line e) → Exceeded a old new
 too_long_at None e old new ends is puts = absurd (let usage = usage_status e ends.0 in omega (arith, is, usage))
 too_long_at (Some a) (Counted number) old new ends is puts = absurd (omega arith)
 too_long_at (Some a) (Ran number) old new ends is puts = absurd (omega arith)
@@ -221,42 +166,42 @@ too_long_at (Some a) (Refused (Input r)) old new ends is puts =
 too_long_at (Some a) (Refused (Text (Vox fault))) old new ends is puts = absurd (omega arith)
 too_long_at (Some a) (Refused (Text (Script fault))) old new ends is puts = absurd (omega arith)
 too_long_at (Some a) (Refused (Text Collides)) old new ends is puts = absurd (omega arith)
-too_long_at (Some a) (Refused (Output r)) old new ends is puts = absurd (output_not_9 r.why is)
+too_long_at (Some a) (Refused (Output r)) old new ends is puts = absurd (not_output r.why 9 is refl)
 too_long_at (Some a) (Refused (Text Memory)) old new ends is puts = absurd (omega arith)
 
 -- status 4
-vox_refused_at : (a : Option Request) (e : Ending) (old new : Outside) → EndsAs a e old.shelf new.shelf → status_of e ≡ 4 → Puts old.out.told new.out.told (line_of e) → VoxRefused a old new
+vox_refused_at : (a : Option Request) (e : Ending) (old new : Outside) → EndsAs a e old.shelf new.shelf → status_of e ≡ 4 → Puts old.out.told new.out.told (ending_line e) → VoxRefused a old new
 vox_refused_at None e old new ends is puts = absurd (let usage = usage_status e ends.0 in omega (arith, is, usage))
 vox_refused_at (Some a) (Counted number) old new ends is puts = absurd (omega arith)
 vox_refused_at (Some a) (Ran number) old new ends is puts = absurd (omega arith)
 vox_refused_at (Some a) Usage old new ends is puts = absurd ends
-vox_refused_at (Some a) (Refused (Input r)) old new ends is puts = absurd (input_not_4 r.why is)
+vox_refused_at (Some a) (Refused (Input r)) old new ends is puts = absurd (not_input r.why 4 is refl)
 vox_refused_at (Some a) (Refused (Text (Vox fault))) old new ends is puts = record { fault = fault; refuses = ends.0; unchanged = ends.1; line = puts }
 vox_refused_at (Some a) (Refused (Text (Script fault))) old new ends is puts = absurd (omega arith)
 vox_refused_at (Some a) (Refused (Text Collides)) old new ends is puts = absurd (omega arith)
-vox_refused_at (Some a) (Refused (Output r)) old new ends is puts = absurd (output_not_4 r.why is)
+vox_refused_at (Some a) (Refused (Output r)) old new ends is puts = absurd (not_output r.why 4 is refl)
 vox_refused_at (Some a) (Refused (Text Memory)) old new ends is puts = absurd (omega arith)
 
 -- status 5
-script_refused_at : (a : Option Request) (e : Ending) (old new : Outside) → EndsAs a e old.shelf new.shelf → status_of e ≡ 5 → Puts old.out.told new.out.told (line_of e) → ScriptRefused a old new
+script_refused_at : (a : Option Request) (e : Ending) (old new : Outside) → EndsAs a e old.shelf new.shelf → status_of e ≡ 5 → Puts old.out.told new.out.told (ending_line e) → ScriptRefused a old new
 script_refused_at None e old new ends is puts = absurd (let usage = usage_status e ends.0 in omega (arith, is, usage))
 script_refused_at (Some a) (Counted number) old new ends is puts = absurd (omega arith)
 script_refused_at (Some a) (Ran number) old new ends is puts = absurd (omega arith)
 script_refused_at (Some a) Usage old new ends is puts = absurd ends
-script_refused_at (Some a) (Refused (Input r)) old new ends is puts = absurd (input_not_5 r.why is)
+script_refused_at (Some a) (Refused (Input r)) old new ends is puts = absurd (not_input r.why 5 is refl)
 script_refused_at (Some a) (Refused (Text (Vox fault))) old new ends is puts = absurd (omega arith)
 script_refused_at (Some a) (Refused (Text (Script fault))) old new ends is puts = record { fault = fault; refuses = ends.0; unchanged = ends.1; line = puts }
 script_refused_at (Some a) (Refused (Text Collides)) old new ends is puts = absurd (omega arith)
-script_refused_at (Some a) (Refused (Output r)) old new ends is puts = absurd (output_not_5 r.why is)
+script_refused_at (Some a) (Refused (Output r)) old new ends is puts = absurd (not_output r.why 5 is refl)
 script_refused_at (Some a) (Refused (Text Memory)) old new ends is puts = absurd (omega arith)
 
 -- status 6
-write_fault_at : (a : Option Request) (e : Ending) (old new : Outside) → EndsAs a e old.shelf new.shelf → status_of e ≡ 6 → Puts old.out.told new.out.told (line_of e) → WriteFailed a old new
+write_fault_at : (a : Option Request) (e : Ending) (old new : Outside) → EndsAs a e old.shelf new.shelf → status_of e ≡ 6 → Puts old.out.told new.out.told (ending_line e) → WriteFailed a old new
 write_fault_at None e old new ends is puts = absurd (let usage = usage_status e ends.0 in omega (arith, is, usage))
 write_fault_at (Some a) (Counted number) old new ends is puts = absurd (omega arith)
 write_fault_at (Some a) (Ran number) old new ends is puts = absurd (omega arith)
 write_fault_at (Some a) Usage old new ends is puts = absurd ends
-write_fault_at (Some a) (Refused (Input r)) old new ends is puts = absurd (input_not_6 r.why is)
+write_fault_at (Some a) (Refused (Input r)) old new ends is puts = absurd (not_input r.why 6 is refl)
 write_fault_at (Some a) (Refused (Text (Vox fault))) old new ends is puts = absurd (omega arith)
 write_fault_at (Some a) (Refused (Text (Script fault))) old new ends is puts = absurd (omega arith)
 write_fault_at (Some a) (Refused (Text Collides)) old new ends is puts = absurd (omega arith)
@@ -264,7 +209,7 @@ write_fault_at (Some a) (Refused (Output r)) old new ends is puts =
     let which : r.why ≡ writes.Failed = is_write_fault r.why is in
     record {
       name = r.name.now;
-      breaks = subst (λ (why : WriteRefused). Breaks why r.name.now a old.shelf new.shelf) which ends;
+      breaks = subst (λ (why : WriteRefused). BreaksOff why r.name.now a old.shelf new.shelf) which ends;
       line = subst (λ (why : WriteRefused). Puts old.out.told new.out.told (output_line why r.name.now)) which puts;
     }
 write_fault_at (Some a) (Refused (Text Memory)) old new ends is puts = absurd (omega arith)
@@ -274,8 +219,8 @@ not_seven : (e : Ending) → status_of e ≡ 7 → ⊥
 not_seven (Counted number) is = omega arith
 not_seven (Ran number) is = omega arith
 not_seven Usage is = omega arith
-not_seven (Refused (Input r)) is = input_not_7 r.why is
-not_seven (Refused (Output r)) is = output_not_7 r.why is
+not_seven (Refused (Input r)) is = not_input r.why 7 is refl
+not_seven (Refused (Output r)) is = not_output r.why 7 is refl
 not_seven (Refused (Text (Vox fault))) is = omega arith
 not_seven (Refused (Text (Script fault))) is = omega arith
 not_seven (Refused (Text Collides)) is = omega arith
@@ -291,7 +236,7 @@ output_lacks : (why : WriteRefused) (name : List ℕ) → output_status why ≡ 
 output_lacks writes.Memory name is = (tt, refl)
 output_lacks writes.Failed name is = absurd (omega arith)
 
-memory_line_of : (e : Ending) → status_of e ≡ 8 → MayLackLine e × (line_of e ≡ memory_line)
+memory_line_of : (e : Ending) → status_of e ≡ 8 → MayLackLine e × (ending_line e ≡ memory_line)
 memory_line_of (Refused (Text Memory)) is = (tt, refl)
 memory_line_of (Refused (Input r)) is = (tt, input_lacks r.why r.name.now is)
 memory_line_of (Refused (Output r)) is = output_lacks r.why r.name.now is
@@ -302,7 +247,7 @@ memory_line_of (Refused (Text (Vox fault))) is = absurd (omega arith)
 memory_line_of (Refused (Text (Script fault))) is = absurd (omega arith)
 memory_line_of (Refused (Text Collides)) is = absurd (omega arith)
 
-out_fault_by : (e : Ending) {result : ℕ} {old new : SinkState} → Finishes e old new result → result ≡ 7 → Rose old.faults new.faults × (Begins old.told new.told (line_of e) ⊎ (MayLackLine e × Begins old.told new.told memory_line))
+out_fault_by : (e : Ending) {result : ℕ} {old new : SinkState} → Finishes e old new result → result ≡ 7 → Rose old.faults new.faults × (PutsBeginning old.told new.told (ending_line e) ⊎ (MayLackLine e × PutsBeginning old.told new.told memory_line))
 out_fault_by e (inl (put is line)) same = absurd (not_seven e (sym is ∙ same))
 out_fault_by e (inl (failed is rose begun)) same = (rose, inl begun)
 out_fault_by e (inl (lacking is none)) same = absurd (omega arith)
@@ -354,7 +299,7 @@ known_by e known (inr (may, lacking is none)) = rw is refl
 pub known_says : (a : Option Request) (old new : Outside) (result : ℕ) → Runs a old new result → IsTrue (is_status result)
 known_says a old new result run = known_by run.ending (known_ending run.ending) run.finish
 
-pub done_says : (a : Option Request) (old new : Outside) (result : ℕ) → Runs a old new result → result ≡ 0 → Done a old new
+pub done_says : (a : Option Request) (old new : Outside) (result : ℕ) → Runs a old new result → result ≡ 0 → Finished a old new
 done_says a old new result run is = let p = ended run.ending (λ s. omega arith) (λ s. omega arith) run.finish is in done_at a run.ending old new run.ends p.0 p.1
 
 pub usage_says : (a : Option Request) (old new : Outside) (result : ℕ) → Runs a old new result → result ≡ 1 → Unusable a old new

@@ -9,7 +9,7 @@ use Rattle.script_files.specs.Requests.{inputs_of}
 use Rattle.script_files.specs.Meanings.{file_in}
 use Rattle.script_files.specs.Verdicts.{Verdict, inputs_at, verdict_of, JudgesInputs}
 use Rattle.script_files.specs.Judging.{inputs_once}
-use Rattle.voxdag_top.specs.Verdicts.{Judges}
+use Rattle.voxdag_top.specs.Verdicts.{JudgesWords}
 
 inputs_verdict : ((bytes : List ℕ) → (says : Result (List Content) VoxFault) × Reads bytes says) → (a : Request) (inputs : Result (List (List ℕ)) Verdict) → (v : Verdict) × JudgesInputs a inputs v
 inputs_verdict readings a (Err early) = (early, refl)
@@ -17,9 +17,9 @@ inputs_verdict readings a (Ok texts) =
     let reading = readings (file_in texts) in
     (verdict_of a texts reading.0, record { reading = reading.0; says = reading.1; follows = refl })
 
-pub some_verdict : ((bytes : List ℕ) → (says : Result (List Content) VoxFault) × Reads bytes says) → (a : Request) (files : Files) → (v : Verdict) × Judges (Some a) files v
+pub some_verdict : ((bytes : List ℕ) → (says : Result (List Content) VoxFault) × Reads bytes says) → (a : Request) (files : Files) → (v : Verdict) × JudgesWords (Some a) files v
 some_verdict readings a files = inputs_verdict readings a (inputs_at files (inputs_of a))
 
-pub one_verdict : (a : Option Request) (files : Files) (v w : Verdict) → Judges a files v → Judges a files w → v ≡ w
+pub one_verdict : (a : Option Request) (files : Files) (v w : Verdict) → JudgesWords a files v → JudgesWords a files w → v ≡ w
 one_verdict None files v w of_v of_w = absurd of_v
 one_verdict (Some a) files v w of_v of_w = inputs_once a (inputs_at files (inputs_of a)) v w of_v of_w

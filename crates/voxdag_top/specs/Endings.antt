@@ -76,11 +76,11 @@ refused_line (Input r) = input_line r.why r.name.now
 refused_line (Text r) = text_line r
 refused_line (Output r) = output_line r.why r.name.now
 
-abbrev pub line_of : Ending → List ℕ
-line_of (Counted number) = count_line number
-line_of (Ran number) = run_line number
-line_of Usage = usage_line
-line_of (Refused r) = refused_line r
+abbrev pub ending_line : Ending → List ℕ
+ending_line (Counted number) = count_line number
+ending_line (Ran number) = run_line number
+ending_line Usage = usage_line
+ending_line (Refused r) = refused_line r
 
 -- the ending's line may lack memory, and then the one of want of memory stands for it: not at a
 -- fault of an output, whose file may be half written

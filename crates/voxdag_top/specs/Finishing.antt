@@ -8,14 +8,14 @@ use Rattle.script_files.specs.declared.refusals.CommandRefused.TheVariants.{Inpu
 use Rattle.script_files.specs.declared.requests.Request.{Request}
 use Rattle.voxdag_top.specs.declared.endings.Ending.{Ending}
 use Rattle.voxdag_top.specs.declared.endings.Ending.TheVariants.{Refused}
-use Rattle.voxdag_top.specs.Endings.{EndsAs, line_of, status_of, MayLackLine}
-use Rattle.voxdag_top.specs.Lines.{memory_line, write_fault_line, Puts, Begins}
+use Rattle.voxdag_top.specs.Endings.{EndsAs, ending_line, status_of, MayLackLine}
+use Rattle.voxdag_top.specs.Lines.{memory_line, write_fault_line, Puts, PutsBeginning}
 
 -- the put of a line: the status is the line's; or the output failed at it; or memory was wanted,
 -- and nothing was put
 pub data PutEnds (line : List ℕ) (status : ℕ) (old new : SinkState) (result : ℕ) : Type 0 where
   put : result ≡ status → Puts old.told new.told line → PutEnds line status old new result
-  failed : result ≡ 7 → Rose old.faults new.faults → Begins old.told new.told line
+  failed : result ≡ 7 → Rose old.faults new.faults → PutsBeginning old.told new.told line
       → PutEnds line status old new result
   lacking : result ≡ 8 → new.told ≡ old.told → PutEnds line status old new result
 
@@ -23,7 +23,7 @@ pub data PutEnds (line : List ℕ) (status : ℕ) (old new : SinkState) (result 
 -- memory
 abbrev pub Finishes : Ending → SinkState → SinkState → ℕ → Type 0
 Finishes e old new result =
-    PutEnds (line_of e) (status_of e) old new result
+    PutEnds (ending_line e) (status_of e) old new result
     ⊎ (MayLackLine e × PutEnds memory_line 8 old new result)
 
 -- the program from its request to its status
@@ -42,6 +42,6 @@ RefusalHasRoom (Input r) room = ⊤
 RefusalHasRoom (Text r) room = ⊤
 RefusalHasRoom (Output r) room = WriteHasRoom r.why r.name.now room
 
-abbrev pub HasRoom : Ending → ℕ → Type 0
-HasRoom (Refused r) room = RefusalHasRoom r room
-HasRoom _ room = ⊤
+abbrev pub HasLineRoom : Ending → ℕ → Type 0
+HasLineRoom (Refused r) room = RefusalHasRoom r room
+HasLineRoom _ room = ⊤

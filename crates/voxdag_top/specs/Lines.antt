@@ -65,7 +65,7 @@ Puts None now line = now ≡ None
 Puts (Some before) now line = now ≡ Some (before ++ line)
 
 -- some first bytes of the line were appended, where the output tells that
-abbrev pub Begins : Option (List ℕ) → Option (List ℕ) → List ℕ → Type 0
-Begins None now line = now ≡ None
-Begins (Some before) None line = ⊥
-Begins (Some before) (Some now) line = AppendsPrefix before line now
+abbrev pub PutsBeginning : Option (List ℕ) → Option (List ℕ) → List ℕ → Type 0
+PutsBeginning None now line = now ≡ None
+PutsBeginning (Some before) None line = ⊥
+PutsBeginning (Some before) (Some now) line = AppendsPrefix before line now

@@ -15,9 +15,9 @@ use Rattle.script_files.specs.declared.refusals.TextRefused.TheVariants as texts
 use Rattle.script_files.specs.declared.requests.Request.{Request}
 use Rattle.script_files.specs.Requests.{inputs_of}
 use Rattle.script_files.specs.Outcomes as outcomes
-use Rattle.voxdag_top.specs.Lines.{usage_line, input_line, vox_line, script_line, write_fault_line, memory_line, done_line, Puts, Begins}
+use Rattle.voxdag_top.specs.Lines.{usage_line, input_line, vox_line, script_line, write_fault_line, memory_line, done_line, Puts, PutsBeginning}
 use Rattle.voxdag_top.specs.declared.endings.Ending.{Ending}
-use Rattle.voxdag_top.specs.Endings.{EndsAs, line_of, MayLackLine}
+use Rattle.voxdag_top.specs.Endings.{EndsAs, ending_line, MayLackLine}
 
 abbrev pub is_status : ℕ → Bool
 is_status n =
@@ -31,12 +31,12 @@ IsOr status result = (result ≡ status) ⊎ (result ≡ 7) ⊎ (result ≡ 8)
 
 pub record CommandDone (a : Request) (old new : Outside) : Type 0 where
   pub number : ℕ
-  pub done : outcomes.Done number a old.shelf new.shelf
+  pub done : outcomes.Completes number a old.shelf new.shelf
   pub line : Puts old.out.told new.out.told (done_line a number)
 
-abbrev pub Done : Option Request → Outside → Outside → Type 0
-Done None old new = ⊥
-Done (Some a) old new = CommandDone a old new
+abbrev pub Finished : Option Request → Outside → Outside → Type 0
+Finished None old new = ⊥
+Finished (Some a) old new = CommandDone a old new
 
 -- ---- status 1: the words are outside the grammar, or all inputs are accepted and a name of an
 -- output is taken
@@ -98,7 +98,7 @@ pub record ScriptRefused (a : Option Request) (old new : Outside) : Type 0 where
 
 abbrev pub BreaksOn : List ℕ → Option Request → ShelfState → ShelfState → Type 0
 BreaksOn name None old new = ⊥
-BreaksOn name (Some a) old new = outcomes.Breaks writes.Failed name a old new
+BreaksOn name (Some a) old new = outcomes.BreaksOff writes.Failed name a old new
 
 pub record WriteFailed (a : Option Request) (old new : Outside) : Type 0 where
   pub name : List ℕ
@@ -114,8 +114,8 @@ pub record OutFailed (a : Option Request) (old new : Outside) : Type 0 where
   pub ending : Ending
   pub ends : EndsAs a ending old.shelf new.shelf
   pub rose : Rose old.out.faults new.out.faults
-  pub begun : Begins old.out.told new.out.told (line_of ending)
-      ⊎ (MayLackLine ending × Begins old.out.told new.out.told memory_line)
+  pub begun : PutsBeginning old.out.told new.out.told (ending_line ending)
+      ⊎ (MayLackLine ending × PutsBeginning old.out.told new.out.told memory_line)
 
 -- status 8: want of memory in the run or for its line, told by its own line or by none. After a
 -- fault at an output it is the put of that fault's line that memory was wanted for, and nothing is

@@ -6,9 +6,9 @@ use Rattle.script_files.specs.Verdicts.{Verdict, Fine, LacksInput, InputIsLong, 
 use Rattle.script_files.specs.Verdicts as commands
 
 -- the first thing that is wrong with the inputs and the names, if anything is
-abbrev pub Judges : Option Request → Files → Verdict → Type 0
-Judges None files v = ⊥
-Judges (Some a) files v = commands.Judges files a v
+abbrev pub JudgesWords : Option Request → Files → Verdict → Type 0
+JudgesWords None files v = ⊥
+JudgesWords (Some a) files v = commands.Judges files a v
 
 abbrev pub status_for : Verdict → ℕ
 status_for Fine = 0

@@ -26,12 +26,12 @@ abbrev pub exponent_of : ℕ → Option ℕ
 exponent_of n = find (λ e. 2 ^ e == n) (2 ∷ 3 ∷ 4 ∷ 5 ∷ 6 ∷ 7 ∷ 8 ∷ [])
 
 -- a side as a word: a number of 1 to 6 digits
-abbrev pub side_spelled : Result ℕ ScriptKind → Option ℕ
-side_spelled (Ok n) = exponent_of n
-side_spelled (Err kind) = None
+abbrev pub side_named : Result ℕ ScriptKind → Option ℕ
+side_named (Ok n) = exponent_of n
+side_named (Err kind) = None
 
 abbrev pub side_of : List ℕ → Option ℕ
-side_of word = if nat_le (length word) 6 then side_spelled (number_of word) else None
+side_of word = if nat_le (length word) 6 then side_named (number_of word) else None
 
 -- `FILE SCRIPT`, the last words of `run`
 abbrev pub run_names : ℕ → Option (List ℕ) → List (List ℕ) → Option Request

@@ -5,9 +5,9 @@ ghost use Rattle.script_files.specs.Requests.{transcript_name};
 ghost use Rattle.script_files.specs.Verdicts.{Verdict};
 ghost use Rattle.voxdag_top.specs.Words.{texts, request_of};
 ghost use Rattle.voxdag_top.specs.Endings.{CommandEnds};
-ghost use Rattle.voxdag_top.specs.Finishing.{Runs, HasRoom};
-ghost use Rattle.voxdag_top.specs.Verdicts.{Judges, status_for};
-ghost use Rattle.voxdag_top.specs.Statuses.{IsOr, is_status, Done, Unusable, Missed, Faulted, VoxRefused, ScriptRefused, WriteFailed, OutFailed, LacksMemory, Exceeded};
+ghost use Rattle.voxdag_top.specs.Finishing.{Runs, HasLineRoom};
+ghost use Rattle.voxdag_top.specs.Verdicts.{JudgesWords, status_for};
+ghost use Rattle.voxdag_top.specs.Statuses.{IsOr, is_status, Finished, Unusable, Missed, Faulted, VoxRefused, ScriptRefused, WriteFailed, OutFailed, LacksMemory, Exceeded};
 ghost use Rattle.voxdag_top.specs.Lines.{write_fault_line};
 
 use crate::endings::Ending;
@@ -32,7 +32,7 @@ pub fn voxdag<S: Shelf, O: Sink>(alloc: Global, words: &[String], shelf: &mut S,
     ensures known { IsTrue (is_status result) }
 
     // what each status says
-    ensures done { result ≡ 0 → Done (request_of (texts words.now))
+    ensures done { result ≡ 0 → Finished (request_of (texts words.now))
         (outside (S.state shelf.old) (O.state out.old)) (outside (S.state shelf.new) (O.state out.new)) }
     ensures usage { result ≡ 1 → Unusable (request_of (texts words.now))
         (outside (S.state shelf.old) (O.state out.old)) (outside (S.state shelf.new) (O.state out.new)) }
@@ -58,7 +58,7 @@ pub fn voxdag<S: Shelf, O: Sink>(alloc: Global, words: &[String], shelf: &mut S,
     ensures usage_comes { request_of (texts words.now) ≡ None → IsOr 1 result }
     ensures comes { (files : Files) (v : Verdict) → (S.state shelf.old).files ≡ Some files
         → (Rose (S.state shelf.old).faults (S.state shelf.new).faults → ⊥)
-        → Judges (request_of (texts words.now)) files v → IsOr (status_for v) result }
+        → JudgesWords (request_of (texts words.now)) files v → IsOr (status_for v) result }
 {
     answer(alloc, words, shelf, out)
 }
@@ -86,7 +86,7 @@ fn count<S: Shelf, O: Sink>(alloc: Global, file: FileName<'_>, shelf: &mut S, ou
 #[tactic(auto, using(crate::proofs::Rooms::count_refusal))]
 fn counted<'w, S: Shelf>(alloc: Global, file: FileName<'w>, shelf: &mut S) -> Ending<'w>
     ensures ends { CommandEnds result (Count file.entry) (S.state shelf.old) (S.state shelf.new) }
-    ensures room { HasRoom result 0 }
+    ensures room { HasLineRoom result 0 }
 {
     match count_file(alloc, file, shelf) {
         Ok(cells) => Ending::Counted(cells),

@@ -2,18 +2,18 @@ ghost use Rattle.std.specs.Prelude.{◌≡◌, Some, Option};
 ghost use Rattle.vw_io.specs.Outside.{Files};
 ghost use Rattle.script_files.specs.Verdicts.{Verdict};
 ghost use Rattle.script_files.specs.declared.requests.Request.{Request};
-ghost use Rattle.voxdag_top.specs.Verdicts.{Judges};
+ghost use Rattle.voxdag_top.specs.Verdicts.{JudgesWords};
 
 use vox_read::files_have_a_reading;
 
 /// A law: what words of the grammar ask of told files has a verdict.
 pub fn words_have_a_verdict()
-    ensures { (a : Request) (files : Files) → (v : Verdict) × Judges (Some a) files v }
+    ensures { (a : Request) (files : Files) → (v : Verdict) × JudgesWords (Some a) files v }
 {
     files_have_a_reading();
 }
 
 /// A law: it has one verdict alone.
 pub fn verdicts_are_one()
-    ensures { (a : Option Request) (files : Files) (v w : Verdict) → Judges a files v → Judges a files w → v ≡ w }
+    ensures { (a : Option Request) (files : Files) (v w : Verdict) → JudgesWords a files v → JudgesWords a files w → v ≡ w }
 {}

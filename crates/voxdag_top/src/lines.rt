@@ -1,8 +1,8 @@
 ghost use Rattle.std.specs.Prelude.{◌≡◌, ◌≤◌, [], length, codes, IfOk, IsOkAnd, IfSome, OnErr, string_bytes, string_capacity};
 ghost use Rattle.script.specs.Faults.{number_of_kind};
 ghost use Rattle.voxdag_top.specs.Lines.{script_line, input_line, output_line, write_fault_line};
-ghost use Rattle.voxdag_top.specs.Endings.{line_of, refused_line, text_line, status_of, refused_status, MayLackLine, RefusalMayLackLine, WriteMayLackLine};
-ghost use Rattle.voxdag_top.specs.Finishing.{PutEnds, Finishes, HasRoom, RefusalHasRoom, WriteHasRoom};
+ghost use Rattle.voxdag_top.specs.Endings.{ending_line, refused_line, text_line, status_of, refused_status, MayLackLine, RefusalMayLackLine, WriteMayLackLine};
+ghost use Rattle.voxdag_top.specs.Finishing.{PutEnds, Finishes, HasLineRoom, RefusalHasRoom, WriteHasRoom};
 
 use crate::endings::Ending;
 use script::ScriptFault;
@@ -13,7 +13,7 @@ use vw_io::{InputRefused, OutputRefused, PutRefused, ReadRefused, Sink, WriteRef
 // Puts the ending's line, and gives the status. The room is for a line that must not lack memory.
 pub(crate) fn finish<O: Sink>(alloc: Global, ending: &Ending<'_>, room: String, out: &mut O) -> u8
     requires empty { string_bytes room ≡ [] }
-    requires room { HasRoom ending.now (string_capacity room) }
+    requires room { HasLineRoom ending.now (string_capacity room) }
     ensures { Finishes ending.now (O.state out.old) (O.state out.new) result }
 {
     match line(alloc, ending, room) {
@@ -67,8 +67,8 @@ fn refused_status(refused: &CommandRefused<'_>) -> u8
 
 fn line(alloc: Global, ending: &Ending<'_>, room: String) -> Result<String, AllocError>
     requires empty { string_bytes room ≡ [] }
-    requires room { HasRoom ending.now (string_capacity room) }
-    ensures text { IfOk result (λ text. string_bytes text ≡ line_of ending.now) }
+    requires room { HasLineRoom ending.now (string_capacity room) }
+    ensures text { IfOk result (λ text. string_bytes text ≡ ending_line ending.now) }
     ensures lacking { OnErr result (MayLackLine ending.now) }
 {
     match ending {
