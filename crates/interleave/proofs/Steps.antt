@@ -1,5 +1,5 @@
 -- Each answer is a step of the core's state, or changes nothing.
-use Rattle.std.proofs.Common.{◌≡◌, ℕ, refl, sym, ap, subst, inl, inr, Some, None, Option, List}
+use Rattle.std.proofs.Common.{◌≡◌, ℕ, inl, inr, List}
 use Rattle.std.proofs.Common.{◌⊎◌}
 use Rattle.vox_read.specs.Contents.{Content}
 use Rattle.node_shapes.specs.declared.names.Name.{Name}
@@ -11,7 +11,7 @@ use Rattle.core_laws.specs.LogEvents.{Step, stores, pins, appends, forgets}
 use Rattle.world_core.specs.declared.events.Event.{Event}
 use Rattle.world_core.specs.declared.events.Event.TheVariants.{Leaf, Node, Raise, Lower, Pin, Append, Forget}
 use Rattle.world_core.specs.declared.events.Reply.{Reply}
-use Rattle.world_core.specs.declared.events.Reply.TheVariants.{Held, Full, Left, Freed, Pinned, NoVersion, Forgotten, Appended, LogFull, Stale, Forgot, IsHead, Unlawful}
+use Rattle.world_core.specs.declared.events.Reply.TheVariants.{Held, Full, Left, Freed, Pinned, NoVersion, Forgotten, Appended, LogFull, Stale, Forgot, IsHead}
 use Rattle.world_core.specs.Effects.{Takes, finds, opens}
 use Rattle.world_core.specs.Answering.{Answers, Happens, happens, refuses}
 use Rattle.interleave.specs.Statements.{session_of}

@@ -1,5 +1,5 @@
 -- Entries that are sought, and entries that are made.
-use Rattle.std.proofs.Common.{◌≡◌, ◌≢◌, ℕ, zero, suc, ◌+◌, ◌<◌, ◌≤◌, refl, sym, ◌∙◌, ap, subst, arith, Some, None, Option, List, [], ◌∷◌, ◌++◌, length, set, get_or, sum_by}
+use Rattle.std.proofs.Common.{◌≡◌, ℕ, ◌<◌, refl, sym, ◌∙◌, ap, subst, arith, Some, None, Option, List, [], ◌∷◌, ◌++◌, length, set, sum_by}
 use Rattle.std.specs.List.{slice_get}
 use Rattle.std.proofs.lemmas.List.Sums.{sum_by-append, sum_by-cons}
 use Rattle.node_shapes.specs.declared.names.Name.{Name}
@@ -7,27 +7,23 @@ use Rattle.std.proofs.Math.Nat.{mod-lt}
 use Rattle.node_words.specs.declared.keys.Key.{Key}
 use Rattle.node_words.specs.declared.keys.Key.TheVariants.{Leaf, Node}
 use Rattle.node_words.specs.Keys.{bucket_of_key}
-use Rattle.node_words.specs.Plans.{Layout}
 use Rattle.node_words.proofs.PlanLaws.{some_buckets}
 use Rattle.node_places.specs.Names.{IsName, named}
 use Rattle.node_places.specs.Spots.{levels, buckets_at}
 use Rattle.bucket_core.specs.declared.entries.Entry.{Entry}
 use Rattle.bucket_core.specs.Slots.{book_in, HasKey, HasNone, IsFirstFree, IsFirstWith}
-use Rattle.core_laws.specs.Counting.{weight, children_weight}
+use Rattle.core_laws.specs.Counting.{children_weight}
 use Rattle.core_laws.specs.Soundness.{FitsLevel, IsFull}
-use Rattle.core_laws.specs.Events as events
-use Rattle.core_laws.specs.Events.{one_name, children_named, IsMissing, Adds, adds}
+use Rattle.core_laws.specs.Events.{one_name, children_named, Adds, adds}
 use Rattle.core_laws.specs.LogEvents.{stores}
-use Rattle.core_laws.specs.States.{IsLive}
 use Rattle.core_laws.proofs.Bounds.{missing_in_bucket}
-use Rattle.core_reading.specs.Slots.{Bucket, Level, bucket_at, entry_at, key_or_none, put_at, read_lists}
+use Rattle.core_reading.specs.Slots.{Bucket, Level, bucket_at, entry_at, key_or_none, put_at}
 use Rattle.core_reading.proofs.SlotLaws.{adds_slot, stays_laid_out}
 use Rattle.entry_lists.specs.Changes.{AreLive}
-use Rattle.entry_lists.specs.Trading.{HasAll, Trades, weights}
-use Rattle.world_core.specs.Effects.{IsLowest}
+use Rattle.entry_lists.specs.Trading.{Trades, weights}
 use Rattle.world_core.specs.Lawful.{HoldsAll, HoldsAtMost}
 use Rattle.world_core.specs.Stored.{Stored, IsStored, state_of, root_in}
-use Rattle.world_core.specs.Steps.{Stays, FindsEntry, AddsEntry, IsNowhere}
+use Rattle.world_core.specs.Steps.{FindsEntry, AddsEntry, IsNowhere}
 use Rattle.world_core.proofs.Keeping.{kept, no_weights, one_weight}
 use Rattle.world_core.proofs.ShareLaws.{moved, few_after, trades_as}
 use Rattle.world_core.proofs.LowerLaws.{has_of}
@@ -52,14 +48,6 @@ bucket_in s level bucket key is low same =
     let high = is.plan.side_high in
     let some = some_buckets s.plan level is.plan (omega arith) in
     let lt = key_below key (buckets_at s.plan level) (omega arith) in omega arith
-
-pub level_lists : (s : Stored) (level : ℕ) → IsStored s → level < levels s.plan → level < length s.entries
-level_lists s level is low = let h = is.laid.heights in omega arith
-
-pub bucket_lists : (s : Stored) (level bucket : ℕ) (key : Key) → IsStored s → level < levels s.plan
-    → bucket ≡ bucket_of_key key (buckets_at s.plan level) → bucket < length (get_or s.entries level [])
-bucket_lists s level bucket key is low same =
-    let lt = bucket_in s level bucket key is low same in let w = is.laid.buckets level low in omega arith
 
 module _ (s : Stored) (level bucket : ℕ) (key : Key) (is : IsStored s) (low : level < levels s.plan)
     (same : bucket ≡ bucket_of_key key (buckets_at s.plan level)) where

@@ -1,5 +1,5 @@
 -- A core in which nothing was done yet.
-use Rattle.std.proofs.Common.{◌≡◌, ℕ, ◌*◌, ◌<◌, ◌≤◌, refl, sym, ◌∙◌, ap, subst, arith, None, Option, List, [], length, get_or, replicate, sum_by}
+use Rattle.std.proofs.Common.{◌≡◌, ℕ, ◌≤◌, refl, sym, ◌∙◌, ap, subst, arith, None, Option, List, [], length, get_or, replicate, sum_by}
 use Rattle.std.proofs.lemmas.Bool.{cases_lt}
 use Rattle.std.proofs.Common.{inl, inr}
 use Rattle.std.proofs.lemmas.List.{get_or_past, get_or-replicate, length-replicate}
@@ -7,11 +7,8 @@ use Rattle.std.proofs.lemmas.List.Folds.{sum_by-replicate}
 use Rattle.vox_read.specs.Contents.{Content}
 use Rattle.node_shapes.specs.declared.names.Name.{Name}
 use Rattle.node_words.specs.Plans.{Layout, IsPlan}
-use Rattle.node_places.specs.Spots.{versions}
-use Rattle.history_model.specs.Logs.{Log}
 use Rattle.bucket_core.specs.Slots.{book_in}
 use Rattle.core_laws.specs.Counting.{holdings}
-use Rattle.core_laws.specs.Soundness.{IsUntouched}
 use Rattle.core_laws.proofs.RootCells.{empty_sound}
 use Rattle.core_reading.specs.Slots.{Level, IsLaidOut, entry_at}
 use Rattle.world_core.specs.Beginning.{HasBegun}

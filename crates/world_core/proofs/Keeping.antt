@@ -1,29 +1,23 @@
 -- The lists of a core stay sound, and books stay small.
-use Rattle.std.proofs.Common.{◌≡◌, ℕ, ◌+◌, ◌*◌, ◌^◌, ◌<◌, ◌≤◌, zero, suc, refl, sym, ◌∙◌, ap, subst, arith, Some, None, Option, List, [], ◌∷◌, length, set, sum_by}
+use Rattle.std.proofs.Common.{◌≡◌, ℕ, ◌*◌, ◌<◌, ◌≤◌, zero, suc, refl, ap, arith, Some, None, Option, List, [], ◌∷◌, length, set, sum_by}
 use Rattle.std.specs.Prelude.{All}
 use Rattle.std.specs.List.{slice_get}
 use Rattle.std.proofs.lemmas.List.{length-set}
 use Rattle.std.proofs.lemmas.List.Elements.{All-set}
 use Rattle.std.proofs.lemmas.List.Sums.{sum_by-cons}
-use Rattle.std.proofs.lemmas.Option.{slice_get_within, get_or_from_slice_get}
 use Rattle.std.proofs.lemmas.Nat.{mul-le}
 use Rattle.node_shapes.specs.declared.names.Name.{Name}
-use Rattle.node_words.specs.declared.keys.Key.{Key}
-use Rattle.node_words.specs.Plans.{Layout}
 use Rattle.node_words.proofs.PlanLaws.{few_buckets}
-use Rattle.node_places.specs.Names.{IsName}
-use Rattle.node_places.specs.Spots.{levels, buckets_at, versions}
+use Rattle.node_places.specs.Spots.{levels, versions}
 use Rattle.history_model.specs.Logs.{Log}
-use Rattle.bucket_core.specs.declared.entries.Entry.{Entry}
 use Rattle.bucket_core.specs.Slots.{book_in}
 use Rattle.core_laws.specs.Counting.{weight, holdings}
 use Rattle.core_laws.specs.Events as events
 use Rattle.core_laws.specs.LogEvents.{Step}
-use Rattle.core_laws.specs.States.{State, IsLive}
+use Rattle.core_laws.specs.States.{IsLive}
 use Rattle.core_laws.proofs.Bounds.{book_small}
 use Rattle.core_laws.proofs.StepLaws.{step_sound}
 use Rattle.core_reading.specs.Slots.{Level, IsLaidOut, entry_at, read_lists}
-use Rattle.entry_lists.specs.Changes.{HasSlot}
 use Rattle.entry_lists.specs.Trading.{HasAll, Trades, weights}
 use Rattle.world_core.specs.Stored.{Stored, IsStored, state_of, root_in}
 
@@ -59,17 +53,6 @@ book_low s n is live =
     mul-le (levels p) (4096 * (p.cap * 8)) 11 8388608 (omega arith) one in
     let held = few_held s.held 64 is.sessions is.few in
     omega arith
-
--- a live name has a slot with an entry
-pub live_slot : (s : Stored) (n : Name) → IsStored s → IsLive s.plan (state_of s) n → HasSlot s.entries n
-live_slot s n is live =
-    let h = is.laid.heights in
-    let low = live.name.level_in in
-    let b = is.laid.buckets n.level low in
-    let inside = live.name.bucket_in in
-    let w = is.laid.slots n.level n.bucket low inside in
-    let at = live.name.slot_in in
-    record { level = omega arith; bucket = omega arith; slot = omega arith }
 
 pub live_there : (s : Stored) (n : Name) → IsLive s.plan (state_of s) n → entry_at s.entries n ≡ None → ⊥
 live_there s n live none =

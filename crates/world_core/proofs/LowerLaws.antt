@@ -1,17 +1,16 @@
 -- Shares that go, and the children of what is freed.
-use Rattle.std.proofs.Common.{◌≡◌, ℕ, zero, suc, ◌+◌, ◌^◌, ◌<◌, ◌≤◌, refl, sym, ◌∙◌, ap, subst, arith, add-one, Some, None, Option, List, [], ◌∷◌, length, set, get_or, take, sum_by}
+use Rattle.std.proofs.Common.{◌≡◌, ℕ, zero, suc, ◌+◌, ◌<◌, ◌≤◌, refl, sym, ◌∙◌, ap, subst, arith, Some, None, Option, List, [], ◌∷◌, length, set, take, sum_by}
 use Rattle.std.specs.List.{slice_get}
 use Rattle.std.proofs.lemmas.List.Sums.{sum_by_more, sum_by-cons}
-use Rattle.sums.specs.Sums.{sum_below, sum_below-suc, sum_below-zero, sum_below-same}
+use Rattle.sums.specs.Sums.{sum_below, sum_below-suc, sum_below-zero}
 use Rattle.node_shapes.specs.declared.names.Name.{Name}
 use Rattle.node_words.specs.declared.keys.Key.{Key}
 use Rattle.node_words.specs.declared.keys.Key.TheVariants.{Leaf, Node}
 use Rattle.node_words.specs.Held.{name_in}
-use Rattle.node_places.specs.Names.{key_child}
 use Rattle.bucket_core.specs.declared.entries.Entry.{Entry}
 use Rattle.bucket_core.specs.declared.entries.Lowered.{Lowered}
 use Rattle.bucket_core.specs.declared.entries.Lowered.TheVariants.{Left, Last}
-use Rattle.bucket_core.specs.Slots.{book_in, with_book, LowersEntry as LowersSlotEntry}
+use Rattle.bucket_core.specs.Slots.{book_in, with_book}
 use Rattle.core_laws.specs.Counting.{weight, children_weight}
 use Rattle.core_laws.specs.Soundness.{FitsLevel}
 use Rattle.core_laws.specs.Events as events
@@ -19,15 +18,15 @@ use Rattle.core_laws.specs.Events.{no_name, one_name, children_named, Lowers, Fr
 use Rattle.core_laws.specs.LogEvents.{stores}
 use Rattle.core_laws.specs.States.{IsLive}
 use Rattle.core_laws.proofs.Lives.{held_lives}
-use Rattle.core_reading.specs.Slots.{Level, entry_at, key_or_none, put_at, read_lists}
+use Rattle.core_reading.specs.Slots.{Level, entry_at, key_or_none, put_at}
 use Rattle.core_reading.proofs.SlotLaws.{lowers_slot, frees_slot, stays_laid_out}
 use Rattle.entry_lists.specs.Changes.{LowersEntryAt}
 use Rattle.entry_lists.specs.Trading.{HasAll, Trades, weights}
 use Rattle.world_core.specs.Answering.{children_in}
-use Rattle.world_core.specs.Lawful.{HoldsAll, HoldsAtMost, MayLower}
+use Rattle.world_core.specs.Lawful.{HoldsAll, MayLower}
 use Rattle.world_core.specs.Stored.{Stored, IsStored, state_of, root_in}
-use Rattle.world_core.specs.Steps.{Stays, LowersEntry, FreesEntry}
-use Rattle.world_core.proofs.Keeping.{traded, kept, no_weights, one_weight, ones, live_there}
+use Rattle.world_core.specs.Steps.{LowersEntry, FreesEntry}
+use Rattle.world_core.proofs.Keeping.{kept, no_weights, one_weight, live_there}
 use Rattle.world_core.proofs.ShareLaws.{moved, few_after, trades_as}
 
 -- a name of which a session holds a share is live

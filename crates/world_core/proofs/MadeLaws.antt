@@ -1,5 +1,5 @@
 -- Roots that show what an act makes.
-use Rattle.std.proofs.Common.{◌≡◌, ◌≢◌, ℕ, zero, suc, ◌+◌, ◌-◌, ◌^◌, ◌<◌, ◌≤◌, Bool, true, false, cond, refl, sym, ◌∙◌, ap, subst, arith, inl, inr, Some, None, Option, List, [], ◌∷◌, length, get_or}
+use Rattle.std.proofs.Common.{◌≡◌, ℕ, ◌+◌, ◌-◌, ◌^◌, ◌<◌, ◌≤◌, Bool, true, false, refl, sym, ◌∙◌, ap, subst, arith, inl, inr, Some, None, Option, List, [], ◌∷◌, length}
 use Rattle.std.proofs.Common.{Result, Ok, Err}
 use Rattle.vw_cell.specs.declared.memory.Memory.{Memory}
 use Rattle.std.specs.Prelude.{All, IfOk, nat_lt, nat_le, ◌&&◌, ◌||◌, if◌then◌else◌, not}
@@ -28,8 +28,8 @@ use Rattle.history_model.specs.Positions.{position_after}
 use Rattle.history_model.specs.Worlds.{World, edited, is_edit, box_at, plus, less}
 use Rattle.block_contents.specs.Aligned.{top, world_block}
 use Rattle.block_contents.specs.Versions.{IsKept}
-use Rattle.block_contents.proofs.WorldBlocks.{in_world, in_block, world_wide}
-use Rattle.core_laws.specs.States.{State, IsLive, tree_at}
+use Rattle.block_contents.proofs.WorldBlocks.{in_world, in_block}
+use Rattle.core_laws.specs.States.{IsLive, tree_at}
 use Rattle.core_laws.proofs.Lives.{root_lives}
 use Rattle.core_laws.proofs.LogSteps.{root_in_range}
 use Rattle.core_laws.proofs.LiveShapes.{AreLive, shape_once, canonical_at}

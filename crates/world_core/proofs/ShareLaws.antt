@@ -1,22 +1,21 @@
 -- Steps of entries and of what a session holds.
-use Rattle.std.proofs.Common.{◌≡◌, ℕ, ◌+◌, ◌^◌, ◌<◌, ◌≤◌, refl, sym, ◌∙◌, ap, subst, arith, Some, None, Option, List, [], ◌∷◌, length, set, get_or, sum_by}
+use Rattle.std.proofs.Common.{◌≡◌, ℕ, ◌+◌, ◌<◌, ◌≤◌, refl, sym, ◌∙◌, ap, subst, arith, Some, None, Option, List, [], ◌∷◌, length, set, get_or}
 use Rattle.std.specs.List.{slice_get}
 use Rattle.std.proofs.lemmas.Option.{get_or_from_slice_get}
 use Rattle.node_shapes.specs.declared.names.Name.{Name}
 use Rattle.node_words.specs.declared.keys.Key.{Key}
 use Rattle.bucket_core.specs.declared.entries.Entry.{Entry}
 use Rattle.bucket_core.specs.Slots.{book_in, with_book}
-use Rattle.core_laws.specs.Counting.{weight}
 use Rattle.core_laws.specs.Events as events
 use Rattle.core_laws.specs.Events.{no_name, one_name, Raises, raises}
 use Rattle.core_laws.specs.LogEvents.{stores}
 use Rattle.core_laws.specs.States.{IsLive}
-use Rattle.core_reading.specs.Slots.{Level, entry_at, put_at, read_lists}
+use Rattle.core_reading.specs.Slots.{Level, entry_at, put_at}
 use Rattle.core_reading.proofs.SlotLaws.{raises_slot, stays_laid_out}
 use Rattle.entry_lists.specs.Trading.{HasAll, Trades, weights}
 use Rattle.world_core.specs.Lawful.{HoldsAtMost}
 use Rattle.world_core.specs.Stored.{Stored, IsStored, state_of, root_in}
-use Rattle.world_core.specs.Steps.{Stays, RaisesEntry}
+use Rattle.world_core.specs.Steps.{RaisesEntry}
 use Rattle.world_core.proofs.Keeping.{traded, kept, no_weights, one_weight, ones, live_there}
 
 -- the lists with other entries, and with another holding of a session

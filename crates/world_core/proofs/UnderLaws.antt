@@ -1,10 +1,10 @@
 -- Names at and below a live name.
-use Rattle.std.proofs.Common.{◌≡◌, ◌≢◌, ℕ, zero, suc, ◌+◌, ◌-◌, ◌<◌, ◌≤◌, refl, sym, ◌∙◌, ap, subst, arith, Some, None, Option, List, [], ◌∷◌, length, get_or, sum_by}
+use Rattle.std.proofs.Common.{◌≡◌, ◌≢◌, ℕ, zero, suc, ◌-◌, ◌<◌, ◌≤◌, refl, sym, ◌∙◌, ap, subst, arith, Some, Option, List, [], ◌∷◌, length, get_or, sum_by}
 use Rattle.std.specs.List.{slice_get}
 use Rattle.std.proofs.Common.{inl, inr}
 use Rattle.std.proofs.lemmas.Bool.{cases_lt}
 use Rattle.std.proofs.lemmas.List.Sums.{sum_by-cons, get_or-le-sum_by}
-use Rattle.std.proofs.lemmas.Option.{slice_get-get_or, slice_get_within}
+use Rattle.std.proofs.lemmas.Option.{slice_get-get_or}
 use Rattle.core_laws.proofs.Sums.{is_name, is_name-self, is_name-some}
 use Rattle.node_shapes.specs.declared.names.Name.{Name}
 use Rattle.node_words.specs.declared.keys.Key.{Key}
@@ -14,12 +14,11 @@ use Rattle.node_places.specs.Names.{key_child}
 use Rattle.core_laws.specs.Soundness.{FitsLevel}
 use Rattle.core_laws.specs.States.{IsLive, IsUnder, itself, below}
 use Rattle.core_laws.proofs.Lives.{child_lives, child_level}
-use Rattle.entry_lists.specs.Trading.{HasAll}
 use Rattle.world_core.specs.Answering.{children_in}
 use Rattle.world_core.specs.Lawful.{HoldsAll, Reaches}
 use Rattle.world_core.specs.Stored.{Stored, IsStored, state_of}
 use Rattle.world_core.proofs.Keeping.{one_weight}
-use Rattle.world_core.proofs.LowerLaws.{held_live, has_of}
+use Rattle.world_core.proofs.LowerLaws.{has_of}
 
 row_child : (level : ℕ) (key : Key) (k : ℕ) → FitsLevel level key → 1 ≤ level
     → name_in (children_in key) k ≡ key_child key k
@@ -112,9 +111,3 @@ not_reached s session names n at none reached =
     let self = is_name-self reached.over in
     let place = place_of reached.over names (omega arith) in
     none place.at n place.below (subst (λ (x : Name). IsUnder (state_of s).key n x) (sym (place.is n)) reached.under)
-
--- a session's names lie at their places
-pub no_session : (s : Stored) (session at : ℕ) (n : Name) → at ≡ session → length s.held ≤ at
-    → Reaches (state_of s) session n → ⊥
-no_session s session at n same past reached =
-    let lt = slice_get_within s.held session reached.held.names reached.held.at in omega arith

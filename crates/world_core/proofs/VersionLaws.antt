@@ -1,23 +1,17 @@
 -- Records and marks that come to the log, with the roots of their versions.
-use Rattle.std.proofs.Common.{◌≡◌, ◌≢◌, ℕ, zero, suc, ◌+◌, ◌-◌, ◌^◌, ◌<◌, ◌≤◌, refl, sym, ◌∙◌, ap, subst, arith, inl, inr, Some, None, Option, List, [], ◌∷◌, ◌++◌, length, set, get_or, take, drop, sum_by}
-use Rattle.std.specs.Prelude.{All}
+use Rattle.std.proofs.Common.{◌≡◌, ℕ, zero, suc, ◌+◌, ◌-◌, ◌<◌, ◌≤◌, refl, sym, ◌∙◌, ap, subst, arith, Some, None, Option, List, [], ◌∷◌, ◌++◌, length, set, get_or, take, drop}
 use Rattle.std.specs.List.{slice_get, AllPairs}
 use Rattle.std.proofs.lemmas.List.{get_or-set_same, get_or-set_other, length-set, take-append-drop}
 use Rattle.std.proofs.lemmas.Option.{slice_get_within, get_or_from_slice_get}
 use Rattle.node_shapes.specs.declared.names.Name.{Name}
-use Rattle.node_words.specs.Plans.{Layout}
-use Rattle.node_places.specs.Spots.{versions}
 use Rattle.history_model.specs.declared.histories.Record.{Record}
 use Rattle.history_model.specs.declared.histories.Mark.{Mark}
 use Rattle.history_model.specs.Logs.{Log}
 use Rattle.block_contents.specs.Versions.{IsUnmarked, MarkComes}
 use Rattle.core_laws.specs.Counting.{weight}
-use Rattle.core_laws.specs.Events as events
 use Rattle.core_laws.specs.Events.{no_name, at_most_one, PutsRoot, TakesRoot}
-use Rattle.core_laws.specs.LogEvents.{MayAppend, Appends, Forgets, Step, appends, forgets}
-use Rattle.core_laws.specs.States.{State}
-use Rattle.core_reading.specs.Slots.{Level, read_lists}
-use Rattle.entry_lists.specs.Trading.{HasAll, Trades, weights}
+use Rattle.core_laws.specs.LogEvents.{MayAppend, Appends, Forgets, appends, forgets}
+use Rattle.entry_lists.specs.Trading.{HasAll, Trades}
 use Rattle.world_core.specs.Lawful.{HoldsAll, HoldsAtMost}
 use Rattle.world_core.specs.Stored.{Stored, IsStored, state_of, root_in}
 use Rattle.world_core.specs.Steps.{AppendsRoot, MarksRoot}

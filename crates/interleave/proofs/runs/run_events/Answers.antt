@@ -1,4 +1,4 @@
-use Rattle.std.proofs.Common.{refl, ◌∙◌, sym}
+use Rattle.std.proofs.Common.{refl, ◌∙◌}
 use Rattle.world_core.specs.Stored.{state_of}
 use Rattle.interleave.proofs.RunLaws.{run_begins, run_ends, run_next, sound_at, roots_at, cells_at, shapes_at, spared_at, leave_at}
 use Rattle.interleave.proofs.runs.run_events.Goals as goal

@@ -1,7 +1,7 @@
 use Rattle.std.proofs.Common.{sym, subst}
 use Rattle.history_model.specs.Logs.{Log}
 use Rattle.world_core.specs.Beginning.{HasBegun}
-use Rattle.world_core.specs.Stored.{Stored, IsStored, state_of}
+use Rattle.world_core.specs.Stored.{IsStored, state_of}
 use Rattle.world_core.proofs.BeginLaws.{begun, begins, begins_stored}
 use Rattle.world_core.proofs.cores.Core.begin.Goals as goal
 

@@ -1,6 +1,4 @@
-use Rattle.std.proofs.Common.{◌≡◌, ◌≢◌, ◌≤◌, ◌∙◌, ap, sym, refl, arith, true, false, List, Option}
-use Rattle.node_shapes.specs.declared.names.Name.{Name}
-use Rattle.node_words.specs.declared.keys.Key.{Key}
+use Rattle.std.proofs.Common.{◌≡◌, ◌≢◌, ◌≤◌, ◌∙◌, ap, refl, arith, true, false}
 use Rattle.world_core.specs.Answering.{children_in}
 use Rattle.world_core.specs.Kept.{stored}
 use Rattle.world_core.specs.Stored.{state_of}

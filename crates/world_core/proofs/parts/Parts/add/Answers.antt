@@ -1,7 +1,6 @@
 use Rattle.std.proofs.Common.{ℕ, sym, subst, arith, ap, List}
 use Rattle.core_reading.specs.Slots.{Level}
 use Rattle.world_core.specs.Kept.{stored}
-use Rattle.world_core.specs.Stored.{Stored}
 use Rattle.world_core.specs.Steps.{AddsEntry}
 use Rattle.world_core.proofs.ShareLaws.{moved, names_at, seat_in}
 use Rattle.world_core.proofs.AddLaws.{added, all_taken}

@@ -1,7 +1,6 @@
-use Rattle.std.proofs.Common.{◌∙◌, sym, arith, refl}
-use Rattle.block_contents.specs.Versions.{IsKept}
+use Rattle.std.proofs.Common.{◌∙◌, sym}
 use Rattle.world_core.specs.Kept.{stored}
-use Rattle.world_core.proofs.MadeLaws.{gone_below, gone_follows, follows_unmarked, target_goes, other_made, made_other, gone_nowhere}
+use Rattle.world_core.proofs.MadeLaws.{gone_below, gone_follows, follows_unmarked, target_goes, other_made, made_other}
 use Rattle.world_core.proofs.parts.Parts.is_gone_to.Goals as goal
 
 pub is_kept_root-requires-clause-there : goal.is_kept_root-requires-clause-there

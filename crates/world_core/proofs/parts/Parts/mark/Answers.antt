@@ -1,4 +1,4 @@
-use Rattle.std.proofs.Common.{ℕ, sym, subst, arith, ap, None, set, refl}
+use Rattle.std.proofs.Common.{ℕ, sym, subst, arith, None, set}
 use Rattle.history_model.specs.Logs.{Log}
 use Rattle.world_core.specs.Kept.{stored}
 use Rattle.world_core.specs.Steps.{MarksRoot}

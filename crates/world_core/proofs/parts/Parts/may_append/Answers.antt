@@ -1,4 +1,4 @@
-use Rattle.std.proofs.Common.{◌≡◌, ◌^◌, ◌∙◌, ap, sym, subst, refl, arith, Bool, ℕ, Option, [], ◌∷◌, length}
+use Rattle.std.proofs.Common.{◌≡◌, ◌^◌, subst, refl, arith, Bool, ℕ, Option, [], ◌∷◌, length}
 use Rattle.std.specs.Prelude.{◌↔◌, IsTrue}
 use Rattle.node_shapes.specs.declared.names.Name.{Name}
 use Rattle.history_model.specs.Logs.{Fits}

@@ -1,6 +1,5 @@
 use Rattle.std.proofs.Common.{arith}
 use Rattle.world_core.specs.Kept.{stored}
-use Rattle.world_core.specs.Stored.{root_in}
 use Rattle.world_core.proofs.VersionLaws.{found_root}
 use Rattle.world_core.proofs.DoingLaws.{root_live}
 use Rattle.world_core.proofs.parts.Parts.pin.Goals as goal

@@ -1,8 +1,6 @@
-use Rattle.std.proofs.Common.{◌≡◌, ◌∙◌, ap, sym, refl, subst, arith, true, false, List, ℕ, Some, get_or, length}
-use Rattle.std.specs.List.{slice_get}
+use Rattle.std.proofs.Common.{◌∙◌, ap, sym, refl, arith, List, get_or}
 use Rattle.node_shapes.specs.declared.names.Name.{Name}
 use Rattle.world_core.specs.Kept.{stored}
-use Rattle.world_core.specs.Stored.{Stored, state_of}
 use Rattle.world_core.proofs.LowerLaws.{held_live}
 use Rattle.world_core.proofs.UnderLaws.{one_held, seat_names, not_reached}
 use Rattle.world_core.proofs.parts.Parts.reaches.Goals as goal

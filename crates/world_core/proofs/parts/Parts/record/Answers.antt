@@ -1,4 +1,4 @@
-use Rattle.std.proofs.Common.{ℕ, sym, subst, arith, ap, ◌+◌}
+use Rattle.std.proofs.Common.{ℕ, sym, subst, ap, ◌+◌}
 use Rattle.history_model.specs.Logs.{Log}
 use Rattle.std.proofs.Common.{set}
 use Rattle.world_core.specs.Kept.{stored}
