@@ -37,7 +37,8 @@ pub fn run_events<'m>(
     ensures cells { OnOk result (VersionsKeepCells plan.now models.entry.now sessions events.now) }
     ensures shares { OnOk result (HeldShapesStay plan.now models.entry.now sessions events.now) }
     ensures spared { OnOk result (SharesAreSpared plan.now models.entry.now sessions events.now) }
-    ensures leaves { OnOk result (EntriesLeaveByLastShares plan.now models.entry.now sessions events.now) }
+    ensures leaves { OnOk result
+        (EntriesLeaveByLastShares plan.now models.entry.now sessions events.now) }
 {
     let _low = plan.side();
     let mut core = Core::begin(alloc, plan, models, sessions)?;
