@@ -1,5 +1,12 @@
-//! Tests of the pure core: events with the replies that its table gives.
+//! Tests of the pure core: events with the replies that its table gives, and the store for one
+//! thread beside it.
 #![tactic(auto)]
 
+#[cfg(test)]
+mod hands;
+#[cfg(test)]
+mod mirrors;
+#[cfg(test)]
+mod pair_tests;
 #[cfg(test)]
 mod table_tests;

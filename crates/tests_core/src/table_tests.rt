@@ -1,8 +1,9 @@
 use history_model::{Act, Mark};
 use node_words::{Full, Name, Plan};
+use std::alloc::{AllocError, Global};
 use std::test::Fail;
-use vox_read::Models;
-use vw_cell::{Boxed, Cell, Side};
+use vox_read::{Model, Models, Voxel};
+use vw_cell::{Boxed, Cell, Memory, Side};
 use world_core::{Core, Event, Reply};
 
 // Whether both replies are one.
@@ -149,10 +150,121 @@ fn nodes_are_answered_by_the_table(rt: HostRuntime) -> Result<(), Fail> {
         (Event::Lower(0, a), Reply::Left),
         (Event::Raise(0, a), Reply::Held(a)),
         (Event::Raise(1, a), Reply::Unlawful),
+        (Event::Raise(0, b), Reply::Held(b)),
+        (Event::Raise(2, b), Reply::Unlawful),
+        (Event::Lower(0, b), Reply::Left),
         (Event::Lower(0, b), Reply::Left),
         (Event::Lower(0, b), Reply::Freed(first)),
         (Event::Lower(0, a), Reply::Left),
         (Event::Lower(0, a), Reply::Freed([None; 8])),
+    ] {
+        let answer = core.apply(rt.alloc(), &event)?;
+        assert!(rt; is_same(&answer, &reply));
+    }
+    Ok(())
+}
+
+// One model of two cells, of which the second has no colour.
+fn two_cells(alloc: Global) -> Result<Models, AllocError> {
+    let mut voxels: Vec<Voxel> = Vec::new(alloc);
+    for (x, colour) in [(0u8, 3u8), (1, 0)] {
+        voxels.push(Voxel {
+            x,
+            y: 0,
+            z: 0,
+            colour,
+        })?;
+    }
+    let size = Cell { x: 2, y: 1, z: 1 };
+    let mut list: Vec<Model> = Vec::new(alloc);
+    list.push(Model { size, voxels })?;
+    Ok(Models { list })
+}
+
+// A world of one leaf, where the cell (1, 2, 3) is bit 57.
+#[test]
+fn a_stamp_makes_the_cells_of_its_model(rt: HostRuntime) -> Result<(), Fail> {
+    let side = Side::new(4).ok_or("a side")?;
+    let plan = Plan::even(side, 1, 2).ok_or("a plan")?;
+    let models = two_cells(rt.alloc())?;
+    let a = name(0);
+    let b = Name {
+        level: 0,
+        bucket: 0,
+        slot: 1,
+    };
+    let at = Cell { x: 1, y: 2, z: 3 };
+    let edge = Cell { x: 3, y: 2, z: 3 };
+    let mut core = Core::begin(rt.alloc(), &plan, &models, 2)?;
+    for (event, reply) in [
+        (Event::Leaf(0, 1 << 57), Reply::Held(a)),
+        (Event::Leaf(0, 3 << 57), Reply::Held(b)),
+        (
+            Event::Append(0, 1, Act::Stamp(0, at), 0, None),
+            Reply::Unlawful,
+        ),
+        (
+            Event::Append(0, 1, Act::Stamp(0, at), 0, Some(b)),
+            Reply::Unlawful,
+        ),
+        (
+            Event::Append(0, 1, Act::Stamp(1, at), 0, Some(a)),
+            Reply::Unlawful,
+        ),
+        (
+            Event::Append(0, 1, Act::Stamp(0, edge), 0, Some(a)),
+            Reply::Unlawful,
+        ),
+        (
+            Event::Append(0, 1, Act::Stamp(0, at), 0, Some(a)),
+            Reply::Appended(1),
+        ),
+        (Event::Pin(1, None), Reply::Pinned(1, 1, Some(a))),
+        (
+            Event::Append(1, 2, Act::Stamp(0, at), 1, Some(a)),
+            Reply::Appended(2),
+        ),
+        (Event::Pin(0, Some(0)), Reply::Pinned(0, 2, None)),
+        (Event::Pin(0, Some(2)), Reply::Pinned(2, 2, Some(a))),
+    ] {
+        let answer = core.apply(rt.alloc(), &event)?;
+        assert!(rt; is_same(&answer, &reply));
+    }
+    Ok(())
+}
+
+// How many of 65,535 acts one after another became records.
+fn appended(core: &mut Core, alloc: Global, act: Act) -> Result<u32, Memory> {
+    let mut appended: u32 = 0;
+    for version in 0..65_535u32 {
+        let answer = core.apply(alloc, &Event::Append(0, 1, act, version, None))?;
+        if is_same(&answer, &Reply::Appended(version + 1)) {
+            appended = appended.saturating_add(1);
+        }
+    }
+    Ok(appended)
+}
+
+// A world of one leaf, in which nothing is erased as often as there is room.
+#[test]
+fn a_log_has_room_for_so_many_records(rt: HostRuntime) -> Result<(), Fail> {
+    let side = Side::new(4).ok_or("a side")?;
+    let plan = Plan::even(side, 1, 1).ok_or("a plan")?;
+    let models = Models {
+        list: Vec::new(rt.alloc()),
+    };
+    let corner = Cell { x: 0, y: 0, z: 0 };
+    let one = Boxed::new(corner, Cell { x: 1, y: 1, z: 1 }, side).ok_or("a box")?;
+    let act = Act::Erase(one);
+    let mut core = Core::begin(rt.alloc(), &plan, &models, 1)?;
+    let number = appended(&mut core, rt.alloc(), act)?;
+    assert_eq!(rt; number, 65_535);
+    for (event, reply) in [
+        (Event::Append(0, 2, act, 65_535, None), Reply::LogFull),
+        (Event::Append(0, 2, act, 7, None), Reply::LogFull),
+        (Event::Append(0, 2, act, 65_536, None), Reply::Unlawful),
+        (Event::Pin(0, None), Reply::Pinned(65_535, 65_535, None)),
+        (Event::Forget(0, 3, 65_535), Reply::IsHead(65_535)),
     ] {
         let answer = core.apply(rt.alloc(), &event)?;
         assert!(rt; is_same(&answer, &reply));
