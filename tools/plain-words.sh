@@ -86,5 +86,5 @@ plain_script() {
         9) meaning='a byte that is no plain text' ;;
     esac
     text=$(sed -n "$3{p;q;}" -- "$1" 2>/dev/null | tr -d '\r' | cut -c 1-200 | cat -v)
-    printf '%s, line %s: %s: %s\n' "$1" "$3" "$meaning" "$text"
+    printf '%s, line %s: %s%s\n' "$1" "$3" "$meaning" "${text:+: $text}"
 }
