@@ -8,19 +8,12 @@ set -eu
 here=$(cd "$(dirname "$0")" && pwd)
 root=$(dirname "$here")
 work=$here/work/one_store
+. "$here/copies.sh"
 crates=$(cd "$root" && awk -F"[: ]+" '/^one_store:/ { for (i = 2; i <= NF; i++) print $i }' crates.txt)
 crates="one_store node_kernels bit_set vox_chunk word_bits $crates"
 rounds=5
 mkdir -p "$work/crates/bench_one_store/src"
-cp "$root/HANDLES" "$work/"
-for name in $crates; do
-    [ -d "$root/crates/$name" ] || continue
-    mkdir -p "$work/crates/$name"
-    for part in src specs proofs; do
-        rm -rf "$work/crates/$name/$part"
-        [ ! -d "$root/crates/$name/$part" ] || cp -a "$root/crates/$name/$part" "$work/crates/$name/"
-    done
-done
+copy_crates $crates
 cp "$here/one_store/main.rt.in" "$work/crates/bench_one_store/src/main.rt"
 mkdir -p "$work/crates/bench_one_store/proofs/main"
 cat > "$work/crates/bench_one_store/proofs/main/Invariants.antt" <<'END'
@@ -29,10 +22,7 @@ use Rattle.bench_one_store.proofs.main.Given as goal
 abbrev pub ghosts-whole_calls : goal.ghosts-whole_calls
 ghosts-whole_calls a = record { name = a.blank.name; parts = a.blank.parts }
 END
-{
-    for name in $crates; do grep -E "^$name:" "$root/crates.txt" || true; done
-    echo "bench_one_store: one_store entry_words node_places node_words node_shapes vw_cell"
-} > "$work/crates.txt"
+list_crates "bench_one_store: one_store entry_words node_places node_words node_shapes vw_cell" $crates
 rustc -O -C target-cpu=x86-64-v2 -o "$work/plain" "$here/one_store/plain.rs"
 cd "$work/crates/bench_one_store"
 [ "${1:-}" != prepare ] || exit 0

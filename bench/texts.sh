@@ -9,22 +9,13 @@ set -eu
 here=$(cd "$(dirname "$0")" && pwd)
 root=$(dirname "$here")
 work=$here/work/texts
+. "$here/copies.sh"
 crates="sums word_bits vw_cell bit_set vox_chunk vox_read plain_text history_model transcript"
 rounds=5
 mkdir -p "$work/crates/bench_texts/src"
-cp "$root/HANDLES" "$work/"
-for name in $crates; do
-    mkdir -p "$work/crates/$name"
-    for part in src specs proofs; do
-        rm -rf "$work/crates/$name/$part"
-        [ ! -d "$root/crates/$name/$part" ] || cp -a "$root/crates/$name/$part" "$work/crates/$name/"
-    done
-done
+copy_crates $crates
 cp "$here/texts/main.rt.in" "$work/crates/bench_texts/src/main.rt"
-{
-    for name in $crates; do grep -E "^$name:" "$root/crates.txt"; done
-    echo "bench_texts: plain_text vw_cell vox_read history_model transcript"
-} > "$work/crates.txt"
+list_crates "bench_texts: plain_text vw_cell vox_read history_model transcript" $crates
 rustc -O -C target-cpu=x86-64-v2 -o "$work/plain" "$here/texts/plain.rs"
 cd "$work"
 python3 "$here/texts/make.py"

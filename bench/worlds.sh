@@ -10,6 +10,7 @@ set -eu
 here=$(cd "$(dirname "$0")" && pwd)
 root=$(dirname "$here")
 work=$here/work/worlds
+. "$here/copies.sh"
 [ -f "${PEER:-}/store.rs" ] || { echo "PEER must name the folder of the peer's sources" >&2; exit 1; }
 above="one_store edit_ops edit_copy edit_stamp measure ray_walk extract script"
 # what these stand on
@@ -22,24 +23,14 @@ crates=$(awk -F"[: ]+" -v above="$above" '
         for (i = 1; i <= number; i++) if (order[i] in wanted) print order[i]
     }' "$root/crates.txt")
 mkdir -p "$work/crates" "$work/peer"
-cp "$root/HANDLES" "$work/"
-for name in $crates; do
-    mkdir -p "$work/crates/$name"
-    for part in src specs proofs; do
-        rm -rf "$work/crates/$name/$part"
-        [ ! -d "$root/crates/$name/$part" ] || cp -a "$root/crates/$name/$part" "$work/crates/$name/"
-    done
-done
+copy_crates $crates
 program=$work/crates/bench_worlds
 rm -rf "$program/src" "$program/specs" "$program/proofs"
 (cd "$here/worlds" && find src specs proofs -name '*.in') | while read -r file; do
     mkdir -p "$program/$(dirname "$file")"
     cp "$here/worlds/$file" "$program/${file%.in}"
 done
-{
-    for name in $crates; do grep -E "^$name:" "$root/crates.txt"; done
-    echo "bench_worlds: $(echo $crates | tac -s ' ' | tr '\n' ' ')"
-} > "$work/crates.txt"
+list_crates "bench_worlds: $(echo $crates | tac -s ' ' | tr '\n' ' ')" $crates
 [ "${1:-}" != prepare ] || exit 0
 cp "$PEER/store.rs" "$PEER/ask.rs" "$work/peer/"
 cp "$here/worlds/plain.rs" "$work/peer/main.rs"

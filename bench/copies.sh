@@ -1,0 +1,27 @@
+# What the benchmarks share that prove and build a program of their own, outside of the gate. They source it with `root` set
+# to the repository and `work` to a folder of copies.
+
+# copy_crates NAME ..: copies these crates, those that are the repository's, into the folder of copies.
+copy_crates() {
+    local name part
+    mkdir -p "$work/crates"
+    cp "$root/HANDLES" "$work/"
+    for name in "$@"; do
+        [ -d "$root/crates/$name" ] || continue
+        mkdir -p "$work/crates/$name"
+        for part in src specs proofs; do
+            rm -rf "$work/crates/$name/$part"
+            [ ! -d "$root/crates/$name/$part" ] || cp -a "$root/crates/$name/$part" "$work/crates/$name/"
+        done
+    done
+}
+
+# list_crates LINE NAME ..: what each of these crates stands on, and the line of the benchmark's own program, as crates.txt.
+list_crates() {
+    local line=$1 name
+    shift
+    {
+        for name in "$@"; do grep -E "^$name:" "$root/crates.txt" || true; done
+        echo "$line"
+    } > "$work/crates.txt"
+}
