@@ -12,7 +12,7 @@ use Rattle.vw_cell.specs.declared.cells.Cell.{Cell}
 use Rattle.vw_cell.specs.Places.{is_in_box}
 use Rattle.vw_cell.specs.Tests.{is_in_box_tells, is_in_box_holds}
 use Rattle.vox_read.specs.declared.voxels.Voxel.{Voxel}
-use Rattle.vox_read.specs.Contents.{Content, StandsIn, is_cell, stands_at}
+use Rattle.vox_read.specs.Contents.{Content, StandsInside, is_cell, stands_at}
 use Rattle.vox_read.specs.Places.{voxel_place}
 use Rattle.vox_read.specs.Cells.{AreCells}
 use Rattle.vox_read.proofs.Marking.{stands, stands_tells}
@@ -51,7 +51,7 @@ stamp_tells : (m : Content) (cells : List Voxel) (at p : Cell) → AreCells m ce
 stamp_tells m cells at p are some = and_from _ _ in_box cell where
   in_box : is_in_box (box_at at m.size) p ≡ true
   in_box =
-      any_gives (StandsIn m.size) (is_in_box (box_at at m.size) p ≡ true) (λ v. is_at (plus at (voxel_place v)) p) cells are.inside
+      any_gives (StandsInside m.size) (is_in_box (box_at at m.size) p ≡ true) (λ v. is_at (plus at (voxel_place v)) p) cells are.inside
       (λ v inside hit. (let same = is_at_parts (plus at (voxel_place v)) p hit in is_in_box_holds (box_at at m.size) p (record { x = (omega (arith, same.0), omega (arith, same.0, inside.x)); y = (omega (arith, same.1), omega (arith, same.1, inside.y)); z = (omega (arith, same.2), omega (arith, same.2, inside.z)) })))
       some
 

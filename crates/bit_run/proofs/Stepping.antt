@@ -15,8 +15,8 @@ use Rattle.history_model.specs.declared.histories.Mark.{Mark}
 use Rattle.history_model.specs.declared.questions.Question.TheVariants as questions
 use Rattle.history_model.specs.Worlds.{nothing, edited, is_edit}
 use Rattle.history_model.specs.Positions.{position_after}
-use Rattle.history_model.specs.Moments.{has}
-use Rattle.history_model.specs.Logs.{Log, Fits}
+use Rattle.history_model.specs.Moments.{world_has}
+use Rattle.history_model.specs.Logs.{Log, FitsWorld}
 use Rattle.history_model.specs.Laws.{has_of_edit, has_at_0}
 use Rattle.history_model.specs.LegalLaws.{legal_next, edit_follows}
 use Rattle.node_words.specs.Plans.{Layout}
@@ -35,7 +35,7 @@ use Rattle.conformance.specs.Runs.{AllRan, IsFree, is_free}
 use Rattle.conformance.specs.Telling.{count}
 use Rattle.conformance.proofs.LineKinds.{done_line, resting_line, full_way}
 use Rattle.conformance.proofs.Running.{no_lines, next_line, next_script, all_lines}
-use Rattle.bit_run.specs.Steps.{Bits, run_state, unmarked, DrawsAct, IsSame, Changed, Counted, Does, DoesLine, IsState, RanLines}
+use Rattle.bit_run.specs.Steps.{Bits, run_state, unmarked, DrawsAct, IsSame, Changed, Counted, AnswersLine, DoesLine, IsState, RanLines}
 use Rattle.bit_run.proofs.Stamping.{shows_same}
 
 -- ---- before the first line
@@ -44,7 +44,7 @@ pub empty_state : (p : Layout) (models : List Content) (grid : Grid) → grid.ex
 empty_state p models grid same clear = record {
   run = no_lines p models;
   same_side = same;
-  shows = shows_same grid (has models [] 0) nothing clear (has_at_0 models []);
+  shows = shows_same grid (world_has models [] 0) nothing clear (has_at_0 models []);
 }
 
 -- ---- one line
@@ -76,7 +76,7 @@ module _ (p : Layout) (models : List Content) (scripts : List (List ScriptLine))
       subst (λ (k : ℕ). IsNext bits (answer_of k at answer)) (sym same) (subst (λ (k : ℕ). IsNext bits (answer_of l.line k answer)) (sym moment) next)
 
   stepped : (old new : Bits) (a : LineAnswer) → IsState p models scripts transcripts script transcript old → LineStep p models (length scripts) l (unmarked p.side old.records) (unmarked p.side new.records) a → new.grid.exponent ≡ old.grid.exponent
-      → Shows new.grid (has models new.records (length new.records)) → IsNext new a
+      → Shows new.grid (world_has models new.records (length new.records)) → IsNext new a
   unfolding IsNext
   stepped old new a s step same shows = record {
     run = next_line p models scripts transcripts script transcript l (unmarked p.side old.records) (unmarked p.side new.records) a s.run after step;
@@ -85,7 +85,7 @@ module _ (p : Layout) (models : List Content) (scripts : List (List ScriptLine))
   }
 
   -- a change is accepted
-  accepted : (act : Act) (once : _) (old : Bits) (grid : Grid) → l.command ≡ Edit act once → IsForBits (Edit act once) → Fits (2 ^ p.side) models act → IsState p models scripts transcripts script transcript old
+  accepted : (act : Act) (once : _) (old : Bits) (grid : Grid) → l.command ≡ Edit act once → IsForBits (Edit act once) → FitsWorld (2 ^ p.side) models act → IsState p models scripts transcripts script transcript old
       → length old.records < 65535 → DrawsAct models act old.grid grid
       → IsNext (run_state grid (old.records ++ record_of (length scripts) l.line act ∷ [])) (answer_of l.line (length old.records + 1) Done)
   accepted act once old grid is built fits s room draws =
@@ -96,8 +96,8 @@ module _ (p : Layout) (models : List Content) (scripts : List (List ScriptLine))
       let step = done_line p models (length scripts) l.line act once (unmarked p.side old.records) (unmarked p.side (old.records ++ r ∷ [])) (record { legal = legal; side = refl; records = refl; marks = refl }) in
       stepped old (run_state grid (old.records ++ r ∷ [])) (answer_of l.line (length old.records + 1) Done) s
       (subst (λ (c : Command). LineStep p models (length scripts) (record { line = l.line; command = c }) (unmarked p.side old.records) (unmarked p.side (old.records ++ r ∷ [])) (answer_of l.line (length old.records + 1) Done)) (sym is) step) draws.same_side
-      (shows_same grid (has models (old.records ++ r ∷ []) (length (old.records ++ r ∷ []))) (edited models act (has models old.records (length old.records))) (draws.each (has models old.records (length old.records)) s.shows)
-      (λ c. ap (λ (n : ℕ). has models (old.records ++ r ∷ []) n c) longer ∙ has_of_edit models old.records r c edit))
+      (shows_same grid (world_has models (old.records ++ r ∷ []) (length (old.records ++ r ∷ []))) (edited models act (world_has models old.records (length old.records))) (draws.each (world_has models old.records (length old.records)) s.shows)
+      (λ c. ap (λ (n : ℕ). world_has models (old.records ++ r ∷ []) n c) longer ∙ has_of_edit models old.records r c edit))
 
   -- an answer that changes nothing
   rested : (bits : Bits) (a : LineAnswer) → IsState p models scripts transcripts script transcript bits → LineStep p models (length scripts) l (unmarked p.side bits.records) (unmarked p.side bits.records) a → IsNext bits a
@@ -111,7 +111,7 @@ module _ (p : Layout) (models : List Content) (scripts : List (List ScriptLine))
       (resting_line p models (length scripts) (record { line = l.line; command = Edit act once }) log LogFull s.run.legal refl
       (log_full act once full (full_way log (length scripts) l.line act (inl (edit_of_built act once built))))))
 
-  counted : (b : Boxed) (cells : ℕ) (bits : Bits) → l.command ≡ Ask None (questions.Count b) → IsState p models scripts transcripts script transcript bits → cells ≡ number_in b (has models bits.records (length bits.records))
+  counted : (b : Boxed) (cells : ℕ) (bits : Bits) → l.command ≡ Ask None (questions.Count b) → IsState p models scripts transcripts script transcript bits → cells ≡ number_in b (world_has models bits.records (length bits.records))
       → IsNext bits (answer_of l.line (length bits.records) (Count cells))
   counted b cells bits is s number =
       let log : Log = unmarked p.side bits.records in
@@ -126,7 +126,7 @@ module _ (p : Layout) (models : List Content) (scripts : List (List ScriptLine))
       subst (λ (g : Grid). IsNext (run_state g new.records) a) (sym same.grid) (subst (λ (rs : List Record). IsNext (run_state old.grid rs) a) (sym same.records) next)
 
   -- by the answer
-  change_step : (act : Act) (once : _) (old new : Bits) (line at : ℕ) (answer : Answer) → l.command ≡ Edit act once → IsForBits (Edit act once) → Fits (2 ^ p.side) models act → IsState p models scripts transcripts script transcript old
+  change_step : (act : Act) (once : _) (old new : Bits) (line at : ℕ) (answer : Answer) → l.command ≡ Edit act once → IsForBits (Edit act once) → FitsWorld (2 ^ p.side) models act → IsState p models scripts transcripts script transcript old
       → line ≡ l.line → at ≡ length new.records → Changed models (record_of (length scripts) l.line act) old new answer → IsNext new (answer_of line at answer)
   change_step act once old new line at Done is built fits s same moment does =
       let r : Record = record_of (length scripts) l.line act in
@@ -141,12 +141,12 @@ module _ (p : Layout) (models : List Content) (scripts : List (List ScriptLine))
       → IsSame old new → Counted old.grid b answer → IsNext new (answer_of line at answer)
   count_step b old new line at (Count cells) is s same moment stays number =
       same_bits old new (answer_of line at (Count cells)) stays
-      (told old line at (length old.records) (Count cells) same (moment ∙ ap length stays.records) (counted b cells old is s (number (has models old.records (length old.records)) s.shows)))
+      (told old line at (length old.records) (Count cells) same (moment ∙ ap length stays.records) (counted b cells old is s (number (world_has models old.records (length old.records)) s.shows)))
   count_step b old new line at _ is s same moment stays number = absurd number
 
   -- and by the command
   command_step : (command : Command) (old new : Bits) (a : LineAnswer) → l.command ≡ command → IsForBits command → CommandFits (2 ^ p.side) models command → IsState p models scripts transcripts script transcript old → a.line ≡ l.line
-      → a.at ≡ length new.records → Does models (length scripts) l command old new a.answer → IsNext new a
+      → a.at ≡ length new.records → AnswersLine models (length scripts) l command old new a.answer → IsNext new a
   command_step (Edit act once) old new a is built fits s same moment does = change_step act once old new a.line a.at a.answer is built fits s same moment does
   command_step (Ask None (questions.Count b)) old new a is built fits s same moment does = count_step b old new a.line a.at a.answer is s same moment does.0 does.1
   command_step _ old new a is built fits s same moment does = absurd does
@@ -197,7 +197,7 @@ free_count : (grid : Grid) (b : Boxed) (answer : Answer) → Counted grid b answ
 free_count grid b (Count cells) does = refl
 free_count grid b _ does = absurd does
 
-free_by : (models : List Content) (session : ℕ) (l : ScriptLine) (command : Command) (old new : Bits) (answer : Answer) → Does models session l command old new answer → is_free answer ≡ true
+free_by : (models : List Content) (session : ℕ) (l : ScriptLine) (command : Command) (old new : Bits) (answer : Answer) → AnswersLine models session l command old new answer → is_free answer ≡ true
 free_by models session l (Edit act once) old new answer does = free_change models (record_of session l.line act) old new answer does
 free_by models session l (Ask None (questions.Count b)) old new answer does = free_count old.grid b answer does.1
 free_by models session l _ old new answer does = absurd does
@@ -206,7 +206,7 @@ pub more_free : (models : List Content) (session : ℕ) (l : ScriptLine) (old ne
 more_free models session l old new answers more a does free pushed = subst (All IsFree) (sym pushed) (All-push IsFree answers a free (free_by models session l l.command old new a.answer does.does))
 
 -- how many records there are, and the side
-few_by : (models : List Content) (session : ℕ) (l : ScriptLine) (command : Command) (old new : Bits) (answer : Answer) → Does models session l command old new answer → length old.records ≤ 65535
+few_by : (models : List Content) (session : ℕ) (l : ScriptLine) (command : Command) (old new : Bits) (answer : Answer) → AnswersLine models session l command old new answer → length old.records ≤ 65535
     → (length new.records ≤ 65535) × (new.grid.exponent ≡ old.grid.exponent)
 few_by models session l (Edit act once) old new answer does few = few_change old new answer does few
   where

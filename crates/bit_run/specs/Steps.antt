@@ -9,7 +9,7 @@ use Rattle.history_model.specs.declared.histories.Record.{Record}
 use Rattle.history_model.specs.declared.questions.Question.TheVariants as questions
 use Rattle.history_model.specs.Logs.{Log}
 use Rattle.history_model.specs.Worlds.{World, edited}
-use Rattle.history_model.specs.Moments.{has}
+use Rattle.history_model.specs.Moments.{world_has}
 use Rattle.node_words.specs.Plans.{Layout}
 use Rattle.script.specs.declared.commands.Command.{Command}
 use Rattle.script.specs.declared.commands.Command.TheVariants.{Edit, Ask}
@@ -57,19 +57,19 @@ abbrev pub Counted : Grid → Boxed → Answer → Type 0
 Counted grid b (Count cells) = (w : World) → Shows grid w → cells ≡ number_in b w
 Counted grid b _ = ⊥
 
-abbrev pub Does : List Content → ℕ → ScriptLine → Command → Bits → Bits → Answer → Type 0
-Does models session l (Edit act once) old new answer =
+abbrev pub AnswersLine : List Content → ℕ → ScriptLine → Command → Bits → Bits → Answer → Type 0
+AnswersLine models session l (Edit act once) old new answer =
     Changed models (record { session = session; line = l.line; act = act }) old new answer
-Does models session l (Ask None (questions.Count b)) old new answer =
+AnswersLine models session l (Ask None (questions.Count b)) old new answer =
     IsSame old new × Counted old.grid b answer
-Does models session l _ old new answer = ⊥
+AnswersLine models session l _ old new answer = ⊥
 
 -- what one line of a session makes of the bits, and its answer
 pub record DoesLine (models : List Content) (session : ℕ) (l : ScriptLine) (old new : Bits)
     (a : LineAnswer) : Type 0 where
   pub same_line : a.line ≡ l.line
   pub moment : a.at ≡ length new.records
-  pub does : Does models session l l.command old new a.answer
+  pub does : AnswersLine models session l l.command old new a.answer
 
 -- some scripts were run, and of the next one these lines: the bits show the newest version
 pub record IsState (p : Layout) (models : List Content) (scripts : List (List ScriptLine))
@@ -77,7 +77,7 @@ pub record IsState (p : Layout) (models : List Content) (scripts : List (List Sc
     (bits : Bits) : Type 0 where
   pub run : IsSoFar p models scripts transcripts script transcript (unmarked p.side bits.records)
   pub same_side : bits.grid.exponent ≡ p.side
-  pub shows : Shows bits.grid (has models bits.records (length bits.records))
+  pub shows : Shows bits.grid (world_has models bits.records (length bits.records))
 
 -- whatever has run so far, the session's lines were run after it
 abbrev pub RanLines : List Content → ℕ → List ScriptLine → List LineAnswer → Bits → Bits → Type 0

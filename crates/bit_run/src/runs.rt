@@ -1,7 +1,7 @@
 ghost use Rattle.std.specs.Prelude.{◌≡◌, ◌^◌, ◌≤◌, false, length, All, IfOk};
 ghost use Rattle.vox_read.specs.Contents.{AreModels};
 ghost use Rattle.script.specs.Fitting.{CommandFits, IsForBits, RisesFrom};
-ghost use Rattle.history_model.specs.Logs.{Fits};
+ghost use Rattle.history_model.specs.Logs.{FitsWorld};
 ghost use Rattle.script.specs.declared.commands.Command.TheVariants.{Edit};
 ghost use Rattle.conformance.specs.Runs.{AllRan, RanFreely, IsFree};
 ghost use Rattle.bit_run.specs.Steps.{run_state, Changed, DrawsAct, DoesLine, RanLines};
@@ -22,9 +22,9 @@ const RECORDS: usize = 65_535;
 
 /// Runs scripts one after another, script k as session k, from an empty world of the plan's side.
 ///
-/// All memory but that of the answers is taken before the first command: one bit for each cell of the
-/// world, room for all records, and a list of the cells of each model. The room of an answer list is
-/// taken before its script's first command.
+/// All memory but that of the answers is taken before the first command: one bit for each cell of
+/// the world, room for all records, and a list of the cells of each model. The room of an answer
+/// list is taken before its script's first command.
 pub fn run_scripts(
     alloc: Global,
     plan: &Plan,
@@ -34,7 +34,8 @@ pub fn run_scripts(
     requires models { AreModels models.now }
     requires few { length scripts.now ≤ 64 }
     requires rise { All (RisesFrom 1) scripts.now }
-    requires fit { All (All (λ l. CommandFits (2 ^ plan.now.side) models.now l.command)) scripts.now }
+    requires fit { All
+        (All (λ l. CommandFits (2 ^ plan.now.side) models.now l.command)) scripts.now }
     requires for_bits { All (All (λ l. IsForBits l.command)) scripts.now }
     ensures ran { IfOk result (λ ran. AllRan plan.now models.now scripts.now
         ran.transcripts.items ran.history) }
@@ -83,7 +84,8 @@ fn run_script(
     requires small { world.old.exponent ≤ 12 }
     requires few { length records.old.items ≤ 65535 }
     requires rises { RisesFrom 1 script.now }
-    requires fit { All (λ l. CommandFits (2 ^ world.old.exponent) stencils.now l.command) script.now }
+    requires fit { All
+        (λ l. CommandFits (2 ^ world.old.exponent) stencils.now l.command) script.now }
     requires for_bits { All (λ l. IsForBits l.command) script.now }
     ensures ran { IfOk result (λ answers. RanLines stencils.now session script.now answers.items
         (run_state world.old records.old.items) (run_state world.new records.new.items)) }
@@ -143,7 +145,7 @@ fn change(
 ) -> Result<Answer, Memory>
     requires small { world.old.exponent ≤ 12 }
     requires few { length records.old.items ≤ 65535 }
-    requires fits { Fits (2 ^ world.old.exponent) stencils.now entry.act }
+    requires fits { FitsWorld (2 ^ world.old.exponent) stencils.now entry.act }
     requires for_bits { IsForBits (Edit entry.act false) }
     ensures changed { IfOk result (Changed stencils.now entry
         (run_state world.old records.old.items) (run_state world.new records.new.items)) }
@@ -172,7 +174,7 @@ fn answered(line: u32, now: usize, answer: Answer) -> LineAnswer
 // Makes the change in the bits.
 fn draw(world: &mut BitWorld, stencils: &[Stencil], act: Act)
     requires small { world.old.exponent ≤ 12 }
-    requires fits { Fits (2 ^ world.old.exponent) stencils.now act }
+    requires fits { FitsWorld (2 ^ world.old.exponent) stencils.now act }
     requires for_bits { IsForBits (Edit act false) }
     ensures { DrawsAct stencils.now act world.old world.new }
 {

@@ -42,7 +42,8 @@ impl<'m> Stencil<'m> {
         requires small { world.old.exponent ≤ 12 }
         requires fits { FitsAt at self.now.size (2 ^ world.old.exponent) }
         ensures side { world.new.exponent ≡ world.old.exponent }
-        ensures cells { (w : World) → Shows world.old w → Shows world.new (λ p. is_in_stamp (Some self.now) at p || w p) }
+        ensures cells { (w : World) → Shows world.old w
+            → Shows world.new (λ p. is_in_stamp (Some self.now) at p || w p) }
     {
         for voxel in &self.cells {
             world.set(moved(*voxel, at));

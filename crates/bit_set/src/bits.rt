@@ -6,7 +6,8 @@ ghost use Rattle.bit_set.specs.Bits.{is_set, number_set, Keeps, PutsRange, PutsB
 use std::alloc::{AllocError, Global};
 use std::marker::Model;
 
-/// A row of bits of fixed length, 64 to a word. Contracts see the list of the words, and each bit by
+/// A row of bits of fixed length, 64 to a word. Contracts see the list of the words, and each bit
+/// by
 /// `is_set`.
 #[derive(Drop)]
 pub struct BitSet {

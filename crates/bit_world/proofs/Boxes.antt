@@ -6,7 +6,7 @@ use Rattle.vw_cell.specs.declared.cells.Cell.{Cell}
 use Rattle.vw_cell.specs.declared.boxes.Boxed.{Boxed}
 use Rattle.vw_cell.specs.Places.{FitsAt, is_within, is_in_box}
 use Rattle.vw_cell.specs.Tests.{is_within-none, is_within-more}
-use Rattle.bit_world.specs.Grids.{bit_number, PutsBox, row_of, rows_of, layer_of, layers_of}
+use Rattle.bit_world.specs.Grids.{grid_bit, PutsBox, grid_row, grid_rows, layer_of, layers_of}
 use Rattle.bit_world.proofs.Rows.{row_puts}
 
 -- a box with no cell changes nothing
@@ -26,8 +26,8 @@ then_put : (n : ℕ) (a b whole : Boxed) (value : Bool) (old mid new : List ℕ)
 then_put n a b whole value old mid new first second together =
     record {
       each = λ c in_world.
-          twice (is_in_box a c) (is_in_box b c) (is_set new (bit_number n c)) (is_set mid (bit_number n c)) (is_set old (bit_number n c)) value (second.each c in_world) (first.each c in_world)
-          ∙ ap (λ (hit : Bool). if hit then value else is_set old (bit_number n c)) (sym (together c));
+          twice (is_in_box a c) (is_in_box b c) (is_set new (grid_bit n c)) (is_set mid (grid_bit n c)) (is_set old (grid_bit n c)) value (second.each c in_world) (first.each c in_world)
+          ∙ ap (λ (hit : Bool). if hit then value else is_set old (grid_bit n c)) (sym (together c));
       same_length = second.same_length ∙ first.same_length;
     }
 
@@ -49,7 +49,7 @@ choice_z true false z z' = refl
 choice_z false y z z' = refl
 
 -- one more row of a layer, one more layer of a box
-row_joins : (b : Boxed) (z k : ℕ) (c : Cell) → is_in_box (rows_of b z (k + 1)) c ≡ (is_in_box (rows_of b z k) c || is_in_box (row_of b (b.at.y + k) z) c)
+row_joins : (b : Boxed) (z k : ℕ) (c : Cell) → is_in_box (grid_rows b z (k + 1)) c ≡ (is_in_box (grid_rows b z k) c || is_in_box (grid_row b (b.at.y + k) z) c)
 row_joins b z k c =
     ap (λ (hit : Bool). is_within b.at.x b.size.x c.x && hit && is_within z 1 c.z) (is_within-more b.at.y k c.y)
     ∙ choice_y (is_within b.at.x b.size.x c.x) (is_within b.at.y k c.y) (is_within (b.at.y + k) 1 c.y) (is_within z 1 c.z)
@@ -68,9 +68,9 @@ never_z true true = refl
 never_z true false = refl
 never_z false y = refl
 
-pub no_rows : (n : ℕ) (b : Boxed) (z : ℕ) (value : Bool) (words : List ℕ) → PutsBox n (rows_of b z 0) value words words
+pub no_rows : (n : ℕ) (b : Boxed) (z : ℕ) (value : Bool) (words : List ℕ) → PutsBox n (grid_rows b z 0) value words words
 no_rows n b z value words =
-    nothing_put n (rows_of b z 0) value words
+    nothing_put n (grid_rows b z 0) value words
     (λ c. ap (λ (hit : Bool). is_within b.at.x b.size.x c.x && hit && is_within z 1 c.z) (is_within-none b.at.y c.y) ∙ never_y (is_within b.at.x b.size.x c.x) (is_within z 1 c.z))
 
 pub no_layers : (n : ℕ) (b : Boxed) (value : Bool) (words : List ℕ) → PutsBox n (layers_of b 0) value words words
@@ -79,10 +79,10 @@ no_layers n b value words =
     (λ c. ap (λ (hit : Bool). is_within b.at.x b.size.x c.x && is_within b.at.y b.size.y c.y && hit) (is_within-none b.at.z c.z) ∙ never_z (is_within b.at.x b.size.x c.x) (is_within b.at.y b.size.y c.y))
 
 pub rows_more : (n : ℕ) (b : Boxed) (z k y row last : ℕ) (value : Bool) (old mid new : List ℕ) → FitsAt b.at b.size n → k < b.size.y → z < n → y ≡ b.at.y + k → row ≡ (z * n + y) * n + b.at.x → last ≡ row + b.size.x
-    → PutsBox n (rows_of b z k) value old mid → PutsRange row last value mid new → PutsBox n (rows_of b z (k + 1)) value old new
+    → PutsBox n (grid_rows b z k) value old mid → PutsRange row last value mid new → PutsBox n (grid_rows b z (k + 1)) value old new
 rows_more n b z k y row last value old mid new fits of_k of_z y_is is last_is first puts =
     let ends = fits.y.1 in
-    then_put n (rows_of b z k) (row_of b (b.at.y + k) z) (rows_of b z (k + 1)) value old mid new first
+    then_put n (grid_rows b z k) (grid_row b (b.at.y + k) z) (grid_rows b z (k + 1)) value old mid new first
     (row_puts n b (b.at.y + k) z row value mid new fits (omega (arith, of_k, ends)) of_z (is ∙ ap (λ (m : ℕ). (z * n + m) * n + b.at.x) y_is) (subst (λ (m : ℕ). PutsRange row m value mid new) last_is puts)) (row_joins b z k)
 
 pub layers_more : (n : ℕ) (b : Boxed) (k : ℕ) (value : Bool) (old mid new : List ℕ) → PutsBox n (layers_of b k) value old mid → PutsBox n (layer_of b (b.at.z + k)) value mid new

@@ -8,7 +8,7 @@ use Rattle.vw_cell.specs.declared.boxes.Boxed.{Boxed}
 use Rattle.vw_cell.specs.Places.{FitsAt}
 use Rattle.sums.specs.Sums.{sum_below, one_if, one_if-le, sum_below-suc, sum_below-zero, sum_below-same, sum_below-le}
 use Rattle.vw_cell.specs.Counts.{number_in, cell_at, number_below-same}
-use Rattle.bit_world.specs.Grids.{Grid, Shows, bit_number, row_number, rows_number, layer_number}
+use Rattle.bit_world.specs.Grids.{Grid, Shows, grid_bit, row_number, rows_number, layer_number}
 
 row_bits : (n : ℕ) (b : Boxed) (words : List ℕ) (y z row : ℕ) → row ≡ (z * n + y) * n + b.at.x → number_set words row (row + b.size.x) ≡ row_number n b words y z
 row_bits n b words y z row is =
@@ -20,7 +20,7 @@ row_bits n b words y z row is =
 
 row_small : (n : ℕ) (b : Boxed) (words : List ℕ) (y z : ℕ) → row_number n b words y z ≤ b.size.x
 row_small n b words y z =
-    let terms : row_number n b words y z ≤ b.size.x * 1 = sum_below-le b.size.x 1 _ (λ x _. one_if-le (is_set words (bit_number n (cell_at (b.at.x + x) y z)))) in
+    let terms : row_number n b words y z ≤ b.size.x * 1 = sum_below-le b.size.x 1 _ (λ x _. one_if-le (is_set words (grid_bit n (cell_at (b.at.x + x) y z)))) in
     omega (arith, terms)
 
 -- how far the count of a layer has come
@@ -86,7 +86,7 @@ layers_fit n b words k set so_far of_k of_y of_x =
 
 -- the bits' number is that of the world that they show
 pub shown_number : (grid : Grid) (b : Boxed) (world : Cell → Bool) → Shows grid world → FitsAt b.at b.size (2 ^ grid.exponent)
-    → number_in b (λ c. is_set grid.words (bit_number (2 ^ grid.exponent) c)) ≡ number_in b world
+    → number_in b (λ c. is_set grid.words (grid_bit (2 ^ grid.exponent) c)) ≡ number_in b world
 shown_number grid b world shows fits =
     number_below-same b.size _ _ (λ q below. shows.each (cell_at (b.at.x + q.x) (b.at.y + q.y) (b.at.z + q.z)) (record { x = inside _ _ _ _ fits.x.1 below.x; y = inside _ _ _ _ fits.y.1 below.y; z = inside _ _ _ _ fits.z.1 below.z }))
   where
@@ -94,7 +94,7 @@ shown_number grid b world shows fits =
     inside at size q n ends below = omega (arith, ends, below)
 
 pub count_shown : (n : ℕ) (words : List ℕ) (result : ℕ) (grid : Grid) (b : Boxed) (world : Cell → Bool) → n ≡ 2 ^ grid.exponent → words ≡ grid.words
-    → result ≡ number_in b (λ c. is_set words (bit_number n c)) → Shows grid world → FitsAt b.at b.size (2 ^ grid.exponent) → result ≡ number_in b world
+    → result ≡ number_in b (λ c. is_set words (grid_bit n c)) → Shows grid world → FitsAt b.at b.size (2 ^ grid.exponent) → result ≡ number_in b world
 count_shown n words result grid b world n_is words_is is shows fits =
-    is ∙ ap (λ (m : ℕ). number_in b (λ c. is_set words (bit_number m c))) n_is ∙ ap (λ (xs : List ℕ). number_in b (λ c. is_set xs (bit_number (2 ^ grid.exponent) c))) words_is
+    is ∙ ap (λ (m : ℕ). number_in b (λ c. is_set words (grid_bit m c))) n_is ∙ ap (λ (xs : List ℕ). number_in b (λ c. is_set xs (grid_bit (2 ^ grid.exponent) c))) words_is
     ∙ shown_number grid b world shows fits

@@ -8,7 +8,7 @@ use Rattle.vw_cell.specs.declared.cells.Cell.{Cell}
 use Rattle.vw_cell.specs.declared.boxes.Boxed.{Boxed}
 use Rattle.vw_cell.specs.Places.{IsInWorld, FitsAt, IsInBox, is_in_box}
 use Rattle.vw_cell.specs.Tests.{is_in_box_tells, is_in_box_holds}
-use Rattle.bit_world.specs.Grids.{bit_number, PutsBox, row_of}
+use Rattle.bit_world.specs.Grids.{grid_bit, PutsBox, grid_row}
 
 -- the row of a box ends in the world's bits
 pub row_inside : (n : ℕ) (b : Boxed) (y z : ℕ) → FitsAt b.at b.size n → y < n → z < n → (z * n + y) * n + b.at.x + b.size.x ≤ n * (n * n)
@@ -24,41 +24,41 @@ side_small n h = mul-le n (n * n) 4096 (4096 * 4096) h (mul-le n n 4096 4096 h h
 
 -- the bits of a row are those of its cells
 pub row_puts : (n : ℕ) (b : Boxed) (y z row : ℕ) (value : Bool) (old new : List ℕ) → FitsAt b.at b.size n → y < n → z < n → row ≡ (z * n + y) * n + b.at.x
-    → PutsRange row (row + b.size.x) value old new → PutsBox n (row_of b y z) value old new
+    → PutsRange row (row + b.size.x) value old new → PutsBox n (grid_row b y z) value old new
 row_puts n b y z row value old new fits of_y of_z is puts =
     record {
       each = λ c in_world.
-          elim (cases_Bool (is_in_box (row_of b y z) c)) [
+          elim (cases_Bool (is_in_box (grid_row b y z) c)) [
             | inl hit ↦
-                let i : IsInBox (row_of b y z) c = is_in_box_tells (row_of b y z) c hit in
+                let i : IsInBox (grid_row b y z) c = is_in_box_tells (grid_row b y z) c hit in
                 let same_y : c.y ≡ y = omega (arith, i.y) in
                 let same_z : c.z ≡ z = omega (arith, i.z) in
-                let number : bit_number n c ≡ (z * n + y) * n + c.x = rw (same_y, same_z) refl in
-                let from_row : row ≤ bit_number n c = omega (arith, number, is, i.x) in
-                let to_row : bit_number n c < row + b.size.x = omega (arith, number, is, i.x) in
-                rw hit (puts.inside (bit_number n c) from_row to_row)
-            | inr missed ↦ rw missed (puts.outside (bit_number n c) (beside c in_world missed))
+                let number : grid_bit n c ≡ (z * n + y) * n + c.x = rw (same_y, same_z) refl in
+                let from_row : row ≤ grid_bit n c = omega (arith, number, is, i.x) in
+                let to_row : grid_bit n c < row + b.size.x = omega (arith, number, is, i.x) in
+                rw hit (puts.inside (grid_bit n c) from_row to_row)
+            | inr missed ↦ rw missed (puts.outside (grid_bit n c) (beside c in_world missed))
           ];
       same_length = puts.same_length;
     }
   where
-    beside : (c : Cell) → IsInWorld n c → is_in_box (row_of b y z) c ≡ false → (bit_number n c < row) ⊎ (row + b.size.x ≤ bit_number n c)
+    beside : (c : Cell) → IsInWorld n c → is_in_box (grid_row b y z) c ≡ false → (grid_bit n c < row) ⊎ (row + b.size.x ≤ grid_bit n c)
     beside c in_world missed =
-        elim (cases_lt (bit_number n c) row) [
+        elim (cases_lt (grid_bit n c) row) [
           | inl before ↦ inl before
           | inr from_row ↦
-              elim (cases_lt (bit_number n c) (row + b.size.x)) [
+              elim (cases_lt (grid_bit n c) (row + b.size.x)) [
                 | inl to_row ↦
-                    let d : ℕ = bit_number n c - row in
+                    let d : ℕ = grid_bit n c - row in
                     let ends = fits.x.1 in
                     let of_d : b.at.x + d < n = omega (arith, from_row, to_row, ends) in
                     let number : (c.z * n + c.y) * n + c.x ≡ (z * n + y) * n + (b.at.x + d) = omega (arith, from_row, is) in
                     let outer : (c.z * n + c.y ≡ z * n + y) × (c.x ≡ b.at.x + d) = same_from_place (c.z * n + c.y) c.x (z * n + y) (b.at.x + d) n in_world.x of_d number in
                     let inner : (c.z ≡ z) × (c.y ≡ y) = same_from_place c.z c.y z y n in_world.y of_y outer.0 in
-                    let hit : is_in_box (row_of b y z) c ≡ true =
-                    is_in_box_holds (row_of b y z) c (record { x = (omega (arith, outer.1), omega (arith, outer.1, from_row, to_row)); y = (omega (arith, inner.1), omega (arith, inner.1)); z = (omega (arith, inner.0), omega (arith, inner.0)) })
+                    let hit : is_in_box (grid_row b y z) c ≡ true =
+                    is_in_box_holds (grid_row b y z) c (record { x = (omega (arith, outer.1), omega (arith, outer.1, from_row, to_row)); y = (omega (arith, inner.1), omega (arith, inner.1)); z = (omega (arith, inner.0), omega (arith, inner.0)) })
                     in
-                    absurd (both_ways (is_in_box (row_of b y z) c) missed hit)
+                    absurd (both_ways (is_in_box (grid_row b y z) c) missed hit)
                 | inr past ↦ inr past
               ]
         ]

@@ -4,7 +4,7 @@ ghost use Rattle.vw_cell.specs.declared.cells.Cell.{Cell};
 ghost use Rattle.vw_cell.specs.Places.{FitsAt, IsInWorld};
 ghost use Rattle.sums.specs.Sums.{sum_below, one_if};
 ghost use Rattle.vw_cell.specs.Counts.{number_in};
-ghost use Rattle.bit_world.specs.Grids.{Grid, Shows, put_in, set_in, bit_number, PutsBox, SetsCell, layer_of, layer_number};
+ghost use Rattle.bit_world.specs.Grids.{Grid, Shows, put_in, set_in, grid_bit, PutsBox, SetsCell, layer_of, layer_number};
 
 use bit_set::BitSet;
 use std::alloc::{AllocError, Global};
@@ -24,7 +24,8 @@ impl Model for BitWorld {
 
     ghost view = { λ w. record { exponent = w.side; words = w.cells } };
 
-    ghost invariant = { λ w. (2 ^ w.side * (2 ^ w.side * 2 ^ w.side) ≤ 64 * length w.cells) × (2 ≤ w.side) × (w.side ≤ 12) };
+    ghost invariant = { λ w. (2 ^ w.side * (2 ^ w.side * 2 ^ w.side) ≤ 64 * length w.cells)
+        × (2 ≤ w.side) × (w.side ≤ 12) };
 }
 
 impl BitWorld {
@@ -42,7 +43,8 @@ impl BitWorld {
     pub fn put(&mut self, b: Boxed, value: bool)
         requires { FitsAt b.at b.size (2 ^ self.old.exponent) }
         ensures side { self.new.exponent ≡ self.old.exponent }
-        ensures cells { (world : Cell → Bool) → Shows self.old world → Shows self.new (put_in b value world) }
+        ensures cells { (world : Cell → Bool) → Shows self.old world
+            → Shows self.new (put_in b value world) }
     {
         put_layers(&mut self.cells, self.side.cells() as usize, b, value);
     }
@@ -51,7 +53,8 @@ impl BitWorld {
     pub fn set(&mut self, c: Cell)
         requires { IsInWorld (2 ^ self.old.exponent) c }
         ensures side { self.new.exponent ≡ self.old.exponent }
-        ensures cells { (world : Cell → Bool) → Shows self.old world → Shows self.new (set_in c world) }
+        ensures cells { (world : Cell → Bool) → Shows self.old world
+            → Shows self.new (set_in c world) }
     {
         set_cell(&mut self.cells, self.side.cells() as usize, c);
     }
@@ -108,7 +111,7 @@ fn set_cell(cells: &mut BitSet, n: usize, c: Cell)
 fn cell_bit(n: usize, c: Cell) -> usize
     requires side { n ≤ 4096 }
     requires inside { IsInWorld n c }
-    ensures value { result ≡ bit_number n c }
+    ensures value { result ≡ grid_bit n c }
     ensures bound { result < n * (n * n) }
 {
     (usize::from(c.z) * n + usize::from(c.y)) * n + usize::from(c.x)
@@ -131,7 +134,7 @@ fn count_layers(cells: &BitSet, n: usize, b: Boxed) -> u64
     requires side { n ≤ 4096 }
     requires room { n * (n * n) ≤ 64 * length cells.now }
     requires inside { FitsAt b.at b.size n }
-    ensures { result ≡ number_in b (λ c. is_set cells.now (bit_number n c)) }
+    ensures { result ≡ number_in b (λ c. is_set cells.now (grid_bit n c)) }
 {
     let mut set = 0;
     for k in 0..b.size.z {

@@ -9,7 +9,7 @@ use Rattle.history_model.specs.declared.acts.Act.TheVariants.{Fill, Erase, Ball,
 use Rattle.history_model.specs.declared.histories.Record.{Record}
 use Rattle.history_model.specs.declared.histories.Mark.{Mark}
 use Rattle.history_model.specs.Positions.{Position, next_position}
-use Rattle.history_model.specs.Logs.{IsHeld, HasTarget, MayFollow, MayFollowFrom}
+use Rattle.history_model.specs.Logs.{IsVersionHeld, HasTarget, MayFollow, MayFollowFrom}
 use Rattle.block_contents.specs.Versions.{MarkComes, IsUnmarked}
 
 -- what holds of each element holds of each with one more in the middle
@@ -74,13 +74,13 @@ module _ (old new : List Mark) (mark : Mark) (comes : MarkComes old mark new) wh
   )
 
 target_stays : (marks more : List Mark) (n : ℕ) (past : List ℕ)
-    → ((to : ℕ) → IsHeld marks n to → IsHeld more n to)
+    → ((to : ℕ) → IsVersionHeld marks n to → IsVersionHeld more n to)
     → HasTarget marks n past → HasTarget more n past
 target_stays marks more n [] held has = has
 target_stays marks more n (to ∷ past) held has = held to has
 
 may_follow_stays : (marks more : List Mark) (n : ℕ) (act : Act) (at : Position)
-    → ((to : ℕ) → IsHeld marks n to → IsHeld more n to) → MayFollow marks n act at
+    → ((to : ℕ) → IsVersionHeld marks n to → IsVersionHeld more n to) → MayFollow marks n act at
     → MayFollow more n act at
 may_follow_stays marks more n (Fill b) at held may = may
 may_follow_stays marks more n (Erase b) at held may = may
@@ -93,7 +93,7 @@ may_follow_stays marks more n Redo at held may = target_stays marks more n at.fu
 
 -- records stay legal where further marks forget no target of theirs
 follow_stays : (marks more : List Mark) (n : ℕ) (at : Position) (records : List Record)
-    → ((m to : ℕ) → m < n + length records → IsHeld marks m to → IsHeld more m to)
+    → ((m to : ℕ) → m < n + length records → IsVersionHeld marks m to → IsVersionHeld more m to)
     → MayFollowFrom marks n at records → MayFollowFrom more n at records
 follow_stays marks more n at [] held follow = follow
 follow_stays marks more n at (r ∷ records) held follow = (

@@ -4,5 +4,7 @@ use Rattle.node_shapes.specs.Tree.{Tree}
 use Rattle.block_walk.specs.declared.answers.Known.{Known}
 
 -- each answer that is remembered tells so of the trees that are held
-pub record AreRight {Q : Type 0} (tells : List Tree → Q → ℕ → Type 0) (held : List Tree) (places : List (Option (Known Q))) : Type 0 where
-  pub each : (i : ℕ) (k : Known Q) → slice_index_or places i None ≡ Some k → tells held k.query k.number
+pub record AreRight {Q : Type 0} (tells : List Tree → Q → ℕ → Type 0) (held : List Tree)
+    (places : List (Option (Known Q))) : Type 0 where
+  pub each : (i : ℕ) (k : Known Q) → slice_index_or places i None ≡ Some k
+      → tells held k.query k.number

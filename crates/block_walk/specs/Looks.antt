@@ -21,4 +21,5 @@ Looks side cells c (Some b) = IsClearRound side cells c b
 
 -- so it is of the cell of a block
 abbrev pub LooksAt : List Tree → ℕ → Option Name → Cell → Option Boxed → Type 0
-LooksAt held level block c found = ForBlock held level block (λ s. Looks (block_side level) (cells_of level s) c found)
+LooksAt held level block c found =
+    ForBlock held level block (λ s. Looks (block_side level) (cells_of level s) c found)

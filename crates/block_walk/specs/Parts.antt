@@ -12,7 +12,8 @@ pub record EndsBy (side : ℕ) (b : Boxed) : Type 0 where
   pub y : b.at.y + b.size.y ≤ side
   pub z : b.at.z + b.size.z ≤ side
 
--- a place told from where the lower or the upper half begins: its beginning or its end, where it lies outside
+-- a place told from where the lower or the upper half begins: its beginning or its end, where it
+-- lies outside
 abbrev pub half_at : ℕ → ℕ → ℕ → ℕ
 half_at half zero at = min at half
 half_at half (suc i) at = min (at - half) half
@@ -24,7 +25,8 @@ half_size half i at size = half_at half i (at + size) - half_at half i at
 -- the part of a box in an octant, told from the octant's corner
 abbrev pub part_in : ℕ → Boxed → ℕ → Boxed
 part_in half b k = record {
-  at = cell_at (half_at half (half_x k) b.at.x) (half_at half (half_y k) b.at.y) (half_at half (half_z k) b.at.z);
+  at = cell_at (half_at half (half_x k) b.at.x) (half_at half (half_y k) b.at.y)
+      (half_at half (half_z k) b.at.z);
   size = cell_at
       (half_size half (half_x k) b.at.x b.size.x)
       (half_size half (half_y k) b.at.y b.size.y)
@@ -41,7 +43,12 @@ placed_box half k b = record { at = placed half k b.at; size = b.size }
 
 -- the whole of a block of this level
 abbrev pub whole_of : ℕ → Boxed
-whole_of level = record { at = cell_at 0 0 0; size = cell_at (block_side level) (block_side level) (block_side level) }
+whole_of level =
+    record {
+      at = cell_at 0 0 0;
+      size = cell_at (block_side level) (block_side level)
+          (block_side level);
+    }
 
 -- a box without a cell
 abbrev pub IsEmpty : Boxed → Type 0

@@ -10,13 +10,15 @@ use Rattle.node_shapes.specs.Tree.{Tree, root_of, child_of, shape_of}
 use Rattle.node_words.specs.Held.{IsReached, HoldsName}
 use Rattle.block_walk.specs.Parts.{part_in}
 
--- the set cells of what stands in a block of this level, each told by its place from the block's corner
+-- the set cells of what stands in a block of this level, each told by its place from the block's
+-- corner
 abbrev pub cells_of : ℕ → Shape → Cell → Bool
 cells_of level s c = has level s c.x c.y c.z
 
 -- how many cells of a box's part in an octant are set
 abbrev pub octant_count : ℕ → Shape → Boxed → ℕ → ℕ
-octant_count level s b k = number_in (part_in (block_side (level - 1)) b k) (cells_of (level - 1) (octant_shape s k))
+octant_count level s b k =
+    number_in (part_in (block_side (level - 1)) b k) (cells_of (level - 1) (octant_shape s k))
 
 -- t is the tree of a block of this level: of a node that is reached, or of none
 pub record IsBlockOf (held : List Tree) (level : ℕ) (name : Option Name) (t : Tree) : Type 0 where
@@ -31,7 +33,8 @@ pub record HasBlock (held : List Tree) (level : ℕ) (name : Option Name) : Type
 
 -- the name stands in this octant of the block
 abbrev pub IsOctantOf : List Tree → ℕ → Option Name → ℕ → Option Name → Type 0
-IsOctantOf held level block k child = (t : Tree) → IsBlockOf held level block t → IsBlockOf held (level - 1) child (child_of t k)
+IsOctantOf held level block k child =
+    (t : Tree) → IsBlockOf held level block t → IsBlockOf held (level - 1) child (child_of t k)
 
 -- P of what stands in the block
 abbrev pub ForBlock : List Tree → ℕ → Option Name → (Shape → Type 0) → Type 0

@@ -11,7 +11,8 @@ pub trait Query: Copy {
     fn is_same(&self, other: &Self) -> bool
         ensures exact { IsTrue result → self.now ≡ other.now };
 
-    /// The place of the answer among 256. The more evenly it spreads, the more answers are found again.
+    /// The place of the answer among 256. The more evenly it spreads, the more answers are found
+    /// again.
     fn place(&self) -> usize
         ensures { result < 256 };
 }
@@ -23,8 +24,8 @@ pub struct Known<Q> {
     number: u64,
 }
 
-/// Answers found earlier in a walk, each at one place; a new one takes the place of an old. It takes no memory but
-/// the stack's.
+/// Answers found earlier in a walk, each at one place; a new one takes the place of an old. It
+/// takes no memory but the stack's.
 #[derive(Drop)]
 pub struct Answers<Q> {
     places: [Option<Known<Q>>; 256],

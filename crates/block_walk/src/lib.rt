@@ -1,5 +1,6 @@
-//! What every walk from a root down to leaves has in common, over any store that can be read: the octants of a
-//! block by name, the part of a box in an octant, a look at one cell, and a small table of what was found before.
+//! What every walk from a root down to leaves has in common, over any store that can be read: the
+//! octants of a block by name, the part of a box in an octant, a look at one cell, and a small
+//! table of what was found before.
 #![tactic(auto)]
 
 mod answers;

@@ -12,8 +12,8 @@ use node_shapes::Name;
 use node_words::Blocks;
 use vw_cell::{Boxed, Cell};
 
-/// None where the cell of the block is set, and else a box of clear cells round it: the greatest block that
-/// has the cell and no node, or the cell alone in a leaf.
+/// None where the cell of the block is set, and else a box of clear cells round it: the greatest
+/// block that has the cell and no node, or the cell alone in a leaf.
 pub fn look<B: Blocks>(store: &mut B, level: u8, block: Option<Name>, c: Cell) -> Option<Boxed>
     requires level { level ≤ 10 }
     requires block { HasBlock (B.seen store.old).held level block }

@@ -3,8 +3,9 @@ ghost use Rattle.block_walk.specs.Parts.{EndsBy, IsEmpty, part_in, half_at, half
 
 use vw_cell::{Boxed, Cell};
 
-/// The part of a box that lies in an octant whose side is `half`, told by its places there. The box is told by
-/// its places in the octant's block, and may reach beyond it. A part without a cell has a size 0.
+/// The part of a box that lies in an octant whose side is `half`, told by its places there. The box
+/// is told by its places in the octant's block, and may reach beyond it. A part without a cell has
+/// a size 0.
 pub fn part_of(half: u16, b: Boxed, octant: u8) -> Boxed
     requires half { half ≤ 2048 }
     requires octant { octant < 8 }
@@ -56,7 +57,8 @@ fn stretch_in(half: u16, upper: u8, at: u16, size: u16) -> Stretch
     }
 }
 
-// Where a place lies in the lower or the upper half: at its beginning or its end, where it lies outside.
+// Where a place lies in the lower or the upper half: at its beginning or its end, where it lies
+// outside.
 fn place_in(half: u16, upper: u8, place: u32) -> u16
     requires half { half ≤ 2048 }
     requires upper { upper < 2 }

@@ -9,13 +9,13 @@ abbrev pub entry_in : {K : Type 0} → List (Option (Entry K)) → ℕ → Optio
 entry_in slots slot = slice_index_or slots slot None
 
 -- its key, and its book, 0 where the slot is empty
-abbrev pub key_in : {K : Type 0} → Option (Entry K) → Option K
-key_in None = None
-key_in (Some e) = Some e.key
+abbrev pub key_of_slot : {K : Type 0} → Option (Entry K) → Option K
+key_of_slot None = None
+key_of_slot (Some e) = Some e.key
 
-abbrev pub book_in : {K : Type 0} → Option (Entry K) → ℕ
-book_in None = 0
-book_in (Some e) = e.book
+abbrev pub book_of_slot : {K : Type 0} → Option (Entry K) → ℕ
+book_of_slot None = 0
+book_of_slot (Some e) = e.book
 
 -- the entry with another book
 abbrev pub with_book : {K : Type 0} → Option (Entry K) → ℕ → Option (Entry K)
@@ -32,7 +32,7 @@ IsCounted None = Unit {0}
 IsCounted (Some e) = 1 ≤ e.book
 
 -- a bucket of 1 to 256 slots
-pub record IsBucket {K : Type 0} (slots : List (Option (Entry K))) : Type 0 where
+pub record IsCountedBucket {K : Type 0} (slots : List (Option (Entry K))) : Type 0 where
   pub some : 1 ≤ length slots
   pub few : length slots ≤ 256
   pub counted : All IsCounted slots
@@ -43,37 +43,41 @@ HasKey key None = ⊥
 HasKey key (Some e) = e.key ≡ key
 
 -- no slot below this one has the key
-pub record HasNone {K : Type 0} (slots : List (Option (Entry K))) (key : K) (below : ℕ) : Type 0 where
+pub record HasNone {K : Type 0} (slots : List (Option (Entry K))) (key : K)
+    (below : ℕ) : Type 0 where
   pub each : (slot : ℕ) → slot < below → ¬ HasKey key (entry_in slots slot)
 
 -- the first slot that has the key
-pub record IsFirstWith {K : Type 0} (slots : List (Option (Entry K))) (key : K) (slot : ℕ) : Type 0 where
+pub record IsFirstWith {K : Type 0} (slots : List (Option (Entry K))) (key : K)
+    (slot : ℕ) : Type 0 where
   pub below : slot < length slots
   pub at : HasKey key (entry_in slots slot)
   pub before : HasNone slots key slot
 
 -- all slots below this one have entries
-pub record AreTaken {K : Type 0} (slots : List (Option (Entry K))) (below : ℕ) : Type 0 where
+pub record AreInUse {K : Type 0} (slots : List (Option (Entry K))) (below : ℕ) : Type 0 where
   pub each : (slot : ℕ) → slot < below → IsTaken slots slot
 
 -- the first slot that is empty
 pub record IsFirstFree {K : Type 0} (slots : List (Option (Entry K))) (slot : ℕ) : Type 0 where
   pub below : slot < length slots
   pub at : entry_in slots slot ≡ None
-  pub before : AreTaken slots slot
+  pub before : AreInUse slots slot
 
 -- one slot has another content
-abbrev pub with_entry : {K : Type 0} → List (Option (Entry K)) → ℕ → Option (Entry K) → List (Option (Entry K))
+abbrev pub with_entry : {K : Type 0} → List (Option (Entry K)) → ℕ → Option (Entry K)
+    → List (Option (Entry K))
 with_entry slots slot e = slice_set slots slot e
 
 -- one reference less to an entry: the book that is left, or the key of one that had one and is gone
-abbrev pub LowersEntry : {K : Type 0} → Option (Entry K) → Lowered K → Option (Entry K) → Type 0
-LowersEntry old (Left book) new = (1 ≤ book) × (book_in old ≡ book + 1) × (new ≡ with_book old book)
-LowersEntry old (Last key) new = (old ≡ Some (record { key = key; book = 1 })) × (new ≡ None)
+abbrev pub LowersBook : {K : Type 0} → Option (Entry K) → Lowered K → Option (Entry K) → Type 0
+LowersBook old (Left book) new =
+    (1 ≤ book) × (book_of_slot old ≡ book + 1) × (new ≡ with_book old book)
+LowersBook old (Last key) new = (old ≡ Some (record { key = key; book = 1 })) × (new ≡ None)
 
 -- the same of a slot's entry; all other slots stay
-pub record Lowers {K : Type 0} (old : List (Option (Entry K))) (slot : ℕ) (result : Lowered K)
+pub record LowersHere {K : Type 0} (old : List (Option (Entry K))) (slot : ℕ) (result : Lowered K)
     (new : List (Option (Entry K))) : Type 0 where
   pub after : Option (Entry K)
-  pub entry : LowersEntry (entry_in old slot) result after
+  pub entry : LowersBook (entry_in old slot) result after
   pub others : new ≡ with_entry old slot after

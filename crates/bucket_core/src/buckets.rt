@@ -1,9 +1,9 @@
 ghost use Rattle.std.specs.Prelude.{◌≡◌, ◌≢◌, ◌+◌, ◌^◌, ◌<◌, ◌≤◌, ◌↔◌, Some, None, length};
 ghost use Rattle.std.specs.Prelude.{IfOk, IfErr, OnErr, IsTrue, MatchOption, replicate};
 ghost use Rattle.std.specs.Option.{option_copied};
-ghost use Rattle.bucket_core.specs.Slots.{book_in, entry_in, key_in, with_book, with_entry};
-ghost use Rattle.bucket_core.specs.Slots.{AreTaken, HasKey, HasNone, IsBucket, IsCounted};
-ghost use Rattle.bucket_core.specs.Slots.{IsFirstFree, IsFirstWith, IsTaken, Lowers, LowersEntry};
+ghost use Rattle.bucket_core.specs.Slots.{book_of_slot, entry_in, key_of_slot, with_book, with_entry};
+ghost use Rattle.bucket_core.specs.Slots.{AreInUse, HasKey, HasNone, IsCountedBucket, IsCounted};
+ghost use Rattle.bucket_core.specs.Slots.{IsFirstFree, IsFirstWith, IsTaken, LowersHere, LowersBook};
 
 use crate::entries::{BucketFull, Entry, Lowered};
 use crate::keys::ExactKey;
@@ -20,13 +20,13 @@ pub struct Bucket<K: ExactKey> {
 impl<K: ExactKey> Model for Bucket<K> {
     ghost use Rattle.std.specs.Prelude.{Option, List};
     ghost use Rattle.bucket_core.specs.declared.entries.Entry.{Entry};
-    ghost use Rattle.bucket_core.specs.Slots.{IsBucket};
+    ghost use Rattle.bucket_core.specs.Slots.{IsCountedBucket};
 
     ghost Value = { List (Option (Entry K)) };
 
     ghost view = { λ b. b.slots.items };
 
-    ghost invariant = { λ b. IsBucket b.slots.items };
+    ghost invariant = { λ b. IsCountedBucket b.slots.items };
 }
 
 impl<K: ExactKey> Bucket<K> {
@@ -45,7 +45,7 @@ impl<K: ExactKey> Bucket<K> {
     /// How many slots there are, from 1 to 256.
     pub fn cap(&self) -> u16
         ensures value { result ≡ length self.now }
-        ensures bucket { IsBucket self.now }
+        ensures bucket { IsCountedBucket self.now }
     {
         self.slots.len() as u16
     }
@@ -67,7 +67,7 @@ impl<K: ExactKey> Bucket<K> {
     // The first slot that is empty.
     fn free(&self) -> Option<u16>
         ensures { MatchOption result
-            (AreTaken self.now (length self.now))
+            (AreInUse self.now (length self.now))
             (IsFirstFree self.now) }
     {
         for slot in 0..self.cap() {
@@ -86,7 +86,7 @@ impl<K: ExactKey> Bucket<K> {
         ensures free { IfOk result (IsFirstFree self.old) }
         ensures added { IfOk result (λ slot.
             self.new ≡ with_entry self.old slot (Some (record { key = key; book = 1 }))) }
-        ensures full { OnErr result (AreTaken self.old (length self.old)) }
+        ensures full { OnErr result (AreInUse self.old (length self.old)) }
         ensures back { IfErr result (λ full. full.key ≡ key) }
         ensures unchanged { OnErr result (self.new ≡ self.old) }
     {
@@ -103,9 +103,9 @@ impl<K: ExactKey> Bucket<K> {
     pub fn raise(&mut self, slot: u16)
         requires slot { slot < length self.old }
         requires taken { IsTaken self.old slot }
-        requires small { book_in (entry_in self.old slot) < 2 ^ 40 }
+        requires small { book_of_slot (entry_in self.old slot) < 2 ^ 40 }
         ensures { self.new ≡ with_entry self.old slot
-            (with_book (entry_in self.old slot) (book_in (entry_in self.old slot) + 1)) }
+            (with_book (entry_in self.old slot) (book_of_slot (entry_in self.old slot) + 1)) }
     {
         if let Some(entry) = &mut self.slots[usize::from(slot)] {
             entry.book += 1;
@@ -117,7 +117,7 @@ impl<K: ExactKey> Bucket<K> {
     pub fn lower(&mut self, slot: u16) -> Lowered<K>
         requires slot { slot < length self.old }
         requires taken { IsTaken self.old slot }
-        ensures { Lowers self.old slot result self.new }
+        ensures { LowersHere self.old slot result self.new }
     {
         lower_entry(&mut self.slots[usize::from(slot)])
     }
@@ -125,7 +125,7 @@ impl<K: ExactKey> Bucket<K> {
     /// The key of the slot's entry.
     pub fn entry(&self, slot: u16) -> Option<&K>
         requires slot { slot < length self.now }
-        ensures { option_copied result ≡ key_in (entry_in self.now slot) }
+        ensures { option_copied result ≡ key_of_slot (entry_in self.now slot) }
     {
         match &self.slots[usize::from(slot)] {
             None => None,
@@ -136,7 +136,7 @@ impl<K: ExactKey> Bucket<K> {
     /// How many references there are to the slot's entry, 0 where it is empty.
     pub fn book(&self, slot: u16) -> u64
         requires slot { slot < length self.now }
-        ensures { result ≡ book_in (entry_in self.now slot) }
+        ensures { result ≡ book_of_slot (entry_in self.now slot) }
     {
         match &self.slots[usize::from(slot)] {
             None => 0,
@@ -164,7 +164,7 @@ fn is_empty<K: ExactKey>(entry: &Option<Entry<K>>) -> bool
 fn lower_entry<K: ExactKey>(slot: &mut Option<Entry<K>>) -> Lowered<K>
     requires taken { slot.old ≢ None }
     requires counted { IsCounted slot.old }
-    ensures { LowersEntry slot.old result slot.new }
+    ensures { LowersBook slot.old result slot.new }
 {
     if let Some(entry) = slot {
         if entry.book > 1 {
@@ -177,8 +177,8 @@ fn lower_entry<K: ExactKey>(slot: &mut Option<Entry<K>>) -> Lowered<K>
 
 // The key of an entry with one reference, which leaves its slot.
 fn last_of<K: ExactKey>(slot: &mut Option<Entry<K>>) -> Lowered<K>
-    requires { book_in slot.old ≡ 1 }
-    ensures { LowersEntry slot.old result slot.new }
+    requires { book_of_slot slot.old ≡ 1 }
+    ensures { LowersBook slot.old result slot.new }
 {
     match slot.take() {
         None => Lowered::Left(0),

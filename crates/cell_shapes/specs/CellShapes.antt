@@ -1,4 +1,5 @@
--- The canonical shape of given cells. An edit or a version names what a block has to be by the cells alone.
+-- The canonical shape of given cells. An edit or a version names what a block has to be by the
+-- cells alone.
 use Rattle.std.specs.Prelude.{◌≡◌, ℕ, ◌+◌, ◌-◌, ◌*◌, ◌/◌, ◌%◌, ◌^◌, ◌<◌, Bool, true, false, ◌&&◌, if◌then◌else◌}
 use Rattle.std.proofs.Common.{zero, suc}
 use Rattle.sums.specs.Sums.{one_if}
@@ -19,11 +20,13 @@ all_cells = λ x y z. true
 -- the cells of octant k, which is of this level, of a block of the next
 abbrev pub octant_cells : ℕ → Cells → ℕ → Cells
 octant_cells level cells k = λ x y z.
-    cells (half_x k * block_side level + x) (half_y k * block_side level + y) (half_z k * block_side level + z)
+    cells (half_x k * block_side level + x) (half_y k * block_side level + y)
+    (half_z k * block_side level + z)
 
 -- both have the same cells in a block of this level
 pub record SameIn (level : ℕ) (p q : Cells) : Type 0 where
-  pub each : (x y z : ℕ) → x < block_side level → y < block_side level → z < block_side level → p x y z ≡ q x y z
+  pub each : (x y z : ℕ) → x < block_side level → y < block_side level → z < block_side level
+      → p x y z ≡ q x y z
 
 -- the number whose first n bits are those of the test
 unfoldable pub bits_below : (ℕ → Bool) → ℕ → ℕ

@@ -9,9 +9,9 @@ use Rattle.history_model.specs.declared.acts.Act.TheVariants.{Fill, Erase, Ball,
 use Rattle.history_model.specs.declared.histories.Record.{Record}
 use Rattle.history_model.specs.declared.histories.Mark.{Mark}
 use Rattle.history_model.specs.Worlds.{World}
-use Rattle.history_model.specs.Positions.{position_after}
+use Rattle.history_model.specs.Positions.{position_after, first_of}
 use Rattle.history_model.specs.Logs.{Log}
-use Rattle.history_model.specs.Moments.{has}
+use Rattle.history_model.specs.Moments.{world_has}
 use Rattle.history_model.specs.Laws.{version_stays}
 use Rattle.node_words.specs.Plans.{Layout}
 use Rattle.block_contents.specs.Versions.{SameWorld}
@@ -20,7 +20,7 @@ use Rattle.script.specs.declared.commands.Command.TheVariants.{Edit, Forget, Ask
 use Rattle.transcript.specs.declared.answers.Answer.{Answer}
 use Rattle.vw_cell.specs.Counts.{number_in}
 use Rattle.conformance.specs.Telling.{Tells}
-use Rattle.conformance.specs.Answers.{IsForgotten, IsReadable, IsRecord, mark_of, first_of, target_at, HasWay, asked_version, Names, LooksUp, Answers, done, forgot, tells, saves, same, different, head, no_version, forgotten, is_head, nothing_to_undo, nothing_to_redo, log_full, stale, full, GoesOn}
+use Rattle.conformance.specs.Answers.{IsForgotten, IsReadable, IsRecordOf, mark_of, target_at, HasWay, asked_version, Names, LooksUp, Answers, done, forgot, tells, saves, same, different, head, no_version, forgotten, is_head, nothing_to_undo, nothing_to_redo, log_full, stale, full, GoesOn}
 
 -- what stands at a place stays there
 get_stays : {X : Type 0} (xs ys : List X) (i : ℕ) (x : X) → slice_get xs i ≡ Some x → slice_get (xs ++ ys) i ≡ Some x
@@ -30,8 +30,8 @@ get_stays (y ∷ xs) ys (suc i) x here = get_stays xs ys i x here
 
 module _ (old new : Log) (g : GoesOn old new) (n : ℕ) (within : n ≤ length old.records) where
   -- the cells of each version stay, and the position
-  pub world_stays : (models : List Content) (v : ℕ) → v ≤ n → has models new.records v ≡ has models old.records v
-  world_stays models v le = ap (λ (rs : List Record). has models rs v) g.records ∙ version_stays models old.records g.more v (omega arith)
+  pub world_stays : (models : List Content) (v : ℕ) → v ≤ n → world_has models new.records v ≡ world_has models old.records v
+  world_stays models v le = ap (λ (rs : List Record). world_has models rs v) g.records ∙ version_stays models old.records g.more v (omega arith)
 
   first_stay : take n new.records ≡ take n old.records
   first_stay = ap (λ (rs : List Record). take n rs) g.records ∙ take-append-le n old.records g.more within
@@ -46,7 +46,7 @@ module _ (old new : Log) (g : GoesOn old new) (n : ℕ) (within : n ≤ length o
   target_stays Undo = ap (λ (rs : List Record). first_of (position_after rs).past) first_stay
   target_stays Redo = ap (λ (rs : List Record). first_of (position_after rs).future) first_stay
 
-  pub record_stays : (session line : ℕ) (act : Act) → IsRecord old.records n session line act → IsRecord new.records n session line act
+  pub record_stays : (session line : ℕ) (act : Act) → IsRecordOf old.records n session line act → IsRecordOf new.records n session line act
   record_stays session line act r = record {
     first = r.first;
     is = ap (λ (rs : List Record). slice_get rs (n - 1)) g.records ∙ get_stays old.records g.more (n - 1) (record { session = session; line = line; act = act }) r.is;
@@ -86,17 +86,17 @@ module _ (old new : Log) (g : GoesOn old new) (n : ℕ) (within : n ≤ length o
     looks_stay (Edit act once) v up = target_stays act ∙ up
     looks_stay Head v up = up
 
-    same_stays : (models : List Content) (v w : ℕ) → v ≤ n → w ≤ n → SameWorld (2 ^ old.side) (has models old.records v) (has models old.records w) → SameWorld (2 ^ new.side) (has models new.records v) (has models new.records w)
+    same_stays : (models : List Content) (v w : ℕ) → v ≤ n → w ≤ n → SameWorld (2 ^ old.side) (world_has models old.records v) (world_has models old.records w) → SameWorld (2 ^ new.side) (world_has models new.records v) (world_has models new.records w)
     same_stays models v w of_v of_w s =
-        subst (λ (k : ℕ). SameWorld (2 ^ k) (has models new.records v) (has models new.records w)) (sym g.side)
-        (subst (λ (x : World). SameWorld (2 ^ old.side) x (has models new.records w)) (sym (world_stays models v of_v))
-        (subst (λ (x : World). SameWorld (2 ^ old.side) (has models old.records v) x) (sym (world_stays models w of_w)) s))
+        subst (λ (k : ℕ). SameWorld (2 ^ k) (world_has models new.records v) (world_has models new.records w)) (sym g.side)
+        (subst (λ (x : World). SameWorld (2 ^ old.side) x (world_has models new.records w)) (sym (world_stays models v of_v))
+        (subst (λ (x : World). SameWorld (2 ^ old.side) (world_has models old.records v) x) (sym (world_stays models w of_w)) s))
 
-    same_was : (models : List Content) (v w : ℕ) → v ≤ n → w ≤ n → SameWorld (2 ^ new.side) (has models new.records v) (has models new.records w) → SameWorld (2 ^ old.side) (has models old.records v) (has models old.records w)
+    same_was : (models : List Content) (v w : ℕ) → v ≤ n → w ≤ n → SameWorld (2 ^ new.side) (world_has models new.records v) (world_has models new.records w) → SameWorld (2 ^ old.side) (world_has models old.records v) (world_has models old.records w)
     same_was models v w of_v of_w s =
-        subst (λ (k : ℕ). SameWorld (2 ^ k) (has models old.records v) (has models old.records w)) g.side
-        (subst (λ (x : World). SameWorld (2 ^ new.side) x (has models old.records w)) (world_stays models v of_v)
-        (subst (λ (x : World). SameWorld (2 ^ new.side) (has models new.records v) x) (world_stays models w of_w) s))
+        subst (λ (k : ℕ). SameWorld (2 ^ k) (world_has models old.records v) (world_has models old.records w)) g.side
+        (subst (λ (x : World). SameWorld (2 ^ new.side) x (world_has models old.records w)) (world_stays models v of_v)
+        (subst (λ (x : World). SameWorld (2 ^ new.side) (world_has models new.records v) x) (world_stays models w of_w) s))
 
     asked_there : (version : Option ℕ) → IsReadable R n (asked_version version n) → asked_version version n ≤ n
     asked_there version r = r.there
@@ -107,7 +107,7 @@ module _ (old new : Log) (g : GoesOn old new) (n : ℕ) (within : n ≤ length o
     answers_stay p models session line command answer (forgot v listed) = forgot v (mark_stays (mark_of v n session line) listed)
     answers_stay p models session line command answer (tells version question a readable tell) =
         tells version question a (readable_stays (asked_version version n) readable)
-        (subst (λ (k : ℕ). Tells (2 ^ k) (has models new.records (asked_version version n)) question a) (sym g.side)
+        (subst (λ (k : ℕ). Tells (2 ^ k) (world_has models new.records (asked_version version n)) question a) (sym g.side)
         (subst (λ (w : World). Tells (2 ^ old.side) w question a) (sym (world_stays models (asked_version version n) readable.there)) tell))
     answers_stay p models session line command answer (saves version name part cells readable e) =
         saves version name part cells (readable_stays (asked_version version n) readable) (e ∙ ap (λ (w : World). number_in part w) (sym (world_stays models (asked_version version n) readable.there)))

@@ -12,9 +12,9 @@ use Rattle.history_model.specs.declared.acts.Act.TheVariants.{Undo, Redo}
 use Rattle.history_model.specs.declared.histories.Record.{Record}
 use Rattle.history_model.specs.declared.histories.Mark.{Mark}
 use Rattle.history_model.specs.Worlds.{is_edit}
-use Rattle.history_model.specs.Positions.{position_after}
+use Rattle.history_model.specs.Positions.{position_after, first_of}
 use Rattle.history_model.specs.Logs.{Log, IsLegal}
-use Rattle.history_model.specs.Moments.{has}
+use Rattle.history_model.specs.Moments.{world_has}
 use Rattle.node_words.specs.Plans.{Layout}
 use Rattle.block_contents.specs.Versions.{SameWorld, IsKept, MarkComes}
 use Rattle.script.specs.declared.commands.Command.{Command}
@@ -23,9 +23,9 @@ use Rattle.script.specs.declared.commands.ScriptLine.{ScriptLine}
 use Rattle.transcript.specs.declared.answers.Answer.{Answer}
 use Rattle.transcript.specs.declared.answers.Answer.TheVariants as answers
 use Rattle.transcript.specs.declared.answers.LineAnswer.{LineAnswer}
-use Rattle.conformance.specs.Answers.{IsStanding, IsForgotten, IsReadable, mark_of, first_of, target_at, HasWay, Answers, done, forgot, GoesOn}
+use Rattle.conformance.specs.Answers.{IsStanding, IsForgotten, IsReadable, mark_of, target_at, HasWay, Answers, done, forgot, GoesOn}
 use Rattle.conformance.specs.Shown.{Accepted, numbered, is_done, accepted_by, forgotten_by}
-use Rattle.conformance.specs.Running.{lines_of, IsBy, IsSoFar, IsOldOrNew, LineStep, GrowsBy, ForgetsBy}
+use Rattle.conformance.specs.Running.{line_numbers, IsBy, IsSoFar, IsOldOrNew, LineStep, GrowsBy, ForgetsBy}
 use Rattle.conformance.specs.Kinds.{is_resting, answer_at, IsAfter}
 use Rattle.conformance.proofs.Lists.{same_nothing, same_of}
 
@@ -237,7 +237,7 @@ marked_forgotten p models scripts transcripts script transcript l log mark s ris
   by_then = (All-contains (λ (m : Mark). (m.version < m.at) × (m.at ≤ length log.records)) log.marks mark s.legal.marked listed).1;
   earlier = λ mine. elim (All-contains (IsBy (length scripts) script) log.marks mark s.by listed) [
     | inl before ↦ absurd (omega arith)
-    | inr here ↦ All-contains (λ (n : ℕ). n < l.line) (lines_of script) mark.line (All-map (λ (n : ℕ). n < l.line) (λ (k : ScriptLine). k.line) script rising) here.1
+    | inr here ↦ All-contains (λ (n : ℕ). n < l.line) (line_numbers script) mark.line (All-map (λ (n : ℕ). n < l.line) (λ (k : ScriptLine). k.line) script rising) here.1
   ];
 }
 
@@ -258,5 +258,5 @@ full_way log session line act (inl edit) other = absurd (other edit)
 full_way log session line act (inr way) other = (way.0, way.1, kept_readable log session line way.0 way.2)
 
 -- two kept versions with one root have the same cells, and with two they have not
-pub same_side : (p : Layout) (models : List Content) (log : Log) (v w : ℕ) → IsLegal (2 ^ p.side) models log → SameWorld (2 ^ p.side) (has models log.records v) (has models log.records w) → SameWorld (2 ^ log.side) (has models log.records v) (has models log.records w)
-same_side p models log v w legal same = subst (λ (side : ℕ). SameWorld side (has models log.records v) (has models log.records w)) (sym legal.same_side) same
+pub same_side : (p : Layout) (models : List Content) (log : Log) (v w : ℕ) → IsLegal (2 ^ p.side) models log → SameWorld (2 ^ p.side) (world_has models log.records v) (world_has models log.records w) → SameWorld (2 ^ log.side) (world_has models log.records v) (world_has models log.records w)
+same_side p models log v w legal same = subst (λ (side : ℕ). SameWorld side (world_has models log.records v) (world_has models log.records w)) (sym legal.same_side) same

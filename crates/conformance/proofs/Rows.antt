@@ -14,7 +14,7 @@ use Rattle.history_model.specs.declared.histories.Record.{Record}
 use Rattle.history_model.specs.declared.questions.Question.TheVariants as questions
 use Rattle.history_model.specs.Worlds.{box_at}
 use Rattle.history_model.specs.Logs.{Log}
-use Rattle.history_model.specs.Moments.{has}
+use Rattle.history_model.specs.Moments.{world_has}
 use Rattle.node_words.specs.Plans.{Layout}
 use Rattle.script.specs.declared.commands.Command.{Command}
 use Rattle.script.specs.declared.commands.Command.TheVariants.{Edit, Forget, Ask, Save, Same, Head}
@@ -64,7 +64,7 @@ undone =
 abbrev undoings : Log
 undoings = log_of (entry 2 (Fill (one 0)) ∷ entry 3 Undo ∷ entry 4 (Fill (one 1)) ∷ entry 6 Undo ∷ []) []
 
-no_cells : number_in (box_at (cell_at 0 0 0) (cell_at 4 1 1)) (has [] undoings.records 4) ≡ 0
+no_cells : number_in (box_at (cell_at 0 0 0) (cell_at 4 1 1)) (world_has [] undoings.records 4) ≡ 0
 unfolding sum_below
 no_cells = refl
 
@@ -144,7 +144,7 @@ full_fits = record { same_line = refl; within = omega arith; answers = full (Fil
 stale_fits : (p : Layout) → LineFits p [] filled 1 (line 1 (Edit (Fill (one 0)) true)) (answered 1 1 (answers.Stale 0))
 stale_fits p = record { same_line = refl; within = omega arith; answers = stale (Fill (one 0)) 0 (omega arith) (omega arith) }
 
-one_cell : number_in (one 0) (has [] filled.records 1) ≡ 1
+one_cell : number_in (one 0) (world_has [] filled.records 1) ≡ 1
 unfolding sum_below
 one_cell = refl
 

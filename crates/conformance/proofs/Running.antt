@@ -15,11 +15,11 @@ use Rattle.transcript.specs.declared.answers.LineAnswer.{LineAnswer}
 use Rattle.conformance.specs.Answers.{IsStanding, LineFits, GoesOn}
 use Rattle.conformance.specs.Shown.{Accepted, numbered, accepted_by, forgotten_by, accepted_in, forgotten_in, accepted_of, forgotten_of}
 use Rattle.conformance.specs.Agreeing.{InOrder, SessionAgrees, SessionsAgree, Agrees}
-use Rattle.conformance.specs.Running.{lines_of, IsBy, IsSoFar, LineStep}
+use Rattle.conformance.specs.Running.{line_numbers, IsBy, IsSoFar, LineStep}
 use Rattle.conformance.proofs.GoingOn.{answers_stay}
 use Rattle.conformance.proofs.Lists.{zip_push, zip_map, pairs_nil, pairs_push, same_more, same_joined, same_itself}
 
-lines_push : (script : List ScriptLine) (l : ScriptLine) → lines_of (script ++ l ∷ []) ≡ lines_of script ++ l.line ∷ []
+lines_push : (script : List ScriptLine) (l : ScriptLine) → line_numbers (script ++ l ∷ []) ≡ line_numbers script ++ l.line ∷ []
 lines_push [] l = refl
 lines_push (k ∷ script) l = ap (λ (ns : List ℕ). k.line ∷ ns) (lines_push script l)
 
@@ -164,13 +164,13 @@ next_line p models scripts transcripts script transcript l old new a s rising st
       marks = same_more old.marks new.marks (forgotten_of 0 scripts transcripts) (forgotten_in session script transcript) _ _ step.marks s.marks (λ f. forgotten_push (LineFits p models old session) f session script transcript l a s.lines);
       by = λ i d lt. elim (step.new_marks i d lt) [
         | inl was ↦ wider (get_or new.marks i d) (All-contains (IsBy session script) old.marks (get_or new.marks i d) s.by was)
-        | inr made ↦ inr (made.1, subst (λ (n : ℕ). Contains (lines_of (script ++ l ∷ [])) n) (sym made.2) (subst (λ (ns : List ℕ). Contains ns l.line) (sym (lines_push script l)) (Contains-push (lines_of script) l.line)))
+        | inr made ↦ inr (made.1, subst (λ (n : ℕ). Contains (line_numbers (script ++ l ∷ [])) n) (sym made.2) (subst (λ (ns : List ℕ). Contains ns l.line) (sym (lines_push script l)) (Contains-push (line_numbers script) l.line)))
       ];
     }
   where
     wider : (m : Mark) → IsBy (length scripts) script m → IsBy (length scripts) (script ++ l ∷ []) m
     wider m (inl e) = inl e
-    wider m (inr e) = inr (e.0, subst (λ (ns : List ℕ). Contains ns m.line) (sym (lines_push script l)) (Contains-append_left (lines_of script) (l.line ∷ []) m.line e.1))
+    wider m (inr e) = inr (e.0, subst (λ (ns : List ℕ). Contains ns m.line) (sym (lines_push script l)) (Contains-append_left (line_numbers script) (l.line ∷ []) m.line e.1))
 
 sessions_push : (p : Layout) (models : List Content) (log : Log) (session : ℕ) (scripts : List (List ScriptLine)) (transcripts : List (List LineAnswer)) (script : List ScriptLine) (transcript : List LineAnswer)
     → SessionsAgree p models log session scripts transcripts → (k : ℕ) → k ≡ session + length scripts → SessionAgrees p models log k script transcript → SessionsAgree p models log session (scripts ++ script ∷ []) (transcripts ++ transcript ∷ [])

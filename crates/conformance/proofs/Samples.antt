@@ -12,7 +12,7 @@ use Rattle.history_model.specs.declared.acts.Act.TheVariants.{Fill, Erase, Undo}
 use Rattle.history_model.specs.declared.histories.Mark.{Mark}
 use Rattle.history_model.specs.Worlds.{box_at}
 use Rattle.history_model.specs.Logs.{Log}
-use Rattle.history_model.specs.Moments.{has}
+use Rattle.history_model.specs.Moments.{world_has}
 use Rattle.node_words.specs.Plans.{Layout}
 use Rattle.possible.specs.Needed.{NeedsSome}
 use Rattle.script.specs.declared.commands.Command.{Command}
@@ -61,7 +61,7 @@ mark = record { version = 0; at = 1; session = 0; line = 2 }
 abbrev history : Log
 history = record { side = 3; records = record { session = 0; line = 1; act = Fill bar } ∷ []; marks = mark ∷ [] }
 
-two_cells : number_in whole (has [] history.records 1) ≡ 2
+two_cells : number_in whole (world_has [] history.records 1) ≡ 2
 unfolding sum_below
 two_cells = refl
 

@@ -7,9 +7,9 @@ use Rattle.history_model.specs.declared.acts.Act.TheVariants.{Undo, Redo}
 use Rattle.history_model.specs.declared.histories.Record.{Record}
 use Rattle.history_model.specs.declared.histories.Mark.{Mark}
 use Rattle.history_model.specs.Worlds.{is_edit}
-use Rattle.history_model.specs.Positions.{position_after}
+use Rattle.history_model.specs.Positions.{position_after, first_of}
 use Rattle.history_model.specs.Logs.{Log}
-use Rattle.history_model.specs.Moments.{has}
+use Rattle.history_model.specs.Moments.{world_has}
 use Rattle.node_words.specs.Plans.{Layout}
 use Rattle.block_contents.specs.Aligned.{top}
 use Rattle.block_contents.specs.Versions.{SameWorld}
@@ -46,17 +46,13 @@ pub record IsReadable (Stands : ℕ → Type 0) (n version : ℕ) : Type 0 where
   pub stands : Stands version
 
 -- record n is of this session, line and act
-pub record IsRecord (records : List Record) (n session line : ℕ) (act : Act) : Type 0 where
+pub record IsRecordOf (records : List Record) (n session line : ℕ) (act : Act) : Type 0 where
   pub first : 1 ≤ n
   pub is : slice_get records (n - 1) ≡ Some (record { session = session; line = line; act = act })
 
 abbrev pub mark_of : ℕ → ℕ → ℕ → ℕ → Mark
 mark_of version n session line = record
     { version = version; at = n; session = session; line = line }
-
-abbrev pub first_of : List ℕ → Option ℕ
-first_of [] = None
-first_of (v ∷ others) = Some v
 
 -- the version that an undo goes back to at moment n, and a redo on to
 abbrev pub target_at : List Record → ℕ → Act → Option ℕ
@@ -99,23 +95,24 @@ LooksUp Stands records n Head v = ⊥
 -- versions it is known that they aren't surely forgotten
 pub data Answers (p : Layout) (models : List Content) (log : Log) (Stands : ℕ → Type 0)
     (session line n : ℕ) : Command → Answer → Type 0 where
-  done : (act : Act) (once : Bool) → IsRecord log.records n session line act
+  done : (act : Act) (once : Bool) → IsRecordOf log.records n session line act
       → Answers p models log Stands session line n (Edit act once) answers.Done
   forgot : (v : ℕ) → Contains log.marks (mark_of v n session line)
       → Answers p models log Stands session line n (Forget v) (answers.Forgot v)
   tells : (version : Option ℕ) (question : Question) (answer : Answer)
       → IsReadable Stands n (asked_version version n)
-      → Tells (2 ^ log.side) (has models log.records (asked_version version n)) question answer
+      → Tells (2 ^ log.side)
+      (world_has models log.records (asked_version version n)) question answer
       → Answers p models log Stands session line n (Ask version question) answer
   saves : (version : Option ℕ) (name : SaveName) (part : Boxed) (cells : ℕ)
       → IsReadable Stands n (asked_version version n)
-      → cells ≡ number_in part (has models log.records (asked_version version n))
+      → cells ≡ number_in part (world_has models log.records (asked_version version n))
       → Answers p models log Stands session line n (Save version name part) (answers.Saved cells)
   same : (v w : ℕ) → IsReadable Stands n v → IsReadable Stands n w
-      → SameWorld (2 ^ log.side) (has models log.records v) (has models log.records w)
+      → SameWorld (2 ^ log.side) (world_has models log.records v) (world_has models log.records w)
       → Answers p models log Stands session line n (Same v w) (answers.Same true)
   different : (v w : ℕ) → IsReadable Stands n v → IsReadable Stands n w
-      → ¬ SameWorld (2 ^ log.side) (has models log.records v) (has models log.records w)
+      → ¬ SameWorld (2 ^ log.side) (world_has models log.records v) (world_has models log.records w)
       → Answers p models log Stands session line n (Same v w) (answers.Same false)
   head : Answers p models log Stands session line n Head answers.Head
   no_version : (command : Command) (v : ℕ) → Names Stands n command v → n < v

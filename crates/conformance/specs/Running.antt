@@ -14,13 +14,13 @@ use Rattle.conformance.specs.Answers.{LineFits, GoesOn}
 use Rattle.conformance.specs.Shown.{SameItems, numbered, accepted_by, forgotten_by, accepted_in, forgotten_in, accepted_of, forgotten_of}
 use Rattle.conformance.specs.Agreeing.{InOrder, SessionsAgree}
 
-abbrev pub lines_of : List ScriptLine → List ℕ
-lines_of script = map (λ l. l.line) script
+abbrev pub line_numbers : List ScriptLine → List ℕ
+line_numbers script = map (λ l. l.line) script
 
 -- the mark is by an earlier session, or by one of these lines of this one
 abbrev pub IsBy : ℕ → List ScriptLine → Mark → Type 0
 IsBy session script mark = (mark.session < session)
-    ⊎ ((mark.session ≡ session) × Contains (lines_of script) mark.line)
+    ⊎ ((mark.session ≡ session) × Contains (line_numbers script) mark.line)
 
 -- some scripts were run, and of the next one these lines
 pub record IsSoFar (p : Layout) (models : List Content) (scripts : List (List ScriptLine))

@@ -7,7 +7,7 @@ use Rattle.history_model.specs.declared.acts.Act.TheVariants.{Undo, Redo}
 use Rattle.history_model.specs.declared.histories.Record.{Record}
 use Rattle.history_model.specs.declared.histories.Mark.{Mark}
 use Rattle.history_model.specs.Worlds.{is_edit}
-use Rattle.history_model.specs.Positions.{position_after}
+use Rattle.history_model.specs.Positions.{position_after, first_of}
 use Rattle.history_model.specs.Logs.{Log, IsLegal}
 use Rattle.node_words.specs.Plans.{Layout}
 use Rattle.block_contents.specs.Versions.{IsKept}
@@ -18,7 +18,7 @@ use Rattle.script.specs.declared.commands.ScriptLine.{ScriptLine}
 use Rattle.transcript.specs.declared.answers.Answer.{Answer}
 use Rattle.transcript.specs.declared.answers.Answer.TheVariants as answers
 use Rattle.transcript.specs.declared.answers.LineAnswer.{LineAnswer}
-use Rattle.conformance.specs.Answers.{IsStanding, IsReadable, IsForgotten, HasWay, Answers, GoesOn, first_of, target_at}
+use Rattle.conformance.specs.Answers.{IsStanding, IsReadable, IsForgotten, HasWay, Answers, GoesOn, target_at}
 use Rattle.conformance.specs.Shown.{Accepted, SameItems, numbered, weight_at, accepted_in, forgotten_in, accepted_of, forgotten_of}
 use Rattle.conformance.specs.Agreeing.{Agrees, SessionAgrees}
 use Rattle.conformance.specs.Kinds.{is_resting, answer_at, IsAfter}

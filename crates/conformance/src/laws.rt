@@ -5,8 +5,8 @@ pub fn answers_go_on()
     ensures { AnswersGoOn }
 {}
 
-/// A run of scripts one after another goes on line by line and script by script, and what it ends with is
-/// one legal history that agrees with the scripts and transcripts.
+/// A run of scripts one after another goes on line by line and script by script, and what it ends
+/// with is one legal history that agrees with the scripts and transcripts.
 pub fn runs_go_on()
     ensures begin { RunsBegin }
     ensures line { RunsGoOnByLines }
@@ -14,8 +14,8 @@ pub fn runs_go_on()
     ensures end { RunsAgree }
 {}
 
-/// Each kind of answer is a step of the run: an accepted change, a forgetting, and whatever is answered
-/// without a change.
+/// Each kind of answer is a step of the run: an accepted change, a forgetting, and whatever is
+/// answered without a change.
 pub fn each_answer_is_a_step()
     ensures done { AcceptedChangesAreSteps }
     ensures forgot { ForgettingsAreSteps }
@@ -27,8 +27,8 @@ pub fn each_answer_is_a_step()
     ensures full_log { KeptTargetsAreWays }
 {}
 
-/// Sessions beside each other: each one's lines go on to fit what it has seen; at the end they agree with
-/// the whole history; and what all show is what each one shows.
+/// Sessions beside each other: each one's lines go on to fit what it has seen; at the end they
+/// agree with the whole history; and what all show is what each one shows.
 pub fn sessions_agree_beside_others()
     ensures line { PassesGoOn }
     ensures agrees { PassesAgree }

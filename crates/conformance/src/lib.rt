@@ -1,8 +1,8 @@
-//! Which answers fit a history, when a history, scripts and transcripts agree, how a run keeps that line by
-//! line, and what a run of scripts gives.
+//! Which answers fit a history, when a history, scripts and transcripts agree, how a run keeps that
+//! line by line, and what a run of scripts gives.
 //!
-//! The definitions stand in `specs/`, and speak of cells and records alone. The laws are the contracts of the
-//! functions here.
+//! The definitions stand in `specs/`, and speak of cells and records alone. The laws are the
+//! contracts of the functions here.
 #![tactic(auto)]
 
 mod laws;

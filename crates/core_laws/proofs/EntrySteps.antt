@@ -10,7 +10,7 @@ use Rattle.core_laws.specs.States.{State, IsLive}
 use Rattle.node_places.specs.Names.{IsName}
 use Rattle.core_laws.specs.Counting.{weight, children_weight, if_live, entry_weight, rooted, holdings}
 use Rattle.core_laws.specs.Soundness.{FitsLevel, SoundEntries}
-use Rattle.core_laws.specs.Events.{Trades, EntriesStay, OthersStay, RootsStay, Rests, PutsRoot, TakesRoot, StoreStep, rests, raises, adds, lowers, frees, puts_root, takes_root, Raises, Adds, Lowers, Frees, no_name, one_name, at_most_one, children_named}
+use Rattle.core_laws.specs.Events.{Trades, EntriesStay, OthersStay, RootsStay, Rests, PutsRoot, TakesRoot, StoreStep, rests, raises, adds, lowers, frees, puts_root, takes_root, Raises, Adds, Lowers, Frees, no_weight, one_name, at_most_one, children_named}
 use Rattle.core_laws.proofs.Sums.{is_name, if_live_live}
 use Rattle.core_laws.proofs.Lives.{named_lives, holdings-at}
 use Rattle.core_laws.specs.Events.{KeysStay}
@@ -159,7 +159,7 @@ raise_entries p holder n old new s e =
     let some = e.live.book in let b = e.book in
     one_changes p holder n old new s e.live.name e.others e.roots
     (record {
-      gives = no_name;
+      gives = no_weight;
       takes = one_name n;
       held = e.held;
       weighs =
@@ -175,7 +175,7 @@ lower_entries p holder n old new s e =
     one_changes p holder n old new s e.name e.others e.roots
     (record {
       gives = one_name n;
-      takes = no_name;
+      takes = no_weight;
       held = e.held;
       weighs =
           λ f. (let more = one_more (old.book n) (new.book n) (f n) (sym b) in
@@ -284,7 +284,7 @@ put_root_entries p holder place root old new s e = entries_stay_sound p old new 
     let roots = rooted-change f old new place e.in_range e.roots in
     let none : weight f (old.root place) ≡ 0 = ap (weight f) e.free in
     let latest : weight f (new.root place) ≡ weight f root = ap (weight f) e.new_root in
-    let shares = traded f old.held new.held holder (at_most_one root) no_name e.held in
+    let shares = traded f old.held new.held holder (at_most_one root) no_weight e.held in
     omega arith))
 
 pub take_root_entries : (p : Layout) (holder place : ℕ) (old new : State) → SoundEntries p old
@@ -292,7 +292,7 @@ pub take_root_entries : (p : Layout) (holder place : ℕ) (old new : State) → 
 take_root_entries p holder place old new s e = entries_stay_sound p old new s e.entries (λ f. (
     let roots = rooted-change f old new place e.in_range e.roots in
     let none : weight f (new.root place) ≡ 0 = ap (weight f) e.no_root in
-    let shares = traded f old.held new.held holder no_name (at_most_one (old.root place)) e.held in
+    let shares = traded f old.held new.held holder no_weight (at_most_one (old.root place)) e.held in
     omega arith))
 
 -- each step keeps entries sound

@@ -15,7 +15,7 @@ use Rattle.node_places.specs.Names.{IsName}
 use Rattle.core_laws.specs.States.{State, shape_in}
 use Rattle.core_laws.specs.Standing.{Stands, AllStand}
 use Rattle.core_laws.specs.Soundness.{SoundEntries}
-use Rattle.core_laws.specs.Returning.{IsStored, OneBookChanges, IsFreed, FreesParts}
+use Rattle.core_laws.specs.Returning.{IsShapeStored, OneBookChanges, IsFreed, FreesParts}
 use Rattle.core_laws.proofs.LiveShapes.{not_clear_at}
 use Rattle.core_laws.proofs.OneShape.{one_shape, part_stored}
 
@@ -40,8 +40,8 @@ pairs_nil R = λ i j d lt below. absurd (omega arith)
 
 -- what is stored after books fell was stored before
 stored_before : (p : Layout) (key : Name → Key) (before after : Name → ℕ) (s : Shape)
-    → ((n : Name) → IsName p n → after n ≤ before n) → IsStored p key after s
-    → IsStored p key before s
+    → ((n : Name) → IsName p n → after n ≤ before n) → IsShapeStored p key after s
+    → IsShapeStored p key before s
 stored_before p key before after s fell h =
     record {
       name = h.name;
@@ -75,7 +75,7 @@ frees_nothing p key s first before after steps now fell few = record {
 -- the shape of an entry whose book fell to 0 is stored no more
 freed_gone : (p : Layout) (state : State) (after : Name → ℕ) (n : Name) → SoundEntries p state
     → IsName p n → state.book n ≡ 1 → OneBookChanges p n state.book after → after n ≡ 0
-    → ¬ IsStored p state.key after (shape_in state n)
+    → ¬ IsShapeStored p state.key after (shape_in state n)
 freed_gone p state after n s is last o none = λ h. elim (Name-discrete h.name n) [
   | yes e ↦ (let gone : after h.name ≡ 0 = ap after e ∙ none in omega (arith, gone, h.live))
   | no other ↦
@@ -108,7 +108,7 @@ frees_node p state n middle after steps now s is branch last o none r =
     let before = state.book in
     let down = one_fell p before middle n o (omega (arith, last, none)) in
     let gone = freed_gone p state middle n s is last o none in
-    let was : IsStored p key before t =
+    let was : IsShapeStored p key before t =
     record { name = n; is_name = is; live = omega (arith, last); shape = refl } in
     record {
       fell = fell_on p before middle after down r.fell;
@@ -117,7 +117,7 @@ frees_node p state n middle after steps now s is branch last o none r =
           AllPairs-cons (λ q u. q ≢ u) t r.freed
           (All-weaker (IsFreed p key middle after) (λ q. t ≢ q)
           (λ q h e. gone
-          (subst (λ x. IsStored p key middle x)
+          (subst (λ x. IsShapeStored p key middle x)
           (sym e) h.was)) r.freed r.each) r.different;
       parts = All-cons (λ q. IsPart q t) t r.freed (whole (not_clear_at state.key n.level n)) r.parts;
       each = All-cons (λ q. IsFreed p key before after q) t r.freed
@@ -144,7 +144,7 @@ frees_octant p key before middle after s k steps now last a b = record {
       (All-weaker (IsFreed p key before middle) (λ x. All (λ y. x ≢ y) b.freed)
       (λ x h. All-weaker (IsFreed p key middle after) (λ y. x ≢ y)
       (λ y g e. h.gone
-      (subst (λ z. IsStored p key middle z) (sym e) g.was)) b.freed b.each) a.freed a.each);
+      (subst (λ z. IsShapeStored p key middle z) (sym e) g.was)) b.freed b.each) a.freed a.each);
   parts = All-append (λ q. IsPart q s) a.freed b.freed a.parts
       (All-weaker (λ q. IsPart q (octant_shape s k)) (λ q. IsPart q s)
       (λ q h. within k h) b.freed b.parts);
@@ -161,7 +161,7 @@ frees_octant p key before middle after s k steps now last a b = record {
 -- what is part of a tree that stands is stored
 held_stored : (p : Layout) (state : State) (held : List Tree) (t : Tree) (r : Shape)
     → SoundEntries p state → AllStand p state held → IsHeld held t → IsPart r (shape_of t)
-    → IsStored p state.key state.book r
+    → IsShapeStored p state.key state.book r
 held_stored p state held t r sound all h part =
     let s : Stands p state t = all.each t h in
     part_stored p state sound s.name.level s.name

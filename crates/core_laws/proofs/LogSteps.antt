@@ -14,16 +14,16 @@ use Rattle.node_words.specs.Plans.{Layout}
 use Rattle.node_places.specs.Spots.{versions}
 use Rattle.history_model.specs.declared.histories.Record.{Record}
 use Rattle.history_model.specs.declared.histories.Mark.{Mark}
-use Rattle.history_model.specs.Logs.{Log, Fits, IsLegal, MayFollowFrom}
+use Rattle.history_model.specs.Logs.{Log, FitsWorld, IsLegal, MayFollowFrom}
 use Rattle.history_model.specs.Positions.{beginning}
-use Rattle.history_model.specs.Moments.{has}
+use Rattle.history_model.specs.Moments.{world_has}
 use Rattle.history_model.specs.Laws.{has_stays}
 use Rattle.history_model.specs.LegalLaws.{legal_next}
 use Rattle.core_laws.specs.States.{State, tree_at}
 use Rattle.block_contents.specs.Aligned.{top, world_block}
 use Rattle.core_laws.specs.Soundness.{SoundEntries, SoundVersions, Sound}
 use Rattle.block_contents.specs.Versions.{IsUnmarked, IsKept}
-use Rattle.core_laws.specs.Events.{RootsStay, no_name, at_most_one}
+use Rattle.core_laws.specs.Events.{RootsStay, no_weight, at_most_one}
 use Rattle.core_laws.specs.LogEvents.{Appends, Forgets}
 use Rattle.core_laws.proofs.Sums.{weight_there}
 use Rattle.core_laws.proofs.Lives.{root_lives}
@@ -73,7 +73,7 @@ versions_stay p models old new s t keys roots log v = record {
       shows_same p _ _ _ (root_stays p models old new s v t keys w (roots w))
       (v.shown w (subst (λ (l : Log). IsKept l w) log kept)) in
       subst (λ (l : Log). ShowsCells (world_block p.side)
-      (shape_of (tree_at new.key (top p.side) (new.root w))) (has models l.records w))
+      (shape_of (tree_at new.key (top p.side) (new.root w))) (world_has models l.records w))
       (sym log) shown);
 }
 
@@ -112,18 +112,18 @@ module _ (p : Layout) (models : List Content) (holder : ℕ) (r : Record) (root 
       (λ n same. record {
         same_level = e.may.level n same;
         before =
-            given_lives p old holder (at_most_one root) no_name new.held n s.entries e.puts.held
+            given_lives p old holder (at_most_one root) no_weight new.held n s.entries e.puts.held
             (weight_there n root same);
         after = root_lives p new (length old.log.records + 1) n append_entries e.puts.in_range
             (e.puts.new_root ∙ same);
       })
 
   new_cells : (q : Cell) → IsInBlock (world_block p.side) q
-      → e.may.cells q ≡ has models new.log.records (length old.log.records + 1) q
+      → e.may.cells q ≡ world_has models new.log.records (length old.log.records + 1) q
   new_cells q inside =
       sym ((made_cells (2 ^ p.side) models old.log.records r e.may.cells e.may.makes).each q
       (in_world p.side q low inside))
-      ∙ ap (λ (l : Log). has models l.records (length old.log.records + 1) q) (sym e.log)
+      ∙ ap (λ (l : Log). world_has models l.records (length old.log.records + 1) q) (sym e.log)
 
   new_or_old : (v : ℕ) → v ≤ length new.log.records
       → (v ≡ length old.log.records + 1) ⊎ (v ≤ length old.log.records)
@@ -176,11 +176,11 @@ module _ (p : Layout) (models : List Content) (holder : ℕ) (r : Record) (root 
             shows_same p _ _ _ new_tree e.may.shows in
             let all : ShowsCells (world_block p.side)
             (shape_of (tree_at new.key (top p.side) (new.root (length old.log.records + 1))))
-            (has models new.log.records (length old.log.records + 1)) =
+            (world_has models new.log.records (length old.log.records + 1)) =
             record { each = λ q inside. shown.each q inside ∙ new_cells q inside } in
             subst (λ (w : ℕ). ShowsCells (world_block p.side)
             (shape_of (tree_at new.key (top p.side) (new.root w)))
-            (has models new.log.records w)) (sym latest) all)
+            (world_has models new.log.records w)) (sym latest) all)
         | inr earlier ↦
             (let shown =
             shows_same p _ _ _
@@ -194,7 +194,7 @@ module _ (p : Layout) (models : List Content) (holder : ℕ) (r : Record) (root 
             record {
               each = λ q inside. shown.each q inside
                   ∙ sym (has_stays models old.log.records (r ∷ []) v q earlier)
-                  ∙ ap (λ (l : Log). has models l.records v q) (sym e.log);
+                  ∙ ap (λ (l : Log). world_has models l.records v q) (sym e.log);
             })
       ];
     };
@@ -218,7 +218,7 @@ module _ (p : Layout) (models : List Content) (holder : ℕ) (mark : Mark) (old 
       record {
         same_side = ap (λ (n : ℕ). 2 ^ n) e.side ∙ earlier.same_side;
         few = (let few = earlier.few in omega arith);
-        fit = subst (λ (rs : List Record). All (λ r. Fits (2 ^ p.side) models r.act) rs)
+        fit = subst (λ (rs : List Record). All (λ r. FitsWorld (2 ^ p.side) models r.act) rs)
             (sym e.records) earlier.fit;
         follow =
             subst (λ (rs : List Record). MayFollowFrom new.log.marks 1 beginning rs)
@@ -276,7 +276,7 @@ module _ (p : Layout) (models : List Content) (holder : ℕ) (mark : Mark) (old 
           })) in
           record {
             each = λ q inside. shown.each q inside
-                ∙ ap (λ (rs : List Record). has models rs v q) (sym e.records);
+                ∙ ap (λ (rs : List Record). world_has models rs v q) (sym e.records);
           });
     };
   }

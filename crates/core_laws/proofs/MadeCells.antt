@@ -5,7 +5,7 @@ use Rattle.vox_read.specs.Contents.{Content}
 use Rattle.history_model.specs.declared.histories.Record.{Record}
 use Rattle.history_model.specs.Worlds.{World, is_edit}
 use Rattle.history_model.specs.Positions.{Position}
-use Rattle.history_model.specs.Moments.{has}
+use Rattle.history_model.specs.Moments.{world_has}
 use Rattle.history_model.specs.Laws.{has_of_edit, has_of_other, position_of_next}
 use Rattle.block_contents.specs.Versions.{SameWorld}
 use Rattle.core_laws.specs.Making.{Makes}
@@ -13,7 +13,7 @@ use Rattle.core_laws.specs.Making.{Makes}
 -- the version of the next record has the cells that its act makes
 pub made_cells : (side : ℕ) (models : List Content) (records : List Record) (r : Record)
     (cells : World) → Makes side models records r.act cells
-    → SameWorld side (has models (records ++ r ∷ []) (length records + 1)) cells
+    → SameWorld side (world_has models (records ++ r ∷ []) (length records + 1)) cells
 made_cells side models records r cells makes = elim (cases_Bool (is_edit r.act)) [
   | inl edit ↦
       record {
@@ -23,7 +23,7 @@ made_cells side models records r cells makes = elim (cases_Bool (is_edit r.act))
   | inr other ↦ record {
     each = λ q in_world.
         has_of_other models records r q other
-        ∙ ap (λ (at : Position). has models records at.now q) (position_of_next records r)
+        ∙ ap (λ (at : Position). world_has models records at.now q) (position_of_next records r)
         ∙ sym ((makes.other other).each q in_world);
   }
 ]

@@ -12,7 +12,7 @@ use Rattle.node_words.specs.Plans.{Layout}
 use Rattle.node_places.specs.Names.{key_child}
 use Rattle.core_laws.specs.States.{State, IsLive, tree_at, shape_in}
 use Rattle.core_laws.specs.Soundness.{SoundEntries}
-use Rattle.core_laws.specs.Returning.{IsStored}
+use Rattle.core_laws.specs.Returning.{IsShapeStored}
 use Rattle.core_laws.proofs.LiveShapes.{LivesAt, AreLive, one_lives, octant_at, clear_at, not_clear_at, children_live, shape_once, canonical_at}
 
 -- a clear shape has no part
@@ -50,14 +50,14 @@ module _ (p : Layout) (state : State) (s : SoundEntries p state) where
   octant_stored : (level : ℕ) (r : Shape) (o : Option Name) {t : Shape} → AreLive p state level o
       → t ≡ shape_of (tree_at state.key level o) → IsPart r t
       → ((m : Name) → LivesAt p state level m → t ≡ shape_of (tree_at state.key level (Some m))
-      → IsStored p state.key state.book r)
-      → IsStored p state.key state.book r
+      → IsShapeStored p state.key state.book r)
+      → IsShapeStored p state.key state.book r
   octant_stored level r None live e part next = absurd (partless part (e ∙ clear_at state.key level))
   octant_stored level r (Some m) live e part next = next m (live m refl) e
 
   -- each part of a live entry's shape is stored
   pub part_stored : (level : ℕ) (n : Name) {r t : Shape} → LivesAt p state level n → IsPart r t
-      → t ≡ shape_of (tree_at state.key level (Some n)) → IsStored p state.key state.book r
+      → t ≡ shape_of (tree_at state.key level (Some n)) → IsShapeStored p state.key state.book r
   part_stored level n l (whole some) e = record {
     name = n;
     is_name = l.live.name;

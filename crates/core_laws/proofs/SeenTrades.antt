@@ -12,7 +12,7 @@ use Rattle.node_shapes.specs.Weights.{weigh}
 use Rattle.node_words.specs.Plans.{Layout}
 use Rattle.core_laws.specs.States.{State, IsLive, tree_of, trees_of}
 use Rattle.core_laws.specs.Soundness.{SoundEntries}
-use Rattle.core_laws.specs.Events.{Trades, Raises, Lowers, no_name, one_name}
+use Rattle.core_laws.specs.Events.{Trades, Raises, Lowers, no_weight, one_name}
 use Rattle.node_words.specs.Held.{Gains}
 use Rattle.core_laws.proofs.EntrySteps.{raise_entries, raise_keys, lower_entries, lower_keys}
 use Rattle.core_laws.proofs.Lives.{held_lives}
@@ -131,7 +131,7 @@ pub raise_gains : (p : Layout) (holder : ℕ) (n : Name) (old new : State) → S
     → Gains (trees_of old e.held.before) (tree_of old n) (trees_of new e.held.after)
 raise_gains p holder n old new s e = record {
   weighs = λ f. (
-      let r = seen_trades p holder no_name (one_name n) old new f s
+      let r = seen_trades p holder no_weight (one_name n) old new f s
       (raise_entries p holder n old new s e) (raise_keys p holder n old new e) e.held in
       let all = r.weighs in
       let tree = r.is_weight.before n e.live in
@@ -143,7 +143,7 @@ pub lower_gains : (p : Layout) (holder : ℕ) (n : Name) (old new : State) → S
     → Gains (trees_of new e.held.after) (tree_of old n) (trees_of old e.held.before)
 lower_gains p holder n old new s e = record {
   weighs = λ f. (
-      let r = seen_trades p holder (one_name n) no_name old new f s
+      let r = seen_trades p holder (one_name n) no_weight old new f s
       (lower_entries p holder n old new s e) (lower_keys p holder n old new e) e.held in
       let all = r.weighs in
       let left = e.left in let b = e.book in

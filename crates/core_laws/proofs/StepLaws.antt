@@ -9,7 +9,7 @@ use Rattle.node_words.specs.Plans.{Layout}
 use Rattle.vw_cell.specs.declared.cells.Cell.{Cell}
 use Rattle.history_model.specs.declared.histories.Record.{Record}
 use Rattle.history_model.specs.Logs.{Log}
-use Rattle.history_model.specs.Moments.{has}
+use Rattle.history_model.specs.Moments.{world_has}
 use Rattle.history_model.specs.Laws.{has_stays}
 use Rattle.core_laws.specs.StepStatements.{IsSpared}
 use Rattle.core_laws.specs.States.{State, IsLive, tree_of, IsUnder, Holds}
@@ -195,13 +195,13 @@ leaves p holder m old new (takes_root place e) live none =
 -- no step changes a cell of a version
 pub step_cells : (p : Layout) (models : List Content) (holder : ℕ) (old new : State) (v : ℕ)
     (q : Cell) → Step p models holder old new → v ≤ length old.log.records
-    → has models new.log.records v q ≡ has models old.log.records v q
+    → world_has models new.log.records v q ≡ world_has models old.log.records v q
 step_cells p models holder old new v q (stores e roots log) le =
-    ap (λ (l : Log). has models l.records v q) log
+    ap (λ (l : Log). world_has models l.records v q) log
 step_cells p models holder old new v q (pins w e log) le =
-    ap (λ (l : Log). has models l.records v q) log
+    ap (λ (l : Log). world_has models l.records v q) log
 step_cells p models holder old new v q (appends r root e) le =
-    ap (λ (l : Log). has models l.records v q) e.log
+    ap (λ (l : Log). world_has models l.records v q) e.log
     ∙ has_stays models old.log.records (r ∷ []) v q le
 step_cells p models holder old new v q (forgets mark e) le =
-    ap (λ (rs : List Record). has models rs v q) e.records
+    ap (λ (rs : List Record). world_has models rs v q) e.records

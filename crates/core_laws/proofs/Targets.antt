@@ -9,8 +9,8 @@ use Rattle.history_model.specs.declared.histories.Record.{Record}
 use Rattle.history_model.specs.Worlds.{is_edit}
 use Rattle.history_model.specs.Positions.{Position, undone, redone, position_after}
 use Rattle.history_model.specs.PositionLaws.{names_below}
-use Rattle.history_model.specs.Logs.{Log, Fits, HasTarget, MayFollow, IsHeld}
-use Rattle.history_model.specs.Moments.{has}
+use Rattle.history_model.specs.Logs.{Log, FitsWorld, HasTarget, MayFollow, IsVersionHeld}
+use Rattle.history_model.specs.Moments.{world_has}
 use Rattle.core_laws.specs.States.{State}
 use Rattle.core_laws.specs.Soundness.{Sound}
 use Rattle.block_contents.specs.Versions.{IsKept}
@@ -22,7 +22,7 @@ abbrev AreDated : Log → Type 0
 AreDated log = All (λ mark. (mark.version < mark.at) × (mark.at ≤ length log.records)) log.marks
 
 held_kept : (log : Log) (to : ℕ) → AreDated log → to < length log.records + 1
-    → IsHeld log.marks (length log.records + 1) to → IsKept log to
+    → IsVersionHeld log.marks (length log.records + 1) to → IsKept log to
 held_kept log to dated below held =
     record {
       there = omega arith;
@@ -35,16 +35,16 @@ held_kept log to dated below held =
 undo_kept : (log : Log) (past : List ℕ) (now : ℕ) (future : List ℕ) → AreDated log
     → All (λ v. v < length log.records + 1) past
     → HasTarget log.marks (length log.records + 1) past → IsKept log (undone past now future).now
-undo_kept log [] now future dated below has = absurd has
-undo_kept log (to ∷ past) now future dated below has =
-    held_kept log to dated (below 0 0 (omega arith)) has
+undo_kept log [] now future dated below world_has = absurd world_has
+undo_kept log (to ∷ past) now future dated below world_has =
+    held_kept log to dated (below 0 0 (omega arith)) world_has
 
 redo_kept : (log : Log) (past : List ℕ) (now : ℕ) (future : List ℕ) → AreDated log
     → All (λ v. v < length log.records + 1) future
     → HasTarget log.marks (length log.records + 1) future → IsKept log (redone past now future).now
-redo_kept log past now [] dated below has = absurd has
-redo_kept log past now (to ∷ future) dated below has =
-    held_kept log to dated (below 0 0 (omega arith)) has
+redo_kept log past now [] dated below world_has = absurd world_has
+redo_kept log past now (to ∷ future) dated below world_has =
+    held_kept log to dated (below 0 0 (omega arith)) world_has
 
 pub target_kept : (log : Log) (act : Act) → AreDated log → is_edit act ≡ false
     → MayFollow log.marks (length log.records + 1) act (position_after log.records)
@@ -61,7 +61,7 @@ target_kept log Redo dated other may = let at : Position = position_after log.re
     redo_kept log at.past at.now at.future dated (names_below log.records).future may
 
 other_fits : (side : ℕ) (models : List Content) (act : Act) → is_edit act ≡ false
-    → Fits side models act
+    → FitsWorld side models act
 other_fits side models (Fill b) other = absurd (let no : ⊥ = cc in no)
 other_fits side models (Erase b) other = absurd (let no : ⊥ = cc in no)
 other_fits side models (Ball b) other = absurd (let no : ⊥ = cc in no)
@@ -85,7 +85,7 @@ may_go p models r state s room other may =
       fits = other_fits (2 ^ p.side) models r.act other;
       follows = may;
       level = s.versions.level to;
-      cells = has models state.log.records to;
+      cells = world_has models state.log.records to;
       shows = s.versions.shown to kept;
       makes = record {
         edit =

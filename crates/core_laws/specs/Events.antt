@@ -22,8 +22,8 @@ pub record Trades (old : List (List Name)) (holder : ℕ) (gives takes : (Name �
   pub holds : (f : Name → ℕ) → gives f ≤ sum_by f before
   pub weighs : (f : Name → ℕ) → sum_by f after + gives f ≡ sum_by f before + takes f
 
-abbrev pub no_name : (Name → ℕ) → ℕ
-no_name f = 0
+abbrev pub no_weight : (Name → ℕ) → ℕ
+no_weight f = 0
 
 abbrev pub one_name : Name → (Name → ℕ) → ℕ
 one_name n f = f n
@@ -69,7 +69,7 @@ pub record Raises (p : Layout) (holder : ℕ) (n : Name) (old new : State) : Typ
   pub key : new.key n ≡ old.key n
   pub others : OthersStay p n old new
   pub roots : RootsStay old new
-  pub held : Trades old.held holder no_name (one_name n) new.held
+  pub held : Trades old.held holder no_weight (one_name n) new.held
 
 -- a free entry gets a key that no live one of its level has; the holder gives the children and
 -- takes the share
@@ -93,7 +93,7 @@ pub record Lowers (p : Layout) (holder : ℕ) (n : Name) (old new : State) : Typ
   pub key : new.key n ≡ old.key n
   pub others : OthersStay p n old new
   pub roots : RootsStay old new
-  pub held : Trades old.held holder (one_name n) no_name new.held
+  pub held : Trades old.held holder (one_name n) no_weight new.held
 
 -- the holder gives the last share back: the entry is freed, and the holder takes the children
 pub record Frees (p : Layout) (holder : ℕ) (n : Name) (old new : State) : Type 0 where
@@ -112,7 +112,7 @@ pub record PutsRoot (p : Layout) (holder place : ℕ) (root : Option Name)
   pub new_root : new.root place ≡ root
   pub roots : (v : ℕ) → v ≢ place → new.root v ≡ old.root v
   pub entries : EntriesStay p old new
-  pub held : Trades old.held holder (at_most_one root) no_name new.held
+  pub held : Trades old.held holder (at_most_one root) no_weight new.held
 
 -- a root leaves its place; the holder takes its share
 pub record TakesRoot (p : Layout) (holder place : ℕ) (old new : State) : Type 0 where
@@ -120,7 +120,7 @@ pub record TakesRoot (p : Layout) (holder place : ℕ) (old new : State) : Type 
   pub no_root : new.root place ≡ None
   pub roots : (v : ℕ) → v ≢ place → new.root v ≡ old.root v
   pub entries : EntriesStay p old new
-  pub held : Trades old.held holder no_name (at_most_one (old.root place)) new.held
+  pub held : Trades old.held holder no_weight (at_most_one (old.root place)) new.held
 
 -- what one holder does to entries and roots
 pub data StoreStep (p : Layout) (holder : ℕ) (old new : State) : Type 0 where

@@ -9,7 +9,7 @@ use Rattle.history_model.specs.declared.histories.Record.{Record}
 use Rattle.history_model.specs.declared.histories.Mark.{Mark}
 use Rattle.history_model.specs.Worlds.{World}
 use Rattle.history_model.specs.Positions.{position_after}
-use Rattle.history_model.specs.Logs.{Fits, MayFollow}
+use Rattle.history_model.specs.Logs.{FitsWorld, MayFollow}
 use Rattle.block_contents.specs.Aligned.{top, world_block}
 use Rattle.block_contents.specs.Versions.{IsKept, MarkComes}
 use Rattle.core_laws.specs.States.{State, tree_at}
@@ -21,7 +21,7 @@ use Rattle.core_laws.specs.Events.{EntriesStay, RootsStay, Rests, Raises, PutsRo
 pub record MayAppend (p : Layout) (models : List Content) (r : Record) (root : Option Name)
     (state : State) : Type 0 where
   pub room : length state.log.records < 65535
-  pub fits : Fits (2 ^ p.side) models r.act
+  pub fits : FitsWorld (2 ^ p.side) models r.act
   pub follows : MayFollow state.log.marks (length state.log.records + 1) r.act
       (position_after state.log.records)
   pub level : (n : Name) → root ≡ Some n → n.level ≡ top p.side

@@ -4,7 +4,7 @@ use Rattle.vox_read.specs.Contents.{Content}
 use Rattle.history_model.specs.declared.acts.Act.{Act}
 use Rattle.history_model.specs.declared.histories.Record.{Record}
 use Rattle.history_model.specs.Making.{MayMake}
-use Rattle.history_model.specs.Moments.{has}
+use Rattle.history_model.specs.Moments.{world_has}
 use Rattle.history_model.specs.Positions.{next_position, position_after}
 use Rattle.history_model.specs.Worlds.{World, is_edit}
 use Rattle.block_contents.specs.Versions.{SameWorld}
@@ -18,6 +18,6 @@ version_gone_to records act = (next_position (length records + 1) act (position_
 pub record Makes (side : ℕ) (models : List Content) (records : List Record) (act : Act)
     (cells : World) : Type 0 where
   pub edit : is_edit act ≡ true
-      → MayMake side models act (has models records (length records)) cells
+      → MayMake side models act (world_has models records (length records)) cells
   pub other : is_edit act ≡ false
-      → SameWorld side cells (has models records (version_gone_to records act))
+      → SameWorld side cells (world_has models records (version_gone_to records act))

@@ -9,7 +9,8 @@ use Rattle.node_places.specs.Names.{IsName}
 use Rattle.core_laws.specs.States.{tree_at}
 
 -- by these keys and books, the shape is that of a live entry
-pub record IsStored (p : Layout) (key : Name → Key) (book : Name → ℕ) (s : Shape) : Type 0 where
+pub record IsShapeStored (p : Layout) (key : Name → Key) (book : Name → ℕ)
+    (s : Shape) : Type 0 where
   pub name : Name
   pub is_name : IsName p name
   pub live : 0 < book name
@@ -23,8 +24,8 @@ pub record OneBookChanges (p : Layout) (n : Name) (before after : Name → ℕ) 
 pub record IsFreed (p : Layout) (key : Name → Key) (before after : Name → ℕ)
     (s : Shape) : Type 0 where
   pub is_branch : IsBranch s
-  pub was : IsStored p key before s
-  pub gone : ¬ IsStored p key after s
+  pub was : IsShapeStored p key before s
+  pub gone : ¬ IsShapeStored p key after s
 
 -- books fell, different branches that are parts of s were freed, and eight turns for each of them
 -- passed besides the first ones

@@ -12,7 +12,7 @@ use Rattle.core_laws.specs.States.{State, IsLive, tree_at, tree_of, shape_in}
 use Rattle.core_laws.specs.Standing.{StandsOrGone}
 use Rattle.node_words.specs.Enough.{HasEnough}
 use Rattle.core_laws.specs.Soundness.{SoundEntries, IsFull}
-use Rattle.core_laws.specs.Returning.{IsStored}
+use Rattle.core_laws.specs.Returning.{IsShapeStored}
 
 -- no node stands where there is no name
 abbrev pub GoneTrees : Type 0
@@ -61,7 +61,7 @@ ShapesAreStoredOnce = (p : Layout) (state : State) (m n : Name) → SoundEntries
 abbrev pub PartsAreStored : Type 0
 PartsAreStored = (p : Layout) (state : State) (n : Name) (s : Shape) → SoundEntries p state
     → IsLive p state n
-    → IsPart s (shape_in state n) → IsStored p state.key state.book s
+    → IsPart s (shape_in state n) → IsShapeStored p state.key state.book s
 
 -- a list with the shape of each entry of a full bucket has as many different shapes as the bucket
 abbrev pub FullBucketsHaveEnough : Type 0

@@ -14,7 +14,7 @@ use Rattle.node_words.specs.Plans.{Layout}
 use Rattle.node_places.specs.Names.{IsName, named}
 use Rattle.node_places.specs.Spots.{levels, buckets_at}
 use Rattle.history_model.specs.Logs.{IsLegal}
-use Rattle.history_model.specs.Moments.{has}
+use Rattle.history_model.specs.Moments.{world_has}
 use Rattle.block_contents.specs.Aligned.{top, world_block}
 use Rattle.block_contents.specs.Versions.{IsKept}
 use Rattle.core_laws.specs.States.{State, IsLive, tree_at}
@@ -50,7 +50,7 @@ pub record SoundVersions (p : Layout) (models : List Content) (state : State) : 
   pub level : (v : ℕ) (n : Name) → state.root v ≡ Some n → n.level ≡ top p.side
   pub shown : (v : ℕ) → IsKept state.log v
       → ShowsCells (world_block p.side) (shape_of (tree_at state.key (top p.side) (state.root v)))
-      (has models state.log.records v)
+      (world_has models state.log.records v)
 
 pub record Sound (p : Layout) (models : List Content) (state : State) : Type 0 where
   pub entries : SoundEntries p state

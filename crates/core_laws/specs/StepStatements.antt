@@ -4,7 +4,7 @@ use Rattle.vw_cell.specs.declared.cells.Cell.{Cell}
 use Rattle.vox_read.specs.Contents.{Content}
 use Rattle.node_shapes.specs.declared.names.Name.{Name}
 use Rattle.node_words.specs.Plans.{Layout}
-use Rattle.history_model.specs.Moments.{has}
+use Rattle.history_model.specs.Moments.{world_has}
 use Rattle.core_laws.specs.States.{State, IsLive, tree_of, IsUnder, Holds}
 use Rattle.core_laws.specs.Soundness.{SoundEntries, Sound}
 use Rattle.core_laws.specs.Events.{KeysStay, StoreStep, Frees}
@@ -66,4 +66,4 @@ abbrev pub StepsKeepCells : Type 0
 StepsKeepCells =
     (p : Layout) (models : List Content) (holder : ℕ) (old new : State) (v : ℕ) (q : Cell)
     → Step p models holder old new → v ≤ length old.log.records
-    → has models new.log.records v q ≡ has models old.log.records v q
+    → world_has models new.log.records v q ≡ world_has models old.log.records v q

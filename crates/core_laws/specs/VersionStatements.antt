@@ -6,7 +6,7 @@ use Rattle.vox_read.specs.Contents.{Content}
 use Rattle.node_words.specs.Plans.{Layout}
 use Rattle.history_model.specs.declared.histories.Record.{Record}
 use Rattle.history_model.specs.Logs.{MayFollow}
-use Rattle.history_model.specs.Moments.{has}
+use Rattle.history_model.specs.Moments.{world_has}
 use Rattle.history_model.specs.Positions.{position_after}
 use Rattle.history_model.specs.Worlds.{World, is_edit}
 use Rattle.block_contents.specs.Versions.{IsKept, SameWorld}
@@ -22,7 +22,7 @@ UntouchedStatesAreSound = (p : Layout) (models : List Content) (state : State)
 
 -- the cells of a version of the state
 abbrev pub cells_at : List Content → State → ℕ → World
-cells_at models state v = has models state.log.records v
+cells_at models state v = world_has models state.log.records v
 
 -- two versions that are kept and have one root have the same cells
 abbrev pub OneRootOneWorld : Type 0

@@ -18,7 +18,7 @@ use Rattle.node_places.specs.KeyWords.{child_of_word, key_of_words}
 use Rattle.history_model.specs.Logs.{Log}
 use Rattle.block_contents.specs.Aligned.{top}
 use Rattle.core_laws.specs.Soundness.{FitsLevel}
-use Rattle.core_laws.specs.Events.{Trades, EntriesStay, OthersStay, RootsStay, IsMissing, Raises, Adds, Lowers, Frees, PutsRoot, TakesRoot, no_name, one_name, at_most_one, children_named}
+use Rattle.core_laws.specs.Events.{Trades, EntriesStay, OthersStay, RootsStay, IsMissing, Raises, Adds, Lowers, Frees, PutsRoot, TakesRoot, no_weight, one_name, at_most_one, children_named}
 use Rattle.core_reading.specs.Reading.{names_of, kept_root, root_word, read, Wrote, book_of}
 
 book_apart : (m n : Name) → m ≢ n → book_of m ≢ book_of n
@@ -78,7 +78,7 @@ module _ (p : Layout) (log_in : (Spot → ℕ) → Log) (old new : Spot → ℕ)
 
   pub raises_book : (holder : ℕ) (n : Name) → IsName p n → 0 < old (book_of n)
       → Wrote old (book_of n) (old (book_of n) + 1) new
-      → Trades held holder no_name (one_name n) after
+      → Trades held holder no_weight (one_name n) after
       → Raises p holder n (read p log_in old held) (read p log_in new after)
   raises_book holder n is some wrote trade = record {
     live = record { name = is; book = some };
@@ -109,7 +109,7 @@ module _ (p : Layout) (log_in : (Spot → ℕ) → Log) (old new : Spot → ℕ)
   }
 
   pub lowers_book : (holder book : ℕ) (n : Name) → IsName p n → old (book_of n) ≡ book + 1
-      → 0 < book → Wrote old (book_of n) book new → Trades held holder (one_name n) no_name after
+      → 0 < book → Wrote old (book_of n) book new → Trades held holder (one_name n) no_weight after
       → Lowers p holder n (read p log_in old held) (read p log_in new after)
   lowers_book holder book n is was some wrote trade = record {
     name = is;
@@ -170,7 +170,7 @@ module _ (p : Layout) (log_in : (Spot → ℕ) → Log) (old new : Spot → ℕ)
   -- the log becomes one longer, and the root of the version that is there then goes to the log
   pub appends_root : (holder next : ℕ) → next ≡ old LogLength + 1 → next < versions
       → old (Version next 6) ≡ 0 → Wrote old LogLength next new
-      → Trades held holder (at_most_one (root_word p old next)) no_name after
+      → Trades held holder (at_most_one (root_word p old next)) no_weight after
       → PutsRoot p holder next (root_word p old next) (read p log_in old held)
       (read p log_in new after)
   appends_root holder next is room unmarked wrote trade = record {
@@ -203,7 +203,7 @@ module _ (p : Layout) (log_in : (Spot → ℕ) → Log) (old new : Spot → ℕ)
   -- a version's mark is set, and its root comes
   pub forgets_root : (holder version at : ℕ) → version < versions
       → Wrote old (Version version 6) (suc at) new
-      → Trades held holder no_name (at_most_one ((read p log_in old held).root version)) after
+      → Trades held holder no_weight (at_most_one ((read p log_in old held).root version)) after
       → TakesRoot p holder version (read p log_in old held) (read p log_in new after)
   forgets_root holder version at room wrote trade = record {
     in_range = room;

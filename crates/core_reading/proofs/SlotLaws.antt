@@ -12,9 +12,9 @@ use Rattle.history_model.specs.Logs.{Log}
 use Rattle.node_places.specs.Names.{IsName}
 use Rattle.core_laws.specs.States.{IsLive}
 use Rattle.core_laws.specs.Soundness.{FitsLevel}
-use Rattle.core_laws.specs.Events.{Trades, OthersStay, Raises, Adds, Lowers, Frees, no_name, one_name, children_named}
+use Rattle.core_laws.specs.Events.{Trades, OthersStay, Raises, Adds, Lowers, Frees, no_weight, one_name, children_named}
 use Rattle.bucket_core.specs.declared.entries.Entry.{Entry}
-use Rattle.bucket_core.specs.Slots.{book_in}
+use Rattle.bucket_core.specs.Slots.{book_of_slot}
 use Rattle.core_reading.specs.Slots.{Bucket, Level, bucket_at, entry_at, put_at, IsLaidOut, key_or_none, read_lists}
 
 -- the new content is there
@@ -81,7 +81,7 @@ module _ (p : Layout) (all : List Level) (n : Name) (e : Option (Entry Key))
   others_stay : OthersStay p n (read_lists all root log held)
       (read_lists (put_at all n e) root log new)
   others_stay = record {
-    book = λ m _ other. ap book_in (put_there p all n m e laid is other);
+    book = λ m _ other. ap book_of_slot (put_there p all n m e laid is other);
     key = λ m _ other. ap key_or_none (put_there p all n m e laid is other);
   }
 
@@ -90,15 +90,15 @@ pub raises_slot : (p : Layout) (all : List Level) (n : Name) (key : Key) (book h
     (root : ℕ → Option Name) (log : Log) (held new : List (List Name)) → IsLaidOut p all
     → IsName p n
     → entry_at all n ≡ Some (record { key = key; book = book }) → 0 < book
-    → Trades held holder no_name (one_name n) new
+    → Trades held holder no_weight (one_name n) new
     → Raises p holder n (read_lists all root log held)
     (read_lists (put_at all n (Some (record { key = key; book = book + 1 }))) root log new)
 raises_slot p all n key book holder root log held new laid is at some trade =
     let here = put_here p all n (Some (record { key = key; book = book + 1 })) laid is in
-    let was : book_in (entry_at all n) ≡ book = ap book_in at in
+    let was : book_of_slot (entry_at all n) ≡ book = ap book_of_slot at in
     record {
       live = record { name = is; book = omega arith };
-      book = ap book_in here ∙ ap (λ (b : ℕ). b + 1) (sym was);
+      book = ap book_of_slot here ∙ ap (λ (b : ℕ). b + 1) (sym was);
       key = ap key_or_none here ∙ sym (ap key_or_none at);
       others = others_stay p all n _ laid is root log held new;
       roots = λ v. refl;
@@ -119,11 +119,11 @@ adds_slot p all n key holder root log held new laid is at fits bucket missing tr
     let here = put_here p all n (Some (record { key = key; book = 1 })) laid is in
     record {
       name = is;
-      free = ap book_in at;
+      free = ap book_of_slot at;
       fits = fits;
       bucket = bucket;
       missing = missing;
-      book = ap book_in here;
+      book = ap book_of_slot here;
       new_key = ap key_or_none here;
       others = others_stay p all n _ laid is root log held new;
       roots = λ v. refl;
@@ -135,13 +135,13 @@ pub lowers_slot : (p : Layout) (all : List Level) (n : Name) (key : Key) (left h
     (root : ℕ → Option Name) (log : Log) (held new : List (List Name)) → IsLaidOut p all
     → IsName p n
     → entry_at all n ≡ Some (record { key = key; book = left + 1 }) → 0 < left
-    → Trades held holder (one_name n) no_name new
+    → Trades held holder (one_name n) no_weight new
     → Lowers p holder n (read_lists all root log held)
     (read_lists (put_at all n (Some (record { key = key; book = left }))) root log new)
 lowers_slot p all n key left holder root log held new laid is at some trade =
     let here = put_here p all n (Some (record { key = key; book = left })) laid is in
-    let was : book_in (entry_at all n) ≡ left + 1 = ap book_in at in
-    let now = ap book_in here in
+    let was : book_of_slot (entry_at all n) ≡ left + 1 = ap book_of_slot at in
+    let now = ap book_of_slot here in
     record {
       name = is;
       left = omega arith;
@@ -163,8 +163,8 @@ frees_slot p all n key holder root log held new laid is at trade =
     let here = put_here p all n None laid is in
     record {
       name = is;
-      last = ap book_in at;
-      book = ap book_in here;
+      last = ap book_of_slot at;
+      book = ap book_of_slot here;
       others = others_stay p all n _ laid is root log held new;
       roots = λ v. refl;
       held = subst (λ (k : Key). Trades held holder (one_name n) (children_named k) new)

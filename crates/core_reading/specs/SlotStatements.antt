@@ -9,7 +9,7 @@ use Rattle.node_places.specs.Spots.{buckets_at}
 use Rattle.bucket_core.specs.declared.entries.Entry.{Entry}
 use Rattle.history_model.specs.Logs.{Log}
 use Rattle.core_laws.specs.Soundness.{FitsLevel}
-use Rattle.core_laws.specs.Events.{Trades, IsMissing, Raises, Adds, Lowers, Frees, no_name, one_name, children_named}
+use Rattle.core_laws.specs.Events.{Trades, IsMissing, Raises, Adds, Lowers, Frees, no_weight, one_name, children_named}
 use Rattle.core_reading.specs.Slots.{Level, entry_at, put_at, IsLaidOut, read_lists}
 
 -- a name's slot has what was put there
@@ -34,7 +34,7 @@ SlotsRaise =
     (root : ℕ → Option Name) (log : Log) (held new : List (List Name)) → IsLaidOut p all
     → IsName p n
     → entry_at all n ≡ Some (record { key = key; book = book }) → 0 < book
-    → Trades held holder no_name (one_name n) new
+    → Trades held holder no_weight (one_name n) new
     → Raises p holder n (read_lists all root log held)
     (read_lists (put_at all n (Some (record { key = key; book = book + 1 }))) root log new)
 
@@ -57,7 +57,7 @@ SlotsLower =
     (root : ℕ → Option Name) (log : Log) (held new : List (List Name)) → IsLaidOut p all
     → IsName p n
     → entry_at all n ≡ Some (record { key = key; book = left + 1 }) → 0 < left
-    → Trades held holder (one_name n) no_name new
+    → Trades held holder (one_name n) no_weight new
     → Lowers p holder n (read_lists all root log held)
     (read_lists (put_at all n (Some (record { key = key; book = left }))) root log new)
 

@@ -6,7 +6,7 @@ use Rattle.node_words.specs.declared.keys.Key.TheVariants.{Leaf}
 use Rattle.node_words.specs.Plans.{Layout}
 use Rattle.node_places.specs.Spots.{levels, buckets_at}
 use Rattle.bucket_core.specs.declared.entries.Entry.{Entry}
-use Rattle.bucket_core.specs.Slots.{book_in}
+use Rattle.bucket_core.specs.Slots.{book_of_slot}
 use Rattle.history_model.specs.Logs.{Log}
 use Rattle.core_laws.specs.States.{State}
 
@@ -50,7 +50,7 @@ key_or_none (Some e) = e.key
 -- the state of nested lists, the roots by version or place, the log, and what each holder holds
 abbrev pub read_lists : List Level → (ℕ → Option Name) → Log → List (List Name) → State
 read_lists all root log held = record {
-  book = λ n. book_in (entry_at all n);
+  book = λ n. book_of_slot (entry_at all n);
   key = λ n. key_or_none (entry_at all n);
   root = root;
   log = log;

@@ -10,7 +10,7 @@ use Rattle.node_places.specs.Spots.{Spot, LogLength, Version, Key, IsSpot, bucke
 use Rattle.node_words.specs.declared.keys.Key as keys
 use Rattle.history_model.specs.Logs.{Log}
 use Rattle.core_laws.specs.Soundness.{FitsLevel}
-use Rattle.core_laws.specs.Events.{Trades, EntriesStay, IsMissing, Raises, Adds, Lowers, Frees, PutsRoot, TakesRoot, no_name, one_name, at_most_one, children_named}
+use Rattle.core_laws.specs.Events.{Trades, EntriesStay, IsMissing, Raises, Adds, Lowers, Frees, PutsRoot, TakesRoot, no_weight, one_name, at_most_one, children_named}
 use Rattle.core_reading.specs.Reading.{names_of, read, Wrote, book_of, root_word, word_at}
 
 -- a book of a live entry that becomes one more is a raise
@@ -19,7 +19,7 @@ BooksRaise =
     (p : Layout) (log_in : (Spot → ℕ) → Log) (old new : Spot → ℕ) (held after : List (List Name))
     (holder : ℕ) (n : Name) → IsName p n
     → 0 < old (book_of n) → Wrote old (book_of n) (old (book_of n) + 1) new
-    → Trades held holder no_name (one_name n) after
+    → Trades held holder no_weight (one_name n) after
     → Raises p holder n (read p log_in old held) (read p log_in new after)
 
 -- a book of a free entry that becomes 1 adds the entry of the key that its words stand for
@@ -40,7 +40,7 @@ BooksLower =
     (p : Layout) (log_in : (Spot → ℕ) → Log) (old new : Spot → ℕ) (held after : List (List Name))
     (holder book : ℕ) (n : Name) → IsName p n
     → old (book_of n) ≡ book + 1 → 0 < book → Wrote old (book_of n) book new
-    → Trades held holder (one_name n) no_name after
+    → Trades held holder (one_name n) no_weight after
     → Lowers p holder n (read p log_in old held) (read p log_in new after)
 
 -- a book of 1 that becomes 0 frees the entry
@@ -66,7 +66,7 @@ LengthsPutRoots =
     (p : Layout) (log_in : (Spot → ℕ) → Log) (old new : Spot → ℕ) (held after : List (List Name))
     (holder next : ℕ) → next ≡ old LogLength + 1
     → next < versions → old (Version next 6) ≡ 0 → Wrote old LogLength next new
-    → Trades held holder (at_most_one (root_word p old next)) no_name after
+    → Trades held holder (at_most_one (root_word p old next)) no_weight after
     → PutsRoot p holder next (root_word p old next) (read p log_in old held)
     (read p log_in new after)
 
@@ -76,7 +76,7 @@ MarksTakeRoots =
     (p : Layout) (log_in : (Spot → ℕ) → Log) (old new : Spot → ℕ) (held after : List (List Name))
     (holder version at : ℕ) → version < versions
     → Wrote old (Version version 6) (suc at) new
-    → Trades held holder no_name (at_most_one ((read p log_in old held).root version)) after
+    → Trades held holder no_weight (at_most_one ((read p log_in old held).root version)) after
     → TakesRoot p holder version (read p log_in old held) (read p log_in new after)
 
 -- what a seat's trees weigh by their names is what the seat trades

@@ -3,7 +3,7 @@ use Rattle.std.proofs.Common.{◌≡◌, ◌≢◌, ℕ, zero, suc, ◌+◌, ◌
 use Rattle.node_shapes.specs.declared.names.Name.{Name}
 use Rattle.node_shapes.specs.Shape.{Shape, Clear, Leaf, octant_shape, IsPart, whole}
 use Rattle.node_shapes.specs.Tree.{Tree, Gone, LeafAt, root_of, child_of, shape_of, IsTreeAt}
-use Rattle.node_shapes.specs.Weights.{weight_of, number_of}
+use Rattle.node_shapes.specs.Weights.{weight_of, number_of_trees}
 use Rattle.node_shapes.proofs.TreeLaws.{gone_at, leaf_at, shape_of-leaf, shape_of-gone, shape_of-child, gone_from_root, level_of, IsTreeAt-below}
 use Rattle.node_shapes.proofs.WeightLaws.{weigh-cons, weight_of-there, weight_of-gone, weight_below-one}
 use Rattle.node_words.specs.Held.{Seen, IsHeld, HoldsName, ReachesName, Gains, Grants, OnlyMeets}
@@ -11,7 +11,7 @@ use Rattle.node_words.specs.Gathering.{IsTreeOf, Grew, unchanged, Grows}
 use Rattle.node_words.proofs.HeldLaws.{Keeps, held_reached, reached_child}
 use Rattle.node_words.proofs.GatherLaws.{grows_none, grows_granted}
 use Rattle.cell_shapes.specs.CellShapes.{leaf_shape, full_shape}
-use Rattle.edit_blocks.specs.Blocks.{IsFull, Aside, Came, Refuses}
+use Rattle.edit_blocks.specs.Blocks.{IsFullBlock, Aside, Came, RefusesBlock}
 use Rattle.cell_shapes.proofs.LeafBits.{leaf_shape-some}
 use Rattle.cell_shapes.proofs.FullShapes.{full_octant, full_leaf}
 
@@ -20,8 +20,8 @@ one_at_most t = let h = weight_below-one (λ k. t) 1 in omega arith
 
 -- how much is held, and how much of it is the rest
 pub record Numbers (held rest : List Tree) : Type 0 where
-  pub most : number_of held ≤ number_of rest + 1
-  pub least : number_of rest ≤ number_of held
+  pub most : number_of_trees held ≤ number_of_trees rest + 1
+  pub least : number_of_trees rest ≤ number_of_trees held
 
 pub aside_numbers : (held rest : List Tree) (full : Option Name) → Aside held full rest → Numbers held rest
 aside_numbers held rest full a = record { most = omega (arith, a.weighs (λ _. 1), one_at_most a.tree); least = omega (arith, a.weighs (λ _. 1)) }
@@ -58,7 +58,7 @@ pub leaf_grows : (bits : ℕ) (old new : Seen) → bits ≢ 0 → Grants old (Le
 leaf_grows bits old new ne g = grows_granted (leaf_shape bits) (Leaf bits) old old new (λ e. cc) (sym (leaf_shape-some bits ne)) (grows_none _ old) g
 
 -- the tree of the full block that is aside
-pub aside_full : (held rest : List Tree) (full : Option Name) (n : Name) → full ≡ Some n → (a : Aside held full rest) → IsFull held a.tree n
+pub aside_full : (held rest : List Tree) (full : Option Name) (n : Name) → full ≡ Some n → (a : Aside held full rest) → IsFullBlock held a.tree n
 aside_full held rest full n e a = record {
   root = a.root ∙ e;
   reached = held_reached held a.tree (record { weighs = λ f. omega (arith, a.weighs f, weight_of-there f a.tree n (a.root ∙ e)) });
@@ -72,11 +72,11 @@ full_held held rest full n e a = record { weighs = λ f. omega (arith, a.weighs 
 pub full_holds : (held rest : List Tree) (full : Option Name) (n : Name) → full ≡ Some n → Aside held full rest → HoldsName held n
 full_holds held rest full n e a = record { tree = a.tree; is_held = full_held held rest full n e a; root = a.root ∙ e }
 
-pub full_reaches : (held : List Tree) (t : Tree) (n : Name) → IsFull held t n → ReachesName held n
+pub full_reaches : (held : List Tree) (t : Tree) (n : Name) → IsFullBlock held t n → ReachesName held n
 full_reaches held t n f = record { tree = t; reached = f.reached; root = f.root }
 
 -- the first octant of a full block is one
-pub full_below : (held : List Tree) (t : Tree) (n m : Name) → IsFull held t n → 1 ≤ n.level → root_of (child_of t 0) ≡ Some m → (m.level + 1 ≡ n.level) × IsFull held (child_of t 0) m
+pub full_below : (held : List Tree) (t : Tree) (n m : Name) → IsFullBlock held t n → 1 ≤ n.level → root_of (child_of t 0) ≡ Some m → (m.level + 1 ≡ n.level) × IsFullBlock held (child_of t 0) m
 full_below held t n m f h e =
     let l = IsTreeAt-below n.level t 0 h f.levels in
     let q : m.level ≡ n.level - 1 = level_of (n.level - 1) (child_of t 0) m l e in
@@ -92,20 +92,20 @@ full_below held t n m f h e =
       },
     )
 
-pub full_next : (a b : Seen) (t : Tree) (n m : Name) → b ≡ a → IsFull a.held t n → 1 ≤ n.level → root_of (child_of t 0) ≡ Some m → IsFull b.held (child_of t 0) m
-full_next a b t n m q f h e = subst (λ (s : Seen). IsFull s.held (child_of t 0) m) (sym q) (full_below a.held t n m f h e).1
+pub full_next : (a b : Seen) (t : Tree) (n m : Name) → b ≡ a → IsFullBlock a.held t n → 1 ≤ n.level → root_of (child_of t 0) ≡ Some m → IsFullBlock b.held (child_of t 0) m
+full_next a b t n m q f h e = subst (λ (s : Seen). IsFullBlock s.held (child_of t 0) m) (sym q) (full_below a.held t n m f h e).1
 
 full_not_clear : (level : ℕ) → full_shape level ≢ Clear
 unfolding full_shape
 full_not_clear zero = λ e. cc
 full_not_clear (suc level) = λ e. cc
 
-pub full_child_there : (held : List Tree) (t : Tree) (n : Name) → IsFull held t n → 1 ≤ n.level → root_of (child_of t 0) ≡ None → ⊥
+pub full_child_there : (held : List Tree) (t : Tree) (n : Name) → IsFullBlock held t n → 1 ≤ n.level → root_of (child_of t 0) ≡ None → ⊥
 full_child_there held t n f h e =
     let up : n.level ≡ suc (n.level - 1) = omega arith in
     full_not_clear (n.level - 1) (sym (full_octant (n.level - 1) 0 (omega arith)) ∙ sym (ap (λ u. octant_shape u 0) (f.shape ∙ ap full_shape up)) ∙ sym (shape_of-child t 0) ∙ ap shape_of (gone_from_root (child_of t 0) e) ∙ shape_of-gone)
 
-pub keep_came : (a b new : Seen) (rest : List Tree) (full : Option Name) (level : ℕ) (u : Tree) (m k : Name) → b ≡ a → Aside a.held full rest → IsFull b.held u m → m.level ≡ level → k ≡ m → Gains b.held u new.held → Came rest level (full_shape level) (Some k) new.held full
+pub keep_came : (a b new : Seen) (rest : List Tree) (full : Option Name) (level : ℕ) (u : Tree) (m k : Name) → b ≡ a → Aside a.held full rest → IsFullBlock b.held u m → m.level ≡ level → k ≡ m → Gains b.held u new.held → Came rest level (full_shape level) (Some k) new.held full
 keep_came a b new rest full level u m k q x f e r g =
     let y = subst (λ (s : Seen). Aside s.held full rest) (sym q) x in
     came_gains b.held new.held rest full level (full_shape level) u k y g (f.root ∙ ap Some (sym r)) (subst (λ (l : ℕ). IsTreeAt l u) e f.levels) (f.shape ∙ ap full_shape e)
@@ -123,7 +123,7 @@ first_aside old new rest full n bits e none l g a = record {
 pub first_grows : (old new : Seen) (bits : ℕ) → bits ≡ 2 ^ 64 - 1 → Grants old (Leaf bits) new → Grows (full_shape 0) old new
 first_grows old new bits e g = grows_granted (full_shape 0) (Leaf bits) old old new (λ q. cc) (ap Leaf e ∙ sym full_leaf) (grows_none _ old) g
 
-pub meets_refuses : (target wanted : Shape) (level bucket : ℕ) (old new : Seen) → wanted ≡ target → OnlyMeets old level bucket wanted new → Refuses target level bucket old new
+pub meets_refuses : (target wanted : Shape) (level bucket : ℕ) (old new : Seen) → wanted ≡ target → OnlyMeets old level bucket wanted new → RefusesBlock target level bucket old new
 meets_refuses target wanted level bucket old new e m = record {
   plan = m.plan;
   made = subst (λ xs. Grew (λ p. IsPart p target) old.made xs) (sym m.made) unchanged;

@@ -3,7 +3,7 @@ use Rattle.std.proofs.Common.{◌≡◌, ◌≢◌, ℕ, zero, suc, ◌+◌, ◌
 use Rattle.node_shapes.specs.declared.names.Name.{Name}
 use Rattle.node_shapes.specs.Shape.{Shape, Clear, octant_shape, branch_of, IsCanonical, IsPart, within}
 use Rattle.node_shapes.specs.Tree.{Tree, Gone, LeafAt, NodeAt, node_at, root_of, shape_of, IsTreeAt}
-use Rattle.node_shapes.specs.Weights.{weigh, weight_below, number_of}
+use Rattle.node_shapes.specs.Weights.{weigh, weight_below, number_of_trees}
 use Rattle.node_shapes.proofs.TreeLaws.{gone_at, node_levels, shape_of-gone, shape_of-node, gone_from_root, level_of}
 use Rattle.node_shapes.proofs.WeightLaws.{weigh-cons, weight_of-there, weight_of-gone}
 use Rattle.node_words.specs.Held.{Seen, IsSought, Joins, Grants, OnlyHeldChanges, OnlyMeets, AreHeld, AreBelow, HasChild, name_in}
@@ -12,7 +12,7 @@ use Rattle.node_words.specs.Gathering.{LosesAll, Grew, Grows}
 use Rattle.node_words.proofs.HeldLaws.{Keeps, keeps_on}
 use Rattle.node_words.proofs.GatherLaws.{grows_none, grows_granted, grew_more, grew_into, none_gathered, one_gathered, gathered_held, gathered_number, gathered_below, gathered_shape}
 use Rattle.cell_shapes.specs.CellShapes.{full_shape}
-use Rattle.edit_blocks.specs.Blocks.{Aside, Came, Gathers, Refuses}
+use Rattle.edit_blocks.specs.Blocks.{Aside, Came, Gathers, RefusesBlock}
 use Rattle.cell_shapes.proofs.FullShapes.{full_octant}
 use Rattle.cell_shapes.proofs.OctantShapes.{octants_join, octants_clear}
 use Rattle.edit_blocks.proofs.AsideLaws.{aside_numbers, aside_keeps, none_aside, meets_refuses}
@@ -40,7 +40,7 @@ gathers_empty rest held full level target cs n k h a = sym (a.gathered.names k) 
 pub gathers_held : (rest held new : List Tree) (full : Option Name) (level : ℕ) (target : Shape) (cs : List (Option Name)) (n : ℕ) → (a : Gathers rest level target cs n held full) → Keeps held new → AreHeld new cs a.gathered.row
 gathers_held rest held new full level target cs n a k = gathered_held rest a.now new level target cs n a.gathered (keeps_on _ held _ (aside_keeps held a.now full a.aside) k)
 
-pub gathers_number : (rest held : List Tree) (full : Option Name) (level : ℕ) (target : Shape) (cs : List (Option Name)) (n : ℕ) → Gathers rest level target cs n held full → number_of held ≤ number_of rest + 9
+pub gathers_number : (rest held : List Tree) (full : Option Name) (level : ℕ) (target : Shape) (cs : List (Option Name)) (n : ℕ) → Gathers rest level target cs n held full → number_of_trees held ≤ number_of_trees rest + 9
 gathers_number rest held full level target cs n a = omega (arith, gathered_number rest a.now level target cs n a.gathered, (aside_numbers held a.now full a.aside).most)
 
 full_octant_up : (level k : ℕ) → k < 8 → octant_shape (full_shape (level + 1)) k ≡ full_shape level
@@ -116,7 +116,7 @@ join_some rest held new full level target cs n h c some l a j =
 pub join_grows : (rest held : List Tree) (full : Option Name) (level : ℕ) (target : Shape) (cs : List (Option Name)) (old new : Seen) → 1 ≤ level → IsCanonical level target → HasChild cs → (a : Gathers rest (level - 1) target cs 8 held full) → Grants old (branch_of (λ k. shape_of (a.gathered.row k))) new → Grows target old new
 join_grows rest held full level target cs old new h c some a g = grows_granted target _ old old new (λ e. cc) (join_branch rest held full level target cs h c some a) (grows_none target old) g
 
-pub refuses_held : (target : Shape) (level bucket : ℕ) (a b c : Seen) → Refuses target level bucket a b → OnlyHeldChanges b c → Refuses target level bucket a c
+pub refuses_held : (target : Shape) (level bucket : ℕ) (a b c : Seen) → RefusesBlock target level bucket a b → OnlyHeldChanges b c → RefusesBlock target level bucket a c
 refuses_held target level bucket a b c r o = record {
   plan = o.plan ∙ r.plan;
   made = subst (λ xs. Grew (λ p. IsPart p target) a.made xs) (sym o.made) r.made;
@@ -126,7 +126,7 @@ refuses_held target level bucket a b c r o = record {
   met = o.met ∙ r.met;
 }
 
-pub refuses_after : (target : Shape) (level bucket : ℕ) (a b c : Seen) → Grows target a b → Refuses target level bucket b c → Refuses target level bucket a c
+pub refuses_after : (target : Shape) (level bucket : ℕ) (a b c : Seen) → Grows target a b → RefusesBlock target level bucket b c → RefusesBlock target level bucket a c
 refuses_after target level bucket a b c g r = record {
   plan = r.plan ∙ g.plan;
   made = grew_more g.made r.made;
@@ -136,7 +136,7 @@ refuses_after target level bucket a b c g r = record {
   met = r.met ∙ ap (λ m. record { level = level; bucket = bucket; shape = r.wanted } ∷ m) g.met;
 }
 
-pub refuses_octant : (target : Shape) (k level bucket : ℕ) (a b : Seen) → Refuses (octant_shape target k) level bucket a b → Refuses target level bucket a b
+pub refuses_octant : (target : Shape) (k level bucket : ℕ) (a b : Seen) → RefusesBlock (octant_shape target k) level bucket a b → RefusesBlock target level bucket a b
 refuses_octant target k level bucket a b r = record {
   plan = r.plan;
   made = grew_into (λ x h. within k h) r.made;
@@ -162,7 +162,7 @@ back_aside rest held met new full level target cs n a e l = record {
   weighs = λ f. omega (arith, a.aside.weighs f, a.gathered.weighs f, l.weighs f, e f);
 }
 
-pub join_refuses : (rest held : List Tree) (full : Option Name) (level at bucket : ℕ) (target : Shape) (cs : List (Option Name)) (old mid new : Seen) → 1 ≤ level → IsCanonical level target → HasChild cs → (a : Gathers rest (level - 1) target cs 8 held full) → OnlyMeets old at bucket (branch_of (λ k. shape_of (a.gathered.row k))) mid → OnlyHeldChanges mid new → Refuses target at bucket old new
+pub join_refuses : (rest held : List Tree) (full : Option Name) (level at bucket : ℕ) (target : Shape) (cs : List (Option Name)) (old mid new : Seen) → 1 ≤ level → IsCanonical level target → HasChild cs → (a : Gathers rest (level - 1) target cs 8 held full) → OnlyMeets old at bucket (branch_of (λ k. shape_of (a.gathered.row k))) mid → OnlyHeldChanges mid new → RefusesBlock target at bucket old new
 join_refuses rest held full level at bucket target cs old mid new h c some a m o =
     refuses_held target at bucket old mid new (meets_refuses target _ at bucket old mid (join_branch rest held full level target cs h c some a) m) o
 
@@ -175,8 +175,8 @@ full_down level h = let e : level ≡ suc (level - 1) = omega arith in ap (λ (l
 pub full_grows : (level : ℕ) (a b : Seen) → 1 ≤ level → Grows (full_shape (level - 1)) a b → Grows (full_shape level) a b
 full_grows level a b h g = grows_in (full_shape level) 0 a b (subst (λ s. Grows s a b) (sym (full_down level h)) g)
 
-pub full_refuses : (level at bucket : ℕ) (a b : Seen) → 1 ≤ level → Refuses (full_shape (level - 1)) at bucket a b → Refuses (full_shape level) at bucket a b
-full_refuses level at bucket a b h r = refuses_octant (full_shape level) 0 at bucket a b (subst (λ s. Refuses s at bucket a b) (sym (full_down level h)) r)
+pub full_refuses : (level at bucket : ℕ) (a b : Seen) → 1 ≤ level → RefusesBlock (full_shape (level - 1)) at bucket a b → RefusesBlock (full_shape level) at bucket a b
+full_refuses level at bucket a b h r = refuses_octant (full_shape level) 0 at bucket a b (subst (λ s. RefusesBlock s at bucket a b) (sym (full_down level h)) r)
 
 full_some : (level : ℕ) → full_shape level ≢ Clear
 unfolding full_shape
@@ -224,7 +224,7 @@ eight_gathers rest held cs below level e a =
 pub only_grows : (target : Shape) (a b c : Seen) → OnlyHeldChanges a b → Grows target b c → Grows target a c
 only_grows target a b c o g = record { plan = g.plan ∙ o.plan; made = subst (λ xs. Grew (λ p. IsPart p target) xs c.made) o.made g.made; met = g.met ∙ o.met }
 
-pub only_refuses : (target : Shape) (level bucket : ℕ) (a b c : Seen) → OnlyHeldChanges a b → Refuses target level bucket b c → Refuses target level bucket a c
+pub only_refuses : (target : Shape) (level bucket : ℕ) (a b c : Seen) → OnlyHeldChanges a b → RefusesBlock target level bucket b c → RefusesBlock target level bucket a c
 only_refuses target level bucket a b c o r = record {
   plan = r.plan ∙ o.plan;
   made = subst (λ xs. Grew (λ p. IsPart p target) xs c.made) o.made r.made;

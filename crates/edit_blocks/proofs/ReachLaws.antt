@@ -11,12 +11,12 @@ use Rattle.node_shapes.proofs.WeightLaws.{weigh-cons, weigh-nil}
 use Rattle.node_words.specs.Held.{IsHeld, Joins, HasChild, name_in}
 use Rattle.node_words.specs.Gathering.{IsTreeOf}
 use Rattle.node_words.proofs.HeldLaws.{Keeps, reached_more}
-use Rattle.edit_blocks.specs.Blocks.{Came, Gathers, Reaches, Joined}
+use Rattle.edit_blocks.specs.Blocks.{Came, Gathers, ReachesAll, Joined}
 use Rattle.edit_blocks.proofs.JoinLaws.{join_none, join_some}
 
 -- what is reached stays reached
 
-pub keeps_reaches : (a b : List Tree) → Keeps a b → Reaches a b
+pub keeps_reaches : (a b : List Tree) → Keeps a b → ReachesAll a b
 keeps_reaches a b k = record { each = λ t r. reached_more a b t k r }
 
 weighs_held : (over : Tree) (ts : List Tree) → 1 ≤ weigh (same_tree over) ts → IsHeld ts over
@@ -45,7 +45,7 @@ weighs_row over row (suc n) h = elim (cases_lt 0 (weight_of (same_tree over) (ro
 ]
 
 -- a tree that stands in a row, or in the rest, stands below the node of the row, or in the rest
-joins_reaches : (rest was : List Tree) (row : ℕ → Tree) (n : Name) → ((f : Tree → ℕ) → weigh f was ≡ weight_below f row 8 + weigh f rest) → Reaches was (node_at n row ∷ rest)
+joins_reaches : (rest was : List Tree) (row : ℕ → Tree) (n : Name) → ((f : Tree → ℕ) → weigh f was ≡ weight_below f row 8 + weigh f rest) → ReachesAll was (node_at n row ∷ rest)
 joins_reaches rest was row n w = record {
   each = λ t r. elim (cases_lt 0 (weigh (same_tree r.over) rest)) [
     | inl p ↦
@@ -73,5 +73,5 @@ join_some_joined rest held new full level target cs n h c some l a j = record {
 pub came_keeps : (rest held : List Tree) (level : ℕ) (target : Shape) (name full : Option Name) → (w : Came rest level target name held full) → Keeps rest w.now
 came_keeps rest held level target name full w = record { weighs = λ f. omega (arith, w.comes.weighs f) }
 
-pub tree_reached : (a b : List Tree) (level : ℕ) (t : Tree) (name : Option Name) → Reaches a b → IsTreeOf a level t name → IsTreeOf b level t name
+pub tree_reached : (a b : List Tree) (level : ℕ) (t : Tree) (name : Option Name) → ReachesAll a b → IsTreeOf a level t name → IsTreeOf b level t name
 tree_reached a b level t name r o = record { root = o.root; reached = λ n e. r.each t (o.reached n e); levels = o.levels }

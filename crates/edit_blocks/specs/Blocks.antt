@@ -1,4 +1,5 @@
--- Shares of blocks that a rebuild has in hand besides the rest of what is held, and what each outcome leaves.
+-- Shares of blocks that a rebuild has in hand besides the rest of what is held, and what each
+-- outcome leaves.
 use Rattle.std.specs.Prelude.{◌≡◌, ℕ, ◌+◌, ◌-◌, ◌≤◌, Option, Some, None, List, ◌∷◌}
 use Rattle.node_shapes.specs.declared.names.Name.{Name}
 use Rattle.node_shapes.specs.Shape.{Shape, IsCanonical, IsPart}
@@ -9,7 +10,7 @@ use Rattle.node_words.specs.Gathering.{IsTreeOf, Comes, Grew, Gathered, MayHold,
 use Rattle.cell_shapes.specs.CellShapes.{leaf_shape, full_shape}
 
 -- t is the tree of a full block of the name's level, and reached
-pub record IsFull (held : List Tree) (t : Tree) (n : Name) : Type 0 where
+pub record IsFullBlock (held : List Tree) (t : Tree) (n : Name) : Type 0 where
   pub root : root_of t ≡ Some n
   pub reached : IsReached held t
   pub levels : IsTreeAt n.level t
@@ -24,28 +25,31 @@ pub record Aside (held : List Tree) (full : Option Name) (rest : List Tree) : Ty
   pub weighs : (f : Tree → ℕ) → weigh f held ≡ weight_of f tree + weigh f rest
 
 -- besides the rest and the full block aside a share came, whose tree has this shape and level
-pub record Came (rest : List Tree) (level : ℕ) (target : Shape) (name : Option Name) (held : List Tree) (full : Option Name) : Type 0 where
+pub record Came (rest : List Tree) (level : ℕ) (target : Shape) (name : Option Name)
+    (held : List Tree) (full : Option Name) : Type 0 where
   pub now : List Tree
   pub comes : Comes rest level target name now
   pub aside : Aside held full now
 
 -- besides the rest and the full block aside shares came for the first n octants of the target
-pub record Gathers (rest : List Tree) (level : ℕ) (target : Shape) (children : List (Option Name)) (n : ℕ) (held : List Tree) (full : Option Name) : Type 0 where
+pub record Gathers (rest : List Tree) (level : ℕ) (target : Shape) (children : List (Option Name))
+    (n : ℕ) (held : List Tree) (full : Option Name) : Type 0 where
   pub now : List Tree
   pub gathered : Gathered rest level target children n now
   pub aside : Aside held full now
 
 -- whatever a reaches b reaches
-pub record Reaches (a b : List Tree) : Type 0 where
+pub record ReachesAll (a b : List Tree) : Type 0 where
   pub each : (t : Tree) → IsReached a t → IsReached b t
 
 -- a share came of the block of what was gathered, and nothing that was reached is lost
-pub record Joined (rest was : List Tree) (level : ℕ) (target : Shape) (name : Option Name) (held : List Tree) (full : Option Name) : Type 0 where
+pub record Joined (rest was : List Tree) (level : ℕ) (target : Shape) (name : Option Name)
+    (held : List Tree) (full : Option Name) : Type 0 where
   pub came : Came rest level target name held full
-  pub reaches : Reaches was came.now
+  pub reaches : ReachesAll was came.now
 
 -- a part of the target met this full bucket, which is the part's own
-pub record Refuses (target : Shape) (level bucket : ℕ) (old new : Seen) : Type 0 where
+pub record RefusesBlock (target : Shape) (level bucket : ℕ) (old new : Seen) : Type 0 where
   pub plan : new.plan ≡ old.plan
   pub made : Grew (λ p. IsPart p target) old.made new.made
   pub wanted : Shape
@@ -68,7 +72,8 @@ IsAsideFrom level full = (n : Name) × (full ≡ Some n) × (level ≤ n.level)
 
 -- the rest stays the same, whatever becomes of the full block aside
 abbrev pub KeepsRest : Seen → Option Name → Seen → Option Name → Type 0
-KeepsRest old before new after = (rest : List Tree) → Aside old.held before rest → Aside new.held after rest
+KeepsRest old before new after =
+    (rest : List Tree) → Aside old.held before rest → Aside new.held after rest
 
 -- besides the rest a share of such a block came, and the full block aside may be a greater one
 abbrev pub ComesBeside : ℕ → Shape → Option Name → Seen → Option Name → Seen → Option Name → Type 0
@@ -81,9 +86,10 @@ HasOctants level children seen =
     (rest : List Tree) × (full : Option Name) × (target : Shape) × IsCanonical level target
     × Gathers rest (level - 1) target children 8 seen.held full
 
--- P of each canonical block of which all octants are in hand: of the rest, the full block aside, the block's shape,
--- and what is held besides the block aside
-abbrev pub ForOctants : ℕ → List (Option Name) → Seen → (List Tree → Option Name → Shape → List Tree → Type 0) → Type 0
+-- P of each canonical block of which all octants are in hand: of the rest, the full block aside,
+-- the block's shape, and what is held besides the block aside
+abbrev pub ForOctants : ℕ → List (Option Name) → Seen
+    → (List Tree → Option Name → Shape → List Tree → Type 0) → Type 0
 ForOctants level children seen P =
     (rest : List Tree) (full : Option Name) (target : Shape) → IsCanonical level target
     → (a : Gathers rest (level - 1) target children 8 seen.held full) → P rest full target a.now
@@ -91,7 +97,8 @@ ForOctants level children seen P =
 -- a share of the leaf with these bits came besides the rest and the full block aside
 abbrev pub LeafBeside : ℕ → Option Name → Seen → Seen → Type 0
 LeafBeside bits name old new =
-    (rest : List Tree) (full : Option Name) → Aside old.held full rest → Came rest 0 (leaf_shape bits) name new.held full
+    (rest : List Tree) (full : Option Name) → Aside old.held full rest
+    → Came rest 0 (leaf_shape bits) name new.held full
 
 -- the name is of a block that is reached, or of none
 abbrev pub HasTree : List Tree → Option Name → Type 0
@@ -101,7 +108,8 @@ HasTree held name = (level : ℕ) × (t : Tree) × IsTreeOf held level t name
 abbrev pub AgainBeside : Option Name → Option Name → Seen → Seen → Type 0
 AgainBeside name share old new =
     (rest : List Tree) (full : Option Name) (level : ℕ) (t : Tree)
-    → Aside old.held full rest → IsTreeOf rest level t name → Came rest level (shape_of t) share new.held full
+    → Aside old.held full rest → IsTreeOf rest level t name
+    → Came rest level (shape_of t) share new.held full
 
 -- what may be a share is held
 abbrev pub MayGoBack : List Tree → Option Name → Type 0
@@ -114,7 +122,8 @@ GoesBack share old new = (t : Tree) → root_of t ≡ share → MayHold old t �
 -- the turns of giving a share back
 abbrev pub BackTurns : Option Name → List Tree → List Tree → ℕ → ℕ → Type 0
 BackTurns share old new before after =
-    (t : Tree) (n : Name) → share ≡ Some n → root_of t ≡ share → MayHold old t → ReturnsWithin new (shape_of t) before after
+    (t : Tree) (n : Name) → share ≡ Some n → root_of t ≡ share → MayHold old t
+    → ReturnsWithin new (shape_of t) before after
 
 -- the block aside is of this level
 abbrev pub IsAsideAt : ℕ → Option Name → Type 0
@@ -122,11 +131,11 @@ IsAsideAt level full = (n : Name) × (full ≡ Some n) × (n.level ≡ level)
 
 -- the name of a full block that may be read
 abbrev pub ReachesFull : List Tree → Name → Type 0
-ReachesFull held n = (t : Tree) × IsFull held t n
+ReachesFull held n = (t : Tree) × IsFullBlock held t n
 
 -- where the first is the name of a full block, so is the second
 abbrev pub LeadsToFull : List Tree → Name → Name → Type 0
-LeadsToFull held n m = (t : Tree) → IsFull held t n → (u : Tree) × IsFull held u m
+LeadsToFull held n m = (t : Tree) → IsFullBlock held t n → (u : Tree) × IsFullBlock held u m
 
 -- there is a block aside
 abbrev pub HasFull : Option Name → Type 0

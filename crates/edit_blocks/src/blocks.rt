@@ -1,11 +1,11 @@
 ghost use Rattle.std.specs.Prelude.{◌≡◌, ◌+◌, ◌-◌, ◌^◌, ◌<◌, ◌≤◌, ℕ, List, Option, None, IfOk, IfErr, OnOk, OnErr, IsTrue};
 ghost use Rattle.node_shapes.specs.declared.names.Name.{Name};
 ghost use Rattle.node_shapes.specs.Tree.{Tree};
-ghost use Rattle.node_shapes.specs.Weights.{number_of};
+ghost use Rattle.node_shapes.specs.Weights.{number_of_trees};
 ghost use Rattle.node_words.specs.Held.{OnlyMeets, HasChild, name_in};
 ghost use Rattle.node_words.specs.Gathering.{Grows};
 ghost use Rattle.cell_shapes.specs.CellShapes.{leaf_shape};
-ghost use Rattle.edit_blocks.specs.Blocks.{Aside, Joined, Refuses, HasOctants, ForOctants, LeafBeside};
+ghost use Rattle.edit_blocks.specs.Blocks.{Aside, Joined, RefusesBlock, HasOctants, ForOctants, LeafBeside};
 
 use crate::rows::{back_all, end_all};
 use node_words::{Full, NodeRefused, NodeStore, Share, Steps};
@@ -17,7 +17,7 @@ pub fn leaf<N: NodeStore, L: Ledger>(
     bits: u64,
     steps: &mut Steps<L>,
 ) -> Result<Option<Share>, Full>
-    requires room { number_of (N.seen store.old).held ≤ 4095 }
+    requires room { number_of_trees (N.seen store.old).held ≤ 4095 }
     ensures ok { IfOk result (λ r. LeafBeside bits r (N.seen store.old) (N.seen store.new)) }
     ensures grows { OnOk result (Grows (leaf_shape bits) (N.seen store.old) (N.seen store.new)) }
     ensures full { IfErr result
@@ -34,7 +34,8 @@ pub fn leaf<N: NodeStore, L: Ledger>(
     }
 }
 
-/// A share of the block of these octants, where some of them isn't clear. The octants go into it, or back.
+/// A share of the block of these octants, where some of them isn't clear. The octants go into it,
+/// or back.
 pub fn join<N: NodeStore, L: Ledger>(
     store: &mut N,
     level: u8,
@@ -43,13 +44,14 @@ pub fn join<N: NodeStore, L: Ledger>(
 ) -> Result<Option<Share>, Full>
     requires level { (1 ≤ level) × (level + 2 ≤ (N.seen store.old).plan.side) }
     requires octants { HasOctants level children (N.seen store.old) }
-    requires room { number_of (N.seen store.old).held ≤ 4008 }
+    requires room { number_of_trees (N.seen store.old).held ≤ 4008 }
     ensures ok { IfOk result (λ r. ForOctants level children (N.seen store.old)
         (λ rest full target was. Joined rest was level target r (N.seen store.new).held full)) }
     ensures grows { OnOk result (ForOctants level children (N.seen store.old)
         (λ rest full target was. Grows target (N.seen store.old) (N.seen store.new))) }
     ensures full { IfErr result (λ e. ForOctants level children (N.seen store.old)
-        (λ rest full target was. Refuses target e.level e.bucket (N.seen store.old) (N.seen store.new))) }
+        (λ rest full target was. RefusesBlock target e.level e.bucket (N.seen store.old)
+        (N.seen store.new))) }
     ensures back { OnErr result (ForOctants level children (N.seen store.old)
         (λ rest full target was. Aside (N.seen store.new).held full rest)) }
     ensures rests { N.rests store.old store.new }

@@ -1,19 +1,21 @@
 ghost use Rattle.std.specs.Prelude.{◌≡◌, ◌+◌, ◌*◌, ◌-◌, ◌^◌, ◌<◌, ◌≤◌, ℕ, List, Option, Some, None, IfOk, IfErr, OnOk, OnErr, IsTrue, ◌↔◌, max};
 ghost use Rattle.node_shapes.specs.declared.names.Name.{Name};
-ghost use Rattle.node_shapes.specs.Weights.{number_of};
+ghost use Rattle.node_shapes.specs.Weights.{number_of_trees};
 ghost use Rattle.node_words.specs.Held.{OnlyHeldChanges};
 ghost use Rattle.node_words.specs.Gathering.{Grows};
 ghost use Rattle.cell_shapes.specs.CellShapes.{full_shape};
-ghost use Rattle.edit_blocks.specs.Blocks.{height, Refuses, HasAside, IsAsideFrom, IsAsideAt, KeepsRest, ComesBeside, HasFull, ReachesFull, LeadsToFull, FullBeside, GathersFull};
+ghost use Rattle.edit_blocks.specs.Blocks.{height, RefusesBlock, HasAside, IsAsideFrom, IsAsideAt, KeepsRest, ComesBeside, HasFull, ReachesFull, LeadsToFull, FullBeside, GathersFull};
 
 use crate::blocks::join;
 use crate::rows::{end, put};
 use node_words::{Blocks, Full, Name, NodeStore, Share, Steps};
 use std::sync::ledger::Ledger;
 
-/// A share of the full block of this level. The greatest full block that was made stays held, aside.
+/// A share of the full block of this level. The greatest full block that was made stays held,
+/// aside.
 ///
-/// Each level of full blocks is made once, from the one below: its turns are told by how much the block aside grew.
+/// Each level of full blocks is made once, from the one below: its turns are told by how much the
+/// block aside grew.
 pub fn full_block<N: NodeStore, L: Ledger>(
     store: &mut N,
     level: u8,
@@ -22,13 +24,15 @@ pub fn full_block<N: NodeStore, L: Ledger>(
 ) -> Result<Option<Share>, Full>
     requires level { level + 2 ≤ (N.seen store.old).plan.side }
     requires aside { HasAside (N.seen store.old) full.old }
-    requires room { number_of (N.seen store.old).held ≤ 4000 }
+    requires room { number_of_trees (N.seen store.old).held ≤ 4000 }
     ensures ok { IfOk result (λ r. ComesBeside level (full_shape level) r
         (N.seen store.old) full.old (N.seen store.new) full.new) }
     ensures grows { OnOk result (Grows (full_shape level) (N.seen store.old) (N.seen store.new)) }
     ensures full { IfErr result
-        (λ e. Refuses (full_shape level) e.level e.bucket (N.seen store.old) (N.seen store.new)) }
-    ensures rest { OnErr result (KeepsRest (N.seen store.old) full.old (N.seen store.new) full.new) }
+        (λ e. RefusesBlock (full_shape level) e.level e.bucket (N.seen store.old)
+        (N.seen store.new)) }
+    ensures rest { OnErr result
+        (KeepsRest (N.seen store.old) full.old (N.seen store.new) full.new) }
     ensures rests { N.rests store.old store.new }
     ensures turns { OnOk result
         (steps.new + 16 * height full.old ≤ steps.old + 16 * height full.new + 1) }
@@ -49,7 +53,7 @@ fn keep_full<N: NodeStore, L: Ledger>(
 ) -> Share
     requires aside { HasAside (N.seen store.old) full.now }
     requires reaches { IsAsideFrom level full.now }
-    requires room { number_of (N.seen store.old).held ≤ 4095 }
+    requires room { number_of_trees (N.seen store.old).held ≤ 4095 }
     ensures came { ComesBeside level (full_shape level) (Some result)
         (N.seen store.old) full.now (N.seen store.new) full.now }
     ensures only { OnlyHeldChanges (N.seen store.old) (N.seen store.new) }
@@ -101,12 +105,13 @@ fn raise<N: NodeStore, L: Ledger>(
 ) -> Result<(), Full>
     requires level { level + 2 ≤ (N.seen store.old).plan.side }
     requires aside { HasAside (N.seen store.old) full.old }
-    requires room { number_of (N.seen store.old).held ≤ 4000 }
+    requires room { number_of_trees (N.seen store.old).held ≤ 4000 }
     ensures reaches { OnOk result (IsAsideFrom level full.new) }
     ensures rest { KeepsRest (N.seen store.old) full.old (N.seen store.new) full.new }
     ensures grows { OnOk result (Grows (full_shape level) (N.seen store.old) (N.seen store.new)) }
     ensures full { IfErr result
-        (λ e. Refuses (full_shape level) e.level e.bucket (N.seen store.old) (N.seen store.new)) }
+        (λ e. RefusesBlock (full_shape level) e.level e.bucket (N.seen store.old)
+        (N.seen store.new)) }
     ensures rests { N.rests store.old store.new }
     ensures turns { OnOk result
         (steps.new + 16 * height full.old ≤ steps.old + 16 * height full.new) }
@@ -137,12 +142,13 @@ fn raise_once<N: NodeStore, L: Ledger>(
     requires level { (1 ≤ level) × (level + 2 ≤ (N.seen store.old).plan.side) }
     requires full { (n : Name) × (full.old ≡ Some n) × (level ≤ n.level + 1) }
     requires aside { HasAside (N.seen store.old) full.old }
-    requires room { number_of (N.seen store.old).held ≤ 4001 }
+    requires room { number_of_trees (N.seen store.old).held ≤ 4001 }
     ensures reaches { OnOk result (IsAsideFrom level full.new) }
     ensures rest { KeepsRest (N.seen store.old) full.old (N.seen store.new) full.new }
     ensures grows { OnOk result (Grows (full_shape level) (N.seen store.old) (N.seen store.new)) }
     ensures full { IfErr result
-        (λ e. Refuses (full_shape level) e.level e.bucket (N.seen store.old) (N.seen store.new)) }
+        (λ e. RefusesBlock (full_shape level) e.level e.bucket (N.seen store.old)
+        (N.seen store.new)) }
     ensures rests { N.rests store.old store.new }
     ensures turns { OnOk result
         (steps.new + 16 * height full.old ≤ steps.old + 16 * height full.new) }
@@ -163,12 +169,12 @@ fn full_leaf<N: NodeStore, L: Ledger>(
     steps: &mut Steps<L>,
 ) -> Result<(), Full>
     requires none { full.old ≡ None }
-    requires room { number_of (N.seen store.old).held ≤ 4001 }
+    requires room { number_of_trees (N.seen store.old).held ≤ 4001 }
     ensures reaches { OnOk result (IsAsideAt 0 full.new) }
     ensures rest { KeepsRest (N.seen store.old) full.old (N.seen store.new) full.new }
     ensures grows { OnOk result (Grows (full_shape 0) (N.seen store.old) (N.seen store.new)) }
     ensures full { IfErr result
-        (λ e. Refuses (full_shape 0) e.level e.bucket (N.seen store.old) (N.seen store.new)) }
+        (λ e. RefusesBlock (full_shape 0) e.level e.bucket (N.seen store.old) (N.seen store.new)) }
     ensures rests { N.rests store.old store.new }
     ensures turns { steps.new ≤ steps.old + 1 }
 {
@@ -198,12 +204,13 @@ fn from_eight<N: NodeStore, L: Ledger>(
     requires level { (1 ≤ level) × (level + 2 ≤ (N.seen store.old).plan.side) }
     requires full { (n : Name) × (full.old ≡ Some n) × (n.level + 1 ≡ level) }
     requires aside { HasAside (N.seen store.old) full.old }
-    requires room { number_of (N.seen store.old).held ≤ 4001 }
+    requires room { number_of_trees (N.seen store.old).held ≤ 4001 }
     ensures reaches { OnOk result (IsAsideAt level full.new) }
     ensures rest { KeepsRest (N.seen store.old) full.old (N.seen store.new) full.new }
     ensures grows { OnOk result (Grows (full_shape level) (N.seen store.old) (N.seen store.new)) }
     ensures full { IfErr result
-        (λ e. Refuses (full_shape level) e.level e.bucket (N.seen store.old) (N.seen store.new)) }
+        (λ e. RefusesBlock (full_shape level) e.level e.bucket (N.seen store.old)
+        (N.seen store.new)) }
     ensures rests { N.rests store.old store.new }
     ensures turns { OnOk result (steps.new ≤ steps.old + 16) }
 {
@@ -226,9 +233,10 @@ fn eight_of<N: NodeStore, L: Ledger>(
 ) -> [Option<Share>; 8]
     requires full { HasFull below }
     requires aside { HasAside (N.seen store.old) below }
-    requires room { number_of (N.seen store.old).held ≤ 4001 }
+    requires room { number_of_trees (N.seen store.old).held ≤ 4001 }
     ensures gathers { GathersFull below result (N.seen store.old) (N.seen store.new) }
-    ensures number { number_of (N.seen store.new).held ≡ number_of (N.seen store.old).held + 7 }
+    ensures number { number_of_trees (N.seen store.new).held ≡ number_of_trees
+        (N.seen store.old).held + 7 }
     ensures only { OnlyHeldChanges (N.seen store.old) (N.seen store.new) }
     ensures rests { N.rests store.old store.new }
     ensures turns { steps.new ≤ steps.old + 7 }
@@ -249,9 +257,10 @@ fn more_of<N: NodeStore, L: Ledger>(
 ) -> Option<Share>
     requires full { HasFull below.now }
     requires aside { HasAside (N.seen store.old) below.now }
-    requires room { number_of (N.seen store.old).held ≤ 4095 }
+    requires room { number_of_trees (N.seen store.old).held ≤ 4095 }
     ensures came { FullBeside below.now result (N.seen store.old) (N.seen store.new) }
-    ensures number { number_of (N.seen store.new).held ≡ number_of (N.seen store.old).held + 1 }
+    ensures number { number_of_trees (N.seen store.new).held ≡ number_of_trees
+        (N.seen store.old).held + 1 }
     ensures only { OnlyHeldChanges (N.seen store.old) (N.seen store.new) }
     ensures rests { N.rests store.old store.new }
     ensures turns { steps.new ≡ steps.old + 1 }

@@ -1,7 +1,9 @@
-//! Shares of blocks that a rebuild takes from a store: of a leaf, of eight octants joined, of a node that is there
-//! already, and of full blocks, whose greatest is kept aside so that each is made once.
+//! Shares of blocks that a rebuild takes from a store: of a leaf, of eight octants joined, of a
+//! node that is there already, and of full blocks, whose greatest is kept aside so that each is
+//! made once.
 //!
-//! Whoever meets a full bucket gives back what it has in hand, so that the store holds what it held.
+//! Whoever meets a full bucket gives back what it has in hand, so that the store holds what it
+//! held.
 #![tactic(auto)]
 
 mod blocks;

@@ -1,6 +1,6 @@
 ghost use Rattle.std.specs.Prelude.{◌≡◌, ◌<◌, ◌≤◌, ℕ, None, length, slice_set};
 ghost use Rattle.node_shapes.specs.Tree.{Tree};
-ghost use Rattle.node_shapes.specs.Weights.{number_of};
+ghost use Rattle.node_shapes.specs.Weights.{number_of_trees};
 ghost use Rattle.node_words.specs.Held.{OnlyHeldChanges, HoldsChildren, ForChildren, name_in};
 ghost use Rattle.node_words.specs.Gathering.{LosesAll};
 
@@ -56,7 +56,7 @@ pub fn back_all<N: NodeStore, L: Ledger>(
     steps: &mut Steps<L>,
 )
     requires held { HoldsChildren (N.seen store.old).held children }
-    requires room { number_of (N.seen store.old).held ≤ 4008 }
+    requires room { number_of_trees (N.seen store.old).held ≤ 4008 }
     ensures gone { ForChildren (N.seen store.old).held children
         (λ row. LosesAll (N.seen store.old).held row 8 (N.seen store.new).held) }
     ensures only { OnlyHeldChanges (N.seen store.old) (N.seen store.new) }

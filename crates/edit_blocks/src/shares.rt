@@ -1,7 +1,7 @@
 ghost use Rattle.std.specs.Prelude.{◌≡◌, ◌+◌, ◌≤◌, ℕ, List, Option, Some, None};
 ghost use Rattle.node_shapes.specs.declared.names.Name.{Name};
 ghost use Rattle.node_shapes.specs.Tree.{Tree, root_of, shape_of};
-ghost use Rattle.node_shapes.specs.Weights.{number_of};
+ghost use Rattle.node_shapes.specs.Weights.{number_of_trees};
 ghost use Rattle.node_words.specs.Held.{OnlyHeldChanges};
 ghost use Rattle.edit_blocks.specs.Blocks.{HasTree, AgainBeside, MayGoBack, GoesBack, BackTurns};
 
@@ -25,7 +25,7 @@ pub fn again<N: NodeStore, L: Ledger>(
     steps: &mut Steps<L>,
 ) -> Option<Share>
     requires reached { HasTree (N.seen store.old).held name }
-    requires room { number_of (N.seen store.old).held ≤ 4095 }
+    requires room { number_of_trees (N.seen store.old).held ≤ 4095 }
     ensures came { AgainBeside name result (N.seen store.old) (N.seen store.new) }
     ensures only { OnlyHeldChanges (N.seen store.old) (N.seen store.new) }
     ensures rests { N.rests store.old store.new }
@@ -40,11 +40,12 @@ pub fn again<N: NodeStore, L: Ledger>(
 /// Gives back what may be a share.
 pub fn back_if<N: NodeStore, L: Ledger>(store: &mut N, share: Option<Share>, steps: &mut Steps<L>)
     requires held { MayGoBack (N.seen store.old).held share }
-    requires room { number_of (N.seen store.old).held ≤ 4008 }
+    requires room { number_of_trees (N.seen store.old).held ≤ 4008 }
     ensures gone { GoesBack share (N.seen store.old).held (N.seen store.new).held }
     ensures only { OnlyHeldChanges (N.seen store.old) (N.seen store.new) }
     ensures rests { N.rests store.old store.new }
-    ensures turns { BackTurns share (N.seen store.old).held (N.seen store.new).held steps.old steps.new }
+    ensures turns { BackTurns share (N.seen store.old).held
+        (N.seen store.new).held steps.old steps.new }
     ensures none { share ≡ None → steps.new ≡ steps.old }
 {
     match share {

@@ -21,7 +21,8 @@ pub record IsOld (base : List Tree) (level : ℕ) (t : Tree) (old : Option Name)
   pub named : (t u : Tree) → IsReached base t → IsReached base u → root_of t ≡ root_of u → t ≡ u
 
 -- these are the old block's cells with those of the test set or cleared
-pub record Paints (base : List Tree) (level : ℕ) (old : Option Name) (set : Bool) (test cells : Cells) : Type 0 where
+pub record Paints (base : List Tree) (level : ℕ) (old : Option Name) (set : Bool)
+    (test cells : Cells) : Type 0 where
   pub tree : Tree
   pub is_old : IsOld base level tree old
   pub shows : SameIn level cells (painted set test (has level (shape_of tree)))

@@ -17,21 +17,27 @@ abbrev pub MakesSome : Making → ℕ → Type 0
 MakesSome makes level = (base : List Tree) × (cells : Cells) × makes base level cells
 
 abbrev pub MakesCells : Making → List Tree → ℕ → Type 0
-MakesCells makes held level = (base : List Tree) × (cells : Cells) × Keeps base held × makes base level cells
+MakesCells makes held level =
+    (base : List Tree) × (cells : Cells) × Keeps base held × makes base level cells
 
--- P of all cells that it makes of a block of this level, and of the trees that it makes them by, which are held
+-- P of all cells that it makes of a block of this level, and of the trees that it makes them by,
+-- which are held
 abbrev pub ForCells : Making → List Tree → ℕ → (List Tree → Cells → Type 0) → Type 0
-ForCells makes held level P = (base : List Tree) (cells : Cells) → Keeps base held → makes base level cells → P base cells
+ForCells makes held level P =
+    (base : List Tree) (cells : Cells) → Keeps base held → makes base level cells → P base cells
 
 -- whatever both make of a block has the same cells
 abbrev pub MakeAlike : Making → Making → Type 0
-MakeAlike p q = (base : List Tree) (level : ℕ) (a b : Cells) → p base level a → q base level b → SameIn level a b
+MakeAlike p q =
+    (base : List Tree) (level : ℕ) (a b : Cells) → p base level a → q base level b
+    → SameIn level a b
 
 -- what is known of a block with these cells as a whole
 abbrev pub IsWhole : List Tree → ℕ → Cells → Whole → Type 0
 IsWhole base level cells Nothing = SameIn level cells no_cells
 IsWhole base level cells All = SameIn level cells all_cells
-IsWhole base level cells (Old n) = (t : Tree) × IsTreeOf base level t (Some n) × (shape_of t ≡ shape_with level cells)
+IsWhole base level cells (Old n) =
+    (t : Tree) × IsTreeOf base level t (Some n) × (shape_of t ≡ shape_with level cells)
 IsWhole base level cells Mixed = Unit {0}
 
 -- how many blocks there are in a block of this level, itself among them

@@ -33,22 +33,28 @@ pub record IsRoot (held : List Tree) (level : ℕ) (t : Tree) (name : Option Nam
   pub is_held : (n : Name) → name ≡ Some n → IsHeld held t
   pub at : (n : Name) → name ≡ Some n → n.level ≡ level
 
--- a root of this level is held that shows the cells of this world, or it is none and the world is empty
-pub record ShowsWorld (held : List Tree) (level : ℕ) (root : Option Name) (world : Cell → Bool) : Type 0 where
+-- a root of this level is held that shows the cells of this world, or it is none and the world is
+-- empty
+pub record ShowsWorld (held : List Tree) (level : ℕ) (root : Option Name)
+    (world : Cell → Bool) : Type 0 where
   pub tree : Tree
   pub is_root : IsRoot held level tree root
   pub shows : ShowsCells (block_at_origin level) (shape_of tree) world
 
 -- P of what an edit makes of each world that the root shows, the world's side being a power of two
-abbrev pub ForEdited : Seen → ℕ → Option Name → ((Cell → Bool) → Cell → Bool) → ((Cell → Bool) → Type 0) → Type 0
-ForEdited seen side root edit P = (before : Cell → Bool) → ShowsWorld seen.held (side - 2) root before → P (edit before)
+abbrev pub ForEdited : Seen → ℕ → Option Name → ((Cell → Bool) → Cell → Bool)
+    → ((Cell → Bool) → Type 0) → Type 0
+ForEdited seen side root edit P =
+    (before : Cell → Bool) → ShowsWorld seen.held (side - 2) root before → P (edit before)
 
 -- no cell of the world is set
 abbrev pub IsEmptyWorld : ℕ → (Cell → Bool) → Type 0
 IsEmptyWorld level world = (c : Cell) → IsInBlock (block_at_origin level) c → world c ≡ false
 
--- besides what was held there is a share of the canonical root of this world, or there is none and the world is empty
-pub record Rebuilt (level : ℕ) (world : Cell → Bool) (name : Option Name) (old new : Seen) : Type 0 where
+-- besides what was held there is a share of the canonical root of this world, or there is none and
+-- the world is empty
+pub record Rebuilt (level : ℕ) (world : Cell → Bool) (name : Option Name)
+    (old new : Seen) : Type 0 where
   pub tree : Tree
   pub root : root_of tree ≡ name
   pub levels : IsTreeAt level tree

@@ -1,5 +1,5 @@
-//! What an edit makes of a block, told by cells: the trait of tasks, and what edits share that set or clear the cells
-//! of a test.
+//! What an edit makes of a block, told by cells: the trait of tasks, and what edits share that set
+//! or clear the cells of a test.
 #![tactic(auto)]
 
 mod paints;

@@ -32,13 +32,14 @@ impl Whole {
 
 /// What an edit makes of one block, asked block by block and octant by octant.
 ///
-/// It names the old nodes that it reads, so what it makes hangs on trees that stay held. The blocks below are told
-/// by their places in the block, or by their places in the world, as the task likes.
+/// It names the old nodes that it reads, so what it makes hangs on trees that stay held. The blocks
+/// below are told by their places in the block, or by their places in the world, as the task likes.
 pub trait Task: Copy {
     /// The cells that the task makes of a block of some level, while some trees are held.
     ghost makes: { Self → Making };
 
-    /// A bound on the number of mixed blocks of a block of this level, itself among them, and of its octant.
+    /// A bound on the number of mixed blocks of a block of this level, itself among them, and of
+    /// its octant.
     ghost mixed: { ℕ → Self → ℕ };
 
     ghost mixed_in: { ℕ → Self → ℕ → ℕ };

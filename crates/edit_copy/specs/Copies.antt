@@ -22,7 +22,8 @@ cube_of row = branch_of (λ j. shape_of (row j))
 -- the cells before, with those of the box taken from a cube, from an offset on
 abbrev pub moved : ℕ → Boxed → Cell → Shape → Cells → Cells
 moved level part offset cube cells = λ x y z.
-    if is_in_box part (cell_at x y z) then has (suc level) cube (x + offset.x) (y + offset.y) (z + offset.z) else cells x y z
+    if is_in_box part (cell_at x y z)
+    then has (suc level) cube (x + offset.x) (y + offset.y) (z + offset.z) else cells x y z
 
 -- an offset is of less than a block
 pub record IsOffset (level : ℕ) (offset : Cell) : Type 0 where
@@ -31,7 +32,8 @@ pub record IsOffset (level : ℕ) (offset : Cell) : Type 0 where
   pub z : offset.z < block_side level
 
 -- each name of a row is that of an old block of this level
-pub record AreOld (base : List Tree) (level : ℕ) (row : ℕ → Tree) (names : List (Option Name)) : Type 0 where
+pub record AreOld (base : List Tree) (level : ℕ) (row : ℕ → Tree)
+    (names : List (Option Name)) : Type 0 where
   pub each : (j : ℕ) → j < 8 → IsOld base level (row j) (name_in names j)
 
 -- over these trees the task makes a block of this level with these cells
@@ -42,7 +44,8 @@ pub record MakesCopy (task : CopyTask) (base : List Tree) (level : ℕ) (cells :
   pub is_old : IsOld base level tree task.old
   pub row : ℕ → Tree
   pub sources : AreOld base level row task.sources
-  pub shows : SameIn level cells (moved level task.part task.offset (cube_of row) (has level (shape_of tree)))
+  pub shows : SameIn level cells
+      (moved level task.part task.offset (cube_of row) (has level (shape_of tree)))
 
 -- in halves of blocks of this level: where an offset from a half begins, and what is left of it
 abbrev pub step_at : ℕ → ℕ → ℕ → ℕ
@@ -53,17 +56,23 @@ step_rest level half offset = (half * block_side level + offset) % block_side le
 
 -- the same on each axis, for an octant
 abbrev pub begin_of : ℕ → ℕ → Cell → Cell
-begin_of level k offset = cell_at (step_at level (half_x k) offset.x) (step_at level (half_y k) offset.y) (step_at level (half_z k) offset.z)
+begin_of level k offset =
+    cell_at (step_at level (half_x k) offset.x) (step_at level (half_y k) offset.y)
+    (step_at level (half_z k) offset.z)
 
 abbrev pub rest_of : ℕ → ℕ → Cell → Cell
-rest_of level k offset = cell_at (step_rest level (half_x k) offset.x) (step_rest level (half_y k) offset.y) (step_rest level (half_z k) offset.z)
+rest_of level k offset =
+    cell_at (step_rest level (half_x k) offset.x) (step_rest level (half_y k) offset.y)
+    (step_rest level (half_z k) offset.z)
 
--- which of the eight blocks source j of the octant lies in, which octant of it that is, and its tree
+-- which of the eight blocks source j of the octant lies in, which octant of it that is, and its
+-- tree
 abbrev pub source_from : Cell → ℕ → ℕ
 source_from at j = (at.x + half_x j) / 2 + 2 * ((at.y + half_y j) / 2) + 4 * ((at.z + half_z j) / 2)
 
 abbrev pub source_octant : Cell → ℕ → ℕ
-source_octant at j = (at.x + half_x j) % 2 + 2 * ((at.y + half_y j) % 2) + 4 * ((at.z + half_z j) % 2)
+source_octant at j =
+    (at.x + half_x j) % 2 + 2 * ((at.y + half_y j) % 2) + 4 * ((at.z + half_z j) % 2)
 
 abbrev pub source_of : (ℕ → Tree) → Cell → ℕ → Tree
 source_of row at j = child_of (row (source_from at j)) (source_octant at j)
@@ -73,28 +82,33 @@ abbrev pub is_unread_on : ℕ → ℕ → Bool
 is_unread_on half offset = half == 1 && offset == 0
 
 abbrev pub is_unread : Cell → ℕ → Bool
-is_unread offset j = is_unread_on (half_x j) offset.x || is_unread_on (half_y j) offset.y || is_unread_on (half_z j) offset.z
+is_unread offset j =
+    is_unread_on (half_x j) offset.x || is_unread_on (half_y j) offset.y || is_unread_on
+    (half_z j) offset.z
 
 -- the names of a row can be read, as those of blocks of this level
-pub record AreBlocks (held : List Tree) (level : ℕ) (names : List (Option Name)) (row : ℕ → Tree) : Type 0 where
+pub record AreBlocks (held : List Tree) (level : ℕ) (names : List (Option Name))
+    (row : ℕ → Tree) : Type 0 where
   pub each : (j : ℕ) → j < 8 → IsBlockOf held level (name_in names j) (row j)
 
-abbrev pub HasBlocks : List Tree → ℕ → List (Option Name) → Type 0
-HasBlocks held level names = (row : ℕ → Tree) × AreBlocks held level names row
+abbrev pub HoldsBlocks : List Tree → ℕ → List (Option Name) → Type 0
+HoldsBlocks held level names = (row : ℕ → Tree) × AreBlocks held level names row
 
 -- P of the trees of a row
 abbrev pub ForBlocks : List Tree → ℕ → List (Option Name) → ((ℕ → Tree) → Type 0) → Type 0
 ForBlocks held level names P = (row : ℕ → Tree) → AreBlocks held level names row → P row
 
 -- the name is that of source j, or none where no cell is taken from it
-pub record IsSource (held : List Tree) (level : ℕ) (row : ℕ → Tree) (at offset : Cell) (j : ℕ) (name : Option Name) : Type 0 where
+pub record IsSource (held : List Tree) (level : ℕ) (row : ℕ → Tree) (at offset : Cell) (j : ℕ)
+    (name : Option Name) : Type 0 where
   pub read : is_unread offset j ≡ false → IsBlockOf held level name (source_of row at j)
   pub unread : is_unread offset j ≡ true → name ≡ None
 
 -- the name is that of the octant, or none where the box holds the whole octant
 abbrev pub IsKeptOld : List Tree → ℕ → Option Name → ℕ → Boxed → Option Name → Type 0
 IsKeptOld held level old k part name =
-    (HoldsBlock part (block_at_origin (level - 1)) × (name ≡ None)) ⊎ IsOctantOf held level old k name
+    (HoldsBlock part (block_at_origin (level - 1)) × (name ≡ None))
+    ⊎ IsOctantOf held level old k name
 
 -- where the sources of an octant begin: in the first three quarters, on each axis
 pub record IsBegin (at : Cell) : Type 0 where

@@ -13,7 +13,8 @@ pub record IsShift (side from to half offset : ℕ) : Type 0 where
   pub moves : to + offset ≡ half * 2 ^ side + from
 
 -- the task copies the box to its place, of a world of this side with this root
-pub record IsWholeTask (side : ℕ) (old : Option Name) (from : Boxed) (to : Cell) (task : CopyTask) : Type 0 where
+pub record IsWholeTask (side : ℕ) (old : Option Name) (from : Boxed) (to : Cell)
+    (task : CopyTask) : Type 0 where
   pub x : ℕ
   pub y : ℕ
   pub z : ℕ

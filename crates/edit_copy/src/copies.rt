@@ -8,8 +8,8 @@ use node_shapes::Name;
 use node_words::{Blocks, box_bits, window_bits};
 use vw_cell::{Block, Boxed, Cell};
 
-/// Copies into one block. The cells of a box, told by their places in the block, are taken from a cube of eight
-/// blocks of the block's size, from an offset on.
+/// Copies into one block. The cells of a box, told by their places in the block, are taken from a
+/// cube of eight blocks of the block's size, from an offset on.
 #[derive(Clone, Copy, Debug)]
 pub struct CopyTask {
     pub(crate) old: Option<Name>,
@@ -94,7 +94,8 @@ impl Task for CopyTask {
     }
 }
 
-// What stands in an octant now, where the copy leaves cells of it: none where the box holds the whole octant.
+// What stands in an octant now, where the copy leaves cells of it: none where the box holds the
+// whole octant.
 fn kept_old<B: Blocks>(
     store: &mut B,
     level: u8,

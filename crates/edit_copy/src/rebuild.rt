@@ -1,6 +1,6 @@
 ghost use Rattle.std.specs.Prelude.{◌≡◌, ◌≤◌, ◌-◌, ◌^◌, IfOk, IfErr, OnOk, [], option_copied};
 ghost use Rattle.vw_cell.specs.Places.{FitsAt};
-ghost use Rattle.node_shapes.specs.Weights.{number_of};
+ghost use Rattle.node_shapes.specs.Weights.{number_of_trees};
 ghost use Rattle.node_words.specs.Gathering.{Grows, Fails};
 ghost use Rattle.history_model.specs.Worlds.{edited};
 ghost use Rattle.history_model.specs.declared.acts.Act.TheVariants.{Copy};
@@ -14,9 +14,9 @@ use node_words::{Full, NodeStore, Share, Steps};
 use std::sync::ledger::Ledger;
 use vw_cell::{Boxed, Cell, Side};
 
-/// A share of the root of the world with the cells of the box put where its least corner goes to another place,
-/// where a cell is set then. The cells are those before the copy, and cells that were unset are unset there. A store
-/// that met a full bucket holds what it held.
+/// A share of the root of the world with the cells of the box put where its least corner goes to
+/// another place, where a cell is set then. The cells are those before the copy, and cells that
+/// were unset are unset there. A store that met a full bucket holds what it held.
 pub fn rebuild_copy<N: NodeStore, L: Ledger>(
     store: &mut N,
     old: Option<&Share>,
@@ -29,7 +29,7 @@ pub fn rebuild_copy<N: NodeStore, L: Ledger>(
     requires from { FitsAt from.at from.size (2 ^ side) }
     requires to { FitsAt to from.size (2 ^ side) }
     requires old { HoldsRoot (N.seen store.old).held side (option_copied old) }
-    requires room { number_of (N.seen store.old).held ≤ 3910 }
+    requires room { number_of_trees (N.seen store.old).held ≤ 3910 }
     ensures ok { IfOk result (λ r.
         ForEdited (N.seen store.old) side (option_copied old.entry) (edited [] (Copy from to))
         (λ world. Rebuilt (side - 2) world r (N.seen store.old) (N.seen store.new))) }
@@ -38,7 +38,8 @@ pub fn rebuild_copy<N: NodeStore, L: Ledger>(
         (λ world. Grows (world_shape (side - 2) world) (N.seen store.old) (N.seen store.new))) }
     ensures full { IfErr result (λ e.
         ForEdited (N.seen store.old) side (option_copied old.entry) (edited [] (Copy from to))
-        (λ world. Fails (world_shape (side - 2) world) e.level e.bucket (N.seen store.old) (N.seen store.new))) }
+        (λ world. Fails (world_shape (side - 2) world) e.level e.bucket (N.seen store.old)
+        (N.seen store.new))) }
     ensures rests { N.rests store.old store.new }
 {
     let task = whole_task(name_of(old), side, from, to);

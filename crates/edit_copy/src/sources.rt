@@ -4,7 +4,7 @@ ghost use Rattle.node_shapes.specs.Shape.{bits_of};
 ghost use Rattle.node_shapes.specs.Tree.{shape_of};
 ghost use Rattle.node_words.specs.Held.{name_in};
 ghost use Rattle.block_walk.specs.Roots.{IsBlockOf};
-ghost use Rattle.edit_copy.specs.Copies.{begin_of, rest_of, source_from, source_octant, source_of, is_unread, IsOffset, IsSource, IsBegin, HasBlocks, ForBlocks};
+ghost use Rattle.edit_copy.specs.Copies.{begin_of, rest_of, source_from, source_octant, source_of, is_unread, IsOffset, IsSource, IsBegin, HoldsBlocks, ForBlocks};
 
 use block_walk::{leaf_bits, octant_name, same_names};
 use edit_cells::side_of;
@@ -50,7 +50,8 @@ fn cell(x: u32, y: u32, z: u32) -> Cell
     }
 }
 
-// Whether no cell is taken from source j: it is the farther one on an axis on which the offset is 0.
+// Whether no cell is taken from source j: it is the farther one on an axis on which the offset is
+// 0.
 fn unread(offset: Cell, j: u8) -> bool
     requires { j < 8 }
     ensures { result ≡ is_unread offset j }
@@ -78,7 +79,7 @@ fn source_in<B: Blocks>(
     requires level { 1 ≤ level }
     requires at { IsBegin at }
     requires source { j < 8 }
-    requires sources { HasBlocks (B.seen store.old).held level sources.now }
+    requires sources { HoldsBlocks (B.seen store.old).held level sources.now }
     ensures source { ForBlocks (B.seen store.old).held level sources.now
         (λ row. IsSource (B.seen store.old).held (level - 1) row at offset j result) }
     ensures seen { B.seen store.new ≡ B.seen store.old }
@@ -106,7 +107,7 @@ pub(crate) fn sources_in<B: Blocks>(
 ) -> [Option<Name>; 8]
     requires level { 1 ≤ level }
     requires at { IsBegin at }
-    requires sources { HasBlocks (B.seen store.old).held level sources.now }
+    requires sources { HoldsBlocks (B.seen store.old).held level sources.now }
     ensures sources { ForBlocks (B.seen store.old).held level sources.now
         (λ row. (j : ℕ) → j < 8
         → IsSource (B.seen store.old).held (level - 1) row at offset j (name_in result j)) }
@@ -123,7 +124,7 @@ pub(crate) fn sources_in<B: Blocks>(
 
 // The bits of eight leaves, or of none.
 pub(crate) fn leaves_in<B: Blocks>(store: &mut B, sources: &[Option<Name>; 8]) -> [u64; 8]
-    requires sources { HasBlocks (B.seen store.old).held 0 sources.now }
+    requires sources { HoldsBlocks (B.seen store.old).held 0 sources.now }
     ensures leaves { ForBlocks (B.seen store.old).held 0 sources.now
         (λ row. (j : ℕ) → j < 8 → slice_index result j ≡ bits_of (shape_of (row j))) }
     ensures seen { B.seen store.new ≡ B.seen store.old }

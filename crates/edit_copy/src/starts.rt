@@ -6,7 +6,8 @@ use crate::copies::CopyTask;
 use node_shapes::Name;
 use vw_cell::{Boxed, Cell, Side};
 
-// The task of the whole world, which is one of eight blocks round the place that its first cell comes from.
+// The task of the whole world, which is one of eight blocks round the place that its first cell
+// comes from.
 pub(crate) fn whole_task(old: Option<Name>, side: Side, from: Boxed, to: Cell) -> CopyTask
     requires from { FitsAt from.at from.size (2 ^ side) }
     requires to { FitsAt to from.size (2 ^ side) }
@@ -32,7 +33,8 @@ pub(crate) fn whole_task(old: Option<Name>, side: Side, from: Boxed, to: Cell) -
     }
 }
 
-// Of two blocks side by side the one that is the world, and how far into the first the first cell comes from.
+// Of two blocks side by side the one that is the world, and how far into the first the first cell
+// comes from.
 #[derive(Clone, Copy)]
 pub(crate) struct Shift {
     pub(crate) half: usize,

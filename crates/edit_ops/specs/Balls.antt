@@ -15,7 +15,8 @@ abbrev pub ball_act : Bool → Ball → Act
 ball_act true b = Bulge b
 ball_act false b = Carve b
 
--- over these trees the task makes a block of this level with these cells, the block being told by its place in the world
+-- over these trees the task makes a block of this level with these cells, the block being told by
+-- its place in the world
 pub record MakesBall (task : BallTask) (base : List Tree) (level : ℕ) (cells : Cells) : Type 0 where
   pub small : level ≤ 10
   pub inside : LiesIn 4096 (record { level = level; at = task.at })

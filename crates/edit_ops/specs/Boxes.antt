@@ -33,10 +33,15 @@ covers_first low size side = nat_le low 0 && nat_le side (low + size)
 abbrev pub is_partly : ℕ → Boxed → Bool
 is_partly level b =
     let side = block_side level in
-    touches_first b.at.x b.size.x side && touches_first b.at.y b.size.y side && touches_first b.at.z b.size.z side
-    && not (covers_first b.at.x b.size.x side && covers_first b.at.y b.size.y side && covers_first b.at.z b.size.z side)
+    touches_first b.at.x b.size.x side && touches_first b.at.y b.size.y side
+    && touches_first b.at.z b.size.z side
+    && not
+    (covers_first b.at.x b.size.x side && covers_first b.at.y b.size.y side
+    && covers_first b.at.z b.size.z side)
 
 -- how many blocks of a block of this level the box meets without holding them, told by its parts
 unfoldable pub parts_met : ℕ → Boxed → ℕ
 parts_met zero b = one_if (is_partly 0 b)
-parts_met (suc level) b = one_if (is_partly (suc level) b) + sum_below 8 (λ k. parts_met level (part_in (block_side level) b k))
+parts_met (suc level) b =
+    one_if (is_partly (suc level) b) + sum_below 8
+    (λ k. parts_met level (part_in (block_side level) b k))

@@ -20,18 +20,25 @@ covers_at low size at side = nat_le low at && nat_le (at + side) (low + size)
 abbrev pub is_partly_at : Boxed → Block → Bool
 is_partly_at b block =
     let side = block_side block.level in
-    touches_at b.at.x b.size.x block.at.x side && touches_at b.at.y b.size.y block.at.y side && touches_at b.at.z b.size.z block.at.z side
-    && not (covers_at b.at.x b.size.x block.at.x side && covers_at b.at.y b.size.y block.at.y side && covers_at b.at.z b.size.z block.at.z side)
+    touches_at b.at.x b.size.x block.at.x side && touches_at b.at.y b.size.y block.at.y side
+    && touches_at b.at.z b.size.z block.at.z side
+    && not
+    (covers_at b.at.x b.size.x block.at.x side && covers_at b.at.y b.size.y block.at.y side
+    && covers_at b.at.z b.size.z block.at.z side)
 
 -- the octant's least corner, for octants of this level of a block with this corner
 abbrev pub corner : ℕ → Cell → ℕ → Cell
-corner level at k = cell_at (at.x + half_x k * block_side level) (at.y + half_y k * block_side level) (at.z + half_z k * block_side level)
+corner level at k =
+    cell_at (at.x + half_x k * block_side level) (at.y + half_y k * block_side level)
+    (at.z + half_z k * block_side level)
 
--- how many blocks the box meets without holding them, of the block of this level and corner and of all blocks in it
+-- how many blocks the box meets without holding them, of the block of this level and corner and of
+-- all blocks in it
 unfoldable pub blocks_partly : ℕ → Boxed → Cell → ℕ
 blocks_partly zero b at = one_if (is_partly_at b (record { level = 0; at = at }))
 blocks_partly (suc level) b at =
-    one_if (is_partly_at b (record { level = suc level; at = at })) + sum_below 8 (λ k. blocks_partly level b (corner level at k))
+    one_if (is_partly_at b (record { level = suc level; at = at })) + sum_below 8
+    (λ k. blocks_partly level b (corner level at k))
 
 -- the same of the whole world, whose side is a power of two
 abbrev pub world_partly : ℕ → Boxed → ℕ

@@ -26,7 +26,8 @@ impl Task for BoxTask {
 
     ghost mixed = { λ level t. parts_met level t.part };
 
-    ghost mixed_in = { λ level t k. parts_met (level - 1) (part_in (block_side (level - 1)) t.part k) };
+    ghost mixed_in = { λ level t k. parts_met (level - 1)
+        (part_in (block_side (level - 1)) t.part k) };
 
     fn octant<B: Blocks>(&self, store: &mut B, level: u8, octant: u8) -> BoxTask {
         let old = octant_name(store, level, self.old, octant);

@@ -1,6 +1,6 @@
 ghost use Rattle.std.specs.Prelude.{◌≡◌, ◌+◌, ◌-◌, ◌*◌, ◌≤◌, ◌^◌, IfOk, IfErr, OnOk, [], option_copied};
 ghost use Rattle.vw_cell.specs.Places.{FitsAt, IsInWorld};
-ghost use Rattle.node_shapes.specs.Weights.{number_of};
+ghost use Rattle.node_shapes.specs.Weights.{number_of_trees};
 ghost use Rattle.node_words.specs.Gathering.{Grows, Fails};
 ghost use Rattle.history_model.specs.Worlds.{edited};
 ghost use Rattle.block_walk.specs.Roots.{HoldsRoot};
@@ -17,8 +17,8 @@ use node_words::{Full, NodeStore, Share, Steps};
 use std::sync::ledger::Ledger;
 use vw_cell::{Ball, Boxed, Cell, Side};
 
-/// A share of the root of the world with the cells of the box set or cleared, where a cell is set then. A store
-/// that met a full bucket holds what it held.
+/// A share of the root of the world with the cells of the box set or cleared, where a cell is set
+/// then. A store that met a full bucket holds what it held.
 pub fn rebuild_box<N: NodeStore, L: Ledger>(
     store: &mut N,
     old: Option<&Share>,
@@ -30,7 +30,7 @@ pub fn rebuild_box<N: NodeStore, L: Ledger>(
     requires side { side ≡ (N.seen store.old).plan.side }
     requires inside { FitsAt b.at b.size (2 ^ side) }
     requires old { HoldsRoot (N.seen store.old).held side (option_copied old) }
-    requires room { number_of (N.seen store.old).held ≤ 3910 }
+    requires room { number_of_trees (N.seen store.old).held ≤ 3910 }
     ensures ok { IfOk result (λ r.
         ForEdited (N.seen store.old) side (option_copied old.entry) (edited [] (box_act set b))
         (λ world. Rebuilt (side - 2) world r (N.seen store.old) (N.seen store.new))) }
@@ -39,10 +39,12 @@ pub fn rebuild_box<N: NodeStore, L: Ledger>(
         (λ world. Grows (world_shape (side - 2) world) (N.seen store.old) (N.seen store.new))) }
     ensures full { IfErr result (λ e.
         ForEdited (N.seen store.old) side (option_copied old.entry) (edited [] (box_act set b))
-        (λ world. Fails (world_shape (side - 2) world) e.level e.bucket (N.seen store.old) (N.seen store.new))) }
+        (λ world. Fails (world_shape (side - 2) world) e.level e.bucket (N.seen store.old)
+        (N.seen store.new))) }
     ensures rests { N.rests store.old store.new }
     // 25 turns a block of the world that meets the box without lying in it, and 25 a level.
-    ensures turns { OnOk result (steps.new ≤ steps.old + 25 * world_partly side b + 25 * (side - 1)) }
+    ensures turns { OnOk result
+        (steps.new ≤ steps.old + 25 * world_partly side b + 25 * (side - 1)) }
 {
     let task = BoxTask {
         old: name_of(old),
@@ -57,8 +59,8 @@ pub fn rebuild_box<N: NodeStore, L: Ledger>(
     }
 }
 
-/// A share of the root of the world with the cells of the ball set or cleared, where a cell is set then. A store
-/// that met a full bucket holds what it held.
+/// A share of the root of the world with the cells of the ball set or cleared, where a cell is set
+/// then. A store that met a full bucket holds what it held.
 pub fn rebuild_ball<N: NodeStore, L: Ledger>(
     store: &mut N,
     old: Option<&Share>,
@@ -70,7 +72,7 @@ pub fn rebuild_ball<N: NodeStore, L: Ledger>(
     requires side { side ≡ (N.seen store.old).plan.side }
     requires inside { IsInWorld (2 ^ side) ball.centre }
     requires old { HoldsRoot (N.seen store.old).held side (option_copied old) }
-    requires room { number_of (N.seen store.old).held ≤ 3910 }
+    requires room { number_of_trees (N.seen store.old).held ≤ 3910 }
     ensures ok { IfOk result (λ r.
         ForEdited (N.seen store.old) side (option_copied old.entry) (edited [] (ball_act set ball))
         (λ world. Rebuilt (side - 2) world r (N.seen store.old) (N.seen store.new))) }
@@ -79,7 +81,8 @@ pub fn rebuild_ball<N: NodeStore, L: Ledger>(
         (λ world. Grows (world_shape (side - 2) world) (N.seen store.old) (N.seen store.new))) }
     ensures full { IfErr result (λ e.
         ForEdited (N.seen store.old) side (option_copied old.entry) (edited [] (ball_act set ball))
-        (λ world. Fails (world_shape (side - 2) world) e.level e.bucket (N.seen store.old) (N.seen store.new))) }
+        (λ world. Fails (world_shape (side - 2) world) e.level e.bucket (N.seen store.old)
+        (N.seen store.new))) }
     ensures rests { N.rests store.old store.new }
 {
     let task = BallTask {

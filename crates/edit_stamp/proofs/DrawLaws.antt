@@ -17,7 +17,7 @@ use Rattle.vox_read.proofs.Marking.{stands, stands_tells}
 use Rattle.vw_cell.specs.declared.cells.Cell.{Cell}
 use Rattle.vw_cell.specs.Counts.{cell_at, IsBelow}
 use Rattle.vox_read.specs.declared.voxels.Voxel.{Voxel}
-use Rattle.vox_read.specs.Contents.{StandsIn, stands_at}
+use Rattle.vox_read.specs.Contents.{StandsInside, stands_at}
 use Rattle.vox_read.specs.Cells.{has_voxel}
 use Rattle.vox_read.proofs.Bounds.{same_place}
 use Rattle.node_shapes.specs.Shape.{bit_number}
@@ -105,7 +105,7 @@ record SameLeaf (q : Cell) (v : Voxel) : Type 0 where
   y : q.y / 4 ≡ v.y / 4
   z : q.z / 4 ≡ v.z / 4
 
-leaf_same : (size q : Cell) (v : Voxel) → IsBelow size q → StandsIn size v → leaf_number size (q.x / 4) (q.y / 4) (q.z / 4) ≡ leaf_number size (v.x / 4) (v.y / 4) (v.z / 4) → SameLeaf q v
+leaf_same : (size q : Cell) (v : Voxel) → IsBelow size q → StandsInside size v → leaf_number size (q.x / 4) (q.y / 4) (q.z / 4) ≡ leaf_number size (v.x / 4) (v.y / 4) (v.z / 4) → SameLeaf q v
 unfolding leaf_size leaf_place
 leaf_same size q v b s e =
     let p = same_place (leaf_size size) (leaf_place q) (leaf_place (voxel_place v)) (leaf_below size q b) (leaf_below size (voxel_place v) (place_below size v s)) e in
@@ -122,7 +122,7 @@ bits_stand q v l =
     tested : (n m : ℕ) → (n == m) ≡ true → n ≡ m
     tested n m e = grind (arith, nat_tests)
 
-pub drawing_more : (size : Cell) (items : List Voxel) (k : ℕ) (d : Voxel) (words : List ℕ) (leaf old word : ℕ) → k < length items → StandsIn size (get_or items k d) → Drawing size (take k items) words
+pub drawing_more : (size : Cell) (items : List Voxel) (k : ℕ) (d : Voxel) (words : List ℕ) (leaf old word : ℕ) → k < length items → StandsInside size (get_or items k d) → Drawing size (take k items) words
     → leaf ≡ leaf_number size ((get_or items k d).x / 4) ((get_or items k d).y / 4) ((get_or items k d).z / 4) → leaf < length words → old ≡ get_or words leaf old
     → ((m : ℕ) → m < 64 → (bit_at word m == 1) ≡ ((m == bit_number ((get_or items k d).x % 4) ((get_or items k d).y % 4) ((get_or items k d).z % 4)) || (bit_at old m == 1)))
     → Drawing size (take (k + 1) items) (set words leaf word)

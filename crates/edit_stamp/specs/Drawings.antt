@@ -17,7 +17,9 @@ leaf_number size x y z = (z * leaves_of size.y + y) * leaves_of size.x + x
 
 -- the cell's bit
 abbrev pub cell_bit : Cell → List ℕ → Cell → Bool
-cell_bit size words q = bit_at (slice_index words (leaf_number size (q.x / 4) (q.y / 4) (q.z / 4))) (bit_number (q.x % 4) (q.y % 4) (q.z % 4)) == 1
+cell_bit size words q =
+    bit_at (slice_index words (leaf_number size (q.x / 4) (q.y / 4) (q.z / 4)))
+    (bit_number (q.x % 4) (q.y % 4) (q.z % 4)) == 1
 
 -- a model as a stamp sees it: its size, and the bits of its leaves
 pub record Drawn : Type 0 where
@@ -33,17 +35,22 @@ pub record HasLeaves (size : Cell) (words : List ℕ) : Type 0 where
   pub is_size : IsSize size
   pub number : length words ≡ leaves_of size.z * leaves_of size.y * leaves_of size.x
 
--- the word is that of a leaf of the model, counted from 1,024 leaves before its least corner, where there is one
+-- the word is that of a leaf of the model, counted from 1,024 leaves before its least corner, where
+-- there is one
 pub record IsWord (drawn : Drawn) (x y z word : ℕ) : Type 0 where
-  pub each : (i j k : ℕ) → i < leaves_of drawn.size.x → j < leaves_of drawn.size.y → k < leaves_of drawn.size.z → x ≡ 1024 + i → y ≡ 1024 + j → z ≡ 1024 + k
-      → (b : ℕ) → b < 64 → (bit_at word b == 1) ≡ drawn_cells drawn (cell_at (4 * i + b % 4) (4 * j + b / 4 % 4) (4 * k + b / 16))
+  pub each : (i j k : ℕ) → i < leaves_of drawn.size.x → j < leaves_of drawn.size.y
+      → k < leaves_of drawn.size.z → x ≡ 1024 + i → y ≡ 1024 + j → z ≡ 1024 + k
+      → (b : ℕ) → b < 64
+      → (bit_at word b == 1) ≡ drawn_cells drawn
+      (cell_at (4 * i + b % 4) (4 * j + b / 4 % 4) (4 * k + b / 16))
 
 -- it is drawn as the model is
 pub record Draws (model : Content) (drawn : Drawn) : Type 0 where
   pub size : drawn.size ≡ model.size
   pub each : (q : Cell) → IsBelow model.size q → drawn_cells drawn q ≡ is_cell model.voxels q
 
--- of a model from `low` on, of this size on one axis: the leaves that `side` places from `at` on touch
+-- of a model from `low` on, of this size on one axis: the leaves that `side` places from `at` on
+-- touch
 abbrev pub first_leaf : ℕ → ℕ → ℕ
 first_leaf low at = (at - low) / 4
 
@@ -52,9 +59,11 @@ last_leaf low size at side = min ((at + side - low + 3) / 4) (leaves_of size)
 
 -- each word of these leaves is the same
 pub record AllWords (size : Cell) (words : List ℕ) (from to : Cell) (want : ℕ) : Type 0 where
-  pub each : (x y z : ℕ) → from.x ≤ x → x < to.x → from.y ≤ y → y < to.y → from.z ≤ z → z < to.z → slice_index words (leaf_number size x y z) ≡ want
+  pub each : (x y z : ℕ) → from.x ≤ x → x < to.x → from.y ≤ y → y < to.y → from.z ≤ z → z < to.z
+      → slice_index words (leaf_number size x y z) ≡ want
 
 -- the model's places in a cube of the world are all set, or all unset
 pub record AllDrawn (drawn : Drawn) (place at : Cell) (side : ℕ) (set : Bool) : Type 0 where
-  pub each : (x y z : ℕ) → x < side → y < side → z < side → is_in_box (box_at place drawn.size) (cell_at (at.x + x) (at.y + y) (at.z + z)) ≡ true
+  pub each : (x y z : ℕ) → x < side → y < side → z < side
+      → is_in_box (box_at place drawn.size) (cell_at (at.x + x) (at.y + y) (at.z + z)) ≡ true
       → drawn_cells drawn (less (cell_at (at.x + x) (at.y + y) (at.z + z)) place) ≡ set

@@ -16,7 +16,8 @@ abbrev pub is_stamped : Drawn → Cell → Cell → Bool
 is_stamped drawn place p = is_in_box (box_at place drawn.size) p && drawn_cells drawn (less p place)
 
 -- over these trees the block at this place of the world gets the stamp
-pub record MakesStamp (old : Option Name) (drawn : Drawn) (place at : Cell) (base : List Tree) (level : ℕ) (cells : Cells) : Type 0 where
+pub record MakesStamp (old : Option Name) (drawn : Drawn) (place at : Cell) (base : List Tree)
+    (level : ℕ) (cells : Cells) : Type 0 where
   pub small : level ≤ 10
   pub inside : LiesIn 4096 (record { level = level; at = at })
   pub stands : (place.x ≤ 4096) × (place.y ≤ 4096) × (place.z ≤ 4096)

@@ -1,6 +1,6 @@
 ghost use Rattle.std.specs.Prelude.{◌≡◌, ◌-◌, ◌≤◌, ◌^◌, IfOk, IfErr, OnOk, option_copied};
 ghost use Rattle.vw_cell.specs.Places.{FitsAt};
-ghost use Rattle.node_shapes.specs.Weights.{number_of};
+ghost use Rattle.node_shapes.specs.Weights.{number_of_trees};
 ghost use Rattle.node_words.specs.Gathering.{Grows, Fails};
 ghost use Rattle.block_walk.specs.Roots.{HoldsRoot};
 ghost use Rattle.edit_cells.specs.Worlds.{ForEdited, Rebuilt, world_shape};
@@ -14,8 +14,8 @@ use node_words::{Full, NodeStore, Share, Steps};
 use std::sync::ledger::Ledger;
 use vw_cell::{Cell, Side};
 
-/// A share of the root of the world with the cells of a model set, whose least corner is at this place, where a cell
-/// is set then. A store that met a full bucket holds what it held.
+/// A share of the root of the world with the cells of a model set, whose least corner is at this
+/// place, where a cell is set then. A store that met a full bucket holds what it held.
 pub fn rebuild_stamp<N: NodeStore, L: Ledger>(
     store: &mut N,
     old: Option<&Share>,
@@ -27,7 +27,7 @@ pub fn rebuild_stamp<N: NodeStore, L: Ledger>(
     requires side { side ≡ (N.seen store.old).plan.side }
     requires inside { FitsAt at stencil.now.size (2 ^ side) }
     requires old { HoldsRoot (N.seen store.old).held side (option_copied old) }
-    requires room { number_of (N.seen store.old).held ≤ 3910 }
+    requires room { number_of_trees (N.seen store.old).held ≤ 3910 }
     ensures ok { IfOk result (λ r.
         ForEdited (N.seen store.old) side (option_copied old.entry) (stamped stencil.now at)
         (λ world. Rebuilt (side - 2) world r (N.seen store.old) (N.seen store.new))) }
@@ -36,7 +36,8 @@ pub fn rebuild_stamp<N: NodeStore, L: Ledger>(
         (λ world. Grows (world_shape (side - 2) world) (N.seen store.old) (N.seen store.new))) }
     ensures full { IfErr result (λ e.
         ForEdited (N.seen store.old) side (option_copied old.entry) (stamped stencil.now at)
-        (λ world. Fails (world_shape (side - 2) world) e.level e.bucket (N.seen store.old) (N.seen store.new))) }
+        (λ world. Fails (world_shape (side - 2) world) e.level e.bucket (N.seen store.old)
+        (N.seen store.new))) }
     ensures rests { N.rests store.old store.new }
 {
     let task = StampTask {

@@ -14,9 +14,12 @@ pub(crate) struct Leaves {
 pub(crate) fn touched(size: Cell, place: Cell, at: Cell, side: u32) -> Leaves
     requires side { side ≤ 4096 }
     requires size { (size.x ≤ 256) × (size.y ≤ 256) × (size.z ≤ 256) }
-    ensures x { (result.from.x ≡ first_leaf place.x at.x) × (result.to.x ≡ last_leaf place.x size.x at.x side) }
-    ensures y { (result.from.y ≡ first_leaf place.y at.y) × (result.to.y ≡ last_leaf place.y size.y at.y side) }
-    ensures z { (result.from.z ≡ first_leaf place.z at.z) × (result.to.z ≡ last_leaf place.z size.z at.z side) }
+    ensures x { (result.from.x ≡ first_leaf place.x at.x)
+        × (result.to.x ≡ last_leaf place.x size.x at.x side) }
+    ensures y { (result.from.y ≡ first_leaf place.y at.y)
+        × (result.to.y ≡ last_leaf place.y size.y at.y side) }
+    ensures z { (result.from.z ≡ first_leaf place.z at.z)
+        × (result.to.z ≡ last_leaf place.z size.z at.z side) }
 {
     Leaves {
         from: Cell {
@@ -62,7 +65,8 @@ pub(crate) fn are_all(size: Cell, words: &[u64], leaves: Leaves, want: u64) -> b
 
 fn is_layer(size: Cell, words: &[u64], leaves: Leaves, z: u16, want: u64) -> bool
     requires { (size.x ≤ 256) × (size.y ≤ 256) × (size.z ≤ 256) }
-    ensures { IsTrue result → (x y : ℕ) → leaves.from.x ≤ x → x < leaves.to.x → leaves.from.y ≤ y → y < leaves.to.y → slice_index words.now (leaf_number size x y z) ≡ want }
+    ensures { IsTrue result → (x y : ℕ) → leaves.from.x ≤ x → x < leaves.to.x → leaves.from.y ≤ y
+        → y < leaves.to.y → slice_index words.now (leaf_number size x y z) ≡ want }
 {
     for y in leaves.from.y..leaves.to.y {
         if !is_row(size, words, leaves, y, z, want) {
@@ -74,7 +78,8 @@ fn is_layer(size: Cell, words: &[u64], leaves: Leaves, z: u16, want: u64) -> boo
 
 fn is_row(size: Cell, words: &[u64], leaves: Leaves, y: u16, z: u16, want: u64) -> bool
     requires { (size.x ≤ 256) × (size.y ≤ 256) × (size.z ≤ 256) }
-    ensures { IsTrue result → (x : ℕ) → leaves.from.x ≤ x → x < leaves.to.x → slice_index words.now (leaf_number size x y z) ≡ want }
+    ensures { IsTrue result → (x : ℕ) → leaves.from.x ≤ x → x < leaves.to.x
+        → slice_index words.now (leaf_number size x y z) ≡ want }
 {
     for x in leaves.from.x..leaves.to.x {
         if !is_word(size, words, x, y, z, want) {

@@ -3,7 +3,7 @@ ghost use Rattle.std.specs.Prelude.{◌≡◌, ◌+◌, ◌-◌, ◌*◌, ◌/�
 ghost use Rattle.std.specs.Prelude.{IfOk, ◌==◌, ◌&&◌, ◌||◌};
 ghost use Rattle.std.specs.Int.{bit_at};
 ghost use Rattle.node_shapes.specs.Shape.{bit_number};
-ghost use Rattle.vox_read.specs.Contents.{IsModel, IsSize, StandsIn};
+ghost use Rattle.vox_read.specs.Contents.{IsModel, IsSize, StandsInside};
 ghost use Rattle.vw_cell.specs.declared.blocks.Block.{Block};
 ghost use Rattle.node_kernels.specs.Leaves.{LeafShows};
 ghost use Rattle.edit_stamp.specs.Drawings.{IsWord, Draws, AllDrawn, leaves_of, leaf_number};
@@ -57,7 +57,8 @@ impl Stencil {
         self.size
     }
 
-    /// Whether the model's places in a cube of the world are all set, or all unset. It may miss some that are.
+    /// Whether the model's places in a cube of the world are all set, or all unset. It may miss
+    /// some that are.
     pub fn is_all(&self, place: Cell, at: Cell, side: u32, set: bool) -> bool
         requires side { side ≤ 4096 }
         ensures { IsTrue result → AllDrawn self.now place at side set }
@@ -68,7 +69,8 @@ impl Stencil {
         are_all(size, &self.words, leaves, want)
     }
 
-    // The bits of a leaf, counted from 1,024 leaves before the model's least corner, where there is one.
+    // The bits of a leaf, counted from 1,024 leaves before the model's least corner, where there is
+    // one.
     fn word(&self, x: u16, y: u16, z: u16) -> u64
         ensures { IsWord self.now x y z result }
     {
@@ -88,7 +90,8 @@ impl Stencil {
     /// Which cells of the leaf's block the model sets, with its least corner at this place.
     pub fn leaf_bits(&self, place: Cell, block: Block) -> u64
         requires level { block.level ≡ 0 }
-        requires block { (block.at.x + 4 ≤ 4096) × (block.at.y + 4 ≤ 4096) × (block.at.z + 4 ≤ 4096) }
+        requires block { (block.at.x + 4 ≤ 4096) × (block.at.y + 4 ≤ 4096)
+            × (block.at.z + 4 ≤ 4096) }
         requires place { (place.x ≤ 4096) × (place.y ≤ 4096) × (place.z ≤ 4096) }
         ensures bits { LeafShows result block (is_stamped self.now place) }
         ensures bound { result < 2 ^ 64 }
@@ -127,7 +130,7 @@ fn leaf_count(size: Cell) -> usize
 // The number of the leaf that the voxel stands in.
 fn leaf_of(size: Cell, v: Voxel) -> usize
     requires size { IsSize size }
-    requires inside { StandsIn size v }
+    requires inside { StandsInside size v }
     ensures value { result ≡ leaf_number size (v.x / 4) (v.y / 4) (v.z / 4) }
     ensures bound { result < leaves_of size.z * leaves_of size.y * leaves_of size.x }
 {
@@ -138,7 +141,9 @@ fn leaf_of(size: Cell, v: Voxel) -> usize
 
 // The word with the bit of the voxel's place set.
 fn with_cell(word: u64, v: Voxel) -> u64
-    ensures { (m : ℕ) → m < 64 → (bit_at result m == 1) ≡ ((m == bit_number (v.x % 4) (v.y % 4) (v.z % 4)) || (bit_at word m == 1)) }
+    ensures { (m : ℕ) → m < 64
+        → (bit_at result m == 1) ≡
+        ((m == bit_number (v.x % 4) (v.y % 4) (v.z % 4)) || (bit_at word m == 1)) }
 {
     let bit = u32::from(v.x % 4 + 4 * (v.y % 4) + 16 * (v.z % 4));
     word | 1 << bit

@@ -10,13 +10,13 @@ use Rattle.node_words.proofs.HeldLaws.{Keeps, held_reached}
 use Rattle.cell_shapes.specs.CellShapes.{Cells, SameIn, shape_with}
 use Rattle.cell_shapes.proofs.CellShapeLaws.{shape_with-same}
 use Rattle.edit_cells.specs.Tasks.{Making}
-use Rattle.edit_blocks.specs.Blocks.{Aside, Came, Reaches, Joined}
+use Rattle.edit_blocks.specs.Blocks.{Aside, Came, ReachesAll, Joined}
 use Rattle.edit_blocks.proofs.JoinLaws.{gathers_one, gathers_none}
 use Rattle.edit_blocks.proofs.ReachLaws.{keeps_reaches, came_keeps, tree_reached}
 use Rattle.edit_walk.specs.declared.memos.Kept.{Kept}
 use Rattle.edit_walk.specs.declared.memos.Row.{Row}
 use Rattle.edit_walk.specs.declared.memos.Memo.{Memo}
-use Rattle.edit_walk.specs.Memos.{kept_in, empty_row, rows_of, row_of, IsKeptIn, IsKept, IsMade, Recalls}
+use Rattle.edit_walk.specs.Memos.{kept_in, empty_row, rows_of, row_of, IsKeptIn, IsRemembered, IsMade, Recalls}
 use Rattle.edit_walk.specs.Walks.{Walk, walk_at, Begins, Built, Partway}
 use Rattle.edit_walk.proofs.WalkLaws.{part_starts, starts_none, starts_held}
 
@@ -42,7 +42,7 @@ pub row_at : {T : Type 0} (old new : Memo T) (level at : ℕ) (kept : Kept T) �
 row_at old new level at kept same h = subst (λ (l : ℕ). (e : Kept _) → IsKeptIn (row_of new l) e → (e ≡ kept) ⊎ IsKeptIn (row_of old l) e) (sym same) h
 
 pub memo_with : (T : Type 0) (old new : Memo T) (level : ℕ) (kept : Kept T) (row : Row T) → level ≤ 10 → rows_of new ≡ set (rows_of old) level row
-    → ((e : Kept T) → IsKeptIn row e → (e ≡ kept) ⊎ IsKept old level e) → (l : ℕ) (e : Kept T) → IsKept new l e → ((l ≡ level) × (e ≡ kept)) ⊎ IsKept old l e
+    → ((e : Kept T) → IsKeptIn row e → (e ≡ kept) ⊎ IsRemembered old level e) → (l : ℕ) (e : Kept T) → IsRemembered new l e → ((l ≡ level) × (e ≡ kept)) ⊎ IsRemembered old l e
 memo_with T old new level kept row le q with_one l e h = elim (cases_eq l level) [
   | inl same ↦
       let at : slice_index_or (rows_of new) l empty_row ≡ row =
@@ -56,23 +56,23 @@ memo_with T old new level kept row le q with_one l e h = elim (cases_eq l level)
       inr (subst (λ (r : Row T). IsKeptIn r e) at h)
 ]
   where
-    from_row : l ≡ level → (e ≡ kept) ⊎ IsKept old level e → ((l ≡ level) × (e ≡ kept)) ⊎ IsKept old l e
+    from_row : l ≡ level → (e ≡ kept) ⊎ IsRemembered old level e → ((l ≡ level) × (e ≡ kept)) ⊎ IsRemembered old l e
     from_row s (inl is) = inl (s, is)
-    from_row s (inr k) = inr (subst (λ (j : ℕ). IsKept old j e) (sym s) k)
+    from_row s (inr k) = inr (subst (λ (j : ℕ). IsRemembered old j e) (sym s) k)
 
 -- the memo
 
-pub recalls_on : {T : Type 0} (makes : T → Making) (base a b : List Tree) (memo : Memo T) → Reaches a b → Recalls makes base a memo → Recalls makes base b memo
+pub recalls_on : {T : Type 0} (makes : T → Making) (base a b : List Tree) (memo : Memo T) → ReachesAll a b → Recalls makes base a memo → Recalls makes base b memo
 recalls_on makes base a b memo r h = record {
   each = λ level e k. let m = h.each level e k in record { tree = m.tree; of = tree_reached a b level m.tree e.name r m.of; cells = m.cells; made = m.made; shape = m.shape };
 }
 
-pub recalls_nothing : {T : Type 0} (makes : T → Making) (base held : List Tree) (memo : Memo T) → ((level : ℕ) (e : Kept T) → IsKept memo level e → ⊥) → Recalls makes base held memo
+pub recalls_nothing : {T : Type 0} (makes : T → Making) (base held : List Tree) (memo : Memo T) → ((level : ℕ) (e : Kept T) → IsRemembered memo level e → ⊥) → Recalls makes base held memo
 recalls_nothing makes base held memo none = record { each = λ level e k. absurd (none level e k) }
 
 -- a block that came is kept
 pub recalls_came : (T : Type 0) (makes : T → Making) (base rest : List Tree) (level : ℕ) (task : T) (cells : Cells) (kept name : Option Name) (seen : Seen) (full : Option Name) (old new : Memo T)
-    → ((l : ℕ) (e : Kept T) → IsKept new l e → ((l ≡ level) × (e ≡ record { task = task; name = kept })) ⊎ IsKept old l e) → kept ≡ name
+    → ((l : ℕ) (e : Kept T) → IsRemembered new l e → ((l ≡ level) × (e ≡ record { task = task; name = kept })) ⊎ IsRemembered old l e) → kept ≡ name
     → makes task base level cells → Built makes base rest level (shape_with level cells) name (walk_at seen full old) → Built makes base rest level (shape_with level cells) name (walk_at seen full new)
 recalls_came T makes base rest level task cells kept name seen full old new keeps same m b = record { came = b.came; recalls = record { each = λ l e k. cases l e (keeps l e k) } }
   where
@@ -88,7 +88,7 @@ recalls_came T makes base rest level task cells kept name seen full old new keep
       shape = b.came.comes.shape;
     }
 
-    cases : (l : ℕ) (e : Kept T) → ((l ≡ level) × (e ≡ record { task = task; name = kept })) ⊎ IsKept old l e → IsMade makes base b.came.now l e
+    cases : (l : ℕ) (e : Kept T) → ((l ≡ level) × (e ≡ record { task = task; name = kept })) ⊎ IsRemembered old l e → IsMade makes base b.came.now l e
     cases l e (inl (p, q)) = subst (λ (j : ℕ). IsMade makes base b.came.now j e) (sym p) (subst (λ (k : Kept T). IsMade makes base b.came.now level k) (sym q) itself)
     cases l e (inr k) = b.recalls.each l e k
 
@@ -127,7 +127,7 @@ partway_one makes base rest level task cells cs ds k name old new lt e p b d = r
 }
 
 -- the first block of a walk
-pub begins_none : {T : Type 0} (makes : T → Making) (base : List Tree) (seen : Seen) (level : ℕ) (task : T) (cells : Cells) (memo : Memo T) → Keeps base seen.held → ((l : ℕ) (e : Kept T) → IsKept memo l e → ⊥) → makes task base level cells → Begins makes base seen.held level task cells (walk_at seen None memo)
+pub begins_none : {T : Type 0} (makes : T → Making) (base : List Tree) (seen : Seen) (level : ℕ) (task : T) (cells : Cells) (memo : Memo T) → Keeps base seen.held → ((l : ℕ) (e : Kept T) → IsRemembered memo l e → ⊥) → makes task base level cells → Begins makes base seen.held level task cells (walk_at seen None memo)
 begins_none makes base seen level task cells memo k none m = record { starts = starts_none base seen k; made = m; recalls = recalls_nothing makes base seen.held memo none }
 
 -- an octant, after those before it

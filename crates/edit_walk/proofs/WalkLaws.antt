@@ -3,13 +3,13 @@ use Rattle.std.proofs.Common.{◌≡◌, ℕ, suc, ◌+◌, ◌-◌, ◌^◌, �
 use Rattle.node_shapes.specs.declared.names.Name.{Name}
 use Rattle.node_shapes.specs.Shape.{Shape, Leaf, octant_shape, has}
 use Rattle.node_shapes.specs.Tree.{Tree}
-use Rattle.node_shapes.specs.Weights.{number_of}
+use Rattle.node_shapes.specs.Weights.{number_of_trees}
 use Rattle.node_shapes.proofs.WeightLaws.{weight_below-part, weight_below-one}
 use Rattle.node_words.specs.Held.{Seen, OnlyHeldChanges}
 use Rattle.node_words.specs.Gathering.{Comes, Loses, MayHold, Grows, Fails}
 use Rattle.node_words.proofs.HeldLaws.{Keeps, keeps_on}
 use Rattle.cell_shapes.specs.CellShapes.{Cells, SameIn, octant_cells, leaf_shape, shape_with}
-use Rattle.edit_blocks.specs.Blocks.{Aside, Came, Gathers, Refuses}
+use Rattle.edit_blocks.specs.Blocks.{Aside, Came, Gathers, RefusesBlock}
 use Rattle.edit_walk.specs.Walks.{Starts}
 use Rattle.cell_shapes.proofs.CellShapeLaws.{shape_with-leaf, shape_with-octant, shape_with-same}
 use Rattle.edit_blocks.proofs.AsideLaws.{aside_keeps, none_aside, aside_numbers}
@@ -50,8 +50,8 @@ target_came rest held full name level s t e c = subst (λ u. Came rest level u n
 pub target_grows : (s t : Shape) (x a b : Seen) → s ≡ t → a ≡ x → Grows s a b → Grows t x b
 target_grows s t x a b e q g = subst (λ (v : Seen). Grows t v b) q (subst (λ u. Grows u a b) e g)
 
-pub target_refuses : (s t : Shape) (level bucket : ℕ) (x a b : Seen) → s ≡ t → a ≡ x → Refuses s level bucket a b → Refuses t level bucket x b
-target_refuses s t level bucket x a b e q r = subst (λ (v : Seen). Refuses t level bucket v b) q (subst (λ u. Refuses u level bucket a b) e r)
+pub target_refuses : (s t : Shape) (level bucket : ℕ) (x a b : Seen) → s ≡ t → a ≡ x → RefusesBlock s level bucket a b → RefusesBlock t level bucket x b
+target_refuses s t level bucket x a b e q r = subst (λ (v : Seen). RefusesBlock t level bucket v b) q (subst (λ u. RefusesBlock u level bucket a b) e r)
 
 -- nothing is aside yet
 pub starts_none : (base : List Tree) (seen : Seen) → Keeps base seen.held → Starts base seen.held seen None
@@ -64,11 +64,11 @@ aside_may held rest full a = record { weighs = λ f. omega (arith, a.weighs f) }
 pub rebuilt_comes : (old held new : List Tree) (full name : Option Name) (level : ℕ) (target : Shape) → (c : Came old level target name held full) → Loses held c.aside.tree new → Comes old level target name new
 rebuilt_comes old held new full name level target c l = record { tree = c.comes.tree; root = c.comes.root; levels = c.comes.levels; shape = c.comes.shape; weighs = λ f. omega (arith, c.comes.weighs f, c.aside.weighs f, l.weighs f) }
 
-pub rebuilt_fails : (target : Shape) (level bucket : ℕ) (old mid new : Seen) (full : Option Name) → Refuses target level bucket old mid → OnlyHeldChanges mid new → (a : Aside mid.held full old.held) → Loses mid.held a.tree new.held → Fails target level bucket old new
+pub rebuilt_fails : (target : Shape) (level bucket : ℕ) (old mid new : Seen) (full : Option Name) → RefusesBlock target level bucket old mid → OnlyHeldChanges mid new → (a : Aside mid.held full old.held) → Loses mid.held a.tree new.held → Fails target level bucket old new
 rebuilt_fails target level bucket old mid new full r o a l =
     let q = refuses_held target level bucket old mid new r o in
     record { plan = q.plan; made = q.made; wanted = q.wanted; is_part = q.is_part; sought = q.sought; met = q.met; held = λ f. omega (arith, a.weighs f, l.weighs f) }
 
-pub came_number : (rest held : List Tree) (level : ℕ) (target : Shape) (name full : Option Name) → Came rest level target name held full → number_of held ≤ number_of rest + 2
+pub came_number : (rest held : List Tree) (level : ℕ) (target : Shape) (name full : Option Name) → Came rest level target name held full → number_of_trees held ≤ number_of_trees rest + 2
 came_number rest held level target name full c =
     omega (arith, (aside_numbers held c.now full c.aside).most, c.comes.weighs (λ _. 1), weight_below-one (λ _. c.comes.tree) 1)

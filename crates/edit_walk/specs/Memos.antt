@@ -1,4 +1,5 @@
--- The blocks that a walk remembers: the latest eight of each level, each with the task that made it.
+-- The blocks that a walk remembers: the latest eight of each level, each with the task that made
+-- it.
 use Rattle.std.specs.Prelude.{◌≡◌, ℕ, Option, Some, None, List, [], ◌∷◌, slice_index_or}
 use Rattle.node_shapes.specs.Tree.{Tree, shape_of}
 use Rattle.node_words.specs.Gathering.{IsTreeOf}
@@ -25,15 +26,16 @@ row_of m level = slice_index_or (rows_of m) level empty_row
 abbrev pub IsKeptIn : {T : Type 0} → Row T → Kept T → Type 0
 IsKeptIn row e = (k : ℕ) × (slice_index_or (kept_in row) k None ≡ Some e)
 
-abbrev pub IsKept : {T : Type 0} → Memo T → ℕ → Kept T → Type 0
-IsKept memo level e = IsKeptIn (row_of memo level) e
+abbrev pub IsRemembered : {T : Type 0} → Memo T → ℕ → Kept T → Type 0
+IsRemembered memo level e = IsKeptIn (row_of memo level) e
 
 -- it was made by a task that makes the same cells
 abbrev pub IsLike : {T : Type 0} → (T → Making) → T → Kept T → Type 0
 IsLike makes task e = MakeAlike (makes task) (makes e.task)
 
 -- its name is that of the block that its task makes
-pub record IsMade {T : Type 0} (makes : T → Making) (base held : List Tree) (level : ℕ) (e : Kept T) : Type 0 where
+pub record IsMade {T : Type 0} (makes : T → Making) (base held : List Tree) (level : ℕ)
+    (e : Kept T) : Type 0 where
   pub tree : Tree
   pub of : IsTreeOf held level tree e.name
   pub cells : Cells
@@ -41,5 +43,6 @@ pub record IsMade {T : Type 0} (makes : T → Making) (base held : List Tree) (l
   pub shape : shape_of tree ≡ shape_with level cells
 
 -- all that the memo keeps was made so, and is reached from what is held
-pub record Recalls {T : Type 0} (makes : T → Making) (base held : List Tree) (memo : Memo T) : Type 0 where
-  pub each : (level : ℕ) (e : Kept T) → IsKept memo level e → IsMade makes base held level e
+pub record Recalls {T : Type 0} (makes : T → Making) (base held : List Tree)
+    (memo : Memo T) : Type 0 where
+  pub each : (level : ℕ) (e : Kept T) → IsRemembered memo level e → IsMade makes base held level e

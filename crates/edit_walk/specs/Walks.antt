@@ -11,7 +11,7 @@ use Rattle.cell_shapes.specs.CellShapes.{Cells, shape_with}
 use Rattle.edit_cells.specs.declared.tasks.Whole.{Whole}
 use Rattle.edit_cells.specs.Tasks.{Making, IsWhole}
 use Rattle.edit_cells.specs.Worlds.{world_cells}
-use Rattle.edit_blocks.specs.Blocks.{Aside, Came, Gathers, Refuses}
+use Rattle.edit_blocks.specs.Blocks.{Aside, Came, Gathers, RefusesBlock}
 use Rattle.edit_walk.specs.declared.memos.Memo.{Memo}
 use Rattle.edit_walk.specs.Memos.{Recalls}
 
@@ -29,53 +29,66 @@ pub record Starts (base rest : List Tree) (seen : Seen) (full : Option Name) : T
   pub keeps : Keeps base rest
   pub aside : Aside seen.held full rest
 
--- what a walk starts from: a task that makes these cells, and a memo of what is reached from the rest
-pub record Begins {T : Type 0} (makes : T → Making) (base rest : List Tree) (level : ℕ) (task : T) (cells : Cells) (walk : Walk T) : Type 0 where
+-- what a walk starts from: a task that makes these cells, and a memo of what is reached from the
+-- rest
+pub record Begins {T : Type 0} (makes : T → Making) (base rest : List Tree) (level : ℕ) (task : T)
+    (cells : Cells) (walk : Walk T) : Type 0 where
   pub starts : Starts base rest walk.seen walk.full
   pub made : makes task base level cells
   pub recalls : Recalls makes base rest walk.memo
 
 -- besides the rest a share came, and the memo tells of what is reached now
-pub record Built {T : Type 0} (makes : T → Making) (base rest : List Tree) (level : ℕ) (target : Shape) (name : Option Name) (walk : Walk T) : Type 0 where
+pub record Built {T : Type 0} (makes : T → Making) (base rest : List Tree) (level : ℕ)
+    (target : Shape) (name : Option Name) (walk : Walk T) : Type 0 where
   pub came : Came rest level target name walk.seen.held walk.full
   pub recalls : Recalls makes base came.now walk.memo
 
 -- shares came for the first n octants of the block that the task makes
-pub record Partway {T : Type 0} (makes : T → Making) (base rest : List Tree) (level : ℕ) (task : T) (cells : Cells) (children : List (Option Name)) (n : ℕ) (walk : Walk T) : Type 0 where
+pub record Partway {T : Type 0} (makes : T → Making) (base rest : List Tree) (level : ℕ) (task : T)
+    (cells : Cells) (children : List (Option Name)) (n : ℕ) (walk : Walk T) : Type 0 where
   pub keeps : Keeps base rest
   pub made : makes task base level cells
-  pub gathers : Gathers rest (level - 1) (shape_with level cells) children n walk.seen.held walk.full
+  pub gathers : Gathers rest (level - 1)
+      (shape_with level cells) children n walk.seen.held walk.full
   pub recalls : Recalls makes base gathers.now walk.memo
 
 -- a walk of the task's block can begin
 abbrev pub CanBuild : {T : Type 0} → (T → Making) → ℕ → T → Walk T → Type 0
 CanBuild makes level task walk =
-    (base : List Tree) × (rest : List Tree) × (cells : Cells) × Begins makes base rest level task cells walk
+    (base : List Tree) × (rest : List Tree) × (cells : Cells)
+    × Begins makes base rest level task cells walk
 
 -- P of all that it can begin with: the trees that stay held, the rest, and the cells
-abbrev pub ForBuilding : {T : Type 0} → (T → Making) → ℕ → T → Walk T → (List Tree → List Tree → Cells → Type 0) → Type 0
+abbrev pub ForBuilding : {T : Type 0} → (T → Making) → ℕ → T → Walk T
+    → (List Tree → List Tree → Cells → Type 0) → Type 0
 ForBuilding makes level task walk P =
-    (base rest : List Tree) (cells : Cells) → Begins makes base rest level task cells walk → P base rest cells
+    (base rest : List Tree) (cells : Cells) → Begins makes base rest level task cells walk
+    → P base rest cells
 
 -- a share came of the block with the task's cells
 abbrev pub Builds : {T : Type 0} → (T → Making) → ℕ → T → Walk T → Option Name → Walk T → Type 0
 Builds makes level task old name new =
-    ForBuilding makes level task old (λ base rest cells. Built makes base rest level (shape_with level cells) name new)
+    ForBuilding makes level task old
+    (λ base rest cells. Built makes base rest level (shape_with level cells) name new)
 
 -- shares came of its octants
-abbrev pub GathersAll : {T : Type 0} → (T → Making) → ℕ → T → Walk T → List (Option Name) → Walk T → Type 0
+abbrev pub GathersAll : {T : Type 0} → (T → Making) → ℕ → T → Walk T → List (Option Name) → Walk T
+    → Type 0
 GathersAll makes level task old children new =
-    ForBuilding makes level task old (λ base rest cells. Partway makes base rest level task cells children 8 new)
+    ForBuilding makes level task old
+    (λ base rest cells. Partway makes base rest level task cells children 8 new)
 
 -- parts of it may have been made, and nothing met a full bucket
 abbrev pub BuildsParts : {T : Type 0} → (T → Making) → ℕ → T → Walk T → Seen → Type 0
 BuildsParts makes level task old new =
-    ForBuilding makes level task old (λ base rest cells. Grows (shape_with level cells) old.seen new)
+    ForBuilding makes level task old
+    (λ base rest cells. Grows (shape_with level cells) old.seen new)
 
 -- a part of it met this full bucket
-abbrev pub StopsAt : {T : Type 0} → (T → Making) → ℕ → T → Walk T → ℕ → ℕ → Seen → Type 0
-StopsAt makes level task old at bucket new =
-    ForBuilding makes level task old (λ base rest cells. Refuses (shape_with level cells) at bucket old.seen new)
+abbrev pub StopsWalk : {T : Type 0} → (T → Making) → ℕ → T → Walk T → ℕ → ℕ → Seen → Type 0
+StopsWalk makes level task old at bucket new =
+    ForBuilding makes level task old
+    (λ base rest cells. RefusesBlock (shape_with level cells) at bucket old.seen new)
 
 -- the rest is held as it was, and a full block may be aside
 abbrev pub LeavesRest : {T : Type 0} → (T → Making) → ℕ → T → Walk T → Seen → Option Name → Type 0
@@ -85,24 +98,29 @@ LeavesRest makes level task old new full =
 -- shares of the octants before octant k are in hand
 abbrev pub CanGoOn : {T : Type 0} → (T → Making) → ℕ → T → List (Option Name) → ℕ → Walk T → Type 0
 CanGoOn makes level task children k walk =
-    (base : List Tree) × (rest : List Tree) × (cells : Cells) × Partway makes base rest level task cells children k walk
+    (base : List Tree) × (rest : List Tree) × (cells : Cells)
+    × Partway makes base rest level task cells children k walk
 
--- P of all that the octant can begin with: the trees that stay held, what is held besides the full block, and the
--- octant's shape
-abbrev pub ForOctant : {T : Type 0} → (T → Making) → ℕ → T → List (Option Name) → ℕ → Walk T → (List Tree → List Tree → Shape → Type 0) → Type 0
+-- P of all that the octant can begin with: the trees that stay held, what is held besides the full
+-- block, and the octant's shape
+abbrev pub ForOctant : {T : Type 0} → (T → Making) → ℕ → T → List (Option Name) → ℕ → Walk T
+    → (List Tree → List Tree → Shape → Type 0) → Type 0
 ForOctant makes level task children k walk P =
-    (base rest : List Tree) (cells : Cells) → (p : Partway makes base rest level task cells children k walk)
+    (base rest : List Tree) (cells : Cells)
+    → (p : Partway makes base rest level task cells children k walk)
     → P base p.gathers.now (octant_shape (shape_with level cells) k)
 
 -- the block is known as a whole
 abbrev pub CanBeWhole : ℕ → Whole → Seen → Option Name → Type 0
 CanBeWhole level whole seen full =
-    (base : List Tree) × (rest : List Tree) × (cells : Cells) × Starts base rest seen full × IsWhole base level cells whole
+    (base : List Tree) × (rest : List Tree) × (cells : Cells) × Starts base rest seen full
+    × IsWhole base level cells whole
 
 -- P of each such block: of the rest, and of the block's shape
 abbrev pub ForWhole : ℕ → Whole → Seen → Option Name → (List Tree → Shape → Type 0) → Type 0
 ForWhole level whole seen full P =
-    (base rest : List Tree) (cells : Cells) → Starts base rest seen full → IsWhole base level cells whole
+    (base rest : List Tree) (cells : Cells) → Starts base rest seen full
+    → IsWhole base level cells whole
     → P rest (shape_with level cells)
 
 -- the task makes some world of this side, a power of two, and P of each that it makes
@@ -110,4 +128,5 @@ abbrev pub MakesWorld : Making → List Tree → ℕ → Type 0
 MakesWorld makes held side = (world : Cell → Bool) × makes held (side - 2) (world_cells world)
 
 abbrev pub ForWorlds : Making → List Tree → ℕ → ((Cell → Bool) → Type 0) → Type 0
-ForWorlds makes held side P = (world : Cell → Bool) → makes held (side - 2) (world_cells world) → P world
+ForWorlds makes held side P =
+    (world : Cell → Bool) → makes held (side - 2) (world_cells world) → P world

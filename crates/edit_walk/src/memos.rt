@@ -1,6 +1,6 @@
 ghost use Rattle.std.specs.Prelude.{◌≡◌, ◌<◌, ◌≤◌, ◌⊎◌, ℕ, List, Option, Some, None, IsSome, IfSome, IsTrue, slice_index_or, slice_set};
 ghost use Rattle.edit_walk.specs.declared.memos.Kept.{Kept};
-ghost use Rattle.edit_walk.specs.Memos.{kept_in, empty_row, rows_of, row_of, IsKeptIn, IsKept, IsLike};
+ghost use Rattle.edit_walk.specs.Memos.{kept_in, empty_row, rows_of, row_of, IsKeptIn, IsRemembered, IsLike};
 
 use edit_cells::Task;
 use node_shapes::Name;
@@ -109,7 +109,8 @@ fn is_like<T: Task>(kept: &Option<Kept<T>>, task: &T) -> bool
     }
 }
 
-/// The latest blocks of each level that a walk made, for blocks further on that have the same cells.
+/// The latest blocks of each level that a walk made, for blocks further on that have the same
+/// cells.
 ///
 /// A row of named places: an array of a type parameter has no proof that its size is small.
 #[derive(Clone, Copy)]
@@ -129,7 +130,7 @@ pub struct Memo<T> {
 
 impl<T: Task> Memo<T> {
     pub(crate) fn empty() -> Memo<T>
-        ensures { (level : ℕ) (e : Kept T) → ¬ IsKept result level e }
+        ensures { (level : ℕ) (e : Kept T) → ¬ IsRemembered result level e }
     {
         let row = Row::empty();
         Memo {
@@ -169,7 +170,8 @@ impl<T: Task> Memo<T> {
     // One more goes into the row of this level, and the other rows stay.
     fn push_at(&mut self, level: u8, kept: Kept<T>)
         requires { level ≤ 10 }
-        ensures rows { rows_of self.new ≡ slice_set (rows_of self.old) level (row_of self.new level) }
+        ensures rows { rows_of self.new ≡ slice_set (rows_of self.old) level
+            (row_of self.new level) }
         ensures row { (e : Kept T) → IsKeptIn (row_of self.new level) e
             → (e ≡ kept) ⊎ IsKeptIn (row_of self.old level) e }
     {
@@ -191,7 +193,7 @@ impl<T: Task> Memo<T> {
     // The block of this level that a task of the same cells made.
     pub(crate) fn find(&self, level: u8, task: &T) -> Option<Kept<T>>
         requires { level ≤ 10 }
-        ensures kept { IfSome result (λ e. IsKept self.now level e) }
+        ensures kept { IfSome result (λ e. IsRemembered self.now level e) }
         ensures same { IfSome result (λ e. IsLike T.makes task.now e) }
     {
         let row = self.row(level);
@@ -201,8 +203,8 @@ impl<T: Task> Memo<T> {
     // Keeps one more block of this level.
     pub(crate) fn keep(&mut self, level: u8, kept: Kept<T>)
         requires { level ≤ 10 }
-        ensures { (l : ℕ) (e : Kept T) → IsKept self.new l e
-            → ((l ≡ level) × (e ≡ kept)) ⊎ IsKept self.old l e }
+        ensures { (l : ℕ) (e : Kept T) → IsRemembered self.new l e
+            → ((l ≡ level) × (e ≡ kept)) ⊎ IsRemembered self.old l e }
     {
         self.push_at(level, kept);
     }

@@ -1,11 +1,11 @@
 ghost use Rattle.std.specs.Prelude.{◌≡◌, ◌≢◌, ◌+◌, ◌*◌, ◌-◌, ◌^◌, ◌<◌, ◌≤◌, ℕ, IfOk, OnOk, IfErr, OnErr, max};
 ghost use Rattle.sums.specs.Sums.{sum_below};
-ghost use Rattle.node_shapes.specs.Weights.{number_of};
+ghost use Rattle.node_shapes.specs.Weights.{number_of_trees};
 ghost use Rattle.node_words.specs.Gathering.{Comes, Grows, Fails};
 ghost use Rattle.cell_shapes.specs.CellShapes.{shape_with};
 ghost use Rattle.edit_cells.specs.Tasks.{MakesCells, ForCells};
-ghost use Rattle.edit_blocks.specs.Blocks.{height, Aside, Came, Refuses};
-ghost use Rattle.edit_walk.specs.Walks.{walk_at, Built, CanBuild, Builds, BuildsParts, StopsAt, LeavesRest, GathersAll, CanGoOn, ForOctant, CanBeWhole, ForWhole};
+ghost use Rattle.edit_blocks.specs.Blocks.{height, Aside, Came, RefusesBlock};
+ghost use Rattle.edit_walk.specs.Walks.{walk_at, Built, CanBuild, Builds, BuildsParts, StopsWalk, LeavesRest, GathersAll, CanGoOn, ForOctant, CanBeWhole, ForWhole};
 
 use crate::memos::{Kept, Memo};
 use edit_blocks::{again, back_all, back_if, full_block, join, leaf, named, put};
@@ -13,7 +13,8 @@ use edit_cells::{Task, Whole};
 use node_words::{Full, NodeStore, Share, Steps};
 use std::sync::ledger::Ledger;
 
-// A share of the block that the task makes, where a cell of it is set, or the full bucket that was met.
+// A share of the block that the task makes, where a cell of it is set, or the full bucket that was
+// met.
 #[cycle(walk)]
 fn build<T: Task, N: NodeStore, L: Ledger>(
     store: &mut N,
@@ -25,12 +26,13 @@ fn build<T: Task, N: NodeStore, L: Ledger>(
 ) -> Result<Option<Share>, Full>
     requires level { (level ≤ 10) × (level + 2 ≤ (N.seen store.old).plan.side) }
     requires task { CanBuild T.makes level task.now (walk_at (N.seen store.old) full.old memo.old) }
-    requires room { number_of (N.seen store.old).held + 9 * level ≤ 4000 }
+    requires room { number_of_trees (N.seen store.old).held + 9 * level ≤ 4000 }
     ensures ok { IfOk result (λ r. Builds T.makes level task.now
-        (walk_at (N.seen store.old) full.old memo.old) r (walk_at (N.seen store.new) full.new memo.new)) }
+        (walk_at (N.seen store.old) full.old memo.old) r
+        (walk_at (N.seen store.new) full.new memo.new)) }
     ensures grows { OnOk result (BuildsParts T.makes level task.now
         (walk_at (N.seen store.old) full.old memo.old) (N.seen store.new)) }
-    ensures full { IfErr result (λ e. StopsAt T.makes level task.now
+    ensures full { IfErr result (λ e. StopsWalk T.makes level task.now
         (walk_at (N.seen store.old) full.old memo.old) e.level e.bucket (N.seen store.new)) }
     ensures rest { OnErr result (LeavesRest T.makes level task.now
         (walk_at (N.seen store.old) full.old memo.old) (N.seen store.new) full.new) }
@@ -67,13 +69,15 @@ fn fresh<T: Task, N: NodeStore, L: Ledger>(
 ) -> Result<Option<Share>, Full>
     requires level { (level ≤ 10) × (level + 2 ≤ (N.seen store.old).plan.side) }
     requires task { CanBuild T.makes level task.now (walk_at (N.seen store.old) full.old memo.old) }
-    requires room { number_of (N.seen store.old).held + 9 * level ≤ 4000 }
-    requires mixed { 1 ≤ level → 1 + sum_below 8 (T.mixed_in level task.now) ≤ T.mixed level task.now }
+    requires room { number_of_trees (N.seen store.old).held + 9 * level ≤ 4000 }
+    requires mixed { 1 ≤ level
+        → 1 + sum_below 8 (T.mixed_in level task.now) ≤ T.mixed level task.now }
     ensures ok { IfOk result (λ r. Builds T.makes level task.now
-        (walk_at (N.seen store.old) full.old memo.old) r (walk_at (N.seen store.new) full.new memo.new)) }
+        (walk_at (N.seen store.old) full.old memo.old) r
+        (walk_at (N.seen store.new) full.new memo.new)) }
     ensures grows { OnOk result (BuildsParts T.makes level task.now
         (walk_at (N.seen store.old) full.old memo.old) (N.seen store.new)) }
-    ensures full { IfErr result (λ e. StopsAt T.makes level task.now
+    ensures full { IfErr result (λ e. StopsWalk T.makes level task.now
         (walk_at (N.seen store.old) full.old memo.old) e.level e.bucket (N.seen store.new)) }
     ensures rest { OnErr result (LeavesRest T.makes level task.now
         (walk_at (N.seen store.old) full.old memo.old) (N.seen store.new) full.new) }
@@ -104,13 +108,15 @@ fn made<T: Task, N: NodeStore, L: Ledger>(
 ) -> Result<Option<Share>, Full>
     requires level { (level ≤ 10) × (level + 2 ≤ (N.seen store.old).plan.side) }
     requires task { CanBuild T.makes level task.now (walk_at (N.seen store.old) full.old memo.old) }
-    requires room { number_of (N.seen store.old).held + 9 * level ≤ 4000 }
-    requires mixed { 1 ≤ level → 1 + sum_below 8 (T.mixed_in level task.now) ≤ T.mixed level task.now }
+    requires room { number_of_trees (N.seen store.old).held + 9 * level ≤ 4000 }
+    requires mixed { 1 ≤ level
+        → 1 + sum_below 8 (T.mixed_in level task.now) ≤ T.mixed level task.now }
     ensures ok { IfOk result (λ r. Builds T.makes level task.now
-        (walk_at (N.seen store.old) full.old memo.old) r (walk_at (N.seen store.new) full.new memo.new)) }
+        (walk_at (N.seen store.old) full.old memo.old) r
+        (walk_at (N.seen store.new) full.new memo.new)) }
     ensures grows { OnOk result (BuildsParts T.makes level task.now
         (walk_at (N.seen store.old) full.old memo.old) (N.seen store.new)) }
-    ensures full { IfErr result (λ e. StopsAt T.makes level task.now
+    ensures full { IfErr result (λ e. StopsWalk T.makes level task.now
         (walk_at (N.seen store.old) full.old memo.old) e.level e.bucket (N.seen store.new)) }
     ensures rest { OnErr result (LeavesRest T.makes level task.now
         (walk_at (N.seen store.old) full.old memo.old) (N.seen store.new) full.new) }
@@ -144,13 +150,14 @@ fn known<N: NodeStore, L: Ledger>(
     requires level { level + 2 ≤ (N.seen store.old).plan.side }
     requires known { CanBeWhole level whole (N.seen store.old) full.old }
     requires whole { whole ≢ Whole.Mixed }
-    requires room { number_of (N.seen store.old).held ≤ 4000 }
+    requires room { number_of_trees (N.seen store.old).held ≤ 4000 }
     ensures ok { IfOk result (λ r. ForWhole level whole (N.seen store.old) full.old
         (λ rest target. Came rest level target r (N.seen store.new).held full.new)) }
     ensures grows { OnOk result (ForWhole level whole (N.seen store.old) full.old
         (λ rest target. Grows target (N.seen store.old) (N.seen store.new))) }
     ensures full { IfErr result (λ e. ForWhole level whole (N.seen store.old) full.old
-        (λ rest target. Refuses target e.level e.bucket (N.seen store.old) (N.seen store.new))) }
+        (λ rest target. RefusesBlock target e.level e.bucket (N.seen store.old)
+        (N.seen store.new))) }
     ensures rest { OnErr result (ForWhole level whole (N.seen store.old) full.old
         (λ rest target. Aside (N.seen store.new).held full.new rest)) }
     ensures rests { N.rests store.old store.new }
@@ -181,12 +188,13 @@ fn gather<T: Task, N: NodeStore, L: Ledger>(
     requires above { 1 ≤ level }
     requires level { (level ≤ 10) × (level + 2 ≤ (N.seen store.old).plan.side) }
     requires task { CanBuild T.makes level task.now (walk_at (N.seen store.old) full.old memo.old) }
-    requires room { number_of (N.seen store.old).held + 9 * level ≤ 4000 }
+    requires room { number_of_trees (N.seen store.old).held + 9 * level ≤ 4000 }
     ensures ok { IfOk result (λ r. GathersAll T.makes level task.now
-        (walk_at (N.seen store.old) full.old memo.old) r (walk_at (N.seen store.new) full.new memo.new)) }
+        (walk_at (N.seen store.old) full.old memo.old) r
+        (walk_at (N.seen store.new) full.new memo.new)) }
     ensures grows { OnOk result (BuildsParts T.makes level task.now
         (walk_at (N.seen store.old) full.old memo.old) (N.seen store.new)) }
-    ensures full { IfErr result (λ e. StopsAt T.makes level task.now
+    ensures full { IfErr result (λ e. StopsWalk T.makes level task.now
         (walk_at (N.seen store.old) full.old memo.old) e.level e.bucket (N.seen store.new)) }
     ensures rest { OnErr result (LeavesRest T.makes level task.now
         (walk_at (N.seen store.old) full.old memo.old) (N.seen store.new) full.new) }
@@ -223,8 +231,9 @@ fn octant<T: Task, N: NodeStore, L: Ledger>(
     requires above { 1 ≤ level }
     requires level { (level ≤ 10) × (level + 2 ≤ (N.seen store.old).plan.side) }
     requires octant { k < 8 }
-    requires task { CanGoOn T.makes level task.now children.now k (walk_at (N.seen store.old) full.old memo.old) }
-    requires room { number_of (N.seen store.old).held + 9 * (level - 1) ≤ 4000 }
+    requires task { CanGoOn T.makes level task.now children.now k
+        (walk_at (N.seen store.old) full.old memo.old) }
+    requires room { number_of_trees (N.seen store.old).held + 9 * (level - 1) ≤ 4000 }
     ensures ok { IfOk result (λ r. ForOctant T.makes level task.now children.now k
         (walk_at (N.seen store.old) full.old memo.old)
         (λ base rest target. Built T.makes base rest (level - 1) target r
@@ -234,7 +243,8 @@ fn octant<T: Task, N: NodeStore, L: Ledger>(
         (λ base rest target. Grows target (N.seen store.old) (N.seen store.new))) }
     ensures full { IfErr result (λ e. ForOctant T.makes level task.now children.now k
         (walk_at (N.seen store.old) full.old memo.old)
-        (λ base rest target. Refuses target e.level e.bucket (N.seen store.old) (N.seen store.new))) }
+        (λ base rest target. RefusesBlock target e.level e.bucket (N.seen store.old)
+        (N.seen store.new))) }
     ensures rest { OnErr result (ForOctant T.makes level task.now children.now k
         (walk_at (N.seen store.old) full.old memo.old)
         (λ base rest target. Aside (N.seen store.new).held full.new rest)) }
@@ -250,8 +260,8 @@ fn octant<T: Task, N: NodeStore, L: Ledger>(
     }
 }
 
-/// A share of the block that the task makes, where a cell of it is set. A store that met a full bucket holds
-/// what it held.
+/// A share of the block that the task makes, where a cell of it is set. A store that met a full
+/// bucket holds what it held.
 pub fn rebuild<T: Task, N: NodeStore, L: Ledger>(
     store: &mut N,
     level: u8,
@@ -260,15 +270,18 @@ pub fn rebuild<T: Task, N: NodeStore, L: Ledger>(
 ) -> Result<Option<Share>, Full>
     requires level { (level ≤ 10) × (level + 2 ≤ (N.seen store.old).plan.side) }
     requires task { MakesCells (T.makes task.now) (N.seen store.old).held level }
-    requires room { number_of (N.seen store.old).held ≤ 3910 }
+    requires room { number_of_trees (N.seen store.old).held ≤ 3910 }
     ensures ok { IfOk result (λ r. ForCells (T.makes task.now) (N.seen store.old).held level
-        (λ base cells. Comes (N.seen store.old).held level (shape_with level cells) r (N.seen store.new).held)) }
+        (λ base cells. Comes (N.seen store.old).held level (shape_with level cells) r
+        (N.seen store.new).held)) }
     ensures grows { OnOk result (ForCells (T.makes task.now) (N.seen store.old).held level
         (λ base cells. Grows (shape_with level cells) (N.seen store.old) (N.seen store.new))) }
     ensures full { IfErr result (λ e. ForCells (T.makes task.now) (N.seen store.old).held level
-        (λ base cells. Fails (shape_with level cells) e.level e.bucket (N.seen store.old) (N.seen store.new))) }
+        (λ base cells. Fails (shape_with level cells) e.level e.bucket (N.seen store.old)
+        (N.seen store.new))) }
     ensures rests { N.rests store.old store.new }
-    ensures turns { OnOk result (steps.new ≤ steps.old + 25 * T.mixed level task.now + 25 * (level + 1)) }
+    ensures turns { OnOk result
+        (steps.new ≤ steps.old + 25 * T.mixed level task.now + 25 * (level + 1)) }
 {
     let mut full: Option<Share> = None;
     let mut memo = Memo::empty();

@@ -1,5 +1,5 @@
 ghost use Rattle.std.specs.Prelude.{◌≡◌, ◌+◌, ◌-◌, ◌*◌, ◌≤◌, IfOk, IfErr, OnOk};
-ghost use Rattle.node_shapes.specs.Weights.{number_of};
+ghost use Rattle.node_shapes.specs.Weights.{number_of_trees};
 ghost use Rattle.node_words.specs.Gathering.{Grows, Fails};
 ghost use Rattle.edit_cells.specs.Worlds.{world_shape, Rebuilt};
 ghost use Rattle.edit_walk.specs.Walks.{MakesWorld, ForWorlds};
@@ -10,8 +10,8 @@ use node_words::{Full, NodeStore, Share, Steps};
 use std::sync::ledger::Ledger;
 use vw_cell::Side;
 
-/// A share of the root of the world that the task makes, where a cell of it is set. A store that met a full bucket
-/// holds what it held.
+/// A share of the root of the world that the task makes, where a cell of it is set. A store that
+/// met a full bucket holds what it held.
 pub fn rebuild_world<T: Task, N: NodeStore, L: Ledger>(
     store: &mut N,
     side: Side,
@@ -20,13 +20,14 @@ pub fn rebuild_world<T: Task, N: NodeStore, L: Ledger>(
 ) -> Result<Option<Share>, Full>
     requires side { side ≡ (N.seen store.old).plan.side }
     requires task { MakesWorld (T.makes task.now) (N.seen store.old).held side }
-    requires room { number_of (N.seen store.old).held ≤ 3910 }
+    requires room { number_of_trees (N.seen store.old).held ≤ 3910 }
     ensures ok { IfOk result (λ r. ForWorlds (T.makes task.now) (N.seen store.old).held side
         (λ world. Rebuilt (side - 2) world r (N.seen store.old) (N.seen store.new))) }
     ensures grows { OnOk result (ForWorlds (T.makes task.now) (N.seen store.old).held side
         (λ world. Grows (world_shape (side - 2) world) (N.seen store.old) (N.seen store.new))) }
     ensures full { IfErr result (λ e. ForWorlds (T.makes task.now) (N.seen store.old).held side
-        (λ world. Fails (world_shape (side - 2) world) e.level e.bucket (N.seen store.old) (N.seen store.new))) }
+        (λ world. Fails (world_shape (side - 2) world) e.level e.bucket (N.seen store.old)
+        (N.seen store.new))) }
     ensures rests { N.rests store.old store.new }
     ensures turns { OnOk result
         (steps.new ≤ steps.old + 25 * T.mixed (side - 2) task.now + 25 * (side - 1)) }

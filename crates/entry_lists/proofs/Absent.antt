@@ -5,7 +5,7 @@ use Rattle.std.proofs.lemmas.List.Sums.{sum_by-cons, sum_by_more, sum_by-take-le
 use Rattle.node_shapes.specs.declared.names.Name.{Name}
 use Rattle.core_laws.specs.Counting.{weight}
 use Rattle.core_laws.proofs.Sums.{is_name, is_name-self, is_name-some}
-use Rattle.entry_lists.specs.Trading.{HasAll, Trades}
+use Rattle.entry_lists.specs.Trading.{HasAll, TradesNames}
 
 -- a name that is nowhere in a list weighs nothing there
 none_weighs : (m : Name) (names : List Name)
@@ -20,7 +20,7 @@ none_weighs m (n ∷ ns) none =
     let all = sum_by-cons (is_name m) n ns in omega arith
 
 pub one_missing : (names rest : List Name) (some : List (Option Name)) (i : ℕ) (m : Name)
-    → i < length some → get_or some i None ≡ Some m → Trades names (take i some) [] rest
+    → i < length some → get_or some i None ≡ Some m → TradesNames names (take i some) [] rest
     → ((k : ℕ) → k < length rest → get_or rest k m ≢ m) → HasAll names some → ⊥
 one_missing names rest some i m lt at trade none has =
     let f : Name → ℕ = is_name m in

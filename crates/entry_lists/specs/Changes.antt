@@ -4,26 +4,26 @@ use Rattle.node_shapes.specs.declared.names.Name.{Name}
 use Rattle.node_words.specs.declared.keys.Key.{Key}
 use Rattle.bucket_core.specs.declared.entries.Entry.{Entry}
 use Rattle.bucket_core.specs.declared.entries.Lowered.{Lowered}
-use Rattle.bucket_core.specs.Slots.{book_in, entry_in, LowersEntry}
+use Rattle.bucket_core.specs.Slots.{book_of_slot, entry_in, LowersBook}
 use Rattle.core_reading.specs.Slots.{Level, bucket_at, entry_at, put_at}
 
 -- one reference less to the entry of a slot of a level's bucket
 pub record LowersSlot (old : Level) (bucket slot : ℕ) (result : Lowered Key)
     (new : Level) : Type 0 where
   pub after : Option (Entry Key)
-  pub entry : LowersEntry (entry_in (slice_index_or old bucket []) slot) result after
+  pub entry : LowersBook (entry_in (slice_index_or old bucket []) slot) result after
   pub others : new ≡ slice_set old bucket (slice_set (slice_index_or old bucket []) slot after)
 
 -- one reference less to the entry of a name
 pub record LowersEntryAt (old : List Level) (n : Name) (result : Lowered Key)
     (new : List Level) : Type 0 where
   pub after : Option (Entry Key)
-  pub entry : LowersEntry (entry_at old n) result after
+  pub entry : LowersBook (entry_at old n) result after
   pub others : new ≡ put_at old n after
 
 -- each slot below this one has an entry with references
 pub record AreLive (slots : List (Option (Entry Key))) (below : ℕ) : Type 0 where
-  pub each : (slot : ℕ) → slot < below → 0 < book_in (entry_in slots slot)
+  pub each : (slot : ℕ) → slot < below → 0 < book_of_slot (entry_in slots slot)
 
 -- the lists have a slot for the name
 pub record HasSlot (all : List Level) (n : Name) : Type 0 where

@@ -12,6 +12,6 @@ pub record HasAll (names : List Name) (some : List (Option Name)) : Type 0 where
   pub weighs : (f : Name → ℕ) → weights some f ≤ sum_by f names
 
 -- some names were taken out of a list, and some others put in
-pub record Trades (names : List Name) (gives takes : List (Option Name))
+pub record TradesNames (names : List Name) (gives takes : List (Option Name))
     (after : List Name) : Type 0 where
   pub weighs : (f : Name → ℕ) → sum_by f after + weights gives f ≡ sum_by f names + weights takes f

@@ -3,8 +3,8 @@ ghost use Rattle.std.specs.Prelude.{slice_index_or};
 ghost use Rattle.node_shapes.specs.declared.names.Name.{Name as name};
 ghost use Rattle.node_places.specs.Names.{named};
 ghost use Rattle.node_places.specs.Spots.{buckets_at, levels};
-ghost use Rattle.bucket_core.specs.Slots.{AreTaken, HasNone, IsFirstFree, IsFirstWith};
-ghost use Rattle.bucket_core.specs.Slots.{book_in, key_in, with_book};
+ghost use Rattle.bucket_core.specs.Slots.{AreInUse, HasNone, IsFirstFree, IsFirstWith};
+ghost use Rattle.bucket_core.specs.Slots.{book_of_slot, key_of_slot, with_book};
 ghost use Rattle.core_reading.specs.Slots.{IsLaidOut, bucket_at, entry_at, put_at};
 ghost use Rattle.entry_lists.specs.Changes.{AreLive, HasSlot, LowersEntryAt};
 
@@ -49,7 +49,7 @@ impl Entries {
 
     /// The key of the name's entry, where there is one.
     pub fn key(&self, n: Name) -> Option<Key>
-        ensures { result ≡ key_in (entry_at self.now n) }
+        ensures { result ≡ key_of_slot (entry_at self.now n) }
     {
         match self.levels.get(usize::from(n.level)) {
             None => None,
@@ -59,7 +59,7 @@ impl Entries {
 
     /// How many references there are to the name's entry, 0 where there is none.
     pub fn book(&self, n: Name) -> u64
-        ensures { result ≡ book_in (entry_at self.now n) }
+        ensures { result ≡ book_of_slot (entry_at self.now n) }
     {
         match self.levels.get(usize::from(n.level)) {
             None => 0,
@@ -76,7 +76,7 @@ impl Entries {
             (length (bucket_at self.now level bucket)))
             (IsFirstWith (bucket_at self.now level bucket) key.now) }
         ensures live { IfSome result (λ slot.
-            0 < book_in (entry_at self.now (named level bucket slot))) }
+            0 < book_of_slot (entry_at self.now (named level bucket slot))) }
     {
         self.levels[usize::from(level)].find(bucket, key)
     }
@@ -88,7 +88,7 @@ impl Entries {
         requires absent { HasNone (bucket_at self.old level bucket) key
             (length (bucket_at self.old level bucket)) }
         ensures slot { MatchOption result
-            (AreTaken (bucket_at self.old level bucket)
+            (AreInUse (bucket_at self.old level bucket)
             (length (bucket_at self.old level bucket)))
             (IsFirstFree (bucket_at self.old level bucket)) }
         ensures all { MatchOption result (self.new ≡ self.old) (λ slot.
@@ -106,9 +106,9 @@ impl Entries {
     pub fn raise(&mut self, n: Name)
         requires slot { HasSlot self.old n }
         requires taken { entry_at self.old n ≢ None }
-        requires small { book_in (entry_at self.old n) < 2 ^ 40 }
+        requires small { book_of_slot (entry_at self.old n) < 2 ^ 40 }
         ensures { self.new ≡ put_at self.old n
-            (with_book (entry_at self.old n) (book_in (entry_at self.old n) + 1)) }
+            (with_book (entry_at self.old n) (book_of_slot (entry_at self.old n) + 1)) }
     {
         self.levels[usize::from(n.level)].raise(n.bucket, n.slot);
     }

@@ -3,7 +3,7 @@ ghost use Rattle.std.specs.Prelude.{slice_index_or, sum_by, vec_len, vec_capacit
 ghost use Rattle.std.specs.List.{remove};
 ghost use Rattle.node_shapes.specs.declared.names.Name.{Name as name};
 ghost use Rattle.core_laws.specs.Counting.{weight};
-ghost use Rattle.entry_lists.specs.Trading.{HasAll, Trades};
+ghost use Rattle.entry_lists.specs.Trading.{HasAll, TradesNames};
 
 use node_words::Name;
 use std::alloc::Global;
@@ -62,7 +62,7 @@ impl Holding {
     /// What is left without some of the names, with room for one more.
     pub fn without(&self, alloc: Global, gives: &[Option<Name>]) -> Result<Rest, Memory>
         requires { HasAll self.now gives.now }
-        ensures { IfOk result (Trades self.now gives.now []) }
+        ensures { IfOk result (TradesNames self.now gives.now []) }
     {
         match rest_of(alloc, &self.names, gives)? {
             None => Ok(Rest {
@@ -83,7 +83,7 @@ impl Holding {
         takes: &[Option<Name>],
     ) -> Result<Holding, Memory>
         requires { HasAll self.now gives.now }
-        ensures { IfOk result (Trades self.now gives.now takes.now) }
+        ensures { IfOk result (TradesNames self.now gives.now takes.now) }
     {
         match rest_of(alloc, &self.names, gives)? {
             None => Ok(Holding::new(alloc)),
@@ -131,7 +131,7 @@ fn rest_of(
     some: &[Option<Name>],
 ) -> Result<Option<Vec<Name>>, Memory>
     ensures { IfOk result (λ rest. MatchOption rest (HasAll names.now some.now → ⊥)
-        (λ v. Trades names.now some.now [] v.items)) }
+        (λ v. TradesNames names.now some.now [] v.items)) }
 {
     let mut rest = Vec::from_slice(alloc, names)?;
     for n in some {

@@ -1,7 +1,7 @@
 ghost use Rattle.std.specs.Prelude.{◌≡◌, ◌<◌, ◌≤◌, ◌+◌, ◌^◌, [], None, Some, IfOk, OnErr, MatchOption, length, replicate};
 ghost use Rattle.std.specs.Prelude.{slice_index_or, slice_set};
-ghost use Rattle.bucket_core.specs.Slots.{AreTaken, HasNone, IsFirstFree, IsFirstWith, IsTaken};
-ghost use Rattle.bucket_core.specs.Slots.{Lowers, book_in, entry_in, key_in, with_book, with_entry};
+ghost use Rattle.bucket_core.specs.Slots.{AreInUse, HasNone, IsFirstFree, IsFirstWith, IsTaken};
+ghost use Rattle.bucket_core.specs.Slots.{LowersHere, book_of_slot, entry_in, key_of_slot, with_book, with_entry};
 
 use bucket_core::{Bucket, Lowered};
 use node_words::Key;
@@ -40,7 +40,8 @@ impl Level {
 
     /// The key in a slot, where the slot is there and has an entry.
     pub fn key(&self, bucket: u16, slot: u8) -> Option<Key>
-        ensures { result ≡ key_in (slice_index_or (slice_index_or self.now bucket []) slot None) }
+        ensures { result ≡ key_of_slot
+            (slice_index_or (slice_index_or self.now bucket []) slot None) }
     {
         match self.buckets.get(usize::from(bucket)) {
             None => None,
@@ -50,7 +51,8 @@ impl Level {
 
     /// How many references there are to a slot's entry, 0 where there is none.
     pub fn book(&self, bucket: u16, slot: u8) -> u64
-        ensures { result ≡ book_in (slice_index_or (slice_index_or self.now bucket []) slot None) }
+        ensures { result ≡ book_of_slot
+            (slice_index_or (slice_index_or self.now bucket []) slot None) }
     {
         match self.buckets.get(usize::from(bucket)) {
             None => 0,
@@ -66,7 +68,7 @@ impl Level {
             (length (slice_index_or self.now bucket [])))
             (IsFirstWith (slice_index_or self.now bucket []) key.now) }
         ensures live { IfSome result (λ slot.
-            0 < book_in (entry_in (slice_index_or self.now bucket []) slot)) }
+            0 < book_of_slot (entry_in (slice_index_or self.now bucket []) slot)) }
     {
         find_in(&self.buckets[usize::from(bucket)], key)
     }
@@ -77,7 +79,7 @@ impl Level {
         requires absent { HasNone (slice_index_or self.old bucket []) key
             (length (slice_index_or self.old bucket [])) }
         ensures slot { MatchOption result
-            (AreTaken (slice_index_or self.old bucket [])
+            (AreInUse (slice_index_or self.old bucket [])
             (length (slice_index_or self.old bucket [])))
             (IsFirstFree (slice_index_or self.old bucket [])) }
         ensures all { MatchOption result (self.new ≡ self.old) (λ slot.
@@ -97,11 +99,11 @@ impl Level {
         requires bucket { bucket < length self.old }
         requires slot { slot < length (slice_index_or self.old bucket []) }
         requires taken { IsTaken (slice_index_or self.old bucket []) slot }
-        requires small { book_in (entry_in (slice_index_or self.old bucket []) slot) < 2 ^ 40 }
+        requires small { book_of_slot (entry_in (slice_index_or self.old bucket []) slot) < 2 ^ 40 }
         ensures { self.new ≡ slice_set self.old bucket
             (slice_set (slice_index_or self.old bucket []) slot
             (with_book (entry_in (slice_index_or self.old bucket []) slot)
-            (book_in (entry_in (slice_index_or self.old bucket []) slot) + 1))) }
+            (book_of_slot (entry_in (slice_index_or self.old bucket []) slot) + 1))) }
     {
         self.buckets[usize::from(bucket)].raise(u16::from(slot));
     }
@@ -121,7 +123,7 @@ ghost use Rattle.std.specs.Prelude.{IfSome};
 ghost use Rattle.entry_lists.specs.Changes.{AreLive, LowersSlot};
 
 fn key_of(slots: &Bucket<Key>, slot: u16) -> Option<Key>
-    ensures { result ≡ key_in (slice_index_or slots.now slot None) }
+    ensures { result ≡ key_of_slot (slice_index_or slots.now slot None) }
 {
     if slot < slots.cap() {
         slots.entry(slot).copied()
@@ -131,7 +133,7 @@ fn key_of(slots: &Bucket<Key>, slot: u16) -> Option<Key>
 }
 
 fn book_of(slots: &Bucket<Key>, slot: u16) -> u64
-    ensures { result ≡ book_in (slice_index_or slots.now slot None) }
+    ensures { result ≡ book_of_slot (slice_index_or slots.now slot None) }
 {
     if slot < slots.cap() {
         slots.book(slot)
@@ -144,7 +146,7 @@ fn book_of(slots: &Bucket<Key>, slot: u16) -> u64
 fn find_in(slots: &Bucket<Key>, key: &Key) -> Option<u16>
     ensures slot { MatchOption result (HasNone slots.now key.now (length slots.now))
         (IsFirstWith slots.now key.now) }
-    ensures live { IfSome result (λ slot. 0 < book_in (entry_in slots.now slot)) }
+    ensures live { IfSome result (λ slot. 0 < book_of_slot (entry_in slots.now slot)) }
 {
     let _cap = slots.cap();
     match slots.find(key) {
@@ -156,7 +158,7 @@ fn find_in(slots: &Bucket<Key>, key: &Key) -> Option<u16>
 // The slot into which the key went, where one was empty.
 fn add_to(slots: &mut Bucket<Key>, key: Key) -> Option<u16>
     requires { HasNone slots.old key (length slots.old) }
-    ensures slot { MatchOption result (AreTaken slots.old (length slots.old))
+    ensures slot { MatchOption result (AreInUse slots.old (length slots.old))
         (IsFirstFree slots.old) }
     ensures all { MatchOption result (slots.new ≡ slots.old) (λ slot.
         slots.new ≡ slice_set slots.old slot (Some (record { key = key; book = 1 }))) }

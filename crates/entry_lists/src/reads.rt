@@ -25,7 +25,8 @@ impl Entries {
     /// counts from the block's corner.
     pub fn is_set(&self, side: u16, level: u8, name: Option<Name>, q: Cell) -> bool
         requires { side ≡ block_side level }
-        ensures { result ≡ has level (shape_of (tree_at (keys_in self.now) level name)) q.x q.y q.z }
+        ensures { result ≡ has level
+            (shape_of (tree_at (keys_in self.now) level name)) q.x q.y q.z }
     {
         let n = match name {
             None => return false,

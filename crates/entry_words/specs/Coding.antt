@@ -1,4 +1,5 @@
--- How the words of a slot say a key: the first stands by itself, and a node's further three beside it.
+-- How the words of a slot say a key: the first stands by itself, and a node's further three beside
+-- it.
 use Rattle.std.specs.Prelude.{ℕ}
 use Rattle.std.proofs.Common.{zero, suc}
 use Rattle.node_words.specs.declared.keys.Key.{Key}

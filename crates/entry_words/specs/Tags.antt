@@ -13,15 +13,15 @@ use Rattle.entry_words.specs.Words.{Written, book_in, first_in, rest_in}
 abbrev pub times : ℕ → ℕ → ℕ
 times word number = word * number % 2 ^ 64
 
-abbrev pub plus : ℕ → ℕ → ℕ
-plus a b = (a + b) % 2 ^ 64
+abbrev pub tag_plus : ℕ → ℕ → ℕ
+tag_plus a b = (a + b) % 2 ^ 64
 
 -- the words of a node's key mixed into one. A leaf's key is its first word alone
 unfoldable pub mixed_words : ℕ → ℕ → Rest → ℕ
 mixed_words zero first rest = times first 0x9E3779B97F4A7C15
 mixed_words (suc level) first rest =
-    plus (plus (times first 0x9E3779B97F4A7C15) (times rest.second 0xBF58476D1CE4E5B9))
-    (plus (times rest.third 0x94D049BB133111EB) (times rest.fourth 0xD6E8FEB86659FD93))
+    tag_plus (tag_plus (times first 0x9E3779B97F4A7C15) (times rest.second 0xBF58476D1CE4E5B9))
+    (tag_plus (times rest.third 0x94D049BB133111EB) (times rest.fourth 0xD6E8FEB86659FD93))
 
 -- a byte that tells most keys of a bucket apart, and isn't 0
 unfoldable pub tag_of_word : ℕ → ℕ
@@ -35,8 +35,10 @@ tag_of level words = tag_of_words level words.first words.rest
 
 -- a live slot has the tag of its key's words, and a free one has 0
 pub record AreTagged (w : Written) (tags : List ℕ) : Type 0 where
-  pub free : (n : Name) → IsName w.plan n → book_in w n ≡ 0 → slice_index tags (slot_place w.plan n) ≡ 0
-  pub live : (n : Name) → IsName w.plan n → 1 ≤ book_in w n → slice_index tags (slot_place w.plan n) ≡ tag_of_words n.level (first_in w n) (rest_in w n)
+  pub free : (n : Name) → IsName w.plan n → book_in w n ≡ 0
+      → slice_index tags (slot_place w.plan n) ≡ 0
+  pub live : (n : Name) → IsName w.plan n → 1 ≤ book_in w n
+      → slice_index tags (slot_place w.plan n) ≡ tag_of_words n.level (first_in w n) (rest_in w n)
 
 -- there are words and a tag for each slot of the plan
 pub record AreEntries (w : Written) (ends tags : List ℕ) : Type 0 where

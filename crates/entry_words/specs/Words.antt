@@ -44,7 +44,8 @@ pub record HasEntry (w : Written) (n : Name) (key : Key) : Type 0 where
 
 -- no live slot of the bucket has the key
 pub record LacksKey (w : Written) (level bucket : ℕ) (key : Key) : Type 0 where
-  pub each : (slot : ℕ) → slot < w.plan.cap → 1 ≤ book_in w (named level bucket slot) → key_in w (named level bucket slot) ≢ key
+  pub each : (slot : ℕ) → slot < w.plan.cap → 1 ≤ book_in w (named level bucket slot)
+      → key_in w (named level bucket slot) ≢ key
 
 -- the slots of a bucket below this one are live
 abbrev pub AreLiveBelow : Written → ℕ → ℕ → ℕ → Type 0

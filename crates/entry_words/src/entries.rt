@@ -21,8 +21,8 @@ use vw_cell::Side;
 
 /// The books and keys of all slots of a plan. It takes all its memory when it is made.
 ///
-/// Beside the words of each slot there is a byte, its tag, by which searches pass over most slots. Contracts don't
-/// see it.
+/// Beside the words of each slot there is a byte, its tag, by which searches pass over most slots.
+/// Contracts don't see it.
 #[derive(Drop)]
 pub struct EntryWords {
     plan: Plan,
@@ -39,9 +39,11 @@ impl Model for EntryWords {
 
     ghost Value = { Written };
 
-    ghost view = { λ w. record { plan = w.plan; books = w.books.items; firsts = w.firsts.items; rests = w.rests.items } };
+    ghost view = { λ w. record
+        { plan = w.plan; books = w.books.items; firsts = w.firsts.items; rests = w.rests.items } };
 
-    ghost invariant = { λ w. AreEntries (record { plan = w.plan; books = w.books.items; firsts = w.firsts.items; rests = w.rests.items }) w.ends w.tags.items };
+    ghost invariant = { λ w. AreEntries
+        (record { plan = w.plan; books = w.books.items; firsts = w.firsts.items; rests = w.rests.items }) w.ends w.tags.items };
 }
 
 impl EntryWords {
@@ -167,7 +169,8 @@ impl EntryWords {
     /// The slot of a bucket whose live node has this key.
     pub fn find(&self, level: u8, bucket: u16, words: KeyWords) -> Option<u8>
         requires { IsBucket self.now.plan level bucket }
-        ensures found { IfSome result (λ slot. HasEntry self.now (named level bucket slot) (key_of level words)) }
+        ensures found { IfSome result
+            (λ slot. HasEntry self.now (named level bucket slot) (key_of level words)) }
         ensures none { result ≡ None → LacksKey self.now level bucket (key_of level words) }
     {
         let start = self.start(level, bucket);
@@ -226,7 +229,8 @@ impl EntryWords {
         requires firsts { i < length self.now.firsts }
         requires rests { i < length self.now.rests }
         requires number { number < 4 }
-        ensures { result ≡ word_number (slice_index self.now.firsts i) (rest_at self.now.rests i) number }
+        ensures { result ≡ word_number (slice_index self.now.firsts i)
+            (rest_at self.now.rests i) number }
     {
         if number == 0 {
             return self.firsts[i];
@@ -238,7 +242,9 @@ impl EntryWords {
     fn has_words(&self, i: usize, level: u8, words: &KeyWords) -> bool
         requires firsts { i < length self.now.firsts }
         requires rests { i < length self.now.rests }
-        ensures { IsTrue result ↔ (key_from level (slice_index self.now.firsts i) (rest_at self.now.rests i) ≡ key_of level words.now) }
+        ensures { IsTrue result ↔
+            (key_from level (slice_index self.now.firsts i) (rest_at self.now.rests i)
+            ≡ key_of level words.now) }
     {
         if self.firsts[i] != words.first {
             return false;

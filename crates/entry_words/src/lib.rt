@@ -1,5 +1,5 @@
-//! The words of a store for one thread: of each slot its book and its key's words, each kind in one row, so that what
-//! a search reads of a bucket lies side by side.
+//! The words of a store for one thread: of each slot its book and its key's words, each kind in one
+//! row, so that what a search reads of a bucket lies side by side.
 #![tactic(auto)]
 
 mod ends;
@@ -19,5 +19,6 @@ pub use key_words::{KeyWords, Rest, words_of};
 /// Each name's slot has a place, and two names have two places.
 pub fn slots_are_apart()
     ensures inside { (p : Layout) (n : Name) → IsName p n → slot_place p n < number_of_slots p }
-    ensures apart { (p : Layout) (m n : Name) → IsName p m → IsName p n → slot_place p m ≡ slot_place p n → m ≡ n }
+    ensures apart { (p : Layout) (m n : Name) → IsName p m → IsName p n
+        → slot_place p m ≡ slot_place p n → m ≡ n }
 {}

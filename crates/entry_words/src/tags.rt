@@ -40,7 +40,8 @@ fn skip_blocks(row: &[u8], from: usize, to: usize, byte: u8) -> usize
     from + blocks * BLOCK
 }
 
-// Whether the byte is in the block that begins here. With no exit in the loop all bytes are compared at once.
+// Whether the byte is in the block that begins here. With no exit in the loop all bytes are
+// compared at once.
 fn is_in_block(row: &[u8], at: usize, byte: u8) -> bool
     requires { at + 16 ≤ length row.now }
     ensures { result ≡ false → LacksByte row.now at (at + 16) byte }

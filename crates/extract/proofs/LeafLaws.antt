@@ -24,8 +24,8 @@ use Rattle.block_walk.specs.Roots.{IsBlockOf, IsOctantOf, HasBlock, HoldsRoot, F
 use Rattle.block_walk.specs.Parts.{EndsBy, placed}
 use Rattle.block_walk.proofs.BlockLaws.{clear_block, root_block}
 use Rattle.block_walk.proofs.LookLaws.{block_still, leaf_tells, placed_set, same_cell}
-use Rattle.extract.specs.Listing.{joined, voxel_if, row_of, voxels_in}
-use Rattle.extract.specs.Layers.{leaves_met, leaves_along, leaves_in, leaf_block, leaf_corner, HoldsLayer, IsLeafCorner, IsSmall, HasRoom, bits_show}
+use Rattle.extract.specs.Listing.{voxels_joined, voxel_if, row_voxels, voxels_of_box}
+use Rattle.extract.specs.Layers.{leaves_met, leaves_along, leaves_in, leaf_block, leaf_corner, HoldsLayer, IsLeafCorner, IsSmallLayer, HasRoom, bits_show}
 use Rattle.extract.proofs.ListingLaws.{joined-same, length-voxels}
 
 -- nothing stands in the block
@@ -107,7 +107,7 @@ met_in at size side w lt fits = omega arith
 some_met : (at size : ℕ) → 1 ≤ size → 1 ≤ leaves_met at size
 some_met at size h = omega arith
 
-pub corner_in : (b : Boxed) (side z m : ℕ) → IsSmall b → EndsBy side b → z < b.size.z → m < leaves_in b → IsInWorld side (leaf_corner b ((b.at.z + z) / 4) m)
+pub corner_in : (b : Boxed) (side z m : ℕ) → IsSmallLayer b → EndsBy side b → z < b.size.z → m < leaves_in b → IsInWorld side (leaf_corner b ((b.at.z + z) / 4) m)
 corner_in b side z m small ends lt inside =
     let some = some_met b.at.x b.size.x small.x.0 in
     let ez = ends.z in
@@ -120,7 +120,7 @@ corner_in b side z m small ends lt inside =
 pub corner_is : (b : Boxed) (layer m : ℕ) → IsLeafCorner (leaf_corner b layer m)
 corner_is b layer m = record { x = omega arith; y = omega arith; z = omega arith }
 
-pub few_leaves : (b : Boxed) → IsSmall b → (leaves_along b ≤ 65) × (leaves_met b.at.y b.size.y ≤ 65)
+pub few_leaves : (b : Boxed) → IsSmallLayer b → (leaves_along b ≤ 65) × (leaves_met b.at.y b.size.y ≤ 65)
 few_leaves b small = let x = small.x.1 in let y = small.y.1 in (omega arith, omega arith)
 
 -- one leaf more
@@ -144,10 +144,10 @@ run_place at p i x0 h = omega arith
 row_place : (at y0 : ℕ) → y0 ≤ at / 4 → 4 * (y0 + (at / 4 - y0)) + at % 4 ≡ at
 row_place at y0 h = omega arith
 
-pub run_is_row : (words : List ℕ) (b : Boxed) (z y p n m bits : ℕ) (cells : Cell → Bool) → IsSmall b → y < b.size.y → p + n ≤ b.size.x → (b.at.x + p) % 4 + n ≤ 4 → m ≡ ((b.at.y + y) / 4 - b.at.y / 4) * leaves_along b + ((b.at.x + p) / 4 - b.at.x / 4) → m < leaves_in b → bits ≡ slice_index words m → 1 ≤ n
+pub run_is_row : (words : List ℕ) (b : Boxed) (z y p n m bits : ℕ) (cells : Cell → Bool) → IsSmallLayer b → y < b.size.y → p + n ≤ b.size.x → (b.at.x + p) % 4 + n ≤ 4 → m ≡ ((b.at.y + y) / 4 - b.at.y / 4) * leaves_along b + ((b.at.x + p) / 4 - b.at.x / 4) → m < leaves_in b → bits ≡ slice_index words m → 1 ≤ n
     → HoldsLayer words b ((b.at.z + z) / 4) (leaves_in b) cells
-    → row_of (bits_show bits) (cell_at ((b.at.x + p) % 4) ((b.at.y + y) % 4) ((b.at.z + z) % 4)) n (cell_at p y z)
-    ≡ joined n (λ i. voxel_if (cells (cell_at (b.at.x + (p + i)) (b.at.y + y) (b.at.z + z))) (0 + (p + i)) y z)
+    → row_voxels (bits_show bits) (cell_at ((b.at.x + p) % 4) ((b.at.y + y) % 4) ((b.at.z + z) % 4)) n (cell_at p y z)
+    ≡ voxels_joined n (λ i. voxel_if (cells (cell_at (b.at.x + (p + i)) (b.at.y + y) (b.at.z + z))) (0 + (p + i)) y z)
 run_is_row words b z y p n m bits cells small ly fits leaf is inside word some held =
     let along : ℕ = leaves_along b in
     let down : ℕ = (b.at.y + y) / 4 - b.at.y / 4 in
@@ -168,14 +168,14 @@ run_is_row words b z y p n m bits cells small ly fits leaf is inside word some h
     ap (λ (v : Bool). voxel_if v (p + i) y z) set ∙ ap (λ (x : ℕ). voxel_if (cells (cell_at (b.at.x + (p + i)) (b.at.y + y) (b.at.z + z))) x y z) to)
 
 -- the leaf's number lies in the layer
-pub run_inside : (b : Boxed) (y p row m : ℕ) → IsSmall b → y < b.size.y → p < b.size.x → row + leaves_along b ≤ leaves_in b → m ≡ row + ((b.at.x + p) / 4 - b.at.x / 4) → m < leaves_in b
+pub run_inside : (b : Boxed) (y p row m : ℕ) → IsSmallLayer b → y < b.size.y → p < b.size.x → row + leaves_along b ≤ leaves_in b → m ≡ row + ((b.at.x + p) / 4 - b.at.x / 4) → m < leaves_in b
 run_inside b y p row m small ly lp fits e = let near : (b.at.x + p) / 4 - b.at.x / 4 < leaves_along b = omega arith in omega (arith, near, fits)
 
 pub run_index : (row start right right' : ℕ) → row ≡ start → right ≡ right' → row + right ≡ start + right'
 run_index row start right right' p q = rw (p, q) refl
 
 -- a box of the root's world, and the room that its cells take
-pub small_box : (side : ℕ) (b : Boxed) → side ≤ 12 → FitsAt b.at b.size (2 ^ side) → b.size.x ≤ 256 → b.size.y ≤ 256 → b.size.z ≤ 256 → IsSmall b
+pub small_box : (side : ℕ) (b : Boxed) → side ≤ 12 → FitsAt b.at b.size (2 ^ side) → b.size.x ≤ 256 → b.size.y ≤ 256 → b.size.z ≤ 256 → IsSmallLayer b
 small_box side b h fits x y z =
     let most : 2 ^ side ≤ 2 ^ 12 = pow_mono h in
     record { x = (fits.x.0, x, omega (arith, fits.x.1)); y = (fits.y.0, y, omega (arith, fits.y.1)); z = (fits.z.0, z, omega (arith, fits.z.1)) }
@@ -187,7 +187,7 @@ root_there a b side level root name e f n h =
     record { tree = block.tree; is_block = block_still a b level name block.tree e there }
 
 pub world_room : {Z : Type 0} (a b : Seen) (side level : ℕ) (root name : Option Name) (box : Boxed) (number : ℕ) (v : Vec Voxel Z) → b ≡ a → level ≡ side - 2 → name ≡ root → ForWorld a.held side root (λ cells. number ≡ number_in box cells) → HasRoom v number
-    → ForBlock b.held level name (λ s. HasRoom v (length (voxels_in box (cells_of level s))))
+    → ForBlock b.held level name (λ s. HasRoom v (length (voxels_of_box box (cells_of level s))))
 world_room a b side level root name box number v e f n told room t o =
     let in_a = block_still b a level name t (sym e) o in
     let in_root = subst (λ (l : ℕ). IsBlockOf a.held l root t) f (subst (λ (m : Option Name). IsBlockOf a.held level m t) n in_a) in

@@ -27,11 +27,15 @@ leaf_block c = record { level = 0; at = c }
 
 -- the corner of the m-th leaf of a layer, row by row
 abbrev pub leaf_corner : Boxed → ℕ → ℕ → Cell
-leaf_corner b layer m = cell_at (4 * (b.at.x / 4 + m % leaves_along b)) (4 * (b.at.y / 4 + m / leaves_along b)) (4 * layer)
+leaf_corner b layer m =
+    cell_at (4 * (b.at.x / 4 + m % leaves_along b)) (4 * (b.at.y / 4 + m / leaves_along b))
+    (4 * layer)
 
 -- the first words show the leaves of a layer of a box
-pub record HoldsLayer (words : List ℕ) (b : Boxed) (layer : ℕ) (n : ℕ) (cells : Cell → Bool) : Type 0 where
-  pub each : (m : ℕ) → m < n → LeafShows (slice_index words m) (leaf_block (leaf_corner b layer m)) cells
+pub record HoldsLayer (words : List ℕ) (b : Boxed) (layer : ℕ) (n : ℕ)
+    (cells : Cell → Bool) : Type 0 where
+  pub each : (m : ℕ) → m < n
+      → LeafShows (slice_index words m) (leaf_block (leaf_corner b layer m)) cells
 
 -- a place at which leaves begin
 pub record IsLeafCorner (c : Cell) : Type 0 where
@@ -54,13 +58,13 @@ abbrev pub HasRoom : {Z : Type 0} → Vec Voxel Z → ℕ → Type 0
 HasRoom v n = vec_len v + n ≤ vec_capacity v
 
 -- these voxels were appended, in the room that was there
-pub record Appends {Z : Type 0} (voxels : List Voxel) (old new : Vec Voxel Z) : Type 0 where
+pub record AppendsVoxels {Z : Type 0} (voxels : List Voxel) (old new : Vec Voxel Z) : Type 0 where
   pub items : new.items ≡ old.items ++ voxels
   pub len : vec_len new ≡ vec_len old + length voxels
   pub room : vec_capacity new ≡ vec_capacity old
 
 -- a box with cells, none of whose sizes is over 256, within the greatest world
-pub record IsSmall (b : Boxed) : Type 0 where
+pub record IsSmallLayer (b : Boxed) : Type 0 where
   pub x : (1 ≤ b.size.x) × (b.size.x ≤ 256) × (b.at.x + b.size.x ≤ 4096)
   pub y : (1 ≤ b.size.y) × (b.size.y ≤ 256) × (b.at.y + b.size.y ≤ 4096)
   pub z : (1 ≤ b.size.z) × (b.size.z ≤ 256) × (b.at.z + b.size.z ≤ 4096)

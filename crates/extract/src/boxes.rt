@@ -2,8 +2,8 @@ ghost use Rattle.std.specs.Prelude.{◌≡◌, ℕ, ◌+◌, ◌<◌, ◌≤◌,
 ghost use Rattle.vw_cell.specs.Places.{FitsAt, block_side};
 ghost use Rattle.block_walk.specs.Roots.{HasBlock, HoldsRoot, ForBlock, ForWorld, cells_of};
 ghost use Rattle.block_walk.specs.Parts.{EndsBy};
-ghost use Rattle.extract.specs.Listing.{voxels_in};
-ghost use Rattle.extract.specs.Layers.{IsSmall, HasRoom, Appends};
+ghost use Rattle.extract.specs.Listing.{voxels_of_box};
+ghost use Rattle.extract.specs.Layers.{IsSmallLayer, HasRoom, AppendsVoxels};
 
 use crate::leaves::gather;
 use crate::rows::{layers_in, run_length};
@@ -14,8 +14,9 @@ use node_words::{Blocks, Share};
 use vox_read::Voxel;
 use vw_cell::{Boxed, Memory, Side};
 
-/// Appends the set cells of a box of the root's world, told from the box's corner and with colour 1, by rising z,
-/// then y, then x. `into` grows once, and is as it was where there is no memory for that.
+/// Appends the set cells of a box of the root's world, told from the box's corner and with colour
+/// 1, by rising z, then y, then x. `into` grows once, and is as it was where there is no memory for
+/// that.
 pub fn cells_in<B: Blocks>(
     store: &mut B,
     root: Option<&Share>,
@@ -28,7 +29,7 @@ pub fn cells_in<B: Blocks>(
     requires small { (b.size.x ≤ 256) × (b.size.y ≤ 256) × (b.size.z ≤ 256) }
     ensures voxels { OnOk result
         (ForWorld (B.seen store.old).held side (option_copied root.entry)
-        (λ cells. into.new.items ≡ into.old.items ++ voxels_in b cells)) }
+        (λ cells. into.new.items ≡ into.old.items ++ voxels_of_box b cells)) }
     ensures memory { OnErr result (into.new.items ≡ into.old.items) }
     ensures seen { B.seen store.new ≡ B.seen store.old }
     ensures rests { B.rests store.old store.new }
@@ -43,12 +44,12 @@ pub fn cells_in<B: Blocks>(
 fn box_in<B: Blocks>(store: &mut B, level: u8, block: Option<Name>, b: Boxed, into: &mut Vec<Voxel>)
     requires level { level ≤ 10 }
     requires block { HasBlock (B.seen store.old).held level block }
-    requires b { IsSmall b }
+    requires b { IsSmallLayer b }
     requires ends { EndsBy (block_side level) b }
     requires room { ForBlock (B.seen store.old).held level block
-        (λ s. HasRoom into.old (length (voxels_in b (cells_of level s)))) }
+        (λ s. HasRoom into.old (length (voxels_of_box b (cells_of level s)))) }
     ensures appended { ForBlock (B.seen store.old).held level block
-        (λ s. Appends (voxels_in b (cells_of level s)) into.old into.new) }
+        (λ s. AppendsVoxels (voxels_of_box b (cells_of level s)) into.old into.new) }
     ensures seen { B.seen store.new ≡ B.seen store.old }
     ensures rests { B.rests store.old store.new }
 {

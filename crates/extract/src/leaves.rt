@@ -3,7 +3,7 @@ ghost use Rattle.vw_cell.specs.Places.{block_side, IsInWorld};
 ghost use Rattle.block_walk.specs.Roots.{HasBlock, ForBlock, cells_of};
 ghost use Rattle.block_walk.specs.Parts.{EndsBy};
 ghost use Rattle.node_kernels.specs.Leaves.{LeafShows};
-ghost use Rattle.extract.specs.Layers.{HoldsLayer, IsLeafCorner, IsSmall, leaf_block, leaf_corner, leaves_in};
+ghost use Rattle.extract.specs.Layers.{HoldsLayer, IsLeafCorner, IsSmallLayer, leaf_block, leaf_corner, leaves_in};
 
 use block_walk::{leaf_bits, octant_at, octant_name};
 use node_shapes::Name;
@@ -21,7 +21,7 @@ pub(crate) fn gather<B: Blocks>(
 )
     requires level { level ≤ 10 }
     requires block { HasBlock (B.seen store.old).held level block }
-    requires b { IsSmall b }
+    requires b { IsSmallLayer b }
     requires ends { EndsBy (block_side level) b }
     requires z { z < b.size.z }
     ensures layer { ForBlock (B.seen store.old).held level block
@@ -39,7 +39,7 @@ pub(crate) fn gather<B: Blocks>(
 
 // How many leaves one layer of the box meets.
 fn number_of(b: Boxed) -> u16
-    requires b { IsSmall b }
+    requires b { IsSmallLayer b }
     ensures number { result ≡ leaves_in b }
     ensures few { result ≤ 4225 }
 {
@@ -50,7 +50,7 @@ fn number_of(b: Boxed) -> u16
 
 // The corner of the m-th leaf of a layer of the box.
 fn corner_of(b: Boxed, layer: u16, m: u16) -> Cell
-    requires b { IsSmall b }
+    requires b { IsSmallLayer b }
     requires layer { layer < 1024 }
     requires m { m < leaves_in b }
     ensures corner { result ≡ leaf_corner b layer m }

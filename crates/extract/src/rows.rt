@@ -1,8 +1,8 @@
 ghost use Rattle.std.specs.Prelude.{◌≡◌, ℕ, ◌+◌, ◌<◌, ◌≤◌, ◌*◌, ◌/◌, ◌-◌, Bool, length};
 ghost use Rattle.vw_cell.specs.declared.cells.Cell.{Cell};
 ghost use Rattle.vw_cell.specs.Counts.{cell_at};
-ghost use Rattle.extract.specs.Listing.{voxel_if, row_of, box_row, box_layer, joined};
-ghost use Rattle.extract.specs.Layers.{HoldsLayer, IsRow, IsSmall, HasRoom, Appends, bits_show, leaves_in, leaves_along};
+ghost use Rattle.extract.specs.Listing.{voxel_if, row_voxels, box_row, box_layer, voxels_joined};
+ghost use Rattle.extract.specs.Layers.{HoldsLayer, IsRow, IsSmallLayer, HasRoom, AppendsVoxels, bits_show, leaves_in, leaves_along};
 
 use block_walk::leaf_has;
 use vox_read::Voxel;
@@ -13,13 +13,15 @@ pub(crate) const LEAVES: usize = 4225;
 
 /// Appends some layers of a box, which lie in one layer of leaves.
 pub(crate) fn layers_in(leaves: &[u64; 4225], b: Boxed, z: u16, n: u16, into: &mut Vec<Voxel>)
-    requires b { IsSmall b }
+    requires b { IsSmallLayer b }
     requires z { z + n ≤ b.size.z }
     requires layer { (k : ℕ) → k < n → (b.at.z + (z + k)) / 4 ≡ (b.at.z + z) / 4 }
-    requires room { (cells : Cell → Bool) × HoldsLayer leaves.now b ((b.at.z + z) / 4) (leaves_in b) cells
-        × HasRoom into.old (length (joined n (λ k. box_layer cells b (z + k)))) }
-    ensures appended { (cells : Cell → Bool) → HoldsLayer leaves.now b ((b.at.z + z) / 4) (leaves_in b) cells
-        → Appends (joined n (λ k. box_layer cells b (z + k))) into.old into.new }
+    requires room { (cells : Cell → Bool)
+        × HoldsLayer leaves.now b ((b.at.z + z) / 4) (leaves_in b) cells
+        × HasRoom into.old (length (voxels_joined n (λ k. box_layer cells b (z + k)))) }
+    ensures appended { (cells : Cell → Bool)
+        → HoldsLayer leaves.now b ((b.at.z + z) / 4) (leaves_in b) cells
+        → AppendsVoxels (voxels_joined n (λ k. box_layer cells b (z + k))) into.old into.new }
 {
     for k in 0..n {
         layer_in(leaves, b, z + k, into);
@@ -28,12 +30,14 @@ pub(crate) fn layers_in(leaves: &[u64; 4225], b: Boxed, z: u16, n: u16, into: &m
 
 // Appends one layer of a box.
 fn layer_in(leaves: &[u64; 4225], b: Boxed, z: u16, into: &mut Vec<Voxel>)
-    requires b { IsSmall b }
+    requires b { IsSmallLayer b }
     requires z { z < b.size.z }
-    requires room { (cells : Cell → Bool) × HoldsLayer leaves.now b ((b.at.z + z) / 4) (leaves_in b) cells
+    requires room { (cells : Cell → Bool)
+        × HoldsLayer leaves.now b ((b.at.z + z) / 4) (leaves_in b) cells
         × HasRoom into.old (length (box_layer cells b z)) }
-    ensures appended { (cells : Cell → Bool) → HoldsLayer leaves.now b ((b.at.z + z) / 4) (leaves_in b) cells
-        → Appends (box_layer cells b z) into.old into.new }
+    ensures appended { (cells : Cell → Bool)
+        → HoldsLayer leaves.now b ((b.at.z + z) / 4) (leaves_in b) cells
+        → AppendsVoxels (box_layer cells b z) into.old into.new }
 {
     for y in 0..b.size.y {
         row_in(leaves, b, z, y, into);
@@ -42,13 +46,15 @@ fn layer_in(leaves: &[u64; 4225], b: Boxed, z: u16, into: &mut Vec<Voxel>)
 
 // Appends one row of a box, leaf by leaf.
 fn row_in(leaves: &[u64; 4225], b: Boxed, z: u16, y: u16, into: &mut Vec<Voxel>)
-    requires b { IsSmall b }
+    requires b { IsSmallLayer b }
     requires z { z < b.size.z }
     requires y { y < b.size.y }
-    requires room { (cells : Cell → Bool) × HoldsLayer leaves.now b ((b.at.z + z) / 4) (leaves_in b) cells
+    requires room { (cells : Cell → Bool)
+        × HoldsLayer leaves.now b ((b.at.z + z) / 4) (leaves_in b) cells
         × HasRoom into.old (length (box_row cells b z y b.size.x)) }
-    ensures appended { (cells : Cell → Bool) → HoldsLayer leaves.now b ((b.at.z + z) / 4) (leaves_in b) cells
-        → Appends (box_row cells b z y b.size.x) into.old into.new }
+    ensures appended { (cells : Cell → Bool)
+        → HoldsLayer leaves.now b ((b.at.z + z) / 4) (leaves_in b) cells
+        → AppendsVoxels (box_row cells b z y b.size.x) into.old into.new }
 {
     let row = row_start(b, y);
     let at_y = (b.at.y + y) % 4;
@@ -70,7 +76,7 @@ fn row_in(leaves: &[u64; 4225], b: Boxed, z: u16, y: u16, into: &mut Vec<Voxel>)
 
 // Where the leaves of a row begin in its layer.
 fn row_start(b: Boxed, y: u16) -> usize
-    requires b { IsSmall b }
+    requires b { IsSmallLayer b }
     requires y { y < b.size.y }
     ensures start { result ≡ ((b.at.y + y) / 4 - b.at.y / 4) * leaves_along b }
     ensures inside { result + leaves_along b ≤ leaves_in b }
@@ -95,8 +101,8 @@ pub(crate) fn run_length(place: u16, left: u16) -> u16
 fn run_in(bits: u64, at: Cell, n: u16, to: Cell, into: &mut Vec<Voxel>)
     requires row { IsRow 4 at n }
     requires to { (to.x + n ≤ 256) × (to.y < 256) × (to.z < 256) }
-    requires room { HasRoom into.old (length (row_of (bits_show bits) at n to)) }
-    ensures { Appends (row_of (bits_show bits) at n to) into.old into.new }
+    requires room { HasRoom into.old (length (row_voxels (bits_show bits) at n to)) }
+    ensures { AppendsVoxels (row_voxels (bits_show bits) at n to) into.old into.new }
 {
     if bits == 0 {
         return;
@@ -112,7 +118,7 @@ fn run_in(bits: u64, at: Cell, n: u16, to: Cell, into: &mut Vec<Voxel>)
 fn push_if(set: bool, c: Cell, into: &mut Vec<Voxel>)
     requires c { (c.x < 256) × (c.y < 256) × (c.z < 256) }
     requires room { HasRoom into.old (length (voxel_if set c.x c.y c.z)) }
-    ensures { Appends (voxel_if set c.x c.y c.z) into.old into.new }
+    ensures { AppendsVoxels (voxel_if set c.x c.y c.z) into.old into.new }
 {
     if !set {
         return;

@@ -9,12 +9,12 @@ use Rattle.plain_text.specs.Numbers.{exact}
 use Rattle.history_model.specs.declared.acts.Act.{Act}
 use Rattle.history_model.specs.declared.acts.Act.TheVariants.{Fill, Erase, Ball, Carve, Copy, Stamp, Undo, Redo}
 use Rattle.history_model.specs.declared.histories.Record.{Record}
-use Rattle.history_model.specs.Reach.{LiesIn}
+use Rattle.history_model.specs.Reach.{ActLiesIn}
 use Rattle.history_model.specs.Spelling.{three_numbers, act_spelled, cell_list, act_list, IsSmallCell, IsSmall}
 use Rattle.history_model.proofs.SpellingLaws.{act_again, act_takes, numbers_again, numbers_take, IsWords, IsActOf}
 use Rattle.history_model.specs.Entries.{IsRecord, record_list, entry_spelled}
 
-pub lies_small : (side : ℕ) (act : Act) → side ≤ 4096 → LiesIn side act → IsSmall act
+pub lies_small : (side : ℕ) (act : Act) → side ≤ 4096 → ActLiesIn side act → IsSmall act
 lies_small side (Fill b) few lies = ((omega arith, omega arith, omega arith), (omega arith, omega arith, omega arith))
 lies_small side (Erase b) few lies = ((omega arith, omega arith, omega arith), (omega arith, omega arith, omega arith))
 lies_small side (Ball b) few lies = ((omega arith, omega arith, omega arith), omega arith)
@@ -67,7 +67,7 @@ pub no_entry : (side n : ℕ) (ws : List (List ℕ)) (fault : WordFault) → 2 ^
 no_entry side n ws fault few small read r is same = (let again = record_again side n r few small is in let moved = ap entry_spelled same in let wrong : Ok (entry (cell_at n r.session r.line) r.act) ≡ Err fault = sym again ∙ moved ∙ read in cc)
 
 -- and none those of another entry
-pub other_entry : (side n : ℕ) (ws : List (List ℕ)) (head : Cell) (act : Act) → 2 ^ side ≤ 4096 → n < 2 ^ 32 → entry_spelled ws ≡ Ok (head, act) → (head.x ≡ n → head.y < 64 → LiesIn (2 ^ side) act → ⊥)
+pub other_entry : (side n : ℕ) (ws : List (List ℕ)) (head : Cell) (act : Act) → 2 ^ side ≤ 4096 → n < 2 ^ 32 → entry_spelled ws ≡ Ok (head, act) → (head.x ≡ n → head.y < 64 → ActLiesIn (2 ^ side) act → ⊥)
     → (r : Record) → IsRecord side r → record_list n r ≡ ws → ⊥
 other_entry side n ws head act few small read other r is same =
     let again = record_again side n r few small is in
@@ -75,7 +75,7 @@ other_entry side n ws head act few small read other r is same =
     let pair : entry (cell_at n r.session r.line) r.act ≡ entry head act = cc in
     let at : cell_at n r.session r.line ≡ head = ap (λ (e : Cell × Act). e.0) pair in
     let acts : r.act ≡ act = ap (λ (e : Cell × Act). e.1) pair in
-    other (sym (ap (λ (c : Cell). c.x) at)) (subst (λ (k : ℕ). k < 64) (ap (λ (c : Cell). c.y) at) is.0) (subst (λ (a : Act). LiesIn (2 ^ side) a) acts is.2)
+    other (sym (ap (λ (c : Cell). c.x) at)) (subst (λ (k : ℕ). k < 64) (ap (λ (c : Cell). c.y) at) is.0) (subst (λ (a : Act). ActLiesIn (2 ^ side) a) acts is.2)
 
 -- the words of the entry that was read
 pub this_entry : (n : ℕ) (ws : List (List ℕ)) (head : Cell) (r : Record) → entry_spelled ws ≡ Ok (head, r.act) → head ≡ cell_at n r.session r.line → record_list n r ≡ ws

@@ -7,13 +7,13 @@ use Rattle.std.specs.Char.{digit_value}
 use Rattle.std.specs.Str.Parse.{AllDigits}
 use Rattle.std.specs.List.{AllByRecursion}
 use Rattle.std.proofs.lemmas.Fmt.{decimal_is_IsNumeral}
-use Rattle.plain_text.specs.Parts.{words}
+use Rattle.plain_text.specs.Parts.{words, line_of}
 use Rattle.history_model.specs.declared.histories.Record.{Record}
 use Rattle.history_model.specs.declared.histories.Mark.{Mark}
 use Rattle.history_model.specs.Logs.{Log}
-use Rattle.history_model.specs.Reach.{LiesIn}
+use Rattle.history_model.specs.Reach.{ActLiesIn}
 use Rattle.history_model.specs.Following.{IsJournalLines, Goes}
-use Rattle.history_model.specs.Entries.{IsRecord, IsMark, AreMarks, IsTold, record_list, mark_list, side_list, line_of, record_texts, mark_texts, front_lines, last_lines, next_version}
+use Rattle.history_model.specs.Entries.{IsRecord, IsMark, AreMarks, IsTold, record_list, mark_list, side_list, record_texts, mark_texts, front_lines, last_lines, next_version}
 use Rattle.history_model.proofs.EntryLaws.{records_once}
 use Rattle.history_model.proofs.MarkLaws.{marks_once, sides_once, side_small}
 use Rattle.history_model.proofs.JournalLaws.{record_words, mark_words, side_words, end_words}
@@ -109,7 +109,7 @@ goes_record : (log other : Log) (rest : List (List ℕ)) (r : Record) (more : Li
 goes_record log other rest r more [] unmarked told told_other sides whole behind =
     let all : AllByRecursion (IsRecord other.side) (log.records ++ r ∷ more) = subst (AllByRecursion (IsRecord other.side)) whole told_other.records in
     let theirs : IsRecord other.side r = last_is (IsRecord other.side) log.records r more all in
-    let fits : IsRecord log.side r = (theirs.0, theirs.1, subst (λ (n : ℕ). LiesIn n r.act) sides theirs.2) in
+    let fits : IsRecord log.side r = (theirs.0, theirs.1, subst (λ (n : ℕ). ActLiesIn n r.act) sides theirs.2) in
     let few : length log.records < 65535 = omega (arith, told_other.few, ap length whole, length-append log.records (r ∷ more)) in
     inr (inl (record { r = r; more = record_texts (length log.records + 1 + 1) more ++ (mark_texts other.marks ++ last_lines); unmarked = unmarked; fits = fits; few = few; is = sym behind; some = records_left _ more other.marks }))
 goes_record log other rest r more (m ∷ ours) marked told told_other sides whole behind =

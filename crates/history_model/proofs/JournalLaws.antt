@@ -8,16 +8,16 @@ use Rattle.vw_cell.specs.declared.cells.Cell.{Cell}
 use Rattle.vw_cell.specs.declared.boxes.Boxed.{Boxed}
 use Rattle.vw_cell.specs.declared.balls.Ball as balls
 use Rattle.vw_cell.specs.Counts.{cell_at}
-use Rattle.plain_text.specs.Parts.{words, lines}
+use Rattle.plain_text.specs.Parts.{words, lines, line_of}
 use Rattle.plain_text.specs.PartLaws.{Free, decimal_free, joined_parts, joined_free}
 use Rattle.history_model.specs.declared.acts.Act.{Act}
 use Rattle.history_model.specs.declared.acts.Act.TheVariants.{Fill, Erase, Ball, Carve, Copy, Stamp, Undo, Redo}
 use Rattle.history_model.specs.declared.histories.Record.{Record}
 use Rattle.history_model.specs.declared.histories.Mark.{Mark}
 use Rattle.history_model.specs.Logs.{Log}
-use Rattle.history_model.specs.Journal.{words_of, record_line, record_lines, mark_line, journal_of}
+use Rattle.history_model.specs.Journal.{act_words, record_line, record_lines, mark_line, journal_of}
 use Rattle.history_model.specs.Spelling.{cell_list, box_list, ball_list, act_list, IsSmallCell, IsSmallBox, IsSmall}
-use Rattle.history_model.specs.Entries.{IsRecord, IsMark, AreMarks, IsTold, record_list, mark_list, side_list, line_of, header, record_texts, mark_texts, front_lines, last_lines}
+use Rattle.history_model.specs.Entries.{IsRecord, IsMark, AreMarks, IsTold, record_list, mark_list, side_list, header, record_texts, mark_texts, front_lines, last_lines}
 use Rattle.history_model.proofs.EntryLaws.{lies_small}
 use Rattle.history_model.proofs.MarkLaws.{side_small}
 
@@ -102,7 +102,7 @@ join_cons line [] some = absurd (omega arith)
 join_cons line (next ∷ more) some = refl
 
 -- the text of an act, and of its words
-words_joined : (act : Act) → line_of (act_list act) ≡ words_of act
+words_joined : (act : Act) → line_of (act_list act) ≡ act_words act
 words_joined (Fill b) = simp append_assoc refl
 words_joined (Erase b) = simp append_assoc refl
 words_joined (Ball b) = simp append_assoc refl

@@ -5,12 +5,12 @@ use Rattle.std.proofs.Math.Nat.{pow-suc}
 use Rattle.std.proofs.lemmas.List.{append-nil}
 use lib.Pow.{pow_mono}
 use Rattle.std.specs.List.{AllByRecursion}
-use Rattle.plain_text.specs.Parts.{words, lines}
+use Rattle.plain_text.specs.Parts.{words, lines, line_of}
 use Rattle.history_model.specs.declared.histories.Record.{Record}
 use Rattle.history_model.specs.declared.histories.Mark.{Mark}
 use Rattle.history_model.specs.Logs.{Log}
 use Rattle.history_model.specs.Journal.{journal_of}
-use Rattle.history_model.specs.Entries.{IsRecord, AreMarks, IsTold, mark_list, side_list, line_of, record_texts, mark_texts, front_lines, last_lines}
+use Rattle.history_model.specs.Entries.{IsRecord, AreMarks, IsTold, mark_list, side_list, record_texts, mark_texts, front_lines, last_lines}
 use Rattle.history_model.proofs.MarkLaws.{marks_once, sides_once, side_small}
 use Rattle.history_model.proofs.JournalLaws.{mark_words, side_words, end_words, journal_lines}
 use Rattle.history_model.proofs.GoingOn.{peel_records, tail_no_record, last_is, first, rest_of}

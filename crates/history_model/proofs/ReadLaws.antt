@@ -12,7 +12,7 @@ use Rattle.history_model.specs.Following.{IsJournalLines}
 use Rattle.history_model.proofs.TakingLaws.{end_unfit, line_unfit, journal_read}
 use Rattle.history_model.specs.declared.reading.JournalFault.{JournalFault}
 use Rattle.history_model.specs.declared.reading.JournalFault.TheVariants.{Line, Memory}
-use Rattle.history_model.specs.Refusals.{Refuses, RefusesLines, RefusesEntry}
+use Rattle.history_model.specs.Refusals.{RefusesJournal, RefusesLines, RefusesEntry}
 use Rattle.plain_text.specs.PartLaws.{unfit_none}
 use Rattle.history_model.proofs.JournalLaws.{journal_lines}
 use Rattle.history_model.proofs.OnceLaws.{journals_once}
@@ -51,7 +51,7 @@ all_told text side entries (Ok h) whole is = (is.0, journal_read text h (whole �
 all_told text side entries (Err fault) whole is = tt
 
 -- the text of a history is refused for want of memory alone
-pub told_read : (text : List ℕ) (log : Log) (fault : JournalFault) → IsTold log → text ≡ journal_of log → Refuses fault text → fault ≡ Memory
+pub told_read : (text : List ℕ) (log : Log) (fault : JournalFault) → IsTold log → text ≡ journal_of log → RefusesJournal fault text → fault ≡ Memory
 told_read text log (Line n) told is refuses =
     let journal : IsJournalLines (lines text) = (log, told, ap lines is ∙ journal_lines log told) in
     absurd (unfit_none IsJournalLines (lines text) refuses.front refuses.rest refuses.whole refuses.unfit journal)

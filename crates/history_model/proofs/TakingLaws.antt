@@ -3,13 +3,13 @@ use Rattle.std.specs.Prelude.{◌≡◌, ℕ, suc, Some, None, ◌+◌, ◌-◌,
 use Rattle.std.proofs.Common.{inl, inr, ap, sym, ◌∙◌, subst, arith, append_assoc, length-append}
 use Rattle.std.proofs.lemmas.List.{append-nil}
 use Rattle.std.specs.List.{AllByRecursion, join_with_byte, slice_get}
-use Rattle.plain_text.specs.Parts.{words, lines, Unfit, FirstUnfit}
+use Rattle.plain_text.specs.Parts.{words, lines, Unfit, FirstUnfit, line_of}
 use Rattle.plain_text.specs.PartLaws.{parts_joined, lines_some}
 use Rattle.history_model.specs.declared.histories.Record.{Record}
 use Rattle.history_model.specs.declared.histories.Mark.{Mark}
 use Rattle.history_model.specs.Logs.{Log}
 use Rattle.history_model.specs.Journal.{journal_of}
-use Rattle.history_model.specs.Entries.{IsRecord, IsNextMark, IsSide, AreMarks, IsTold, record_list, mark_list, side_list, line_of, header, record_texts, mark_texts, front_lines, last_lines, next_version}
+use Rattle.history_model.specs.Entries.{IsRecord, IsNextMark, IsSide, AreMarks, IsTold, record_list, mark_list, side_list, header, record_texts, mark_texts, front_lines, last_lines, next_version}
 use Rattle.history_model.proofs.MarkLaws.{side_small}
 use Rattle.history_model.proofs.JournalLaws.{record_words, mark_words, side_words, end_words, journal_joined}
 use Rattle.history_model.proofs.GoingOn.{goes_on}

@@ -11,15 +11,16 @@ use Rattle.history_model.specs.declared.acts.Act.{Act}
 use Rattle.history_model.specs.declared.histories.Record.{Record}
 use Rattle.history_model.specs.declared.histories.Mark.{Mark}
 use Rattle.history_model.specs.Logs.{Log}
-use Rattle.history_model.specs.Reach.{LiesIn}
+use Rattle.history_model.specs.Reach.{ActLiesIn}
 use Rattle.history_model.specs.Journal.{journal_of}
 use Rattle.history_model.specs.Spelling.{three_numbers, act_spelled, cell_list, act_list}
+use Rattle.plain_text.specs.Parts.{line_of}
 
 -- ---- bounds
 
 -- what a record keeps to, in a world whose side has this exponent
 abbrev pub IsRecord : ℕ → Record → Type 0
-IsRecord side r = (r.session < 64) × (r.line < 2 ^ 32) × LiesIn (2 ^ side) r.act
+IsRecord side r = (r.session < 64) × (r.line < 2 ^ 32) × ActLiesIn (2 ^ side) r.act
 
 -- what a mark keeps to, behind so many records
 abbrev pub IsMark : ℕ → Mark → Type 0
@@ -28,7 +29,8 @@ IsMark count m = (m.version < m.at) × (m.at ≤ count) × (m.session < 64) × (
 -- marks of rising versions, of which the first is at least this one
 abbrev pub AreMarks : ℕ → ℕ → List Mark → Type 0
 AreMarks count least [] = ⊤
-AreMarks count least (m ∷ more) = (least ≤ m.version) × IsMark count m × AreMarks count (m.version + 1) more
+AreMarks count least (m ∷ more) =
+    (least ≤ m.version) × IsMark count m × AreMarks count (m.version + 1) more
 
 -- a history that a journal can tell
 pub record IsTold (log : Log) : Type 0 where
@@ -50,7 +52,8 @@ abbrev pub record_list : ℕ → Record → List (List ℕ)
 record_list n r = cell_list (cell_at n r.session r.line) (act_list r.act)
 
 abbrev pub mark_list : Mark → List (List ℕ)
-mark_list m = codes "mark" ∷ decimal m.version ∷ decimal m.at ∷ decimal m.session ∷ decimal m.line ∷ []
+mark_list m =
+    codes "mark" ∷ decimal m.version ∷ decimal m.at ∷ decimal m.session ∷ decimal m.line ∷ []
 
 -- the three numbers of a record's line, and its act
 unfoldable pub entry_spelled : List (List ℕ) → Result (Cell × Act) WordFault
@@ -91,10 +94,6 @@ IsSide exponent = (2 ≤ exponent) × (exponent ≤ 12)
 
 -- ---- lines
 
--- words with one space between any two
-abbrev pub line_of : List (List ℕ) → List ℕ
-line_of words = join_with_byte 32 words
-
 abbrev pub header : List ℕ
 header = codes "voxdag journal 1"
 
@@ -109,7 +108,8 @@ mark_texts (m ∷ more) = line_of (mark_list m) ∷ mark_texts more
 
 -- the lines of a history before the last one
 abbrev pub front_lines : Log → List (List ℕ)
-front_lines log = header ∷ line_of (side_list log.side) ∷ (record_texts 1 log.records ++ mark_texts log.marks)
+front_lines log =
+    header ∷ line_of (side_list log.side) ∷ (record_texts 1 log.records ++ mark_texts log.marks)
 
 -- the last line, and what stands behind its end
 abbrev pub last_lines : List (List ℕ)

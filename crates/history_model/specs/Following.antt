@@ -1,10 +1,11 @@
--- How the lines of a journal go on behind those of a history: with a record, with a mark, or with the last line.
+-- How the lines of a journal go on behind those of a history: with a record, with a mark, or with
+-- the last line.
 use Rattle.std.specs.Prelude.{◌≡◌, ℕ, ◌+◌, ◌<◌, ◌⊎◌, List, [], ◌∷◌, ◌++◌, length}
-use Rattle.plain_text.specs.Parts.{words}
+use Rattle.plain_text.specs.Parts.{words, line_of}
 use Rattle.history_model.specs.declared.histories.Record.{Record}
 use Rattle.history_model.specs.declared.histories.Mark.{Mark}
 use Rattle.history_model.specs.Logs.{Log}
-use Rattle.history_model.specs.Entries.{IsRecord, IsNextMark, IsTold, record_list, mark_list, line_of, front_lines, last_lines, next_version}
+use Rattle.history_model.specs.Entries.{IsRecord, IsNextMark, IsTold, record_list, mark_list, front_lines, last_lines, next_version}
 
 -- the lines are those of a journal
 abbrev pub IsJournalLines : List (List ℕ) → Type 0

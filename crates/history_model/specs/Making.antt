@@ -13,7 +13,7 @@ pub record MayMake (side : ℕ) (models : List Content) (act : Act)
   pub each : (q : Cell) → IsInWorld side q → after q ≡ edited models act before q
 
 -- what a test of cells answers is whether the cell is set in the world
-pub record Tells (answers : Cell → Bool → Type 0) (w : World) : Type 0 where
+pub record TellsWorld (answers : Cell → Bool → Type 0) (w : World) : Type 0 where
   pub each : (q : Cell) (r : Bool) → answers q r → r ≡ w q
 
 -- the cell after is as the edit makes it

@@ -12,8 +12,9 @@ factor d = max 1 (ahead d + behind d)
 abbrev pub scale : Heading → ℕ
 scale h = 2 * (factor h.dx * (factor h.dy * factor h.dz))
 
--- c is (l (2 o + 1) + k d) / 2 l, rounded down: the place on one axis at instant k of a ray that begins at the centre
--- of cell o and goes by steps of d, where an instant is 1 / 2 l of the time of a whole step
+-- c is (l (2 o + 1) + k d) / 2 l, rounded down: the place on one axis at instant k of a ray that
+-- begins at the centre of cell o and goes by steps of d, where an instant is 1 / 2 l of the time of
+-- a whole step
 abbrev pub Passes : ℕ → ℕ → ℤ → ℕ → ℕ → Type 0
 Passes l o d k c =
     (2 * l * c + k * behind d ≤ l * (2 * o + 1) + k * ahead d)
@@ -26,11 +27,13 @@ pub record IsAt (from : Cell) (h : Heading) (k : ℕ) (c : Cell) : Type 0 where
   pub z : Passes (scale h) from.z h.dz k c.z
 
 -- before instant k the ray meets no set cell of a world of this side
-pub record ClearBefore (from : Cell) (h : Heading) (side : ℕ) (cells : Cell → Bool) (k : ℕ) : Type 0 where
+pub record ClearBefore (from : Cell) (h : Heading) (side : ℕ) (cells : Cell → Bool)
+    (k : ℕ) : Type 0 where
   pub each : (j : ℕ) (c : Cell) → j < k → IsAt from h j c → IsInWorld side c → cells c ≡ false
 
 -- c is set, and there is no set cell at an earlier instant
-pub record IsHit (from : Cell) (h : Heading) (side : ℕ) (cells : Cell → Bool) (c : Cell) : Type 0 where
+pub record IsHit (from : Cell) (h : Heading) (side : ℕ) (cells : Cell → Bool)
+    (c : Cell) : Type 0 where
   pub instant : ℕ
   pub at : IsAt from h instant c
   pub in_world : IsInWorld side c

@@ -8,9 +8,9 @@ use Rattle.history_model.specs.declared.reading.JournalFault.{JournalFault}
 use Rattle.history_model.specs.declared.reading.JournalFault.TheVariants.{Line, Memory}
 
 -- the line is the first that doesn't fit; want of memory says nothing
-abbrev pub Refuses : JournalFault → List ℕ → Type 0
-Refuses (Line n) text = FirstUnfit IsJournalLines (lines text) n
-Refuses Memory text = Unit {0}
+abbrev pub RefusesJournal : JournalFault → List ℕ → Type 0
+RefusesJournal (Line n) text = FirstUnfit IsJournalLines (lines text) n
+RefusesJournal Memory text = Unit {0}
 
 -- the same of lines
 abbrev pub RefusesLines : JournalFault → List (List ℕ) → Type 0

@@ -3,7 +3,7 @@ ghost use Rattle.plain_text.specs.Parts.{words};
 ghost use Rattle.plain_text.specs.Steps.{Gives};
 ghost use Rattle.history_model.specs.Packing.{Reads};
 ghost use Rattle.vw_cell.specs.Counts.{cell_at};
-ghost use Rattle.history_model.specs.Reach.{LiesIn};
+ghost use Rattle.history_model.specs.Reach.{ActLiesIn};
 ghost use Rattle.history_model.specs.Spelled.{act_of};
 ghost use Rattle.history_model.specs.Entries.{IsRecord, IsNextMark, IsSide, record_list, mark_list, side_list, entry_spelled, mark_spelled, side_spelled};
 
@@ -28,7 +28,7 @@ pub(crate) fn read_record(line: &[u8], number: u32, side: Side) -> Option<Record
 // The record with these numbers and this act.
 fn record_of(head: Three, spelled: &Spelled, number: u32, side: Side) -> Option<Record>
     ensures { MatchOption result
-        (head.x ≡ number → head.y < 64 → LiesIn (2 ^ side) (act_of spelled.now) → ⊥)
+        (head.x ≡ number → head.y < 64 → ActLiesIn (2 ^ side) (act_of spelled.now) → ⊥)
         (λ r. IsRecord side r
         × (head ≡ cell_at number r.session r.line)
         × (r.act ≡ act_of spelled.now)) }

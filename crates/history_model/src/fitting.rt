@@ -1,7 +1,7 @@
 ghost use Rattle.std.specs.Prelude.{◌↔◌, ◌^◌, IsTrue};
 ghost use Rattle.std.specs.List.{slice_get};
 ghost use Rattle.vw_cell.specs.Places.{FitsAt};
-ghost use Rattle.history_model.specs.Logs.{Fits, FitsModel};
+ghost use Rattle.history_model.specs.Logs.{FitsWorld, FitsModel};
 
 use crate::acts::Act;
 use vox_read::Models;
@@ -10,7 +10,7 @@ use vw_cell::{Ball, Boxed, Cell, Side};
 impl Act {
     /// Whether the act lies in the world of this side, and its model is there.
     pub fn fits(&self, side: Side, models: &Models) -> bool
-        ensures { IsTrue result ↔ Fits (2 ^ side) models.now self.now }
+        ensures { IsTrue result ↔ FitsWorld (2 ^ side) models.now self.now }
     {
         match self {
             Act::Fill(b) => fits_at(b.at, b.size, side),

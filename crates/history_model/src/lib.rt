@@ -1,6 +1,7 @@
 //! Acts on a world, the history of all accepted ones, and the plain meaning of both.
 //!
-//! What the cells of each version are is said in `specs/Moments.antt`, cell by cell and with no tree.
+//! What the cells of each version are is said in `specs/Moments.antt`, cell by cell and with no
+//! tree.
 #![tactic(auto)]
 
 mod acts;

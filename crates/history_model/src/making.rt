@@ -3,8 +3,8 @@ ghost use Rattle.std.specs.List.{slice_get};
 ghost use Rattle.vw_cell.specs.Counts.{cell_at};
 ghost use Rattle.vw_cell.specs.Places.{IsInBox, IsInWorld};
 ghost use Rattle.vox_read.specs.Contents.{is_cell};
-ghost use Rattle.history_model.specs.Logs.{Fits};
-ghost use Rattle.history_model.specs.Making.{LayerIsMade, LayersAreMade, MayMake, RowIsMade, Tells};
+ghost use Rattle.history_model.specs.Logs.{FitsWorld};
+ghost use Rattle.history_model.specs.Making.{LayerIsMade, LayersAreMade, MayMake, RowIsMade, TellsWorld};
 ghost use Rattle.history_model.specs.Worlds.{World, edited, is_edit, is_in_stamp, less, plus};
 
 use crate::acts::Act;
@@ -22,11 +22,11 @@ pub fn may_make<F: Fn(Cell) -> bool, G: Fn(Cell) -> bool>(
     before: &F,
     after: &G,
 ) -> bool
-    requires fits { Fits (2 ^ side) models.now act.now }
+    requires fits { FitsWorld (2 ^ side) models.now act.now }
     requires edit { is_edit act.now ≡ true }
     requires before { F.IsAlwaysCallable before.now }
     requires after { G.IsAlwaysCallable after.now }
-    ensures { (v w : World) → Tells (F.post before.now) v → Tells (G.post after.now) w
+    ensures { (v w : World) → TellsWorld (F.post before.now) v → TellsWorld (G.post after.now) w
         → IsTrue result ↔ MayMake (2 ^ side) models.now act.now v w }
 {
     let cells = side.cells() as u16;
@@ -46,10 +46,10 @@ fn is_layer_made<F: Fn(Cell) -> bool, G: Fn(Cell) -> bool>(
     after: &G,
     z: u16,
 ) -> bool
-    requires fits { Fits (2 ^ side) models.now act.now }
+    requires fits { FitsWorld (2 ^ side) models.now act.now }
     requires before { F.IsAlwaysCallable before.now }
     requires after { G.IsAlwaysCallable after.now }
-    ensures { (v w : World) → Tells (F.post before.now) v → Tells (G.post after.now) w
+    ensures { (v w : World) → TellsWorld (F.post before.now) v → TellsWorld (G.post after.now) w
         → IsTrue result ↔ LayerIsMade (2 ^ side) models.now act.now v w z (2 ^ side) }
 {
     let cells = side.cells() as u16;
@@ -70,10 +70,10 @@ fn is_row_made<F: Fn(Cell) -> bool, G: Fn(Cell) -> bool>(
     y: u16,
     z: u16,
 ) -> bool
-    requires fits { Fits (2 ^ side) models.now act.now }
+    requires fits { FitsWorld (2 ^ side) models.now act.now }
     requires before { F.IsAlwaysCallable before.now }
     requires after { G.IsAlwaysCallable after.now }
-    ensures { (v w : World) → Tells (F.post before.now) v → Tells (G.post after.now) w
+    ensures { (v w : World) → TellsWorld (F.post before.now) v → TellsWorld (G.post after.now) w
         → IsTrue result ↔ RowIsMade models.now act.now v w y z (2 ^ side) }
 {
     let cells = side.cells() as u16;
@@ -89,9 +89,10 @@ fn is_row_made<F: Fn(Cell) -> bool, G: Fn(Cell) -> bool>(
 
 // Whether the edit sets the cell.
 fn is_set<F: Fn(Cell) -> bool>(side: Side, models: &Models, act: &Act, before: &F, q: Cell) -> bool
-    requires fits { Fits (2 ^ side) models.now act.now }
+    requires fits { FitsWorld (2 ^ side) models.now act.now }
     requires before { F.IsAlwaysCallable before.now }
-    ensures { (w : World) → Tells (F.post before.now) w → result ≡ edited models.now act.now w q }
+    ensures { (w : World) → TellsWorld (F.post before.now) w
+        → result ≡ edited models.now act.now w q }
 {
     let _cells = side.cells();
     let was = before(q);

@@ -2,7 +2,7 @@ ghost use Rattle.std.specs.Prelude.{◌≡◌, ◌^◌, ◌<◌, ◌≤◌, Matc
 ghost use Rattle.history_model.specs.declared.spelling.Spelled.TheVariants.{Copy, Stamp};
 ghost use Rattle.vw_cell.specs.Places.{FitsAt, IsInWorld};
 ghost use Rattle.history_model.specs.Worlds.{box_at};
-ghost use Rattle.history_model.specs.Reach.{GivesWhere, LiesIn};
+ghost use Rattle.history_model.specs.Reach.{GivesWhere, ActLiesIn};
 ghost use Rattle.history_model.specs.Spelled.{act_of};
 ghost use Rattle.history_model.specs.Spelling.{IsLarge};
 
@@ -12,7 +12,7 @@ use vw_cell::{Ball, Boxed, Cell, Side};
 
 /// The act that was spelled, where it lies in the world of this side.
 pub(crate) fn place(spelled: &Spelled, side: Side) -> Option<Act>
-    ensures { GivesWhere (LiesIn (2 ^ side) (act_of spelled.now)) (act_of spelled.now) result }
+    ensures { GivesWhere (ActLiesIn (2 ^ side) (act_of spelled.now)) (act_of spelled.now) result }
 {
     match *spelled {
         Spelled::Fill(at, size) => Some(Act::Fill(place_box(at, size, side)?)),

@@ -1,12 +1,12 @@
 ghost use Rattle.std.specs.Prelude.{◌≡◌, ◌+◌, ◌<◌, ◌≤◌, ◌++◌, ◌∷◌, [], length, IfOk, IfErr, MatchResult, MatchOption};
-ghost use Rattle.plain_text.specs.Parts.{lines, words};
+ghost use Rattle.plain_text.specs.Parts.{lines, words, line_of};
 ghost use Rattle.history_model.specs.declared.reading.JournalFault.TheVariants.{Memory};
 ghost use Rattle.history_model.specs.Logs.{Log};
 ghost use Rattle.history_model.specs.Journal.{journal_of};
 ghost use Rattle.history_model.specs.Packing.{Reads};
-ghost use Rattle.history_model.specs.Entries.{IsTold, IsSide, IsRecord, IsNextMark, header, side_list, record_list, mark_list, line_of, begun, front_lines, last_lines, next_version};
+ghost use Rattle.history_model.specs.Entries.{IsTold, IsSide, IsRecord, IsNextMark, header, side_list, record_list, mark_list, begun, front_lines, last_lines, next_version};
 ghost use Rattle.history_model.specs.Following.{NoRecordIn, RecordIn};
-ghost use Rattle.history_model.specs.Refusals.{Refuses, RefusesEntry, RefusesLines};
+ghost use Rattle.history_model.specs.Refusals.{RefusesJournal, RefusesEntry, RefusesLines};
 
 use crate::entries::{read_mark, read_record, read_side};
 use crate::histories::{History, Mark, Record};
@@ -46,11 +46,11 @@ const END: &[u8] = b"end";
 /// The most records of a history.
 const RECORDS: usize = 65_535;
 
-/// The history that a journal tells, or the first line that doesn't fit. Whether its undos, redos and marks are
-/// legal is not asked here.
+/// The history that a journal tells, or the first line that doesn't fit. Whether its undos, redos
+/// and marks are legal is not asked here.
 pub fn read_journal(alloc: Global, bytes: &[u8]) -> Result<History, JournalFault>
     ensures read { IfOk result (λ h. IsTold h × (bytes.now ≡ journal_of h)) }
-    ensures refused { IfErr result (λ fault. Refuses fault bytes.now) }
+    ensures refused { IfErr result (λ fault. RefusesJournal fault bytes.now) }
     ensures comes { (log : Log) → IsTold log → bytes.now ≡ journal_of log
         → MatchResult result (λ h. h ≡ log) (λ fault. fault ≡ Memory) }
 {
@@ -92,7 +92,7 @@ fn read_entries(alloc: Global, side: Side, entries: &[u8]) -> Result<History, Jo
 #[tactic(auto, using(crate::proofs::TakingLaws::head_tail, crate::proofs::TakingLaws::head_line))]
 fn read_head(bytes: &[u8]) -> Result<(Side, &[u8]), JournalFault>
     ensures read { IfOk result (λ h. IsSide h.0 × (lines bytes.now ≡ begun h.0 ++ lines h.1.now)) }
-    ensures refused { IfErr result (λ fault. Refuses fault bytes.now) }
+    ensures refused { IfErr result (λ fault. RefusesJournal fault bytes.now) }
 {
     let Some((first, rest)) = split_line(bytes) else {
         return Err(JournalFault::Line(1));

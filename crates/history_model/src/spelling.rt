@@ -8,7 +8,8 @@ use plain_text::{
 };
 use std::marker::Model;
 
-/// Three numbers as they are spelled. Contracts see them as a cell, which may lie outside of every world.
+/// Three numbers as they are spelled. Contracts see them as a cell, which may lie outside of every
+/// world.
 #[derive(Clone, Copy)]
 pub struct Three {
     pub x: u32,
@@ -55,8 +56,8 @@ const UNDO: &[u8] = b"undo";
 
 const REDO: &[u8] = b"redo";
 
-/// The act of this name with the words that follow it, or the first fault: too few or too many words, then a
-/// word that isn't `to` in its place, then a word that is no number.
+/// The act of this name with the words that follow it, or the first fault: too few or too many
+/// words, then a word that isn't `to` in its place, then a word that is no number.
 #[tactic(auto, unfolding(crate::specs::Spelling::act_spelled))]
 pub fn read_act<'l, W: WordSource<'l>>(name: &[u8], words: &mut W) -> Result<Spelled, WordFault>
     ensures { Gives act_of result (act_spelled W.spells name.now (W.words words.old)) }

@@ -27,7 +27,8 @@ impl Model for Way {
 const STEP: i16 = 1024;
 
 impl Way {
-    /// The way with these steps, each at most 1,024 cells to either side. `None` also where all are 0.
+    /// The way with these steps, each at most 1,024 cells to either side. `None` also where all are
+    /// 0.
     pub fn new(dx: i16, dy: i16, dz: i16) -> Option<Way>
         ensures exactly { IsSome result ↔ IsHeading (heading_of dx dy dz) }
         ensures value { IfSome result (λ way. way ≡ heading_of dx dy dz) }

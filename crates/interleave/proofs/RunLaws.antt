@@ -6,7 +6,7 @@ use Rattle.vw_cell.specs.declared.cells.Cell.{Cell}
 use Rattle.vox_read.specs.Contents.{Content}
 use Rattle.node_shapes.specs.declared.names.Name.{Name}
 use Rattle.node_words.specs.Plans.{Layout}
-use Rattle.history_model.specs.Moments.{has}
+use Rattle.history_model.specs.Moments.{world_has}
 use Rattle.core_laws.specs.States.{State, Holds, IsLive, IsUnder, tree_of}
 use Rattle.core_laws.specs.Soundness.{Sound}
 use Rattle.core_laws.specs.StepStatements.{IsSpared}
@@ -16,10 +16,10 @@ use Rattle.core_laws.proofs.RootCells.{empty_sound, same_cells, same_root}
 use Rattle.core_laws.proofs.StepLaws.{step_sound, of_step, step_cells, tree_kept, step_spares, leaves}
 use Rattle.world_core.specs.declared.events.Event.{Event}
 use Rattle.world_core.specs.declared.events.Reply.{Reply}
-use Rattle.world_core.specs.Answering.{Answers}
+use Rattle.world_core.specs.Answering.{Replies}
 use Rattle.world_core.specs.Beginning.{HasBegun}
 use Rattle.interleave.specs.Runs.{IsRun, HasRun, event_at, reply_at}
-use Rattle.interleave.specs.Statements.{session_of, StatesAreSound, RootsTellCells, VersionsKeepCells, HeldShapesStay, SharesAreSpared, EntriesLeaveByLastShares, LeavesByLastShare}
+use Rattle.interleave.specs.Statements.{session_of, StatesAreSound, RootsTellCells, VersionsKeepCells, HeldShapesStay, RunsSpareShares, EntriesLeaveByLastShares, LeavesByLastShare}
 use Rattle.interleave.proofs.Steps.{Moves, answers_step}
 
 module _ (p : Layout) (models : List Content) (sessions : ℕ) (events : List Event) (low : 2 ≤ p.side) where
@@ -46,8 +46,8 @@ module _ (p : Layout) (models : List Content) (sessions : ℕ) (events : List Ev
       (same_cells p models (states k) low s v w of_v of_w, same_root p models (states k) low s v w of_v of_w)
 
   moves_cells : (session : ℕ) (old new : State) (v : ℕ) (q : Cell) → Moves p models session old new
-      → v ≤ length old.log.records → has models new.log.records v q ≡ has models old.log.records v q
-  moves_cells session old new v q (inl same) le = ap (λ (x : State). has models x.log.records v q) same
+      → v ≤ length old.log.records → world_has models new.log.records v q ≡ world_has models old.log.records v q
+  moves_cells session old new v q (inl same) le = ap (λ (x : State). world_has models x.log.records v q) same
   moves_cells session old new v q (inr step) le = step_cells p models session old new v q step le
 
   pub cells_at : VersionsKeepCells p models sessions events
@@ -78,7 +78,7 @@ module _ (p : Layout) (models : List Content) (sessions : ℕ) (events : List Ev
   moves_spare session other old new m n s (inr step) apart held under =
       step_spares p session other n m old new s.entries (of_step p models session old new step) apart held under
 
-  pub spared_at : SharesAreSpared p models sessions events
+  pub spared_at : RunsSpareShares p models sessions events
   spared_at replies states k run lt session m n apart held under =
       moves_spare (session_of (event_at events k)) session (states k) (states (k + 1)) m n
       (sound_at replies states k run (omega arith)) (moves replies states k run lt) apart held under
@@ -120,17 +120,17 @@ run_begins p models sessions events replies s no_event no_reply begun =
     }
 
 same_answers : (p : Layout) (models : List Content) (e e' : Event) (r r' : Reply) (s s' t t' : State)
-    → e' ≡ e → r' ≡ r → s' ≡ s → t' ≡ t → Answers p models e r s t → Answers p models e' r' s' t'
+    → e' ≡ e → r' ≡ r → s' ≡ s → t' ≡ t → Replies p models e r s t → Replies p models e' r' s' t'
 same_answers p models e e' r r' s s' t t' of_e of_r of_s of_t answer =
-    subst (λ (x : Event). Answers p models x r' s' t') (sym of_e)
-    (subst (λ (x : Reply). Answers p models e x s' t') (sym of_r)
-    (subst (λ (x : State). Answers p models e r x t') (sym of_s)
-    (subst (λ (x : State). Answers p models e r s x) (sym of_t) answer)))
+    subst (λ (x : Event). Replies p models x r' s' t') (sym of_e)
+    (subst (λ (x : Reply). Replies p models e x s' t') (sym of_r)
+    (subst (λ (x : State). Replies p models e r x t') (sym of_s)
+    (subst (λ (x : State). Replies p models e r s x) (sym of_t) answer)))
 
 -- one more event
 pub run_more : (p : Layout) (models : List Content) (sessions : ℕ) (events : List Event)
     (replies : List Reply) (e : Event) (r : Reply) (s t : State) → HasRun p models sessions events replies s
-    → Answers p models e r s t → HasRun p models sessions (events ++ e ∷ []) (replies ++ r ∷ []) t
+    → Replies p models e r s t → HasRun p models sessions (events ++ e ∷ []) (replies ++ r ∷ []) t
 run_more p models sessions events replies e r s t h answer = record {
   states = more h.states (length events) t;
   run = record {
@@ -161,11 +161,11 @@ run_more p models sessions events replies e r s t h answer = record {
 pub run_next : (p q : Layout) (models others : List Content) (sessions : ℕ) (events : List Event) (k : ℕ)
     (replies told : List Reply) (e d : Event) (r : Reply) (s t : State) → q ≡ p → others ≡ models
     → k < length events → e ≡ get_or events k d → told ≡ replies ++ r ∷ []
-    → HasRun p models sessions (take k events) replies s → Answers q others e r s t
+    → HasRun p models sessions (take k events) replies s → Replies q others e r s t
     → HasRun p models sessions (take (k + 1) events) told t
 run_next p q models others sessions events k replies told e d r s t of_p of_m lt its push h answer =
-    let here : Answers p models e r s t = subst (λ (x : Layout). Answers x models e r s t) of_p
-    (subst (λ (x : List Content). Answers q x e r s t) of_m answer) in
+    let here : Replies p models e r s t = subst (λ (x : Layout). Replies x models e r s t) of_p
+    (subst (λ (x : List Content). Replies q x e r s t) of_m answer) in
     let up : take k events ++ e ∷ [] ≡ take (k + 1) events =
     ap (λ (x : Event). take k events ++ x ∷ []) its ∙ sym (Rattle.std.proofs.lemmas.List.take_more events k d lt) in
     subst (λ (es : List Event). HasRun p models sessions es told t) up

@@ -12,8 +12,8 @@ use Rattle.world_core.specs.declared.events.Event.{Event}
 use Rattle.world_core.specs.declared.events.Event.TheVariants.{Leaf, Node, Raise, Lower, Pin, Append, Forget}
 use Rattle.world_core.specs.declared.events.Reply.{Reply}
 use Rattle.world_core.specs.declared.events.Reply.TheVariants.{Held, Full, Left, Freed, Pinned, NoVersion, Forgotten, Appended, LogFull, Stale, Forgot, IsHead}
-use Rattle.world_core.specs.Effects.{Takes, finds, opens}
-use Rattle.world_core.specs.Answering.{Answers, Happens, happens, refuses}
+use Rattle.world_core.specs.Effects.{TakesOne, finds, opens}
+use Rattle.world_core.specs.Answering.{Replies, Happens, happens, refuses}
 use Rattle.interleave.specs.Statements.{session_of}
 
 -- nothing changed, or the session took a step
@@ -21,7 +21,7 @@ abbrev pub Moves : Layout → List Content → ℕ → State → State → Type 
 Moves p models session old new = (new ≡ old) ⊎ Step p models session old new
 
 takes_step : (p : Layout) (models : List Content) (session level : ℕ) (key : Key) (n : Name) (old new : State)
-    → Takes p session level key n old new → new.log ≡ old.log → Step p models session old new
+    → TakesOne p session level key n old new → new.log ≡ old.log → Step p models session old new
 takes_step p models session level key n old new (finds f) log = stores (raises n f.raises) f.raises.roots log
 takes_step p models session level key n old new (opens o) log = stores (adds n key o.adds) o.adds.roots log
 
@@ -53,6 +53,6 @@ happens_step p models (Forget s line version) (Forgotten at mark) old new h = in
 happens_step p models (Forget s line version) _ old new h = absurd h
 
 pub answers_step : (p : Layout) (models : List Content) (e : Event) (r : Reply) (old new : State)
-    → Answers p models e r old new → Moves p models (session_of e) old new
+    → Replies p models e r old new → Moves p models (session_of e) old new
 answers_step p models e r old new (happens lawful h) = happens_step p models e r old new h
 answers_step p models e r old new (refuses unlawful told same) = inl same

@@ -7,7 +7,7 @@ use Rattle.world_core.specs.declared.events.Event.{Event}
 use Rattle.world_core.specs.declared.events.Event.TheVariants.{Pin}
 use Rattle.world_core.specs.declared.events.Reply.{Reply}
 use Rattle.world_core.specs.declared.events.Reply.TheVariants.{Unlawful}
-use Rattle.world_core.specs.Answering.{Answers}
+use Rattle.world_core.specs.Answering.{Replies}
 use Rattle.world_core.specs.Beginning.{HasBegun}
 
 -- the event and the reply at a place, any ones past the end
@@ -23,7 +23,7 @@ pub record IsRun (p : Layout) (models : List Content) (sessions : ℕ) (events :
   pub begins : HasBegun p sessions (states 0)
   pub as_many : length replies ≡ length events
   pub each : (k : ℕ) → k < length events
-      → Answers p models (event_at events k) (reply_at replies k) (states k) (states (k + 1))
+      → Replies p models (event_at events k) (reply_at replies k) (states k) (states (k + 1))
 
 -- the events led to this state with these replies
 pub record HasRun (p : Layout) (models : List Content) (sessions : ℕ) (events : List Event)

@@ -4,7 +4,7 @@ use Rattle.vw_cell.specs.declared.cells.Cell.{Cell}
 use Rattle.vox_read.specs.Contents.{Content}
 use Rattle.node_shapes.specs.declared.names.Name.{Name}
 use Rattle.node_words.specs.Plans.{Layout}
-use Rattle.history_model.specs.Moments.{has}
+use Rattle.history_model.specs.Moments.{world_has}
 use Rattle.block_contents.specs.Versions.{IsKept, SameWorld}
 use Rattle.core_laws.specs.Events.{Frees}
 use Rattle.core_laws.specs.Soundness.{Sound}
@@ -31,7 +31,8 @@ ForStates p models sessions events P = (replies : List Reply) (states : ℕ → 
     → IsRun p models sessions events replies states → k ≤ length events → P (states k)
 
 -- P of each event of each run, with the states before and after it
-abbrev pub ForSteps : Layout → List Content → ℕ → List Event → (Event → State → State → Type 0) → Type 0
+abbrev pub ForSteps : Layout → List Content → ℕ → List Event → (Event → State → State → Type 0)
+    → Type 0
 ForSteps p models sessions events P = (replies : List Reply) (states : ℕ → State) (k : ℕ)
     → IsRun p models sessions events replies states → k < length events
     → P (event_at events k) (states k) (states (k + 1))
@@ -47,7 +48,8 @@ HaveOneRoot state v w = state.root v ≡ state.root w
 -- versions have the same cells
 abbrev pub HaveSameCells : Layout → List Content → State → ℕ → ℕ → Type 0
 HaveSameCells p models state v w =
-    SameWorld (2 ^ p.side) (has models state.log.records v) (has models state.log.records w)
+    SameWorld (2 ^ p.side) (world_has models state.log.records v)
+    (world_has models state.log.records w)
 
 -- two versions that are kept have one root just where their cells agree
 abbrev pub RootsTellCells : Layout → List Content → ℕ → List Event → Type 0
@@ -60,7 +62,7 @@ RootsTellCells p models sessions events = ForStates p models sessions events
 abbrev pub VersionsKeepCells : Layout → List Content → ℕ → List Event → Type 0
 VersionsKeepCells p models sessions events = ForSteps p models sessions events
     (λ event old new. (v : ℕ) (q : Cell) → v ≤ length old.log.records
-    → has models new.log.records v q ≡ has models old.log.records v q)
+    → world_has models new.log.records v q ≡ world_has models old.log.records v q)
 
 -- what a session holds before and after an event keeps its tree, and so its shape
 abbrev pub HeldShapesStay : Layout → List Content → ℕ → List Event → Type 0
@@ -69,14 +71,15 @@ HeldShapesStay p models sessions events = ForSteps p models sessions events
     → tree_of new n ≡ tree_of old n)
 
 -- what stands at or below a share of one session is spared by the events of all others
-abbrev pub SharesAreSpared : Layout → List Content → ℕ → List Event → Type 0
-SharesAreSpared p models sessions events = ForSteps p models sessions events
+abbrev pub RunsSpareShares : Layout → List Content → ℕ → List Event → Type 0
+RunsSpareShares p models sessions events = ForSteps p models sessions events
     (λ event old new. (session : ℕ) (m n : Name) → session ≢ session_of event
     → Holds old.held session n → IsUnder old.key m n → IsSpared p old new m)
 
 -- an entry leaves by the lower alone that finds its book at 1, and its children are then the
 -- session's
-pub record LeavesByLastShare (p : Layout) (n : Name) (event : Event) (old new : State) : Type 0 where
+pub record LeavesByLastShare (p : Layout) (n : Name) (event : Event)
+    (old new : State) : Type 0 where
   pub last : old.book n ≡ 1
   pub frees : Frees p (session_of event) n old new
 

@@ -1,7 +1,7 @@
 ghost use Rattle.std.specs.Prelude.{◌≡◌, ◌≤◌, IfOk, OnOk};
 ghost use Rattle.interleave.specs.Runs.{HasRun};
 ghost use Rattle.interleave.specs.Statements.{EntriesLeaveByLastShares, HeldShapesStay};
-ghost use Rattle.interleave.specs.Statements.{RootsTellCells, SharesAreSpared, StatesAreSound};
+ghost use Rattle.interleave.specs.Statements.{RootsTellCells, RunsSpareShares, StatesAreSound};
 ghost use Rattle.interleave.specs.Statements.{VersionsKeepCells};
 ghost use Rattle.world_core.specs.Stored.{state_of};
 
@@ -36,7 +36,7 @@ pub fn run_events<'m>(
     ensures roots { OnOk result (RootsTellCells plan.now models.entry.now sessions events.now) }
     ensures cells { OnOk result (VersionsKeepCells plan.now models.entry.now sessions events.now) }
     ensures shares { OnOk result (HeldShapesStay plan.now models.entry.now sessions events.now) }
-    ensures spared { OnOk result (SharesAreSpared plan.now models.entry.now sessions events.now) }
+    ensures spared { OnOk result (RunsSpareShares plan.now models.entry.now sessions events.now) }
     ensures leaves { OnOk result
         (EntriesLeaveByLastShares plan.now models.entry.now sessions events.now) }
 {

@@ -10,8 +10,8 @@ use Rattle.history_model.specs.declared.acts.Act.{Act}
 use Rattle.history_model.specs.declared.acts.Act.TheVariants.{Fill, Erase, Ball, Carve, Copy, Stamp, Undo, Redo}
 use Rattle.history_model.specs.declared.histories.Record.{Record}
 use Rattle.history_model.specs.declared.histories.Mark.{Mark}
-use Rattle.history_model.specs.Logs.{Log, Fits, FitsModel, IsLegal}
-use Rattle.history_model.specs.Reach.{LiesIn}
+use Rattle.history_model.specs.Logs.{Log, FitsWorld, FitsModel, IsLegal}
+use Rattle.history_model.specs.Reach.{ActLiesIn}
 use Rattle.history_model.specs.Entries.{IsRecord, AreMarks, IsSide, IsTold}
 use Rattle.journal_laws.specs.Signing.{IsSigned, AreSigned}
 
@@ -30,7 +30,7 @@ stamp_lies side m models (Some model) at same few fits =
     (let within = slice_get_within models m model same in omega (arith, within, few), corner_in side at model.size fits)
 
 act_lies : (side : ℕ) (models : List Content) (act : Act) → length models ≤ 1024
-    → Fits side models act → LiesIn side act
+    → FitsWorld side models act → ActLiesIn side act
 act_lies side models (Fill b) few fits = fits
 act_lies side models (Erase b) few fits = fits
 act_lies side models (Ball ball) few fits = fits
@@ -41,13 +41,13 @@ act_lies side models Undo few fits = tt
 act_lies side models Redo few fits = tt
 
 records_told : (side exponent : ℕ) (models : List Content) (records : List Record)
-    → 2 ^ exponent ≡ side → length models ≤ 1024 → All (λ r. Fits side models r.act) records
+    → 2 ^ exponent ≡ side → length models ≤ 1024 → All (λ r. FitsWorld side models r.act) records
     → All (λ r. IsSigned r.session r.line) records → AllByRecursion (IsRecord exponent) records
 records_told side exponent models [] same few fit signed = tt
 records_told side exponent models (r ∷ more) same few fit signed =
     let here : IsSigned r.session r.line = signed 0 r (omega arith) in
-    let lies : LiesIn side r.act = act_lies side models r.act few (fit 0 r (omega arith)) in (
-      (here.of_64, here.of_32_bits, subst (λ (n : ℕ). LiesIn n r.act) (sym same) lies),
+    let lies : ActLiesIn side r.act = act_lies side models r.act few (fit 0 r (omega arith)) in (
+      (here.of_64, here.of_32_bits, subst (λ (n : ℕ). ActLiesIn n r.act) (sym same) lies),
       records_told side exponent models more same few (λ k d lt. fit (suc k) d (omega arith)) (λ k d lt. signed (suc k) d (omega arith)),
     )
 

@@ -12,7 +12,7 @@ use Rattle.block_walk.specs.Roots.{cells_of}
 use Rattle.block_walk.proofs.LookLaws.{leaf_tells}
 use Rattle.world_questions.specs.declared.directions.Direction.{Direction}
 use Rattle.world_questions.specs.declared.directions.Direction.TheVariants.{LowX, HighX, LowY, HighY, LowZ, HighZ}
-use Rattle.measure.specs.Leaves.{Tells}
+use Rattle.measure.specs.Leaves.{TellsCells}
 use Rattle.measure.specs.Bare.{bare_of, is_next_set}
 use Rattle.measure.proofs.BareLaws.{next_inside, next_beside}
 
@@ -37,7 +37,7 @@ window_shows leaves dx dy dz window x y z k p v across lx ly lz e f g =
     ∙ ap (λ (n : ℕ). bit_at (slice_index leaves k) n) f
     ∙ ap (λ (b : ℕ). bit_at b (bit_number p.x p.y p.z)) g)
 
-pub low_x_tells : (bits beside window : ℕ) (s u : Shape) → LiesAcross (beside ∷ bits ∷ 0 ∷ 0 ∷ 0 ∷ 0 ∷ 0 ∷ 0 ∷ []) 3 0 0 window → bits ≡ bits_of s → beside ≡ bits_of u → Tells window (is_next_set LowX 0 s u)
+pub low_x_tells : (bits beside window : ℕ) (s u : Shape) → LiesAcross (beside ∷ bits ∷ 0 ∷ 0 ∷ 0 ∷ 0 ∷ 0 ∷ 0 ∷ []) 3 0 0 window → bits ≡ bits_of s → beside ≡ bits_of u → TellsCells window (is_next_set LowX 0 s u)
 low_x_tells bits beside window s u across e f = record {
   each = λ x y z lx ly lz. elim (cases_lt 0 x) [
     | inl h ↦ window_shows _ 3 0 0 window x y z 1 (cell_at (x - 1) y z) s across lx ly lz (omega arith) (omega arith) e ∙ sym (next_inside LowX 0 s u (cell_at x y z) (lt-ltb 0 x h))
@@ -45,7 +45,7 @@ low_x_tells bits beside window s u across e f = record {
   ];
 }
 
-pub high_x_tells : (bits beside window : ℕ) (s u : Shape) → LiesAcross (bits ∷ beside ∷ 0 ∷ 0 ∷ 0 ∷ 0 ∷ 0 ∷ 0 ∷ []) 1 0 0 window → bits ≡ bits_of s → beside ≡ bits_of u → Tells window (is_next_set HighX 0 s u)
+pub high_x_tells : (bits beside window : ℕ) (s u : Shape) → LiesAcross (bits ∷ beside ∷ 0 ∷ 0 ∷ 0 ∷ 0 ∷ 0 ∷ 0 ∷ []) 1 0 0 window → bits ≡ bits_of s → beside ≡ bits_of u → TellsCells window (is_next_set HighX 0 s u)
 high_x_tells bits beside window s u across e f = record {
   each = λ x y z lx ly lz. elim (cases_lt (x + 1) 4) [
     | inl h ↦ window_shows _ 1 0 0 window x y z 0 (cell_at (x + 1) y z) s across lx ly lz (omega arith) (omega arith) e ∙ sym (next_inside HighX 0 s u (cell_at x y z) (lt-ltb (x + 1) 4 h))
@@ -53,7 +53,7 @@ high_x_tells bits beside window s u across e f = record {
   ];
 }
 
-pub low_y_tells : (bits beside window : ℕ) (s u : Shape) → LiesAcross (beside ∷ 0 ∷ bits ∷ 0 ∷ 0 ∷ 0 ∷ 0 ∷ 0 ∷ []) 0 3 0 window → bits ≡ bits_of s → beside ≡ bits_of u → Tells window (is_next_set LowY 0 s u)
+pub low_y_tells : (bits beside window : ℕ) (s u : Shape) → LiesAcross (beside ∷ 0 ∷ bits ∷ 0 ∷ 0 ∷ 0 ∷ 0 ∷ 0 ∷ []) 0 3 0 window → bits ≡ bits_of s → beside ≡ bits_of u → TellsCells window (is_next_set LowY 0 s u)
 low_y_tells bits beside window s u across e f = record {
   each = λ x y z lx ly lz. elim (cases_lt 0 y) [
     | inl h ↦ window_shows _ 0 3 0 window x y z 2 (cell_at x (y - 1) z) s across lx ly lz (omega arith) (omega arith) e ∙ sym (next_inside LowY 0 s u (cell_at x y z) (lt-ltb 0 y h))
@@ -61,7 +61,7 @@ low_y_tells bits beside window s u across e f = record {
   ];
 }
 
-pub high_y_tells : (bits beside window : ℕ) (s u : Shape) → LiesAcross (bits ∷ 0 ∷ beside ∷ 0 ∷ 0 ∷ 0 ∷ 0 ∷ 0 ∷ []) 0 1 0 window → bits ≡ bits_of s → beside ≡ bits_of u → Tells window (is_next_set HighY 0 s u)
+pub high_y_tells : (bits beside window : ℕ) (s u : Shape) → LiesAcross (bits ∷ 0 ∷ beside ∷ 0 ∷ 0 ∷ 0 ∷ 0 ∷ 0 ∷ []) 0 1 0 window → bits ≡ bits_of s → beside ≡ bits_of u → TellsCells window (is_next_set HighY 0 s u)
 high_y_tells bits beside window s u across e f = record {
   each = λ x y z lx ly lz. elim (cases_lt (y + 1) 4) [
     | inl h ↦ window_shows _ 0 1 0 window x y z 0 (cell_at x (y + 1) z) s across lx ly lz (omega arith) (omega arith) e ∙ sym (next_inside HighY 0 s u (cell_at x y z) (lt-ltb (y + 1) 4 h))
@@ -69,7 +69,7 @@ high_y_tells bits beside window s u across e f = record {
   ];
 }
 
-pub low_z_tells : (bits beside window : ℕ) (s u : Shape) → LiesAcross (beside ∷ 0 ∷ 0 ∷ 0 ∷ bits ∷ 0 ∷ 0 ∷ 0 ∷ []) 0 0 3 window → bits ≡ bits_of s → beside ≡ bits_of u → Tells window (is_next_set LowZ 0 s u)
+pub low_z_tells : (bits beside window : ℕ) (s u : Shape) → LiesAcross (beside ∷ 0 ∷ 0 ∷ 0 ∷ bits ∷ 0 ∷ 0 ∷ 0 ∷ []) 0 0 3 window → bits ≡ bits_of s → beside ≡ bits_of u → TellsCells window (is_next_set LowZ 0 s u)
 low_z_tells bits beside window s u across e f = record {
   each = λ x y z lx ly lz. elim (cases_lt 0 z) [
     | inl h ↦ window_shows _ 0 0 3 window x y z 4 (cell_at x y (z - 1)) s across lx ly lz (omega arith) (omega arith) e ∙ sym (next_inside LowZ 0 s u (cell_at x y z) (lt-ltb 0 z h))
@@ -77,7 +77,7 @@ low_z_tells bits beside window s u across e f = record {
   ];
 }
 
-pub high_z_tells : (bits beside window : ℕ) (s u : Shape) → LiesAcross (bits ∷ 0 ∷ 0 ∷ 0 ∷ beside ∷ 0 ∷ 0 ∷ 0 ∷ []) 0 0 1 window → bits ≡ bits_of s → beside ≡ bits_of u → Tells window (is_next_set HighZ 0 s u)
+pub high_z_tells : (bits beside window : ℕ) (s u : Shape) → LiesAcross (bits ∷ 0 ∷ 0 ∷ 0 ∷ beside ∷ 0 ∷ 0 ∷ 0 ∷ []) 0 0 1 window → bits ≡ bits_of s → beside ≡ bits_of u → TellsCells window (is_next_set HighZ 0 s u)
 high_z_tells bits beside window s u across e f = record {
   each = λ x y z lx ly lz. elim (cases_lt (z + 1) 4) [
     | inl h ↦ window_shows _ 0 0 1 window x y z 0 (cell_at x y (z + 1)) s across lx ly lz (omega arith) (omega arith) e ∙ sym (next_inside HighZ 0 s u (cell_at x y z) (lt-ltb (z + 1) 4 h))
@@ -86,7 +86,7 @@ high_z_tells bits beside window s u across e f = record {
 }
 
 -- the bits that are set while their next ones aren't
-pub bare_tells : (d : Direction) (bits next : ℕ) (s u : Shape) → next < 2 ^ 64 → bits ≡ bits_of s → Tells next (is_next_set d 0 s u) → Tells (bit_and bits (2 ^ 64 - 1 - next)) (bare_of d 0 s u)
+pub bare_tells : (d : Direction) (bits next : ℕ) (s u : Shape) → next < 2 ^ 64 → bits ≡ bits_of s → TellsCells next (is_next_set d 0 s u) → TellsCells (bit_and bits (2 ^ 64 - 1 - next)) (bare_of d 0 s u)
 bare_tells d bits next s u small e tells = record {
   each = λ x y z lx ly lz.
       let n : ℕ = bit_number x y z in

@@ -19,7 +19,7 @@ use Rattle.block_walk.proofs.PartLaws.{placed_in}
 use Rattle.world_questions.specs.declared.directions.Direction.{Direction}
 use Rattle.world_questions.specs.declared.directions.Direction.TheVariants.{LowX, HighX, LowY, HighY, LowZ, HighZ}
 use Rattle.world_questions.specs.Faces.{has_next, is_bare, faces_in}
-use Rattle.measure.specs.Leaves.{Tells}
+use Rattle.measure.specs.Leaves.{TellsCells}
 use Rattle.measure.specs.Tallies.{in_octant, PassesNone}
 use Rattle.measure.specs.Bare.{is_next_set, bare_of, across, stays, beside_shape, beside_tree, PassesBare}
 use Rattle.measure.proofs.BareLaws.{bare_in}
@@ -35,13 +35,13 @@ nothing_bare d held level block beside test e p = record {
 
 pub leaf_bare : (d : Direction) (a b : Seen) (block beside : Option Name) (bits bits' next word : ℕ) (test : Cell → Bool) → b ≡ a → next < 2 ^ 64 → word ≡ 2 ^ 64 - 1 - next
     → ForBlock a.held 0 block (λ s. bits ≡ bits_of s) → ForBlock b.held 0 beside (λ s. bits' ≡ bits_of s)
-    → ((s u : Shape) → bits ≡ bits_of s → bits' ≡ bits_of u → Tells next (is_next_set d 0 s u))
-    → PassesBare d a.held 0 block beside test → Tells (bit_and bits word) test
+    → ((s u : Shape) → bits ≡ bits_of s → bits' ≡ bits_of u → TellsCells next (is_next_set d 0 s u))
+    → PassesBare d a.held 0 block beside test → TellsCells (bit_and bits word) test
 leaf_bare d a b block beside bits bits' next word test e small w told told' shows p =
     let is = told p.tree p.is_block in
     let is' = told' p.next (block_still a b 0 beside p.next e p.is_beside) in
     let t = bare_tells d bits next (shape_of p.tree) (shape_of p.next) small is (shows (shape_of p.tree) (shape_of p.next) is is') in
-    subst (λ (v : ℕ). Tells (bit_and bits v) test) (sym w) (record { each = λ x y z lx ly lz. t.each x y z lx ly lz ∙ sym (p.shows (cell_at x y z) (record { x = lx; y = ly; z = lz })) })
+    subst (λ (v : ℕ). TellsCells (bit_and bits v) test) (sym w) (record { each = λ x y z lx ly lz. t.each x y z lx ly lz ∙ sym (p.shows (cell_at x y z) (record { x = lx; y = ly; z = lz })) })
 
 -- the tree of which the octant across is one
 pub from_tree : (v : Bool) (held : List Tree) (level : ℕ) (block beside : Option Name) (t u : Tree) → IsBlockOf held level block t → IsBlockOf held level beside u → IsBlockOf held level (if v then block else beside) (if v then t else u)

@@ -20,7 +20,7 @@ use Rattle.block_walk.proofs.LookLaws.{same_cell}
 use lib.Bits.{and_le_l}
 use native.Mathlib.Nat.{mod-eq_of_lt}
 use Rattle.block_walk.specs.Parts.{EndsBy}
-use Rattle.measure.specs.Leaves.{Tells}
+use Rattle.measure.specs.Leaves.{TellsCells}
 
 -- a sum of sums is one sum
 sums : (n m : ℕ) (f : ℕ → ℕ) → sum_below (n * m) f ≡ sum_below n (λ i. sum_below m (λ j. f (i * m + j)))
@@ -80,7 +80,7 @@ on_all v true x y z e p q r = ap one_if (e ∙ ap (λ (w : Bool). (w && y) && z)
 on_all v false x y z e p q r = ap one_if e
 
 -- the bit of a cell in both words
-cell_bit : (bits mask : ℕ) (part : Boxed) (block : Block) (test : Cell → Bool) (x y z : ℕ) → x < 4 → y < 4 → z < 4 → block.at ≡ cell_at 0 0 0 → LeafShows mask block (is_in_box part) → Tells bits test
+cell_bit : (bits mask : ℕ) (part : Boxed) (block : Block) (test : Cell → Bool) (x y z : ℕ) → x < 4 → y < 4 → z < 4 → block.at ≡ cell_at 0 0 0 → LeafShows mask block (is_in_box part) → TellsCells bits test
     → (bit_at (bit_and bits mask) (bit_number x y z) == 1) ≡ (test (cell_at x y z) && is_in_box part (cell_at x y z))
 cell_bit bits mask part block test x y z p q r at shows e =
     let n : ℕ = bit_number x y z in
@@ -93,7 +93,7 @@ cell_bit bits mask part block test x y z p q r at shows e =
     ∙ ap (λ (b : Bool). b && (bit_at mask n == 1)) (e.each x y z p q r)
     ∙ ap (λ (b : Bool). test (cell_at x y z) && b) (shows.each x y z p q r ∙ ap (is_in_box part) place)
 
-pub leaf_number : (bits mask : ℕ) (part : Boxed) (block : Block) (test : Cell → Bool) → bits < 2 ^ 64 → EndsBy 4 part → block.at ≡ cell_at 0 0 0 → LeafShows mask block (is_in_box part) → Tells bits test → count_ones (bit_and bits mask) ≡ number_in part test
+pub leaf_number : (bits mask : ℕ) (part : Boxed) (block : Block) (test : Cell → Bool) → bits < 2 ^ 64 → EndsBy 4 part → block.at ≡ cell_at 0 0 0 → LeafShows mask block (is_in_box part) → TellsCells bits test → count_ones (bit_and bits mask) ≡ number_in part test
 leaf_number bits mask part block test small ends at shows e =
     let word : ℕ = bit_and bits mask in
     let g : ℕ → ℕ → ℕ → ℕ = λ x y z. one_if (bit_at word (bit_number x y z) == 1) in

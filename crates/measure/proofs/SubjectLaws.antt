@@ -14,7 +14,7 @@ use Rattle.block_walk.specs.Parts.{placed}
 use Rattle.block_walk.proofs.BlockLaws.{clear_block, root_block}
 use Rattle.block_walk.proofs.PartLaws.{placed_in}
 use Rattle.block_walk.proofs.LookLaws.{leaf_tells, placed_set}
-use Rattle.measure.specs.Leaves.{Tells}
+use Rattle.measure.specs.Leaves.{TellsCells}
 use Rattle.measure.specs.Tallies.{in_octant, PassesNone}
 use Rattle.measure.specs.Subjects.{PassesSet}
 
@@ -23,7 +23,7 @@ nothing_set held level block test e p = record {
   each = λ c i. p.shows c i ∙ ap (λ (s : Shape). cells_of level s c) (clear_block held level p.tree (subst (λ (n : Option Name). IsBlockOf held level n p.tree) e p.is_block)) ∙ has-clear level c.x c.y c.z;
 }
 
-pub leaf_set : (held : List Tree) (block : Option Name) (bits : ℕ) (test : Cell → Bool) → ForBlock held 0 block (λ s. bits ≡ bits_of s) → PassesSet held 0 block test → Tells bits test
+pub leaf_set : (held : List Tree) (block : Option Name) (bits : ℕ) (test : Cell → Bool) → ForBlock held 0 block (λ s. bits ≡ bits_of s) → PassesSet held 0 block test → TellsCells bits test
 leaf_set held block bits test told p = record {
   each = λ x y z lx ly lz. leaf_tells (shape_of p.tree) bits (cell_at x y z) (told p.tree p.is_block) ∙ sym (p.shows (cell_at x y z) (record { x = lx; y = ly; z = lz }));
 }

@@ -1,4 +1,5 @@
--- The cells of a block that are bare towards one direction, by what stands in the block and in the one beside it.
+-- The cells of a block that are bare towards one direction, by what stands in the block and in the
+-- one beside it.
 use Rattle.std.specs.Prelude.{◌≡◌, ℕ, ◌+◌, ◌-◌, ◌&&◌, not, nat_lt, if◌then◌else◌, Bool, true, false, Option, List}
 use Rattle.std.proofs.Common.{zero, suc}
 use Rattle.vw_cell.specs.declared.cells.Cell.{Cell}
@@ -41,13 +42,15 @@ place_beside HighZ side c = cell_at c.x c.y 0
 -- the place next to a cell is set, in the block or in the one beside it
 abbrev pub is_next_set : Direction → ℕ → Shape → Shape → Cell → Bool
 is_next_set d level s beside c =
-    if is_inside d (block_side level) c then cells_of level s (next_place d c) else cells_of level beside (place_beside d (block_side level) c)
+    if is_inside d (block_side level) c then cells_of level s (next_place d c)
+    else cells_of level beside (place_beside d (block_side level) c)
 
 -- the cell is set, and the place next to it isn't
 abbrev pub bare_of : Direction → ℕ → Shape → Shape → Cell → Bool
 bare_of d level s beside c = cells_of level s c && not (is_next_set d level s beside c)
 
--- the octant on the other side of the middle, for an octant of this half and for the step between both halves
+-- the octant on the other side of the middle, for an octant of this half and for the step between
+-- both halves
 abbrev pub other_half : ℕ → ℕ → ℕ → ℕ
 other_half zero step o = o + step
 other_half (suc i) step o = o - step
@@ -82,9 +85,11 @@ abbrev pub beside_tree : Direction → Tree → Tree → ℕ → Tree
 beside_tree d t beside o = child_of (if stays d o then t else beside) (across d o)
 
 -- the test passes the cells of a block that are bare towards the block beside it
-pub record PassesBare (d : Direction) (held : List Tree) (level : ℕ) (block beside : Option Name) (test : Cell → Bool) : Type 0 where
+pub record PassesBare (d : Direction) (held : List Tree) (level : ℕ) (block beside : Option Name)
+    (test : Cell → Bool) : Type 0 where
   pub tree : Tree
   pub is_block : IsBlockOf held level block tree
   pub next : Tree
   pub is_beside : IsBlockOf held level beside next
-  pub shows : (c : Cell) → IsInWorld (block_side level) c → test c ≡ bare_of d level (shape_of tree) (shape_of next) c
+  pub shows : (c : Cell) → IsInWorld (block_side level) c
+      → test c ≡ bare_of d level (shape_of tree) (shape_of next) c

@@ -15,8 +15,10 @@ abbrev pub from_corner : Block → Cell → Cell
 from_corner place c = cell_at (place.at.x + c.x) (place.at.y + c.y) (place.at.z + c.z)
 
 -- each set cell of what stands in the block lies in this part of it
-pub record LiesWithinPart (held : List Tree) (level : ℕ) (block : Option Name) (part : Boxed) : Type 0 where
-  pub each : (t : Tree) (c : Cell) → IsBlockOf held level block t → IsInWorld (block_side level) c → cells_of level (shape_of t) c ≡ true → IsInBox part c
+pub record LiesWithinPart (held : List Tree) (level : ℕ) (block : Option Name)
+    (part : Boxed) : Type 0 where
+  pub each : (t : Tree) (c : Cell) → IsBlockOf held level block t → IsInWorld (block_side level) c
+      → cells_of level (shape_of t) c ≡ true → IsInBox part c
 
 -- a part that has all set cells; the number tells nothing
 abbrev pub tells_within : List Tree → Within → ℕ → Type 0

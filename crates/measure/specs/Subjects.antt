@@ -7,7 +7,9 @@ use Rattle.node_shapes.specs.Tree.{Tree, shape_of}
 use Rattle.block_walk.specs.Roots.{IsBlockOf, cells_of}
 
 -- the test passes the set cells of what stands in a block
-pub record PassesSet (held : List Tree) (level : ℕ) (block : Option Name) (test : Cell → Bool) : Type 0 where
+pub record PassesSet (held : List Tree) (level : ℕ) (block : Option Name)
+    (test : Cell → Bool) : Type 0 where
   pub tree : Tree
   pub is_block : IsBlockOf held level block tree
-  pub shows : (c : Cell) → IsInWorld (block_side level) c → test c ≡ cells_of level (shape_of tree) c
+  pub shows : (c : Cell) → IsInWorld (block_side level) c
+      → test c ≡ cells_of level (shape_of tree) c

@@ -7,7 +7,8 @@ use Rattle.node_shapes.specs.Tree.{Tree}
 use Rattle.block_walk.specs.Parts.{placed}
 use Rattle.measure.specs.declared.tallies.Part.{Part}
 
--- which cells of a block of some level count, for what a subject says of the block while some trees are held
+-- which cells of a block of some level count, for what a subject says of the block while some trees
+-- are held
 abbrev pub Counting : Type 0 → Type 1
 Counting S = List Tree → ℕ → S → (Cell → Bool) → Type 0
 
@@ -21,4 +22,5 @@ pub record PassesNone (level : ℕ) (test : Cell → Bool) : Type 0 where
 
 -- the number is that of the part's cells that count
 abbrev pub IsTally : {S : Type 0} → Counting S → List Tree → Part S → ℕ → Type 0
-IsTally counts held p number = (test : Cell → Bool) → counts held p.level p.subject test → number ≡ number_in p.part test
+IsTally counts held p number =
+    (test : Cell → Bool) → counts held p.level p.subject test → number ≡ number_in p.part test

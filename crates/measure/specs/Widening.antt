@@ -27,8 +27,8 @@ abbrev pub EndsInside : Option Boxed → Type 0
 EndsInside None = ⊤
 EndsInside (Some b) = EndsBy 4096 b
 
--- the new box has what the old has and each cell that it must have, and is no greater than the old one and the
--- cells that it may have ask for
+-- the new box has what the old has and each cell that it must have, and is no greater than the old
+-- one and the cells that it may have ask for
 pub record Widens (must may : Cell → Type 0) (old new : Option Boxed) : Type 0 where
   pub keeps : (c : Cell) → IsFound old c → IsFound new c
   pub holds : (c : Cell) → must c → IsFound new c
@@ -41,7 +41,8 @@ pub record IsSetIn (place : Block) (cells : Cell → Bool) (c : Cell) : Type 0 w
   pub set : cells c ≡ true
 
 -- a set cell of some of the octants of a block
-pub record IsSetInSome (place : Block) (cells : Cell → Bool) (which : ℕ → Type 0) (c : Cell) : Type 0 where
+pub record IsSetInSome (place : Block) (cells : Cell → Bool) (which : ℕ → Type 0)
+    (c : Cell) : Type 0 where
   pub octant : ℕ
   pub is : which octant
   pub set_in : IsSetIn (octant_of place octant) cells c
@@ -60,21 +61,26 @@ pub record IsOtherAt (corner n k : ℕ) : Type 0 where
 
 -- P of the cells of the world that what stands in a block shows there
 abbrev pub ForPlace : List Tree → Option Name → Block → ((Cell → Bool) → Type 0) → Type 0
-ForPlace held block place P = (cells : Cell → Bool) (t : Tree) → IsBlockOf held place.level block t → ShowsCells place (shape_of t) cells → P cells
+ForPlace held block place P =
+    (cells : Cell → Bool) (t : Tree) → IsBlockOf held place.level block t
+    → ShowsCells place (shape_of t) cells → P cells
 
 -- the old box is widened by the set cells of a block
 abbrev pub WidensBy : List Tree → Option Name → Block → Option Boxed → Option Boxed → Type 0
-WidensBy held block place old new = ForPlace held block place (λ cells. Widens (IsSetIn place cells) (IsSetIn place cells) old new)
+WidensBy held block place old new =
+    ForPlace held block place (λ cells. Widens (IsSetIn place cells) (IsSetIn place cells) old new)
 
 -- the cell that a bit of a leaf's block stands for
 abbrev pub leaf_cell : Block → ℕ → Cell
-leaf_cell place bit = cell_at (place.at.x + bit % 4) (place.at.y + bit / 4 % 4) (place.at.z + bit / 16)
+leaf_cell place bit =
+    cell_at (place.at.x + bit % 4) (place.at.y + bit / 4 % 4) (place.at.z + bit / 16)
 
 -- the bit of a leaf that stands for a cell of its block
 abbrev pub bit_of : Block → Cell → ℕ
 bit_of place c = bit_number (c.x - place.at.x) (c.y - place.at.y) (c.z - place.at.z)
 
 -- a set cell of a leaf whose bit is one of these
-pub record IsSetAt (place : Block) (cells : Cell → Bool) (which : ℕ → Type 0) (c : Cell) : Type 0 where
+pub record IsSetAt (place : Block) (cells : Cell → Bool) (which : ℕ → Type 0)
+    (c : Cell) : Type 0 where
   pub set_in : IsSetIn place cells c
   pub is : which (bit_of place c)

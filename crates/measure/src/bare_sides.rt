@@ -8,7 +8,7 @@ ghost use Rattle.world_questions.specs.Faces.{faces_in, is_bare};
 ghost use Rattle.block_walk.specs.Roots.{HasBlock, HoldsRoot, ForBlock, ForWorld, cells_of};
 ghost use Rattle.block_walk.specs.Parts.{EndsBy};
 ghost use Rattle.block_walk.specs.Answers.{AreRight};
-ghost use Rattle.measure.specs.Leaves.{Tells};
+ghost use Rattle.measure.specs.Leaves.{TellsCells};
 ghost use Rattle.measure.specs.Tallies.{IsTally};
 ghost use Rattle.measure.specs.Bare.{PassesBare, across, stays, is_next_set, bare_of};
 
@@ -20,8 +20,9 @@ use node_words::{Blocks, Share, window_bits};
 use vw_cell::{Boxed, Side};
 use world_questions::Direction;
 
-/// The number of pairs of a set cell of a box of the root's world and one of its six sides, at which the place
-/// next to it is unset or outside of the world. A side that two set cells share counts for neither.
+/// The number of pairs of a set cell of a box of the root's world and one of its six sides, at
+/// which the place next to it is unset or outside of the world. A side that two set cells share
+/// counts for neither.
 pub fn faces<B: Blocks>(store: &mut B, root: Option<&Share>, side: Side, b: Boxed) -> u64
     requires root { HoldsRoot (B.seen store.old).held side (option_copied root) }
     requires inside { FitsAt b.at b.size (2 ^ side) }
@@ -89,7 +90,8 @@ fn bare_towards<B: Blocks>(
 
 ghost use Rattle.measure.specs.Faces.{passes_bare};
 
-/// The cells of a block that are bare towards one direction, by what stands in the block and in the one beside it.
+/// The cells of a block that are bare towards one direction, by what stands in the block and in the
+/// one beside it.
 #[derive(Clone, Copy)]
 pub(crate) struct Bare {
     direction: Direction,
@@ -166,7 +168,8 @@ fn either(first: bool, a: Option<Name>, b: Option<Name>) -> Option<Name>
     if first { a } else { b }
 }
 
-// The octant that has the places next to an octant's further side, in its block or in the one beside.
+// The octant that has the places next to an octant's further side, in its block or in the one
+// beside.
 fn across(direction: Direction, octant: u8) -> u8
     requires { octant < 8 }
     ensures octant { result ≡ across direction octant }
@@ -195,7 +198,8 @@ fn stays(direction: Direction, octant: u8) -> bool
 
 // Which cells of a leaf have a set cell next to them in this direction.
 fn next_bits(direction: Direction, bits: u64, beside: u64) -> u64
-    ensures next { (s u : Shape) → bits ≡ bits_of s → beside ≡ bits_of u → Tells result (is_next_set direction 0 s u) }
+    ensures next { (s u : Shape) → bits ≡ bits_of s → beside ≡ bits_of u
+        → TellsCells result (is_next_set direction 0 s u) }
     ensures bound { result < 2 ^ 64 }
 {
     match direction {
@@ -208,7 +212,8 @@ fn next_bits(direction: Direction, bits: u64, beside: u64) -> u64
     }
 }
 
-// The octant in the other half, for an octant of this half, where the halves' octants are `step` apart.
+// The octant in the other half, for an octant of this half, where the halves' octants are `step`
+// apart.
 fn other_half(half: u8, step: u8, octant: u8) -> u8
     requires half { half < 2 }
     requires step { step ≤ 4 }

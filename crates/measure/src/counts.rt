@@ -14,7 +14,8 @@ use vw_cell::{Boxed, Cell, Side};
 pub fn get<B: Blocks>(store: &mut B, root: Option<&Share>, side: Side, c: Cell) -> bool
     requires root { HoldsRoot (B.seen store.old).held side (option_copied root) }
     requires cell { IsInWorld (2 ^ side) c }
-    ensures value { ForWorld (B.seen store.old).held side (option_copied root.entry) (λ cells. result ≡ cells c) }
+    ensures value { ForWorld (B.seen store.old).held side (option_copied root.entry)
+        (λ cells. result ≡ cells c) }
     ensures seen { B.seen store.new ≡ B.seen store.old }
     ensures rests { B.rests store.old store.new }
 {

@@ -30,8 +30,8 @@ pub fn bounds<B: Blocks>(store: &mut B, root: Option<&Share>, side: Side) -> Opt
     widened(store, &mut answers, name_of(root), place, 0, None)
 }
 
-// The box widened by the set cells of a block. A block that can't widen the box found so far is passed over: one that
-// lies in it, and one like an earlier block that lies as far within it.
+// The box widened by the set cells of a block. A block that can't widen the box found so far is
+// passed over: one that lies in it, and one like an earlier block that lies as far within it.
 #[cycle(widen)]
 fn widened<B: Blocks>(
     store: &mut B,
@@ -71,8 +71,8 @@ fn widened<B: Blocks>(
     wide
 }
 
-// The box widened by the set cells of all octants. The corner of its own block that an octant lies at comes first, and
-// the opposite one next, so the box is soon wide.
+// The box widened by the set cells of all octants. The corner of its own block that an octant lies
+// at comes first, and the opposite one next, so the box is soon wide.
 #[cycle(widen)]
 fn widened_by_octants<B: Blocks>(
     store: &mut B,
@@ -116,7 +116,8 @@ fn widened_in<B: Blocks>(
     requires found { EndsInside found }
     requires answers { AreRight tells_within (B.seen store.old).held answers.old.places }
     ensures widens { ForPlace (B.seen store.old).held block place
-        (λ cells. Widens (IsSetIn (octant_of place octant) cells) (IsSetIn place cells) found result) }
+        (λ cells. Widens (IsSetIn (octant_of place octant) cells)
+        (IsSetIn place cells) found result) }
     ensures found { EndsInside result }
     ensures answers { AreRight tells_within (B.seen store.old).held answers.new.places }
     ensures block { HasBlock (B.seen store.new).held place.level block }
@@ -144,7 +145,8 @@ fn widened_by_others<B: Blocks>(
     requires found { EndsInside found }
     requires answers { AreRight tells_within (B.seen store.old).held answers.old.places }
     ensures widens { ForPlace (B.seen store.old).held block place
-        (λ cells. Widens (IsSetInSome place cells (IsOther corner 8)) (IsSetIn place cells) found result) }
+        (λ cells. Widens (IsSetInSome place cells (IsOther corner 8))
+        (IsSetIn place cells) found result) }
     ensures found { EndsInside result }
     ensures answers { AreRight tells_within (B.seen store.old).held answers.new.places }
     ensures seen { B.seen store.new ≡ B.seen store.old }
@@ -157,7 +159,8 @@ fn widened_by_others<B: Blocks>(
     wide
 }
 
-// The box widened by the set cells of one octant, if that isn't the one of the corner or its opposite.
+// The box widened by the set cells of one octant, if that isn't the one of the corner or its
+// opposite.
 #[cycle(widen)]
 fn widened_apart<B: Blocks>(
     store: &mut B,
@@ -176,7 +179,8 @@ fn widened_apart<B: Blocks>(
     requires found { EndsInside found }
     requires answers { AreRight tells_within (B.seen store.old).held answers.old.places }
     ensures widens { ForPlace (B.seen store.old).held block place
-        (λ cells. Widens (IsSetInSome place cells (IsOtherAt corner octant)) (IsSetIn place cells) found result) }
+        (λ cells. Widens (IsSetInSome place cells (IsOtherAt corner octant))
+        (IsSetIn place cells) found result) }
     ensures found { EndsInside result }
     ensures answers { AreRight tells_within (B.seen store.old).held answers.new.places }
     ensures block { HasBlock (B.seen store.new).held place.level block }

@@ -1,6 +1,6 @@
-//! How many cells of a world are set and where, and how many of their sides are bare, over any store that can be
-//! read. A walk goes by different nodes and parts, not by blocks: what it found of one it tells of all that are
-//! alike.
+//! How many cells of a world are set and where, and how many of their sides are bare, over any
+//! store that can be read. A walk goes by different nodes and parts, not by blocks: what it found
+//! of one it tells of all that are alike.
 #![tactic(auto)]
 
 mod bare_sides;

@@ -70,7 +70,8 @@ pub(crate) fn note(
     requires level { place.level ≤ 10 }
     requires inside { LiesIn 4096 place }
     requires wide { EndsInside wide }
-    ensures { (held : List Tree) (found : Option Boxed) → AreRight tells_within held answers.old.places
+    ensures { (held : List Tree) (found : Option Boxed)
+        → AreRight tells_within held answers.old.places
         → WidensBy held block place found wide → AreRight tells_within held answers.new.places }
 {
     match wide {
@@ -130,8 +131,10 @@ struct Stretch {
 // What of a stretch lies in the `side` places from `low` on, told from there.
 fn stretch_at(at: u16, size: u16, low: u16, side: u16) -> Stretch
     requires { at + size ≤ 4096 }
-    ensures from { (c : ℕ) → c < side → IsWithin result.at result.size c → IsWithin at size (low + c) }
-    ensures to { (c : ℕ) → c < side → IsWithin at size (low + c) → IsWithin result.at result.size c }
+    ensures from { (c : ℕ) → c < side → IsWithin result.at result.size c
+        → IsWithin at size (low + c) }
+    ensures to { (c : ℕ) → c < side → IsWithin at size (low + c)
+        → IsWithin result.at result.size c }
 {
     let from = at.saturating_sub(low).min(side);
     let to = (at + size).saturating_sub(low).min(side);

@@ -5,7 +5,7 @@ ghost use Rattle.vw_cell.specs.Counts.{number_in};
 ghost use Rattle.node_shapes.specs.Tree.{Tree};
 ghost use Rattle.block_walk.specs.Answers.{AreRight};
 ghost use Rattle.block_walk.specs.Parts.{EndsBy};
-ghost use Rattle.measure.specs.Leaves.{Tells};
+ghost use Rattle.measure.specs.Leaves.{TellsCells};
 ghost use Rattle.measure.specs.Tallies.{in_octant, PassesNone, IsTally};
 
 use crate::leaves::count_leaf;
@@ -27,7 +27,7 @@ pub(crate) trait Subject: Copy {
     fn leaf<B: Blocks>(&self, store: &mut B) -> u64
         requires { (test : Cell → Bool) × counts (B.seen store.old).held 0 self.now test }
         ensures bits { (test : Cell → Bool) → counts (B.seen store.old).held 0 self.now test
-            → Tells result test }
+            → TellsCells result test }
         ensures seen { B.seen store.new ≡ B.seen store.old }
         ensures rests { B.rests store.old store.new };
 
@@ -93,7 +93,8 @@ pub(crate) fn tally<S: Subject, B: Blocks>(
     of: Part<S>,
 ) -> u64
     requires level { of.level ≤ 10 }
-    requires block { (test : Cell → Bool) × S.counts (B.seen store.old).held of.level of.subject test }
+    requires block { (test : Cell → Bool)
+        × S.counts (B.seen store.old).held of.level of.subject test }
     requires part { EndsBy (block_side of.level) of.part }
     requires answers { AreRight (IsTally S.counts) (B.seen store.old).held answers.old.places }
     ensures number { IsTally S.counts (B.seen store.old).held of result }
@@ -127,7 +128,8 @@ fn tally_octants<S: Subject, B: Blocks>(
     of: Part<S>,
 ) -> u64
     requires level { (1 ≤ of.level) × (of.level ≤ 10) }
-    requires block { (test : Cell → Bool) × S.counts (B.seen store.old).held of.level of.subject test }
+    requires block { (test : Cell → Bool)
+        × S.counts (B.seen store.old).held of.level of.subject test }
     requires part { EndsBy (block_side of.level) of.part }
     requires answers { AreRight (IsTally S.counts) (B.seen store.old).held answers.old.places }
     ensures number { IsTally S.counts (B.seen store.old).held of result }

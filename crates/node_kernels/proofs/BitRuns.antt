@@ -6,19 +6,19 @@ use Rattle.std.proofs.lemmas.Bool.{cases_lt}
 use Rattle.std.proofs.lemmas.Bool.Decides.{nat_tests}
 use Rattle.std.proofs.lemmas.Nat.Bits.{bit_at_and, bit_at_mask_inside, bit_at_mask_below, bit_at_mask_above, bit_at-lt, bit_at_cat_low, bit_at_cat_high}
 use native.Mathlib.Nat.{mul-zero}
-use Rattle.node_kernels.specs.Parts.{is_from_to}
+use Rattle.node_kernels.specs.Parts.{is_from_below}
 
-below_from : (from to p : ℕ) → p < from → is_from_to from to p ≡ false
+below_from : (from to p : ℕ) → p < from → is_from_below from to p ≡ false
 below_from from to p h = grind (arith, nat_tests)
 
-pub from_to : (from to p : ℕ) → from ≤ p → p < to → is_from_to from to p ≡ true
+pub from_to : (from to p : ℕ) → from ≤ p → p < to → is_from_below from to p ≡ true
 from_to from to p h k = grind (arith, nat_tests)
 
-pub past_to : (from to p : ℕ) → to ≤ p → is_from_to from to p ≡ false
+pub past_to : (from to p : ℕ) → to ≤ p → is_from_below from to p ≡ false
 past_to from to p h = grind (arith, nat_tests)
 
 -- which bits a run has
-pub run_has : (from to p : ℕ) → (bit_at (2 ^ to - 2 ^ from) p == 1) ≡ is_from_to from to p
+pub run_has : (from to p : ℕ) → (bit_at (2 ^ to - 2 ^ from) p == 1) ≡ is_from_below from to p
 run_has from to p =
     elim (cases_lt p from) [
       | inl below ↦ ap (λ (b : ℕ). b == 1) (bit_at_mask_below from to p below) ∙ sym (below_from from to p below)

@@ -11,11 +11,11 @@ use Rattle.vw_cell.specs.declared.blocks.Block.{Block}
 use Rattle.vw_cell.specs.Places.{is_within, is_in_box}
 use Rattle.node_shapes.specs.Shape.{bit_number}
 use Rattle.node_kernels.specs.Leaves.{LeafShows}
-use Rattle.node_kernels.specs.Parts.{AxisShows, is_from_to, x_of, y_of, z_of}
+use Rattle.node_kernels.specs.Parts.{AxisShows, is_from_below, x_of, y_of, z_of}
 use Rattle.word_bits.specs.Runs.{mask_is}
 use Rattle.node_kernels.proofs.BitRuns.{run_has, rows_have, layers_have, and_has}
 
-pub run_within : (low size at from to i : ℕ) → to ≡ min (low + size - at) 4 → from ≡ min (low - at) to → i < 4 → is_within low size (at + i) ≡ is_from_to from to i
+pub run_within : (low size at from to i : ℕ) → to ≡ min (low + size - at) 4 → from ≡ min (low - at) to → i < 4 → is_within low size (at + i) ≡ is_from_below from to i
 run_within low size at from to i p q h = grind (arith, nat_tests)
 
 -- what the difference of two shifted ones comes to
@@ -39,7 +39,7 @@ rows_fit from to p q = let below = run_below from to 4 p q (omega arith) in omeg
 pub layers_fit : (from to : ℕ) → from ≤ to → to ≤ 4 → (1 * 2 ^ (4 * to) % 2 ^ 64 - 1 * 2 ^ (4 * from) % 2 ^ 64) * 0x0001_0001_0001_0001 < 2 ^ 64
 layers_fit from to p q = let below = run_below (4 * from) (4 * to) 16 (omega arith) (omega arith) (omega arith) in omega (arith, below)
 
-same_from_to : (from to p from' to' p' : ℕ) → (from' ≤ p' → from ≤ p) → (from ≤ p → from' ≤ p') → (p' < to' → p < to) → (p < to → p' < to') → is_from_to from' to' p' ≡ is_from_to from to p
+same_from_to : (from to p from' to' p' : ℕ) → (from' ≤ p' → from ≤ p) → (from ≤ p → from' ≤ p') → (p' < to' → p < to) → (p < to → p' < to') → is_from_below from' to' p' ≡ is_from_below from to p
 same_from_to from to p from' to' p' a b c d = grind (arith, nat_tests)
 
 bit_of : (a b : ℕ) (i : ℕ) → a ≡ b → (bit_at a i == 1) ≡ (bit_at b i == 1)
@@ -79,7 +79,7 @@ z_shows from to p q = record {
       ∙ same_from_to from to z (16 * from) (16 * to) (bit_number x y z) (λ h. omega arith) (λ h. omega arith) (λ h. omega arith) (λ h. omega arith);
 }
 
-nothing_in : (from to p : ℕ) → to ≤ from → (0 == 1) ≡ is_from_to from to p
+nothing_in : (from to p : ℕ) → to ≤ from → (0 == 1) ≡ is_from_below from to p
 nothing_in from to p h = grind (arith, nat_tests)
 
 pub none_shows : (from to : ℕ) → to ≤ from → AxisShows 0 z_of from to
@@ -88,9 +88,9 @@ none_shows from to p = record {
 }
 
 pub box_shows : (b : Boxed) (block : Block) (x y z fx tx fy ty fz tz : ℕ) → AxisShows x x_of fx tx → AxisShows y y_of fy ty → AxisShows z z_of fz tz
-    → ((i : ℕ) → i < 4 → is_within b.at.x b.size.x (block.at.x + i) ≡ is_from_to fx tx i)
-    → ((i : ℕ) → i < 4 → is_within b.at.y b.size.y (block.at.y + i) ≡ is_from_to fy ty i)
-    → ((i : ℕ) → i < 4 → is_within b.at.z b.size.z (block.at.z + i) ≡ is_from_to fz tz i)
+    → ((i : ℕ) → i < 4 → is_within b.at.x b.size.x (block.at.x + i) ≡ is_from_below fx tx i)
+    → ((i : ℕ) → i < 4 → is_within b.at.y b.size.y (block.at.y + i) ≡ is_from_below fy ty i)
+    → ((i : ℕ) → i < 4 → is_within b.at.z b.size.z (block.at.z + i) ≡ is_from_below fz tz i)
     → LeafShows (bit_and (bit_and x y) z) block (is_in_box b)
 box_shows b block x y z fx tx fy ty fz tz px py pz wx wy wz = record {
   each = λ i j k li lj lk.

@@ -1,7 +1,7 @@
 ghost use Rattle.std.specs.Prelude.{◌≡◌, ℕ, ◌+◌, ◌^◌, ◌<◌, ◌≤◌};
 ghost use Rattle.vw_cell.specs.Places.{is_in_box, is_within};
 ghost use Rattle.node_kernels.specs.Leaves.{LeafShows};
-ghost use Rattle.node_kernels.specs.Parts.{AxisShows, is_from_to, x_of, y_of, z_of};
+ghost use Rattle.node_kernels.specs.Parts.{AxisShows, is_from_below, x_of, y_of, z_of};
 
 use vw_cell::{Block, Boxed};
 
@@ -30,7 +30,8 @@ pub(crate) struct Run {
 #[tactic(auto, using(crate::proofs::BoxBits::run_within))]
 fn places_within(low: u16, size: u16, at: u16) -> Run
     ensures ends { (result.from ≤ result.to) × (result.to ≤ 4) }
-    ensures places { (i : ℕ) → i < 4 → is_within low size (at + i) ≡ is_from_to result.from result.to i }
+    ensures places { (i : ℕ) → i < 4
+        → is_within low size (at + i) ≡ is_from_below result.from result.to i }
 {
     let at = u32::from(at);
     let to = (u32::from(low) + u32::from(size)).saturating_sub(at).min(4);

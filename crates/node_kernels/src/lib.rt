@@ -1,7 +1,8 @@
-//! The bits of a leaf's block at once: those of a box, of a ball, and of a leaf that lies across eight others.
+//! The bits of a leaf's block at once: those of a box, of a ball, and of a leaf that lies across
+//! eight others.
 //!
-//! Each answers for 64 cells by a few operations on whole words, and is proved to say of each cell what its
-//! definition says.
+//! Each answers for 64 cells by a few operations on whole words, and is proved to say of each cell
+//! what its definition says.
 #![tactic(auto)]
 
 mod balls;

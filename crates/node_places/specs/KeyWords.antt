@@ -1,4 +1,5 @@
--- The words of a key: a leaf's bits are one word, and a node's eight children are two in each of four words.
+-- The words of a key: a leaf's bits are one word, and a node's eight children are two in each of
+-- four words.
 use Rattle.std.specs.Prelude.{◌≡◌, ℕ, zero, suc, ◌+◌, ◌-◌, ◌*◌, ◌/◌, ◌%◌, ◌^◌, ◌<◌, ◌≤◌, Option, Some, None, List, [], ◌∷◌, length, map}
 use Rattle.node_shapes.specs.declared.names.Name.{Name}
 use Rattle.node_words.specs.declared.keys.Key.{Key}
@@ -19,7 +20,8 @@ half (suc k) word = word / 2 ^ 32
 -- the children of this level that four words stand for, by octant
 abbrev pub children_of_words : ℕ → (ℕ → ℕ) → List (Option Name)
 children_of_words level words =
-    map (λ k. child_of_word level (half (k % 2) (words (k / 2)))) (0 ∷ 1 ∷ 2 ∷ 3 ∷ 4 ∷ 5 ∷ 6 ∷ 7 ∷ [])
+    map (λ k. child_of_word level (half (k % 2) (words (k / 2))))
+    (0 ∷ 1 ∷ 2 ∷ 3 ∷ 4 ∷ 5 ∷ 6 ∷ 7 ∷ [])
 
 -- the key that words stand for, of a node of this level
 abbrev pub key_of_words : ℕ → (ℕ → ℕ) → Key
@@ -29,7 +31,8 @@ key_of_words (suc level) words = Node (children_of_words level words)
 -- a word of a key, by its number
 abbrev pub key_word : Key → ℕ → ℕ
 key_word (Leaf bits) i = bits
-key_word (Node children) i = word_of_child (name_in children (2 * i)) + 2 ^ 32 * word_of_child (name_in children (2 * i + 1))
+key_word (Node children) i =
+    word_of_child (name_in children (2 * i)) + 2 ^ 32 * word_of_child (name_in children (2 * i + 1))
 
 -- a child of this level, or none, whose word is half of a key's word
 pub record FitsHalf (level : ℕ) (child : Option Name) : Type 0 where

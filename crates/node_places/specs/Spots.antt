@@ -4,8 +4,8 @@ use Rattle.sums.specs.Sums.{sum_below}
 use Rattle.node_words.specs.Plans.{Layout}
 pub use Rattle.node_words.specs.Plans.{buckets_at}
 
--- the words: the number of sessions made, the log's turn and its length; the words of each version; the turn of each
--- bucket; and of each entry the words of its key and its book
+-- the words: the number of sessions made, the log's turn and its length; the words of each version;
+-- the turn of each bucket; and of each entry the words of its key and its book
 pub data Spot : Type 0 where
   Sessions : Spot
   LogTurn : Spot
@@ -50,11 +50,12 @@ first_turn = 3 + version_words * versions
 abbrev pub first_entry : Layout → ℕ
 first_entry p = first_turn + sum_below (levels p) (buckets_at p)
 
--- In a bucket the books of all slots stand side by side, then the first words of their keys, then the second ones, and
--- so on. The place of the word of this lane, of which lane 0 has the books.
+-- In a bucket the books of all slots stand side by side, then the first words of their keys, then
+-- the second ones, and so on. The place of the word of this lane, of which lane 0 has the books.
 abbrev pub lane_place : Layout → ℕ → ℕ → ℕ → ℕ → ℕ
 lane_place p level bucket lane slot =
-    first_entry p + (sum_below level (level_words p) + (bucket * bucket_words p level + (lane * p.cap + slot)))
+    first_entry p +
+    (sum_below level (level_words p) + (bucket * bucket_words p level + (lane * p.cap + slot)))
 
 abbrev pub place : Layout → Spot → ℕ
 place p Sessions = 0

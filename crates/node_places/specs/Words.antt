@@ -2,7 +2,8 @@
 use Rattle.std.specs.Prelude.{◌≡◌, ℕ, ◌+◌, ◌*◌, ◌<◌, Option, Some, None}
 use Rattle.node_shapes.specs.declared.names.Name.{Name}
 
--- 0 where there is no child, else 1 + 256 * bucket + slot; the child's level is that of the node less 1
+-- 0 where there is no child, else 1 + 256 * bucket + slot; the child's level is that of the node
+-- less 1
 abbrev pub word_of_child : Option Name → ℕ
 word_of_child None = 0
 word_of_child (Some n) = 1 + (n.bucket * 256 + n.slot)

@@ -26,12 +26,16 @@ ghost use Rattle.node_places.specs.Words.{word_of_child, IsChildAt};
 
 /// Children of one level with one word are one child.
 pub fn child_words_tell_children()
-    ensures { (level : ℕ) (a b : Option Name) → IsChildAt level a → IsChildAt level b → word_of_child a ≡ word_of_child b → a ≡ b }
+    ensures { (level : ℕ) (a b : Option Name) → IsChildAt level a → IsChildAt level b
+        → word_of_child a ≡ word_of_child b → a ≡ b }
 {}
 
-/// The words of a key are those of no other: a key is read back from its words, and words from the key that they
-/// stand for.
+/// The words of a key are those of no other: a key is read back from its words, and words from the
+/// key that they stand for.
 pub fn keys_and_words_tell_each_other()
-    ensures words { (level : ℕ) (words : ℕ → ℕ) (i : ℕ) → i < key_words level → key_word (key_of_words level words) i ≡ words i }
-    ensures key { (level : ℕ) (key : Key) (words : ℕ → ℕ) → IsKeyAt level key → ((i : ℕ) → i < key_words level → words i ≡ key_word key i) → key_of_words level words ≡ key }
+    ensures words { (level : ℕ) (words : ℕ → ℕ) (i : ℕ) → i < key_words level
+        → key_word (key_of_words level words) i ≡ words i }
+    ensures key { (level : ℕ) (key : Key) (words : ℕ → ℕ) → IsKeyAt level key
+        → ((i : ℕ) → i < key_words level → words i ≡ key_word key i)
+        → key_of_words level words ≡ key }
 {}

@@ -11,8 +11,8 @@ const FIRST_VERSION: usize = 3;
 /// Where the turns of buckets begin, behind the words of 65,536 versions.
 const FIRST_TURN: usize = 524_291;
 
-/// Where each word of a store and of its log stands in one table, by a plan. What the places of a level
-/// start from is found once, when it is made. Contracts see the plan.
+/// Where each word of a store and of its log stands in one table, by a plan. What the places of a
+/// level start from is found once, when it is made. Contracts see the plan.
 #[derive(Drop)]
 pub struct Places {
     plan: Plan,
@@ -108,8 +108,8 @@ impl Places {
         self.bucket(level, bucket) + usize::from(slot)
     }
 
-    /// The place of a bucket's first word. From it on stand the books of the bucket's slots side by side, then the
-    /// first words of their keys, and so on, each run as long as the plan's cap.
+    /// The place of a bucket's first word. From it on stand the books of the bucket's slots side by
+    /// side, then the first words of their keys, and so on, each run as long as the plan's cap.
     pub fn bucket(&self, level: u8, bucket: u16) -> usize
         requires { IsSpot self.now (Turn level bucket) }
         ensures value { result ≡ lane_place self.now level bucket 0 0 }
@@ -138,7 +138,9 @@ fn key_words(level: u8) -> usize
 
 // Where the turns of the first levels end, for each number of levels.
 fn turns_of(buckets: &[u16; 11]) -> [usize; 12]
-    ensures ends { (levels : ℕ) → levels ≤ 11 → slice_index result levels ≡ first_turn + sum_below levels (λ level. slice_index buckets.now level) }
+    ensures ends { (levels : ℕ) → levels ≤ 11
+        → slice_index result levels ≡ first_turn + sum_below levels
+        (λ level. slice_index buckets.now level) }
     ensures small { (levels : ℕ) → levels ≤ 11 → slice_index result levels < 2 ^ 21 }
 {
     let mut ends = [FIRST_TURN; 12];
@@ -151,7 +153,9 @@ fn turns_of(buckets: &[u16; 11]) -> [usize; 12]
 // Where the entries of the first levels end, for each number of levels.
 fn entries_of(first: usize, buckets: &[u16; 11], cap: u16) -> [usize; 12]
     requires { first < 2 ^ 21 }
-    ensures ends { (levels : ℕ) → levels ≤ 11 → slice_index result levels ≡ first + sum_below levels (λ level. cap * entry_words level * slice_index buckets.now level) }
+    ensures ends { (levels : ℕ) → levels ≤ 11
+        → slice_index result levels ≡ first + sum_below levels
+        (λ level. cap * entry_words level * slice_index buckets.now level) }
     ensures small { (levels : ℕ) → levels ≤ 11 → slice_index result levels < 2 ^ 40 }
 {
     let mut ends = [first; 12];

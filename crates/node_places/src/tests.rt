@@ -38,7 +38,8 @@ fn words_stand_at_their_places(rt: HostRuntime) -> Result<(), Fail> {
     assert_eq!(rt; usual.version(65_535, 7), 524_290);
     assert_eq!(rt; usual.turn(0, 0), 524_291);
     assert_eq!(rt; usual.turn(0, 4095), 528_386);
-    // A bucket of leaves has 128 books and 128 keys, one of nodes 128 books and four times 128 words of keys.
+    // A bucket of leaves has 128 books and 128 keys, one of nodes 128 books and four times 128
+    // words of keys.
     for (level, bucket, slot, book) in [
         (0, 0, 0, 540_163),
         (0, 0, 127, 540_290),

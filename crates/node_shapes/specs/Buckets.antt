@@ -31,10 +31,13 @@ leaf_bucket bits buckets = bucket_of_hash (mixed hash_start bits) buckets
 abbrev pub pair_word : ℕ → ℕ → ℕ
 pair_word low high = low + 2 ^ 32 * high
 
--- the hash of a node before its last step. For each octant stands 0 where there is no child, else 1 and the child's bucket
+-- the hash of a node before its last step. For each octant stands 0 where there is no child, else 1
+-- and the child's bucket
 abbrev pub node_hash : (ℕ → ℕ) → ℕ
 node_hash terms =
-    mixed (mixed (mixed (mixed hash_start (pair_word (terms 0) (terms 1))) (pair_word (terms 2) (terms 3))) (pair_word (terms 4) (terms 5))) (pair_word (terms 6) (terms 7))
+    mixed (mixed
+    (mixed (mixed hash_start (pair_word (terms 0) (terms 1))) (pair_word (terms 2) (terms 3)))
+    (pair_word (terms 4) (terms 5))) (pair_word (terms 6) (terms 7))
 
 -- the bucket of a node
 abbrev pub node_bucket : (ℕ → ℕ) → ℕ → ℕ
@@ -50,4 +53,5 @@ octant_term (Branch a b c d e f g h) bucket = 1 + bucket
 unfoldable pub bucket_of_shape : List ℕ → ℕ → Shape → ℕ
 bucket_of_shape buckets zero s = leaf_bucket (bits_of s) (slice_index buckets 0)
 bucket_of_shape buckets (suc level) s =
-    node_bucket (λ k. octant_term (octant_shape s k) (bucket_of_shape buckets level (octant_shape s k))) (slice_index buckets (suc level))
+    node_bucket (λ k. octant_term (octant_shape s k)
+    (bucket_of_shape buckets level (octant_shape s k))) (slice_index buckets (suc level))

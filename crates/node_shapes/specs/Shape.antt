@@ -27,7 +27,9 @@ octant_shape _ _ = Clear
 
 -- the shape of eight octants
 abbrev pub branch_of : (ℕ → Shape) → Shape
-branch_of octants = Branch (octants 0) (octants 1) (octants 2) (octants 3) (octants 4) (octants 5) (octants 6) (octants 7)
+branch_of octants =
+    Branch (octants 0) (octants 1) (octants 2) (octants 3) (octants 4) (octants 5) (octants 6)
+    (octants 7)
 
 -- the bits of a leaf, and none of anything else
 abbrev pub bits_of : Shape → ℕ
@@ -46,11 +48,13 @@ octant_number side x y z = x / side + 2 * (y / side) + 4 * (z / side)
 unfoldable pub has : ℕ → Shape → ℕ → ℕ → ℕ → Bool
 has zero s x y z = bit_at (bits_of s) (bit_number x y z) == 1
 has (suc level) s x y z =
-    has level (octant_shape s (octant_number (block_side level) x y z)) (x % block_side level) (y % block_side level) (z % block_side level)
+    has level (octant_shape s (octant_number (block_side level) x y z)) (x % block_side level)
+    (y % block_side level) (z % block_side level)
 
 -- two shapes of this level have the same cells
 pub record SameCells (level : ℕ) (s t : Shape) : Type 0 where
-  pub each : (x y z : ℕ) → x < block_side level → y < block_side level → z < block_side level → has level s x y z ≡ has level t x y z
+  pub each : (x y z : ℕ) → x < block_side level → y < block_side level → z < block_side level
+      → has level s x y z ≡ has level t x y z
 
 -- some cell of the shape is set
 pub record HasCell (level : ℕ) (s : Shape) : Type 0 where
@@ -64,7 +68,8 @@ pub record HasCell (level : ℕ) (s : Shape) : Type 0 where
 
 -- in this block of the world the shape sets just the cells that are set there
 pub record ShowsCells (b : Block) (s : Shape) (cells : Cell → Bool) : Type 0 where
-  pub each : (c : Cell) → IsInBlock b c → has b.level s (c.x - b.at.x) (c.y - b.at.y) (c.z - b.at.z) ≡ cells c
+  pub each : (c : Cell) → IsInBlock b c
+      → has b.level s (c.x - b.at.x) (c.y - b.at.y) (c.z - b.at.z) ≡ cells c
 
 -- no set cell, or a leaf with a set cell
 abbrev pub IsLeafShape : Shape → Type 0
@@ -76,7 +81,8 @@ IsLeafShape (Branch a b c d e f g h) = ⊥
 abbrev pub IsBranchShape : Shape → Type 0
 IsBranchShape Clear = Unit {0}
 IsBranchShape (Leaf bits) = ⊥
-IsBranchShape (Branch a b c d e f g h) = (k : ℕ) × (k < 8) × (octant_shape (Branch a b c d e f g h) k ≢ Clear)
+IsBranchShape (Branch a b c d e f g h) =
+    (k : ℕ) × (k < 8) × (octant_shape (Branch a b c d e f g h) k ≢ Clear)
 
 -- at this level: no leaf of no cells, and no branch of no octants
 unfoldable pub IsCanonical : ℕ → Shape → Type 0

@@ -4,7 +4,8 @@ use Rattle.std.proofs.Common.{zero, suc, ◌∙◌, ap}
 use Rattle.std.specs.Coded.{Coded, code_by, coded_ℕ, coded_list}
 use Rattle.node_shapes.specs.Shape.{Shape, Clear, Leaf, Branch}
 
--- a shape as the steps of a stack: 0 puts a clear block, 1 makes a branch of the top eight, n + 2 puts the leaf n
+-- a shape as the steps of a stack: 0 puts a clear block, 1 makes a branch of the top eight, n + 2
+-- puts the leaf n
 abbrev pub shape_steps : Shape → List ℕ → List ℕ
 shape_steps Clear more = zero ∷ more
 shape_steps (Leaf bits) more = suc (suc bits) ∷ more
@@ -25,11 +26,14 @@ abbrev pub top_shape : List Shape → Shape
 top_shape [] = Clear
 top_shape (s ∷ stack) = s
 
-pub run_shape-steps : (s : Shape) (more : List ℕ) (stack : List Shape) → run_shape (shape_steps s more) stack ≡ run_shape more (s ∷ stack)
+pub run_shape-steps : (s : Shape) (more : List ℕ) (stack : List Shape)
+    → run_shape (shape_steps s more) stack ≡ run_shape more (s ∷ stack)
 run_shape-steps Clear more stack = refl
 run_shape-steps (Leaf bits) more stack = refl
 run_shape-steps (Branch a b c d e f g h) more stack =
     run_shape-steps a _ _ ∙ run_shape-steps b _ _ ∙ run_shape-steps c _ _ ∙ run_shape-steps d _ _ ∙ run_shape-steps e _ _ ∙ run_shape-steps f _ _ ∙ run_shape-steps g _ _ ∙ run_shape-steps h _ _
 
 abbrev pub coded_shape : Coded Shape
-coded_shape = code_by (List ℕ) (coded_list coded_ℕ) (λ s. shape_steps s []) (λ xs. top_shape (run_shape xs [])) (λ s. ap top_shape (run_shape-steps s [] []))
+coded_shape =
+    code_by (List ℕ) (coded_list coded_ℕ) (λ s. shape_steps s [])
+    (λ xs. top_shape (run_shape xs [])) (λ s. ap top_shape (run_shape-steps s [] []))

@@ -37,7 +37,9 @@ node_at n row = NodeAt n (row 0) (row 1) (row 2) (row 3) (row 4) (row 5) (row 6)
 unfoldable pub shape_of : Tree → Shape
 shape_of Gone = Clear
 shape_of (LeafAt n bits) = Leaf bits
-shape_of (NodeAt n a b c d e f g h) = Branch (shape_of a) (shape_of b) (shape_of c) (shape_of d) (shape_of e) (shape_of f) (shape_of g) (shape_of h)
+shape_of (NodeAt n a b c d e f g h) =
+    Branch (shape_of a) (shape_of b) (shape_of c) (shape_of d) (shape_of e) (shape_of f)
+    (shape_of g) (shape_of h)
 
 -- the bits of a leaf, and none of anything else
 abbrev pub bits_in : Tree → ℕ

@@ -1,4 +1,5 @@
--- How much trees weigh. Two lists have the same trees, as often, where they weigh the same by every weight.
+-- How much trees weigh. Two lists have the same trees, as often, where they weigh the same by every
+-- weight.
 use Rattle.std.specs.Prelude.{ℕ, ◌+◌, List, sum_by}
 use Rattle.std.proofs.Common.{zero, suc}
 use Rattle.node_shapes.specs.Tree.{Tree, Gone, LeafAt, NodeAt}
@@ -8,8 +9,8 @@ unfoldable pub weigh : (Tree → ℕ) → List Tree → ℕ
 weigh f ts = sum_by f ts
 
 -- how many trees a list has
-abbrev pub number_of : List Tree → ℕ
-number_of ts = weigh (λ _. 1) ts
+abbrev pub number_of_trees : List Tree → ℕ
+number_of_trees ts = weigh (λ _. 1) ts
 
 -- how much a tree weighs, where nothing weighs nothing
 unfoldable pub weight_of : (Tree → ℕ) → Tree → ℕ

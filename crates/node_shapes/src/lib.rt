@@ -1,6 +1,8 @@
-//! What a block of voxels contains, as a shape, and the names that its nodes have in a store, as a tree.
+//! What a block of voxels contains, as a shape, and the names that its nodes have in a store, as a
+//! tree.
 //!
-//! The definitions stand in `specs/`. The laws that crates above rest on are the contracts of the functions here.
+//! The definitions stand in `specs/`. The laws that crates above rest on are the contracts of the
+//! functions here.
 #![tactic(auto)]
 
 ghost use Rattle.std.specs.Prelude.{◌≡◌, ◌≢◌, ◌+◌, ◌<◌, ◌≤◌, ℕ, Bool, List, Some, None, slice_index};
@@ -21,14 +23,19 @@ pub use places::{is_set, octant_with};
 
 /// A canonical shape follows from its cells.
 pub fn shapes_are_canonical()
-    ensures cells { (level : ℕ) (s t : Shape) → IsCanonical level s → IsCanonical level t → SameCells level s t → s ≡ t }
-    ensures shown { (b : Block) (s t : Shape) (cells : Cell → Bool) → IsCanonical b.level s → IsCanonical b.level t → ShowsCells b s cells → ShowsCells b t cells → s ≡ t }
+    ensures cells { (level : ℕ) (s t : Shape) → IsCanonical level s → IsCanonical level t
+        → SameCells level s t → s ≡ t }
+    ensures shown { (b : Block) (s t : Shape) (cells : Cell → Bool) → IsCanonical b.level s
+        → IsCanonical b.level t → ShowsCells b s cells → ShowsCells b t cells → s ≡ t }
 {}
 
 /// A shape shows the cells of a block just where its octants show those of the block's octants.
 pub fn octants_show_their_cells()
-    ensures down { (b : Block) (s : Shape) (cells : Cell → Bool) (k : ℕ) → 1 ≤ b.level → k < 8 → ShowsCells b s cells → ShowsCells (octant_of b k) (octant_shape s k) cells }
-    ensures up { (b : Block) (s : Shape) (cells : Cell → Bool) → 1 ≤ b.level → ((k : ℕ) → k < 8 → ShowsCells (octant_of b k) (octant_shape s k) cells) → ShowsCells b s cells }
+    ensures down { (b : Block) (s : Shape) (cells : Cell → Bool) (k : ℕ) → 1 ≤ b.level → k < 8
+        → ShowsCells b s cells → ShowsCells (octant_of b k) (octant_shape s k) cells }
+    ensures up { (b : Block) (s : Shape) (cells : Cell → Bool) → 1 ≤ b.level
+        → ((k : ℕ) → k < 8 → ShowsCells (octant_of b k) (octant_shape s k) cells)
+        → ShowsCells b s cells }
 {}
 
 /// A canonical shape that isn't clear has a set cell.
@@ -39,25 +46,32 @@ pub fn shapes_have_cells()
 /// A part of a shape isn't clear, and one of a canonical shape is canonical, at one level alone.
 pub fn parts_are_canonical()
     ensures some { (p s : Shape) → IsPart p s → p ≢ Clear }
-    ensures level { (level : ℕ) (p s : Shape) → IsCanonical level s → IsPart p s → IsCanonicalUpTo level p }
+    ensures level { (level : ℕ) (p s : Shape) → IsCanonical level s → IsPart p s
+        → IsCanonicalUpTo level p }
     ensures once { (j k : ℕ) (s : Shape) → s ≢ Clear → IsCanonical j s → IsCanonical k s → j ≡ k }
 {}
 
-/// Each name of a tree has the level of its depth, and a node that stands in a tree shows a part of its shape.
+/// Each name of a tree has the level of its depth, and a node that stands in a tree shows a part of
+/// its shape.
 pub fn trees_have_shapes()
-    ensures level { (level : ℕ) (t : Tree) (n : Name) → IsTreeAt level t → root_of t ≡ Some n → n.level ≡ level }
+    ensures level { (level : ℕ) (t : Tree) (n : Name) → IsTreeAt level t → root_of t ≡ Some n
+        → n.level ≡ level }
     ensures octant { (t : Tree) (k : ℕ) → shape_of (child_of t k) ≡ octant_shape (shape_of t) k }
-    ensures part { (t u : Tree) → root_of t ≢ None → StandsIn t u → IsPart (shape_of t) (shape_of u) }
+    ensures part { (t u : Tree) → root_of t ≢ None → StandsIn t u
+        → IsPart (shape_of t) (shape_of u) }
 {}
 
 /// A tree put in place of another of a row changes the row's weight by its own.
 pub fn rows_weigh_their_trees()
-    ensures { (f : Tree → ℕ) (row : ℕ → Tree) (k : ℕ) (t : Tree) (n : ℕ) → k < n → weight_below f (put_row row k t) n + weight_of f (row k) ≡ weight_below f row n + weight_of f t }
+    ensures { (f : Tree → ℕ) (row : ℕ → Tree) (k : ℕ) (t : Tree) (n : ℕ) → k < n
+        → weight_below f (put_row row k t) n + weight_of f
+        (row k) ≡ weight_below f row n + weight_of f t }
 {}
 
 /// A shape's bucket is one of its level's.
 pub fn shapes_have_buckets()
-    ensures { (buckets : List ℕ) (level : ℕ) (s : Shape) → 1 ≤ slice_index buckets level → bucket_of_shape buckets level s < slice_index buckets level }
+    ensures { (buckets : List ℕ) (level : ℕ) (s : Shape) → 1 ≤ slice_index buckets level
+        → bucket_of_shape buckets level s < slice_index buckets level }
 {}
 
 ghost use Rattle.std.specs.Coded.{Coded};

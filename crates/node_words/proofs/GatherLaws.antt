@@ -4,7 +4,7 @@ use Rattle.std.proofs.lemmas.Bool.{cases_eq}
 use Rattle.node_shapes.specs.declared.names.Name.{Name}
 use Rattle.node_shapes.specs.Shape.{Shape, Clear, octant_shape, branch_of, IsPart, whole, within}
 use Rattle.node_shapes.specs.Tree.{Tree, Gone, LeafAt, node_at, root_of, child_of, shape_of}
-use Rattle.node_shapes.specs.Weights.{weigh, number_of, put_row}
+use Rattle.node_shapes.specs.Weights.{weigh, number_of_trees, put_row}
 use Rattle.node_shapes.specs.Shape as shape
 use Rattle.node_shapes.proofs.TreeLaws.{root_from_child, IsTreeAt-below, level_of, gone_at, leaf_at, node_levels, shape_of-leaf, shape_of-node}
 use Rattle.node_shapes.proofs.WeightLaws.{weight_of-gone, weight_of-there, weight_below-part, weight_below-put, weight_below-one, put_row-same, put_row-other}
@@ -67,7 +67,7 @@ one_gathered old mid new level target cs ds k name lt e a c d =
 pub gathered_held : (old mid new : List Tree) (level : ℕ) (target : Shape) (cs : List (Option Name)) (n : ℕ) → (a : Gathered old level target cs n mid) → Keeps mid new → AreHeld new cs a.row
 gathered_held old mid new level target cs n a h = record { names = λ k lt. a.names k; weighs = λ f. omega (arith, a.weighs f, h.weighs f) }
 
-pub gathered_number : (old mid : List Tree) (level : ℕ) (target : Shape) (cs : List (Option Name)) (n : ℕ) → Gathered old level target cs n mid → number_of mid ≤ number_of old + 8
+pub gathered_number : (old mid : List Tree) (level : ℕ) (target : Shape) (cs : List (Option Name)) (n : ℕ) → Gathered old level target cs n mid → number_of_trees mid ≤ number_of_trees old + 8
 gathered_number old mid level target cs n a = omega (arith, a.weighs (λ _. 1), weight_below-one a.row 8)
 
 pub gathered_below : (old mid : List Tree) (level : ℕ) (target : Shape) (cs : List (Option Name)) (n : ℕ) → Gathered old level target cs n mid → AreBelow (suc level) cs
@@ -100,7 +100,7 @@ lose_more old mid new row k a b = rw add-one (record { weighs = λ f. omega (ari
 pub may_next : (old mid : List Tree) (children : List (Option Name)) (row : ℕ → Tree) (k : ℕ) → AreHeld old children row → k < 8 → LosesAll old row k mid → MayHold mid (row k)
 may_next old mid children row k a h b = record { weighs = λ f. omega (arith, a.weighs f, b.weighs f, weight_below-part f row k 8 h) }
 
-pub fewer : (old mid : List Tree) (row : ℕ → Tree) (k : ℕ) → LosesAll old row k mid → number_of mid ≤ number_of old
+pub fewer : (old mid : List Tree) (row : ℕ → Tree) (k : ℕ) → LosesAll old row k mid → number_of_trees mid ≤ number_of_trees old
 fewer old mid row k b = omega (arith, b.weighs (λ _. 1))
 
 -- a share given back

@@ -3,7 +3,7 @@ use Rattle.std.proofs.Common.{◌≡◌, ℕ, zero, suc, ◌+◌, ◌-◌, ◌<�
 use Rattle.node_shapes.specs.declared.names.Name.{Name}
 use Rattle.node_shapes.specs.Shape.{IsCanonical, branch_of}
 use Rattle.node_shapes.specs.Tree.{Tree, Gone, root_of, child_of, shape_of, StandsIn, LeafAt, NodeAt, itself, below, IsTreeAt}
-use Rattle.node_shapes.specs.Weights.{weigh, number_of}
+use Rattle.node_shapes.specs.Weights.{weigh, number_of_trees}
 use Rattle.node_shapes.proofs.ShapeLaws.{branch_canonical, clear_canonical}
 use Rattle.node_shapes.proofs.WeightLaws.{weight_of-there, weight_below-part}
 use Rattle.node_shapes.proofs.TreeLaws.{stands_child, level_of, IsTreeAt-child, IsTreeAt-below, child_of-gone, gone_from_root, shape_of-some, shape_of-gone}
@@ -34,11 +34,11 @@ reaches_more a b n k r = record { tree = r.tree; reached = reached_more a b r.tr
 pub gains_held : (old : List Tree) (t : Tree) (new : List Tree) → Gains old t new → IsHeld new t
 gains_held old t new g = record { weighs = λ f. omega (arith, g.weighs f) }
 
-pub gains_number : (old : List Tree) (t : Tree) (new : List Tree) → Gains old t new → number_of new ≡ number_of old + 1
+pub gains_number : (old : List Tree) (t : Tree) (new : List Tree) → Gains old t new → number_of_trees new ≡ number_of_trees old + 1
 gains_number old t new g = omega (arith, g.weighs (λ _. 1))
 
 -- something is held, so the number isn't 0
-pub held_number : (held : List Tree) (t : Tree) → IsHeld held t → 1 ≤ number_of held
+pub held_number : (held : List Tree) (t : Tree) → IsHeld held t → 1 ≤ number_of_trees held
 held_number held t h = h.weighs (λ _. 1)
 
 pub held_reached : (held : List Tree) (t : Tree) → IsHeld held t → IsReached held t
@@ -103,7 +103,7 @@ came_and_went old mid new t g h = record { weighs = λ f. omega (arith, g.weighs
 pub same_on : (a b c : List Tree) → SameHeld a b → SameHeld b c → SameHeld a c
 same_on a b c p q = record { weighs = λ f. omega (arith, p.weighs f, q.weighs f) }
 
-pub same_number : (a b : List Tree) → SameHeld a b → number_of b ≡ number_of a
+pub same_number : (a b : List Tree) → SameHeld a b → number_of_trees b ≡ number_of_trees a
 same_number a b p = p.weighs (λ _. 1)
 
 -- a child of a row that is held

@@ -1,4 +1,5 @@
--- Lists of shapes by level and bucket: when as many different ones are listed as a bucket has slots.
+-- Lists of shapes by level and bucket: when as many different ones are listed as a bucket has
+-- slots.
 use Rattle.std.specs.Prelude.{◌≡◌, ◌≢◌, ℕ, List, All, length}
 use Rattle.std.specs.List.{AllPairs, Contains}
 use Rattle.node_shapes.specs.Shape.{Shape, Clear, IsCanonical}

@@ -13,7 +13,8 @@ pub record IsTreeOf (held : List Tree) (level : ℕ) (t : Tree) (name : Option N
   pub levels : IsTreeAt level t
 
 -- a share of what may be a node came, whose tree has this shape and level
-pub record Comes (old : List Tree) (level : ℕ) (s : Shape) (name : Option Name) (new : List Tree) : Type 0 where
+pub record Comes (old : List Tree) (level : ℕ) (s : Shape) (name : Option Name)
+    (new : List Tree) : Type 0 where
   pub tree : Tree
   pub root : root_of tree ≡ name
   pub levels : IsTreeAt level tree
@@ -54,7 +55,8 @@ pub record Fails (target : Shape) (level bucket : ℕ) (old new : Seen) : Type 0
   pub held : (f : Tree → ℕ) → weigh f new.held ≡ weigh f old.held
 
 -- shares came for the first n octants of the target, whose octants are of this level
-pub record Gathered (old : List Tree) (level : ℕ) (target : Shape) (children : List (Option Name)) (n : ℕ) (new : List Tree) : Type 0 where
+pub record Gathered (old : List Tree) (level : ℕ) (target : Shape) (children : List (Option Name))
+    (n : ℕ) (new : List Tree) : Type 0 where
   pub row : ℕ → Tree
   pub names : (k : ℕ) → root_of (row k) ≡ name_in children k
   pub levels : (k : ℕ) → IsTreeAt level (row k)

@@ -1,5 +1,5 @@
--- What a store holds, and how that changes. What is held is a list of trees, one for each share, and two lists
--- are alike where they weigh the same by every weight.
+-- What a store holds, and how that changes. What is held is a list of trees, one for each share,
+-- and two lists are alike where they weigh the same by every weight.
 use Rattle.std.specs.Prelude.{◌≡◌, ◌≢◌, ℕ, ◌+◌, ◌*◌, ◌<◌, ◌≤◌, ◌⊎◌, Option, Some, None, List, ◌∷◌, slice_index_or, All, AllPairs, length}
 use Rattle.node_shapes.specs.declared.names.Name.{Name}
 use Rattle.node_shapes.specs.Shape.{Shape, Clear, IsBranch, IsCanonical, IsPart}
@@ -14,15 +14,16 @@ pub record Wanted : Type 0 where
   pub bucket : ℕ
   pub shape : Shape
 
--- a node that a call may want: its shape is canonical and not clear, and its bucket is the one that the plan gives it
+-- a node that a call may want: its shape is canonical and not clear, and its bucket is the one that
+-- the plan gives it
 pub record IsSought (p : Layout) (w : Wanted) : Type 0 where
   pub canonical : IsCanonical w.level w.shape
   pub some : w.shape ≢ Clear
   pub bucket_is : w.bucket ≡ bucket_of_shape p.buckets w.level w.shape
   pub bucket_in : w.bucket < buckets_at p w.level
 
--- what a store is seen as: its plan, which no call changes, the trees of the shares held, the shapes of the entries
--- added, and what met a full bucket
+-- what a store is seen as: its plan, which no call changes, the trees of the shares held, the
+-- shapes of the entries added, and what met a full bucket
 pub record Seen : Type 0 where
   pub plan : Layout
   pub held : List Tree
@@ -72,7 +73,8 @@ abbrev pub name_in : List (Option Name) → ℕ → Option Name
 name_in children octant = slice_index_or children octant None
 
 -- the trees of a row are those of the children, and each share is held, counted with repeats
-pub record AreHeld (held : List Tree) (children : List (Option Name)) (row : ℕ → Tree) : Type 0 where
+pub record AreHeld (held : List Tree) (children : List (Option Name))
+    (row : ℕ → Tree) : Type 0 where
   pub names : (k : ℕ) → k < 8 → root_of (row k) ≡ name_in children k
   pub weighs : (f : Tree → ℕ) → weight_below f row 8 ≤ weigh f held
 
@@ -105,7 +107,8 @@ pub record OnlyHeldChanges (old new : Seen) : Type 0 where
   pub made : new.made ≡ old.made
   pub met : new.met ≡ old.met
 
--- nothing changes but that this level, bucket and shape join what met a full bucket, which is the shape's bucket
+-- nothing changes but that this level, bucket and shape join what met a full bucket, which is the
+-- shape's bucket
 pub record OnlyMeets (old : Seen) (level bucket : ℕ) (shape : Shape) (new : Seen) : Type 0 where
   pub sought : IsSought old.plan (record { level = level; bucket = bucket; shape = shape })
   pub plan : new.plan ≡ old.plan
@@ -119,7 +122,8 @@ pub record Grants (old : Seen) (shape : Shape) (new : Seen) : Type 0 where
   pub made : (new.made ≡ old.made) ⊎ (new.made ≡ shape ∷ old.made)
   pub met : new.met ≡ old.met
 
--- a tree that may be held: its name's level is one of the world's, each name below has the level of its depth
+-- a tree that may be held: its name's level is one of the world's, each name below has the level of
+-- its depth
 pub record IsTree (side : ℕ) (t : Tree) : Type 0 where
   pub name : Name
   pub root : root_of t ≡ Some name
@@ -133,14 +137,16 @@ pub record AreTrees (side : ℕ) (held : List Tree) : Type 0 where
 
 -- each share held has a canonical shape
 pub record AreCanonical (held : List Tree) : Type 0 where
-  pub each : (t : Tree) (n : Name) → IsHeld held t → root_of t ≡ Some n → IsCanonical n.level (shape_of t)
+  pub each : (t : Tree) (n : Name) → IsHeld held t → root_of t ≡ Some n
+      → IsCanonical n.level (shape_of t)
 
 -- a branch that is part of no shape held
 pub record IsUnheldBranch (held : List Tree) (p : Shape) : Type 0 where
   pub is_branch : IsBranch p
   pub unheld : (t : Tree) → IsHeld held t → ¬ IsPart p (shape_of t)
 
--- one turn, and at most eight for each of some different branches of the shape that are part of no shape still held
+-- one turn, and at most eight for each of some different branches of the shape that are part of no
+-- shape still held
 pub record ReturnsWithin (held : List Tree) (s : Shape) (before after : ℕ) : Type 0 where
   pub freed : List Shape
   pub different : AllPairs (λ p q. p ≢ q) freed

@@ -2,7 +2,8 @@
 use Rattle.std.specs.Prelude.{ℕ, ◌≡◌, ◌≤◌, List, [], ◌∷◌, Bool, false, if◌then◌else◌, nat_le, IsTrue, length, slice_index}
 use Rattle.std.specs.List.{list_all}
 
--- the side of the world as a power of two, the number of buckets on each level, and the slots of each bucket
+-- the side of the world as a power of two, the number of buckets on each level, and the slots of
+-- each bucket
 pub record Layout : Type 0 where
   pub side : ℕ
   pub buckets : List ℕ

@@ -1,7 +1,8 @@
-//! What any store of nodes promises: names, shares, plans, keys and their buckets, and the traits of stores.
+//! What any store of nodes promises: names, shares, plans, keys and their buckets, and the traits
+//! of stores.
 //!
-//! A store keeps each node once. Whoever holds a share of a node may read it and all that stands below it, and may
-//! make a node of shares. What a store holds is seen as a list of trees of names.
+//! A store keeps each node once. Whoever holds a share of a node may read it and all that stands
+//! below it, and may make a node of shares. What a store holds is seen as a list of trees of names.
 #![tactic(auto)]
 
 mod keys;

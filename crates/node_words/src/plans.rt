@@ -3,8 +3,8 @@ ghost use Rattle.std.specs.Prelude.{◌≡◌, ◌↔◌, ℕ, ◌≤◌, IsSome
 use std::marker::Model;
 use vw_cell::Side;
 
-/// How a store is laid out: the side of its world, the number of buckets on each of the levels 0 to 10,
-/// and how many nodes a bucket has room for.
+/// How a store is laid out: the side of its world, the number of buckets on each of the levels 0 to
+/// 10, and how many nodes a bucket has room for.
 #[derive(Clone, Copy, Debug, PartialEq, Eq)]
 pub struct Plan {
     side: Side,
@@ -45,10 +45,13 @@ impl Plan {
         }
     }
 
-    /// As many buckets on each level. `None` where that isn't 1 to 4,096, or the cap isn't 1 to 256.
+    /// As many buckets on each level. `None` where that isn't 1 to 4,096, or the cap isn't 1 to
+    /// 256.
     pub fn even(side: Side, buckets: u16, cap: u16) -> Option<Plan>
-        ensures exactly { IsSome result ↔ (IsTrue (is_number_of_buckets buckets) × IsTrue (is_cap cap)) }
-        ensures value { IfSome result (λ p. p ≡ record { side = side; buckets = replicate 11 buckets; cap = cap }) }
+        ensures exactly { IsSome result ↔
+            (IsTrue (is_number_of_buckets buckets) × IsTrue (is_cap cap)) }
+        ensures value { IfSome result
+            (λ p. p ≡ record { side = side; buckets = replicate 11 buckets; cap = cap }) }
     {
         let _cells = side.cells();
         if is_number_of_buckets(buckets) && is_cap(cap) {
@@ -66,7 +69,8 @@ impl Plan {
     /// The usual plan with this cap. `None` where it isn't 1 to 256.
     pub fn with_cap(side: Side, cap: u16) -> Option<Plan>
         ensures exactly { IsSome result ↔ IsTrue (is_cap cap) }
-        ensures value { IfSome result (λ p. p ≡ record { side = side; buckets = usual_buckets; cap = cap }) }
+        ensures value { IfSome result
+            (λ p. p ≡ record { side = side; buckets = usual_buckets; cap = cap }) }
     {
         let _cells = side.cells();
         if is_cap(cap) {

@@ -4,8 +4,8 @@ ghost use Rattle.node_shapes.specs.declared.names.Name.{Name};
 use node_shapes::Name;
 use std::marker::Model;
 
-/// One reference to a live node of a store. It can't be copied, and it must be spent: given back, or
-/// moved into a node above. Contracts see its name.
+/// One reference to a live node of a store. It can't be copied, and it must be spent: given back,
+/// or moved into a node above. Contracts see its name.
 pub struct Share {
     name: Name,
 }
@@ -24,8 +24,9 @@ impl Share {
         self.name
     }
 
-    /// For implementers of a store: a reference that the store has counted. A call can't tell one that
-    /// nobody counted from a counted one of the same name, so nothing but a store is to make one.
+    /// For implementers of a store: a reference that the store has counted. A call can't tell one
+    /// that nobody counted from a counted one of the same name, so nothing but a store is to make
+    /// one.
     pub fn of_store(name: Name) -> Share
         ensures { result ≡ name }
     {

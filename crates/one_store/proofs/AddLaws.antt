@@ -7,7 +7,7 @@ use Rattle.std.proofs.lemmas.List.Elements.{All-nil, All-cons, All-weaker}
 use Rattle.node_shapes.specs.declared.names.Name.{Name}
 use Rattle.node_shapes.specs.Shape.{Shape}
 use Rattle.node_shapes.specs.Tree.{Tree, LeafAt, root_of, shape_of}
-use Rattle.node_shapes.specs.Weights.{number_of}
+use Rattle.node_shapes.specs.Weights.{number_of_trees}
 use Rattle.node_shapes.proofs.TreeEqual.{Name-discrete}
 use Rattle.node_shapes.proofs.WeightLaws.{weigh-nil}
 use Rattle.node_shapes.proofs.TreeLaws.{shape_of-node}
@@ -40,7 +40,7 @@ use Rattle.store_notes.specs.Told.{nothing_told}
 use Rattle.store_notes.specs.Changes.{HoldsRow}
 use Rattle.store_notes.proofs.HeldLists.{held_closed}
 use Rattle.one_store.specs.declared.sought.SoughtKey.{SoughtKey}
-use Rattle.one_store.specs.Known.{Known, IsStore, IsStoreOf, core_of, tree_in, row_of, root_in}
+use Rattle.one_store.specs.Known.{Known, IsStore, IsStoreOf, core_of, tree_in, trees_below, stored_root}
 use Rattle.one_store.specs.Steps.{AddsNode, MeetsFull, IsSoughtKey, sought_key, tree_over, shape_over}
 use Rattle.one_store.proofs.StateLaws.{root_weight, trade, row_weighs, row_number, holdings-one, child_weighs, stand_again}
 
@@ -73,7 +73,7 @@ name_level s n e = ap (λ (m : Name). m.level) e
 is_new : (old : Known) (s : SoughtKey) (n : Name) → n ≡ named s.level s.bucket n.slot → IsSoughtKey old.words.plan s → n.slot < old.words.plan.cap → IsName old.words.plan n
 is_new old s n e q lt = subst (λ (m : Name). IsName old.words.plan m) (sym e) (slot_name old.words.plan s.level s.bucket n.slot q.bucket_in lt)
 
-pub add_event : (old new : Known) (s : SoughtKey) (n : Name) → IsSoughtKey old.words.plan s → IsMissing old.words.plan (core_of old) s.level (sought_key s) → HoldsRow old.told.held (row_of (key_in old.words) (s.level - 1) (sought_key s)) → AddsNode old s n new → Adds old.words.plan 0 n (sought_key s) (core_of old) (core_of new)
+pub add_event : (old new : Known) (s : SoughtKey) (n : Name) → IsSoughtKey old.words.plan s → IsMissing old.words.plan (core_of old) s.level (sought_key s) → HoldsRow old.told.held (trees_below (key_in old.words) (s.level - 1) (sought_key s)) → AddsNode old s n new → Adds old.words.plan 0 n (sought_key s) (core_of old) (core_of new)
 add_event old new s n q missing h a =
     let p = old.words.plan in
     let k = sought_key s in
@@ -91,7 +91,7 @@ add_event old new s n q missing h a =
         book = λ m i ne. a.words.other_books.each m i ne;
         key = λ m l ne. a.words.other_keys.each m l.name ne;
       };
-      roots = λ v. ap (λ (r : List (Option Name)). root_in r v) a.roots;
+      roots = λ v. ap (λ (r : List (Option Name)). stored_root r v) a.roots;
       held = trade old.told.held new.told.held (children_named k) (one_name n)
           (λ f. omega (arith, h.weighs (root_weight f), row_weighs f (key_in old.words) (s.level - 1) k))
           (λ f. let root : root_weight f (tree_over s.level (key_in old.words) n k) ≡ f n = ap (λ (o : Option Name). weight f o) (root_over s.level (key_in old.words) n k) in
@@ -140,7 +140,7 @@ module _ (old new : Known) (s : SoughtKey) (n : Name) (event : Adds old.words.pl
 shape_same : (level : ℕ) (key : Name → Key) (n : Name) (k : Key) → shape_of (tree_over level key n k) ≡ shape_over level key k
 unfolding shape_of
 shape_same zero key n k = refl
-shape_same (suc level) key n k = shape_of-node n (row_of key level k)
+shape_same (suc level) key n k = shape_of-node n (trees_below key level k)
 
 head_there : (s : Shape) (made : List Shape) → Contains (s ∷ made) s
 head_there s made = (0, omega arith, refl)
@@ -152,7 +152,7 @@ pub enough_more : (p : Layout) (s : Shape) (made : List Shape) (level bucket : �
 enough_more p s made level bucket h =
     enough_stays p made (s ∷ made) level bucket (λ t c. tail_there s t made c) h
 
-pub add_store : (old new : Known) (s : SoughtKey) (n : Name) (number children : ℕ) → IsStore old number → IsSoughtKey old.words.plan s → IsMissing old.words.plan (core_of old) s.level (sought_key s) → HoldsRow old.told.held (row_of (key_in old.words) (s.level - 1) (sought_key s)) → children ≡ children_weight (λ _. 1) (sought_key s) → AddsNode old s n new → IsStore new (number + 1 - children)
+pub add_store : (old new : Known) (s : SoughtKey) (n : Name) (number children : ℕ) → IsStore old number → IsSoughtKey old.words.plan s → IsMissing old.words.plan (core_of old) s.level (sought_key s) → HoldsRow old.told.held (trees_below (key_in old.words) (s.level - 1) (sought_key s)) → children ≡ children_weight (λ _. 1) (sought_key s) → AddsNode old s n new → IsStore new (number + 1 - children)
 add_store old new s n number children st q missing h c a =
     let p = old.words.plan in
     let k = sought_key s in
@@ -167,7 +167,7 @@ add_store old new s n number children st q missing h c a =
       plan = st.plan;
       sound = sound;
       stand = stand_again p old new st.sound sound keys
-          (λ t i. elim (held_closed old.told.held new.told.held (tree_over s.level (key_in old.words) n k) t (row_of (key_in old.words) (s.level - 1) k) a.told.closes i) [
+          (λ t i. elim (held_closed old.told.held new.told.held (tree_over s.level (key_in old.words) n k) t (trees_below (key_in old.words) (s.level - 1) k) a.told.closes i) [
             | inl e ↦ inr (record { name = n; live = live; tree = tree ∙ sym e })
             | inr j ↦ inl (st.stand.each t j)
           ]);
@@ -185,10 +185,10 @@ add_store old new s n number children st q missing h c a =
           (All-weaker (λ w. HasEnough p old.told.made w.level w.bucket) (λ w. HasEnough p (shape_over s.level (key_in old.words) k ∷ old.told.made) w.level w.bucket)
           (λ w e. enough_more p _ old.told.made w.level w.bucket e) old.told.met st.enough));
       places = ap (λ (r : List (Option Name)). length r) a.roots ∙ st.places;
-      tops = λ place m e. st.tops place m (ap (λ (r : List (Option Name)). root_in r place) (sym a.roots) ∙ e);
+      tops = λ place m e. st.tops place m (ap (λ (r : List (Option Name)). stored_root r place) (sym a.roots) ∙ e);
     })
 
-pub row_count : (v : Known) (number children level : ℕ) (k : Key) → IsStore v number → HoldsRow v.told.held (row_of (key_in v.words) level k) → children ≡ children_weight (λ _. 1) k → children ≤ number + 1
+pub row_count : (v : Known) (number children level : ℕ) (k : Key) → IsStore v number → HoldsRow v.told.held (trees_below (key_in v.words) level k) → children ≡ children_weight (λ _. 1) k → children ≤ number + 1
 row_count v number children level k s h c = omega (arith, s.number_is, h.weighs (λ _. 1), row_number (key_in v.words) level k, c)
 
 -- a full bucket has enough
@@ -209,7 +209,7 @@ full_store old new s number st q m =
       plan = st.plan;
       sound = subst (λ (h : List Tree). SoundEntries p (core_of (record { words = old.words; roots = old.roots; told = record { held = h; made = new.told.made; met = new.told.met } }))) (sym m.told.held) st.sound;
       stand = subst (λ (h : List Tree). AllStand p (core_of (record { words = old.words; roots = old.roots; told = record { held = h; made = new.told.made; met = new.told.met } })) h) (sym m.told.held) st.stand;
-      number_is = st.number_is ∙ ap number_of (sym m.told.held);
+      number_is = st.number_is ∙ ap number_of_trees (sym m.told.held);
       listed = λ n l. subst (λ (made : List Shape). Contains made (shape_in (core_of old) n)) (sym m.told.made) (st.listed n (record { name = l.name; book = l.book }));
       enough = subst (λ (met : List Wanted). All (λ w. HasEnough p new.told.made w.level w.bucket) met) (sym m.told.met)
           (subst (λ (made : List Shape). All (λ w. HasEnough p made w.level w.bucket) (wanted ∷ old.told.met)) (sym m.told.made)
@@ -221,7 +221,7 @@ full_store old new s number st q m =
     (subst (λ (w : Written). IsStore (record { words = w; roots = old.roots; told = new.told }) number) (sym m.words) kept)
 
 -- an empty store
-pub begun_store : (w : Written) (roots : List (Option Name)) → IsPlan w.plan → ((n : Name) → book_in w n ≡ 0) → length roots ≡ versions → ((place : ℕ) → root_in roots place ≡ None) → IsStore (record { words = w; roots = roots; told = nothing_told }) 0
+pub begun_store : (w : Written) (roots : List (Option Name)) → IsPlan w.plan → ((n : Name) → book_in w n ≡ 0) → length roots ≡ versions → ((place : ℕ) → stored_root roots place ≡ None) → IsStore (record { words = w; roots = roots; told = nothing_told }) 0
 begun_store w roots plan none long empty =
     let v : Known = record { words = w; roots = roots; told = nothing_told } in
     record {
@@ -240,7 +240,7 @@ begun_store w roots plan none long empty =
       tops = λ place n e. absurd (none-some n (sym (empty place) ∙ e));
     }
 
-pub no_roots : (n place : ℕ) → root_in (replicate n None) place ≡ None
+pub no_roots : (n place : ℕ) → stored_root (replicate n None) place ≡ None
 no_roots zero zero = refl
 no_roots zero (suc place) = refl
 no_roots (suc n) zero = refl

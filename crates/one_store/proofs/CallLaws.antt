@@ -19,7 +19,7 @@ use Rattle.entry_words.specs.Changes.{PutsEntry}
 use Rattle.one_store.specs.declared.sought.SoughtKey.{SoughtKey}
 use Rattle.one_store.specs.Known.{Known, IsStore, core_of}
 use Rattle.one_store.specs.Steps.{Moves, RaisesShare, LowersShare, FreesNode, ReleasesRow, AddsNode, MeetsFull, IsSoughtKey, sought_key}
-use Rattle.one_store.specs.Calls.{SharesEntry, AddsEntry, FindsFull, GivesBack}
+use Rattle.one_store.specs.Calls.{SharesEntry, MakesEntry, FindsFull, GivesBack}
 use Rattle.one_store.proofs.StoreLaws.{book_moves}
 use Rattle.one_store.proofs.BackLaws.{moves_on}
 use Rattle.one_store.proofs.TraitLaws.{IsFound, found_live}
@@ -65,7 +65,7 @@ found_not_missing v s n level k e q f missing = missing n (found_live v s n f) (
 pub missing_no_entry : (v : Known) (s : SoughtKey) (m : Name) (level : ℕ) (k : Key) → s.level ≡ level → sought_key s ≡ k → IsMissing v.words.plan (core_of v) s.level (sought_key s) → HasEntry v.words m k → m.level ≡ level → ⊥
 missing_no_entry v s m level k e q missing h l = missing m (entry_live v m k h) (l ∙ sym e) (h.key_is ∙ sym q)
 
-pub adds_entry : (old new : Known) (s : SoughtKey) (n : Name) (level : ℕ) (k : Key) → IsSoughtKey old.words.plan s → s.level ≡ level → sought_key s ≡ k → AddsNode old s n new → AddsEntry old level k n new
+pub adds_entry : (old new : Known) (s : SoughtKey) (n : Name) (level : ℕ) (k : Key) → IsSoughtKey old.words.plan s → s.level ≡ level → sought_key s ≡ k → AddsNode old s n new → MakesEntry old level k n new
 adds_entry old new s n level k sk e q a =
     let of : n.level ≡ s.level = ap (λ (m : Name). m.level) a.name_is in
     let bucket : n.bucket ≡ s.bucket = ap (λ (m : Name). m.bucket) a.name_is in

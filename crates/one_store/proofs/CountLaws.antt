@@ -2,7 +2,7 @@
 use Rattle.std.proofs.Common.{◌≡◌, ℕ, zero, suc, ◌+◌, ◌<◌, List, [], ◌∷◌, refl, sym, ◌∙◌, ap, arith}
 use Rattle.sums.specs.Sums.{sum_below, sum_below-suc, sum_below-zero}
 use Rattle.node_shapes.specs.Tree.{Tree}
-use Rattle.node_shapes.specs.Weights.{weigh, number_of}
+use Rattle.node_shapes.specs.Weights.{weigh, number_of_trees}
 use Rattle.node_shapes.proofs.WeightLaws.{weigh-nil, weigh-cons}
 use Rattle.history_model.specs.Worlds.{World}
 use Rattle.node_places.specs.Spots.{levels}
@@ -27,11 +27,11 @@ counted_next f n x y e g =
     let z : n + 1 ≡ suc n = omega arith in
     rw z (omega (arith, e, g, sum_below-suc n f))
 
-nothing_held : (ts : List Tree) (f : Tree → ℕ) → number_of ts ≡ 0 → weigh f ts ≡ 0
+nothing_held : (ts : List Tree) (f : Tree → ℕ) → number_of_trees ts ≡ 0 → weigh f ts ≡ 0
 nothing_held [] f e = weigh-nil f
 nothing_held (t ∷ ts) f e = absurd (omega (arith, e, weigh-cons (λ _. 1) t ts))
 
 -- where no share is held, the live nodes of a level are as many as the different blocks of the roots
-pub live_blocks : (v : Known) (number level : ℕ) (cells : ℕ → World) → IsStore v number → level < levels v.words.plan → RootsShow v.words.plan cells (core_of v) → number_of v.told.held ≡ 0 → HasBlocks v.words.plan cells (core_of v) level (live_number v.words.plan (core_of v) level)
+pub live_blocks : (v : Known) (number level : ℕ) (cells : ℕ → World) → IsStore v number → level < levels v.words.plan → RootsShow v.words.plan cells (core_of v) → number_of_trees v.told.held ≡ 0 → HasBlocks v.words.plan cells (core_of v) level (live_number v.words.plan (core_of v) level)
 live_blocks v number level cells s lt roots none =
     live_numbers v.words.plan cells (core_of v) level s.sound roots (record { weighs = λ f. holdings-one f v.told.held ∙ nothing_held v.told.held (root_weight f) none }) lt

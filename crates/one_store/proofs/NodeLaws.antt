@@ -28,7 +28,7 @@ use Rattle.core_laws.proofs.Trees.{node_at-same}
 use Rattle.entry_words.specs.Words.{book_in, key_in, HasEntry}
 use Rattle.store_notes.specs.Changes.{HoldsRow}
 use Rattle.one_store.specs.declared.sought.SoughtKey.{SoughtKey}
-use Rattle.one_store.specs.Known.{Known, IsStore, known_seen, core_of, tree_in, row_of}
+use Rattle.one_store.specs.Known.{Known, IsStore, known_seen, core_of, tree_in, trees_below}
 use Rattle.one_store.specs.Steps.{RaisesShare, ReleasesRow, AddsNode, MeetsFull, IsSoughtKey, sought_key, tree_over, shape_over}
 use Rattle.one_store.proofs.StoreLaws.{held_name, held_is, book_moves, same_keys}
 use Rattle.one_store.proofs.BackLaws.{held_child, node_tree, octant_branch}
@@ -76,57 +76,57 @@ tree_is v number level (Some n) t s e w b =
     held_is v number t n s h e ∙ ap (λ (x : ℕ). tree_at (key_in v.words) x (Some n)) l
 
 -- the trees of children that are held are those of their names
-pub row_is : (v : Known) (number level : ℕ) (names : List (Option Name)) (row : ℕ → Tree) → IsStore v number → Asks v level names → AreHeld v.told.held names row → (k : ℕ) → k < 8 → row k ≡ row_of (key_in v.words) (level - 1) (Node names) k
+pub row_is : (v : Known) (number level : ℕ) (names : List (Option Name)) (row : ℕ → Tree) → IsStore v number → Asks v level names → AreHeld v.told.held names row → (k : ℕ) → k < 8 → row k ≡ trees_below (key_in v.words) (level - 1) (Node names) k
 row_is v number level names row s q a k lt = tree_is v number level (name_in names k) (row k) s (a.names k lt) (part_held v.told.held names row k a lt) (λ n e. q.below.each k n lt e)
 
-pub node_holds_row : (v : Known) (number level : ℕ) (names : List (Option Name)) → IsStore v number → Asks v level names → HoldsRow v.told.held (row_of (key_in v.words) (level - 1) (Node names))
+pub node_holds_row : (v : Known) (number level : ℕ) (names : List (Option Name)) → IsStore v number → Asks v level names → HoldsRow v.told.held (trees_below (key_in v.words) (level - 1) (Node names))
 node_holds_row v number level names s q =
     let a = q.holds.are_held in
-    record { weighs = λ f. omega (arith, a.weighs f, weight_below-same f q.holds.row (row_of (key_in v.words) (level - 1) (Node names)) 8 (row_is v number level names q.holds.row s q a)) }
+    record { weighs = λ f. omega (arith, a.weighs f, weight_below-same f q.holds.row (trees_below (key_in v.words) (level - 1) (Node names)) 8 (row_is v number level names q.holds.row s q a)) }
 
-pub sought_holds : (v : Known) (number : ℕ) (s : SoughtKey) (level : ℕ) (names : List (Option Name)) → IsStore v number → Asks v level names → s.level ≡ level → sought_key s ≡ Node names → HoldsRow v.told.held (row_of (key_in v.words) (s.level - 1) (sought_key s))
+pub sought_holds : (v : Known) (number : ℕ) (s : SoughtKey) (level : ℕ) (names : List (Option Name)) → IsStore v number → Asks v level names → s.level ≡ level → sought_key s ≡ Node names → HoldsRow v.told.held (trees_below (key_in v.words) (s.level - 1) (sought_key s))
 sought_holds v number s level names st q e k =
-    subst (λ (x : Key). HoldsRow v.told.held (row_of (key_in v.words) (s.level - 1) x)) (sym k)
-    (subst (λ (l : ℕ). HoldsRow v.told.held (row_of (key_in v.words) (l - 1) (Node names))) (sym e) (node_holds_row v number level names st q))
+    subst (λ (x : Key). HoldsRow v.told.held (trees_below (key_in v.words) (s.level - 1) x)) (sym k)
+    (subst (λ (l : ℕ). HoldsRow v.told.held (trees_below (key_in v.words) (l - 1) (Node names))) (sym e) (node_holds_row v number level names st q))
 
-pub raised_holds : (old mid : Known) (n : Name) (number level : ℕ) (names : List (Option Name)) → IsStore old number → Asks old level names → RaisesShare old n mid → HoldsRow mid.told.held (row_of (key_in mid.words) (level - 1) (Node names))
+pub raised_holds : (old mid : Known) (n : Name) (number level : ℕ) (names : List (Option Name)) → IsStore old number → Asks old level names → RaisesShare old n mid → HoldsRow mid.told.held (trees_below (key_in mid.words) (level - 1) (Node names))
 raised_holds old mid n number level names s q r =
     let h = node_holds_row old number level names s q in
-    subst (λ (x : Name → Key). HoldsRow mid.told.held (row_of x (level - 1) (Node names))) (sym (same_keys old mid (book_moves old mid n _ r.words r.roots)))
+    subst (λ (x : Name → Key). HoldsRow mid.told.held (trees_below x (level - 1) (Node names))) (sym (same_keys old mid (book_moves old mid n _ r.words r.roots)))
     (record { weighs = λ f. omega (arith, h.weighs f, r.told.gains.weighs f) })
 
 -- the node that was found stands over the row
-pub found_tree : (old : Known) (s : SoughtKey) (n : Name) (level : ℕ) (names : List (Option Name)) → 1 ≤ level → s.level ≡ level → sought_key s ≡ Node names → IsFound old s n → tree_in old n ≡ node_at n (row_of (key_in old.words) (level - 1) (Node names))
+pub found_tree : (old : Known) (s : SoughtKey) (n : Name) (level : ℕ) (names : List (Option Name)) → 1 ≤ level → s.level ≡ level → sought_key s ≡ Node names → IsFound old s n → tree_in old n ≡ node_at n (trees_below (key_in old.words) (level - 1) (Node names))
 found_tree old s n level names above e k f =
     let l : n.level ≡ level = f.1 ∙ e in
-    ap (λ (x : ℕ). tree_at (key_in old.words) x (Some n)) l ∙ node_tree (key_in old.words) level n above ∙ ap (λ (x : Key). node_at n (row_of (key_in old.words) (level - 1) x)) (f.0.key_is ∙ k)
+    ap (λ (x : ℕ). tree_at (key_in old.words) x (Some n)) l ∙ node_tree (key_in old.words) level n above ∙ ap (λ (x : Key). node_at n (trees_below (key_in old.words) (level - 1) x)) (f.0.key_is ∙ k)
 
-pub node_joined : (old mid new : Known) (s : SoughtKey) (n m : Name) (number level steps now : ℕ) (names : List (Option Name)) (row : ℕ → Tree) → IsStore old number → Asks old level names → s.level ≡ level → sought_key s ≡ Node names → IsFound old s n → RaisesShare old n mid → ReleasesRow mid (row_of (key_in mid.words) (level - 1) (Node names)) 8 new steps now → m ≡ n → AreHeld old.told.held names row → Joins old.told.held row m new.told.held
+pub node_joined : (old mid new : Known) (s : SoughtKey) (n m : Name) (number level steps now : ℕ) (names : List (Option Name)) (row : ℕ → Tree) → IsStore old number → Asks old level names → s.level ≡ level → sought_key s ≡ Node names → IsFound old s n → RaisesShare old n mid → ReleasesRow mid (trees_below (key_in mid.words) (level - 1) (Node names)) 8 new steps now → m ≡ n → AreHeld old.told.held names row → Joins old.told.held row m new.told.held
 node_joined old mid new s n m number level steps now names row st q e k f r b same a =
     let keys = same_keys old mid (book_moves old mid n _ r.words r.roots) in
     let rows = row_is old number level names row st q a in
-    let t : tree_in old n ≡ node_at m row = found_tree old s n level names q.above e k f ∙ ap (λ (x : Name). node_at x (row_of (key_in old.words) (level - 1) (Node names))) (sym same) ∙ node_at-same m (row_of (key_in old.words) (level - 1) (Node names)) row (λ j lt. sym (rows j lt)) in
+    let t : tree_in old n ≡ node_at m row = found_tree old s n level names q.above e k f ∙ ap (λ (x : Name). node_at x (trees_below (key_in old.words) (level - 1) (Node names))) (sym same) ∙ node_at-same m (trees_below (key_in old.words) (level - 1) (Node names)) row (λ j lt. sym (rows j lt)) in
     record {
       weighs = λ g. omega (
         arith,
         b.loses.weighs g,
         r.told.gains.weighs g,
         ap g t,
-        weight_below-same g row (row_of (key_in old.words) (level - 1) (Node names)) 8 rows,
-        ap (λ (x : Name → Key). weight_below g (row_of x (level - 1) (Node names)) 8) keys,
+        weight_below-same g row (trees_below (key_in old.words) (level - 1) (Node names)) 8 rows,
+        ap (λ (x : Name → Key). weight_below g (trees_below x (level - 1) (Node names)) 8) keys,
       );
     }
 
-pub node_turns : (old mid new : Known) (s : SoughtKey) (n : Name) (number left level first steps now : ℕ) (names : List (Option Name)) → IsStore old number → IsStore new left → Asks old level names → s.level ≡ level → sought_key s ≡ Node names → IsFound old s n → RaisesShare old n mid → ReleasesRow mid (row_of (key_in mid.words) (level - 1) (Node names)) 8 new steps now → steps ≡ first + 1 → now ≤ first + 9
+pub node_turns : (old mid new : Known) (s : SoughtKey) (n : Name) (number left level first steps now : ℕ) (names : List (Option Name)) → IsStore old number → IsStore new left → Asks old level names → s.level ≡ level → sought_key s ≡ Node names → IsFound old s n → RaisesShare old n mid → ReleasesRow mid (trees_below (key_in mid.words) (level - 1) (Node names)) 8 new steps now → steps ≡ first + 1 → now ≤ first + 9
 node_turns old mid new s n number left level first steps now names st sn q e k f r b z =
     let keys = same_keys old mid (book_moves old mid n _ r.words r.roots) in
-    let row : ℕ → Tree = row_of (key_in mid.words) (level - 1) (Node names) in
+    let row : ℕ → Tree = trees_below (key_in mid.words) (level - 1) (Node names) in
     let h = q.holds.are_held in
     let rows = row_is old number level names q.holds.row st q h in
-    let same : (g : Tree → ℕ) → weight_below g row 8 ≡ weight_below g (row_of (key_in old.words) (level - 1) (Node names)) 8 = λ g. ap (λ (x : Name → Key). weight_below g (row_of x (level - 1) (Node names)) 8) keys in
-    let held : IsHeld new.told.held (tree_in old n) = record { weighs = λ g. omega (arith, b.loses.weighs g, r.told.gains.weighs g, same g, h.weighs g, weight_below-same g q.holds.row (row_of (key_in old.words) (level - 1) (Node names)) 8 rows) } in
-    let shape : shape_of (tree_in old n) ≡ branch_of (λ j. shape_of (row j)) = ap shape_of (found_tree old s n level names q.above e k f) ∙ shape_of-node n (row_of (key_in old.words) (level - 1) (Node names))
-    ∙ ap (λ (x : Name → Key). branch_of (λ j. shape_of (row_of x (level - 1) (Node names) j))) (sym keys) in
+    let same : (g : Tree → ℕ) → weight_below g row 8 ≡ weight_below g (trees_below (key_in old.words) (level - 1) (Node names)) 8 = λ g. ap (λ (x : Name → Key). weight_below g (trees_below x (level - 1) (Node names)) 8) keys in
+    let held : IsHeld new.told.held (tree_in old n) = record { weighs = λ g. omega (arith, b.loses.weighs g, r.told.gains.weighs g, same g, h.weighs g, weight_below-same g q.holds.row (trees_below (key_in old.words) (level - 1) (Node names)) 8 rows) } in
+    let shape : shape_of (tree_in old n) ≡ branch_of (λ j. shape_of (row j)) = ap shape_of (found_tree old s n level names q.above e k f) ∙ shape_of-node n (trees_below (key_in old.words) (level - 1) (Node names))
+    ∙ ap (λ (x : Name → Key). branch_of (λ j. shape_of (trees_below x (level - 1) (Node names) j))) (sym keys) in
     omega (
       arith,
       z,
@@ -171,7 +171,7 @@ node_named v number level names row m s q a r =
     let high = q.below.each q.some.octant child.name q.some.below child.is in
     (record { is_name = l.0.name; live = l.0.book; key_is = same }, omega (arith, low, high))
 
-pub node_hit : (old mid new : Known) (s : SoughtKey) (n m r : Name) (number level steps now : ℕ) (names : List (Option Name)) (row : ℕ → Tree) → IsStore old number → Asks old level names → s.level ≡ level → sought_key s ≡ Node names → IsFound old s n → RaisesShare old n mid → ReleasesRow mid (row_of (key_in mid.words) (level - 1) (Node names)) 8 new steps now → r ≡ n → AreHeld old.told.held names row → IsReached old.told.held (node_at m row) → (r ≡ m) × (new.told.made ≡ old.told.made)
+pub node_hit : (old mid new : Known) (s : SoughtKey) (n m r : Name) (number level steps now : ℕ) (names : List (Option Name)) (row : ℕ → Tree) → IsStore old number → Asks old level names → s.level ≡ level → sought_key s ≡ Node names → IsFound old s n → RaisesShare old n mid → ReleasesRow mid (trees_below (key_in mid.words) (level - 1) (Node names)) 8 new steps now → r ≡ n → AreHeld old.told.held names row → IsReached old.told.held (node_at m row) → (r ≡ m) × (new.told.made ≡ old.told.made)
 node_hit old mid new s n m r number level steps now names row st q e k f a b same h w =
     let l = node_named old number level names row m st q h w in
     (same ∙ st.sound.once n m (found_live old s n f) (record { name = l.0.is_name; book = l.0.live }) (f.1 ∙ e ∙ sym l.1) (f.0.key_is ∙ k ∙ sym l.0.key_is), b.only.made ∙ a.told.only.made)
@@ -181,30 +181,30 @@ node_missed old s m number level names row st q e k w h r =
     let l = node_named old number level names row m st q h r in
     w m (record { name = l.0.is_name; book = l.0.live }) (l.1 ∙ sym e) (l.0.key_is ∙ sym k)
 
-over_node : (key : Name → Key) (level : ℕ) (n : Name) (k : Key) → 1 ≤ level → tree_over level key n k ≡ node_at n (row_of key (level - 1) k)
+over_node : (key : Name → Key) (level : ℕ) (n : Name) (k : Key) → 1 ≤ level → tree_over level key n k ≡ node_at n (trees_below key (level - 1) k)
 over_node key zero n k h = absurd (omega arith)
-over_node key (suc level) n k h = let z : level ≡ suc level - 1 = omega arith in ap (λ (l : ℕ). node_at n (row_of key l k)) z
+over_node key (suc level) n k h = let z : level ≡ suc level - 1 = omega arith in ap (λ (l : ℕ). node_at n (trees_below key l k)) z
 
-shape_node : (key : Name → Key) (level : ℕ) (k : Key) → 1 ≤ level → shape_over level key k ≡ branch_of (λ j. shape_of (row_of key (level - 1) k j))
+shape_node : (key : Name → Key) (level : ℕ) (k : Key) → 1 ≤ level → shape_over level key k ≡ branch_of (λ j. shape_of (trees_below key (level - 1) k j))
 shape_node key zero k h = absurd (omega arith)
-shape_node key (suc level) k h = let z : level ≡ suc level - 1 = omega arith in ap (λ (l : ℕ). branch_of (λ j. shape_of (row_of key l k j))) z
+shape_node key (suc level) k h = let z : level ≡ suc level - 1 = omega arith in ap (λ (l : ℕ). branch_of (λ j. shape_of (trees_below key l k j))) z
 
 branch_same : (row other : ℕ → Tree) → ((k : ℕ) → k < 8 → row k ≡ other k) → branch_of (λ j. shape_of (row j)) ≡ branch_of (λ j. shape_of (other j))
 branch_same row other h = sym (shape_of-node (record { level = 0; bucket = 0; slot = 0 }) row) ∙ ap shape_of (node_at-same (record { level = 0; bucket = 0; slot = 0 }) row other h) ∙ shape_of-node (record { level = 0; bucket = 0; slot = 0 }) other
 
-sought_row : (old : Known) (s : SoughtKey) (number level : ℕ) (names : List (Option Name)) (row : ℕ → Tree) → IsStore old number → Asks old level names → s.level ≡ level → sought_key s ≡ Node names → AreHeld old.told.held names row → (j : ℕ) → j < 8 → row_of (key_in old.words) (s.level - 1) (sought_key s) j ≡ row j
+sought_row : (old : Known) (s : SoughtKey) (number level : ℕ) (names : List (Option Name)) (row : ℕ → Tree) → IsStore old number → Asks old level names → s.level ≡ level → sought_key s ≡ Node names → AreHeld old.told.held names row → (j : ℕ) → j < 8 → trees_below (key_in old.words) (s.level - 1) (sought_key s) j ≡ row j
 sought_row old s number level names row st q e k a j lt =
-    ap (λ (l : ℕ). row_of (key_in old.words) (l - 1) (sought_key s) j) e ∙ ap (λ (x : Key). row_of (key_in old.words) (level - 1) x j) k ∙ sym (row_is old number level names row st q a j lt)
+    ap (λ (l : ℕ). trees_below (key_in old.words) (l - 1) (sought_key s) j) e ∙ ap (λ (x : Key). trees_below (key_in old.words) (level - 1) x j) k ∙ sym (row_is old number level names row st q a j lt)
 
 pub node_shape : (old : Known) (s : SoughtKey) (number level : ℕ) (names : List (Option Name)) (row : ℕ → Tree) → IsStore old number → Asks old level names → s.level ≡ level → sought_key s ≡ Node names → AreHeld old.told.held names row → shape_over s.level (key_in old.words) (sought_key s) ≡ branch_of (λ j. shape_of (row j))
 node_shape old s number level names row st q e k a =
-    shape_node (key_in old.words) s.level (sought_key s) (omega (arith, q.above, e)) ∙ branch_same (row_of (key_in old.words) (s.level - 1) (sought_key s)) row (sought_row old s number level names row st q e k a)
+    shape_node (key_in old.words) s.level (sought_key s) (omega (arith, q.above, e)) ∙ branch_same (trees_below (key_in old.words) (s.level - 1) (sought_key s)) row (sought_row old s number level names row st q e k a)
 
 pub node_added : (old new : Known) (s : SoughtKey) (n : Name) (number level : ℕ) (names : List (Option Name)) (row : ℕ → Tree) → IsStore old number → Asks old level names → s.level ≡ level → sought_key s ≡ Node names → AddsNode old s n new → AreHeld old.told.held names row → Joins old.told.held row n new.told.held
 node_added old new s n number level names row st q e k a h =
     let rows = sought_row old s number level names row st q e k h in
-    let t : tree_over s.level (key_in old.words) n (sought_key s) ≡ node_at n row = over_node (key_in old.words) s.level n (sought_key s) (omega (arith, q.above, e)) ∙ node_at-same n (row_of (key_in old.words) (s.level - 1) (sought_key s)) row rows in
-    record { weighs = λ f. omega (arith, a.told.closes.weighs f, ap f t, weight_below-same f (row_of (key_in old.words) (s.level - 1) (sought_key s)) row 8 rows) }
+    let t : tree_over s.level (key_in old.words) n (sought_key s) ≡ node_at n row = over_node (key_in old.words) s.level n (sought_key s) (omega (arith, q.above, e)) ∙ node_at-same n (trees_below (key_in old.words) (s.level - 1) (sought_key s)) row rows in
+    record { weighs = λ f. omega (arith, a.told.closes.weighs f, ap f t, weight_below-same f (trees_below (key_in old.words) (s.level - 1) (sought_key s)) row 8 rows) }
 
 pub node_grants : (old new : Known) (s : SoughtKey) (n : Name) (number level : ℕ) (names : List (Option Name)) (row : ℕ → Tree) → IsStore old number → Asks old level names → s.level ≡ level → sought_key s ≡ Node names → AddsNode old s n new → AreHeld old.told.held names row → Grants (known_seen old) (branch_of (λ j. shape_of (row j))) (known_seen new)
 node_grants old new s n number level names row st q e k a h = record {

@@ -21,7 +21,7 @@ use Rattle.core_laws.proofs.Lives.{child_lives, child_level, held_lives}
 use Rattle.core_laws.proofs.SeenNodes.{gone_tree}
 use Rattle.core_laws.proofs.StepLaws.{tree_kept}
 use Rattle.core_laws.proofs.Sums.{is_name, weight_there}
-use Rattle.one_store.specs.Known.{Known, core_of, names_of, with_name, row_of}
+use Rattle.one_store.specs.Known.{Known, core_of, root_names, with_name, trees_below}
 
 -- how much the name weighs at which a tree begins
 abbrev pub root_weight : (Name → ℕ) → Tree → ℕ
@@ -31,19 +31,19 @@ with_name-sum : (f : Name → ℕ) (o : Option Name) (names : List Name) → sum
 with_name-sum f None names = omega arith
 with_name-sum f (Some n) names = sum_by-cons f n names
 
-pub names-weigh : (f : Name → ℕ) (ts : List Tree) → sum_by f (names_of ts) ≡ weigh (root_weight f) ts
+pub names-weigh : (f : Name → ℕ) (ts : List Tree) → sum_by f (root_names ts) ≡ weigh (root_weight f) ts
 names-weigh f [] = sym (weigh-nil (root_weight f))
-names-weigh f (t ∷ ts) = omega (arith, with_name-sum f (root_of t) (names_of ts), names-weigh f ts, weigh-cons (root_weight f) t ts)
+names-weigh f (t ∷ ts) = omega (arith, with_name-sum f (root_of t) (root_names ts), names-weigh f ts, weigh-cons (root_weight f) t ts)
 
-pub holdings-one : (f : Name → ℕ) (ts : List Tree) → holdings f (names_of ts ∷ []) ≡ weigh (root_weight f) ts
+pub holdings-one : (f : Name → ℕ) (ts : List Tree) → holdings f (root_names ts ∷ []) ≡ weigh (root_weight f) ts
 unfolding holdings
-holdings-one f ts = omega (arith, sum_by-cons (λ (names : List Name). sum_by f names) (names_of ts) [], names-weigh f ts)
+holdings-one f ts = omega (arith, sum_by-cons (λ (names : List Name). sum_by f names) (root_names ts) [], names-weigh f ts)
 
 -- what is held changes as the names do at which the trees begin
-pub trade : (old new : List Tree) (gives takes : (Name → ℕ) → ℕ) → ((f : Name → ℕ) → gives f ≤ weigh (root_weight f) old) → ((f : Name → ℕ) → weigh (root_weight f) new + gives f ≡ weigh (root_weight f) old + takes f) → Trades (names_of old ∷ []) 0 gives takes (names_of new ∷ [])
+pub trade : (old new : List Tree) (gives takes : (Name → ℕ) → ℕ) → ((f : Name → ℕ) → gives f ≤ weigh (root_weight f) old) → ((f : Name → ℕ) → weigh (root_weight f) new + gives f ≡ weigh (root_weight f) old + takes f) → Trades (root_names old ∷ []) 0 gives takes (root_names new ∷ [])
 trade old new gives takes h w = record {
-  before = names_of old;
-  after = names_of new;
+  before = root_names old;
+  after = root_names new;
   had = refl;
   has = refl;
   holds = λ f. omega (arith, h f, names-weigh f old);
@@ -71,9 +71,9 @@ row_sum f row g (suc n) h =
     omega (arith, row_sum f row g n (λ k lt. h k (omega arith)), sum_below-suc n (λ k. weight f (g k)), weight_root f (row n), ap (weight f) (h n (omega arith)))
 
 -- the row of a key's children weighs as the key does
-pub row_weighs : (f : Name → ℕ) (key : Name → Key) (level : ℕ) (k : Key) → weight_below (root_weight f) (row_of key level k) 8 ≡ children_weight f k
+pub row_weighs : (f : Name → ℕ) (key : Name → Key) (level : ℕ) (k : Key) → weight_below (root_weight f) (trees_below key level k) 8 ≡ children_weight f k
 unfolding children_weight
-row_weighs f key level k = row_sum f (row_of key level k) (λ i. key_child k i) 8 (λ i lt. row_root key level (key_child k i))
+row_weighs f key level k = row_sum f (trees_below key level k) (λ i. key_child k i) 8 (λ i lt. row_root key level (key_child k i))
 
 one_each : (t : Tree) → weight_of (λ _. 1) t ≡ weight_of (root_weight (λ _. 1)) t
 unfolding weight_of
@@ -86,8 +86,8 @@ ones row zero = refl
 ones row (suc k) = omega (arith, one_each (row k), ones row k)
 
 -- how many children a key has
-pub row_number : (key : Name → Key) (level : ℕ) (k : Key) → weight_below (λ _. 1) (row_of key level k) 8 ≡ children_weight (λ _. 1) k
-row_number key level k = ones (row_of key level k) 8 ∙ row_weighs (λ _. 1) key level k
+pub row_number : (key : Name → Key) (level : ℕ) (k : Key) → weight_below (λ _. 1) (trees_below key level k) 8 ≡ children_weight (λ _. 1) k
+row_number key level k = ones (trees_below key level k) 8 ∙ row_weighs (λ _. 1) key level k
 
 one_name : (o : Option Name) → weight (λ _. 1) o ≤ 1
 one_name None = omega arith
@@ -106,9 +106,9 @@ child_weighs k m j lt e =
     omega arith
 
 -- a held tree's name is held
-held_names : (ts : List Tree) (t : Tree) (n : Name) → IsHeld ts t → root_of t ≡ Some n → Holds (names_of ts ∷ []) 0 n
+held_names : (ts : List Tree) (t : Tree) (n : Name) → IsHeld ts t → root_of t ≡ Some n → Holds (root_names ts ∷ []) 0 n
 held_names ts t n h e = record {
-  names = names_of ts;
+  names = root_names ts;
   at = refl;
   weighs = λ f. let same : root_weight f t ≡ f n = ap (weight f) e in omega (arith, h.weighs (root_weight f), names-weigh f ts, same);
 }
@@ -144,7 +144,7 @@ child_stands p state n k (Some m) s live lt e some =
     let level : m.level ≡ n.level - 1 = omega arith in
     record { name = m; live = child_lives p state n m k s live lt e; tree = ap (λ (l : ℕ). tree_at state.key l (Some m)) level }
 
-pub octant_stands : (p : Layout) (state : State) (n : Name) (k : ℕ) (t : Tree) → SoundEntries p state → IsLive p state n → k < 8 → t ≡ row_of state.key (n.level - 1) (state.key n) k → t ≢ Gone → Stands p state t
+pub octant_stands : (p : Layout) (state : State) (n : Name) (k : ℕ) (t : Tree) → SoundEntries p state → IsLive p state n → k < 8 → t ≡ trees_below state.key (n.level - 1) (state.key n) k → t ≢ Gone → Stands p state t
 octant_stands p state n k t s live lt e some =
     subst (λ (u : Tree). Stands p state u) (sym e) (child_stands p state n k (key_child (state.key n) k) s live lt refl (λ g. some (e ∙ g)))
 

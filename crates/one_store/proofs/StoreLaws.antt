@@ -7,7 +7,7 @@ use Rattle.node_shapes.specs.declared.names.Name.{Name}
 use Rattle.node_shapes.specs.Shape.{Shape}
 use Rattle.node_shapes.specs.Tree.{Tree, Gone, LeafAt, NodeAt, root_of, shape_of}
 use Rattle.node_shapes.proofs.WeightLaws.{weigh-nil, weigh-cons}
-use Rattle.node_shapes.specs.Weights.{number_of, weigh}
+use Rattle.node_shapes.specs.Weights.{number_of_trees, weigh}
 use Rattle.node_words.specs.declared.keys.Key.{Key}
 use Rattle.node_words.specs.Held.{IsHeld, HoldsName, Wanted}
 use Rattle.node_words.specs.Plans.{Layout}
@@ -18,7 +18,7 @@ use Rattle.core_laws.specs.Counting.{weight, children_weight}
 use Rattle.node_words.specs.Enough.{HasEnough}
 use Rattle.core_laws.specs.Soundness.{SoundEntries}
 use Rattle.core_laws.specs.Standing.{AllStand}
-use Rattle.core_laws.specs.Events.{Raises, Lowers, Frees, OthersStay, RootsStay, no_name, one_name, children_named}
+use Rattle.core_laws.specs.Events.{Raises, Lowers, Frees, OthersStay, RootsStay, no_weight, one_name, children_named}
 use Rattle.core_laws.proofs.EntrySteps.{raise_entries, lower_entries, free_entries, raise_keys, lower_keys, free_keys}
 use Rattle.core_laws.proofs.Bounds.{book_small}
 use Rattle.entry_words.specs.Words.{Written, book_in, key_in}
@@ -26,7 +26,7 @@ use Rattle.entry_words.specs.Changes.{SetsBook}
 use Rattle.node_words.proofs.PlanLaws.{few_buckets}
 use Rattle.store_notes.specs.Changes.{MakesNothing}
 use Rattle.store_notes.proofs.HeldLists.{held_gained, held_lost, held_parted}
-use Rattle.one_store.specs.Known.{Known, IsStore, IsStoreOf, core_of, tree_in, row_of, root_in}
+use Rattle.one_store.specs.Known.{Known, IsStore, IsStoreOf, core_of, tree_in, trees_below, stored_root}
 use Rattle.one_store.specs.Steps.{Moves, RaisesShare, LowersShare, FreesNode}
 use Rattle.one_store.proofs.StateLaws.{root_weight, trade, tree_root, row_weighs, row_number, holdings-one, live_held, standing_at, stand_again, octant_stands, was_live_too}
 
@@ -41,7 +41,7 @@ book_others p old new n book e s = record {
 }
 
 roots_stay : (old new : Known) → new.roots ≡ old.roots → RootsStay (core_of old) (core_of new)
-roots_stay old new e v = ap (λ (r : List (Option Name)). root_in r v) e
+roots_stay old new e v = ap (λ (r : List (Option Name)). stored_root r v) e
 
 pub book_moves : (old new : Known) (n : Name) (book : ℕ) → SetsBook old.words n book new.words → new.roots ≡ old.roots → Moves old new
 book_moves old new n book s r = record { words = s.keys; roots = r }
@@ -53,7 +53,7 @@ pub same_keys : (a b : Known) → Moves a b → key_in b.words ≡ key_in a.word
 same_keys a b m = ap key_in m.words
 
 -- a step that changes books alone keeps the store one
-moved_store : (old new : Known) (number left : ℕ) → IsStore old number → Moves old new → MakesNothing old.told new.told → SoundEntries old.words.plan (core_of new) → AllStand old.words.plan (core_of new) new.told.held → ((m : Name) → IsLive old.words.plan (core_of new) m → IsLive old.words.plan (core_of old) m) → left ≡ number_of new.told.held → IsStore new left
+moved_store : (old new : Known) (number left : ℕ) → IsStore old number → Moves old new → MakesNothing old.told new.told → SoundEntries old.words.plan (core_of new) → AllStand old.words.plan (core_of new) new.told.held → ((m : Name) → IsLive old.words.plan (core_of new) m → IsLive old.words.plan (core_of old) m) → left ≡ number_of_trees new.told.held → IsStore new left
 moved_store old new number left st m only sound stand was count =
     let p = old.words.plan in
     subst (λ (q : Layout). IsStoreOf q new left) (sym (same_plan old new m)) (record {
@@ -68,7 +68,7 @@ moved_store old new number left st m only sound stand was count =
           subst (λ (met : List Wanted). All (λ w. HasEnough p new.told.made w.level w.bucket) met) (sym only.met)
           (subst (λ (made : List Shape). All (λ w. HasEnough p made w.level w.bucket) old.told.met) (sym only.made) st.enough);
       places = ap (λ (r : List (Option Name)). length r) m.roots ∙ st.places;
-      tops = λ place n e. st.tops place n (ap (λ (r : List (Option Name)). root_in r place) (sym m.roots) ∙ e);
+      tops = λ place n e. st.tops place n (ap (λ (r : List (Option Name)). stored_root r place) (sym m.roots) ∙ e);
     })
 
 -- a held name is live, and its tree is held
@@ -95,12 +95,12 @@ one_root Gone = omega arith
 one_root (LeafAt n b) = omega arith
 one_root (NodeAt n a b c d e f g h) = omega arith
 
-ones_weigh : (ts : List Tree) → weigh (root_weight (λ _. 1)) ts ≤ number_of ts
+ones_weigh : (ts : List Tree) → weigh (root_weight (λ _. 1)) ts ≤ number_of_trees ts
 ones_weigh [] = omega (arith, weigh-nil (root_weight (λ _. 1)))
 ones_weigh (t ∷ ts) = omega (arith, weigh-cons (root_weight (λ _. 1)) t ts, weigh-cons (λ _. 1) t ts, one_root t, ones_weigh ts)
 
 -- books are small
-pub book_low : (v : Known) (number : ℕ) (n : Name) → IsStore v number → IsLive v.words.plan (core_of v) n → book_in v.words n ≤ 92340224 + number_of v.told.held
+pub book_low : (v : Known) (number : ℕ) (n : Name) → IsStore v number → IsLive v.words.plan (core_of v) n → book_in v.words n ≤ 92340224 + number_of_trees v.told.held
 book_low v number n s l =
     let p = v.words.plan in
     let small = book_small p (core_of v) n 4096 s.sound (λ level lt. few_buckets p level s.plan) l in
@@ -117,7 +117,7 @@ raise_event old new n live r = record {
   key = ap (λ (k : Name → Key). k n) (book_keys old.words new.words n _ r.words);
   others = book_others old.words.plan old new n _ refl r.words;
   roots = roots_stay old new r.roots;
-  held = trade old.told.held new.told.held no_name (one_name n) (λ f. omega arith) (λ f. omega (arith, r.told.gains.weighs (root_weight f), tree_weighs old n f));
+  held = trade old.told.held new.told.held no_weight (one_name n) (λ f. omega arith) (λ f. omega (arith, r.told.gains.weighs (root_weight f), tree_weighs old n f));
 }
 
 pub raise_store : (old new : Known) (n : Name) (number : ℕ) → IsStore old number → IsLive old.words.plan (core_of old) n → RaisesShare old n new → IsStore new (number + 1)
@@ -142,7 +142,7 @@ lower_event old new n number s h more r = record {
   key = ap (λ (k : Name → Key). k n) (book_keys old.words new.words n _ r.words);
   others = book_others old.words.plan old new n _ refl r.words;
   roots = roots_stay old new r.roots;
-  held = trade old.told.held new.told.held (one_name n) no_name (λ f. held_weighs old n f h) (λ f. omega (arith, r.told.loses.weighs (root_weight f), tree_weighs old n f));
+  held = trade old.told.held new.told.held (one_name n) no_weight (λ f. held_weighs old n f h) (λ f. omega (arith, r.told.loses.weighs (root_weight f), tree_weighs old n f));
 }
 
 pub lower_store : (old new : Known) (n : Name) (number : ℕ) → IsStore old number → HoldsName old.told.held n → 2 ≤ book_in old.words n → LowersShare old n new → IsStore new (number - 1)
@@ -174,7 +174,7 @@ free_store old new n number children s h last c r =
     let event = free_event old new n number s h last r in
     let sound = free_entries p 0 n (core_of old) (core_of new) s.sound event in
     let stand = stand_again p old new s.sound sound (free_keys p 0 n (core_of old) (core_of new) event)
-    (λ t i. elim (held_parted old.told.held new.told.held (tree_in old n) t (row_of (key_in old.words) (n.level - 1) (key_in old.words n)) r.told.parts i) [
+    (λ t i. elim (held_parted old.told.held new.told.held (tree_in old n) t (trees_below (key_in old.words) (n.level - 1) (key_in old.words n)) r.told.parts i) [
       | inl o ↦ inl (octant_stands p (core_of old) n o.place t s.sound live o.below o.is o.there)
       | inr j ↦ inl (s.stand.each t j)
     ]) in

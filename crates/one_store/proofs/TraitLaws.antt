@@ -7,7 +7,7 @@ use Rattle.node_shapes.specs.Shape as shape
 use Rattle.node_shapes.specs.Shape.{Shape, Clear, branch_of, IsCanonical}
 use Rattle.node_shapes.specs.Buckets.{bucket_of_shape}
 use Rattle.node_shapes.specs.Tree.{Tree, LeafAt, node_at, root_of, child_of, shape_of, bits_in}
-use Rattle.node_shapes.specs.Weights.{number_of, weight_of, weight_below}
+use Rattle.node_shapes.specs.Weights.{number_of_trees, weight_of, weight_below}
 use Rattle.node_shapes.proofs.TreeLaws.{child_of-node_at}
 use Rattle.node_shapes.proofs.WeightLaws.{weight_of-there}
 use Rattle.node_words.specs.declared.keys.Key.{Key}
@@ -29,7 +29,7 @@ use Rattle.core_laws.proofs.Standings.{parts_stand, standing_trees, standing_can
 use Rattle.entry_words.specs.Words.{Written, book_in, key_in, HasEntry}
 use Rattle.store_notes.specs.Changes.{HoldsRow}
 use Rattle.one_store.specs.declared.sought.SoughtKey.{SoughtKey}
-use Rattle.one_store.specs.Known.{Known, IsStore, known_seen, core_of, tree_in, row_of}
+use Rattle.one_store.specs.Known.{Known, IsStore, known_seen, core_of, tree_in, trees_below}
 use Rattle.one_store.specs.Steps.{Moves, RaisesShare, Releases, AddsNode, MeetsFull, IsSoughtKey, sought_key, tree_over, shape_over}
 use Rattle.one_store.proofs.StateLaws.{row_root, standing_at}
 use Rattle.one_store.proofs.StoreLaws.{held_name, held_is, book_moves, same_plan, same_keys}
@@ -66,7 +66,7 @@ store_bits v number t n s z r e = ap bits_in (sym (leaf_tree (key_in v.words) n.
 
 pub store_child : (v : Known) (number : ℕ) (t : Tree) (n : Name) (k : ℕ) → IsStore v number → 1 ≤ n.level → k < 8 → IsReached v.told.held t → root_of t ≡ Some n → key_child (key_in v.words n) k ≡ root_of (child_of t k)
 store_child v number t n k s above lt r e =
-    let row : ℕ → Tree = row_of (key_in v.words) (n.level - 1) (key_in v.words n) in
+    let row : ℕ → Tree = trees_below (key_in v.words) (n.level - 1) (key_in v.words n) in
     let node : node_at n row ≡ t = sym (node_tree (key_in v.words) n.level n above) ∙ (reached v number t n s r e).1 in
     sym (row_root (key_in v.words) (n.level - 1) (key_child (key_in v.words n) k)) ∙ ap root_of (sym (child_of-node_at n row k lt)) ∙ ap (λ (u : Tree). root_of (child_of u k)) node
 
@@ -101,7 +101,7 @@ back_turns old new number left steps now t n s a r h e =
     (let s' = sound_after old new left a r.moves in
     returns_within old.words.plan (core_after old new) (book_in old.words) new.told.held (shape_of (tree_in old n)) steps now s'.0 s'.1 r.frees)
 
-pub back_room : (v : Known) (number : ℕ) (n m : Name) → IsStore v number → HoldsName v.told.held n → m ≡ n → number_of v.told.held ≤ 4008 → number_of v.told.held + 8 * m.level ≤ 8192
+pub back_room : (v : Known) (number : ℕ) (n m : Name) → IsStore v number → HoldsName v.told.held n → m ≡ n → number_of_trees v.told.held ≤ 4008 → number_of_trees v.told.held + 8 * m.level ≤ 8192
 back_room v number n m s h q room =
     let i = held_name v number n s h in
     omega (arith, room, i.name.level_in, s.plan.side_high, ap (λ (x : Name). x.level) q)
@@ -116,8 +116,8 @@ leaf_fits bits ne lt = (omega arith, lt)
 pub leaf_names : (p : Layout) (bits : ℕ) → HasNames p (Leaf bits)
 leaf_names p bits = record { each = λ k m lt e. absurd (none-some m e) }
 
-pub leaf_holds : (v : Known) (level bits : ℕ) (k : Key) → k ≡ Leaf bits → HoldsRow v.told.held (row_of (key_in v.words) level k)
-leaf_holds v level bits k e = record { weighs = λ f. omega (arith, ap (λ (x : Key). weight_below f (row_of (key_in v.words) level x) 8) e, leaf_row f (key_in v.words) level bits) }
+pub leaf_holds : (v : Known) (level bits : ℕ) (k : Key) → k ≡ Leaf bits → HoldsRow v.told.held (trees_below (key_in v.words) level k)
+leaf_holds v level bits k e = record { weighs = λ f. omega (arith, ap (λ (x : Key). weight_below f (trees_below (key_in v.words) level x) 8) e, leaf_row f (key_in v.words) level bits) }
 
 pub leaf_count : (k : Key) (bits : ℕ) → k ≡ Leaf bits → 0 ≡ children_weight (λ _. 1) k
 leaf_count k bits e = sym (ap (children_weight (λ _. 1)) e ∙ leaf_none bits)
@@ -177,7 +177,7 @@ leaf_added old new s n bits z k a = record {
     arith,
     a.told.closes.weighs f,
     ap f (over_leaf (key_in old.words) s.level n (sought_key s) bits z k),
-    ap (λ (x : Key). weight_below f (row_of (key_in old.words) (s.level - 1) x) 8) k,
+    ap (λ (x : Key). weight_below f (trees_below (key_in old.words) (s.level - 1) x) 8) k,
     leaf_row f (key_in old.words) (s.level - 1) bits,
   );
 }

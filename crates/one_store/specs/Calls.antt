@@ -15,7 +15,7 @@ pub record SharesEntry (old : Known) (n : Name) (new : Known) : Type 0 where
   pub roots : new.roots ≡ old.roots
 
 -- an entry of this key was added in the lowest free slot of the key's bucket
-pub record AddsEntry (old : Known) (level : ℕ) (key : Key) (n : Name) (new : Known) : Type 0 where
+pub record MakesEntry (old : Known) (level : ℕ) (key : Key) (n : Name) (new : Known) : Type 0 where
   pub level_is : n.level ≡ level
   pub bucket_is : n.bucket ≡ bucket_of_key key (buckets_at old.words.plan level)
   pub lowest : IsLowestFree old.words level n.bucket n.slot

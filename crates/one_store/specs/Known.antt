@@ -1,10 +1,10 @@
--- What a store for one thread is: words for its entries, roots in places, and what it noted. It is sound where the state
--- of a core that these are read as is.
+-- What a store for one thread is: words for its entries, roots in places, and what it noted. It is
+-- sound where the state of a core that these are read as is.
 use Rattle.std.specs.Prelude.{◌≡◌, ℕ, Option, Some, None, List, [], ◌∷◌, All, length, slice_index_or}
 use Rattle.std.specs.List.{Contains}
 use Rattle.node_shapes.specs.declared.names.Name.{Name}
 use Rattle.node_shapes.specs.Tree.{Tree, root_of}
-use Rattle.node_shapes.specs.Weights.{number_of}
+use Rattle.node_shapes.specs.Weights.{number_of_trees}
 use Rattle.node_words.specs.declared.keys.Key.{Key}
 use Rattle.node_words.specs.Held.{Seen}
 use Rattle.node_words.specs.Plans.{Layout, IsPlan}
@@ -25,53 +25,55 @@ pub record Known : Type 0 where
   pub told : Told
 
 abbrev pub known_seen : Known → Seen
-known_seen v = record { plan = v.words.plan; held = v.told.held; made = v.told.made; met = v.told.met }
+known_seen v =
+    record { plan = v.words.plan; held = v.told.held; made = v.told.made; met = v.told.met }
 
 -- the names at which held trees begin
 abbrev pub with_name : Option Name → List Name → List Name
 with_name None names = names
 with_name (Some n) names = n ∷ names
 
-abbrev pub names_of : List Tree → List Name
-names_of [] = []
-names_of (t ∷ ts) = with_name (root_of t) (names_of ts)
+abbrev pub root_names : List Tree → List Name
+root_names [] = []
+root_names (t ∷ ts) = with_name (root_of t) (root_names ts)
 
 -- the root in a place
-abbrev pub root_in : List (Option Name) → ℕ → Option Name
-root_in roots place = slice_index_or roots place None
+abbrev pub stored_root : List (Option Name) → ℕ → Option Name
+stored_root roots place = slice_index_or roots place None
 
 -- the state of a core that the store is read as: its log is empty, and one holder holds all shares
 abbrev pub core_of : Known → State
 core_of v = record {
   book = book_in v.words;
   key = key_in v.words;
-  root = root_in v.roots;
+  root = stored_root v.roots;
   log = record { side = v.words.plan.side; records = []; marks = [] };
-  held = names_of v.told.held ∷ [];
+  held = root_names v.told.held ∷ [];
 }
 
 -- the tree of a name, and the trees of a key's children, which are of this level
 abbrev pub tree_in : Known → Name → Tree
 tree_in v n = tree_at (key_in v.words) n.level (Some n)
 
-abbrev pub row_of : (Name → Key) → ℕ → Key → ℕ → Tree
-row_of key level k octant = tree_at key level (key_child k octant)
+abbrev pub trees_below : (Name → Key) → ℕ → Key → ℕ → Tree
+trees_below key level k octant = tree_at key level (key_child k octant)
 
 -- the tree of a root, which is of the top level
 abbrev pub root_tree : Known → Option Name → Tree
 root_tree v root = tree_at (key_in v.words) (top v.words.plan.side) root
 
--- the entries are sound, what is held stands in them and is counted; each live entry was made, and each full bucket
--- that was met had enough different shapes made; and there are places for roots, which are of the top level
+-- the entries are sound, what is held stands in them and is counted; each live entry was made, and
+-- each full bucket that was met had enough different shapes made; and there are places for roots,
+-- which are of the top level
 pub record IsStoreOf (p : Layout) (v : Known) (number : ℕ) : Type 0 where
   pub plan : IsPlan p
   pub sound : SoundEntries p (core_of v)
   pub stand : AllStand p (core_of v) v.told.held
-  pub number_is : number ≡ number_of v.told.held
+  pub number_is : number ≡ number_of_trees v.told.held
   pub listed : (n : Name) → IsLive p (core_of v) n → Contains v.told.made (shape_in (core_of v) n)
   pub enough : All (λ w. HasEnough p v.told.made w.level w.bucket) v.told.met
   pub places : length v.roots ≡ versions
-  pub tops : (place : ℕ) (n : Name) → root_in v.roots place ≡ Some n → n.level ≡ top p.side
+  pub tops : (place : ℕ) (n : Name) → stored_root v.roots place ≡ Some n → n.level ≡ top p.side
 
 -- so many shares are held of a store
 abbrev pub IsStore : Known → ℕ → Type 0

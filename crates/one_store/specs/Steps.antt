@@ -19,7 +19,7 @@ use Rattle.entry_words.specs.Words.{Written, book_in, key_in, IsLowestFree, AreL
 use Rattle.entry_words.specs.Changes.{SetsBook, PutsEntry}
 use Rattle.store_notes.specs.Changes.{MakesNothing, NotesGain, NotesLoss, NotesFreeing, NotesEntry, NotesFull}
 use Rattle.one_store.specs.declared.sought.SoughtKey.{SoughtKey}
-use Rattle.one_store.specs.Known.{Known, tree_in, row_of, root_in, root_tree}
+use Rattle.one_store.specs.Known.{Known, tree_in, trees_below, stored_root, root_tree}
 
 -- the same keys with other books
 abbrev pub with_books : Written → List ℕ → Written
@@ -46,21 +46,25 @@ pub record LowersShare (old : Known) (n : Name) (new : Known) : Type 0 where
 pub record FreesNode (old : Known) (n : Name) (new : Known) : Type 0 where
   pub words : SetsBook old.words n 0 new.words
   pub roots : new.roots ≡ old.roots
-  pub told : NotesFreeing old.told (tree_in old n) (row_of (key_in old.words) (n.level - 1) (key_in old.words n)) new.told
+  pub told : NotesFreeing old.told (tree_in old n)
+      (trees_below (key_in old.words) (n.level - 1) (key_in old.words n)) new.told
 
 -- a share was given back, where there was a node, and what only it kept was freed
 pub record Releases (old : Known) (t : Tree) (new : Known) (steps now : ℕ) : Type 0 where
   pub moves : Moves old new
   pub only : MakesNothing old.told new.told
   pub loses : Loses old.told.held t new.told.held
-  pub frees : FreesParts old.words.plan (key_in old.words) (shape_of t) 1 (book_in old.words) (book_in new.words) steps now
+  pub frees : FreesParts old.words.plan (key_in old.words) (shape_of t) 1 (book_in old.words)
+      (book_in new.words) steps now
 
 -- the shares of the first k trees of a row were given back
-pub record ReleasesRow (old : Known) (row : ℕ → Tree) (k : ℕ) (new : Known) (steps now : ℕ) : Type 0 where
+pub record ReleasesRow (old : Known) (row : ℕ → Tree) (k : ℕ) (new : Known)
+    (steps now : ℕ) : Type 0 where
   pub moves : Moves old new
   pub only : MakesNothing old.told new.told
   pub loses : LosesAll old.told.held row k new.told.held
-  pub frees : FreesParts old.words.plan (key_in old.words) (branch_of (λ j. shape_of (row j))) k (book_in old.words) (book_in new.words) steps now
+  pub frees : FreesParts old.words.plan (key_in old.words) (branch_of (λ j. shape_of (row j))) k
+      (book_in old.words) (book_in new.words) steps now
 
 -- a share of the child is held, which is of the level below this
 pub record HoldsChild (held : List Tree) (level : ℕ) (child : Option Name) : Type 0 where
@@ -82,11 +86,11 @@ pub record IsSoughtKey (p : Layout) (s : SoughtKey) : Type 0 where
 -- the tree and the shape of a new entry of this level and key
 abbrev pub tree_over : ℕ → (Name → Key) → Name → Key → Tree
 tree_over zero key n k = LeafAt n (key_bits k)
-tree_over (suc level) key n k = node_at n (row_of key level k)
+tree_over (suc level) key n k = node_at n (trees_below key level k)
 
 abbrev pub shape_over : ℕ → (Name → Key) → Key → Shape
 shape_over zero key k = Leaf (key_bits k)
-shape_over (suc level) key k = branch_of (λ j. shape_of (row_of key level k j))
+shape_over (suc level) key k = branch_of (λ j. shape_of (trees_below key level k j))
 
 -- a new entry for the key in the lowest free slot of its bucket, over the shares of its children
 pub record AddsNode (old : Known) (s : SoughtKey) (n : Name) (new : Known) : Type 0 where
@@ -94,7 +98,8 @@ pub record AddsNode (old : Known) (s : SoughtKey) (n : Name) (new : Known) : Typ
   pub lowest : IsLowestFree old.words s.level s.bucket n.slot
   pub words : PutsEntry old.words n (sought_key s) new.words
   pub roots : new.roots ≡ old.roots
-  pub told : NotesEntry old.told (row_of (key_in old.words) (s.level - 1) (sought_key s)) (tree_over s.level (key_in old.words) n (sought_key s))
+  pub told : NotesEntry old.told (trees_below (key_in old.words) (s.level - 1) (sought_key s))
+      (tree_over s.level (key_in old.words) n (sought_key s))
       (shape_over s.level (key_in old.words) (sought_key s)) new.told
 
 -- each slot of the key's bucket is live, and this was noted
@@ -102,20 +107,28 @@ pub record MeetsFull (old : Known) (s : SoughtKey) (new : Known) : Type 0 where
   pub words : new.words ≡ old.words
   pub roots : new.roots ≡ old.roots
   pub full : AreLiveBelow old.words s.level s.bucket old.words.plan.cap
-  pub told : NotesFull old.told (record { level = s.level; bucket = s.bucket; shape = shape_over s.level (key_in old.words) (sought_key s) }) new.told
+  pub told : NotesFull old.told
+      (record {
+        level = s.level;
+        bucket = s.bucket;
+        shape = shape_over s.level (key_in old.words)
+            (sought_key s);
+      }) new.told
 
 -- the root came to its place, and its share went, where there is one
 pub record KeepsRoot (old : Known) (place : ℕ) (root : Option Name) (new : Known) : Type 0 where
   pub words : new.words ≡ old.words
-  pub here : root_in new.roots place ≡ root
-  pub elsewhere : (other : ℕ) → other ≢ place → root_in new.roots other ≡ root_in old.roots other
+  pub here : stored_root new.roots place ≡ root
+  pub elsewhere : (other : ℕ) → other ≢ place
+      → stored_root new.roots other ≡ stored_root old.roots other
   pub only : MakesNothing old.told new.told
   pub loses : Loses old.told.held (root_tree old root) new.told.held
 
 -- the place is empty, and a share of the root that it had came, where there was one
 pub record GivesRoot (old : Known) (place : ℕ) (new : Known) : Type 0 where
   pub words : new.words ≡ old.words
-  pub here : root_in new.roots place ≡ None
-  pub elsewhere : (other : ℕ) → other ≢ place → root_in new.roots other ≡ root_in old.roots other
+  pub here : stored_root new.roots place ≡ None
+  pub elsewhere : (other : ℕ) → other ≢ place
+      → stored_root new.roots other ≡ stored_root old.roots other
   pub only : MakesNothing old.told new.told
-  pub gains : Loses new.told.held (root_tree old (root_in old.roots place)) old.told.held
+  pub gains : Loses new.told.held (root_tree old (stored_root old.roots place)) old.told.held

@@ -1,5 +1,5 @@
-//! A store of nodes for one thread, over buckets of words: it keeps each node once, and frees it with its last
-//! reference. Roots can be kept in places of their own.
+//! A store of nodes for one thread, over buckets of words: it keeps each node once, and frees it
+//! with its last reference. Roots can be kept in places of their own.
 #![tactic(auto)]
 
 mod sought;

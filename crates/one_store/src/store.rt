@@ -1,7 +1,7 @@
 ghost use Rattle.std.specs.Prelude.{◌≡◌, ◌+◌, ◌*◌, ◌-◌, ◌<◌, ◌≤◌, ◌^◌, ℕ, [], None, Some, Option, IfOk, IfErr, IfSome, All, replicate};
 ghost use Rattle.std.specs.Option.{ForSome};
 ghost use Rattle.node_shapes.specs.declared.names.Name.{Name};
-ghost use Rattle.node_shapes.specs.Weights.{number_of};
+ghost use Rattle.node_shapes.specs.Weights.{number_of_trees};
 ghost use Rattle.node_words.specs.declared.keys.Key.TheVariants.{Node};
 ghost use Rattle.node_words.specs.Held.{HoldsName, AreBelow};
 ghost use Rattle.node_places.specs.Spots.{levels, versions};
@@ -18,7 +18,7 @@ ghost use Rattle.entry_words.specs.Slots.{IsBucket};
 ghost use Rattle.entry_words.specs.Words.{book_in, key_in, HasEntry};
 ghost use Rattle.store_notes.specs.Told.{nothing_told};
 ghost use Rattle.store_notes.specs.Changes.{HoldsRow};
-ghost use Rattle.one_store.specs.Known.{Known, IsStore, core_of, known_seen, tree_in, row_of, root_in};
+ghost use Rattle.one_store.specs.Known.{Known, IsStore, core_of, known_seen, tree_in, trees_below, stored_root};
 ghost use Rattle.one_store.specs.Steps.{RaisesShare, LowersShare, FreesNode, Releases, ReleasesRow, HoldsChild};
 ghost use Rattle.one_store.specs.Steps.{KeepsRoot, GivesRoot};
 ghost use Rattle.one_store.specs.Calls.{GivesBack};
@@ -56,7 +56,8 @@ impl Model for OneStore {
 
     ghost view = { λ s. record { words = s.words; roots = s.roots.items; told = s.notes } };
 
-    ghost invariant = { λ s. IsStore (record { words = s.words; roots = s.roots.items; told = s.notes }) s.number };
+    ghost invariant = { λ s. IsStore
+        (record { words = s.words; roots = s.roots.items; told = s.notes }) s.number };
 }
 
 impl OneStore {
@@ -64,7 +65,7 @@ impl OneStore {
     pub fn begin(alloc: Global, plan: &Plan) -> Result<OneStore, AllocError>
         ensures plan { IfOk result (λ s. s.words.plan ≡ plan.now) }
         ensures free { IfOk result (λ s. (n : Name) → book_in s.words n ≡ 0) }
-        ensures roots { IfOk result (λ s. (place : ℕ) → root_in s.roots place ≡ None) }
+        ensures roots { IfOk result (λ s. (place : ℕ) → stored_root s.roots place ≡ None) }
         ensures told { IfOk result (λ s. s.told ≡ nothing_told) }
     {
         Ok(OneStore {
@@ -78,11 +79,12 @@ impl OneStore {
     /// The share moves from the held ones into the place.
     pub fn keep_root(&mut self, place: u32, root: Option<Share>)
         requires place { place < versions }
-        requires empty { root_in self.old.roots place ≡ None }
+        requires empty { stored_root self.old.roots place ≡ None }
         requires held { ForSome root (λ n. HoldsName self.old.told.held n) }
         requires top { ForSome root (λ n. n.level ≡ top self.old.words.plan.side) }
         ensures keeps { KeepsRoot self.old place root self.new }
-        ensures event { PutsRoot self.old.words.plan 0 place root (core_of self.old) (core_of self.new) }
+        ensures event { PutsRoot self.old.words.plan 0 place root (core_of self.old)
+            (core_of self.new) }
     {
         match root {
             Some(share) => self.place_root(place as usize, share.spend()),
@@ -92,26 +94,28 @@ impl OneStore {
 
     fn place_root(&mut self, place: usize, n: Name)
         requires place { place < versions }
-        requires empty { root_in self.old.roots place ≡ None }
+        requires empty { stored_root self.old.roots place ≡ None }
         requires held { HoldsName self.old.told.held n }
         requires top { n.level ≡ top self.old.words.plan.side }
         ensures keeps { KeepsRoot self.old place (Some n) self.new }
-        ensures event { PutsRoot self.old.words.plan 0 place (Some n) (core_of self.old) (core_of self.new) }
+        ensures event { PutsRoot self.old.words.plan 0 place (Some n) (core_of self.old)
+            (core_of self.new) }
     {
         tell_loss::<Brand>(&mut self.notes, &self.words, n);
         self.roots[place] = Some(n);
         self.number -= 1;
     }
 
-    /// The root of the place, whose share is held again; the place is empty. Shares of the roots of all places may
-    /// be held at once.
+    /// The root of the place, whose share is held again; the place is empty. Shares of the roots of
+    /// all places may be held at once.
     pub fn take_root(&mut self, place: u32) -> Option<Share>
         requires place { place < versions }
-        requires room { number_of self.old.told.held ≤ 69631 }
-        ensures root { result ≡ root_in self.old.roots place }
+        requires room { number_of_trees self.old.told.held ≤ 69631 }
+        ensures root { result ≡ stored_root self.old.roots place }
         ensures top { IfSome result (λ n. n.level ≡ top self.old.words.plan.side) }
         ensures gives { GivesRoot self.old place self.new }
-        ensures event { TakesRoot self.old.words.plan 0 place (core_of self.old) (core_of self.new) }
+        ensures event { TakesRoot self.old.words.plan 0 place (core_of self.old)
+            (core_of self.new) }
     {
         let _number = self.number;
         match self.roots[place as usize] {
@@ -125,23 +129,27 @@ impl OneStore {
 
     fn empty_place(&mut self, place: usize, n: Name)
         requires place { place < versions }
-        requires root { root_in self.old.roots place ≡ Some n }
-        requires room { number_of self.old.told.held ≤ 69631 }
+        requires root { stored_root self.old.roots place ≡ Some n }
+        requires room { number_of_trees self.old.told.held ≤ 69631 }
         ensures top { n.level ≡ top self.old.words.plan.side }
         ensures gives { GivesRoot self.old place self.new }
-        ensures event { TakesRoot self.old.words.plan 0 place (core_of self.old) (core_of self.new) }
+        ensures event { TakesRoot self.old.words.plan 0 place (core_of self.old)
+            (core_of self.new) }
     {
         tell_gain::<Brand>(&mut self.notes, &self.words, n);
         self.roots[place] = None;
         self.number += 1;
     }
 
-    /// How many nodes of this level are live. Where no share is held, these are as many as the different blocks
-    /// with a set cell that the roots in places have.
+    /// How many nodes of this level are live. Where no share is held, these are as many as the
+    /// different blocks with a set cell that the roots in places have.
     pub fn live(&self, level: u8) -> u32
         requires { level < levels self.now.words.plan }
         ensures number { result ≡ live_number self.now.words.plan (core_of self.now) level }
-        ensures blocks { (cells : ℕ → World) → RootsShow self.now.words.plan cells (core_of self.now) → number_of self.now.told.held ≡ 0 → HasBlocks self.now.words.plan cells (core_of self.now) level result }
+        ensures blocks { (cells : ℕ → World)
+            → RootsShow self.now.words.plan cells (core_of self.now)
+            → number_of_trees self.now.told.held ≡ 0
+            → HasBlocks self.now.words.plan cells (core_of self.now) level result }
     {
         let _number = self.number;
         let buckets = self.words.plan().buckets()[usize::from(level)];
@@ -170,16 +178,18 @@ impl OneStore {
         number
     }
 
-    /// Whatever met a full bucket, as many different shapes of that level and bucket were made as it has slots.
+    /// Whatever met a full bucket, as many different shapes of that level and bucket were made as
+    /// it has slots.
     pub fn full_buckets_had_enough(&self)
-        ensures { All (λ w. HasEnough self.now.words.plan self.now.told.made w.level w.bucket) self.now.told.met }
+        ensures { All
+            (λ w. HasEnough self.now.words.plan self.now.told.made w.level w.bucket) self.now.told.met }
     {
         let _number = self.number;
     }
 
     // How many shares are held.
     pub(crate) fn number(&self) -> u32
-        ensures number { result ≡ number_of (known_seen self.now).held }
+        ensures number { result ≡ number_of_trees (known_seen self.now).held }
         ensures store { IsStore self.now result }
     {
         self.number
@@ -188,7 +198,7 @@ impl OneStore {
     // One more share of a live node.
     pub(crate) fn raise(&mut self, n: Name) -> Share
         requires live { IsLive self.old.words.plan (core_of self.old) n }
-        requires room { number_of self.old.told.held ≤ 4095 }
+        requires room { number_of_trees self.old.told.held ≤ 4095 }
         ensures raises { RaisesShare self.old n self.new }
         ensures share { result ≡ n }
     {
@@ -216,7 +226,7 @@ impl OneStore {
         requires held { HoldsName self.old.told.held n }
         requires last { book_in self.old.words n ≡ 1 }
         requires children { children ≡ children_weight (λ _. 1) (key_in self.old.words n) }
-        requires room { number_of self.old.told.held ≤ 8192 }
+        requires room { number_of_trees self.old.told.held ≤ 8192 }
         ensures { FreesNode self.old n self.new }
     {
         tell_freeing::<Brand>(&mut self.notes, &self.words, n);
@@ -243,8 +253,12 @@ impl OneStore {
     // The live node that has the key.
     pub(crate) fn find(&self, sought: &SoughtKey) -> Option<Name>
         requires { IsSoughtKey self.now.words.plan sought.now }
-        ensures found { IfSome result (λ n. HasEntry self.now.words n (sought_key sought.now) × (n.level ≡ sought.now.level)) }
-        ensures none { result ≡ None → IsMissing self.now.words.plan (core_of self.now) sought.now.level (sought_key sought.now) }
+        ensures found { IfSome result
+            (λ n. HasEntry self.now.words n (sought_key sought.now)
+            × (n.level ≡ sought.now.level)) }
+        ensures none { result ≡ None
+            → IsMissing self.now.words.plan (core_of self.now) sought.now.level
+            (sought_key sought.now) }
     {
         let _number = self.number;
         let SoughtKey {
@@ -265,13 +279,16 @@ impl OneStore {
     // A new node of the key, whose children, so many, move into it; or the full bucket.
     pub(crate) fn add(&mut self, sought: &SoughtKey, children: u32) -> Result<Share, Full>
         requires sought { IsSoughtKey self.old.words.plan sought.now }
-        requires missing { IsMissing self.old.words.plan (core_of self.old) sought.now.level (sought_key sought.now) }
-        requires held { HoldsRow self.old.told.held (row_of (key_in self.old.words) (sought.now.level - 1) (sought_key sought.now)) }
+        requires missing { IsMissing self.old.words.plan (core_of self.old) sought.now.level
+            (sought_key sought.now) }
+        requires held { HoldsRow self.old.told.held
+            (trees_below (key_in self.old.words) (sought.now.level - 1) (sought_key sought.now)) }
         requires children { children ≡ children_weight (λ _. 1) (sought_key sought.now) }
-        requires room { number_of self.old.told.held ≤ 4095 }
+        requires room { number_of_trees self.old.told.held ≤ 4095 }
         ensures adds { IfOk result (λ n. AddsNode self.old sought.now n self.new) }
         ensures meets { IfErr result (λ e. MeetsFull self.old sought.now self.new) }
-        ensures full { IfErr result (λ e. (e.level ≡ sought.now.level) × (e.bucket ≡ sought.now.bucket)) }
+        ensures full { IfErr result
+            (λ e. (e.level ≡ sought.now.level) × (e.bucket ≡ sought.now.bucket)) }
     {
         let level = sought.level;
         let bucket = sought.bucket;
@@ -298,7 +315,7 @@ impl OneStore {
     #[cycle(back)]
     pub(crate) fn release<L: Ledger>(&mut self, n: Name, steps: &mut Steps<L>)
         requires held { HoldsName self.old.told.held n }
-        requires room { number_of self.old.told.held + 8 * n.level ≤ 8192 }
+        requires room { number_of_trees self.old.told.held + 8 * n.level ≤ 8192 }
         ensures releases { Releases self.old (tree_in self.old n) self.new steps.old steps.new }
         ensures book { GivesBack self.old n self.new }
     {
@@ -327,9 +344,12 @@ impl OneStore {
     )
         requires level { 1 ≤ level }
         requires below { AreBelow level children.now }
-        requires held { HoldsRow self.old.told.held (row_of (key_in self.old.words) (level - 1) (Node children.now)) }
-        requires room { number_of self.old.told.held + 8 * (level - 1) ≤ 8192 }
-        ensures { ReleasesRow self.old (row_of (key_in self.old.words) (level - 1) (Node children.now)) 8 self.new steps.old steps.new }
+        requires held { HoldsRow self.old.told.held
+            (trees_below (key_in self.old.words) (level - 1) (Node children.now)) }
+        requires room { number_of_trees self.old.told.held + 8 * (level - 1) ≤ 8192 }
+        ensures { ReleasesRow self.old
+            (trees_below (key_in self.old.words) (level - 1)
+            (Node children.now)) 8 self.new steps.old steps.new }
     {
         let _number = self.number;
         for k in 0..8usize {
@@ -342,8 +362,9 @@ impl OneStore {
     fn release_some<L: Ledger>(&mut self, level: u8, child: Option<Name>, steps: &mut Steps<L>)
         requires level { 1 ≤ level }
         requires held { HoldsChild self.old.told.held level child }
-        requires room { number_of self.old.told.held + 8 * (level - 1) ≤ 8192 }
-        ensures { Releases self.old (tree_at (key_in self.old.words) (level - 1) child) self.new steps.old steps.new }
+        requires room { number_of_trees self.old.told.held + 8 * (level - 1) ≤ 8192 }
+        ensures { Releases self.old
+            (tree_at (key_in self.old.words) (level - 1) child) self.new steps.old steps.new }
     {
         match child {
             Some(n) => self.release(n, steps),

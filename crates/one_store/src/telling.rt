@@ -1,10 +1,11 @@
-// One note for each kind of step. What is noted is picked in the proof, from the words and the name.
+// One note for each kind of step. What is noted is picked in the proof, from the words and the
+// name.
 ghost use Rattle.std.specs.Prelude.{◌≡◌, ◌-◌, ℕ, Some};
 ghost use Rattle.node_shapes.specs.declared.names.Name.{Name};
 ghost use Rattle.entry_words.specs.Words.{key_in};
 ghost use Rattle.core_laws.specs.States.{tree_at};
 ghost use Rattle.store_notes.specs.Changes.{NotesGain, NotesLoss, NotesFreeing, NotesEntry, NotesFull};
-ghost use Rattle.one_store.specs.Known.{row_of};
+ghost use Rattle.one_store.specs.Known.{trees_below};
 ghost use Rattle.one_store.specs.Steps.{sought_key, tree_over, shape_over};
 
 use crate::sought::SoughtKey;
@@ -27,8 +28,10 @@ pub(crate) fn tell_loss<N: Note>(notes: &mut Notes, words: &EntryWords, n: Name)
 }
 
 pub(crate) fn tell_freeing<N: Note>(notes: &mut Notes, words: &EntryWords, n: Name)
-    requires { NotesFreeing notes.old (tree_at (key_in words.now) n.level (Some n)) (row_of (key_in words.now) (n.level - 1) (key_in words.now n)) N.next }
-    ensures { NotesFreeing notes.old (tree_at (key_in words.now) n.level (Some n)) (row_of (key_in words.now) (n.level - 1) (key_in words.now n)) notes.new }
+    requires { NotesFreeing notes.old (tree_at (key_in words.now) n.level (Some n))
+        (trees_below (key_in words.now) (n.level - 1) (key_in words.now n)) N.next }
+    ensures { NotesFreeing notes.old (tree_at (key_in words.now) n.level (Some n))
+        (trees_below (key_in words.now) (n.level - 1) (key_in words.now n)) notes.new }
 {
     notes.note::<N>();
 }
@@ -39,15 +42,23 @@ pub(crate) fn tell_entry<N: Note>(
     n: Name,
     sought: &SoughtKey,
 )
-    requires { NotesEntry notes.old (row_of (key_in words.now) (sought.now.level - 1) (sought_key sought.now)) (tree_over sought.now.level (key_in words.now) n (sought_key sought.now)) (shape_over sought.now.level (key_in words.now) (sought_key sought.now)) N.next }
-    ensures { NotesEntry notes.old (row_of (key_in words.now) (sought.now.level - 1) (sought_key sought.now)) (tree_over sought.now.level (key_in words.now) n (sought_key sought.now)) (shape_over sought.now.level (key_in words.now) (sought_key sought.now)) notes.new }
+    requires { NotesEntry notes.old
+        (trees_below (key_in words.now) (sought.now.level - 1) (sought_key sought.now))
+        (tree_over sought.now.level (key_in words.now) n (sought_key sought.now))
+        (shape_over sought.now.level (key_in words.now) (sought_key sought.now)) N.next }
+    ensures { NotesEntry notes.old
+        (trees_below (key_in words.now) (sought.now.level - 1) (sought_key sought.now))
+        (tree_over sought.now.level (key_in words.now) n (sought_key sought.now))
+        (shape_over sought.now.level (key_in words.now) (sought_key sought.now)) notes.new }
 {
     notes.note::<N>();
 }
 
 pub(crate) fn tell_full<N: Note>(notes: &mut Notes, words: &EntryWords, sought: &SoughtKey)
-    requires { NotesFull notes.old (record { level = sought.now.level; bucket = sought.now.bucket; shape = shape_over sought.now.level (key_in words.now) (sought_key sought.now) }) N.next }
-    ensures { NotesFull notes.old (record { level = sought.now.level; bucket = sought.now.bucket; shape = shape_over sought.now.level (key_in words.now) (sought_key sought.now) }) notes.new }
+    requires { NotesFull notes.old
+        (record { level = sought.now.level; bucket = sought.now.bucket; shape = shape_over sought.now.level (key_in words.now) (sought_key sought.now) }) N.next }
+    ensures { NotesFull notes.old
+        (record { level = sought.now.level; bucket = sought.now.bucket; shape = shape_over sought.now.level (key_in words.now) (sought_key sought.now) }) notes.new }
 {
     notes.note::<N>();
 }

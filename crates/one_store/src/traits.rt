@@ -35,14 +35,14 @@ impl NodeStore for OneStore {
     ghost use Rattle.node_shapes.specs.Tree.{LeafAt, node_at, shape_of};
     ghost use Rattle.node_words.specs.declared.keys.Key.TheVariants.{Leaf, Node};
     ghost use Rattle.node_words.specs.Held.{IsReached, ForHeld, Gains, ForChildren, Joins, OnlyHeldChanges};
-    ghost use Rattle.node_shapes.specs.Weights.{number_of};
+    ghost use Rattle.node_shapes.specs.Weights.{number_of_trees};
     ghost use Rattle.node_words.specs.Held.{HasChild, AreBelow, HoldsChildren, HoldsName};
     ghost use Rattle.node_words.specs.Held.{OnlyMeets, Grants, ReturnsWithin};
     ghost use Rattle.core_laws.specs.Events.{IsMissing};
     ghost use Rattle.entry_words.specs.Words.{HasEntry};
     ghost use Rattle.one_store.specs.Known.{core_of, known_seen};
     ghost use Rattle.one_store.specs.Steps.{Moves};
-    ghost use Rattle.one_store.specs.Calls.{SharesEntry, AddsEntry, FindsFull, GivesBack};
+    ghost use Rattle.one_store.specs.Calls.{SharesEntry, MakesEntry, FindsFull, GivesBack};
 
     fn held(&self) -> u32 {
         self.number()
@@ -50,19 +50,28 @@ impl NodeStore for OneStore {
 
     fn leaf<L: Ledger>(&mut self, bits: u64, steps: &mut Steps<L>) -> Result<Share, Full>
         requires bits { bits ≢ 0 }
-        requires room { number_of (known_seen self.old).held ≤ 4095 }
-        ensures held { IfOk result (λ n. Gains (known_seen self.old).held (LeafAt n bits) (known_seen self.new).held) }
+        requires room { number_of_trees (known_seen self.old).held ≤ 4095 }
+        ensures held { IfOk result
+            (λ n. Gains (known_seen self.old).held (LeafAt n bits) (known_seen self.new).held) }
         ensures level { IfOk result (λ n. n.level ≡ 0) }
-        ensures grants { OnOk result (Grants (known_seen self.old) (shape.Leaf bits) (known_seen self.new)) }
-        ensures hit { (n : Name) → IsReached (known_seen self.old).held (LeafAt n bits) → IsOkAnd result (λ m. (m ≡ n) × ((known_seen self.new).made ≡ (known_seen self.old).made)) }
-        ensures full { IfErr result (λ e. OnlyMeets (known_seen self.old) e.level e.bucket (shape.Leaf bits) (known_seen self.new)) }
+        ensures grants { OnOk result
+            (Grants (known_seen self.old) (shape.Leaf bits) (known_seen self.new)) }
+        ensures hit { (n : Name) → IsReached (known_seen self.old).held (LeafAt n bits)
+            → IsOkAnd result
+            (λ m. (m ≡ n) × ((known_seen self.new).made ≡ (known_seen self.old).made)) }
+        ensures full { IfErr result
+            (λ e. OnlyMeets (known_seen self.old) e.level e.bucket (shape.Leaf bits)
+            (known_seen self.new)) }
         ensures full_level { IfErr result (λ e. e.level ≡ 0) }
         ensures rests { self.new.roots ≡ self.old.roots }
         ensures turns { steps.new ≡ steps.old + 1 }
         // The entry that has the key is shared.
-        ensures shared { (n : Name) → HasEntry self.old.words n (Leaf bits) → IsOkAnd result (λ m. (m ≡ n) × SharesEntry self.old n self.new) }
+        ensures shared { (n : Name) → HasEntry self.old.words n (Leaf bits)
+            → IsOkAnd result (λ m. (m ≡ n) × SharesEntry self.old n self.new) }
         // Where none has it, one is added, or the bucket is full.
-        ensures added { IsMissing self.old.words.plan (core_of self.old) 0 (Leaf bits) → MatchResult result (λ n. AddsEntry self.old 0 (Leaf bits) n self.new) (λ e. FindsFull self.old 0 (Leaf bits) e.bucket self.new) }
+        ensures added { IsMissing self.old.words.plan (core_of self.old) 0 (Leaf bits)
+            → MatchResult result (λ n. MakesEntry self.old 0 (Leaf bits) n self.new)
+            (λ e. FindsFull self.old 0 (Leaf bits) e.bucket self.new) }
     {
         let _number = self.number();
         steps.tick();
@@ -83,20 +92,34 @@ impl NodeStore for OneStore {
         requires some { HasChild children }
         requires below { AreBelow level children }
         requires held { HoldsChildren (known_seen self.old).held children }
-        requires room { number_of (known_seen self.old).held ≤ 4088 }
-        ensures held { IfOk result (λ n. ForChildren (known_seen self.old).held children (λ row. Joins (known_seen self.old).held row n (known_seen self.new).held)) }
+        requires room { number_of_trees (known_seen self.old).held ≤ 4088 }
+        ensures held { IfOk result
+            (λ n. ForChildren (known_seen self.old).held children
+            (λ row. Joins (known_seen self.old).held row n (known_seen self.new).held)) }
         ensures level { IfOk result (λ n. n.level ≡ level) }
-        ensures grants { OnOk result (ForChildren (known_seen self.old).held children (λ row. Grants (known_seen self.old) (branch_of (λ k. shape_of (row k))) (known_seen self.new))) }
-        ensures hit { ForChildren (known_seen self.old).held children (λ row. (n : Name) → IsReached (known_seen self.old).held (node_at n row) → IsOkAnd result (λ m. (m ≡ n) × ((known_seen self.new).made ≡ (known_seen self.old).made))) }
-        ensures full { IfErr result (λ e. ForChildren (known_seen self.old).held children (λ row. OnlyMeets (known_seen self.old) e.full.level e.full.bucket (branch_of (λ k. shape_of (row k))) (known_seen self.new))) }
+        ensures grants { OnOk result
+            (ForChildren (known_seen self.old).held children
+            (λ row. Grants (known_seen self.old) (branch_of (λ k. shape_of (row k)))
+            (known_seen self.new))) }
+        ensures hit { ForChildren (known_seen self.old).held children
+            (λ row. (n : Name) → IsReached (known_seen self.old).held (node_at n row)
+            → IsOkAnd result
+            (λ m. (m ≡ n) × ((known_seen self.new).made ≡ (known_seen self.old).made))) }
+        ensures full { IfErr result
+            (λ e. ForChildren (known_seen self.old).held children
+            (λ row. OnlyMeets (known_seen self.old) e.full.level e.full.bucket
+            (branch_of (λ k. shape_of (row k))) (known_seen self.new))) }
         ensures full_level { IfErr result (λ e. e.full.level ≡ level) }
         ensures back { IfErr result (λ e. e.children ≡ children) }
         ensures rests { self.new.roots ≡ self.old.roots }
         ensures turns { steps.new ≤ steps.old + 9 }
         // The entry that has the key is the node.
-        ensures shared { (n : Name) → HasEntry self.old.words n (Node children) → IsOkAnd result (λ m. (m ≡ n) × Moves self.old self.new) }
+        ensures shared { (n : Name) → HasEntry self.old.words n (Node children)
+            → IsOkAnd result (λ m. (m ≡ n) × Moves self.old self.new) }
         // Where none has it, one is added, or the bucket is full.
-        ensures added { IsMissing self.old.words.plan (core_of self.old) level (Node children) → MatchResult result (λ n. AddsEntry self.old level (Node children) n self.new) (λ e. FindsFull self.old level (Node children) e.full.bucket self.new) }
+        ensures added { IsMissing self.old.words.plan (core_of self.old) level (Node children)
+            → MatchResult result (λ n. MakesEntry self.old level (Node children) n self.new)
+            (λ e. FindsFull self.old level (Node children) e.full.bucket self.new) }
     {
         let _number = self.number();
         steps.tick();
@@ -134,11 +157,13 @@ impl NodeStore for OneStore {
 
     fn back<L: Ledger>(&mut self, share: Share, steps: &mut Steps<L>)
         requires held { HoldsName (known_seen self.old).held share }
-        requires room { number_of (known_seen self.old).held ≤ 4008 }
-        ensures held { ForHeld (known_seen self.old).held share (λ t. Gains (known_seen self.new).held t (known_seen self.old).held) }
+        requires room { number_of_trees (known_seen self.old).held ≤ 4008 }
+        ensures held { ForHeld (known_seen self.old).held share
+            (λ t. Gains (known_seen self.new).held t (known_seen self.old).held) }
         ensures only { OnlyHeldChanges (known_seen self.old) (known_seen self.new) }
         ensures rests { self.new.roots ≡ self.old.roots }
-        ensures turns { ForHeld (known_seen self.old).held share (λ t. ReturnsWithin (known_seen self.new).held (shape_of t) steps.old steps.new) }
+        ensures turns { ForHeld (known_seen self.old).held share
+            (λ t. ReturnsWithin (known_seen self.new).held (shape_of t) steps.old steps.new) }
         ensures book { GivesBack self.old share self.new }
     {
         let _number = self.number();

@@ -9,7 +9,8 @@ below bound n = if nat_lt n bound then Some n else None
 -- the number below the bound whose first digits make n and whose further ones are these
 unfoldable pub number_from : ℕ → ℕ → List ℕ → Option ℕ
 number_from bound n [] = below bound n
-number_from bound n (b ∷ rest) = if is_ascii_digit b then number_from bound (n * 10 + (b - 48)) rest else None
+number_from bound n (b ∷ rest) =
+    if is_ascii_digit b then number_from bound (n * 10 + (b - 48)) rest else None
 
 -- there is a first byte, and it is 0 only where it stands alone
 abbrev pub begins_exactly : List ℕ → Bool

@@ -20,7 +20,8 @@ pub fn cut(text: &[u8], separator: u8) -> (&[u8], Option<&[u8]>)
     }
 }
 
-/// The first line of a text, without its end, and what stands behind that end. `None` where no line has an end.
+/// The first line of a text, without its end, and what stands behind that end. `None` where no line
+/// has an end.
 pub fn split_line(text: &[u8]) -> Option<(&[u8], &[u8])>
     ensures lines { MatchOption result
         (lines text.now ≡ text.now ∷ [])

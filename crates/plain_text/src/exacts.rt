@@ -1,8 +1,8 @@
 ghost use Rattle.std.specs.Prelude.{◌≡◌, ◌≤◌, ◌+◌, ◌*◌, ◌^◌, IfSome, MatchOption};
 ghost use Rattle.plain_text.specs.Numbers.{begins_exactly, number_from, exact};
 
-/// The number that a word spells in its one form: digits without leading zeros. `None` for any other word,
-/// and for a number over 32 bits.
+/// The number that a word spells in its one form: digits without leading zeros. `None` for any
+/// other word, and for a number over 32 bits.
 pub fn exact_number(word: &[u8]) -> Option<u32>
     ensures { result ≡ exact (2 ^ 32) word.now }
 {
@@ -57,7 +57,8 @@ fn digits(word: &[u8], most: u64) -> Option<u64>
 // The number with one more digit, where it is at most `most`.
 fn with_digit(n: u64, digit: u8, most: u64) -> Option<u64>
     requires { digit ≤ 9 }
-    ensures { MatchOption result (most + 1 ≤ n * 10 + digit) (λ m. (m ≡ n * 10 + digit) × (m ≤ most)) }
+    ensures { MatchOption result (most + 1 ≤ n * 10 + digit)
+        (λ m. (m ≡ n * 10 + digit) × (m ≤ most)) }
 {
     let digit = u64::from(digit);
     if digit > most || n > (most - digit) / 10 {

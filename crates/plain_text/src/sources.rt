@@ -24,7 +24,8 @@ pub trait WordSource<'l> {
         ensures { result ≡ spells word.now };
 }
 
-/// Words with one space between any two, and numbers without leading zeros. A space too many makes an empty word.
+/// Words with one space between any two, and numbers without leading zeros. A space too many makes
+/// an empty word.
 #[derive(Drop)]
 pub struct ExactWords<'l> {
     rest: Option<&'l [u8]>,

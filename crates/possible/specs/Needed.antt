@@ -9,7 +9,7 @@ use Rattle.vox_read.specs.Contents.{Content}
 use Rattle.history_model.specs.declared.acts.Act.{Act}
 use Rattle.history_model.specs.declared.histories.Record.{Record}
 use Rattle.history_model.specs.Worlds.{World, edited, is_edit}
-use Rattle.history_model.specs.Moments.{has}
+use Rattle.history_model.specs.Moments.{world_has}
 use Rattle.node_shapes.specs.Buckets.{leaf_bucket, node_bucket}
 use Rattle.node_words.specs.Plans.{Layout}
 use Rattle.block_contents.specs.Aligned.{world_block, IsAligned}
@@ -43,7 +43,7 @@ bucket_of_cells buckets (suc level) cells =
 
 -- the world that an edit makes of a version
 abbrev pub made_of : List Content → List Record → Act → ℕ → World
-made_of models records act version = edited models act (has models records version)
+made_of models records act version = edited models act (world_has models records version)
 
 -- the edit makes of the version a world that has this block of this level, with a set cell and a
 -- content of this bucket

@@ -8,7 +8,9 @@ use Rattle.ray_walk.specs.declared.courses.Course.{Course}
 
 -- at instant k the track is in cell c: it began at `start`, and a cell is `unit` wide
 abbrev pub IsTrackIn : Track → ℕ → ℕ → Type 0
-IsTrackIn t k c = (t.unit * c + k * t.behind ≤ t.start + k * t.ahead) × (t.start + k * t.ahead < t.unit * c + t.unit + k * t.behind)
+IsTrackIn t k c =
+    (t.unit * c + k * t.behind ≤ t.start + k * t.ahead)
+    × (t.start + k * t.ahead < t.unit * c + t.unit + k * t.behind)
 
 -- a track that goes one way at most, with small numbers
 pub record IsTrack (t : Track) : Type 0 where

@@ -5,7 +5,8 @@ ghost use Rattle.ray_walk.specs.Courses.{IsTrackIn, IsTrack, IsCourse, IsCourseI
 
 use vw_cell::{Boxed, Cell};
 
-/// How a ray goes on one axis: from `start`, by `ahead` or by `behind` at each instant; a cell is `unit` wide.
+/// How a ray goes on one axis: from `start`, by `ahead` or by `behind` at each instant; a cell is
+/// `unit` wide.
 #[derive(Clone, Copy)]
 pub(crate) struct Track {
     pub(crate) unit: u64,
@@ -26,8 +27,8 @@ pub(crate) struct Course {
 pub(crate) const FAR: u64 = 1 << 45;
 
 impl Track {
-    // The first instant at which the track isn't in the stretch of cells from `low` on and below `high`, and one after
-    // the ray has left the world where the track stands still.
+    // The first instant at which the track isn't in the stretch of cells from `low` on and below
+    // `high`, and one after the ray has left the world where the track stands still.
     #[tactic(auto, using(crate::proofs::TrackLaws::ahead_stays, crate::proofs::TrackLaws::behind_stays))]
     fn leaves(&self, low: u16, high: u16) -> u64
         requires track { IsTrack self.now }
@@ -55,7 +56,8 @@ impl Track {
         requires track { IsTrack self.now }
         requires begins { self.now.start < self.now.unit * side }
         requires small { (k * self.now.ahead < 2 ^ 45) × (k * self.now.behind < 2 ^ 45) }
-        ensures { MatchOption result (IsOut self.now side k) (λ c. IsTrackIn self.now k c × (c < side)) }
+        ensures { MatchOption result (IsOut self.now side k)
+            (λ c. IsTrackIn self.now k c × (c < side)) }
     {
         let ahead = self.start + k * self.ahead;
         let behind = k * self.behind;

@@ -13,8 +13,8 @@ use history_model::Way;
 use node_words::{Blocks, Share};
 use vw_cell::{Cell, Side};
 
-/// The set cell of the root's world that a ray meets first, which begins at the centre of a cell. `None` where it
-/// leaves the world without having met one.
+/// The set cell of the root's world that a ray meets first, which begins at the centre of a cell.
+/// `None` where it leaves the world without having met one.
 pub fn ray<B: Blocks>(
     store: &mut B,
     root: Option<&Share>,

@@ -10,7 +10,7 @@ use Rattle.script.specs.declared.commands.Command.{Command}
 use Rattle.script.specs.declared.said.Said.{Said}
 use Rattle.script.specs.declared.names.Known.{Known}
 use Rattle.script.specs.declared.names.Known.TheVariants.{Bits, Built}
-use Rattle.script.specs.Commands.{Row, change_row, all_change_names, question_rows, other_rows, rows, read_by, read_known, command_spelled, is_among, is_row}
+use Rattle.script.specs.Commands.{CommandRow, change_row, all_change_names, question_rows, other_rows, rows, command_read_by, read_known, command_spelled, is_among, is_row}
 use Rattle.script.specs.Known.{knows}
 use Rattle.script.specs.Said.{command_said}
 
@@ -19,30 +19,30 @@ same_bytes a b same = (bytes_eq-Decides a b).0 same
 
 -- ---- rows before others
 
-first_of : (r : Row) (others more : Result Command WordFault) (name : List ℕ) (words : List (List ℕ)) (test : Bool) → bytes_eq name r.name ≡ test
+first_of : (r : CommandRow) (others more : Result Command WordFault) (name : List ℕ) (words : List (List ℕ)) (test : Bool) → bytes_eq name r.name ≡ test
     → (test ≡ false → others ≡ more) → cond test (r.read words) others ≡ cond test (r.read words) more
 first_of r others more name words true is rest = refl
 first_of r others more name words false is rest = rest refl
 
 -- one of the rows has the name
-rows_found : (first rest : List Row) (other : Result Command WordFault) (name : List ℕ) (words : List (List ℕ)) → is_row first name ≡ true
-    → read_by (first ++ rest) other name words ≡ read_by first other name words
+rows_found : (first rest : List CommandRow) (other : Result Command WordFault) (name : List ℕ) (words : List (List ℕ)) → is_row first name ≡ true
+    → command_read_by (first ++ rest) other name words ≡ command_read_by first other name words
 rows_found [] rest other name words is = absurd cc
 rows_found (r ∷ first) rest other name words is =
-    first_of r (read_by (first ++ rest) other name words) (read_by first other name words) name words (bytes_eq name r.name) refl
+    first_of r (command_read_by (first ++ rest) other name words) (command_read_by first other name words) name words (bytes_eq name r.name) refl
     (λ no. rows_found first rest other name words (sym (ap (λ (b : Bool). b || is_row first name) no) ∙ is))
 
-other_than : (r : Row) (others : Result Command WordFault) (more : Result Command WordFault) (name : List ℕ) (words : List (List ℕ)) (test : Bool) (rest : Bool) → bytes_eq name r.name ≡ test
+other_than : (r : CommandRow) (others : Result Command WordFault) (more : Result Command WordFault) (name : List ℕ) (words : List (List ℕ)) (test : Bool) (rest : Bool) → bytes_eq name r.name ≡ test
     → (test || rest) ≡ false → (rest ≡ false → others ≡ more) → cond test (r.read words) others ≡ more
 other_than r others more name words true rest is none later = absurd cc
 other_than r others more name words false rest is none later = later none
 
 -- none of them has it
-rows_passed : (first rest : List Row) (other : Result Command WordFault) (name : List ℕ) (words : List (List ℕ)) → is_row first name ≡ false
-    → read_by (first ++ rest) other name words ≡ read_by rest other name words
+rows_passed : (first rest : List CommandRow) (other : Result Command WordFault) (name : List ℕ) (words : List (List ℕ)) → is_row first name ≡ false
+    → command_read_by (first ++ rest) other name words ≡ command_read_by rest other name words
 rows_passed [] rest other name words is = refl
 rows_passed (r ∷ first) rest other name words is =
-    other_than r (read_by (first ++ rest) other name words) (read_by rest other name words) name words (bytes_eq name r.name) (is_row first name) refl is (rows_passed first rest other name words)
+    other_than r (command_read_by (first ++ rest) other name words) (command_read_by rest other name words) name words (bytes_eq name r.name) (is_row first name) refl is (rows_passed first rest other name words)
 
 -- the row of a change reads it by its name
 change_by : (known : List ℕ) (rest : Result Command WordFault) (name : List ℕ) (words : List (List ℕ)) (test : Bool) → bytes_eq name known ≡ test
@@ -50,30 +50,30 @@ change_by : (known : List ℕ) (rest : Result Command WordFault) (name : List �
 change_by known rest name words true is later = ap (λ (n : List ℕ). (change_row false n).read words) (sym (same_bytes name known is))
 change_by known rest name words false is later = later refl
 
-changes_found : (names : List (List ℕ)) (rest : List Row) (other : Result Command WordFault) (name : List ℕ) (words : List (List ℕ)) → is_among names name ≡ true
-    → read_by (map (change_row false) names ++ rest) other name words ≡ (change_row false name).read words
+changes_found : (names : List (List ℕ)) (rest : List CommandRow) (other : Result Command WordFault) (name : List ℕ) (words : List (List ℕ)) → is_among names name ≡ true
+    → command_read_by (map (change_row false) names ++ rest) other name words ≡ (change_row false name).read words
 changes_found [] rest other name words is = absurd cc
 changes_found (known ∷ names) rest other name words is =
-    change_by known (read_by (map (change_row false) names ++ rest) other name words) name words (bytes_eq name known) refl
+    change_by known (command_read_by (map (change_row false) names ++ rest) other name words) name words (bytes_eq name known) refl
     (λ no. changes_found names rest other name words (sym (ap (λ (b : Bool). b || is_among names name) no) ∙ is))
 
-changes_passed : (names : List (List ℕ)) (rest : List Row) (other : Result Command WordFault) (name : List ℕ) (words : List (List ℕ)) → is_among names name ≡ false
-    → read_by (map (change_row false) names ++ rest) other name words ≡ read_by rest other name words
+changes_passed : (names : List (List ℕ)) (rest : List CommandRow) (other : Result Command WordFault) (name : List ℕ) (words : List (List ℕ)) → is_among names name ≡ false
+    → command_read_by (map (change_row false) names ++ rest) other name words ≡ command_read_by rest other name words
 changes_passed [] rest other name words is = refl
 changes_passed (known ∷ names) rest other name words is =
-    other_than (change_row false known) (read_by (map (change_row false) names ++ rest) other name words) (read_by rest other name words) name words (bytes_eq name known) (is_among names name) refl is
+    other_than (change_row false known) (command_read_by (map (change_row false) names ++ rest) other name words) (command_read_by rest other name words) name words (bytes_eq name known) (is_among names name) refl is
     (changes_passed names rest other name words)
 
 -- ---- all rows
 
 abbrev asked : List ℕ → List (List ℕ) → Result Command WordFault
-asked name words = read_by question_rows (Err Word) name words
+asked name words = command_read_by question_rows (Err Word) name words
 
 abbrev others : (List ℕ → Bool) → List ℕ → List (List ℕ) → Result Command WordFault
-others known name words = read_by (other_rows known) (Err Word) name words
+others known name words = command_read_by (other_rows known) (Err Word) name words
 
 abbrev all : (List ℕ → Bool) → List ℕ → List (List ℕ) → Result Command WordFault
-all known name words = read_by (rows known) (Err Word) name words
+all known name words = command_read_by (rows known) (Err Word) name words
 
 -- what was said, where two readings are one
 said_so : (known : List ℕ → Bool) (name : List ℕ) (read : Result Said WordFault) (one two : Result Command WordFault) → one ≡ two
@@ -86,13 +86,13 @@ change_found k name words read is gives =
     said_so (knows k) name read ((change_row false name).read words) (all (knows k) name words) (sym (changes_found all_change_names (question_rows ++ other_rows (knows k)) (Err Word) name words is)) gives
 
 pub question_found : (k : Known) (name : List ℕ) (words : List (List ℕ)) (read : Result Said WordFault) → is_among all_change_names name ≡ false → is_row question_rows name ≡ true
-    → Gives command_said read (read_known (knows k) (read_by question_rows (Err Word) name words) name) → Gives command_said read (command_spelled (knows k) name words)
+    → Gives command_said read (read_known (knows k) (command_read_by question_rows (Err Word) name words) name) → Gives command_said read (command_spelled (knows k) name words)
 question_found k name words read change is gives =
     said_so (knows k) name read (asked name words) (all (knows k) name words)
     (sym (changes_passed all_change_names (question_rows ++ other_rows (knows k)) (Err Word) name words change ∙ rows_found question_rows (other_rows (knows k)) (Err Word) name words is)) gives
 
 pub other_found : (k : Known) (name : List ℕ) (words : List (List ℕ)) (read : Result Said WordFault) → is_among all_change_names name ≡ false → is_row question_rows name ≡ false
-    → Gives command_said read (read_known (knows k) (read_by (other_rows (knows k)) (Err Word) name words) name) → Gives command_said read (command_spelled (knows k) name words)
+    → Gives command_said read (read_known (knows k) (command_read_by (other_rows (knows k)) (Err Word) name words) name) → Gives command_said read (command_spelled (knows k) name words)
 other_found k name words read change question gives =
     said_so (knows k) name read (others (knows k) name words) (all (knows k) name words)
     (sym (changes_passed all_change_names (question_rows ++ other_rows (knows k)) (Err Word) name words change ∙ rows_passed question_rows (other_rows (knows k)) (Err Word) name words question)) gives

@@ -18,7 +18,7 @@ use Rattle.script.specs.declared.faults.ScriptKind.{ScriptKind}
 use Rattle.script.specs.declared.faults.ScriptKind.TheVariants.{Range, NoModel}
 use Rattle.script.specs.Numbers.{box_in, cell_in, ball_in, way_in, is_digit}
 use Rattle.script.specs.Commands.{command_spelled}
-use Rattle.script.specs.Faults.{kind_of}
+use Rattle.script.specs.Faults.{script_kind}
 
 -- models are counted from 0
 abbrev pub model_size : Option Content → Result Cell ScriptKind
@@ -106,7 +106,7 @@ command_placed side models Head = Ok Head
 -- the faults of words are faults of a script
 abbrev pub spelled : Result Command WordFault → Result Command ScriptKind
 spelled (Ok command) = Ok command
-spelled (Err fault) = Err (kind_of fault)
+spelled (Err fault) = Err (script_kind fault)
 
 -- the command of this name with the words behind it, in a world of this side and with these models
 unfoldable pub command_read : (List ℕ → Bool) → ℕ → List Content → List ℕ → List (List ℕ)

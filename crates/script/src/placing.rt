@@ -4,9 +4,10 @@ ghost use Rattle.vox_read.specs.Contents.{AreModels};
 ghost use Rattle.history_model.specs.Spelled.{act_of};
 ghost use Rattle.history_model.specs.Worlds.{box_at};
 ghost use Rattle.script.specs.declared.faults.ScriptKind.TheVariants.{Range};
-ghost use Rattle.script.specs.Numbers.{IsLarge, IsLong, box_in, cell_in, ball_in, way_in};
+ghost use Rattle.script.specs.Numbers.{IsLong, box_in, cell_in, ball_in, way_in};
 ghost use Rattle.script.specs.Placing.{model_size, corner_in, stamp_placed, copy_placed, act_placed, ray_placed, question_placed, command_placed};
 ghost use Rattle.script.specs.Said.{step_said, way_said, question_said, command_said};
+ghost use Rattle.history_model.specs.Spelling.{IsLarge};
 
 use crate::commands::Command;
 use crate::faults::ScriptKind;

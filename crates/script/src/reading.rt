@@ -4,7 +4,7 @@ ghost use Rattle.script.specs.Commands.{is_built, is_for_bits};
 ghost use Rattle.script.specs.Fitting.{CommandFits, RisesFrom, IsForBits};
 ghost use Rattle.script.specs.Known.{knows};
 ghost use Rattle.script.specs.Placing.{command_read};
-ghost use Rattle.script.specs.Scripts.{command_in, line_command, commands_of, Refuses};
+ghost use Rattle.script.specs.Scripts.{command_in, line_command, commands_of, RefusesWords};
 
 use crate::commands::{Command, Script, add_line};
 use crate::faults::{ScriptFault, ScriptKind};
@@ -20,8 +20,9 @@ use vw_cell::Side;
 /// The most lines that a script may have.
 const LINES: u32 = 100_000;
 
-/// Reads the commands of a script for a world of this side and for these models, or its first fault:
-/// that of the first line which has one, and there the one that comes first in the order of the faults.
+/// Reads the commands of a script for a world of this side and for these models, or its first
+/// fault: that of the first line which has one, and there the one that comes first in the order of
+/// the faults.
 ///
 /// Where memory runs out the answer is [`ScriptKind::Memory`] at line 0, whatever the text says.
 pub fn read_script(
@@ -31,11 +32,14 @@ pub fn read_script(
     models: &Models,
 ) -> Result<Script, ScriptFault>
     requires { AreModels models.now }
-    ensures read { IfOk result (λ script. commands_of is_built side models.now bytes.now ≡ Ok script) }
-    ensures refused { IfErr result (λ fault. Refuses fault (commands_of is_built side models.now bytes.now)) }
+    ensures read { IfOk result
+        (λ script. commands_of is_built side models.now bytes.now ≡ Ok script) }
+    ensures refused { IfErr result
+        (λ fault. RefusesWords fault (commands_of is_built side models.now bytes.now)) }
 
     // what follows from the language for every script
-    ensures fits { IfOk result (λ script. All (λ l. CommandFits (2 ^ side) models.now l.command) script) }
+    ensures fits { IfOk result
+        (λ script. All (λ l. CommandFits (2 ^ side) models.now l.command) script) }
     ensures rises { IfOk result (λ script. RisesFrom 1 script) }
 {
     read_known(alloc, bytes, side, models, Known::Built)
@@ -49,9 +53,12 @@ pub fn read_bit_script(
     models: &Models,
 ) -> Result<Script, ScriptFault>
     requires { AreModels models.now }
-    ensures read { IfOk result (λ script. commands_of is_for_bits side models.now bytes.now ≡ Ok script) }
-    ensures refused { IfErr result (λ fault. Refuses fault (commands_of is_for_bits side models.now bytes.now)) }
-    ensures fits { IfOk result (λ script. All (λ l. CommandFits (2 ^ side) models.now l.command) script) }
+    ensures read { IfOk result
+        (λ script. commands_of is_for_bits side models.now bytes.now ≡ Ok script) }
+    ensures refused { IfErr result
+        (λ fault. RefusesWords fault (commands_of is_for_bits side models.now bytes.now)) }
+    ensures fits { IfOk result
+        (λ script. All (λ l. CommandFits (2 ^ side) models.now l.command) script) }
     ensures rises { IfOk result (λ script. RisesFrom 1 script) }
     ensures for_bits { IfOk result (λ script. All (λ l. IsForBits l.command) script) }
 {
@@ -68,8 +75,10 @@ fn read_known(
     known: Known,
 ) -> Result<Script, ScriptFault>
     requires { AreModels models.now }
-    ensures read { IfOk result (λ script. commands_of (knows known) side models.now bytes.now ≡ Ok script) }
-    ensures refused { IfErr result (λ fault. Refuses fault (commands_of (knows known) side models.now bytes.now)) }
+    ensures read { IfOk result
+        (λ script. commands_of (knows known) side models.now bytes.now ≡ Ok script) }
+    ensures refused { IfErr result
+        (λ fault. RefusesWords fault (commands_of (knows known) side models.now bytes.now)) }
 {
     let mut lines = Vec::new(alloc);
     let mut rest = bytes;
@@ -97,7 +106,8 @@ fn read_line(
     known: Known,
 ) -> Result<Option<Command>, ScriptKind>
     requires { AreModels models.now }
-    ensures says { result ≡ line_command (command_read (knows known) (2 ^ side) models.now) number line.now }
+    ensures says { result ≡ line_command
+        (command_read (knows known) (2 ^ side) models.now) number line.now }
     ensures few { IfOk result (λ _. number ≤ 100000) }
 {
     if number > LINES {

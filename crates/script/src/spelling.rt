@@ -3,7 +3,7 @@ ghost use Rattle.script.specs.declared.commands.Command.TheVariants.{Ask, Head};
 ghost use Rattle.history_model.specs.declared.questions.Question.TheVariants.{Bounds};
 ghost use Rattle.plain_text.specs.declared.faults.WordFault.TheVariants.{Word};
 ghost use Rattle.plain_text.specs.Steps.{Gives};
-ghost use Rattle.script.specs.Commands.{change_row, question_rows, other_rows, read_by, read_known, at_words, get_spelled, count_spelled, faces_spelled, alone_spelled, way_spelled, sized, step_by, ray_spelled, forget_spelled, same_spelled, command_spelled};
+ghost use Rattle.script.specs.Commands.{change_row, question_rows, other_rows, command_read_by, read_known, at_words, get_spelled, count_spelled, faces_spelled, command_alone, way_spelled, sized, step_by, ray_spelled, forget_spelled, same_spelled, command_spelled};
 ghost use Rattle.script.specs.Known.{knows};
 ghost use Rattle.script.specs.Said.{step_said, way_said, asked_command, command_said};
 
@@ -60,7 +60,7 @@ fn spell_change(name: &[u8], words: &mut Words, known: Known) -> Result<Said, Wo
 fn spell_ask(name: &[u8], words: &mut Words, known: Known) -> Result<Said, WordFault>
     ensures { Gives command_said result
         (read_known (knows known)
-        (read_by question_rows (Err Word) name.now words.old) name.now) }
+        (command_read_by question_rows (Err Word) name.now words.old) name.now) }
 {
     let asked = spell_question(name, words, known)?;
     Ok(Said::Ask(None, asked))
@@ -71,7 +71,7 @@ fn spell_ask(name: &[u8], words: &mut Words, known: Known) -> Result<Said, WordF
 fn spell_question(name: &[u8], words: &mut Words, known: Known) -> Result<Asked, WordFault>
     ensures { Gives asked_command result
         (read_known (knows known)
-        (read_by question_rows (Err Word) name.now words.old) name.now) }
+        (command_read_by question_rows (Err Word) name.now words.old) name.now) }
 {
     if !known.has(name) {
         return Err(WordFault::Word);
@@ -119,7 +119,7 @@ fn spell_faces(words: &mut Words) -> Result<Asked, WordFault>
 }
 
 fn spell_bounds(words: &mut Words) -> Result<Asked, WordFault>
-    ensures { Gives asked_command result (alone_spelled (Ask None Bounds) words.old) }
+    ensures { Gives asked_command result (command_alone (Ask None Bounds) words.old) }
 {
     take_end(words)?;
     Ok(Asked::Bounds)
@@ -171,7 +171,7 @@ fn read_size(digits: &[u8], low: bool) -> Result<Step, WordFault>
 fn spell_other(name: &[u8], words: &mut Words, known: Known) -> Result<Said, WordFault>
     ensures { Gives command_said result
         (read_known (knows known)
-        (read_by (other_rows (knows known)) (Err Word) name.now words.old) name.now) }
+        (command_read_by (other_rows (knows known)) (Err Word) name.now words.old) name.now) }
 {
     if !known.has(name) {
         return Err(WordFault::Word);
@@ -214,7 +214,7 @@ fn spell_same(words: &mut Words) -> Result<Said, WordFault>
 }
 
 fn spell_head(words: &mut Words) -> Result<Said, WordFault>
-    ensures { Gives command_said result (alone_spelled Head words.old) }
+    ensures { Gives command_said result (command_alone Head words.old) }
 {
     take_end(words)?;
     Ok(Said::Head)

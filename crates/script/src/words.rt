@@ -63,7 +63,8 @@ pub(crate) fn begins_comment(word: &[u8]) -> bool
 // The bytes from the first word on, where there is one.
 #[tactic(auto, using(crate::proofs::Splitting::blanks_skipped, crate::proofs::Splitting::blanks_only))]
 fn skip_blanks(bytes: &[u8]) -> Option<&[u8]>
-    ensures { MatchOption result (words_of bytes.now ≡ []) (λ from. (words_of bytes.now ≡ words_of from.now) × (begins_word from.now ≡ true)) }
+    ensures { MatchOption result (words_of bytes.now ≡ [])
+        (λ from. (words_of bytes.now ≡ words_of from.now) × (begins_word from.now ≡ true)) }
 {
     let start = word_start(bytes)?;
     let (_, from) = bytes.split_at(start);

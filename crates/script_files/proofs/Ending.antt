@@ -1,7 +1,7 @@
 -- What each stage gives, as an outcome of the whole command.
 use Rattle.std.proofs.Common.{◌≡◌, ℕ, ◌≤◌, List, [], ◌∷◌, length, Option, Some, None, Ok, Err, refl, sym, ap, subst, ◌∙◌}
 use Rattle.vw_io.specs.Outside.{Files, ShelfState}
-use Rattle.vw_io.specs.Inputs.{Wanted, AreTaken}
+use Rattle.vw_io.specs.Inputs.{WantedInput, AreTaken}
 use Rattle.vw_io.specs.Outputs.{AreWritten, StopsWith}
 use Rattle.history_model.specs.Journal.{journal_of}
 use Rattle.script_files.specs.declared.refusals.CommandRefused.TheVariants.{Text, Output}
@@ -17,7 +17,7 @@ use Rattle.script_files.specs.Outcomes.{Outcome}
 use Rattle.script_files.specs.Stages.{CountsFile, JournalIs, IsPrepared, WritesEnd}
 
 -- the first text is within the first input's limit
-pub file_within : (files : Option Files) (input : Wanted) (inputs : List Wanted) (texts : List (List ℕ)) → AreTaken files (input ∷ inputs) texts → length (file_in texts) ≤ input.limit
+pub file_within : (files : Option Files) (input : WantedInput) (inputs : List WantedInput) (texts : List (List ℕ)) → AreTaken files (input ∷ inputs) texts → length (file_in texts) ≤ input.limit
 file_within files input inputs [] taken = absurd taken
 file_within files input inputs (text ∷ texts) taken = taken.0.within
 

@@ -4,7 +4,7 @@ use Rattle.std.specs.Prelude.{◌≡◌, ℕ, ◌∷◌, [], false, List, length
 use Rattle.vw_io.specs.Outputs.{Named}
 use Rattle.vw_io.specs.Names.{collide}
 use Rattle.vox_read.specs.Contents.{Content, cells_of_all}
-use Rattle.vox_read.specs.Files.{Reads}
+use Rattle.vox_read.specs.Files.{ReadsModels}
 use Rattle.history_model.specs.Logs.{Log}
 use Rattle.transcript.specs.declared.answers.LineAnswer.{LineAnswer}
 use Rattle.script.specs.declared.commands.ScriptLine.{ScriptLine}
@@ -33,7 +33,7 @@ script_in (file ∷ script ∷ others) = script
 -- `count`: the file gives models, and the number is that of their cells. Nothing is written
 pub record CellsCounted (texts : List (List ℕ)) (number : ℕ) (outputs : List Named) : Type 0 where
   pub models : List Content
-  pub gives : Reads (file_in texts) (Ok models)
+  pub gives : ReadsModels (file_in texts) (Ok models)
   pub counted : number ≡ cells_of_all models
   pub none : outputs ≡ []
 
@@ -47,7 +47,7 @@ AreApart asked = collide (output_names asked) (inputs_of (Run asked)) ≡ false
 pub record IsAccepted (asked : Asked) (texts : List (List ℕ)) (log : Log)
     (transcripts : List (List LineAnswer)) : Type 0 where
   pub models : List Content
-  pub gives : Reads (file_in texts) (Ok models)
+  pub gives : ReadsModels (file_in texts) (Ok models)
   pub lines : List ScriptLine
   pub read : commands_of is_for_bits asked.side models (script_in texts) ≡ Ok lines
   pub apart : AreApart asked
@@ -55,7 +55,8 @@ pub record IsAccepted (asked : Asked) (texts : List (List ℕ)) (log : Log)
   pub freely : RanFreely transcripts log
 
 -- the number is that of the records, and the outputs are the transcript and the journal
-pub record ScriptRan (asked : Asked) (texts : List (List ℕ)) (number : ℕ) (outputs : List Named) : Type 0 where
+pub record ScriptRan (asked : Asked) (texts : List (List ℕ)) (number : ℕ)
+    (outputs : List Named) : Type 0 where
   pub log : Log
   pub transcripts : List (List LineAnswer)
   pub accepted : IsAccepted asked texts log transcripts
@@ -68,9 +69,10 @@ GivesOutputs (Count file) texts number outputs = CellsCounted texts number outpu
 GivesOutputs (Run asked) texts number outputs = ScriptRan asked texts number outputs
 
 -- the VOX file gives models, and this is the script's first fault
-pub record HasScriptFault (asked : Asked) (texts : List (List ℕ)) (fault : ScriptFault) : Type 0 where
+pub record HasScriptFault (asked : Asked) (texts : List (List ℕ))
+    (fault : ScriptFault) : Type 0 where
   pub models : List Content
-  pub gives : Reads (file_in texts) (Ok models)
+  pub gives : ReadsModels (file_in texts) (Ok models)
   pub is_of_text : IsOfText fault.kind
   pub first : commands_of is_for_bits asked.side models (script_in texts) ≡ Err fault
 
@@ -81,7 +83,7 @@ RefusesScript (Run asked) texts fault = HasScriptFault asked texts fault
 -- the VOX file gives models and the script has no fault, and a name of an output is taken
 pub record HasTakenName (asked : Asked) (texts : List (List ℕ)) : Type 0 where
   pub models : List Content
-  pub gives : Reads (file_in texts) (Ok models)
+  pub gives : ReadsModels (file_in texts) (Ok models)
   pub lines : List ScriptLine
   pub read : commands_of is_for_bits asked.side models (script_in texts) ≡ Ok lines
   pub collides : IsTrue (collide (output_names asked) (inputs_of (Run asked)))
@@ -92,7 +94,7 @@ RefusesNames (Run asked) texts = HasTakenName asked texts
 
 -- why the texts, or the names of outputs, are refused
 abbrev pub RefusesTexts : TextRefused → Request → List (List ℕ) → Type 0
-RefusesTexts (Vox fault) a texts = Reads (file_in texts) (Err fault)
+RefusesTexts (Vox fault) a texts = ReadsModels (file_in texts) (Err fault)
 RefusesTexts (Script fault) a texts = RefusesScript a texts fault
 RefusesTexts Collides a texts = RefusesNames a texts
 RefusesTexts Memory a texts = ⊤

@@ -14,7 +14,8 @@ use Rattle.script_files.specs.Requests.{inputs_of}
 use Rattle.script_files.specs.Meanings.{GivesOutputs, RefusesTexts}
 
 -- all inputs were taken, and with these outputs the command gives this number
-pub record ComesTo (number : ℕ) (outputs : List Named) (a : Request) (files : Option Files) : Type 0 where
+pub record ComesTo (number : ℕ) (outputs : List Named) (a : Request)
+    (files : Option Files) : Type 0 where
   pub texts : List (List ℕ)
   pub taken : AreTaken files (inputs_of a) texts
   pub gives : GivesOutputs a texts number outputs
@@ -27,7 +28,8 @@ pub record Completes (number : ℕ) (a : Request) (old new : ShelfState) : Type 
   pub no_fault : new.faults ≡ old.faults
 
 -- the outputs up to the one of this name were written, and that one was not
-pub record BreaksOff (why : WriteRefused) (name : List ℕ) (a : Request) (old new : ShelfState) : Type 0 where
+pub record BreaksOff (why : WriteRefused) (name : List ℕ) (a : Request)
+    (old new : ShelfState) : Type 0 where
   pub number : ℕ
   pub outputs : List Named
   pub comes : ComesTo number outputs a old.files

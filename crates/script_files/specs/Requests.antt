@@ -1,6 +1,6 @@
 -- What a request reads, and what it writes.
 use Rattle.std.specs.Prelude.{ℕ, ◌^◌, ◌++◌, ◌∷◌, [], List, Option, Some, None, codes}
-use Rattle.vw_io.specs.Inputs.{Wanted}
+use Rattle.vw_io.specs.Inputs.{WantedInput}
 use Rattle.vw_io.specs.Outputs.{Named}
 use Rattle.history_model.specs.Journal.{journal_of}
 use Rattle.history_model.specs.Logs.{Log}
@@ -23,7 +23,7 @@ abbrev pub script_limit : ℕ
 script_limit = 2 ^ 23
 
 -- what is read, in order: a VOX file first, and then the script
-abbrev pub inputs_of : Request → List Wanted
+abbrev pub inputs_of : Request → List WantedInput
 inputs_of (Count file) = record { name = file; limit = vox_limit } ∷ []
 inputs_of (Run asked) =
     record { name = asked.file; limit = vox_limit }

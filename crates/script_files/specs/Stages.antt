@@ -4,7 +4,7 @@ use Rattle.vw_io.specs.Outside.{ShelfState}
 use Rattle.vw_io.specs.Outputs.{Named, AreWritten, StopsWith}
 use Rattle.vw_io.specs.declared.outputs.OutputRefused.{OutputRefused}
 use Rattle.vox_read.specs.Contents.{Content, cells_of_all}
-use Rattle.vox_read.specs.Files.{Reads}
+use Rattle.vox_read.specs.Files.{ReadsModels}
 use Rattle.history_model.specs.Journal.{journal_of}
 use Rattle.history_model.specs.Logs.{Log}
 use Rattle.transcript.specs.declared.answers.LineAnswer.{LineAnswer}
@@ -16,7 +16,7 @@ use Rattle.script_files.specs.Meanings.{IsAccepted}
 -- the bytes give these models, and the number is that of their cells
 pub record CountsFile (bytes : List ℕ) (number : ℕ) : Type 0 where
   pub models : List Content
-  pub gives : Reads bytes (Ok models)
+  pub gives : ReadsModels bytes (Ok models)
   pub counted : number ≡ cells_of_all models
 
 -- the journal's text, where one is asked for

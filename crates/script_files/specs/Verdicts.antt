@@ -2,7 +2,7 @@
 -- there.
 use Rattle.std.specs.Prelude.{◌≡◌, ℕ, List, [], ◌∷◌, length, nat_lt, if◌then◌else◌, Option, Some, None, Result, Ok, Err, ⊤}
 use Rattle.vw_io.specs.Outside.{Files}
-use Rattle.vw_io.specs.Inputs.{Wanted}
+use Rattle.vw_io.specs.Inputs.{WantedInput}
 use Rattle.vw_io.specs.Names.{collide}
 use Rattle.vw_io.specs.declared.shelves.ReadRefused.{ReadRefused}
 use Rattle.vw_io.specs.declared.shelves.ReadRefused.TheVariants as reads
@@ -10,7 +10,7 @@ use Rattle.vw_io.specs.declared.shelves.WriteRefused.{WriteRefused}
 use Rattle.vw_io.specs.declared.shelves.WriteRefused.TheVariants as writes
 use Rattle.vox_chunk.specs.declared.faults.VoxFault.{VoxFault}
 use Rattle.vox_read.specs.Contents.{Content}
-use Rattle.vox_read.specs.Files.{Reads}
+use Rattle.vox_read.specs.Files.{ReadsModels}
 use Rattle.script.specs.declared.commands.ScriptLine.{ScriptLine}
 use Rattle.script.specs.declared.faults.ScriptFault.{ScriptFault}
 use Rattle.plain_text.specs.Steps.{◌>>=◌}
@@ -36,13 +36,13 @@ pub data Verdict : Type 0 where
   NamesCollide : Verdict
 
 -- the bytes of an input, where it can be taken
-abbrev pub input_within : Wanted → Option (List ℕ) → Result (List ℕ) Verdict
+abbrev pub input_within : WantedInput → Option (List ℕ) → Result (List ℕ) Verdict
 input_within input None = Err (LacksInput input.name)
 input_within input (Some bytes) =
     if nat_lt input.limit (length bytes) then Err (InputIsLong input.name) else Ok bytes
 
 -- the bytes of all inputs, or what is wrong with the first that can't be taken
-abbrev pub inputs_at : Files → List Wanted → Result (List (List ℕ)) Verdict
+abbrev pub inputs_at : Files → List WantedInput → Result (List (List ℕ)) Verdict
 inputs_at files [] = Ok []
 inputs_at files (input ∷ inputs) =
     input_within input (files input.name) >>= λ bytes. inputs_at files inputs
@@ -62,7 +62,7 @@ verdict_of (Run asked) texts (Ok models) =
 
 pub record JudgesTexts (a : Request) (texts : List (List ℕ)) (v : Verdict) : Type 0 where
   pub reading : Result (List Content) VoxFault
-  pub says : Reads (file_in texts) reading
+  pub says : ReadsModels (file_in texts) reading
   pub follows : v ≡ verdict_of a texts reading
 
 abbrev pub JudgesInputs : Request → Result (List (List ℕ)) Verdict → Verdict → Type 0

@@ -1,6 +1,6 @@
 ghost use Rattle.std.specs.Prelude.{◌≡◌, ◌≤◌, ◌^◌, length, IfOk, IfErr};
 ghost use Rattle.vox_read.specs.Contents.{AreModels, cells_of_all};
-ghost use Rattle.vox_read.specs.Files.{Refuses};
+ghost use Rattle.vox_read.specs.Files.{RefusesFile};
 ghost use Rattle.script_files.specs.declared.requests.Request.TheVariants.{Count};
 ghost use Rattle.script_files.specs.Meanings.{file_in};
 ghost use Rattle.script_files.specs.Outcomes.{Outcome};
@@ -40,7 +40,7 @@ fn count_first(alloc: Global, texts: Vec<Text>) -> Result<u64, VoxFault>
     requires one { length texts.items ≡ 1 }
     requires within { length (file_in texts.items) ≤ 2 ^ 28 }
     ensures counted { IfOk result (CountsFile (file_in texts.items)) }
-    ensures refused { IfErr result (λ fault. Refuses fault (file_in texts.items)) }
+    ensures refused { IfErr result (λ fault. RefusesFile fault (file_in texts.items)) }
 {
     let mut texts = texts;
     match texts.pop() {
@@ -53,7 +53,7 @@ fn count_first(alloc: Global, texts: Vec<Text>) -> Result<u64, VoxFault>
 fn count_cells(alloc: Global, file: Text) -> Result<u64, VoxFault>
     requires { length file ≤ 2 ^ 28 }
     ensures counted { IfOk result (CountsFile file) }
-    ensures refused { IfErr result (λ fault. Refuses fault file) }
+    ensures refused { IfErr result (λ fault. RefusesFile fault file) }
 {
     let models = read_models(alloc, file.as_slice())?;
     drop(file);

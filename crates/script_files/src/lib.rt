@@ -1,7 +1,8 @@
-//! The commands of the program from files to files, over any shelf: the cells of a file are counted, a script is run.
+//! The commands of the program from files to files, over any shelf: the cells of a file are
+//! counted, a script is run.
 //!
-//! Where an input, a text or a name is refused, nothing on the shelf has changed, and `specs/Outcomes.antt` says what
-//! each answer means.
+//! Where an input, a text or a name is refused, nothing on the shelf has changed, and
+//! `specs/Outcomes.antt` says what each answer means.
 #![tactic(auto)]
 
 mod counts;

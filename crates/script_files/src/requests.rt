@@ -30,8 +30,8 @@ impl<'w> Model for FileName<'w> {
     ghost view = { λ name. name.text.now };
 }
 
-/// What a run is asked for: the world's side, the journal's name where there is one, and the names of
-/// the VOX file and of the script. Contracts see the exponent of the side, and the names.
+/// What a run is asked for: the world's side, the journal's name where there is one, and the names
+/// of the VOX file and of the script. Contracts see the exponent of the side, and the names.
 #[derive(Drop)]
 pub struct Order<'w> {
     pub side: Side,

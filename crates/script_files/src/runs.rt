@@ -14,10 +14,10 @@ use vw_io::{Input, Output, OutputRefused, Shelf, Text, read_all, write_all};
 
 /// Runs a script from files to files, and gives the number of records.
 ///
-/// It reads the VOX file, of at most 256 MiB, and the script, of at most 8 MiB. Where the VOX file is
-/// accepted, the script has no fault and no output takes an input's name or another output's, it runs the
-/// script. Then it writes the transcript under its name, which is the script's with `.out` behind it, and
-/// after it the journal where one is asked for.
+/// It reads the VOX file, of at most 256 MiB, and the script, of at most 8 MiB. Where the VOX file
+/// is accepted, the script has no fault and no output takes an input's name or another output's, it
+/// runs the script. Then it writes the transcript under its name, which is the script's with `.out`
+/// behind it, and after it the journal where one is asked for.
 #[tactic(auto, using(crate::proofs::Ending::file_within, crate::proofs::Ending::not_accepted, crate::proofs::Ending::not_written))]
 pub fn run_files<'w, S: Shelf>(
     alloc: Global,

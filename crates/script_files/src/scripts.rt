@@ -13,7 +13,8 @@ use std::alloc::Global;
 use vox_read::read_models;
 use vw_io::{Input, Text, collide};
 
-// Runs the script, where the VOX file gives models, the script has no fault, and no name of an output is taken.
+// Runs the script, where the VOX file gives models, the script has no fault, and no name of an
+// output is taken.
 pub(crate) fn run_texts(
     alloc: Global,
     order: &Order<'_>,

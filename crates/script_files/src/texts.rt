@@ -10,7 +10,8 @@ use std::alloc::Global;
 use transcript::transcript_text;
 use vw_cell::Memory;
 
-/// The texts of a run, and the number of its records. The journal's text is empty where none is asked for.
+/// The texts of a run, and the number of its records. The journal's text is empty where none is
+/// asked for.
 #[derive(Drop)]
 pub(crate) struct Texts {
     pub(crate) number: u32,

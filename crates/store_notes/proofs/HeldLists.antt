@@ -6,7 +6,7 @@ use Rattle.node_shapes.specs.Weights.{weigh, weight_of, weight_below}
 use Rattle.node_shapes.proofs.TreeEqual.{same_tree, same_tree-self, same_tree-some}
 use Rattle.node_shapes.proofs.WeightLaws.{weigh-nil, weigh-cons}
 use Rattle.node_words.specs.Held.{IsHeld, Gains}
-use Rattle.store_notes.specs.Changes.{Parts, Closes}
+use Rattle.store_notes.specs.Changes.{Parts, GathersUnder}
 
 -- a tree that weighs by itself in a list is held there
 pub held_from : (ts : List Tree) (t : Tree) → 1 ≤ weigh (same_tree t) ts → IsHeld ts t
@@ -63,7 +63,7 @@ held_parted held now t u row g h = elim (cases_lt 0 (weight_below (same_tree u) 
 ]
 
 -- what is held after a tree took the place of a row
-pub held_closed : (held now : List Tree) (t u : Tree) (row : ℕ → Tree) → Closes held row t now → IsHeld now u → (u ≡ t) ⊎ IsHeld held u
+pub held_closed : (held now : List Tree) (t u : Tree) (row : ℕ → Tree) → GathersUnder held row t now → IsHeld now u → (u ≡ t) ⊎ IsHeld held u
 held_closed held now t u row g h = elim (cases_lt 0 (same_tree u t)) [
   | inl some ↦ inl (same_tree-some u t some)
   | inr none ↦ inr (held_from held u (omega (arith, held_self now u h, g.weighs (same_tree u))))

@@ -26,7 +26,8 @@ pub record Parts (old : List Tree) (t : Tree) (row : ℕ → Tree) (new : List T
   pub weighs : (f : Tree → ℕ) → weigh f new + f t ≡ weigh f old + weight_below f row 8
 
 -- a share of t takes the place of those of a row
-pub record Closes (old : List Tree) (row : ℕ → Tree) (t : Tree) (new : List Tree) : Type 0 where
+pub record GathersUnder (old : List Tree) (row : ℕ → Tree) (t : Tree)
+    (new : List Tree) : Type 0 where
   pub weighs : (f : Tree → ℕ) → weigh f new + weight_below f row 8 ≡ f t + weigh f old
 
 -- a share of each tree of a row is held
@@ -39,10 +40,11 @@ pub record NotesFreeing (old : Told) (t : Tree) (row : ℕ → Tree) (new : Told
   pub parts : Parts old.held t row new.held
 
 -- an entry of this shape was added: the shares of its children went, and its own came
-pub record NotesEntry (old : Told) (row : ℕ → Tree) (t : Tree) (shape : Shape) (new : Told) : Type 0 where
+pub record NotesEntry (old : Told) (row : ℕ → Tree) (t : Tree) (shape : Shape)
+    (new : Told) : Type 0 where
   pub made : new.made ≡ shape ∷ old.made
   pub met : new.met ≡ old.met
-  pub closes : Closes old.held row t new.held
+  pub closes : GathersUnder old.held row t new.held
 
 -- a full bucket was met
 pub record NotesFull (old : Told) (wanted : Wanted) (new : Told) : Type 0 where

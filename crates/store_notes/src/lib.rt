@@ -1,5 +1,5 @@
-//! What a store for one thread notes of its shares, and what takes no part in what it does: which trees are held,
-//! which shapes were added and what met a full bucket. Only contracts see it.
+//! What a store for one thread notes of its shares, and what takes no part in what it does: which
+//! trees are held, which shapes were added and what met a full bucket. Only contracts see it.
 #![tactic(auto)]
 
 mod notes;

@@ -53,8 +53,8 @@ impl<N: Note> Play<(), Noted> for Noting<N> {
     ghost then = { λ s before n after. after.0 ≡ N.next };
 }
 
-/// The notes of one store: a table of one word, whose one seat sees what was noted. To note something is to read
-/// that word.
+/// The notes of one store: a table of one word, whose one seat sees what was noted. To note
+/// something is to read that word.
 #[derive(Drop)]
 pub struct Notes {
     table: Table<(), Noted, (), Anything, Global>,

@@ -23,7 +23,8 @@ unfolding sum_below
 sum_below-zero f = refl
 
 -- equal terms have equal sums
-pub sum_below-same : (n : ℕ) (f g : ℕ → ℕ) → ((i : ℕ) → i < n → f i ≡ g i) → sum_below n f ≡ sum_below n g
+pub sum_below-same : (n : ℕ) (f g : ℕ → ℕ) → ((i : ℕ) → i < n → f i ≡ g i)
+    → sum_below n f ≡ sum_below n g
 unfolding sum_below
 sum_below-same zero f g same = refl
 sum_below-same (suc n) f g same =
@@ -32,7 +33,8 @@ sum_below-same (suc n) f g same =
     omega arith
 
 -- a sum changes as its one changed term does
-pub sum_below-change : (n k : ℕ) (f g : ℕ → ℕ) → k < n → ((i : ℕ) → i < n → i ≢ k → f i ≡ g i) → sum_below n g + f k ≡ sum_below n f + g k
+pub sum_below-change : (n k : ℕ) (f g : ℕ → ℕ) → k < n → ((i : ℕ) → i < n → i ≢ k → f i ≡ g i)
+    → sum_below n g + f k ≡ sum_below n f + g k
 unfolding sum_below
 sum_below-change zero k f g lt same = absurd (omega arith)
 sum_below-change (suc n) k f g lt same =
@@ -72,10 +74,14 @@ sum_below-at (suc n) k f lt =
     ]
 
 pub sum_below-none : (n : ℕ) (f : ℕ → ℕ) → ((i : ℕ) → f i ≡ 0) → sum_below n f ≡ 0
-sum_below-none n f none = let bound : sum_below n f ≤ n * 0 = sum_below-le n 0 f (λ i _. (let zeros = none i in omega arith)) in omega arith
+sum_below-none n f none =
+    let bound : sum_below n f ≤ n * 0 = sum_below-le n 0 f
+    (λ i _. (let zeros = none i in omega arith)) in omega arith
 
 -- a sum in two parts
-pub sum_below-add : (a b : ℕ) (f : ℕ → ℕ) → sum_below (a + b) f ≡ sum_below a f + sum_below b (λ i. f (a + i))
+pub sum_below-add : (a b : ℕ) (f : ℕ → ℕ)
+    → sum_below (a + b) f ≡ sum_below a f + sum_below b (λ i. f (a + i))
 unfolding sum_below
-sum_below-add a zero f = rw add-zero (let none : sum_below 0 (λ i. f (a + i)) ≡ 0 = refl in omega arith)
+sum_below-add a zero f =
+    rw add-zero (let none : sum_below 0 (λ i. f (a + i)) ≡ 0 = refl in omega arith)
 sum_below-add a (suc b) f = rw add-suc (let parts = sum_below-add a b f in omega (arith, parts))

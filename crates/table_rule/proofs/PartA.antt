@@ -7,7 +7,7 @@ use Rattle.node_words.specs.Plans.{Layout}
 use Rattle.node_places.specs.Spots.{Spot, Sessions, Key, Book, IsSpot}
 use Rattle.core_reading.specs.Reading.{Wrote}
 use Rattle.table_rule.specs.Views.{SeatView, BucketAt, known_at}
-use Rattle.table_rule.specs.Turning.{IsOf, turn_of, IsMarked, IsCarried, KeepsTurns}
+use Rattle.table_rule.specs.Turning.{IsOf, turn_of, IsTurnWord, IsCarried, KeepsTurns}
 use Rattle.table_rule.specs.Owing.{SameSeat}
 use Rattle.table_rule.proofs.Lookups.{each, get_set_same, get_set_kept}
 use Rattle.table_rule.proofs.KnownWords.{known_cases}
@@ -54,7 +54,7 @@ knows_nothing y m e = none-some m e
 turn_one : (b c : BucketAt) → turn_of b ≡ turn_of c → b ≡ c
 turn_one b c e = same_bucket b c (cc) (cc)
 
-remarked : (v w : SeatView) (m n : ℕ) → w.numbers ≡ v.numbers → n ≡ m → IsMarked v m → IsMarked w n
+remarked : (v w : SeatView) (m n : ℕ) → w.numbers ≡ v.numbers → n ≡ m → IsTurnWord v m → IsTurnWord w n
 remarked v w m n numbers same k =
     record {
       number = k.number;
@@ -152,13 +152,13 @@ module _ (p : Layout) (old : Spot → ℕ) (views : List SeatView) (a : KeepsTur
       right = right';
       turn = each
           (λ i d. (c : BucketAt) → d.turn ≡ Some c → IsSpot p (turn_of c)
-          × IsMarked d (new (turn_of c))) views seat w
+          × IsTurnWord d (new (turn_of c))) views seat w
           (λ c h. let t = a.turn seat v at c (sym turn ∙ h) in
           (t.0, remarked v w _ _ same.numbers (all (turn_of c)) t.1))
           (λ j d _ e c h. let t = a.turn j d e c h in
           (t.0, remarked d d _ _ refl (all (turn_of c)) t.1));
       back = each
-          (λ i d. (c : BucketAt) → IsSpot p (turn_of c) → IsMarked d (new (turn_of c))
+          (λ i d. (c : BucketAt) → IsSpot p (turn_of c) → IsTurnWord d (new (turn_of c))
           → d.turn ≡ Some c) views seat w
           (λ c low m. turn
           ∙ a.back seat v at c low
@@ -209,12 +209,12 @@ module _ (p : Layout) (old : Spot → ℕ) (views : List SeatView) (a : KeepsTur
         right = right';
         turn = each
             (λ i d. (c : BucketAt) → d.turn ≡ Some c → IsSpot p (turn_of c)
-            × IsMarked d (new (turn_of c))) views seat w
+            × IsTurnWord d (new (turn_of c))) views seat w
             (λ c h. let t = a.turn seat v at c (sym turn ∙ h) in
             (t.0, remarked v w _ _ same.numbers (stays c) t.1))
             (λ j d _ e c h. let t = a.turn j d e c h in (t.0, remarked d d _ _ refl (stays c) t.1));
         back = each
-            (λ i d. (c : BucketAt) → IsSpot p (turn_of c) → IsMarked d (new (turn_of c))
+            (λ i d. (c : BucketAt) → IsSpot p (turn_of c) → IsTurnWord d (new (turn_of c))
             → d.turn ≡ Some c) views seat w
             (λ c low m. turn
             ∙ a.back seat v at c low (remarked w v _ _ (sym same.numbers) (sym (stays c)) m))
@@ -238,16 +238,16 @@ module _ (p : Layout) (old : Spot → ℕ) (views : List SeatView) (a : KeepsTur
       not_free j d c e h s = let m = (a.turn j d e c h).1 in let x = m.is in
           let y = ap (λ z. old (turn_of z)) s in absurd (omega arith)
 
-      is_mine : (j : ℕ) (d : SeatView) → slice_get views j ≡ Some d → IsMarked d (new (turn_of b))
+      is_mine : (j : ℕ) (d : SeatView) → slice_get views j ≡ Some d → IsTurnWord d (new (turn_of b))
           → j ≡ seat
       is_mine j d e m =
           let n : m.number ≡ k = (let x = m.is in let y = wrote.here in omega arith) in
           sym (a.owned j d e m.number m.carried).1 ∙ ap a.owner n ∙ (a.owned seat v at k mine).1
 
       back_else : (i : ℕ) (d : SeatView) → slice_get (set views seat w) i ≡ Some d → (c : BucketAt)
-          → IsSpot p (turn_of c) → IsMarked d (new (turn_of c)) → d.turn ≡ Some c
+          → IsSpot p (turn_of c) → IsTurnWord d (new (turn_of c)) → d.turn ≡ Some c
       back_else =
-          each (λ i d. (c : BucketAt) → IsSpot p (turn_of c) → IsMarked d (new (turn_of c))
+          each (λ i d. (c : BucketAt) → IsSpot p (turn_of c) → IsTurnWord d (new (turn_of c))
           → d.turn ≡ Some c) views seat w
           (λ c lo m. elim (bucket_dec c b) [
             | yes s ↦ turn ∙ ap Some (sym s)
@@ -258,7 +258,7 @@ module _ (p : Layout) (old : Spot → ℕ) (views : List SeatView) (a : KeepsTur
                 (remarked w v _ _ (sym same.numbers) (sym (else_stays c ne)) m)))
           ])
           (λ j d ne e c lo m. elim (bucket_dec c b) [
-            | yes s ↦ absurd (ne (is_mine j d e (subst (λ z. IsMarked d (new (turn_of z))) s m)))
+            | yes s ↦ absurd (ne (is_mine j d e (subst (λ z. IsTurnWord d (new (turn_of z))) s m)))
             | no off ↦ a.back j d e c lo (remarked d d _ _ refl (sym (else_stays c off)) m)
           ])
 
@@ -274,9 +274,9 @@ module _ (p : Layout) (old : Spot → ℕ) (views : List SeatView) (a : KeepsTur
         right = right';
         turn = each
             (λ i d. (c : BucketAt) → d.turn ≡ Some c → IsSpot p (turn_of c)
-            × IsMarked d (new (turn_of c))) views seat w
+            × IsTurnWord d (new (turn_of c))) views seat w
             (λ c h. let s : b ≡ c = same_Some b c (sym turn ∙ h) in
-            subst (λ z. IsSpot p (turn_of z) × IsMarked w (new (turn_of z))) s (
+            subst (λ z. IsSpot p (turn_of z) × IsTurnWord w (new (turn_of z))) s (
               low,
               record {
                 number = k;
@@ -307,7 +307,7 @@ module _ (p : Layout) (old : Spot → ℕ) (views : List SeatView) (a : KeepsTur
       left_else : (c : BucketAt) → c ≢ b → new (turn_of c) ≡ old (turn_of c)
       left_else c ne = wrote.others (turn_of c) (λ e. ne (turn_one c b e))
 
-      unmarked : (d : SeatView) (c : BucketAt) → IsMarked d (new (turn_of c)) → c ≢ b
+      unmarked : (d : SeatView) (c : BucketAt) → IsTurnWord d (new (turn_of c)) → c ≢ b
       unmarked d c m s = let x = m.is in let y = wrote.here in
           let e = ap (λ z. new (turn_of z)) s in absurd (omega arith)
 
@@ -323,7 +323,7 @@ module _ (p : Layout) (old : Spot → ℕ) (views : List SeatView) (a : KeepsTur
         right = right';
         turn = each
             (λ i d. (c : BucketAt) → d.turn ≡ Some c → IsSpot p (turn_of c)
-            × IsMarked d (new (turn_of c))) views seat w
+            × IsTurnWord d (new (turn_of c))) views seat w
             (λ c h. absurd (none-some c (sym turn ∙ h)))
             (λ j d ne e c h. let t = a.turn j d e c h in (
               t.0,
@@ -331,7 +331,7 @@ module _ (p : Layout) (old : Spot → ℕ) (views : List SeatView) (a : KeepsTur
                   (left_else c (λ s. ne (alone j b d e has (h ∙ ap Some s)))) t.1,
             ));
         back = each
-            (λ i d. (c : BucketAt) → IsSpot p (turn_of c) → IsMarked d (new (turn_of c))
+            (λ i d. (c : BucketAt) → IsSpot p (turn_of c) → IsTurnWord d (new (turn_of c))
             → d.turn ≡ Some c) views seat w
             (λ c lo m. let old =
             a.back seat v at c lo

@@ -9,7 +9,7 @@ use Rattle.block_contents.specs.Aligned.{top}
 use Rattle.vox_read.specs.Contents.{Content}
 use Rattle.node_shapes.specs.declared.names.Name.{Name}
 use Rattle.node_shapes.specs.Tree.{Tree}
-use Rattle.node_shapes.specs.Weights.{number_of}
+use Rattle.node_shapes.specs.Weights.{number_of_trees}
 use Rattle.node_words.specs.Plans.{Layout}
 use Rattle.node_words.specs.Held.{IsHeld, Wanted}
 use Rattle.node_places.specs.KeyWords.{child_of_word}
@@ -25,7 +25,7 @@ use Rattle.core_reading.proofs.Readings.{keys_same}
 use Rattle.table_rule.specs.Views.{SeatView, spot_same, names_held}
 use Rattle.table_rule.specs.Turning.{KeepsTurns}
 use Rattle.table_rule.specs.Knowing.{all_made}
-use Rattle.table_rule.specs.Rules.{KeepsRule, state_of, log_in}
+use Rattle.table_rule.specs.Rules.{KeepsRule, table_state, log_in}
 use Rattle.table_rule.specs.Owing.{Owes}
 use Rattle.table_rule.proofs.Lookups.{set_again}
 use Rattle.table_rule.proofs.PartC.{knows_step}
@@ -47,7 +47,7 @@ pub record LogStays (old new : Spot → ℕ) : Type 0 where
   pub version : (v i : ℕ) → new (Version v i) ≡ old (Version v i)
 
 pub log_roots : (p : Layout) (old new : Spot → ℕ) (views after : List SeatView) → LogStays old new
-    → RootsStay (state_of p old views) (state_of p new after)
+    → RootsStay (table_state p old views) (table_state p new after)
 log_roots p old new views after l v =
     let len = l.length in let mark = l.version v 6 in let word = l.version v 5 in
     λ i. kept_root (nat_lt (len i) v) (mark i) (child_of_word (top p.side) (word i))
@@ -60,10 +60,10 @@ module _ (p : Layout) (models : List Content) (old new : Spot → ℕ) (views : 
     (seat : ℕ) (v w : SeatView) (r : KeepsRule p models old views)
     (at : slice_get views seat ≡ Some v) where
   abbrev pub c : State
-  c = state_of p old views
+  c = table_state p old views
 
   abbrev pub d : State
-  d = state_of p new (set views seat w)
+  d = table_state p new (set views seat w)
 
   -- the three parts after a step that is an event of the store
   pub ruled_step : KeepsTurns p new (set views seat w) → StoreStep p seat c d → LogStays old new
@@ -88,7 +88,7 @@ module _ (p : Layout) (models : List Content) (old new : Spot → ℕ) (views : 
     alive = λ e. sym alive ∙ e;
     grew = record { made = λ s h. subst (λ l. Contains l s) (sym made) h };
     held = λ t h. inl (r.knows.held seat v at t (subst (λ (l : List Tree). IsHeld l t) held h));
-    few = subst (λ (l : List Tree). number_of l ≤ 4096) (sym held) (r.knows.few seat v at);
+    few = subst (λ (l : List Tree). number_of_trees l ≤ 4096) (sym held) (r.knows.few seat v at);
     made = λ n live. inl (was_live p c d n same live);
     met = met;
   }

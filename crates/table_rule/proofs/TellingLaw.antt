@@ -24,8 +24,8 @@ use Rattle.core_laws.proofs.SeenNodes.{leaf_tree, node_tree}
 use Rattle.core_laws.proofs.Standings.{standing_trees, standing_canonical}
 use Rattle.core_reading.specs.Reading.{book_of}
 use Rattle.table_rule.specs.Views.{SeatView, bucket_of, key_spot}
-use Rattle.table_rule.specs.Rules.{KeepsRule, state_of}
-use Rattle.table_rule.specs.Telling.{tree_word, Agrees, Tells, TellsInUse}
+use Rattle.table_rule.specs.Rules.{KeepsRule, table_state}
+use Rattle.table_rule.specs.Telling.{tree_word, ViewAgrees, ViewTells, TellsInUse}
 use Rattle.table_rule.proofs.Standings.{root_at, standing_at, reached_stands}
 
 -- the words of a node's key are those of its tree
@@ -64,7 +64,7 @@ word_of_tree c (suc level) n i of fits lt =
 module _ (p : Layout) (models : List Content) (mem : Spot → ℕ) (views : List SeatView) (seat : ℕ)
     (v : SeatView) (r : KeepsRule p models mem views) (at : slice_get views seat ≡ Some v) where
   abbrev pub c : State
-  c = state_of p mem views
+  c = table_state p mem views
 
   sound : SoundEntries p c
   sound = r.sound.entries
@@ -101,7 +101,7 @@ module _ (p : Layout) (models : List Content) (mem : Spot → ℕ) (views : List
       ∙ ap (λ (u : Tree). tree_word u i) l.1
 
   agrees : (t : Tree) (n : Name) → IsReached v.held t → root_of t ≡ Some n
-      → v.turn ≡ Some (bucket_of n) → Agrees v t n
+      → v.turn ≡ Some (bucket_of n) → ViewAgrees v t n
   agrees t n h e has = let l = lives t n h e in record {
     book = λ k is.
         (let word = r.turns.known seat v at (bucket_of n) (book_of n) k has (refl, refl) is in
@@ -114,7 +114,7 @@ module _ (p : Layout) (models : List Content) (mem : Spot → ℕ) (views : List
   all_stand : AllStand p c v.held
   all_stand = record { each = r.knows.held seat v at }
 
-  pub tells : p ≡ v.plan → Tells v
+  pub tells : p ≡ v.plan → ViewTells v
   tells plan = record {
     trees = subst (λ (q : Layout). AreTrees q.side v.held) plan
         (standing_trees p c sound v.held all_stand);

@@ -19,16 +19,16 @@ abbrev pub log_in : Layout → (Spot → ℕ) → Log
 log_in p mem = record { side = p.side; records = []; marks = [] }
 
 -- the core's state that words and views show
-abbrev pub state_of : Layout → (Spot → ℕ) → List SeatView → State
-state_of p mem views = read p (log_in p) mem (map names_held views)
+abbrev pub table_state : Layout → (Spot → ℕ) → List SeatView → State
+table_state p mem views = read p (log_in p) mem (map names_held views)
 
 -- the three parts of the rule
 pub record KeepsRule (p : Layout) (models : List Content) (mem : Spot → ℕ)
     (views : List SeatView) : Type 0 where
   pub plan : IsPlan p
   pub turns : KeepsTurns p mem views
-  pub sound : Sound p models (state_of p mem views)
-  pub knows : Knows p models (state_of p mem views) views
+  pub sound : Sound p models (table_state p mem views)
+  pub knows : Knows p models (table_state p mem views) views
 
 -- a table has the words of its plan, and they and the views keep the rule
 pub record IsRuled (p : Layout) (models : List Content)
@@ -52,7 +52,7 @@ pub record KeepsOn (p : Layout) (models : List Content) (seat : ℕ) (old : Spot
   pub rule : (new : Spot → ℕ) → Wrote old x n new
       → KeepsRule p models new (slice_set views seat view)
   pub event : (new : Spot → ℕ) → Wrote old x n new
-      → happens (state_of p old views) (state_of p new (slice_set views seat view))
+      → happens (table_state p old views) (table_state p new (slice_set views seat view))
   pub same : SameSession v view
   pub told : tells view
 

@@ -3,7 +3,7 @@ use Rattle.std.specs.Prelude.{◌≡◌, ℕ, ◌+◌, ◌*◌, ◌^◌, ◌<◌
 use Rattle.node_shapes.specs.declared.names.Name.{Name}
 use Rattle.node_shapes.specs.Buckets.{bucket_of_shape}
 use Rattle.node_shapes.specs.Tree.{Tree, Gone, LeafAt, NodeAt, root_of, child_of, shape_of}
-use Rattle.node_shapes.specs.Weights.{number_of}
+use Rattle.node_shapes.specs.Weights.{number_of_trees}
 use Rattle.node_words.specs.Held.{IsReached, AreTrees, AreCanonical}
 use Rattle.node_places.specs.Names.{IsName}
 use Rattle.node_places.specs.Spots.{key_words}
@@ -24,7 +24,7 @@ tree_word (LeafAt n bits) i = bits
 tree_word (NodeAt n a b c d e f g h) i = pair_of_children (NodeAt n a b c d e f g h) i
 
 -- what is known of an entry's words under its turn is as its tree says
-pub record Agrees (v : SeatView) (t : Tree) (n : Name) : Type 0 where
+pub record ViewAgrees (v : SeatView) (t : Tree) (n : Name) : Type 0 where
   pub book : (k : ℕ) → known_at (book_of n) v.words ≡ Some k → 0 < k
   pub key : (i k : ℕ) → i < key_words n.level → known_at (key_spot n i) v.words ≡ Some k
       → k ≡ tree_word t i
@@ -35,15 +35,15 @@ ForNamed v P = (t : Tree) (n : Name) → IsReached v.held t → root_of t ≡ So
 
 -- what a view in use tells of the trees that it reaches: they are trees of the world with canonical
 -- shapes, each in the bucket of its shape, one for each name, and one name for each level and shape
-pub record Tells (v : SeatView) : Type 0 where
+pub record ViewTells (v : SeatView) : Type 0 where
   pub trees : AreTrees v.plan.side v.held
   pub canonical : AreCanonical v.held
-  pub few : number_of v.held ≤ 4096
+  pub few : number_of_trees v.held ≤ 4096
   pub names : ForNamed v (λ t n. IsName v.plan n)
   pub buckets : ForNamed v (λ t n. n.bucket ≡ bucket_of_shape v.plan.buckets n.level (shape_of t))
   pub once : ForNamed v (λ t m. ForNamed v (λ u n. m.level ≡ n.level → shape_of t ≡ shape_of u
       → m ≡ n))
-  pub agrees : ForNamed v (λ t n. v.turn ≡ Some (bucket_of n) → Agrees v t n)
+  pub agrees : ForNamed v (λ t n. v.turn ≡ Some (bucket_of n) → ViewAgrees v t n)
 
 abbrev pub TellsInUse : SeatView → Type 0
-TellsInUse v = v.alive ≡ true → Tells v
+TellsInUse v = v.alive ≡ true → ViewTells v

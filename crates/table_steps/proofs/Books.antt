@@ -6,7 +6,7 @@ use Rattle.sums.specs.Sums.{sum_below}
 use Rattle.vox_read.specs.Contents.{Content}
 use Rattle.node_shapes.specs.declared.names.Name.{Name}
 use Rattle.node_shapes.specs.Tree.{Tree, root_of, child_of}
-use Rattle.node_shapes.specs.Weights.{weigh, weight_of, weight_below, number_of}
+use Rattle.node_shapes.specs.Weights.{weigh, weight_of, weight_below, number_of_trees}
 use Rattle.node_shapes.proofs.TreeEqual.{Name-discrete}
 use Rattle.node_shapes.proofs.TreeLaws.{child_of-node_at}
 use Rattle.node_shapes.proofs.WeightLaws.{weigh-cons, weigh-append, weight_of-there, weight_of-gone, weight_below-one}
@@ -21,13 +21,13 @@ use Rattle.core_laws.specs.States.{State, IsLive, tree_at, tree_of}
 use Rattle.core_laws.specs.Standing.{Stands, StandsOrGone}
 use Rattle.core_laws.specs.Soundness.{FitsLevel}
 use Rattle.core_laws.specs.Counting.{weight, children_weight}
-use Rattle.core_laws.specs.Events.{Trades, StoreStep, Raises, Lowers, Frees, OthersStay, raises, lowers, frees, no_name, one_name, children_named}
+use Rattle.core_laws.specs.Events.{Trades, StoreStep, Raises, Lowers, Frees, OthersStay, raises, lowers, frees, no_weight, one_name, children_named}
 use Rattle.core_laws.proofs.SeenNodes.{leaf_tree, node_tree}
 use Rattle.core_reading.specs.Reading.{name_or, Wrote, book_of}
 use Rattle.core_reading.proofs.Readings.{traded, raises_book, lowers_book, frees_book}
 use Rattle.table_rule.specs.Views.{SeatView, bucket_of, key_spot, known_at, names_held}
 use Rattle.table_rule.specs.Turning.{KeepsTurns}
-use Rattle.table_rule.specs.Rules.{KeepsRule, state_of, log_in, MayWrite}
+use Rattle.table_rule.specs.Rules.{KeepsRule, table_state, log_in, MayWrite}
 use Rattle.table_rule.proofs.Standings.{root_at, standing_at, standing_child}
 use Rattle.table_rule.proofs.TellingLaw.{word_of_tree}
 use Rattle.table_rule.proofs.PartA.{word_step}
@@ -86,10 +86,10 @@ module _ (p : Layout) (models : List Content) (old new : Spot → ℕ) (views : 
     (seat : ℕ) (v w : SeatView) (r : KeepsRule p models old views)
     (at : slice_get views seat ≡ Some v) where
   abbrev pub c : State
-  c = state_of p old views
+  c = table_state p old views
 
   abbrev pub d : State
-  d = state_of p new (set views seat w)
+  d = table_state p new (set views seat w)
 
   -- Part A where the book of n is written under its turn
   pub book_turns : (n : Name) (k : ℕ) → v.turn ≡ Some (bucket_of n) → Wrote old (book_of n) k new
@@ -105,7 +105,7 @@ module _ (p : Layout) (models : List Content) (old new : Spot → ℕ) (views : 
   book_ruled : (n : Name) (k : ℕ) → v.turn ≡ Some (bucket_of n) → Wrote old (book_of n) k new
       → StoreStep p seat c d → ((m : Name) → IsLive p d m → IsLive p c m) → (held : List Tree)
       → w ≡ holding v n k held → ((t : Tree) → IsHeld held t → Stands p c t)
-      → number_of held ≤ 4096 → KeepsRule p models new (set views seat w)
+      → number_of_trees held ≤ 4096 → KeepsRule p models new (set views seat w)
   book_ruled n k has wrote step before held is stands few =
       ruled_step p models old new views seat v w r at
       (book_turns n k has wrote (ap (λ (x : SeatView). x.numbers) is)
@@ -118,7 +118,7 @@ module _ (p : Layout) (models : List Content) (old new : Spot → ℕ) (views : 
         alive = λ e. sym (ap (λ (x : SeatView). x.alive) is) ∙ e;
         grew = record { made = λ s h. subst (λ (x : SeatView). Contains x.made s) (sym is) h };
         held = λ t h. inl (stands t (subst (λ (x : SeatView). IsHeld x.held t) is h));
-        few = subst (λ (x : SeatView). number_of x.held ≤ 4096) (sym is) few;
+        few = subst (λ (x : SeatView). number_of_trees x.held ≤ 4096) (sym is) few;
         made = λ m live. inl (before m live);
         met = λ m h. inl (subst (λ (x : SeatView). Contains x.met m) is h);
       })
@@ -138,11 +138,11 @@ still_live p c d n others live m now = elim (Name-discrete m n) [
 -- a share comes
 pub raises_share : (p : Layout) (seat : ℕ) (v : SeatView) (n : Name) (book : ℕ)
     → v.turn ≡ Some (bucket_of n) → n.slot < p.cap → known_at (book_of n) v.words ≡ Some book
-    → 0 < book → number_of v.held ≤ 4095
+    → 0 < book → number_of_trees v.held ≤ 4095
     → MayWrite p seat v (book_of n) (λ _. book + 1) (Raises p seat n)
     (λ _ w. Raised v n (book + 1) w)
 raises_share p seat v n book has low known some room models old views r at =
-    let c : State = state_of p old views in
+    let c : State = table_state p old views in
     let turn = (r.turns.turn seat v at (bucket_of n) has).0 in
     let was : old (book_of n) ≡ book =
     r.turns.known seat v at (bucket_of n) (book_of n) book has (refl, refl) known in
@@ -154,13 +154,13 @@ raises_share p seat v n book has low known some room models old views r at =
     let t : Tree = tree_of c n in
     let w : SeatView = holding v n (book + 1) (t ∷ v.held) in
     let root : root_of t ≡ Some n = root_at c.key n.level (Some n) in
-    let trade : Trades (map names_held views) seat no_name (one_name n)
+    let trade : Trades (map names_held views) seat no_weight (one_name n)
     (map names_held (set views seat w)) =
-    traded names_held views seat v w no_name (one_name n) at (λ f. omega arith)
+    traded names_held views seat v w no_weight (one_name n) at (λ f. omega arith)
     (λ f. (let a = weigh_names f v in let b = weigh_names f w in
     let e = weigh-cons (by_name f) t v.held in let s = by_root f t n root in omega arith)) in
     let step : (new : Spot → ℕ) → Wrote old (book_of n) (book + 1) new
-    → Raises p seat n c (state_of p new (set views seat w)) =
+    → Raises p seat n c (table_state p new (set views seat w)) =
     λ new wrote. raises_book p (log_in p) old new (map names_held views)
     (map names_held (set views seat w)) seat n live.name live.book
     (record { here = (let h = wrote.here in omega arith); others = wrote.others }) trade in
@@ -170,7 +170,7 @@ raises_share p seat v n book has low known some room models old views r at =
       rule = λ new wrote.
           book_ruled p models old new views seat v w r at n (book + 1) has wrote
           (raises n (step new wrote))
-          (still_live p c (state_of p new (set views seat w)) n (step new wrote).others live)
+          (still_live p c (table_state p new (set views seat w)) n (step new wrote).others live)
           (t ∷ v.held) refl
           (λ u h. ⊎_elim (λ e. record { name = n; live = live; tree = sym e })
           (λ o. r.knows.held seat v at u o) (held_cons t u v.held h))
@@ -205,18 +205,18 @@ pub lowers_share : (p : Layout) (seat : ℕ) (v : SeatView) (t : Tree) (n : Name
     → known_at (book_of n) v.words ≡ Some (book + 1) → 0 < book
     → MayWrite p seat v (book_of n) (λ _. book) (Lowers p seat n) (λ _ w. Lowered v t n book w)
 lowers_share p seat v t n book has held root known some models old views r at =
-    let c : State = state_of p old views in
+    let c : State = table_state p old views in
     let was : old (book_of n) ≡ book + 1 =
     r.turns.known seat v at (bucket_of n) (book_of n) (book + 1) has (refl, refl) known in
     let stands = standing_at p c t n (inr (r.knows.held seat v at t held)) root in
     let rest = take_one v.held t held in
     let w : SeatView = holding v n book rest.rest in
-    let trade : Trades (map names_held views) seat (one_name n) no_name
+    let trade : Trades (map names_held views) seat (one_name n) no_weight
     (map names_held (set views seat w)) =
-    traded names_held views seat v w (one_name n) no_name at (λ f. holds_one f v t n root held)
+    traded names_held views seat v w (one_name n) no_weight at (λ f. holds_one f v t n root held)
     (λ f. (let all = loses_one f v w t n root rest.weighs in omega arith)) in
     let step : (new : Spot → ℕ) → Wrote old (book_of n) book new
-    → Lowers p seat n c (state_of p new (set views seat w)) =
+    → Lowers p seat n c (table_state p new (set views seat w)) =
     λ new wrote. lowers_book p (log_in p) old new (map names_held views)
     (map names_held (set views seat w)) seat book n stands.0.name was some wrote trade in
     record {
@@ -225,7 +225,7 @@ lowers_share p seat v t n book has held root known some models old views r at =
       rule = λ new wrote.
           book_ruled p models old new views seat v w r at n book has wrote
           (lowers n (step new wrote))
-          (still_live p c (state_of p new (set views seat w)) n (step new wrote).others stands.0)
+          (still_live p c (table_state p new (set views seat w)) n (step new wrote).others stands.0)
           rest.rest refl
           (λ u h. r.knows.held seat v at u (kept_held v.held rest.rest u
           (λ f. (let e = rest.weighs f in omega arith)) h))
@@ -266,10 +266,10 @@ frees_one f v w t n key root names weighs =
 -- a share goes, and the entry with it
 pub frees_share : (p : Layout) (seat : ℕ) (v : SeatView) (t : Tree) (n : Name)
     → v.turn ≡ Some (bucket_of n) → IsHeld v.held t → root_of t ≡ Some n
-    → known_at (book_of n) v.words ≡ Some 1 → number_of v.held ≤ 4089
+    → known_at (book_of n) v.words ≡ Some 1 → number_of_trees v.held ≤ 4089
     → MayWrite p seat v (book_of n) (λ _. 0) (Frees p seat n) (λ _ w. Freed v t n w)
 frees_share p seat v t n has held root known room models old views r at =
-    let c : State = state_of p old views in
+    let c : State = table_state p old views in
     let was : old (book_of n) ≡ 1 =
     r.turns.known seat v at (bucket_of n) (book_of n) 1 has (refl, refl) known in
     let stands = standing_at p c t n (inr (r.knows.held seat v at t held)) root in
@@ -289,7 +289,7 @@ frees_share p seat v t n has held root known room models old views r at =
     traded names_held views seat v w (one_name n) (children_named (c.key n)) at
     (λ f. holds_one f v t n root held) (λ f. frees_one f v w t n (c.key n) root names weighs) in
     let step : (new : Spot → ℕ) → Wrote old (book_of n) 0 new
-    → Frees p seat n c (state_of p new (set views seat w)) =
+    → Frees p seat n c (table_state p new (set views seat w)) =
     λ new wrote. frees_book p (log_in p) old new (map names_held views)
     (map names_held (set views seat w)) seat n stands.0.name was wrote trade in
     record {
@@ -298,7 +298,7 @@ frees_share p seat v t n has held root known room models old views r at =
       rule = λ new wrote.
           book_ruled p models old new views seat v w r at n 0 has wrote
           (frees n (step new wrote))
-          (still_live p c (state_of p new (set views seat w)) n (step new wrote).others stands.0)
+          (still_live p c (table_state p new (set views seat w)) n (step new wrote).others stands.0)
           all refl
           (λ u h. ⊎_elim
           (λ l. (let k = row_held row 8 u l in

@@ -10,7 +10,7 @@ use Rattle.vox_read.specs.Contents.{Content}
 use Rattle.node_shapes.specs.declared.names.Name.{Name}
 use Rattle.node_shapes.specs.Shape.{Shape}
 use Rattle.node_shapes.specs.Tree.{Tree}
-use Rattle.node_shapes.specs.Weights.{number_of}
+use Rattle.node_shapes.specs.Weights.{number_of_trees}
 use Rattle.node_shapes.proofs.WeightLaws.{weigh-nil}
 use Rattle.node_words.specs.Plans.{Layout}
 use Rattle.node_words.specs.Held.{IsHeld, Wanted}
@@ -21,10 +21,10 @@ use Rattle.core_laws.specs.LogEvents.{Reseats}
 use Rattle.core_laws.proofs.StepLaws.{reseats_sound}
 use Rattle.core_reading.specs.Reading.{names_of}
 use Rattle.table_rule.specs.Views.{SeatView, BucketAt, names_held, known_at}
-use Rattle.table_rule.specs.Turning.{IsOf, turn_of, IsMarked, KeepsTurns, IsCarried}
+use Rattle.table_rule.specs.Turning.{IsOf, turn_of, IsTurnWord, KeepsTurns, IsCarried}
 use Rattle.table_rule.specs.Knowing.{all_made, Knows}
 use Rattle.core_laws.specs.Standing.{Stands}
-use Rattle.table_rule.specs.Rules.{KeepsRule, state_of}
+use Rattle.table_rule.specs.Rules.{KeepsRule, table_state}
 use Rattle.table_steps.specs.Seating.{handing, handed}
 use Rattle.table_rule.proofs.Lookups.{each, set_again}
 use Rattle.table_rule.proofs.Containing.{contains_left, contains_right, contains_parts}
@@ -130,12 +130,12 @@ module _ (p : Layout) (models : List Content) (mem : Spot → ℕ) (views : List
         (λ h. (refl, (r.turns.right seat v at right).1));
     turn = dealt
         (λ i d. (c : BucketAt) → d.turn ≡ Some c → IsSpot p (turn_of c)
-        × IsMarked d (mem (turn_of c)))
+        × IsTurnWord d (mem (turn_of c)))
         (λ c h. let t = r.turns.turn seat v at c h in
         (t.0, record { number = t.1.number; carried = t.1.carried; is = t.1.is }))
         (λ j d _ e. r.turns.turn j d e) (λ c h. absurd (none-some c h));
     back = dealt
-        (λ i d. (c : BucketAt) → IsSpot p (turn_of c) → IsMarked d (mem (turn_of c))
+        (λ i d. (c : BucketAt) → IsSpot p (turn_of c) → IsTurnWord d (mem (turn_of c))
         → d.turn ≡ Some c)
         (λ c low m. r.turns.back seat v at c low
         (record { number = m.number; carried = m.carried; is = m.is }))
@@ -161,7 +161,7 @@ module _ (p : Layout) (models : List Content) (mem : Spot → ℕ) (views : List
   grows s c =
       made_left after (b ∷ []) s (made_grows views seat v a at (record { made = λ s h. h }) s c)
 
-  stands : (t : Tree) → Stands p (state_of p mem views) t → Stands p (state_of p mem all) t
+  stands : (t : Tree) → Stands p (table_state p mem views) t → Stands p (table_state p mem all) t
   stands t s =
       record {
         name = s.name;
@@ -169,18 +169,18 @@ module _ (p : Layout) (models : List Content) (mem : Spot → ℕ) (views : List
         tree = s.tree;
       }
 
-  deal_knows : Knows p models (state_of p mem all) all
+  deal_knows : Knows p models (table_state p mem all) all
   deal_knows = record {
     plan = dealt (λ i d. d.alive ≡ true → d.plan ≡ p) (r.knows.plan seat v at)
         (λ j d _ e. r.knows.plan j d e) (r.knows.plan seat v at);
     same_models =
         dealt (λ i d. d.alive ≡ true → d.models ≡ models) (r.knows.same_models seat v at)
         (λ j d _ e. r.knows.same_models j d e) (r.knows.same_models seat v at);
-    held = dealt (λ i d. (t : Tree) → IsHeld d.held t → Stands p (state_of p mem all) t)
+    held = dealt (λ i d. (t : Tree) → IsHeld d.held t → Stands p (table_state p mem all) t)
         (λ t h. stands t (r.knows.held seat v at t h))
         (λ j d _ e t h. stands t (r.knows.held j d e t h))
         (λ t h. absurd (let e = h.weighs (λ _. 1) in let n = weigh-nil (λ _. 1) in omega arith));
-    few = dealt (λ i d. number_of d.held ≤ 4096) (r.knows.few seat v at)
+    few = dealt (λ i d. number_of_trees d.held ≤ 4096) (r.knows.few seat v at)
         (λ j d _ e. r.knows.few j d e) (let n = weigh-nil (λ _. 1) in omega arith);
     made = λ n live. grows _ (r.knows.made n (record { name = live.name; book = live.book }));
     met = dealt
@@ -190,7 +190,7 @@ module _ (p : Layout) (models : List Content) (mem : Spot → ℕ) (views : List
         (λ m c. absurd (let k = c.1 in omega arith));
   }
 
-  pub dealt_event : Reseats p (state_of p mem views) (state_of p mem all)
+  pub dealt_event : Reseats p (table_state p mem views) (table_state p mem all)
   dealt_event = record {
     entries = record { book = λ m is. refl; key = λ m live. refl };
     roots = λ u. refl;
@@ -202,6 +202,6 @@ module _ (p : Layout) (models : List Content) (mem : Spot → ℕ) (views : List
   deals = record {
     plan = r.plan;
     turns = deal_turns;
-    sound = reseats_sound p models (state_of p mem views) (state_of p mem all) r.sound dealt_event;
+    sound = reseats_sound p models (table_state p mem views) (table_state p mem all) r.sound dealt_event;
     knows = deal_knows;
   }

@@ -10,7 +10,7 @@ use Rattle.vox_read.specs.Contents.{Content}
 use Rattle.node_shapes.specs.declared.names.Name.{Name}
 use Rattle.node_shapes.specs.Shape.{Shape}
 use Rattle.node_shapes.specs.Tree.{Tree}
-use Rattle.node_shapes.specs.Weights.{number_of}
+use Rattle.node_shapes.specs.Weights.{number_of_trees}
 use Rattle.node_shapes.proofs.WeightLaws.{weigh-nil}
 use Rattle.node_words.specs.Plans.{Layout}
 use Rattle.node_words.specs.Held.{IsHeld, Wanted}
@@ -22,9 +22,9 @@ use Rattle.core_laws.specs.LogEvents.{Reseats}
 use Rattle.core_laws.proofs.StepLaws.{reseats_sound}
 use Rattle.core_reading.specs.Reading.{names_of}
 use Rattle.table_rule.specs.Views.{SeatView, BucketAt, names_held, known_at, number_dec, spent}
-use Rattle.table_rule.specs.Turning.{IsOf, turn_of, IsMarked, IsCarried, KeepsTurns}
+use Rattle.table_rule.specs.Turning.{IsOf, turn_of, IsTurnWord, IsCarried, KeepsTurns}
 use Rattle.table_rule.specs.Knowing.{all_made, Knows}
-use Rattle.table_rule.specs.Rules.{KeepsRule, state_of}
+use Rattle.table_rule.specs.Rules.{KeepsRule, table_state}
 use Rattle.table_rule.proofs.Containing.{contains_left, contains_right, contains_parts}
 use Rattle.table_rule.proofs.Lookups.{each, set_again, get_set_same, get_set_kept}
 use Rattle.table_steps.specs.Seating.{joined}
@@ -167,7 +167,7 @@ module _ (p : Layout) (models : List Content) (mem : Spot → ℕ) (views : List
         (λ j d _ _ e h. r.turns.right j d e h);
     turn = everyone
         (λ i d. (b : BucketAt) → d.turn ≡ Some b → IsSpot p (turn_of b)
-        × IsMarked d (mem (turn_of b)))
+        × IsTurnWord d (mem (turn_of b)))
         (λ b h. (let t = r.turns.turn seat v at b h in (
           t.0,
           record {
@@ -178,7 +178,7 @@ module _ (p : Layout) (models : List Content) (mem : Spot → ℕ) (views : List
         )))
         (λ b h. absurd (none-some b h)) (λ j d _ _ e. r.turns.turn j d e);
     back = everyone
-        (λ i d. (b : BucketAt) → IsSpot p (turn_of b) → IsMarked d (mem (turn_of b))
+        (λ i d. (b : BucketAt) → IsSpot p (turn_of b) → IsTurnWord d (mem (turn_of b))
         → d.turn ≡ Some b)
         (λ b low m. ⊎_elim
         (λ l. absurd (none-some b (sym idle ∙ r.turns.back other w at_other b low
@@ -224,25 +224,25 @@ module _ (p : Layout) (models : List Content) (mem : Spot → ℕ) (views : List
     ]
   ]
 
-  stands : (t : Tree) → Stands p (state_of p mem views) t → Stands p (state_of p mem all) t
+  stands : (t : Tree) → Stands p (table_state p mem views) t → Stands p (table_state p mem all) t
   stands t s = record {
     name = s.name;
     live = record { name = s.live.name; book = s.live.book };
     tree = s.tree;
   }
 
-  join_knows : Knows p models (state_of p mem all) all
+  join_knows : Knows p models (table_state p mem all) all
   join_knows = record {
     plan = everyone (λ i d. d.alive ≡ true → d.plan ≡ p) (r.knows.plan seat v at)
         (λ h. absurd (let no : ⊥ = cc in no)) (λ j d _ _ e. r.knows.plan j d e);
     same_models = everyone (λ i d. d.alive ≡ true → d.models ≡ models)
         (r.knows.same_models seat v at) (λ h. absurd (let no : ⊥ = cc in no))
         (λ j d _ _ e. r.knows.same_models j d e);
-    held = everyone (λ i d. (t : Tree) → IsHeld d.held t → Stands p (state_of p mem all) t)
+    held = everyone (λ i d. (t : Tree) → IsHeld d.held t → Stands p (table_state p mem all) t)
         (λ t h. stands t (r.knows.held seat v at t h))
         (λ t h. absurd (let e = h.weighs (λ _. 1) in let n = weigh-nil (λ _. 1) in omega arith))
         (λ j d _ _ e t h. stands t (r.knows.held j d e t h));
-    few = everyone (λ i d. number_of d.held ≤ 4096) (r.knows.few seat v at)
+    few = everyone (λ i d. number_of_trees d.held ≤ 4096) (r.knows.few seat v at)
         (let n = weigh-nil (λ _. 1) in omega arith) (λ j d _ _ e. r.knows.few j d e);
     made = λ n live. grows _ (r.knows.made n (record { name = live.name; book = live.book }));
     met = everyone
@@ -254,7 +254,7 @@ module _ (p : Layout) (models : List Content) (mem : Spot → ℕ) (views : List
         (λ j d _ _ e m h. enough_stays p _ _ m.level m.bucket grows (r.knows.met j d e m h));
   }
 
-  pub joined_event : Reseats p (state_of p mem views) (state_of p mem all)
+  pub joined_event : Reseats p (table_state p mem views) (table_state p mem all)
   joined_event = record {
     entries = record { book = λ m is. refl; key = λ m live. refl };
     roots = λ u. refl;
@@ -267,6 +267,6 @@ module _ (p : Layout) (models : List Content) (mem : Spot → ℕ) (views : List
     plan = r.plan;
     turns = join_turns;
     sound =
-        reseats_sound p models (state_of p mem views) (state_of p mem all) r.sound joined_event;
+        reseats_sound p models (table_state p mem views) (table_state p mem all) r.sound joined_event;
     knows = join_knows;
   }

@@ -12,8 +12,8 @@ use Rattle.core_reading.proofs.Rows.{row_written}
 use Rattle.vox_read.specs.Contents.{Content}
 use Rattle.table_rule.specs.Views.{SeatView, spent}
 use Rattle.table_rule.specs.Rules.{IsRuled}
-use Rattle.table_rule.specs.Telling.{TellsInUse, Tells}
-use Rattle.table_steps.specs.Seating.{numbered, handing, handed, joined}
+use Rattle.table_rule.specs.Telling.{TellsInUse, ViewTells}
+use Rattle.table_steps.specs.Seating.{seat_numbered, handing, handed, joined}
 use Rattle.table_rule.proofs.Lookups.{get_std, get_set, get_set_same}
 use Rattle.table_rule.proofs.TellingLaw.{tells_in_use}
 use Rattle.table_steps.proofs.NumberSteps.{numbers_itself}
@@ -23,11 +23,11 @@ use Rattle.table_steps.proofs.Joining.{joins}
 pub numbers_allowed : (p : Layout) (models : List Content) (slots seat : ℕ) (me : Me ℕ SeatView)
     (n : ℕ) → me.0.right ≡ true → me.0.numbers ≡ [] → me.0.next ≡ n → n < 64
     → Allows (IsRuled p models) slots seat me 0 (λ _. 1 + n)
-    (λ _ m. (m.1 ≡ me.1) × TellsInUse m.0 × (m.0 ≡ numbered me.0))
+    (λ _ m. (m.1 ≡ me.1) × TellsInUse m.0 × (m.0 ≡ seat_numbered me.0))
 numbers_allowed p models slots seat me n right bare next low s r deep at fits =
     let at' = get_std s.views seat me.0 at in
     let v = me.0 in
-    let w : SeatView = numbered v in
+    let w : SeatView = seat_numbered v in
     let old : Spot → ℕ = word_at p s.words in
     let new : Spot → ℕ = word_at p (set s.words 0 (1 + n)) in
     let wrote : Wrote old Sessions (1 + v.next) new =
@@ -72,12 +72,12 @@ joins_allowed p models seat v other w right bare idle s r at apart there =
     }
 
 -- a view that holds nothing tells little
-pub nothing_tells : (v : SeatView) → v.held ≡ [] → Tells v
+pub nothing_tells : (v : SeatView) → v.held ≡ [] → ViewTells v
 nothing_tells v none = record {
   trees = record { each = λ t h. no t h; named = λ t u h k e. unreached t h };
   canonical = record { each = λ t n h e. no t h };
   few = (let n = weigh-nil (λ _. 1) in
-      let e = ap (λ (ts : List Tree). Rattle.node_shapes.specs.Weights.number_of ts) none in
+      let e = ap (λ (ts : List Tree). Rattle.node_shapes.specs.Weights.number_of_trees ts) none in
       omega arith);
   names = λ t n h e. unreached t h;
   buckets = λ t n h e. unreached t h;
@@ -88,7 +88,7 @@ nothing_tells v none = record {
     no : {A : Type 0} (t : Tree) → IsHeld v.held t → A
     no t h =
         absurd (let e = h.weighs (λ _. 1) in let n = weigh-nil (λ _. 1) in
-        let s = ap (λ (ts : List Tree). Rattle.node_shapes.specs.Weights.number_of ts) none in
+        let s = ap (λ (ts : List Tree). Rattle.node_shapes.specs.Weights.number_of_trees ts) none in
         omega arith)
 
     unreached : {A : Type 0} (t : Tree) → IsReached v.held t → A

@@ -17,18 +17,18 @@ use Rattle.core_reading.proofs.Readings.{readies_key}
 use Rattle.table_rule.specs.Views.{SeatView, BucketAt, bucket_of, key_spot, known_at, names_held}
 use Rattle.table_rule.specs.Turning.{IsOf}
 use Rattle.table_rule.specs.Knowing.{all_made}
-use Rattle.table_rule.specs.Rules.{KeepsRule, state_of, log_in, MayWrite}
+use Rattle.table_rule.specs.Rules.{KeepsRule, table_state, log_in, MayWrite}
 use Rattle.table_rule.specs.Telling.{tree_word}
 use Rattle.table_rule.proofs.PartA.{word_step, same_step, same_seat}
 use Rattle.table_rule.proofs.PartC.{made_grows}
-use Rattle.table_rule.specs.Owing.{Grew}
+use Rattle.table_rule.specs.Owing.{ViewGrew}
 use Rattle.table_rule.proofs.StateSteps.{LogStays, quiet, same_mem, no_change}
 use Rattle.table_rule.proofs.TellingLaw.{reached_word}
 use Rattle.table_steps.specs.Changes.{knowing, meeting, IsFullIn}
 use Rattle.table_steps.proofs.TurnSteps.{same_session, nothing_written}
 
 entries_rest : (p : Layout) (mem : Spot → ℕ) (views after : List SeatView)
-    → EntriesStay p (state_of p mem views) (state_of p mem after)
+    → EntriesStay p (table_state p mem views) (table_state p mem after)
 entries_rest p mem views after = record { book = λ m is. refl; key = λ m live. refl }
 
 log_rests : (mem : Spot → ℕ) → LogStays mem mem
@@ -42,9 +42,9 @@ looks p seat v b x has of models old views r at =
     let w : SeatView = knowing v x (old x) in
     let after : List SeatView = set views seat w in
     let both : (new : Spot → ℕ) → Wrote old x (old x) new → KeepsRule p models new after
-    × Rests p (state_of p old views) (state_of p new after) =
+    × Rests p (table_state p old views) (table_state p new after) =
     λ new wrote. subst (λ m. KeepsRule p models m after
-    × Rests p (state_of p old views) (state_of p m after)) (sym (same_mem old new x wrote))
+    × Rests p (table_state p old views) (table_state p m after)) (sym (same_mem old new x wrote))
     (quiet p models old old views seat v w r at
     (entries_rest p old views after) (log_rests old)
     (word_step p old views r.turns seat v at old w (same_seat v w refl refl refl) refl b x
@@ -70,7 +70,7 @@ readies p seat v n i k has free models old views r at =
     r.turns.known seat v at b (book_of n) 0 has (refl, refl) free in
     let after : List SeatView = set views seat w in
     let both : (new : Spot → ℕ) → Wrote old x k new → KeepsRule p models new after
-    × Rests p (state_of p old views) (state_of p new after) =
+    × Rests p (table_state p old views) (table_state p new after) =
     λ new wrote. quiet p models old new views seat v w r at
     (readies_key p (log_in p) old new (map names_held views)
     (map names_held after) n i k none wrote)
@@ -102,7 +102,7 @@ contains_new P x xs y has c = go c.0 c.1 c.2
 -- a bucket whose slots are known to have books has enough shapes that were made
 full_enough : (p : Layout) (models : List Content) (old : Spot → ℕ) (views : List SeatView)
     (seat : ℕ) (v w : SeatView) (b : BucketAt) → KeepsRule p models old views
-    → slice_get views seat ≡ Some v → v.turn ≡ Some b → IsFullIn v.words b p.cap → Grew v w
+    → slice_get views seat ≡ Some v → v.turn ≡ Some b → IsFullIn v.words b p.cap → ViewGrew v w
     → HasEnough p (all_made (set views seat w)) b.level b.bucket
 full_enough p models old views seat v w b r at has full grew =
     let low = (r.turns.turn seat v at b has).0 in
@@ -111,7 +111,7 @@ full_enough p models old views seat v w b r at has full grew =
     let f = full.each slot lt in
     let word = r.turns.known seat v at b (Book b.level b.bucket slot) f.0 has (refl, refl) f.1 in
     let some = f.2 in omega arith) in
-    enough p (state_of p old views) b.level b.bucket r.sound.entries
+    enough p (table_state p old views) b.level b.bucket r.sound.entries
     (record { level_in = low.0; bucket_in = low.1; each = book }) (all_made (set views seat w))
     (λ slot lt. made_grows views seat v w at grew _
     (r.knows.made (named b.level b.bucket slot) (record {
@@ -132,9 +132,9 @@ meets p seat v b x m has full level bucket models old views r at =
     subst (λ (z : ℕ × ℕ). HasEnough p (all_made after) z.0 z.1)
     (λ i. (sym level i, sym bucket i)) all in
     let both : (new : Spot → ℕ) → Wrote old x (old x) new → KeepsRule p models new after
-    × Rests p (state_of p old views) (state_of p new after) =
+    × Rests p (table_state p old views) (table_state p new after) =
     λ new wrote. subst (λ k. KeepsRule p models k after
-    × Rests p (state_of p old views) (state_of p k after)) (sym (same_mem old new x wrote))
+    × Rests p (table_state p old views) (table_state p k after)) (sym (same_mem old new x wrote))
     (quiet p models old old views seat v w r at (entries_rest p old views after)
     (log_rests old)
     (same_step p old views r.turns seat v at old w (same_seat v w refl refl refl) refl refl

@@ -7,10 +7,10 @@ use Rattle.node_words.specs.Plans.{Layout}
 use Rattle.node_places.specs.Spots.{Spot, LogLength, Version, Sessions, IsSpot}
 use Rattle.core_reading.specs.Reading.{Wrote}
 use Rattle.table_rule.specs.Views.{SeatView, BucketAt, number_dec, known_at}
-use Rattle.table_rule.specs.Turning.{IsOf, turn_of, IsMarked, KeepsTurns}
+use Rattle.table_rule.specs.Turning.{IsOf, turn_of, IsTurnWord, KeepsTurns}
 use Rattle.core_laws.specs.Events.{Rests}
-use Rattle.table_rule.specs.Rules.{KeepsRule, state_of}
-use Rattle.table_steps.specs.Seating.{numbered}
+use Rattle.table_rule.specs.Rules.{KeepsRule, table_state}
+use Rattle.table_steps.specs.Seating.{seat_numbered}
 use Rattle.table_rule.proofs.Lookups.{each, get_set_same}
 use Rattle.table_rule.proofs.PartA.{of_not_sessions, carried_set}
 use Rattle.table_rule.proofs.Containing.{contains_more}
@@ -42,7 +42,7 @@ module _ (p : Layout) (old new : Spot → ℕ) (views : List SeatView) (a : Keep
     (bare : v.numbers ≡ []) (room : v.next < 64)
     (wrote : Wrote old Sessions (1 + v.next) new) where
   abbrev w : SeatView
-  w = numbered v
+  w = seat_numbered v
 
   own : ℕ → ℕ
   own n = pick (number_dec n v.next) seat (a.owner n)
@@ -105,7 +105,7 @@ module _ (p : Layout) (old new : Spot → ℕ) (views : List SeatView) (a : Keep
         (λ j d ne e r. absurd (ne (sym (a.right j d e r).0 ∙ (a.right seat v at right).0)));
     turn = each
         (λ i d. (b : BucketAt) → d.turn ≡ Some b → IsSpot p (turn_of b)
-        × IsMarked d (new (turn_of b))) views seat w
+        × IsTurnWord d (new (turn_of b))) views seat w
         (λ b h. let t = a.turn seat v at b h in absurd (no_mark (old (turn_of b)) t.1))
         (λ j d _ e b h. let t = a.turn j d e b h in (
           t.0,
@@ -116,7 +116,7 @@ module _ (p : Layout) (old new : Spot → ℕ) (views : List SeatView) (a : Keep
           },
         ));
     back = each
-        (λ i d. (b : BucketAt) → IsSpot p (turn_of b) → IsMarked d (new (turn_of b))
+        (λ i d. (b : BucketAt) → IsSpot p (turn_of b) → IsTurnWord d (new (turn_of b))
         → d.turn ≡ Some b) views seat w
         (λ b low m. absurd (not_next b low m))
         (λ j d _ e b low m. a.back j d e b low
@@ -133,12 +133,12 @@ module _ (p : Layout) (old new : Spot → ℕ) (views : List SeatView) (a : Keep
         ∙ a.known j d e b x n h of l);
   }
     where
-      no_mark : (word : ℕ) → IsMarked v word → ⊥
+      no_mark : (word : ℕ) → IsTurnWord v word → ⊥
       no_mark word m =
           (let c = subst (λ (l : List ℕ). Contains l m.number) bare m.carried in let k = c.1 in
           absurd (omega arith))
 
-      not_next : (b : BucketAt) → IsSpot p (turn_of b) → IsMarked w (new (turn_of b)) → ⊥
+      not_next : (b : BucketAt) → IsSpot p (turn_of b) → IsTurnWord w (new (turn_of b)) → ⊥
       not_next b low m = ⊎_elim
           (λ (e : v.next ≡ m.number).
           (let i = m.is in let t = turns_stay b in let n = a.named b low in let o = was in
@@ -152,11 +152,11 @@ pub numbers_itself : (p : Layout) (models : List Content) (old new : Spot → �
     (views : List SeatView) (seat : ℕ) (v : SeatView) → KeepsRule p models old views
     → slice_get views seat ≡ Some v → v.right ≡ true → v.numbers ≡ [] → v.next < 64
     → Wrote old Sessions (1 + v.next) new
-    → KeepsRule p models new (set views seat (numbered v))
-    × Rests p (state_of p old views) (state_of p new (set views seat (numbered v)))
+    → KeepsRule p models new (set views seat (seat_numbered v))
+    × Rests p (table_state p old views) (table_state p new (set views seat (seat_numbered v)))
 numbers_itself p models old new views seat v r at right bare room wrote =
-    quiet p models old new views seat v (numbered v) r at
-    (entries_same p models old new views seat v (numbered v) r at Sessions (1 + v.next) wrote
+    quiet p models old new views seat v (seat_numbered v) r at
+    (entries_same p models old new views seat v (seat_numbered v) r at Sessions (1 + v.next) wrote
     (λ m e. (let no : ⊥ = cc in no)) (λ m i e. (let no : ⊥ = cc in no)))
     (record {
       length = wrote.others LogLength (λ e. (let no : ⊥ = cc in no));

@@ -15,15 +15,15 @@ use Rattle.block_contents.specs.Aligned.{top}
 use Rattle.node_places.specs.KeyWords.{child_of_word}
 use Rattle.core_laws.specs.Standing.{Stands}
 use Rattle.vox_read.specs.Contents.{Content}
-use Rattle.node_shapes.specs.Weights.{number_of}
+use Rattle.node_shapes.specs.Weights.{number_of_trees}
 use Rattle.core_laws.specs.Counting.{holdings}
 use Rattle.core_laws.specs.Soundness.{IsUntouched}
 use Rattle.core_laws.proofs.RootCells.{empty_sound}
 use Rattle.core_reading.specs.Reading.{kept_root, book_of, where_there, word_at}
 use Rattle.table_rule.specs.Views.{SeatView, BucketAt, starting, known_at}
-use Rattle.table_rule.specs.Turning.{KeepsTurns, turn_of, IsMarked, IsOf}
+use Rattle.table_rule.specs.Turning.{KeepsTurns, turn_of, IsTurnWord, IsOf}
 use Rattle.table_rule.specs.Knowing.{Knows}
-use Rattle.table_rule.specs.Rules.{IsRuled, state_of}
+use Rattle.table_rule.specs.Rules.{IsRuled, table_state}
 
 at_zero : (n k : ℕ) → let z : ℕ = 0 in get_or (replicate n z) k z ≡ z
 at_zero zero k = refl
@@ -79,9 +79,9 @@ module _ (p : Layout) (models : List Content) (mem : Spot → ℕ) (none : (x : 
         (λ r. (refl, none Sessions));
     turn = only
         (λ i v. (b : BucketAt) → v.turn ≡ Some b → IsSpot p (turn_of b)
-        × IsMarked v (mem (turn_of b))) (λ b e. absurd (none-some b e));
+        × IsTurnWord v (mem (turn_of b))) (λ b e. absurd (none-some b e));
     back = only
-        (λ i v. (b : BucketAt) → IsSpot p (turn_of b) → IsMarked v (mem (turn_of b))
+        (λ i v. (b : BucketAt) → IsSpot p (turn_of b) → IsTurnWord v (mem (turn_of b))
         → v.turn ≡ Some b) (λ b low m. no_number m.number _ m.carried);
     carried = λ n lt. absurd (let e = none Sessions in omega arith);
     named = λ b low. (let e = none (turn_of b) in omega arith);
@@ -90,7 +90,7 @@ module _ (p : Layout) (models : List Content) (mem : Spot → ℕ) (none : (x : 
         → known_at x v.words ≡ Some n → mem x ≡ n) (λ b x n e of is. absurd (none-some b e));
   }
 
-  is_empty : IsUntouched p (state_of p mem views)
+  is_empty : IsUntouched p (table_state p mem views)
   is_empty = record {
     book = λ n is. none _;
     root = λ v. no_root (top p.side) (nat_lt (mem LogLength) v) (mem (Version v 6))
@@ -99,13 +99,13 @@ module _ (p : Layout) (models : List Content) (mem : Spot → ℕ) (none : (x : 
     held = no_holding;
   }
 
-  opening_knows : Knows p models (state_of p mem views) views
+  opening_knows : Knows p models (table_state p mem views) views
   opening_knows = record {
     plan = only (λ i v. v.alive ≡ true → v.plan ≡ p) (λ a. refl);
     same_models = only (λ i v. v.alive ≡ true → v.models ≡ models) (λ a. refl);
-    held = only (λ i v. (t : _) → IsHeld v.held t → Stands p (state_of p mem views) t)
+    held = only (λ i v. (t : _) → IsHeld v.held t → Stands p (table_state p mem views) t)
         (λ t h. absurd (let e = h.weighs (λ _. 1) in let n = weigh-nil (λ _. 1) in omega arith));
-    few = only (λ i v. number_of v.held ≤ 4096) (let n = weigh-nil (λ _. 1) in omega arith);
+    few = only (λ i v. number_of_trees v.held ≤ 4096) (let n = weigh-nil (λ _. 1) in omega arith);
     made = λ n live. absurd (let b = live.book in let e = none (book_of n) in omega arith);
     met = only (λ i v. (m : Wanted) → Contains v.met m → _)
         (λ m c. absurd (let k = c.1 in omega arith));

@@ -5,7 +5,7 @@ use Rattle.std.specs.List.{slice_get, Contains}
 use Rattle.vox_read.specs.Contents.{Content}
 use Rattle.node_shapes.specs.declared.names.Name.{Name}
 use Rattle.node_shapes.specs.Tree.{Tree, LeafAt, node_at, root_of, shape_of}
-use Rattle.node_shapes.specs.Weights.{weigh, weight_below, number_of}
+use Rattle.node_shapes.specs.Weights.{weigh, weight_below, number_of_trees}
 use Rattle.node_shapes.proofs.TreeEqual.{Name-discrete}
 use Rattle.node_shapes.proofs.TreeLaws.{gone_from_root}
 use Rattle.node_shapes.proofs.WeightLaws.{weigh-cons, weight_of-there, weight_below-part}
@@ -32,12 +32,12 @@ use Rattle.core_reading.specs.Reading.{Wrote, book_of}
 use Rattle.core_reading.proofs.Readings.{traded, adds_book}
 use Rattle.table_rule.specs.Views.{SeatView, bucket_of, key_spot, known_at, names_held}
 use Rattle.table_rule.specs.Knowing.{all_made}
-use Rattle.table_rule.specs.Rules.{KeepsRule, state_of, log_in, MayWrite}
+use Rattle.table_rule.specs.Rules.{KeepsRule, table_state, log_in, MayWrite}
 use Rattle.table_rule.proofs.Standings.{standing_at}
 use Rattle.table_rule.proofs.PartC.{made_here}
 use Rattle.table_rule.proofs.Containing.{contains_more}
 use Rattle.table_rule.proofs.StateSteps.{ruled_step}
-use Rattle.table_steps.specs.Changes.{making, HasKey, Passes, PassesBelow, tree_for, Published}
+use Rattle.table_steps.specs.Changes.{making, HasKeyWords, PassesEntry, PassesBelow, tree_for, Published}
 use Rattle.table_steps.proofs.Shares.{take_row, held_cons}
 use Rattle.table_steps.proofs.Books.{book_log, kept_held, by_name, weigh_names, by_root, children_weigh, book_turns}
 
@@ -60,13 +60,13 @@ pub record MayPublish (p : Layout) (v : SeatView) (n : Name) (key : keys.Key)
   pub turn : v.turn ≡ Some (bucket_of n)
   pub slot : n.slot < p.cap
   pub free : known_at (book_of n) v.words ≡ Some 0
-  pub has_key : HasKey v.words key n
+  pub has_key : HasKeyWords v.words key n
   pub fits : FitsLevel n.level key
   pub bucket : n.bucket ≡ bucket_of_key key (buckets_at p n.level)
   pub missing : PassesBelow v.words key (bucket_of n) p.cap
   pub names : (k : ℕ) → k < 8 → root_of (row k) ≡ key_child key k
   pub held : (f : Tree → ℕ) → weight_below f row 8 ≤ weigh f v.held
-  pub room : number_of v.held ≤ 4095
+  pub room : number_of_trees v.held ≤ 4095
 
 -- the tree of the new entry, where its children stand
 tree_new : (p : Layout) (c : State) (level : ℕ) (n : Name) (key : keys.Key) (row : ℕ → Tree)
@@ -98,7 +98,7 @@ module _ (p : Layout) (models : List Content) (old : Spot → ℕ) (views : List
     (v : SeatView) (n : Name) (key : keys.Key) (row : ℕ → Tree) (r : KeepsRule p models old views)
     (at : slice_get views seat ≡ Some v) (may : MayPublish p v n key row) where
   abbrev c : State
-  c = state_of p old views
+  c = table_state p old views
 
   name : IsName p n
   name = let t = (r.turns.turn seat v at (bucket_of n) may.turn).0 in
@@ -133,7 +133,7 @@ module _ (p : Layout) (models : List Content) (old : Spot → ℕ) (views : List
       (refl, refl) (may.has_key.each i lt))
 
   -- no live entry of the level has the key
-  passed : (m : Name) → m.level ≡ n.level → m.bucket ≡ n.bucket → Passes v.words key m
+  passed : (m : Name) → m.level ≡ n.level → m.bucket ≡ n.bucket → PassesEntry v.words key m
       → 0 < old (book_of m) → c.key m ≢ key
   passed m level bucket (inl free) some e =
       (let z = r.turns.known seat v at (bucket_of n) (book_of m) 0 may.turn (level, bucket) free in
@@ -177,7 +177,7 @@ module _ (p : Layout) (models : List Content) (old : Spot → ℕ) (views : List
 
     module _ (new : Spot → ℕ) (wrote : Wrote old (book_of n) 1 new) where
       abbrev d : State
-      d = state_of p new (set views seat w)
+      d = table_state p new (set views seat w)
 
       pub adds_entry : Adds p seat n key c d
       adds_entry =

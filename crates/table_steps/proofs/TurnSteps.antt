@@ -10,7 +10,7 @@ use Rattle.core_laws.specs.Events.{EntriesStay, Rests}
 use Rattle.core_reading.specs.Reading.{Wrote}
 use Rattle.table_rule.specs.Views.{SeatView, BucketAt}
 use Rattle.table_rule.specs.Turning.{turn_of, KeepsTurns}
-use Rattle.table_rule.specs.Rules.{KeepsRule, state_of, SameSession, MayWrite}
+use Rattle.table_rule.specs.Rules.{KeepsRule, table_state, SameSession, MayWrite}
 use Rattle.table_rule.proofs.Lookups.{set_again}
 use Rattle.table_rule.proofs.PartA.{take_step, leave_step, same_seat}
 use Rattle.table_rule.proofs.StateSteps.{LogStays, quiet, entries_same, same_mem}
@@ -24,13 +24,13 @@ pub nothing_written : (p : Layout) (models : List Content) (old new : Spot → �
     (views : List SeatView) (seat : ℕ) (v : SeatView) (x : Spot) → KeepsRule p models old views
     → slice_get views seat ≡ Some v → Wrote old x (old x) new
     → KeepsRule p models new (set views seat v)
-    × Rests p (state_of p old views) (state_of p new (set views seat v))
+    × Rests p (table_state p old views) (table_state p new (set views seat v))
 nothing_written p models old new views seat v x r at wrote =
     subst (λ m. KeepsRule p models m (set views seat v)
-    × Rests p (state_of p old views) (state_of p m (set views seat v)))
+    × Rests p (table_state p old views) (table_state p m (set views seat v)))
     (sym (same_mem old new x wrote))
     (subst (λ after. KeepsRule p models old after
-    × Rests p (state_of p old views) (state_of p old after)) (sym (set_again views seat v at)) (
+    × Rests p (table_state p old views) (table_state p old after)) (sym (set_again views seat v at)) (
       r,
       record {
         entries = record { book = λ m is. refl; key = λ m live. refl };
@@ -43,7 +43,7 @@ module _ (p : Layout) (models : List Content) (old new : Spot → ℕ) (views : 
     (seat : ℕ) (v w : SeatView) (r : KeepsRule p models old views)
     (at : slice_get views seat ≡ Some v) (b : BucketAt) (n : ℕ)
     (wrote : Wrote old (turn_of b) n new) where
-  entries : EntriesStay p (state_of p old views) (state_of p new (set views seat w))
+  entries : EntriesStay p (table_state p old views) (table_state p new (set views seat w))
   entries =
       entries_same p models old new views seat v w r at (turn_of b) n wrote
       (λ m e. (let no : ⊥ = cc in no)) (λ m i e. (let no : ⊥ = cc in no))
@@ -61,7 +61,7 @@ module _ (p : Layout) (models : List Content) (old new : Spot → ℕ) (views : 
   pub turn_written : KeepsTurns p new (set views seat w) → w.plan ≡ v.plan → w.models ≡ v.models
       → w.alive ≡ v.alive → w.held ≡ v.held → w.made ≡ v.made → w.met ≡ v.met
       → KeepsRule p models new (set views seat w)
-      × Rests p (state_of p old views) (state_of p new (set views seat w))
+      × Rests p (table_state p old views) (table_state p new (set views seat w))
   turn_written turns plan models' alive held made met =
       quiet p models old new views seat v w r at entries log turns plan models' alive held made
       (λ m h. inl (subst (λ l. Contains l m) met h))
@@ -73,7 +73,7 @@ module _ (p : Layout) (seat : ℕ) (v : SeatView) (b : BucketAt) (models : List 
       → old (turn_of b) ≡ 0 → Wrote old (turn_of b) (either (eqb (old (turn_of b)) 0) (1 + k)
       (old (turn_of b))) new
       → KeepsRule p models new (set views seat (turned v (Some b)))
-      × Rests p (state_of p old views) (state_of p new (set views seat (turned v (Some b))))
+      × Rests p (table_state p old views) (table_state p new (set views seat (turned v (Some b))))
   taken k idle low mine free written =
       let w : SeatView = turned v (Some b) in
       let wrote : Wrote old (turn_of b) (1 + k) new =
@@ -87,7 +87,7 @@ module _ (p : Layout) (seat : ℕ) (v : SeatView) (b : BucketAt) (models : List 
   missed : (k : ℕ) → old (turn_of b) ≢ 0
       → Wrote old (turn_of b) (either (eqb (old (turn_of b)) 0) (1 + k) (old (turn_of b))) new
       → KeepsRule p models new (set views seat v)
-      × Rests p (state_of p old views) (state_of p new (set views seat v))
+      × Rests p (table_state p old views) (table_state p new (set views seat v))
   missed k taken written =
       nothing_written p models old new views seat v (turn_of b) r at
       (subst (λ t. Wrote old (turn_of b) (either t (1 + k) (old (turn_of b))) new)
@@ -95,7 +95,7 @@ module _ (p : Layout) (seat : ℕ) (v : SeatView) (b : BucketAt) (models : List 
 
   left : v.turn ≡ Some b → Wrote old (turn_of b) 0 new
       → KeepsRule p models new (set views seat (turned v None))
-      × Rests p (state_of p old views) (state_of p new (set views seat (turned v None)))
+      × Rests p (table_state p old views) (table_state p new (set views seat (turned v None)))
   left has wrote =
       let w : SeatView = turned v None in
       turn_written p models old new views seat v w r at b 0 wrote

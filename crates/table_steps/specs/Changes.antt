@@ -3,7 +3,7 @@ use Rattle.std.specs.Prelude.{◌≡◌, ◌≢◌, ℕ, ◌+◌, ◌<◌, ◌�
 use Rattle.node_shapes.specs.declared.names.Name.{Name}
 use Rattle.node_shapes.specs.Shape.{Shape}
 use Rattle.node_shapes.specs.Tree.{Tree, LeafAt, node_at, root_of, child_of, shape_of}
-use Rattle.node_shapes.specs.Weights.{weigh, weight_below, number_of}
+use Rattle.node_shapes.specs.Weights.{weigh, weight_below, number_of_trees}
 use Rattle.node_words.specs.declared.keys.Key as keys
 use Rattle.node_words.specs.declared.keys.Key.TheVariants.{Leaf, Node}
 use Rattle.node_words.specs.Held.{Wanted, HoldsChildren}
@@ -50,16 +50,16 @@ pub record HasOther (words : List (Spot × ℕ)) (key : keys.Key) (n : Name) : T
   pub other : found ≢ key_word key word
 
 -- the entry n is known to be free, or to have another key
-abbrev pub Passes : List (Spot × ℕ) → keys.Key → Name → Type 0
-Passes words key n = (known_at (book_of n) words ≡ Some 0) ⊎ HasOther words key n
+abbrev pub PassesEntry : List (Spot × ℕ) → keys.Key → Name → Type 0
+PassesEntry words key n = (known_at (book_of n) words ≡ Some 0) ⊎ HasOther words key n
 
 -- the first slots of the bucket are known to be free or to have other keys
 pub record PassesBelow (words : List (Spot × ℕ)) (key : keys.Key) (b : BucketAt)
     (slots : ℕ) : Type 0 where
-  pub each : (slot : ℕ) → slot < slots → Passes words key (named b.level b.bucket slot)
+  pub each : (slot : ℕ) → slot < slots → PassesEntry words key (named b.level b.bucket slot)
 
 -- the entry n is known to have this key
-pub record HasKey (words : List (Spot × ℕ)) (key : keys.Key) (n : Name) : Type 0 where
+pub record HasKeyWords (words : List (Spot × ℕ)) (key : keys.Key) (n : Name) : Type 0 where
   pub each : (i : ℕ) → i < key_words n.level
       → known_at (key_spot n i) words ≡ Some (key_word key i)
 
@@ -115,9 +115,9 @@ pub record Freed (v : SeatView) (t : Tree) (n : Name) (w : SeatView) : Type 0 wh
 -- what a view must know and hold to add an entry
 pub record IsReady (p : Layout) (v : SeatView) (n : Name) (key : keys.Key) : Type 0 where
   pub free : known_at (book_of n) v.words ≡ Some 0
-  pub has_key : HasKey v.words key n
+  pub has_key : HasKeyWords v.words key n
   pub fits : FitsLevel n.level key
   pub bucket : n.bucket ≡ bucket_of_key key (buckets_at p n.level)
   pub missing : PassesBelow v.words key (bucket_of n) p.cap
   pub held : HoldsChildren v.held (children_of_key key)
-  pub room : number_of v.held ≤ 4095
+  pub room : number_of_trees v.held ≤ 4095

@@ -3,8 +3,8 @@ use Rattle.std.specs.Prelude.{◌+◌, false, None, [], ◌∷◌, ◌++◌}
 use Rattle.table_rule.specs.Views.{SeatView}
 
 -- the next number is the view's
-abbrev pub numbered : SeatView → SeatView
-numbered v = record v { numbers = v.next ∷ v.numbers; next = 1 + v.next }
+abbrev pub seat_numbered : SeatView → SeatView
+seat_numbered v = record v { numbers = v.next ∷ v.numbers; next = 1 + v.next }
 
 -- the right to the next number goes to a new view, which has nothing else but the plan and the
 -- models

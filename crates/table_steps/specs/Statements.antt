@@ -7,7 +7,7 @@ use Rattle.atomic_table.specs.Table.{opening}
 use Rattle.vox_read.specs.Contents.{Content}
 use Rattle.node_shapes.specs.declared.names.Name.{Name}
 use Rattle.node_shapes.specs.Tree.{Tree, root_of}
-use Rattle.node_shapes.specs.Weights.{number_of}
+use Rattle.node_shapes.specs.Weights.{number_of_trees}
 use Rattle.node_words.specs.declared.keys.Key.{Key}
 use Rattle.node_words.specs.Held.{IsHeld, HoldsChildren, ReachesName, ForHeld, ForReached, ForChildren}
 use Rattle.node_words.specs.Plans.{Layout, IsPlan}
@@ -18,10 +18,10 @@ use Rattle.core_laws.specs.LogEvents.{Reseats}
 use Rattle.core_reading.specs.Reading.{Wrote, book_of}
 use Rattle.table_rule.specs.Views.{SeatView, BucketAt, bucket_of, key_spot, known_at, starting, spent}
 use Rattle.table_rule.specs.Turning.{IsOf, turn_of}
-use Rattle.table_rule.specs.Rules.{KeepsRule, IsRuled, state_of, MayWrite}
-use Rattle.table_rule.specs.Telling.{Tells, tree_word}
+use Rattle.table_rule.specs.Rules.{KeepsRule, IsRuled, table_state, MayWrite}
+use Rattle.table_rule.specs.Telling.{ViewTells, tree_word}
 use Rattle.table_steps.specs.Changes.{turned, knowing, meeting, children_of_key, wanted, IsFullIn, IsReady, Published, Raised, Lowered, Freed}
-use Rattle.table_steps.specs.Seating.{numbered, handing, handed, joined}
+use Rattle.table_steps.specs.Seating.{seat_numbered, handing, handed, joined}
 
 -- a turn is exchanged for 1 plus a number of the seat where it is 0: the turn comes, or nothing
 -- does
@@ -54,7 +54,7 @@ BooksAreLoaded = (p : Layout) (seat : ℕ) (v : SeatView) (n : Name) → v.turn 
 -- a load under the turn of a bucket that is known to be full: what the key wants met it
 abbrev pub FullBucketsAreMet : Type 0
 FullBucketsAreMet = (p : Layout) (seat : ℕ) (v : SeatView) (x : Spot) (n : Name) (key : Key)
-    → Tells v → v.turn ≡ Some (bucket_of n) → IsFullIn v.words (bucket_of n) p.cap
+    → ViewTells v → v.turn ≡ Some (bucket_of n) → IsFullIn v.words (bucket_of n) p.cap
     → HoldsChildren v.held (children_of_key key)
     → MayWrite p seat v x (λ b. b) (Rests p)
     (λ k w. ForChildren v.held (children_of_key key) (λ row. w ≡ meeting v (wanted n key row)))
@@ -68,7 +68,7 @@ KeyWordsAreStored = (p : Layout) (seat : ℕ) (v : SeatView) (n : Name) (i word 
 
 -- a key word of a name that is held, or stands below one, is loaded with no turn: it is its tree's
 abbrev pub HeldWordsAreRead : Type 0
-HeldWordsAreRead = (p : Layout) (seat : ℕ) (v : SeatView) (n : Name) (i : ℕ) → Tells v
+HeldWordsAreRead = (p : Layout) (seat : ℕ) (v : SeatView) (n : Name) (i : ℕ) → ViewTells v
     → ReachesName v.held n → i < key_words n.level
     → MayWrite p seat v (key_spot n i) (λ b. b) (Rests p)
     (λ k w. (w ≡ v) × ForReached v.held n (λ t. k ≡ tree_word t i))
@@ -76,7 +76,7 @@ HeldWordsAreRead = (p : Layout) (seat : ℕ) (v : SeatView) (n : Name) (i : ℕ)
 -- book 1 is stored in a free entry with the key's words, where the whole bucket is known not to
 -- have the key: an entry is added, and the children's shares go into it
 abbrev pub EntriesAreAdded : Type 0
-EntriesAreAdded = (p : Layout) (seat : ℕ) (v : SeatView) (n : Name) (key : Key) → Tells v
+EntriesAreAdded = (p : Layout) (seat : ℕ) (v : SeatView) (n : Name) (key : Key) → ViewTells v
     → v.turn ≡ Some (bucket_of n) → n.slot < p.cap → IsReady p v n key
     → MayWrite p seat v (book_of n) (λ _. 1) (Adds p seat n key)
     (λ k w. ForChildren v.held (children_of_key key) (λ row. Published v n key row w))
@@ -85,23 +85,23 @@ EntriesAreAdded = (p : Layout) (seat : ℕ) (v : SeatView) (n : Name) (key : Key
 abbrev pub SharesAreRaised : Type 0
 SharesAreRaised = (p : Layout) (seat : ℕ) (v : SeatView) (n : Name) (book : ℕ)
     → v.turn ≡ Some (bucket_of n) → n.slot < p.cap → known_at (book_of n) v.words ≡ Some book
-    → 0 < book → number_of v.held ≤ 4095
+    → 0 < book → number_of_trees v.held ≤ 4095
     → MayWrite p seat v (book_of n) (λ _. book + 1) (Raises p seat n)
     (λ k w. Raised v n (book + 1) w)
 
 -- a book over 1 becomes one less: a share that the seat holds goes
 abbrev pub SharesAreLowered : Type 0
 SharesAreLowered = (p : Layout) (seat : ℕ) (v : SeatView) (t : Tree) (n : Name) (book : ℕ)
-    → Tells v → v.turn ≡ Some (bucket_of n) → IsHeld v.held t → root_of t ≡ Some n
+    → ViewTells v → v.turn ≡ Some (bucket_of n) → IsHeld v.held t → root_of t ≡ Some n
     → known_at (book_of n) v.words ≡ Some (book + 1) → 0 < book
     → MayWrite p seat v (book_of n) (λ _. book) (Lowers p seat n)
     (λ k w. ForHeld v.held n (λ u. Lowered v u n book w))
 
 -- a book of 1 becomes 0: the entry is freed, its share goes, and those of its children come
 abbrev pub EntriesAreFreed : Type 0
-EntriesAreFreed = (p : Layout) (seat : ℕ) (v : SeatView) (t : Tree) (n : Name) → Tells v
+EntriesAreFreed = (p : Layout) (seat : ℕ) (v : SeatView) (t : Tree) (n : Name) → ViewTells v
     → v.turn ≡ Some (bucket_of n) → IsHeld v.held t → root_of t ≡ Some n
-    → known_at (book_of n) v.words ≡ Some 1 → number_of v.held ≤ 4089
+    → known_at (book_of n) v.words ≡ Some 1 → number_of_trees v.held ≤ 4089
     → MayWrite p seat v (book_of n) (λ _. 0) (Frees p seat n)
     (λ k w. ForHeld v.held n (λ u. Freed v u n w))
 
@@ -111,8 +111,8 @@ NumbersAreTaken = (p : Layout) (models : List Content) (old new : Spot → ℕ)
     (views : List SeatView) (seat : ℕ) (v : SeatView) → KeepsRule p models old views
     → slice_get views seat ≡ Some v → v.right ≡ true → v.numbers ≡ [] → v.next < 64
     → Wrote old Sessions (1 + v.next) new
-    → KeepsRule p models new (slice_set views seat (numbered v))
-    × Rests p (state_of p old views) (state_of p new (slice_set views seat (numbered v)))
+    → KeepsRule p models new (slice_set views seat (seat_numbered v))
+    × Rests p (table_state p old views) (table_state p new (slice_set views seat (seat_numbered v)))
 
 -- a seat with a number hands the right to the next one to a new seat
 abbrev pub RightsAreHandedOn : Type 0
@@ -120,8 +120,8 @@ RightsAreHandedOn = (p : Layout) (models : List Content) (mem : Spot → ℕ) (v
     (seat : ℕ) (v : SeatView) → KeepsRule p models mem views → slice_get views seat ≡ Some v
     → v.right ≡ true → v.numbers ≢ []
     → KeepsRule p models mem (slice_set views seat (handing v) ++ handed v ∷ [])
-    × Reseats p (state_of p mem views)
-    (state_of p mem (slice_set views seat (handing v) ++ handed v ∷ []))
+    × Reseats p (table_state p mem views)
+    (table_state p mem (slice_set views seat (handing v) ++ handed v ∷ []))
 
 -- a seat without the right takes in what another one has that holds no share and has no turn
 abbrev pub SeatsAreJoined : Type 0
@@ -130,8 +130,8 @@ SeatsAreJoined = (p : Layout) (models : List Content) (mem : Spot → ℕ) (view
     → slice_get views seat ≡ Some v → slice_get views other ≡ Some w → other ≢ seat
     → v.right ≡ false → w.held ≡ [] → w.turn ≡ None
     → KeepsRule p models mem (slice_set (slice_set views seat (joined v w)) other spent)
-    × Reseats p (state_of p mem views)
-    (state_of p mem (slice_set (slice_set views seat (joined v w)) other spent))
+    × Reseats p (table_state p mem views)
+    (table_state p mem (slice_set (slice_set views seat (joined v w)) other spent))
 
 -- a table of words that are 0 meets the rule, with the first seat alone
 abbrev pub TablesOpen : Type 0

@@ -1,8 +1,8 @@
-//! The kinds of step of a table of nodes: each keeps the rule, and is one event of the pure core or leaves its state
-//! as it is.
+//! The kinds of step of a table of nodes: each keeps the rule, and is one event of the pure core or
+//! leaves its state as it is.
 //!
-//! Each kind says when a seat may make it, what happens to the core's state, and what the seat's new view is
-//! (`specs/Statements.antt`).
+//! Each kind says when a seat may make it, what happens to the core's state, and what the seat's
+//! new view is (`specs/Statements.antt`).
 #![tactic(auto)]
 
 mod entries;

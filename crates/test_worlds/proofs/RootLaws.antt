@@ -4,7 +4,7 @@ use Rattle.std.specs.Prelude.{IfSome}
 use Rattle.vw_cell.specs.declared.cells.Cell.{Cell}
 use Rattle.node_shapes.specs.declared.names.Name.{Name}
 use Rattle.node_shapes.specs.Tree.{Tree, Gone, root_of}
-use Rattle.node_shapes.specs.Weights.{weigh, weight_of, number_of}
+use Rattle.node_shapes.specs.Weights.{weigh, weight_of, number_of_trees}
 use Rattle.node_shapes.proofs.TreeLaws.{level_of}
 use Rattle.node_shapes.proofs.WeightLaws.{weight_of-there, weight_of-gone, weight_below-one, weigh-nil, weigh-cons}
 use Rattle.node_words.specs.Held.{Seen, HoldsName}
@@ -12,7 +12,7 @@ use Rattle.node_words.specs.Gathering.{MayHold, Loses}
 use Rattle.block_walk.specs.Roots.{HoldsRoot}
 use Rattle.edit_cells.specs.Worlds.{ForEdited, Rebuilt}
 use Rattle.edit_cells.proofs.WorldLaws.{root_shown}
-use Rattle.one_store.specs.Known.{Known, root_in, root_tree}
+use Rattle.one_store.specs.Known.{Known, stored_root, root_tree}
 use Rattle.one_store.specs.Steps.{GivesRoot}
 use Rattle.one_store.proofs.StateLaws.{row_root}
 use Rattle.test_worlds.specs.Roots.{IsRootOf, HoldsOnly, HoldsTwo}
@@ -31,10 +31,10 @@ root_held held side (Some n) t r w =
 pub only_root : (held : List Tree) (side : ℕ) (name : Option Name) → HoldsOnly held (side - 2) name → HoldsRoot held side name
 only_root held side name h = root_held held side name h.tree h.is_root (λ f. omega (arith, h.weighs f))
 
-pub only_number : (held : List Tree) (level : ℕ) (name : Option Name) → HoldsOnly held level name → number_of held ≤ 1
+pub only_number : (held : List Tree) (level : ℕ) (name : Option Name) → HoldsOnly held level name → number_of_trees held ≤ 1
 only_number held level name h = omega (arith, h.weighs (λ _. 1), one_at_most h.tree)
 
-pub two_number : (held : List Tree) (level : ℕ) (old new : Option Name) → HoldsTwo held level old new → number_of held ≤ 2
+pub two_number : (held : List Tree) (level : ℕ) (old new : Option Name) → HoldsTwo held level old new → number_of_trees held ≤ 2
 two_number held level old new h = omega (arith, h.weighs (λ _. 1), one_at_most h.before, one_at_most h.after)
 
 pub two_old : (held : List Tree) (side : ℕ) (old new : Option Name) → HoldsTwo held (side - 2) old new → HoldsRoot held side old
@@ -74,7 +74,7 @@ pub only_gone : (held after : List Tree) (level : ℕ) (root : Option Name) → 
 only_gone held after level root h l = record { tree = Gone; is_root = record { root = refl; at = λ n e. cc }; weighs = λ f. omega (arith, h.weighs f, l.weighs f, weight_of-gone f Gone refl) }
 
 -- nothing is held
-nothing_weighs : (held : List Tree) (f : Tree → ℕ) → number_of held ≡ 0 → weigh f held ≡ 0
+nothing_weighs : (held : List Tree) (f : Tree → ℕ) → number_of_trees held ≡ 0 → weigh f held ≡ 0
 nothing_weighs [] f e = weigh-nil f
 nothing_weighs (t ∷ ts) f e = absurd (omega (arith, e, weigh-cons (λ _. 1) t ts))
 
@@ -83,7 +83,7 @@ level_is level None l n e = cc
 level_is level (Some m) l n e = let same : m ≡ n = cc in ap (λ (p : Name). p.level) (sym same) ∙ l
 
 -- a root that was taken from its place is held alone, where nothing was held before
-pub taken_only : (old new : Known) (place side : ℕ) (root : Option Name) → number_of old.told.held ≡ 0 → GivesRoot old place new → root ≡ root_in old.roots place → IfSome root (λ n. n.level ≡ old.words.plan.side - 2) → side ≡ old.words.plan.side → HoldsOnly new.told.held (side - 2) root
+pub taken_only : (old new : Known) (place side : ℕ) (root : Option Name) → number_of_trees old.told.held ≡ 0 → GivesRoot old place new → root ≡ stored_root old.roots place → IfSome root (λ n. n.level ≡ old.words.plan.side - 2) → side ≡ old.words.plan.side → HoldsOnly new.told.held (side - 2) root
 taken_only old new place side root z g e l q = record {
   tree = root_tree old root;
   is_root = record { root = row_root _ _ root; at = λ n h. level_is _ root l n h ∙ ap (λ (s : ℕ). s - 2) (sym q) };

@@ -35,7 +35,8 @@ impl Draws {
         Cell { x, y, z }
     }
 
-    /// A box of a world of this side. One in two begins and ends at multiples of a quarter of the side.
+    /// A box of a world of this side. One in two begins and ends at multiples of a quarter of the
+    /// side.
     pub fn boxed(&mut self, side: u16) -> Boxed {
         let step = if self.below(2) == 0 { side / 4 } else { 1 };
         let (x, width) = self.stretch(side, step);

@@ -17,7 +17,8 @@ pub enum Refusal {
     Full(Full),
 }
 
-// The root that an edit makes, beside the old one. A stamp is one of the stencil, whatever its model's number.
+// The root that an edit makes, beside the old one. A stamp is one of the stencil, whatever its
+// model's number.
 pub(crate) fn version<N: NodeStore, L: Ledger>(
     store: &mut N,
     old: Option<&Share>,
@@ -28,8 +29,10 @@ pub(crate) fn version<N: NodeStore, L: Ledger>(
 ) -> Result<Option<Share>, Refusal>
     requires side { side ≡ (N.seen store.old).plan.side }
     requires only { HoldsOnly (N.seen store.old).held (side - 2) (option_copied old) }
-    ensures ok { IfOk result (λ r. HoldsTwo (N.seen store.new).held (side - 2) (option_copied old.entry) r) }
-    ensures refused { OnErr result (HoldsOnly (N.seen store.new).held (side - 2) (option_copied old.entry)) }
+    ensures ok { IfOk result
+        (λ r. HoldsTwo (N.seen store.new).held (side - 2) (option_copied old.entry) r) }
+    ensures refused { OnErr result
+        (HoldsOnly (N.seen store.new).held (side - 2) (option_copied old.entry)) }
     ensures plan { (N.seen store.new).plan ≡ (N.seen store.old).plan }
     ensures rests { N.rests store.old store.new }
 {
@@ -54,8 +57,10 @@ fn boxed<N: NodeStore, L: Ledger>(
 ) -> Result<Option<Share>, Refusal>
     requires side { side ≡ (N.seen store.old).plan.side }
     requires only { HoldsOnly (N.seen store.old).held (side - 2) (option_copied old) }
-    ensures ok { IfOk result (λ r. HoldsTwo (N.seen store.new).held (side - 2) (option_copied old.entry) r) }
-    ensures refused { OnErr result (HoldsOnly (N.seen store.new).held (side - 2) (option_copied old.entry)) }
+    ensures ok { IfOk result
+        (λ r. HoldsTwo (N.seen store.new).held (side - 2) (option_copied old.entry) r) }
+    ensures refused { OnErr result
+        (HoldsOnly (N.seen store.new).held (side - 2) (option_copied old.entry)) }
     ensures plan { (N.seen store.new).plan ≡ (N.seen store.old).plan }
     ensures rests { N.rests store.old store.new }
 {
@@ -78,8 +83,10 @@ fn balled<N: NodeStore, L: Ledger>(
 ) -> Result<Option<Share>, Refusal>
     requires side { side ≡ (N.seen store.old).plan.side }
     requires only { HoldsOnly (N.seen store.old).held (side - 2) (option_copied old) }
-    ensures ok { IfOk result (λ r. HoldsTwo (N.seen store.new).held (side - 2) (option_copied old.entry) r) }
-    ensures refused { OnErr result (HoldsOnly (N.seen store.new).held (side - 2) (option_copied old.entry)) }
+    ensures ok { IfOk result
+        (λ r. HoldsTwo (N.seen store.new).held (side - 2) (option_copied old.entry) r) }
+    ensures refused { OnErr result
+        (HoldsOnly (N.seen store.new).held (side - 2) (option_copied old.entry)) }
     ensures plan { (N.seen store.new).plan ≡ (N.seen store.old).plan }
     ensures rests { N.rests store.old store.new }
 {
@@ -102,8 +109,10 @@ fn copied<N: NodeStore, L: Ledger>(
 ) -> Result<Option<Share>, Refusal>
     requires side { side ≡ (N.seen store.old).plan.side }
     requires only { HoldsOnly (N.seen store.old).held (side - 2) (option_copied old) }
-    ensures ok { IfOk result (λ r. HoldsTwo (N.seen store.new).held (side - 2) (option_copied old.entry) r) }
-    ensures refused { OnErr result (HoldsOnly (N.seen store.new).held (side - 2) (option_copied old.entry)) }
+    ensures ok { IfOk result
+        (λ r. HoldsTwo (N.seen store.new).held (side - 2) (option_copied old.entry) r) }
+    ensures refused { OnErr result
+        (HoldsOnly (N.seen store.new).held (side - 2) (option_copied old.entry)) }
     ensures plan { (N.seen store.new).plan ≡ (N.seen store.old).plan }
     ensures rests { N.rests store.old store.new }
 {
@@ -129,8 +138,10 @@ fn stamped<N: NodeStore, L: Ledger>(
 ) -> Result<Option<Share>, Refusal>
     requires side { side ≡ (N.seen store.old).plan.side }
     requires only { HoldsOnly (N.seen store.old).held (side - 2) (option_copied old) }
-    ensures ok { IfOk result (λ r. HoldsTwo (N.seen store.new).held (side - 2) (option_copied old.entry) r) }
-    ensures refused { OnErr result (HoldsOnly (N.seen store.new).held (side - 2) (option_copied old.entry)) }
+    ensures ok { IfOk result
+        (λ r. HoldsTwo (N.seen store.new).held (side - 2) (option_copied old.entry) r) }
+    ensures refused { OnErr result
+        (HoldsOnly (N.seen store.new).held (side - 2) (option_copied old.entry)) }
     ensures plan { (N.seen store.new).plan ≡ (N.seen store.old).plan }
     ensures rests { N.rests store.old store.new }
 {

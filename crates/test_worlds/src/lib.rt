@@ -1,4 +1,5 @@
-//! Worlds for tests: one in a store for one thread, and beside it plain cells that the same acts were done to.
+//! Worlds for tests: one in a store for one thread, and beside it plain cells that the same acts
+//! were done to.
 #![tactic(auto)]
 
 mod asking;

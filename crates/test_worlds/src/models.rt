@@ -35,7 +35,8 @@ impl Drawing {
         is_set
     }
 
-    /// The stencil of the model, read from its file. `None` where a voxel stands outside, or memory is short.
+    /// The stencil of the model, read from its file. `None` where a voxel stands outside, or memory
+    /// is short.
     pub fn stencil(&self, alloc: Global) -> Option<Stencil> {
         let bytes = self.file(alloc).ok()?;
         let models = models(alloc, &bytes)?;

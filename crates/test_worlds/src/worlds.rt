@@ -13,7 +13,8 @@ use std::sync::ledger::{Blank, Ledger};
 use vox_read::Voxel;
 use vw_cell::{Boxed, Side};
 
-/// A world in a store for one thread. Its root stands in place 0, so no share is held between calls.
+/// A world in a store for one thread. Its root stands in place 0, so no share is held between
+/// calls.
 #[derive(Drop)]
 pub struct StoredWorld {
     store: OneStore,
@@ -50,7 +51,8 @@ impl StoredWorld {
         }
     }
 
-    /// Does the act to the world, or leaves it as it is. A stamp is one of the stencil, whatever its number.
+    /// Does the act to the world, or leaves it as it is. A stamp is one of the stencil, whatever
+    /// its number.
     pub fn edit(&mut self, act: &Act, stencil: &Stencil) -> Result<(), Refusal> {
         edit::<Brand>(&mut self.store, self.side, act, stencil, Blank::new(1))
     }

@@ -1,4 +1,5 @@
-//! Tests of what may be asked of a world, over a store: rows of answers, and random questions against plain cells.
+//! Tests of what may be asked of a world, over a store: rows of answers, and random questions
+//! against plain cells.
 #![tactic(auto)]
 
 #[cfg(test)]

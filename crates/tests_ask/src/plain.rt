@@ -35,7 +35,8 @@ pub fn plain_faces(grid: &Grid, b: Boxed) -> u64 {
     number
 }
 
-// Of the six cells round this one, how many aren't set. A place before the first is none of the world's.
+// Of the six cells round this one, how many aren't set. A place before the first is none of the
+// world's.
 fn bare_sides(grid: &Grid, c: Cell) -> u64 {
     let Cell { x, y, z } = c;
     let mut number: u64 = 0;

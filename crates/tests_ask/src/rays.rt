@@ -59,7 +59,8 @@ fn entry(scale: u64, from: Cell, way: &Way, c: Cell) -> Option<u64> {
     }
 }
 
-// On one axis, in units of 1 / (2 * scale): the first instant at the place, and the first one past it.
+// On one axis, in units of 1 / (2 * scale): the first instant at the place, and the first one past
+// it.
 fn stay(scale: u64, from: u16, d: i16, place: u16) -> (u64, u64) {
     let start = scale.saturating_mul(2 * u64::from(from) + 1);
     let low = scale.saturating_mul(2 * u64::from(place));

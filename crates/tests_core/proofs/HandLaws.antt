@@ -3,10 +3,10 @@ use Rattle.std.proofs.Common.{◌≡◌, ℕ, zero, suc, ◌+◌, ◌≤◌, Som
 use Rattle.std.proofs.lemmas.Option.{none-some, same_Some}
 use Rattle.node_shapes.specs.declared.names.Name.{Name}
 use Rattle.node_shapes.specs.Tree.{Tree, Gone, LeafAt, root_of, node_at}
-use Rattle.node_shapes.specs.Weights.{weight_of, weight_below, number_of}
+use Rattle.node_shapes.specs.Weights.{weight_of, weight_below, number_of_trees}
 use Rattle.node_shapes.proofs.WeightLaws.{weight_of-there, weight_of-gone, weight_of-one}
 use Rattle.node_words.specs.Held.{IsHeld, HoldsName, HoldsChildren, AreHeld, AreBelow, HasChild, Gains, Joins, SameHeld, name_in}
-use Rattle.one_store.specs.Known.{Known, root_in, root_tree}
+use Rattle.one_store.specs.Known.{Known, stored_root, root_tree}
 use Rattle.one_store.specs.Steps.{GivesRoot}
 use Rattle.one_store.proofs.StateLaws.{row_root}
 use Rattle.tests_core.specs.Hands.{IsLeafOf, HoldsLeaves, leaves_row}
@@ -102,20 +102,20 @@ pub joined_held : (old new : List Tree) (cs : List (Option Name)) (row : ℕ →
 joined_held old new cs row n a j = record { tree = node_at n row; is_held = record { weighs = λ f. omega (arith, a.weighs f, j.weighs f) }; root = refl }
 
 -- a root that was taken from its place
-pub root_is : (old : Known) (place : ℕ) → root_of (root_tree old (root_in old.roots place)) ≡ root_in old.roots place
-root_is old place = row_root _ _ (root_in old.roots place)
+pub root_is : (old : Known) (place : ℕ) → root_of (root_tree old (stored_root old.roots place)) ≡ stored_root old.roots place
+root_is old place = row_root _ _ (stored_root old.roots place)
 
-pub root_held : (old new : Known) (place : ℕ) (n : Name) → GivesRoot old place new → root_in old.roots place ≡ Some n → IsHeld new.told.held (root_tree old (root_in old.roots place))
-root_held old new place n g e = record { weighs = λ f. omega (arith, g.gains.weighs f, weight_of-there f (root_tree old (root_in old.roots place)) n (root_is old place ∙ e)) }
+pub root_held : (old new : Known) (place : ℕ) (n : Name) → GivesRoot old place new → stored_root old.roots place ≡ Some n → IsHeld new.told.held (root_tree old (stored_root old.roots place))
+root_held old new place n g e = record { weighs = λ f. omega (arith, g.gains.weighs f, weight_of-there f (root_tree old (stored_root old.roots place)) n (root_is old place ∙ e)) }
 
-pub root_name : (old new : Known) (place : ℕ) (n : Name) → GivesRoot old place new → root_in old.roots place ≡ Some n → HoldsName new.told.held n
-root_name old new place n g e = record { tree = root_tree old (root_in old.roots place); is_held = root_held old new place n g e; root = root_is old place ∙ e }
+pub root_name : (old new : Known) (place : ℕ) (n : Name) → GivesRoot old place new → stored_root old.roots place ≡ Some n → HoldsName new.told.held n
+root_name old new place n g e = record { tree = root_tree old (stored_root old.roots place); is_held = root_held old new place n g e; root = root_is old place ∙ e }
 
-pub root_room : (old new : Known) (place : ℕ) → GivesRoot old place new → number_of new.told.held ≤ number_of old.told.held + 1
-root_room old new place g = omega (arith, g.gains.weighs (λ _. 1), weight_of-one (root_tree old (root_in old.roots place)))
+pub root_room : (old new : Known) (place : ℕ) → GivesRoot old place new → number_of_trees new.told.held ≤ number_of_trees old.told.held + 1
+root_room old new place g = omega (arith, g.gains.weighs (λ _. 1), weight_of-one (root_tree old (stored_root old.roots place)))
 
-pub root_given : (old new : Known) (last : List Tree) (place : ℕ) (n : Name) → GivesRoot old place new → root_in old.roots place ≡ Some n → Gains last (root_tree old (root_in old.roots place)) new.told.held → SameHeld old.told.held last
-root_given old new last place n g e b = record { weighs = λ f. omega (arith, g.gains.weighs f, b.weighs f, weight_of-there f (root_tree old (root_in old.roots place)) n (root_is old place ∙ e)) }
+pub root_given : (old new : Known) (last : List Tree) (place : ℕ) (n : Name) → GivesRoot old place new → stored_root old.roots place ≡ Some n → Gains last (root_tree old (stored_root old.roots place)) new.told.held → SameHeld old.told.held last
+root_given old new last place n g e b = record { weighs = λ f. omega (arith, g.gains.weighs f, b.weighs f, weight_of-there f (root_tree old (stored_root old.roots place)) n (root_is old place ∙ e)) }
 
-pub no_root : (old new : Known) (place : ℕ) → GivesRoot old place new → root_in old.roots place ≡ None → SameHeld old.told.held new.told.held
-no_root old new place g e = record { weighs = λ f. omega (arith, g.gains.weighs f, weight_of-gone f (root_tree old (root_in old.roots place)) (root_is old place ∙ e)) }
+pub no_root : (old new : Known) (place : ℕ) → GivesRoot old place new → stored_root old.roots place ≡ None → SameHeld old.told.held new.told.held
+no_root old new place g e = record { weighs = λ f. omega (arith, g.gains.weighs f, weight_of-gone f (root_tree old (stored_root old.roots place)) (root_is old place ∙ e)) }

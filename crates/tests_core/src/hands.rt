@@ -1,7 +1,7 @@
 ghost use Rattle.std.specs.Prelude.{◌≡◌, ◌≢◌, ◌≤◌, None, Some, IfOk, OnErr};
-ghost use Rattle.node_shapes.specs.Weights.{number_of};
+ghost use Rattle.node_shapes.specs.Weights.{number_of_trees};
 ghost use Rattle.node_words.specs.Held.{HoldsName, SameHeld};
-ghost use Rattle.one_store.specs.Known.{root_in};
+ghost use Rattle.one_store.specs.Known.{stored_root};
 ghost use Rattle.tests_core.specs.Hands.{HoldsLeaves};
 
 use node_words::{Full, Name, NodeRefused, NodeStore, Plan, Share, Steps};
@@ -161,10 +161,10 @@ impl Hand {
     fn join<L: Ledger>(&mut self, place: u32, first: Name, steps: &mut Steps<L>) -> Answer
         requires side { self.old.store.words.plan.side ≡ 3 }
         requires place { place ≤ 65535 }
-        requires empty { root_in self.old.store.roots place ≡ None }
+        requires empty { stored_root self.old.store.roots place ≡ None }
         requires first { self.old.first ≡ Some first }
         requires hand { HoldsLeaves self.old.store.told.held (Some first) self.old.second }
-        requires room { number_of self.old.store.told.held ≤ 3000 }
+        requires room { number_of_trees self.old.store.told.held ≤ 3000 }
         ensures plan { self.new.store.words.plan ≡ self.old.store.words.plan }
         ensures hand { HoldsLeaves self.new.store.told.held self.new.first self.new.second }
     {
@@ -188,7 +188,7 @@ fn give_leaf<L: Ledger>(
     steps: &mut Steps<L>,
 )
     requires hand { HoldsLeaves store.old.told.held (Some first) second }
-    requires room { number_of store.old.told.held ≤ 4000 }
+    requires room { number_of_trees store.old.told.held ≤ 4000 }
     ensures plan { store.new.words.plan ≡ store.old.words.plan }
     ensures hand { HoldsLeaves store.new.told.held None second }
 {
@@ -203,7 +203,7 @@ fn take_leaf<L: Ledger>(
 ) -> Result<Name, Full>
     requires bits { bits ≢ 0 }
     requires hand { HoldsLeaves store.old.told.held None second }
-    requires room { number_of store.old.told.held ≤ 4000 }
+    requires room { number_of_trees store.old.told.held ≤ 4000 }
     ensures plan { store.new.words.plan ≡ store.old.words.plan }
     ensures hand { IfOk result (λ n. HoldsLeaves store.new.told.held (Some n) second) }
     ensures same { OnErr result (store.new.told.held ≡ store.old.told.held) }
@@ -217,9 +217,9 @@ fn take_leaf<L: Ledger>(
 // The share of the place's root is given back.
 fn give_root<L: Ledger>(store: &mut OneStore, place: u32, steps: &mut Steps<L>)
     requires place { place ≤ 65535 }
-    requires room { number_of store.old.told.held ≤ 4000 }
+    requires room { number_of_trees store.old.told.held ≤ 4000 }
     ensures plan { store.new.words.plan ≡ store.old.words.plan }
-    ensures empty { root_in store.new.roots place ≡ None }
+    ensures empty { stored_root store.new.roots place ≡ None }
     ensures held { SameHeld store.old.told.held store.new.told.held }
 {
     match store.take_root(place) {
@@ -237,7 +237,7 @@ fn join_leaves<L: Ledger>(
 ) -> Result<Share, Full>
     requires side { store.old.words.plan.side ≡ 3 }
     requires hand { HoldsLeaves store.old.told.held (Some first) second }
-    requires room { number_of store.old.told.held ≤ 3000 }
+    requires room { number_of_trees store.old.told.held ≤ 3000 }
     ensures plan { store.new.words.plan ≡ store.old.words.plan }
     ensures roots { store.new.roots ≡ store.old.roots }
     ensures held { IfOk result (λ n. HoldsName store.new.told.held n) }

@@ -1,4 +1,5 @@
-//! Tests of the four edits over a store: rows of what they make, and random edits against plain cells.
+//! Tests of the four edits over a store: rows of what they make, and random edits against plain
+//! cells.
 #![tactic(auto)]
 
 #[cfg(test)]

@@ -6,7 +6,8 @@ use std::test::Fail;
 use test_worlds::{Drawing, Draws, Found, Grid, Refusal, StoredWorld};
 use vw_cell::{Boxed, Cell};
 
-/// What came of some edits: how many were made, how many met a full bucket, and what differed from plain cells.
+/// What came of some edits: how many were made, how many met a full bucket, and what differed from
+/// plain cells.
 #[derive(Clone, Copy, Debug, PartialEq, Eq)]
 pub struct Tally {
     pub made: u32,

@@ -10,7 +10,8 @@ use std::sync::ledger::{Blank, Ledger};
 use std::test::Fail;
 use vw_cell::{Boxed, Cell, Side};
 
-/// A store for one thread that counts its turns as it goes, since a ledger of steps leaves no number behind.
+/// A store for one thread that counts its turns as it goes, since a ledger of steps leaves no
+/// number behind.
 #[derive(Drop)]
 pub struct TurnStore {
     store: OneStore,

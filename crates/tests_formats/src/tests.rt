@@ -212,7 +212,8 @@ fn what_is_not_a_child_is_skipped(rt: HostRuntime) {
     assert_eq!(rt; read(rt.alloc(), bytes), Ok((1, 1)));
 }
 
-// A file as an editor writes it: behind the model stand its scene, a layer, a palette and a material.
+// A file as an editor writes it: behind the model stand its scene, a layer, a palette and a
+// material.
 #[test]
 fn scenes_are_passed_over(rt: HostRuntime) -> Result<(), Fail> {
     let place = b"\0\0\0\0\0\0\0\0\x01\0\0\0\xff\xff\xff\xff\xff\xff\xff\xff\x01\0\0\0\0\0\0\0";

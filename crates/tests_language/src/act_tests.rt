@@ -30,7 +30,8 @@ fn acts_fit_where_they_lie_in_the_world(rt: HostRuntime) -> Result<(), Fail> {
     Ok(())
 }
 
-// A world of three cells in a row is copied one to the right: the first, the second and the fourth are set.
+// A world of three cells in a row is copied one to the right: the first, the second and the fourth
+// are set.
 #[test]
 fn a_copy_makes_what_it_may(rt: HostRuntime) -> Result<(), Fail> {
     let side = Side::new(8).ok_or("a side")?;

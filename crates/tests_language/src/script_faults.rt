@@ -5,8 +5,8 @@ use std::test::Fail;
 use vox_read::read_models;
 use vw_cell::Side;
 
-// Lines with a fault, for a world of side 8 and one model of one cell. Each has the fault that comes first, of
-// those that it has.
+// Lines with a fault, for a world of side 8 and one model of one cell. Each has the fault that
+// comes first, of those that it has.
 const WORDS: [(&str, ScriptKind); 41] = [
     ("# \x7f", ScriptKind::NotAscii),
     ("head \x1f", ScriptKind::NotAscii),

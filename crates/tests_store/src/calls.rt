@@ -1,7 +1,7 @@
 ghost use Rattle.std.specs.Prelude.{◌≡◌, ◌≢◌, ◌≤◌, None};
-ghost use Rattle.node_shapes.specs.Weights.{number_of};
+ghost use Rattle.node_shapes.specs.Weights.{number_of_trees};
 ghost use Rattle.node_words.specs.Held.{HoldsName};
-ghost use Rattle.one_store.specs.Known.{known_seen, root_in};
+ghost use Rattle.one_store.specs.Known.{known_seen, stored_root};
 
 use node_words::{Full, Name, NodeRefused, NodeStore, Share, Steps};
 use one_store::OneStore;
@@ -10,7 +10,7 @@ use std::sync::ledger::Ledger;
 /// The name of a leaf that was taken, and stays held.
 pub fn kept<L: Ledger>(store: &mut OneStore, bits: u64, steps: &mut Steps<L>) -> Result<Name, Full>
     requires bits { bits ≢ 0 }
-    requires room { number_of (known_seen store.old).held ≤ 4000 }
+    requires room { number_of_trees (known_seen store.old).held ≤ 4000 }
     ensures plan { store.new.words.plan ≡ store.old.words.plan }
 {
     match store.leaf(bits, steps) {
@@ -27,7 +27,7 @@ pub fn returned<L: Ledger>(
     steps: &mut Steps<L>,
 ) -> Result<Name, Full>
     requires bits { bits ≢ 0 }
-    requires room { number_of (known_seen store.old).held ≤ 4000 }
+    requires room { number_of_trees (known_seen store.old).held ≤ 4000 }
     ensures plan { store.new.words.plan ≡ store.old.words.plan }
 {
     match store.leaf(bits, steps) {
@@ -48,7 +48,7 @@ pub fn joined<L: Ledger>(
 ) -> Result<Name, Full>
     requires bits { bits ≢ 0 }
     requires side { 3 ≤ store.old.words.plan.side }
-    requires room { number_of (known_seen store.old).held ≤ 4000 }
+    requires room { number_of_trees (known_seen store.old).held ≤ 4000 }
     ensures plan { store.new.words.plan ≡ store.old.words.plan }
 {
     match store.leaf(bits, steps) {
@@ -61,7 +61,7 @@ fn over<L: Ledger>(store: &mut OneStore, leaf: Share, steps: &mut Steps<L>) -> R
     requires leaf { HoldsName (known_seen store.old).held leaf }
     requires level { leaf.level ≡ 0 }
     requires side { 3 ≤ store.old.words.plan.side }
-    requires room { number_of (known_seen store.old).held ≤ 4001 }
+    requires room { number_of_trees (known_seen store.old).held ≤ 4001 }
     ensures plan { store.new.words.plan ≡ store.old.words.plan }
 {
     let children = [None, None, None, Some(leaf), None, None, None, None];
@@ -105,9 +105,9 @@ pub fn rooted<L: Ledger>(
 ) -> Result<Name, Full>
     requires bits { bits ≢ 0 }
     requires side { store.old.words.plan.side ≤ 2 }
-    requires room { number_of (known_seen store.old).held ≤ 4000 }
+    requires room { number_of_trees (known_seen store.old).held ≤ 4000 }
     requires place { place ≤ 65535 }
-    requires empty { root_in store.old.roots place ≡ None }
+    requires empty { stored_root store.old.roots place ≡ None }
 {
     match store.leaf(bits, steps) {
         Ok(share) => {

@@ -1,7 +1,7 @@
 use node_words::{Key, bucket_of};
 
-/// The slots of some buckets of three, by the leaves in them and how often each is held: the lowest free slot is
-/// taken, and a slot is free where its leaf isn't held.
+/// The slots of some buckets of three, by the leaves in them and how often each is held: the lowest
+/// free slot is taken, and a slot is free where its leaf isn't held.
 #[derive(Drop)]
 pub struct Slots {
     leaves: [[(u64, u32); 3]; 4],
@@ -14,7 +14,8 @@ impl Slots {
         }
     }
 
-    /// The bucket and the slot of the leaf, which is held once more, or the bucket alone where it is full.
+    /// The bucket and the slot of the leaf, which is held once more, or the bucket alone where it
+    /// is full.
     pub fn take(&mut self, bits: u64) -> (u16, Option<u8>) {
         let bucket = bucket_of(&Key::Leaf(bits), 4);
         let at = usize::from(bucket);

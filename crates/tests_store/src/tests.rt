@@ -1,6 +1,6 @@
 ghost use Rattle.std.specs.Prelude.{◌≡◌, ◌≤◌, ◌<◌, None, [], IfOk};
 ghost use Rattle.node_places.specs.Spots.{levels};
-ghost use Rattle.one_store.specs.Known.{Known, root_in};
+ghost use Rattle.one_store.specs.Known.{Known, stored_root};
 
 use crate::calls::{joined, kept, returned, rooted};
 use crate::slots::Slots;
@@ -109,15 +109,15 @@ fn root_of<L: Ledger>(store: &mut OneStore, place: u32, blank: Blank) -> Result<
     requires parts { blank.parts ≡ L.parts }
     requires some { 0 < L.parts }
     requires side { store.old.words.plan.side ≤ 2 }
-    requires room { number_of (known_seen store.old).held ≤ 4000 }
+    requires room { number_of_trees (known_seen store.old).held ≤ 4000 }
     requires place { place ≤ 65535 }
-    requires empty { root_in store.old.roots place ≡ None }
+    requires empty { stored_root store.old.roots place ≡ None }
 {
     let mut steps: Steps<L> = Steps::start(blank);
     rooted(store, 9, place, &mut steps)
 }
 
-ghost use Rattle.node_shapes.specs.Weights.{number_of};
+ghost use Rattle.node_shapes.specs.Weights.{number_of_trees};
 ghost use Rattle.one_store.specs.Known.{known_seen};
 
 // A world of one leaf, of one slot.

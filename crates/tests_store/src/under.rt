@@ -1,7 +1,7 @@
 //! Reading below a share, by code that knows the traits of a store alone.
 ghost use Rattle.std.specs.Prelude.{◌≡◌, ◌≢◌, ◌<◌, ◌≤◌, IfOk, OnOk};
 ghost use Rattle.node_shapes.specs.Tree.{bits_in};
-ghost use Rattle.node_shapes.specs.Weights.{number_of};
+ghost use Rattle.node_shapes.specs.Weights.{number_of_trees};
 ghost use Rattle.node_words.specs.Held.{HoldsName, ForHeld, SameHeld};
 ghost use Rattle.one_store.specs.Known.{known_seen};
 
@@ -19,7 +19,7 @@ fn made_and_read<N: NodeStore, L: Ledger>(
     steps: &mut Steps<L>,
 ) -> Result<u64, Full>
     requires bits { bits ≢ 0 }
-    requires room { number_of (N.seen store.old).held ≤ 4000 }
+    requires room { number_of_trees (N.seen store.old).held ≤ 4000 }
     ensures held { OnOk result (SameHeld (N.seen store.old).held (N.seen store.new).held) }
     ensures bits { IfOk result (λ read. read ≡ bits) }
 {
@@ -39,14 +39,15 @@ fn read_under<N: NodeStore>(store: &mut N, share: &Share) -> u64
     under.bits()
 }
 
-// Whether the cell at (x, 0, 0) of a leaf with the cell (2, 0, 0) alone is set, asked on the way down.
+// Whether the cell at (x, 0, 0) of a leaf with the cell (2, 0, 0) alone is set, asked on the way
+// down.
 fn made_and_asked<N: NodeStore, L: Ledger>(
     store: &mut N,
     x: u16,
     steps: &mut Steps<L>,
 ) -> Result<bool, Full>
     requires cell { x < 4 }
-    requires room { number_of (N.seen store.old).held ≤ 4000 }
+    requires room { number_of_trees (N.seen store.old).held ≤ 4000 }
     ensures held { OnOk result (SameHeld (N.seen store.old).held (N.seen store.new).held) }
 {
     let share = store.leaf(4, steps)?;
@@ -62,7 +63,7 @@ fn ask_cell<L: Ledger>(store: &mut OneStore, x: u16, blank: Blank) -> Result<boo
     requires parts { blank.parts ≡ L.parts }
     requires some { 0 < L.parts }
     requires cell { x < 4 }
-    requires room { number_of (known_seen store.old).held ≤ 4000 }
+    requires room { number_of_trees (known_seen store.old).held ≤ 4000 }
     ensures held { OnOk result (SameHeld (known_seen store.old).held (known_seen store.new).held) }
 {
     let mut steps: Steps<L> = Steps::start(blank);
@@ -89,7 +90,7 @@ fn read_back<L: Ledger>(store: &mut OneStore, bits: u64, blank: Blank) -> Result
     requires parts { blank.parts ≡ L.parts }
     requires some { 0 < L.parts }
     requires bits { bits ≢ 0 }
-    requires room { number_of (known_seen store.old).held ≤ 4000 }
+    requires room { number_of_trees (known_seen store.old).held ≤ 4000 }
     ensures held { OnOk result (SameHeld (known_seen store.old).held (known_seen store.new).held) }
     ensures bits { IfOk result (λ read. read ≡ bits) }
 {

@@ -14,7 +14,7 @@ pub record AreWords (records : List Record) (words : List (List ℕ)) : Type 0 w
   pub first : AreFirstWords records words
 
 -- the words of all records, of which the first are shown
-pub record IsKept (records : List Record) (words : List (List ℕ)) (shown : ℕ) : Type 0 where
+pub record IsPackedLog (records : List Record) (words : List (List ℕ)) (shown : ℕ) : Type 0 where
   pub kept : AreWords records words
   pub within : shown ≤ length records
   pub few : length records ≤ 65535

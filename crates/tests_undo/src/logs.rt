@@ -21,13 +21,13 @@ pub struct PackedLog<'r> {
 impl<'r> Model for PackedLog<'r> {
     ghost use Rattle.std.specs.Prelude.{List, take};
     ghost use Rattle.history_model.specs.declared.histories.Record.{Record};
-    ghost use Rattle.tests_undo.specs.Kept.{IsKept};
+    ghost use Rattle.tests_undo.specs.Kept.{IsPackedLog};
 
     ghost Value = { List Record };
 
     ghost view = { λ log. take log.shown log.records.now };
 
-    ghost invariant = { λ log. IsKept log.records.now log.words.items log.shown };
+    ghost invariant = { λ log. IsPackedLog log.records.now log.words.items log.shown };
 }
 
 impl<'r> PackedLog<'r> {

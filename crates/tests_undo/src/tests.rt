@@ -67,7 +67,8 @@ fn undos_and_redos_go_to_the_tops(rt: HostRuntime) -> Result<(), Fail> {
     Ok(())
 }
 
-// Whether the targets behind so many records are these, and at most so many records were read for each.
+// Whether the targets behind so many records are these, and at most so many records were read for
+// each.
 fn are_targets(log: &mut PackedLog, records: u32, undo: Target, redo: Target) -> bool {
     log.show(records);
     let _before = log.take_reads();

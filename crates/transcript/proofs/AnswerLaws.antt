@@ -20,21 +20,22 @@ use Rattle.transcript.specs.declared.answers.Answer.{Answer}
 use Rattle.transcript.specs.declared.answers.Answer.TheVariants.{Done, Forgot, Is, Count, Faces, Extent, Hit, Same, Head, Saved, Full, NoVersion, Forgotten, IsHead, NothingToUndo, NothingToRedo, LogFull, Stale}
 use Rattle.transcript.specs.declared.answers.LineAnswer.{LineAnswer}
 use Rattle.transcript.specs.Lines.{answer_list, line_list}
-use Rattle.transcript.specs.Bounds.{IsCell, IsAnswer, IsLineAnswer}
-use Rattle.transcript.specs.Rows.{number_below, nothing_said, number_said, word_said, full_said, no_said, way_said, way_to, cell_said, hit_said, box_said, bounds_said, Row, row, long_rows, short_rows, read_by, short_spelled, answer_spelled, moment_spelled, line_spelled}
+use Rattle.transcript.specs.Bounds.{IsAnswer, IsLineAnswer}
+use Rattle.transcript.specs.Rows.{limited_number, nothing_said, number_said, word_said, full_said, no_said, way_told, way_to, cell_said, hit_said, box_said, bounds_said, AnswerRow, answer_row, long_rows, short_rows, answer_read_by, short_spelled, answer_spelled, moment_spelled, line_spelled}
+use Rattle.vw_cell.specs.Places.{IsCell}
 
 -- ---- what is written is read
 
 same_bytes : (a b : List ℕ) → bytes_eq a b ≡ true → a ≡ b
 same_bytes a b same = (bytes_eq-Decides a b).0 same
 
-number_again : (bound n : ℕ) → bound ≤ 2 ^ 64 → n < bound → number_below bound (decimal n) ≡ Ok n
+number_again : (bound n : ℕ) → bound ≤ 2 ^ 64 → n < bound → limited_number bound (decimal n) ≡ Ok n
 number_again bound n small less = let again = exact_again bound n small less in rw again refl
 
-sum_again : (n : ℕ) → n < 2 ^ 64 → number_below (2 ^ 64) (decimal n) ≡ Ok n
+sum_again : (n : ℕ) → n < 2 ^ 64 → limited_number (2 ^ 64) (decimal n) ≡ Ok n
 sum_again n less = number_again (2 ^ 64) n (lit≤ tt) less
 
-version_again : (n : ℕ) → n < 2 ^ 32 → number_below (2 ^ 32) (decimal n) ≡ Ok n
+version_again : (n : ℕ) → n < 2 ^ 32 → limited_number (2 ^ 32) (decimal n) ≡ Ok n
 version_again n less = number_again (2 ^ 32) n (lit≤ tt) less
 
 cell_again : (c : Cell) → IsCell c → cell_said (decimal c.x, decimal c.y, decimal c.z) ≡ Ok c
@@ -114,7 +115,7 @@ number_of_option : (read : Option ℕ) (n : ℕ) → ok_or read Number ≡ Ok n 
 number_of_option None n same = absurd cc
 number_of_option (Some m) n same = cc
 
-number_takes : (bound : ℕ) (word : List ℕ) (n : ℕ) → bound ≤ 2 ^ 64 → number_below bound word ≡ Ok n → (decimal n ≡ word) × (n < bound)
+number_takes : (bound : ℕ) (word : List ℕ) (n : ℕ) → bound ≤ 2 ^ 64 → limited_number bound word ≡ Ok n → (decimal n ≡ word) × (n < bound)
 number_takes bound word n small same = exact_takes bound word n small (number_of_option (exact bound word) n same)
 
 -- the answer has this first word and these behind it, and numbers that it can hold
@@ -169,7 +170,7 @@ two_parts (Err fault) y a same = absurd cc
 full_takes : (words : List (List ℕ)) (a : Answer) → full_said words ≡ Ok a → IsReading a (codes "full") words
 unfolding full_said
 full_takes (level ∷ bucket ∷ []) a same =
-    let parts = two_parts (number_below (2 ^ 8) level) (number_below (2 ^ 16) bucket) a same in
+    let parts = two_parts (limited_number (2 ^ 8) level) (limited_number (2 ^ 16) bucket) a same in
     let l = number_takes (2 ^ 8) level parts.0 (lit≤ tt) parts.2 in
     let b = number_takes (2 ^ 16) bucket parts.1 (lit≤ tt) parts.3 in
     let el = l.0 in
@@ -180,8 +181,8 @@ full_takes _ a same = absurd cc
 no_takes : (words : List (List ℕ)) (a : Answer) → no_said words ≡ Ok a → IsReading a (codes "no") words
 unfolding no_said
 no_takes (word ∷ version ∷ []) a same =
-    let named = fixed_is word (codes "version") (bytes_eq word (codes "version")) (number_below (2 ^ 32) version >>= λ v. Ok (NoVersion v)) a refl same in
-    let m = made (number_below (2 ^ 32) version) NoVersion a named.1 in
+    let named = fixed_is word (codes "version") (bytes_eq word (codes "version")) (limited_number (2 ^ 32) version >>= λ v. Ok (NoVersion v)) a refl same in
+    let m = made (limited_number (2 ^ 32) version) NoVersion a named.1 in
     let v = number_takes (2 ^ 32) version m.0 (lit≤ tt) m.1 in
     let ew = named.0 in
     let ev = v.0 in
@@ -203,7 +204,7 @@ way_is way a false is same =
 way_takes : (words : List (List ℕ)) (a : Answer) → way_to words ≡ Ok a → IsReading a (codes "nothing") words
 unfolding way_to
 way_takes (word ∷ way ∷ []) a same =
-    let named = fixed_is word (codes "to") (bytes_eq word (codes "to")) (way_said way) a refl same in
+    let named = fixed_is word (codes "to") (bytes_eq word (codes "to")) (way_told way) a refl same in
     subst (λ (w : List ℕ). IsReading a (codes "nothing") (w ∷ way ∷ [])) (sym named.0) (way_is way a (bytes_eq way (codes "undo")) refl named.1)
 way_takes _ a same = absurd cc
 
@@ -216,7 +217,7 @@ three_parts (Err fault) y z c same = absurd cc
 cell_takes : (x y z : List ℕ) (c : Cell) → cell_said (x, y, z) ≡ Ok c → (decimal c.x ≡ x) × (decimal c.y ≡ y) × (decimal c.z ≡ z) × IsCell c
 unfolding cell_said
 cell_takes x y z c same =
-    let parts = three_parts (number_below (2 ^ 16) x) (number_below (2 ^ 16) y) (number_below (2 ^ 16) z) c same in
+    let parts = three_parts (limited_number (2 ^ 16) x) (limited_number (2 ^ 16) y) (limited_number (2 ^ 16) z) c same in
     let a = number_takes (2 ^ 16) x c.x (lit≤ tt) parts.0 in
     let b = number_takes (2 ^ 16) y c.y (lit≤ tt) parts.1 in
     let d = number_takes (2 ^ 16) z c.z (lit≤ tt) parts.2 in
@@ -277,16 +278,16 @@ bounds_takes (word ∷ more) a same = bounds_by word more a (bytes_eq word (code
 -- ---- all rows
 
 -- what the row reads has its name before the words
-pub record Keeps (r : Row) : Type 0 where
+pub record Keeps (r : AnswerRow) : Type 0 where
   pub each : (words : List (List ℕ)) (a : Answer) → r.read words ≡ Ok a → IsReading a r.name words
 
-abbrev keeps_nothing : (answer : Answer) (name : List ℕ) → IsReading answer name [] → Keeps (row name (nothing_said answer))
+abbrev keeps_nothing : (answer : Answer) (name : List ℕ) → IsReading answer name [] → Keeps (answer_row name (nothing_said answer))
 keeps_nothing answer name is = record { each = λ words a same. nothing_takes answer name words a is same }
 
-abbrev keeps_sum : (make : ℕ → Answer) (name : List ℕ) → ((n : ℕ) → n < 2 ^ 64 → IsReading (make n) name (decimal n ∷ [])) → Keeps (row name (λ words. number_said (2 ^ 64) words >>= λ n. Ok (make n)))
+abbrev keeps_sum : (make : ℕ → Answer) (name : List ℕ) → ((n : ℕ) → n < 2 ^ 64 → IsReading (make n) name (decimal n ∷ [])) → Keeps (answer_row name (λ words. number_said (2 ^ 64) words >>= λ n. Ok (make n)))
 keeps_sum make name each = record { each = λ words a same. number_row_takes (2 ^ 64) make name words a (lit≤ tt) each same }
 
-abbrev keeps_version : (make : ℕ → Answer) (name : List ℕ) → ((n : ℕ) → n < 2 ^ 32 → IsReading (make n) name (decimal n ∷ [])) → Keeps (row name (λ words. number_said (2 ^ 32) words >>= λ n. Ok (make n)))
+abbrev keeps_version : (make : ℕ → Answer) (name : List ℕ) → ((n : ℕ) → n < 2 ^ 32 → IsReading (make n) name (decimal n ∷ [])) → Keeps (answer_row name (λ words. number_said (2 ^ 32) words >>= λ n. Ok (make n)))
 keeps_version make name each = record { each = λ words a same. number_row_takes (2 ^ 32) make name words a (lit≤ tt) each same }
 
 long_keep : AllByRecursion Keeps long_rows
@@ -339,16 +340,16 @@ short_keep = (
   ),
 )
 
-row_takes : (r : Row) (rest : Result Answer WordFault) (name : List ℕ) (words : List (List ℕ)) (a : Answer) (test : Bool) → bytes_eq name r.name ≡ test → Keeps r → (rest ≡ Ok a → IsReading a name words)
+row_takes : (r : AnswerRow) (rest : Result Answer WordFault) (name : List ℕ) (words : List (List ℕ)) (a : Answer) (test : Bool) → bytes_eq name r.name ≡ test → Keeps r → (rest ≡ Ok a → IsReading a name words)
     → cond test (r.read words) rest ≡ Ok a → IsReading a name words
 row_takes r rest name words a true is keeps others same = subst (λ (n : List ℕ). IsReading a n words) (sym (same_bytes name r.name is)) (keeps.each words a same)
 row_takes r rest name words a false is keeps others same = others same
 
-rows_take : (rows : List Row) (other : Result Answer WordFault) (name : List ℕ) (words : List (List ℕ)) (a : Answer) → AllByRecursion Keeps rows → (other ≡ Ok a → IsReading a name words)
-    → read_by rows other name words ≡ Ok a → IsReading a name words
+rows_take : (rows : List AnswerRow) (other : Result Answer WordFault) (name : List ℕ) (words : List (List ℕ)) (a : Answer) → AllByRecursion Keeps rows → (other ≡ Ok a → IsReading a name words)
+    → answer_read_by rows other name words ≡ Ok a → IsReading a name words
 rows_take [] other name words a keep of_other same = of_other same
 rows_take (r ∷ rows) other name words a keep of_other same =
-    row_takes r (read_by rows other name words) name words a (bytes_eq name r.name) refl keep.0 (rows_take rows other name words a keep.1 of_other) same
+    row_takes r (answer_read_by rows other name words) name words a (bytes_eq name r.name) refl keep.0 (rows_take rows other name words a keep.1 of_other) same
 
 no_answer : (name : List ℕ) (words : List (List ℕ)) (a : Answer) → Err Word ≡ Ok a → IsReading a name words
 no_answer name words a same = absurd cc
@@ -357,7 +358,7 @@ answer_takes : (name : List ℕ) (words : List (List ℕ)) (a : Answer) → answ
 answer_takes name words a same =
     rows_take long_rows (short_spelled name words) name words a long_keep (rows_take short_rows (Err Word) name words a short_keep (no_answer name words a)) same
 
-at_takes : (b : ℕ) (digits : List ℕ) (n : ℕ) (test : Bool) → eqb b 64 ≡ test → cond test (number_below (2 ^ 32) digits) (Err Word) ≡ Ok n → (codes "@" ++ decimal n ≡ b ∷ digits) × (n < 2 ^ 32)
+at_takes : (b : ℕ) (digits : List ℕ) (n : ℕ) (test : Bool) → eqb b 64 ≡ test → cond test (limited_number (2 ^ 32) digits) (Err Word) ≡ Ok n → (codes "@" ++ decimal n ≡ b ∷ digits) × (n < 2 ^ 32)
 at_takes b digits n true is same =
     let e : b ≡ 64 = eqb-true b 64 is in
     let number = number_takes (2 ^ 32) digits n (lit≤ tt) same in
@@ -379,7 +380,7 @@ line_parts (Err fault) line at l same = absurd cc
 pub line_takes : (ws : List (List ℕ)) (l : LineAnswer) → line_spelled ws ≡ Ok l → (line_list l ≡ ws) × IsLineAnswer l
 unfolding line_spelled
 line_takes (first ∷ second ∷ name ∷ words) l same =
-    let parts = line_parts (answer_spelled name words) (number_below (2 ^ 32) first) (moment_spelled second) l same in
+    let parts = line_parts (answer_spelled name words) (limited_number (2 ^ 32) first) (moment_spelled second) l same in
     let answer = answer_takes name words l.answer parts.0 in
     let line = number_takes (2 ^ 32) first l.line (lit≤ tt) parts.1 in
     let at = moment_takes second l.at parts.2 in

@@ -6,16 +6,16 @@ use Rattle.std.proofs.lemmas.List.{map-append}
 use Rattle.std.proofs.lemmas.List.Elements.{recursion_from_All, All-from_recursion}
 use Rattle.std.specs.List.{AllByRecursion}
 use Rattle.plain_text.specs.declared.faults.WordFault.{WordFault}
-use Rattle.plain_text.specs.Parts.{words, lines, FirstUnfit}
+use Rattle.plain_text.specs.Parts.{words, lines, FirstUnfit, line_of}
 use Rattle.plain_text.specs.PartLaws.{parts_joined, unfit_none, lines_some}
 use Rattle.plain_text.specs.EachLaws.{each_line_unfit, each_tail_unfit}
 use Rattle.transcript.specs.declared.answers.LineAnswer.{LineAnswer}
 use Rattle.transcript.specs.declared.reading.TranscriptFault.{TranscriptFault}
 use Rattle.transcript.specs.declared.reading.TranscriptFault.TheVariants.{Line, Memory}
-use Rattle.transcript.specs.Lines.{line_of, transcript_of}
+use Rattle.transcript.specs.Lines.{transcript_of}
 use Rattle.transcript.specs.Bounds.{IsLineAnswer}
 use Rattle.transcript.specs.Rows.{line_spelled}
-use Rattle.transcript.specs.Refusals.{line_words, AreTranscriptLines, Refuses}
+use Rattle.transcript.specs.Refusals.{line_words, AreTranscriptLines, RefusesTranscript}
 use Rattle.transcript.proofs.AnswerLaws.{line_again, line_takes}
 use Rattle.transcript.proofs.TextLaws.{words_of_line, transcript_lines, text_of_lines, transcripts_once}
 
@@ -78,14 +78,14 @@ all_read text rest xs read empty =
     (All-from_recursion IsLineAnswer xs read.are, text_of_lines text xs (read.lined ∙ ap (λ (ls : List (List ℕ)). map line_words xs ++ ls) (no_bytes rest empty)))
 
 -- the text of answers is refused for want of memory alone
-told_read : (text : List ℕ) (xs : List LineAnswer) (fault : TranscriptFault) → AllByRecursion IsLineAnswer xs → text ≡ transcript_of xs → Refuses fault text → fault ≡ Memory
+told_read : (text : List ℕ) (xs : List LineAnswer) (fault : TranscriptFault) → AllByRecursion IsLineAnswer xs → text ≡ transcript_of xs → RefusesTranscript fault text → fault ≡ Memory
 told_read text xs (Line n) are is refuses =
     absurd (unfit_none AreTranscriptLines (lines text) refuses.front refuses.rest refuses.whole refuses.unfit (xs, are, ap lines is ∙ transcript_lines xs are))
 told_read text xs Memory are is refuses = refl
 
 -- the answers that were read, or want of memory
 pub told_all : {X : Type 0} (items : X → List LineAnswer) (text : List ℕ) (xs : List LineAnswer) (read : Result X TranscriptFault) → IfOk read (λ v. All IsLineAnswer (items v) × (text ≡ transcript_of (items v)))
-    → IfErr read (λ fault. Refuses fault text) → All IsLineAnswer xs → text ≡ transcript_of xs → MatchResult read (λ v. items v ≡ xs) (λ fault. fault ≡ Memory)
+    → IfErr read (λ fault. RefusesTranscript fault text) → All IsLineAnswer xs → text ≡ transcript_of xs → MatchResult read (λ v. items v ≡ xs) (λ fault. fault ≡ Memory)
 told_all items text xs (Ok v) found refused are is =
     transcripts_once (items v) xs (recursion_from_All IsLineAnswer (items v) found.0) (recursion_from_All IsLineAnswer xs are) (sym found.1 ∙ is)
 told_all items text xs (Err fault) found refused are is = told_read text xs fault (recursion_from_All IsLineAnswer xs are) is refused

@@ -4,10 +4,7 @@ use Rattle.vw_cell.specs.declared.cells.Cell.{Cell}
 use Rattle.transcript.specs.declared.answers.Answer.{Answer}
 use Rattle.transcript.specs.declared.answers.Answer.TheVariants.{Forgot, Count, Faces, Extent, Hit, Saved, Full, NoVersion, Forgotten, Stale}
 use Rattle.transcript.specs.declared.answers.LineAnswer.{LineAnswer}
-
--- numbers of 16 bits
-abbrev pub IsCell : Cell → Type 0
-IsCell c = (c.x < 2 ^ 16) × (c.y < 2 ^ 16) × (c.z < 2 ^ 16)
+use Rattle.vw_cell.specs.Places.{IsCell}
 
 abbrev pub IsAnswer : Answer → Type 0
 IsAnswer (Forgot v) = v < 2 ^ 32

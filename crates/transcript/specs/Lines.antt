@@ -6,10 +6,11 @@ use Rattle.vw_cell.specs.declared.cells.Cell.{Cell}
 use Rattle.transcript.specs.declared.answers.Answer.{Answer}
 use Rattle.transcript.specs.declared.answers.Answer.TheVariants.{Done, Forgot, Is, Count, Faces, Extent, Hit, Same, Head, Saved, Full, NoVersion, Forgotten, IsHead, NothingToUndo, NothingToRedo, LogFull, Stale}
 use Rattle.transcript.specs.declared.answers.LineAnswer.{LineAnswer}
+use Rattle.plain_text.specs.Parts.{line_of}
 
 -- the three words of a cell, before others
-abbrev pub cell_list : Cell → List (List ℕ) → List (List ℕ)
-cell_list c more = decimal c.x ∷ decimal c.y ∷ decimal c.z ∷ more
+abbrev pub cell_told : Cell → List (List ℕ) → List (List ℕ)
+cell_told c more = decimal c.x ∷ decimal c.y ∷ decimal c.z ∷ more
 
 abbrev pub answer_list : Answer → List (List ℕ)
 answer_list Done = codes "ok" ∷ []
@@ -19,9 +20,9 @@ answer_list (Is false) = codes "clear" ∷ []
 answer_list (Count cells) = codes "count" ∷ decimal cells ∷ []
 answer_list (Faces number) = codes "faces" ∷ decimal number ∷ []
 answer_list (Extent None) = codes "bounds" ∷ codes "none" ∷ []
-answer_list (Extent (Some b)) = codes "bounds" ∷ cell_list b.at (cell_list b.size [])
+answer_list (Extent (Some b)) = codes "bounds" ∷ cell_told b.at (cell_told b.size [])
 answer_list (Hit None) = codes "miss" ∷ []
-answer_list (Hit (Some c)) = codes "hit" ∷ cell_list c []
+answer_list (Hit (Some c)) = codes "hit" ∷ cell_told c []
 answer_list (Same true) = codes "same" ∷ []
 answer_list (Same false) = codes "different" ∷ []
 answer_list Head = codes "head" ∷ []
@@ -39,15 +40,11 @@ answer_list (Stale base) = codes "stale" ∷ decimal base ∷ []
 abbrev pub line_list : LineAnswer → List (List ℕ)
 line_list l = decimal l.line ∷ (codes "@" ++ decimal l.at) ∷ answer_list l.answer
 
--- words with one space between any two
-abbrev pub line_of : List (List ℕ) → List ℕ
-line_of words = join_with_byte 32 words
-
 abbrev pub answer_text : Answer → List ℕ
 answer_text answer = line_of (answer_list answer)
 
 abbrev pub cell_text : Cell → List ℕ
-cell_text c = line_of (cell_list c [])
+cell_text c = line_of (cell_told c [])
 
 -- each line has its newline
 abbrev pub line_text : LineAnswer → List ℕ

@@ -1,9 +1,9 @@
 -- What a refused transcript says of its text.
 use Rattle.std.specs.Prelude.{ℕ, List}
-use Rattle.plain_text.specs.Parts.{lines, FirstUnfit}
+use Rattle.plain_text.specs.Parts.{lines, FirstUnfit, line_of}
 use Rattle.plain_text.specs.EachLaws.{AreLinesOf}
 use Rattle.transcript.specs.Bounds.{IsLineAnswer}
-use Rattle.transcript.specs.Lines.{line_of, line_list}
+use Rattle.transcript.specs.Lines.{line_list}
 use Rattle.transcript.specs.declared.answers.LineAnswer.{LineAnswer}
 use Rattle.transcript.specs.declared.reading.TranscriptFault.{TranscriptFault}
 use Rattle.transcript.specs.declared.reading.TranscriptFault.TheVariants.{Line, Memory}
@@ -17,6 +17,6 @@ abbrev pub AreTranscriptLines : List (List ℕ) → Type 0
 AreTranscriptLines all = AreLinesOf IsLineAnswer line_words all
 
 -- the line is the first that doesn't fit; want of memory says nothing
-abbrev pub Refuses : TranscriptFault → List ℕ → Type 0
-Refuses (Line n) text = FirstUnfit AreTranscriptLines (lines text) n
-Refuses Memory text = Unit {0}
+abbrev pub RefusesTranscript : TranscriptFault → List ℕ → Type 0
+RefusesTranscript (Line n) text = FirstUnfit AreTranscriptLines (lines text) n
+RefusesTranscript Memory text = Unit {0}

@@ -12,8 +12,8 @@ use Rattle.transcript.specs.declared.answers.Answer.TheVariants.{Done, Forgot, I
 use Rattle.transcript.specs.declared.answers.LineAnswer.{LineAnswer}
 
 -- a word in the place of a number below the bound
-abbrev pub number_below : ℕ → List ℕ → Result ℕ WordFault
-number_below bound word = ok_or (exact bound word) Number
+abbrev pub limited_number : ℕ → List ℕ → Result ℕ WordFault
+limited_number bound word = ok_or (exact bound word) Number
 
 -- ---- what stands behind the first word of an answer
 
@@ -25,7 +25,7 @@ unfoldable pub number_said : ℕ → List (List ℕ) → Result ℕ WordFault
 number_said bound words = do
   word ← next_word words
   end ← nothing_more word.1
-  number_below bound word.0
+  limited_number bound word.0
 
 abbrev pub version_said : (ℕ → Answer) → List (List ℕ) → Result Answer WordFault
 version_said answer words = number_said (2 ^ 32) words >>= λ v. Ok (answer v)
@@ -46,8 +46,8 @@ full_said words = do
   level ← next_word words
   bucket ← next_word level.1
   end ← nothing_more bucket.1
-  l ← number_below (2 ^ 8) level.0
-  b ← number_below (2 ^ 16) bucket.0
+  l ← limited_number (2 ^ 8) level.0
+  b ← limited_number (2 ^ 16) bucket.0
   Ok (Full l b)
 
 -- `version v`
@@ -57,11 +57,11 @@ no_said words = do
   version ← next_word word.1
   end ← nothing_more version.1
   is ← must_be (codes "version") word.0
-  v ← number_below (2 ^ 32) version.0
+  v ← limited_number (2 ^ 32) version.0
   Ok (NoVersion v)
 
-abbrev pub way_said : List ℕ → Result Answer WordFault
-way_said word = if bytes_eq word (codes "undo") then Ok NothingToUndo
+abbrev pub way_told : List ℕ → Result Answer WordFault
+way_told word = if bytes_eq word (codes "undo") then Ok NothingToUndo
     else (must_be (codes "redo") word >>= λ is. Ok NothingToRedo)
 
 -- `to undo`, `to redo`
@@ -71,14 +71,14 @@ way_to words = do
   way ← next_word word.1
   end ← nothing_more way.1
   is ← must_be (codes "to") word.0
-  way_said way.0
+  way_told way.0
 
 -- three numbers of a cell
 unfoldable pub cell_said : List ℕ × List ℕ × List ℕ → Result Cell WordFault
 cell_said words = do
-  x ← number_below (2 ^ 16) words.0
-  y ← number_below (2 ^ 16) words.1
-  z ← number_below (2 ^ 16) words.2
+  x ← limited_number (2 ^ 16) words.0
+  y ← limited_number (2 ^ 16) words.1
+  z ← limited_number (2 ^ 16) words.2
   Ok (record { x = x; y = y; z = z })
 
 unfoldable pub hit_said : List (List ℕ) → Result Answer WordFault
@@ -109,59 +109,60 @@ bounds_said words = do
 -- ---- answers and lines
 
 -- the first word of an answer, and what those behind it say
-pub record Row : Type 0 where
+pub record AnswerRow : Type 0 where
   pub name : List ℕ
   pub read : List (List ℕ) → Result Answer WordFault
 
-abbrev pub row : List ℕ → (List (List ℕ) → Result Answer WordFault) → Row
-row name read = record { name = name; read = read }
+abbrev pub answer_row : List ℕ → (List (List ℕ) → Result Answer WordFault) → AnswerRow
+answer_row name read = record { name = name; read = read }
 
 -- the answers that have a number, and the others
-unfoldable pub long_rows : List Row
+unfoldable pub long_rows : List AnswerRow
 long_rows =
-    row (codes "count") (sum_said Count)
-    ∷ row (codes "faces") (sum_said Faces)
-    ∷ row (codes "saved") (sum_said Saved)
-    ∷ row (codes "forgot") (version_said Forgot)
-    ∷ row (codes "forgotten") (version_said Forgotten)
-    ∷ row (codes "stale") (version_said Stale)
-    ∷ row (codes "no") no_said
-    ∷ row (codes "bounds") bounds_said
-    ∷ row (codes "hit") hit_said
-    ∷ row (codes "full") full_said
+    answer_row (codes "count") (sum_said Count)
+    ∷ answer_row (codes "faces") (sum_said Faces)
+    ∷ answer_row (codes "saved") (sum_said Saved)
+    ∷ answer_row (codes "forgot") (version_said Forgot)
+    ∷ answer_row (codes "forgotten") (version_said Forgotten)
+    ∷ answer_row (codes "stale") (version_said Stale)
+    ∷ answer_row (codes "no") no_said
+    ∷ answer_row (codes "bounds") bounds_said
+    ∷ answer_row (codes "hit") hit_said
+    ∷ answer_row (codes "full") full_said
     ∷ []
 
-unfoldable pub short_rows : List Row
+unfoldable pub short_rows : List AnswerRow
 short_rows =
-    row (codes "ok") (nothing_said Done)
-    ∷ row (codes "set") (nothing_said (Is true))
-    ∷ row (codes "clear") (nothing_said (Is false))
-    ∷ row (codes "miss") (nothing_said (Hit None))
-    ∷ row (codes "same") (nothing_said (Same true))
-    ∷ row (codes "different") (nothing_said (Same false))
-    ∷ row (codes "head") (nothing_said Head)
-    ∷ row (codes "is") (word_said (codes "head") IsHead)
-    ∷ row (codes "log") (word_said (codes "full") LogFull)
-    ∷ row (codes "nothing") way_to
+    answer_row (codes "ok") (nothing_said Done)
+    ∷ answer_row (codes "set") (nothing_said (Is true))
+    ∷ answer_row (codes "clear") (nothing_said (Is false))
+    ∷ answer_row (codes "miss") (nothing_said (Hit None))
+    ∷ answer_row (codes "same") (nothing_said (Same true))
+    ∷ answer_row (codes "different") (nothing_said (Same false))
+    ∷ answer_row (codes "head") (nothing_said Head)
+    ∷ answer_row (codes "is") (word_said (codes "head") IsHead)
+    ∷ answer_row (codes "log") (word_said (codes "full") LogFull)
+    ∷ answer_row (codes "nothing") way_to
     ∷ []
 
 -- what the row of this name reads; where none has it, this instead
-abbrev pub read_by : List Row → Result Answer WordFault → List ℕ → List (List ℕ)
+abbrev pub answer_read_by : List AnswerRow → Result Answer WordFault → List ℕ → List (List ℕ)
     → Result Answer WordFault
-read_by [] other name words = other
-read_by (row ∷ rows) other name words = if bytes_eq name row.name then row.read words
-    else read_by rows other name words
+answer_read_by [] other name words = other
+answer_read_by (answer_row ∷ rows) other name words =
+    if bytes_eq name answer_row.name then answer_row.read words
+    else answer_read_by rows other name words
 
 abbrev pub short_spelled : List ℕ → List (List ℕ) → Result Answer WordFault
-short_spelled name words = read_by short_rows (Err Word) name words
+short_spelled name words = answer_read_by short_rows (Err Word) name words
 
 abbrev pub answer_spelled : List ℕ → List (List ℕ) → Result Answer WordFault
-answer_spelled name words = read_by long_rows (short_spelled name words) name words
+answer_spelled name words = answer_read_by long_rows (short_spelled name words) name words
 
 -- the moment of a word: a number behind `@`
 abbrev pub moment_spelled : List ℕ → Result ℕ WordFault
 moment_spelled [] = Err Word
-moment_spelled (b ∷ digits) = if b == 64 then number_below (2 ^ 32) digits else Err Word
+moment_spelled (b ∷ digits) = if b == 64 then limited_number (2 ^ 32) digits else Err Word
 
 unfoldable pub line_spelled : List (List ℕ) → Result LineAnswer WordFault
 line_spelled words = do
@@ -169,6 +170,6 @@ line_spelled words = do
   second ← next_word first.1
   name ← next_word second.1
   answer ← answer_spelled name.0 name.1
-  line ← number_below (2 ^ 32) first.0
+  line ← limited_number (2 ^ 32) first.0
   at ← moment_spelled second.0
   Ok (record { line = line; at = at; answer = answer })

@@ -93,8 +93,8 @@ impl fmt::Display for Words {
     }
 }
 
-/// The answer to the command of a script's line, with its moment: the number of records when the answer
-/// was decided, an accepted change included.
+/// The answer to the command of a script's line, with its moment: the number of records when the
+/// answer was decided, an accepted change included.
 #[derive(Clone, Copy, Debug, PartialEq, Eq)]
 pub struct LineAnswer {
     pub line: u32,

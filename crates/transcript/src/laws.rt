@@ -5,5 +5,6 @@ ghost use Rattle.transcript.specs.Lines.{transcript_of};
 
 /// A law: a text is that of one list of answers at most.
 pub fn transcripts_have_one_reading()
-    ensures { (a b : List LineAnswer) → All IsLineAnswer a → All IsLineAnswer b → transcript_of a ≡ transcript_of b → a ≡ b }
+    ensures { (a b : List LineAnswer) → All IsLineAnswer a → All IsLineAnswer b
+        → transcript_of a ≡ transcript_of b → a ≡ b }
 {}

@@ -3,7 +3,7 @@ ghost use Rattle.transcript.specs.declared.answers.LineAnswer.{LineAnswer};
 ghost use Rattle.transcript.specs.declared.reading.TranscriptFault.TheVariants.{Memory};
 ghost use Rattle.transcript.specs.Bounds.{IsLineAnswer};
 ghost use Rattle.transcript.specs.Lines.{transcript_of};
-ghost use Rattle.transcript.specs.Refusals.{Refuses};
+ghost use Rattle.transcript.specs.Refusals.{RefusesTranscript};
 
 use crate::answers::LineAnswer;
 use crate::words::read_line;
@@ -35,13 +35,13 @@ impl<T: Drop> From<AllocFailed<T>> for TranscriptFault {
     }
 }
 
-/// The answers whose text this is, or the first line that doesn't fit: one that is no answer's, or a last one
-/// without its newline. Numbers may be any that an answer can hold; whether the answers fit a script, and
-/// whether their moments rise, is not asked here.
+/// The answers whose text this is, or the first line that doesn't fit: one that is no answer's, or
+/// a last one without its newline. Numbers may be any that an answer can hold; whether the answers
+/// fit a script, and whether their moments rise, is not asked here.
 pub fn read_transcript(alloc: Global, bytes: &[u8]) -> Result<Vec<LineAnswer>, TranscriptFault>
     ensures read { IfOk result (λ answers. All IsLineAnswer answers.items
         × (bytes.now ≡ transcript_of answers.items)) }
-    ensures refused { IfErr result (λ fault. Refuses fault bytes.now) }
+    ensures refused { IfErr result (λ fault. RefusesTranscript fault bytes.now) }
     ensures comes { (answers : List LineAnswer) → All IsLineAnswer answers
         → bytes.now ≡ transcript_of answers
         → MatchResult result (λ read. read.items ≡ answers) (λ fault. fault ≡ Memory) }
@@ -53,7 +53,7 @@ pub fn read_transcript(alloc: Global, bytes: &[u8]) -> Result<Vec<LineAnswer>, T
 fn read_lines(alloc: Global, bytes: &[u8]) -> Result<Vec<LineAnswer>, TranscriptFault>
     ensures read { IfOk result (λ answers. All IsLineAnswer answers.items
         × (bytes.now ≡ transcript_of answers.items)) }
-    ensures refused { IfErr result (λ fault. Refuses fault bytes.now) }
+    ensures refused { IfErr result (λ fault. RefusesTranscript fault bytes.now) }
 {
     let mut answers = Vec::new(alloc);
     let mut rest = bytes;

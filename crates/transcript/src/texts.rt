@@ -17,7 +17,8 @@ pub fn transcript_text(alloc: Global, lines: &[LineAnswer]) -> Result<Vec<u8>, M
 }
 
 fn put_line(text: &mut String, answered: LineAnswer) -> Result<(), AllocError>
-    ensures { IfOk result (λ _. string_bytes text.new ≡ string_bytes text.old ++ line_text answered) }
+    ensures { IfOk result
+        (λ _. string_bytes text.new ≡ string_bytes text.old ++ line_text answered) }
 {
     let LineAnswer { line, at, answer } = answered;
     write!(text, "{line} @{at} {answer}\n")

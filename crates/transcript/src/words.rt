@@ -1,7 +1,7 @@
 ghost use Rattle.std.specs.Prelude.{◌≡◌, ◌+◌, ◌≤◌, ◌^◌, IfOk};
 ghost use Rattle.plain_text.specs.Parts.{words};
 ghost use Rattle.transcript.specs.declared.answers.Answer.TheVariants.{Count, Faces, Saved, Forgot, Forgotten, Stale};
-ghost use Rattle.transcript.specs.Rows.{number_below, nothing_said, number_said, version_said, sum_said, word_said, full_said, no_said, way_said, way_to, cell_said, hit_said, box_said, bounds_said, short_spelled, answer_spelled, moment_spelled, line_spelled};
+ghost use Rattle.transcript.specs.Rows.{limited_number, nothing_said, number_said, version_said, sum_said, word_said, full_said, no_said, way_told, way_to, cell_said, hit_said, box_said, bounds_said, short_spelled, answer_spelled, moment_spelled, line_spelled};
 
 use crate::answers::{Answer, LineAnswer};
 use plain_text::{
@@ -294,7 +294,7 @@ fn read_way_to(words: &mut ExactWords) -> Result<Answer, WordFault>
 }
 
 fn read_way(word: &[u8]) -> Result<Answer, WordFault>
-    ensures { result ≡ way_said word.now }
+    ensures { result ≡ way_told word.now }
 {
     if word == UNDO {
         return Ok(Answer::NothingToUndo);
@@ -329,14 +329,14 @@ fn read_cell(words: &ThreeWords) -> Result<Cell, WordFault>
 }
 
 fn number_32(word: &[u8]) -> Result<u32, WordFault>
-    ensures { result ≡ number_below (2 ^ 32) word.now }
+    ensures { result ≡ limited_number (2 ^ 32) word.now }
 {
     let n = number(word, MOST_32)?;
     Ok(n as u32)
 }
 
 fn number(word: &[u8], most: u64) -> Result<u64, WordFault>
-    ensures number { result ≡ number_below (most + 1) word.now }
+    ensures number { result ≡ limited_number (most + 1) word.now }
     ensures bounded { IfOk result (λ n. n ≤ most) }
 {
     match exact_up_to(word, most) {

@@ -16,7 +16,8 @@ kind_of (VoxelOutside at) = 9
 kind_of (TooManyModels at) = 10
 kind_of Memory = 11
 
--- the byte position that a refusal names: that of a chunk's id, or of what the header lacks, and 0 where it names none
+-- the byte position that a refusal names: that of a chunk's id, or of what the header lacks, and 0
+-- where it names none
 abbrev pub position_of : VoxFault → ℕ
 position_of NotVox = 0
 position_of (Version version) = 4

@@ -1,5 +1,6 @@
--- How a VOX file is laid out in chunks: an id of four bytes, the number of content bytes, the number of bytes of child
--- chunks, then the content, then the children. Places are byte positions in the file.
+-- How a VOX file is laid out in chunks: an id of four bytes, the number of content bytes, the
+-- number of bytes of child chunks, then the content, then the children. Places are byte positions
+-- in the file.
 use Rattle.std.specs.Prelude.{◌≡◌, ℕ, zero, suc, ◌+◌, ◌<◌, ◌≤◌, ◌==◌, ◌||◌, nat_lt, if◌then◌else◌, List, length, take, drop, codes, Option, Some, None, Result, Ok, Err, slice_range}
 use Rattle.std.specs.Str.{bytes_eq}
 use Rattle.byteorder.specs.Endian.{little_number}
@@ -35,18 +36,22 @@ abbrev pub main_of : List ℕ → Result Bounds VoxFault
 main_of bytes =
     if nat_lt (length bytes) 20 then Err (Truncated 8)
     else (if bytes_eq (id_at bytes 8) (codes "MAIN")
-    then (if nat_lt (length bytes) (end_of bytes 8) then Err (Truncated 8) else Ok (record { first = 20 + content_length bytes 8; end = end_of bytes 8 }))
+    then (if nat_lt (length bytes) (end_of bytes 8) then Err (Truncated 8)
+    else Ok (record { first = 20 + content_length bytes 8; end = end_of bytes 8 }))
     else Err NoMain)
 
 abbrev pub under_version : ℕ → Result Bounds VoxFault → Result Bounds VoxFault
-under_version version main = if version == 150 || version == 200 then main else Err (Version version)
+under_version version main =
+    if version == 150 || version == 200 then main else Err (Version version)
 
--- what the bytes begin with, in the order in which it is tested: the mark, the version, and MAIN's frame
+-- what the bytes begin with, in the order in which it is tested: the mark, the version, and MAIN's
+-- frame
 abbrev pub header_of : List ℕ → Result Bounds VoxFault
 header_of bytes =
     if nat_lt (length bytes) 4 then Err NotVox
     else (if bytes_eq (id_at bytes 0) (codes "VOX ")
-    then (if nat_lt (length bytes) 8 then Err (Truncated 4) else under_version (number_at bytes 4) (main_of bytes))
+    then (if nat_lt (length bytes) 8 then Err (Truncated 4)
+    else under_version (number_at bytes 4) (main_of bytes))
     else Err NotVox)
 
 -- the frame of the child at a place ends where MAIN's children end, or before

@@ -21,6 +21,8 @@ pub record IsChunk (bytes : List ℕ) (place : ℕ) (chunk : Chunk) : Type 0 whe
 abbrev pub Walks : Cursor → Option (Result Chunk VoxFault) → Cursor → Type 0
 Walks old None new = (old.end ≤ old.at) × (new ≡ old)
 Walks old (Some (Ok chunk)) new =
-    (old.at < old.end) × FrameFits old.bytes old.end old.at × IsChunk old.bytes old.at chunk × (new ≡ record old { at = end_of old.bytes old.at })
+    (old.at < old.end) × FrameFits old.bytes old.end old.at × IsChunk old.bytes old.at chunk
+    × (new ≡ record old { at = end_of old.bytes old.at })
 Walks old (Some (Err fault)) new =
-    (old.at < old.end) × (FrameFits old.bytes old.end old.at → ⊥) × (fault ≡ Truncated old.at) × (new ≡ record old { at = old.end })
+    (old.at < old.end) × (FrameFits old.bytes old.end old.at → ⊥) × (fault ≡ Truncated old.at)
+    × (new ≡ record old { at = old.end })

@@ -6,8 +6,8 @@ use crate::faults::VoxFault;
 use byteorder::{ByteOrder, LittleEndian};
 use std::marker::Model;
 
-/// A child of MAIN: its id, its content, which is a part of the file and no copy, and the byte position
-/// of its id.
+/// A child of MAIN: its id, its content, which is a part of the file and no copy, and the byte
+/// position of its id.
 #[derive(Clone, Copy, Debug)]
 pub struct Chunk<'f> {
     pub id: [u8; 4],
@@ -30,7 +30,8 @@ impl<'f> Model for Chunks<'f> {
 
     ghost view = { λ c. record { bytes = c.bytes.now; at = c.at; end = c.end } };
 
-    ghost invariant = { λ c. (c.at ≤ c.end) × (c.end ≤ length c.bytes.now) × (length c.bytes.now ≤ 2 ^ 28) };
+    ghost invariant = { λ c. (c.at ≤ c.end) × (c.end ≤ length c.bytes.now)
+        × (length c.bytes.now ≤ 2 ^ 28) };
 }
 
 impl<'f> Chunks<'f> {
@@ -38,7 +39,10 @@ impl<'f> Chunks<'f> {
     /// version, and MAIN's own frame.
     pub fn new(bytes: &'f [u8]) -> Result<Chunks<'f>, VoxFault>
         requires { length bytes.now ≤ 2 ^ 28 }
-        ensures { MatchResult result (λ c. (c.bytes ≡ bytes.now) × (header_of bytes.now ≡ Ok (record { first = c.at; end = c.end }))) (λ fault. header_of bytes.now ≡ Err fault) }
+        ensures { MatchResult result
+            (λ c. (c.bytes ≡ bytes.now)
+            × (header_of bytes.now ≡ Ok (record { first = c.at; end = c.end })))
+            (λ fault. header_of bytes.now ≡ Err fault) }
     {
         if bytes.len() < 4 || !bytes.starts_with(b"VOX ") {
             return Err(VoxFault::NotVox);
@@ -53,8 +57,8 @@ impl<'f> Chunks<'f> {
         main_chunk(bytes)
     }
 
-    /// The next child, `None` where the children end. A frame that doesn't fit is a fault at its place,
-    /// and after a fault there is no further child.
+    /// The next child, `None` where the children end. A frame that doesn't fit is a fault at its
+    /// place, and after a fault there is no further child.
     pub fn next(&mut self) -> Option<Result<Chunk<'f>, VoxFault>>
         ensures { Walks self.old result self.new }
     {
@@ -78,7 +82,10 @@ impl<'f> Chunks<'f> {
 // The children of MAIN, where the bytes have at least the mark and the version.
 fn main_chunk(bytes: &[u8]) -> Result<Chunks<'_>, VoxFault>
     requires { length bytes.now ≤ 2 ^ 28 }
-    ensures { MatchResult result (λ c. (c.bytes ≡ bytes.now) × (main_of bytes.now ≡ Ok (record { first = c.at; end = c.end }))) (λ fault. main_of bytes.now ≡ Err fault) }
+    ensures { MatchResult result
+        (λ c. (c.bytes ≡ bytes.now)
+        × (main_of bytes.now ≡ Ok (record { first = c.at; end = c.end })))
+        (λ fault. main_of bytes.now ≡ Err fault) }
 {
     if bytes.len() < 20 {
         return Err(VoxFault::Truncated(8));
@@ -98,7 +105,8 @@ fn main_chunk(bytes: &[u8]) -> Result<Chunks<'_>, VoxFault>
 fn frame_end(bytes: &[u8], at: usize, end: usize) -> Option<usize>
     requires bounds { (at < end) × (end ≤ length bytes.now) }
     requires short { length bytes.now ≤ 2 ^ 28 }
-    ensures { MatchOption result (FrameFits bytes.now end at → ⊥) (λ after. FrameFits bytes.now end at × (after ≡ end_of bytes.now at)) }
+    ensures { MatchOption result (FrameFits bytes.now end at → ⊥)
+        (λ after. FrameFits bytes.now end at × (after ≡ end_of bytes.now at)) }
 {
     if end - at < 12 {
         return None;

@@ -9,7 +9,7 @@ use Rattle.vox_chunk.specs.Walking.{Cursor, Walks}
 use Rattle.vox_read.specs.Contents.{Content}
 use Rattle.vox_read.specs.Children.{waiting_behind, waiting_at, models_in, models_before, fields_fault, child_fault}
 use Rattle.vox_read.specs.Refusals.{SaysBroken}
-use Rattle.vox_read.specs.Files.{AreRead, Reads, Refuses}
+use Rattle.vox_read.specs.Files.{AreRead, ReadsModels, RefusesFile}
 
 -- some children are read: the walk is behind them, and this size waits, and these are their models
 pub record HasCome (bytes : List ℕ) (cursor : Cursor) (waiting : Option Cell) (models : List Content) : Type 0 where
@@ -34,12 +34,12 @@ come_none bytes cursor same header =
     }
 
 -- the children end
-pub come_all : (bytes : List ℕ) (old new : Cursor) (waiting : Option Cell) (models : List Content) → HasCome bytes old waiting models → Walks old None new → Reads bytes (Ok models)
+pub come_all : (bytes : List ℕ) (old new : Cursor) (waiting : Option Cell) (models : List Content) → HasCome bytes old waiting models → Walks old None new → ReadsModels bytes (Ok models)
 come_all bytes old new waiting models come walks =
     record { main = come.main; header = come.header; children = come.children; read = come.read; ends = subst (λ (c : Cursor). c.end ≤ c.at) come.at walks.0; are = come.are }
 
 -- a fault of the reading is the first fault of the bytes
-refuses_by : (fault : VoxFault) (bytes : List ℕ) → Reads bytes (Err fault) → Refuses fault bytes
+refuses_by : (fault : VoxFault) (bytes : List ℕ) → ReadsModels bytes (Err fault) → RefusesFile fault bytes
 refuses_by NotVox bytes reads = reads
 refuses_by (Version version) bytes reads = reads
 refuses_by NoMain bytes reads = reads
@@ -52,11 +52,11 @@ refuses_by (VoxelOutside at) bytes reads = reads
 refuses_by (TooManyModels at) bytes reads = reads
 refuses_by Memory bytes reads = tt
 
-pub header_refuses : (fault : VoxFault) (bytes : List ℕ) → header_of bytes ≡ Err fault → Refuses fault bytes
+pub header_refuses : (fault : VoxFault) (bytes : List ℕ) → header_of bytes ≡ Err fault → RefusesFile fault bytes
 header_refuses fault bytes is = refuses_by fault bytes (inl is)
 
 -- the next child's frame doesn't fit
-pub frame_refuses : (bytes : List ℕ) (old new : Cursor) (waiting : Option Cell) (models : List Content) (fault : VoxFault) → HasCome bytes old waiting models → Walks old (Some (Err fault)) new → Refuses fault bytes
+pub frame_refuses : (bytes : List ℕ) (old new : Cursor) (waiting : Option Cell) (models : List Content) (fault : VoxFault) → HasCome bytes old waiting models → Walks old (Some (Err fault)) new → RefusesFile fault bytes
 frame_refuses bytes old new waiting models fault come walks =
     let at = come.at in
     refuses_by fault bytes
@@ -82,7 +82,7 @@ fault_here bytes old new waiting models chunk come walks =
     rw (come.waits, come.are, here.1, here.2, here.3) refl
 
 -- the next child breaks a rule of its fields
-broken_by : (fault : VoxFault) (broken : Option VoxFault) (bytes : List ℕ) → SaysBroken fault broken → ((f : VoxFault) → broken ≡ Some f → Reads bytes (Err f)) → Refuses fault bytes
+broken_by : (fault : VoxFault) (broken : Option VoxFault) (bytes : List ℕ) → SaysBroken fault broken → ((f : VoxFault) → broken ≡ Some f → ReadsModels bytes (Err f)) → RefusesFile fault bytes
 broken_by NotVox broken bytes says reads = reads NotVox says
 broken_by (Version version) broken bytes says reads = reads (Version version) says
 broken_by NoMain broken bytes says reads = reads NoMain says
@@ -96,7 +96,7 @@ broken_by (TooManyModels at) broken bytes says reads = reads (TooManyModels at) 
 broken_by Memory broken bytes says reads = tt
 
 pub fields_refuse : (bytes : List ℕ) (old new : Cursor) (waiting : Option Cell) (models : List Content) (chunk : Chunk) (fault : VoxFault) → HasCome bytes old waiting models → Walks old (Some (Ok chunk)) new
-    → SaysBroken fault (fields_fault waiting (length models) chunk.id chunk.content.now chunk.at) → Refuses fault bytes
+    → SaysBroken fault (fields_fault waiting (length models) chunk.id chunk.content.now chunk.at) → RefusesFile fault bytes
 fields_refuse bytes old new waiting models chunk fault come walks says =
     let here = at_child bytes old new chunk come.main come.children come.at walks in
     broken_by fault (fields_fault waiting (length models) chunk.id chunk.content.now chunk.at) bytes says

@@ -6,12 +6,12 @@ use Rattle.vox_chunk.specs.declared.faults.VoxFault.TheVariants.{Truncated}
 use Rattle.vox_chunk.specs.Frames.{Bounds, header_of, place_of, FrameFits, end_of}
 use Rattle.vox_read.specs.Contents.{Content}
 use Rattle.vox_read.specs.Children.{models_before, child_fault}
-use Rattle.vox_read.specs.Files.{AreRead, Reads}
+use Rattle.vox_read.specs.Files.{AreRead, ReadsModels}
 
 -- what the bytes say
 record Reading (bytes : List ℕ) : Type 0 where
   says : Result (List Content) VoxFault
-  reads : Reads bytes says
+  reads : ReadsModels bytes says
 
 at_most : (a b : ℕ) → (a ≤ b) ⊎ (b < a)
 at_most a b = pick (cases_order a b) where
@@ -65,5 +65,5 @@ by_header : (bytes : List ℕ) (header : Result Bounds VoxFault) → header_of b
 by_header bytes (Err fault) is = record { says = Err fault; reads = inl is }
 by_header bytes (Ok main) is = onward main.end bytes main 0 is (record { frames = λ k lt. absurd (omega (arith, lt)); fields = λ k lt. absurd (omega (arith, lt)) }) (omega arith)
 
-pub some_reading : (bytes : List ℕ) → (says : Result (List Content) VoxFault) × Reads bytes says
+pub some_reading : (bytes : List ℕ) → (says : Result (List Content) VoxFault) × ReadsModels bytes says
 some_reading bytes = let reading = by_header bytes (header_of bytes) refl in (reading.says, reading.reads)

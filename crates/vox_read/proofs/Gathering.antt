@@ -13,7 +13,7 @@ use Rattle.bit_set.specs.Bits.{is_set}
 use Rattle.vw_cell.specs.declared.cells.Cell.{Cell}
 use Rattle.vw_cell.specs.Counts.{IsBelow}
 use Rattle.vox_read.specs.declared.voxels.Voxel.{Voxel}
-use Rattle.vox_read.specs.Contents.{Content, is_cell, stands_at, StandsIn}
+use Rattle.vox_read.specs.Contents.{Content, is_cell, stands_at, StandsInside}
 use Rattle.vox_read.specs.Places.{voxel_place, index_of, volume_of}
 use Rattle.vox_read.specs.Marks.{Marks}
 use Rattle.vox_read.specs.Cells.{has_voxel, AreCells}
@@ -25,7 +25,7 @@ pub record Collects (size : Cell) (voxels seen : List Voxel) (words : List ℕ) 
   pub room : volume_of size ≤ 64 * length words
   pub left : (c : Cell) → IsBelow size c → is_set words (index_of size c) ≡ (is_cell voxels c && not (has_voxel cells c))
   pub collected : (c : Cell) → has_voxel cells c ≡ (has_voxel seen c && is_cell voxels c)
-  pub inside : All (StandsIn size) cells
+  pub inside : All (StandsInside size) cells
   pub once : AllPairs (λ v w. voxel_place v ≢ voxel_place w) cells
 
 -- of tests
@@ -60,13 +60,13 @@ collects_none size voxels words number marks =
     }
 
 -- what holds of the voxel's place, from its bit
-left_at : (size : Cell) (voxels seen : List Voxel) (words : List ℕ) (cells : List Voxel) (v : Voxel) (c : Cell) (was : Bool) → StandsIn size v → Collects size voxels seen words cells
+left_at : (size : Cell) (voxels seen : List Voxel) (words : List ℕ) (cells : List Voxel) (v : Voxel) (c : Cell) (was : Bool) → StandsInside size v → Collects size voxels seen words cells
     → is_set words (index_of size (voxel_place v)) ≡ was → stands_at c v ≡ true → (is_cell voxels c && not (has_voxel cells c)) ≡ was
 left_at size voxels seen words cells v c was inside so_far bit at =
     subst (λ (p : Cell). (is_cell voxels p && not (has_voxel cells p)) ≡ was) (sym (one_place c v (stands_tells c v at))) (sym (so_far.left (voxel_place v) (place_below size v inside)) ∙ bit)
 
 -- a voxel whose bit is set is collected
-collects_one : (size : Cell) (voxels seen : List Voxel) (words words' : List ℕ) (cells : List Voxel) (v : Voxel) → StandsIn size v → Collects size voxels seen words cells
+collects_one : (size : Cell) (voxels seen : List Voxel) (words words' : List ℕ) (cells : List Voxel) (v : Voxel) → StandsInside size v → Collects size voxels seen words cells
     → is_set words (index_of size (voxel_place v)) ≡ true → is_set words' (index_of size (voxel_place v)) ≡ false
     → ((j : ℕ) → j ≢ index_of size (voxel_place v) → is_set words' j ≡ is_set words j) → length words' ≡ length words → Collects size voxels (seen ++ v ∷ []) words' (cells ++ v ∷ [])
 collects_one size voxels seen words words' cells v inside so_far bit cleared others same_length =
@@ -80,7 +80,7 @@ collects_one size voxels seen words words' cells v inside so_far bit cleared oth
           (has_more cells v c
           ∙ joins (stands_at c v) (has_voxel cells c) (has_voxel seen c) (is_cell voxels c) (so_far.collected c) (λ t. (and_parts _ _ (left_at size voxels seen words cells v c true inside so_far bit t)).0)
           ∙ ap (λ (b : Bool). b && is_cell voxels c) (sym (has_more seen v c)));
-      inside = All-push (StandsIn size) cells v so_far.inside inside;
+      inside = All-push (StandsInside size) cells v so_far.inside inside;
       once =
           all_pairs_push (λ v w. voxel_place v ≢ voxel_place w) cells v so_far.once
           (λ k d lt same. both_ways (has_voxel cells at) free
@@ -101,7 +101,7 @@ collects_one size voxels seen words words' cells v inside so_far bit cleared oth
         ]
 
 -- a voxel whose bit is clear is passed
-collects_same : (size : Cell) (voxels seen : List Voxel) (words words' : List ℕ) (cells : List Voxel) (v : Voxel) → StandsIn size v → Collects size voxels seen words cells
+collects_same : (size : Cell) (voxels seen : List Voxel) (words words' : List ℕ) (cells : List Voxel) (v : Voxel) → StandsInside size v → Collects size voxels seen words cells
     → is_set words (index_of size (voxel_place v)) ≡ false → is_set words' (index_of size (voxel_place v)) ≡ false
     → ((j : ℕ) → j ≢ index_of size (voxel_place v) → is_set words' j ≡ is_set words j) → length words' ≡ length words → Collects size voxels (seen ++ v ∷ []) words' cells
 collects_same size voxels seen words words' cells v inside so_far bit cleared others same_length =
@@ -127,31 +127,31 @@ abbrev pub with_voxel : Bool → List Voxel → Voxel → List Voxel
 with_voxel true cells v = cells ++ v ∷ []
 with_voxel false cells v = cells
 
-collects_more : (size : Cell) (voxels seen : List Voxel) (words words' : List ℕ) (cells : List Voxel) (v : Voxel) (was : Bool) → StandsIn size v → Collects size voxels seen words cells
+collects_more : (size : Cell) (voxels seen : List Voxel) (words words' : List ℕ) (cells : List Voxel) (v : Voxel) (was : Bool) → StandsInside size v → Collects size voxels seen words cells
     → was ≡ is_set words (index_of size (voxel_place v)) → is_set words' (index_of size (voxel_place v)) ≡ false
     → ((j : ℕ) → j ≢ index_of size (voxel_place v) → is_set words' j ≡ is_set words j) → length words' ≡ length words → Collects size voxels (seen ++ v ∷ []) words' (with_voxel was cells v)
 collects_more size voxels seen words words' cells v true inside so_far was cleared others same_length = collects_one size voxels seen words words' cells v inside so_far (sym was) cleared others same_length
 collects_more size voxels seen words words' cells v false inside so_far was cleared others same_length = collects_same size voxels seen words words' cells v inside so_far (sym was) cleared others same_length
 
 -- the bit of a voxel of the list is there
-pub bit_inside : (size seen : Cell) (voxels items : List Voxel) (k i : ℕ) (words : List ℕ) (d : Voxel) → size ≡ seen → items ≡ voxels → k < length items → All (StandsIn seen) voxels
+pub bit_inside : (size seen : Cell) (voxels items : List Voxel) (k i : ℕ) (words : List ℕ) (d : Voxel) → size ≡ seen → items ≡ voxels → k < length items → All (StandsInside seen) voxels
     → volume_of size ≤ 64 * length words → i ≡ index_of size (voxel_place (get_or items k d)) → i < 64 * length words
 bit_inside size seen voxels items k i words d size_is same inside all room of_i =
     let within : k < length voxels = rw (← same) inside in
     let item : get_or items k d ≡ get_or voxels k d = ap (λ (xs : List Voxel). get_or xs k d) same in
-    let stands_in : StandsIn size (get_or items k d) = rw (size_is, item) (all k d within) in
+    let stands_in : StandsInside size (get_or items k d) = rw (size_is, item) (all k d within) in
     let below : index_of size (voxel_place (get_or items k d)) < volume_of size = index_below size (voxel_place (get_or items k d)) (place_below size (get_or items k d) stands_in) in
     omega (arith, of_i, below, room)
 
 -- one turn of the loop: the voxel at place k of the list, whose bit is number i
 pub collects_step : (size seen : Cell) (voxels items : List Voxel) (k i : ℕ) (words words' : List ℕ) (cells cells' : List Voxel) (was : Bool) (d : Voxel) → size ≡ seen → items ≡ voxels → k < length items
-    → All (StandsIn seen) voxels → Collects size voxels (take k voxels) words cells → i ≡ index_of size (voxel_place (get_or items k d)) → was ≡ is_set words i → is_set words' i ≡ false
+    → All (StandsInside seen) voxels → Collects size voxels (take k voxels) words cells → i ≡ index_of size (voxel_place (get_or items k d)) → was ≡ is_set words i → is_set words' i ≡ false
     → ((j : ℕ) → j ≢ i → is_set words' j ≡ is_set words j) → length words' ≡ length words → cells' ≡ with_voxel was cells (get_or items k d) → Collects size voxels (take (k + 1) voxels) words' cells'
 collects_step size seen voxels items k i words words' cells cells' was d size_is same inside all so_far of_i of_was cleared others same_length pushed =
     let within : k < length voxels = rw (← same) inside in
     let item : get_or items k d ≡ get_or voxels k d = ap (λ (xs : List Voxel). get_or xs k d) same in
     let at : i ≡ index_of size (voxel_place (get_or voxels k d)) = of_i ∙ ap (λ (v : Voxel). index_of size (voxel_place v)) item in
-    let stands_in : StandsIn size (get_or voxels k d) = rw size_is (all k d within) in
+    let stands_in : StandsInside size (get_or voxels k d) = rw size_is (all k d within) in
     rw (take_more voxels k d within, pushed, item)
     (collects_more size voxels (take k voxels) words words' cells (get_or voxels k d) was stands_in so_far (of_was ∙ ap (is_set words) at) (ap (is_set words') (sym at) ∙ cleared) (λ j other. others j (λ e. other (e ∙ at))) same_length)
 
@@ -173,7 +173,7 @@ all_collected m size k words cells size_is past so_far =
     record {
       exactly = λ p.
           (so_far.collected p ∙ ap (λ (seen : List Voxel). has_voxel seen p && is_cell m.voxels p) (take_all k m.voxels past) ∙ covers (has_voxel m.voxels p) (is_cell m.voxels p) (no_voxel m.voxels p));
-      inside = subst (λ (s : Cell). All (StandsIn s) cells) size_is so_far.inside;
+      inside = subst (λ (s : Cell). All (StandsInside s) cells) size_is so_far.inside;
       once = so_far.once;
     }
   where

@@ -10,7 +10,7 @@ use Rattle.vw_cell.specs.declared.cells.Cell.{Cell}
 use Rattle.sums.specs.Sums.{one_if}
 use Rattle.vw_cell.specs.Counts.{IsBelow, number_below, number_below-change, number_below-at, number_below-none}
 use Rattle.vox_read.specs.declared.voxels.Voxel.{Voxel}
-use Rattle.vox_read.specs.Contents.{is_cell, stands_at, colour_of, StandsIn, IsSize}
+use Rattle.vox_read.specs.Contents.{is_cell, stands_at, colour_of, StandsInside, IsSize}
 use Rattle.vox_read.specs.Places.{voxel_place, index_of, volume_of}
 use Rattle.vox_read.specs.Marks.{Marks}
 use Rattle.vox_read.proofs.Bounds.{place_below, same_place, count_small}
@@ -45,7 +45,7 @@ here : (voxels : List Voxel) (v : Voxel) (c : Cell) → stands_at c v ≡ true �
 here voxels v c at = rw (is_cell-more voxels v c, at) refl
 
 -- what the loop over the voxels keeps
-pub marks_more : (size : Cell) (voxels : List Voxel) (v : Voxel) (words words' : List ℕ) (cells cells' : ℕ) (was now : Bool) → StandsIn size v → Marks size voxels words cells
+pub marks_more : (size : Cell) (voxels : List Voxel) (v : Voxel) (words words' : List ℕ) (cells cells' : ℕ) (was now : Bool) → StandsInside size v → Marks size voxels words cells
     → was ≡ is_set words (index_of size (voxel_place v)) → is_set words' (index_of size (voxel_place v)) ≡ now
     → ((j : ℕ) → j ≢ index_of size (voxel_place v) → is_set words' j ≡ is_set words j) → length words' ≡ length words → now ≡ not (v.colour == 0)
     → cells' + one_if was ≡ cells + one_if now → Marks size (voxels ++ v ∷ []) words' cells'
@@ -79,7 +79,7 @@ marks_none size words room clear =
     record { room = room; each = λ c _. clear (index_of size c); number = sym (number_below-none size (is_cell []) (λ c. refl)) }
 
 -- a bit that is set is a cell that is counted
-pub counted : (size : Cell) (voxels : List Voxel) (words : List ℕ) (cells : ℕ) (v : Voxel) → StandsIn size v → Marks size voxels words cells → one_if (is_set words (index_of size (voxel_place v))) ≤ cells
+pub counted : (size : Cell) (voxels : List Voxel) (words : List ℕ) (cells : ℕ) (v : Voxel) → StandsInside size v → Marks size voxels words cells → one_if (is_set words (index_of size (voxel_place v))) ≤ cells
 counted size voxels words cells v inside marks =
     let below : IsBelow size (voxel_place v) = place_below size v inside in
     let e = marks.each (voxel_place v) below in
@@ -88,14 +88,14 @@ counted size voxels words cells v inside marks =
 
 -- one turn of the loop: the voxel at place k of the list, whose bit is number i
 pub marks_step : (size seen : Cell) (voxels items : List Voxel) (k i : ℕ) (words words' : List ℕ) (cells cells' : ℕ) (was now : Bool) (d : Voxel) → size ≡ seen → items ≡ voxels
-    → k < length items → All (StandsIn seen) voxels → Marks size (take k voxels) words cells → i ≡ index_of size (voxel_place (get_or items k d))
+    → k < length items → All (StandsInside seen) voxels → Marks size (take k voxels) words cells → i ≡ index_of size (voxel_place (get_or items k d))
     → was ≡ is_set words i → is_set words' i ≡ now → ((j : ℕ) → j ≢ i → is_set words' j ≡ is_set words j) → length words' ≡ length words
     → now ≡ not ((get_or items k d).colour == 0) → cells' + one_if was ≡ cells + one_if now → Marks size (take (k + 1) voxels) words' cells'
 marks_step size seen voxels items k i words words' cells cells' was now d size_is same inside all marks of_i of_was of_here of_others of_length of_now of_count =
     let within : k < length voxels = rw (← same) inside in
     let item : get_or items k d ≡ get_or voxels k d = ap (λ (xs : List Voxel). get_or xs k d) same in
     let at : i ≡ index_of size (voxel_place (get_or voxels k d)) = of_i ∙ ap (λ (v : Voxel). index_of size (voxel_place v)) item in
-    let stands_in : StandsIn size (get_or voxels k d) = rw size_is (all k d within) in
+    let stands_in : StandsInside size (get_or voxels k d) = rw size_is (all k d within) in
     rw (take_more voxels k d within)
     (marks_more size (take k voxels) (get_or voxels k d) words words' cells cells' was now stands_in marks
     (of_was ∙ ap (is_set words) at) (ap (is_set words') (sym at) ∙ of_here) (λ j other. of_others j (λ e. other (e ∙ at))) of_length
@@ -103,13 +103,13 @@ marks_step size seen voxels items k i words words' cells cells' was now d size_i
 
 -- a bit that the loop finds set is counted
 pub counted_step : (size seen : Cell) (voxels items : List Voxel) (k i : ℕ) (words : List ℕ) (cells : ℕ) (was : Bool) (d : Voxel) → size ≡ seen → items ≡ voxels
-    → k < length items → All (StandsIn seen) voxels → Marks size (take k voxels) words cells → i ≡ index_of size (voxel_place (get_or items k d))
+    → k < length items → All (StandsInside seen) voxels → Marks size (take k voxels) words cells → i ≡ index_of size (voxel_place (get_or items k d))
     → was ≡ is_set words i → one_if was ≤ cells
 counted_step size seen voxels items k i words cells was d size_is same inside all marks of_i of_was =
     let within : k < length voxels = rw (← same) inside in
     let item : get_or items k d ≡ get_or voxels k d = ap (λ (xs : List Voxel). get_or xs k d) same in
     let at : i ≡ index_of size (voxel_place (get_or voxels k d)) = of_i ∙ ap (λ (v : Voxel). index_of size (voxel_place v)) item in
-    let stands_in : StandsIn size (get_or voxels k d) = rw size_is (all k d within) in
+    let stands_in : StandsInside size (get_or voxels k d) = rw size_is (all k d within) in
     rw (of_was, at) (counted size (take k voxels) words cells (get_or voxels k d) stands_in marks)
 
 -- the count of cells can still grow

@@ -10,7 +10,7 @@ use Rattle.vox_chunk.specs.declared.faults.VoxFault.{VoxFault}
 use Rattle.vox_chunk.specs.declared.faults.VoxFault.TheVariants.{ShortSize, SizeRange, ShortXyzi, VoxelOutside, TooManyModels}
 use Rattle.vox_chunk.specs.Frames.{Bounds, place_of, id_at, content_at}
 use Rattle.vox_read.specs.declared.voxels.Voxel.{Voxel}
-use Rattle.vox_read.specs.Contents.{Content, IsExtent, IsSize, StandsIn, IsModel, AreModels}
+use Rattle.vox_read.specs.Contents.{Content, IsModelExtent, IsSize, StandsInside, IsModel, AreModels}
 use Rattle.vox_read.specs.Fields.{is_extent, is_size, size_in, size_fault, voxels_in, voxels_fault, holds_its_voxels, stands_in, xyzi_fault}
 use Rattle.vox_read.specs.Children.{is_size_id, is_xyzi_id, waiting_at, model_with, models_before}
 use Rattle.vox_read.specs.Files.{AreRead, HasModels}
@@ -19,7 +19,7 @@ both : (a b : Bool) → (a && b) ≡ true → (a ≡ true) × (b ≡ true)
 both true b is = (refl, is)
 both false b is = absurd (let no : ⊥ = cc in no)
 
-extent_of : (n : ℕ) → is_extent n ≡ true → IsExtent n
+extent_of : (n : ℕ) → is_extent n ≡ true → IsModelExtent n
 extent_of n is = let parts = both (nat_le 1 n) (nat_le n 256) is in (leb-true 1 n parts.0, leb-true n 256 parts.1)
 
 size_of : (size : Cell) → is_size size ≡ true → IsSize size
@@ -28,17 +28,17 @@ size_of size is =
     let yz = both (is_extent size.y) (is_extent size.z) x.1 in
     record { x = extent_of size.x x.0; y = extent_of size.y yz.0; z = extent_of size.z yz.1 }
 
-stands_of : (size : Cell) (v : Voxel) → stands_in size v ≡ true → StandsIn size v
+stands_of : (size : Cell) (v : Voxel) → stands_in size v ≡ true → StandsInside size v
 stands_of size v is =
     let x = both (nat_lt v.x size.x) (nat_lt v.y size.y && nat_lt v.z size.z) is in
     let yz = both (nat_lt v.y size.y) (nat_lt v.z size.z) x.1 in
     record { x = ltb-true v.x size.x x.0; y = ltb-true v.y size.y yz.0; z = ltb-true v.z size.z yz.1 }
 
-all_stand : (size : Cell) (voxels : List Voxel) → list_all (stands_in size) voxels ≡ true → All (StandsIn size) voxels
-all_stand size [] is = All-nil (StandsIn size)
+all_stand : (size : Cell) (voxels : List Voxel) → list_all (stands_in size) voxels ≡ true → All (StandsInside size) voxels
+all_stand size [] is = All-nil (StandsInside size)
 all_stand size (v ∷ more) is =
     let parts = both (stands_in size v) (list_all (stands_in size) more) is in
-    All-cons (StandsIn size) v more (stands_of size v parts.0) (all_stand size more parts.1)
+    All-cons (StandsInside size) v more (stands_of size v parts.0) (all_stand size more parts.1)
 
 -- what follows where no rule is broken
 passes : (b : Bool) (fault : VoxFault) (rest : Option VoxFault) → (if b then Some fault else rest) ≡ None → (b ≡ false) × (rest ≡ None)

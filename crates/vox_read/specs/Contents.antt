@@ -25,25 +25,25 @@ abbrev pub is_cell : List Voxel → Cell → Bool
 is_cell voxels p = not (colour_at voxels p == 0)
 
 -- the number of cells of a model
-abbrev pub cells_of : Content → ℕ
-cells_of m = number_below m.size (is_cell m.voxels)
+abbrev pub cells_in_size : Content → ℕ
+cells_in_size m = number_below m.size (is_cell m.voxels)
 
 -- the number of cells of all models, each counted by itself
 abbrev pub cells_of_all : List Content → ℕ
-cells_of_all models = sum_by cells_of models
+cells_of_all models = sum_by cells_in_size models
 
 -- a size that a model can have on one axis
-abbrev pub IsExtent : ℕ → Type 0
-IsExtent n = (1 ≤ n) × (n ≤ 256)
+abbrev pub IsModelExtent : ℕ → Type 0
+IsModelExtent n = (1 ≤ n) × (n ≤ 256)
 
 -- a size that a model can have
 pub record IsSize (size : Cell) : Type 0 where
-  pub x : IsExtent size.x
-  pub y : IsExtent size.y
-  pub z : IsExtent size.z
+  pub x : IsModelExtent size.x
+  pub y : IsModelExtent size.y
+  pub z : IsModelExtent size.z
 
 -- the voxel stands inside a model of this size, whatever its colour
-pub record StandsIn (size : Cell) (v : Voxel) : Type 0 where
+pub record StandsInside (size : Cell) (v : Voxel) : Type 0 where
   pub x : v.x < size.x
   pub y : v.y < size.y
   pub z : v.z < size.z
@@ -51,7 +51,7 @@ pub record StandsIn (size : Cell) (v : Voxel) : Type 0 where
 -- a model that a file can hold
 pub record IsModel (m : Content) : Type 0 where
   pub size : IsSize m.size
-  pub voxels : All (StandsIn m.size) m.voxels
+  pub voxels : All (StandsInside m.size) m.voxels
 
 -- the models that a file can hold
 pub record AreModels (models : List Content) : Type 0 where

@@ -14,8 +14,10 @@ pub record AreRead (bytes : List ℕ) (main : Bounds) (i : ℕ) : Type 0 where
 -- child i breaks a rule: its frame doesn't fit, or its frame fits and its fields don't
 abbrev pub Breaks : List ℕ → Bounds → ℕ → VoxFault → Type 0
 Breaks bytes main i fault =
-    ((FrameFits bytes main.end (place_of bytes main.first i) → ⊥) × (fault ≡ Truncated (place_of bytes main.first i)))
-    ⊎ (FrameFits bytes main.end (place_of bytes main.first i) × (child_fault bytes main.first i ≡ Some fault))
+    ((FrameFits bytes main.end (place_of bytes main.first i) → ⊥)
+    × (fault ≡ Truncated (place_of bytes main.first i)))
+    ⊎ (FrameFits bytes main.end (place_of bytes main.first i)
+    × (child_fault bytes main.first i ≡ Some fault))
 
 -- child i is the first that breaks a rule
 pub record IsFirstFault (bytes : List ℕ) (fault : VoxFault) : Type 0 where
@@ -36,11 +38,11 @@ pub record HasModels (bytes : List ℕ) (models : List Content) : Type 0 where
   pub are : models ≡ models_before bytes main.first children
 
 -- what the bytes say; the header's rules come before those of the children
-abbrev pub Reads : List ℕ → Result (List Content) VoxFault → Type 0
-Reads bytes (Ok models) = HasModels bytes models
-Reads bytes (Err fault) = (header_of bytes ≡ Err fault) ⊎ IsFirstFault bytes fault
+abbrev pub ReadsModels : List ℕ → Result (List Content) VoxFault → Type 0
+ReadsModels bytes (Ok models) = HasModels bytes models
+ReadsModels bytes (Err fault) = (header_of bytes ≡ Err fault) ⊎ IsFirstFault bytes fault
 
 -- what a refusal says of the bytes: want of memory says nothing
-abbrev pub Refuses : VoxFault → List ℕ → Type 0
-Refuses Memory bytes = Unit {0}
-Refuses fault bytes = Reads bytes (Err fault)
+abbrev pub RefusesFile : VoxFault → List ℕ → Type 0
+RefusesFile Memory bytes = Unit {0}
+RefusesFile fault bytes = ReadsModels bytes (Err fault)

@@ -1,4 +1,5 @@
--- What a refusal says of a rule that was tested: that it is the one broken, and want of memory says nothing.
+-- What a refusal says of a rule that was tested: that it is the one broken, and want of memory says
+-- nothing.
 use Rattle.std.specs.Prelude.{◌≡◌, ℕ, Bool, false, Option, Some}
 use Rattle.vox_chunk.specs.declared.faults.VoxFault.{VoxFault}
 use Rattle.vox_chunk.specs.declared.faults.VoxFault.TheVariants.{VoxelOutside, Memory}

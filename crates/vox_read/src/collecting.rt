@@ -10,9 +10,9 @@ use vw_cell::Memory;
 
 /// The model's cells, each once, in the order in which the list of voxels first names them.
 ///
-/// Each is told by its first voxel of the list, whose colour need not be the one that the cell has in
-/// the end. It goes over the voxels twice, with one bit for each place of the model's size, and takes
-/// room for exactly as many voxels as there are cells.
+/// Each is told by its first voxel of the list, whose colour need not be the one that the cell has
+/// in the end. It goes over the voxels twice, with one bit for each place of the model's size, and
+/// takes room for exactly as many voxels as there are cells.
 pub fn cells(alloc: Global, model: &Model) -> Result<Vec<Voxel>, Memory>
     requires { IsModel model.now }
     ensures { IfOk result (λ cells. AreCells model.now cells.items) }

@@ -1,6 +1,6 @@
 ghost use Rattle.std.specs.Prelude.{◌≡◌, ◌+◌, ◌*◌, ◌^◌, ◌<◌, ◌≤◌, IfOk};
 ghost use Rattle.sums.specs.Sums.{one_if};
-ghost use Rattle.vox_read.specs.Contents.{IsModel, IsSize, StandsIn, cells_of};
+ghost use Rattle.vox_read.specs.Contents.{IsModel, IsSize, StandsInside, cells_in_size};
 ghost use Rattle.vox_read.specs.Marks.{Marks};
 ghost use Rattle.vox_read.specs.Places.{index_of, voxel_place, volume_of};
 
@@ -15,7 +15,7 @@ use vw_cell::{Cell, Memory};
 /// It goes over the voxels once, with one bit for each place of the model's size.
 pub fn cell_count(alloc: Global, model: &Model) -> Result<u32, Memory>
     requires { IsModel model.now }
-    ensures { IfOk result (λ n. n ≡ cells_of model.now) }
+    ensures { IfOk result (λ n. n ≡ cells_in_size model.now) }
 {
     let marked = mark_cells(alloc, model)?;
     Ok(marked.cells)
@@ -58,7 +58,7 @@ fn volume(size: Cell) -> usize
 #[tactic(auto, using(crate::proofs::Bounds::index_fits))]
 pub(crate) fn index(size: Cell, v: Voxel) -> usize
     requires size { IsSize size }
-    requires inside { StandsIn size v }
+    requires inside { StandsInside size v }
     ensures { result ≡ index_of size (voxel_place v) }
 {
     (usize::from(v.z) * usize::from(size.y) + usize::from(v.y)) * usize::from(size.x)

@@ -13,7 +13,10 @@ use vw_cell::Cell;
 
 // The size that a SIZE gives.
 pub(crate) fn read_size(chunk: &Chunk<'_>) -> Result<Cell, VoxFault>
-    ensures { MatchResult result (λ size. (size_fault chunk.now.at chunk.now.content.now ≡ None) × (size ≡ size_in chunk.now.content.now)) (λ fault. size_fault chunk.now.at chunk.now.content.now ≡ Some fault) }
+    ensures { MatchResult result
+        (λ size. (size_fault chunk.now.at chunk.now.content.now ≡ None)
+        × (size ≡ size_in chunk.now.content.now))
+        (λ fault. size_fault chunk.now.at chunk.now.content.now ≡ Some fault) }
 {
     let content = chunk.content;
     if content.len() < 12 {
@@ -42,8 +45,11 @@ fn is_extent(n: u32) -> bool
 // The model that an XYZI gives, of the size that waits.
 pub(crate) fn read_model(alloc: Global, size: Cell, chunk: &Chunk<'_>) -> Result<Model, VoxFault>
     requires { length chunk.now.content.now ≤ 2 ^ 28 }
-    ensures read { IfOk result (λ m. (voxels_fault chunk.now.at size chunk.now.content.now ≡ None) × (m ≡ record { size = size; voxels = voxels_in chunk.now.content.now })) }
-    ensures refused { IfErr result (λ fault. SaysBroken fault (voxels_fault chunk.now.at size chunk.now.content.now)) }
+    ensures read { IfOk result
+        (λ m. (voxels_fault chunk.now.at size chunk.now.content.now ≡ None)
+        × (m ≡ record { size = size; voxels = voxels_in chunk.now.content.now })) }
+    ensures refused { IfErr result
+        (λ fault. SaysBroken fault (voxels_fault chunk.now.at size chunk.now.content.now)) }
 {
     let content = chunk.content;
     if content.len() < 4 {
@@ -60,8 +66,11 @@ pub(crate) fn read_model(alloc: Global, size: Cell, chunk: &Chunk<'_>) -> Result
 // The voxels of these bytes, where each stands inside the size.
 #[tactic(auto, using(crate::proofs::Grouping::read_none, crate::proofs::Grouping::read_more, crate::proofs::Grouping::more_outside, crate::proofs::Grouping::read_all))]
 fn read_voxels(alloc: Global, size: Cell, bytes: &[u8], at: u32) -> Result<Vec<Voxel>, VoxFault>
-    ensures read { IfOk result (λ voxels. (list_all (stands_in size) (voxels_of bytes.now) ≡ true) × (voxels.items ≡ voxels_of bytes.now)) }
-    ensures refused { IfErr result (λ fault. SaysOutside fault at (list_all (stands_in size) (voxels_of bytes.now))) }
+    ensures read { IfOk result
+        (λ voxels. (list_all (stands_in size) (voxels_of bytes.now) ≡ true)
+        × (voxels.items ≡ voxels_of bytes.now)) }
+    ensures refused { IfErr result
+        (λ fault. SaysOutside fault at (list_all (stands_in size) (voxels_of bytes.now))) }
 {
     let mut voxels = Vec::with_capacity(alloc, bytes.len() / 4)?;
     let mut rest = bytes;

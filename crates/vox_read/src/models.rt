@@ -3,8 +3,8 @@ use vw_cell::Cell;
 
 /// A model: its size, from 1 to 256 on each axis, and its voxels in the order of the file.
 ///
-/// Contracts see the size and the list of the voxels. Where several voxels stand at one place the last
-/// of them decides.
+/// Contracts see the size and the list of the voxels. Where several voxels stand at one place the
+/// last of them decides.
 #[derive(Drop)]
 pub struct Model {
     pub size: Cell,

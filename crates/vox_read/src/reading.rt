@@ -3,7 +3,7 @@ ghost use Rattle.vox_chunk.specs.declared.faults.VoxFault.{VoxFault};
 ghost use Rattle.vox_read.specs.Contents.{AreModels, Content};
 ghost use Rattle.vox_read.specs.Children.{waiting_behind, models_in, fields_fault};
 ghost use Rattle.vox_read.specs.Refusals.{SaysBroken};
-ghost use Rattle.vox_read.specs.Files.{Reads, Refuses};
+ghost use Rattle.vox_read.specs.Files.{ReadsModels, RefusesFile};
 
 use crate::fields::{read_model, read_size};
 use crate::models::{Model, Models};
@@ -14,18 +14,19 @@ use vw_cell::Cell;
 /// The most models that a file may have.
 const MODELS: usize = 1024;
 
-/// Reads the models of a file, in the file's order, or tells its first fault: that of the header, or
-/// else of the first child of MAIN whose frame or fields break a rule.
+/// Reads the models of a file, in the file's order, or tells its first fault: that of the header,
+/// or else of the first child of MAIN whose frame or fields break a rule.
 ///
 /// A model is an XYZI chunk with the size of the last SIZE chunk before it, which no XYZI stands
-/// between. All other chunks, and whatever stands behind the fields, in MAIN's content or behind MAIN,
-/// are passed over. Want of memory may come in place of any answer.
-/// Source of the layout: MagicaVoxel's format text, version 150; version 200 is read by the same rules.
+/// between. All other chunks, and whatever stands behind the fields, in MAIN's content or behind
+/// MAIN, are passed over. Want of memory may come in place of any answer.
+/// Source of the layout: MagicaVoxel's format text, version 150; version 200 is read by the same
+/// rules.
 pub fn read_models(alloc: Global, bytes: &[u8]) -> Result<Models, VoxFault>
     requires { length bytes.now ≤ 2 ^ 28 }
     ensures models { IfOk result AreModels }
-    ensures read { IfOk result (λ models. Reads bytes.now (Ok models)) }
-    ensures refused { IfErr result (λ fault. Refuses fault bytes.now) }
+    ensures read { IfOk result (λ models. ReadsModels bytes.now (Ok models)) }
+    ensures refused { IfErr result (λ fault. RefusesFile fault bytes.now) }
 {
     let mut chunks = Chunks::new(bytes)?;
     let mut waiting = None;
@@ -39,8 +40,8 @@ pub fn read_models(alloc: Global, bytes: &[u8]) -> Result<Models, VoxFault>
     Ok(Models { list })
 }
 
-// Reads the fields of a chunk, with the size that waits and the models so far. The answer is the size
-// that waits behind it.
+// Reads the fields of a chunk, with the size that waits and the models so far. The answer is the
+// size that waits behind it.
 fn take_chunk(
     alloc: Global,
     chunk: &Chunk<'_>,
@@ -48,10 +49,17 @@ fn take_chunk(
     list: &mut Vec<Model>,
 ) -> Result<Option<Cell>, VoxFault>
     requires { length chunk.now.content.now ≤ 2 ^ 28 }
-    ensures fine { OnOk result (fields_fault waiting (length list.old.items) chunk.now.id chunk.now.content.now chunk.now.at ≡ None) }
-    ensures waits { IfOk result (λ size. size ≡ waiting_behind chunk.now.id chunk.now.content.now waiting) }
-    ensures models { OnOk result (list.new.items ≡ list.old.items ++ models_in chunk.now.id chunk.now.content.now waiting) }
-    ensures refused { IfErr result (λ fault. SaysBroken fault (fields_fault waiting (length list.old.items) chunk.now.id chunk.now.content.now chunk.now.at)) }
+    ensures fine { OnOk result
+        (fields_fault waiting
+        (length list.old.items) chunk.now.id chunk.now.content.now chunk.now.at ≡ None) }
+    ensures waits { IfOk result
+        (λ size. size ≡ waiting_behind chunk.now.id chunk.now.content.now waiting) }
+    ensures models { OnOk result
+        (list.new.items ≡ list.old.items ++ models_in chunk.now.id chunk.now.content.now waiting) }
+    ensures refused { IfErr result
+        (λ fault. SaysBroken fault
+        (fields_fault waiting
+        (length list.old.items) chunk.now.id chunk.now.content.now chunk.now.at)) }
 {
     if chunk.id == *b"SIZE" {
         return Ok(Some(read_size(chunk)?));
@@ -71,10 +79,11 @@ fn take_chunk(
 
 /// One list of bytes says one thing: its models, or its first fault.
 pub fn files_have_one_reading()
-    ensures { (bytes : List ℕ) (a b : Result (List Content) VoxFault) → Reads bytes a → Reads bytes b → a ≡ b }
+    ensures { (bytes : List ℕ) (a b : Result (List Content) VoxFault) → ReadsModels bytes a
+        → ReadsModels bytes b → a ≡ b }
 {}
 
 /// Every list of bytes says something: its models, or its first fault.
 pub fn files_have_a_reading()
-    ensures { (bytes : List ℕ) → (says : Result (List Content) VoxFault) × Reads bytes says }
+    ensures { (bytes : List ℕ) → (says : Result (List Content) VoxFault) × ReadsModels bytes says }
 {}

@@ -1,4 +1,5 @@
-/// One entry of a model's list: a place below the model's size, and a colour index, 0 for no colour.
+/// One entry of a model's list: a place below the model's size, and a colour index, 0 for no
+/// colour.
 #[derive(Clone, Copy, Debug, PartialEq, Eq)]
 pub struct Voxel {
     pub x: u8,

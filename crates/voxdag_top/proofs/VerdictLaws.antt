@@ -3,7 +3,7 @@ use Rattle.std.proofs.Common.{◌≡◌, ℕ, List, Option, Some, None, Result, 
 use Rattle.vw_io.specs.Outside.{Files}
 use Rattle.vox_chunk.specs.declared.faults.VoxFault.{VoxFault}
 use Rattle.vox_read.specs.Contents.{Content}
-use Rattle.vox_read.specs.Files.{Reads}
+use Rattle.vox_read.specs.Files.{ReadsModels}
 use Rattle.script_files.specs.declared.requests.Request.{Request}
 use Rattle.script_files.specs.Requests.{inputs_of}
 use Rattle.script_files.specs.Meanings.{file_in}
@@ -11,13 +11,13 @@ use Rattle.script_files.specs.Verdicts.{Verdict, inputs_at, verdict_of, JudgesIn
 use Rattle.script_files.specs.Judging.{inputs_once}
 use Rattle.voxdag_top.specs.Verdicts.{JudgesWords}
 
-inputs_verdict : ((bytes : List ℕ) → (says : Result (List Content) VoxFault) × Reads bytes says) → (a : Request) (inputs : Result (List (List ℕ)) Verdict) → (v : Verdict) × JudgesInputs a inputs v
+inputs_verdict : ((bytes : List ℕ) → (says : Result (List Content) VoxFault) × ReadsModels bytes says) → (a : Request) (inputs : Result (List (List ℕ)) Verdict) → (v : Verdict) × JudgesInputs a inputs v
 inputs_verdict readings a (Err early) = (early, refl)
 inputs_verdict readings a (Ok texts) =
     let reading = readings (file_in texts) in
     (verdict_of a texts reading.0, record { reading = reading.0; says = reading.1; follows = refl })
 
-pub some_verdict : ((bytes : List ℕ) → (says : Result (List Content) VoxFault) × Reads bytes says) → (a : Request) (files : Files) → (v : Verdict) × JudgesWords (Some a) files v
+pub some_verdict : ((bytes : List ℕ) → (says : Result (List Content) VoxFault) × ReadsModels bytes says) → (a : Request) (files : Files) → (v : Verdict) × JudgesWords (Some a) files v
 some_verdict readings a files = inputs_verdict readings a (inputs_at files (inputs_of a))
 
 pub one_verdict : (a : Option Request) (files : Files) (v w : Verdict) → JudgesWords a files v → JudgesWords a files w → v ≡ w

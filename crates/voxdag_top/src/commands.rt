@@ -19,42 +19,55 @@ use vw_io::{Shelf, Sink};
 
 /// The program: does what the words after the program's name ask for, and puts one line on `out`.
 ///
-/// `count FILE` puts the number of cells of the file's models. `run`, then `--side s` or nothing, then
-/// `--journal J` or nothing, then `FILE SCRIPT` runs the script over a world of that side, 4 to 256 and
-/// 256 where it is not given, with the models of the file; it writes the transcript as `SCRIPT.out` and
-/// the journal as `J`, and puts the number of records. A VOX file has at most 256 MiB, a script 8 MiB.
+/// `count FILE` puts the number of cells of the file's models. `run`, then `--side s` or nothing,
+/// then
+/// `--journal J` or nothing, then `FILE SCRIPT` runs the script over a world of that side, 4 to 256
+/// and 256 where it is not given, with the models of the file; it writes the transcript as
+/// `SCRIPT.out` and the journal as `J`, and puts the number of records. A VOX file has at most 256
+/// MiB, a script 8 MiB.
 ///
-/// The answer is the status with which the process ends: 0 done, 1 words outside the grammar or names
-/// that collide, 2 an input that is not there, 3 a fault of the shelf at an input, 4 a VOX file that is
-/// refused, 5 a script that is refused, 6 a fault of the shelf at an output, 7 a fault of `out`, 8 want
-/// of memory, 9 an input over its limit. Where a line cannot be put, 7 or 8 comes in place of its status.
+/// The answer is the status with which the process ends: 0 done, 1 words outside the grammar or
+/// names that collide, 2 an input that is not there, 3 a fault of the shelf at an input, 4 a VOX
+/// file that is refused, 5 a script that is refused, 6 a fault of the shelf at an output, 7 a fault
+/// of `out`, 8 want of memory, 9 an input over its limit. Where a line cannot be put, 7 or 8 comes
+/// in place of its status.
 pub fn voxdag<S: Shelf, O: Sink>(alloc: Global, words: &[String], shelf: &mut S, out: &mut O) -> u8
     ensures known { IsTrue (is_status result) }
 
     // what each status says
     ensures done { result ≡ 0 → Finished (request_of (texts words.now))
-        (outside (S.state shelf.old) (O.state out.old)) (outside (S.state shelf.new) (O.state out.new)) }
+        (outside (S.state shelf.old) (O.state out.old))
+        (outside (S.state shelf.new) (O.state out.new)) }
     ensures usage { result ≡ 1 → Unusable (request_of (texts words.now))
-        (outside (S.state shelf.old) (O.state out.old)) (outside (S.state shelf.new) (O.state out.new)) }
+        (outside (S.state shelf.old) (O.state out.old))
+        (outside (S.state shelf.new) (O.state out.new)) }
     ensures missing { result ≡ 2 → Missed (request_of (texts words.now))
-        (outside (S.state shelf.old) (O.state out.old)) (outside (S.state shelf.new) (O.state out.new)) }
+        (outside (S.state shelf.old) (O.state out.old))
+        (outside (S.state shelf.new) (O.state out.new)) }
     ensures read_fault { result ≡ 3 → Faulted (request_of (texts words.now))
-        (outside (S.state shelf.old) (O.state out.old)) (outside (S.state shelf.new) (O.state out.new)) }
+        (outside (S.state shelf.old) (O.state out.old))
+        (outside (S.state shelf.new) (O.state out.new)) }
     ensures vox_refused { result ≡ 4 → VoxRefused (request_of (texts words.now))
-        (outside (S.state shelf.old) (O.state out.old)) (outside (S.state shelf.new) (O.state out.new)) }
+        (outside (S.state shelf.old) (O.state out.old))
+        (outside (S.state shelf.new) (O.state out.new)) }
     ensures script_refused { result ≡ 5 → ScriptRefused (request_of (texts words.now))
-        (outside (S.state shelf.old) (O.state out.old)) (outside (S.state shelf.new) (O.state out.new)) }
+        (outside (S.state shelf.old) (O.state out.old))
+        (outside (S.state shelf.new) (O.state out.new)) }
     ensures write_fault { result ≡ 6 → WriteFailed (request_of (texts words.now))
-        (outside (S.state shelf.old) (O.state out.old)) (outside (S.state shelf.new) (O.state out.new)) }
+        (outside (S.state shelf.old) (O.state out.old))
+        (outside (S.state shelf.new) (O.state out.new)) }
     ensures out_fault { result ≡ 7 → OutFailed (request_of (texts words.now))
-        (outside (S.state shelf.old) (O.state out.old)) (outside (S.state shelf.new) (O.state out.new)) }
+        (outside (S.state shelf.old) (O.state out.old))
+        (outside (S.state shelf.new) (O.state out.new)) }
     ensures memory { result ≡ 8 → LacksMemory (request_of (texts words.now))
-        (outside (S.state shelf.old) (O.state out.old)) (outside (S.state shelf.new) (O.state out.new)) }
+        (outside (S.state shelf.old) (O.state out.old))
+        (outside (S.state shelf.new) (O.state out.new)) }
     ensures too_long { result ≡ 9 → Exceeded (request_of (texts words.now))
-        (outside (S.state shelf.old) (O.state out.old)) (outside (S.state shelf.new) (O.state out.new)) }
+        (outside (S.state shelf.old) (O.state out.old))
+        (outside (S.state shelf.new) (O.state out.new)) }
 
-    // which status must come: for words outside the grammar, and for all others over a shelf that tells
-    // its files and does not fail
+    // which status must come: for words outside the grammar, and for all others over a shelf that
+    // tells its files and does not fail
     ensures usage_comes { request_of (texts words.now) ≡ None → IsOr 1 result }
     ensures comes { (files : Files) (v : Verdict) → (S.state shelf.old).files ≡ Some files
         → (Rose (S.state shelf.old).faults (S.state shelf.new).faults → ⊥)
@@ -66,7 +79,8 @@ pub fn voxdag<S: Shelf, O: Sink>(alloc: Global, words: &[String], shelf: &mut S,
 // Does what the words ask for, and puts its line.
 fn answer<S: Shelf, O: Sink>(alloc: Global, words: &[String], shelf: &mut S, out: &mut O) -> u8
     ensures { Runs (request_of (texts words.now))
-        (outside (S.state shelf.old) (O.state out.old)) (outside (S.state shelf.new) (O.state out.new)) result }
+        (outside (S.state shelf.old) (O.state out.old))
+        (outside (S.state shelf.new) (O.state out.new)) result }
 {
     match read_words(words) {
         None => finish(alloc, &Ending::Usage, String::new(alloc), out),
@@ -77,7 +91,8 @@ fn answer<S: Shelf, O: Sink>(alloc: Global, words: &[String], shelf: &mut S, out
 
 fn count<S: Shelf, O: Sink>(alloc: Global, file: FileName<'_>, shelf: &mut S, out: &mut O) -> u8
     ensures { Runs (Some (Count file.entry))
-        (outside (S.state shelf.old) (O.state out.old)) (outside (S.state shelf.new) (O.state out.new)) result }
+        (outside (S.state shelf.old) (O.state out.old))
+        (outside (S.state shelf.new) (O.state out.new)) result }
 {
     let ending = counted(alloc, file, shelf);
     finish(alloc, &ending, String::new(alloc), out)
@@ -94,10 +109,12 @@ fn counted<'w, S: Shelf>(alloc: Global, file: FileName<'w>, shelf: &mut S) -> En
     }
 }
 
-// Runs the script, once there is the transcript's name, and room for the line of a fault at an output.
+// Runs the script, once there is the transcript's name, and room for the line of a fault at an
+// output.
 fn run<S: Shelf, O: Sink>(alloc: Global, order: &Order<'_>, shelf: &mut S, out: &mut O) -> u8
     ensures { Runs (Some (Run order.now))
-        (outside (S.state shelf.old) (O.state out.old)) (outside (S.state shelf.new) (O.state out.new)) result }
+        (outside (S.state shelf.old) (O.state out.old))
+        (outside (S.state shelf.new) (O.state out.new)) result }
 {
     let lacking = Ending::Refused(CommandRefused::Text(TextRefused::Memory));
     match format!(in alloc; "{}.out", order.script) {
@@ -124,9 +141,11 @@ fn run_named<S: Shelf, O: Sink>(
     requires named { transcript.now ≡ transcript_name order.now.script }
     requires empty { string_bytes room ≡ [] }
     requires transcript { length (write_fault_line transcript.now) ≤ string_capacity room }
-    requires journal { IfSome order.now.journal (λ name. length (write_fault_line name) ≤ string_capacity room) }
+    requires journal { IfSome order.now.journal
+        (λ name. length (write_fault_line name) ≤ string_capacity room) }
     ensures { Runs (Some (Run order.now))
-        (outside (S.state shelf.old) (O.state out.old)) (outside (S.state shelf.new) (O.state out.new)) result }
+        (outside (S.state shelf.old) (O.state out.old))
+        (outside (S.state shelf.new) (O.state out.new)) result }
 {
     let asked = Order {
         side: order.side,

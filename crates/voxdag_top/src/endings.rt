@@ -1,7 +1,7 @@
 use script_files::CommandRefused;
 
-/// How the program ends, before the line that says it is put. The clauses of [`crate::voxdag`] speak of it where the line
-/// could not be put; no call gives one.
+/// How the program ends, before the line that says it is put. The clauses of [`crate::voxdag`]
+/// speak of it where the line could not be put; no call gives one.
 #[derive(Clone, Copy, Debug, PartialEq, Eq)]
 pub enum Ending<'w> {
     /// The cells were counted.

@@ -15,5 +15,6 @@ pub fn words_have_a_verdict()
 
 /// A law: it has one verdict alone.
 pub fn verdicts_are_one()
-    ensures { (a : Option Request) (files : Files) (v w : Verdict) → JudgesWords a files v → JudgesWords a files w → v ≡ w }
+    ensures { (a : Option Request) (files : Files) (v w : Verdict) → JudgesWords a files v
+        → JudgesWords a files w → v ≡ w }
 {}

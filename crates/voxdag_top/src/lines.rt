@@ -97,7 +97,8 @@ fn refused_line(
 }
 
 fn input_line(alloc: Global, input: &InputRefused<'_>) -> Result<String, AllocError>
-    ensures { IfOk result (λ text. string_bytes text ≡ input_line input.now.why input.now.name.now) }
+    ensures { IfOk result
+        (λ text. string_bytes text ≡ input_line input.now.why input.now.name.now) }
 {
     let name = input.name;
     match input.why {
@@ -124,7 +125,8 @@ fn text_line(alloc: Global, text: &TextRefused) -> Result<String, AllocError>
 }
 
 fn script_line(alloc: Global, fault: &ScriptFault) -> Result<String, AllocError>
-    ensures { IfOk result (λ text. string_bytes text ≡ script_line fault.now.line (number_of_kind fault.now.kind)) }
+    ensures { IfOk result
+        (λ text. string_bytes text ≡ script_line fault.now.line (number_of_kind fault.now.kind)) }
 {
     let line = fault.line;
     let kind = fault.kind.number();
@@ -138,7 +140,8 @@ fn output_line(
 ) -> Result<String, AllocError>
     requires empty { string_bytes room ≡ [] }
     requires room { WriteHasRoom output.now.why output.now.name.now (string_capacity room) }
-    ensures text { IfOk result (λ text. string_bytes text ≡ output_line output.now.why output.now.name.now) }
+    ensures text { IfOk result
+        (λ text. string_bytes text ≡ output_line output.now.why output.now.name.now) }
     ensures lacking { OnErr result (WriteMayLackLine output.now.why) }
 {
     match output.why {

@@ -92,7 +92,8 @@ fn with_journal(side: Side, words: &[String]) -> Option<Request<'_>>
 
 // The names that end the words of `run`.
 fn run_names<'w>(side: Side, journal: Option<&'w str>, words: &'w [String]) -> Option<Request<'w>>
-    ensures { result ≡ run_names side (option_map (λ name. name.now) journal.entry) (texts words.now) }
+    ensures { result ≡ run_names side (option_map (λ name. name.now) journal.entry)
+        (texts words.now) }
 {
     match words {
         [file, script] if is_name(file.as_str()) && is_name(script.as_str()) => Some(Request::Run(

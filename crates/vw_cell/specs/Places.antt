@@ -27,7 +27,8 @@ abbrev pub is_within : ℕ → ℕ → ℕ → Bool
 is_within low size p = nat_le low p && nat_lt p (low + size)
 
 abbrev pub is_in_box : Boxed → Cell → Bool
-is_in_box b c = is_within b.at.x b.size.x c.x && is_within b.at.y b.size.y c.y && is_within b.at.z b.size.z c.z
+is_in_box b c =
+    is_within b.at.x b.size.x c.x && is_within b.at.y b.size.y c.y && is_within b.at.z b.size.z c.z
 
 -- a stretch of one axis has a length, and ends in the world
 abbrev pub Fits : ℕ → ℕ → ℕ → Type 0
@@ -105,3 +106,7 @@ octant_of b octant =
       level = b.level - 1;
       at = record { x = b.at.x + half * half_x octant; y = b.at.y + half * half_y octant; z = b.at.z + half * half_z octant };
     }
+
+-- a cell has numbers of 16 bits
+abbrev pub IsCell : Cell → Type 0
+IsCell c = (c.x < 2 ^ 16) × (c.y < 2 ^ 16) × (c.z < 2 ^ 16)

@@ -30,5 +30,6 @@ is_in_box_holds b c i =
 pub is_within-none : (low p : ℕ) → is_within low 0 p ≡ false
 is_within-none low p = grind (arith, nat_tests)
 
-pub is_within-more : (low size p : ℕ) → is_within low (size + 1) p ≡ (is_within low size p || is_within (low + size) 1 p)
+pub is_within-more : (low size p : ℕ)
+    → is_within low (size + 1) p ≡ (is_within low size p || is_within (low + size) 1 p)
 is_within-more low size p = grind (arith, nat_tests)

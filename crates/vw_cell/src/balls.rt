@@ -6,8 +6,8 @@ use crate::sides::Side;
 
 /// A ball of cells: those whose distance from the centre is at most the radius, in cells.
 ///
-/// One made by [`Ball::new`] has its centre in that world. Cells of it that lie outside are nobody's:
-/// a ball is clipped by the world.
+/// One made by [`Ball::new`] has its centre in that world. Cells of it that lie outside are
+/// nobody's: a ball is clipped by the world.
 #[derive(Clone, Copy, Debug, PartialEq, Eq)]
 pub struct Ball {
     pub centre: Cell,
@@ -18,7 +18,8 @@ pub struct Ball {
 const MAX_RADIUS: u16 = 4095;
 
 impl Ball {
-    /// The ball round this cell. `None` where the centre is outside the world or the radius over 4,095.
+    /// The ball round this cell. `None` where the centre is outside the world or the radius over
+    /// 4,095.
     pub fn new(centre: Cell, radius: u16, side: Side) -> Option<Ball>
         ensures exactly { IsSome result ↔ (IsInWorld (2 ^ side) centre × (radius ≤ 4095)) }
         ensures value { IfSome result (λ b. (b.centre ≡ centre) × (b.radius ≡ radius)) }

@@ -12,7 +12,8 @@ pub struct Block {
 
 impl Block {
     #[tactic(auto, using(crate::proofs::Halves::block_side_halves))]
-    /// One of the eight octants, of the level below. An octant's number is x + 2y + 4z of its halves.
+    /// One of the eight octants, of the level below. An octant's number is x + 2y + 4z of its
+    /// halves.
     pub fn child(&self, octant: u8) -> Block
         requires level { (1 ≤ self.now.level) × (self.now.level ≤ 10) }
         requires inside { LiesIn 4096 self.now }

@@ -1,4 +1,5 @@
-//! Cells of a world, and the boxes, balls and aligned blocks of cells that edits and questions name.
+//! Cells of a world, and the boxes, balls and aligned blocks of cells that edits and questions
+//! name.
 //!
 //! Every layer above speaks of membership by the definitions in `specs/Places.antt` alone.
 #![tactic(auto)]

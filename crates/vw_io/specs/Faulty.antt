@@ -22,12 +22,15 @@ FailsRead None result = ⊤
 FailsRead (Some passes) result = result ≡ Err reads.Failed
 
 -- a write at a call that fails leaves just so many first bytes, unless memory is wanted
-abbrev pub LeavesFirst : ℕ → Files → Files → List ℕ → List ℕ → Result (Unit {0}) WriteRefused → Type 0
+abbrev pub LeavesFirst : ℕ → Files → Files → List ℕ → List ℕ → Result (Unit {0}) WriteRefused
+    → Type 0
 LeavesFirst passes old new name bytes (Ok done) = ⊥
-LeavesFirst passes old new name bytes (Err writes.Failed) = (new name ≡ Some (take passes bytes)) × SameElsewhere old new name
+LeavesFirst passes old new name bytes (Err writes.Failed) =
+    (new name ≡ Some (take passes bytes)) × SameElsewhere old new name
 LeavesFirst passes old new name bytes (Err writes.Memory) = new ≡ old
 
-abbrev pub FailsWrite : Option ℕ → Files → Files → List ℕ → List ℕ → Result (Unit {0}) WriteRefused → Type 0
+abbrev pub FailsWrite : Option ℕ → Files → Files → List ℕ → List ℕ → Result (Unit {0}) WriteRefused
+    → Type 0
 FailsWrite None old new name bytes (Ok done) = ⊤
 FailsWrite None old new name bytes (Err writes.Failed) = ⊥
 FailsWrite None old new name bytes (Err writes.Memory) = ⊤

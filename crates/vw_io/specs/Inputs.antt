@@ -5,7 +5,7 @@ use Rattle.vw_io.specs.declared.shelves.ReadRefused.TheVariants.{Missing, TooLon
 use Rattle.vw_io.specs.Outside.{Files, Rose, Stayed}
 
 -- an input's name, and the most bytes that its file may have
-pub record Wanted : Type 0 where
+pub record WantedInput : Type 0 where
   pub name : List ℕ
   pub limit : ℕ
 
@@ -25,41 +25,46 @@ FileIsOver None name limit = ⊤
 FileIsOver (Some files) name limit = IsSomeAnd (files name) (λ bytes. limit < length bytes)
 
 -- an input was taken
-pub record Taken (files : Option Files) (input : Wanted) (bytes : List ℕ) : Type 0 where
+pub record Taken (files : Option Files) (input : WantedInput) (bytes : List ℕ) : Type 0 where
   pub is_file : FileIs files input.name bytes
   pub within : length bytes ≤ input.limit
 
 -- all were taken, and these are the bytes of each, in order
-abbrev pub AreTaken : Option Files → List Wanted → List (List ℕ) → Type 0
+abbrev pub AreTaken : Option Files → List WantedInput → List (List ℕ) → Type 0
 AreTaken files [] [] = ⊤
 AreTaken files [] (bytes ∷ texts) = ⊥
 AreTaken files (input ∷ inputs) [] = ⊥
-AreTaken files (input ∷ inputs) (bytes ∷ texts) = Taken files input bytes × AreTaken files inputs texts
+AreTaken files (input ∷ inputs) (bytes ∷ texts) =
+    Taken files input bytes × AreTaken files inputs texts
 
 -- this one was asked for, after all before it were taken
-pub record Reaches (files : Option Files) (inputs : List Wanted) (input : Wanted) : Type 0 where
-  pub before : List Wanted
-  pub after : List Wanted
+pub record GetsTo (files : Option Files) (inputs : List WantedInput)
+    (input : WantedInput) : Type 0 where
+  pub before : List WantedInput
+  pub after : List WantedInput
   pub parts : inputs ≡ before ++ input ∷ after
   pub texts : List (List ℕ)
   pub taken : AreTaken files before texts
 
 -- what stands behind its refusal, where the count of faults was `faults` and is `risen`
-abbrev pub RefusesInput : ReadRefused → Option Files → Wanted → ℕ → ℕ → Type 0
+abbrev pub RefusesInput : ReadRefused → Option Files → WantedInput → ℕ → ℕ → Type 0
 RefusesInput Missing files input faults risen = NoFile files input.name × Stayed faults risen
-RefusesInput TooLong files input faults risen = FileIsOver files input.name input.limit × Stayed faults risen
+RefusesInput TooLong files input faults risen =
+    FileIsOver files input.name input.limit × Stayed faults risen
 RefusesInput Failed files input faults risen = Rose faults risen
 RefusesInput Memory files input faults risen = risen ≡ faults
 
 -- the first input that was not taken has this name
-pub record StopsAt (why : ReadRefused) (name : List ℕ) (inputs : List Wanted) (files : Option Files) (faults risen : ℕ) : Type 0 where
-  pub input : Wanted
+pub record StopsAt (why : ReadRefused) (name : List ℕ) (inputs : List WantedInput)
+    (files : Option Files) (faults risen : ℕ) : Type 0 where
+  pub input : WantedInput
   pub named : name ≡ input.name
-  pub reached : Reaches files inputs input
+  pub reached : GetsTo files inputs input
   pub cause : RefusesInput why files input faults risen
 
 -- one more input was taken, and its bytes stand behind those before it
-pub record KeepsText (files : Option Files) (input : Wanted) (old new : List (List ℕ)) : Type 0 where
+pub record KeepsText (files : Option Files) (input : WantedInput)
+    (old new : List (List ℕ)) : Type 0 where
   pub bytes : List ℕ
   pub taken : Taken files input bytes
   pub kept : new ≡ old ++ bytes ∷ []

@@ -14,7 +14,8 @@ pub record Named : Type 0 where
 -- the files with these outputs written one after the other
 abbrev pub written : List Named → Files → Files
 written [] files = files
-written (output ∷ others) files = written others (λ name. if bytes_eq name output.name then Some output.bytes else files name)
+written (output ∷ others) files =
+    written others (λ name. if bytes_eq name output.name then Some output.bytes else files name)
 
 -- name by name, the files are those of before with these outputs written
 pub record Leaves (outputs : List Named) (old new : Files) : Type 0 where
@@ -33,7 +34,8 @@ pub record ArePrefix (outputs : List Named) (old new : Option Files) : Type 0 wh
   pub parts : outputs ≡ first ++ others
   pub whole : AreWritten first old new
 
--- the outputs before the one of this name are whole, and its own write failed and left what a failed write leaves
+-- the outputs before the one of this name are whole, and its own write failed and left what a
+-- failed write leaves
 pub record BreaksAt (name : List ℕ) (outputs : List Named) (old new : Option Files) : Type 0 where
   pub output : Named
   pub named : name ≡ output.name
@@ -45,6 +47,8 @@ pub record BreaksAt (name : List ℕ) (outputs : List Named) (old new : Option F
   pub left : WriteTold between new output.name output.bytes (Err Failed)
 
 -- what stands on the shelf where not all were written
-abbrev pub StopsWith : WriteRefused → List ℕ → List Named → Option Files → Option Files → ℕ → ℕ → Type 0
-StopsWith Failed name outputs old new faults risen = BreaksAt name outputs old new × Rose faults risen
+abbrev pub StopsWith : WriteRefused → List ℕ → List Named → Option Files → Option Files → ℕ → ℕ
+    → Type 0
+StopsWith Failed name outputs old new faults risen =
+    BreaksAt name outputs old new × Rose faults risen
 StopsWith Memory name outputs old new faults risen = ArePrefix outputs old new × (risen ≡ faults)

@@ -17,7 +17,8 @@ Stayed before now = (now ≡ before) × ¬ Rose before now
 abbrev pub SameElsewhere : Files → Files → List ℕ → Type 0
 SameElsewhere before now name = (other : List ℕ) → other ≢ name → now other ≡ before other
 
--- a shelf as contracts see it: its files, where it tells them, and how often it has failed, up to the last value of a `u64`
+-- a shelf as contracts see it: its files, where it tells them, and how often it has failed, up to
+-- the last value of a `u64`
 pub record ShelfState : Type 0 where
   pub files : Option Files
   pub faults : ℕ

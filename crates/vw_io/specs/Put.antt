@@ -15,8 +15,10 @@ PutLeaves before now bytes (Ok _) = now ≡ before ++ bytes
 PutLeaves before now bytes (Err Failed) = AppendsPrefix before bytes now
 PutLeaves before now bytes (Err Memory) = now ≡ before
 
--- the same where the bytes may not be told: then nothing is claimed and they stay untold, and what is told stays told
-abbrev pub PutTold : Option (List ℕ) → Option (List ℕ) → List ℕ → Result (Unit {0}) PutRefused → Type 0
+-- the same where the bytes may not be told: then nothing is claimed and they stay untold, and what
+-- is told stays told
+abbrev pub PutTold : Option (List ℕ) → Option (List ℕ) → List ℕ → Result (Unit {0}) PutRefused
+    → Type 0
 PutTold None now bytes result = now ≡ None
 PutTold (Some before) None bytes result = ⊥
 PutTold (Some before) (Some now) bytes result = PutLeaves before now bytes result

@@ -1,4 +1,5 @@
--- What the system's errors are at the shelf and at the sink over it, and what its count of faults does.
+-- What the system's errors are at the shelf and at the sink over it, and what its count of faults
+-- does.
 use Rattle.std.specs.Prelude.{ℕ, ◌+◌, ◌-◌, ◌^◌, ◌==◌, if◌then◌else◌, min}
 use Rattle.std.specs.declared.io.ErrorKind.{ErrorKind}
 use Rattle.std.specs.declared.io.ErrorKind.TheVariants as kinds

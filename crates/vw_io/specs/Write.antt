@@ -16,8 +16,10 @@ WriteLeaves before now name bytes (Err Failed) =
     (HasPrefix (now name) bytes ⊎ (now name ≡ before name)) × SameElsewhere before now name
 WriteLeaves before now name bytes (Err Memory) = now ≡ before
 
--- the same at optional maps: one that isn't told claims nothing and stays untold, and one that is told stays told
-abbrev pub WriteTold : Option Files → Option Files → List ℕ → List ℕ → Result (Unit {0}) WriteRefused → Type 0
+-- the same at optional maps: one that isn't told claims nothing and stays untold, and one that is
+-- told stays told
+abbrev pub WriteTold : Option Files → Option Files → List ℕ → List ℕ
+    → Result (Unit {0}) WriteRefused → Type 0
 WriteTold None now name bytes result = now ≡ None
 WriteTold (Some before) None name bytes result = ⊥
 WriteTold (Some before) (Some now) name bytes result = WriteLeaves before now name bytes result

@@ -9,10 +9,12 @@ use crate::faults::{answer_read, count_write};
 use crate::memory_shelf::MemoryShelf;
 use crate::shelves::{ReadRefused, Shelf, WriteRefused};
 
-/// Files in memory, with a list of the calls that fail: pairs of a call's number and of how many bytes
-/// go through at it. Calls are numbered from 1, over reads and writes together. It tells its files.
+/// Files in memory, with a list of the calls that fail: pairs of a call's number and of how many
+/// bytes go through at it. Calls are numbered from 1, over reads and writes together. It tells its
+/// files.
 ///
-/// A read at a call that fails gives nothing. A write leaves just so many first bytes, or all of fewer.
+/// A read at a call that fails gives nothing. A write leaves just so many first bytes, or all of
+/// fewer.
 #[derive(Drop)]
 pub struct FaultyShelf {
     inner: MemoryShelf,
@@ -22,7 +24,8 @@ pub struct FaultyShelf {
 }
 
 impl FaultyShelf {
-    /// A shelf with these files that has had no call. Where a number stands twice, its first pair counts.
+    /// A shelf with these files that has had no call. Where a number stands twice, its first pair
+    /// counts.
     pub fn new(files: MemoryShelf, fails: Vec<(u32, u32)>) -> FaultyShelf
         ensures files { files_of result.inner ≡ files_of files }
         ensures fails { result.fails.items ≡ fails.items }
@@ -46,10 +49,12 @@ impl FaultyShelf {
 }
 
 impl Shelf for FaultyShelf {
-    ghost state = { λ shelf. record { files = Some (files_of shelf.inner); faults = shelf.faults } };
+    ghost state = { λ shelf. record
+        { files = Some (files_of shelf.inner); faults = shelf.faults } };
 
     fn read(&mut self, name: &str, limit: u64, into: &mut Vec<u8>) -> Result<(), ReadRefused>
-        ensures told { ReadTold (Some (files_of self.old.inner)) name.now limit result into.new.items }
+        ensures told { ReadTold
+            (Some (files_of self.old.inner)) name.now limit result into.new.items }
         ensures within { OnOk result (length into.new.items ≤ limit) }
         ensures empty { OnErr result (into.new.items ≡ []) }
         ensures unchanged { Some (files_of self.new.inner) ≡ Some (files_of self.old.inner) }

@@ -8,8 +8,8 @@ use crate::faulty_shelf::passing;
 use crate::sinks::{PutRefused, Sink};
 use std::alloc::Global;
 
-/// The bytes put, in memory, with a list of the puts that fail: pairs of a put's number, from 1, and of
-/// how many bytes go through at it. It tells its bytes.
+/// The bytes put, in memory, with a list of the puts that fail: pairs of a put's number, from 1,
+/// and of how many bytes go through at it. It tells its bytes.
 #[derive(Drop)]
 pub struct FaultySink {
     sent: Vec<u8>,
@@ -46,7 +46,8 @@ impl Sink for FaultySink {
     ghost state = { λ sink. record { told = Some sink.sent.items; faults = sink.faults } };
 
     fn put(&mut self, bytes: &[u8]) -> Result<(), PutRefused>
-        ensures told { PutTold (Some self.old.sent.items) (Some self.new.sent.items) bytes.now result }
+        ensures told { PutTold (Some self.old.sent.items)
+            (Some self.new.sent.items) bytes.now result }
         ensures cause { PutCause result self.old.faults self.new.faults }
         ensures never_falls { self.old.faults ≤ self.new.faults }
 

@@ -6,7 +6,8 @@ use crate::files::{read_file, write_file};
 use crate::shelves::{ReadRefused, Shelf, WriteRefused};
 use std::rt::Files;
 
-/// The files of the system, by path. It tells no content: what the system keeps and gives is trusted.
+/// The files of the system, by path. It tells no content: what the system keeps and gives is
+/// trusted.
 ///
 /// Each error of the system is a fault, but for a name that a read doesn't find and want of memory.
 /// So a folder in place of a file is a fault, and a write whose folder isn't found. Want of memory

@@ -1,5 +1,5 @@
 ghost use Rattle.std.specs.Prelude.{◌≡◌, ℕ, List, length, IfOk, IfErr, OnOk};
-ghost use Rattle.vw_io.specs.Inputs.{Wanted, AreTaken, KeepsText, StopsAt, RefusesInput};
+ghost use Rattle.vw_io.specs.Inputs.{WantedInput, AreTaken, KeepsText, StopsAt, RefusesInput};
 
 use crate::shelves::{ReadRefused, Shelf};
 use std::alloc::Global;
@@ -13,7 +13,7 @@ pub struct Input<'w> {
 }
 
 impl<'w> Model for Input<'w> {
-    ghost Value = { Wanted };
+    ghost Value = { WantedInput };
 
     ghost view = { λ input. record { name = input.name.now; limit = input.limit } };
 }
@@ -53,7 +53,8 @@ pub fn read_all<'w, S: Shelf>(
     inputs: &[Input<'w>],
     shelf: &mut S,
 ) -> Result<Vec<Text>, InputRefused<'w>>
-    ensures taken { IfOk result (λ texts. AreTaken (S.state shelf.old).files inputs.now texts.items) }
+    ensures taken { IfOk result
+        (λ texts. AreTaken (S.state shelf.old).files inputs.now texts.items) }
     ensures each { IfOk result (λ texts. length texts.items ≡ length inputs.now) }
     ensures refused { IfErr result (λ refused. StopsAt refused.why refused.name.now inputs.now
         (S.state shelf.old).files (S.state shelf.old).faults (S.state shelf.new).faults) }
@@ -82,7 +83,8 @@ fn read_next<S: Shelf>(
     texts: &mut Vec<Text>,
     shelf: &mut S,
 ) -> Result<(), ReadRefused>
-    ensures taken { OnOk result (KeepsText (S.state shelf.old).files input.now texts.old.items texts.new.items) }
+    ensures taken { OnOk result
+        (KeepsText (S.state shelf.old).files input.now texts.old.items texts.new.items) }
     ensures refused { IfErr result (λ why. RefusesInput why (S.state shelf.old).files input.now
         (S.state shelf.old).faults (S.state shelf.new).faults) }
     ensures unchanged { (S.state shelf.new).files ≡ (S.state shelf.old).files }

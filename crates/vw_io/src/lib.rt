@@ -1,8 +1,8 @@
-//! Files by name and a place to put bytes, each as a trait, with an implementation in memory and one
-//! over the system.
+//! Files by name and a place to put bytes, each as a trait, with an implementation in memory and
+//! one over the system.
 //!
-//! A trait's ghost members are what it holds, which it may leave untold, and how often it has failed.
-//! The implementations over the system tell no content: they are the trusted edge.
+//! A trait's ghost members are what it holds, which it may leave untold, and how often it has
+//! failed. The implementations over the system tell no content: they are the trusted edge.
 #![tactic(auto)]
 
 mod faults;

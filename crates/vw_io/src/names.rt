@@ -26,7 +26,8 @@ fn is_input(name: &str, inputs: &[Input<'_>]) -> bool
 
 // Whether this name is one of these.
 fn is_among(name: &str, names: &[&str]) -> bool
-    ensures { result ≡ list_any (λ other. bytes_eq other name.now) (map (λ other. other.now) names.now) }
+    ensures { result ≡ list_any (λ other. bytes_eq other name.now)
+        (map (λ other. other.now) names.now) }
 {
     match names {
         [] => false,

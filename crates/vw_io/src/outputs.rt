@@ -30,10 +30,12 @@ pub fn write_all<'w, 't, S: Shelf>(
     outputs: &[Output<'w, 't>],
     shelf: &mut S,
 ) -> Result<(), OutputRefused<'w>>
-    ensures whole { OnOk result (AreWritten outputs.now (S.state shelf.old).files (S.state shelf.new).files) }
+    ensures whole { OnOk result
+        (AreWritten outputs.now (S.state shelf.old).files (S.state shelf.new).files) }
     ensures calm { OnOk result ((S.state shelf.new).faults ≡ (S.state shelf.old).faults) }
     ensures refused { IfErr result (λ refused. StopsWith refused.why refused.name.now outputs.now
-        (S.state shelf.old).files (S.state shelf.new).files (S.state shelf.old).faults (S.state shelf.new).faults) }
+        (S.state shelf.old).files (S.state shelf.new).files (S.state shelf.old).faults
+        (S.state shelf.new).faults) }
 {
     for output in outputs {
         match shelf.write(output.name, output.bytes) {

@@ -65,7 +65,8 @@ fn read_piece<F: Read>(
     ensures bytes { IfOk result (λ taken. Consumes (F.remaining from.old) (F.remaining from.new)
         (take taken (drop filled into.new.items))) }
     ensures end { IfOk result (λ taken. taken ≡ 0 → IsAtEnd (F.remaining from.new)) }
-    ensures refused { IfErr result (λ refused. StopsAfter refused (F.remaining from.old) filled limit) }
+    ensures refused { IfErr result
+        (λ refused. StopsAfter refused (F.remaining from.old) filled limit) }
 {
     let end = into.capacity().min(limit).min(filled.saturating_add(PIECE));
     if end <= filled {
@@ -92,7 +93,8 @@ fn read_past<F: Read>(
     ensures bytes { IfOk result (λ taken. Consumes (F.remaining from.old) (F.remaining from.new)
         (take taken (drop filled into.new.items))) }
     ensures end { IfOk result (λ taken. taken ≡ 0 → IsAtEnd (F.remaining from.new)) }
-    ensures refused { IfErr result (λ refused. StopsAfter refused (F.remaining from.old) filled limit) }
+    ensures refused { IfErr result
+        (λ refused. StopsAfter refused (F.remaining from.old) filled limit) }
 {
     let mut next = [0u8; 1];
     if read_some(from, &mut next)? == 0 {
@@ -130,7 +132,8 @@ fn read_some<F: Read>(from: &mut F, buf: &mut [u8]) -> Result<usize, ReadRefused
     ensures within { IfOk result (λ taken. taken ≤ length buf.new) }
     ensures bytes { IfOk result (λ taken. Consumes (F.remaining from.old) (F.remaining from.new)
         (take taken buf.new)) }
-    ensures end { IfOk result (λ taken. taken ≡ 0 → 0 < length buf.old → IsAtEnd (F.remaining from.new)) }
+    ensures end { IfOk result
+        (λ taken. taken ≡ 0 → 0 < length buf.old → IsAtEnd (F.remaining from.new)) }
     ensures refused { IfErr result IsOfReader }
 {
     'tries: for _ in 0..u64::MAX {

@@ -70,11 +70,11 @@ impl<T: Drop> From<AllocFailed<T>> for WriteRefused {
     }
 }
 
-/// Files by name. `Memory` may come at any call, and each other answer has its cause in the files or
-/// in a fault of the shelf.
+/// Files by name. `Memory` may come at any call, and each other answer has its cause in the files
+/// or in a fault of the shelf.
 ///
-/// The count of faults rises at a fault and at nothing else. Where it already stands at the last value
-/// of a `u64`, `Missing` and `TooLong` never come: such a call answers `Failed`.
+/// The count of faults rises at a fault and at nothing else. Where it already stands at the last
+/// value of a `u64`, `Missing` and `TooLong` never come: such a call answers `Failed`.
 pub trait Shelf {
     ghost use Rattle.vw_io.specs.Outside.{ShelfState};
     ghost use Rattle.vw_io.specs.Read.{ReadTold, ReadCause};
@@ -96,7 +96,8 @@ pub trait Shelf {
     /// Makes `bytes` the whole file of that name. After `Failed` the file may hold some first bytes
     /// of these, or what it held.
     fn write(&mut self, name: &str, bytes: &[u8]) -> Result<(), WriteRefused>
-        ensures told { WriteTold (state self.old).files (state self.new).files name.now bytes.now result }
+        ensures told { WriteTold (state self.old).files
+            (state self.new).files name.now bytes.now result }
 
         ensures cause { WriteCause result (state self.old).faults (state self.new).faults }
         ensures never_falls { (state self.old).faults ≤ (state self.new).faults };

@@ -9,8 +9,8 @@ use std::io::Print;
 
 /// Standard output, unbuffered. It tells no bytes: where they go is the system's, and trusted.
 ///
-/// Each error of the system but want of memory is a fault, and so is a write that takes nothing. Want
-/// of memory after some bytes have gone out is a fault too, since `Memory` says that none has.
+/// Each error of the system but want of memory is a fault, and so is a write that takes nothing.
+/// Want of memory after some bytes have gone out is a fault too, since `Memory` says that none has.
 #[derive(Drop)]
 pub struct StdSink<R: Print + Drop> {
     rt: R,

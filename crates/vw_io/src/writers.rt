@@ -28,8 +28,8 @@ pub(crate) fn write_whole<W: Write>(to: &mut W, bytes: &[u8]) -> Result<(), PutR
     Err(PutRefused::Failed)
 }
 
-/// One write, tried again where a signal cuts it off. It returns how many bytes were taken, at least
-/// one: a write that takes nothing is a fault.
+/// One write, tried again where a signal cuts it off. It returns how many bytes were taken, at
+/// least one: a write that takes nothing is a fault.
 fn write_piece<W: Write>(to: &mut W, bytes: &[u8]) -> Result<usize, PutRefused>
     ensures some { IfOk result (λ taken. 0 < taken) }
     ensures within { IfOk result (λ taken. taken ≤ length bytes.now) }

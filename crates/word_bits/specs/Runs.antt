@@ -25,7 +25,8 @@ mask_small k piece inside =
     omega (arith, whole, some)
 
 -- the run of `piece` bits from bit k on
-pub mask_is : (k piece : ℕ) → k + piece ≤ 64 → (2 ^ 64 - 1) / 2 ^ (64 - piece) * 2 ^ k % 2 ^ 64 ≡ 2 ^ (k + piece) - 2 ^ k
+pub mask_is : (k piece : ℕ) → k + piece ≤ 64
+    → (2 ^ 64 - 1) / 2 ^ (64 - piece) * 2 ^ k % 2 ^ 64 ≡ 2 ^ (k + piece) - 2 ^ k
 mask_is k piece inside =
     let product : (2 ^ 64 - 1) / 2 ^ (64 - piece) * 2 ^ k ≡ 2 ^ (k + piece) - 2 ^ k =
     ap (λ (n : ℕ). n * 2 ^ k) (low_ones piece (omega arith)) ∙ shifted_ones k piece

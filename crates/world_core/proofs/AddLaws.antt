@@ -11,7 +11,7 @@ use Rattle.node_words.proofs.PlanLaws.{some_buckets}
 use Rattle.node_places.specs.Names.{IsName, named}
 use Rattle.node_places.specs.Spots.{levels, buckets_at}
 use Rattle.bucket_core.specs.declared.entries.Entry.{Entry}
-use Rattle.bucket_core.specs.Slots.{book_in, HasKey, HasNone, IsFirstFree, IsFirstWith}
+use Rattle.bucket_core.specs.Slots.{book_of_slot, HasKey, HasNone, IsFirstFree, IsFirstWith}
 use Rattle.core_laws.specs.Counting.{children_weight}
 use Rattle.core_laws.specs.Soundness.{FitsLevel, IsFull}
 use Rattle.core_laws.specs.Events.{one_name, children_named, Adds, adds}
@@ -20,8 +20,8 @@ use Rattle.core_laws.proofs.Bounds.{missing_in_bucket}
 use Rattle.core_reading.specs.Slots.{Bucket, Level, bucket_at, entry_at, key_or_none, put_at}
 use Rattle.core_reading.proofs.SlotLaws.{adds_slot, stays_laid_out}
 use Rattle.entry_lists.specs.Changes.{AreLive}
-use Rattle.entry_lists.specs.Trading.{Trades, weights}
-use Rattle.world_core.specs.Lawful.{HoldsAll, HoldsAtMost}
+use Rattle.entry_lists.specs.Trading.{TradesNames, weights}
+use Rattle.world_core.specs.Lawful.{HoldsShares, HoldsAtMost}
 use Rattle.world_core.specs.Stored.{Stored, IsStored, state_of, root_in}
 use Rattle.world_core.specs.Steps.{FindsEntry, AddsEntry, IsNowhere}
 use Rattle.world_core.proofs.Keeping.{kept, no_weights, one_weight}
@@ -33,7 +33,7 @@ key_there : (e : Option (Entry Key)) (key : Key) → HasKey key e → key_or_non
 key_there None key has = absurd has
 key_there (Some e) key has = has
 
-has_there : (e : Option (Entry Key)) (key : Key) → 0 < book_in e → key_or_none e ≡ key → HasKey key e
+has_there : (e : Option (Entry Key)) (key : Key) → 0 < book_of_slot e → key_or_none e ≡ key → HasKey key e
 has_there None key some same = absurd (omega arith)
 has_there (Some e) key some same = same
 
@@ -68,7 +68,7 @@ module _ (s : Stored) (level bucket : ℕ) (key : Key) (is : IsStored s) (low : 
         (λ slot lt some it. subst (λ (b : ℕ). HasNone (bucket_at s.entries level b) key (length (bucket_at s.entries level b)) → ⊥) same
         (λ no. no.each slot (let w = is.laid.slots level bucket low (bucket_in s level bucket key is low same) in omega arith)
         (has_there (entry_at s.entries (named level bucket slot)) key
-        (subst (λ (b : ℕ). 0 < book_in (entry_at s.entries (named level b slot))) (sym same) some)
+        (subst (λ (b : ℕ). 0 < book_of_slot (entry_at s.entries (named level b slot))) (sym same) some)
         (subst (λ (b : ℕ). key_or_none (entry_at s.entries (named level b slot)) ≡ key) (sym same) it)))
         (subst (λ (b : ℕ). HasNone (bucket_at s.entries level b) key (length (bucket_at s.entries level b))) same none));
     absent = none;
@@ -76,7 +76,7 @@ module _ (s : Stored) (level bucket : ℕ) (key : Key) (is : IsStored s) (low : 
 
   -- a slot that has it is a live name
   pub slot_found : (slot : ℕ) → IsFirstWith (bucket_at s.entries level bucket) key slot
-      → 0 < book_in (entry_at s.entries (named level bucket slot))
+      → 0 < book_of_slot (entry_at s.entries (named level bucket slot))
       → FindsEntry s level key (named level bucket slot)
   slot_found slot found live = record {
     same_level = refl;
@@ -104,8 +104,8 @@ module _ (s : Stored) (level bucket : ℕ) (key : Key) (is : IsStored s) (low : 
   pub added : (session slot : ℕ) (names rest after : List Name) (children : List (Option Name))
       (entries : List Level) → IsNowhere s level bucket key → FitsLevel level key
       → ((f : Name → ℕ) → weights children f ≡ children_weight f key)
-      → HoldsAll (state_of s) session children → HoldsAtMost (state_of s) session 4095
-      → slice_get s.held session ≡ Some names → Trades names children [] rest
+      → HoldsShares (state_of s) session children → HoldsAtMost (state_of s) session 4095
+      → slice_get s.held session ≡ Some names → TradesNames names children [] rest
       → after ≡ rest ++ named level bucket slot ∷ []
       → IsFirstFree (bucket_at s.entries level bucket) slot
       → AreLive (bucket_at s.entries level bucket) slot
@@ -119,7 +119,7 @@ module _ (s : Stored) (level bucket : ℕ) (key : Key) (is : IsStored s) (low : 
         slot_in = (let w = is.laid.slots level bucket low (bucket_in s level bucket key is low same) in let b = free.below in omega arith);
       } in
       let has = has_of s session children names held at in
-      let all_trade : Trades names children (Some n ∷ []) after = record {
+      let all_trade : TradesNames names children (Some n ∷ []) after = record {
         weighs = λ f. (let w = trade.weighs f in let one = one_weight (Some n) f in let none = no_weights f in
             let more = ap (λ (ns : List Name). sum_by f ns) is_after ∙ sum_by-append f rest (n ∷ []) in
             let last = sum_by-cons f n [] in omega arith);

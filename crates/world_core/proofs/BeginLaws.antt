@@ -7,7 +7,7 @@ use Rattle.std.proofs.lemmas.List.Folds.{sum_by-replicate}
 use Rattle.vox_read.specs.Contents.{Content}
 use Rattle.node_shapes.specs.declared.names.Name.{Name}
 use Rattle.node_words.specs.Plans.{Layout, IsPlan}
-use Rattle.bucket_core.specs.Slots.{book_in}
+use Rattle.bucket_core.specs.Slots.{book_of_slot}
 use Rattle.core_laws.specs.Counting.{holdings}
 use Rattle.core_laws.proofs.RootCells.{empty_sound}
 use Rattle.core_reading.specs.Slots.{Level, IsLaidOut, entry_at}
@@ -47,7 +47,7 @@ module _ (p : Layout) (models : List Content) (entries : List Level) (roots : Li
   pub begins : HasBegun p sessions (state_of (begun p models entries roots held))
   begins = record {
     untouched = record {
-      book = λ n is. ap book_in (free n);
+      book = λ n is. ap book_of_slot (free n);
       root = λ v. ap (λ (r : List (Option Name)). root_in r v) none ∙ no_root v;
       log = refl;
       held = λ f. ap (λ (h : List (List Name)). holdings f h) nobody_holds ∙ no_holdings sessions f;
@@ -61,7 +61,7 @@ module _ (p : Layout) (models : List Content) (entries : List Level) (roots : Li
     laid = laid;
     places = ap length none ∙ length-replicate 65536 no_name;
     sound = empty_sound p models (state_of (begun p models entries roots held)) (record {
-      book = λ n is. ap book_in (free n);
+      book = λ n is. ap book_of_slot (free n);
       root = λ v. ap (λ (r : List (Option Name)). root_in r v) none ∙ no_root v;
       log = refl;
       held = λ f. ap (λ (h : List (List Name)). holdings f h) nobody_holds ∙ no_holdings sessions f;

@@ -10,7 +10,7 @@ use Rattle.node_shapes.specs.declared.names.Name.{Name}
 use Rattle.node_words.proofs.PlanLaws.{few_buckets}
 use Rattle.node_places.specs.Spots.{levels, versions}
 use Rattle.history_model.specs.Logs.{Log}
-use Rattle.bucket_core.specs.Slots.{book_in}
+use Rattle.bucket_core.specs.Slots.{book_of_slot}
 use Rattle.core_laws.specs.Counting.{weight, holdings}
 use Rattle.core_laws.specs.Events as events
 use Rattle.core_laws.specs.LogEvents.{Step}
@@ -18,7 +18,7 @@ use Rattle.core_laws.specs.States.{IsLive}
 use Rattle.core_laws.proofs.Bounds.{book_small}
 use Rattle.core_laws.proofs.StepLaws.{step_sound}
 use Rattle.core_reading.specs.Slots.{Level, IsLaidOut, entry_at, read_lists}
-use Rattle.entry_lists.specs.Trading.{HasAll, Trades, weights}
+use Rattle.entry_lists.specs.Trading.{HasAll, TradesNames, weights}
 use Rattle.world_core.specs.Stored.{Stored, IsStored, state_of, root_in}
 
 abbrev pub IsSmall : List Name → Type 0
@@ -42,7 +42,7 @@ few_held (names ∷ more) (suc k) le few =
     omega arith
 
 pub book_low : (s : Stored) (n : Name) → IsStored s → IsLive s.plan (state_of s) n
-    → book_in (entry_at s.entries n) < 1099511627776
+    → book_of_slot (entry_at s.entries n) < 1099511627776
 book_low s n is live =
     let p = s.plan in
     let small = book_small p (state_of s) n 4096 is.sound.entries (λ level lt. few_buckets p level is.plan) live in
@@ -56,13 +56,13 @@ book_low s n is live =
 
 pub live_there : (s : Stored) (n : Name) → IsLive s.plan (state_of s) n → entry_at s.entries n ≡ None → ⊥
 live_there s n live none =
-    let zero : book_in (entry_at s.entries n) ≡ 0 = ap book_in none in
+    let zero : book_of_slot (entry_at s.entries n) ≡ 0 = ap book_of_slot none in
     let some = live.book in omega arith
 
 -- what a session trades is a trade of the holder
 pub traded : (held : List (List Name)) (session : ℕ) (names after : List Name)
     (gives takes : List (Option Name)) (g t : (Name → ℕ) → ℕ)
-    → slice_get held session ≡ Some names → HasAll names gives → Trades names gives takes after
+    → slice_get held session ≡ Some names → HasAll names gives → TradesNames names gives takes after
     → ((f : Name → ℕ) → weights gives f ≡ g f) → ((f : Name → ℕ) → weights takes f ≡ t f)
     → events.Trades held session g t (set held session after)
 traded held session names after gives takes g t at has trade of_g of_t = record {

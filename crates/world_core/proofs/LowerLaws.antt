@@ -10,20 +10,20 @@ use Rattle.node_words.specs.Held.{name_in}
 use Rattle.bucket_core.specs.declared.entries.Entry.{Entry}
 use Rattle.bucket_core.specs.declared.entries.Lowered.{Lowered}
 use Rattle.bucket_core.specs.declared.entries.Lowered.TheVariants.{Left, Last}
-use Rattle.bucket_core.specs.Slots.{book_in, with_book}
+use Rattle.bucket_core.specs.Slots.{book_of_slot, with_book}
 use Rattle.core_laws.specs.Counting.{weight, children_weight}
 use Rattle.core_laws.specs.Soundness.{FitsLevel}
 use Rattle.core_laws.specs.Events as events
-use Rattle.core_laws.specs.Events.{no_name, one_name, children_named, Lowers, Frees, lowers, frees}
+use Rattle.core_laws.specs.Events.{no_weight, one_name, children_named, Lowers, Frees, lowers, frees}
 use Rattle.core_laws.specs.LogEvents.{stores}
 use Rattle.core_laws.specs.States.{IsLive}
 use Rattle.core_laws.proofs.Lives.{held_lives}
 use Rattle.core_reading.specs.Slots.{Level, entry_at, key_or_none, put_at}
 use Rattle.core_reading.proofs.SlotLaws.{lowers_slot, frees_slot, stays_laid_out}
 use Rattle.entry_lists.specs.Changes.{LowersEntryAt}
-use Rattle.entry_lists.specs.Trading.{HasAll, Trades, weights}
+use Rattle.entry_lists.specs.Trading.{HasAll, TradesNames, weights}
 use Rattle.world_core.specs.Answering.{children_in}
-use Rattle.world_core.specs.Lawful.{HoldsAll, MayLower}
+use Rattle.world_core.specs.Lawful.{HoldsShares, MayLower}
 use Rattle.world_core.specs.Stored.{Stored, IsStored, state_of, root_in}
 use Rattle.world_core.specs.Steps.{LowersEntry, FreesEntry}
 use Rattle.world_core.proofs.Keeping.{kept, no_weights, one_weight, live_there}
@@ -31,13 +31,13 @@ use Rattle.world_core.proofs.ShareLaws.{moved, few_after, trades_as}
 
 -- a name of which a session holds a share is live
 pub held_live : (s : Stored) (session : ℕ) (n : Name) → IsStored s
-    → HoldsAll (state_of s) session (Some n ∷ []) → IsLive s.plan (state_of s) n
+    → HoldsShares (state_of s) session (Some n ∷ []) → IsLive s.plan (state_of s) n
 held_live s session n is held = held_lives s.plan (state_of s) session n is.sound.entries
     (record { names = held.names; at = held.at; weighs = λ f. (let h = held.has.weighs f in let one = one_weight (Some n) f in omega arith) })
 
 -- what a session holds of the list is there
 pub has_of : (s : Stored) (session : ℕ) (some : List (Option Name)) (names : List Name)
-    → HoldsAll (state_of s) session some → slice_get s.held session ≡ Some names → HasAll names some
+    → HoldsShares (state_of s) session some → slice_get s.held session ≡ Some names → HasAll names some
 has_of s session some names held at = subst (λ (ns : List Name). HasAll ns some)
     (sym (Rattle.std.proofs.lemmas.Option.same_Some names held.names (sym at ∙ held.at))) held.has
 
@@ -100,21 +100,21 @@ module _ (s : Stored) (session : ℕ) (n : Name) (names after : List Name) (entr
 
   -- one of several shares went
   pub lowered : (result : Lowered Key) → 1 < (state_of s).book n
-      → Trades names (Some n ∷ []) [] after → LowersEntryAt s.entries n result entries
+      → TradesNames names (Some n ∷ []) [] after → LowersEntryAt s.entries n result entries
       → LowersEntry s session n (moved s entries session after)
-  lowered (Last key) more trade put = absurd (let one : book_in (entry_at s.entries n) ≡ 1 = ap book_in put.entry.0 in omega arith)
+  lowered (Last key) more trade put = absurd (let one : book_of_slot (entry_at s.entries n) ≡ 1 = ap book_of_slot put.entry.0 in omega arith)
   lowered (Left left) more trade put =
-      let trades = trades_as s session names after (Some n ∷ []) [] at has trade (one_name n) no_name (one_weight (Some n)) no_weights in
+      let trades = trades_as s session names after (Some n ∷ []) [] at has trade (one_name n) no_weight (one_weight (Some n)) no_weights in
       let few = few_after s session names after (Some n ∷ []) [] at has trade 4089 may.room (omega (arith, no_weights (λ _. 1), one_weight (Some n) (λ _. 1))) in
       go (entry_at s.entries n) refl trades few
     where
       go : (e : Option (Entry Key)) → entry_at s.entries n ≡ e
-          → events.Trades s.held session (one_name n) no_name (set s.held session after) → length after ≤ 4096
+          → events.Trades s.held session (one_name n) no_weight (set s.held session after) → length after ≤ 4096
           → LowersEntry s session n (moved s entries session after)
       go None none trades few = absurd (live_there s n (held_live s session n is may.held) none)
       go (Some e) some trades few =
           let all : List Level = put_at s.entries n (Some (record { key = e.key; book = left })) in
-          let book : e.book ≡ left + 1 = sym (ap book_in some) ∙ put.entry.1 in
+          let book : e.book ≡ left + 1 = sym (ap book_of_slot some) ∙ put.entry.1 in
           let is_all : entries ≡ all = put.others ∙ ap (λ (x : Option (Entry Key)). put_at s.entries n x)
           (put.entry.2 ∙ ap (λ (x : Option (Entry Key)). with_book x left) some) in
           let name = (held_live s session n is may.held).name in
@@ -136,7 +136,7 @@ module _ (s : Stored) (session : ℕ) (n : Name) (names after : List Name) (entr
   -- the last share went
   pub freed : (result : Lowered Key) (children : List (Option Name)) → (state_of s).book n ≡ 1
       → children ≡ children_in ((state_of s).key n)
-      → Trades names (Some n ∷ []) children after → LowersEntryAt s.entries n result entries
+      → TradesNames names (Some n ∷ []) children after → LowersEntryAt s.entries n result entries
       → FreesEntry s session n (moved s entries session after)
   freed (Left left) children last same trade put = absurd (omega (arith, last, put.entry.0, put.entry.1))
   freed (Last key) children last same trade put =

@@ -17,14 +17,14 @@ use Rattle.node_words.specs.declared.keys.Key.{Key}
 use Rattle.history_model.specs.declared.acts.Act.{Act}
 use Rattle.history_model.specs.declared.acts.Act.TheVariants.{Fill, Erase, Ball, Carve, Copy, Stamp, Undo, Redo}
 use Rattle.history_model.specs.declared.histories.Record.{Record}
-use Rattle.history_model.specs.Logs.{Log, Fits, MayFollow, HasTarget, IsHeld}
+use Rattle.history_model.specs.Logs.{Log, FitsWorld, MayFollow, HasTarget, IsVersionHeld}
 use Rattle.history_model.specs.PositionLaws.{names_below}
 use Rattle.core_laws.specs.Making.{version_gone_to}
 use Rattle.block_contents.specs.Versions.{IsUnmarked}
 use Rattle.history_model.specs.LegalLaws.{edit_follows}
 use Rattle.history_model.specs.Making.{MayMake}
-use Rattle.history_model.specs.Moments.{has}
-use Rattle.history_model.specs.Positions.{position_after}
+use Rattle.history_model.specs.Moments.{world_has}
+use Rattle.history_model.specs.Positions.{position_after, first_of}
 use Rattle.history_model.specs.Worlds.{World, edited, is_edit, box_at, plus, less}
 use Rattle.block_contents.specs.Aligned.{top, world_block}
 use Rattle.block_contents.specs.Versions.{IsKept}
@@ -33,8 +33,8 @@ use Rattle.core_laws.specs.States.{IsLive, tree_at}
 use Rattle.core_laws.proofs.Lives.{root_lives}
 use Rattle.core_laws.proofs.LogSteps.{root_in_range}
 use Rattle.core_laws.proofs.LiveShapes.{AreLive, shape_once, canonical_at}
-use Rattle.world_core.specs.Lawful.{IsMade}
-use Rattle.world_core.specs.Shown.{first_of, target_of, world_of}
+use Rattle.world_core.specs.Lawful.{IsRootMade}
+use Rattle.world_core.specs.Shown.{target_of, world_of}
 use Rattle.world_core.specs.Stored.{Stored, IsStored, root_in, state_of}
 
 less_zero : (level : ℕ) (s : Shape) (q : Cell)
@@ -79,7 +79,7 @@ copied_in side b to q fits inside =
       z = in_axis to.z b.size.z q.z b.at.z side all.1 fits.z.1;
     }
 
-pub edited_same : (side : ℕ) (models : List Content) (act : Act) (v w : World) (q : Cell) → Fits side models act
+pub edited_same : (side : ℕ) (models : List Content) (act : Act) (v w : World) (q : Cell) → FitsWorld side models act
     → ((p : Cell) → IsInWorld side p → v p ≡ w p) → IsInWorld side q → edited models act v q ≡ edited models act w q
 edited_same side models (Fill b) v w q fits same inside = ap (λ (x : Bool). is_in_box b q || x) (same q inside)
 edited_same side models (Erase b) v w q fits same inside = ap (λ (x : Bool). x && not (is_in_box b q)) (same q inside)
@@ -111,16 +111,16 @@ module _ (s : Stored) (act : Act) (root : Option Name) (is : IsStored s) where
 
   head_cell : (q : Cell) → IsInWorld (2 ^ s.plan.side) q
       → world_of (state_of s).key (top s.plan.side) (root_in s.roots (length s.log.records)) q
-      ≡ has s.models s.log.records (length s.log.records) q
+      ≡ world_has s.models s.log.records (length s.log.records) q
   head_cell q inside = own_cell s.plan.side (state_of s).key (root_in s.roots (length s.log.records))
-      (has s.models s.log.records (length s.log.records)) q is.plan.side_low
+      (world_has s.models s.log.records (length s.log.records)) q is.plan.side_low
       (is.sound.versions.shown (length s.log.records) (head_kept s is)) inside
 
-  pub edit_made : Fits (2 ^ s.plan.side) s.models act → is_edit act ≡ true
+  pub edit_made : FitsWorld (2 ^ s.plan.side) s.models act → is_edit act ≡ true
       → MayMake (2 ^ s.plan.side) s.models act
       (world_of (state_of s).key (top s.plan.side) (root_in s.roots (length s.log.records)))
       (world_of (state_of s).key (top s.plan.side) root)
-      → IsMade s.plan s.models act root (state_of s)
+      → IsRootMade s.plan s.models act root (state_of s)
   edit_made fits edit made = record {
     follows = edit_follows s.log.marks (length s.log.records + 1) act (position_after s.log.records) edit;
     cells = world_of (state_of s).key (top s.plan.side) root;
@@ -133,8 +133,8 @@ module _ (s : Stored) (act : Act) (root : Option Name) (is : IsStored s) where
     };
   }
 
-  pub made_edit : Fits (2 ^ s.plan.side) s.models act → is_edit act ≡ true
-      → IsMade s.plan s.models act root (state_of s)
+  pub made_edit : FitsWorld (2 ^ s.plan.side) s.models act → is_edit act ≡ true
+      → IsRootMade s.plan s.models act root (state_of s)
       → MayMake (2 ^ s.plan.side) s.models act
       (world_of (state_of s).key (top s.plan.side) (root_in s.roots (length s.log.records)))
       (world_of (state_of s).key (top s.plan.side) root)
@@ -148,29 +148,29 @@ module _ (s : Stored) (act : Act) (root : Option Name) (is : IsStored s) where
   pub other_made : (v : ℕ) → is_edit act ≡ false → IsKept s.log v
       → Rattle.history_model.specs.Logs.MayFollow s.log.marks (length s.log.records + 1) act (position_after s.log.records)
       → Rattle.core_laws.specs.Making.version_gone_to s.log.records act ≡ v → root ≡ root_in s.roots v
-      → IsMade s.plan s.models act root (state_of s)
+      → IsRootMade s.plan s.models act root (state_of s)
   other_made v other kept follows goes same = record {
     follows = follows;
-    cells = has s.models s.log.records v;
-    shows = subst (λ (o : Option Name). ShowsCells (world_block s.plan.side) (shape_of (tree_at (state_of s).key (top s.plan.side) o)) (has s.models s.log.records v)) (sym same)
+    cells = world_has s.models s.log.records v;
+    shows = subst (λ (o : Option Name). ShowsCells (world_block s.plan.side) (shape_of (tree_at (state_of s).key (top s.plan.side) o)) (world_has s.models s.log.records v)) (sym same)
         (is.sound.versions.shown v kept);
     makes = record {
       edit = λ edit. absurd (Rattle.std.proofs.lemmas.Bool.both_ways (is_edit act) other edit);
-      other = λ _. record { each = λ q inside. ap (λ (w : ℕ). has s.models s.log.records w q) (sym goes) };
+      other = λ _. record { each = λ q inside. ap (λ (w : ℕ). world_has s.models s.log.records w q) (sym goes) };
     };
   }
 
   pub made_other : (v : ℕ) → is_edit act ≡ false → IsKept s.log v
       → Rattle.core_laws.specs.Making.version_gone_to s.log.records act ≡ v
       → ((n : Name) → root ≡ Some n → IsLive s.plan (state_of s) n × (n.level ≡ top s.plan.side))
-      → IsMade s.plan s.models act root (state_of s) → root ≡ root_in s.roots v
+      → IsRootMade s.plan s.models act root (state_of s) → root ≡ root_in s.roots v
   made_other v other kept goes live made =
       let p = s.plan in
       let lives : AreLive p (state_of s) (top p.side) root = λ n some. record { live = (live n some).0; same_level = (live n some).1 } in
       let its : AreLive p (state_of s) (top p.side) (root_in s.roots v) = λ n some. record { live = root_lives p (state_of s) v n is.sound.entries (root_in_range p s.models (state_of s) v n is.sound.versions some) some; same_level = is.sound.versions.level v n some } in
       let shows : ShowsCells (world_block p.side) (shape_of (tree_at (state_of s).key (top p.side) (root_in s.roots v))) made.cells = record {
         each = λ q in_b. (is.sound.versions.shown v kept).each q in_b
-            ∙ ap (λ (w : ℕ). has s.models s.log.records w q) (sym goes)
+            ∙ ap (λ (w : ℕ). world_has s.models s.log.records w q) (sym goes)
             ∙ sym ((made.makes.other other).each q (in_world p.side q is.plan.side_low in_b));
       } in
       shape_once p (state_of s) is.sound.entries (top p.side) root (root_in s.roots v) lives its
@@ -201,26 +201,26 @@ target_goes records Redo v e = goes_redo (position_after records).past (position
 
 -- a version that comes first may be gone to where it isn't marked
 held_unmarked : (log : Log) (v : ℕ) → All (λ mark. (mark.version < mark.at) × (mark.at ≤ length log.records)) log.marks
-    → IsHeld log.marks (length log.records + 1) v → IsUnmarked log.marks v
+    → IsVersionHeld log.marks (length log.records + 1) v → IsUnmarked log.marks v
 held_unmarked log v dated held k m lt same = let at = held k m lt same in let late = (dated k m lt).1 in omega arith
 
-unmarked_held : (log : Log) (v : ℕ) → IsUnmarked log.marks v → IsHeld log.marks (length log.records + 1) v
+unmarked_held : (log : Log) (v : ℕ) → IsUnmarked log.marks v → IsVersionHeld log.marks (length log.records + 1) v
 unmarked_held log v unmarked k m lt same = absurd (unmarked k m lt same)
 
 target_in : (log : Log) (versions : List ℕ) (v : ℕ) → first_of versions ≡ Some v
-    → IsHeld log.marks (length log.records + 1) v → HasTarget log.marks (length log.records + 1) versions
+    → IsVersionHeld log.marks (length log.records + 1) v → HasTarget log.marks (length log.records + 1) versions
 target_in log [] v e held = absurd (Rattle.std.proofs.lemmas.Option.none-some v e)
-target_in log (to ∷ more) v e held = subst (λ (w : ℕ). IsHeld log.marks (length log.records + 1) w) (sym (Rattle.std.proofs.lemmas.Option.same_Some to v e)) held
+target_in log (to ∷ more) v e held = subst (λ (w : ℕ). IsVersionHeld log.marks (length log.records + 1) w) (sym (Rattle.std.proofs.lemmas.Option.same_Some to v e)) held
 
 in_target : (log : Log) (versions : List ℕ) (v : ℕ) → first_of versions ≡ Some v
-    → HasTarget log.marks (length log.records + 1) versions → IsHeld log.marks (length log.records + 1) v
-in_target log [] v e has = absurd has
-in_target log (to ∷ more) v e has = subst (λ (w : ℕ). IsHeld log.marks (length log.records + 1) w) (Rattle.std.proofs.lemmas.Option.same_Some to v e) has
+    → HasTarget log.marks (length log.records + 1) versions → IsVersionHeld log.marks (length log.records + 1) v
+in_target log [] v e world_has = absurd world_has
+in_target log (to ∷ more) v e world_has = subst (λ (w : ℕ). IsVersionHeld log.marks (length log.records + 1) w) (Rattle.std.proofs.lemmas.Option.same_Some to v e) world_has
 
 no_target : (log : Log) (versions : List ℕ) → first_of versions ≡ None
     → HasTarget log.marks (length log.records + 1) versions → ⊥
-no_target log [] e has = has
-no_target log (to ∷ more) e has = Rattle.std.proofs.lemmas.Option.none-some to (sym e)
+no_target log [] e world_has = world_has
+no_target log (to ∷ more) e world_has = Rattle.std.proofs.lemmas.Option.none-some to (sym e)
 
 first_below : (versions : List ℕ) (v n : ℕ) → first_of versions ≡ Some v → All (λ w. w < n) versions → v < n
 first_below [] v n e below = absurd (Rattle.std.proofs.lemmas.Option.none-some v e)

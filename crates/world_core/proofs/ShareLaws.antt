@@ -5,14 +5,14 @@ use Rattle.std.proofs.lemmas.Option.{get_or_from_slice_get}
 use Rattle.node_shapes.specs.declared.names.Name.{Name}
 use Rattle.node_words.specs.declared.keys.Key.{Key}
 use Rattle.bucket_core.specs.declared.entries.Entry.{Entry}
-use Rattle.bucket_core.specs.Slots.{book_in, with_book}
+use Rattle.bucket_core.specs.Slots.{book_of_slot, with_book}
 use Rattle.core_laws.specs.Events as events
-use Rattle.core_laws.specs.Events.{no_name, one_name, Raises, raises}
+use Rattle.core_laws.specs.Events.{no_weight, one_name, Raises, raises}
 use Rattle.core_laws.specs.LogEvents.{stores}
 use Rattle.core_laws.specs.States.{IsLive}
 use Rattle.core_reading.specs.Slots.{Level, entry_at, put_at}
 use Rattle.core_reading.proofs.SlotLaws.{raises_slot, stays_laid_out}
-use Rattle.entry_lists.specs.Trading.{HasAll, Trades, weights}
+use Rattle.entry_lists.specs.Trading.{HasAll, TradesNames, weights}
 use Rattle.world_core.specs.Lawful.{HoldsAtMost}
 use Rattle.world_core.specs.Stored.{Stored, IsStored, state_of, root_in}
 use Rattle.world_core.specs.Steps.{RaisesEntry}
@@ -38,15 +38,15 @@ few_names s session most names room at =
 
 pub raised : (s : Stored) (session : ℕ) (n : Name) (names after : List Name) (entries : List Level)
     → IsStored s → IsLive s.plan (state_of s) n → HoldsAtMost (state_of s) session 4095
-    → slice_get s.held session ≡ Some names → Trades names [] (Some n ∷ []) after
-    → entries ≡ put_at s.entries n (with_book (entry_at s.entries n) (book_in (entry_at s.entries n) + 1))
+    → slice_get s.held session ≡ Some names → TradesNames names [] (Some n ∷ []) after
+    → entries ≡ put_at s.entries n (with_book (entry_at s.entries n) (book_of_slot (entry_at s.entries n) + 1))
     → RaisesEntry s session n (moved s entries session after)
 raised s session n names after entries is live room at trade put =
     subst (λ (all : List Level). RaisesEntry s session n (moved s all session after)) (sym put)
     (go (entry_at s.entries n) refl)
   where
-    trades : events.Trades s.held session no_name (one_name n) (set s.held session after)
-    trades = traded s.held session names after [] (Some n ∷ []) no_name (one_name n) at
+    trades : events.Trades s.held session no_weight (one_name n) (set s.held session after)
+    trades = traded s.held session names after [] (Some n ∷ []) no_weight (one_name n) at
         (record { weighs = λ f. omega arith }) trade no_weights (one_weight (Some n))
 
     few : length after ≤ 4096
@@ -55,12 +55,12 @@ raised s session n names after entries is live room at trade put =
         let low = few_names s session 4095 names room at in omega arith
 
     go : (e : Option (Entry Key)) → entry_at s.entries n ≡ e
-        → RaisesEntry s session n (moved s (put_at s.entries n (with_book (entry_at s.entries n) (book_in (entry_at s.entries n) + 1))) session after)
+        → RaisesEntry s session n (moved s (put_at s.entries n (with_book (entry_at s.entries n) (book_of_slot (entry_at s.entries n) + 1))) session after)
     go None none = absurd (live_there s n live none)
     go (Some e) some =
-        let P : Option (Entry Key) → Type 0 = λ o. RaisesEntry s session n (moved s (put_at s.entries n (with_book o (book_in o + 1))) session after) in
+        let P : Option (Entry Key) → Type 0 = λ o. RaisesEntry s session n (moved s (put_at s.entries n (with_book o (book_of_slot o + 1))) session after) in
         let all : List Level = put_at s.entries n (Some (record { key = e.key; book = e.book + 1 })) in
-        let book : book_in (entry_at s.entries n) ≡ e.book = ap book_in some in
+        let book : book_of_slot (entry_at s.entries n) ≡ e.book = ap book_of_slot some in
         let low = live.book in
         let step : Raises s.plan session n (state_of s) (state_of (moved s all session after)) =
         raises_slot s.plan s.entries n e.key e.book session (root_in s.roots) s.log s.held (set s.held session after)
@@ -92,7 +92,7 @@ seat_in s session at most same room =
 -- a holding of a session becomes another
 module _ (s : Stored) (session : ℕ) (names after : List Name) (gives takes : List (Option Name))
     (at : slice_get s.held session ≡ Some names) (has : HasAll names gives)
-    (trade : Trades names gives takes after) where
+    (trade : TradesNames names gives takes after) where
   pub few_after : (most : ℕ) → HoldsAtMost (state_of s) session most
       → most + weights takes (λ _. 1) ≤ 4096 + weights gives (λ _. 1) → length after ≤ 4096
   few_after most room fits =

@@ -15,7 +15,7 @@ use Rattle.core_laws.specs.Soundness.{FitsLevel}
 use Rattle.core_laws.specs.States.{IsLive, IsUnder, itself, below}
 use Rattle.core_laws.proofs.Lives.{child_lives, child_level}
 use Rattle.world_core.specs.Answering.{children_in}
-use Rattle.world_core.specs.Lawful.{HoldsAll, Reaches}
+use Rattle.world_core.specs.Lawful.{HoldsShares, Reaches}
 use Rattle.world_core.specs.Stored.{Stored, IsStored, state_of}
 use Rattle.world_core.proofs.Keeping.{one_weight}
 use Rattle.world_core.proofs.LowerLaws.{has_of}
@@ -69,7 +69,7 @@ module _ (s : Stored) (n : Name) (level : ℕ) (is : IsStored s) (live : IsLive 
 -- each name that a session holds is held once
 pub one_held : (s : Stored) (session : ℕ) (names : List Name) (k : ℕ) (d : Name)
     → slice_get s.held session ≡ Some names → k < length names
-    → HoldsAll (state_of s) session (Some (get_or names k d) ∷ [])
+    → HoldsShares (state_of s) session (Some (get_or names k d) ∷ [])
 one_held s session names k d at lt = record {
   names = names;
   at = at;

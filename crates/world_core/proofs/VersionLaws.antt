@@ -9,10 +9,10 @@ use Rattle.history_model.specs.declared.histories.Mark.{Mark}
 use Rattle.history_model.specs.Logs.{Log}
 use Rattle.block_contents.specs.Versions.{IsUnmarked, MarkComes}
 use Rattle.core_laws.specs.Counting.{weight}
-use Rattle.core_laws.specs.Events.{no_name, at_most_one, PutsRoot, TakesRoot}
+use Rattle.core_laws.specs.Events.{no_weight, at_most_one, PutsRoot, TakesRoot}
 use Rattle.core_laws.specs.LogEvents.{MayAppend, Appends, Forgets, appends, forgets}
-use Rattle.entry_lists.specs.Trading.{HasAll, Trades}
-use Rattle.world_core.specs.Lawful.{HoldsAll, HoldsAtMost}
+use Rattle.entry_lists.specs.Trading.{HasAll, TradesNames}
+use Rattle.world_core.specs.Lawful.{HoldsShares, HoldsAtMost}
 use Rattle.world_core.specs.Stored.{Stored, IsStored, state_of, root_in}
 use Rattle.world_core.specs.Steps.{AppendsRoot, MarksRoot}
 use Rattle.world_core.proofs.Keeping.{IsSmall, kept, no_weights, one_weight}
@@ -47,8 +47,8 @@ logged s roots log session after = record { plan = s.plan; models = s.models; en
 
 pub recorded : (s : Stored) (r : Record) (root : Option Name) (names after : List Name) (version : ℕ)
     → IsStored s → MayAppend s.plan s.models r root (state_of s)
-    → HoldsAll (state_of s) r.session (root ∷ []) → slice_get s.held r.session ≡ Some names
-    → Trades names (root ∷ []) [] after → version ≡ length s.log.records + 1
+    → HoldsShares (state_of s) r.session (root ∷ []) → slice_get s.held r.session ≡ Some names
+    → TradesNames names (root ∷ []) [] after → version ≡ length s.log.records + 1
     → AppendsRoot s r root (logged s (set s.roots version root)
     (record { side = s.log.side; records = s.log.records ++ r ∷ []; marks = s.log.marks }) r.session after)
 recorded s r root names after version is may held at trade same =
@@ -57,7 +57,7 @@ recorded s r root names after version is may held at trade same =
     let room = may.room in
     let places = is.places in
     let has = has_of s r.session (root ∷ []) names held at in
-    let trades = trades_as s r.session names after (root ∷ []) [] at has trade (at_most_one root) no_name (one_weight root) no_weights in
+    let trades = trades_as s r.session names after (root ∷ []) [] at has trade (at_most_one root) no_weight (one_weight root) no_weights in
     let few = few_after s r.session names after (root ∷ []) [] at has trade 4096 (all_room s r.session names is at) (omega (arith, no_weights (λ _. 1))) in
     subst (λ (v : ℕ). AppendsRoot s r root (logged s (set s.roots v root) log r.session after)) (sym same)
     (let puts : PutsRoot s.plan r.session next root (state_of s) (state_of (logged s (set s.roots next root) log r.session after)) = record {
@@ -121,7 +121,7 @@ pub marked : (s : Stored) (mark : Mark) (root : Option Name) (names after : List
     → IsStored s → mark.version < length s.log.records → mark.at ≡ length s.log.records
     → IsUnmarked s.log.marks mark.version → HoldsAtMost (state_of s) mark.session 4095
     → slice_get s.held mark.session ≡ Some names → root ≡ root_in s.roots mark.version
-    → Trades names [] (root ∷ []) after → place ≤ length s.log.marks
+    → TradesNames names [] (root ∷ []) after → place ≤ length s.log.marks
     → ((k : ℕ) (m : Mark) → k < place → (get_or s.log.marks k m).version ≤ mark.version)
     → ((m : Mark) → place < length s.log.marks → mark.version < (get_or s.log.marks place m).version)
     → MarksRoot s mark root (logged s (set s.roots mark.version None)
@@ -132,7 +132,7 @@ marked s mark root names after place is earlier now unmarked room at its trade l
     let v : ℕ = mark.version in
     let log : Log = record { side = s.log.side; records = s.log.records; marks = take place s.log.marks ++ mark ∷ drop place s.log.marks } in
     let has : HasAll names [] = record { weighs = λ f. omega arith } in
-    let trades = trades_as s mark.session names after [] (root ∷ []) at has trade no_name (at_most_one (root_in s.roots v)) no_weights
+    let trades = trades_as s mark.session names after [] (root ∷ []) at has trade no_weight (at_most_one (root_in s.roots v)) no_weights
     (λ f. one_weight root f ∙ ap (weight f) its) in
     let few = few_after s mark.session names after [] (root ∷ []) at has trade 4095 room
     (let one = one_weight root (λ _. 1) in let small = few_root root in omega (arith, no_weights (λ _. 1))) in

@@ -14,7 +14,7 @@ use Rattle.world_core.specs.declared.events.Event.{Event}
 use Rattle.world_core.specs.declared.events.Event.TheVariants.{Leaf, Node, Raise, Lower, Pin, Append, Forget}
 use Rattle.world_core.specs.declared.events.Reply.{Reply}
 use Rattle.world_core.specs.declared.events.Reply.TheVariants.{Held, Full, Left, Freed, Pinned, NoVersion, Forgotten, Appended, LogFull, Stale, Forgot, IsHead, Unlawful}
-use Rattle.world_core.specs.Effects.{Takes, Meets}
+use Rattle.world_core.specs.Effects.{TakesOne, MetFull}
 use Rattle.world_core.specs.Lawful.{IsLawful}
 
 -- how many records there are
@@ -28,11 +28,12 @@ asked_for state (Some version) = version
 
 -- the children of a key, none of a leaf's
 abbrev pub children_in : Key → List (Option Name)
-children_in (keys.TheVariants.Leaf bits) = None ∷ None ∷ None ∷ None ∷ None ∷ None ∷ None ∷ None ∷ []
+children_in (keys.TheVariants.Leaf bits) =
+    None ∷ None ∷ None ∷ None ∷ None ∷ None ∷ None ∷ None ∷ []
 children_in (keys.TheVariants.Node children) = children
 
 -- the mark is that of the version
-pub record IsMarked (state : State) (mark : Mark) (version : ℕ) : Type 0 where
+pub record IsMarkOf (state : State) (mark : Mark) (version : ℕ) : Type 0 where
   pub there : Contains state.log.marks mark
   pub its_version : mark.version ≡ version
 
@@ -42,7 +43,7 @@ pub record Shares (Changes : Type 0) (old new : State) : Type 0 where
   pub log : new.log ≡ old.log
 
 -- the state is told so, and stays
-pub record Tells (Told : Type 0) (old new : State) : Type 0 where
+pub record TellsOnly (Told : Type 0) (old new : State) : Type 0 where
   pub told : Told
   pub same : new ≡ old
 
@@ -57,7 +58,8 @@ pub record PinsRoot (p : Layout) (session version : ℕ) (root : Option Name)
 pub record MarksVersion (p : Layout) (session line version : ℕ) (root : Option Name)
     (old new : State) : Type 0 where
   pub its_root : root ≡ old.root version
-  pub forgets : Forgets p session (record { version = version; at = moment old; session = session; line = line }) old new
+  pub forgets : Forgets p session
+      (record { version = version; at = moment old; session = session; line = line }) old new
 
 -- the act becomes the next record, for which there is room
 pub record AppendsRecord (p : Layout) (models : List Content) (session line : ℕ)
@@ -65,33 +67,49 @@ pub record AppendsRecord (p : Layout) (models : List Content) (session line : �
     (old new : State) : Type 0 where
   pub newest : base ≡ moment old
   pub number_is : number ≡ moment old + 1
-  pub appends : Appends p models session (record { session = session; line = line; act = act }) root old new
+  pub appends : Appends p models session
+      (record { session = session; line = line; act = act }) root old new
 
 -- the event has happened, and this is its reply
 abbrev pub Happens : Layout → List Content → Event → Reply → State → State → Type 0
-Happens p models (Leaf s bits) (Held n) old new = Shares (Takes p s 0 (keys.TheVariants.Leaf bits) n old new) old new
-Happens p models (Leaf s bits) (Full full) old new = Tells (Meets p 0 (keys.TheVariants.Leaf bits) full old) old new
-Happens p models (Node s level children) (Held n) old new = Shares (Takes p s level (keys.TheVariants.Node children) n old new) old new
-Happens p models (Node s level children) (Full full) old new = Tells (Meets p level (keys.TheVariants.Node children) full old) old new
+Happens p models (Leaf s bits) (Held n) old new =
+    Shares (TakesOne p s 0 (keys.TheVariants.Leaf bits) n old new) old new
+Happens p models (Leaf s bits) (Full full) old new =
+    TellsOnly (MetFull p 0 (keys.TheVariants.Leaf bits) full old) old new
+Happens p models (Node s level children) (Held n) old new =
+    Shares (TakesOne p s level (keys.TheVariants.Node children) n old new) old new
+Happens p models (Node s level children) (Full full) old new =
+    TellsOnly (MetFull p level (keys.TheVariants.Node children) full old) old new
 Happens p models (Raise s n) (Held m) old new = Shares ((m ≡ n) × Raises p s n old new) old new
 Happens p models (Lower s n) Left old new = Shares (Lowers p s n old new) old new
-Happens p models (Lower s n) (Freed children) old new = Shares ((children ≡ children_in (old.key n)) × Frees p s n old new) old new
-Happens p models (Pin s v) (Pinned version at root) old new = (version ≡ asked_for old v) × (at ≡ moment old) × PinsRoot p s version root old new
-Happens p models (Pin s v) (NoVersion at) old new = Tells ((at ≡ moment old) × (moment old < asked_for old v)) old new
-Happens p models (Pin s v) (Forgotten at mark) old new = Tells ((at ≡ moment old) × IsMarked old mark (asked_for old v)) old new
-Happens p models (Append s line act base root) (Appended number) old new = AppendsRecord p models s line act base number root old new
-Happens p models (Append s line act base root) LogFull old new = Tells (moment old ≡ 65535) old new
-Happens p models (Append s line act base root) (Stale at) old new = Tells ((at ≡ moment old) × (moment old < 65535) × (base < moment old)) old new
-Happens p models (Forget s line version) (Forgot at root) old new = (at ≡ moment old) × MarksVersion p s line version root old new
-Happens p models (Forget s line version) (NoVersion at) old new = Tells ((at ≡ moment old) × (moment old < version)) old new
-Happens p models (Forget s line version) (IsHead at) old new = Tells ((at ≡ moment old) × (version ≡ moment old)) old new
-Happens p models (Forget s line version) (Forgotten at mark) old new = Tells ((at ≡ moment old) × IsMarked old mark version) old new
+Happens p models (Lower s n) (Freed children) old new =
+    Shares ((children ≡ children_in (old.key n)) × Frees p s n old new) old new
+Happens p models (Pin s v) (Pinned version at root) old new =
+    (version ≡ asked_for old v) × (at ≡ moment old) × PinsRoot p s version root old new
+Happens p models (Pin s v) (NoVersion at) old new =
+    TellsOnly ((at ≡ moment old) × (moment old < asked_for old v)) old new
+Happens p models (Pin s v) (Forgotten at mark) old new =
+    TellsOnly ((at ≡ moment old) × IsMarkOf old mark (asked_for old v)) old new
+Happens p models (Append s line act base root) (Appended number) old new =
+    AppendsRecord p models s line act base number root old new
+Happens p models (Append s line act base root) LogFull old new =
+    TellsOnly (moment old ≡ 65535) old new
+Happens p models (Append s line act base root) (Stale at) old new =
+    TellsOnly ((at ≡ moment old) × (moment old < 65535) × (base < moment old)) old new
+Happens p models (Forget s line version) (Forgot at root) old new =
+    (at ≡ moment old) × MarksVersion p s line version root old new
+Happens p models (Forget s line version) (NoVersion at) old new =
+    TellsOnly ((at ≡ moment old) × (moment old < version)) old new
+Happens p models (Forget s line version) (IsHead at) old new =
+    TellsOnly ((at ≡ moment old) × (version ≡ moment old)) old new
+Happens p models (Forget s line version) (Forgotten at mark) old new =
+    TellsOnly ((at ≡ moment old) × IsMarkOf old mark version) old new
 Happens _ _ _ _ _ _ = ⊥
 
 -- the core's answer: a lawful event happens; one that isn't lawful is told so, and nothing changes
-pub data Answers (p : Layout) (models : List Content) (event : Event) (reply : Reply)
+pub data Replies (p : Layout) (models : List Content) (event : Event) (reply : Reply)
     (old new : State) : Type 0 where
   happens : IsLawful p models old event → Happens p models event reply old new
-      → Answers p models event reply old new
+      → Replies p models event reply old new
   refuses : ¬ IsLawful p models old event → reply ≡ Unlawful → new ≡ old
-      → Answers p models event reply old new
+      → Replies p models event reply old new

@@ -9,7 +9,7 @@ use Rattle.node_words.specs.declared.keys.Key as keys
 use Rattle.node_words.specs.Plans.{Layout}
 use Rattle.node_places.specs.Spots.{levels}
 use Rattle.history_model.specs.declared.acts.Act.{Act}
-use Rattle.history_model.specs.Logs.{Fits, MayFollow}
+use Rattle.history_model.specs.Logs.{FitsWorld, MayFollow}
 use Rattle.history_model.specs.Positions.{position_after}
 use Rattle.history_model.specs.Worlds.{World}
 use Rattle.block_contents.specs.Aligned.{top, world_block}
@@ -27,7 +27,7 @@ pub record HoldsAtMost (state : State) (session most : ℕ) : Type 0 where
   pub few : length names ≤ most
 
 -- the session was begun, and holds a share of each of the names, counted with repeats
-pub record HoldsAll (state : State) (session : ℕ) (some : List (Option Name)) : Type 0 where
+pub record HoldsShares (state : State) (session : ℕ) (some : List (Option Name)) : Type 0 where
   pub names : List Name
   pub at : slice_get state.held session ≡ Some names
   pub has : HasAll names some
@@ -35,7 +35,7 @@ pub record HoldsAll (state : State) (session : ℕ) (some : List (Option Name)) 
 -- the session holds a share of the name, or of one above it
 pub record Reaches (state : State) (session : ℕ) (n : Name) : Type 0 where
   pub over : Name
-  pub held : HoldsAll state session (Some over ∷ [])
+  pub held : HoldsShares state session (Some over ∷ [])
   pub under : IsUnder state.key n over
 
 pub record MayTakeLeaf (state : State) (session bits : ℕ) : Type 0 where
@@ -47,7 +47,7 @@ pub record MayTakeNode (p : Layout) (state : State) (session level : ℕ)
     (children : List (Option Name)) : Type 0 where
   pub in_world : level < levels p
   pub fits : FitsLevel level (keys.TheVariants.Node children)
-  pub held : HoldsAll state session children
+  pub held : HoldsShares state session children
   pub room : HoldsAtMost state session 4095
 
 pub record MayRaise (state : State) (session : ℕ) (n : Name) : Type 0 where
@@ -56,12 +56,12 @@ pub record MayRaise (state : State) (session : ℕ) (n : Name) : Type 0 where
 
 -- the children's shares find room
 pub record MayLower (state : State) (session : ℕ) (n : Name) : Type 0 where
-  pub held : HoldsAll state session (Some n ∷ [])
+  pub held : HoldsShares state session (Some n ∷ [])
   pub room : HoldsAtMost state session 4089
 
 -- the root shows just the cells that the act makes of the newest version; an undo or a redo has a
 -- version to go to, which isn't forgotten
-pub record IsMade (p : Layout) (models : List Content) (act : Act) (root : Option Name)
+pub record IsRootMade (p : Layout) (models : List Content) (act : Act) (root : Option Name)
     (state : State) : Type 0 where
   pub follows : MayFollow state.log.marks (length state.log.records + 1) act
       (position_after state.log.records)
@@ -73,11 +73,11 @@ pub record IsMade (p : Layout) (models : List Content) (act : Act) (root : Optio
 -- the newest version, and where it is that one the root is what the act makes
 pub record MayAskAppend (p : Layout) (models : List Content) (state : State) (session : ℕ)
     (act : Act) (base : ℕ) (root : Option Name) : Type 0 where
-  pub fits : Fits (2 ^ p.side) models act
+  pub fits : FitsWorld (2 ^ p.side) models act
   pub base_in : base ≤ length state.log.records
   pub level : (n : Name) → root ≡ Some n → n.level ≡ top p.side
-  pub held : HoldsAll state session (root ∷ [])
-  pub made : base ≡ length state.log.records → IsMade p models act root state
+  pub held : HoldsShares state session (root ∷ [])
+  pub made : base ≡ length state.log.records → IsRootMade p models act root state
 
 -- the event may happen
 abbrev pub IsLawful : Layout → List Content → State → Event → Type 0
@@ -86,5 +86,6 @@ IsLawful p models state (Node session level children) = MayTakeNode p state sess
 IsLawful p models state (Raise session n) = MayRaise state session n
 IsLawful p models state (Lower session n) = MayLower state session n
 IsLawful p models state (Pin session version) = HoldsAtMost state session 4095
-IsLawful p models state (Append session line act base root) = MayAskAppend p models state session act base root
+IsLawful p models state (Append session line act base root) =
+    MayAskAppend p models state session act base root
 IsLawful p models state (Forget session line version) = HoldsAtMost state session 4095

@@ -6,18 +6,13 @@ use Rattle.node_shapes.specs.Tree.{shape_of}
 use Rattle.node_words.specs.declared.keys.Key.{Key}
 use Rattle.history_model.specs.declared.acts.Act.{Act}
 use Rattle.history_model.specs.declared.acts.Act.TheVariants.{Undo, Redo}
-use Rattle.history_model.specs.Positions.{Position}
+use Rattle.history_model.specs.Positions.{Position, first_of}
 use Rattle.history_model.specs.Worlds.{World}
 use Rattle.core_laws.specs.States.{tree_at}
 
 -- the cells of the block of this level that stands at a root
 abbrev pub world_of : (Name → Key) → ℕ → Option Name → World
 world_of key level root q = has level (shape_of (tree_at key level root)) q.x q.y q.z
-
--- the first of some versions
-abbrev pub first_of : List ℕ → Option ℕ
-first_of [] = None
-first_of (version ∷ more) = Some version
 
 -- the version that an undo or a redo goes to
 abbrev pub target_of : Act → Position → Option ℕ

@@ -14,7 +14,7 @@ use Rattle.world_core.specs.Answering.{Happens}
 use Rattle.world_core.specs.declared.events.Event.{Event}
 use Rattle.world_core.specs.declared.events.Reply.{Reply}
 use Rattle.world_core.specs.declared.events.Reply.TheVariants.{Held, Full}
-use Rattle.world_core.specs.Effects.{IsLowest, Takes, Meets}
+use Rattle.world_core.specs.Effects.{IsLowest, TakesOne, MetFull}
 use Rattle.world_core.specs.Stored.{Stored, IsStored, root_in, state_of}
 
 -- the lists are sound, and the plan, the models and the log are as before
@@ -63,18 +63,18 @@ AddsOrMeets old session level bucket key (Some n) new = AddsEntry old session le
 
 pub record TakesShare (old : Stored) (session level : ℕ) (key : Key) (n : Name)
     (new : Stored) : Type 0 where
-  pub takes : Takes old.plan session level key n (state_of old) (state_of new)
+  pub takes : TakesOne old.plan session level key n (state_of old) (state_of new)
   pub stays : Stays old new
 
 -- a share of the key's entry came, or its bucket was full
 abbrev pub TakesEntry : Stored → ℕ → ℕ → Key → Reply → Stored → Type 0
 TakesEntry old session level key (Held n) new = TakesShare old session level key n new
 TakesEntry old session level key (Full full) new =
-    Meets old.plan level key full (state_of old) × (new ≡ old)
+    MetFull old.plan level key full (state_of old) × (new ≡ old)
 TakesEntry old session level key _ new = ⊥
 
 -- the plan and the models are as before, and the lists are sound
-pub record Keeps (old new : Stored) : Type 0 where
+pub record KeepsStored (old new : Stored) : Type 0 where
   pub plan : new.plan ≡ old.plan
   pub models : new.models ≡ old.models
   pub stored : IsStored new
@@ -82,17 +82,18 @@ pub record Keeps (old new : Stored) : Type 0 where
 -- the event has happened to the lists
 pub record Does (event : Event) (old : Stored) (reply : Reply) (new : Stored) : Type 0 where
   pub happens : Happens old.plan old.models event reply (state_of old) (state_of new)
-  pub keeps : Keeps old new
+  pub keeps : KeepsStored old new
 
-pub record AppendsRoot (old : Stored) (r : Record) (root : Option Name) (new : Stored) : Type 0 where
+pub record AppendsRoot (old : Stored) (r : Record) (root : Option Name)
+    (new : Stored) : Type 0 where
   pub appends : Appends old.plan old.models r.session r root (state_of old) (state_of new)
-  pub keeps : Keeps old new
+  pub keeps : KeepsStored old new
 
 -- the version is marked, and its root leaves
 pub record MarksRoot (old : Stored) (mark : Mark) (root : Option Name) (new : Stored) : Type 0 where
   pub its_root : root ≡ root_in old.roots mark.version
   pub forgets : Forgets old.plan mark.session mark (state_of old) (state_of new)
-  pub keeps : Keeps old new
+  pub keeps : KeepsStored old new
 
 -- a share of the root came, where there is one
 abbrev pub SharesRoot : Stored → ℕ → Option Name → Stored → Type 0

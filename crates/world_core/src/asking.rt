@@ -5,7 +5,7 @@ ghost use Rattle.core_laws.specs.States.{IsLive, IsUnder};
 ghost use Rattle.core_laws.specs.Soundness.{FitsLevel};
 ghost use Rattle.world_core.specs.Answering.{children_in};
 ghost use Rattle.world_core.specs.Kept.{stored};
-ghost use Rattle.world_core.specs.Lawful.{HoldsAll, HoldsAtMost, Reaches};
+ghost use Rattle.world_core.specs.Lawful.{HoldsShares, HoldsAtMost, Reaches};
 ghost use Rattle.world_core.specs.Stored.{IsStored, state_of};
 
 use crate::parts::Parts;
@@ -33,7 +33,7 @@ impl Parts<'_> {
         some: &[Option<Name>],
     ) -> Result<bool, Memory>
         ensures { IfOk result (λ b.
-            IsTrue b ↔ HoldsAll (state_of (stored self.now)) session some.now) }
+            IsTrue b ↔ HoldsShares (state_of (stored self.now)) session some.now) }
     {
         match self.held.get(usize::from(session)) {
             None => Ok(false),

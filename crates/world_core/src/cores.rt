@@ -1,5 +1,5 @@
 ghost use Rattle.std.specs.Prelude.{◌≡◌, ◌≤◌, IfOk, OnErr, length};
-ghost use Rattle.world_core.specs.Answering.{Answers};
+ghost use Rattle.world_core.specs.Answering.{Replies};
 ghost use Rattle.world_core.specs.Beginning.{HasBegun};
 ghost use Rattle.world_core.specs.Stored.{IsStored, state_of};
 
@@ -57,7 +57,7 @@ impl<'m> Core<'m> {
 
     /// Answers the event. Where memory is missing nothing changes.
     pub fn apply(&mut self, alloc: Global, event: &Event) -> Result<Reply, Memory>
-        ensures answers { IfOk result (λ r. Answers self.old.plan self.old.models event.now r
+        ensures answers { IfOk result (λ r. Replies self.old.plan self.old.models event.now r
             (state_of self.old) (state_of self.new)) }
         ensures plan { self.new.plan ≡ self.old.plan }
         ensures models { self.new.models ≡ self.old.models }

@@ -1,7 +1,7 @@
 ghost use Rattle.std.specs.Prelude.{◌≡◌, ◌<◌, ◌≤◌, ◌↔◌, ◌^◌, ℕ, None, Some, IfOk, IsTrue, length, true, false};
 ghost use Rattle.node_shapes.specs.declared.names.Name.{Name as name};
 ghost use Rattle.vw_cell.specs.Places.{block_side};
-ghost use Rattle.history_model.specs.Logs.{Fits};
+ghost use Rattle.history_model.specs.Logs.{FitsWorld};
 ghost use Rattle.history_model.specs.Making.{MayMake};
 ghost use Rattle.entry_lists.specs.Reads.{keys_in};
 ghost use Rattle.world_core.specs.Shown.{world_of};
@@ -10,7 +10,7 @@ ghost use Rattle.block_contents.specs.Aligned.{top};
 ghost use Rattle.block_contents.specs.Versions.{IsUnmarked};
 ghost use Rattle.core_laws.specs.States.{IsLive};
 ghost use Rattle.world_core.specs.Kept.{stored};
-ghost use Rattle.world_core.specs.Lawful.{IsLawful, IsMade, MayAskAppend, MayLower, MayRaise};
+ghost use Rattle.world_core.specs.Lawful.{IsLawful, IsRootMade, MayAskAppend, MayLower, MayRaise};
 ghost use Rattle.world_core.specs.Lawful.{MayTakeLeaf, MayTakeNode};
 ghost use Rattle.world_core.specs.Stored.{IsStored, root_in, state_of};
 
@@ -102,12 +102,13 @@ impl Parts<'_> {
     // Whether the root shows just the cells that the act makes of the newest version.
     fn is_made(&self, alloc: Global, act: &Act, root: Option<Name>) -> Result<bool, Memory>
         requires stored { IsStored (stored self.now) }
-        requires fits { Fits (2 ^ self.now.plan.side) self.now.models.now act.now }
+        requires fits { FitsWorld (2 ^ self.now.plan.side) self.now.models.now act.now }
         requires live { (n : name) → root ≡ Some n
             → IsLive self.now.plan (state_of (stored self.now)) n
             × (n.level ≡ top self.now.plan.side) }
         ensures { IfOk result (λ b. IsTrue b
-            ↔ IsMade self.now.plan self.now.models.now act.now root (state_of (stored self.now))) }
+            ↔ IsRootMade self.now.plan self.now.models.now act.now root
+            (state_of (stored self.now))) }
     {
         if is_edit(act) {
             return Ok(self.is_edited(act, root));
@@ -118,10 +119,11 @@ impl Parts<'_> {
     // The same for an edit, cell by cell.
     fn is_edited(&self, act: &Act, root: Option<Name>) -> bool
         requires stored { IsStored (stored self.now) }
-        requires fits { Fits (2 ^ self.now.plan.side) self.now.models.now act.now }
+        requires fits { FitsWorld (2 ^ self.now.plan.side) self.now.models.now act.now }
         requires edit { is_edit act.now ≡ true }
         ensures { IsTrue result
-            ↔ IsMade self.now.plan self.now.models.now act.now root (state_of (stored self.now)) }
+            ↔ IsRootMade self.now.plan self.now.models.now act.now root
+            (state_of (stored self.now)) }
     {
         let level = self.plan.side().root_level();
         let cells = self.plan.side().cells() as u16;
@@ -137,7 +139,7 @@ impl Parts<'_> {
         head: Option<Name>,
         root: Option<Name>,
     ) -> bool
-        requires fits { Fits (2 ^ self.now.plan.side) self.now.models.now act.now }
+        requires fits { FitsWorld (2 ^ self.now.plan.side) self.now.models.now act.now }
         requires edit { is_edit act.now ≡ true }
         requires wide { cells ≡ block_side level }
         ensures { IsTrue result ↔ MayMake (2 ^ self.now.plan.side) self.now.models.now act.now
@@ -157,7 +159,8 @@ impl Parts<'_> {
             → IsLive self.now.plan (state_of (stored self.now)) n
             × (n.level ≡ top self.now.plan.side) }
         ensures { IfOk result (λ b. IsTrue b
-            ↔ IsMade self.now.plan self.now.models.now act.now root (state_of (stored self.now))) }
+            ↔ IsRootMade self.now.plan self.now.models.now act.now root
+            (state_of (stored self.now))) }
     {
         let target = match target(alloc, &self.history, act)? {
             None => return Ok(false),

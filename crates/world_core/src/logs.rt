@@ -2,8 +2,8 @@ ghost use Rattle.std.specs.Prelude.{◌≡◌, ◌≢◌, ◌<◌, ◌≤◌, �
 ghost use Rattle.std.specs.Prelude.{length, slice_index_or};
 ghost use Rattle.std.specs.List.{Contains, insert};
 ghost use Rattle.history_model.specs.declared.histories.Mark.{Mark as mark_of};
-ghost use Rattle.history_model.specs.Positions.{position_after};
-ghost use Rattle.world_core.specs.Shown.{first_of, target_of};
+ghost use Rattle.history_model.specs.Positions.{position_after, first_of};
+ghost use Rattle.world_core.specs.Shown.{target_of};
 ghost use Rattle.block_contents.specs.Versions.{IsUnmarked};
 
 use history_model::{Act, History, Mark, Record, position};

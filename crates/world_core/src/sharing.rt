@@ -7,7 +7,7 @@ ghost use Rattle.core_laws.specs.States.{IsLive};
 ghost use Rattle.entry_lists.specs.Trading.{weights};
 ghost use Rattle.world_core.specs.Answering.{children_in};
 ghost use Rattle.world_core.specs.Kept.{stored};
-ghost use Rattle.world_core.specs.Lawful.{HoldsAll, HoldsAtMost, MayLower};
+ghost use Rattle.world_core.specs.Lawful.{HoldsShares, HoldsAtMost, MayLower};
 ghost use Rattle.world_core.specs.Steps.{AddsOrMeets, FindsEntry, FreesEntry, IsNowhere};
 ghost use Rattle.world_core.specs.Steps.{LowersEntry, RaisesEntry, TakesEntry};
 ghost use Rattle.world_core.specs.Stored.{IsStored, state_of};
@@ -109,7 +109,7 @@ impl Parts<'_> {
         requires fits { FitsLevel level key }
         requires nowhere { IsNowhere (stored self.old) level bucket key }
         requires children { (f : name → ℕ) → weights children.now f ≡ children_weight f key }
-        requires held { HoldsAll (state_of (stored self.old)) session children.now }
+        requires held { HoldsShares (state_of (stored self.old)) session children.now }
         requires room { HoldsAtMost (state_of (stored self.old)) session 4095 }
         ensures adds { IfOk result (λ o.
             AddsOrMeets (stored self.old) session level bucket key o (stored self.new)) }
@@ -144,7 +144,7 @@ impl Parts<'_> {
         requires level { level < levels self.old.plan }
         requires fits { FitsLevel level key }
         requires children { (f : name → ℕ) → weights children.now f ≡ children_weight f key }
-        requires held { HoldsAll (state_of (stored self.old)) session children.now }
+        requires held { HoldsShares (state_of (stored self.old)) session children.now }
         requires room { HoldsAtMost (state_of (stored self.old)) session 4095 }
         ensures takes { IfOk result (λ r.
             TakesEntry (stored self.old) session level key r (stored self.new)) }

@@ -3,7 +3,7 @@ ghost use Rattle.std.specs.Prelude.{length};
 ghost use Rattle.block_contents.specs.Versions.{IsUnmarked};
 ghost use Rattle.core_laws.specs.LogEvents.{MayAppend};
 ghost use Rattle.world_core.specs.Kept.{stored};
-ghost use Rattle.world_core.specs.Lawful.{HoldsAll, HoldsAtMost};
+ghost use Rattle.world_core.specs.Lawful.{HoldsShares, HoldsAtMost};
 ghost use Rattle.world_core.specs.Steps.{AppendsRoot, MarksRoot};
 ghost use Rattle.world_core.specs.Stored.{IsStored, state_of};
 
@@ -34,7 +34,7 @@ impl Parts<'_> {
         requires stored { IsStored (stored self.old) }
         requires may { MayAppend self.old.plan self.old.models.now next root
             (state_of (stored self.old)) }
-        requires held { HoldsAll (state_of (stored self.old)) next.session (root ∷ []) }
+        requires held { HoldsShares (state_of (stored self.old)) next.session (root ∷ []) }
         ensures appends { OnOk result (AppendsRoot (stored self.old) next root (stored self.new)) }
         ensures unchanged { OnErr result (stored self.new ≡ stored self.old) }
     {

@@ -22,5 +22,7 @@ is_bare direction side cells c = cells c && not (has_next direction side cells c
 -- the number of pairs of a set cell of a box and a side of it at which the cell is bare
 abbrev pub faces_in : ℕ → (Cell → Bool) → Boxed → ℕ
 faces_in side cells b =
-    number_in b (is_bare LowX side cells) + number_in b (is_bare HighX side cells) + number_in b (is_bare LowY side cells)
-    + number_in b (is_bare HighY side cells) + number_in b (is_bare LowZ side cells) + number_in b (is_bare HighZ side cells)
+    number_in b (is_bare LowX side cells) + number_in b (is_bare HighX side cells) + number_in b
+    (is_bare LowY side cells)
+    + number_in b (is_bare HighY side cells) + number_in b (is_bare LowZ side cells) + number_in b
+    (is_bare HighZ side cells)

@@ -1,7 +1,7 @@
 use Rattle.std.proofs.Common.{sym, ◌∙◌, arith, subst}
 use Rattle.node_shapes.specs.Tree.{child_of}
 use Rattle.node_words.specs.Held.{Seen}
-use Rattle.edit_blocks.specs.Blocks.{IsFull}
+use Rattle.edit_blocks.specs.Blocks.{IsFullBlock}
 use Rattle.edit_blocks.proofs.AsideLaws.{full_next, full_below, full_child_there}
 use Rattle.edit_blocks.proofs.fulls.+full_name.Goals as goal
 
@@ -21,4 +21,4 @@ pub returns-clause-full : goal.returns-clause-full
 returns-clause-full g t c u f =
     let e = sym (c.in-Some.ensures.child u f.reached f.root) in
     let (v, h) = c.full_name.ensures.full (child_of u 0) (full_next _ _ u _ _ c.in-Some.ensures.seen f (omega arith) e) in
-    (v, subst (λ (s : Seen). IsFull s.held v c.full_name.result) c.in-Some.ensures.seen h)
+    (v, subst (λ (s : Seen). IsFullBlock s.held v c.full_name.result) c.in-Some.ensures.seen h)

@@ -1,7 +1,7 @@
 use Rattle.std.proofs.Common.{◌≡◌, ◌+◌, ◌≤◌, List, Some, length}
 use Rattle.node_shapes.specs.declared.names.Name.{Name}
 use Rattle.node_shapes.specs.Tree.{Tree}
-use Rattle.node_shapes.specs.Weights.{number_of}
+use Rattle.node_shapes.specs.Weights.{number_of_trees}
 use Rattle.node_words.specs.Held.{OnlyHeldChanges}
 use Rattle.cell_shapes.specs.CellShapes.{full_shape}
 use Rattle.edit_blocks.specs.Blocks.{Aside, Gathers}
@@ -13,7 +13,7 @@ invariant-loop-k g l =
     record {
       gathers : (rest : List Tree) (n : Name) → l.fn.below ≡ Some n → Aside (seen l.fn.store).held l.fn.below rest → Gathers rest n.level (full_shape (n.level + 1)) l.children l.k (seen l.store).held l.fn.below;
       long : length l.children ≡ 8;
-      number : number_of (seen l.store).held ≡ number_of (seen l.fn.store).held + l.k;
+      number : number_of_trees (seen l.store).held ≡ number_of_trees (seen l.fn.store).held + l.k;
       only : OnlyHeldChanges (seen l.fn.store) (seen l.store);
       rests : g.N.Blocks.rests l.fn.store l.store;
       turns : l.steps ≤ l.fn.steps + l.k;

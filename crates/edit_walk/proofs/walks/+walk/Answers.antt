@@ -1,6 +1,6 @@
 use Rattle.std.proofs.Common.{add-one, refl, sym, ◌∙◌, ap, subst, arith, ℕ, ◌≡◌, ◌≤◌, ◌<◌, ◌+◌, ◌-◌, ◌^◌}
 use Rattle.sums.specs.Sums.{sum_below, sum_below-suc, sum_below-zero}
-use Rattle.node_shapes.specs.Weights.{number_of}
+use Rattle.node_shapes.specs.Weights.{number_of_trees}
 use Rattle.node_words.specs.Plans.{Layout}
 use Rattle.node_words.specs.Held.{Seen}
 use Rattle.node_words.proofs.HeldLaws.{keeps_itself}
@@ -229,7 +229,7 @@ octant-build-requires g t c κs within =
               (low, omega (arith, ap (λ (v : Seen). v.plan.side) e, c.requires.level.1)),
               (
                 (base, p.gathers.now, at, begins),
-                omega (arith, ap (λ (v : Seen). number_of v.held) e, c.requires.room),
+                omega (arith, ap (λ (v : Seen). number_of_trees v.held) e, c.requires.room),
               ),
             ),
           ),

@@ -4,7 +4,7 @@ use Rattle.node_words.proofs.HeldLaws.{keeps_on, reached_more}
 use Rattle.node_words.proofs.GatherLaws.{grows_none, grows_held}
 use Rattle.node_words.specs.Gathering.{Grows}
 use Rattle.edit_cells.specs.declared.tasks.Whole.{Whole}
-use Rattle.edit_blocks.specs.Blocks.{Came, Refuses}
+use Rattle.edit_blocks.specs.Blocks.{Came, RefusesBlock}
 use Rattle.edit_cells.specs.Tasks.{IsWhole}
 use Rattle.cell_shapes.proofs.CellShapeLaws.{shape_with-none}
 use Rattle.cell_shapes.proofs.FullShapes.{shape_with-full}
@@ -43,7 +43,7 @@ returns-in-Ok-clause-grows g c base rest cells s w =
 pub returns-in-Err-clause-full : goal.returns-in-Err-clause-full
 returns-in-Err-clause-full g c base rest cells s w =
     let v = subst (λ (u : Whole). IsWhole base c.args.level cells u) c.in-All.is w in
-    subst (λ (t : Shape). Refuses t c.in-Err.e.level c.in-Err.e.bucket (g.N.Blocks.seen c.args.store.now) (g.N.Blocks.seen c.full_block.new.store)) (sym (shape_with-full c.args.level cells v)) c.in-Err.ensures.full
+    subst (λ (t : Shape). RefusesBlock t c.in-Err.e.level c.in-Err.e.bucket (g.N.Blocks.seen c.args.store.now) (g.N.Blocks.seen c.full_block.new.store)) (sym (shape_with-full c.args.level cells v)) c.in-Err.ensures.full
 
 pub returns-in-Err-clause-rest : goal.returns-in-Err-clause-rest
 returns-in-Err-clause-rest g c base rest cells s w = c.in-Err.ensures.rest rest s.aside

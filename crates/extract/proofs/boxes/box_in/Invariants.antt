@@ -1,7 +1,7 @@
 use Rattle.std.proofs.Common.{◌≡◌, ◌-◌, ◌≤◌}
 use Rattle.block_walk.specs.Roots.{ForBlock, cells_of}
-use Rattle.extract.specs.Listing.{joined, box_layer}
-use Rattle.extract.specs.Layers.{Appends}
+use Rattle.extract.specs.Listing.{voxels_joined, box_layer}
+use Rattle.extract.specs.Layers.{AppendsVoxels}
 use Rattle.extract.proofs.boxes.box_in.Given as goal
 
 abbrev pub invariant-loop-z : goal.invariant-loop-z
@@ -9,7 +9,7 @@ invariant-loop-z g l =
     let seen = g.B.Blocks.seen in
     record {
       within : l.z ≤ l.fn.b.size.z;
-      appended : ForBlock (seen l.fn.store).held l.fn.level l.fn.block (λ s. Appends (joined l.z (box_layer (cells_of l.fn.level s) l.fn.b)) l.fn.into l.into);
+      appended : ForBlock (seen l.fn.store).held l.fn.level l.fn.block (λ s. AppendsVoxels (voxels_joined l.z (box_layer (cells_of l.fn.level s) l.fn.b)) l.fn.into l.into);
       same : seen l.store ≡ seen l.fn.store;
       rests : g.B.Blocks.rests l.fn.store l.store;
     }

@@ -1,6 +1,6 @@
 use Rattle.std.proofs.Common.{◌≡◌, ℕ, arith, subst}
-use Rattle.extract.specs.Listing.{joined, box_row}
-use Rattle.extract.specs.Layers.{Appends}
+use Rattle.extract.specs.Listing.{voxels_joined, box_row}
+use Rattle.extract.specs.Layers.{AppendsVoxels}
 use Rattle.extract.proofs.ListingLaws.{none_joined, appends_one, room_one}
 use Rattle.extract.proofs.rows.layer_in.Goals as goal
 
@@ -22,5 +22,5 @@ pub returns : goal.returns
 returns c =
     let all : c.loop-y.y ≡ c.args.b.size.y = omega arith in
     record {
-      appended = λ cells held. subst (λ (n : ℕ). Appends (joined n (λ y. box_row cells c.args.b c.args.z y c.args.b.size.x)) c.args.into.now c.loop-y.into) all (c.loop-y.invariant.appended cells held);
+      appended = λ cells held. subst (λ (n : ℕ). AppendsVoxels (voxels_joined n (λ y. box_row cells c.args.b c.args.z y c.args.b.size.x)) c.args.into.now c.loop-y.into) all (c.loop-y.invariant.appended cells held);
     }

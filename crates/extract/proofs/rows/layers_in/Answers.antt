@@ -1,6 +1,6 @@
 use Rattle.std.proofs.Common.{◌≡◌, ◌+◌, ℕ, arith, sym, subst}
-use Rattle.extract.specs.Listing.{joined, box_layer}
-use Rattle.extract.specs.Layers.{Appends, HoldsLayer, leaves_in}
+use Rattle.extract.specs.Listing.{voxels_joined, box_layer}
+use Rattle.extract.specs.Layers.{AppendsVoxels, HoldsLayer, leaves_in}
 use Rattle.extract.proofs.ListingLaws.{none_joined, appends_one, room_one}
 use Rattle.extract.proofs.rows.layers_in.Goals as goal
 
@@ -26,5 +26,5 @@ pub returns : goal.returns
 returns c =
     let all : c.loop-k.k ≡ c.args.n = omega arith in
     record {
-      appended = λ cells held. subst (λ (n : ℕ). Appends (joined n (λ k. box_layer cells c.args.b (c.args.z + k))) c.args.into.now c.loop-k.into) all (c.loop-k.invariant.appended cells held);
+      appended = λ cells held. subst (λ (n : ℕ). AppendsVoxels (voxels_joined n (λ k. box_layer cells c.args.b (c.args.z + k))) c.args.into.now c.loop-k.into) all (c.loop-k.invariant.appended cells held);
     }

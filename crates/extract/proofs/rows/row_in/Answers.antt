@@ -2,7 +2,7 @@ use Rattle.std.proofs.Common.{◌+◌, ◌≤◌, List, length, arith, refl, sym
 use Rattle.vw_cell.specs.Counts.{cell_at}
 use Rattle.vox_read.specs.declared.voxels.Voxel.{Voxel}
 use Rattle.extract.specs.Listing.{voxel_if}
-use Rattle.extract.specs.Layers.{HasRoom, Appends}
+use Rattle.extract.specs.Layers.{HasRoom, AppendsVoxels}
 use Rattle.extract.proofs.ListingLaws.{none_joined, appends_run, room_run}
 use Rattle.extract.proofs.LeafLaws.{run_is_row, run_inside, run_index}
 use Rattle.extract.proofs.rows.row_in.Goals as goal
@@ -35,5 +35,5 @@ loop-p-preserved c =
           (run_index _ _ _ _ c.row_start-row.ensures.start c.from.ensures) (run_inside b c.args.y c.loop-p.p c.row_start-row.result _ c.requires.b c.requires.y c.loop-p-test.true c.row_start-row.ensures.inside (run_index _ _ _ _ refl c.from.ensures)) refl c.run_length-n.ensures.some held
           in
           appends_run c.loop-p.p c.run_length-n.result (λ i. voxel_if (cells (cell_at (b.at.x + i) (b.at.y + c.args.y) (b.at.z + c.args.z))) (0 + i) c.args.y c.args.z) c.args.into.now c.loop-p.into c.run_in.new.into (c.loop-p.invariant.appended cells held)
-          (subst (λ (xs : List Voxel). Appends xs c.loop-p.into c.run_in.new.into) run c.run_in.ensures);
+          (subst (λ (xs : List Voxel). AppendsVoxels xs c.loop-p.into c.run_in.new.into) run c.run_in.ensures);
     }

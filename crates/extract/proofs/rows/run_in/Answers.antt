@@ -1,7 +1,7 @@
 use Rattle.std.proofs.Common.{◌+◌, Bool, arith, length, sym, subst}
 use Rattle.vw_cell.specs.Counts.{cell_at}
 use Rattle.extract.specs.Listing.{voxel_if}
-use Rattle.extract.specs.Layers.{HasRoom, Appends, bits_show}
+use Rattle.extract.specs.Layers.{HasRoom, AppendsVoxels, bits_show}
 use Rattle.extract.proofs.ListingLaws.{no_bits, none_joined, appends_one, room_one}
 use Rattle.extract.proofs.rows.run_in.Goals as goal
 
@@ -19,4 +19,4 @@ push_if-requires-clause-room c =
 pub loop-p-preserved : goal.loop-p-preserved
 loop-p-preserved c =
     appends_one c.loop-p.p (λ p. voxel_if (bits_show c.args.bits (cell_at (c.args.at.x + p) c.args.at.y c.args.at.z)) (c.args.to.x + p) c.args.to.y c.args.to.z) c.args.into.now c.loop-p.into c.push_if.new.into c.loop-p.invariant
-    (subst (λ (v : Bool). Appends (voxel_if v (c.args.to.x + c.loop-p.p) c.args.to.y c.args.to.z) c.loop-p.into c.push_if.new.into) c.leaf_has-set.ensures c.push_if.ensures)
+    (subst (λ (v : Bool). AppendsVoxels (voxel_if v (c.args.to.x + c.loop-p.p) c.args.to.y c.args.to.z) c.loop-p.into c.push_if.new.into) c.leaf_has-set.ensures c.push_if.ensures)

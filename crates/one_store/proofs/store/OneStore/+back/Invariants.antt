@@ -1,7 +1,7 @@
 use Rattle.std.proofs.Common.{◌*◌, ◌-◌}
 use Rattle.node_words.specs.declared.keys.Key.TheVariants.{Node}
 use Rattle.entry_words.specs.Words.{key_in}
-use Rattle.one_store.specs.Known.{row_of}
+use Rattle.one_store.specs.Known.{trees_below}
 use Rattle.one_store.specs.Steps.{ReleasesRow}
 use Rattle.one_store.proofs.store.OneStore.+back.Given as goal
 
@@ -15,4 +15,4 @@ abbrev pub decreases-release_some : goal.decreases-release_some
 decreases-release_some g l = 3 * l.level - 2
 
 abbrev pub invariant-release_row-loop-k : goal.invariant-release_row-loop-k
-invariant-release_row-loop-k g l = ReleasesRow l.initial.self (row_of (key_in l.initial.self.words) (l.level - 1) (Node l.children)) l.k l.self l.initial.steps l.steps
+invariant-release_row-loop-k g l = ReleasesRow l.initial.self (trees_below (key_in l.initial.self.words) (l.level - 1) (Node l.children)) l.k l.self l.initial.steps l.steps

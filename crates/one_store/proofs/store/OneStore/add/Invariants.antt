@@ -1,13 +1,13 @@
 use Rattle.std.proofs.Common.{◌-◌}
 use Rattle.entry_words.specs.Words.{key_in}
 use Rattle.store_notes.proofs.Picks.{entered, full}
-use Rattle.one_store.specs.Known.{row_of}
+use Rattle.one_store.specs.Known.{trees_below}
 use Rattle.one_store.specs.Steps.{tree_over, shape_over, sought_key}
 use Rattle.one_store.proofs.store.OneStore.add.Given as goal
 
 abbrev pub ghosts-tell_entry : goal.ghosts-tell_entry
 ghosts-tell_entry a = record {
-  next = entered a.notes.now (row_of (key_in a.words.now) (a.sought.now.level - 1) (sought_key a.sought.now)) (tree_over a.sought.now.level (key_in a.words.now) a.n (sought_key a.sought.now))
+  next = entered a.notes.now (trees_below (key_in a.words.now) (a.sought.now.level - 1) (sought_key a.sought.now)) (tree_over a.sought.now.level (key_in a.words.now) a.n (sought_key a.sought.now))
       (shape_over a.sought.now.level (key_in a.words.now) (sought_key a.sought.now));
 }
 

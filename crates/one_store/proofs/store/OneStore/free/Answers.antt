@@ -1,5 +1,5 @@
 use Rattle.std.proofs.Common.{sym, subst, refl, arith, ◌≤◌, ◌≡◌}
-use Rattle.node_shapes.specs.Weights.{number_of}
+use Rattle.node_shapes.specs.Weights.{number_of_trees}
 use Rattle.node_words.specs.Held.{HoldsName}
 use Rattle.core_laws.specs.Counting.{children_weight}
 use Rattle.entry_words.specs.Words.{book_in, key_in}
@@ -17,7 +17,7 @@ clear-requires c = (held_name _ _ c.args.n c.self.invariant (subst (λ (v : Know
 
 pub overflow_add-self : goal.overflow_add-self
 overflow_add-self c =
-    let room = subst (λ (v : Known). number_of v.told.held ≤ 8192) (sym c.self.view_is) c.requires.room in
+    let room = subst (λ (v : Known). number_of_trees v.told.held ≤ 8192) (sym c.self.view_is) c.requires.room in
     omega (arith, c.self.invariant.number_is, room, c.requires.children, key_few (key_in c.args.self.now.words c.args.n))
 
 pub invariant_of-self : goal.invariant_of-self

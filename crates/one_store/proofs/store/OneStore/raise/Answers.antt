@@ -1,5 +1,5 @@
 use Rattle.std.proofs.Common.{sym, subst, ap, arith, ◌≤◌, ◌+◌, ℕ}
-use Rattle.node_shapes.specs.Weights.{number_of}
+use Rattle.node_shapes.specs.Weights.{number_of_trees}
 use Rattle.core_laws.specs.States.{IsLive}
 use Rattle.store_notes.proofs.Picks.{gained-notes}
 use Rattle.one_store.specs.Known.{Known, core_of}
@@ -14,7 +14,7 @@ overflow_add-book c =
     let e = sym c.self.view_is in
     let live = subst (λ (v : Known). IsLive v.words.plan (core_of v) c.args.n) e c.requires.live in
     let low = book_low _ _ c.args.n c.self.invariant live in
-    let room = subst (λ (v : Known). number_of v.told.held ≤ 4095) e c.requires.room in
+    let room = subst (λ (v : Known). number_of_trees v.told.held ≤ 4095) e c.requires.room in
     omega (arith, low, room, c.book-book.ensures)
 
 pub invariant_of-self : goal.invariant_of-self
