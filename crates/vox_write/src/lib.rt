@@ -1,0 +1,9 @@
+//! One model as the bytes of a VOX file.
+#![tactic(auto)]
+
+mod writing;
+
+pub use writing::{write_model, written_models_are_read};
+
+#[cfg(test)]
+mod tests;
