@@ -5,33 +5,33 @@ use Rattle.std.proofs.lemmas.Bool.{cases_lt}
 use Rattle.node_shapes.specs.declared.names.Name.{Name}
 use Rattle.node_places.specs.Names.{IsName, named}
 use Rattle.entry_words.specs.declared.key_words.Rest.{Rest}
-use Rattle.entry_words.specs.Slots.{slot_place, IsBucket}
+use Rattle.entry_words.specs.Slots.{slot_place, tag_place, IsBucket}
 use Rattle.entry_words.specs.Coding.{key_from}
 use Rattle.entry_words.specs.Words.{Written, rest_at, book_in, key_in, HasEntry, IsLowestFree, AreLiveBelow}
 use Rattle.entry_words.specs.Tags.{tag_of_words, AreTagged, LacksByte, IsFirstPlace}
-use Rattle.entry_words.proofs.SlotLaws.{place_slot, slot_name}
+use Rattle.entry_words.proofs.SlotLaws.{tag_slot, slot_name}
 use Rattle.entry_words.proofs.TagLaws.{tag_some, tag_same}
 
 -- a slot with no tag is free, and one with a tag is live
-free_slot : (w : Written) (tags : List ℕ) (n : Name) → AreTagged w tags → IsName w.plan n → slice_index tags (slot_place w.plan n) ≡ 0 → book_in w n ≡ 0
+free_slot : (w : Written) (tags : List ℕ) (n : Name) → AreTagged w tags → IsName w.plan n → slice_index tags (tag_place w.plan n) ≡ 0 → book_in w n ≡ 0
 free_slot w tags n t a z = elim (cases_lt 0 (book_in w n)) [ inl some ↦ absurd (omega (arith, t.live n a some, tag_some n.level (slice_index w.firsts (slot_place w.plan n)) (rest_at w.rests (slot_place w.plan n)), z)) | inr none ↦ omega arith ]
 
-live_slot : (w : Written) (tags : List ℕ) (n : Name) → AreTagged w tags → IsName w.plan n → slice_index tags (slot_place w.plan n) ≢ 0 → 1 ≤ book_in w n
+live_slot : (w : Written) (tags : List ℕ) (n : Name) → AreTagged w tags → IsName w.plan n → slice_index tags (tag_place w.plan n) ≢ 0 → 1 ≤ book_in w n
 live_slot w tags n t a ne = elim (cases_lt 0 (book_in w n)) [ inl some ↦ some | inr none ↦ absurd (ne (t.free n a (omega arith))) ]
 
-slot_at : (p : Rattle.node_words.specs.Plans.Layout) (level bucket start i : ℕ) → start ≡ slot_place p (named level bucket 0) → start ≤ i → slot_place p (named level bucket (i - start)) ≡ i
-slot_at p level bucket start i e low = omega (arith, place_slot p level bucket (i - start))
+slot_at : (p : Rattle.node_words.specs.Plans.Layout) (level bucket start i : ℕ) → start ≡ tag_place p (named level bucket 0) → start ≤ i → tag_place p (named level bucket (i - start)) ≡ i
+slot_at p level bucket start i e low = omega (arith, tag_slot p level bucket (i - start))
 
-slot_after : (p : Rattle.node_words.specs.Plans.Layout) (level bucket start k : ℕ) → start ≡ slot_place p (named level bucket 0) → slot_place p (named level bucket k) ≡ start + k
-slot_after p level bucket start k e = omega (arith, place_slot p level bucket k)
+slot_after : (p : Rattle.node_words.specs.Plans.Layout) (level bucket start k : ℕ) → start ≡ tag_place p (named level bucket 0) → tag_place p (named level bucket k) ≡ start + k
+slot_after p level bucket start k e = omega (arith, tag_slot p level bucket k)
 
 -- where no tag of this part is 0, the slots are live
-pub lives_below : (w : Written) (tags : List ℕ) (level bucket start end slots : ℕ) → AreTagged w tags → IsBucket w.plan level bucket → start ≡ slot_place w.plan (named level bucket 0) → slots ≤ w.plan.cap → start + slots ≤ end → LacksByte tags start end 0 → AreLiveBelow w level bucket slots
+pub lives_below : (w : Written) (tags : List ℕ) (level bucket start end slots : ℕ) → AreTagged w tags → IsBucket w.plan level bucket → start ≡ tag_place w.plan (named level bucket 0) → slots ≤ w.plan.cap → start + slots ≤ end → LacksByte tags start end 0 → AreLiveBelow w level bucket slots
 lives_below w tags level bucket start end slots t b e few ends none k lt =
     let at = slot_after w.plan level bucket start k e in
     live_slot w tags (named level bucket k) t (slot_name w.plan level bucket k b (omega arith)) (λ z. none (start + k) (omega arith) (omega arith) (ap (slice_index tags) (sym at) ∙ z))
 
-pub lowest_free : (w : Written) (tags : List ℕ) (level bucket start end i : ℕ) → AreTagged w tags → IsBucket w.plan level bucket → start ≡ slot_place w.plan (named level bucket 0) → end ≡ start + w.plan.cap → IsFirstPlace tags start end 0 i → IsLowestFree w level bucket (i - start)
+pub lowest_free : (w : Written) (tags : List ℕ) (level bucket start end i : ℕ) → AreTagged w tags → IsBucket w.plan level bucket → start ≡ tag_place w.plan (named level bucket 0) → end ≡ start + w.plan.cap → IsFirstPlace tags start end 0 i → IsLowestFree w level bucket (i - start)
 lowest_free w tags level bucket start end i t b e f first =
     let low : start ≤ i = first.at_least in
     let high : i < end = first.below in
@@ -43,17 +43,17 @@ lowest_free w tags level bucket start end i t b e f first =
     }
 
 -- a slot with the tag and the words of the key has the key
-pub has_key : (w : Written) (tags : List ℕ) (level bucket start end i from first tag : ℕ) (rest : Rest) → AreTagged w tags → IsBucket w.plan level bucket → start ≡ slot_place w.plan (named level bucket 0) → end ≡ start + w.plan.cap → tag ≡ tag_of_words level first rest → start ≤ from → IsFirstPlace tags from end tag i → key_from level (slice_index w.firsts i) (rest_at w.rests i) ≡ key_from level first rest → HasEntry w (named level bucket (i - start)) (key_from level first rest)
-has_key w tags level bucket start end i from first tag rest t b e f g le place key =
+pub has_key : (w : Written) (tags : List ℕ) (level bucket start end i from first tag at : ℕ) (rest : Rest) → AreTagged w tags → IsBucket w.plan level bucket → start ≡ tag_place w.plan (named level bucket 0) → end ≡ start + w.plan.cap → tag ≡ tag_of_words level first rest → start ≤ from → IsFirstPlace tags from end tag i → at ≡ slot_place w.plan (named level bucket (i - start)) → key_from level (slice_index w.firsts at) (rest_at w.rests at) ≡ key_from level first rest → HasEntry w (named level bucket (i - start)) (key_from level first rest)
+has_key w tags level bucket start end i from first tag at rest t b e f g le place q key =
     let low : start ≤ i = omega (arith, place.at_least) in
     let high : i < end = place.below in
     let slot : i - start < w.plan.cap = omega arith in
-    let at = slot_at w.plan level bucket start i e low in
+    let tagged = slot_at w.plan level bucket start i e low in
     let name = slot_name w.plan level bucket (i - start) b slot in
     record {
       is_name = name;
-      live = live_slot w tags (named level bucket (i - start)) t name (λ z. omega (arith, z, ap (slice_index tags) at, place.there, g, tag_some level first rest));
-      key_is = ap (λ (k : ℕ). key_from level (slice_index w.firsts k) (rest_at w.rests k)) at ∙ key;
+      live = live_slot w tags (named level bucket (i - start)) t name (λ z. omega (arith, z, ap (slice_index tags) tagged, place.there, g, tag_some level first rest));
+      key_is = ap (λ (k : ℕ). key_from level (slice_index w.firsts k) (rest_at w.rests k)) (sym q) ∙ key;
     }
 
 -- no live slot of the bucket before the place `to` has the key
@@ -62,7 +62,7 @@ LacksBefore w level bucket start to first rest =
     (s : ℕ) → s < w.plan.cap → start + s < to → 1 ≤ book_in w (named level bucket s) → key_in w (named level bucket s) ≢ key_from level first rest
 
 -- slots with other tags have other keys
-pub lacks_to : (w : Written) (tags : List ℕ) (level bucket start from to first tag : ℕ) (rest : Rest) → AreTagged w tags → IsBucket w.plan level bucket → start ≡ slot_place w.plan (named level bucket 0) → tag ≡ tag_of_words level first rest → LacksBefore w level bucket start from first rest → LacksByte tags from to tag → LacksBefore w level bucket start to first rest
+pub lacks_to : (w : Written) (tags : List ℕ) (level bucket start from to first tag : ℕ) (rest : Rest) → AreTagged w tags → IsBucket w.plan level bucket → start ≡ tag_place w.plan (named level bucket 0) → tag ≡ tag_of_words level first rest → LacksBefore w level bucket start from first rest → LacksByte tags from to tag → LacksBefore w level bucket start to first rest
 lacks_to w tags level bucket start from to first tag rest t b e g before none s lt le live = elim (cases_lt (start + s) from) [
   | inl less ↦ before s lt less live
   | inr more ↦ (let at = slot_after w.plan level bucket start s e in
@@ -71,10 +71,10 @@ lacks_to w tags level bucket start from to first tag rest t b e g before none s 
 ]
 
 -- a slot with other words has another key
-pub lacks_one : (w : Written) (level bucket start i first : ℕ) (rest : Rest) → start ≡ slot_place w.plan (named level bucket 0) → LacksBefore w level bucket start i first rest → key_from level (slice_index w.firsts i) (rest_at w.rests i) ≢ key_from level first rest → LacksBefore w level bucket start (i + 1) first rest
-lacks_one w level bucket start i first rest e before other s lt le live = elim (cases_lt (start + s) i) [
+pub lacks_one : (w : Written) (level bucket start i first at : ℕ) (rest : Rest) → start ≤ i → at ≡ slot_place w.plan (named level bucket (i - start)) → LacksBefore w level bucket start i first rest → key_from level (slice_index w.firsts at) (rest_at w.rests at) ≢ key_from level first rest → LacksBefore w level bucket start (i + 1) first rest
+lacks_one w level bucket start i first at rest low q before other s lt le live = elim (cases_lt (start + s) i) [
   | inl less ↦ before s lt less live
-  | inr more ↦ (let at = slot_after w.plan level bucket start s e in
-      let same : slot_place w.plan (named level bucket s) ≡ i = omega arith in
-      λ q. other (ap (λ (k : ℕ). key_from level (slice_index w.firsts k) (rest_at w.rests k)) (sym same) ∙ q))
+  | inr more ↦ (let slot : s ≡ i - start = omega arith in
+      let same : slot_place w.plan (named level bucket s) ≡ at = ap (λ (k : ℕ). slot_place w.plan (named level bucket k)) slot ∙ sym q in
+      λ p. other (ap (λ (k : ℕ). key_from level (slice_index w.firsts k) (rest_at w.rests k)) (sym same) ∙ p))
 ]

@@ -9,7 +9,7 @@ use Rattle.node_words.specs.Plans.{Layout, IsPlan}
 use Rattle.node_places.specs.Spots.{levels, buckets_at}
 use Rattle.node_places.specs.Names.{IsName, named}
 use Rattle.std.specs.Prelude.{slice_index}
-use Rattle.entry_words.specs.Slots.{slot_place, number_of_slots, slots_at, IsBucket, AreEnds}
+use Rattle.entry_words.specs.Slots.{slot_place, tag_place, number_of_slots, slots_at, IsBucket, AreEnds}
 
 sum_grows : (f : ℕ → ℕ) (l d : ℕ) → sum_below l f ≤ sum_below (l + d) f
 sum_grows f l zero = let same : l + 0 ≡ l = omega arith in rw same (omega arith)
@@ -35,30 +35,46 @@ parts f l m i j of_l of_m same =
           ]
     ]
 
-in_level : (p : Layout) (n : Name) → IsName p n → n.bucket * p.cap + n.slot < slots_at p n.level
-in_level p n i = mul-add-lt n.bucket p.cap n.slot (buckets_at p n.level) i.bucket_in i.slot_in
+in_level : (p : Layout) (n : Name) → IsName p n → n.slot * buckets_at p n.level + n.bucket < slots_at p n.level
+in_level p n i = let in_row = mul-add-lt n.slot (buckets_at p n.level) n.bucket p.cap i.slot_in i.bucket_in in omega (arith, in_row)
 
 pub place_in : (p : Layout) (n : Name) → IsName p n → slot_place p n < number_of_slots p
 place_in p n i =
     let below = in_level p n i in
-    omega (arith, part_ends (slots_at p) n.level (levels p) (suc (n.bucket * p.cap + n.slot)) i.level_in (omega (arith, below)))
+    omega (arith, part_ends (slots_at p) n.level (levels p) (suc (n.slot * buckets_at p n.level + n.bucket)) i.level_in (omega (arith, below)))
 
 pub place_one : (p : Layout) (m n : Name) → IsName p m → IsName p n → slot_place p m ≡ slot_place p n → m ≡ n
 place_one p m n i j e =
-    let level = parts (slots_at p) m.level n.level (m.bucket * p.cap + m.slot) (n.bucket * p.cap + n.slot) (in_level p m i) (in_level p n j) e in
+    let level = parts (slots_at p) m.level n.level (m.slot * buckets_at p m.level + m.bucket) (n.slot * buckets_at p n.level + n.bucket) (in_level p m i) (in_level p n j) e in
+    let width : buckets_at p m.level ≡ buckets_at p n.level = ap (buckets_at p) level.0 in
+    let same : m.slot * buckets_at p n.level + m.bucket ≡ n.slot * buckets_at p n.level + n.bucket = subst (λ (w : ℕ). m.slot * w + m.bucket ≡ n.slot * buckets_at p n.level + n.bucket) width level.1 in
+    let slot = same_from_place m.slot m.bucket n.slot n.bucket (buckets_at p n.level) (omega (arith, i.bucket_in, width)) j.bucket_in same in
+    same_name m n level.0 slot.1 slot.0
+
+tag_in_level : (p : Layout) (n : Name) → IsName p n → n.bucket * p.cap + n.slot < slots_at p n.level
+tag_in_level p n i = mul-add-lt n.bucket p.cap n.slot (buckets_at p n.level) i.bucket_in i.slot_in
+
+pub tag_in : (p : Layout) (n : Name) → IsName p n → tag_place p n < number_of_slots p
+tag_in p n i =
+    let below = tag_in_level p n i in
+    omega (arith, part_ends (slots_at p) n.level (levels p) (suc (n.bucket * p.cap + n.slot)) i.level_in (omega (arith, below)))
+
+pub tag_one : (p : Layout) (m n : Name) → IsName p m → IsName p n → tag_place p m ≡ tag_place p n → m ≡ n
+tag_one p m n i j e =
+    let level = parts (slots_at p) m.level n.level (m.bucket * p.cap + m.slot) (n.bucket * p.cap + n.slot) (tag_in_level p m i) (tag_in_level p n j) e in
     let slot = same_from_place m.bucket m.slot n.bucket n.slot p.cap i.slot_in j.slot_in level.1 in
     same_name m n level.0 slot.0 slot.1
 
--- the slots of a bucket stand side by side
-pub place_slot : (p : Layout) (level bucket slot : ℕ) → slot_place p (named level bucket 0) + slot ≡ slot_place p (named level bucket slot)
-place_slot p level bucket slot = omega arith
+-- the tags of a bucket stand side by side
+pub tag_slot : (p : Layout) (level bucket slot : ℕ) → tag_place p (named level bucket 0) + slot ≡ tag_place p (named level bucket slot)
+tag_slot p level bucket slot = omega arith
 
 pub slot_name : (p : Layout) (level bucket slot : ℕ) → IsBucket p level bucket → slot < p.cap → IsName p (named level bucket slot)
 slot_name p level bucket slot i lt = record { level_in = i.level_in; bucket_in = i.bucket_in; slot_in = lt }
 
 -- what the code finds for a name's place lies below the number of slots
-pub place_inside : (p : Layout) (ends : List ℕ) (n : Name) (at b c s len : ℕ) → IsPlan p → AreEnds p ends → IsName p n → at ≡ n.level → b ≡ n.bucket → c ≡ p.cap → s ≡ n.slot → len ≡ number_of_slots p → slice_index ends at + (b * c + s) < len
-place_inside p ends n at b c s len plan e i q f g k l =
+pub place_inside : (p : Layout) (ends : List ℕ) (n : Name) (at s w b len : ℕ) → IsPlan p → AreEnds p ends → IsName p n → at ≡ n.level → s ≡ n.slot → w ≡ buckets_at p n.level → b ≡ n.bucket → len ≡ number_of_slots p → slice_index ends at + (s * w + b) < len
+place_inside p ends n at s w b len plan e i q f g k l =
     let top : n.level ≤ 11 = omega (arith, i.level_in, plan.side_high) in
     rw (q, f, g, k, l) (omega (arith, e.end n.level top, place_in p n i))
 

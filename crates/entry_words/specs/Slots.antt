@@ -1,4 +1,6 @@
--- Where the slots of a plan stand in one row: level by level, and bucket by bucket.
+-- Where the slots of a plan stand in a row, level by level: the words of all buckets' first slots
+-- lie side by side, then those of their second slots, and so on; the tags of a bucket lie side by
+-- side.
 use Rattle.std.specs.Prelude.{◌≡◌, ℕ, ◌+◌, ◌*◌, ◌^◌, ◌<◌, ◌≤◌, List, slice_index}
 use Rattle.sums.specs.Sums.{sum_below}
 use Rattle.node_shapes.specs.declared.names.Name.{Name}
@@ -9,9 +11,12 @@ use Rattle.node_places.specs.Spots.{levels, buckets_at}
 abbrev pub slots_at : Layout → ℕ → ℕ
 slots_at p level = p.cap * buckets_at p level
 
--- the place of a name's slot
+-- the place of a slot's words, and of its tag
 abbrev pub slot_place : Layout → Name → ℕ
-slot_place p n = sum_below n.level (slots_at p) + (n.bucket * p.cap + n.slot)
+slot_place p n = sum_below n.level (slots_at p) + (n.slot * buckets_at p n.level + n.bucket)
+
+abbrev pub tag_place : Layout → Name → ℕ
+tag_place p n = sum_below n.level (slots_at p) + (n.bucket * p.cap + n.slot)
 
 -- how many slots there are
 abbrev pub number_of_slots : Layout → ℕ

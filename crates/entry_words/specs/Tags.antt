@@ -6,7 +6,7 @@ use Rattle.node_words.specs.Plans.{IsPlan}
 use Rattle.node_places.specs.Names.{IsName}
 use Rattle.entry_words.specs.declared.key_words.Rest.{Rest}
 use Rattle.entry_words.specs.declared.key_words.KeyWords.{KeyWords}
-use Rattle.entry_words.specs.Slots.{slot_place, number_of_slots, AreEnds}
+use Rattle.entry_words.specs.Slots.{tag_place, number_of_slots, AreEnds}
 use Rattle.entry_words.specs.Words.{Written, book_in, first_in, rest_in}
 
 -- a word of 64 bits times a number, and a sum of two, as far as 64 bits go
@@ -36,9 +36,9 @@ tag_of level words = tag_of_words level words.first words.rest
 -- a live slot has the tag of its key's words, and a free one has 0
 pub record AreTagged (w : Written) (tags : List ℕ) : Type 0 where
   pub free : (n : Name) → IsName w.plan n → book_in w n ≡ 0
-      → slice_index tags (slot_place w.plan n) ≡ 0
+      → slice_index tags (tag_place w.plan n) ≡ 0
   pub live : (n : Name) → IsName w.plan n → 1 ≤ book_in w n
-      → slice_index tags (slot_place w.plan n) ≡ tag_of_words n.level (first_in w n) (rest_in w n)
+      → slice_index tags (tag_place w.plan n) ≡ tag_of_words n.level (first_in w n) (rest_in w n)
 
 -- there are words and a tag for each slot of the plan
 pub record AreEntries (w : Written) (ends tags : List ℕ) : Type 0 where

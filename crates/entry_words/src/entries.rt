@@ -5,7 +5,7 @@ ghost use Rattle.node_words.specs.Plans.{IsPlan};
 ghost use Rattle.node_words.specs.Keys.{bucket_of_key};
 ghost use Rattle.node_places.specs.Spots.{levels, buckets_at};
 ghost use Rattle.node_places.specs.Names.{IsName, HasNames, named, key_bits, key_child};
-ghost use Rattle.entry_words.specs.Slots.{slot_place, IsBucket};
+ghost use Rattle.entry_words.specs.Slots.{slot_place, tag_place, IsBucket};
 ghost use Rattle.entry_words.specs.Coding.{key_of, key_from, word_number};
 ghost use Rattle.entry_words.specs.Words.{rest_at, book_in, key_in, HasEntry, LacksKey, IsLowestFree, AreLiveBelow};
 ghost use Rattle.entry_words.specs.Changes.{SetsBook, PutsEntry};
@@ -21,8 +21,11 @@ use vw_cell::Side;
 
 /// The books and keys of all slots of a plan. It takes all its memory when it is made.
 ///
-/// Beside the words of each slot there is a byte, its tag, by which searches pass over most slots.
-/// Contracts don't see it.
+/// The first slots of all buckets stand side by side, then the second ones, and so on. Since a node
+/// takes the lowest free slot, few nodes lie close together.
+///
+/// For each slot there is a byte, its tag, by which searches pass over most slots of a bucket. The
+/// tags of a bucket stand side by side. Contracts don't see them.
 #[derive(Drop)]
 pub struct EntryWords {
     plan: Plan,
@@ -48,6 +51,7 @@ impl Model for EntryWords {
 
 impl EntryWords {
     /// Free slots, as many as the plan has.
+    #[tactic(auto, using(crate::proofs::TagLaws::tagged_free))]
     pub fn begin(alloc: Global, plan: &Plan) -> Result<EntryWords, AllocError>
         ensures plan { IfOk result (λ w. w.plan ≡ plan.now) }
         ensures is_plan { IfOk result (λ w. IsPlan w.plan) }
@@ -108,9 +112,10 @@ impl EntryWords {
         ensures { PutsEntry self.old n (key_of n.level words) self.new }
     {
         let i = self.place(n);
+        let tag = self.tag_place(n);
         self.firsts[i] = words.first;
         self.rests[i] = words.rest;
-        self.tags[i] = tag_of(n.level, &words);
+        self.tags[tag] = tag_of(n.level, &words);
         self.books[i] = 1;
     }
 
@@ -120,7 +125,8 @@ impl EntryWords {
         ensures { SetsBook self.old n 0 self.new }
     {
         let i = self.place(n);
-        self.tags[i] = 0;
+        let tag = self.tag_place(n);
+        self.tags[tag] = 0;
         self.books[i] = 0;
     }
 
@@ -178,8 +184,14 @@ impl EntryWords {
         let tag = tag_of(level, &words);
         let mut from = start;
         while let Some(i) = position(&self.tags, from, end, tag) {
-            if self.has_words(i, level, &words) {
-                return Some((i - start) as u8);
+            let slot = (i - start) as u8;
+            let at = self.place(Name {
+                level,
+                bucket,
+                slot,
+            });
+            if self.has_words(at, level, &words) {
+                return Some(slot);
             }
             from = i + 1;
         }
@@ -200,7 +212,7 @@ impl EntryWords {
         }
     }
 
-    // The place of the name's slot.
+    // The place of the words of the name's slot.
     fn place(&self, n: Name) -> usize
         requires { IsName self.now.plan n }
         ensures value { result ≡ slot_place self.now.plan n }
@@ -208,15 +220,25 @@ impl EntryWords {
         ensures firsts { result < length self.now.firsts }
         ensures rests { result < length self.now.rests }
     {
-        let cap = usize::from(self.plan.cap());
-        let slot = usize::from(n.bucket) * cap + usize::from(n.slot);
-        self.ends[usize::from(n.level)] + slot
+        let level = usize::from(n.level);
+        let buckets = usize::from(self.plan.buckets()[level]);
+        let slot = usize::from(n.slot) * buckets + usize::from(n.bucket);
+        self.ends[level] + slot
     }
 
-    // The place of a bucket's first slot.
+    // The place of the tag of the name's slot.
+    fn tag_place(&self, n: Name) -> usize
+        requires { IsName self.now.plan n }
+        ensures value { result ≡ tag_place self.now.plan n }
+        ensures inside { result < length self.now.books }
+    {
+        self.start(n.level, n.bucket) + usize::from(n.slot)
+    }
+
+    // The place of the tag of a bucket's first slot.
     fn start(&self, level: u8, bucket: u16) -> usize
         requires { IsBucket self.now.plan level bucket }
-        ensures value { result ≡ slot_place self.now.plan (named level bucket 0) }
+        ensures value { result ≡ tag_place self.now.plan (named level bucket 0) }
         ensures inside { result + self.now.plan.cap ≤ length self.now.books }
         ensures small { result < 2 ^ 41 }
     {

@@ -1,6 +1,6 @@
 use Rattle.std.proofs.Common.{◌<◌, ◌∙◌, ap, sym, subst, length}
 use Rattle.node_places.specs.Names.{IsName}
-use Rattle.entry_words.specs.Slots.{slot_place}
+use Rattle.entry_words.specs.Slots.{slot_place, tag_place}
 use Rattle.entry_words.specs.Words.{Written}
 use Rattle.entry_words.specs.Changes.{SetsBook}
 use Rattle.entry_words.proofs.TagLaws.{sets_book, with_book, entries_clear}
@@ -9,7 +9,10 @@ use Rattle.entry_words.proofs.entries.EntryWords.clear.Goals as goal
 pub invariant_of-self : goal.invariant_of-self
 invariant_of-self c =
     let e = sym c.self.view_is in
-    entries_clear _ _ _ c.place-i.result c.self.invariant (subst (λ (w : Written). c.place-i.result < length w.books) e c.place-i.ensures.books)
+    let at = c.place-i.ensures.value ∙ ap (λ (w : Written). slot_place w.plan c.args.n) e in
+    let tag = c.tag_place-tag.ensures.value ∙ ap (λ (w : Written). tag_place w.plan c.args.n) e in
+    let name = subst (λ (w : Written). IsName w.plan c.args.n) e c.requires in
+    entries_clear _ _ _ c.args.n c.place-i.result c.tag_place-tag.result c.self.invariant name at tag
 
 pub returns : goal.returns
 returns c =

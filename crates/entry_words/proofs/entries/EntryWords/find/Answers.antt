@@ -14,8 +14,8 @@ returns-then-has_words-clause-found c =
     let cap = ap (λ (w : Written). w.plan.cap) c.self.view_is in
     let tagged = subst (λ (w : Written). AreTagged w c.self.inside.tags.items) c.self.view_is c.self.invariant.tagged in
     let place = subst (λ (tags : List ℕ). IsFirstPlace tags c.loop-i.from end c.tag_of-tag.result c.in-Some.i) c.deref.ensures.value c.in-Some.ensures.found in
-    has_key c.args.self.now c.self.inside.tags.items c.args.level c.args.bucket start end c.in-Some.i c.loop-i.from c.args.words.first c.tag_of-tag.result c.args.words.rest
-    tagged c.requires c.start-start.ensures.value (omega (arith, cap, c.from.ensures, c.cap.ensures.value)) c.tag_of-tag.ensures c.loop-i.invariant.low place (subst (λ (b : Bool). IsTrue b → key_from c.args.level (slice_index c.args.self.now.firsts c.in-Some.i) (rest_at c.args.self.now.rests c.in-Some.i) ≡ key_of c.args.level c.args.words) c.if-has_words.true c.has_words.ensures.0 refl)
+    has_key c.args.self.now c.self.inside.tags.items c.args.level c.args.bucket start end c.in-Some.i c.loop-i.from c.args.words.first c.tag_of-tag.result c.place-at.result c.args.words.rest
+    tagged c.requires c.start-start.ensures.value (omega (arith, cap, c.from.ensures, c.cap.ensures.value)) c.tag_of-tag.ensures c.loop-i.invariant.low place c.place-at.ensures.value (subst (λ (b : Bool). IsTrue b → key_from c.args.level (slice_index c.args.self.now.firsts c.place-at.result) (rest_at c.args.self.now.rests c.place-at.result) ≡ key_of c.args.level c.args.words) c.if-has_words.true c.has_words.ensures.0 refl)
 
 pub loop-i-preserved : goal.loop-i-preserved
 loop-i-preserved c =
@@ -28,7 +28,7 @@ loop-i-preserved c =
     record {
       low = omega (arith, c.loop-i.invariant.low, place.at_least);
       high = omega (arith, place.below);
-      lacks = lacks_one c.args.self.now c.args.level c.args.bucket start c.in-Some.i c.args.words.first c.args.words.rest c.start-start.ensures.value before (λ q. untrue (sym (c.has_words.ensures.1 q) ∙ c.if-has_words.false));
+      lacks = lacks_one c.args.self.now c.args.level c.args.bucket start c.in-Some.i c.args.words.first c.place-at.result c.args.words.rest (omega (arith, c.loop-i.invariant.low, place.at_least)) c.place-at.ensures.value before (λ q. untrue (sym (c.has_words.ensures.1 q) ∙ c.if-has_words.false));
     }
 
 pub returns-clause-none : goal.returns-clause-none

@@ -1,6 +1,6 @@
 use Rattle.std.proofs.Common.{◌<◌, ◌∙◌, ap, sym, subst, length}
 use Rattle.node_places.specs.Names.{IsName}
-use Rattle.entry_words.specs.Slots.{slot_place}
+use Rattle.entry_words.specs.Slots.{slot_place, tag_place}
 use Rattle.entry_words.specs.Coding.{key_of}
 use Rattle.entry_words.specs.Words.{Written}
 use Rattle.entry_words.specs.Changes.{PutsEntry}
@@ -12,7 +12,8 @@ invariant_of-self c =
     let e = sym c.self.view_is in
     let at = c.place-i.ensures.value ∙ ap (λ (w : Written). slot_place w.plan c.args.n) e in
     let name = subst (λ (w : Written). IsName w.plan c.args.n) e c.requires.name in
-    entries_entry _ _ _ c.args.n c.place-i.result c.args.words.first c.tag_of.result c.args.words.rest c.self.invariant name at c.tag_of.ensures
+    let tag = c.tag_place-tag.ensures.value ∙ ap (λ (w : Written). tag_place w.plan c.args.n) e in
+    entries_entry _ _ _ c.args.n c.place-i.result c.tag_place-tag.result c.args.words.first c.tag_of.result c.args.words.rest c.self.invariant name at tag c.tag_of.ensures
 
 pub returns : goal.returns
 returns c =
