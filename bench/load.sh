@@ -1,0 +1,27 @@
+#!/usr/bin/env bash
+# Compares the loads of six numbers with those of a program that was written from the rules of loads alone: bench/load.sh
+#
+# The program bench/load/main.rt.in stands in no crates.txt, and not under the name of a source, so that the gate
+# doesn't ask for its proof. This makes a folder of copies, proves and builds the program there, and runs it and
+# bench/load/load.py on each number: side, VOX file and scripts must be the same bytes. It needs Python. With words it
+# compares the loads of these numbers instead.
+set -eu
+here=$(cd "$(dirname "$0")" && pwd)
+root=$(dirname "$here")
+work=$here/work/load
+. "$here/copies.sh"
+crates="sums word_bits vw_cell bit_set vox_chunk vox_read vox_write plain_text history_model gen_load"
+mkdir -p "$work/crates/bench_load/src"
+copy_crates $crates
+cp "$here/load/main.rt.in" "$work/crates/bench_load/src/main.rt"
+list_crates "bench_load: vw_cell vox_read vox_write history_model plain_text gen_load" $crates
+cd "$work"
+(cd crates/bench_load && rt run > "$work/build.log" 2>&1) || true
+[ -x crates/bench_load/out/bench_load ] || { tail -20 "$work/build.log" >&2; exit 1; }
+[ $# -gt 0 ] || set -- 7 0 1 12345 999999 4294967295
+for n in "$@"; do
+    crates/bench_load/out/bench_load "$n" > product
+    python3 "$here/load/load.py" "$n" > peer
+    cmp product peer || { echo "$n: the loads differ" >&2; exit 1; }
+    echo "$n: the same $(wc -c < product) bytes"
+done

@@ -1,0 +1,15 @@
+//! A large input that one number makes: a VOX file and four scripts.
+#![tactic(auto)]
+
+mod edits;
+mod generator;
+mod inputs;
+mod loads;
+mod scripts;
+mod voxels;
+
+pub use inputs::Load;
+pub use loads::load;
+
+#[cfg(test)]
+mod tests;
