@@ -1,2 +1,4 @@
 pub mod Draws
 pub mod Loads
+pub mod Regions
+pub mod RegionLaws

@@ -9,7 +9,7 @@ mod scripts;
 mod voxels;
 
 pub use inputs::Load;
-pub use loads::load;
+pub use loads::{edits_keep_to_their_regions, load};
 
 #[cfg(test)]
 mod tests;

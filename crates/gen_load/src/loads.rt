@@ -2,6 +2,7 @@ ghost use Rattle.std.specs.Prelude.{◌≡◌, ◌^◌, ◌∷◌, [], Ok, IfOk,
 ghost use Rattle.vox_read.specs.Files.{ReadsModels};
 ghost use Rattle.vox_write.specs.Written.{model_file};
 ghost use Rattle.gen_load.specs.Loads.{load_model, load_scripts, scripts_from};
+ghost use Rattle.gen_load.specs.RegionLaws.{EditsLieInRegions};
 
 use crate::generator::Generator;
 use crate::inputs::Load;
@@ -36,6 +37,13 @@ pub fn load(alloc: Global, n: u32) -> Result<Load, Memory>
         scripts,
     })
 }
+
+/// A law: every edit of a load lies in its region of the world, with all the cells that it can
+/// change.
+#[tactic(auto, using(crate::specs::RegionLaws::edits_lie_in_regions))]
+pub fn edits_keep_to_their_regions()
+    ensures { EditsLieInRegions }
+{}
 
 // The next script of each region.
 fn next_scripts(alloc: Global, numbers: &mut Generator) -> Result<Vec<Vec<u8>>, Memory>
