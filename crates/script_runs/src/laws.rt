@@ -1,0 +1,13 @@
+ghost use Rattle.script_runs.specs.Statements.{RebuiltEditsTakeLines, UndosTakeLines};
+ghost use Rattle.script_runs.specs.Statements.{ForgettingsTakeLines, FullBucketsTakeLines};
+ghost use Rattle.script_runs.specs.Statements.{RestingAnswersTakeLines, MomentsAreInHistory};
+
+/// What each arm of a desk has to show to go on with a line, by what it did.
+pub fn arms_take_lines()
+    ensures rebuilt { RebuiltEditsTakeLines }
+    ensures undone { UndosTakeLines }
+    ensures forgot { ForgettingsTakeLines }
+    ensures full { FullBucketsTakeLines }
+    ensures rests { RestingAnswersTakeLines }
+    ensures before { MomentsAreInHistory }
+{}

@@ -1,0 +1,17 @@
+//! Scripts that are run one after another over a desk that answers line by line.
+//!
+//! A desk keeps the world in whatever form. It shows, line by line, what its answer makes of the
+//! history (`TakesLine` in `specs/Sessions.antt`); that a whole run then is one legal history which
+//! agrees with all scripts and transcripts follows here, once for all desks.
+#![tactic(auto)]
+
+mod desks;
+mod laws;
+mod runs;
+
+pub use desks::Desk;
+pub use laws::arms_take_lines;
+pub use runs::{run_script, run_scripts};
+
+#[cfg(test)]
+mod tests;
