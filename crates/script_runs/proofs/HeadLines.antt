@@ -1,5 +1,5 @@
 -- A line that asks for the newest version of an empty history.
-use Rattle.std.proofs.Common.{◌≡◌, ℕ, List, [], refl, sym, subst}
+use Rattle.std.proofs.Common.{◌≡◌, ℕ, [], refl, sym, subst}
 use Rattle.history_model.specs.Logs.{Log}
 use Rattle.node_words.specs.Plans.{Layout}
 use Rattle.script.specs.declared.commands.Command.{Command}
@@ -7,7 +7,7 @@ use Rattle.script.specs.declared.commands.Command.TheVariants as commands
 use Rattle.script.specs.declared.commands.ScriptLine.{ScriptLine}
 use Rattle.transcript.specs.declared.answers.Answer.TheVariants as answers
 use Rattle.conformance.specs.Answers.{IsStanding, Answers, head}
-use Rattle.conformance.specs.Refusing.{Refusal, refused_by}
+use Rattle.conformance.specs.Refusing.{refused_by}
 use Rattle.script_runs.specs.Keeping.{MadeAndMet, last_moment}
 use Rattle.script_runs.specs.Sessions.{GoesOnWith}
 use Rattle.script_runs.proofs.Arms.{resting_arm}
