@@ -6,6 +6,7 @@ mod rebuild;
 mod scans;
 mod stamps;
 mod stencils;
+mod tiers;
 
 pub use laws::stencils_stamp_their_models;
 pub use rebuild::rebuild_stamp;

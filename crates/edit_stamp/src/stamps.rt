@@ -2,7 +2,7 @@ ghost use Rattle.std.specs.Prelude.{◌≡◌, ◌+◌, ◌-◌, ◌*◌, ◌^�
 
 use crate::stencils::Stencil;
 use block_walk::{leaf_bits, octant_name};
-use edit_cells::{Task, Whole, old_whole, paint, side_of};
+use edit_cells::{Task, Whole, old_whole, paint};
 use node_shapes::Name;
 use node_words::Blocks;
 use vw_cell::{Block, Boxed, Cell};
@@ -48,14 +48,13 @@ impl<'s> Task for StampTask<'s> {
         if !place.meets(block) {
             return old_whole(self.old);
         }
-        let side = side_of(level);
-        if self.stencil.is_all(self.place, self.at, side, false) {
+        if self.stencil.is_all(self.place, self.at, level, false) {
             return old_whole(self.old);
         }
         if !place.holds_block(block) {
             return Whole::Mixed;
         }
-        if self.stencil.is_all(self.place, self.at, side, true) {
+        if self.stencil.is_all(self.place, self.at, level, true) {
             return Whole::All;
         }
         Whole::Mixed

@@ -1,15 +1,19 @@
 ghost use Rattle.std.specs.Prelude.{IsTrue};
-ghost use Rattle.std.specs.Prelude.{◌≡◌, ◌+◌, ◌-◌, ◌*◌, ◌/◌, ◌%◌, ◌^◌, ◌<◌, ◌≤◌, ℕ, slice_index, bit_and};
+ghost use Rattle.std.specs.Prelude.{◌≡◌, ◌+◌, ◌-◌, ◌*◌, ◌/◌, ◌%◌, ◌^◌, ◌<◌, ◌≤◌, ◌≢◌, ℕ, slice_index, bit_and};
 ghost use Rattle.std.specs.Prelude.{IfOk, ◌==◌, ◌&&◌, ◌||◌};
 ghost use Rattle.std.specs.Int.{bit_at};
 ghost use Rattle.node_shapes.specs.Shape.{bit_number};
 ghost use Rattle.vox_read.specs.Contents.{IsModel, IsSize, StandsInside};
 ghost use Rattle.vw_cell.specs.declared.blocks.Block.{Block};
 ghost use Rattle.node_kernels.specs.Leaves.{LeafShows};
-ghost use Rattle.edit_stamp.specs.Drawings.{IsWord, Draws, AllDrawn, leaves_of, leaf_number};
+ghost use Rattle.vw_cell.specs.Places.{block_side};
+ghost use Rattle.edit_stamp.specs.Drawings.{IsWord, Draws, AllDrawn, AllWords, HasLeaves, leaves_of, leaf_number};
+ghost use Rattle.edit_stamp.specs.Tiers.{Tells};
 ghost use Rattle.edit_stamp.specs.Stamps.{is_stamped};
 
-use crate::scans::{are_all, touched};
+use crate::scans::{Leaves, are_all, touched};
+use crate::tiers::{Tier, cubes_over, leaf_count};
+use edit_cells::side_of;
 use node_words::{box_bits, window_bits};
 use std::alloc::Global;
 use vox_read::{Model, Voxel, cells};
@@ -20,16 +24,26 @@ use vw_cell::{Block, Boxed, Cell, Memory};
 pub struct Stencil {
     size: Cell,
     words: Vec<u64>,
+    // Words over cubes of 2, 4, 8, 16, 32 and 64 leaves a side.
+    first: Tier,
+    second: Tier,
+    third: Tier,
+    fourth: Tier,
+    fifth: Tier,
+    sixth: Tier,
 }
 
 impl std::marker::Model for Stencil {
     ghost use Rattle.edit_stamp.specs.Drawings.{Drawn, HasLeaves};
+    ghost use Rattle.edit_stamp.specs.Tiers.{HasTiers};
 
     ghost Value = { Drawn };
 
     ghost view = { λ s. record { size = s.size; words = s.words.items } };
 
-    ghost invariant = { λ s. HasLeaves s.size s.words.items };
+    ghost invariant = { λ s. HasLeaves s.size s.words.items
+        × HasTiers (record { size = s.size; words = s.words.items })
+        s.first s.second s.third s.fourth s.fifth s.sixth };
 }
 
 impl Stencil {
@@ -46,7 +60,7 @@ impl Stencil {
             let word = words[leaf];
             words[leaf] = with_cell(word, *voxel);
         }
-        Ok(Stencil { size, words })
+        with_tiers(alloc, size, words)
     }
 
     /// The model's size.
@@ -57,16 +71,51 @@ impl Stencil {
         self.size
     }
 
-    /// Whether the model's places in a cube of the world are all set, or all unset. It may miss
-    /// some that are.
-    pub fn is_all(&self, place: Cell, at: Cell, side: u32, set: bool) -> bool
-        requires side { side ≤ 4096 }
-        ensures { IsTrue result → AllDrawn self.now place at side set }
+    /// Whether the model's places in a block of the world are all set, or all unset. It may miss
+    /// some that are. It looks at 27 words at most: those over the cubes of the model, half as wide
+    /// as the block, that the block touches.
+    pub fn is_all(&self, place: Cell, at: Cell, level: u8, set: bool) -> bool
+        requires level { level ≤ 10 }
+        ensures { IsTrue result → AllDrawn self.now place at (block_side level) set }
     {
         let size = self.size();
         let want = all_bits(set);
-        let leaves = touched(size, place, at, side);
-        are_all(size, &self.words, leaves, want)
+        let leaves = touched(size, place, at, side_of(level));
+        if level <= 1 {
+            return are_all(size, &self.words, leaves, want);
+        }
+        self.are_all_over((level - 1).min(6), leaves, want)
+    }
+
+    // Whether the words of these leaves are all the same, by those over cubes of 2 ^ up leaves a
+    // side.
+    fn are_all_over(&self, up: u8, leaves: Leaves, want: u64) -> bool
+        requires up { (1 ≤ up) × (up ≤ 6) }
+        requires want { want ≢ 1 }
+        requires leaves { (leaves.to.x ≤ leaves_of self.now.size.x)
+            × (leaves.to.y ≤ leaves_of self.now.size.y)
+            × (leaves.to.z ≤ leaves_of self.now.size.z) }
+        ensures { IsTrue result
+            → AllWords self.now.size self.now.words leaves.from leaves.to want }
+    {
+        let tier = self.tier(up);
+        let cubes = cubes_over(leaves, up);
+        tier.are_all(cubes, want)
+    }
+
+    // The words over cubes of 2 ^ up leaves a side.
+    fn tier(&self, up: u8) -> &Tier
+        requires { (1 ≤ up) × (up ≤ 6) }
+        ensures { Tells self.now up result.now }
+    {
+        match up {
+            1 => &self.first,
+            2 => &self.second,
+            3 => &self.third,
+            4 => &self.fourth,
+            5 => &self.fifth,
+            _ => &self.sixth,
+        }
     }
 
     // The bits of a leaf, counted from 1,024 leaves before the model's least corner, where there is
@@ -115,16 +164,27 @@ impl Stencil {
     }
 }
 
-// How many leaves there are in a size.
-fn leaf_count(size: Cell) -> usize
-    requires { IsSize size }
-    ensures value { result ≡ leaves_of size.z * leaves_of size.y * leaves_of size.x }
-    ensures bound { result ≤ 262144 }
+// A stencil of these leaves.
+fn with_tiers(alloc: Global, size: Cell, words: Vec<u64>) -> Result<Stencil, Memory>
+    requires { HasLeaves size words.items }
+    ensures { IfOk result (λ s. s ≡ record { size = size; words = words.items }) }
 {
-    let x = usize::from((size.x + 3) / 4);
-    let y = usize::from((size.y + 3) / 4);
-    let z = usize::from((size.z + 3) / 4);
-    z * y * x
+    let first = Tier::over(alloc, size, &words)?;
+    let second = first.next(alloc)?;
+    let third = second.next(alloc)?;
+    let fourth = third.next(alloc)?;
+    let fifth = fourth.next(alloc)?;
+    let sixth = fifth.next(alloc)?;
+    Ok(Stencil {
+        size,
+        words,
+        first,
+        second,
+        third,
+        fourth,
+        fifth,
+        sixth,
+    })
 }
 
 // The number of the leaf that the voxel stands in.
@@ -150,7 +210,8 @@ fn with_cell(word: u64, v: Voxel) -> u64
 }
 
 fn all_bits(set: bool) -> u64
-    ensures { (b : ℕ) → b < 64 → (bit_at result b == 1) ≡ set }
+    ensures bits { (b : ℕ) → b < 64 → (bit_at result b == 1) ≡ set }
+    ensures whole { result ≢ 1 }
 {
     if set { u64::MAX } else { 0 }
 }

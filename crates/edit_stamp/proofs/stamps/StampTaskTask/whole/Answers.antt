@@ -16,18 +16,21 @@ returns-then-not-meets-clause-whole c base cells m =
     (stamp_missed c.args.self.now.stencil.now c.args.self.now.place (record { level = c.args.level; at = c.args.self.now.at })
     (λ h. false≢true (c.if-not-meets.ensures.1 (subst (λ (s : Cell). Meets (record { at = c.args.self.now.place; size = s }) (record { level = c.args.level; at = c.args.self.now.at })) (sym c.size.ensures.value) h)))) m.paints)
 
-pub side_of-side-requires : goal.side_of-side-requires
-side_of-side-requires c = let (base, cells, m) = c.requires.task in m.small
+pub is_all-requires : goal.is_all-requires
+is_all-requires c = let (base, cells, m) = c.requires.task in record { level = m.small }
+
+pub is_all-requires-2 : goal.is_all-requires-2
+is_all-requires-2 c = let (base, cells, m) = c.requires.task in record { level = m.small }
 
 pub returns-then-is_all-clause-whole : goal.returns-then-is_all-clause-whole
 returns-then-is_all-clause-whole c base cells m =
     subst (λ (w : Whole). IsWhole base c.args.level cells w) (sym c.old_whole-then-is_all.ensures)
-    (paints_missed base c.args.level c.args.self.now.old _ _ cells (stamp_empty c.args.self.now.stencil.now c.args.self.now.place c.args.self.now.at c.args.level _ c.side_of-side.ensures.value (c.if-is_all.ensures refl)) m.paints)
+    (paints_missed base c.args.level c.args.self.now.old _ _ cells (stamp_empty c.args.self.now.stencil.now c.args.self.now.place c.args.self.now.at c.args.level _ refl (c.if-is_all.ensures refl)) m.paints)
 
 pub returns-then-is_all-2-clause-whole : goal.returns-then-is_all-2-clause-whole
 returns-then-is_all-2-clause-whole c base cells m =
     paints_held base c.args.level _ true _ cells
-    (stamp_full c.args.self.now.stencil.now c.args.self.now.place c.args.self.now.at c.args.level _ c.side_of-side.ensures.value (c.if-is_all-2.ensures refl)
+    (stamp_full c.args.self.now.stencil.now c.args.self.now.place c.args.self.now.at c.args.level _ refl (c.if-is_all-2.ensures refl)
     (subst (λ (s : Cell). HoldsBlock (record { at = c.args.self.now.place; size = s }) (record { level = c.args.level; at = c.args.self.now.at })) c.size.ensures.value (c.if-not-holds_block.ensures.0 refl))) m.paints
 
 pub returns-clause-mixed : goal.returns-clause-mixed
