@@ -1,0 +1,4 @@
+pub mod Commands
+pub mod WordLaws
+pub mod NumberLaws
+pub mod ReadLaws
