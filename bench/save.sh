@@ -1,0 +1,34 @@
+#!/usr/bin/env bash
+# Times the writing of a VOX file of 256 x 256 x 256 voxels against the same in plain Rust: bench/save.sh
+#
+# The program bench/save/main.rt.in stands in no crates.txt, and not under the name of a source, so that the gate
+# doesn't ask for its proof. This makes a folder of copies, proves and builds the program there, writes the file that
+# both read, and runs the program and the peer (built by rustc) in turn. The program's bytes must be those of the file. It
+# needs a C compiler and rustc.
+set -eu
+here=$(cd "$(dirname "$0")" && pwd)
+. "$here/timing.sh"
+. "$here/copies.sh"
+build make_plain
+make_once "$here/work/ordered.vox" make_plain ordered
+work=$here/work/save
+crates="sums word_bits vw_cell bit_set vox_chunk vox_read vox_write"
+rounds=5
+mkdir -p "$work/crates/bench_save/src"
+copy_crates $crates
+cp "$here/save/main.rt.in" "$work/crates/bench_save/src/main.rt"
+list_crates "bench_save: vw_cell vox_chunk vox_read vox_write" $crates
+rustc --edition 2021 -O -C target-cpu=x86-64-v2 -o "$work/plain" "$here/save/plain.rs"
+cd "$work"
+ln -sf ../ordered.vox ordered.vox
+(cd crates/bench_save && rt run > "$work/build.log" 2>&1) || true
+[ -x crates/bench_save/out/bench_save ] || { tail -20 "$work/build.log" >&2; exit 1; }
+: > times
+for ((round = 1; round <= rounds; round++)); do
+    crates/bench_save/out/bench_save | sed 's/^/product /' >> times
+    ./plain | sed 's/^/peer /' >> times
+done
+cmp product.vox ordered.vox
+# Lines are SIDE MICROSECONDS BYTES.
+awk '{ if (!($1 in best) || $2 < best[$1]) best[$1] = $2 }
+    END { printf "product %.1f ms, peer %.1f ms, product/peer %.2f\n", best["product"] / 1000, best["peer"] / 1000, best["product"] / best["peer"] }' times
