@@ -1,0 +1,2 @@
+pub mod SameTells
+pub mod RootTells

@@ -1,0 +1,38 @@
+//! The questions of scripts, asked of the root of one version in any store of nodes that can be
+//! read, and answered in a transcript's terms.
+#![tactic(auto)]
+
+ghost use Rattle.std.specs.Prelude.{◌≡◌, ◌^◌, option_copied};
+ghost use Rattle.block_walk.specs.Roots.{HoldsRoot};
+ghost use Rattle.script.specs.Fitting.{QuestionFits};
+ghost use Rattle.world_answers.specs.TellsRoots.{TellsRoot};
+
+use history_model::Question;
+use measure::{bounds, count, faces, get};
+use node_words::{Blocks, Share};
+use ray_walk::ray;
+use transcript::Answer;
+use vw_cell::Side;
+
+/// Answers what is asked of the root's world, the empty one where there is no root.
+pub fn tell<B: Blocks>(
+    store: &mut B,
+    root: Option<&Share>,
+    side: Side,
+    question: Question,
+) -> Answer
+    requires root { HoldsRoot (B.seen store.old).held side (option_copied root) }
+    requires fits { QuestionFits (2 ^ side) question }
+    ensures tells { TellsRoot (B.seen store.old).held side (option_copied root.entry) question
+        result }
+    ensures seen { B.seen store.new ≡ B.seen store.old }
+    ensures rests { B.rests store.old store.new }
+{
+    match question {
+        Question::Get(c) => Answer::Is(get(store, root, side, c)),
+        Question::Count(b) => Answer::Count(count(store, root, side, b)),
+        Question::Bounds => Answer::Extent(bounds(store, root, side)),
+        Question::Faces(b) => Answer::Faces(faces(store, root, side, b)),
+        Question::Ray(from, way) => Answer::Hit(ray(store, root, side, from, way)),
+    }
+}
