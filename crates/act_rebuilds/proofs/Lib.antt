@@ -1,0 +1,2 @@
+pub mod StampActs
+pub mod OneAct

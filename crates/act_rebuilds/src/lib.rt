@@ -1,0 +1,11 @@
+//! One editing act carried out on the root of a version, over any store of nodes.
+//!
+//! Whatever the act, the contract is one: what its cells are, what joined the entries made, and
+//! what a full bucket leaves.
+#![tactic(auto)]
+
+mod drawn;
+mod rebuild;
+
+pub use drawn::{DrawnModel, draw_models};
+pub use rebuild::rebuild_act;
