@@ -1,0 +1,15 @@
+use Rattle.history_model.specs.Moments.{world_has}
+use Rattle.block_contents.specs.Aligned.{world_block}
+use Rattle.block_contents.specs.Versions.{IsKept}
+use Rattle.reporting.proofs.RootLaws.{sound_roots}
+use Rattle.reporting.proofs.NumberLaws.{one_number, numbers_told}
+use Rattle.reporting.proofs.OneReport.{one_report}
+use Rattle.reporting.proofs.laws.stores_tell_reports.Goals as goal
+
+pub returns : goal.returns
+returns c = record {
+  roots = sound_roots;
+  numbers = numbers_told;
+  one_number = λ models log level a b. one_number (world_block log.side) (λ v. world_has models log.records v) (IsKept log) level a b;
+  one_report = one_report;
+}

@@ -1,0 +1,27 @@
+-- How many different contents the blocks of each level have in the versions that are kept.
+use Rattle.std.specs.Prelude.{◌≡◌, ℕ, ◌+◌, ◌≤◌, List, length, slice_index}
+use Rattle.std.specs.List.{sum}
+use Rattle.vox_read.specs.Contents.{Content}
+use Rattle.history_model.specs.Logs.{Log}
+use Rattle.history_model.specs.Moments.{world_has}
+use Rattle.block_contents.specs.Aligned.{top, world_block}
+use Rattle.block_contents.specs.Contents.{HasContents}
+use Rattle.block_contents.specs.Versions.{IsKept}
+
+-- the kept versions' aligned blocks of this level have so many different contents with a set cell
+abbrev pub HasNumber : List Content → Log → ℕ → ℕ → Type 0
+HasNumber models log level number =
+    HasContents (world_block log.side) (λ v. world_has models log.records v) (IsKept log) level
+    number
+
+-- one number for each level, from level 0 to that of the whole world
+pub record AreNumbers (models : List Content) (log : Log) (numbers : List ℕ) : Type 0 where
+  pub as_many : length numbers ≡ top log.side + 1
+  pub each : (level : ℕ) → level ≤ top log.side
+      → HasNumber models log level (slice_index numbers level)
+
+-- their sum
+pub record IsTotal (models : List Content) (log : Log) (total : ℕ) : Type 0 where
+  pub numbers : List ℕ
+  pub are : AreNumbers models log numbers
+  pub adds_up : total ≡ sum numbers
