@@ -14,6 +14,9 @@ use ray_walk::ray;
 use transcript::Answer;
 use vw_cell::Side;
 
+#[cfg(test)]
+mod tests;
+
 /// Answers what is asked of the root's world, the empty one where there is no root.
 pub fn tell<B: Blocks>(
     store: &mut B,
