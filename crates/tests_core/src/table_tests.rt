@@ -36,17 +36,9 @@ fn name(level: u8) -> Name {
     }
 }
 
-// A world of one leaf, and a bucket of one slot.
-#[test]
-fn the_smallest_core_answers_by_its_table(rt: HostRuntime) -> Result<(), Fail> {
-    let side = Side::new(4).ok_or("a side")?;
-    let plan = Plan::even(side, 1, 1).ok_or("a plan")?;
-    let models = Models {
-        list: Vec::new(rt.alloc()),
-    };
+// The events of a world of one leaf, and a bucket of one slot, with their replies.
+fn small_events(one: Boxed) -> [(Event, Reply); 36] {
     let a = name(0);
-    let corner = Cell { x: 0, y: 0, z: 0 };
-    let one = Boxed::new(corner, Cell { x: 1, y: 1, z: 1 }, side).ok_or("a box")?;
     let mark = Mark {
         version: 1,
         at: 4,
@@ -57,8 +49,7 @@ fn the_smallest_core_answers_by_its_table(rt: HostRuntime) -> Result<(), Fail> {
         level: 0,
         bucket: 0,
     };
-    let mut core = Core::begin(rt.alloc(), &plan, &models, 2)?;
-    for (event, reply) in [
+    [
         (Event::Leaf(0, 1), Reply::Held(a)),
         (Event::Leaf(0, 2), Reply::Full(full)),
         (Event::Leaf(0, 0), Reply::Unlawful),
@@ -113,7 +104,21 @@ fn the_smallest_core_answers_by_its_table(rt: HostRuntime) -> Result<(), Fail> {
         (Event::Lower(1, a), Reply::Freed([None; 8])),
         (Event::Lower(1, a), Reply::Unlawful),
         (Event::Leaf(1, 2), Reply::Held(a)),
-    ] {
+    ]
+}
+
+// A world of one leaf, and a bucket of one slot.
+#[test]
+fn the_smallest_core_answers_by_its_table(rt: HostRuntime) -> Result<(), Fail> {
+    let side = Side::new(4).ok_or("a side")?;
+    let plan = Plan::even(side, 1, 1).ok_or("a plan")?;
+    let models = Models {
+        list: Vec::new(rt.alloc()),
+    };
+    let corner = Cell { x: 0, y: 0, z: 0 };
+    let one = Boxed::new(corner, Cell { x: 1, y: 1, z: 1 }, side).ok_or("a box")?;
+    let mut core = Core::begin(rt.alloc(), &plan, &models, 2)?;
+    for (event, reply) in small_events(one) {
         let answer = core.apply(rt.alloc(), &event)?;
         assert!(rt; is_same(&answer, &reply));
     }
@@ -181,12 +186,8 @@ fn two_cells(alloc: Global) -> Result<Models, AllocError> {
     Ok(Models { list })
 }
 
-// A world of one leaf, where the cell (1, 2, 3) is bit 57.
-#[test]
-fn a_stamp_makes_the_cells_of_its_model(rt: HostRuntime) -> Result<(), Fail> {
-    let side = Side::new(4).ok_or("a side")?;
-    let plan = Plan::even(side, 1, 2).ok_or("a plan")?;
-    let models = two_cells(rt.alloc())?;
+// The events of a world of one leaf, where the cell (1, 2, 3) is bit 57, with their replies.
+fn stamp_events() -> [(Event, Reply); 11] {
     let a = name(0);
     let b = Name {
         level: 0,
@@ -195,8 +196,7 @@ fn a_stamp_makes_the_cells_of_its_model(rt: HostRuntime) -> Result<(), Fail> {
     };
     let at = Cell { x: 1, y: 2, z: 3 };
     let edge = Cell { x: 3, y: 2, z: 3 };
-    let mut core = Core::begin(rt.alloc(), &plan, &models, 2)?;
-    for (event, reply) in [
+    [
         (Event::Leaf(0, 1 << 57), Reply::Held(a)),
         (Event::Leaf(0, 3 << 57), Reply::Held(b)),
         (
@@ -226,7 +226,17 @@ fn a_stamp_makes_the_cells_of_its_model(rt: HostRuntime) -> Result<(), Fail> {
         ),
         (Event::Pin(0, Some(0)), Reply::Pinned(0, 2, None)),
         (Event::Pin(0, Some(2)), Reply::Pinned(2, 2, Some(a))),
-    ] {
+    ]
+}
+
+// A world of one leaf, where the cell (1, 2, 3) is bit 57.
+#[test]
+fn a_stamp_makes_the_cells_of_its_model(rt: HostRuntime) -> Result<(), Fail> {
+    let side = Side::new(4).ok_or("a side")?;
+    let plan = Plan::even(side, 1, 2).ok_or("a plan")?;
+    let models = two_cells(rt.alloc())?;
+    let mut core = Core::begin(rt.alloc(), &plan, &models, 2)?;
+    for (event, reply) in stamp_events() {
         let answer = core.apply(rt.alloc(), &event)?;
         assert!(rt; is_same(&answer, &reply));
     }
