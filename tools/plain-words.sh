@@ -28,7 +28,7 @@ plain_words() {
         2) printf '%s: there is no such file\n' "$name" ;;
         3) printf '%s: can'\''t be read: it may be a folder, or a file without leave to read it\n' "${line#voxdag: read fault }" ;;
         4) plain_vox "$(named_file "$@")" $name ;;
-        5) plain_script "${@: -1}" $name ;;
+        5) plain_script "$(named_script "${name%% *}" "$@")" $name ;;
         6) printf '%s: can'\''t be written; what was to be written after it is not there\n' "${line#voxdag: write fault }" ;;
         7) printf 'standard output took no line, or a part of it; all files are written\n' ;;
         8) printf 'there was not enough memory\n' ;;
@@ -40,9 +40,9 @@ plain_usage() {
     printf '%s\n' \
         'voxdag takes these words, in this order:' \
         '    voxdag count FILE' \
-        '    voxdag run [--side s] [--journal J] FILE SCRIPT' \
-        's is 4, 8, 16, 32, 64, 128 or 256. No name is empty or begins with -. SCRIPT.out and J are written, so neither' \
-        'may be the name of FILE, of SCRIPT or of the other.'
+        '    voxdag run [--side s] [--buckets b] [--cap c] [--journal J] FILE SCRIPT ..' \
+        's is 4, 8, 16, 32, 64, 128 or 256, b is 1 to 4096, c is 1 to 256. There are 1 to 64 scripts. No name is empty or' \
+        'begins with -. Each SCRIPT.out and J are written, so none may be the name of FILE, of a SCRIPT or of another.'
 }
 
 # The VOX file among the words of a command: that of count, or the first word of run that belongs to no option.
@@ -50,6 +50,15 @@ named_file() {
     local command=$1
     shift
     while [ "$command" = run ] && [ "${1:0:2}" = -- ]; do shift 2; done
+    printf '%s' "$1"
+}
+
+# named_script NUMBER WORD ..: the script of this number, counted from 0, among the words of run.
+named_script() {
+    local number=$1
+    shift 2
+    while [ "${1:0:2}" = -- ]; do shift 2; done
+    shift $((number + 1))
     printf '%s' "$1"
 }
 

@@ -14,7 +14,7 @@ use Rattle.script_files.specs.Orders.{Asked}
 use Rattle.script_files.specs.Requests.{inputs_of, journal_output, outputs_of, texts_written}
 use Rattle.script_files.specs.Meanings.{file_in, GivesOutputs, RefusesTexts}
 use Rattle.script_files.specs.Outcomes.{Outcome}
-use Rattle.script_files.specs.Stages.{CountsFile, JournalIs, IsPrepared, WritesEnd}
+use Rattle.script_files.specs.Stages.{CountsFile, JournalIs, IsPrepared}
 
 -- the first text is within the first input's limit
 pub file_within : (files : Option Files) (input : WantedInput) (inputs : List WantedInput) (texts : List (List ℕ)) → AreTaken files (input ∷ inputs) texts → length (file_in texts) ≤ input.limit
@@ -46,7 +46,7 @@ counted file texts number old new taken counts files faults =
 -- the inputs were taken, and their texts are refused
 pub not_accepted : (r : TextRefused) (a : Request) (texts : List (List ℕ)) (old new : ShelfState) → AreTaken old.files (inputs_of a) texts → RefusesTexts r a texts → new.files ≡ old.files → new.faults ≡ old.faults → Outcome (Err (Text r)) a old new
 not_accepted (Vox fault) a texts old new taken says files faults = (record { texts = texts; taken = taken; says = says }, same_state old new files faults)
-not_accepted (Script fault) a texts old new taken says files faults = (record { texts = texts; taken = taken; says = says }, same_state old new files faults)
+not_accepted (Script at) a texts old new taken says files faults = (record { texts = texts; taken = taken; says = says }, same_state old new files faults)
 not_accepted Collides a texts old new taken says files faults = (record { texts = texts; taken = taken; says = says }, same_state old new files faults)
 not_accepted Memory a texts old new taken says files faults = (tt, same_state old new files faults)
 
@@ -57,30 +57,30 @@ same_journal : (name : Option (List ℕ)) (text want : List ℕ) → JournalIs n
 same_journal None text want is = refl
 same_journal (Some name) text want is = rw is refl
 
-same_outputs : (asked : Asked) (texts : List (List ℕ)) (number : ℕ) (transcript journal : List ℕ) → (p : IsPrepared asked texts number transcript journal) → outputs_of asked transcript journal ≡ texts_written asked p.log p.transcripts
-same_outputs asked texts number transcript journal p =
-    rw (p.are.transcript_is, same_journal asked.journal journal (journal_of p.log) p.are.journal_is) refl
+same_outputs : (asked : Asked) (texts : List (List ℕ)) (number : ℕ) (transcripts : List (List ℕ)) (journal : List ℕ) → (p : IsPrepared asked texts number transcripts journal) → outputs_of asked transcripts journal ≡ texts_written asked p.log p.transcripts
+same_outputs asked texts number transcripts journal p =
+    rw (p.are.transcripts_are, same_journal asked.journal journal (journal_of p.log) p.are.journal_is) refl
 
-gives_run : (asked : Asked) (texts : List (List ℕ)) (number : ℕ) (transcript journal : List ℕ) → IsPrepared asked texts number transcript journal → GivesOutputs (Run asked) texts number (outputs_of asked transcript journal)
-gives_run asked texts number transcript journal p =
-    record { log = p.log; transcripts = p.transcripts; accepted = p.accepted; counted = p.are.counted; are = same_outputs asked texts number transcript journal p }
+gives_run : (asked : Asked) (texts : List (List ℕ)) (number : ℕ) (transcripts : List (List ℕ)) (journal : List ℕ) → IsPrepared asked texts number transcripts journal → GivesOutputs (Run asked) texts number (outputs_of asked transcripts journal)
+gives_run asked texts number transcripts journal p =
+    record { log = p.log; transcripts = p.transcripts; accepted = p.accepted; counted = p.are.counted; are = same_outputs asked texts number transcripts journal p }
 
-pub all_written : (asked : Asked) (texts : List (List ℕ)) (number : ℕ) (transcript journal : List ℕ) (old mid new : ShelfState) → AreTaken old.files (inputs_of (Run asked)) texts
-    → IsPrepared asked texts number transcript journal → mid ≡ old → AreWritten (outputs_of asked transcript journal) mid.files new.files → new.faults ≡ mid.faults → Outcome (Ok number) (Run asked) old new
-all_written asked texts number transcript journal old mid new taken p same whole calm =
+pub all_written : (asked : Asked) (texts : List (List ℕ)) (number : ℕ) (transcripts : List (List ℕ)) (journal : List ℕ) (old mid new : ShelfState) → AreTaken old.files (inputs_of (Run asked)) texts
+    → IsPrepared asked texts number transcripts journal → mid ≡ old → AreWritten (outputs_of asked transcripts journal) mid.files new.files → new.faults ≡ mid.faults → Outcome (Ok number) (Run asked) old new
+all_written asked texts number transcripts journal old mid new taken p same whole calm =
     record {
-      outputs = outputs_of asked transcript journal;
-      comes = record { texts = texts; taken = taken; gives = gives_run asked texts number transcript journal p };
-      whole = subst (λ (s : ShelfState). AreWritten (outputs_of asked transcript journal) s.files new.files) same whole;
+      outputs = outputs_of asked transcripts journal;
+      comes = record { texts = texts; taken = taken; gives = gives_run asked texts number transcripts journal p };
+      whole = subst (λ (s : ShelfState). AreWritten (outputs_of asked transcripts journal) s.files new.files) same whole;
       no_fault = calm ∙ ap (λ s. s.faults) same;
     }
 
-pub not_written : (r : OutputRefused) (asked : Asked) (texts : List (List ℕ)) (number : ℕ) (transcript journal : List ℕ) (old mid new : ShelfState) → AreTaken old.files (inputs_of (Run asked)) texts
-    → IsPrepared asked texts number transcript journal → mid ≡ old → WritesEnd (Err r) (outputs_of asked transcript journal) mid new → Outcome (Err (Output r)) (Run asked) old new
-not_written r asked texts number transcript journal old mid new taken p same ends =
+pub not_written : (r : OutputRefused) (asked : Asked) (texts : List (List ℕ)) (number : ℕ) (transcripts : List (List ℕ)) (journal : List ℕ) (old mid new : ShelfState) → AreTaken old.files (inputs_of (Run asked)) texts
+    → IsPrepared asked texts number transcripts journal → mid ≡ old → StopsWith r.why r.name.now (outputs_of asked transcripts journal) mid.files new.files mid.faults new.faults → Outcome (Err (Output r)) (Run asked) old new
+not_written r asked texts number transcripts journal old mid new taken p same ends =
     record {
       number = number;
-      outputs = outputs_of asked transcript journal;
-      comes = record { texts = texts; taken = taken; gives = gives_run asked texts number transcript journal p };
-      stops = subst (λ (s : ShelfState). StopsWith r.why r.name.now (outputs_of asked transcript journal) s.files new.files s.faults new.faults) same ends;
+      outputs = outputs_of asked transcripts journal;
+      comes = record { texts = texts; taken = taken; gives = gives_run asked texts number transcripts journal p };
+      stops = subst (λ (s : ShelfState). StopsWith r.why r.name.now (outputs_of asked transcripts journal) s.files new.files s.faults new.faults) same ends;
     }

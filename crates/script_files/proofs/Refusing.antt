@@ -1,22 +1,23 @@
 -- What a fault says of its text, it says as a refusal of the command.
-use Rattle.std.proofs.Common.{◌≡◌, ℕ, List, refl}
+use Rattle.std.proofs.Common.{◌≡◌, ℕ, ◌<◌, List, [], ◌∷◌, length, get_or, Result, Ok, Err, refl, sym, ap, subst, arith}
 use Rattle.vox_chunk.specs.declared.faults.VoxFault.{VoxFault}
 use Rattle.vox_chunk.specs.declared.faults.VoxFault.TheVariants as faults
 use Rattle.vox_read.specs.Contents.{Content}
 use Rattle.vox_read.specs.Files.{ReadsModels}
 use Rattle.vox_read.specs.Files as files
+use Rattle.script.specs.declared.commands.ScriptLine.{ScriptLine}
 use Rattle.script.specs.declared.faults.ScriptFault.{ScriptFault}
 use Rattle.script.specs.declared.faults.ScriptKind.{ScriptKind}
 use Rattle.script.specs.declared.faults.ScriptKind.TheVariants.{Word, Number, Range, Missing, Extra, NoModel, TooManyLines, TooManySaves, NotAscii, Memory}
-use Rattle.script.specs.Commands.{is_for_bits}
-use Rattle.script.specs.Scripts.{commands_of}
 use Rattle.script.specs.Scripts as scripts
-use Rattle.std.specs.Prelude.{Ok}
+use Rattle.script_files.specs.declared.refusals.TextRefused.{TextRefused}
+use Rattle.script_files.specs.declared.refusals.TextRefused.TheVariants as texts
 use Rattle.script_files.specs.declared.requests.Request.{Request}
 use Rattle.script_files.specs.declared.requests.Request.TheVariants.{Run}
 use Rattle.script_files.specs.Orders.{Asked}
-use Rattle.script_files.specs.Meanings.{file_in, script_in, RefusesTexts}
-use Rattle.script_files.specs.Refusals.{of_vox, of_kind, of_fault}
+use Rattle.script_files.specs.Meanings.{file_in, scripts_in, RefusesTexts}
+use Rattle.script_files.specs.Refusals.{of_vox, of_kind, of_fault, RefusesScripts}
+use Rattle.script_files.specs.Scripts.{in_script, scripts_of}
 
 pub vox_refused : (fault : VoxFault) (a : Request) (texts : List (List ℕ)) → files.RefusesFile fault (file_in texts) → RefusesTexts (of_vox fault) a texts
 vox_refused faults.NotVox a texts refuses = refuses
@@ -31,18 +32,34 @@ vox_refused (faults.VoxelOutside at) a texts refuses = refuses
 vox_refused (faults.TooManyModels at) a texts refuses = refuses
 vox_refused faults.Memory a texts refuses = tt
 
-refused_at : (kind : ScriptKind) (fault : ScriptFault) (asked : Asked) (models : List Content) (texts : List (List ℕ)) → fault.kind ≡ kind → ReadsModels (file_in texts) (Ok models)
-    → scripts.RefusesAs kind fault (commands_of is_for_bits asked.side models (script_in texts)) → RefusesTexts (of_kind kind fault) (Run asked) texts
-refused_at Memory fault asked models texts is gives refuses = tt
-refused_at Word fault asked models texts is gives refuses = record { models = models; gives = gives; is_of_text = rw is tt; first = refuses }
-refused_at Number fault asked models texts is gives refuses = record { models = models; gives = gives; is_of_text = rw is tt; first = refuses }
-refused_at Range fault asked models texts is gives refuses = record { models = models; gives = gives; is_of_text = rw is tt; first = refuses }
-refused_at Missing fault asked models texts is gives refuses = record { models = models; gives = gives; is_of_text = rw is tt; first = refuses }
-refused_at Extra fault asked models texts is gives refuses = record { models = models; gives = gives; is_of_text = rw is tt; first = refuses }
-refused_at NoModel fault asked models texts is gives refuses = record { models = models; gives = gives; is_of_text = rw is tt; first = refuses }
-refused_at TooManyLines fault asked models texts is gives refuses = record { models = models; gives = gives; is_of_text = rw is tt; first = refuses }
-refused_at TooManySaves fault asked models texts is gives refuses = record { models = models; gives = gives; is_of_text = rw is tt; first = refuses }
-refused_at NotAscii fault asked models texts is gives refuses = record { models = models; gives = gives; is_of_text = rw is tt; first = refuses }
+-- one script's fault
+refused_at : (kind : ScriptKind) (number : ℕ) (fault : ScriptFault) (read : Result (List ScriptLine) ScriptFault) → fault.kind ≡ kind → scripts.RefusesAs kind fault read
+    → RefusesScripts (of_kind kind (record { script = number; fault = fault })) (in_script number read)
+refused_at Memory number fault read is refuses = tt
+refused_at Word number fault read is refuses = (rw is tt, ap (in_script number) refuses)
+refused_at Number number fault read is refuses = (rw is tt, ap (in_script number) refuses)
+refused_at Range number fault read is refuses = (rw is tt, ap (in_script number) refuses)
+refused_at Missing number fault read is refuses = (rw is tt, ap (in_script number) refuses)
+refused_at Extra number fault read is refuses = (rw is tt, ap (in_script number) refuses)
+refused_at NoModel number fault read is refuses = (rw is tt, ap (in_script number) refuses)
+refused_at TooManyLines number fault read is refuses = (rw is tt, ap (in_script number) refuses)
+refused_at TooManySaves number fault read is refuses = (rw is tt, ap (in_script number) refuses)
+refused_at NotAscii number fault read is refuses = (rw is tt, ap (in_script number) refuses)
 
-pub script_refused : (fault : ScriptFault) (asked : Asked) (models : List Content) (texts : List (List ℕ)) → ReadsModels (file_in texts) (Ok models) → scripts.RefusesWords fault (commands_of is_for_bits asked.side models (script_in texts)) → RefusesTexts (of_fault fault) (Run asked) texts
-script_refused fault asked models texts gives refuses = refused_at fault.kind fault asked models texts refl gives refuses
+pub script_refused : (number : ℕ) (fault : ScriptFault) (read : Result (List ScriptLine) ScriptFault) → scripts.RefusesWords fault read → RefusesScripts (of_fault (record { script = number; fault = fault })) (in_script number read)
+script_refused number fault read refuses = refused_at fault.kind number fault read refl refuses
+
+-- what the scripts' texts are refused for, the run is refused for
+pub scripts_refused : (r : TextRefused) (asked : Asked) (models : List Content) (texts : List (List ℕ)) → ReadsModels (file_in texts) (Ok models) → RefusesScripts r (scripts_of asked.plan.side models (scripts_in texts)) → RefusesTexts r (Run asked) texts
+scripts_refused (texts.Script at) asked models texts gives refuses = record { models = models; gives = gives; is_of_text = refuses.0; first = refuses.1 }
+scripts_refused texts.Memory asked models texts gives refuses = tt
+scripts_refused (texts.Vox fault) asked models texts gives refuses = absurd refuses
+scripts_refused texts.Collides asked models texts gives refuses = absurd refuses
+
+-- a fault of the first text is the VOX file's
+pub first_refused : (fault : VoxFault) (a : Request) (texts : List (List ℕ)) (file : List ℕ) → file_in texts ≡ file → files.RefusesFile fault file → RefusesTexts (of_vox fault) a texts
+first_refused fault a texts file is refuses = vox_refused fault a texts (subst (files.RefusesFile fault) (sym is) refuses)
+
+pub first_text : (texts : List (List ℕ)) (d : List ℕ) → 0 < length texts → file_in texts ≡ get_or texts 0 d
+first_text [] d some = absurd (omega (arith, some))
+first_text (file ∷ others) d some = refl

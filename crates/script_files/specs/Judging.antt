@@ -13,9 +13,9 @@ use Rattle.vox_chunk.specs.declared.faults.VoxFault.{VoxFault}
 use Rattle.vox_read.specs.Contents.{Content}
 use Rattle.vox_read.specs.Files.{ReadsModels}
 use Rattle.vox_read.specs.Once.{one_reading}
-use Rattle.script.specs.declared.faults.ScriptFault.{ScriptFault}
 use Rattle.script_files.specs.declared.refusals.CommandRefused.{CommandRefused}
 use Rattle.script_files.specs.declared.refusals.CommandRefused.TheVariants as refusals
+use Rattle.script_files.specs.declared.refusals.NumberedFault.{NumberedFault}
 use Rattle.script_files.specs.declared.refusals.TextRefused.{TextRefused}
 use Rattle.script_files.specs.declared.refusals.TextRefused.TheVariants as texts
 use Rattle.script_files.specs.declared.requests.Request.{Request}
@@ -117,11 +117,11 @@ gives_follow (Run asked) files texts number outputs v taken gives judges =
     by_reading (Run asked) files texts v (Ok gives.accepted.models) taken gives.accepted.gives judges ∙ fine
 
 script_follows : (a : Request) (files : Files) (texts : List (List ℕ)) (v : Verdict)
-    (fault : ScriptFault) → AreTaken (Some files) (inputs_of a) texts → RefusesScript a texts fault
-    → Judges files a v → v ≡ HasScriptFault fault
-script_follows (Count file) files texts v fault taken says judges = absurd says
-script_follows (Run asked) files texts v fault taken says judges =
-    let first : verdict_of (Run asked) texts (Ok says.models) ≡ HasScriptFault fault = rw (says.first) refl in
+    (at : NumberedFault) → AreTaken (Some files) (inputs_of a) texts → RefusesScript a texts at
+    → Judges files a v → v ≡ HasScriptFault at
+script_follows (Count file) files texts v at taken says judges = absurd says
+script_follows (Run asked) files texts v at taken says judges =
+    let first : verdict_of (Run asked) texts (Ok says.models) ≡ HasScriptFault at = rw (says.first) refl in
     by_reading (Run asked) files texts v (Ok says.models) taken says.gives judges ∙ first
 
 names_follow : (a : Request) (files : Files) (texts : List (List ℕ)) (v : Verdict)
@@ -138,8 +138,8 @@ text_follows : (r : TextRefused) (a : Request) (files : Files) (v : Verdict)
     → RefusesFiles r a (Some files) → Judges files a v → FollowsText v r
 text_follows (texts.Vox fault) a files v refuses judges =
     by_reading a files refuses.texts v (Err fault) refuses.taken refuses.says judges
-text_follows (texts.Script fault) a files v refuses judges =
-    script_follows a files refuses.texts v fault refuses.taken refuses.says judges
+text_follows (texts.Script at) a files v refuses judges =
+    script_follows a files refuses.texts v at refuses.taken refuses.says judges
 text_follows texts.Collides a files v refuses judges =
     names_follow a files refuses.texts v refuses.taken refuses.says judges
 text_follows texts.Memory a files v refuses judges = tt

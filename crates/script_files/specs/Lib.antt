@@ -1,5 +1,6 @@
 pub mod Orders
 pub mod Requests
+pub mod Scripts
 pub mod Meanings
 pub mod Outcomes
 pub mod Refusals

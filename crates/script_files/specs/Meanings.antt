@@ -8,27 +8,25 @@ use Rattle.vox_read.specs.Files.{ReadsModels}
 use Rattle.history_model.specs.Logs.{Log}
 use Rattle.transcript.specs.declared.answers.LineAnswer.{LineAnswer}
 use Rattle.script.specs.declared.commands.ScriptLine.{ScriptLine}
-use Rattle.script.specs.declared.faults.ScriptFault.{ScriptFault}
-use Rattle.script.specs.Commands.{is_for_bits}
 use Rattle.script.specs.Fitting.{IsOfText}
-use Rattle.script.specs.Scripts.{commands_of}
 use Rattle.conformance.specs.Runs.{AllRan, RanFreely}
+use Rattle.script_files.specs.declared.refusals.NumberedFault.{NumberedFault}
 use Rattle.script_files.specs.declared.refusals.TextRefused.{TextRefused}
 use Rattle.script_files.specs.declared.refusals.TextRefused.TheVariants.{Vox, Script, Collides, Memory}
 use Rattle.script_files.specs.declared.requests.Request.{Request}
 use Rattle.script_files.specs.declared.requests.Request.TheVariants.{Count, Run}
 use Rattle.script_files.specs.Orders.{Asked}
-use Rattle.script_files.specs.Requests.{plan_of, inputs_of, output_names, texts_written}
+use Rattle.script_files.specs.Requests.{inputs_of, output_names, texts_written}
+use Rattle.script_files.specs.Scripts.{scripts_of}
 
--- the text of the VOX file is the first, and that of the script the second
+-- the text of the VOX file is the first, and those of the scripts come behind it
 abbrev pub file_in : List (List ℕ) → List ℕ
 file_in [] = []
 file_in (file ∷ others) = file
 
-abbrev pub script_in : List (List ℕ) → List ℕ
-script_in [] = []
-script_in (file ∷ []) = []
-script_in (file ∷ script ∷ others) = script
+abbrev pub scripts_in : List (List ℕ) → List (List ℕ)
+scripts_in [] = []
+scripts_in (file ∷ scripts) = scripts
 
 -- `count`: the file gives models, and the number is that of their cells. Nothing is written
 pub record CellsCounted (texts : List (List ℕ)) (number : ℕ) (outputs : List Named) : Type 0 where
@@ -41,21 +39,20 @@ pub record CellsCounted (texts : List (List ℕ)) (number : ℕ) (outputs : List
 abbrev pub AreApart : Asked → Type 0
 AreApart asked = collide (output_names asked) (inputs_of (Run asked)) ≡ false
 
--- `run`: the file gives models, the script has no fault, no names collide, and these are the
--- history and the transcripts of the run of the one script, of which no change was in the way of
--- another
+-- `run`: the file gives models, no script has a fault, no names collide, and these are the history
+-- and the transcripts of the run of all scripts, of which no change was in the way of another
 pub record IsAccepted (asked : Asked) (texts : List (List ℕ)) (log : Log)
     (transcripts : List (List LineAnswer)) : Type 0 where
   pub models : List Content
   pub gives : ReadsModels (file_in texts) (Ok models)
-  pub lines : List ScriptLine
-  pub read : commands_of is_for_bits asked.side models (script_in texts) ≡ Ok lines
+  pub lines : List (List ScriptLine)
+  pub read : scripts_of asked.plan.side models (scripts_in texts) ≡ Ok lines
   pub apart : AreApart asked
-  pub run : AllRan (plan_of asked) models (lines ∷ []) transcripts log
+  pub run : AllRan asked.plan models lines transcripts log
   pub freely : RanFreely transcripts log
 
--- the number is that of the records, and the outputs are the transcript and the journal
-pub record ScriptRan (asked : Asked) (texts : List (List ℕ)) (number : ℕ)
+-- the number is that of the records, and the outputs are the transcripts and the journal
+pub record ScriptsRan (asked : Asked) (texts : List (List ℕ)) (number : ℕ)
     (outputs : List Named) : Type 0 where
   pub log : Log
   pub transcripts : List (List LineAnswer)
@@ -66,26 +63,26 @@ pub record ScriptRan (asked : Asked) (texts : List (List ℕ)) (number : ℕ)
 -- what a command gives where nothing is refused
 abbrev pub GivesOutputs : Request → List (List ℕ) → ℕ → List Named → Type 0
 GivesOutputs (Count file) texts number outputs = CellsCounted texts number outputs
-GivesOutputs (Run asked) texts number outputs = ScriptRan asked texts number outputs
+GivesOutputs (Run asked) texts number outputs = ScriptsRan asked texts number outputs
 
--- the VOX file gives models, and this is the script's first fault
+-- the VOX file gives models, and this is the first fault of the first script that has one
 pub record HasScriptFault (asked : Asked) (texts : List (List ℕ))
-    (fault : ScriptFault) : Type 0 where
+    (at : NumberedFault) : Type 0 where
   pub models : List Content
   pub gives : ReadsModels (file_in texts) (Ok models)
-  pub is_of_text : IsOfText fault.kind
-  pub first : commands_of is_for_bits asked.side models (script_in texts) ≡ Err fault
+  pub is_of_text : IsOfText at.fault.kind
+  pub first : scripts_of asked.plan.side models (scripts_in texts) ≡ Err at
 
-abbrev pub RefusesScript : Request → List (List ℕ) → ScriptFault → Type 0
-RefusesScript (Count file) texts fault = ⊥
-RefusesScript (Run asked) texts fault = HasScriptFault asked texts fault
+abbrev pub RefusesScript : Request → List (List ℕ) → NumberedFault → Type 0
+RefusesScript (Count file) texts at = ⊥
+RefusesScript (Run asked) texts at = HasScriptFault asked texts at
 
--- the VOX file gives models and the script has no fault, and a name of an output is taken
+-- the VOX file gives models and no script has a fault, and a name of an output is taken
 pub record HasTakenName (asked : Asked) (texts : List (List ℕ)) : Type 0 where
   pub models : List Content
   pub gives : ReadsModels (file_in texts) (Ok models)
-  pub lines : List ScriptLine
-  pub read : commands_of is_for_bits asked.side models (script_in texts) ≡ Ok lines
+  pub lines : List (List ScriptLine)
+  pub read : scripts_of asked.plan.side models (scripts_in texts) ≡ Ok lines
   pub collides : IsTrue (collide (output_names asked) (inputs_of (Run asked)))
 
 abbrev pub RefusesNames : Request → List (List ℕ) → Type 0
@@ -95,6 +92,6 @@ RefusesNames (Run asked) texts = HasTakenName asked texts
 -- why the texts, or the names of outputs, are refused
 abbrev pub RefusesTexts : TextRefused → Request → List (List ℕ) → Type 0
 RefusesTexts (Vox fault) a texts = ReadsModels (file_in texts) (Err fault)
-RefusesTexts (Script fault) a texts = RefusesScript a texts fault
+RefusesTexts (Script at) a texts = RefusesScript a texts at
 RefusesTexts Collides a texts = RefusesNames a texts
 RefusesTexts Memory a texts = ⊤

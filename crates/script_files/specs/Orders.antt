@@ -1,10 +1,11 @@
 -- What a run is asked for.
 use Rattle.std.specs.Prelude.{ℕ, List, Option}
+use Rattle.node_words.specs.Plans.{Layout}
 
--- the exponent of the world's side, the journal's name where there is one, and the names of the VOX
--- file and the script
+-- how the world's store is laid out, the journal's name where there is one, and the names of the VOX
+-- file and of the scripts, of which the first is that of session 0
 pub record Asked : Type 0 where
-  pub side : ℕ
+  pub plan : Layout
   pub journal : Option (List ℕ)
   pub file : List ℕ
-  pub script : List ℕ
+  pub scripts : List (List ℕ)

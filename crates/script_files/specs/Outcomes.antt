@@ -44,7 +44,7 @@ pub record TextsRefused (r : TextRefused) (a : Request) (files : Option Files) :
 -- the same, but that want of memory says nothing of the inputs
 abbrev pub RefusesFiles : TextRefused → Request → Option Files → Type 0
 RefusesFiles (Vox fault) a files = TextsRefused (Vox fault) a files
-RefusesFiles (Script fault) a files = TextsRefused (Script fault) a files
+RefusesFiles (Script at) a files = TextsRefused (Script at) a files
 RefusesFiles Collides a files = TextsRefused Collides a files
 RefusesFiles Memory a files = ⊤
 

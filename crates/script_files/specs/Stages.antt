@@ -1,16 +1,16 @@
 -- What the stages of a command give.
-use Rattle.std.specs.Prelude.{◌≡◌, ℕ, List, length, Option, Some, None, Result, Ok, Err, ⊤}
-use Rattle.vw_io.specs.Outside.{ShelfState}
-use Rattle.vw_io.specs.Outputs.{Named, AreWritten, StopsWith}
-use Rattle.vw_io.specs.declared.outputs.OutputRefused.{OutputRefused}
+use Rattle.std.specs.Prelude.{◌≡◌, ℕ, List, [], ◌∷◌, ◌++◌, length, map, Option, Some, None, Ok, ⊤}
 use Rattle.vox_read.specs.Contents.{Content, cells_of_all}
 use Rattle.vox_read.specs.Files.{ReadsModels}
 use Rattle.history_model.specs.Journal.{journal_of}
 use Rattle.history_model.specs.Logs.{Log}
 use Rattle.transcript.specs.declared.answers.LineAnswer.{LineAnswer}
 use Rattle.transcript.specs.Lines.{transcript_of}
+use Rattle.script.specs.declared.commands.ScriptLine.{ScriptLine}
+use Rattle.script.specs.Commands.{is_for_bits}
+use Rattle.script.specs.Scripts.{commands_of}
 use Rattle.script_files.specs.Orders.{Asked}
-use Rattle.script_files.specs.Requests.{transcript_in}
+use Rattle.script_files.specs.Scripts.{AreFitScripts}
 use Rattle.script_files.specs.Meanings.{IsAccepted}
 
 -- the bytes give these models, and the number is that of their cells
@@ -26,23 +26,23 @@ JournalIs (Some name) text want = text ≡ want
 
 -- the texts of a run's history and transcripts
 pub record AreTexts (asked : Asked) (log : Log) (transcripts : List (List LineAnswer)) (number : ℕ)
-    (transcript journal : List ℕ) : Type 0 where
+    (written : List (List ℕ)) (journal : List ℕ) : Type 0 where
   pub counted : number ≡ length log.records
-  pub transcript_is : transcript ≡ transcript_of (transcript_in transcripts)
+  pub transcripts_are : written ≡ map transcript_of transcripts
   pub journal_is : JournalIs asked.journal journal (journal_of log)
 
 -- the inputs have no fault, and these are the texts of a run
 pub record IsPrepared (asked : Asked) (texts : List (List ℕ)) (number : ℕ)
-    (transcript journal : List ℕ) : Type 0 where
+    (written : List (List ℕ)) (journal : List ℕ) : Type 0 where
   pub log : Log
   pub transcripts : List (List LineAnswer)
   pub accepted : IsAccepted asked texts log transcripts
-  pub are : AreTexts asked log transcripts number transcript journal
+  pub are : AreTexts asked log transcripts number written journal
 
--- the outputs were written, up to one that was not
-abbrev pub WritesEnd : Result (Unit {0}) OutputRefused → List Named → ShelfState → ShelfState
-    → Type 0
-WritesEnd (Ok done) outputs old new =
-    AreWritten outputs old.files new.files × (new.faults ≡ old.faults)
-WritesEnd (Err r) outputs old new =
-    StopsWith r.why r.name.now outputs old.files new.files old.faults new.faults
+-- one more script was read, and its commands stand behind those before it
+pub record ReadsScript (side : ℕ) (models : List Content) (text : List ℕ)
+    (old new : List (List ScriptLine)) : Type 0 where
+  pub lines : List ScriptLine
+  pub read : commands_of is_for_bits side models text ≡ Ok lines
+  pub kept : new ≡ old ++ lines ∷ []
+  pub fit : AreFitScripts side models (lines ∷ [])

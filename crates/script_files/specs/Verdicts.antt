@@ -12,19 +12,18 @@ use Rattle.vox_chunk.specs.declared.faults.VoxFault.{VoxFault}
 use Rattle.vox_read.specs.Contents.{Content}
 use Rattle.vox_read.specs.Files.{ReadsModels}
 use Rattle.script.specs.declared.commands.ScriptLine.{ScriptLine}
-use Rattle.script.specs.declared.faults.ScriptFault.{ScriptFault}
 use Rattle.plain_text.specs.Steps.{◌>>=◌}
-use Rattle.script.specs.Commands.{is_for_bits}
-use Rattle.script.specs.Scripts.{commands_of}
 use Rattle.script_files.specs.declared.refusals.CommandRefused.{CommandRefused}
 use Rattle.script_files.specs.declared.refusals.CommandRefused.TheVariants.{Input, Text, Output}
+use Rattle.script_files.specs.declared.refusals.NumberedFault.{NumberedFault}
 use Rattle.script_files.specs.declared.refusals.TextRefused.{TextRefused}
 use Rattle.script_files.specs.declared.refusals.TextRefused.TheVariants.{Vox, Script, Collides, Memory}
 use Rattle.script_files.specs.declared.requests.Request.{Request}
 use Rattle.script_files.specs.declared.requests.Request.TheVariants.{Count, Run}
 use Rattle.script_files.specs.Orders.{Asked}
 use Rattle.script_files.specs.Requests.{inputs_of, output_names}
-use Rattle.script_files.specs.Meanings.{file_in, script_in}
+use Rattle.script_files.specs.Meanings.{file_in, scripts_in}
+use Rattle.script_files.specs.Scripts.{scripts_of}
 
 -- the first thing that is wrong with the inputs and the names, if anything is
 pub data Verdict : Type 0 where
@@ -32,7 +31,7 @@ pub data Verdict : Type 0 where
   LacksInput : List ℕ → Verdict
   InputIsLong : List ℕ → Verdict
   HasVoxFault : VoxFault → Verdict
-  HasScriptFault : ScriptFault → Verdict
+  HasScriptFault : NumberedFault → Verdict
   NamesCollide : Verdict
 
 -- the bytes of an input, where it can be taken
@@ -48,9 +47,9 @@ inputs_at files (input ∷ inputs) =
     input_within input (files input.name) >>= λ bytes. inputs_at files inputs
     >>= λ texts. Ok (bytes ∷ texts)
 
--- then what the VOX file says, then what the script says, then the names
-abbrev pub verdict_of_names : Asked → Result (List ScriptLine) ScriptFault → Verdict
-verdict_of_names asked (Err fault) = HasScriptFault fault
+-- then what the VOX file says, then what the scripts say, then the names
+abbrev pub verdict_of_names : Asked → Result (List (List ScriptLine)) NumberedFault → Verdict
+verdict_of_names asked (Err at) = HasScriptFault at
 verdict_of_names asked (Ok lines) =
     if collide (output_names asked) (inputs_of (Run asked)) then NamesCollide else Fine
 
@@ -58,7 +57,7 @@ abbrev pub verdict_of : Request → List (List ℕ) → Result (List Content) Vo
 verdict_of a texts (Err fault) = HasVoxFault fault
 verdict_of (Count file) texts (Ok models) = Fine
 verdict_of (Run asked) texts (Ok models) =
-    verdict_of_names asked (commands_of is_for_bits asked.side models (script_in texts))
+    verdict_of_names asked (scripts_of asked.plan.side models (scripts_in texts))
 
 pub record JudgesTexts (a : Request) (texts : List (List ℕ)) (v : Verdict) : Type 0 where
   pub reading : Result (List Content) VoxFault
@@ -85,7 +84,7 @@ FollowsWrite writes.Memory = ⊤
 
 abbrev pub FollowsText : Verdict → TextRefused → Type 0
 FollowsText v (Vox fault) = v ≡ HasVoxFault fault
-FollowsText v (Script fault) = v ≡ HasScriptFault fault
+FollowsText v (Script at) = v ≡ HasScriptFault at
 FollowsText v Collides = v ≡ NamesCollide
 FollowsText v Memory = ⊤
 

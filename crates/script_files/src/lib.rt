@@ -13,7 +13,7 @@ mod scripts;
 mod texts;
 
 pub use counts::count_file;
-pub use refusals::{CommandRefused, TextRefused};
+pub use refusals::{CommandRefused, NumberedFault, TextRefused};
 pub use requests::{FileName, Order, Request};
 pub use runs::run_files;
 

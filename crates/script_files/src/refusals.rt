@@ -14,13 +14,20 @@ pub enum CommandRefused<'w> {
     Output(OutputRefused<'w>),
 }
 
+/// The first fault of the first script that has one, and the number of that script, counted from 0.
+#[derive(Clone, Copy, Debug, PartialEq, Eq)]
+pub struct NumberedFault {
+    pub script: u16,
+    pub fault: ScriptFault,
+}
+
 /// Why the texts of a command's inputs, or the names of its outputs, are refused.
 #[derive(Clone, Copy, Debug, PartialEq, Eq)]
 pub enum TextRefused {
     /// The VOX file has this fault, which isn't want of memory.
     Vox(VoxFault),
-    /// The script has this fault, which isn't want of memory.
-    Script(ScriptFault),
+    /// A script has this fault, which isn't want of memory.
+    Script(NumberedFault),
     /// An output's name is an input's, or another output's.
     Collides,
     /// Want of memory.
@@ -41,16 +48,16 @@ impl From<VoxFault> for TextRefused {
     }
 }
 
-impl From<ScriptFault> for TextRefused {
+impl From<NumberedFault> for TextRefused {
     ghost use Rattle.std.specs.Prelude.{◌≡◌};
     ghost use Rattle.script_files.specs.Refusals.{of_fault};
 
-    ghost from_gives = { λ fault refused. refused ≡ of_fault fault };
+    ghost from_gives = { λ at refused. refused ≡ of_fault at };
 
-    fn from(fault: ScriptFault) -> Self {
-        match fault.kind {
+    fn from(at: NumberedFault) -> Self {
+        match at.fault.kind {
             ScriptKind::Memory => TextRefused::Memory,
-            _ => TextRefused::Script(fault),
+            _ => TextRefused::Script(at),
         }
     }
 }

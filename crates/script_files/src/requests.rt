@@ -1,5 +1,5 @@
+use node_words::Plan;
 use std::marker::Model;
-use vw_cell::Side;
 
 /// The most bytes that a VOX file may have: 256 MiB.
 pub(crate) const VOX_LIMIT: u64 = 268_435_456;
@@ -12,7 +12,7 @@ pub(crate) const SCRIPT_LIMIT: u64 = 8_388_608;
 pub enum Request<'w> {
     /// To count the cells of this file.
     Count(FileName<'w>),
-    /// To run a script.
+    /// To run scripts.
     Run(Order<'w>),
 }
 
@@ -30,26 +30,27 @@ impl<'w> Model for FileName<'w> {
     ghost view = { λ name. name.text.now };
 }
 
-/// What a run is asked for: the world's side, the journal's name where there is one, and the names
-/// of the VOX file and of the script. Contracts see the exponent of the side, and the names.
+/// What a run is asked for: how the world's store is laid out, the journal's name where there is one,
+/// and the names of the VOX file and of the scripts, of which the first is that of session 0.
 #[derive(Drop)]
 pub struct Order<'w> {
-    pub side: Side,
+    pub plan: Plan,
     pub journal: Option<&'w str>,
     pub file: &'w str,
-    pub script: &'w str,
+    pub scripts: &'w [String],
 }
 
 impl<'w> Model for Order<'w> {
+    ghost use Rattle.std.specs.Prelude.{map, string_bytes};
     ghost use Rattle.std.specs.Option.{option_map};
     ghost use Rattle.script_files.specs.Orders.{Asked};
 
     ghost Value = { Asked };
 
     ghost view = { λ order. record {
-      side = order.side;
+      plan = order.plan;
       journal = option_map (λ name. name.now) order.journal;
       file = order.file.now;
-      script = order.script.now;
+      scripts = map string_bytes order.scripts.now;
     } };
 }

@@ -1,102 +1,160 @@
-ghost use Rattle.std.specs.Prelude.{◌≡◌, ◌≤◌, ◌^◌, length, IfOk, IfErr};
+ghost use Rattle.std.specs.Prelude.{◌≡◌, ◌≤◌, ◌+◌, ◌++◌, ◌^◌, length, map, string_bytes, IfOk, IfErr, OnOk};
+ghost use Rattle.std.specs.Option.{option_map};
 ghost use Rattle.script_files.specs.declared.requests.Request.TheVariants.{Run};
-ghost use Rattle.script_files.specs.Requests.{inputs_of, outputs_of, transcript_name};
+ghost use Rattle.script_files.specs.Requests.{inputs_of, output_names, outputs_of, transcript_name};
+ghost use Rattle.script_files.specs.Requests.{named_texts, journal_name};
 ghost use Rattle.script_files.specs.Meanings.{file_in, RefusesTexts};
 ghost use Rattle.script_files.specs.Outcomes.{Outcome};
-ghost use Rattle.script_files.specs.Stages.{IsPrepared, WritesEnd};
+ghost use Rattle.script_files.specs.Stages.{IsPrepared};
 
 use crate::refusals::{CommandRefused, TextRefused};
 use crate::requests::{Order, SCRIPT_LIMIT, VOX_LIMIT};
 use crate::scripts::run_texts;
-use crate::texts::{Texts, texts_of};
+use crate::texts::{Lines, Texts, texts_of};
 use std::alloc::Global;
-use vw_io::{Input, Output, OutputRefused, Shelf, Text, read_all, write_all};
+use vw_cell::Memory;
+use vw_io::{Input, Output, Shelf, Text, read_all, write_all};
 
-/// Runs a script from files to files, and gives the number of records.
+/// Runs scripts from files to files, and gives the number of records.
 ///
-/// It reads the VOX file, of at most 256 MiB, and the script, of at most 8 MiB. Where the VOX file
-/// is accepted, the script has no fault and no output takes an input's name or another output's, it
-/// runs the script. Then it writes the transcript under its name, which is the script's with `.out`
-/// behind it, and after it the journal where one is asked for.
+/// It reads the VOX file, of at most 256 MiB, and the scripts, each of at most 8 MiB. Where the VOX
+/// file is accepted, no script has a fault and no output takes an input's name or another output's,
+/// it runs the scripts, each as the session of its place. Then it writes the transcripts under their
+/// names, which are those of the scripts with `.out` behind them, and after them the journal where
+/// one is asked for.
 #[tactic(auto, using(crate::proofs::Ending::file_within, crate::proofs::Ending::not_accepted, crate::proofs::Ending::not_written))]
 pub fn run_files<'w, S: Shelf>(
     alloc: Global,
     order: &Order<'w>,
-    transcript: &'w str,
+    transcripts: &'w [String],
     shelf: &mut S,
 ) -> Result<u32, CommandRefused<'w>>
-    requires { transcript.now ≡ transcript_name order.now.script }
+    requires few { length order.now.scripts ≤ 64 }
+    requires named { map string_bytes transcripts.now ≡ map transcript_name order.now.scripts }
     ensures { Outcome result (Run order.now) (S.state shelf.old) (S.state shelf.new) }
 {
-    let inputs = [
-        Input {
-            name: order.file,
-            limit: VOX_LIMIT,
-        },
-        Input {
-            name: order.script,
-            limit: SCRIPT_LIMIT,
-        },
-    ];
-    match read_all(alloc, &inputs, shelf) {
-        Ok(texts) => match prepare(alloc, order, transcript, &inputs, texts) {
-            Ok(prepared) => match write(order, transcript, &prepared, shelf) {
-                Ok(()) => Ok(prepared.number),
-                Err(refused) => Err(CommandRefused::Output(refused)),
-            },
-            Err(refused) => Err(CommandRefused::Text(refused)),
-        },
-        Err(refused) => Err(CommandRefused::Input(refused)),
+    let Ok(inputs) = inputs_of(alloc, order) else {
+        return Err(CommandRefused::Text(TextRefused::Memory));
+    };
+    let texts = match read_all(alloc, inputs.as_slice(), shelf) {
+        Ok(texts) => texts,
+        Err(refused) => return Err(CommandRefused::Input(refused)),
+    };
+    let prepared = match prepare(alloc, order, transcripts, inputs.as_slice(), texts) {
+        Ok(prepared) => prepared,
+        Err(refused) => return Err(CommandRefused::Text(refused)),
+    };
+    let Ok(outputs) = outputs_of(alloc, order, transcripts, &prepared) else {
+        return Err(CommandRefused::Text(TextRefused::Memory));
+    };
+    match write_all(outputs.as_slice(), shelf) {
+        Ok(()) => Ok(prepared.number),
+        Err(refused) => Err(CommandRefused::Output(refused)),
     }
+}
+
+// What a run reads, in order.
+fn inputs_of<'w>(alloc: Global, order: &Order<'w>) -> Result<Vec<Input<'w>>, Memory>
+    ensures { IfOk result (λ inputs. inputs.items ≡ inputs_of (Run order.now)) }
+{
+    let mut inputs = Vec::new(alloc);
+    inputs.push(Input {
+        name: order.file,
+        limit: VOX_LIMIT,
+    })?;
+    let scripts = order.scripts;
+    for script in scripts {
+        inputs.push(Input {
+            name: script.as_str(),
+            limit: SCRIPT_LIMIT,
+        })?;
+    }
+    Ok(inputs)
+}
+
+// The names of what a run writes, in order.
+fn names_of<'a>(
+    alloc: Global,
+    journal: Option<&'a str>,
+    transcripts: &'a [String],
+) -> Result<Vec<&'a str>, Memory>
+    ensures { IfOk result (λ names. map (λ name. name.now) names.items
+        ≡ map string_bytes transcripts.now ++ journal_name (option_map (λ name. name.now) journal.entry)) }
+{
+    let mut names = Vec::new(alloc);
+    for transcript in transcripts {
+        names.push(transcript.as_str())?;
+    }
+    if let Some(name) = journal {
+        names.push(name)?;
+    }
+    Ok(names)
 }
 
 // The texts of the run, where nothing is refused.
 fn prepare(
     alloc: Global,
     order: &Order<'_>,
-    transcript: &str,
+    transcripts: &[String],
     inputs: &[Input<'_>],
     texts: Vec<Text>,
 ) -> Result<Texts, TextRefused>
-    requires two { length texts.items ≡ 2 }
+    requires some { length texts.items ≡ 1 + length order.now.scripts }
+    requires few { length order.now.scripts ≤ 64 }
     requires within { length (file_in texts.items) ≤ 2 ^ 28 }
     requires inputs { inputs.now ≡ inputs_of (Run order.now) }
-    requires named { transcript.now ≡ transcript_name order.now.script }
+    requires named { map string_bytes transcripts.now ≡ map transcript_name order.now.scripts }
     ensures prepared { IfOk result (λ done. IsPrepared order.now texts.items
-        done.number done.transcript.items done.journal.items) }
+        done.number done.transcripts.items done.journal.items) }
     ensures refused { IfErr result (λ refused. RefusesTexts refused (Run order.now) texts.items) }
 {
-    let ran = match order.journal {
-        None => run_texts(alloc, order, &[transcript], inputs, texts)?,
-        Some(journal) => run_texts(alloc, order, &[transcript, journal], inputs, texts)?,
-    };
+    let names = names_of(alloc, order.journal, transcripts)?;
+    let ran = run_texts(alloc, order, names.as_slice(), inputs, texts)?;
     Ok(texts_of(alloc, order, ran)?)
 }
 
-// Writes the transcript, and then the journal where it is asked for.
-fn write<'w, S: Shelf>(
+// What a run writes, in order.
+fn outputs_of<'w, 't>(
+    alloc: Global,
     order: &Order<'w>,
-    transcript: &'w str,
-    texts: &Texts,
-    shelf: &mut S,
-) -> Result<(), OutputRefused<'w>>
-    requires { transcript.now ≡ transcript_name order.now.script }
-    ensures { WritesEnd result
-        (outputs_of order.now texts.now.transcript.items texts.now.journal.items)
-        (S.state shelf.old) (S.state shelf.new) }
+    transcripts: &'w [String],
+    texts: &'t Texts,
+) -> Result<Vec<Output<'w, 't>>, Memory>
+    requires { map string_bytes transcripts.now ≡ map transcript_name order.now.scripts }
+    ensures { IfOk result (λ outputs. outputs.items
+        ≡ outputs_of order.now texts.now.transcripts.items texts.now.journal.items) }
 {
-    let first = Output {
-        name: transcript,
-        bytes: texts.transcript.as_slice(),
-    };
-    match order.journal {
-        None => write_all(&[first], shelf),
-        Some(name) => {
-            let journal = Output {
-                name,
-                bytes: texts.journal.as_slice(),
-            };
-            write_all(&[first, journal], shelf)
-        }
+    let mut outputs = Vec::new(alloc);
+    add_transcripts(transcripts, texts.transcripts.as_slice(), &mut outputs)?;
+    if let Some(name) = order.journal {
+        outputs.push(Output {
+            name,
+            bytes: texts.journal.as_slice(),
+        })?;
+    }
+    Ok(outputs)
+}
+
+// Adds each transcript's text under its name.
+fn add_transcripts<'w, 't>(
+    names: &'w [String],
+    texts: &'t [Lines],
+    outputs: &mut Vec<Output<'w, 't>>,
+) -> Result<(), Memory>
+    ensures { OnOk result (outputs.new.items
+        ≡ outputs.old.items ++ named_texts (map string_bytes names.now) texts.now) }
+{
+    match names {
+        [] => Ok(()),
+        [name, names @ ..] => match texts {
+            [] => Ok(()),
+            [text, texts @ ..] => {
+                outputs.push(Output {
+                    name: name.as_str(),
+                    bytes: text.bytes.as_slice(),
+                })?;
+                add_transcripts(names, texts, outputs)
+            }
+        },
     }
 }

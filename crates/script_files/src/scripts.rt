@@ -1,20 +1,28 @@
-ghost use Rattle.std.specs.Prelude.{◌≡◌, ◌≤◌, ◌^◌, ◌∷◌, [], length, map, IfOk, IfErr};
+ghost use Rattle.std.specs.Prelude.{◌≡◌, ◌≤◌, ◌^◌, ◌+◌, ◌<◌, Ok, All, length, map, IfOk, IfErr, OnOk};
+ghost use Rattle.vox_read.specs.Contents.{AreModels};
+ghost use Rattle.script.specs.Fitting.{CommandFits, IsForBits, RisesFrom};
 ghost use Rattle.script_files.specs.declared.requests.Request.TheVariants.{Run};
 ghost use Rattle.script_files.specs.Requests.{inputs_of, output_names};
-ghost use Rattle.script_files.specs.Meanings.{file_in, IsAccepted, RefusesTexts};
+ghost use Rattle.script_files.specs.Meanings.{file_in, scripts_in, IsAccepted, RefusesTexts};
+ghost use Rattle.script_files.specs.Refusals.{RefusesScripts};
+ghost use Rattle.script.specs.Commands.{is_for_bits};
+ghost use Rattle.script.specs.Scripts.{commands_of};
+ghost use Rattle.script_files.specs.Scripts.{scripts_of, in_script, AreFitScripts};
+ghost use Rattle.script_files.specs.Stages.{ReadsScript};
 
-use crate::refusals::TextRefused;
+use crate::refusals::{NumberedFault, TextRefused};
 use crate::requests::Order;
 use bit_run::run_scripts;
 use conformance::Ran;
-use node_words::Plan;
-use script::read_bit_script;
+use script::{Script, read_bit_script};
 use std::alloc::Global;
-use vox_read::read_models;
+use vox_read::{Models, read_models};
+use vw_cell::Side;
 use vw_io::{Input, Text, collide};
 
-// Runs the script, where the VOX file gives models, the script has no fault, and no name of an
-// output is taken.
+// Runs the scripts, where the VOX file gives models, no script has a fault, and no name of an
+// output is taken. The VOX file's text is given back once its models are read.
+#[tactic(auto, using(crate::proofs::Refusing::vox_refused, crate::proofs::Refusing::scripts_refused))]
 pub(crate) fn run_texts(
     alloc: Global,
     order: &Order<'_>,
@@ -22,7 +30,8 @@ pub(crate) fn run_texts(
     inputs: &[Input<'_>],
     texts: Vec<Text>,
 ) -> Result<Ran, TextRefused>
-    requires two { length texts.items ≡ 2 }
+    requires some { length texts.items ≡ 1 + length order.now.scripts }
+    requires few { length order.now.scripts ≤ 64 }
     requires within { length (file_in texts.items) ≤ 2 ^ 28 }
     requires inputs { inputs.now ≡ inputs_of (Run order.now) }
     requires names { map (λ name. name.now) names.now ≡ output_names order.now }
@@ -31,38 +40,68 @@ pub(crate) fn run_texts(
     ensures refused { IfErr result (λ refused. RefusesTexts refused (Run order.now) texts.items) }
 {
     let mut texts = texts;
-    let script = texts.pop();
-    let file = texts.pop();
-    match (file, script) {
-        (Some(file), Some(script)) => run_two(alloc, order, names, inputs, file, script),
-        _ => unreachable!(),
-    }
-}
-
-// The same of the two texts. The VOX file's is given back once its models are read.
-#[tactic(auto, using(crate::proofs::Refusing::vox_refused, crate::proofs::Refusing::script_refused))]
-fn run_two(
-    alloc: Global,
-    order: &Order<'_>,
-    names: &[&str],
-    inputs: &[Input<'_>],
-    file: Text,
-    script: Text,
-) -> Result<Ran, TextRefused>
-    requires within { length file ≤ 2 ^ 28 }
-    requires inputs { inputs.now ≡ inputs_of (Run order.now) }
-    requires names { map (λ name. name.now) names.now ≡ output_names order.now }
-    ensures accepted { IfOk result (λ ran. IsAccepted order.now (file ∷ script ∷ [])
-        ran.history ran.transcripts.items) }
-    ensures refused { IfErr result (λ refused. RefusesTexts refused (Run order.now)
-        (file ∷ script ∷ [])) }
-{
+    let file = texts.remove(0);
     let models = read_models(alloc, file.as_slice())?;
     drop(file);
-    let script = read_bit_script(alloc, script.as_slice(), order.side, &models)?;
+    let scripts = read_scripts(alloc, texts.as_slice(), order.plan.side(), &models)?;
+    drop(texts);
     if collide(names, inputs) {
         return Err(TextRefused::Collides);
     }
-    let plan = Plan::usual(order.side);
-    Ok(run_scripts(alloc, &plan, &models, &[script])?)
+    Ok(run_scripts(alloc, &order.plan, &models, scripts.as_slice())?)
+}
+
+// The commands of all scripts, or the first fault of the first that has one.
+fn read_scripts(
+    alloc: Global,
+    texts: &[Text],
+    side: Side,
+    models: &Models,
+) -> Result<Vec<Script>, TextRefused>
+    requires models { AreModels models.now }
+    requires few { length texts.now ≤ 64 }
+    ensures read { IfOk result
+        (λ scripts. scripts_of side models.now texts.now ≡ Ok scripts.items) }
+    ensures refused { IfErr result
+        (λ refused. RefusesScripts refused (scripts_of side models.now texts.now)) }
+    ensures number { IfOk result (λ scripts. length scripts.items ≡ length texts.now) }
+    ensures fit { IfOk result (λ scripts. AreFitScripts side models.now scripts.items) }
+{
+    let mut scripts = Vec::new(alloc);
+    for text in texts {
+        read_next(alloc, text, side, models, &mut scripts)?;
+    }
+    Ok(scripts)
+}
+
+// Reads one more script, whose number is that of the scripts before it.
+#[tactic(auto, using(crate::proofs::Refusing::script_refused))]
+fn read_next(
+    alloc: Global,
+    text: &Text,
+    side: Side,
+    models: &Models,
+    scripts: &mut Vec<Script>,
+) -> Result<(), TextRefused>
+    requires models { AreModels models.now }
+    requires few { length scripts.old.items < 64 }
+    ensures read { OnOk result (ReadsScript side models.now text.now
+        scripts.old.items scripts.new.items) }
+    ensures refused { IfErr result (λ refused. RefusesScripts refused (in_script
+        (length scripts.old.items) (commands_of is_for_bits side models.now text.now))) }
+{
+    let number = scripts.len() as u16;
+    let script = match read_bit_script(alloc, text.as_slice(), side, models) {
+        Ok(script) => script,
+        Err(fault) => {
+            return Err(TextRefused::from(NumberedFault {
+                script: number,
+                fault,
+            }));
+        }
+    };
+    match scripts.push(script) {
+        Ok(()) => Ok(()),
+        Err(_) => Err(TextRefused::Memory),
+    }
 }

@@ -109,7 +109,35 @@ fn runs_have_their_words(rt: HostRuntime) -> Result<(), Fail> {
         ("run --journal j one.vox s", whole, 0, SINGLE, counted),
         ("run", GOOD, 1, USAGE, None),
         ("run one.vox", GOOD, 1, USAGE, None),
-        ("run one.vox s t", GOOD, 1, USAGE, None),
+        ("run one.vox s t", GOOD, 2, "voxdag: missing t\n", None),
+        ("run one.vox s s", GOOD, 1, USAGE, None),
+        (
+            "run --side 8 --buckets 1 --cap 256 one.vox s",
+            GOOD,
+            0,
+            TWO,
+            Some(ANSWERS),
+        ),
+        (
+            "run --side 8 --buckets 4096 one.vox s",
+            GOOD,
+            0,
+            TWO,
+            Some(ANSWERS),
+        ),
+        (
+            "run --side 8 --cap 1 one.vox s",
+            GOOD,
+            0,
+            TWO,
+            Some(ANSWERS),
+        ),
+        ("run --buckets 0 one.vox s", GOOD, 1, USAGE, None),
+        ("run --buckets 4097 one.vox s", GOOD, 1, USAGE, None),
+        ("run --cap 0 one.vox s", GOOD, 1, USAGE, None),
+        ("run --cap 257 one.vox s", GOOD, 1, USAGE, None),
+        ("run --cap 1 --buckets 1 one.vox s", GOOD, 1, USAGE, None),
+        ("run --cap x one.vox s", GOOD, 1, USAGE, None),
         ("run -- one.vox s", GOOD, 1, USAGE, None),
         ("run --side 5 one.vox s", GOOD, 1, USAGE, None),
         ("run --side 512 one.vox s", GOOD, 1, USAGE, None),
@@ -124,6 +152,41 @@ fn runs_have_their_words(rt: HostRuntime) -> Result<(), Fail> {
         assert_eq!(rt; ended, status, "at {line}");
         assert_eq!(rt; out.bytes(), printed.as_bytes(), "at {line}");
         assert!(rt; has(&shelf, "s.out", transcript), "at {line}");
+    }
+    Ok(())
+}
+
+// The transcript of the stamp behind the two changes, as session 1, and the journal of both.
+const SECOND: &str = "1 @3 ok\n2 @3 count 2\n";
+
+const BOTH_JOURNAL: &str =
+    "voxdag journal 1\nside 8\n1 0 1 fill 0 0 0 2 1 1\n2 0 2 erase 1 0 0 1 1 1\n\
+     3 1 1 stamp 0 7 7 7\nend\n";
+
+#[test]
+fn scripts_run_one_after_another(rt: HostRuntime) -> Result<(), Fail> {
+    let second = Some(SECOND);
+    let both = Some(BOTH_JOURNAL);
+    for (script, status, printed, first, other, journal) in [
+        (
+            STAMP,
+            0,
+            "scripts 2 records 3 marks 0\n",
+            Some(ANSWERS),
+            second,
+            both,
+        ),
+        ("\npaint\n", 5, "voxdag: script 1 2 1\n", None, None, None),
+    ] {
+        let mut shelf = shelf(rt.alloc(), GOOD.as_bytes())?;
+        shelf.write("t", script.as_bytes())?;
+        let line = "run --side 8 --journal j one.vox s t";
+        let (ended, out) = ask(rt.alloc(), line, &mut shelf)?;
+        assert_eq!(rt; ended, status, "at {script}");
+        assert_eq!(rt; out.bytes(), printed.as_bytes(), "at {script}");
+        assert!(rt; has(&shelf, "s.out", first), "at {script}");
+        assert!(rt; has(&shelf, "t.out", other), "at {script}");
+        assert!(rt; has(&shelf, "j", journal), "at {script}");
     }
     Ok(())
 }

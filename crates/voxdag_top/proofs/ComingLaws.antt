@@ -50,14 +50,14 @@ status_follows v (Ran number) result follows is = by_status (status_for v) 0 res
 status_follows v Usage result follows is = absurd follows
 status_follows v (Refused (Input r)) result follows is = read_status v r.why r.name.now result follows is
 status_follows v (Refused (Text (Vox fault))) result follows is = by_status (status_for v) 4 result (ap status_for (sym follows)) is
-status_follows v (Refused (Text (Script fault))) result follows is = by_status (status_for v) 5 result (ap status_for (sym follows)) is
+status_follows v (Refused (Text (Script at))) result follows is = by_status (status_for v) 5 result (ap status_for (sym follows)) is
 status_follows v (Refused (Text Collides)) result follows is = by_status (status_for v) 1 result (ap status_for (sym follows)) is
 status_follows v (Refused (Output r)) result follows is = write_status v r.why result follows is
 status_follows v (Refused (Text Memory)) result follows is = memory_or (status_for v) result is
 
 command_follows : (a : Request) (e : Ending) (old new : ShelfState) (files : Files) (v : Verdict) → CommandEnds e a old new → old.files ≡ Some files → (Rose old.faults new.faults → ⊥) → JudgesWords (Some a) files v → EndFollows v e
 command_follows a (Counted number) old new files v ends told calm judges = outcome_follows (Ok number) a old new ends.1 files v told calm judges
-command_follows a (Ran number) old new files v ends told calm judges = outcome_follows (Ok number) a old new ends.1 files v told calm judges
+command_follows a (Ran tally) old new files v ends told calm judges = outcome_follows (Ok tally.records) a old new ends.1 files v told calm judges
 command_follows a Usage old new files v ends told calm judges = absurd ends
 command_follows a (Refused r) old new files v ends told calm judges = outcome_follows (Err r) a old new ends files v told calm judges
 

@@ -1,6 +1,7 @@
 -- Room for the line of a fault at any output.
 use Rattle.std.proofs.Common.{◌≡◌, ℕ, ◌≤◌, List, [], ◌∷◌, ◌++◌, length, Option, Some, None, Err, sym, subst, ◌∙◌}
-use Rattle.std.specs.Prelude.{IfSome}
+use Rattle.std.specs.Prelude.{IfSome, All, map}
+use Rattle.std.proofs.lemmas.List.Elements.{All-nil, All-cons, All-head, All-tail, All-append}
 use Rattle.vw_io.specs.Outside.{ShelfState}
 use Rattle.vw_io.specs.Outputs.{Named}
 use Rattle.vw_io.specs.declared.shelves.WriteRefused.{WriteRefused}
@@ -9,7 +10,7 @@ use Rattle.script_files.specs.declared.refusals.CommandRefused.{CommandRefused}
 use Rattle.script_files.specs.declared.refusals.CommandRefused.TheVariants.{Input, Text, Output}
 use Rattle.script_files.specs.declared.requests.Request.TheVariants.{Count, Run}
 use Rattle.script_files.specs.Orders.{Asked}
-use Rattle.script_files.specs.Requests.{transcript_name, journal_output, outputs_of}
+use Rattle.script_files.specs.Requests.{transcript_name, named_texts, journal_output, outputs_of}
 use Rattle.script_files.specs.Outcomes.{Outcome, BreaksOff}
 use Rattle.voxdag_top.specs.declared.endings.Ending.{Ending}
 use Rattle.voxdag_top.specs.declared.endings.Ending.TheVariants.{Counted, Ran, Usage, Refused}
@@ -21,20 +22,30 @@ use Rattle.voxdag_top.specs.Finishing.{WriteHasRoom, RefusalHasRoom, HasLineRoom
 abbrev pub FitsIn : ℕ → List ℕ → Type 0
 FitsIn room name = length (write_fault_line name) ≤ room
 
--- the outputs of a run have these names
-journal_fits : (journal : Option (List ℕ)) (text : List ℕ) (first others : List Named) (output : Named) (room : ℕ) → journal_output journal text ≡ first ++ output ∷ others → IfSome journal (FitsIn room) → FitsIn room output.name
-journal_fits None text [] others output room parts fits = absurd (let no : ⊥ = cc in no)
-journal_fits None text (o ∷ first) others output room parts fits = absurd (let no : ⊥ = cc in no)
-journal_fits (Some name) text [] others output room parts fits = let same : record { name = name; bytes = text } ≡ output = cc in subst (λ (o : Named). FitsIn room o.name) same fits
-journal_fits (Some name) text (o ∷ []) others output room parts fits = absurd (let no : ⊥ = cc in no)
-journal_fits (Some name) text (o ∷ p ∷ first) others output room parts fits = absurd (let no : ⊥ = cc in no)
+-- the output's name fits
+abbrev pub NameFits : ℕ → Named → Type 0
+NameFits room output = FitsIn room output.name
 
-output_fits : (asked : Asked) (transcript journal : List ℕ) (first others : List Named) (output : Named) (room : ℕ) → outputs_of asked transcript journal ≡ first ++ output ∷ others → FitsIn room (transcript_name asked.script) → IfSome asked.journal (FitsIn room)
-    → FitsIn room output.name
-output_fits asked transcript journal [] others output room parts of_transcript of_journal =
-    let same : record { name = transcript_name asked.script; bytes = transcript } ≡ output = cc in subst (λ (o : Named). FitsIn room o.name) same of_transcript
-output_fits asked transcript journal (o ∷ first) others output room parts of_transcript of_journal =
-    let rest : journal_output asked.journal journal ≡ first ++ output ∷ others = cc in journal_fits asked.journal journal first others output room rest of_journal
+middle : (first others : List Named) (output : Named) (room : ℕ) → All (NameFits room) (first ++ output ∷ others) → FitsIn room output.name
+middle [] others output room fit = All-head (NameFits room) output others fit
+middle (o ∷ first) others output room fit = middle first others output room (All-tail (NameFits room) o (first ++ output ∷ others) fit)
+
+one_fits : (outputs first others : List Named) (output : Named) (room : ℕ) → All (NameFits room) outputs → outputs ≡ first ++ output ∷ others → FitsIn room output.name
+one_fits outputs first others output room fit parts = middle first others output room (subst (All (NameFits room)) parts fit)
+
+named_fit : (names texts : List (List ℕ)) (room : ℕ) → All (FitsIn room) names → All (NameFits room) (named_texts names texts)
+named_fit [] texts room fit = All-nil (NameFits room)
+named_fit (name ∷ names) [] room fit = All-nil (NameFits room)
+named_fit (name ∷ names) (text ∷ texts) room fit =
+    All-cons (NameFits room) (record { name = name; bytes = text }) (named_texts names texts) (All-head (FitsIn room) name names fit) (named_fit names texts room (All-tail (FitsIn room) name names fit))
+
+journal_fits : (journal : Option (List ℕ)) (text : List ℕ) (room : ℕ) → IfSome journal (FitsIn room) → All (NameFits room) (journal_output journal text)
+journal_fits None text room fits = All-nil (NameFits room)
+journal_fits (Some name) text room fits = All-cons (NameFits room) (record { name = name; bytes = text }) [] fits (All-nil (NameFits room))
+
+outputs_fit : (asked : Asked) (transcripts : List (List ℕ)) (journal : List ℕ) (room : ℕ) → All (FitsIn room) (map transcript_name asked.scripts) → IfSome asked.journal (FitsIn room) → All (NameFits room) (outputs_of asked transcripts journal)
+outputs_fit asked transcripts journal room of_transcripts of_journal =
+    All-append (NameFits room) (named_texts (map transcript_name asked.scripts) transcripts) (journal_output asked.journal journal) (named_fit (map transcript_name asked.scripts) transcripts room of_transcripts) (journal_fits asked.journal journal room of_journal)
 
 -- `count` writes nothing
 nothing_parts : (outputs first others : List Named) (output : Named) → outputs ≡ [] → outputs ≡ first ++ output ∷ others → ⊥
@@ -50,20 +61,20 @@ count_refusal (Output r) file old new outcome = count_write r.why r.name.now fil
 count_refusal (Input r) file old new outcome = tt
 count_refusal (Text r) file old new outcome = tt
 
-run_write : (why : WriteRefused) (name : List ℕ) (asked : Asked) (old new : ShelfState) (room : ℕ) → BreaksOff why name (Run asked) old new → FitsIn room (transcript_name asked.script) → IfSome asked.journal (FitsIn room) → WriteHasRoom why name room
-run_write writes.Failed name asked old new room breaks of_transcript of_journal =
+run_write : (why : WriteRefused) (name : List ℕ) (asked : Asked) (old new : ShelfState) (room : ℕ) → BreaksOff why name (Run asked) old new → All (FitsIn room) (map transcript_name asked.scripts) → IfSome asked.journal (FitsIn room) → WriteHasRoom why name room
+run_write writes.Failed name asked old new room breaks of_transcripts of_journal =
     let at = breaks.stops.0 in
     subst (λ (n : List ℕ). FitsIn room n) (sym at.named)
-    (output_fits asked _ _ at.first at.others at.output room (sym breaks.comes.gives.are ∙ at.parts) of_transcript of_journal)
-run_write writes.Memory name asked old new room breaks of_transcript of_journal = tt
+    (one_fits _ at.first at.others at.output room (outputs_fit asked _ _ room of_transcripts of_journal) (sym breaks.comes.gives.are ∙ at.parts))
+run_write writes.Memory name asked old new room breaks of_transcripts of_journal = tt
 
-run_refusal : (r : CommandRefused) (asked : Asked) (old new : ShelfState) (room : ℕ) → Outcome (Err r) (Run asked) old new → FitsIn room (transcript_name asked.script) → IfSome asked.journal (FitsIn room) → RefusalHasRoom r room
-run_refusal (Output r) asked old new room outcome of_transcript of_journal = run_write r.why r.name.now asked old new room outcome of_transcript of_journal
-run_refusal (Input r) asked old new room outcome of_transcript of_journal = tt
-run_refusal (Text r) asked old new room outcome of_transcript of_journal = tt
+run_refusal : (r : CommandRefused) (asked : Asked) (old new : ShelfState) (room : ℕ) → Outcome (Err r) (Run asked) old new → All (FitsIn room) (map transcript_name asked.scripts) → IfSome asked.journal (FitsIn room) → RefusalHasRoom r room
+run_refusal (Output r) asked old new room outcome of_transcripts of_journal = run_write r.why r.name.now asked old new room outcome of_transcripts of_journal
+run_refusal (Input r) asked old new room outcome of_transcripts of_journal = tt
+run_refusal (Text r) asked old new room outcome of_transcripts of_journal = tt
 
-pub run_has_room : (e : Ending) (asked : Asked) (old new : ShelfState) (room : ℕ) → CommandEnds e (Run asked) old new → FitsIn room (transcript_name asked.script) → IfSome asked.journal (FitsIn room) → HasLineRoom e room
-run_has_room (Counted number) asked old new room ends of_transcript of_journal = tt
-run_has_room (Ran number) asked old new room ends of_transcript of_journal = tt
-run_has_room Usage asked old new room ends of_transcript of_journal = tt
-run_has_room (Refused r) asked old new room ends of_transcript of_journal = run_refusal r asked old new room ends of_transcript of_journal
+pub run_has_room : (e : Ending) (asked : Asked) (old new : ShelfState) (room : ℕ) → CommandEnds e (Run asked) old new → All (FitsIn room) (map transcript_name asked.scripts) → IfSome asked.journal (FitsIn room) → HasLineRoom e room
+run_has_room (Counted number) asked old new room ends of_transcripts of_journal = tt
+run_has_room (Ran number) asked old new room ends of_transcripts of_journal = tt
+run_has_room Usage asked old new room ends of_transcripts of_journal = tt
+run_has_room (Refused r) asked old new room ends of_transcripts of_journal = run_refusal r asked old new room ends of_transcripts of_journal

@@ -17,7 +17,7 @@ use Rattle.script_files.specs.Requests.{inputs_of}
 use Rattle.script_files.specs.Outcomes.{BreaksOff}
 use Rattle.voxdag_top.specs.declared.endings.Ending.{Ending}
 use Rattle.voxdag_top.specs.declared.endings.Ending.TheVariants.{Counted, Ran, Usage, Refused}
-use Rattle.voxdag_top.specs.Lines.{Puts, PutsBeginning, memory_line, input_line, output_line}
+use Rattle.voxdag_top.specs.Lines.{run_line, Puts, PutsBeginning, memory_line, input_line, output_line}
 use Rattle.voxdag_top.specs.Endings.{EndsAs, ending_line, status_of, input_status, output_status, MayLackLine, WriteMayLackLine}
 use Rattle.voxdag_top.specs.Finishing.{Finishes, Runs, put, failed, lacking}
 use Rattle.voxdag_top.specs.Statuses.{IsOr, is_status, Finished, Unusable, Missed, Faulted, VoxRefused, ScriptRefused, WriteFailed, OutFailed, LacksMemory, Exceeded}
@@ -87,11 +87,12 @@ done_at None e old new ends is puts = absurd (let usage = usage_status e ends.0 
 done_at (Some (Count file)) (Counted number) old new ends is puts = record { number = number; done = ends.1; line = puts }
 done_at (Some (Run asked)) (Counted number) old new ends is puts = absurd ends.0
 done_at (Some (Count file)) (Ran number) old new ends is puts = absurd ends.0
-done_at (Some (Run asked)) (Ran number) old new ends is puts = record { number = number; done = ends.1; line = puts }
+done_at (Some (Run asked)) (Ran tally) old new ends is puts =
+    record { number = tally.records; done = ends.1; line = subst (λ (n : ℕ). Puts old.out.told new.out.told (run_line n tally.records)) ends.0 puts }
 done_at (Some a) Usage old new ends is puts = absurd ends
 done_at (Some a) (Refused (Input r)) old new ends is puts = absurd (not_input r.why 0 is refl)
 done_at (Some a) (Refused (Text (Vox fault))) old new ends is puts = absurd (omega arith)
-done_at (Some a) (Refused (Text (Script fault))) old new ends is puts = absurd (omega arith)
+done_at (Some a) (Refused (Text (Script at))) old new ends is puts = absurd (omega arith)
 done_at (Some a) (Refused (Text Collides)) old new ends is puts = absurd (omega arith)
 done_at (Some a) (Refused (Output r)) old new ends is puts = absurd (not_output r.why 0 is refl)
 done_at (Some a) (Refused (Text Memory)) old new ends is puts = absurd (omega arith)
@@ -104,7 +105,7 @@ usage_at (Some a) (Ran number) old new ends is puts = absurd (omega arith)
 usage_at (Some a) Usage old new ends is puts = absurd ends
 usage_at (Some a) (Refused (Input r)) old new ends is puts = absurd (not_input r.why 1 is refl)
 usage_at (Some a) (Refused (Text (Vox fault))) old new ends is puts = absurd (omega arith)
-usage_at (Some a) (Refused (Text (Script fault))) old new ends is puts = absurd (omega arith)
+usage_at (Some a) (Refused (Text (Script at))) old new ends is puts = absurd (omega arith)
 usage_at (Some a) (Refused (Text Collides)) old new ends is puts = record { cause = ends.0; unchanged = ends.1; line = puts }
 usage_at (Some a) (Refused (Output r)) old new ends is puts = absurd (not_output r.why 1 is refl)
 usage_at (Some a) (Refused (Text Memory)) old new ends is puts = absurd (omega arith)
@@ -124,7 +125,7 @@ missing_at (Some a) (Refused (Input r)) old new ends is puts =
       line = subst (λ (why : ReadRefused). Puts old.out.told new.out.told (input_line why r.name.now)) which puts;
     }
 missing_at (Some a) (Refused (Text (Vox fault))) old new ends is puts = absurd (omega arith)
-missing_at (Some a) (Refused (Text (Script fault))) old new ends is puts = absurd (omega arith)
+missing_at (Some a) (Refused (Text (Script at))) old new ends is puts = absurd (omega arith)
 missing_at (Some a) (Refused (Text Collides)) old new ends is puts = absurd (omega arith)
 missing_at (Some a) (Refused (Output r)) old new ends is puts = absurd (not_output r.why 2 is refl)
 missing_at (Some a) (Refused (Text Memory)) old new ends is puts = absurd (omega arith)
@@ -144,7 +145,7 @@ read_fault_at (Some a) (Refused (Input r)) old new ends is puts =
       line = subst (λ (why : ReadRefused). Puts old.out.told new.out.told (input_line why r.name.now)) which puts;
     }
 read_fault_at (Some a) (Refused (Text (Vox fault))) old new ends is puts = absurd (omega arith)
-read_fault_at (Some a) (Refused (Text (Script fault))) old new ends is puts = absurd (omega arith)
+read_fault_at (Some a) (Refused (Text (Script at))) old new ends is puts = absurd (omega arith)
 read_fault_at (Some a) (Refused (Text Collides)) old new ends is puts = absurd (omega arith)
 read_fault_at (Some a) (Refused (Output r)) old new ends is puts = absurd (not_output r.why 3 is refl)
 read_fault_at (Some a) (Refused (Text Memory)) old new ends is puts = absurd (omega arith)
@@ -164,7 +165,7 @@ too_long_at (Some a) (Refused (Input r)) old new ends is puts =
       line = subst (λ (why : ReadRefused). Puts old.out.told new.out.told (input_line why r.name.now)) which puts;
     }
 too_long_at (Some a) (Refused (Text (Vox fault))) old new ends is puts = absurd (omega arith)
-too_long_at (Some a) (Refused (Text (Script fault))) old new ends is puts = absurd (omega arith)
+too_long_at (Some a) (Refused (Text (Script at))) old new ends is puts = absurd (omega arith)
 too_long_at (Some a) (Refused (Text Collides)) old new ends is puts = absurd (omega arith)
 too_long_at (Some a) (Refused (Output r)) old new ends is puts = absurd (not_output r.why 9 is refl)
 too_long_at (Some a) (Refused (Text Memory)) old new ends is puts = absurd (omega arith)
@@ -177,7 +178,7 @@ vox_refused_at (Some a) (Ran number) old new ends is puts = absurd (omega arith)
 vox_refused_at (Some a) Usage old new ends is puts = absurd ends
 vox_refused_at (Some a) (Refused (Input r)) old new ends is puts = absurd (not_input r.why 4 is refl)
 vox_refused_at (Some a) (Refused (Text (Vox fault))) old new ends is puts = record { fault = fault; refuses = ends.0; unchanged = ends.1; line = puts }
-vox_refused_at (Some a) (Refused (Text (Script fault))) old new ends is puts = absurd (omega arith)
+vox_refused_at (Some a) (Refused (Text (Script at))) old new ends is puts = absurd (omega arith)
 vox_refused_at (Some a) (Refused (Text Collides)) old new ends is puts = absurd (omega arith)
 vox_refused_at (Some a) (Refused (Output r)) old new ends is puts = absurd (not_output r.why 4 is refl)
 vox_refused_at (Some a) (Refused (Text Memory)) old new ends is puts = absurd (omega arith)
@@ -190,7 +191,7 @@ script_refused_at (Some a) (Ran number) old new ends is puts = absurd (omega ari
 script_refused_at (Some a) Usage old new ends is puts = absurd ends
 script_refused_at (Some a) (Refused (Input r)) old new ends is puts = absurd (not_input r.why 5 is refl)
 script_refused_at (Some a) (Refused (Text (Vox fault))) old new ends is puts = absurd (omega arith)
-script_refused_at (Some a) (Refused (Text (Script fault))) old new ends is puts = record { fault = fault; refuses = ends.0; unchanged = ends.1; line = puts }
+script_refused_at (Some a) (Refused (Text (Script at))) old new ends is puts = record { at = at; refuses = ends.0; unchanged = ends.1; line = puts }
 script_refused_at (Some a) (Refused (Text Collides)) old new ends is puts = absurd (omega arith)
 script_refused_at (Some a) (Refused (Output r)) old new ends is puts = absurd (not_output r.why 5 is refl)
 script_refused_at (Some a) (Refused (Text Memory)) old new ends is puts = absurd (omega arith)
@@ -203,7 +204,7 @@ write_fault_at (Some a) (Ran number) old new ends is puts = absurd (omega arith)
 write_fault_at (Some a) Usage old new ends is puts = absurd ends
 write_fault_at (Some a) (Refused (Input r)) old new ends is puts = absurd (not_input r.why 6 is refl)
 write_fault_at (Some a) (Refused (Text (Vox fault))) old new ends is puts = absurd (omega arith)
-write_fault_at (Some a) (Refused (Text (Script fault))) old new ends is puts = absurd (omega arith)
+write_fault_at (Some a) (Refused (Text (Script at))) old new ends is puts = absurd (omega arith)
 write_fault_at (Some a) (Refused (Text Collides)) old new ends is puts = absurd (omega arith)
 write_fault_at (Some a) (Refused (Output r)) old new ends is puts =
     let which : r.why ≡ writes.Failed = is_write_fault r.why is in
@@ -222,7 +223,7 @@ not_seven Usage is = omega arith
 not_seven (Refused (Input r)) is = not_input r.why 7 is refl
 not_seven (Refused (Output r)) is = not_output r.why 7 is refl
 not_seven (Refused (Text (Vox fault))) is = omega arith
-not_seven (Refused (Text (Script fault))) is = omega arith
+not_seven (Refused (Text (Script at))) is = omega arith
 not_seven (Refused (Text Collides)) is = omega arith
 not_seven (Refused (Text Memory)) is = omega arith
 
@@ -244,7 +245,7 @@ memory_line_of (Counted number) is = absurd (omega arith)
 memory_line_of (Ran number) is = absurd (omega arith)
 memory_line_of Usage is = absurd (omega arith)
 memory_line_of (Refused (Text (Vox fault))) is = absurd (omega arith)
-memory_line_of (Refused (Text (Script fault))) is = absurd (omega arith)
+memory_line_of (Refused (Text (Script at))) is = absurd (omega arith)
 memory_line_of (Refused (Text Collides)) is = absurd (omega arith)
 
 out_fault_by : (e : Ending) {result : ℕ} {old new : SinkState} → Finishes e old new result → result ≡ 7 → Rose old.faults new.faults × (PutsBeginning old.told new.told (ending_line e) ⊎ (MayLackLine e × PutsBeginning old.told new.told memory_line))
@@ -282,7 +283,7 @@ known_ending Usage = refl
 known_ending (Refused (Input r)) = known_input r.why
 known_ending (Refused (Output r)) = known_output r.why
 known_ending (Refused (Text (Vox fault))) = refl
-known_ending (Refused (Text (Script fault))) = refl
+known_ending (Refused (Text (Script at))) = refl
 known_ending (Refused (Text Collides)) = refl
 known_ending (Refused (Text Memory)) = refl
 

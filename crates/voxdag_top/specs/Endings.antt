@@ -1,5 +1,5 @@
 -- How the program ends, what stands behind each ending, its status and its line.
-use Rattle.std.specs.Prelude.{◌≡◌, ℕ, List, Option, Some, None, Ok, Err, ⊤}
+use Rattle.std.specs.Prelude.{◌≡◌, ℕ, List, length, Option, Some, None, Ok, Err, ⊤}
 use Rattle.vw_io.specs.Outside.{ShelfState}
 use Rattle.vw_io.specs.declared.shelves.ReadRefused.{ReadRefused}
 use Rattle.vw_io.specs.declared.shelves.ReadRefused.TheVariants as reads
@@ -22,14 +22,15 @@ abbrev pub IsCount : Request → Type 0
 IsCount (Count file) = ⊤
 IsCount (Run asked) = ⊥
 
-abbrev pub IsRunOf : Request → Type 0
-IsRunOf (Count file) = ⊥
-IsRunOf (Run asked) = ⊤
+-- a run of so many scripts
+abbrev pub IsRunOf : ℕ → Request → Type 0
+IsRunOf scripts (Count file) = ⊥
+IsRunOf scripts (Run asked) = scripts ≡ length asked.scripts
 
 -- an ending of a command
 abbrev pub CommandEnds : Ending → Request → ShelfState → ShelfState → Type 0
 CommandEnds (Counted number) a old new = IsCount a × Outcome (Ok number) a old new
-CommandEnds (Ran number) a old new = IsRunOf a × Outcome (Ok number) a old new
+CommandEnds (Ran tally) a old new = IsRunOf tally.scripts a × Outcome (Ok tally.records) a old new
 CommandEnds Usage a old new = ⊥
 CommandEnds (Refused r) a old new = Outcome (Err r) a old new
 
@@ -50,7 +51,7 @@ output_status writes.Memory = 8
 
 abbrev pub text_status : TextRefused → ℕ
 text_status (Vox fault) = 4
-text_status (Script fault) = 5
+text_status (Script at) = 5
 text_status Collides = 1
 text_status Memory = 8
 
@@ -61,13 +62,13 @@ refused_status (Output r) = output_status r.why
 
 abbrev pub status_of : Ending → ℕ
 status_of (Counted number) = 0
-status_of (Ran number) = 0
+status_of (Ran tally) = 0
 status_of Usage = 1
 status_of (Refused r) = refused_status r
 
 abbrev pub text_line : TextRefused → List ℕ
 text_line (Vox fault) = vox_line (kind_of fault) (position_of fault)
-text_line (Script fault) = script_line fault.line (number_of_kind fault.kind)
+text_line (Script at) = script_line at.script at.fault.line (number_of_kind at.fault.kind)
 text_line Collides = usage_line
 text_line Memory = memory_line
 
@@ -78,7 +79,7 @@ refused_line (Output r) = output_line r.why r.name.now
 
 abbrev pub ending_line : Ending → List ℕ
 ending_line (Counted number) = count_line number
-ending_line (Ran number) = run_line number
+ending_line (Ran tally) = run_line tally.scripts tally.records
 ending_line Usage = usage_line
 ending_line (Refused r) = refused_line r
 

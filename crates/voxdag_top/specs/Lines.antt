@@ -1,5 +1,5 @@
 -- The line that each ending puts on the output.
-use Rattle.std.specs.Prelude.{◌≡◌, ℕ, List, ◌++◌, Option, Some, None, codes}
+use Rattle.std.specs.Prelude.{◌≡◌, ℕ, List, ◌++◌, length, Option, Some, None, codes}
 use Rattle.std.specs.Fmt.{decimal}
 use Rattle.vw_io.specs.Put.{AppendsPrefix}
 use Rattle.vw_io.specs.declared.shelves.ReadRefused.{ReadRefused}
@@ -12,9 +12,11 @@ use Rattle.script_files.specs.declared.requests.Request.TheVariants.{Count, Run}
 abbrev pub count_line : ℕ → List ℕ
 count_line n = decimal n ++ codes "\n"
 
--- one script was run: the number of its records, and no marks
-abbrev pub run_line : ℕ → List ℕ
-run_line records = codes "scripts 1 records " ++ (decimal records ++ codes " marks 0\n")
+-- so many scripts were run: the number of their records, and no marks
+abbrev pub run_line : ℕ → ℕ → List ℕ
+run_line scripts records =
+    codes "scripts " ++ (decimal scripts ++ (codes " records " ++ (decimal records
+    ++ codes " marks 0\n")))
 
 abbrev pub usage_line : List ℕ
 usage_line = codes "voxdag: usage\n"
@@ -30,9 +32,10 @@ vox_line kind at =
     codes "voxdag: vox " ++ (decimal kind ++ (codes " " ++ (decimal at ++ codes "\n")))
 
 -- scripts are counted from 0
-abbrev pub script_line : ℕ → ℕ → List ℕ
-script_line line kind =
-    codes "voxdag: script 0 " ++ (decimal line ++ (codes " " ++ (decimal kind ++ codes "\n")))
+abbrev pub script_line : ℕ → ℕ → ℕ → List ℕ
+script_line script line kind =
+    codes "voxdag: script " ++ (decimal script ++ (codes " " ++ (decimal line
+    ++ (codes " " ++ (decimal kind ++ codes "\n")))))
 
 abbrev pub write_fault_line : List ℕ → List ℕ
 write_fault_line name = codes "voxdag: write fault " ++ (name ++ codes "\n")
@@ -57,7 +60,7 @@ output_line writes.Memory name = memory_line
 -- the line of a command that came to its end
 abbrev pub done_line : Request → ℕ → List ℕ
 done_line (Count file) number = count_line number
-done_line (Run asked) number = run_line number
+done_line (Run asked) number = run_line (length asked.scripts) number
 
 -- the line was appended to what was put before, where the output tells that
 abbrev pub Puts : Option (List ℕ) → Option (List ℕ) → List ℕ → Type 0

@@ -8,8 +8,8 @@ use Rattle.vw_io.specs.declared.shelves.ReadRefused.TheVariants as reads
 use Rattle.vw_io.specs.declared.shelves.WriteRefused.TheVariants as writes
 use Rattle.vox_chunk.specs.declared.faults.VoxFault.{VoxFault}
 use Rattle.vox_chunk.specs.Faults.{kind_of, position_of}
-use Rattle.script.specs.declared.faults.ScriptFault.{ScriptFault}
 use Rattle.script.specs.Faults.{number_of_kind}
+use Rattle.script_files.specs.declared.refusals.NumberedFault.{NumberedFault}
 use Rattle.script_files.specs.declared.refusals.TextRefused.{TextRefused}
 use Rattle.script_files.specs.declared.refusals.TextRefused.TheVariants as texts
 use Rattle.script_files.specs.declared.requests.Request.{Request}
@@ -85,13 +85,15 @@ pub record VoxRefused (a : Option Request) (old new : Outside) : Type 0 where
   pub unchanged : new.shelf ≡ old.shelf
   pub line : Puts old.out.told new.out.told (vox_line (kind_of fault) (position_of fault))
 
--- ---- status 5: the VOX file is accepted, and this is the first fault of the script
+-- ---- status 5: the VOX file is accepted, and this is the first fault of the first script that has
+-- one
 
 pub record ScriptRefused (a : Option Request) (old new : Outside) : Type 0 where
-  pub fault : ScriptFault
-  pub refuses : RefusesText (texts.Script fault) a old.shelf.files
+  pub at : NumberedFault
+  pub refuses : RefusesText (texts.Script at) a old.shelf.files
   pub unchanged : new.shelf ≡ old.shelf
-  pub line : Puts old.out.told new.out.told (script_line fault.line (number_of_kind fault.kind))
+  pub line : Puts old.out.told new.out.told
+      (script_line at.script at.fault.line (number_of_kind at.fault.kind))
 
 -- ---- status 6: the shelf failed at an output; those before it are whole, and none after it was
 -- written

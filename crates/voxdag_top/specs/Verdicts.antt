@@ -15,5 +15,5 @@ status_for Fine = 0
 status_for NamesCollide = 1
 status_for (LacksInput name) = 2
 status_for (HasVoxFault fault) = 4
-status_for (HasScriptFault fault) = 5
+status_for (HasScriptFault at) = 5
 status_for (InputIsLong name) = 9

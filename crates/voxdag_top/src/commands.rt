@@ -1,4 +1,4 @@
-ghost use Rattle.std.specs.Prelude.{◌≡◌, ◌≤◌, [], Some, None, IsTrue, IfSome, length, string_bytes, string_capacity};
+ghost use Rattle.std.specs.Prelude.{◌≡◌, ◌≤◌, [], All, Some, None, IsTrue, IfOk, IfSome, length, map, string_bytes, string_capacity};
 ghost use Rattle.vw_io.specs.Outside.{Files, Rose, outside};
 ghost use Rattle.script_files.specs.declared.requests.Request.TheVariants.{Count, Run};
 ghost use Rattle.script_files.specs.Requests.{transcript_name};
@@ -10,21 +10,22 @@ ghost use Rattle.voxdag_top.specs.Verdicts.{JudgesWords, status_for};
 ghost use Rattle.voxdag_top.specs.Statuses.{IsOr, is_status, Finished, Unusable, Missed, Faulted, VoxRefused, ScriptRefused, WriteFailed, OutFailed, LacksMemory, Exceeded};
 ghost use Rattle.voxdag_top.specs.Lines.{write_fault_line};
 
-use crate::endings::Ending;
+use crate::endings::{Ending, Tally};
 use crate::lines::{finish, write_fault_room};
 use crate::words::read_words;
 use script_files::{CommandRefused, FileName, Order, Request, TextRefused, count_file, run_files};
 use std::alloc::Global;
+use vw_cell::Memory;
 use vw_io::{Shelf, Sink};
 
 /// The program: does what the words after the program's name ask for, and puts one line on `out`.
 ///
-/// `count FILE` puts the number of cells of the file's models. `run`, then `--side s` or nothing,
-/// then
-/// `--journal J` or nothing, then `FILE SCRIPT` runs the script over a world of that side, 4 to 256
-/// and 256 where it is not given, with the models of the file; it writes the transcript as
-/// `SCRIPT.out` and the journal as `J`, and puts the number of records. A VOX file has at most 256
-/// MiB, a script 8 MiB.
+/// `count FILE` puts the number of cells of the file's models. `run`, then each of `--side s`,
+/// `--buckets b`, `--cap c` and `--journal J` or nothing, in this order, then `FILE SCRIPT ..` runs
+/// 1 to 64 scripts one after another over a world of that side, 4 to 256 and 256 where it is not
+/// given, with the models of the file; it writes each transcript as `SCRIPT.out` and the journal as
+/// `J`, and puts the numbers of scripts and records. A store has `b` buckets of `c` slots on each
+/// level, 1 to 4,096 and 1 to 256. A VOX file has at most 256 MiB, a script 8 MiB.
 ///
 /// The answer is the status with which the process ends: 0 done, 1 words outside the grammar or
 /// names that collide, 2 an input that is not there, 3 a fault of the shelf at an input, 4 a VOX
@@ -77,6 +78,7 @@ pub fn voxdag<S: Shelf, O: Sink>(alloc: Global, words: &[String], shelf: &mut S,
 }
 
 // Does what the words ask for, and puts its line.
+#[tactic(auto, using(crate::proofs::Asking::few_scripts))]
 fn answer<S: Shelf, O: Sink>(alloc: Global, words: &[String], shelf: &mut S, out: &mut O) -> u8
     ensures { Runs (request_of (texts words.now))
         (outside (S.state shelf.old) (O.state out.old))
@@ -109,38 +111,53 @@ fn counted<'w, S: Shelf>(alloc: Global, file: FileName<'w>, shelf: &mut S) -> En
     }
 }
 
-// Runs the script, once there is the transcript's name, and room for the line of a fault at an
+// Runs the scripts, once there are the transcripts' names, and room for the line of a fault at an
 // output.
 fn run<S: Shelf, O: Sink>(alloc: Global, order: &Order<'_>, shelf: &mut S, out: &mut O) -> u8
+    requires few { length order.now.scripts ≤ 64 }
     ensures { Runs (Some (Run order.now))
         (outside (S.state shelf.old) (O.state out.old))
         (outside (S.state shelf.new) (O.state out.new)) result }
 {
     let lacking = Ending::Refused(CommandRefused::Text(TextRefused::Memory));
-    match format!(in alloc; "{}.out", order.script) {
-        Ok(name) => match String::with_capacity(
+    match transcript_names(alloc, order.scripts) {
+        Ok(names) => match String::with_capacity(
             alloc,
-            write_fault_room(name.as_str(), order.journal),
+            write_fault_room(names.as_slice(), order.journal),
         ) {
-            Ok(room) => run_named(alloc, order, name.as_str(), room, shelf, out),
+            Ok(room) => run_named(alloc, order, names.as_slice(), room, shelf, out),
             Err(_) => finish(alloc, &lacking, String::new(alloc), out),
         },
         Err(_) => finish(alloc, &lacking, String::new(alloc), out),
     }
 }
 
+// The transcripts' names.
+fn transcript_names(alloc: Global, scripts: &[String]) -> Result<Vec<String>, Memory>
+    ensures { IfOk result (λ names. map string_bytes names.items
+        ≡ map transcript_name (map string_bytes scripts.now)) }
+{
+    let mut names = Vec::with_capacity(alloc, scripts.len())?;
+    for script in scripts {
+        names.push(format!(in alloc; "{script}.out")?)?;
+    }
+    Ok(names)
+}
+
 #[tactic(auto, using(crate::proofs::Rooms::run_has_room))]
 fn run_named<S: Shelf, O: Sink>(
     alloc: Global,
     order: &Order<'_>,
-    transcript: &str,
+    transcripts: &[String],
     room: String,
     shelf: &mut S,
     out: &mut O,
 ) -> u8
-    requires named { transcript.now ≡ transcript_name order.now.script }
+    requires few { length order.now.scripts ≤ 64 }
+    requires named { map string_bytes transcripts.now ≡ map transcript_name order.now.scripts }
     requires empty { string_bytes room ≡ [] }
-    requires transcript { length (write_fault_line transcript.now) ≤ string_capacity room }
+    requires transcripts { All (λ name. length (write_fault_line name) ≤ string_capacity room)
+        (map string_bytes transcripts.now) }
     requires journal { IfSome order.now.journal
         (λ name. length (write_fault_line name) ≤ string_capacity room) }
     ensures { Runs (Some (Run order.now))
@@ -148,26 +165,30 @@ fn run_named<S: Shelf, O: Sink>(
         (outside (S.state shelf.new) (O.state out.new)) result }
 {
     let asked = Order {
-        side: order.side,
+        plan: order.plan,
         journal: order.journal,
         file: order.file,
-        script: order.script,
+        scripts: order.scripts,
     };
-    let ending = ran(alloc, &asked, transcript, shelf);
+    let ending = ran(alloc, &asked, transcripts, shelf);
     finish(alloc, &ending, room, out)
 }
 
 fn ran<'w, S: Shelf>(
     alloc: Global,
     order: &Order<'w>,
-    transcript: &'w str,
+    transcripts: &'w [String],
     shelf: &mut S,
 ) -> Ending<'w>
-    requires { transcript.now ≡ transcript_name order.now.script }
+    requires few { length order.now.scripts ≤ 64 }
+    requires named { map string_bytes transcripts.now ≡ map transcript_name order.now.scripts }
     ensures { CommandEnds result (Run order.now) (S.state shelf.old) (S.state shelf.new) }
 {
-    match run_files(alloc, order, transcript, shelf) {
-        Ok(records) => Ending::Ran(records),
+    match run_files(alloc, order, transcripts, shelf) {
+        Ok(records) => Ending::Ran(Tally {
+            scripts: order.scripts.len() as u16,
+            records,
+        }),
         Err(refused) => Ending::Refused(refused),
     }
 }

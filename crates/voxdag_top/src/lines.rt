@@ -1,12 +1,11 @@
-ghost use Rattle.std.specs.Prelude.{◌≡◌, ◌≤◌, [], length, codes, IfOk, IsOkAnd, IfSome, OnErr, string_bytes, string_capacity};
+ghost use Rattle.std.specs.Prelude.{◌≡◌, ◌≤◌, [], All, length, map, codes, IfOk, IsOkAnd, IfSome, OnErr, string_bytes, string_capacity};
 ghost use Rattle.script.specs.Faults.{number_of_kind};
-ghost use Rattle.voxdag_top.specs.Lines.{script_line, input_line, output_line, write_fault_line};
+ghost use Rattle.voxdag_top.specs.Lines.{run_line, script_line, input_line, output_line, write_fault_line};
 ghost use Rattle.voxdag_top.specs.Endings.{ending_line, refused_line, text_line, status_of, refused_status, MayLackLine, RefusalMayLackLine, WriteMayLackLine};
 ghost use Rattle.voxdag_top.specs.Finishing.{PutEnds, Finishes, HasLineRoom, RefusalHasRoom, WriteHasRoom};
 
-use crate::endings::Ending;
-use script::ScriptFault;
-use script_files::{CommandRefused, TextRefused};
+use crate::endings::{Ending, Tally};
+use script_files::{CommandRefused, NumberedFault, TextRefused};
 use std::alloc::{AllocError, Global};
 use vw_io::{InputRefused, OutputRefused, PutRefused, ReadRefused, Sink, WriteRefused};
 
@@ -73,10 +72,18 @@ fn line(alloc: Global, ending: &Ending<'_>, room: String) -> Result<String, Allo
 {
     match ending {
         Ending::Counted(cells) => format!(in alloc; "{cells}\n"),
-        Ending::Ran(records) => format!(in alloc; "scripts 1 records {records} marks 0\n"),
+        Ending::Ran(tally) => run_line(alloc, *tally),
         Ending::Usage => format!(in alloc; "voxdag: usage\n"),
         Ending::Refused(refused) => refused_line(alloc, refused, room),
     }
+}
+
+fn run_line(alloc: Global, tally: Tally) -> Result<String, AllocError>
+    ensures { IfOk result (λ text. string_bytes text ≡ run_line tally.scripts tally.records) }
+{
+    let scripts = tally.scripts;
+    let records = tally.records;
+    format!(in alloc; "scripts {scripts} records {records} marks 0\n")
 }
 
 fn refused_line(
@@ -118,19 +125,20 @@ fn text_line(alloc: Global, text: &TextRefused) -> Result<String, AllocError>
             let at = fault.at();
             format!(in alloc; "voxdag: vox {kind} {at}\n")
         }
-        TextRefused::Script(fault) => script_line(alloc, fault),
+        TextRefused::Script(at) => script_line(alloc, at),
         TextRefused::Collides => format!(in alloc; "voxdag: usage\n"),
         TextRefused::Memory => format!(in alloc; "voxdag: memory\n"),
     }
 }
 
-fn script_line(alloc: Global, fault: &ScriptFault) -> Result<String, AllocError>
-    ensures { IfOk result
-        (λ text. string_bytes text ≡ script_line fault.now.line (number_of_kind fault.now.kind)) }
+fn script_line(alloc: Global, at: &NumberedFault) -> Result<String, AllocError>
+    ensures { IfOk result (λ text. string_bytes text
+        ≡ script_line at.now.script at.now.fault.line (number_of_kind at.now.fault.kind)) }
 {
-    let line = fault.line;
-    let kind = fault.kind.number();
-    format!(in alloc; "voxdag: script 0 {line} {kind}\n")
+    let script = at.script;
+    let line = at.fault.line;
+    let kind = at.fault.kind.number();
+    format!(in alloc; "voxdag: script {script} {line} {kind}\n")
 }
 
 fn output_line(
@@ -164,13 +172,17 @@ fn write_fault_line(name: &str, room: String) -> Result<String, AllocError>
 }
 
 // The length of the longest line that tells a fault of an output.
-pub(crate) fn write_fault_room(transcript: &str, journal: Option<&str>) -> usize
-    ensures transcript { length (write_fault_line transcript.now) ≤ result }
+pub(crate) fn write_fault_room(transcripts: &[String], journal: Option<&str>) -> usize
+    ensures transcripts { All (λ name. length (write_fault_line name) ≤ result)
+        (map string_bytes transcripts.now) }
     ensures journal { IfSome journal.entry (λ name. length (write_fault_line name.now) ≤ result) }
 {
-    let longest = match journal {
-        None => transcript.len(),
-        Some(name) => name.len().max(transcript.len()),
+    let mut longest = match journal {
+        None => 0,
+        Some(name) => name.len(),
     };
+    for transcript in transcripts {
+        longest = longest.max(transcript.len());
+    }
     longest + 21
 }

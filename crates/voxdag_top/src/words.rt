@@ -1,9 +1,13 @@
 ghost use Rattle.std.specs.Prelude.{◌≡◌, ◌^◌, None, Some, MatchOption};
 ghost use Rattle.std.specs.Option.{option_map};
-ghost use Rattle.voxdag_top.specs.Words.{texts, exponent_of, request_of, counted, run_words, begins_with, with_side, behind_side, with_journal, run_names, side_of, is_operand};
+ghost use Rattle.std.specs.Prelude.{ℕ, List, length};
+ghost use Rattle.std.specs.List.{list_all};
+ghost use Rattle.voxdag_top.specs.Words.{texts, exponent_of, request_of, counted, run_words, behind_side, behind_buckets, behind_plan, option_value, plan_for, run_names, are_scripts, is_number_of_scripts, short_number, side_of, is_operand};
 
+use node_words::Plan;
 use script::number;
 use script_files::{FileName, Order, Request};
+use std::marker::Model;
 use vw_cell::Side;
 
 // Reads the words. `None` where they are not in the grammar.
@@ -29,95 +33,157 @@ fn count_words(words: &[String]) -> Option<Request<'_>>
     }
 }
 
+// The value of an option, and the words behind it. Contracts see the two.
+#[derive(Drop)]
+struct Value<'w> {
+    word: &'w str,
+    others: &'w [String],
+}
+
+impl<'w> Model for Value<'w> {
+    ghost Value = { List ℕ × List (List ℕ) };
+
+    ghost view = { λ found. (found.word.now, texts found.others.now) };
+}
+
+// The value of the option, where it stands first and has one.
+fn option_value<'w>(words: &'w [String], option: &str) -> Option<Value<'w>>
+    ensures { result ≡ option_value option.now (texts words.now) }
+{
+    match words {
+        [name, word, others @ ..] if name.as_str() == option && is_name(word.as_str()) => {
+            Some(Value {
+                word: word.as_str(),
+                others,
+            })
+        }
+        _ => None,
+    }
+}
+
 // The words behind `run`.
 fn run_words(words: &[String]) -> Option<Request<'_>>
     ensures { result ≡ run_words (texts words.now) }
 {
-    if begins_with(words, "--side") {
-        return with_side(words);
-    }
-    match small_side(256) {
-        Some(side) => behind_side(side, words),
-        None => None,
+    match option_value(words, "--side") {
+        None => behind_side(small_side(256), words),
+        Some(found) => behind_side(side_of(found.word), found.others),
     }
 }
 
-// Whether the first word is this option.
-fn begins_with(words: &[String], option: &str) -> bool
-    ensures { result ≡ begins_with option.now (texts words.now) }
-{
-    match words {
-        [] => false,
-        [word, ..] => word.as_str() == option,
-    }
-}
-
-// `--side s` and the words behind it.
-fn with_side(words: &[String]) -> Option<Request<'_>>
-    ensures { result ≡ with_side (texts words.now) }
-{
-    match words {
-        [_, word, others @ ..] => match side_of(word.as_str()) {
-            Some(side) => behind_side(side, others),
-            None => None,
-        },
-        _ => None,
-    }
-}
-
-// The words behind the side: the journal may be left out.
-fn behind_side(side: Side, words: &[String]) -> Option<Request<'_>>
+// The words behind the side: the number of buckets may be left out.
+fn behind_side(side: Option<Side>, words: &[String]) -> Option<Request<'_>>
     ensures { result ≡ behind_side side (texts words.now) }
 {
-    if begins_with(words, "--journal") {
-        with_journal(side, words)
-    } else {
-        run_names(side, None, words)
+    let Some(side) = side else {
+        return None;
+    };
+    match option_value(words, "--buckets") {
+        None => behind_buckets(side, None, words),
+        Some(found) => match short_number(found.word) {
+            None => None,
+            Some(buckets) => behind_buckets(side, Some(buckets), found.others),
+        },
     }
 }
 
-// `--journal J` and the names behind it.
-fn with_journal(side: Side, words: &[String]) -> Option<Request<'_>>
-    ensures { result ≡ with_journal side (texts words.now) }
+// The words behind the number of buckets: the cap may be left out.
+fn behind_buckets(side: Side, buckets: Option<u32>, words: &[String]) -> Option<Request<'_>>
+    ensures { result ≡ behind_buckets side buckets (texts words.now) }
 {
-    match words {
-        [_, name, others @ ..] if is_name(name.as_str()) => run_names(
-            side,
-            Some(name.as_str()),
-            others,
-        ),
-        _ => None,
+    match option_value(words, "--cap") {
+        None => behind_plan(plan_for(side, buckets, 128), words),
+        Some(found) => match short_number(found.word) {
+            None => None,
+            Some(cap) => behind_plan(plan_for(side, buckets, cap), found.others),
+        },
+    }
+}
+
+// The words behind the plan: the journal may be left out.
+fn behind_plan(plan: Option<Plan>, words: &[String]) -> Option<Request<'_>>
+    ensures { result ≡ behind_plan plan (texts words.now) }
+{
+    let Some(plan) = plan else {
+        return None;
+    };
+    match option_value(words, "--journal") {
+        None => run_names(plan, None, words),
+        Some(found) => run_names(plan, Some(found.word), found.others),
     }
 }
 
 // The names that end the words of `run`.
-fn run_names<'w>(side: Side, journal: Option<&'w str>, words: &'w [String]) -> Option<Request<'w>>
-    ensures { result ≡ run_names side (option_map (λ name. name.now) journal.entry)
+fn run_names<'w>(plan: Plan, journal: Option<&'w str>, words: &'w [String]) -> Option<Request<'w>>
+    ensures { result ≡ run_names plan (option_map (λ name. name.now) journal.entry)
         (texts words.now) }
 {
     match words {
-        [file, script] if is_name(file.as_str()) && is_name(script.as_str()) => Some(Request::Run(
-            Order {
-                side,
+        [file, scripts @ ..] if is_name(file.as_str()) && are_scripts(scripts) => {
+            Some(Request::Run(Order {
+                plan,
                 journal,
                 file: file.as_str(),
-                script: script.as_str(),
-            },
-        )),
+                scripts,
+            }))
+        }
         _ => None,
     }
 }
 
-// The side that a word spells, from 4 to 256.
-fn side_of(word: &str) -> Option<Side>
-    ensures { result ≡ side_of word.now }
+// Whether there are 1 to 64 words, all of which can be names.
+fn are_scripts(words: &[String]) -> bool
+    ensures { result ≡ are_scripts (texts words.now) }
+{
+    is_number_of_scripts(words) && are_names(words)
+}
+
+fn is_number_of_scripts(words: &[String]) -> bool
+    ensures { result ≡ is_number_of_scripts (length (texts words.now)) }
+{
+    1 <= words.len() && words.len() <= 64
+}
+
+fn are_names(words: &[String]) -> bool
+    ensures { result ≡ list_all is_operand (texts words.now) }
+{
+    match words {
+        [] => true,
+        [word, others @ ..] => is_name(word.as_str()) && are_names(others),
+    }
+}
+
+// The plan of these numbers, where they are in their ranges.
+fn plan_for(side: Side, buckets: Option<u32>, cap: u32) -> Option<Plan>
+    ensures { result ≡ plan_for side buckets cap }
+{
+    if cap > 256 {
+        return None;
+    }
+    match buckets {
+        None => Plan::with_cap(side, cap as u16),
+        Some(number) if number <= 4096 => Plan::even(side, number as u16, cap as u16),
+        Some(_) => None,
+    }
+}
+
+// The number that a word of at most 6 digits spells.
+fn short_number(word: &str) -> Option<u32>
+    ensures { result ≡ short_number word.now }
 {
     if word.len() > 6 {
         return None;
     }
-    match number(word.as_bytes()) {
-        Ok(n) => small_side(n),
-        Err(_) => None,
+    number(word.as_bytes()).ok()
+}
+
+// The side that a word spells, from 4 to 256.
+fn side_of(word: &str) -> Option<Side>
+    ensures { result ≡ side_of (short_number word.now) }
+{
+    match short_number(word) {
+        Some(n) => small_side(n),
+        None => None,
     }
 }
 

@@ -1,0 +1,38 @@
+-- What the texts of scripts say, one after the other.
+use Rattle.std.specs.Prelude.{ℕ, ◌+◌, ◌^◌, List, [], ◌∷◌, All, Result, Ok, Err}
+use Rattle.plain_text.specs.Steps.{◌>>=◌}
+use Rattle.vox_read.specs.Contents.{Content}
+use Rattle.script.specs.declared.commands.ScriptLine.{ScriptLine}
+use Rattle.script.specs.declared.faults.ScriptFault.{ScriptFault}
+use Rattle.script.specs.Commands.{is_for_bits}
+use Rattle.script.specs.Fitting.{CommandFits, IsForBits, RisesFrom}
+use Rattle.script.specs.Scripts.{commands_of}
+use Rattle.script_files.specs.declared.refusals.NumberedFault.{NumberedFault}
+
+-- a fault stands in the script of its number
+abbrev pub in_script : ℕ → Result (List ScriptLine) ScriptFault
+    → Result (List ScriptLine) NumberedFault
+in_script number (Ok lines) = Ok lines
+in_script number (Err fault) = Err (record { script = number; fault = fault })
+
+-- the commands of these texts, the first of which has this number, or the first fault of the first
+-- text that has one. It names the exponent of the world's side, and the models.
+abbrev pub scripts_from : ℕ → List Content → ℕ → List (List ℕ)
+    → Result (List (List ScriptLine)) NumberedFault
+scripts_from side models number [] = Ok []
+scripts_from side models number (text ∷ texts) =
+    in_script number (commands_of is_for_bits side models text) >>= λ lines.
+    scripts_from side models (number + 1) texts >>= λ others. Ok (lines ∷ others)
+
+-- scripts are counted from 0
+abbrev pub scripts_of : ℕ → List Content → List (List ℕ)
+    → Result (List (List ScriptLine)) NumberedFault
+scripts_of side models texts = scripts_from side models 0 texts
+
+-- what follows from the language for every script, which its run stands on: each command fits the
+-- world and the models, lines rise, and a run over bits knows all commands
+pub record AreFitScripts (side : ℕ) (models : List Content)
+    (scripts : List (List ScriptLine)) : Type 0 where
+  pub fit : All (All (λ l. CommandFits (2 ^ side) models l.command)) scripts
+  pub rise : All (RisesFrom 1) scripts
+  pub for_bits : All (All (λ l. IsForBits l.command)) scripts
