@@ -86,9 +86,13 @@ read_follows : (why : ReadRefused) (name : List ℕ) (a : Request) (files : File
     (v : Verdict) → StopsAt why name (inputs_of a) (Some files) faults risen
     → (Rose faults risen → ⊥) → Judges files a v → FollowsRead v why name
 read_follows Missing name a files faults risen v stops calm judges =
-    by_stop a files (inputs_of a) Missing name faults risen v (LacksInput stops.input.name) stops (lacking_at stops.input (files stops.input.name) stops.cause.0) judges ∙ ap LacksInput (sym stops.named)
+    by_stop a files (inputs_of a) Missing name faults risen v (LacksInput stops.input.name) stops
+    (lacking_at stops.input (files stops.input.name) stops.cause.0) judges
+    ∙ ap LacksInput (sym stops.named)
 read_follows TooLong name a files faults risen v stops calm judges =
-    by_stop a files (inputs_of a) TooLong name faults risen v (InputIsLong stops.input.name) stops (long_at stops.input (files stops.input.name) stops.cause.0) judges ∙ ap InputIsLong (sym stops.named)
+    by_stop a files (inputs_of a) TooLong name faults risen v (InputIsLong stops.input.name) stops
+    (long_at stops.input (files stops.input.name) stops.cause.0) judges
+    ∙ ap InputIsLong (sym stops.named)
 read_follows Failed name a files faults risen v stops calm judges = absurd (calm stops.cause)
 read_follows Memory name a files faults risen v stops calm judges = tt
 
@@ -114,7 +118,8 @@ gives_follow (Count file) files texts number outputs v taken gives judges =
     by_reading (Count file) files texts v (Ok gives.models) taken gives.gives judges
 gives_follow (Run asked) files texts number outputs v taken gives judges =
     let fine : verdict_of (Run asked) texts (Ok gives.accepted.models) ≡ Fine = rw (gives.accepted.read, gives.accepted.apart) refl in
-    by_reading (Run asked) files texts v (Ok gives.accepted.models) taken gives.accepted.gives judges ∙ fine
+    by_reading (Run asked) files texts v
+    (Ok gives.accepted.models) taken gives.accepted.gives judges ∙ fine
 
 script_follows : (a : Request) (files : Files) (texts : List (List ℕ)) (v : Verdict)
     (at : NumberedFault) → AreTaken (Some files) (inputs_of a) texts → RefusesScript a texts at
@@ -162,4 +167,6 @@ pub outcome_follows : (r : Result ℕ CommandRefused) (a : Request) (old new : S
     → Outcome r a old new → (files : Files) (v : Verdict) → old.files ≡ Some files
     → (Rose old.faults new.faults → ⊥) → Judges files a v → Follows v r
 outcome_follows r a old new outcome files v told calm judges =
-    follows_told r a files old.faults new v (subst (λ (f : Option Files). Outcome r a (record { files = f; faults = old.faults }) new) told outcome) calm judges
+    follows_told r a files old.faults new v
+    (subst (λ (f : Option Files). Outcome r a
+    (record { files = f; faults = old.faults }) new) told outcome) calm judges
