@@ -9,7 +9,7 @@ use Rattle.vw_cell.specs.declared.cells.Cell.{Cell}
 use Rattle.vw_cell.specs.Counts.{cell_at}
 use Rattle.vox_read.proofs.Bounds.{same_place}
 use Rattle.edit_stamp.specs.Drawings.{Drawn, leaves_of, leaf_number, AllWords}
-use Rattle.edit_stamp.specs.Tiers.{Tells, IsLeaf, IsWordOver, half_of, leaf_word}
+use Rattle.edit_stamp.specs.Tiers.{TellsTier, IsLeaf, IsWordOver, half_of, leaf_word}
 
 -- a half of a half
 doubled : (a b c : ℕ) → b ≡ 2 * a → c ≡ b → a * 2 ≡ c
@@ -74,7 +74,7 @@ over_more below half at words n word e inside lt b over = record {
 }
 
 -- all words over the cubes of a size
-pub over_all : (below : Drawn) (half : Cell) (words : List ℕ) (n : ℕ) → half ≡ half_of below.size → n ≡ leaves_of half.z * leaves_of half.y * leaves_of half.x → OverBefore below half words n → Tells below 1 (record { size = half; words = words })
+pub over_all : (below : Drawn) (half : Cell) (words : List ℕ) (n : ℕ) → half ≡ half_of below.size → n ≡ leaves_of half.z * leaves_of half.y * leaves_of half.x → OverBefore below half words n → TellsTier below 1 (record { size = half; words = words })
 over_all below half words n e all b = record {
   stands = λ i j k p q r. stands i j k p q r;
   each = λ i j k p q r ne.
@@ -88,7 +88,7 @@ over_all below half words n e all b = record {
     stands : (i j k : ℕ) → i < leaves_of below.size.x → j < leaves_of below.size.y → k < leaves_of below.size.z → IsLeaf half (i / 2) (j / 2) (k / 2)
     stands i j k p q r = subst (λ (s : Cell). IsLeaf s (i / 2) (j / 2) (k / 2)) (sym e) (halves i below.size.x p, halves j below.size.y q, halves k below.size.z r)
 
-pub tells_on : (drawn tier next : Drawn) (up : ℕ) → Tells drawn up tier → Tells tier 1 next → Tells drawn (up + 1) next
+pub tells_on : (drawn tier next : Drawn) (up : ℕ) → TellsTier drawn up tier → TellsTier tier 1 next → TellsTier drawn (up + 1) next
 tells_on drawn tier next up t n = record {
   stands = λ i j k p q r.
       let s = t.stands i j k p q r in
@@ -102,7 +102,7 @@ tells_on drawn tier next up t n = record {
 }
 
 -- the words of a box of cubes say those of its leaves
-pub leaves_under : (drawn tier : Drawn) (up : ℕ) (from to over_from over_to : Cell) (want : ℕ) → Tells drawn up tier → AllWords tier.size tier.words over_from over_to want → want ≢ 1
+pub leaves_under : (drawn tier : Drawn) (up : ℕ) (from to over_from over_to : Cell) (want : ℕ) → TellsTier drawn up tier → AllWords tier.size tier.words over_from over_to want → want ≢ 1
     → (to.x ≤ leaves_of drawn.size.x) × (to.y ≤ leaves_of drawn.size.y) × (to.z ≤ leaves_of drawn.size.z)
     → ((i : ℕ) → from.x ≤ i → i < to.x → (over_from.x ≤ i / 2 ^ up) × (i / 2 ^ up < over_to.x)) → ((i : ℕ) → from.y ≤ i → i < to.y → (over_from.y ≤ i / 2 ^ up) × (i / 2 ^ up < over_to.y)) → ((i : ℕ) → from.z ≤ i → i < to.z → (over_from.z ≤ i / 2 ^ up) × (i / 2 ^ up < over_to.z))
     → AllWords drawn.size drawn.words from to want

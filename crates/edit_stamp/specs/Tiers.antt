@@ -24,7 +24,7 @@ pub record IsWordOver (below : Drawn) (x y z word : ℕ) : Type 0 where
 
 -- a word of the tier stands over each cube of 2 ^ up leaves a side: it is 1, or the word of each of
 -- them
-pub record Tells (drawn : Drawn) (up : ℕ) (tier : Drawn) : Type 0 where
+pub record TellsTier (drawn : Drawn) (up : ℕ) (tier : Drawn) : Type 0 where
   pub stands : (i j k : ℕ) → i < leaves_of drawn.size.x → j < leaves_of drawn.size.y
       → k < leaves_of drawn.size.z
       → (i / 2 ^ up < leaves_of tier.size.x) × (j / 2 ^ up < leaves_of tier.size.y)
@@ -35,9 +35,9 @@ pub record Tells (drawn : Drawn) (up : ℕ) (tier : Drawn) : Type 0 where
 
 -- six tiers stand over the leaves, each over cubes twice as large as those before
 pub record HasTiers (drawn first second third fourth fifth sixth : Drawn) : Type 0 where
-  pub in_first : Tells drawn 1 first
-  pub in_second : Tells drawn 2 second
-  pub in_third : Tells drawn 3 third
-  pub in_fourth : Tells drawn 4 fourth
-  pub in_fifth : Tells drawn 5 fifth
-  pub in_sixth : Tells drawn 6 sixth
+  pub in_first : TellsTier drawn 1 first
+  pub in_second : TellsTier drawn 2 second
+  pub in_third : TellsTier drawn 3 third
+  pub in_fourth : TellsTier drawn 4 fourth
+  pub in_fifth : TellsTier drawn 5 fifth
+  pub in_sixth : TellsTier drawn 6 sixth

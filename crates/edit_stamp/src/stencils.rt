@@ -8,7 +8,7 @@ ghost use Rattle.vw_cell.specs.declared.blocks.Block.{Block};
 ghost use Rattle.node_kernels.specs.Leaves.{LeafShows};
 ghost use Rattle.vw_cell.specs.Places.{block_side};
 ghost use Rattle.edit_stamp.specs.Drawings.{IsWord, Draws, AllDrawn, AllWords, HasLeaves, leaves_of, leaf_number};
-ghost use Rattle.edit_stamp.specs.Tiers.{Tells};
+ghost use Rattle.edit_stamp.specs.Tiers.{TellsTier};
 ghost use Rattle.edit_stamp.specs.Stamps.{is_stamped};
 
 use crate::scans::{Leaves, are_all, touched};
@@ -106,7 +106,7 @@ impl Stencil {
     // The words over cubes of 2 ^ up leaves a side.
     fn tier(&self, up: u8) -> &Tier
         requires { (1 ≤ up) × (up ≤ 6) }
-        ensures { Tells self.now up result.now }
+        ensures { TellsTier self.now up result.now }
     {
         match up {
             1 => &self.first,

@@ -1,7 +1,7 @@
 ghost use Rattle.std.specs.Prelude.{◌≡◌, ◌+◌, ◌*◌, ◌/◌, ◌^◌, ◌<◌, ◌≤◌, ℕ, IfOk, IsTrue};
 ghost use Rattle.vox_read.specs.Contents.{IsSize};
 ghost use Rattle.edit_stamp.specs.Drawings.{leaves_of, leaf_number, AllWords};
-ghost use Rattle.edit_stamp.specs.Tiers.{Tells, half_of, IsWordOver};
+ghost use Rattle.edit_stamp.specs.Tiers.{TellsTier, half_of, IsWordOver};
 
 use crate::scans::{Leaves, are_all};
 use std::alloc::{AllocError, Global};
@@ -31,7 +31,7 @@ impl Tier {
     // Of the leaves of a model, or of the words of a tier as if they were leaves of a model.
     pub(crate) fn over(alloc: Global, size: Cell, words: &[u64]) -> Result<Tier, AllocError>
         requires size { IsSize size }
-        ensures { IfOk result (λ t. Tells (record { size = size; words = words.now }) 1 t) }
+        ensures { IfOk result (λ t. TellsTier (record { size = size; words = words.now }) 1 t) }
     {
         let half = half_of(size);
         let number = leaf_count(half);
@@ -49,7 +49,7 @@ impl Tier {
 
     // The tier over this one.
     pub(crate) fn next(&self, alloc: Global) -> Result<Tier, AllocError>
-        ensures { IfOk result (λ t. Tells self.now 1 t) }
+        ensures { IfOk result (λ t. TellsTier self.now 1 t) }
     {
         Tier::over(alloc, self.size, &self.words)
     }

@@ -14,7 +14,7 @@ use Rattle.script_files.specs.declared.refusals.NumberedFault.{NumberedFault}
 use Rattle.script_files.specs.declared.refusals.TextRefused.{TextRefused}
 use Rattle.script_files.specs.declared.refusals.TextRefused.TheVariants.{Vox, Script, Collides, Memory}
 use Rattle.script_files.specs.Refusals.{RefusesScripts}
-use Rattle.script_files.specs.Scripts.{in_script, scripts_from, scripts_of, AreFitScripts}
+use Rattle.script_files.specs.Scripts.{in_script, texts_from, scripts_of, AreFitScripts}
 use Rattle.script_files.specs.Stages.{ReadsScript}
 
 -- what was read before, and what the texts behind it say
@@ -25,7 +25,7 @@ behind before (Err e) = Err e
 -- of the texts the first k are read
 pub record IsReadTo (side : ℕ) (models : List Content) (texts : List (List ℕ)) (k : ℕ) (scripts : List (List ScriptLine)) : Type 0 where
   pub number : length scripts ≡ k
-  pub read : scripts_of side models texts ≡ behind scripts (scripts_from side models k (drop k texts))
+  pub read : scripts_of side models texts ≡ behind scripts (texts_from side models k (drop k texts))
   pub fit : AreFitScripts side models scripts
 
 none_behind : {X E : Type 0} (r : Result (List X) E) → r ≡ behind [] r
@@ -45,7 +45,7 @@ one_behind before x (Err e) = refl
 
 -- what the texts say, of which one has these commands
 first_read : (side : ℕ) (models : List Content) (number : ℕ) (text : List ℕ) (others : List (List ℕ)) (read : Result (List ScriptLine) ScriptFault) (lines : List ScriptLine) → read ≡ Ok lines
-    → (in_script number read >>= λ lines. scripts_from side models (number + 1) others >>= λ more. Ok (lines ∷ more)) ≡ (scripts_from side models (number + 1) others >>= λ more. Ok (lines ∷ more))
+    → (in_script number read >>= λ lines. texts_from side models (number + 1) others >>= λ more. Ok (lines ∷ more)) ≡ (texts_from side models (number + 1) others >>= λ more. Ok (lines ∷ more))
 first_read side models number text others read lines is = rw is refl
 
 pub next_read : (side : ℕ) (models : List Content) (texts : List (List ℕ)) (text : List ℕ) (k : ℕ) (old new : List (List ScriptLine)) → k < length texts → text ≡ get_or texts k text
@@ -53,12 +53,12 @@ pub next_read : (side : ℕ) (models : List Content) (texts : List (List ℕ)) (
 next_read side models texts text k old new within at so_far reads =
     let more : drop k texts ≡ text ∷ drop (k + 1) texts = drop_more texts k text within ∙ ap (λ t. t ∷ drop (k + 1) texts) (sym at) in
     let rest = drop (k + 1) texts in
-    let here : scripts_from side models k (text ∷ rest) ≡ (scripts_from side models (k + 1) rest >>= λ others. Ok (reads.lines ∷ others)) =
+    let here : texts_from side models k (text ∷ rest) ≡ (texts_from side models (k + 1) rest >>= λ others. Ok (reads.lines ∷ others)) =
     first_read side models k text rest (commands_of is_for_bits side models text) reads.lines reads.read in
     record {
       number = ap length reads.kept ∙ length-append old (reads.lines ∷ []) ∙ (let n = so_far.number in omega (arith, n));
-      read = so_far.read ∙ ap (λ ts. behind old (scripts_from side models k ts)) more ∙ ap (behind old) here ∙ one_behind old reads.lines (scripts_from side models (k + 1) rest)
-          ∙ ap (λ ss. behind ss (scripts_from side models (k + 1) rest)) (sym reads.kept);
+      read = so_far.read ∙ ap (λ ts. behind old (texts_from side models k ts)) more ∙ ap (behind old) here ∙ one_behind old reads.lines (texts_from side models (k + 1) rest)
+          ∙ ap (λ ss. behind ss (texts_from side models (k + 1) rest)) (sym reads.kept);
       fit = subst (AreFitScripts side models) (sym reads.kept) (record {
         fit = All-append (All (λ l. CommandFits (2 ^ side) models l.command)) old (reads.lines ∷ []) so_far.fit.fit reads.fit.fit;
         rise = All-append (RisesFrom 1) old (reads.lines ∷ []) so_far.fit.rise reads.fit.rise;
@@ -68,11 +68,11 @@ next_read side models texts text k old new within at so_far reads =
 
 pub all_read : (side : ℕ) (models : List Content) (texts : List (List ℕ)) (k : ℕ) (scripts : List (List ScriptLine)) → length texts ≤ k → IsReadTo side models texts k scripts → scripts_of side models texts ≡ Ok scripts
 all_read side models texts k scripts past so_far =
-    so_far.read ∙ ap (λ ts. behind scripts (scripts_from side models k ts)) (drop_all k texts past) ∙ ap Ok (append-nil scripts)
+    so_far.read ∙ ap (λ ts. behind scripts (texts_from side models k ts)) (drop_all k texts past) ∙ ap Ok (append-nil scripts)
 
 -- a fault of the next text is the first of all
 fault_at : (side : ℕ) (models : List Content) (number : ℕ) (others : List (List ℕ)) (old : List (List ScriptLine)) (here : Result (List ScriptLine) NumberedFault) (at : NumberedFault) → here ≡ Err at
-    → behind old (here >>= λ lines. scripts_from side models (number + 1) others >>= λ more. Ok (lines ∷ more)) ≡ Err at
+    → behind old (here >>= λ lines. texts_from side models (number + 1) others >>= λ more. Ok (lines ∷ more)) ≡ Err at
 fault_at side models number others old here at is = rw is refl
 
 pub next_refused : (r : TextRefused) (side : ℕ) (models : List Content) (texts : List (List ℕ)) (text : List ℕ) (k : ℕ) (old : List (List ScriptLine)) → k < length texts → text ≡ get_or texts k text
@@ -80,7 +80,7 @@ pub next_refused : (r : TextRefused) (side : ℕ) (models : List Content) (texts
 next_refused (Script at) side models texts text k old within is so_far refuses =
     let more : drop k texts ≡ text ∷ drop (k + 1) texts = drop_more texts k text within ∙ ap (λ t. t ∷ drop (k + 1) texts) (sym is) in
     let here : in_script k (commands_of is_for_bits side models text) ≡ Err at = subst (λ (n : ℕ). in_script n (commands_of is_for_bits side models text) ≡ Err at) so_far.number refuses.1 in
-    (refuses.0, so_far.read ∙ ap (λ ts. behind old (scripts_from side models k ts)) more ∙ fault_at side models k (drop (k + 1) texts) old _ at here)
+    (refuses.0, so_far.read ∙ ap (λ ts. behind old (texts_from side models k ts)) more ∙ fault_at side models k (drop (k + 1) texts) old _ at here)
 next_refused Memory side models texts text k old within is so_far refuses = tt
 next_refused (Vox fault) side models texts text k old within is so_far refuses = absurd refuses
 next_refused Collides side models texts text k old within is so_far refuses = absurd refuses

@@ -17,17 +17,17 @@ in_script number (Err fault) = Err (record { script = number; fault = fault })
 
 -- the commands of these texts, the first of which has this number, or the first fault of the first
 -- text that has one. It names the exponent of the world's side, and the models.
-abbrev pub scripts_from : ℕ → List Content → ℕ → List (List ℕ)
+abbrev pub texts_from : ℕ → List Content → ℕ → List (List ℕ)
     → Result (List (List ScriptLine)) NumberedFault
-scripts_from side models number [] = Ok []
-scripts_from side models number (text ∷ texts) =
+texts_from side models number [] = Ok []
+texts_from side models number (text ∷ texts) =
     in_script number (commands_of is_for_bits side models text) >>= λ lines.
-    scripts_from side models (number + 1) texts >>= λ others. Ok (lines ∷ others)
+    texts_from side models (number + 1) texts >>= λ others. Ok (lines ∷ others)
 
 -- scripts are counted from 0
 abbrev pub scripts_of : ℕ → List Content → List (List ℕ)
     → Result (List (List ScriptLine)) NumberedFault
-scripts_of side models texts = scripts_from side models 0 texts
+scripts_of side models texts = texts_from side models 0 texts
 
 -- what follows from the language for every script, which its run stands on: each command fits the
 -- world and the models, lines rise, and a run over bits knows all commands
