@@ -1,0 +1,134 @@
+ghost use Rattle.std.specs.Prelude.{◌≡◌, ◌<◌, ◌≤◌, IfOk};
+ghost use Rattle.vox_read.specs.Contents.{AreModels, IsModel};
+ghost use Rattle.history_model.specs.Worlds.{is_edit};
+
+use act_rebuilds::{draw_models, rebuild_act};
+use history_model::Act;
+use node_words::{NodeStore, Plan, Steps};
+use one_store::OneStore;
+use std::alloc::Global;
+use std::marker::Brand;
+use std::sync::ledger::{Blank, Ledger};
+use std::test::Fail;
+use vox_read::{Model, Models, Voxel};
+use vw_cell::{Ball, Boxed, Cell, Side};
+
+fn is_edit(act: &Act) -> bool
+    ensures { result ≡ is_edit act.now }
+{
+    match act {
+        Act::Fill(_) => true,
+        Act::Erase(_) => true,
+        Act::Ball(_) => true,
+        Act::Carve(_) => true,
+        Act::Copy(_, _) => true,
+        Act::Stamp(_, _) => true,
+        Act::Undo => false,
+        Act::Redo => false,
+    }
+}
+
+// How many leaves the world of side 8 has once the act was done to the empty one.
+fn nodes_after<L: Ledger>(
+    alloc: Global,
+    models: &Models,
+    act: Act,
+    blank: Blank,
+) -> Result<u32, Fail>
+    requires models { AreModels models.now }
+    requires name { blank.name ≡ L.name }
+    requires parts { blank.parts ≡ L.parts }
+    requires some { 0 < L.parts }
+{
+    let side = Side::new(8).ok_or("a side")?;
+    let plan = Plan::usual(side);
+    let drawn = draw_models(alloc, models).map_err(|_| "out of memory")?;
+    let mut store = OneStore::begin(alloc, &plan)?;
+    let mut steps: Steps<L> = Steps::start(blank);
+    if store.held() > 0 || !is_edit(&act) || !act.fits(side, models) {
+        return Err(Fail::from("an edit that fits"));
+    }
+    match rebuild_act(&mut store, None, side, &drawn, act, &mut steps) {
+        Ok(Some(share)) => {
+            let _name = share.spend();
+        }
+        Ok(None) => {}
+        Err(_) => return Err(Fail::from("room")),
+    }
+    Ok(store.live(0))
+}
+
+// Two models: one cell, and a row of two.
+fn two_models(alloc: Global) -> Result<Models, Fail>
+    ensures { IfOk result AreModels }
+{
+    let mut list = Vec::with_capacity(alloc, 2)?;
+    list.push(one_cell(alloc)?)?;
+    list.push(two_cells(alloc)?)?;
+    Ok(Models { list })
+}
+
+fn one_cell(alloc: Global) -> Result<Model, Fail>
+    ensures { IfOk result IsModel }
+{
+    let mut voxels = Vec::with_capacity(alloc, 1)?;
+    voxels.push(voxel(0))?;
+    Ok(Model {
+        size: Cell { x: 1, y: 1, z: 1 },
+        voxels,
+    })
+}
+
+fn two_cells(alloc: Global) -> Result<Model, Fail>
+    ensures { IfOk result IsModel }
+{
+    let mut voxels = Vec::with_capacity(alloc, 2)?;
+    voxels.push(voxel(0))?;
+    voxels.push(voxel(1))?;
+    Ok(Model {
+        size: Cell { x: 2, y: 1, z: 1 },
+        voxels,
+    })
+}
+
+fn voxel(x: u8) -> Voxel
+    ensures { result ≡ record { x = x; y = 0; z = 0; colour = 1 } }
+{
+    Voxel {
+        x,
+        y: 0,
+        z: 0,
+        colour: 1,
+    }
+}
+
+fn cell(x: u16, y: u16, z: u16) -> Cell {
+    Cell { x, y, z }
+}
+
+fn boxed(at: Cell, size: Cell) -> Boxed {
+    Boxed { at, size }
+}
+
+#[test]
+fn each_act_makes_its_nodes(rt: HostRuntime) -> Result<(), Fail> {
+    let models = two_models(rt.alloc())?;
+    let row = boxed(cell(3, 0, 0), cell(2, 1, 1));
+    let ball = Ball {
+        centre: cell(1, 1, 1),
+        radius: 1,
+    };
+    // A row over two leaves, a ball in one, nothing to clear or to copy, and the row as a model.
+    for (act, want) in [
+        (Act::Fill(row), 2),
+        (Act::Erase(row), 0),
+        (Act::Ball(ball), 1),
+        (Act::Carve(ball), 0),
+        (Act::Copy(row, cell(0, 0, 0)), 0),
+        (Act::Stamp(1, cell(3, 0, 0)), 2),
+    ] {
+        let found = nodes_after::<Brand>(rt.alloc(), &models, act, Blank::new(1))?;
+        assert_eq!(rt; found, want);
+    }
+    Ok(())
+}
