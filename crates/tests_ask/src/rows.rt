@@ -18,6 +18,20 @@ const ORIGIN: Cell = Cell { x: 0, y: 0, z: 0 };
 
 const ONE: Cell = Cell { x: 1, y: 1, z: 1 };
 
+const EIGHT: Boxed = Boxed {
+    at: ORIGIN,
+    size: Cell { x: 8, y: 8, z: 8 },
+};
+
+const MOST: Boxed = Boxed {
+    at: ORIGIN,
+    size: Cell {
+        x: 4096,
+        y: 4096,
+        z: 4096,
+    },
+};
+
 // A world of this side with the cells of some boxes.
 fn filled(alloc: Global, side: u32, boxes: &[Boxed]) -> Result<StoredWorld, Fail> {
     let side = Side::new(side).ok_or("a side")?;
@@ -46,92 +60,46 @@ struct Row<'a> {
     answer: Found,
 }
 
+fn make_row<'a>(side: u32, boxes: &'a [Boxed], question: Question, answer: Found) -> Row<'a> {
+    Row {
+        side,
+        boxes,
+        question,
+        answer,
+    }
+}
+
 #[test]
 fn questions_have_these_answers(rt: HostRuntime) -> Result<(), Fail> {
-    let eight = boxed(ORIGIN, cell(8, 8, 8));
-    let most = boxed(ORIGIN, cell(4096, 4096, 4096));
     let four = boxed(ORIGIN, cell(4, 1, 1));
+    let full = [EIGHT];
     let some = [single(0, 0, 0), single(1, 0, 0), single(3, 0, 0)];
+    let largest = [MOST];
     let rows = [
-        Row {
-            side: 8,
-            boxes: &[eight],
-            question: Question::Count(eight),
-            answer: Found::Number(512),
-        },
-        Row {
-            side: 8,
-            boxes: &[eight],
-            question: Question::Faces(eight),
-            answer: Found::Number(384),
-        },
-        Row {
-            side: 8,
-            boxes: &[eight],
-            question: Question::Bounds,
-            answer: Found::Extent(Some(eight)),
-        },
-        Row {
-            side: 8,
-            boxes: &[],
-            question: Question::Bounds,
-            answer: Found::Extent(None),
-        },
-        Row {
-            side: 8,
-            boxes: &[],
-            question: Question::Get(ORIGIN),
-            answer: Found::Is(false),
-        },
-        Row {
-            side: 8,
-            boxes: &some,
-            question: Question::Count(eight),
-            answer: Found::Number(3),
-        },
-        Row {
-            side: 8,
-            boxes: &some,
-            question: Question::Bounds,
-            answer: Found::Extent(Some(four)),
-        },
-        Row {
-            side: 8,
-            boxes: &some,
-            question: Question::Get(cell(2, 0, 0)),
-            answer: Found::Is(false),
-        },
-        Row {
-            side: 8,
-            boxes: &some,
-            question: Question::Get(cell(3, 0, 0)),
-            answer: Found::Is(true),
-        },
-        Row {
-            side: 8,
-            boxes: &some,
-            question: Question::Faces(eight),
-            answer: Found::Number(16),
-        },
+        make_row(8, &full, Question::Count(EIGHT), Found::Number(512)),
+        make_row(8, &full, Question::Faces(EIGHT), Found::Number(384)),
+        make_row(8, &full, Question::Bounds, Found::Extent(Some(EIGHT))),
+        make_row(8, &[], Question::Bounds, Found::Extent(None)),
+        make_row(8, &[], Question::Get(ORIGIN), Found::Is(false)),
+        make_row(8, &some, Question::Count(EIGHT), Found::Number(3)),
+        make_row(8, &some, Question::Bounds, Found::Extent(Some(four))),
+        make_row(8, &some, Question::Get(cell(2, 0, 0)), Found::Is(false)),
+        make_row(8, &some, Question::Get(cell(3, 0, 0)), Found::Is(true)),
+        make_row(8, &some, Question::Faces(EIGHT), Found::Number(16)),
         // 4,096 cubed cells, and six sides of 4,096 squared.
-        Row {
-            side: 4096,
-            boxes: &[most],
-            question: Question::Count(most),
-            answer: Found::Number(68_719_476_736),
-        },
-        Row {
-            side: 4096,
-            boxes: &[most],
-            question: Question::Faces(most),
-            answer: Found::Number(100_663_296),
-        },
-        Row {
-            side: 4096,
-            boxes: &[most],
-            question: Question::Bounds,
-            answer: Found::Extent(Some(most)),
-        },
+        make_row(
+            4096,
+            &largest,
+            Question::Count(MOST),
+            Found::Number(68_719_476_736),
+        ),
+        make_row(
+            4096,
+            &largest,
+            Question::Faces(MOST),
+            Found::Number(100_663_296),
+        ),
+        make_row(4096, &largest, Question::Bounds, Found::Extent(Some(MOST))),
     ];
     for row in &rows {
         let mut world = filled(rt.alloc(), row.side, row.boxes)?;
@@ -172,6 +140,15 @@ struct Shot<'a> {
     hit: Option<Cell>,
 }
 
+fn make_shot<'a>(boxes: &'a [Boxed], from: Cell, steps: [i16; 3], hit: Option<Cell>) -> Shot<'a> {
+    Shot {
+        boxes,
+        from,
+        steps,
+        hit,
+    }
+}
+
 #[test]
 fn rays_hit_these_cells(rt: HostRuntime) -> Result<(), Fail> {
     let second = [single(1, 0, 0)];
@@ -180,49 +157,14 @@ fn rays_hit_these_cells(rt: HostRuntime) -> Result<(), Fail> {
     let far = [single(7, 7, 7)];
     for shot in [
         // It passes from (0, 0, 0) to (1, 1, 1) at one instant.
-        Shot {
-            boxes: &second,
-            from: ORIGIN,
-            steps: [1, 1, 1],
-            hit: None,
-        },
+        make_shot(&second, ORIGIN, [1, 1, 1], None),
         // The cell is touched at one instant alone.
-        Shot {
-            boxes: &corner,
-            from: cell(0, 1, 0),
-            steps: [1, -1, 0],
-            hit: Some(cell(1, 1, 0)),
-        },
-        Shot {
-            boxes: &first,
-            from: ORIGIN,
-            steps: [-1, 0, 0],
-            hit: Some(ORIGIN),
-        },
-        Shot {
-            boxes: &first,
-            from: cell(7, 0, 0),
-            steps: [-1024, 0, 0],
-            hit: Some(ORIGIN),
-        },
-        Shot {
-            boxes: &first,
-            from: cell(7, 0, 0),
-            steps: [1024, 0, 0],
-            hit: None,
-        },
-        Shot {
-            boxes: &far,
-            from: ORIGIN,
-            steps: [1024, 1024, 1024],
-            hit: Some(cell(7, 7, 7)),
-        },
-        Shot {
-            boxes: &far,
-            from: ORIGIN,
-            steps: [1024, 1024, 0],
-            hit: None,
-        },
+        make_shot(&corner, cell(0, 1, 0), [1, -1, 0], Some(cell(1, 1, 0))),
+        make_shot(&first, ORIGIN, [-1, 0, 0], Some(ORIGIN)),
+        make_shot(&first, cell(7, 0, 0), [-1024, 0, 0], Some(ORIGIN)),
+        make_shot(&first, cell(7, 0, 0), [1024, 0, 0], None),
+        make_shot(&far, ORIGIN, [1024, 1024, 1024], Some(cell(7, 7, 7))),
+        make_shot(&far, ORIGIN, [1024, 1024, 0], None),
     ] {
         let mut world = filled(rt.alloc(), 8, shot.boxes)?;
         let [dx, dy, dz] = shot.steps;
