@@ -7,3 +7,5 @@ mod BareLeaves
 mod FaceLaws
 mod WideningLaws
 mod PruningLaws
+mod WholeLaws
+mod GetLaws

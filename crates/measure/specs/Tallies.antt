@@ -4,8 +4,9 @@ use Rattle.vw_cell.specs.declared.cells.Cell.{Cell}
 use Rattle.vw_cell.specs.Places.{block_side, IsInWorld}
 use Rattle.vw_cell.specs.Counts.{number_in}
 use Rattle.node_shapes.specs.Tree.{Tree}
-use Rattle.block_walk.specs.Parts.{placed}
+use Rattle.block_walk.specs.Parts.{placed, whole_of}
 use Rattle.measure.specs.declared.tallies.Part.{Part}
+use Rattle.measure.specs.declared.wholes.Whole.{Whole}
 
 -- which cells of a block of some level count, for what a subject says of the block while some trees
 -- are held
@@ -24,3 +25,9 @@ pub record PassesNone (level : ℕ) (test : Cell → Bool) : Type 0 where
 abbrev pub IsTally : {S : Type 0} → Counting S → List Tree → Part S → ℕ → Type 0
 IsTally counts held p number =
     (test : Cell → Bool) → counts held p.level p.subject test → number ≡ number_in p.part test
+
+-- the number is that of a whole block's cells that count
+abbrev pub IsWholeTally : {S : Type 0} → Counting S → List Tree → Whole S → ℕ → Type 0
+IsWholeTally counts held w number =
+    (test : Cell → Bool) → counts held w.level w.subject test
+    → number ≡ number_in (whole_of w.level) test

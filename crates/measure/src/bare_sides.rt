@@ -9,11 +9,12 @@ ghost use Rattle.block_walk.specs.Roots.{HasBlock, HoldsRoot, ForBlock, ForWorld
 ghost use Rattle.block_walk.specs.Parts.{EndsBy};
 ghost use Rattle.block_walk.specs.Answers.{AreRight};
 ghost use Rattle.measure.specs.Leaves.{TellsCells};
-ghost use Rattle.measure.specs.Tallies.{IsTally};
+ghost use Rattle.measure.specs.Tallies.{IsTally, IsWholeTally};
 ghost use Rattle.measure.specs.Bare.{PassesBare, across, stays, is_next_set, bare_of};
 
 use crate::counts::name_mark;
 use crate::tallies::{Part, Subject, tally};
+use crate::wholes::Whole;
 use block_walk::{Answers, leaf_bits, name_of, octant_name, same_names};
 use node_shapes::Name;
 use node_words::{Blocks, Share, window_bits};
@@ -45,12 +46,61 @@ fn faces_in_block<B: Blocks>(store: &mut B, level: u8, block: Option<Name>, b: B
     ensures rests { B.rests store.old store.new }
 {
     let mut answers = Answers::new();
-    let low_x = bare_towards(store, &mut answers, Direction::LowX, level, block, b);
-    let high_x = bare_towards(store, &mut answers, Direction::HighX, level, block, b);
-    let low_y = bare_towards(store, &mut answers, Direction::LowY, level, block, b);
-    let high_y = bare_towards(store, &mut answers, Direction::HighY, level, block, b);
-    let low_z = bare_towards(store, &mut answers, Direction::LowZ, level, block, b);
-    let high_z = bare_towards(store, &mut answers, Direction::HighZ, level, block, b);
+    let mut wholes = Answers::new();
+    let low_x = bare_towards(
+        store,
+        &mut answers,
+        &mut wholes,
+        Direction::LowX,
+        level,
+        block,
+        b,
+    );
+    let high_x = bare_towards(
+        store,
+        &mut answers,
+        &mut wholes,
+        Direction::HighX,
+        level,
+        block,
+        b,
+    );
+    let low_y = bare_towards(
+        store,
+        &mut answers,
+        &mut wholes,
+        Direction::LowY,
+        level,
+        block,
+        b,
+    );
+    let high_y = bare_towards(
+        store,
+        &mut answers,
+        &mut wholes,
+        Direction::HighY,
+        level,
+        block,
+        b,
+    );
+    let low_z = bare_towards(
+        store,
+        &mut answers,
+        &mut wholes,
+        Direction::LowZ,
+        level,
+        block,
+        b,
+    );
+    let high_z = bare_towards(
+        store,
+        &mut answers,
+        &mut wholes,
+        Direction::HighZ,
+        level,
+        block,
+        b,
+    );
     low_x + high_x + low_y + high_y + low_z + high_z
 }
 
@@ -58,6 +108,7 @@ fn faces_in_block<B: Blocks>(store: &mut B, level: u8, block: Option<Name>, b: B
 fn bare_towards<B: Blocks>(
     store: &mut B,
     answers: &mut Answers<Part<Bare>>,
+    wholes: &mut Answers<Whole<Bare>>,
     direction: Direction,
     level: u8,
     block: Option<Name>,
@@ -67,11 +118,15 @@ fn bare_towards<B: Blocks>(
     requires block { HasBlock (B.seen store.old).held level block }
     requires part { EndsBy (block_side level) part }
     requires answers { AreRight (IsTally passes_bare) (B.seen store.old).held answers.old.places }
+    requires wholes { AreRight
+        (IsWholeTally passes_bare) (B.seen store.old).held wholes.old.places }
     ensures number { ForBlock (B.seen store.old).held level block
         (λ s. result ≡ number_in part (is_bare direction (block_side level) (cells_of level s))) }
     ensures bound { result ≤ 2 ^ 36 }
     ensures block { HasBlock (B.seen store.new).held level block }
     ensures answers { AreRight (IsTally passes_bare) (B.seen store.old).held answers.new.places }
+    ensures wholes { AreRight
+        (IsWholeTally passes_bare) (B.seen store.old).held wholes.new.places }
     ensures seen { B.seen store.new ≡ B.seen store.old }
     ensures rests { B.rests store.old store.new }
 {
@@ -85,7 +140,7 @@ fn bare_towards<B: Blocks>(
         level,
         part,
     };
-    tally(store, answers, of)
+    tally(store, answers, wholes, of)
 }
 
 ghost use Rattle.measure.specs.Faces.{passes_bare};
@@ -132,6 +187,10 @@ impl Subject for Bare {
 
     fn mark(&self) -> usize {
         name_mark(self.block) + 3 * name_mark(self.beside) + direction_mark(self.direction)
+    }
+
+    fn is_even(&self) -> bool {
+        same_names(self.block, self.beside)
     }
 }
 

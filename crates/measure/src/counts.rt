@@ -1,11 +1,11 @@
-ghost use Rattle.std.specs.Prelude.{◌≡◌, ◌^◌, ℕ, option_copied};
-ghost use Rattle.vw_cell.specs.Places.{FitsAt, IsInWorld};
+ghost use Rattle.std.specs.Prelude.{◌≡◌, ◌^◌, ◌≤◌, ℕ, option_copied};
+ghost use Rattle.vw_cell.specs.Places.{FitsAt, IsInWorld, block_side};
 ghost use Rattle.vw_cell.specs.Counts.{number_in};
-ghost use Rattle.block_walk.specs.Roots.{HoldsRoot, ForWorld};
+ghost use Rattle.block_walk.specs.Roots.{HasBlock, ForBlock, HoldsRoot, ForWorld, cells_of};
 ghost use Rattle.measure.specs.Subjects.{PassesSet};
 
 use crate::tallies::{Part, Subject, tally};
-use block_walk::{Answers, leaf_bits, look, name_of, octant_name, same_names};
+use block_walk::{Answers, leaf_bits, leaf_has, name_of, octant_at, octant_name, same_names};
 use node_shapes::Name;
 use node_words::{Blocks, Share};
 use vw_cell::{Boxed, Cell, Side};
@@ -19,7 +19,29 @@ pub fn get<B: Blocks>(store: &mut B, root: Option<&Share>, side: Side, c: Cell) 
     ensures seen { B.seen store.new ≡ B.seen store.old }
     ensures rests { B.rests store.old store.new }
 {
-    look(store, side.root_level(), name_of(root), c).is_none()
+    is_set_in(store, side.root_level(), name_of(root), c)
+}
+
+// Whether the cell of the block is set.
+fn is_set_in<B: Blocks>(store: &mut B, level: u8, block: Option<Name>, c: Cell) -> bool
+    requires level { level ≤ 10 }
+    requires block { HasBlock (B.seen store.old).held level block }
+    requires cell { IsInWorld (block_side level) c }
+    ensures value { ForBlock (B.seen store.old).held level block
+        (λ s. result ≡ cells_of level s c) }
+    ensures seen { B.seen store.new ≡ B.seen store.old }
+    ensures rests { B.rests store.old store.new }
+{
+    if block.is_none() {
+        return false;
+    }
+    if level == 0 {
+        let bits = leaf_bits(store, block);
+        return leaf_has(bits, c);
+    }
+    let (octant, inner) = octant_at(level, c);
+    let child = octant_name(store, level, block, octant);
+    is_set_in(store, level - 1, child, inner)
 }
 
 /// The number of set cells of a box of the root's world.
@@ -32,6 +54,7 @@ pub fn count<B: Blocks>(store: &mut B, root: Option<&Share>, side: Side, b: Boxe
     ensures rests { B.rests store.old store.new }
 {
     let mut answers = Answers::new();
+    let mut wholes = Answers::new();
     let subject = SetCells {
         block: name_of(root),
     };
@@ -41,7 +64,7 @@ pub fn count<B: Blocks>(store: &mut B, root: Option<&Share>, side: Side, b: Boxe
         level,
         part: b,
     };
-    tally(store, &mut answers, of)
+    tally(store, &mut answers, &mut wholes, of)
 }
 
 // The set cells of what stands in a block.
@@ -73,6 +96,10 @@ impl Subject for SetCells {
 
     fn mark(&self) -> usize {
         name_mark(self.block)
+    }
+
+    fn is_even(&self) -> bool {
+        false
     }
 }
 

@@ -9,6 +9,7 @@ mod extents;
 mod leaves;
 mod pruning;
 mod tallies;
+mod wholes;
 
 pub use bare_sides::faces;
 pub use counts::{count, get};

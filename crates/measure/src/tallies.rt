@@ -6,10 +6,11 @@ ghost use Rattle.node_shapes.specs.Tree.{Tree};
 ghost use Rattle.block_walk.specs.Answers.{AreRight};
 ghost use Rattle.block_walk.specs.Parts.{EndsBy};
 ghost use Rattle.measure.specs.Leaves.{TellsCells};
-ghost use Rattle.measure.specs.Tallies.{in_octant, PassesNone, IsTally};
+ghost use Rattle.measure.specs.Tallies.{in_octant, PassesNone, IsTally, IsWholeTally};
 
 use crate::leaves::count_leaf;
-use block_walk::{Answers, Query, half_side, is_empty, part_of, same_boxes};
+use crate::wholes::{Whole, tally_whole};
+use block_walk::{Answers, Query, half_side, is_empty, part_of, same_boxes, whole_block};
 use node_words::Blocks;
 use vw_cell::Boxed;
 
@@ -48,6 +49,10 @@ pub(crate) trait Subject: Copy {
     /// A number that differs where subjects do, more often than not.
     fn mark(&self) -> usize
         ensures { result < 2 ^ 32 };
+
+    /// Whether it is worth to ask first if no cell of the whole block counts. No answer depends on
+    /// it.
+    fn is_even(&self) -> bool;
 }
 
 ghost use Rattle.std.specs.Prelude.{◌^◌};
@@ -85,11 +90,13 @@ pub(crate) fn part_mark(part: Boxed) -> usize
     at + x + y + z
 }
 
-/// How many cells of the part count. Parts that are alike have one number, which is remembered.
+/// How many cells of the part count. Parts that are alike have one number, which is remembered; a
+/// part that is a whole block goes by what stands there alone.
 #[cycle(tally)]
 pub(crate) fn tally<S: Subject, B: Blocks>(
     store: &mut B,
     answers: &mut Answers<Part<S>>,
+    wholes: &mut Answers<Whole<S>>,
     of: Part<S>,
 ) -> u64
     requires level { of.level ≤ 10 }
@@ -97,8 +104,10 @@ pub(crate) fn tally<S: Subject, B: Blocks>(
         × S.counts (B.seen store.old).held of.level of.subject test }
     requires part { EndsBy (block_side of.level) of.part }
     requires answers { AreRight (IsTally S.counts) (B.seen store.old).held answers.old.places }
+    requires wholes { AreRight (IsWholeTally S.counts) (B.seen store.old).held wholes.old.places }
     ensures number { IsTally S.counts (B.seen store.old).held of result }
     ensures answers { AreRight (IsTally S.counts) (B.seen store.old).held answers.new.places }
+    ensures wholes { AreRight (IsWholeTally S.counts) (B.seen store.old).held wholes.new.places }
     ensures seen { B.seen store.new ≡ B.seen store.old }
     ensures rests { B.rests store.old store.new }
 {
@@ -112,12 +121,75 @@ pub(crate) fn tally<S: Subject, B: Blocks>(
         let bits = of.subject.leaf(store);
         return count_leaf(bits, of.part);
     }
+    if same_boxes(of.part, whole_block(of.level)) {
+        return tally_whole(store, wholes, block_of(of));
+    }
     if let Some(number) = answers.find(&of) {
         return number;
     }
-    let number = tally_octants(store, answers, of);
+    if has_none(store, wholes, of) {
+        return 0;
+    }
+    let number = tally_octants(store, answers, wholes, of);
     answers.keep(of, number);
     number
+}
+
+// The whole block of which this is a part.
+fn block_of<S: Subject>(of: Part<S>) -> Whole<S>
+    ensures { result ≡ record { subject = of.subject; level = of.level } }
+{
+    Whole {
+        subject: of.subject,
+        level: of.level,
+    }
+}
+
+// Whether no cell of the part counts since none of its block does. It is asked only where two
+// octants say the same, as of a block that is alike everywhere, and may miss that none does.
+fn has_none<S: Subject, B: Blocks>(
+    store: &mut B,
+    wholes: &mut Answers<Whole<S>>,
+    of: Part<S>,
+) -> bool
+    requires level { (1 ≤ of.level) × (of.level ≤ 10) }
+    requires block { (test : Cell → Bool)
+        × S.counts (B.seen store.old).held of.level of.subject test }
+    requires part { EndsBy (block_side of.level) of.part }
+    requires wholes { AreRight (IsWholeTally S.counts) (B.seen store.old).held wholes.old.places }
+    ensures none { IsTrue result → IsTally S.counts (B.seen store.old).held of 0 }
+    ensures block { (test : Cell → Bool)
+        × S.counts (B.seen store.new).held of.level of.subject test }
+    ensures wholes { AreRight (IsWholeTally S.counts) (B.seen store.old).held wholes.new.places }
+    ensures seen { B.seen store.new ≡ B.seen store.old }
+    ensures rests { B.rests store.old store.new }
+{
+    if !of.subject.is_even() {
+        return false;
+    }
+    if !has_alike_octants(store, block_of(of)) {
+        return false;
+    }
+    let number = tally_whole(store, wholes, block_of(of));
+    if number > 0 {
+        return false;
+    }
+    true
+}
+
+// Whether the first and the last octant say the same.
+fn has_alike_octants<S: Subject, B: Blocks>(store: &mut B, of: Whole<S>) -> bool
+    requires level { 1 ≤ of.level }
+    requires block { (test : Cell → Bool)
+        × S.counts (B.seen store.old).held of.level of.subject test }
+    ensures block { (test : Cell → Bool)
+        × S.counts (B.seen store.new).held of.level of.subject test }
+    ensures seen { B.seen store.new ≡ B.seen store.old }
+    ensures rests { B.rests store.old store.new }
+{
+    let first = of.subject.octant(store, of.level, 0);
+    let last = of.subject.octant(store, of.level, 7);
+    first.is_same(&last)
 }
 
 // The same, octant by octant.
@@ -125,6 +197,7 @@ pub(crate) fn tally<S: Subject, B: Blocks>(
 fn tally_octants<S: Subject, B: Blocks>(
     store: &mut B,
     answers: &mut Answers<Part<S>>,
+    wholes: &mut Answers<Whole<S>>,
     of: Part<S>,
 ) -> u64
     requires level { (1 ≤ of.level) × (of.level ≤ 10) }
@@ -132,8 +205,10 @@ fn tally_octants<S: Subject, B: Blocks>(
         × S.counts (B.seen store.old).held of.level of.subject test }
     requires part { EndsBy (block_side of.level) of.part }
     requires answers { AreRight (IsTally S.counts) (B.seen store.old).held answers.old.places }
+    requires wholes { AreRight (IsWholeTally S.counts) (B.seen store.old).held wholes.old.places }
     ensures number { IsTally S.counts (B.seen store.old).held of result }
     ensures answers { AreRight (IsTally S.counts) (B.seen store.old).held answers.new.places }
+    ensures wholes { AreRight (IsWholeTally S.counts) (B.seen store.old).held wholes.new.places }
     ensures seen { B.seen store.new ≡ B.seen store.old }
     ensures rests { B.rests store.old store.new }
 {
@@ -148,7 +223,7 @@ fn tally_octants<S: Subject, B: Blocks>(
             level,
             part,
         };
-        number += tally(store, answers, inner);
+        number += tally(store, answers, wholes, inner);
     }
     number
 }

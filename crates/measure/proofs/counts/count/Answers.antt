@@ -7,10 +7,16 @@ pub tally-requires : goal.tally-requires
 tally-requires g c = (
   omega arith,
   (
-    omega (arith, c.root_level-level.ensures.value, c.root_level-level.ensures.bounds.1),
+    omega arith,
     (
-      root_set _ c.args.side _ _ _ c.root_level-level.ensures.value c.name_of.ensures c.requires.root,
-      (box_in_root _ c.args.side c.args.b c.root_level-level.ensures.value c.root_level-level.ensures.bounds.0 c.requires.inside, c.new-answers.ensures _),
+      omega (arith, c.root_level-level.ensures.value, c.root_level-level.ensures.bounds.1),
+      (
+        root_set _ c.args.side _ _ _ c.root_level-level.ensures.value c.name_of.ensures c.requires.root,
+        (
+          box_in_root _ c.args.side c.args.b c.root_level-level.ensures.value c.root_level-level.ensures.bounds.0 c.requires.inside,
+          (c.new-answers.ensures _, c.new-wholes.ensures _),
+        ),
+      ),
     ),
   ),
 )

@@ -1,6 +1,7 @@
 use Rattle.std.proofs.Common.{◌+◌, arith, refl, sym, ◌∙◌}
 use Rattle.sums.specs.Sums.{sum_below-zero}
 use Rattle.measure.proofs.TallyLaws.{none_tallied, empty_tallied, tallied_step, tallied_all, tallied_fits, right_again}
+use Rattle.measure.proofs.WholeLaws.{whole_right_again, part_of_whole, tally_before, right_before, leaf_tally}
 use Rattle.measure.proofs.tallies.+tally.Goals as goal
 
 pub tally-returns-then-is_nothing-clause-number : goal.tally-returns-then-is_nothing-clause-number
@@ -9,14 +10,32 @@ tally-returns-then-is_nothing-clause-number g t c test p = none_tallied c.args.o
 pub tally-returns-then-is_empty-clause-number : goal.tally-returns-then-is_empty-clause-number
 tally-returns-then-is_empty-clause-number g t c test p = empty_tallied c.args.of.part test (c.if-is_empty.ensures.0 refl)
 
+pub tally-returns-then-of-eq0-clause-number : goal.tally-returns-then-of-eq0-clause-number
+tally-returns-then-of-eq0-clause-number g t c = leaf_tally g.S.Subject.counts (g.B.Blocks.seen c.args.store.now).held c.args.of c.leaf-bits.result c.count_leaf.result (omega arith) c.leaf-bits.ensures.bits c.count_leaf.ensures
+
+pub tally-returns-then-same_boxes-clause-number : goal.tally-returns-then-same_boxes-clause-number
+tally-returns-then-same_boxes-clause-number g t c =
+    part_of_whole g.S.Subject.counts (g.B.Blocks.seen c.args.store.now).held c.args.of.level c.tally_whole.result c.args.of.subject c.args.of.part _ (c.if-same_boxes.ensures.0 refl ∙ c.whole_block.ensures) c.block_of.ensures c.tally_whole.ensures.number
+
 pub tally-returns-in-Some-clause-rests : goal.tally-returns-in-Some-clause-rests
 tally-returns-in-Some-clause-rests g t c = g.met.B.Blocks.rests_itself _
 
+pub tally-returns-then-has_none-clause-number : goal.tally-returns-then-has_none-clause-number
+tally-returns-then-has_none-clause-number g t c = c.if-has_none.ensures.none refl
+
+pub tally-returns-clause-number : goal.tally-returns-clause-number
+tally-returns-clause-number g t c = tally_before g.S.Subject.counts (g.B.Blocks.seen c.args.store.now) (g.B.Blocks.seen c.has_none.new.store) c.args.of c.tally_octants-number.result c.has_none.ensures.seen c.tally_octants-number.ensures.number
+
 pub tally-returns-clause-answers : goal.tally-returns-clause-answers
-tally-returns-clause-answers g t c = c.keep.ensures _ c.tally_octants-number.ensures.answers c.tally_octants-number.ensures.number
+tally-returns-clause-answers g t c =
+    c.keep.ensures _ (right_before g.S.Subject.counts (g.B.Blocks.seen c.args.store.now) (g.B.Blocks.seen c.has_none.new.store) _ c.has_none.ensures.seen c.tally_octants-number.ensures.answers)
+    (tally_before g.S.Subject.counts (g.B.Blocks.seen c.args.store.now) (g.B.Blocks.seen c.has_none.new.store) c.args.of c.tally_octants-number.result c.has_none.ensures.seen c.tally_octants-number.ensures.number)
+
+pub tally-returns-clause-rests : goal.tally-returns-clause-rests
+tally-returns-clause-rests g t c = g.met.B.Blocks.rests_on _ _ _ c.has_none.ensures.rests c.tally_octants-number.ensures.rests
 
 pub tally_octants-loop-octant-init : goal.tally_octants-loop-octant-init
-tally_octants-loop-octant-init g t c = record { number = λ test p. sym (sum_below-zero _); right = c.requires.answers; same = refl; rests = g.met.B.Blocks.rests_itself _ }
+tally_octants-loop-octant-init g t c = record { number = λ test p. sym (sum_below-zero _); right = c.requires.answers; wholes = c.requires.wholes; same = refl; rests = g.met.B.Blocks.rests_itself _ }
 
 pub tally_octants-overflow_add-number : goal.tally_octants-overflow_add-number
 tally_octants-overflow_add-number g t c =
@@ -32,6 +51,7 @@ tally_octants-loop-octant-preserved g t c = record {
   number = λ test p. tallied_step g.S.Subject.counts (g.B.Blocks.seen c.args.store.now) (g.B.Blocks.seen c.loop-octant.store) (g.B.Blocks.seen c.octant-subject.new.store) c.args.of.level _ c.loop-octant.octant _ _ c.args.of.subject c.octant-subject.result c.args.of.part c.part_of-part.result test
       c.loop-octant.invariant.same c.octant-subject.ensures.seen c.half_side-half.ensures.half c.part_of-part.ensures.part c.octant-subject.ensures.octant c.tally-number.ensures.number p (c.loop-octant.invariant.number test p);
   right = right_again g.S.Subject.counts (g.B.Blocks.seen c.args.store.now) (g.B.Blocks.seen c.loop-octant.store) (g.B.Blocks.seen c.octant-subject.new.store) _ c.loop-octant.invariant.same c.octant-subject.ensures.seen c.tally-number.ensures.answers;
+  wholes = whole_right_again g.S.Subject.counts (g.B.Blocks.seen c.args.store.now) (g.B.Blocks.seen c.loop-octant.store) (g.B.Blocks.seen c.octant-subject.new.store) _ c.loop-octant.invariant.same c.octant-subject.ensures.seen c.tally-number.ensures.wholes;
   same = c.tally-number.ensures.seen ∙ c.octant-subject.ensures.seen ∙ c.loop-octant.invariant.same;
   rests = g.met.B.Blocks.rests_on _ _ _ (g.met.B.Blocks.rests_on _ _ _ c.loop-octant.invariant.rests c.octant-subject.ensures.rests) c.tally-number.ensures.rests;
 }

@@ -1,7 +1,7 @@
 use Rattle.std.proofs.Common.{◌≡◌, ◌+◌, ◌*◌, Bool}
 use Rattle.vw_cell.specs.declared.cells.Cell.{Cell}
 use Rattle.block_walk.specs.Answers.{AreRight}
-use Rattle.measure.specs.Tallies.{IsTally}
+use Rattle.measure.specs.Tallies.{IsTally, IsWholeTally}
 use Rattle.measure.proofs.TallyLaws.{tallied}
 use Rattle.measure.proofs.tallies.+tally.Given as goal
 
@@ -18,6 +18,7 @@ invariant-tally_octants-loop-octant g l =
     record {
       number : (test : Cell → Bool) → counts (seen l.fn.store).held l.fn.of.level l.fn.of.subject test → l.number ≡ tallied l.fn.of.level l.fn.of.part test l.octant;
       right : AreRight (IsTally counts) (seen l.fn.store).held l.answers.places;
+      wholes : AreRight (IsWholeTally counts) (seen l.fn.store).held l.wholes.places;
       same : seen l.store ≡ seen l.fn.store;
       rests : g.B.Blocks.rests l.fn.store l.store;
     }
