@@ -7,3 +7,4 @@ pub mod NodeLaws
 pub mod RootLaws
 pub mod CountLaws
 pub mod CallLaws
+pub mod SpareLaws

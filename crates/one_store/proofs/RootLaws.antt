@@ -66,7 +66,7 @@ keep_event old told place n number st lt none h t = record {
   held = trade old.told.held told.held (at_most_one (Some n)) no_weight (λ f. held_weighs old n f h) (λ f. omega (arith, t.loses.weighs (root_weight f), tree_weighs old n f));
 }
 
-top_tree : (v : Known) (n : Name) → n.level ≡ top v.words.plan.side → root_tree v (Some n) ≡ tree_in v n
+pub top_tree : (v : Known) (n : Name) → n.level ≡ top v.words.plan.side → root_tree v (Some n) ≡ tree_in v n
 top_tree v n e = ap (λ (l : ℕ). tree_at (key_in v.words) l (Some n)) (sym e)
 
 pub keeps_root : (old : Known) (told : Told) (place : ℕ) (n : Name) (number : ℕ) → IsStore old number → place < versions → n.level ≡ top old.words.plan.side → NotesLoss old.told (tree_in old n) told → KeepsRoot old place (Some n) (with_roots old (set old.roots place (Some n)) told)

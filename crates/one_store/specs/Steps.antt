@@ -1,6 +1,6 @@
 -- The steps of a store for one thread.
 use Rattle.std.specs.Prelude.{◌≡◌, ◌≢◌, ℕ, ◌+◌, ◌-◌, ◌<◌, Option, Some, None, List}
-use Rattle.std.proofs.Common.{zero, suc}
+use Rattle.std.proofs.Common.{zero, suc, refl, sym, ap, ◌∙◌}
 use Rattle.node_shapes.specs.declared.names.Name.{Name}
 use Rattle.node_shapes.specs.Shape.{Shape, Leaf, branch_of}
 use Rattle.node_shapes.specs.Tree.{Tree, LeafAt, node_at, shape_of}
@@ -132,3 +132,31 @@ pub record GivesRoot (old : Known) (place : ℕ) (new : Known) : Type 0 where
       → stored_root new.roots other ≡ stored_root old.roots other
   pub only : MakesNothing old.told new.told
   pub gains : Loses new.told.held (root_tree old (stored_root old.roots place)) old.told.held
+
+-- the roots stay in their places, each with its tree, and so does the plan
+pub record SparesRoots (old new : Known) : Type 0 where
+  pub plan : new.words.plan ≡ old.words.plan
+  pub roots : new.roots ≡ old.roots
+  pub trees : (place : ℕ) → root_tree new (stored_root old.roots place)
+      ≡ root_tree old (stored_root old.roots place)
+
+-- one more share came of the root in the place, where there is one, which stays there
+pub record GainsRoot (old : Known) (place : ℕ) (new : Known) : Type 0 where
+  pub spares : SparesRoots old new
+  pub only : MakesNothing old.told new.told
+  pub gains : Loses new.told.held (root_tree old (stored_root old.roots place)) old.told.held
+
+-- all roots stay with their trees
+pub spares_itself : (v : Known) → SparesRoots v v
+spares_itself v = record { plan = refl; roots = refl; trees = λ place. refl }
+
+pub spares_on : (a b c : Known) → SparesRoots a b → SparesRoots b c → SparesRoots a c
+spares_on a b c f g = record {
+  plan = g.plan ∙ f.plan;
+  roots = g.roots ∙ f.roots;
+  trees = λ place.
+      ap (λ (r : List (Option Name)). root_tree c (stored_root r place)) (sym f.roots)
+      ∙ g.trees place
+      ∙ ap (λ (r : List (Option Name)). root_tree b (stored_root r place)) f.roots
+      ∙ f.trees place;
+}

@@ -20,7 +20,7 @@ ghost use Rattle.store_notes.specs.Told.{nothing_told};
 ghost use Rattle.store_notes.specs.Changes.{HoldsRow};
 ghost use Rattle.one_store.specs.Known.{Known, IsStore, core_of, known_seen, tree_in, trees_below, stored_root};
 ghost use Rattle.one_store.specs.Steps.{RaisesShare, LowersShare, FreesNode, Releases, ReleasesRow, HoldsChild};
-ghost use Rattle.one_store.specs.Steps.{KeepsRoot, GivesRoot};
+ghost use Rattle.one_store.specs.Steps.{KeepsRoot, GivesRoot, GainsRoot};
 ghost use Rattle.one_store.specs.Calls.{GivesBack};
 ghost use Rattle.one_store.specs.Steps.{IsSoughtKey, AddsNode, MeetsFull, sought_key};
 
@@ -141,6 +141,21 @@ impl OneStore {
         self.number += 1;
     }
 
+    /// One more share of the root in the place, which stays there.
+    pub fn root_share(&mut self, place: u32) -> Option<Share>
+        requires place { place < versions }
+        requires room { number_of_trees self.old.told.held ≤ 4095 }
+        ensures root { result ≡ stored_root self.old.roots place }
+        ensures top { IfSome result (λ n. n.level ≡ top self.old.words.plan.side) }
+        ensures gains { GainsRoot self.old place self.new }
+    {
+        let _number = self.number();
+        match self.roots[place as usize] {
+            Some(n) => Some(self.raise(n)),
+            None => None,
+        }
+    }
+
     /// How many nodes of this level are live. Where no share is held, these are as many as the
     /// different blocks with a set cell that the roots in places have.
     pub fn live(&self, level: u8) -> u32
@@ -187,8 +202,8 @@ impl OneStore {
         let _number = self.number;
     }
 
-    // How many shares are held.
-    pub(crate) fn number(&self) -> u32
+    /// How many shares are held.
+    pub fn number(&self) -> u32
         ensures number { result ≡ number_of_trees (known_seen self.now).held }
         ensures store { IsStore self.now result }
     {

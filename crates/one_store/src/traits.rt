@@ -7,11 +7,11 @@ use std::sync::ledger::Ledger;
 
 impl Blocks for OneStore {
     ghost use Rattle.one_store.specs.Known.{known_seen};
-    ghost use Rattle.std.proofs.Common.{refl, ◌∙◌};
+    ghost use Rattle.one_store.specs.Steps.{SparesRoots, spares_itself, spares_on};
 
     ghost seen = { known_seen };
 
-    ghost rests = { λ a b. b.roots ≡ a.roots };
+    ghost rests = { SparesRoots };
 
     fn bits_at(&mut self, n: Name) -> u64 {
         let _number = self.number();
@@ -23,9 +23,9 @@ impl Blocks for OneStore {
         self.words.child(n, octant)
     }
 
-    ghost rests_itself = { λ a. refl };
+    ghost rests_itself = { spares_itself };
 
-    ghost rests_on = { λ a b c f g. g ∙ f };
+    ghost rests_on = { spares_on };
 }
 
 impl NodeStore for OneStore {
@@ -41,7 +41,7 @@ impl NodeStore for OneStore {
     ghost use Rattle.core_laws.specs.Events.{IsMissing};
     ghost use Rattle.entry_words.specs.Words.{HasEntry};
     ghost use Rattle.one_store.specs.Known.{core_of, known_seen};
-    ghost use Rattle.one_store.specs.Steps.{Moves};
+    ghost use Rattle.one_store.specs.Steps.{Moves, SparesRoots};
     ghost use Rattle.one_store.specs.Calls.{SharesEntry, MakesEntry, FindsFull, GivesBack};
 
     fn held(&self) -> u32 {
@@ -63,7 +63,7 @@ impl NodeStore for OneStore {
             (λ e. OnlyMeets (known_seen self.old) e.level e.bucket (shape.Leaf bits)
             (known_seen self.new)) }
         ensures full_level { IfErr result (λ e. e.level ≡ 0) }
-        ensures rests { self.new.roots ≡ self.old.roots }
+        ensures rests { SparesRoots self.old self.new }
         ensures turns { steps.new ≡ steps.old + 1 }
         // The entry that has the key is shared.
         ensures shared { (n : Name) → HasEntry self.old.words n (Leaf bits)
@@ -111,7 +111,7 @@ impl NodeStore for OneStore {
             (branch_of (λ k. shape_of (row k))) (known_seen self.new))) }
         ensures full_level { IfErr result (λ e. e.full.level ≡ level) }
         ensures back { IfErr result (λ e. e.children ≡ children) }
-        ensures rests { self.new.roots ≡ self.old.roots }
+        ensures rests { SparesRoots self.old self.new }
         ensures turns { steps.new ≤ steps.old + 9 }
         // The entry that has the key is the node.
         ensures shared { (n : Name) → HasEntry self.old.words n (Node children)
@@ -161,7 +161,7 @@ impl NodeStore for OneStore {
         ensures held { ForHeld (known_seen self.old).held share
             (λ t. Gains (known_seen self.new).held t (known_seen self.old).held) }
         ensures only { OnlyHeldChanges (known_seen self.old) (known_seen self.new) }
-        ensures rests { self.new.roots ≡ self.old.roots }
+        ensures rests { SparesRoots self.old self.new }
         ensures turns { ForHeld (known_seen self.old).held share
             (λ t. ReturnsWithin (known_seen self.new).held (shape_of t) steps.old steps.new) }
         ensures book { GivesBack self.old share self.new }

@@ -33,11 +33,11 @@ impl TurnStore {
 
 impl Blocks for TurnStore {
     ghost use Rattle.one_store.specs.Known.{known_seen};
-    ghost use Rattle.std.proofs.Common.{refl, ◌∙◌};
+    ghost use Rattle.one_store.specs.Steps.{SparesRoots, spares_itself, spares_on};
 
     ghost seen = { λ s. known_seen s.store };
 
-    ghost rests = { λ a b. b.store.roots ≡ a.store.roots };
+    ghost rests = { λ a b. SparesRoots a.store b.store };
 
     fn bits_at(&mut self, n: Name) -> u64 {
         self.store.bits_at(n)
@@ -47,9 +47,9 @@ impl Blocks for TurnStore {
         self.store.child_at(n, octant)
     }
 
-    ghost rests_itself = { λ a. refl };
+    ghost rests_itself = { λ a. spares_itself a.store };
 
-    ghost rests_on = { λ a b c f g. g ∙ f };
+    ghost rests_on = { λ a b c f g. spares_on a.store b.store c.store f g };
 }
 
 impl NodeStore for TurnStore {

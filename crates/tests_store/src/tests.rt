@@ -138,11 +138,16 @@ fn roots_stay_in_their_places(rt: HostRuntime) -> Result<(), Fail> {
     assert_eq!(rt; store.held(), 0);
     assert_eq!(rt; store.live(0), 1);
     if store.held() == 0 {
-        let taken = store.take_root(3).map(|share| share.spend());
-        assert!(rt; taken == Some(first));
+        let shared = store.root_share(3).map(|share| share.spend());
+        assert!(rt; shared == Some(first));
     }
     assert_eq!(rt; store.held(), 1);
     if store.held() == 1 {
+        let taken = store.take_root(3).map(|share| share.spend());
+        assert!(rt; taken == Some(first));
+    }
+    assert_eq!(rt; store.held(), 2);
+    if store.held() == 2 {
         let taken = store.take_root(3).map(|share| share.spend());
         assert!(rt; taken.is_none());
     }

@@ -1,6 +1,7 @@
 use Rattle.std.proofs.Common.{refl}
 use Rattle.one_store.proofs.TraitLaws.{leaf_holds, leaf_count, leaf_found, leaf_hit, leaf_missed, leaf_added, leaf_met, if_ok, if_errs}
 use Rattle.one_store.proofs.CallLaws.{shares_found, leaf_level_of, missing_no_entry, found_not_missing, match_result, adds_entry, finds_full}
+use Rattle.one_store.proofs.SpareLaws.{adds_spare, meets_spare, result_spares}
 use Rattle.one_store.proofs.traits.OneStoreNodeStore.leaf.Goals as goal
 
 pub add-requires-clause-held : goal.add-requires-clause-held
@@ -45,3 +46,11 @@ returns-in-None-clause-added g c missing =
     (λ n a. adds_entry c.args.self.now c.add.new.self c.seek-sought.result n 0 _ c.seek-sought.ensures.sought c.seek-sought.ensures.level c.seek-sought.ensures.key a)
     (λ e m f. finds_full c.args.self.now c.add.new.self c.seek-sought.result 0 e.bucket _ c.seek-sought.ensures.sought c.seek-sought.ensures.level c.seek-sought.ensures.key f.1 m)
     c.add.ensures.adds c.add.ensures.meets c.add.ensures.full
+
+pub returns-in-None-clause-rests : goal.returns-in-None-clause-rests
+returns-in-None-clause-rests g c =
+    let holds = leaf_holds c.args.self.now _ c.args.bits _ c.seek-sought.ensures.key in
+    result_spares c.add.result
+    (λ n a. adds_spare c.args.self.now c.add.new.self c.seek-sought.result n _ c.number-number.ensures.store c.seek-sought.ensures.sought (c.in-None.ensures.none refl) holds a)
+    (λ e m. meets_spare c.args.self.now c.add.new.self c.seek-sought.result m)
+    c.add.ensures.adds c.add.ensures.meets

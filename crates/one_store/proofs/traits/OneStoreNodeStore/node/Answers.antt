@@ -2,6 +2,7 @@ use Rattle.std.proofs.Common.{◌≡◌, ◌∙◌, ap, refl, length, arith}
 use Rattle.node_words.specs.declared.keys.Key.TheVariants.{Node}
 use Rattle.one_store.proofs.NodeLaws.{asks, held_under, node_fits, node_names, raised_holds, sought_holds, node_joined, node_turns, node_hit, node_missed, node_added, node_grants, node_met}
 use Rattle.one_store.proofs.CallLaws.{joins_found, node_level_of, missing_no_entry, found_not_missing, adds_entry, finds_full}
+use Rattle.one_store.proofs.SpareLaws.{adds_spare}
 use Rattle.one_store.proofs.traits.OneStoreNodeStore.node.Goals as goal
 
 pub seek-sought-requires-clause-fits : goal.seek-sought-requires-clause-fits
@@ -154,3 +155,13 @@ pub returns-in-Err-clause-added : goal.returns-in-Err-clause-added
 returns-in-Err-clause-added g c missing =
     let key = c.seek-sought.ensures.key ∙ ap Node c.names_of-names.ensures in
     finds_full c.args.self.now c.add.new.self c.seek-sought.result c.args.level c.in-Err.full.bucket _ c.seek-sought.ensures.sought c.seek-sought.ensures.level key c.in-Err.ensures.full.1 c.in-Err.ensures.meets
+
+pub returns-in-Ok-clause-rests : goal.returns-in-Ok-clause-rests
+returns-in-Ok-clause-rests g c =
+    let st = c.number-number.ensures.store in
+    let names = c.names_of-names.result in
+    let e = c.names_of-names.ensures in
+    let len : length c.args.children ≡ 8 = omega arith in
+    let q = asks c.args.self.now c.args.level names c.args.children e len c.requires.level.0 c.requires.level.1 c.requires.some c.requires.below c.requires.held in
+    let holds = sought_holds c.args.self.now _ c.seek-sought.result c.args.level names st q c.seek-sought.ensures.level c.seek-sought.ensures.key in
+    adds_spare c.args.self.now c.add.new.self c.seek-sought.result c.in-Ok.share _ st c.seek-sought.ensures.sought (c.in-None.ensures.none refl) holds c.in-Ok.ensures.adds
