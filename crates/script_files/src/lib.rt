@@ -15,7 +15,7 @@ mod texts;
 pub use counts::count_file;
 pub use refusals::{CommandRefused, NumberedFault, TextRefused};
 pub use requests::{FileName, Order, Request};
-pub use runs::run_files;
+pub use runs::{run_files, transcript_names};
 
 #[cfg(test)]
 mod tests;

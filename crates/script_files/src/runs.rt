@@ -53,6 +53,18 @@ pub fn run_files<'w, S: Shelf>(
     }
 }
 
+/// The names of the transcripts: each is its script's with `.out` behind it.
+pub fn transcript_names(alloc: Global, scripts: &[String]) -> Result<Vec<String>, Memory>
+    ensures { IfOk result (λ names. map string_bytes names.items
+        ≡ map transcript_name (map string_bytes scripts.now)) }
+{
+    let mut names = Vec::with_capacity(alloc, scripts.len())?;
+    for script in scripts {
+        names.push(format!(in alloc; "{script}.out")?)?;
+    }
+    Ok(names)
+}
+
 // What a run reads, in order.
 fn inputs_of<'w>(alloc: Global, order: &Order<'w>) -> Result<Vec<Input<'w>>, Memory>
     ensures { IfOk result (λ inputs. inputs.items ≡ inputs_of (Run order.now)) }

@@ -1,7 +1,12 @@
-use crate::{CommandRefused, FileName, NumberedFault, Order, TextRefused, count_file, run_files};
+ghost use Rattle.std.specs.Prelude.{◌≤◌, length, IfOk};
+
+use crate::{
+    CommandRefused, FileName, NumberedFault, Order, TextRefused, count_file, run_files,
+    transcript_names,
+};
 use node_words::Plan;
 use script::{ScriptFault, ScriptKind};
-use std::alloc::{AllocError, Global};
+use std::alloc::Global;
 use std::test::Fail;
 use vox_read::VoxFault;
 use vw_cell::Side;
@@ -36,23 +41,28 @@ const BOTH_JOURNAL: &str =
      3 1 1 stamp 0 7 7 7\nend\n";
 
 // A range fault in the first line of the script of this number.
-fn range(script: u16) -> CommandRefused<'static> {
-    CommandRefused::Text(TextRefused::Script(NumberedFault {
+fn range(script: u16) -> TextRefused {
+    TextRefused::Script(NumberedFault {
         script,
         fault: ScriptFault {
             line: 1,
             kind: ScriptKind::Range,
         },
-    }))
+    })
 }
 
-// The words of a line, parted by single blanks, each with this behind it.
-fn words_with(alloc: Global, line: &str, end: &str) -> Result<Vec<String>, AllocError> {
-    let mut words = Vec::new(alloc);
+// The scripts that a line names, parted by single blanks.
+fn scripts_in(alloc: Global, line: &str) -> Result<Vec<String>, Fail>
+    ensures { IfOk result (λ scripts. length scripts.items ≤ 64) }
+{
+    let mut scripts = Vec::new(alloc);
     for word in line.split(' ') {
-        words.push(format!(in alloc; "{word}{end}")?)?;
+        scripts.push(String::from_str(alloc, word)?)?;
     }
-    Ok(words)
+    if scripts.len() > 64 {
+        return Err(Fail::from("too many scripts"));
+    }
+    Ok(scripts)
 }
 
 fn shelf(alloc: Global) -> Result<MemoryShelf, Fail> {
@@ -67,58 +77,153 @@ fn shelf(alloc: Global) -> Result<MemoryShelf, Fail> {
     Ok(shelf)
 }
 
+/// How a run ended, without the names that its answer lends.
+#[derive(Clone, Copy, Debug, PartialEq, Eq)]
+enum Said {
+    Done(u32),
+    Input(ReadRefused),
+    Text(TextRefused),
+    Output(WriteRefused),
+}
+
+fn told(ended: &Result<u32, CommandRefused<'_>>) -> Said {
+    match ended {
+        Ok(records) => Said::Done(*records),
+        Err(CommandRefused::Input(refused)) => Said::Input(refused.why),
+        Err(CommandRefused::Text(refused)) => Said::Text(*refused),
+        Err(CommandRefused::Output(refused)) => Said::Output(refused.why),
+    }
+}
+
+// Runs the scripts that a line names over the file, with a journal where its name isn't empty.
+fn run(
+    alloc: Global,
+    file: &str,
+    line: &str,
+    journal: &str,
+    shelf: &mut MemoryShelf,
+) -> Result<Said, Fail> {
+    let side = Side::new(8).ok_or("a side")?;
+    let file = String::from_str(alloc, file)?;
+    let journal = String::from_str(alloc, journal)?;
+    let scripts = scripts_in(alloc, line)?;
+    let names = transcript_names(alloc, scripts.as_slice())?;
+    let order = Order {
+        plan: Plan::usual(side),
+        journal: name_in(journal.as_str()),
+        file: file.as_str(),
+        scripts: scripts.as_slice(),
+    };
+    let ended = run_files(alloc, &order, names.as_slice(), shelf);
+    Ok(told(&ended))
+}
+
+fn name_in(name: &str) -> Option<&str> {
+    if name.is_empty() { None } else { Some(name) }
+}
+
+// Whether the file of this name has this text, or where that is left out, there is no such file.
+fn has(shelf: &MemoryShelf, name: &str, want: Option<&str>) -> bool {
+    match (shelf.file(name), want) {
+        (Some(found), Some(text)) => found == text.as_bytes(),
+        (None, None) => true,
+        _ => false,
+    }
+}
+
 #[test]
 fn runs_write_all_or_nothing(rt: HostRuntime) -> Result<(), Fail> {
-    let side = Side::new(8).ok_or("a side")?;
-    let bad = Err(range(0));
-    let then_bad = Err(range(1));
-    let not_vox = Err(CommandRefused::Text(TextRefused::Vox(VoxFault::NotVox)));
-    let collides = Err(CommandRefused::Text(TextRefused::Collides));
-    let missing = Err(CommandRefused::Input(InputRefused {
-        name: "no",
-        why: ReadRefused::Missing,
-    }));
+    let not_vox = Said::Text(TextRefused::Vox(VoxFault::NotVox));
+    let collides = Said::Text(TextRefused::Collides);
+    let missing = Said::Input(ReadRefused::Missing);
     let all = Some(ANSWERS);
-    let stamped = Some(STAMPED);
-    let stamps = Some(STAMP_JOURNAL);
-    for (file, script, journal, want, transcript, text) in [
-        ("one.vox", "good", Some("j"), Ok(2), all, Some(JOURNAL)),
-        ("one.vox", "good", None, Ok(2), all, None),
-        ("one.vox", "stamp", Some("j"), Ok(1), stamped, stamps),
+    let kept = Some("kept");
+    for (file, scripts, journal, want, first, transcript, text) in [
+        (
+            "one.vox",
+            "good",
+            "j",
+            Said::Done(2),
+            "good.out",
+            all,
+            Some(JOURNAL),
+        ),
+        ("one.vox", "good", "", Said::Done(2), "good.out", all, None),
+        (
+            "one.vox",
+            "stamp",
+            "j",
+            Said::Done(1),
+            "stamp.out",
+            Some(STAMPED),
+            Some(STAMP_JOURNAL),
+        ),
         (
             "one.vox",
             "good stamp",
-            Some("j"),
-            Ok(3),
+            "j",
+            Said::Done(3),
+            "good.out",
             all,
             Some(BOTH_JOURNAL),
         ),
-        ("one.vox", "bad", Some("j"), bad, Some("kept"), None),
-        ("one.vox", "good bad", Some("j"), then_bad, None, None),
-        ("one.vox", "bad good", Some("j"), bad, Some("kept"), None),
-        ("one.vox", "good good", None, collides, None, None),
-        ("one.vox", "good no", None, missing, None, None),
-        ("good", "good", Some("j"), not_vox, None, None),
-        ("no", "no", Some("j"), missing, None, None),
-        ("one.vox", "no", Some("j"), missing, None, None),
-        ("one.vox", "good", Some("good"), collides, None, None),
-        ("one.vox", "good", Some("good.out"), collides, None, None),
-        ("one.vox", "good", Some("one.vox"), collides, None, None),
+        (
+            "one.vox",
+            "good stamp",
+            "",
+            Said::Done(3),
+            "stamp.out",
+            Some(SECOND),
+            None,
+        ),
+        (
+            "one.vox",
+            "bad",
+            "j",
+            Said::Text(range(0)),
+            "bad.out",
+            kept,
+            None,
+        ),
+        (
+            "one.vox",
+            "good bad",
+            "j",
+            Said::Text(range(1)),
+            "good.out",
+            None,
+            None,
+        ),
+        (
+            "one.vox",
+            "bad good",
+            "j",
+            Said::Text(range(0)),
+            "bad.out",
+            kept,
+            None,
+        ),
+        ("one.vox", "good good", "", collides, "good.out", None, None),
+        ("one.vox", "good no", "", missing, "good.out", None, None),
+        ("good", "good", "j", not_vox, "good.out", None, None),
+        ("no", "no", "j", missing, "no.out", None, None),
+        ("one.vox", "no", "j", missing, "no.out", None, None),
+        ("one.vox", "good", "good", collides, "good.out", None, None),
+        (
+            "one.vox", "good", "good.out", collides, "good.out", None, None,
+        ),
+        (
+            "one.vox", "good", "one.vox", collides, "good.out", None, None,
+        ),
     ] {
         let mut shelf = shelf(rt.alloc())?;
-        let scripts = words_with(rt.alloc(), script, "")?;
-        let names = words_with(rt.alloc(), script, ".out")?;
-        let order = Order {
-            plan: Plan::usual(side),
-            journal,
-            file,
-            scripts: scripts.as_slice(),
-        };
-        let ended = run_files(rt.alloc(), &order, names.as_slice(), &mut shelf);
-        assert_eq!(rt; ended, want, "at {file} {script}");
-        let put = shelf.file(names[0].as_str());
-        assert_eq!(rt; put, transcript.map(|t| t.as_bytes()), "at {script}");
-        assert_eq!(rt; shelf.file("j"), text.map(|t| t.as_bytes()), "at {script}");
+        let ended = run(rt.alloc(), file, scripts, journal, &mut shelf)?;
+        assert_eq!(rt; ended, want, "at {file} {scripts} {journal}");
+        assert!(rt;
+            has(&shelf, first, transcript),
+            "at {file} {scripts} {journal}"
+        );
+        assert!(rt; has(&shelf, "j", text), "at {file} {scripts} {journal}");
     }
     Ok(())
 }
@@ -127,8 +232,8 @@ fn runs_write_all_or_nothing(rt: HostRuntime) -> Result<(), Fail> {
 fn a_transcript_takes_no_input(rt: HostRuntime) -> Result<(), Fail> {
     let side = Side::new(8).ok_or("a side")?;
     let mut shelf = shelf(rt.alloc())?;
-    let scripts = words_with(rt.alloc(), "empty", "")?;
-    let names = words_with(rt.alloc(), "empty", ".out")?;
+    let scripts = scripts_in(rt.alloc(), "empty")?;
+    let names = transcript_names(rt.alloc(), scripts.as_slice())?;
     let order = Order {
         plan: Plan::usual(side),
         journal: None,
@@ -162,8 +267,8 @@ fn a_broken_write_is_named(rt: HostRuntime) -> Result<(), Fail> {
     let side = Side::new(8).ok_or("a side")?;
     let transcript = Err(write_fault("good.out"));
     let journal = Err(write_fault("j"));
-    let scripts = words_with(rt.alloc(), "good", "")?;
-    let names = words_with(rt.alloc(), "good", ".out")?;
+    let scripts = scripts_in(rt.alloc(), "good")?;
+    let names = transcript_names(rt.alloc(), scripts.as_slice())?;
     for (call, want, put, text) in [
         (3, transcript, Some("1 @1"), None),
         (4, journal, Some(ANSWERS), Some("voxd")),
@@ -184,24 +289,5 @@ fn a_broken_write_is_named(rt: HostRuntime) -> Result<(), Fail> {
         let found = shelf.files().file("j");
         assert_eq!(rt; found, text.map(|t| t.as_bytes()), "at {call}");
     }
-    Ok(())
-}
-
-#[test]
-fn each_script_has_its_transcript(rt: HostRuntime) -> Result<(), Fail> {
-    let side = Side::new(8).ok_or("a side")?;
-    let scripts = words_with(rt.alloc(), "good stamp", "")?;
-    let names = words_with(rt.alloc(), "good stamp", ".out")?;
-    let mut shelf = shelf(rt.alloc())?;
-    let order = Order {
-        plan: Plan::usual(side),
-        journal: None,
-        file: "one.vox",
-        scripts: scripts.as_slice(),
-    };
-    let ended = run_files(rt.alloc(), &order, names.as_slice(), &mut shelf);
-    assert_eq!(rt; ended, Ok(3));
-    assert_eq!(rt; shelf.file("good.out"), Some(ANSWERS.as_bytes()));
-    assert_eq!(rt; shelf.file("stamp.out"), Some(SECOND.as_bytes()));
     Ok(())
 }

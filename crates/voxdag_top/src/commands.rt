@@ -1,4 +1,4 @@
-ghost use Rattle.std.specs.Prelude.{◌≡◌, ◌≤◌, [], All, Some, None, IsTrue, IfOk, IfSome, length, map, string_bytes, string_capacity};
+ghost use Rattle.std.specs.Prelude.{◌≡◌, ◌≤◌, [], All, Some, None, IsTrue, IfSome, length, map, string_bytes, string_capacity};
 ghost use Rattle.vw_io.specs.Outside.{Files, Rose, outside};
 ghost use Rattle.script_files.specs.declared.requests.Request.TheVariants.{Count, Run};
 ghost use Rattle.script_files.specs.Requests.{transcript_name};
@@ -13,9 +13,10 @@ ghost use Rattle.voxdag_top.specs.Lines.{write_fault_line};
 use crate::endings::{Ending, Tally};
 use crate::lines::{finish, write_fault_room};
 use crate::words::read_words;
-use script_files::{CommandRefused, FileName, Order, Request, TextRefused, count_file, run_files};
+use script_files::{
+    CommandRefused, FileName, Order, Request, TextRefused, count_file, run_files, transcript_names,
+};
 use std::alloc::Global;
-use vw_cell::Memory;
 use vw_io::{Shelf, Sink};
 
 /// The program: does what the words after the program's name ask for, and puts one line on `out`.
@@ -130,18 +131,6 @@ fn run<S: Shelf, O: Sink>(alloc: Global, order: &Order<'_>, shelf: &mut S, out: 
         },
         Err(_) => finish(alloc, &lacking, String::new(alloc), out),
     }
-}
-
-// The transcripts' names.
-fn transcript_names(alloc: Global, scripts: &[String]) -> Result<Vec<String>, Memory>
-    ensures { IfOk result (λ names. map string_bytes names.items
-        ≡ map transcript_name (map string_bytes scripts.now)) }
-{
-    let mut names = Vec::with_capacity(alloc, scripts.len())?;
-    for script in scripts {
-        names.push(format!(in alloc; "{script}.out")?)?;
-    }
-    Ok(names)
 }
 
 #[tactic(auto, using(crate::proofs::Rooms::run_has_room))]

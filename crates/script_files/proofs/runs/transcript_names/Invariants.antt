@@ -2,7 +2,7 @@
 use Rattle.std.proofs.Common.{◌≡◌, take, map}
 use Rattle.std.specs.Prelude.{string_bytes}
 use Rattle.script_files.specs.Requests.{transcript_name}
-use Rattle.voxdag_top.proofs.commands.transcript_names.Given as goal
+use Rattle.script_files.proofs.runs.transcript_names.Given as goal
 
 abbrev pub invariant-loop-script : goal.invariant-loop-script
 invariant-loop-script l =
