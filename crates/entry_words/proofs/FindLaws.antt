@@ -4,17 +4,17 @@ use Rattle.std.specs.Prelude.{slice_index}
 use Rattle.std.proofs.lemmas.Bool.{cases_lt}
 use Rattle.node_shapes.specs.declared.names.Name.{Name}
 use Rattle.node_places.specs.Names.{IsName, named}
-use Rattle.entry_words.specs.declared.key_words.Rest.{Rest}
+use Rattle.entry_words.specs.declared.key_words.Pairs.{Pairs}
 use Rattle.entry_words.specs.Slots.{slot_place, tag_place, IsBucket}
 use Rattle.entry_words.specs.Coding.{key_from}
-use Rattle.entry_words.specs.Words.{Written, rest_at, book_in, key_in, HasEntry, IsLowestFree, AreLiveBelow}
+use Rattle.entry_words.specs.Words.{Written, pairs_at, book_in, key_in, HasEntry, IsLowestFree, AreLiveBelow}
 use Rattle.entry_words.specs.Tags.{tag_of_words, AreTagged, LacksByte, IsFirstPlace}
 use Rattle.entry_words.proofs.SlotLaws.{tag_slot, slot_name}
 use Rattle.entry_words.proofs.TagLaws.{tag_some, tag_same}
 
 -- a slot with no tag is free, and one with a tag is live
 free_slot : (w : Written) (tags : List ℕ) (n : Name) → AreTagged w tags → IsName w.plan n → slice_index tags (tag_place w.plan n) ≡ 0 → book_in w n ≡ 0
-free_slot w tags n t a z = elim (cases_lt 0 (book_in w n)) [ inl some ↦ absurd (omega (arith, t.live n a some, tag_some n.level (slice_index w.firsts (slot_place w.plan n)) (rest_at w.rests (slot_place w.plan n)), z)) | inr none ↦ omega arith ]
+free_slot w tags n t a z = elim (cases_lt 0 (book_in w n)) [ inl some ↦ absurd (omega (arith, t.live n a some, tag_some n.level (slice_index w.bits (slot_place w.plan n)) (pairs_at w.pairs (slot_place w.plan n)), z)) | inr none ↦ omega arith ]
 
 live_slot : (w : Written) (tags : List ℕ) (n : Name) → AreTagged w tags → IsName w.plan n → slice_index tags (tag_place w.plan n) ≢ 0 → 1 ≤ book_in w n
 live_slot w tags n t a ne = elim (cases_lt 0 (book_in w n)) [ inl some ↦ some | inr none ↦ absurd (ne (t.free n a (omega arith))) ]
@@ -43,8 +43,8 @@ lowest_free w tags level bucket start end i t b e f first =
     }
 
 -- a slot with the tag and the words of the key has the key
-pub has_key : (w : Written) (tags : List ℕ) (level bucket start end i from first tag at : ℕ) (rest : Rest) → AreTagged w tags → IsBucket w.plan level bucket → start ≡ tag_place w.plan (named level bucket 0) → end ≡ start + w.plan.cap → tag ≡ tag_of_words level first rest → start ≤ from → IsFirstPlace tags from end tag i → at ≡ slot_place w.plan (named level bucket (i - start)) → key_from level (slice_index w.firsts at) (rest_at w.rests at) ≡ key_from level first rest → HasEntry w (named level bucket (i - start)) (key_from level first rest)
-has_key w tags level bucket start end i from first tag at rest t b e f g le place q key =
+pub has_key : (w : Written) (tags : List ℕ) (level bucket start end i from bits tag at : ℕ) (pairs : Pairs) → AreTagged w tags → IsBucket w.plan level bucket → start ≡ tag_place w.plan (named level bucket 0) → end ≡ start + w.plan.cap → tag ≡ tag_of_words level bits pairs → start ≤ from → IsFirstPlace tags from end tag i → at ≡ slot_place w.plan (named level bucket (i - start)) → key_from level (slice_index w.bits at) (pairs_at w.pairs at) ≡ key_from level bits pairs → HasEntry w (named level bucket (i - start)) (key_from level bits pairs)
+has_key w tags level bucket start end i from bits tag at pairs t b e f g le place q key =
     let low : start ≤ i = omega (arith, place.at_least) in
     let high : i < end = place.below in
     let slot : i - start < w.plan.cap = omega arith in
@@ -52,29 +52,29 @@ has_key w tags level bucket start end i from first tag at rest t b e f g le plac
     let name = slot_name w.plan level bucket (i - start) b slot in
     record {
       is_name = name;
-      live = live_slot w tags (named level bucket (i - start)) t name (λ z. omega (arith, z, ap (slice_index tags) tagged, place.there, g, tag_some level first rest));
-      key_is = ap (λ (k : ℕ). key_from level (slice_index w.firsts k) (rest_at w.rests k)) (sym q) ∙ key;
+      live = live_slot w tags (named level bucket (i - start)) t name (λ z. omega (arith, z, ap (slice_index tags) tagged, place.there, g, tag_some level bits pairs));
+      key_is = ap (λ (k : ℕ). key_from level (slice_index w.bits k) (pairs_at w.pairs k)) (sym q) ∙ key;
     }
 
 -- no live slot of the bucket before the place `to` has the key
-abbrev pub LacksBefore : Written → ℕ → ℕ → ℕ → ℕ → ℕ → Rest → Type 0
-LacksBefore w level bucket start to first rest =
-    (s : ℕ) → s < w.plan.cap → start + s < to → 1 ≤ book_in w (named level bucket s) → key_in w (named level bucket s) ≢ key_from level first rest
+abbrev pub LacksBefore : Written → ℕ → ℕ → ℕ → ℕ → ℕ → Pairs → Type 0
+LacksBefore w level bucket start to bits pairs =
+    (s : ℕ) → s < w.plan.cap → start + s < to → 1 ≤ book_in w (named level bucket s) → key_in w (named level bucket s) ≢ key_from level bits pairs
 
 -- slots with other tags have other keys
-pub lacks_to : (w : Written) (tags : List ℕ) (level bucket start from to first tag : ℕ) (rest : Rest) → AreTagged w tags → IsBucket w.plan level bucket → start ≡ tag_place w.plan (named level bucket 0) → tag ≡ tag_of_words level first rest → LacksBefore w level bucket start from first rest → LacksByte tags from to tag → LacksBefore w level bucket start to first rest
-lacks_to w tags level bucket start from to first tag rest t b e g before none s lt le live = elim (cases_lt (start + s) from) [
+pub lacks_to : (w : Written) (tags : List ℕ) (level bucket start from to bits tag : ℕ) (pairs : Pairs) → AreTagged w tags → IsBucket w.plan level bucket → start ≡ tag_place w.plan (named level bucket 0) → tag ≡ tag_of_words level bits pairs → LacksBefore w level bucket start from bits pairs → LacksByte tags from to tag → LacksBefore w level bucket start to bits pairs
+lacks_to w tags level bucket start from to bits tag pairs t b e g before none s lt le live = elim (cases_lt (start + s) from) [
   | inl less ↦ before s lt less live
   | inr more ↦ (let at = slot_after w.plan level bucket start s e in
       let name = slot_name w.plan level bucket s b lt in
-      λ q. none (start + s) more le (ap (slice_index tags) (sym at) ∙ t.live (named level bucket s) name live ∙ tag_same level _ first _ rest q ∙ sym g))
+      λ q. none (start + s) more le (ap (slice_index tags) (sym at) ∙ t.live (named level bucket s) name live ∙ tag_same level _ bits _ pairs q ∙ sym g))
 ]
 
 -- a slot with other words has another key
-pub lacks_one : (w : Written) (level bucket start i first at : ℕ) (rest : Rest) → start ≤ i → at ≡ slot_place w.plan (named level bucket (i - start)) → LacksBefore w level bucket start i first rest → key_from level (slice_index w.firsts at) (rest_at w.rests at) ≢ key_from level first rest → LacksBefore w level bucket start (i + 1) first rest
-lacks_one w level bucket start i first at rest low q before other s lt le live = elim (cases_lt (start + s) i) [
+pub lacks_one : (w : Written) (level bucket start i bits at : ℕ) (pairs : Pairs) → start ≤ i → at ≡ slot_place w.plan (named level bucket (i - start)) → LacksBefore w level bucket start i bits pairs → key_from level (slice_index w.bits at) (pairs_at w.pairs at) ≢ key_from level bits pairs → LacksBefore w level bucket start (i + 1) bits pairs
+lacks_one w level bucket start i bits at pairs low q before other s lt le live = elim (cases_lt (start + s) i) [
   | inl less ↦ before s lt less live
   | inr more ↦ (let slot : s ≡ i - start = omega arith in
       let same : slot_place w.plan (named level bucket s) ≡ at = ap (λ (k : ℕ). slot_place w.plan (named level bucket k)) slot ∙ sym q in
-      λ p. other (ap (λ (k : ℕ). key_from level (slice_index w.firsts k) (rest_at w.rests k)) (sym same) ∙ p))
+      λ p. other (ap (λ (k : ℕ). key_from level (slice_index w.bits k) (pairs_at w.pairs k)) (sym same) ∙ p))
 ]

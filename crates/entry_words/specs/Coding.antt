@@ -1,26 +1,24 @@
--- How the words of a slot say a key: the first stands by itself, and a node's further three beside
--- it.
+-- How the words of a slot say a key: a leaf's by its bits, and a node's by four words of two children
+-- each.
 use Rattle.std.specs.Prelude.{ℕ}
 use Rattle.std.proofs.Common.{zero, suc}
 use Rattle.node_words.specs.declared.keys.Key.{Key}
+use Rattle.node_words.specs.declared.keys.Key.TheVariants.{Leaf}
 use Rattle.node_places.specs.KeyWords.{key_of_words}
-use Rattle.entry_words.specs.declared.key_words.Rest.{Rest}
+use Rattle.entry_words.specs.declared.key_words.Pairs.{Pairs}
 use Rattle.entry_words.specs.declared.key_words.KeyWords.{KeyWords}
 
--- a word behind the first, by its number
-abbrev pub rest_word : Rest → ℕ → ℕ
-rest_word rest (suc (suc zero)) = rest.third
-rest_word rest (suc (suc (suc zero))) = rest.fourth
-rest_word rest _ = rest.second
+-- a word of two children by its number, from 0 to 3
+abbrev pub pair_number : Pairs → ℕ → ℕ
+pair_number pairs zero = pairs.first
+pair_number pairs (suc zero) = pairs.second
+pair_number pairs (suc (suc zero)) = pairs.third
+pair_number pairs _ = pairs.fourth
 
--- a word by its number, from 0 to 3
-abbrev pub word_number : ℕ → Rest → ℕ → ℕ
-word_number first rest zero = first
-word_number first rest (suc k) = rest_word rest (suc k)
-
--- the key that these words say, of a node of this level
-abbrev pub key_from : ℕ → ℕ → Rest → Key
-key_from level first rest = key_of_words level (word_number first rest)
+-- the key that these words say, of a leaf or of a node of this level
+abbrev pub key_from : ℕ → ℕ → Pairs → Key
+key_from zero bits pairs = Leaf bits
+key_from (suc level) bits pairs = key_of_words (suc level) (pair_number pairs)
 
 abbrev pub key_of : ℕ → KeyWords → Key
-key_of level words = key_from level words.first words.rest
+key_of level words = key_from level words.bits words.pairs

@@ -4,10 +4,10 @@ use Rattle.std.proofs.Common.{zero, suc}
 use Rattle.node_shapes.specs.declared.names.Name.{Name}
 use Rattle.node_words.specs.Plans.{IsPlan}
 use Rattle.node_places.specs.Names.{IsName}
-use Rattle.entry_words.specs.declared.key_words.Rest.{Rest}
+use Rattle.entry_words.specs.declared.key_words.Pairs.{Pairs}
 use Rattle.entry_words.specs.declared.key_words.KeyWords.{KeyWords}
 use Rattle.entry_words.specs.Slots.{tag_place, number_of_slots, AreEnds}
-use Rattle.entry_words.specs.Words.{Written, book_in, first_in, rest_in}
+use Rattle.entry_words.specs.Words.{Written, book_in, leaf_bits_in, pairs_in}
 
 -- a word of 64 bits times a number, and a sum of two, as far as 64 bits go
 abbrev pub times : ℕ → ℕ → ℕ
@@ -16,37 +16,38 @@ times word number = word * number % 2 ^ 64
 abbrev pub tag_plus : ℕ → ℕ → ℕ
 tag_plus a b = (a + b) % 2 ^ 64
 
--- the words of a node's key mixed into one. A leaf's key is its first word alone
-unfoldable pub mixed_words : ℕ → ℕ → Rest → ℕ
-mixed_words zero first rest = times first 0x9E3779B97F4A7C15
-mixed_words (suc level) first rest =
-    tag_plus (tag_plus (times first 0x9E3779B97F4A7C15) (times rest.second 0xBF58476D1CE4E5B9))
-    (tag_plus (times rest.third 0x94D049BB133111EB) (times rest.fourth 0xD6E8FEB86659FD93))
+-- the words of a key mixed into one
+unfoldable pub mixed_words : ℕ → ℕ → Pairs → ℕ
+mixed_words zero bits pairs = times bits 0x9E3779B97F4A7C15
+mixed_words (suc level) bits pairs =
+    tag_plus (tag_plus (times pairs.first 0x9E3779B97F4A7C15) (times pairs.second 0xBF58476D1CE4E5B9))
+    (tag_plus (times pairs.third 0x94D049BB133111EB) (times pairs.fourth 0xD6E8FEB86659FD93))
 
 -- a byte that tells most keys of a bucket apart, and isn't 0
 unfoldable pub tag_of_word : ℕ → ℕ
 tag_of_word word = word / 2 ^ 56 % 255 + 1
 
-abbrev pub tag_of_words : ℕ → ℕ → Rest → ℕ
-tag_of_words level first rest = tag_of_word (mixed_words level first rest)
+abbrev pub tag_of_words : ℕ → ℕ → Pairs → ℕ
+tag_of_words level bits pairs = tag_of_word (mixed_words level bits pairs)
 
 abbrev pub tag_of : ℕ → KeyWords → ℕ
-tag_of level words = tag_of_words level words.first words.rest
+tag_of level words = tag_of_words level words.bits words.pairs
 
 -- a live slot has the tag of its key's words, and a free one has 0
 pub record AreTagged (w : Written) (tags : List ℕ) : Type 0 where
   pub free : (n : Name) → IsName w.plan n → book_in w n ≡ 0
       → slice_index tags (tag_place w.plan n) ≡ 0
   pub live : (n : Name) → IsName w.plan n → 1 ≤ book_in w n
-      → slice_index tags (tag_place w.plan n) ≡ tag_of_words n.level (first_in w n) (rest_in w n)
+      → slice_index tags (tag_place w.plan n) ≡ tag_of_words n.level (leaf_bits_in w n) (pairs_in w n)
 
 -- there are words and a tag for each slot of the plan
-pub record AreEntries (w : Written) (ends tags : List ℕ) : Type 0 where
+pub record AreEntries (w : Written) (buckets ends tags : List ℕ) : Type 0 where
   pub plan_is : IsPlan w.plan
+  pub buckets_are : buckets ≡ w.plan.buckets
   pub ends_are : AreEnds w.plan ends
   pub books_are : length w.books ≡ number_of_slots w.plan
-  pub firsts_are : length w.firsts ≡ number_of_slots w.plan
-  pub rests_are : length w.rests ≡ number_of_slots w.plan
+  pub bits_are : length w.bits ≡ number_of_slots w.plan
+  pub pairs_are : length w.pairs ≡ number_of_slots w.plan
   pub tags_are : length tags ≡ number_of_slots w.plan
   pub tagged : AreTagged w tags
 

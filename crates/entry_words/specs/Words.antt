@@ -4,37 +4,38 @@ use Rattle.node_shapes.specs.declared.names.Name.{Name}
 use Rattle.node_words.specs.declared.keys.Key.{Key}
 use Rattle.node_words.specs.Plans.{Layout}
 use Rattle.node_places.specs.Names.{IsName, named}
-use Rattle.entry_words.specs.declared.key_words.Rest.{Rest}
+use Rattle.entry_words.specs.declared.key_words.Pairs.{Pairs}
 use Rattle.entry_words.specs.Slots.{slot_place}
 use Rattle.entry_words.specs.Coding.{key_from}
 
--- by place, the book of each slot, the first word of its key, and the words behind it
+-- by place, the book of each slot, the bits of its key where that is a leaf's, and the words of its
+-- key where that is a node's
 pub record Written : Type 0 where
   pub plan : Layout
   pub books : List ℕ
-  pub firsts : List ℕ
-  pub rests : List Rest
+  pub bits : List ℕ
+  pub pairs : List Pairs
 
-abbrev pub no_rest : Rest
-no_rest = record { second = 0; third = 0; fourth = 0 }
+abbrev pub no_pairs : Pairs
+no_pairs = record { first = 0; second = 0; third = 0; fourth = 0 }
 
-abbrev pub rest_at : List Rest → ℕ → Rest
-rest_at rests i = slice_index_or rests i no_rest
+abbrev pub pairs_at : List Pairs → ℕ → Pairs
+pairs_at pairs i = slice_index_or pairs i no_pairs
 
 -- the book of a name; it is live where this isn't 0
 abbrev pub book_in : Written → Name → ℕ
 book_in w n = slice_index w.books (slot_place w.plan n)
 
--- the first word and the further words of a name's key
-abbrev pub first_in : Written → Name → ℕ
-first_in w n = slice_index w.firsts (slot_place w.plan n)
+-- the bits of a leaf's name, and the words of a node's
+abbrev pub leaf_bits_in : Written → Name → ℕ
+leaf_bits_in w n = slice_index w.bits (slot_place w.plan n)
 
-abbrev pub rest_in : Written → Name → Rest
-rest_in w n = rest_at w.rests (slot_place w.plan n)
+abbrev pub pairs_in : Written → Name → Pairs
+pairs_in w n = pairs_at w.pairs (slot_place w.plan n)
 
 -- the key of a name. A slot that was freed keeps its key
 abbrev pub key_in : Written → Name → Key
-key_in w n = key_from n.level (first_in w n) (rest_in w n)
+key_in w n = key_from n.level (leaf_bits_in w n) (pairs_in w n)
 
 -- a live name has the key
 pub record HasEntry (w : Written) (n : Name) (key : Key) : Type 0 where

@@ -6,12 +6,12 @@ ghost use Rattle.node_words.specs.Keys.{bucket_of_key};
 ghost use Rattle.node_places.specs.Spots.{levels, buckets_at};
 ghost use Rattle.node_places.specs.Names.{IsName, HasNames, named, key_bits, key_child};
 ghost use Rattle.entry_words.specs.Slots.{slot_place, tag_place, IsBucket};
-ghost use Rattle.entry_words.specs.Coding.{key_of, key_from, word_number};
-ghost use Rattle.entry_words.specs.Words.{rest_at, book_in, key_in, HasEntry, LacksKey, IsLowestFree, AreLiveBelow};
+ghost use Rattle.entry_words.specs.Coding.{key_of, key_from, pair_number};
+ghost use Rattle.entry_words.specs.Words.{pairs_at, book_in, key_in, HasEntry, LacksKey, IsLowestFree, AreLiveBelow};
 ghost use Rattle.entry_words.specs.Changes.{SetsBook, PutsEntry};
 
 use crate::ends::ends_of;
-use crate::key_words::{KeyWords, NO_REST, Rest, half_of};
+use crate::key_words::{KeyWords, NO_PAIRS, Pairs, half_of};
 use crate::tags::{position, tag_of};
 use node_places::child_in;
 use node_words::{Key, Name, Plan, bucket_of};
@@ -25,14 +25,16 @@ use vw_cell::Side;
 /// takes the lowest free slot, few nodes lie close together.
 ///
 /// For each slot there is a byte, its tag, by which searches pass over most slots of a bucket. The
-/// tags of a bucket stand side by side. Contracts don't see them.
+/// tags of a bucket stand side by side. Contracts don't see them. Each slot has a place in the row of
+/// bits and in that of pairs, and is read in one of them, as its level says.
 #[derive(Drop)]
 pub struct EntryWords {
     plan: Plan,
+    buckets: [u16; 11],
     ends: [usize; 12],
     books: Vec<u32>,
-    firsts: Vec<u64>,
-    rests: Vec<Rest>,
+    bits: Vec<u64>,
+    pairs: Vec<Pairs>,
     tags: Vec<u8>,
 }
 
@@ -43,10 +45,11 @@ impl Model for EntryWords {
     ghost Value = { Written };
 
     ghost view = { λ w. record
-        { plan = w.plan; books = w.books.items; firsts = w.firsts.items; rests = w.rests.items } };
+        { plan = w.plan; books = w.books.items; bits = w.bits.items; pairs = w.pairs.items } };
 
     ghost invariant = { λ w. AreEntries
-        (record { plan = w.plan; books = w.books.items; firsts = w.firsts.items; rests = w.rests.items }) w.ends w.tags.items };
+        (record { plan = w.plan; books = w.books.items; bits = w.bits.items; pairs = w.pairs.items })
+        w.buckets w.ends w.tags.items };
 }
 
 impl EntryWords {
@@ -57,14 +60,16 @@ impl EntryWords {
         ensures is_plan { IfOk result (λ w. IsPlan w.plan) }
         ensures free { IfOk result (λ w. (n : Name) → book_in w n ≡ 0) }
     {
-        let ends = ends_of(&plan.buckets(), plan.cap());
+        let buckets = plan.buckets();
+        let ends = ends_of(&buckets, plan.cap());
         let size = ends[usize::from(plan.side().root_level()) + 1];
         Ok(EntryWords {
             plan: *plan,
+            buckets,
             ends,
             books: vec![in alloc; 0; size]?,
-            firsts: vec![in alloc; 0; size]?,
-            rests: vec![in alloc; NO_REST; size]?,
+            bits: vec![in alloc; 0; size]?,
+            pairs: vec![in alloc; NO_PAIRS; size]?,
             tags: vec![in alloc; 0; size]?,
         })
     }
@@ -83,7 +88,7 @@ impl EntryWords {
         ensures bucket { result ≡ bucket_of_key key.now (buckets_at self.now.plan level) }
         ensures below { IsBucket self.now.plan level result }
     {
-        bucket_of(key, self.plan.buckets()[usize::from(level)])
+        bucket_of(key, self.buckets[usize::from(level)])
     }
 
     /// How many references the name has; 0 where no node is there.
@@ -113,8 +118,8 @@ impl EntryWords {
     {
         let i = self.place(n);
         let tag = self.tag_place(n);
-        self.firsts[i] = words.first;
-        self.rests[i] = words.rest;
+        self.bits[i] = words.bits;
+        self.pairs[i] = words.pairs;
         self.tags[tag] = tag_of(n.level, &words);
         self.books[i] = 1;
     }
@@ -136,7 +141,7 @@ impl EntryWords {
         requires level { n.level ≡ 0 }
         ensures { result ≡ key_bits (key_in self.now n) }
     {
-        self.firsts[self.place(n)]
+        self.bits[self.place(n)]
     }
 
     /// The child in an octant of a node.
@@ -217,11 +222,11 @@ impl EntryWords {
         requires { IsName self.now.plan n }
         ensures value { result ≡ slot_place self.now.plan n }
         ensures books { result < length self.now.books }
-        ensures firsts { result < length self.now.firsts }
-        ensures rests { result < length self.now.rests }
+        ensures bits { result < length self.now.bits }
+        ensures pairs { result < length self.now.pairs }
     {
         let level = usize::from(n.level);
-        let buckets = usize::from(self.plan.buckets()[level]);
+        let buckets = usize::from(self.buckets[level]);
         let slot = usize::from(n.slot) * buckets + usize::from(n.bucket);
         self.ends[level] + slot
     }
@@ -246,34 +251,26 @@ impl EntryWords {
         self.ends[usize::from(level)] + usize::from(bucket) * cap
     }
 
-    // A word of the key in the slot at a place.
+    // A word of the node's key in the slot at a place.
     fn word(&self, i: usize, number: u8) -> u64
-        requires firsts { i < length self.now.firsts }
-        requires rests { i < length self.now.rests }
+        requires pairs { i < length self.now.pairs }
         requires number { number < 4 }
-        ensures { result ≡ word_number (slice_index self.now.firsts i)
-            (rest_at self.now.rests i) number }
+        ensures { result ≡ pair_number (pairs_at self.now.pairs i) number }
     {
-        if number == 0 {
-            return self.firsts[i];
-        }
-        self.rests[i].word(number)
+        self.pairs[i].word(number)
     }
 
     // Whether the words of the slot at a place say the same key.
     fn has_words(&self, i: usize, level: u8, words: &KeyWords) -> bool
-        requires firsts { i < length self.now.firsts }
-        requires rests { i < length self.now.rests }
+        requires bits { i < length self.now.bits }
+        requires pairs { i < length self.now.pairs }
         ensures { IsTrue result ↔
-            (key_from level (slice_index self.now.firsts i) (rest_at self.now.rests i)
+            (key_from level (slice_index self.now.bits i) (pairs_at self.now.pairs i)
             ≡ key_of level words.now) }
     {
-        if self.firsts[i] != words.first {
-            return false;
-        }
         if level == 0 {
-            return true;
+            return self.bits[i] == words.bits;
         }
-        self.rests[i].is(&words.rest)
+        self.pairs[i].is(&words.pairs)
     }
 }

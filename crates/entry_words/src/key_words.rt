@@ -2,51 +2,57 @@ ghost use Rattle.std.specs.Prelude.{◌≡◌, ◌↔◌, ◌+◌, ◌*◌, ◌^
 ghost use Rattle.node_shapes.specs.declared.names.Name.{Name};
 ghost use Rattle.node_places.specs.Words.{word_of_child};
 ghost use Rattle.node_places.specs.KeyWords.{IsKeyAt, half};
-ghost use Rattle.entry_words.specs.Coding.{key_of, rest_word};
+ghost use Rattle.entry_words.specs.Coding.{key_of, pair_number};
 
 use node_places::{child_word, halves, pair_word};
 use node_words::{Key, Name};
 
-/// The words of a key: the bits of a leaf, or two children in each word of a node.
+/// The words of a key: the bits of a leaf, or the children of a node. What a key of the other kind
+/// has is 0.
 #[derive(Clone, Copy, Debug, PartialEq, Eq)]
 pub struct KeyWords {
-    pub first: u64,
-    pub rest: Rest,
+    pub bits: u64,
+    pub pairs: Pairs,
 }
 
-/// The words of a key behind the first; all 0 for a leaf.
+/// The children of a node, two in each word.
 #[derive(Clone, Copy, Debug, PartialEq, Eq)]
-pub struct Rest {
+pub struct Pairs {
+    pub first: u64,
     pub second: u64,
     pub third: u64,
     pub fourth: u64,
 }
 
-pub(crate) const NO_REST: Rest = Rest {
+pub(crate) const NO_PAIRS: Pairs = Pairs {
+    first: 0,
     second: 0,
     third: 0,
     fourth: 0,
 };
 
-impl Rest {
-    // The word of this number, from 1 to 3.
+impl Pairs {
+    // The word of this number, from 0 to 3. All are read, since which one is asked for is hard to
+    // foretell, and a choice between two words at hand takes no jump.
     pub(crate) fn word(&self, number: u8) -> u64
-        requires low { 1 ≤ number }
-        requires high { number < 4 }
-        ensures { result ≡ rest_word self.now number }
+        requires { number < 4 }
+        ensures { result ≡ pair_number self.now number }
     {
-        match number {
-            1 => self.second,
-            2 => self.third,
-            _ => self.fourth,
-        }
+        let (first, second, third, fourth) = (self.first, self.second, self.third, self.fourth);
+        let even = number % 2 == 0;
+        let low = if even { first } else { second };
+        let high = if even { third } else { fourth };
+        if number < 2 { low } else { high }
     }
 
     // Whether all words are those of the other.
-    pub(crate) fn is(&self, other: &Rest) -> bool
+    pub(crate) fn is(&self, other: &Pairs) -> bool
         ensures { IsTrue result ↔ (self.now ≡ other.now) }
     {
-        self.second == other.second && self.third == other.third && self.fourth == other.fourth
+        self.first == other.first
+            && self.second == other.second
+            && self.third == other.third
+            && self.fourth == other.fourth
     }
 }
 
@@ -58,12 +64,13 @@ pub fn words_of(level: u8, key: &Key) -> KeyWords
 {
     match key {
         Key::Leaf(bits) => KeyWords {
-            first: *bits,
-            rest: NO_REST,
+            bits: *bits,
+            pairs: NO_PAIRS,
         },
         Key::Node(children) => KeyWords {
-            first: pair(children[0], children[1]),
-            rest: Rest {
+            bits: 0,
+            pairs: Pairs {
+                first: pair(children[0], children[1]),
                 second: pair(children[2], children[3]),
                 third: pair(children[4], children[5]),
                 fourth: pair(children[6], children[7]),

@@ -1,5 +1,6 @@
-//! The words of a store for one thread: of each slot its book and its key's words, each kind in one
-//! row, so that what a search reads of a bucket lies side by side.
+//! The words of a store for one thread: of each slot its book, its tag, the bits of a leaf and the
+//! words of a node, each kind in a row of its own. Leaves lie close together, and all words of a node
+//! side by side.
 #![tactic(auto)]
 
 mod ends;
@@ -14,7 +15,7 @@ ghost use Rattle.node_places.specs.Names.{IsName};
 ghost use Rattle.entry_words.specs.Slots.{slot_place, number_of_slots};
 
 pub use entries::EntryWords;
-pub use key_words::{KeyWords, Rest, words_of};
+pub use key_words::{KeyWords, Pairs, words_of};
 
 /// Each name's slot has a place, and two names have two places.
 pub fn slots_are_apart()

@@ -63,15 +63,16 @@ pub(crate) fn tag_of(level: u8, words: &KeyWords) -> u8
 
 #[tactic(auto, unfolding(crate::specs::Tags::mixed_words))]
 fn mixed(level: u8, words: &KeyWords) -> u64
-    ensures { result ≡ mixed_words level words.now.first words.now.rest }
+    ensures { result ≡ mixed_words level words.now.bits words.now.pairs }
 {
-    let first = words.first.wrapping_mul(0x9E37_79B9_7F4A_7C15);
     if level == 0 {
-        return first;
+        return words.bits.wrapping_mul(0x9E37_79B9_7F4A_7C15);
     }
-    let second = words.rest.second.wrapping_mul(0xBF58_476D_1CE4_E5B9);
-    let third = words.rest.third.wrapping_mul(0x94D0_49BB_1331_11EB);
-    let fourth = words.rest.fourth.wrapping_mul(0xD6E8_FEB8_6659_FD93);
+    let pairs = words.pairs;
+    let first = pairs.first.wrapping_mul(0x9E37_79B9_7F4A_7C15);
+    let second = pairs.second.wrapping_mul(0xBF58_476D_1CE4_E5B9);
+    let third = pairs.third.wrapping_mul(0x94D0_49BB_1331_11EB);
+    let fourth = pairs.fourth.wrapping_mul(0xD6E8_FEB8_6659_FD93);
     first
         .wrapping_add(second)
         .wrapping_add(third.wrapping_add(fourth))

@@ -12,7 +12,7 @@ invariant_of-self c =
     let at = c.place-i.ensures.value ∙ ap (λ (w : Written). slot_place w.plan c.args.n) e in
     let tag = c.tag_place-tag.ensures.value ∙ ap (λ (w : Written). tag_place w.plan c.args.n) e in
     let name = subst (λ (w : Written). IsName w.plan c.args.n) e c.requires in
-    entries_clear _ _ _ c.args.n c.place-i.result c.tag_place-tag.result c.self.invariant name at tag
+    entries_clear _ _ _ _ c.args.n c.place-i.result c.tag_place-tag.result c.self.invariant name at tag
 
 pub returns : goal.returns
 returns c =
@@ -21,5 +21,5 @@ returns c =
     let name = subst (λ (w : Written). IsName w.plan c.args.n) e c.requires in
     let inside = subst (λ (w : Written). c.place-i.result < length w.books) e c.place-i.ensures.books in
     let s = c.self.inside in
-    let was : Written = record { plan = s.plan; books = s.books.items; firsts = s.firsts.items; rests = s.rests.items } in
+    let was : Written = record { plan = s.plan; books = s.books.items; bits = s.bits.items; pairs = s.pairs.items } in
     subst (λ (w : Written). SetsBook w c.args.n 0 (with_book was c.place-i.result 0)) c.self.view_is (sets_book was c.args.n c.place-i.result 0 name at inside)

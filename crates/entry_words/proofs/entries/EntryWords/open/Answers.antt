@@ -13,7 +13,7 @@ invariant_of-self c =
     let at = c.place-i.ensures.value ∙ ap (λ (w : Written). slot_place w.plan c.args.n) e in
     let name = subst (λ (w : Written). IsName w.plan c.args.n) e c.requires.name in
     let tag = c.tag_place-tag.ensures.value ∙ ap (λ (w : Written). tag_place w.plan c.args.n) e in
-    entries_entry _ _ _ c.args.n c.place-i.result c.tag_place-tag.result c.args.words.first c.tag_of.result c.args.words.rest c.self.invariant name at tag c.tag_of.ensures
+    entries_entry _ _ _ _ c.args.n c.place-i.result c.tag_place-tag.result c.args.words.bits c.tag_of.result c.args.words.pairs c.self.invariant name at tag c.tag_of.ensures
 
 pub returns : goal.returns
 returns c =
@@ -21,9 +21,9 @@ returns c =
     let at = c.place-i.ensures.value ∙ ap (λ (w : Written). slot_place w.plan c.args.n) e in
     let name = subst (λ (w : Written). IsName w.plan c.args.n) e c.requires.name in
     let in_books = subst (λ (w : Written). c.place-i.result < length w.books) e c.place-i.ensures.books in
-    let in_firsts = subst (λ (w : Written). c.place-i.result < length w.firsts) e c.place-i.ensures.firsts in
-    let in_rests = subst (λ (w : Written). c.place-i.result < length w.rests) e c.place-i.ensures.rests in
+    let in_firsts = subst (λ (w : Written). c.place-i.result < length w.bits) e c.place-i.ensures.bits in
+    let in_rests = subst (λ (w : Written). c.place-i.result < length w.pairs) e c.place-i.ensures.pairs in
     let s = c.self.inside in
-    let was : Written = record { plan = s.plan; books = s.books.items; firsts = s.firsts.items; rests = s.rests.items } in
-    subst (λ (w : Written). PutsEntry w c.args.n (key_of c.args.n.level c.args.words) (with_entry was c.place-i.result c.args.words.first c.args.words.rest)) c.self.view_is
-    (puts_entry was c.args.n c.place-i.result c.args.words.first c.args.words.rest name at in_books in_firsts in_rests)
+    let was : Written = record { plan = s.plan; books = s.books.items; bits = s.bits.items; pairs = s.pairs.items } in
+    subst (λ (w : Written). PutsEntry w c.args.n (key_of c.args.n.level c.args.words) (with_entry was c.place-i.result c.args.words.bits c.args.words.pairs)) c.self.view_is
+    (puts_entry was c.args.n c.place-i.result c.args.words.bits c.args.words.pairs name at in_books in_firsts in_rests)

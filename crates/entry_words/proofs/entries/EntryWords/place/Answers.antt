@@ -9,16 +9,16 @@ pub returns-clause-books : goal.returns-clause-books
 returns-clause-books c =
     let e = sym c.self.view_is in
     place_inside c.self.inside.plan _ c.args.n _ _ _ _ _ c.self.invariant.plan_is c.self.invariant.ends_are (subst (λ (w : Written). IsName w.plan c.args.n) e c.requires)
-    c.from-level.ensures c.from.ensures (c.from-buckets.ensures ∙ ap (λ (row : List ℕ). slice_index row c.from-level.result) c.buckets.ensures.value ∙ ap (slice_index c.self.inside.plan.buckets) c.from-level.ensures) c.from-2.ensures (ap (λ (w : Written). length w.books) e ∙ c.self.invariant.books_are)
+    c.from-level.ensures c.from.ensures (c.from-buckets.ensures ∙ ap (λ (row : List ℕ). slice_index row c.from-level.result) c.self.invariant.buckets_are ∙ ap (slice_index c.self.inside.plan.buckets) c.from-level.ensures) c.from-2.ensures (ap (λ (w : Written). length w.books) e ∙ c.self.invariant.books_are)
 
-pub returns-clause-firsts : goal.returns-clause-firsts
-returns-clause-firsts c =
+pub returns-clause-bits : goal.returns-clause-bits
+returns-clause-bits c =
     let e = sym c.self.view_is in
     place_inside c.self.inside.plan _ c.args.n _ _ _ _ _ c.self.invariant.plan_is c.self.invariant.ends_are (subst (λ (w : Written). IsName w.plan c.args.n) e c.requires)
-    c.from-level.ensures c.from.ensures (c.from-buckets.ensures ∙ ap (λ (row : List ℕ). slice_index row c.from-level.result) c.buckets.ensures.value ∙ ap (slice_index c.self.inside.plan.buckets) c.from-level.ensures) c.from-2.ensures (ap (λ (w : Written). length w.firsts) e ∙ c.self.invariant.firsts_are)
+    c.from-level.ensures c.from.ensures (c.from-buckets.ensures ∙ ap (λ (row : List ℕ). slice_index row c.from-level.result) c.self.invariant.buckets_are ∙ ap (slice_index c.self.inside.plan.buckets) c.from-level.ensures) c.from-2.ensures (ap (λ (w : Written). length w.bits) e ∙ c.self.invariant.bits_are)
 
-pub returns-clause-rests : goal.returns-clause-rests
-returns-clause-rests c =
+pub returns-clause-pairs : goal.returns-clause-pairs
+returns-clause-pairs c =
     let e = sym c.self.view_is in
     place_inside c.self.inside.plan _ c.args.n _ _ _ _ _ c.self.invariant.plan_is c.self.invariant.ends_are (subst (λ (w : Written). IsName w.plan c.args.n) e c.requires)
-    c.from-level.ensures c.from.ensures (c.from-buckets.ensures ∙ ap (λ (row : List ℕ). slice_index row c.from-level.result) c.buckets.ensures.value ∙ ap (slice_index c.self.inside.plan.buckets) c.from-level.ensures) c.from-2.ensures (ap (λ (w : Written). length w.rests) e ∙ c.self.invariant.rests_are)
+    c.from-level.ensures c.from.ensures (c.from-buckets.ensures ∙ ap (λ (row : List ℕ). slice_index row c.from-level.result) c.self.invariant.buckets_are ∙ ap (slice_index c.self.inside.plan.buckets) c.from-level.ensures) c.from-2.ensures (ap (λ (w : Written). length w.pairs) e ∙ c.self.invariant.pairs_are)

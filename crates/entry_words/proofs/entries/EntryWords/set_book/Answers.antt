@@ -10,7 +10,7 @@ pub invariant_of-self : goal.invariant_of-self
 invariant_of-self c =
     let e = sym c.self.view_is in
     let at = c.place-i.ensures.value ∙ ap (λ (w : Written). slot_place w.plan c.args.n) e in
-    entries_book _ _ _ c.args.n c.place-i.result c.args.book c.self.invariant at (subst (λ (w : Written). c.place-i.result < length w.books) e c.place-i.ensures.books)
+    entries_book _ _ _ _ c.args.n c.place-i.result c.args.book c.self.invariant at (subst (λ (w : Written). c.place-i.result < length w.books) e c.place-i.ensures.books)
     (subst (λ (w : Written). 1 ≤ book_in w c.args.n) e c.requires.live) c.requires.some
 
 pub returns : goal.returns
@@ -20,5 +20,5 @@ returns c =
     let name = subst (λ (w : Written). IsName w.plan c.args.n) e c.requires.name in
     let inside = subst (λ (w : Written). c.place-i.result < length w.books) e c.place-i.ensures.books in
     let s = c.self.inside in
-    let was : Written = record { plan = s.plan; books = s.books.items; firsts = s.firsts.items; rests = s.rests.items } in
+    let was : Written = record { plan = s.plan; books = s.books.items; bits = s.bits.items; pairs = s.pairs.items } in
     subst (λ (w : Written). SetsBook w c.args.n c.args.book (with_book was c.place-i.result c.args.book)) c.self.view_is (sets_book was c.args.n c.place-i.result c.args.book name at inside)
