@@ -31,7 +31,7 @@ lives_below w tags level bucket start end slots t b e few ends none k lt =
     let at = slot_after w.plan level bucket start k e in
     live_slot w tags (named level bucket k) t (slot_name w.plan level bucket k b (omega arith)) (λ z. none (start + k) (omega arith) (omega arith) (ap (slice_index tags) (sym at) ∙ z))
 
-pub lowest_free : (w : Written) (tags : List ℕ) (level bucket start end i : ℕ) → AreTagged w tags → IsBucket w.plan level bucket → start ≡ tag_place w.plan (named level bucket 0) → end ≡ start + w.plan.cap → IsFirstPlace tags start end 0 i → IsLowestFree w level bucket (i - start)
+pub lowest_free : (w : Written) (tags : List ℕ) (level bucket start end i : ℕ) → AreTagged w tags → IsBucket w.plan level bucket → start ≡ tag_place w.plan (named level bucket 0) → end ≤ start + w.plan.cap → IsFirstPlace tags start end 0 i → IsLowestFree w level bucket (i - start)
 lowest_free w tags level bucket start end i t b e f first =
     let low : start ≤ i = first.at_least in
     let high : i < end = first.below in
@@ -43,7 +43,7 @@ lowest_free w tags level bucket start end i t b e f first =
     }
 
 -- a slot with the tag and the words of the key has the key
-pub has_key : (w : Written) (tags : List ℕ) (level bucket start end i from bits tag at : ℕ) (pairs : Pairs) → AreTagged w tags → IsBucket w.plan level bucket → start ≡ tag_place w.plan (named level bucket 0) → end ≡ start + w.plan.cap → tag ≡ tag_of_words level bits pairs → start ≤ from → IsFirstPlace tags from end tag i → at ≡ slot_place w.plan (named level bucket (i - start)) → key_from level (slice_index w.bits at) (pairs_at w.pairs at) ≡ key_from level bits pairs → HasEntry w (named level bucket (i - start)) (key_from level bits pairs)
+pub has_key : (w : Written) (tags : List ℕ) (level bucket start end i from bits tag at : ℕ) (pairs : Pairs) → AreTagged w tags → IsBucket w.plan level bucket → start ≡ tag_place w.plan (named level bucket 0) → end ≤ start + w.plan.cap → tag ≡ tag_of_words level bits pairs → start ≤ from → IsFirstPlace tags from end tag i → at ≡ slot_place w.plan (named level bucket (i - start)) → key_from level (slice_index w.bits at) (pairs_at w.pairs at) ≡ key_from level bits pairs → HasEntry w (named level bucket (i - start)) (key_from level bits pairs)
 has_key w tags level bucket start end i from bits tag at pairs t b e f g le place q key =
     let low : start ≤ i = omega (arith, place.at_least) in
     let high : i < end = place.below in

@@ -1,7 +1,7 @@
 -- The words and tags of slots stay right.
 use Rattle.std.proofs.Common.{inl, inr, ◌≡◌, ◌≢◌, ℕ, zero, suc, ◌<◌, ◌≤◌, List, length, set, refl, ap, sym, ◌∙◌, arith, get_or-set_same, get_or-set_other}
 use Rattle.std.specs.Prelude.{slice_index, replicate}
-use Rattle.std.proofs.lemmas.List.{length-set, length-replicate, get_or-replicate, get_or_past}
+use Rattle.std.proofs.lemmas.List.{length-replicate, get_or-replicate, get_or_past}
 use Rattle.std.proofs.lemmas.Bool.{cases_eq, cases_lt}
 use Rattle.node_shapes.specs.declared.names.Name.{Name}
 use Rattle.node_places.specs.Names.{IsName}
@@ -9,9 +9,9 @@ use Rattle.entry_words.specs.declared.key_words.Pairs.{Pairs}
 use Rattle.entry_words.specs.Slots.{slot_place, tag_place}
 use Rattle.entry_words.specs.Coding.{key_from}
 use Rattle.entry_words.specs.Words.{Written, pairs_at, no_pairs, book_in}
-use Rattle.entry_words.specs.Tags.{tag_of_word, tag_of_words, mixed_words, AreTagged, AreEntries}
+use Rattle.entry_words.specs.Tags.{tag_of_word, tag_of_words, mixed_words, AreTagged}
 use Rattle.entry_words.specs.Changes.{OtherBooksStay, SetsBook, PutsEntry}
-use Rattle.entry_words.proofs.SlotLaws.{place_in, place_one, tag_in, tag_one}
+use Rattle.entry_words.proofs.SlotLaws.{place_one, tag_one}
 use Rattle.entry_words.proofs.WordLaws.{one_leaf, one_row}
 use Rattle.entry_words.proofs.ReadLaws.{same_words}
 
@@ -28,7 +28,7 @@ tag_same (suc level) a b r s e =
     ap (λ (x : Pairs). tag_of_words (suc level) b x) g
 
 -- what was written at a place, and what stands elsewhere
-at_place : (xs : List ℕ) (i j v : ℕ) → i < length xs → j ≡ i → slice_index (set xs i v) j ≡ v
+pub at_place : (xs : List ℕ) (i j v : ℕ) → i < length xs → j ≡ i → slice_index (set xs i v) j ≡ v
 at_place xs i j v lt e = ap (slice_index (set xs i v)) e ∙ get_or-set_same xs i v 0 lt
 
 abbrev pub with_book : Written → ℕ → ℕ → Written
@@ -65,7 +65,7 @@ puts_entry w n i bits pairs b e lt lt' lt'' = record {
 }
 
 -- slots without words are free
-zero_read : (n i : ℕ) → slice_index (replicate n 0) i ≡ 0
+pub zero_read : (n i : ℕ) → slice_index (replicate n 0) i ≡ 0
 zero_read n i = elim (cases_lt i n) [ inl below ↦ get_or-replicate n i 0 0 below | inr past ↦ get_or_past (replicate n 0) i 0 (omega (arith, past, length-replicate {A = ℕ} n 0)) ]
 
 pub tagged_free : (w : Written) (tags : List ℕ) (n : ℕ) → w.books ≡ replicate n 0 → tags ≡ replicate n 0 → AreTagged w tags
@@ -75,7 +75,7 @@ tagged_free w tags n e f = record {
 }
 
 -- a book that stays over 0 keeps the tags right
-tagged_book : (w : Written) (tags : List ℕ) (n : Name) (i book : ℕ) → AreTagged w tags → i ≡ slot_place w.plan n → i < length w.books → 1 ≤ book_in w n → 1 ≤ book → AreTagged (with_book w i book) tags
+pub tagged_book : (w : Written) (tags : List ℕ) (n : Name) (i book : ℕ) → AreTagged w tags → i ≡ slot_place w.plan n → i < length w.books → 1 ≤ book_in w n → 1 ≤ book → AreTagged (with_book w i book) tags
 tagged_book w tags n i book t e lt live some = record {
   free = λ m a z. elim (cases_eq (slot_place w.plan m) i) [
     | inl q ↦ absurd (omega (arith, at_place w.books i (slot_place w.plan m) book lt q, z, some))
@@ -91,7 +91,7 @@ tagged_book w tags n i book t e lt live some = record {
 other_tag : (w : Written) (m n : Name) (j : ℕ) → IsName w.plan m → IsName w.plan n → j ≡ tag_place w.plan n → m ≢ n → tag_place w.plan m ≢ j
 other_tag w m n j a b e ne = λ q. ne (tag_one w.plan m n a b (q ∙ e))
 
-tagged_clear : (w : Written) (tags : List ℕ) (n : Name) (i j : ℕ) → AreTagged w tags → IsName w.plan n → i ≡ slot_place w.plan n → j ≡ tag_place w.plan n → i < length w.books → j < length tags → AreTagged (with_book w i 0) (set tags j 0)
+pub tagged_clear : (w : Written) (tags : List ℕ) (n : Name) (i j : ℕ) → AreTagged w tags → IsName w.plan n → i ≡ slot_place w.plan n → j ≡ tag_place w.plan n → i < length w.books → j < length tags → AreTagged (with_book w i 0) (set tags j 0)
 tagged_clear w tags n i j t b e f lt lt' = record {
   free = λ m a z. elim (cases_eq (slot_place w.plan m) i) [
     | inl q ↦ (let same : m ≡ n = place_one w.plan m n a b (q ∙ e) in at_place tags j (tag_place w.plan m) 0 lt' (ap (tag_place w.plan) same ∙ sym f))
@@ -116,7 +116,7 @@ tag_stays level all_bits all_pairs i j bits pairs ne =
     let b : pairs_at all_pairs j ≡ pairs_at (set all_pairs i pairs) j = sym (get_or-set_other all_pairs i j pairs no_pairs ne) in
     ap (λ (x : ℕ). tag_of_words level x (pairs_at all_pairs j)) a ∙ ap (λ (x : Pairs). tag_of_words level (slice_index (set all_bits i bits) j) x) b
 
-tagged_entry : (w : Written) (tags : List ℕ) (n : Name) (i j bits tag : ℕ) (pairs : Pairs) → AreTagged w tags → IsName w.plan n → i ≡ slot_place w.plan n → j ≡ tag_place w.plan n → i < length w.books → i < length w.bits → i < length w.pairs → j < length tags → tag ≡ tag_of_words n.level bits pairs → AreTagged (with_entry w i bits pairs) (set tags j tag)
+pub tagged_entry : (w : Written) (tags : List ℕ) (n : Name) (i j bits tag : ℕ) (pairs : Pairs) → AreTagged w tags → IsName w.plan n → i ≡ slot_place w.plan n → j ≡ tag_place w.plan n → i < length w.books → i < length w.bits → i < length w.pairs → j < length tags → tag ≡ tag_of_words n.level bits pairs → AreTagged (with_entry w i bits pairs) (set tags j tag)
 tagged_entry w tags n i j bits tag pairs t b e g lt lt1 lt2 lt3 f = record {
   free = λ m a z. elim (cases_eq (slot_place w.plan m) i) [
     | inl q ↦ absurd (omega (arith, at_place w.books i (slot_place w.plan m) 1 lt q, z))
@@ -132,42 +132,3 @@ tagged_entry w tags n i j bits tag pairs t b e g lt lt1 lt2 lt3 f = record {
         ∙ tag_stays m.level w.bits w.pairs i (slot_place w.plan m) bits pairs ne)
   ];
 }
-
--- the struct's invariant after each call that writes
-pub entries_book : (w : Written) (buckets ends tags : List ℕ) (n : Name) (i book : ℕ) → AreEntries w buckets ends tags → i ≡ slot_place w.plan n → i < length w.books → 1 ≤ book_in w n → 1 ≤ book → AreEntries (with_book w i book) buckets ends tags
-entries_book w buckets ends tags n i book h e lt live some = record {
-  plan_is = h.plan_is;
-  buckets_are = h.buckets_are;
-  ends_are = h.ends_are;
-  books_are = length-set w.books i book ∙ h.books_are;
-  bits_are = h.bits_are;
-  pairs_are = h.pairs_are;
-  tags_are = h.tags_are;
-  tagged = tagged_book w tags n i book h.tagged e lt live some;
-}
-
-pub entries_clear : (w : Written) (buckets ends tags : List ℕ) (n : Name) (i j : ℕ) → AreEntries w buckets ends tags → IsName w.plan n → i ≡ slot_place w.plan n → j ≡ tag_place w.plan n → AreEntries (with_book w i 0) buckets ends (set tags j 0)
-entries_clear w buckets ends tags n i j h b e f = record {
-  plan_is = h.plan_is;
-  buckets_are = h.buckets_are;
-  ends_are = h.ends_are;
-  books_are = length-set w.books i 0 ∙ h.books_are;
-  bits_are = h.bits_are;
-  pairs_are = h.pairs_are;
-  tags_are = length-set tags j 0 ∙ h.tags_are;
-  tagged = tagged_clear w tags n i j h.tagged b e f (omega (arith, place_in w.plan n b, e, h.books_are)) (omega (arith, tag_in w.plan n b, f, h.tags_are));
-}
-
-pub entries_entry : (w : Written) (buckets ends tags : List ℕ) (n : Name) (i j bits tag : ℕ) (pairs : Pairs) → AreEntries w buckets ends tags → IsName w.plan n → i ≡ slot_place w.plan n → j ≡ tag_place w.plan n → tag ≡ tag_of_words n.level bits pairs → AreEntries (with_entry w i bits pairs) buckets ends (set tags j tag)
-entries_entry w buckets ends tags n i j bits tag pairs h b e g f =
-    let at = place_in w.plan n b in
-    record {
-      plan_is = h.plan_is;
-      buckets_are = h.buckets_are;
-      ends_are = h.ends_are;
-      books_are = length-set w.books i 1 ∙ h.books_are;
-      bits_are = length-set w.bits i bits ∙ h.bits_are;
-      pairs_are = length-set w.pairs i pairs ∙ h.pairs_are;
-      tags_are = length-set tags j tag ∙ h.tags_are;
-      tagged = tagged_entry w tags n i j bits tag pairs h.tagged b e g (omega (arith, at, e, h.books_are)) (omega (arith, at, e, h.bits_are)) (omega (arith, at, e, h.pairs_are)) (omega (arith, tag_in w.plan n b, g, h.tags_are)) f;
-    }

@@ -1,5 +1,6 @@
 pub mod Slots
 pub mod Coding
 pub mod Words
+pub mod Used
 pub mod Tags
 pub mod Changes

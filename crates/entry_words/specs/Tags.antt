@@ -8,6 +8,7 @@ use Rattle.entry_words.specs.declared.key_words.Pairs.{Pairs}
 use Rattle.entry_words.specs.declared.key_words.KeyWords.{KeyWords}
 use Rattle.entry_words.specs.Slots.{tag_place, number_of_slots, AreEnds}
 use Rattle.entry_words.specs.Words.{Written, book_in, leaf_bits_in, pairs_in}
+use Rattle.entry_words.specs.Used.{AreUsed}
 
 -- a word of 64 bits times a number, and a sum of two, as far as 64 bits go
 abbrev pub times : ℕ → ℕ → ℕ
@@ -40,8 +41,8 @@ pub record AreTagged (w : Written) (tags : List ℕ) : Type 0 where
   pub live : (n : Name) → IsName w.plan n → 1 ≤ book_in w n
       → slice_index tags (tag_place w.plan n) ≡ tag_of_words n.level (leaf_bits_in w n) (pairs_in w n)
 
--- there are words and a tag for each slot of the plan
-pub record AreEntries (w : Written) (buckets ends tags : List ℕ) : Type 0 where
+-- there are words and a tag for each slot of the plan, and a number for each bucket
+pub record AreEntries (w : Written) (buckets ends tags used : List ℕ) : Type 0 where
   pub plan_is : IsPlan w.plan
   pub buckets_are : buckets ≡ w.plan.buckets
   pub ends_are : AreEnds w.plan ends
@@ -50,6 +51,8 @@ pub record AreEntries (w : Written) (buckets ends tags : List ℕ) : Type 0 wher
   pub pairs_are : length w.pairs ≡ number_of_slots w.plan
   pub tags_are : length tags ≡ number_of_slots w.plan
   pub tagged : AreTagged w tags
+  pub used_are : length used ≡ 45056
+  pub unused : AreUsed w used
 
 -- no byte of this part of a row is the one
 abbrev pub LacksByte : List ℕ → ℕ → ℕ → ℕ → Type 0

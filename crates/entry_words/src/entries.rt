@@ -8,6 +8,7 @@ ghost use Rattle.node_places.specs.Names.{IsName, HasNames, named, key_bits, key
 ghost use Rattle.entry_words.specs.Slots.{slot_place, tag_place, IsBucket};
 ghost use Rattle.entry_words.specs.Coding.{key_of, key_from, pair_number};
 ghost use Rattle.entry_words.specs.Words.{pairs_at, book_in, key_in, HasEntry, LacksKey, IsLowestFree, AreLiveBelow};
+ghost use Rattle.entry_words.specs.Used.{bucket_number, IsUnusedFrom};
 ghost use Rattle.entry_words.specs.Changes.{SetsBook, PutsEntry};
 
 use crate::ends::ends_of;
@@ -25,7 +26,8 @@ use vw_cell::Side;
 /// takes the lowest free slot, few nodes lie close together.
 ///
 /// For each slot there is a byte, its tag, by which searches pass over most slots of a bucket. The
-/// tags of a bucket stand side by side. Contracts don't see them. Each slot has a place in the row of
+/// tags of a bucket stand side by side. Of each bucket is known how far its slots were ever used, and
+/// no search goes on behind that. Contracts see neither. Each slot has a place in the row of
 /// bits and in that of pairs, and is read in one of them, as its level says.
 #[derive(Drop)]
 pub struct EntryWords {
@@ -36,7 +38,11 @@ pub struct EntryWords {
     bits: Vec<u64>,
     pairs: Vec<Pairs>,
     tags: Vec<u8>,
+    used: Vec<u16>,
 }
+
+/// The most buckets of a level.
+const ROW: usize = 4096;
 
 impl Model for EntryWords {
     ghost use Rattle.entry_words.specs.Words.{Written};
@@ -49,12 +55,12 @@ impl Model for EntryWords {
 
     ghost invariant = { λ w. AreEntries
         (record { plan = w.plan; books = w.books.items; bits = w.bits.items; pairs = w.pairs.items })
-        w.buckets w.ends w.tags.items };
+        w.buckets w.ends w.tags.items w.used.items };
 }
 
 impl EntryWords {
     /// Free slots, as many as the plan has.
-    #[tactic(auto, using(crate::proofs::TagLaws::tagged_free))]
+    #[tactic(auto, using(crate::proofs::EntriesLaws::free_at))]
     pub fn begin(alloc: Global, plan: &Plan) -> Result<EntryWords, AllocError>
         ensures plan { IfOk result (λ w. w.plan ≡ plan.now) }
         ensures is_plan { IfOk result (λ w. IsPlan w.plan) }
@@ -63,6 +69,7 @@ impl EntryWords {
         let buckets = plan.buckets();
         let ends = ends_of(&buckets, plan.cap());
         let size = ends[usize::from(plan.side().root_level()) + 1];
+        let numbers = bucket_number(11, 0);
         Ok(EntryWords {
             plan: *plan,
             buckets,
@@ -71,6 +78,7 @@ impl EntryWords {
             bits: vec![in alloc; 0; size]?,
             pairs: vec![in alloc; NO_PAIRS; size]?,
             tags: vec![in alloc; 0; size]?,
+            used: vec![in alloc; 0; numbers]?,
         })
     }
 
@@ -120,7 +128,9 @@ impl EntryWords {
         let tag = self.tag_place(n);
         self.bits[i] = words.bits;
         self.pairs[i] = words.pairs;
+        let bucket = bucket_number(n.level, n.bucket);
         self.tags[tag] = tag_of(n.level, &words);
+        self.used[bucket] = self.used[bucket].max(u16::from(n.slot) + 1);
         self.books[i] = 1;
     }
 
@@ -185,7 +195,8 @@ impl EntryWords {
         ensures none { result ≡ None → LacksKey self.now level bucket (key_of level words) }
     {
         let start = self.start(level, bucket);
-        let end = start + usize::from(self.plan.cap());
+        let used = self.used_of(level, bucket);
+        let end = start + used;
         let tag = tag_of(level, &words);
         let mut from = start;
         while let Some(i) = position(&self.tags, from, end, tag) {
@@ -210,11 +221,26 @@ impl EntryWords {
         ensures full { result ≡ None → AreLiveBelow self.now level bucket self.now.plan.cap }
     {
         let start = self.start(level, bucket);
-        let end = start + usize::from(self.plan.cap());
-        match position(&self.tags, start, end, 0) {
-            Some(i) => Some((i - start) as u8),
-            None => None,
+        let used = self.used_of(level, bucket);
+        if let Some(i) = position(&self.tags, start, start + used, 0) {
+            return Some((i - start) as u8);
         }
+        if used < usize::from(self.plan.cap()) {
+            Some(used as u8)
+        } else {
+            None
+        }
+    }
+
+    // How many slots of a bucket, from the first on, may have been used.
+    fn used_of(&self, level: u8, bucket: u16) -> usize
+        requires { IsBucket self.now.plan level bucket }
+        ensures within { result ≤ self.now.plan.cap }
+        ensures small { result < 2 ^ 16 }
+        ensures free { IsUnusedFrom self.now level bucket result }
+    {
+        let used = usize::from(self.used[bucket_number(level, bucket)]);
+        used.min(usize::from(self.plan.cap()))
     }
 
     // The place of the words of the name's slot.
@@ -273,4 +299,11 @@ impl EntryWords {
         }
         self.pairs[i].is(&words.pairs)
     }
+}
+
+// The place of a bucket among those of all levels.
+fn bucket_number(level: u8, bucket: u16) -> usize
+    ensures { result ≡ bucket_number level bucket }
+{
+    usize::from(level) * ROW + usize::from(bucket)
 }

@@ -3,7 +3,8 @@ use Rattle.node_places.specs.Names.{IsName}
 use Rattle.entry_words.specs.Slots.{slot_place, tag_place}
 use Rattle.entry_words.specs.Words.{Written}
 use Rattle.entry_words.specs.Changes.{SetsBook}
-use Rattle.entry_words.proofs.TagLaws.{sets_book, with_book, entries_clear}
+use Rattle.entry_words.proofs.TagLaws.{sets_book, with_book}
+use Rattle.entry_words.proofs.EntriesLaws.{entries_clear}
 use Rattle.entry_words.proofs.entries.EntryWords.clear.Goals as goal
 
 pub invariant_of-self : goal.invariant_of-self
@@ -12,7 +13,7 @@ invariant_of-self c =
     let at = c.place-i.ensures.value ∙ ap (λ (w : Written). slot_place w.plan c.args.n) e in
     let tag = c.tag_place-tag.ensures.value ∙ ap (λ (w : Written). tag_place w.plan c.args.n) e in
     let name = subst (λ (w : Written). IsName w.plan c.args.n) e c.requires in
-    entries_clear _ _ _ _ c.args.n c.place-i.result c.tag_place-tag.result c.self.invariant name at tag
+    entries_clear _ _ _ _ _ c.args.n c.place-i.result c.tag_place-tag.result c.self.invariant name at tag
 
 pub returns : goal.returns
 returns c =

@@ -3,14 +3,15 @@ use Rattle.node_places.specs.Names.{IsName}
 use Rattle.entry_words.specs.Slots.{slot_place}
 use Rattle.entry_words.specs.Words.{Written, book_in}
 use Rattle.entry_words.specs.Changes.{SetsBook}
-use Rattle.entry_words.proofs.TagLaws.{sets_book, with_book, entries_book}
+use Rattle.entry_words.proofs.TagLaws.{sets_book, with_book}
+use Rattle.entry_words.proofs.EntriesLaws.{entries_book}
 use Rattle.entry_words.proofs.entries.EntryWords.set_book.Goals as goal
 
 pub invariant_of-self : goal.invariant_of-self
 invariant_of-self c =
     let e = sym c.self.view_is in
     let at = c.place-i.ensures.value ∙ ap (λ (w : Written). slot_place w.plan c.args.n) e in
-    entries_book _ _ _ _ c.args.n c.place-i.result c.args.book c.self.invariant at (subst (λ (w : Written). c.place-i.result < length w.books) e c.place-i.ensures.books)
+    entries_book _ _ _ _ _ c.args.n c.place-i.result c.args.book c.self.invariant at (subst (λ (w : Written). c.place-i.result < length w.books) e c.place-i.ensures.books)
     (subst (λ (w : Written). 1 ≤ book_in w c.args.n) e c.requires.live) c.requires.some
 
 pub returns : goal.returns
