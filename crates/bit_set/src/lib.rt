@@ -4,6 +4,3 @@
 mod bits;
 
 pub use bits::BitSet;
-
-#[cfg(test)]
-mod tests;

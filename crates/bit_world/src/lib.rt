@@ -4,6 +4,3 @@
 mod grids;
 
 pub use grids::BitWorld;
-
-#[cfg(test)]
-mod tests;

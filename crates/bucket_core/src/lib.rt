@@ -9,6 +9,3 @@ mod keys;
 pub use buckets::Bucket;
 pub use entries::{BucketFull, Entry, Lowered};
 pub use keys::ExactKey;
-
-#[cfg(test)]
-mod tests;

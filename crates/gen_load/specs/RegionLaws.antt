@@ -66,9 +66,12 @@ ball_in x px py pz r low of_x of_y of_z small = record {
       let dy : ℕ = abs_diff (8 + py) d.y in
       let dz : ℕ = abs_diff (8 + pz) d.z in
       let near : dx * dx + dy * dy + dz * dz ≤ r * r = d_in.near in
-      let x_near : dx ≤ 7 = seven dx r (dy * dy + dz * dz) (omega (arith, small)) (omega (arith, near)) in
-      let y_near : dy ≤ 7 = seven dy r (dx * dx + dz * dz) (omega (arith, small)) (omega (arith, near)) in
-      let z_near : dz ≤ 7 = seven dz r (dx * dx + dy * dy) (omega (arith, small)) (omega (arith, near)) in
+      let x_near : dx ≤ 7 =
+      seven dx r (dy * dy + dz * dz) (omega (arith, small)) (omega (arith, near)) in
+      let y_near : dy ≤ 7 =
+      seven dy r (dx * dx + dz * dz) (omega (arith, small)) (omega (arith, near)) in
+      let z_near : dz ≤ 7 =
+      seven dz r (dx * dx + dy * dy) (omega (arith, small)) (omega (arith, near)) in
       record {
         world = record {
           x = omega (arith, low, of_x, x_near);

@@ -10,6 +10,3 @@ mod voxels;
 
 pub use inputs::Load;
 pub use loads::{edits_keep_to_their_regions, load};
-
-#[cfg(test)]
-mod tests;

@@ -25,7 +25,8 @@ digits_read n m [] digits same = ap (λ (k : ℕ). Ok k) same
 digits_read n m (b ∷ rest) digits same =
     let both = and_parts (is_ascii_digit b) (all_ascii_digits rest) digits in
     let here : is_digit b ≡ true = both.0 in
-    let more = digits_read (10 * n + (b - 48)) (m * 10 + (b - 48)) rest both.1 (omega (arith, same)) in
+    let more =
+    digits_read (10 * n + (b - 48)) (m * 10 + (b - 48)) rest both.1 (omega (arith, same)) in
     rw here more
 
 inner_of : (b : ℕ) → is_ascii_digit b ≡ true → is_inner b ≡ true
@@ -52,8 +53,14 @@ number_word n small =
 
 pub number_read : (n : ℕ) → n ≤ 256 → loose (decimal n) ≡ Some n
 number_read n small =
-    let some : leb 1 (length (decimal n)) ≡ true = le-leb 1 (length (decimal n)) (let l = decimal_nonempty n (omega (arith, small)) in omega (arith, l)) in
-    let few : leb (length (decimal n)) 9 ≡ true = le-leb (length (decimal n)) 9 (let l = length-decimal-le 3 n (omega arith) (omega (arith, small)) (omega (arith, small)) in omega (arith, l)) in
-    let read : digits_from 0 (decimal n) ≡ Ok (value_from 0 (decimal n)) = digits_read 0 0 (decimal n) (digits_decimal own n (omega (arith, small))) refl in
+    let some : leb 1 (length (decimal n)) ≡ true =
+    le-leb 1 (length (decimal n))
+    (let l = decimal_nonempty n (omega (arith, small)) in omega (arith, l)) in
+    let few : leb (length (decimal n)) 9 ≡ true =
+    le-leb (length (decimal n)) 9
+    (let l = length-decimal-le 3 n (omega arith) (omega (arith, small))
+    (omega (arith, small)) in omega (arith, l)) in
+    let read : digits_from 0 (decimal n) ≡ Ok (value_from 0 (decimal n)) =
+    digits_read 0 0 (decimal n) (digits_decimal own n (omega (arith, small))) refl in
     let value : value_from 0 (decimal n) ≡ n = digits_value-decimal own n (omega (arith, small)) in
     rw (some, few, read, value) refl

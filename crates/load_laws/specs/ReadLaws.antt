@@ -125,7 +125,8 @@ line_read read number name ws command few all plain is =
 -- so is a text that begins with such a line
 text_read : (read : Reader) (number : ℕ) (name : List ℕ) (ws : List (List ℕ)) (command : Command)
     (rest : List ℕ) (others : List ScriptLine) → number ≤ 100000
-    → list_all is_plain_word (name ∷ ws) ≡ true → is_comment name ≡ false → read name ws ≡ Ok command
+    → list_all is_plain_word (name ∷ ws) ≡ true → is_comment name ≡ false
+    → read name ws ≡ Ok command
     → commands_from read (number + 1) (lines_of rest) ≡ Ok others
     → commands_from read number (lines_of (line_of (name ∷ ws) ++ 10 ∷ rest)) ≡ Ok
     (record { line = number; command = command } ∷ others)
@@ -214,7 +215,9 @@ sum_is a b c r of_a of_b of_c = rw (of_a, of_b, of_c) (omega arith)
 radius_short : (x : ℕ) (b : ball.Ball) → BallLiesIn x b → b.radius ≤ 256
 radius_short x b lies =
     let far : Cell = record { x = b.centre.x + b.radius; y = b.centre.y; z = b.centre.z } in
-    let near = sum_is (abs_diff b.centre.x (b.centre.x + b.radius)) (abs_diff b.centre.y b.centre.y) (abs_diff b.centre.z b.centre.z) b.radius (omega arith) (omega arith) (omega arith) in
+    let near =
+    sum_is (abs_diff b.centre.x (b.centre.x + b.radius)) (abs_diff b.centre.y b.centre.y)
+    (abs_diff b.centre.z b.centre.z) b.radius (omega arith) (omega arith) (omega arith) in
     let region = lies.each far (record { near = near }) in
     let inside = region.world.x in
     omega (arith, inside)
@@ -227,7 +230,8 @@ text_as : (read : Reader) (number : ℕ) (ws : List (List ℕ)) (line rest : Lis
     → commands_from read number (lines_of (line_of ws ++ 10 ∷ rest)) ≡ Ok all
     → commands_from read number (lines_of (line ++ 10 ∷ rest)) ≡ Ok all
 text_as read number ws line rest all same is =
-    subst (λ (text : List ℕ). commands_from read number (lines_of (text ++ 10 ∷ rest)) ≡ Ok all) same is
+    subst (λ (text : List ℕ). commands_from read number (lines_of (text ++ 10 ∷ rest))
+    ≡ Ok all) same is
 
 edit_read : (model : Content) (x number : ℕ) (act : Act) (rest : List ℕ) (others : List ScriptLine)
     → model.size ≡ record { x = 32; y = 32; z = 32 } → number ≤ 100000 → EditLiesIn x act
@@ -237,31 +241,50 @@ edit_read : (model : Content) (x number : ℕ) (act : Act) (rest : List ℕ) (ot
 edit_read model x number (Fill b) rest others size few lies more =
     let short = box_short x b lies in
     let there = box_placed b lies.fits in
-    let read = command_by model (codes "fill") (box_list b []) (Edit (Fill b) false) (Edit (Fill b) false) (fill_said b short.0 short.1) (rw there refl) in
+    let read =
+    command_by model (codes "fill") (box_list b []) (Edit (Fill b) false) (Edit (Fill b) false)
+    (fill_said b short.0 short.1) (rw there refl) in
     text_as (reads_with model) number (act_list (Fill b)) (act_words (Fill b)) rest _
     (simp append_assoc refl)
-    (text_read (reads_with model) number (codes "fill") (box_list b []) (Edit (Fill b) false) rest others few (box_words_are b short.0 short.1) refl read more)
+    (text_read (reads_with model) number (codes "fill") (box_list b []) (Edit (Fill b) false) rest
+    others few (box_words_are b short.0 short.1) refl read more)
 edit_read model x number (Erase b) rest others size few lies more =
     let short = box_short x b lies in
     let there = box_placed b lies.fits in
-    let read = command_by model (codes "erase") (box_list b []) (Edit (Erase b) false) (Edit (Erase b) false) (erase_said b short.0 short.1) (rw there refl) in
+    let read =
+    command_by model (codes "erase") (box_list b []) (Edit (Erase b) false)
+    (Edit (Erase b) false) (erase_said b short.0 short.1) (rw there refl) in
     text_as (reads_with model) number (act_list (Erase b)) (act_words (Erase b)) rest _
     (simp append_assoc refl)
-    (text_read (reads_with model) number (codes "erase") (box_list b []) (Edit (Erase b) false) rest others few (box_words_are b short.0 short.1) refl read more)
+    (text_read (reads_with model) number (codes "erase") (box_list b []) (Edit (Erase b) false) rest
+    others few (box_words_are b short.0 short.1) refl read more)
 edit_read model x number (Ball b) rest others size few lies more =
     let short = centre_short x b lies in
     let radius = radius_short x b lies in
     let there = ball_placed x b lies in
-    let read = command_by model (codes "ball") (ball_list b) (Edit (Ball b) false) (Edit (Ball b) false) (ball_said b short radius) (rw there refl) in
+    let read =
+    command_by model (codes "ball") (ball_list b) (Edit (Ball b) false) (Edit (Ball b) false)
+    (ball_said b short radius) (rw there refl) in
     text_as (reads_with model) number (act_list (Ball b)) (act_words (Ball b)) rest _
     (simp append_assoc refl)
-    (text_read (reads_with model) number (codes "ball") (ball_list b) (Edit (Ball b) false) rest others few (cell_words_are b.centre (decimal b.radius ∷ []) short (and_from _ _ (number_word b.radius radius) refl)) refl read more)
+    (text_read (reads_with model) number (codes "ball") (ball_list b) (Edit (Ball b) false) rest
+    others few (cell_words_are b.centre (decimal b.radius ∷ []) short
+    (and_from _ _ (number_word b.radius radius) refl)) refl read more)
 edit_read model x number (Stamp m at) rest others size few (zero_is, lies) more =
     let short = (box_short x (stamped_box at) lies).0 in
     let there = stamp_is_placed model at size lies.fits in
-    let read = command_by model (codes "stamp") (decimal 0 ∷ cell_list at []) (Edit (Stamp 0 at) false) (Edit (Stamp 0 at) false) (stamp_said at short) (rw there refl) in
-    let whole = text_read (reads_with model) number (codes "stamp") (decimal 0 ∷ cell_list at []) (Edit (Stamp 0 at) false) rest others few (and_from _ _ (number_word 0 (omega arith)) (cell_words_are at [] short refl)) refl read more in
-    subst (λ (k : ℕ). commands_from (reads_with model) number (lines_of (act_words (Stamp k at) ++ 10 ∷ rest)) ≡ Ok (record { line = number; command = Edit (Stamp k at) false } ∷ others)) (sym zero_is) whole
+    let read =
+    command_by model (codes "stamp") (decimal 0 ∷ cell_list at []) (Edit (Stamp 0 at) false)
+    (Edit (Stamp 0 at) false) (stamp_said at short) (rw there refl) in
+    let whole =
+    text_read (reads_with model) number (codes "stamp") (decimal 0 ∷ cell_list at [])
+    (Edit (Stamp 0 at) false) rest others few
+    (and_from _ _ (number_word 0 (omega arith))
+    (cell_words_are at [] short refl)) refl read more in
+    subst (λ (k : ℕ). commands_from (reads_with model) number
+    (lines_of (act_words (Stamp k at) ++ 10 ∷ rest))
+    ≡ Ok (record { line = number; command = Edit (Stamp k at) false } ∷ others))
+    (sym zero_is) whole
 edit_read model x number (Carve b) rest others size few lies more = absurd lies
 edit_read model x number (Copy b to) rest others size few lies more = absurd lies
 edit_read model x number Undo rest others size few lies more = absurd lies
@@ -278,10 +301,14 @@ edits_read model x number [] rest others size few lie more =
     subst (λ (n : ℕ). commands_from (reads_with model) n (lines_of rest) ≡ Ok others) none more
 edits_read model x number (act ∷ acts) rest others size few lie more =
     let next : number + length (act ∷ acts) ≡ number + 1 + length acts = omega arith in
-    let behind = edits_read model x (number + 1) acts rest others size (omega (arith, few)) (All-tail (EditLiesIn x) act acts lie)
+    let behind =
+    edits_read model x (number + 1) acts rest others size (omega (arith, few))
+    (All-tail (EditLiesIn x) act acts lie)
     (subst (λ (n : ℕ). commands_from (reads_with model) n (lines_of rest) ≡ Ok others) next more) in
-    let text : act_words act ++ 10 ∷ (flat_map edit_line acts ++ rest) ≡ flat_map edit_line (act ∷ acts) ++ rest = simp append_assoc refl in
-    subst (λ (t : List ℕ). commands_from (reads_with model) number (lines_of t) ≡ Ok (edit_lines number (act ∷ acts) ++ others)) text
+    let text : act_words act ++ 10 ∷ (flat_map edit_line acts ++ rest)
+    ≡ flat_map edit_line (act ∷ acts) ++ rest = simp append_assoc refl in
+    subst (λ (t : List ℕ). commands_from (reads_with model) number (lines_of t)
+    ≡ Ok (edit_lines number (act ∷ acts) ++ others)) text
     (edit_read model x number act (flat_map edit_line acts ++ rest)
     (edit_lines (number + 1) acts ++ others) size (omega (arith, few))
     (All-head (EditLiesIn x) act acts lie) behind)
@@ -308,7 +335,8 @@ digits_of_256 =
 region_words : (x : ℕ)
     → line_of (codes "count" ∷ box_list (region_box x) []) ++ 10 ∷ [] ≡ region_line x
 region_words x = rw (digits_of_0, digits_of_64, digits_of_256)
-    (ap (λ (text : List ℕ). codes "count " ++ text) (append_assoc (decimal x) (codes " 0 0 64 256 256") (codes "\n")))
+    (ap (λ (text : List ℕ). codes "count " ++ text)
+    (append_assoc (decimal x) (codes " 0 0 64 256 256") (codes "\n")))
 
 nothing_read : (read : Reader) (number : ℕ) → commands_from read number (lines_of []) ≡ Ok []
 unfolding commands_from lines_of
@@ -321,10 +349,20 @@ region_read model x low =
     let b : Boxed = region_box x in
     let at : IsShort b.at = record { x = omega (arith, low); y = omega arith; z = omega arith } in
     let size : IsShort b.size = record { x = omega arith; y = omega arith; z = omega arith } in
-    let there = box_placed b (record { x = (omega arith, omega (arith, low)); y = (omega arith, omega arith); z = (omega arith, omega arith) }) in
-    let read = command_by model (codes "count") (box_list b []) (Ask None (Count b)) (Ask None (Count b)) (count_said b at size) (rw there refl) in
-    subst (λ (text : List ℕ). commands_from (reads_with model) 201 (lines_of text) ≡ Ok (record { line = 201; command = Ask None (Count b) } ∷ [])) (region_words x)
-    (text_read (reads_with model) 201 (codes "count") (box_list b []) (Ask None (Count b)) [] [] (omega arith) (box_words_are b at size) refl read (nothing_read (reads_with model) 202))
+    let there =
+    box_placed b
+    (record {
+      x = (omega arith, omega (arith, low));
+      y = (omega arith, omega arith);
+      z = (omega arith, omega arith);
+    }) in
+    let read =
+    command_by model (codes "count") (box_list b []) (Ask None (Count b)) (Ask None (Count b))
+    (count_said b at size) (rw there refl) in
+    subst (λ (text : List ℕ). commands_from (reads_with model) 201 (lines_of text)
+    ≡ Ok (record { line = 201; command = Ask None (Count b) } ∷ [])) (region_words x)
+    (text_read (reads_with model) 201 (codes "count") (box_list b []) (Ask None (Count b)) [] []
+    (omega arith) (box_words_are b at size) refl read (nothing_read (reads_with model) 202))
 
 edits_number : (g x k : ℕ) → length (edits_from g x k) ≡ k
 unfolding edits_from
@@ -345,7 +383,10 @@ unfolding commands_of
 scripts_are_read g x model size low =
     let acts : List Act = edits_from g x 200 in
     let number : 1 + length acts ≡ 201 = (let l = edits_number g x 200 in omega (arith, l)) in
-    let last = subst (λ (n : ℕ). commands_from (reads_with model) n (lines_of (region_line x)) ≡ Ok (record { line = 201; command = Ask None (Count (region_box x)) } ∷ [])) (sym number) (region_read model x low) in
+    let last =
+    subst (λ (n : ℕ). commands_from (reads_with model) n (lines_of (region_line x))
+    ≡ Ok (record { line = 201; command = Ask None (Count (region_box x)) } ∷ []))
+    (sym number) (region_read model x low) in
     edits_read model x 1 acts (region_line x)
     (record { line = 201; command = Ask None (Count (region_box x)) } ∷ []) size
     (omega (arith, number)) (edits_lie_in_regions g x 200 low) last

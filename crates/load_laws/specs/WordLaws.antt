@@ -26,7 +26,8 @@ not_blank b inner =
     let tab : eqb b 9 ≡ false = differs b 9 (eqb b 9) refl (omega (arith, low)) in
     rw (space, tab) refl
 
-word_then : (w rest : List ℕ) → is_plain_word w ≡ true → words_of (w ++ 32 ∷ rest) ≡ w ∷ words_of rest
+word_then : (w rest : List ℕ) → is_plain_word w ≡ true
+    → words_of (w ++ 32 ∷ rest) ≡ w ∷ words_of rest
 unfolding words_of
 word_then [] rest all = absurd cc
 word_then (b ∷ []) rest all = let here = not_blank b (and_parts _ _ all).0 in rw here refl
@@ -48,7 +49,8 @@ word_last (b ∷ c ∷ w) all =
     let more = word_last (c ∷ w) both.1 in
     rw (more, here, next) refl
 
-pub words_parted : (ws : List (List ℕ)) → list_all is_plain_word ws ≡ true → words_of (line_of ws) ≡ ws
+pub words_parted : (ws : List (List ℕ)) → list_all is_plain_word ws ≡ true
+    → words_of (line_of ws) ≡ ws
 unfolding words_of
 words_parted [] all = refl
 words_parted (w ∷ []) all = word_last w (and_parts _ _ all).0
@@ -75,7 +77,8 @@ word_plain : (w : List ℕ) → is_plain_word w ≡ true → is_text w ≡ true
 word_plain [] all = absurd cc
 word_plain (b ∷ rest) all = all_plain (b ∷ rest) all
 
-pub line_is_text : (ws : List (List ℕ)) → list_all is_plain_word ws ≡ true → is_text (line_of ws) ≡ true
+pub line_is_text : (ws : List (List ℕ)) → list_all is_plain_word ws ≡ true
+    → is_text (line_of ws) ≡ true
 line_is_text [] all = refl
 line_is_text (w ∷ []) all = word_plain w (and_parts _ _ all).0
 line_is_text (w ∷ v ∷ ws) all =

@@ -14,6 +14,3 @@ pub use balls::ball_bits;
 pub use boxes::box_bits;
 pub use laws::{leaves_lie_across_eight, leaves_show_their_cells};
 pub use windows::window_bits;
-
-#[cfg(test)]
-mod tests;

@@ -11,6 +11,3 @@ pub use laws::{
 };
 pub use places::Places;
 pub use words::{child_in, child_word, halves, pair_word};
-
-#[cfg(test)]
-mod tests;

@@ -25,6 +25,3 @@ pub use shares::{Full, NodeRefused, Share};
 pub use stores::{Blocks, NodeStore};
 pub use turns::Steps;
 pub use under::{Under, has_cell};
-
-#[cfg(test)]
-mod tests;

@@ -6,9 +6,11 @@ use vox_read::{VoxFault, cell_count, read_models};
 /// The number of a file's models and of all their cells, or the fault.
 pub type Answer = Result<(usize, u32), VoxFault>;
 
-/// A model of one cell: MAIN with the children SIZE at 20 and XYZI at 44, 64 bytes in all.
-pub const ONE: [u8; 64] =
-    *b"VOX \x96\0\0\0MAIN\0\0\0\0\x2c\0\0\0SIZE\x0c\0\0\0\0\0\0\0\x01\0\0\0\x01\0\0\0\x01\0\0\0XYZI\x08\0\0\0\0\0\0\0\x01\0\0\0\0\0\0\x01";
+/// A model of one cell: MAIN, whose children have 44 bytes, then a SIZE of 12 at 20 and an XYZI
+/// of 8 at 44; 64 bytes in all.
+pub const ONE: [u8; 64] = *b"VOX \x96\0\0\0MAIN\0\0\0\0\x2c\0\0\0\
+    SIZE\x0c\0\0\0\0\0\0\0\x01\0\0\0\x01\0\0\0\x01\0\0\0\
+    XYZI\x08\0\0\0\0\0\0\0\x01\0\0\0\0\0\0\x01";
 
 /// Whole chunks, and some that break a rule.
 #[derive(Clone, Copy, Debug)]

@@ -135,6 +135,10 @@ fn headers_have_their_rules(rt: HostRuntime) {
     for bytes in nothing {
         assert_eq!(rt; read(rt.alloc(), bytes), Ok((0, 0)), "at {bytes:?}");
     }
+}
+
+#[test]
+fn headers_have_their_faults(rt: HostRuntime) {
     // the first of these that fails: the mark, the version, MAIN's frame, its id, its lengths
     let cases: [(&[u8], VoxFault); 9] = [
         (b"VOX-\x96\0\0\0MAIN\0\0\0\0\0\0\0\0", VoxFault::NotVox),

@@ -6,6 +6,3 @@ mod faults;
 
 pub use chunks::{Chunk, Chunks};
 pub use faults::VoxFault;
-
-#[cfg(test)]
-mod tests;

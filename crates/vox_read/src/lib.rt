@@ -14,6 +14,3 @@ pub use models::{Model, Models};
 pub use reading::{files_have_a_reading, files_have_one_reading, read_models};
 pub use vox_chunk::VoxFault;
 pub use voxels::Voxel;
-
-#[cfg(test)]
-mod tests;

@@ -75,9 +75,20 @@ header_is bytes size n groups laid =
     let more : nat_lt (length bytes) 8 ≡ false = le-ltb _ _ (omega (arith, laid.long)) in
     let framed : nat_lt (length bytes) 20 ≡ false = le-ltb _ _ (omega (arith, laid.long)) in
     let ends : end_of bytes 8 ≡ 60 + 4 * n = omega (arith, laid.main_content, laid.main_children) in
-    let whole : nat_lt (length bytes) (end_of bytes 8) ≡ false = le-ltb _ _ (omega (arith, laid.long, ends)) in
+    let whole : nat_lt (length bytes) (end_of bytes 8) ≡ false =
+    le-ltb _ _ (omega (arith, laid.long, ends)) in
     let end : 20 + 0 + (40 + 4 * n) ≡ 60 + 4 * n = omega arith in
-    rw (some, laid.mark, more, laid.version, framed, laid.main, whole, laid.main_content, laid.main_children)
+    rw (
+      some,
+      laid.mark,
+      more,
+      laid.version,
+      framed,
+      laid.main,
+      whole,
+      laid.main_content,
+      laid.main_children,
+    )
     (ends_at _ _ end)
 
 extent_is : (n : ℕ) → IsModelExtent n → is_extent n ≡ true
@@ -97,14 +108,26 @@ size_is size is = rw (x_is size is, y_is size is, z_is size is) refl
 
 size_fine : (place : ℕ) (size : Cell) → IsSize size → size_fault place (size_bytes size) ≡ None
 size_fine place size is =
-    rw (x_is size is, y_is size is, z_is size is, extent_is size.x is.x, extent_is size.y is.y, extent_is size.z is.z) refl
+    rw (
+      x_is size is,
+      y_is size is,
+      z_is size is,
+      extent_is size.x is.x,
+      extent_is size.y is.y,
+      extent_is size.z is.z,
+    ) refl
 
 all_inside : (size : Cell) (voxels : List Voxel) → All (StandsInside size) voxels
     → list_all (stands_in size) voxels ≡ true
 all_inside size [] all = refl
 all_inside size (v ∷ more) all =
     let v_in = All-head (StandsInside size) v more all in
-    rw (lt-ltb v.x size.x v_in.x, lt-ltb v.y size.y v_in.y, lt-ltb v.z size.z v_in.z, all_inside size more (All-tail (StandsInside size) v more all)) refl
+    rw (
+      lt-ltb v.x size.x v_in.x,
+      lt-ltb v.y size.y v_in.y,
+      lt-ltb v.z size.z v_in.z,
+      all_inside size more (All-tail (StandsInside size) v more all),
+    ) refl
 
 groups_long : (voxels : List Voxel) → length (flat_map voxel_bytes voxels) ≡ 4 * length voxels
 groups_long [] = refl
@@ -129,8 +152,10 @@ voxels_fine : (place : ℕ) (size : Cell) (n : ℕ) (groups : List ℕ) → leng
 voxels_fine place size n groups long few inside =
     let number : number_at (number_bytes n ++ groups) 0 ≡ n = back n groups (omega (arith, few)) in
     let some : nat_le 4 (length (number_bytes n ++ groups)) ≡ true = le-leb _ _ (omega arith) in
-    let whole : nat_le (4 + 4 * n) (length (number_bytes n ++ groups)) ≡ true = le-leb _ _ (omega (arith, long)) in
-    let holds : holds_its_voxels (number_bytes n ++ groups) ≡ true = rw (number, some, whole) refl in
+    let whole : nat_le (4 + 4 * n) (length (number_bytes n ++ groups)) ≡ true =
+    le-leb _ _ (omega (arith, long)) in
+    let holds : holds_its_voxels (number_bytes n ++ groups) ≡ true =
+    rw (number, some, whole) refl in
     rw (holds, groups_read n groups long few, inside) refl
 
 second_place : (bytes : List ℕ) (size : Cell) (n : ℕ) (groups : List ℕ)
@@ -144,7 +169,8 @@ behind bytes size n groups laid = omega (arith, laid.second_content, laid.second
 last_place : (bytes : List ℕ) (size : Cell) (n : ℕ) (groups : List ℕ)
     → IsLaidOut bytes size n groups → place_of bytes 20 2 ≡ 60 + 4 * n
 last_place bytes size n groups laid =
-    ap (λ (p : ℕ). end_of bytes p) (second_place bytes size n groups laid) ∙ behind bytes size n groups laid
+    ap (λ (p : ℕ). end_of bytes p) (second_place bytes size n groups laid)
+    ∙ behind bytes size n groups laid
 
 first_content_is : (bytes : List ℕ) (size : Cell) (n : ℕ) (groups : List ℕ)
     → IsLaidOut bytes size n groups → content_at bytes 20 ≡ size_bytes size
@@ -155,7 +181,9 @@ second_content_is : (bytes : List ℕ) (size : Cell) (n : ℕ) (groups : List �
     → IsLaidOut bytes size n groups → length groups ≡ 4 * n
     → content_at bytes 44 ≡ number_bytes n ++ groups
 second_content_is bytes size n groups laid long =
-    ap (λ (m : ℕ). take m (drop 56 bytes)) laid.second_content ∙ ap (λ (bs : List ℕ). take (4 + 4 * n) bs) laid.voxels ∙ take_all (4 + 4 * n) (number_bytes n ++ groups) (omega (arith, long))
+    ap (λ (m : ℕ). take m (drop 56 bytes)) laid.second_content
+    ∙ ap (λ (bs : List ℕ). take (4 + 4 * n) bs) laid.voxels
+    ∙ take_all (4 + 4 * n) (number_bytes n ++ groups) (omega (arith, long))
 
 waits : (bytes : List ℕ) (size : Cell) (n : ℕ) (groups : List ℕ) → IsSize size
     → IsLaidOut bytes size n groups → waiting_at bytes 20 1 ≡ Some size
@@ -183,7 +211,9 @@ second_fine : (bytes : List ℕ) (size : Cell) (n : ℕ) (groups : List ℕ) →
     → child_fault bytes 20 1 ≡ None
 second_fine bytes size n groups is laid long few inside =
     let place : place_of bytes 20 1 ≡ 44 = second_place bytes size n groups laid in
-    same_fields (waiting_at bytes 20 1) (Some size) (length (models_before bytes 20 1)) 0 (id_at bytes (place_of bytes 20 1)) (codes "XYZI") (content_at bytes (place_of bytes 20 1)) (number_bytes n ++ groups) (place_of bytes 20 1) 44
+    same_fields (waiting_at bytes 20 1) (Some size) (length (models_before bytes 20 1)) 0
+    (id_at bytes (place_of bytes 20 1)) (codes "XYZI") (content_at bytes (place_of bytes 20 1))
+    (number_bytes n ++ groups) (place_of bytes 20 1) 44
     (waits bytes size n groups is laid)
     (ap length (none_before bytes size n groups laid))
     (ap (id_at bytes) place ∙ laid.second)
@@ -205,7 +235,8 @@ one_model bytes size n groups is laid long few =
     let place : place_of bytes 20 1 ≡ 44 = second_place bytes size n groups laid in
     joined (models_before bytes 20 1) _ (record { size = size; voxels = voxels_of groups } ∷ [])
     (none_before bytes size n groups laid)
-    (same_models (waiting_at bytes 20 1) (Some size) (id_at bytes (place_of bytes 20 1)) (codes "XYZI") (content_at bytes (place_of bytes 20 1)) (number_bytes n ++ groups)
+    (same_models (waiting_at bytes 20 1) (Some size) (id_at bytes (place_of bytes 20 1))
+    (codes "XYZI") (content_at bytes (place_of bytes 20 1)) (number_bytes n ++ groups)
     (waits bytes size n groups is laid) (ap (id_at bytes) place ∙ laid.second)
     (ap (content_at bytes) place ∙ second_content_is bytes size n groups laid long)
     ∙ ap (λ (vs : List Voxel). record { size = size; voxels = vs } ∷ [])
@@ -262,7 +293,8 @@ model_is_read size voxels is all few =
     let groups : List ℕ = flat_map voxel_bytes voxels in
     let long : length groups ≡ 4 * length voxels = groups_long voxels in
     let same : voxels_of groups ≡ voxels = voxels_are voxels in
-    let inside : list_all (stands_in size) (voxels_of groups) ≡ true = ap (list_all (stands_in size)) same ∙ all_inside size voxels all in
+    let inside : list_all (stands_in size) (voxels_of groups) ≡ true =
+    ap (list_all (stands_in size)) same ∙ all_inside size voxels all in
     let bytes : List ℕ = spelled size (length voxels) groups in
     subst (λ (vs : List Voxel). HasModels bytes (record { size = size; voxels = vs } ∷ [])) same
     (models_read bytes size (length voxels) groups is

@@ -4,6 +4,3 @@
 mod writing;
 
 pub use writing::{write_model, written_models_are_read};
-
-#[cfg(test)]
-mod tests;

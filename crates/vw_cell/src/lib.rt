@@ -17,6 +17,3 @@ pub use boxes::Boxed;
 pub use cells::Cell;
 pub use memory::Memory;
 pub use sides::Side;
-
-#[cfg(test)]
-mod tests;

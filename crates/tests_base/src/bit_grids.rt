@@ -1,7 +1,7 @@
 ghost use Rattle.std.specs.Prelude.{◌≡◌, ◌^◌, IfOk, IfSome};
 ghost use Rattle.vw_cell.specs.Places.{FitsAt};
 
-use crate::BitWorld;
+use bit_world::BitWorld;
 use std::alloc::Global;
 use std::test::Fail;
 use vw_cell::{Boxed, Cell, Side};

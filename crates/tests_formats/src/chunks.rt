@@ -1,11 +1,8 @@
 ghost use Rattle.std.specs.Prelude.{◌≤◌, ◌^◌, length};
 
-use crate::{Chunks, VoxFault};
+use crate::files::ONE;
 use std::test::Fail;
-
-/// A model of one cell: MAIN with the children SIZE at 20 and XYZI at 44, 64 bytes in all.
-const ONE: [u8; 64] =
-    *b"VOX \x96\0\0\0MAIN\0\0\0\0\x2c\0\0\0SIZE\x0c\0\0\0\0\0\0\0\x01\0\0\0\x01\0\0\0\x01\0\0\0XYZI\x08\0\0\0\0\0\0\0\x01\0\0\0\0\0\0\x01";
+use vox_chunk::{Chunks, VoxFault};
 
 // The first children of MAIN up to the first fault, as their places, and the fault.
 fn walk(bytes: &[u8]) -> (u32, Option<VoxFault>)

@@ -1,4 +1,4 @@
-use crate::{Places, child_in, child_word, halves, pair_word};
+use node_places::{Places, child_in, child_word, halves, pair_word};
 use node_shapes::Name;
 use node_words::Plan;
 use std::test::Fail;
@@ -28,18 +28,26 @@ fn words_stand_for_children(rt: HostRuntime) {
 
 // Three words and those of 65,536 versions, then 15,872 turns, then 8,585,216 words of entries.
 #[test]
-fn words_stand_at_their_places(rt: HostRuntime) -> Result<(), Fail> {
+fn versions_and_turns_stand_before_entries(rt: HostRuntime) -> Result<(), Fail> {
     let side = Side::new(4096).ok_or("a side")?;
     let usual = Places::new(&Plan::usual(side));
     assert_eq!(rt; usual.width(), 3 + 524_288 + 15_872 + 8_585_216);
     let places = (usual.sessions(), usual.log_turn(), usual.log_length());
     assert_eq!(rt; places, (0, 1, 2));
-    assert_eq!(rt; usual.version(0, 0), 3);
-    assert_eq!(rt; usual.version(65_535, 7), 524_290);
-    assert_eq!(rt; usual.turn(0, 0), 524_291);
-    assert_eq!(rt; usual.turn(0, 4095), 528_386);
-    // A bucket of leaves has 128 books and 128 keys, one of nodes 128 books and four times 128
-    // words of keys.
+    assert_eq!(rt;
+        (usual.version(0, 0), usual.version(65_535, 7)),
+        (3, 524_290)
+    );
+    assert_eq!(rt; (usual.turn(0, 0), usual.turn(0, 4095)), (524_291, 528_386));
+    Ok(())
+}
+
+// A bucket of leaves has 128 books and 128 keys, one of nodes 128 books and four times 128 words
+// of keys.
+#[test]
+fn books_stand_before_keys(rt: HostRuntime) -> Result<(), Fail> {
+    let side = Side::new(4096).ok_or("a side")?;
+    let usual = Places::new(&Plan::usual(side));
     for (level, bucket, slot, book) in [
         (0, 0, 0, 540_163),
         (0, 0, 127, 540_290),
@@ -47,14 +55,22 @@ fn words_stand_at_their_places(rt: HostRuntime) -> Result<(), Fail> {
         (1, 0, 0, 1_588_739),
         (1, 1, 5, 1_589_384),
     ] {
-        assert_eq!(rt; usual.book(level, bucket, slot), book);
-        assert_eq!(rt; usual.key(level, bucket, slot, 0), book + 128);
+        let places = (
+            usual.book(level, bucket, slot),
+            usual.key(level, bucket, slot, 0),
+        );
+        assert_eq!(rt; places, (book, book + 128));
     }
     assert_eq!(rt; usual.bucket(1, 1), 1_589_379);
     assert_eq!(rt; usual.key(1, 1, 5, 3), 1_589_384 + 512);
-    let largest = Places::new(&Plan::even(side, 4096, 256).ok_or("a plan")?);
-    assert_eq!(rt; largest.width(), 55_095_299);
-    let smallest = Plan::even(Side::new(4).ok_or("a side")?, 1, 1).ok_or("a plan")?;
-    assert_eq!(rt; Places::new(&smallest).width(), 524_291 + 1 + 2);
+    Ok(())
+}
+
+#[test]
+fn tables_have_the_width_of_their_plan(rt: HostRuntime) -> Result<(), Fail> {
+    let large = Plan::even(Side::new(4096).ok_or("a side")?, 4096, 256).ok_or("a plan")?;
+    assert_eq!(rt; Places::new(&large).width(), 55_095_299);
+    let small = Plan::even(Side::new(4).ok_or("a side")?, 1, 1).ok_or("a plan")?;
+    assert_eq!(rt; Places::new(&small).width(), 524_291 + 1 + 2);
     Ok(())
 }

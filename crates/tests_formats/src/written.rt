@@ -1,20 +1,18 @@
-use crate::write_model;
+use crate::files::ONE;
 use std::test::Fail;
 use vox_read::{Voxel, read_models};
+use vox_write::write_model;
 use vw_cell::Cell;
 
-/// The file of one cell, byte by byte: MAIN's children have 44 bytes, a SIZE of 12 and an XYZI of
-/// 8.
-const ONE: [u8; 64] =
-    *b"VOX \x96\0\0\0MAIN\0\0\0\0\x2c\0\0\0SIZE\x0c\0\0\0\0\0\0\0\x01\0\0\0\x01\0\0\0\x01\0\0\0XYZI\x08\0\0\0\0\0\0\0\x01\0\0\0\0\0\0\x01";
-
 /// The file of a size of one cell that has none: MAIN's children have 40 bytes.
-const NONE: [u8; 60] =
-    *b"VOX \x96\0\0\0MAIN\0\0\0\0\x28\0\0\0SIZE\x0c\0\0\0\0\0\0\0\x01\0\0\0\x01\0\0\0\x01\0\0\0XYZI\x04\0\0\0\0\0\0\0\0\0\0\0";
+const NONE: [u8; 60] = *b"VOX \x96\0\0\0MAIN\0\0\0\0\x28\0\0\0\
+    SIZE\x0c\0\0\0\0\0\0\0\x01\0\0\0\x01\0\0\0\x01\0\0\0\
+    XYZI\x04\0\0\0\0\0\0\0\0\0\0\0";
 
 /// Behind one byte, a file of size 256 2 3 with two voxels, the second without a colour.
-const BEHIND: [u8; 69] =
-    *b"!VOX \x96\0\0\0MAIN\0\0\0\0\x30\0\0\0SIZE\x0c\0\0\0\0\0\0\0\0\x01\0\0\x02\0\0\0\x03\0\0\0XYZI\x0c\0\0\0\0\0\0\0\x02\0\0\0\xff\x01\x02\x4f\x07\0\x01\0";
+const BEHIND: [u8; 69] = *b"!VOX \x96\0\0\0MAIN\0\0\0\0\x30\0\0\0\
+    SIZE\x0c\0\0\0\0\0\0\0\0\x01\0\0\x02\0\0\0\x03\0\0\0\
+    XYZI\x0c\0\0\0\0\0\0\0\x02\0\0\0\xff\x01\x02\x4f\x07\0\x01\0";
 
 const UNIT: Cell = Cell { x: 1, y: 1, z: 1 };
 

@@ -1,5 +1,6 @@
 // Buckets computed outside, by bench/buckets.py from the rule's text.
-use crate::{Key, Name, Plan, Share, bucket_of};
+use node_shapes::Name;
+use node_words::{Key, Plan, Share, bucket_of};
 use std::process::Abort;
 use std::test::Fail;
 use vw_cell::Side;
@@ -60,69 +61,75 @@ fn leaves_have_their_buckets(rt: HostRuntime) {
     }
 }
 
+// Children's buckets, and the buckets of such a node.
+const NODES: [([u32; 8], [u16; 7]); 12] = [
+    (
+        [0, NONE, NONE, NONE, NONE, NONE, NONE, NONE],
+        [0, 1, 6, 161, 417, 1441, 58408],
+    ),
+    (
+        [NONE, 0, NONE, NONE, NONE, NONE, NONE, NONE],
+        [0, 1, 4, 175, 943, 2991, 25285],
+    ),
+    (
+        [NONE, NONE, NONE, NONE, NONE, NONE, NONE, 0],
+        [0, 0, 0, 168, 936, 4008, 52083],
+    ),
+    ([0, 0, 0, 0, 0, 0, 0, 0], [0, 0, 2, 70, 70, 3142, 50405]),
+    ([1, 2, 3, 4, 5, 6, 7, 8], [0, 1, 5, 215, 215, 1239, 47498]),
+    ([8, 7, 6, 5, 4, 3, 2, 1], [0, 1, 0, 161, 929, 4001, 60329]),
+    (
+        [NONE, 4095, NONE, 4095, NONE, 4095, NONE, 4095],
+        [0, 0, 6, 48, 48, 2096, 4964],
+    ),
+    (
+        [4095, NONE, 17, NONE, 300, NONE, 1023, NONE],
+        [0, 0, 0, 64, 64, 2112, 4865],
+    ),
+    (
+        [255, 254, NONE, NONE, 253, 252, NONE, NONE],
+        [0, 1, 4, 1, 769, 2817, 8827],
+    ),
+    (
+        [1, 2, 3, 4, NONE, NONE, NONE, NONE],
+        [0, 0, 5, 172, 684, 3756, 48400],
+    ),
+    (
+        [NONE, NONE, NONE, NONE, 1, 2, 3, 4],
+        [0, 1, 5, 229, 997, 997, 37178],
+    ),
+    (
+        [65535, 65535, 65535, 65535, 65535, 65535, 65535, 65535],
+        [0, 0, 4, 178, 178, 1202, 15710],
+    ),
+];
+
 #[test]
 fn nodes_have_their_buckets(rt: HostRuntime) {
-    for (of, want) in [
-        (
-            [0, NONE, NONE, NONE, NONE, NONE, NONE, NONE],
-            [0, 1, 6, 161, 417, 1441, 58408],
-        ),
-        (
-            [NONE, 0, NONE, NONE, NONE, NONE, NONE, NONE],
-            [0, 1, 4, 175, 943, 2991, 25285],
-        ),
-        (
-            [NONE, NONE, NONE, NONE, NONE, NONE, NONE, 0],
-            [0, 0, 0, 168, 936, 4008, 52083],
-        ),
-        ([0, 0, 0, 0, 0, 0, 0, 0], [0, 0, 2, 70, 70, 3142, 50405]),
-        ([1, 2, 3, 4, 5, 6, 7, 8], [0, 1, 5, 215, 215, 1239, 47498]),
-        ([8, 7, 6, 5, 4, 3, 2, 1], [0, 1, 0, 161, 929, 4001, 60329]),
-        (
-            [NONE, 4095, NONE, 4095, NONE, 4095, NONE, 4095],
-            [0, 0, 6, 48, 48, 2096, 4964],
-        ),
-        (
-            [4095, NONE, 17, NONE, 300, NONE, 1023, NONE],
-            [0, 0, 0, 64, 64, 2112, 4865],
-        ),
-        (
-            [255, 254, NONE, NONE, 253, 252, NONE, NONE],
-            [0, 1, 4, 1, 769, 2817, 8827],
-        ),
-        (
-            [1, 2, 3, 4, NONE, NONE, NONE, NONE],
-            [0, 0, 5, 172, 684, 3756, 48400],
-        ),
-        (
-            [NONE, NONE, NONE, NONE, 1, 2, 3, 4],
-            [0, 1, 5, 229, 997, 997, 37178],
-        ),
-        (
-            [65535, 65535, 65535, 65535, 65535, 65535, 65535, 65535],
-            [0, 0, 4, 178, 178, 1202, 15710],
-        ),
-    ] {
+    for (of, want) in NODES {
         buckets_are(&rt, &node(of), want);
     }
 }
 
 #[test]
-fn plans_keep_what_they_were_made_of(rt: HostRuntime) -> Result<(), Fail> {
+fn usual_plans_have_their_buckets(rt: HostRuntime) -> Result<(), Fail> {
     let side = Side::new(256).ok_or("a side")?;
     let usual = Plan::usual(side);
-    assert_eq!(rt; usual.side(), side);
-    assert_eq!(rt; usual.cap(), 128);
+    assert_eq!(rt; (usual.side(), usual.cap()), (side, 128));
     assert_eq!(rt;
         usual.buckets(),
         [4096, 4096, 4096, 1024, 1024, 256, 256, 256, 256, 256, 256]
     );
-    let even = Plan::even(side, 4096, 256).ok_or("a plan")?;
-    assert_eq!(rt; even.cap(), 256);
-    assert_eq!(rt; even.buckets(), [4096; 11]);
     let small = Plan::with_cap(side, 1).ok_or("a plan")?;
-    assert_eq!(rt; small.buckets(), usual.buckets());
-    assert_eq!(rt; small.cap(), 1);
+    assert_eq!(rt; (small.buckets(), small.cap()), (usual.buckets(), 1));
+    Ok(())
+}
+
+#[test]
+fn even_plans_keep_what_they_were_made_of(rt: HostRuntime) -> Result<(), Fail> {
+    let side = Side::new(256).ok_or("a side")?;
+    let even = Plan::even(side, 4096, 256).ok_or("a plan")?;
+    assert_eq!(rt; (even.buckets(), even.cap()), ([4096; 11], 256));
     for (buckets, cap) in [(0, 1), (4097, 1), (1, 0), (1, 257)] {
         assert!(rt; Plan::even(side, buckets, cap).is_none());
     }

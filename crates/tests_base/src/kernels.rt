@@ -1,7 +1,7 @@
 ghost use Rattle.std.specs.Prelude.{◌≡◌, ◌<◌};
 ghost use Rattle.vw_cell.specs.Counts.{cell_at};
 
-use crate::{ball_bits, box_bits, window_bits};
+use node_kernels::{ball_bits, box_bits, window_bits};
 use std::test::Fail;
 use vw_cell::{Ball, Block, Boxed, Cell};
 
@@ -19,9 +19,9 @@ fn cell_of(at: Cell, i: u16) -> Cell
     cell(at.x + i % 4, at.y + i / 4 % 4, at.z + i / 16)
 }
 
-#[test]
-fn boxes_are_those_of_a_plain_loop(rt: HostRuntime) -> Result<(), Fail> {
-    for (low, size, at) in [
+// Least corners and sizes of boxes, and the leaf to see them in.
+fn boxes() -> [(Cell, Cell, Cell); 12] {
+    [
         (cell(0, 0, 0), cell(64, 64, 64), cell(8, 12, 16)),
         (cell(9, 12, 16), cell(1, 2, 3), cell(8, 12, 16)),
         (cell(11, 15, 19), cell(1, 1, 1), cell(8, 12, 16)),
@@ -46,7 +46,12 @@ fn boxes_are_those_of_a_plain_loop(rt: HostRuntime) -> Result<(), Fail> {
             cell(65535, 2, 1),
             cell(65528, 65528, 65528),
         ),
-    ] {
+    ]
+}
+
+#[test]
+fn boxes_are_those_of_a_plain_loop(rt: HostRuntime) -> Result<(), Fail> {
+    for (low, size, at) in boxes() {
         let b = Boxed { at: low, size };
         let bits = box_bits(b, Block { level: 0, at });
         for i in 0..64u16 {
@@ -61,9 +66,9 @@ fn boxes_are_those_of_a_plain_loop(rt: HostRuntime) -> Result<(), Fail> {
     Ok(())
 }
 
-#[test]
-fn balls_are_those_of_a_plain_loop(rt: HostRuntime) -> Result<(), Fail> {
-    for (centre, radius, at) in [
+// Centres and radii of balls, and the leaf to see them in.
+fn balls() -> [(Cell, u16, Cell); 13] {
+    [
         (cell(9, 13, 17), 0, cell(8, 12, 16)),
         (cell(9, 13, 17), 1, cell(8, 12, 16)),
         (cell(8, 15, 19), 2, cell(8, 12, 16)),
@@ -77,7 +82,12 @@ fn balls_are_those_of_a_plain_loop(rt: HostRuntime) -> Result<(), Fail> {
         (cell(0, 0, 0), 4095, cell(2364, 2364, 2364)),
         (cell(4095, 4095, 4095), 7, cell(4088, 4088, 4092)),
         (cell(65535, 0, 65535), 65535, cell(0, 8, 65528)),
-    ] {
+    ]
+}
+
+#[test]
+fn balls_are_those_of_a_plain_loop(rt: HostRuntime) -> Result<(), Fail> {
+    for (centre, radius, at) in balls() {
         let b = Ball { centre, radius };
         let bits = ball_bits(b, Block { level: 0, at });
         for i in 0..64u16 {

@@ -1,8 +1,8 @@
 ghost use Rattle.std.specs.Prelude.{◌≡◌};
 ghost use Rattle.vw_cell.specs.Counts.{cell_at};
 
-use crate::{Ball, Block, Boxed, Cell, Side};
 use std::test::Fail;
+use vw_cell::{Ball, Block, Boxed, Cell, Side};
 
 fn cell(x: u16, y: u16, z: u16) -> Cell
     ensures { result ≡ cell_at x y z }

@@ -1,14 +1,12 @@
-use crate::{VoxFault, Voxel, cell_count, cells, read_models};
+use crate::files::ONE;
 use std::test::Fail;
+use vox_read::{VoxFault, Voxel, cell_count, cells, read_models};
 use vw_cell::Cell;
 
-/// A model of one cell: MAIN with the children SIZE at 20 and XYZI at 44, 64 bytes in all.
-const ONE: [u8; 64] =
-    *b"VOX \x96\0\0\0MAIN\0\0\0\0\x2c\0\0\0SIZE\x0c\0\0\0\0\0\0\0\x01\0\0\0\x01\0\0\0\x01\0\0\0XYZI\x08\0\0\0\0\0\0\0\x01\0\0\0\0\0\0\x01";
-
 /// Size 2 1 1. At x = 0 a colour and then none; at x = 1 a colour twice.
-const LAST: [u8; 76] =
-    *b"VOX \xc8\0\0\0MAIN\0\0\0\0\x38\0\0\0SIZE\x0c\0\0\0\0\0\0\0\x02\0\0\0\x01\0\0\0\x01\0\0\0XYZI\x14\0\0\0\0\0\0\0\x04\0\0\0\0\0\0\x05\0\0\0\0\x01\0\0\x07\x01\0\0\x07";
+const LAST: [u8; 76] = *b"VOX \xc8\0\0\0MAIN\0\0\0\0\x38\0\0\0\
+    SIZE\x0c\0\0\0\0\0\0\0\x02\0\0\0\x01\0\0\0\x01\0\0\0\
+    XYZI\x14\0\0\0\0\0\0\0\x04\0\0\0\0\0\0\x05\0\0\0\0\x01\0\0\x07\x01\0\0\x07";
 
 #[test]
 fn a_model_is_read_and_counted(rt: HostRuntime) -> Result<(), Fail> {

@@ -1,4 +1,4 @@
-use crate::BitSet;
+use bit_set::BitSet;
 use std::test::Fail;
 
 #[test]

@@ -1,4 +1,4 @@
-use crate::{Bucket, Lowered};
+use bucket_core::{Bucket, Lowered};
 use std::test::Fail;
 
 // What is done to a bucket of two slots, and what comes of it.
