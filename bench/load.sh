@@ -7,20 +7,12 @@
 # compares the loads of these numbers instead.
 set -eu
 here=$(cd "$(dirname "$0")" && pwd)
-root=$(dirname "$here")
-work=$here/work/load
-. "$here/copies.sh"
-crates="sums word_bits vw_cell bit_set vox_chunk vox_read vox_write plain_text history_model gen_load"
-mkdir -p "$work/crates/bench_load/src"
-copy_crates $crates
-cp "$here/load/main.rt.in" "$work/crates/bench_load/src/main.rt"
-list_crates "bench_load: vw_cell vox_read vox_write history_model plain_text gen_load" $crates
-cd "$work"
-(cd crates/bench_load && rt run > "$work/build.log" 2>&1) || true
-[ -x crates/bench_load/out/bench_load ] || { tail -20 "$work/build.log" >&2; exit 1; }
+. "$here/timing.sh"
+prove_program load "vw_cell vox_read vox_write history_model plain_text gen_load" \
+    sums word_bits vw_cell bit_set vox_chunk vox_read vox_write plain_text history_model gen_load
 [ $# -gt 0 ] || set -- 7 0 1 12345 999999 4294967295
 for n in "$@"; do
-    crates/bench_load/out/bench_load "$n" > product
+    "$program" "$n" > product
     python3 "$here/load/load.py" "$n" > peer
     cmp product peer || { echo "$n: the loads differ" >&2; exit 1; }
     echo "$n: the same $(wc -c < product) bytes"

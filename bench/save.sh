@@ -8,26 +8,12 @@
 set -eu
 here=$(cd "$(dirname "$0")" && pwd)
 . "$here/timing.sh"
-. "$here/copies.sh"
 build make_plain
-make_once "$here/work/ordered.vox" make_plain ordered
-work=$here/work/save
-crates="sums word_bits vw_cell bit_set vox_chunk vox_read vox_write"
-rounds=5
-mkdir -p "$work/crates/bench_save/src"
-copy_crates $crates
-cp "$here/save/main.rt.in" "$work/crates/bench_save/src/main.rt"
-list_crates "bench_save: vw_cell vox_chunk vox_read vox_write" $crates
-rustc --edition 2021 -O -C target-cpu=x86-64-v2 -o "$work/plain" "$here/save/plain.rs"
-cd "$work"
+make_once "$work/ordered.vox" make_plain ordered
+build_peer save
+prove_program save "vw_cell vox_chunk vox_read vox_write" sums word_bits vw_cell bit_set vox_chunk vox_read vox_write
 ln -sf ../ordered.vox ordered.vox
-(cd crates/bench_save && rt run > "$work/build.log" 2>&1) || true
-[ -x crates/bench_save/out/bench_save ] || { tail -20 "$work/build.log" >&2; exit 1; }
-: > times
-for ((round = 1; round <= rounds; round++)); do
-    crates/bench_save/out/bench_save | sed 's/^/product /' >> times
-    ./plain | sed 's/^/peer /' >> times
-done
+take_turns 5
 cmp product.vox ordered.vox
 # Lines are SIDE MICROSECONDS BYTES.
 awk '{ if (!($1 in best) || $2 < best[$1]) best[$1] = $2 }

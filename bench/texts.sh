@@ -7,25 +7,12 @@
 # rustc and Python.
 set -eu
 here=$(cd "$(dirname "$0")" && pwd)
-root=$(dirname "$here")
-work=$here/work/texts
-. "$here/copies.sh"
-crates="sums word_bits vw_cell bit_set vox_chunk vox_read plain_text history_model transcript"
-rounds=5
-mkdir -p "$work/crates/bench_texts/src"
-copy_crates $crates
-cp "$here/texts/main.rt.in" "$work/crates/bench_texts/src/main.rt"
-list_crates "bench_texts: plain_text vw_cell vox_read history_model transcript" $crates
-rustc -O -C target-cpu=x86-64-v2 -o "$work/plain" "$here/texts/plain.rs"
-cd "$work"
+. "$here/timing.sh"
+build_peer texts
+prove_program texts "plain_text vw_cell vox_read history_model transcript" \
+    sums word_bits vw_cell bit_set vox_chunk vox_read plain_text history_model transcript
 python3 "$here/texts/make.py"
-(cd crates/bench_texts && rt run > "$work/build.log" 2>&1) || true
-[ -x crates/bench_texts/out/bench_texts ] || { tail -20 "$work/build.log" >&2; exit 1; }
-: > times
-for ((round = 1; round <= rounds; round++)); do
-    crates/bench_texts/out/bench_texts | sed 's/^/product /' >> times
-    ./plain | sed 's/^/peer /' >> times
-done
+take_turns 5
 # Lines are SIDE KIND MICROSECONDS SUM.
 awk '
     !($2 in seen) { kinds[++number] = $2; seen[$2] = 1 }

@@ -3,6 +3,7 @@
 root=$(dirname "$here")
 work=$here/work
 product=${VOXDAG:-$root/.build/voxdag}
+. "$here/copies.sh"
 
 # build TOOL..: builds C programs of this folder.
 build() {
@@ -65,5 +66,39 @@ compare() {
             echo "$file: the product printed '$from_product' and the peer '$printed'" >&2
             return 1
         fi
+    done
+}
+
+# prove_program NAME LINE CRATE ..: makes `work` a folder of copies of these crates, and proves and builds there the program
+# of NAME/main.rt.in, which stands on those that LINE names. It is `program`, and `work` the folder to be in.
+prove_program() {
+    local name=$1 line=$2
+    shift 2
+    work=$work/$name
+    mkdir -p "$work/crates/bench_$name/src"
+    copy_crates "$@"
+    cp "$here/$name/main.rt.in" "$work/crates/bench_$name/src/main.rt"
+    list_crates "bench_$name: $line" "$@"
+    program=$work/crates/bench_$name/out/bench_$name
+    # It may end in a fault there, where what it reads is not made yet.
+    (cd "$work/crates/bench_$name" && rt run > "$work/build.log" 2>&1) || true
+    [ -x "$program" ] || { tail -20 "$work/build.log" >&2; exit 1; }
+    cd "$work"
+}
+
+# build_peer NAME: builds the peer of NAME/plain.rs, as `plain`.
+build_peer() {
+    mkdir -p "$work"
+    plain=$work/plain_$1
+    rustc --edition 2021 -O -C target-cpu=x86-64-v2 -o "$plain" "$here/$1/plain.rs"
+}
+
+# take_turns ROUNDS: runs the program and the peer in turn. Each line goes to the file `times`, behind its side's name.
+take_turns() {
+    local round
+    : > times
+    for ((round = 1; round <= $1; round++)); do
+        "$program" | sed 's/^/product /' >> times
+        "$plain" | sed 's/^/peer /' >> times
     done
 }
