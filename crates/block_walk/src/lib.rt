@@ -5,6 +5,7 @@
 
 mod answers;
 mod blocks;
+mod landings;
 mod laws;
 mod looks;
 mod parts;
@@ -12,7 +13,8 @@ mod sameness;
 
 pub use answers::{Answers, Query};
 pub use blocks::{half_side, leaf_bits, name_of, octant_name};
+pub use landings::{Landing, descend, octant_at};
 pub use laws::{octants_count_their_cells, parts_have_the_cells_of_their_box};
-pub use looks::{leaf_has, look, octant_at, outward, whole_block};
+pub use looks::{leaf_has, look, whole_block};
 pub use parts::{is_empty, part_of};
 pub use sameness::{same_boxes, same_cells, same_names};

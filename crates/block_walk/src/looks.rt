@@ -5,9 +5,11 @@ ghost use Rattle.vw_cell.specs.Counts.{cell_at};
 ghost use Rattle.node_shapes.specs.Shape.{bit_number};
 ghost use Rattle.block_walk.specs.Roots.{HasBlock, ForBlock, HoldsRoot, ForWorld, cells_of};
 ghost use Rattle.block_walk.specs.Looks.{LooksAt};
+ghost use Rattle.block_walk.specs.Landings.{IsAtMost, land_of};
 ghost use Rattle.block_walk.specs.Parts.{EndsBy, placed, placed_box, whole_of};
 
-use crate::blocks::{half_side, leaf_bits, octant_name};
+use crate::blocks::leaf_bits;
+use crate::landings::{Landing, descend};
 use node_shapes::Name;
 use node_words::Blocks;
 use vw_cell::{Boxed, Cell};
@@ -22,22 +24,33 @@ pub fn look<B: Blocks>(store: &mut B, level: u8, block: Option<Name>, c: Cell) -
     ensures seen { B.seen store.new ≡ B.seen store.old }
     ensures rests { B.rests store.old store.new }
 {
-    if block.is_none() {
-        return Some(whole_block(level));
+    let at = descend(store, level, block, c);
+    if at.block.is_none() {
+        return Some(land(c, at));
     }
-    if level == 0 {
-        let bits = leaf_bits(store, block);
-        return if leaf_has(bits, c) {
-            None
-        } else {
-            Some(single(c))
-        };
+    let bits = leaf_bits(store, at.block);
+    if leaf_has(bits, at.inner) {
+        None
+    } else {
+        Some(single(c))
     }
-    let (octant, inner) = octant_at(level, c);
-    let child = octant_name(store, level, block, octant);
-    match look(store, level - 1, child, inner) {
-        None => None,
-        Some(clear) => Some(outward(clear, level, octant)),
+}
+
+// The block of a landing, from the corner of the block in which it lies.
+fn land(c: Cell, at: Landing) -> Boxed
+    requires level { at.level ≤ 10 }
+    requires within { IsAtMost at.inner c }
+    ensures { result ≡ land_of c at }
+{
+    let corner = Cell {
+        x: c.x - at.inner.x,
+        y: c.y - at.inner.y,
+        z: c.z - at.inner.z,
+    };
+    let whole = whole_block(at.level);
+    Boxed {
+        at: corner,
+        size: whole.size,
     }
 }
 
@@ -72,72 +85,4 @@ pub fn leaf_has(bits: u64, c: Cell) -> bool
 {
     let bit = c.x + 4 * c.y + 16 * c.z;
     bits >> bit & 1 == 1
-}
-
-/// The octant that has the cell of a block, and the cell's place in it.
-#[tactic(auto, using(crate::proofs::LookLaws::halves_join, crate::proofs::LookLaws::twice))]
-pub fn octant_at(level: u8, c: Cell) -> (u8, Cell)
-    requires level { (1 ≤ level) × (level ≤ 10) }
-    requires cell { IsInWorld (block_side level) c }
-    ensures octant { result.0 < 8 }
-    ensures inner { IsInWorld (block_side (level - 1)) result.1 }
-    ensures place { c ≡ placed (block_side (level - 1)) result.0 result.1 }
-{
-    let half = half_side(level);
-    let x = half_of(c.x, half);
-    let y = half_of(c.y, half);
-    let z = half_of(c.z, half);
-    let inner = Cell {
-        x: x.place,
-        y: y.place,
-        z: z.place,
-    };
-    (x.upper + 2 * y.upper + 4 * z.upper, inner)
-}
-
-// The lower or the upper half, and a place in it.
-#[derive(Clone, Copy)]
-struct Half {
-    upper: u8,
-    place: u16,
-}
-
-// Which half has the place. It divides by nothing, since a walk asks this thrice a level.
-fn half_of(place: u16, half: u16) -> Half
-    requires { place < half * 2 }
-    ensures place { place ≡ result.upper * half + result.place }
-    ensures upper { result.upper < 2 }
-    ensures below { result.place < half }
-{
-    if place < half {
-        Half { upper: 0, place }
-    } else {
-        let place = place - half;
-        Half { upper: 1, place }
-    }
-}
-
-/// A box of an octant, told from the block's corner.
-pub fn outward(b: Boxed, level: u8, octant: u8) -> Boxed
-    requires level { (1 ≤ level) × (level ≤ 10) }
-    requires octant { octant < 8 }
-    requires within { EndsBy (block_side (level - 1)) b }
-    ensures { result ≡ placed_box (block_side (level - 1)) octant b }
-{
-    let half = half_side(level);
-    let at = Cell {
-        x: half_corner(octant % 2, half) + b.at.x,
-        y: half_corner(octant / 2 % 2, half) + b.at.y,
-        z: half_corner(octant / 4 % 2, half) + b.at.z,
-    };
-    Boxed { at, size: b.size }
-}
-
-// Where the lower or the upper half begins.
-fn half_corner(upper: u8, half: u16) -> u16
-    requires { upper < 2 }
-    ensures corner { result ≡ upper * half }
-    ensures bound { result ≤ half }
-{
-    if upper == 0 { 0 } else { half }
 }

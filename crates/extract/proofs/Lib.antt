@@ -1,2 +1,3 @@
 mod ListingLaws
 mod LeafLaws
+mod FillLaws

@@ -53,11 +53,10 @@ fn box_in<B: Blocks>(store: &mut B, level: u8, block: Option<Name>, b: Boxed, in
     ensures seen { B.seen store.new ≡ B.seen store.old }
     ensures rests { B.rests store.old store.new }
 {
-    let mut leaves = [0; 4225];
     let mut z = 0;
     while z < b.size.z {
         let n = run_length(b.at.z + z, b.size.z - z);
-        gather(store, level, block, b, z, &mut leaves);
+        let leaves = gather(store, level, block, b, z);
         layers_in(&leaves, b, z, n, into);
         z += n;
     }

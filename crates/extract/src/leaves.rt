@@ -1,87 +1,141 @@
-ghost use Rattle.std.specs.Prelude.{◌≡◌, ℕ, ◌+◌, ◌<◌, ◌≤◌, ◌/◌};
-ghost use Rattle.vw_cell.specs.Places.{block_side, IsInWorld};
+ghost use Rattle.std.specs.Prelude.{◌≡◌, ℕ, ◌+◌, ◌*◌, ◌<◌, ◌≤◌, ◌/◌, ◌↔◌, IsTrue};
+ghost use Rattle.vw_cell.specs.Places.{block_side, IsInBlock, LiesIn, octant_of};
 ghost use Rattle.block_walk.specs.Roots.{HasBlock, ForBlock, cells_of};
 ghost use Rattle.block_walk.specs.Parts.{EndsBy};
-ghost use Rattle.node_kernels.specs.Leaves.{LeafShows};
-ghost use Rattle.extract.specs.Layers.{HoldsLayer, IsLeafCorner, IsSmallLayer, leaf_block, leaf_corner, leaves_in};
+ghost use Rattle.measure.specs.Widening.{ForPlace};
+ghost use Rattle.extract.specs.Layers.{HoldsLayer, IsLeafCorner, IsSmallLayer, leaf_corner, leaves_in};
+ghost use Rattle.extract.specs.Filling.{Fills, MeetsLayer};
 
-use block_walk::{leaf_bits, octant_at, octant_name};
+use block_walk::{leaf_bits, octant_name};
 use node_shapes::Name;
 use node_words::Blocks;
-use vw_cell::{Boxed, Cell};
+use vw_cell::{Block, Boxed, Cell};
 
-/// Reads the leaves of the layer of a box that has its z-th layer of cells, row by row.
+/// The leaves of the layer of a box that has its z-th layer of cells, row by row.
 pub(crate) fn gather<B: Blocks>(
     store: &mut B,
     level: u8,
     block: Option<Name>,
     b: Boxed,
     z: u16,
-    leaves: &mut [u64; 4225],
-)
+) -> [u64; 4225]
     requires level { level ≤ 10 }
     requires block { HasBlock (B.seen store.old).held level block }
     requires b { IsSmallLayer b }
     requires ends { EndsBy (block_side level) b }
     requires z { z < b.size.z }
     ensures layer { ForBlock (B.seen store.old).held level block
-        (λ s. HoldsLayer leaves.new b ((b.at.z + z) / 4) (leaves_in b) (cells_of level s)) }
+        (λ s. HoldsLayer result b ((b.at.z + z) / 4) (leaves_in b) (cells_of level s)) }
     ensures seen { B.seen store.new ≡ B.seen store.old }
     ensures rests { B.rests store.old store.new }
 {
-    let number = number_of(b);
-    for m in 0..number {
-        let c = corner_of(b, (b.at.z + z) / 4, m);
-        let bits = leaf_of(store, level, block, c);
-        leaves[usize::from(m)] = bits;
-    }
+    let mut leaves = [0; 4225];
+    let at = Cell { x: 0, y: 0, z: 0 };
+    let place = Block { level, at };
+    fill(store, block, place, b, (b.at.z + z) / 4, &mut leaves);
+    leaves
 }
 
-// How many leaves one layer of the box meets.
-fn number_of(b: Boxed) -> u16
-    requires b { IsSmallLayer b }
-    ensures number { result ≡ leaves_in b }
-    ensures few { result ≤ 4225 }
-{
-    let along = (b.at.x + b.size.x + 3) / 4 - b.at.x / 4;
-    let down = (b.at.y + b.size.y + 3) / 4 - b.at.y / 4;
-    down * along
-}
-
-// The corner of the m-th leaf of a layer of the box.
-fn corner_of(b: Boxed, layer: u16, m: u16) -> Cell
+// Reads the leaves of a layer of the box that lie in a block. The words of others stay; those of
+// leaves in which nothing stands must be 0 already.
+#[cycle(fill)]
+fn fill<B: Blocks>(
+    store: &mut B,
+    block: Option<Name>,
+    place: Block,
+    b: Boxed,
+    layer: u16,
+    leaves: &mut [u64; 4225],
+)
+    requires level { place.level ≤ 10 }
+    requires block { HasBlock (B.seen store.old).held place.level block }
+    requires inside { LiesIn 4096 place }
+    requires corner { IsLeafCorner place.at }
     requires b { IsSmallLayer b }
     requires layer { layer < 1024 }
-    requires m { m < leaves_in b }
-    ensures corner { result ≡ leaf_corner b layer m }
-    ensures is { IsLeafCorner result }
-{
-    let along = (b.at.x + b.size.x + 3) / 4 - b.at.x / 4;
-    Cell {
-        x: 4 * (b.at.x / 4 + m % along),
-        y: 4 * (b.at.y / 4 + m / along),
-        z: 4 * layer,
-    }
-}
-
-// The bits of the leaf that begins at a cell of the block.
-fn leaf_of<B: Blocks>(store: &mut B, level: u8, block: Option<Name>, c: Cell) -> u64
-    requires level { level ≤ 10 }
-    requires block { HasBlock (B.seen store.old).held level block }
-    requires cell { IsInWorld (block_side level) c }
-    requires corner { IsLeafCorner c }
-    ensures bits { ForBlock (B.seen store.old).held level block
-        (λ s. LeafShows result (leaf_block c) (cells_of level s)) }
+    requires meets { MeetsLayer place b layer }
+    ensures fills { ForPlace (B.seen store.old).held block place (λ cells. Fills
+        (λ m. IsInBlock place (leaf_corner b layer m)) b layer cells leaves.old leaves.new) }
     ensures seen { B.seen store.new ≡ B.seen store.old }
     ensures rests { B.rests store.old store.new }
 {
     if block.is_none() {
-        return 0;
+        return;
     }
-    if level == 0 {
-        return leaf_bits(store, block);
+    if place.level == 0 {
+        let bits = leaf_bits(store, block);
+        let m = number_at(place, b, layer);
+        leaves[m] = bits;
+        return;
     }
-    let (octant, inner) = octant_at(level, c);
-    let child = octant_name(store, level, block, octant);
-    leaf_of(store, level - 1, child, inner)
+    for octant in 0..8u8 {
+        fill_octant(store, block, place, octant, b, layer, leaves);
+    }
+}
+
+// The same of an octant, unless it has no leaf of the layer.
+#[cycle(fill)]
+fn fill_octant<B: Blocks>(
+    store: &mut B,
+    block: Option<Name>,
+    place: Block,
+    octant: u8,
+    b: Boxed,
+    layer: u16,
+    leaves: &mut [u64; 4225],
+)
+    requires level { (1 ≤ place.level) × (place.level ≤ 10) }
+    requires block { HasBlock (B.seen store.old).held place.level block }
+    requires inside { LiesIn 4096 place }
+    requires corner { IsLeafCorner place.at }
+    requires octant { octant < 8 }
+    requires b { IsSmallLayer b }
+    requires layer { layer < 1024 }
+    ensures fills { ForPlace (B.seen store.old).held block place (λ cells. Fills
+        (λ m. IsInBlock (octant_of place octant) (leaf_corner b layer m)) b layer cells
+        leaves.old leaves.new) }
+    ensures block { HasBlock (B.seen store.new).held place.level block }
+    ensures seen { B.seen store.new ≡ B.seen store.old }
+    ensures rests { B.rests store.old store.new }
+{
+    let inner = place.child(octant);
+    if !meets(inner, b, layer) {
+        return;
+    }
+    let child = octant_name(store, place.level, block, octant);
+    fill(store, child, inner, b, layer, leaves);
+}
+
+// Whether a block has a leaf of a layer of the box.
+#[tactic(auto, using(block_walk::proofs::LookLaws::whole_side))]
+fn meets(place: Block, b: Boxed, layer: u16) -> bool
+    requires level { place.level ≤ 10 }
+    requires inside { LiesIn 4096 place }
+    requires b { IsSmallLayer b }
+    requires layer { layer < 1024 }
+    ensures { IsTrue result ↔ MeetsLayer place b layer }
+{
+    let side = 4u16 << place.level;
+    place.at.x < b.at.x + b.size.x
+        && b.at.x < place.at.x + side
+        && place.at.y < b.at.y + b.size.y
+        && b.at.y < place.at.y + side
+        && place.at.z <= 4 * layer
+        && 4 * layer < place.at.z + side
+}
+
+// The number of a leaf in its layer, row by row.
+fn number_at(place: Block, b: Boxed, layer: u16) -> usize
+    requires level { place.level ≡ 0 }
+    requires corner { IsLeafCorner place.at }
+    requires b { IsSmallLayer b }
+    requires meets { MeetsLayer place b layer }
+    ensures below { result < leaves_in b }
+    ensures few { result < 4225 }
+    ensures corner { leaf_corner b layer result ≡ place.at }
+{
+    let along = (b.at.x + b.size.x + 3) / 4 - b.at.x / 4;
+    let down = place.at.y / 4 - b.at.y / 4;
+    let right = place.at.x / 4 - b.at.x / 4;
+    usize::from(down) * usize::from(along) + usize::from(right)
 }

@@ -8,9 +8,6 @@ use block_walk::leaf_has;
 use vox_read::Voxel;
 use vw_cell::{Boxed, Cell};
 
-/// As many words as one layer of leaves of a box can have: 65 by 65.
-pub(crate) const LEAVES: usize = 4225;
-
 /// Appends some layers of a box, which lie in one layer of leaves.
 pub(crate) fn layers_in(leaves: &[u64; 4225], b: Boxed, z: u16, n: u16, into: &mut Vec<Voxel>)
     requires b { IsSmallLayer b }

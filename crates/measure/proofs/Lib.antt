@@ -5,7 +5,6 @@ mod AxisLaws
 mod BareLaws
 mod BareLeaves
 mod FaceLaws
-mod WideningLaws
+pub mod WideningLaws
 mod PruningLaws
 mod WholeLaws
-mod GetLaws

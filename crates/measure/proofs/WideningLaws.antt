@@ -99,12 +99,12 @@ pub octant_set_in : (place : Block) (cells : Cell → Bool) (k : ℕ) (c : Cell)
 octant_set_in place cells k c h lt s = record { inside = octant_within place k c h lt s.inside; set = s.set }
 
 -- each cell of a block lies in an octant
-record HasOctant (place : Block) (c : Cell) : Type 0 where
-  octant : ℕ
-  below : octant < 8
-  inside : IsInBlock (octant_of place octant) c
+pub record HasOctant (place : Block) (c : Cell) : Type 0 where
+  pub octant : ℕ
+  pub below : octant < 8
+  pub inside : IsInBlock (octant_of place octant) c
 
-has_octant : (place : Block) (c : Cell) → 1 ≤ place.level → IsInBlock place c → HasOctant place c
+pub has_octant : (place : Block) (c : Cell) → 1 ≤ place.level → IsInBlock place c → HasOctant place c
 has_octant place c h i =
     let half : ℕ = block_side (place.level - 1) in
     let some = block_side_some (place.level - 1) in
@@ -253,7 +253,7 @@ bits_all place cells bit old new e f p =
 same_place : (level : ℕ) (s : Shape) (x y z x' y' z' : ℕ) → x ≡ x' → y ≡ y' → z ≡ z' → has level s x y z ≡ has level s x' y' z'
 same_place level s x y z x' y' z' p q r = rw (p, q, r) refl
 
-shown_root : (level : ℕ) (s : Shape) → ShowsCells (record { level = level; at = cell_at 0 0 0 }) s (cells_of level s)
+pub shown_root : (level : ℕ) (s : Shape) → ShowsCells (record { level = level; at = cell_at 0 0 0 }) s (cells_of level s)
 shown_root level s = record { each = λ c i. same_place level s (c.x - 0) (c.y - 0) (c.z - 0) c.x c.y c.z (omega arith) (omega arith) (omega arith) }
 
 root_extent : (side level : ℕ) (cells : Cell → Bool) (new : Option Boxed) → side ≡ block_side level → Widens (IsSetIn (record { level = level; at = cell_at 0 0 0 }) cells) (IsSetIn (record { level = level; at = cell_at 0 0 0 }) cells) None new → IsExtent side cells new

@@ -5,7 +5,7 @@ ghost use Rattle.block_walk.specs.Roots.{HasBlock, ForBlock, HoldsRoot, ForWorld
 ghost use Rattle.measure.specs.Subjects.{PassesSet};
 
 use crate::tallies::{Part, Subject, tally};
-use block_walk::{Answers, leaf_bits, leaf_has, name_of, octant_at, octant_name, same_names};
+use block_walk::{Answers, descend, leaf_bits, leaf_has, name_of, octant_name, same_names};
 use node_shapes::Name;
 use node_words::{Blocks, Share};
 use vw_cell::{Boxed, Cell, Side};
@@ -32,16 +32,12 @@ fn is_set_in<B: Blocks>(store: &mut B, level: u8, block: Option<Name>, c: Cell) 
     ensures seen { B.seen store.new ≡ B.seen store.old }
     ensures rests { B.rests store.old store.new }
 {
-    if block.is_none() {
+    let at = descend(store, level, block, c);
+    if at.block.is_none() {
         return false;
     }
-    if level == 0 {
-        let bits = leaf_bits(store, block);
-        return leaf_has(bits, c);
-    }
-    let (octant, inner) = octant_at(level, c);
-    let child = octant_name(store, level, block, octant);
-    is_set_in(store, level - 1, child, inner)
+    let bits = leaf_bits(store, at.block);
+    leaf_has(bits, at.inner)
 }
 
 /// The number of set cells of a box of the root's world.

@@ -16,7 +16,7 @@ layers_in-requires-clause-room g c =
     let o = c.requires.block.is_block in
     let cells = cells_of c.args.level (shape_of t) in (
       cells,
-      c.gather.ensures.layer t (block_still (seen c.args.store.now) (seen c.loop-z.store) c.args.level c.args.block t c.loop-z.invariant.same o),
+      c.gather-leaves.ensures.layer t (block_still (seen c.args.store.now) (seen c.loop-z.store) c.args.level c.args.block t c.loop-z.invariant.same o),
       room_run c.loop-z.z c.run_length-n.result c.args.b.size.z (box_layer cells c.args.b) c.args.into.now c.loop-z.into (omega (arith, c.run_length-n.ensures.within, c.loop-z-test.true)) (c.requires.room t o) (c.loop-z.invariant.appended t o),
     )
 
@@ -26,7 +26,7 @@ loop-z-preserved g c =
     record {
       within = omega (arith, c.run_length-n.ensures.within, c.loop-z-test.true);
       appended = λ t o. appends_run c.loop-z.z c.run_length-n.result (box_layer (cells_of c.args.level (shape_of t)) c.args.b) c.args.into.now c.loop-z.into c.layers_in.new.into (c.loop-z.invariant.appended t o)
-          (c.layers_in.ensures.appended (cells_of c.args.level (shape_of t)) (c.gather.ensures.layer t (block_still (seen c.args.store.now) (seen c.loop-z.store) c.args.level c.args.block t c.loop-z.invariant.same o)));
-      same = c.gather.ensures.seen ∙ c.loop-z.invariant.same;
-      rests = g.met.B.Blocks.rests_on _ _ _ c.loop-z.invariant.rests c.gather.ensures.rests;
+          (c.layers_in.ensures.appended (cells_of c.args.level (shape_of t)) (c.gather-leaves.ensures.layer t (block_still (seen c.args.store.now) (seen c.loop-z.store) c.args.level c.args.block t c.loop-z.invariant.same o)));
+      same = c.gather-leaves.ensures.seen ∙ c.loop-z.invariant.same;
+      rests = g.met.B.Blocks.rests_on _ _ _ c.loop-z.invariant.rests c.gather-leaves.ensures.rests;
     }
