@@ -49,7 +49,7 @@ fn a_copy_makes_what_it_may(rt: HostRuntime) -> Result<(), Fail> {
 
 #[test]
 fn ways_have_short_steps(rt: HostRuntime) {
-    for (dx, dy, dz, is_way) in [
+    for &(dx, dy, dz, is_way) in &[
         (1, -1, 0, true),
         (-1024, 1024, 1024, true),
         (0, 0, 1, true),
@@ -112,17 +112,20 @@ fn acts_are_spelled_with_any_numbers(rt: HostRuntime) -> Result<(), Fail> {
 
 #[test]
 fn words_of_no_act_have_their_first_fault(rt: HostRuntime) {
-    for (line, fault) in [
-        (b"jump".as_slice(), WordFault::Word),
-        (b"", WordFault::Word),
-        (b"fill 0 0 0 1 x", WordFault::Missing),
-        (b"undo ", WordFault::Extra),
-        (b"fill 0 0 0 x 1 1 1", WordFault::Extra),
-        (b"copy x 0 0 1 1 1 at 0 0 0", WordFault::Word),
-        (b"fill 0 0 0 1 1 01", WordFault::Number),
-        (b"erase 0 0 0 1 1 4294967296", WordFault::Number),
+    for &(line, fault) in &[
+        ("jump", WordFault::Word),
+        ("", WordFault::Word),
+        ("fill 0 0 0 1 x", WordFault::Missing),
+        ("undo ", WordFault::Extra),
+        ("fill 0 0 0 x 1 1 1", WordFault::Extra),
+        ("copy x 0 0 1 1 1 at 0 0 0", WordFault::Word),
+        ("fill 0 0 0 1 1 01", WordFault::Number),
+        ("erase 0 0 0 1 1 4294967296", WordFault::Number),
     ] {
-        assert!(rt; read_line(line).err() == Some(fault), "{fault:?}");
+        assert!(rt;
+            read_line(line.as_bytes()).err() == Some(fault),
+            "{fault:?}"
+        );
     }
 }
 

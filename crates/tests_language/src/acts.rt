@@ -18,5 +18,6 @@ pub fn record(session: u16, line: u32, act: Act) -> Record {
 }
 
 /// A VOX file of 64 bytes, with one model of one cell.
-pub const ONE: [u8; 64] =
-    *b"VOX \x96\0\0\0MAIN\0\0\0\0\x2c\0\0\0SIZE\x0c\0\0\0\0\0\0\0\x01\0\0\0\x01\0\0\0\x01\0\0\0XYZI\x08\0\0\0\0\0\0\0\x01\0\0\0\0\0\0\x01";
+pub const ONE: [u8; 64] = *b"VOX \x96\0\0\0MAIN\0\0\0\0\x2c\0\0\0\
+    SIZE\x0c\0\0\0\0\0\0\0\x01\0\0\0\x01\0\0\0\x01\0\0\0\
+    XYZI\x08\0\0\0\0\0\0\0\x01\0\0\0\0\0\0\x01";

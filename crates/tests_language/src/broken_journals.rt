@@ -7,7 +7,7 @@ use vw_cell::Side;
 const HEAD: &str = "voxdag journal 1\nside 8\n";
 
 // What may stand behind the first two lines, and the number of the first line that doesn't fit.
-const BROKEN: [(&str, u32); 47] = [
+const BROKEN: &[(&str, u32)] = &[
     ("end\r\n", 3),
     ("End\n", 3),
     ("end \n", 3),
@@ -69,7 +69,7 @@ fn joined(alloc: Global, front: &str, behind: &str) -> Result<Vec<u8>, AllocErro
 
 #[test]
 fn each_kind_of_broken_line_is_told(rt: HostRuntime) -> Result<(), Fail> {
-    for (behind, line) in BROKEN {
+    for &(behind, line) in BROKEN {
         let text = joined(rt.alloc(), HEAD, behind)?;
         let fault = read_journal(rt.alloc(), &text).err().ok_or("a fault")?;
         assert!(rt; fault == JournalFault::Line(line), "at {behind}");
@@ -79,7 +79,7 @@ fn each_kind_of_broken_line_is_told(rt: HostRuntime) -> Result<(), Fail> {
 
 #[test]
 fn a_journal_begins_with_its_head(rt: HostRuntime) -> Result<(), Fail> {
-    for (text, line) in [
+    for &(text, line) in &[
         ("voxdag journal 2\nside 8\nend\n", 1),
         ("voxdag journal 1 \nside 8\nend\n", 1),
         ("side 8\nend\n", 1),

@@ -21,11 +21,27 @@ fn two_marks(alloc: Global) -> Result<Vec<Mark>, Fail> {
     ]?)
 }
 
-const UNDOES: &str =
-    "voxdag journal 1\nside 8\n1 0 2 fill 0 0 0 1 1 1\n2 0 3 undo\n3 0 4 fill 1 0 0 1 1 1\n4 0 6 undo\nend\n";
+const UNDOES: &str = "voxdag journal 1\n\
+    side 8\n\
+    1 0 2 fill 0 0 0 1 1 1\n\
+    2 0 3 undo\n\
+    3 0 4 fill 1 0 0 1 1 1\n\
+    4 0 6 undo\n\
+    end\n";
 
-const EVERY_ACT: &str =
-    "voxdag journal 1\nside 4096\n1 0 1 fill 0 1 2 3 4 5\n2 1 70000 erase 10 0 0 1 1 1\n3 63 3 ball 4 5 6 4095\n4 0 4 carve 4000 5 6 0\n5 0 5 copy 0 0 0 4 1 2 to 1 0 3\n6 2 6 stamp 1023 1 2 3\n7 0 7 undo\n8 0 8 redo\nmark 3 5 1 9\nmark 4 8 0 10\nend\n";
+const EVERY_ACT: &str = "voxdag journal 1\n\
+    side 4096\n\
+    1 0 1 fill 0 1 2 3 4 5\n\
+    2 1 70000 erase 10 0 0 1 1 1\n\
+    3 63 3 ball 4 5 6 4095\n\
+    4 0 4 carve 4000 5 6 0\n\
+    5 0 5 copy 0 0 0 4 1 2 to 1 0 3\n\
+    6 2 6 stamp 1023 1 2 3\n\
+    7 0 7 undo\n\
+    8 0 8 redo\n\
+    mark 3 5 1 9\n\
+    mark 4 8 0 10\n\
+    end\n";
 
 #[test]
 fn journals_are_exact(rt: HostRuntime) -> Result<(), Fail> {
@@ -94,7 +110,7 @@ fn journals_are_read(rt: HostRuntime) -> Result<(), Fail> {
 
 #[test]
 fn the_first_line_that_does_not_fit_is_told(rt: HostRuntime) -> Result<(), Fail> {
-    for (text, line) in [
+    for &(text, line) in &[
         ("", 1),
         ("voxdag journal 1", 1),
         ("voxdag journal 1\n", 2),

@@ -37,7 +37,7 @@ fn a_line_has_an_end(rt: HostRuntime) {
 
 #[test]
 fn numbers_have_one_form(rt: HostRuntime) {
-    for (word, value) in [
+    for &(word, value) in &[
         ("0", Some(0)),
         ("7", Some(7)),
         ("4294967295", Some(4_294_967_295)),
@@ -56,7 +56,7 @@ fn numbers_have_one_form(rt: HostRuntime) {
 
 #[test]
 fn numbers_are_at_most_what_is_said(rt: HostRuntime) {
-    for (word, most, value) in [
+    for &(word, most, value) in &[
         ("255", 255, Some(255)),
         ("256", 255, None),
         ("0", 0, Some(0)),
@@ -86,7 +86,7 @@ fn read_line(line: &[u8]) -> Result<u32, WordFault> {
 
 #[test]
 fn words_are_taken_one_after_another(rt: HostRuntime) {
-    for (line, read) in [
+    for &(line, read) in &[
         ("a b c to 17", Ok(17)),
         ("a b c to", Err(WordFault::Missing)),
         ("a b", Err(WordFault::Missing)),

@@ -7,7 +7,7 @@ use vw_cell::Side;
 
 // Lines with a fault, for a world of side 8 and one model of one cell. Each has the fault that
 // comes first, of those that it has.
-const WORDS: [(&str, ScriptKind); 41] = [
+const WORDS: &[(&str, ScriptKind)] = &[
     ("# \x7f", ScriptKind::NotAscii),
     ("head \x1f", ScriptKind::NotAscii),
     ("jump \u{e9}", ScriptKind::NotAscii),
@@ -51,7 +51,7 @@ const WORDS: [(&str, ScriptKind); 41] = [
     ("at x bounds 1", ScriptKind::Extra),
 ];
 
-const NUMBERS: [(&str, ScriptKind); 38] = [
+const NUMBERS: &[(&str, ScriptKind)] = &[
     ("copy x 0 0 1 1 1 at 0 0 0", ScriptKind::Word),
     ("copy 0 0 0 1 1 1 TO 0 0 0", ScriptKind::Word),
     ("copy 0 0 0 1 1 x to 0 0 0", ScriptKind::Number),
@@ -100,10 +100,10 @@ fn fault(line: u32, kind: ScriptKind) -> Option<ScriptFault> {
 fn each_line_has_its_first_fault(rt: HostRuntime) -> Result<(), Fail> {
     let side = Side::new(8).ok_or("a side")?;
     let models = read_models(rt.alloc(), &ONE)?;
-    for rows in [WORDS.as_slice(), NUMBERS.as_slice()] {
-        for (text, kind) in rows {
+    for rows in [WORDS, NUMBERS] {
+        for &(text, kind) in rows {
             let read = read_script(rt.alloc(), text.as_bytes(), side, &models);
-            assert!(rt; read.err() == fault(1, *kind), "at {text}");
+            assert!(rt; read.err() == fault(1, kind), "at {text}");
         }
     }
     Ok(())
@@ -113,7 +113,7 @@ fn each_line_has_its_first_fault(rt: HostRuntime) -> Result<(), Fail> {
 fn the_first_line_with_a_fault_decides(rt: HostRuntime) -> Result<(), Fail> {
     let side = Side::new(8).ok_or("a side")?;
     let models = read_models(rt.alloc(), &ONE)?;
-    for (text, line, kind) in [
+    for &(text, line, kind) in &[
         ("head\n\nfill 0 0 0 0 1 1\njump\n", 3, ScriptKind::Range),
         ("undo\r\n# \x01\njump", 2, ScriptKind::NotAscii),
         ("head\nhead\nhead 1", 3, ScriptKind::Extra),
@@ -153,7 +153,7 @@ fn a_script_has_at_most_100000_lines(rt: HostRuntime) -> Result<(), Fail> {
 
 #[test]
 fn kinds_have_their_numbers(rt: HostRuntime) {
-    for (kind, number) in [
+    for &(kind, number) in &[
         (ScriptKind::Word, 1),
         (ScriptKind::Number, 2),
         (ScriptKind::Range, 3),

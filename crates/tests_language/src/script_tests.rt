@@ -1,13 +1,9 @@
-use crate::acts::{ONE, ball, boxed, cell};
+use crate::acts::{ONE, boxed, cell};
 use history_model::{Act, Question, Way};
 use script::{Command, ScriptLine, number, read_bit_script, read_script};
 use std::test::Fail;
 use vox_read::read_models;
-use vw_cell::Side;
-
-fn edit(act: Act) -> Command {
-    Command::Edit { act, once: false }
-}
+use vw_cell::{Ball, Boxed, Cell, Side};
 
 fn ask(question: Question) -> Command {
     Command::Ask {
@@ -31,40 +27,63 @@ fn is_only(lines: &[ScriptLine], command: Command) -> bool {
     }
 }
 
-fn filled() -> Command {
-    edit(Act::Fill(boxed(cell(0, 0, 0), cell(1, 1, 1))))
-}
+const ORIGIN: Cell = Cell { x: 0, y: 0, z: 0 };
 
-fn changes() -> [(&'static str, Command); 12] {
-    let origin = cell(0, 0, 0);
-    let all = boxed(origin, cell(4096, 4096, 4096));
-    [
-        ("fill 0 0 0 1 1 1", filled()),
-        ("fill 0 0 0 1 1 1\n", filled()),
-        ("fill 0 0 0 1 1 1\r\n", filled()),
-        ("\t fill\t 0  0 0\t\t1 1 1 \t\n", filled()),
-        ("fill 000000000 00 0 000000001 01 1", filled()),
-        ("erase 0 0 0 4096 4096 4096", edit(Act::Erase(all))),
-        (
-            "ball 4 5 6 4095",
-            edit(Act::Ball(ball(cell(4, 5, 6), 4095))),
-        ),
-        (
-            "carve 4095 0 7 0",
-            edit(Act::Carve(ball(cell(4095, 0, 7), 0))),
-        ),
-        (
-            "copy 0 0 0 4 1 1 to 1 0 0",
-            edit(Act::Copy(boxed(origin, cell(4, 1, 1)), cell(1, 0, 0))),
-        ),
-        (
-            "stamp 0 4095 4095 4095",
-            edit(Act::Stamp(0, cell(4095, 4095, 4095))),
-        ),
-        ("undo", edit(Act::Undo)),
-        ("redo", edit(Act::Redo)),
-    ]
-}
+const UNIT: Boxed = Boxed {
+    at: ORIGIN,
+    size: Cell { x: 1, y: 1, z: 1 },
+};
+
+const ALL: Boxed = Boxed {
+    at: ORIGIN,
+    size: Cell {
+        x: 4096,
+        y: 4096,
+        z: 4096,
+    },
+};
+
+const ROW: Boxed = Boxed {
+    at: ORIGIN,
+    size: Cell { x: 4, y: 1, z: 1 },
+};
+
+const NEXT: Cell = Cell { x: 1, y: 0, z: 0 };
+
+const LAST: Cell = Cell {
+    x: 4095,
+    y: 4095,
+    z: 4095,
+};
+
+const WIDE: Ball = Ball {
+    centre: Cell { x: 4, y: 5, z: 6 },
+    radius: 4095,
+};
+
+const POINT: Ball = Ball {
+    centre: Cell {
+        x: 4095,
+        y: 0,
+        z: 7,
+    },
+    radius: 0,
+};
+
+const CHANGES: &[(&str, Act)] = &[
+    ("fill 0 0 0 1 1 1", Act::Fill(UNIT)),
+    ("fill 0 0 0 1 1 1\n", Act::Fill(UNIT)),
+    ("fill 0 0 0 1 1 1\r\n", Act::Fill(UNIT)),
+    ("\t fill\t 0  0 0\t\t1 1 1 \t\n", Act::Fill(UNIT)),
+    ("fill 000000000 00 0 000000001 01 1", Act::Fill(UNIT)),
+    ("erase 0 0 0 4096 4096 4096", Act::Erase(ALL)),
+    ("ball 4 5 6 4095", Act::Ball(WIDE)),
+    ("carve 4095 0 7 0", Act::Carve(POINT)),
+    ("copy 0 0 0 4 1 1 to 1 0 0", Act::Copy(ROW, NEXT)),
+    ("stamp 0 4095 4095 4095", Act::Stamp(0, LAST)),
+    ("undo", Act::Undo),
+    ("redo", Act::Redo),
+];
 
 fn questions(way: Way, back: Way) -> [(&'static str, Command); 14] {
     let part = boxed(cell(1, 2, 3), cell(4, 5, 6));
@@ -99,8 +118,9 @@ fn questions(way: Way, back: Way) -> [(&'static str, Command); 14] {
 fn every_change_is_read(rt: HostRuntime) -> Result<(), Fail> {
     let side = Side::new(4096).ok_or("a side")?;
     let models = read_models(rt.alloc(), &ONE)?;
-    for (text, command) in changes() {
+    for &(text, act) in CHANGES {
         let script = read_script(rt.alloc(), text.as_bytes(), side, &models)?;
+        let command = Command::Edit { act, once: false };
         assert!(rt; is_only(&script.lines, command), "at {text}");
     }
     Ok(())
@@ -132,7 +152,7 @@ fn lines_of(lines: &[ScriptLine]) -> u64 {
 fn comments_and_empty_lines_are_no_commands(rt: HostRuntime) -> Result<(), Fail> {
     let side = Side::new(8).ok_or("a side")?;
     let models = read_models(rt.alloc(), &ONE)?;
-    for (text, lines) in [
+    for &(text, lines) in &[
         ("", 0),
         ("\n\n", 0),
         (" \t\r\n#", 0),
@@ -150,7 +170,7 @@ fn comments_and_empty_lines_are_no_commands(rt: HostRuntime) -> Result<(), Fail>
 fn a_run_over_bits_knows_four_commands(rt: HostRuntime) -> Result<(), Fail> {
     let side = Side::new(8).ok_or("a side")?;
     let models = read_models(rt.alloc(), &ONE)?;
-    for (text, known) in [
+    for &(text, known) in &[
         ("fill 0 0 0 1 1 1", true),
         ("erase 0 0 0 1 1 1", true),
         ("stamp 0 0 0 0", true),
@@ -167,7 +187,7 @@ fn a_run_over_bits_knows_four_commands(rt: HostRuntime) -> Result<(), Fail> {
 
 #[test]
 fn numbers_have_one_to_nine_digits(rt: HostRuntime) {
-    for (word, value) in [
+    for &(word, value) in &[
         ("0", Some(0)),
         ("000000007", Some(7)),
         ("999999999", Some(999_999_999)),

@@ -4,52 +4,77 @@ use std::test::Fail;
 use transcript::{
     Answer, LineAnswer, TranscriptFault, moments_never_fall, read_transcript, transcript_text,
 };
+use vw_cell::{Boxed, Cell};
+
+const FAR: Cell = Cell {
+    x: 1,
+    y: 10,
+    z: 65535,
+};
+
+const PART: Boxed = Boxed {
+    at: Cell { x: 0, y: 1, z: 2 },
+    size: Cell {
+        x: 4,
+        y: 5,
+        z: 65535,
+    },
+};
 
 // Each answer, and its text.
-fn rows() -> [(Answer, &'static str); 30] {
-    let part = boxed(cell(0, 1, 2), cell(4, 5, 65535));
-    [
-        (Answer::Done, "ok"),
-        (Answer::Forgot(0), "forgot 0"),
-        (Answer::Forgot(4_294_967_295), "forgot 4294967295"),
-        (Answer::Is(true), "set"),
-        (Answer::Is(false), "clear"),
-        (Answer::Count(0), "count 0"),
-        (Answer::Count(68_719_476_736), "count 68719476736"),
-        (
-            Answer::Count(18_446_744_073_709_551_615),
-            "count 18446744073709551615",
-        ),
-        (Answer::Faces(384), "faces 384"),
-        (
-            Answer::Faces(18_446_744_073_709_551_615),
-            "faces 18446744073709551615",
-        ),
-        (Answer::Extent(Some(part)), "bounds 0 1 2 4 5 65535"),
-        (Answer::Extent(None), "bounds none"),
-        (Answer::Hit(Some(cell(1, 10, 65535))), "hit 1 10 65535"),
-        (Answer::Hit(None), "miss"),
-        (Answer::Same(true), "same"),
-        (Answer::Same(false), "different"),
-        (Answer::Head, "head"),
-        (Answer::Saved(31752), "saved 31752"),
-        (
-            Answer::Saved(18_446_744_073_709_551_615),
-            "saved 18446744073709551615",
-        ),
-        (full(0, 0), "full 0 0"),
-        (full(255, 65535), "full 255 65535"),
-        (Answer::NoVersion(9), "no version 9"),
-        (Answer::Forgotten(1), "forgotten 1"),
-        (Answer::Forgotten(4_294_967_295), "forgotten 4294967295"),
-        (Answer::IsHead, "is head"),
-        (Answer::NothingToUndo, "nothing to undo"),
-        (Answer::NothingToRedo, "nothing to redo"),
-        (Answer::LogFull, "log full"),
-        (Answer::Stale(0), "stale 0"),
-        (Answer::Stale(65534), "stale 65534"),
-    ]
-}
+const ROWS: &[(Answer, &str)] = &[
+    (Answer::Done, "ok"),
+    (Answer::Forgot(0), "forgot 0"),
+    (Answer::Forgot(4_294_967_295), "forgot 4294967295"),
+    (Answer::Is(true), "set"),
+    (Answer::Is(false), "clear"),
+    (Answer::Count(0), "count 0"),
+    (Answer::Count(68_719_476_736), "count 68719476736"),
+    (
+        Answer::Count(18_446_744_073_709_551_615),
+        "count 18446744073709551615",
+    ),
+    (Answer::Faces(384), "faces 384"),
+    (
+        Answer::Faces(18_446_744_073_709_551_615),
+        "faces 18446744073709551615",
+    ),
+    (Answer::Extent(Some(PART)), "bounds 0 1 2 4 5 65535"),
+    (Answer::Extent(None), "bounds none"),
+    (Answer::Hit(Some(FAR)), "hit 1 10 65535"),
+    (Answer::Hit(None), "miss"),
+    (Answer::Same(true), "same"),
+    (Answer::Same(false), "different"),
+    (Answer::Head, "head"),
+    (Answer::Saved(31752), "saved 31752"),
+    (
+        Answer::Saved(18_446_744_073_709_551_615),
+        "saved 18446744073709551615",
+    ),
+    (
+        Answer::Full {
+            level: 0,
+            bucket: 0,
+        },
+        "full 0 0",
+    ),
+    (
+        Answer::Full {
+            level: 255,
+            bucket: 65535,
+        },
+        "full 255 65535",
+    ),
+    (Answer::NoVersion(9), "no version 9"),
+    (Answer::Forgotten(1), "forgotten 1"),
+    (Answer::Forgotten(4_294_967_295), "forgotten 4294967295"),
+    (Answer::IsHead, "is head"),
+    (Answer::NothingToUndo, "nothing to undo"),
+    (Answer::NothingToRedo, "nothing to redo"),
+    (Answer::LogFull, "log full"),
+    (Answer::Stale(0), "stale 0"),
+    (Answer::Stale(65534), "stale 65534"),
+];
 
 fn full(level: u8, bucket: u16) -> Answer {
     Answer::Full { level, bucket }
@@ -72,7 +97,7 @@ fn is_told(alloc: Global, answer: Answer, text: &[u8]) -> Result<bool, Fail> {
 
 #[test]
 fn every_answer_has_its_words(rt: HostRuntime) -> Result<(), Fail> {
-    for (answer, words) in rows() {
+    for &(answer, words) in ROWS {
         let mut text = String::new(rt.alloc());
         write!(text, "17 @6 {words}\n")?;
         assert!(rt; is_told(rt.alloc(), answer, text.as_bytes())?, "at {words}");
@@ -81,7 +106,7 @@ fn every_answer_has_its_words(rt: HostRuntime) -> Result<(), Fail> {
 }
 
 // Texts whose first line that doesn't fit is their last.
-const BROKEN: [(&str, u64); 62] = [
+const BROKEN: &[(&str, u64)] = &[
     ("1 @0 ok", 1),
     ("1 @0 ok\n2 @0 head", 2),
     ("\n", 1),
@@ -148,7 +173,7 @@ const BROKEN: [(&str, u64); 62] = [
 
 #[test]
 fn the_first_line_that_is_no_answer_is_told(rt: HostRuntime) -> Result<(), Fail> {
-    for (text, line) in BROKEN {
+    for &(text, line) in BROKEN {
         let fault = read_transcript(rt.alloc(), text.as_bytes())
             .err()
             .ok_or("a fault")?;
@@ -173,8 +198,13 @@ fn a_whole_transcript_is_told(rt: HostRuntime) -> Result<(), Fail> {
         answer_at(6, 4, Answer::Done),
         answer_at(7, 4, Answer::Count(0)),
     ];
-    let want =
-        "1 @0 nothing to undo\n2 @1 ok\n3 @2 ok\n4 @3 ok\n5 @3 nothing to redo\n6 @4 ok\n7 @4 count 0\n";
+    let want = "1 @0 nothing to undo\n\
+        2 @1 ok\n\
+        3 @2 ok\n\
+        4 @3 ok\n\
+        5 @3 nothing to redo\n\
+        6 @4 ok\n\
+        7 @4 count 0\n";
     let text = transcript_text(rt.alloc(), &answers).map_err(|_| "out of memory")?;
     assert!(rt; text.as_slice() == want.as_bytes());
     let read = read_transcript(rt.alloc(), want.as_bytes()).map_err(|_| "a fault")?;
@@ -184,7 +214,7 @@ fn a_whole_transcript_is_told(rt: HostRuntime) -> Result<(), Fail> {
 
 #[test]
 fn a_moment_that_falls_is_told(rt: HostRuntime) -> Result<(), Fail> {
-    for (text, never) in [
+    for &(text, never) in &[
         ("", true),
         ("7 @65535 ok\n", true),
         ("9 @0 ok\n1 @0 head\n2 @3 ok\n3 @3 head\n", true),
@@ -232,7 +262,7 @@ fn generated(alloc: Global, rounds: u32) -> Result<Vec<LineAnswer>, Fail> {
     let mut seed: u64 = 5;
     let mut answers = Vec::new(alloc);
     for _ in 0..rounds {
-        for (row, _) in rows() {
+        for &(row, _) in ROWS {
             let line = (drawn(&mut seed) % 4_294_967_296) as u32;
             let at = (drawn(&mut seed) % 100_000) as u32;
             answers.push(answer_at(line, at, varied(row, &mut seed)))?;
