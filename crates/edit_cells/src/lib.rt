@@ -7,5 +7,5 @@ mod sides;
 mod tasks;
 
 pub use paints::{clears_nothing, filled, old_whole, paint};
-pub use sides::side_of;
+pub use sides::{is_large, side_of};
 pub use tasks::{Task, Whole};

@@ -71,6 +71,10 @@ pub trait Task: Copy {
         ensures seen { B.seen store.new ≡ B.seen store.old }
         ensures rests { B.rests store.old store.new };
 
+    /// Whether many blocks of the edit may be alike, so that a walk is to remember what it made. All
+    /// answers are right.
+    fn repeats(&self) -> bool;
+
     /// Whether both make the same cells of a block. It reads no node, and may miss some that do.
     fn is_same(&self, other: &Self) -> bool
         ensures { IsTrue result → MakeAlike (makes self.now) (makes other.now) };

@@ -3,6 +3,7 @@ ghost use Rattle.vw_cell.specs.Places.{FitsAt};
 ghost use Rattle.edit_copy.specs.Starts.{IsWholeTask, IsShift};
 
 use crate::copies::CopyTask;
+use edit_cells::is_large;
 use node_shapes::Name;
 use vw_cell::{Boxed, Cell, Side};
 
@@ -30,6 +31,7 @@ pub(crate) fn whole_task(old: Option<Name>, side: Side, from: Boxed, to: Cell) -
             at: to,
             size: from.size,
         },
+        large: is_large(from.size),
     }
 }
 

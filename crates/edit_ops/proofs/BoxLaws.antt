@@ -1,5 +1,5 @@
 -- What an edit of a box makes of a block and of its octants.
-use Rattle.std.proofs.Common.{[], ◌≡◌, ℕ, suc, ◌+◌, ◌-◌, ◌<◌, ◌≤◌, Bool, true, false, Option, List, refl, sym, ◌∙◌, ap, subst, arith}
+use Rattle.std.proofs.Common.{[], ◌≡◌, ℕ, suc, ◌+◌, ◌-◌, ◌<◌, ◌≤◌, Bool, true, false, Option, List, refl, sym, ap, subst, arith}
 use Rattle.std.specs.Prelude.{IsTrue, ◌&&◌, ◌||◌, if◌then◌else◌, not, nat_le, nat_lt}
 use mathlib.Core.Bool.{beq}
 use Rattle.std.proofs.lemmas.Bool.{and_parts, and_from, leb-true, ltb-true}
@@ -26,29 +26,23 @@ use Rattle.edit_ops.specs.Boxes.{MakesBox, box_act, touches_first, covers_first,
 use Rattle.edit_ops.specs.Partly.{touches_at, covers_at, is_partly_at}
 
 -- the task of an octant
-pub makes_octant : (base : List Tree) (level : ℕ) (task : BoxTask) (cells : Cells) (k : ℕ) (old : Option Name) → 1 ≤ level → k < 8 → (m : MakesBox task base level cells) → old ≡ root_of (child_of m.paints.tree k) → MakesBox (record { old = old; part = part_in (block_side (level - 1)) task.part k; set = task.set }) base (level - 1) (octant_cells (level - 1) cells k)
+pub makes_octant : (base : List Tree) (level : ℕ) (task : BoxTask) (cells : Cells) (k : ℕ) (old : Option Name) → 1 ≤ level → k < 8 → (m : MakesBox task base level cells) → old ≡ root_of (child_of m.paints.tree k) → MakesBox (record { old = old; part = part_in (block_side (level - 1)) task.part k; set = task.set; large = task.large }) base (level - 1) (octant_cells (level - 1) cells k)
 makes_octant base level task cells k old one lt m e = record {
   small = omega (arith, m.small);
   paints = paints_octant base level task.old old task.set _ _ cells k one lt m.paints e (part_cells (level - 1) task.part k);
 }
 
 -- the same task makes the same cells
-pub makes_same : (base : List Tree) (level : ℕ) (a b : BoxTask) (p q : Cells) → a ≡ b → MakesBox a base level p → MakesBox b base level q → SameIn level p q
-makes_same base level a b p q e m n =
-    paints_same base level a.old b.old a.set b.set _ _ p q (ap (λ (t : BoxTask). t.old) e) (ap (λ (t : BoxTask). t.set) e)
-    (subst (λ (t : BoxTask). SameIn level (world_cells (is_in_box a.part)) (world_cells (is_in_box t.part))) e (same_itself level _)) m.paints n.paints
+pub makes_same : (base : List Tree) (level : ℕ) (a b : BoxTask) (p q : Cells) → a.old ≡ b.old → a.part ≡ b.part → a.set ≡ b.set → MakesBox a base level p → MakesBox b base level q → SameIn level p q
+makes_same base level a b p q old part set m n =
+    paints_same base level a.old b.old a.set b.set _ _ p q old set
+    (subst (λ (c : Boxed). SameIn level (world_cells (is_in_box a.part)) (world_cells (is_in_box c))) part (same_itself level _)) m.paints n.paints
 
 pub beq-same : (a b : Bool) → IsTrue (beq a b) → a ≡ b
 beq-same true true e = refl
 beq-same false false e = refl
 beq-same true false e = cc
 beq-same false true e = cc
-
-pub task_same : (a b : BoxTask) → a.old ≡ b.old → a.part ≡ b.part → a.set ≡ b.set → a ≡ b
-task_same a b p q r =
-    ap (λ (o : Option Name). record { old = o; part = a.part; set = a.set }) p
-    ∙ ap (λ (c : Boxed). record { old = b.old; part = c; set = a.set }) q
-    ∙ ap (λ (s : Bool). record { old = b.old; part = b.part; set = s }) r
 
 -- the two ways to say what an edit sets
 pub box_edits : (set : Bool) (b : Boxed) (before : Cell → Bool) (c : Cell) → edited [] (box_act set b) before c ≡ (if is_in_box b c then set else before c)
@@ -66,8 +60,8 @@ box_edits false b before c = either (is_in_box b c) (before c)
     either false false = refl
 
 -- the task of the whole world
-pub makes_world : (side level : ℕ) (held : List Tree) (set : Bool) (b : Boxed) (o : Option Name) (before : Cell → Bool) → level ≤ 10 → AreTrees side held → AreCanonical held → ShowsWorld held level o before → MakesBox (record { old = o; part = b; set = set }) held level (world_cells (edited [] (box_act set b) before))
-makes_world side level held set b o before small a c w = record {
+pub makes_world : (side level : ℕ) (held : List Tree) (set large : Bool) (b : Boxed) (o : Option Name) (before : Cell → Bool) → level ≤ 10 → AreTrees side held → AreCanonical held → ShowsWorld held level o before → MakesBox (record { old = o; part = b; set = set; large = large }) held level (world_cells (edited [] (box_act set b) before))
+makes_world side level held set large b o before small a c w = record {
   small = small;
   paints = world_paints side level held o before _ set (is_in_box b) _ a c w (box_edits set b before) (same_itself level _);
 }

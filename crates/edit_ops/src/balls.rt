@@ -67,6 +67,10 @@ impl Task for BallTask {
         paint(self.set, old, inside)
     }
 
+    fn repeats(&self) -> bool {
+        false
+    }
+
     // Blocks at different places of a ball's edge have different cells.
     fn is_same(&self, _other: &BallTask) -> bool {
         false

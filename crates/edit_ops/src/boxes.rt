@@ -6,12 +6,14 @@ use node_shapes::Name;
 use node_words::{Blocks, box_bits};
 use vw_cell::{Block, Boxed, Cell};
 
-/// Sets or clears the cells of a box in one block. The box is told by its places in the block.
+/// Sets or clears the cells of a box in one block. The box is told by its places in the block, and
+/// whether the whole box is a large one.
 #[derive(Clone, Copy, Debug, PartialEq, Eq)]
 pub struct BoxTask {
     pub(crate) old: Option<Name>,
     pub(crate) part: Boxed,
     pub(crate) set: bool,
+    pub(crate) large: bool,
 }
 
 const ORIGIN: Cell = Cell { x: 0, y: 0, z: 0 };
@@ -37,6 +39,7 @@ impl Task for BoxTask {
             old,
             part,
             set: self.set,
+            large: self.large,
         }
     }
 
@@ -66,13 +69,18 @@ impl Task for BoxTask {
         paint(self.set, old, inside)
     }
 
+    fn repeats(&self) -> bool {
+        self.large
+    }
+
     fn is_same(&self, other: &BoxTask) -> bool {
         same_tasks(self, other)
     }
 }
 
 fn same_tasks(a: &BoxTask, b: &BoxTask) -> bool
-    ensures { IsTrue result → a.now ≡ b.now }
+    ensures { IsTrue result
+        → (a.now.old ≡ b.now.old) × (a.now.part ≡ b.now.part) × (a.now.set ≡ b.now.set) }
 {
     if !same_names(a.old, b.old) {
         return false;

@@ -12,6 +12,7 @@ ghost use Rattle.edit_ops.specs.Partly.{world_partly};
 use crate::balls::BallTask;
 use crate::boxes::BoxTask;
 use block_walk::name_of;
+use edit_cells::is_large;
 use edit_walk::rebuild_world;
 use node_words::{Full, NodeStore, Share, Steps};
 use std::sync::ledger::Ledger;
@@ -50,6 +51,7 @@ pub fn rebuild_box<N: NodeStore, L: Ledger>(
         old: name_of(old),
         part: b,
         set,
+        large: is_large(b.size),
     };
     let _held = store.held();
     let _level = side.root_level();

@@ -70,6 +70,10 @@ impl<'s> Task for StampTask<'s> {
         paint(true, old, inside)
     }
 
+    fn repeats(&self) -> bool {
+        false
+    }
+
     // Blocks at different places of a stamp have different cells.
     fn is_same(&self, _other: &StampTask<'s>) -> bool {
         false

@@ -1,5 +1,6 @@
 -- What a memo keeps stays true: blocks that are reached stay so while shares come and are joined.
-use Rattle.std.proofs.Common.{◌≡◌, ℕ, ◌+◌, ◌-◌, ◌<◌, ◌≤◌, ◌⊎◌, Some, None, Option, List, [], ◌∷◌, set, slice_index_or, length, sym, ◌∙◌, ap, subst, arith, inl, inr, get_or-set_other, get_or-set_same}
+use Rattle.std.proofs.Common.{◌≡◌, ℕ, zero, suc, refl, ◌+◌, ◌-◌, ◌<◌, ◌≤◌, ◌⊎◌, Some, None, Option, List, [], ◌∷◌, set, slice_index_or, length, sym, ◌∙◌, ap, subst, arith, inl, inr, get_or-set_other, get_or-set_same}
+use Rattle.std.specs.Prelude.{replicate}
 use Rattle.std.proofs.lemmas.Bool.{cases_eq}
 use Rattle.node_shapes.specs.declared.names.Name.{Name}
 use Rattle.node_shapes.specs.Shape.{Shape, octant_shape}
@@ -22,7 +23,18 @@ use Rattle.edit_walk.proofs.WalkLaws.{part_starts, starts_none, starts_held}
 
 -- places and rows
 
-pub row_push : {T : Type 0} (old : Row T) (places : List (Option (Kept T))) (kept e : Kept T) (k : ℕ) → k < 8 → places ≡ set (kept_in old) k (Some kept) → (j : ℕ) → slice_index_or places j None ≡ Some e → (e ≡ kept) ⊎ IsKeptIn old e
+same_at : {A : Type 0} (n i : ℕ) (a : A) → slice_index_or (replicate n a) i a ≡ a
+same_at zero i a = refl
+same_at (suc n) zero a = refl
+same_at (suc n) (suc i) a = same_at n i a
+
+pub none_remembered : (T : Type 0) (memo : Memo T) (level : ℕ) (e : Kept T) → rows_of memo ≡ replicate 11 empty_row → IsRemembered memo level e → ⊥
+none_remembered T memo level e q (k, h) =
+    let row : row_of memo level ≡ empty_row = ap (λ (rs : List (Row T)). slice_index_or rs level empty_row) q ∙ same_at 11 level empty_row in
+    let none : slice_index_or (kept_in (row_of memo level)) k None ≡ None = ap (λ (r : Row T). slice_index_or (kept_in r) k None) row ∙ same_at 16 k None in
+    cc
+
+pub row_push : {T : Type 0} (old : Row T) (places : List (Option (Kept T))) (kept e : Kept T) (k : ℕ) → k < 16 → places ≡ set (kept_in old) k (Some kept) → (j : ℕ) → slice_index_or places j None ≡ Some e → (e ≡ kept) ⊎ IsKeptIn old e
 row_push old places kept e k lt q j h = elim (cases_eq j k) [
   | inl same ↦
       let at : slice_index_or places j None ≡ Some kept =

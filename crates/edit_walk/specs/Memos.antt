@@ -1,4 +1,4 @@
--- The blocks that a walk remembers: the latest eight of each level, each with the task that made
+-- The blocks that a walk remembers: the latest sixteen of each level, each with the task that made
 -- it.
 use Rattle.std.specs.Prelude.{◌≡◌, ℕ, Option, Some, None, List, [], ◌∷◌, slice_index_or}
 use Rattle.node_shapes.specs.Tree.{Tree, shape_of}
@@ -11,10 +11,12 @@ use Rattle.edit_walk.specs.declared.memos.Memo.{Memo}
 
 -- the places of a row, and the rows of a memo by their levels
 abbrev pub kept_in : {T : Type 0} → Row T → List (Option (Kept T))
-kept_in r = r.a ∷ r.b ∷ r.c ∷ r.d ∷ r.e ∷ r.f ∷ r.g ∷ r.h ∷ []
+kept_in r =
+    r.a ∷ r.b ∷ r.c ∷ r.d ∷ r.e ∷ r.f ∷ r.g ∷ r.h ∷
+    r.i ∷ r.j ∷ r.k ∷ r.l ∷ r.m ∷ r.n ∷ r.o ∷ r.p ∷ []
 
 abbrev pub empty_row : {T : Type 0} → Row T
-empty_row = record { next = 0; a = None; b = None; c = None; d = None; e = None; f = None; g = None; h = None }
+empty_row = record { next = 0; a = None; b = None; c = None; d = None; e = None; f = None; g = None; h = None; i = None; j = None; k = None; l = None; m = None; n = None; o = None; p = None }
 
 abbrev pub rows_of : {T : Type 0} → Memo T → List (Row T)
 rows_of m = m.r0 ∷ m.r1 ∷ m.r2 ∷ m.r3 ∷ m.r4 ∷ m.r5 ∷ m.r6 ∷ m.r7 ∷ m.r8 ∷ m.r9 ∷ m.r10 ∷ []

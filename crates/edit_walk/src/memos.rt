@@ -12,7 +12,7 @@ pub struct Kept<T> {
     pub(crate) name: Option<Name>,
 }
 
-// The eight latest blocks of one level, and where the next one goes.
+// The sixteen latest blocks of one level, and where the next one goes.
 #[derive(Clone, Copy)]
 pub struct Row<T> {
     next: u8,
@@ -24,6 +24,14 @@ pub struct Row<T> {
     f: Option<Kept<T>>,
     g: Option<Kept<T>>,
     h: Option<Kept<T>>,
+    i: Option<Kept<T>>,
+    j: Option<Kept<T>>,
+    k: Option<Kept<T>>,
+    l: Option<Kept<T>>,
+    m: Option<Kept<T>>,
+    n: Option<Kept<T>>,
+    o: Option<Kept<T>>,
+    p: Option<Kept<T>>,
 }
 
 impl<T: Task> Row<T> {
@@ -40,11 +48,19 @@ impl<T: Task> Row<T> {
             f: None,
             g: None,
             h: None,
+            i: None,
+            j: None,
+            k: None,
+            l: None,
+            m: None,
+            n: None,
+            o: None,
+            p: None,
         }
     }
 
     fn at(&self, k: u8) -> &Option<Kept<T>>
-        requires { k < 8 }
+        requires { k < 16 }
         ensures { result.now ≡ slice_index_or (kept_in self.now) k None }
     {
         match k {
@@ -55,12 +71,20 @@ impl<T: Task> Row<T> {
             4 => &self.e,
             5 => &self.f,
             6 => &self.g,
-            _ => &self.h,
+            7 => &self.h,
+            8 => &self.i,
+            9 => &self.j,
+            10 => &self.k,
+            11 => &self.l,
+            12 => &self.m,
+            13 => &self.n,
+            14 => &self.o,
+            _ => &self.p,
         }
     }
 
     fn set_at(&mut self, k: u8, kept: Kept<T>)
-        requires { k < 8 }
+        requires { k < 16 }
         ensures { kept_in self.new ≡ slice_set (kept_in self.old) k (Some kept) }
     {
         match k {
@@ -71,7 +95,15 @@ impl<T: Task> Row<T> {
             4 => self.e = Some(kept),
             5 => self.f = Some(kept),
             6 => self.g = Some(kept),
-            _ => self.h = Some(kept),
+            7 => self.h = Some(kept),
+            8 => self.i = Some(kept),
+            9 => self.j = Some(kept),
+            10 => self.k = Some(kept),
+            11 => self.l = Some(kept),
+            12 => self.m = Some(kept),
+            13 => self.n = Some(kept),
+            14 => self.o = Some(kept),
+            _ => self.p = Some(kept),
         }
     }
 
@@ -80,7 +112,7 @@ impl<T: Task> Row<T> {
         ensures kept { IfSome result (λ e. IsKeptIn self.now e) }
         ensures same { IfSome result (λ e. IsLike T.makes task.now e) }
     {
-        for k in 0..8u8 {
+        for k in 0..16u8 {
             let kept = self.at(k);
             if is_like(kept, task) {
                 return *kept;
@@ -93,9 +125,9 @@ impl<T: Task> Row<T> {
     fn push(&mut self, kept: Kept<T>)
         ensures { (e : Kept T) → IsKeptIn self.new e → (e ≡ kept) ⊎ IsKeptIn self.old e }
     {
-        let k = self.next % 8;
+        let k = self.next % 16;
         self.set_at(k, kept);
-        self.next = (k + 1) % 8;
+        self.next = (k + 1) % 16;
     }
 }
 
@@ -196,16 +228,21 @@ impl<T: Task> Memo<T> {
         ensures kept { IfSome result (λ e. IsRemembered self.now level e) }
         ensures same { IfSome result (λ e. IsLike T.makes task.now e) }
     {
+        if !task.repeats() {
+            return None;
+        }
         let row = self.row(level);
         row.find(task)
     }
 
-    // Keeps one more block of this level.
+    // Keeps one more block of this level, where blocks like it may come.
     pub(crate) fn keep(&mut self, level: u8, kept: Kept<T>)
         requires { level ≤ 10 }
         ensures { (l : ℕ) (e : Kept T) → IsRemembered self.new l e
             → ((l ≡ level) × (e ≡ kept)) ⊎ IsRemembered self.old l e }
     {
-        self.push_at(level, kept);
+        if kept.task.repeats() {
+            self.push_at(level, kept);
+        }
     }
 }
