@@ -35,6 +35,13 @@ pub fn faces<B: Blocks>(store: &mut B, root: Option<&Share>, side: Side, b: Boxe
     faces_in_block(store, side.root_level(), name_of(root), b)
 }
 
+// Numbers of bare cells that were found earlier, of parts of blocks and of whole ones.
+#[derive(Drop)]
+struct BareNumbers {
+    parts: Answers<Part<Bare>>,
+    wholes: Answers<Whole<Bare>>,
+}
+
 // The same, of the block of a world.
 fn faces_in_block<B: Blocks>(store: &mut B, level: u8, block: Option<Name>, b: Boxed) -> u64
     requires level { level ≤ 10 }
@@ -45,70 +52,23 @@ fn faces_in_block<B: Blocks>(store: &mut B, level: u8, block: Option<Name>, b: B
     ensures seen { B.seen store.new ≡ B.seen store.old }
     ensures rests { B.rests store.old store.new }
 {
-    let mut answers = Answers::new();
-    let mut wholes = Answers::new();
-    let low_x = bare_towards(
-        store,
-        &mut answers,
-        &mut wholes,
-        Direction::LowX,
-        level,
-        block,
-        b,
-    );
-    let high_x = bare_towards(
-        store,
-        &mut answers,
-        &mut wholes,
-        Direction::HighX,
-        level,
-        block,
-        b,
-    );
-    let low_y = bare_towards(
-        store,
-        &mut answers,
-        &mut wholes,
-        Direction::LowY,
-        level,
-        block,
-        b,
-    );
-    let high_y = bare_towards(
-        store,
-        &mut answers,
-        &mut wholes,
-        Direction::HighY,
-        level,
-        block,
-        b,
-    );
-    let low_z = bare_towards(
-        store,
-        &mut answers,
-        &mut wholes,
-        Direction::LowZ,
-        level,
-        block,
-        b,
-    );
-    let high_z = bare_towards(
-        store,
-        &mut answers,
-        &mut wholes,
-        Direction::HighZ,
-        level,
-        block,
-        b,
-    );
+    let mut known = BareNumbers {
+        parts: Answers::new(),
+        wholes: Answers::new(),
+    };
+    let low_x = bare_towards(store, &mut known, Direction::LowX, level, block, b);
+    let high_x = bare_towards(store, &mut known, Direction::HighX, level, block, b);
+    let low_y = bare_towards(store, &mut known, Direction::LowY, level, block, b);
+    let high_y = bare_towards(store, &mut known, Direction::HighY, level, block, b);
+    let low_z = bare_towards(store, &mut known, Direction::LowZ, level, block, b);
+    let high_z = bare_towards(store, &mut known, Direction::HighZ, level, block, b);
     low_x + high_x + low_y + high_y + low_z + high_z
 }
 
 // The number of cells of a part of a world's block that are bare towards one direction.
 fn bare_towards<B: Blocks>(
     store: &mut B,
-    answers: &mut Answers<Part<Bare>>,
-    wholes: &mut Answers<Whole<Bare>>,
+    known: &mut BareNumbers,
     direction: Direction,
     level: u8,
     block: Option<Name>,
@@ -117,16 +77,16 @@ fn bare_towards<B: Blocks>(
     requires level { level ≤ 10 }
     requires block { HasBlock (B.seen store.old).held level block }
     requires part { EndsBy (block_side level) part }
-    requires answers { AreRight (IsTally passes_bare) (B.seen store.old).held answers.old.places }
+    requires parts { AreRight (IsTally passes_bare) (B.seen store.old).held known.old.parts.places }
     requires wholes { AreRight
-        (IsWholeTally passes_bare) (B.seen store.old).held wholes.old.places }
+        (IsWholeTally passes_bare) (B.seen store.old).held known.old.wholes.places }
     ensures number { ForBlock (B.seen store.old).held level block
         (λ s. result ≡ number_in part (is_bare direction (block_side level) (cells_of level s))) }
     ensures bound { result ≤ 2 ^ 36 }
     ensures block { HasBlock (B.seen store.new).held level block }
-    ensures answers { AreRight (IsTally passes_bare) (B.seen store.old).held answers.new.places }
+    ensures parts { AreRight (IsTally passes_bare) (B.seen store.old).held known.new.parts.places }
     ensures wholes { AreRight
-        (IsWholeTally passes_bare) (B.seen store.old).held wholes.new.places }
+        (IsWholeTally passes_bare) (B.seen store.old).held known.new.wholes.places }
     ensures seen { B.seen store.new ≡ B.seen store.old }
     ensures rests { B.rests store.old store.new }
 {
@@ -140,7 +100,7 @@ fn bare_towards<B: Blocks>(
         level,
         part,
     };
-    tally(store, answers, wholes, of)
+    tally(store, &mut known.parts, &mut known.wholes, of)
 }
 
 ghost use Rattle.measure.specs.Faces.{passes_bare};

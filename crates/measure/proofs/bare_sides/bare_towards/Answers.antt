@@ -4,7 +4,7 @@ use Rattle.measure.proofs.bare_sides.bare_towards.Goals as goal
 
 pub tally-requires : goal.tally-requires
 tally-requires g c =
-    (omega arith, (omega arith, (c.requires.level, (some_bare c.args.direction _ c.args.level c.args.block c.requires.block, (c.requires.part, (c.requires.answers, c.requires.wholes))))))
+    (omega arith, (omega arith, (c.requires.level, (some_bare c.args.direction _ c.args.level c.args.block c.requires.block, (c.requires.part, (c.requires.parts, c.requires.wholes))))))
 
 pub returns-clause-number : goal.returns-clause-number
 returns-clause-number g c = number_bare c.args.direction _ c.args.level _ c.args.block c.args.part c.tally.ensures.number

@@ -1,4 +1,4 @@
-use Rattle.std.proofs.Common.{arith, ◌∙◌}
+use Rattle.std.proofs.Common.{arith}
 use Rattle.measure.proofs.WholeLaws.{none_of_part}
 use Rattle.measure.proofs.tallies.has_none.Goals as goal
 

@@ -1,4 +1,4 @@
-use Rattle.std.proofs.Common.{◌+◌, arith, refl, sym, ◌∙◌, ap}
+use Rattle.std.proofs.Common.{◌+◌, arith, refl, sym, ◌∙◌}
 use Rattle.sums.specs.Sums.{sum_below-zero}
 use Rattle.block_walk.specs.Parts.{whole_of}
 use Rattle.measure.proofs.TallyLaws.{none_tallied, tallied_all, tallied_fits}
