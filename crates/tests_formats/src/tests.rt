@@ -6,40 +6,34 @@ use std::test::Fail;
 use vox_read::{VoxFault, Voxel, read_models};
 use vw_cell::Cell;
 
+const OF_ONE_CELL: Answer = Ok((1, 1));
+
+const OUT_OF_RANGE: Answer = Err(VoxFault::SizeRange(20));
+
+const SHORT_SIZE: Answer = Err(VoxFault::ShortSize(20));
+
+const SIZES: &[(&[u8], Answer)] = &[
+    // all 1, all 256, and a byte behind the fields
+    (b"\x01\0\0\0\x01\0\0\0\x01\0\0\0", OF_ONE_CELL),
+    (b"\0\x01\0\0\0\x01\0\0\0\x01\0\0", OF_ONE_CELL),
+    (b"\x01\0\0\0\x01\0\0\0\x01\0\0\0\xff", OF_ONE_CELL),
+    // 0 and 257 on each axis, 2^16 + 1, and 2^24 + 1
+    (b"\0\0\0\0\x01\0\0\0\x01\0\0\0", OUT_OF_RANGE),
+    (b"\x01\0\0\0\0\0\0\0\x01\0\0\0", OUT_OF_RANGE),
+    (b"\x01\0\0\0\x01\0\0\0\0\0\0\0", OUT_OF_RANGE),
+    (b"\x01\x01\0\0\x01\0\0\0\x01\0\0\0", OUT_OF_RANGE),
+    (b"\x01\0\0\0\x01\x01\0\0\x01\0\0\0", OUT_OF_RANGE),
+    (b"\x01\0\0\0\x01\0\0\0\x01\x01\0\0", OUT_OF_RANGE),
+    (b"\x01\0\x01\0\x01\0\0\0\x01\0\0\0", OUT_OF_RANGE),
+    (b"\x01\0\0\0\x01\0\0\0\x01\0\0\x01", OUT_OF_RANGE),
+    // 11 bytes, all of them 0, and none
+    (b"\0\0\0\0\0\0\0\0\0\0\0", SHORT_SIZE),
+    (b"", SHORT_SIZE),
+];
+
 #[test]
 fn sizes_have_their_rules(rt: HostRuntime) -> Result<(), Fail> {
-    // all 1, all 256, and a byte behind the fields
-    let good: [&[u8]; 3] = [
-        b"\x01\0\0\0\x01\0\0\0\x01\0\0\0",
-        b"\0\x01\0\0\0\x01\0\0\0\x01\0\0",
-        b"\x01\0\0\0\x01\0\0\0\x01\0\0\0\xff",
-    ];
-    for content in good {
-        assert_eq!(rt;
-            read_size(rt.alloc(), content)?,
-            Ok((1, 1)),
-            "at {content:?}"
-        );
-    }
-    // 0 and 257 on each axis, 2^16 + 1, and 2^24 + 1
-    let range: [&[u8]; 8] = [
-        b"\0\0\0\0\x01\0\0\0\x01\0\0\0",
-        b"\x01\0\0\0\0\0\0\0\x01\0\0\0",
-        b"\x01\0\0\0\x01\0\0\0\0\0\0\0",
-        b"\x01\x01\0\0\x01\0\0\0\x01\0\0\0",
-        b"\x01\0\0\0\x01\x01\0\0\x01\0\0\0",
-        b"\x01\0\0\0\x01\0\0\0\x01\x01\0\0",
-        b"\x01\0\x01\0\x01\0\0\0\x01\0\0\0",
-        b"\x01\0\0\0\x01\0\0\0\x01\0\0\x01",
-    ];
-    for content in range {
-        let want = Err(VoxFault::SizeRange(20));
-        assert_eq!(rt; read_size(rt.alloc(), content)?, want, "at {content:?}");
-    }
-    // 11 bytes, all of them 0, and none
-    let short: [&[u8]; 2] = [b"\0\0\0\0\0\0\0\0\0\0\0", b""];
-    for content in short {
-        let want = Err(VoxFault::ShortSize(20));
+    for &(content, want) in SIZES {
         assert_eq!(rt; read_size(rt.alloc(), content)?, want, "at {content:?}");
     }
     Ok(())
@@ -47,7 +41,7 @@ fn sizes_have_their_rules(rt: HostRuntime) -> Result<(), Fail> {
 
 #[test]
 fn voxels_are_counted_by_the_last_at_a_place(rt: HostRuntime) -> Result<(), Fail> {
-    let cases: [(&[u8], u32); 7] = [
+    let cases: &[(&[u8], u32)] = &[
         (b"\0\0\0\0", 0),
         (b"\x01\0\0\0\x01\0\0\x05", 1),
         (b"\x01\0\0\0\x01\0\0\0", 0),
@@ -56,7 +50,7 @@ fn voxels_are_counted_by_the_last_at_a_place(rt: HostRuntime) -> Result<(), Fail
         (b"\x04\0\0\0\0\0\0\x05\x01\0\0\0\0\0\0\0\x01\0\0\x07", 1),
         (b"\x01\0\0\0\0\0\0\x05\x01\0\0\x05", 1),
     ];
-    for (content, cells) in cases {
+    for &(content, cells) in cases {
         assert_eq!(rt;
             read_voxels(rt.alloc(), content)?,
             Ok((1, cells)),
@@ -66,29 +60,27 @@ fn voxels_are_counted_by_the_last_at_a_place(rt: HostRuntime) -> Result<(), Fail
     Ok(())
 }
 
+const OUTSIDE: Answer = Err(VoxFault::VoxelOutside(44));
+
+const SHORT_XYZI: Answer = Err(VoxFault::ShortXyzi(44));
+
+const VOXELS: &[(&[u8], Answer)] = &[
+    // x, y, z outside, and x again with no colour
+    (b"\x01\0\0\0\x02\0\0\x05", OUTSIDE),
+    (b"\x01\0\0\0\0\x01\0\x05", OUTSIDE),
+    (b"\x02\0\0\0\0\0\0\x05\0\0\x01\x05", OUTSIDE),
+    (b"\x02\0\0\0\x02\0\0\0\0\0\0\x05", OUTSIDE),
+    // no number, a voxel less, a byte less behind a voxel outside, and 2^30 voxels
+    (b"", SHORT_XYZI),
+    (b"\0\0\0", SHORT_XYZI),
+    (b"\x02\0\0\0\0\0\0\x05", SHORT_XYZI),
+    (b"\x02\0\0\0\x09\x09\x09\x09\0\0\0", SHORT_XYZI),
+    (b"\0\0\0\x40", SHORT_XYZI),
+];
+
 #[test]
 fn voxels_have_their_rules(rt: HostRuntime) -> Result<(), Fail> {
-    // x, y, z outside, and x again with no colour
-    let outside: [&[u8]; 4] = [
-        b"\x01\0\0\0\x02\0\0\x05",
-        b"\x01\0\0\0\0\x01\0\x05",
-        b"\x02\0\0\0\0\0\0\x05\0\0\x01\x05",
-        b"\x02\0\0\0\x02\0\0\0\0\0\0\x05",
-    ];
-    for content in outside {
-        let want = Err(VoxFault::VoxelOutside(44));
-        assert_eq!(rt; read_voxels(rt.alloc(), content)?, want, "at {content:?}");
-    }
-    // no number, a voxel less, a byte less behind a voxel outside, and 2^30 voxels
-    let short: [&[u8]; 5] = [
-        b"",
-        b"\0\0\0",
-        b"\x02\0\0\0\0\0\0\x05",
-        b"\x02\0\0\0\x09\x09\x09\x09\0\0\0",
-        b"\0\0\0\x40",
-    ];
-    for content in short {
-        let want = Err(VoxFault::ShortXyzi(44));
+    for &(content, want) in VOXELS {
         assert_eq!(rt; read_voxels(rt.alloc(), content)?, want, "at {content:?}");
     }
     Ok(())
@@ -96,7 +88,7 @@ fn voxels_have_their_rules(rt: HostRuntime) -> Result<(), Fail> {
 
 #[test]
 fn children_are_read_in_order(rt: HostRuntime) -> Result<(), Fail> {
-    let cases: [(&[Piece], Answer); 15] = [
+    let cases: &[(&[Piece], Answer)] = &[
         (&[], Ok((0, 0))),
         (&[Size1, At0], Ok((1, 1))),
         // a later size replaces one that waits, and what stands between does not
@@ -117,7 +109,7 @@ fn children_are_read_in_order(rt: HostRuntime) -> Result<(), Fail> {
         // its content takes the next chunk's first byte, and behind it stands no chunk
         (&[Cut, At0], Err(VoxFault::Truncated(45))),
     ];
-    for (pieces, want) in cases {
+    for &(pieces, want) in cases {
         assert_eq!(rt; read_pieces(rt.alloc(), pieces)?, want, "at {pieces:?}");
     }
     Ok(())
@@ -140,7 +132,7 @@ fn headers_have_their_rules(rt: HostRuntime) {
 #[test]
 fn headers_have_their_faults(rt: HostRuntime) {
     // the first of these that fails: the mark, the version, MAIN's frame, its id, its lengths
-    let cases: [(&[u8], VoxFault); 9] = [
+    let cases: &[(&[u8], VoxFault)] = &[
         (b"VOX-\x96\0\0\0MAIN\0\0\0\0\0\0\0\0", VoxFault::NotVox),
         (b"VOX \x97\0\0", VoxFault::Truncated(4)),
         (b"VOX \x97\0\0\0", VoxFault::Version(151)),
@@ -163,7 +155,7 @@ fn headers_have_their_faults(rt: HostRuntime) {
             VoxFault::Truncated(8),
         ),
     ];
-    for (bytes, fault) in cases {
+    for &(bytes, fault) in cases {
         assert_eq!(rt; read(rt.alloc(), bytes), Err(fault), "at {bytes:?}");
     }
 }
@@ -211,34 +203,37 @@ fn cut_files_have_their_fault(rt: HostRuntime) {
 // MAIN's content comes before its children, and bytes behind MAIN are ignored.
 #[test]
 fn what_is_not_a_child_is_skipped(rt: HostRuntime) {
-    let bytes =
-        b"VOX \x96\0\0\0MAIN\x04\0\0\0\x2c\0\0\0XYZISIZE\x0c\0\0\0\0\0\0\0\x01\0\0\0\x01\0\0\0\x01\0\0\0XYZI\x08\0\0\0\0\0\0\0\x01\0\0\0\0\0\0\x01X";
+    let bytes = b"VOX \x96\0\0\0MAIN\x04\0\0\0\x2c\0\0\0XYZI\
+        SIZE\x0c\0\0\0\0\0\0\0\x01\0\0\0\x01\0\0\0\x01\0\0\0\
+        XYZI\x08\0\0\0\0\0\0\0\x01\0\0\0\0\0\0\x01X";
     assert_eq!(rt; read(rt.alloc(), bytes), Ok((1, 1)));
 }
 
-// A file as an editor writes it: behind the model stand its scene, a layer, a palette and a
-// material.
+const PLACE: &[u8] =
+    b"\0\0\0\0\0\0\0\0\x01\0\0\0\xff\xff\xff\xff\xff\xff\xff\xff\x01\0\0\0\0\0\0\0";
+
+const PALETTE: [u8; 1024] = [0xee; 1024];
+
+// What stands behind the size of a file as an editor writes it: the voxels, a scene, a layer, a
+// palette and a material.
+const SCENE: &[(&[u8], &[u8])] = &[
+    (b"XYZI", b"\x02\0\0\0\0\0\0\x4f\x01\0\0\x50"),
+    (b"nTRN", PLACE),
+    (b"nGRP", b"\x01\0\0\0\0\0\0\0\x01\0\0\0\x02\0\0\0"),
+    (b"nTRN", PLACE),
+    (b"nSHP", b"\x03\0\0\0\0\0\0\0\x01\0\0\0\0\0\0\0\0\0\0\0"),
+    (b"LAYR", b"\0\0\0\0\0\0\0\0\xff\xff\xff\xff"),
+    (b"RGBA", &PALETTE),
+    (b"MATL", b"\x01\0\0\0\0\0\0\0"),
+];
+
 #[test]
 fn scenes_are_passed_over(rt: HostRuntime) -> Result<(), Fail> {
-    let place = b"\0\0\0\0\0\0\0\0\x01\0\0\0\xff\xff\xff\xff\xff\xff\xff\xff\x01\0\0\0\0\0\0\0";
     let mut children = Vec::new(rt.alloc());
     append(&mut children, &[Size2])?;
-    append_chunk(&mut children, b"XYZI", b"\x02\0\0\0\0\0\0\x4f\x01\0\0\x50")?;
-    append_chunk(&mut children, b"nTRN", place)?;
-    append_chunk(
-        &mut children,
-        b"nGRP",
-        b"\x01\0\0\0\0\0\0\0\x01\0\0\0\x02\0\0\0",
-    )?;
-    append_chunk(&mut children, b"nTRN", place)?;
-    append_chunk(
-        &mut children,
-        b"nSHP",
-        b"\x03\0\0\0\0\0\0\0\x01\0\0\0\0\0\0\0\0\0\0\0",
-    )?;
-    append_chunk(&mut children, b"LAYR", b"\0\0\0\0\0\0\0\0\xff\xff\xff\xff")?;
-    append_chunk(&mut children, b"RGBA", &[0xee; 1024])?;
-    append_chunk(&mut children, b"MATL", b"\x01\0\0\0\0\0\0\0")?;
+    for &(id, content) in SCENE {
+        append_chunk(&mut children, id, content)?;
+    }
     for version in [150, 200] {
         let bytes = file(rt.alloc(), version, children.as_slice())?;
         assert_eq!(rt;
