@@ -5,3 +5,5 @@
 mod logs;
 #[cfg(test)]
 mod tests;
+#[cfg(test)]
+mod trails;

@@ -7,6 +7,3 @@ mod trails;
 
 pub use laws::one_more_record_moves_on;
 pub use trails::Trail;
-
-#[cfg(test)]
-mod tests;
