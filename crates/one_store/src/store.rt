@@ -156,6 +156,13 @@ impl OneStore {
         }
     }
 
+    /// The root in each place.
+    pub fn roots(&self) -> &[Option<Name>]
+        ensures { result.now ≡ self.now.roots }
+    {
+        self.roots.as_slice()
+    }
+
     /// How many nodes of this level are live. Where no share is held, these are as many as the
     /// different blocks with a set cell that the roots in places have.
     pub fn live(&self, level: u8) -> u32

@@ -18,7 +18,7 @@ use Rattle.script.specs.declared.commands.ScriptLine.{ScriptLine}
 use Rattle.transcript.specs.declared.answers.Answer.{Answer}
 use Rattle.transcript.specs.declared.answers.Answer.TheVariants as answers
 use Rattle.transcript.specs.declared.answers.LineAnswer.{LineAnswer}
-use Rattle.conformance.specs.Answers.{IsStanding, Answers, full, GoesOn}
+use Rattle.conformance.specs.Answers.{IsStanding, Answers, full, log_full, GoesOn}
 use Rattle.conformance.specs.Kinds.{is_resting, answer_at}
 use Rattle.conformance.specs.Refusing.{refused_by}
 use Rattle.conformance.specs.Running.{GrowsBy, ForgetsBy}
@@ -85,6 +85,16 @@ full_arm p models session first line act once level bucket log target old new le
           (full act once level bucket of.edit (sought_low p (made_of models log.records act (length log.records)) target w part sought) sought.bucket_in);
       makes = fails_line p models log.records act (length log.records) target of first line once level bucket old new low (omega arith) same fails;
     }
+
+pub late_arm : (p : Layout) (models : List Content) (session first line : ℕ) (act : Act) (once : Bool) (log : Log) (target : Shape) (made now : MadeAndMet) → IsLegal (2 ^ p.side) models log → length log.records ≡ 65535
+    → IsTarget p models log.records act (length log.records) target → first ≤ length log.records → Grew (λ s. IsPart s target) made.made now.made → now.met ≡ made.met
+    → TakesLine p models session first (record { line = line; command = Edit act once }) log log made now (record { line = line; at = length log.records; answer = answers.LogFull })
+late_arm p models session first line act once log target made now legal all of low grew same = record {
+  line =
+      resting_line p models session (record { line = line; command = Edit act once }) log answers.LogFull legal refl
+      (log_full act once all (λ other. absurd (other of.edit)));
+  makes = grows_line p models log.records act (length log.records) target of first line (length log.records) once answers.LogFull made now low (omega arith) refl grew same;
+}
 
 pub resting_arm : (p : Layout) (models : List Content) (session first : ℕ) (l : ScriptLine) (log : Log) (answer : Answer) (noted : MadeAndMet) → IsLegal (2 ^ p.side) models log → is_resting answer ≡ true → refused_by l.command (length log.records) answer ≡ []
     → Answers p models log (IsStanding log.marks session l.line (length log.records)) session l.line (length log.records) l.command answer → TakesLine p models session first l log log noted noted (answer_at l (length log.records) answer)

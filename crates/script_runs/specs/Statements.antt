@@ -59,6 +59,17 @@ FullBucketsTakeLines = (p : Layout) (models : List Content) (session first line 
     (made_and_met old) (made_and_met new)
     (record { line = line; at = length log.records; answer = answers.Full level bucket })
 
+-- an edit of the newest version was rebuilt in the store, and the history has all records that one
+-- can have
+abbrev pub LateEditsTakeLines : Type 0
+LateEditsTakeLines = (p : Layout) (models : List Content) (session first line : ℕ) (act : Act)
+    (once : Bool) (log : Log) (target : Shape) (made now : MadeAndMet)
+    → IsLegal (2 ^ p.side) models log → length log.records ≡ 65535
+    → IsTarget p models log.records act (length log.records) target → first ≤ length log.records
+    → Grew (λ s. IsPart s target) made.made now.made → now.met ≡ made.met
+    → TakesLine p models session first (record { line = line; command = Edit act once }) log log
+    made now (record { line = line; at = length log.records; answer = answers.LogFull })
+
 -- the line was answered at the newest moment, and nothing changed
 abbrev pub RestingAnswersTakeLines : Type 0
 RestingAnswersTakeLines = (p : Layout) (models : List Content) (session first : ℕ) (l : ScriptLine)

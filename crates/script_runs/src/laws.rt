@@ -1,4 +1,5 @@
 ghost use Rattle.script_runs.specs.Statements.{RebuiltEditsTakeLines, UndosTakeLines};
+ghost use Rattle.script_runs.specs.Statements.{LateEditsTakeLines};
 ghost use Rattle.script_runs.specs.Statements.{ForgettingsTakeLines, FullBucketsTakeLines};
 ghost use Rattle.script_runs.specs.Statements.{RestingAnswersTakeLines, MomentsAreInHistory};
 
@@ -8,6 +9,7 @@ pub fn arms_take_lines()
     ensures undone { UndosTakeLines }
     ensures forgot { ForgettingsTakeLines }
     ensures full { FullBucketsTakeLines }
+    ensures late { LateEditsTakeLines }
     ensures rests { RestingAnswersTakeLines }
     ensures before { MomentsAreInHistory }
 {}

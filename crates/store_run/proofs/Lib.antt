@@ -1,0 +1,10 @@
+pub mod Holding
+pub mod Sparing
+pub mod Rebuilding
+pub mod Marking
+pub mod Beginning
+pub mod Finding
+pub mod Logging
+pub mod Targets
+pub mod Answering
+pub mod Ending

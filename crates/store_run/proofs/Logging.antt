@@ -1,0 +1,190 @@
+-- Records and marks that come to versions.
+use Rattle.std.proofs.Common.{◌≡◌, ℕ, ◌+◌, ◌<◌, Some, None, Option, List, [], ◌∷◌, ◌++◌, length, set, refl, sym, ◌∙◌, ap, subst, arith}
+use Rattle.std.proofs.lemmas.List.{length-set}
+use Rattle.vox_read.specs.Contents.{Content}
+use Rattle.history_model.specs.declared.histories.Mark.{Mark}
+use Rattle.history_model.specs.declared.histories.Record.{Record}
+use Rattle.history_model.specs.Logs.{Log}
+use Rattle.history_model.specs.Positions.{position_after, next_position}
+use Rattle.history_model.specs.Laws.{position_of_next}
+use Rattle.node_shapes.specs.declared.names.Name.{Name}
+use Rattle.node_shapes.specs.Weights.{weight_of}
+use Rattle.node_words.specs.Plans.{Layout}
+use Rattle.node_places.specs.Spots.{versions}
+use Rattle.block_contents.specs.MarkLists.{marks_below, AreOfVersions}
+use Rattle.block_contents.specs.Versions.{IsKept, MarkComes}
+use Rattle.block_contents.proofs.MarkReadings.{mark_comes}
+use Rattle.core_laws.specs.Events.{PutsRoot, TakesRoot}
+use Rattle.core_laws.specs.LogEvents.{MayAppend, appends, forgets}
+use Rattle.core_laws.specs.Soundness.{SoundVersions, Sound}
+use Rattle.core_laws.proofs.StepLaws.{step_sound}
+use Rattle.conformance.specs.Running.{GrowsBy, ForgetsBy}
+use Rattle.entry_words.specs.Words.{Written}
+use Rattle.undo_trail.specs.Trails.{trail_position}
+use Rattle.one_store.specs.Known.{Known, IsStore, core_of, root_tree, stored_root}
+use Rattle.one_store.specs.Steps.{KeepsRoot, GivesRoot}
+use Rattle.store_run.specs.declared.versions.Versions.{Versions}
+use Rattle.store_run.specs.Kept.{plan_of, log_of, moment_of, mark_in, core_with, AreVersions, HoldsJust}
+use Rattle.store_run.specs.Steps.{LeavesAll, AppendsRecord, MarksVersion}
+use Rattle.store_run.proofs.Holding.{none_weighs}
+use Rattle.store_run.proofs.Marking.{gets_mark, of_versions_still, none_where_unmarked}
+use Rattle.store_run.proofs.Sparing.{versions_sound}
+
+-- a version that isn't there has no root
+pub no_root : (v : Versions) (place : ℕ) → AreVersions v → moment_of v < place → stored_root v.store.roots place ≡ None
+no_root v place are past = go (stored_root v.store.roots place) refl
+  where
+    go : (o : Option Name) → stored_root v.store.roots place ≡ o → stored_root v.store.roots place ≡ None
+    go None e = e
+    go (Some n) e = absurd (let k = are.sound.kept place n e in let le = k.there in omega arith)
+
+-- the versions stay sound under another log, and over another store with the same words
+words_sound : (p q : Layout) (models : List Content) (old new : Log) (s : Known) → q ≡ p → old ≡ new
+    → SoundVersions p models (core_with old s) → SoundVersions q models (core_with new s)
+words_sound p q models old new s plan log sound =
+    subst (λ (l : Log). SoundVersions q models (core_with l s)) log
+    (subst (λ (r : Layout). SoundVersions r models (core_with old s)) (sym plan) sound)
+
+abbrev longer : Log → Record → Log
+longer log r = record { side = log.side; records = log.records ++ r ∷ []; marks = log.marks }
+
+module _ (v : Versions) (s : Known) (r : Record) (root : Option Name) (number place : ℕ) (are : AreVersions v) (st : IsStore v.store number)
+    (at : place ≡ moment_of v + 1) (may : MayAppend (plan_of v) v.models.items r root (core_with (log_of v) v.store))
+    (event : PutsRoot (plan_of v) 0 place root (core_of v.store) (core_of s)) where
+  puts : PutsRoot (plan_of v) 0 (moment_of v + 1) root (core_with (log_of v) v.store) (core_with (longer (log_of v) r) s)
+  puts = subst (λ (n : ℕ). PutsRoot (plan_of v) 0 n root (core_with (log_of v) v.store) (core_with (longer (log_of v) r) s)) at
+      (record {
+        in_range = event.in_range;
+        free = event.free;
+        new_root = event.new_root;
+        roots = λ n other. event.roots n other;
+        entries = record { book = λ m i. event.entries.book m i; key = λ m l. event.entries.key m (record { name = l.name; book = l.book }) };
+        held = event.held;
+      })
+
+  longer_sound : Sound (plan_of v) v.models.items (core_with (longer (log_of v) r) s)
+  longer_sound =
+      step_sound (plan_of v) v.models.items 0 (core_with (log_of v) v.store) (core_with (longer (log_of v) r) s) st.plan.side_low
+      (versions_sound v number are st) (appends r root (record { may = may; log = refl; puts = puts }))
+
+  module _ (w : Versions) (keeps : KeepsRoot v.store place root s) (just : HoldsJust v.store root)
+      (store : w.store ≡ s) (side : w.side ≡ v.side) (models : w.models.items ≡ v.models.items)
+      (records : w.records.items ≡ v.records.items ++ r ∷ []) (marks : w.marks.items ≡ v.marks.items)
+      (trail : trail_position w.trail ≡ next_position place r.act (trail_position v.trail)) where
+    log_grown : log_of w ≡ longer (log_of v) r
+    log_grown = λ i. record { side = side i; records = records i; marks = marks_below (mark_in (marks i)) versions }
+
+    plan_kept : plan_of w ≡ plan_of v
+    plan_kept = ap (λ (k : Known). k.words.plan) store ∙ ap (λ (x : Written). x.plan) keeps.words
+
+    pub appended_are : AreVersions w
+    appended_are = record {
+      side = side ∙ are.side ∙ sym (ap (λ (p : Layout). p.side) plan_kept);
+      sound =
+          subst (λ (k : Known). SoundVersions (plan_of w) w.models.items (core_with (log_of w) k)) (sym store)
+          (subst (λ (ms : List Content). SoundVersions (plan_of w) ms (core_with (log_of w) s)) (sym models)
+          (words_sound (plan_of v) (plan_of w) v.models.items (longer (log_of v) r) (log_of w) s plan_kept (sym log_grown) longer_sound.versions));
+      places = ap (λ (ms : List (Option Mark)). length ms) marks ∙ are.places;
+      of_versions = subst (λ (ms : List (Option Mark)). AreOfVersions (mark_in ms)) (sym marks) are.of_versions;
+      position =
+          trail ∙ (λ i. next_position (at i) r.act (are.position i))
+          ∙ sym (ap position_after records ∙ position_of_next v.records.items r);
+    }
+
+    pub appends_record : AppendsRecord v r w
+    appends_record = record {
+      only = record {
+        models = models;
+        plan = plan_kept;
+        only = record {
+          made = ap (λ (k : Known). k.told.made) store ∙ keeps.only.made;
+          met = ap (λ (k : Known). k.told.met) store ∙ keeps.only.met;
+        };
+        free = subst (λ (k : Known). HoldsJust k None) (sym store)
+            (record { weighs = λ f. omega (arith, keeps.loses.weighs f, just.weighs f, none_weighs s f) });
+      };
+      grows = subst (λ (l : Log). GrowsBy (plan_of v) v.models.items r (log_of v) l) (sym log_grown)
+          (record { legal = longer_sound.versions.legal; side = refl; records = refl; marks = refl });
+    }
+
+-- ---- marks
+
+abbrev marked_log : Versions → Mark → Log
+marked_log v mark = record { side = v.side; records = v.records.items; marks = marks_below (mark_in (set v.marks.items mark.version (Some mark))) versions }
+
+module _ (v : Versions) (s : Known) (mark : Mark) (root : Option Name) (number : ℕ) (are : AreVersions v) (st : IsStore v.store number)
+    (kept : IsKept (log_of v) mark.version) (earlier : mark.version < moment_of v) (now : mark.at ≡ moment_of v)
+    (event : TakesRoot (plan_of v) 0 mark.version (core_of v.store) (core_of s)) where
+  in_range : mark.version < versions
+  in_range = let few = are.sound.legal.few in omega arith
+
+  free : mark_in v.marks.items mark.version ≡ None
+  free = none_where_unmarked (mark_in v.marks.items) versions mark.version in_range are.of_versions kept.unmarked
+
+  there : mark.version < length v.marks.items
+  there = let all = are.places in let lt = in_range in omega arith
+
+  comes : MarkComes (log_of v).marks mark (marked_log v mark).marks
+  comes = mark_comes (mark_in v.marks.items) (mark_in (set v.marks.items mark.version (Some mark))) mark versions in_range
+      (gets_mark v.marks.items mark there free) are.of_versions
+
+  takes : TakesRoot (plan_of v) 0 mark.version (core_with (log_of v) v.store) (core_with (marked_log v mark) s)
+  takes = record {
+    in_range = event.in_range;
+    no_root = event.no_root;
+    roots = λ n other. event.roots n other;
+    entries = record { book = λ m i. event.entries.book m i; key = λ m l. event.entries.key m (record { name = l.name; book = l.book }) };
+    held = event.held;
+  }
+
+  marked_sound : Sound (plan_of v) v.models.items (core_with (marked_log v mark) s)
+  marked_sound =
+      step_sound (plan_of v) v.models.items 0 (core_with (log_of v) v.store) (core_with (marked_log v mark) s) st.plan.side_low
+      (versions_sound v number are st)
+      (forgets mark (record { earlier = earlier; now = now; side = refl; records = refl; marks = comes; takes = takes }))
+
+  module _ (u : Versions) (gives : GivesRoot v.store mark.version s) (is : root ≡ stored_root v.store.roots mark.version)
+      (nothing : HoldsJust v.store None)
+      (store : u.store ≡ s) (side : u.side ≡ v.side) (models : u.models.items ≡ v.models.items)
+      (records : u.records.items ≡ v.records.items) (marks : u.marks.items ≡ set v.marks.items mark.version (Some mark))
+      (trail : trail_position u.trail ≡ trail_position v.trail) where
+    log_marked : log_of u ≡ marked_log v mark
+    log_marked = λ i. record { side = side i; records = records i; marks = marks_below (mark_in (marks i)) versions }
+
+    marked_plan : plan_of u ≡ plan_of v
+    marked_plan = ap (λ (k : Known). k.words.plan) store ∙ ap (λ (x : Written). x.plan) gives.words
+
+    pub marked_are : AreVersions u
+    marked_are = record {
+      side = side ∙ are.side ∙ sym (ap (λ (p : Layout). p.side) marked_plan);
+      sound =
+          subst (λ (k : Known). SoundVersions (plan_of u) u.models.items (core_with (log_of u) k)) (sym store)
+          (subst (λ (ms : List Content). SoundVersions (plan_of u) ms (core_with (log_of u) s)) (sym models)
+          (words_sound (plan_of v) (plan_of u) v.models.items (marked_log v mark) (log_of u) s marked_plan (sym log_marked) marked_sound.versions));
+      places = ap (λ (ms : List (Option Mark)). length ms) marks ∙ length-set v.marks.items mark.version (Some mark) ∙ are.places;
+      of_versions = subst (λ (ms : List (Option Mark)). AreOfVersions (mark_in ms)) (sym marks) (of_versions_still v.marks.items mark there are.of_versions);
+      position = trail ∙ are.position ∙ sym (ap position_after records);
+    }
+
+    pub taken_just : HoldsJust u.store root
+    taken_just = subst (λ (k : Known). HoldsJust k root) (sym store) (record {
+      weighs = λ f. (
+          let tree = ap (λ (r : Option Name). weight_of f (root_tree s r)) is in
+          let same = ap (λ (x : Written). weight_of f (Rattle.core_laws.specs.States.tree_at (Rattle.entry_words.specs.Words.key_in x) (Rattle.block_contents.specs.Aligned.top x.plan.side) (stored_root v.store.roots mark.version))) gives.words in
+          omega (arith, gives.gains.weighs f, nothing.weighs f, none_weighs v.store f, tree, same));
+    })
+
+    pub marks_version : (w : Versions) → LeavesAll u w → MarksVersion v mark w
+    marks_version w leaves = record {
+      only = record {
+        models = leaves.stay.models ∙ models;
+        plan = leaves.stay.spares.plan ∙ marked_plan;
+        only = record {
+          made = leaves.only.made ∙ ap (λ (k : Known). k.told.made) store ∙ gives.only.made;
+          met = leaves.only.met ∙ ap (λ (k : Known). k.told.met) store ∙ gives.only.met;
+        };
+        free = leaves.free;
+      };
+      forgets = subst (λ (l : Log). ForgetsBy (plan_of v) v.models.items mark (log_of v) l) (sym (leaves.stay.log ∙ log_marked))
+          (record { legal = marked_sound.versions.legal; side = refl; records = refl; now = now; marks = comes });
+    }

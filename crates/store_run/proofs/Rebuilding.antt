@@ -1,0 +1,320 @@
+-- What rebuilding the newest version's root leaves.
+use Rattle.std.proofs.Common.{◌≡◌, ℕ, ◌-◌, ◌^◌, ◌≤◌, Some, None, Option, List, ◌∷◌, Result, Ok, Err, length, refl, sym, ◌∙◌, ap, subst, arith}
+use Rattle.vox_read.specs.Contents.{Content}
+use Rattle.history_model.specs.declared.acts.Act.{Act}
+use Rattle.history_model.specs.Logs.{Log, IsLegal}
+use Rattle.history_model.specs.Worlds.{World}
+use Rattle.node_shapes.specs.declared.names.Name.{Name}
+use Rattle.node_shapes.specs.Shape.{Shape, ShowsCells, IsPart}
+use Rattle.node_shapes.specs.Tree.{Tree, shape_of}
+use Rattle.std.specs.Prelude.{IfOk, IfErr}
+use Rattle.history_model.specs.declared.questions.Question.{Question}
+use Rattle.history_model.specs.Logs.{FitsWorld}
+use Rattle.script.specs.Fitting.{QuestionFits}
+use Rattle.transcript.specs.declared.answers.Answer.{Answer}
+use Rattle.conformance.specs.Telling.{Tells}
+use Rattle.world_answers.specs.TellsRoots.{TellsRoot}
+use Rattle.block_walk.specs.Roots.{HoldsRoot}
+use Rattle.node_shapes.specs.Weights.{weigh, weight_of, number_of_trees}
+use Rattle.node_shapes.proofs.TreeLaws.{level_of, gone_from_root}
+use Rattle.node_shapes.proofs.WeightLaws.{weight_of-there, weight_of-one}
+use Rattle.node_words.specs.declared.shares.Full.{Full}
+use Rattle.node_words.specs.Held.{Seen, IsHeld, Wanted, IsSought}
+use Rattle.node_words.specs.Gathering.{Grew, Grows, Fails}
+use Rattle.node_words.specs.Plans.{Layout}
+use Rattle.block_contents.specs.Aligned.{top, world_block}
+use Rattle.block_contents.specs.Versions.{IsKept}
+use Rattle.core_laws.proofs.SeenNodes.{gone_tree}
+use Rattle.edit_cells.specs.Worlds.{ShowsWorld, Rebuilt, world_shape}
+use Rattle.act_rebuilds.specs.Acts.{RebuildsAct, GrowsByAct, RefusesAct}
+use Rattle.entry_words.specs.Words.{key_in}
+use Rattle.one_store.specs.Known.{Known, IsStore, known_seen, root_tree, stored_root}
+use Rattle.one_store.specs.Steps.{SparesRoots, spares_on}
+use Rattle.one_store.proofs.RootLaws.{top_tree}
+use Rattle.one_store.proofs.StoreLaws.{held_is}
+use Rattle.store_run.specs.declared.versions.Versions.{Versions}
+use Rattle.store_run.specs.Kept.{plan_of, log_of, moment_of, world_of, AreVersions, HoldsJust}
+use Rattle.store_run.specs.Steps.{StayVersions, StaysSeen, IsOverStore, LeavesAll, SharesRoot, HoldsTree, PutsDown, MakesBeside, MakesRoot, MeetsBucket, edited_world, target_of}
+use Rattle.store_run.proofs.Holding.{root_is, none_weighs, just_root, just_few, just_shows}
+use Rattle.store_run.proofs.Sparing.{with_store, tree_same}
+
+-- the newest version has no mark
+pub newest_kept : (side : ℕ) (models : List Content) (log : Log) → IsLegal side models log → IsKept log (length log.records)
+newest_kept side models log legal = record {
+  there = omega arith;
+  unmarked = λ k m lt same. (let dated = legal.marked k m lt in omega arith);
+}
+
+pub stays_on : (a b c : Versions) → StayVersions a b → StayVersions b c → StayVersions a c
+stays_on a b c f g = record { models = g.models ∙ f.models; log = g.log ∙ f.log; spares = spares_on a.store b.store c.store f.spares g.spares }
+
+pub edited_same : (old new : Versions) (act : Act) → StayVersions old new → edited_world new act ≡ edited_world old act
+edited_same old new act stay =
+    λ i. Rattle.possible.specs.Needed.made_of (stay.models i) ((stay.log i).records) act (length ((stay.log i).records))
+
+pub target_same : (old new : Versions) (act : Act) → StayVersions old new → target_of new act ≡ target_of old act
+target_same old new act stay =
+    λ i. world_shape ((stay.spares.plan i).side - 2) (edited_same old new act stay i)
+
+-- what a share of the version shows
+pub share_level : (v : Versions) (version : ℕ) (root : Option Name) (n : Name) → AreVersions v → root ≡ stored_root v.store.roots version
+    → root ≡ Some n → n.level ≡ top v.side
+share_level v version root n are is e = are.sound.level version n (sym is ∙ e) ∙ ap top (sym are.side)
+
+pub share_shows : (v : Versions) (version : ℕ) (root : Option Name) → AreVersions v → IsKept (log_of v) version
+    → HoldsJust v.store root → root ≡ stored_root v.store.roots version
+    → ShowsWorld v.store.told.held (v.side - 2) root (world_of v version)
+share_shows v version root are kept just is =
+    just_shows v.store v.side root (world_of v version) just (λ n e. share_level v version root n are is e)
+    (subst (λ (l : ℕ). ShowsCells (world_block l) (shape_of (root_tree v.store root)) (world_of v version)) (sym are.side)
+    (subst (λ (r : Option Name). ShowsCells (world_block (plan_of v).side) (shape_of (root_tree v.store r)) (world_of v version)) (sym is)
+    (are.sound.shown version kept)))
+
+pub base_root : (v : Versions) (version : ℕ) (base : Option Name) → AreVersions v → HoldsJust v.store base
+    → base ≡ stored_root v.store.roots version → HoldsRoot v.store.told.held v.side base
+base_root v version base are just is = just_root v.store v.side base just (λ n e. share_level v version base n are is e)
+
+pub newest_is_kept : (v : Versions) (version : ℕ) → AreVersions v → version ≡ moment_of v → IsKept (log_of v) version
+newest_is_kept v version are is =
+    subst (λ (n : ℕ). IsKept (log_of v) n) (sym is) (newest_kept (2 ^ (plan_of v).side) v.models.items (log_of v) are.sound.legal)
+
+pub over_store : (v : Versions) (s : Known) → SparesRoots v.store s → IsOverStore v (with_store v s)
+over_store v s spares = record { side = refl; models = refl; records = refl; marks = refl; trail = refl; spares = spares }
+
+-- ---- what the rebuild leaves beside the base
+
+module _ (v : Versions) (s : Known) (base : Option Name) (act : Act) (version : ℕ) (result : Result (Option Name) Full)
+    (are : AreVersions v) (just : HoldsJust v.store base) (is : base ≡ stored_root v.store.roots (moment_of v)) where
+  shown : ShowsWorld v.store.told.held (v.side - 2) base (world_of v (moment_of v))
+  shown = share_shows v (moment_of v) base are (newest_is_kept v (moment_of v) are refl) just is
+
+  target_here : world_shape (v.side - 2) (edited_world v act) ≡ target_of v act
+  target_here = λ i. world_shape (are.side i - 2) (edited_world v act)
+
+  pub makes_beside : RebuildsAct (known_seen v.store) v.side base v.models.items act result (known_seen s)
+      → GrowsByAct (known_seen v.store) v.side base v.models.items act result (known_seen s)
+      → IfOk result (λ root. MakesBeside v act root (with_store v s))
+  makes_beside = go result
+    where
+      go : (r : Result (Option Name) Full) → RebuildsAct (known_seen v.store) v.side base v.models.items act r (known_seen s)
+          → GrowsByAct (known_seen v.store) v.side base v.models.items act r (known_seen s)
+          → IfOk r (λ root. MakesBeside v act root (with_store v s))
+      go (Err e) rebuilds grows = tt
+      go (Ok root) rebuilds grows = record {
+        rebuilt = rebuilds (world_of v (moment_of v)) shown;
+        grows = subst (λ (t : Shape). Grows t (known_seen v.store) (known_seen s)) target_here (grows (world_of v (moment_of v)) shown);
+      }
+
+  pub fails_beside : RefusesAct (known_seen v.store) v.side base v.models.items act result (known_seen s)
+      → IfErr result (λ full. Fails (target_of v act) full.level full.bucket (known_seen v.store) (known_seen s))
+  fails_beside = go result
+    where
+      go : (r : Result (Option Name) Full) → RefusesAct (known_seen v.store) v.side base v.models.items act r (known_seen s)
+          → IfErr r (λ full. Fails (target_of v act) full.level full.bucket (known_seen v.store) (known_seen s))
+      go (Ok root) refuses = tt
+      go (Err full) refuses =
+          subst (λ (t : Shape). Fails t full.level full.bucket (known_seen v.store) (known_seen s)) target_here (refuses (world_of v (moment_of v)) shown)
+
+  more : (r : Result (Option Name) Full) → RebuildsAct (known_seen v.store) v.side base v.models.items act r (known_seen s)
+      → RefusesAct (known_seen v.store) v.side base v.models.items act r (known_seen s)
+      → (f : Tree → ℕ) → weigh f v.store.told.held ≤ weigh f s.told.held
+  more (Ok root) rebuilds refuses f = let r = rebuilds (world_of v (moment_of v)) shown in omega (arith, r.weighs f)
+  more (Err full) rebuilds refuses f = let r = refuses (world_of v (moment_of v)) shown in omega (arith, r.held f)
+
+  pub still_held : RebuildsAct (known_seen v.store) v.side base v.models.items act result (known_seen s)
+      → RefusesAct (known_seen v.store) v.side base v.models.items act result (known_seen s)
+      → SparesRoots v.store s → HoldsTree s base
+  still_held rebuilds refuses spares = record {
+    each = λ n e. record {
+      weighs = λ f. (
+          let same = ap (λ (r : Option Name). root_tree s r) e in
+          let tree = tree_same v.store s (moment_of v) base spares is in
+          let there = weight_of-there f (root_tree v.store base) n (root_is v.store base ∙ e) in
+          let f_same : f (root_tree s (Some n)) ≡ f (root_tree v.store base) = ap f (sym same ∙ tree) in
+          omega (arith, just.weighs f, more result rebuilds refuses f, there, f_same));
+    };
+  }
+
+  pub few_held : RebuildsAct (known_seen v.store) v.side base v.models.items act result (known_seen s)
+      → RefusesAct (known_seen v.store) v.side base v.models.items act result (known_seen s)
+      → number_of_trees s.told.held ≤ 2
+  few_held = go result
+    where
+      go : (r : Result (Option Name) Full) → RebuildsAct (known_seen v.store) v.side base v.models.items act r (known_seen s)
+          → RefusesAct (known_seen v.store) v.side base v.models.items act r (known_seen s) → number_of_trees s.told.held ≤ 2
+      go (Ok root) rebuilds refuses =
+          let r = rebuilds (world_of v (moment_of v)) shown in
+          omega (arith, r.weighs (λ _. 1), weight_of-one r.tree, just_few v.store base just)
+      go (Err full) rebuilds refuses =
+          let r = refuses (world_of v (moment_of v)) shown in omega (arith, r.held (λ _. 1), just_few v.store base just)
+
+-- ---- and once the base went back
+
+module _ (v u w : Versions) (base root : Option Name) (act : Act) (number : ℕ)
+    (are : AreVersions v) (st : IsStore w.store number) (just : HoldsJust v.store base)
+    (is : base ≡ stored_root v.store.roots (moment_of v)) (over : IsOverStore v u) (puts : PutsDown u base w) where
+  -- only the new root's share is left
+  left_over : (f : Tree → ℕ) → (r : Rebuilt (v.side - 2) (edited_world v act) root (known_seen v.store) (known_seen u.store))
+      → weigh f w.store.told.held ≡ weight_of f r.tree
+  left_over f r =
+      let tree = ap (weight_of f) (tree_same v.store u.store (moment_of v) base over.spares is) in
+      omega (arith, r.weighs f, just.weighs f, puts.lost f, tree)
+
+  plan_same : w.store.words.plan ≡ v.store.words.plan
+  plan_same = puts.stay.spares.plan ∙ over.spares.plan
+
+  over_log : log_of u ≡ log_of v
+  over_log = λ i. record { side = over.side i; records = (over.records i).items; marks = Rattle.block_contents.specs.MarkLists.marks_below (Rattle.store_run.specs.Kept.mark_in ((over.marks i).items)) Rattle.node_places.specs.Spots.versions }
+
+  pub all_stay : StayVersions v w
+  all_stay = record {
+    models = puts.stay.models ∙ (λ i. (over.models i).items);
+    log = puts.stay.log ∙ over_log;
+    spares = spares_on v.store u.store w.store over.spares puts.stay.spares;
+  }
+
+  new_level : (n : Name) → (r : Rebuilt (v.side - 2) (edited_world v act) root (known_seen v.store) (known_seen u.store))
+      → root ≡ Some n → n.level ≡ top (plan_of v).side
+  new_level n r e = level_of (v.side - 2) r.tree n r.levels (r.root ∙ e) ∙ ap top are.side
+
+  new_tree : (o : Option Name) → (r : Rebuilt (v.side - 2) (edited_world v act) root (known_seen v.store) (known_seen u.store))
+      → root ≡ o → r.tree ≡ root_tree w.store root
+  new_tree None r e =
+      gone_from_root r.tree (r.root ∙ e) ∙ sym (gone_tree (key_in w.store.words) (top (plan_of w).side))
+      ∙ ap (root_tree w.store) (sym e)
+  new_tree (Some n) r e =
+      let held : IsHeld w.store.told.held r.tree = record { weighs = λ f. omega (arith, left_over f r, weight_of-there f r.tree n (r.root ∙ e)) } in
+      let level : n.level ≡ top (plan_of w).side = new_level n r e ∙ ap (λ (p : Layout). top p.side) (sym plan_same) in
+      held_is w.store number r.tree n st held (r.root ∙ e) ∙ sym (top_tree w.store n level) ∙ ap (root_tree w.store) (sym e)
+
+  makes_root : MakesBeside v act root u → MakesRoot v act root w
+  makes_root makes =
+      let r = makes.rebuilt in
+      let tree = new_tree root r refl in
+      record {
+        stay = all_stay;
+        holds = record { weighs = λ f. (let t = ap (weight_of f) tree in omega (arith, left_over f r, t)) };
+        level = λ n e. new_level n r e;
+        shows =
+            subst (λ (t : Tree). ShowsCells (world_block (plan_of v).side) (shape_of t) (edited_world v act)) tree
+            (subst (λ (l : ℕ). ShowsCells (world_block l) (shape_of r.tree) (edited_world v act)) are.side r.shows);
+        grows = record {
+          plan = plan_same;
+          made =
+              subst (λ (list : List Shape). Grew (λ p. IsPart p (target_of v act)) v.store.told.made list) (sym puts.only.made) makes.grows.made;
+          met = puts.only.met ∙ makes.grows.met;
+        };
+      }
+
+-- the same as seen before the base was shared
+makes_on : (a v w : Versions) (version : ℕ) (base root : Option Name) (act : Act) → SharesRoot a version base v → MakesRoot v act root w → MakesRoot a act root w
+makes_on a v w version base root act shares makes =
+    let plan = shares.stay.spares.plan in
+    record {
+      stay = stays_on a v w shares.stay makes.stay;
+      holds = makes.holds;
+      level = λ n e. makes.level n e ∙ ap (λ (p : Layout). top p.side) plan;
+      shows =
+          subst (λ (p : Layout). ShowsCells (world_block p.side) (shape_of (root_tree w.store root)) (edited_world a act)) plan
+          (subst (λ (x : World). ShowsCells (world_block (plan_of v).side) (shape_of (root_tree w.store root)) x) (edited_same a v act shares.stay) makes.shows);
+      grows = record {
+        plan = makes.grows.plan ∙ plan;
+        made =
+            subst (λ (list : List Shape). Grew (λ p. IsPart p (target_of a act)) list w.store.told.made) shares.only.made
+            (subst (λ (t : Shape). Grew (λ p. IsPart p t) v.store.told.made w.store.told.made) (target_same a v act shares.stay) makes.grows.made);
+        met = makes.grows.met ∙ shares.only.met;
+      };
+    }
+
+module _ (a v u w : Versions) (base : Option Name) (act : Act) (number version : ℕ) (result : Result (Option Name) Full)
+    (shares : SharesRoot a version base v) (now : version ≡ moment_of a)
+    (are : AreVersions v) (over : IsOverStore v u) (puts : PutsDown u base w) where
+  pub base_place : base ≡ stored_root v.store.roots (moment_of v)
+  base_place = shares.is ∙ ap (stored_root v.store.roots) (now ∙ sym (ap (λ (l : Log). length l.records) shares.stay.log))
+
+  pub made_all : IsStore w.store number → IfOk result (λ root. MakesBeside v act root u) → IfOk result (λ root. MakesRoot a act root w)
+  made_all st = go result
+    where
+      go : (r : Result (Option Name) Full) → IfOk r (λ root. MakesBeside v act root u) → IfOk r (λ root. MakesRoot a act root w)
+      go (Err e) makes = tt
+      go (Ok root) makes = makes_on a v w version base root act shares (makes_root v u w base root act number are st shares.holds base_place over puts makes)
+
+  nothing_left : HoldsJust a.store None → (full : Full) → Fails (target_of v act) full.level full.bucket (known_seen v.store) (known_seen u.store)
+      → (f : Tree → ℕ) → weigh f w.store.told.held ≡ 0
+  nothing_left free full fails f =
+      let tree = ap (weight_of f) (tree_same v.store u.store (moment_of v) base over.spares base_place) in
+      omega (arith, puts.lost f, fails.held f, shares.holds.weighs f, tree)
+
+  pub met_all : IsStore w.store number → HoldsJust a.store None → IfErr result (λ full. Fails (target_of v act) full.level full.bucket (known_seen v.store) (known_seen u.store))
+      → IfErr result (λ full. MeetsBucket a act full w)
+  met_all st free = go result
+    where
+      go : (r : Result (Option Name) Full) → IfErr r (λ full. Fails (target_of v act) full.level full.bucket (known_seen v.store) (known_seen u.store))
+          → IfErr r (λ full. MeetsBucket a act full w)
+      go (Ok root) fails = tt
+      go (Err full) fails =
+          let plan = shares.stay.spares.plan in
+          let target = target_same a v act shares.stay in
+          record {
+            stay = stays_on a v w shares.stay (all_stay v u w base None act number are st shares.holds base_place over puts);
+            free = record { weighs = λ f. omega (arith, nothing_left free full fails f, none_weighs w.store f) };
+            fails = record {
+              plan = puts.only.plan ∙ fails.plan ∙ plan;
+              made =
+                  subst (λ (list : List Shape). Grew (λ p. IsPart p (target_of a act)) list w.store.told.made) shares.only.made
+                  (subst (λ (list : List Shape). Grew (λ p. IsPart p (target_of a act)) v.store.told.made list) (sym puts.only.made)
+                  (subst (λ (t : Shape). Grew (λ p. IsPart p t) v.store.told.made u.store.told.made) target fails.made));
+              wanted = fails.wanted;
+              is_part = subst (λ (t : Shape). IsPart fails.wanted t) target fails.is_part;
+              sought = subst (λ (p : Layout). IsSought p (record { level = full.level; bucket = full.bucket; shape = fails.wanted })) plan fails.sought;
+              met = puts.only.met ∙ fails.met
+                  ∙ ap (λ (list : List Wanted). record { level = full.level; bucket = full.bucket; shape = fails.wanted } ∷ list) shares.only.met;
+              held = λ f. omega (arith, nothing_left free full fails f, free.weighs f, none_weighs a.store f);
+            };
+          }
+
+pub fits_still : (a v : Versions) (act : Act) → StayVersions a v → FitsWorld (2 ^ a.side) a.models.items act → FitsWorld (2 ^ v.side) v.models.items act
+fits_still a v act stay fits =
+    subst (λ (l : Log). FitsWorld (2 ^ l.side) v.models.items act) (sym stay.log)
+    (subst (λ (ms : List Content). FitsWorld (2 ^ a.side) ms act) (sym stay.models) fits)
+
+-- ---- questions
+
+pub root_told : (v : Versions) (version : ℕ) (base : Option Name) (question : Question) (answer : Answer) → AreVersions v → IsKept (log_of v) version
+    → HoldsJust v.store base → base ≡ stored_root v.store.roots version
+    → TellsRoot v.store.told.held v.side base question answer → Tells (2 ^ v.side) (world_of v version) question answer
+root_told v version base question answer are kept just is tells = tells (world_of v version) (share_shows v version base are kept just is)
+
+pub seen_just : (v : Versions) (s : Known) (version : ℕ) (base : Option Name) → HoldsJust v.store base → base ≡ stored_root v.store.roots version
+    → SparesRoots v.store s → known_seen s ≡ known_seen v.store → HoldsJust s base
+seen_just v s version base just is spares seen = record {
+  weighs = λ f. (
+      let held = ap (λ (k : Seen). weigh f k.held) seen in
+      let tree = ap (weight_of f) (tree_same v.store s version base spares is) in
+      omega (arith, just.weighs f, held, tree));
+}
+
+pub stays_seen : (v : Versions) (s : Known) → SparesRoots v.store s → known_seen s ≡ known_seen v.store → StaysSeen v (with_store v s)
+stays_seen v s spares seen = record { stay = record { models = refl; log = refl; spares = spares }; seen = seen }
+
+pub kept_still : (a v : Versions) (version : ℕ) → StayVersions a v → IsKept (log_of a) version → IsKept (log_of v) version
+kept_still a v version stay kept = subst (λ (l : Log). IsKept l version) (sym stay.log) kept
+
+pub question_still : (a v : Versions) (question : Question) → StayVersions a v → QuestionFits (2 ^ a.side) question → QuestionFits (2 ^ v.side) question
+question_still a v question stay fits = subst (λ (l : Log). QuestionFits (2 ^ l.side) question) (sym stay.log) fits
+
+pub told_still : (a v : Versions) (version : ℕ) (question : Question) (answer : Answer) → StayVersions a v
+    → Tells (2 ^ v.side) (world_of v version) question answer → Tells (2 ^ a.side) (world_of a version) question answer
+told_still a v version question answer stay told =
+    subst (λ (l : Log). Tells (2 ^ l.side) (Rattle.history_model.specs.Moments.world_has a.models.items l.records version) question answer) stay.log
+    (subst (λ (ms : List Content). Tells (2 ^ v.side) (Rattle.history_model.specs.Moments.world_has ms v.records.items version) question answer) stay.models told)
+
+pub asked_all : (a v u w : Versions) (version : ℕ) (base : Option Name) → SharesRoot a version base v → StaysSeen v u → LeavesAll u w → LeavesAll a w
+asked_all a v u w version base shares seen leaves = record {
+  stay = stays_on a u w (stays_on a v u shares.stay seen.stay) leaves.stay;
+  only = record {
+    made = leaves.only.made ∙ ap (λ (k : Seen). k.made) seen.seen ∙ shares.only.made;
+    met = leaves.only.met ∙ ap (λ (k : Seen). k.met) seen.seen ∙ shares.only.met;
+  };
+  free = leaves.free;
+}

@@ -1,0 +1,148 @@
+-- What a record that comes next makes, and where an undo or a redo goes.
+use Rattle.std.proofs.Common.{◌≡◌, ◌≢◌, ℕ, ◌+◌, ◌-◌, ◌^◌, ◌<◌, ◌≤◌, true, false, Some, Option, List, [], ◌∷◌, length, refl, sym, ◌∙◌, ap, subst, arith}
+use Rattle.std.specs.Prelude.{All}
+use Rattle.std.proofs.lemmas.Option.{none-some, same_Some}
+use Rattle.vw_cell.specs.declared.cells.Cell.{Cell}
+use Rattle.vw_cell.specs.Counts.{cell_at}
+use Rattle.vw_cell.specs.Places.{block_side}
+use Rattle.vox_read.specs.Contents.{Content}
+use Rattle.history_model.specs.declared.acts.Act.{Act}
+use Rattle.history_model.specs.declared.acts.Act.TheVariants.{Fill, Erase, Ball, Carve, Copy, Stamp, Undo, Redo}
+use Rattle.history_model.specs.declared.histories.Record.{Record}
+use Rattle.history_model.specs.LegalLaws.{edit_follows}
+use Rattle.history_model.specs.Logs.{Log, FitsWorld, MayFollow, HasTarget}
+use Rattle.history_model.specs.PositionLaws.{names_below}
+use Rattle.history_model.specs.Positions.{position_after, first_of, undone, redone}
+use Rattle.history_model.specs.Worlds.{World, is_edit}
+use Rattle.node_shapes.specs.declared.names.Name.{Name}
+use Rattle.node_shapes.specs.Shape.{ShowsCells}
+use Rattle.node_shapes.specs.Tree.{shape_of}
+use Rattle.node_words.specs.Plans.{Layout}
+use Rattle.cell_shapes.proofs.CellShapeLaws.{shape_with-has, shape_with-canonical}
+use Rattle.block_contents.specs.Aligned.{top, world_block}
+use Rattle.block_contents.specs.Versions.{IsKept, IsUnmarked}
+use Rattle.core_laws.specs.LogEvents.{MayAppend}
+use Rattle.core_laws.specs.Making.{version_gone_to}
+use Rattle.core_laws.proofs.Targets.{may_go}
+use Rattle.edit_cells.specs.Worlds.{world_shape, world_cells, block_at_origin}
+use Rattle.conformance.specs.Answers.{target_at}
+use Rattle.conformance.proofs.LineKinds.{undo_target, redo_target}
+use Rattle.script_runs.specs.Keeping.{IsTarget}
+use Rattle.undo_trail.specs.Trails.{trail_position}
+use Rattle.one_store.specs.Known.{IsStore, root_tree, stored_root}
+use Rattle.store_run.specs.declared.versions.Versions.{Versions}
+use Rattle.store_run.specs.Kept.{plan_of, log_of, moment_of, core_with, AreVersions}
+use Rattle.store_run.specs.Steps.{SharesRoot, MakesRoot, edited_world, target_of}
+use Rattle.store_run.proofs.Rebuilding.{edited_same}
+use Rattle.store_run.proofs.Sparing.{versions_sound}
+
+from_origin : (c : Cell) → cell_at (c.x - 0) (c.y - 0) (c.z - 0) ≡ c
+from_origin c =
+    let x : c.x - 0 ≡ c.x = omega arith in
+    let y : c.y - 0 ≡ c.y = omega arith in
+    let z : c.z - 0 ≡ c.z = omega arith in
+    λ i. record { x = x i; y = y i; z = z i }
+
+world_shows : (level : ℕ) (world : World) → ShowsCells (block_at_origin level) (world_shape level world) world
+world_shows level world = record {
+  each = λ c i.
+      let x : c.x - 0 < block_side level = omega (arith, i.x.1) in
+      let y : c.y - 0 < block_side level = omega (arith, i.y.1) in
+      let z : c.z - 0 < block_side level = omega (arith, i.z.1) in
+      (shape_with-has level (world_cells world)).each (c.x - 0) (c.y - 0) (c.z - 0) x y z ∙ ap world (from_origin c);
+}
+
+-- the target of an edit is the shape of what it makes of the newest version
+pub is_target : (v : Versions) (act : Act) → AreVersions v → is_edit act ≡ true
+    → IsTarget (plan_of v) v.models.items v.records.items act (moment_of v) (target_of v act)
+is_target v act are edit = record {
+  edit = edit;
+  canonical = shape_with-canonical ((plan_of v).side - 2) (world_cells (edited_world v act));
+  shows = world_shows ((plan_of v).side - 2) (edited_world v act);
+}
+
+-- the edit may become the next record, with the root that it made
+pub may_edit : (v u : Versions) (r : Record) (root : Option Name) → AreVersions v → MakesRoot v r.act root u
+    → is_edit r.act ≡ true → FitsWorld (2 ^ v.side) v.models.items r.act → moment_of u ≢ 65535 → moment_of u ≤ 65535
+    → MayAppend (plan_of u) u.models.items r root (core_with (log_of u) u.store)
+may_edit v u r root are makes edit fits late few =
+    let plan = makes.stay.spares.plan in
+    let side : (plan_of u).side ≡ v.side = ap (λ (p : Layout). p.side) plan ∙ sym are.side in
+    record {
+      room = omega (arith, late);
+      fits =
+          subst (λ (l : ℕ). FitsWorld (2 ^ l) u.models.items r.act) (sym side)
+          (subst (λ (ms : List Content). FitsWorld (2 ^ v.side) ms r.act) (sym makes.stay.models) fits);
+      follows = edit_follows (log_of u).marks (moment_of u + 1) r.act (position_after u.records.items) edit;
+      level = λ n e. makes.level n e ∙ ap (λ (p : Layout). top p.side) (sym plan);
+      cells = edited_world u r.act;
+      shows =
+          subst (λ (p : Layout). ShowsCells (world_block p.side) (shape_of (root_tree u.store root)) (edited_world u r.act)) (sym plan)
+          (subst (λ (x : World). ShowsCells (world_block (plan_of v).side) (shape_of (root_tree u.store root)) x) (sym (edited_same v u r.act makes.stay)) makes.shows);
+      makes = record {
+        edit = λ _. record { each = λ q inside. refl };
+        other = λ no. absurd (Rattle.std.proofs.lemmas.Bool.both_ways (is_edit r.act) no edit);
+      };
+    }
+
+-- ---- where an undo or a redo goes
+
+goes_undo : (past : List ℕ) (now : ℕ) (future : List ℕ) (v : ℕ) → first_of past ≡ Some v → (undone past now future).now ≡ v
+goes_undo [] now future v e = absurd (none-some v e)
+goes_undo (to ∷ past) now future v e = same_Some to v e
+
+goes_redo : (past : List ℕ) (now : ℕ) (future : List ℕ) (v : ℕ) → first_of future ≡ Some v → (redone past now future).now ≡ v
+goes_redo past now [] v e = absurd (none-some v e)
+goes_redo past now (to ∷ future) v e = same_Some to v e
+
+has_target : (log : Log) (past : List ℕ) (v : ℕ) → first_of past ≡ Some v → IsUnmarked log.marks v → HasTarget log.marks (length log.records + 1) past
+has_target log [] v e unmarked = absurd (none-some v e)
+has_target log (to ∷ more) v e unmarked = λ k m lt same. absurd (unmarked k m lt (same ∙ same_Some to v e))
+
+first_below : (past : List ℕ) (v n : ℕ) → first_of past ≡ Some v → All (λ w. w < n) past → v < n
+first_below [] v n e below = absurd (none-some v e)
+first_below (to ∷ more) v n e below = subst (λ (w : ℕ). w < n) (same_Some to v e) (below 0 0 (omega arith))
+
+pub record GoesTo (records : List Record) (log : Log) (act : Act) (to : ℕ) : Type 0 where
+  pub there : to ≤ length records
+  pub goes : version_gone_to records act ≡ to
+
+pub goes_to : (log : Log) (act : Act) (to : ℕ) → is_edit act ≡ false → target_at log.records (length log.records) act ≡ Some to
+    → (to ≤ length log.records) × (version_gone_to log.records act ≡ to)
+    × (IsUnmarked log.marks to → MayFollow log.marks (length log.records + 1) act (position_after log.records))
+goes_to log Undo to other e =
+    let at = position_after log.records in
+    let first : first_of at.past ≡ Some to = sym (undo_target log.records) ∙ e in
+    let lt = first_below at.past to (length log.records + 1) first (names_below log.records).past in
+    (omega arith, goes_undo at.past at.now at.future to first, has_target log at.past to first)
+goes_to log Redo to other e =
+    let at = position_after log.records in
+    let first : first_of at.future ≡ Some to = sym (redo_target log.records) ∙ e in
+    let lt = first_below at.future to (length log.records + 1) first (names_below log.records).future in
+    (omega arith, goes_redo at.past at.now at.future to first, has_target log at.future to first)
+goes_to log (Fill b) to other e = absurd (let no : ⊥ = cc in no)
+goes_to log (Erase b) to other e = absurd (let no : ⊥ = cc in no)
+goes_to log (Ball b) to other e = absurd (let no : ⊥ = cc in no)
+goes_to log (Carve b) to other e = absurd (let no : ⊥ = cc in no)
+goes_to log (Copy b c) to other e = absurd (let no : ⊥ = cc in no)
+goes_to log (Stamp b c) to other e = absurd (let no : ⊥ = cc in no)
+
+pub may_go_to : (v u : Versions) (r : Record) (to number : ℕ) (root : Option Name) → AreVersions u → IsStore u.store number → SharesRoot v to root u
+    → is_edit r.act ≡ false → target_at v.records.items (moment_of v) r.act ≡ Some to → IsKept (log_of v) to → moment_of v ≢ 65535 → moment_of v ≤ 65535
+    → MayAppend (plan_of u) u.models.items r root (core_with (log_of u) u.store)
+may_go_to v u r to number root are st shares other goes kept late few =
+    let log = shares.stay.log in
+    let now : moment_of u ≡ moment_of v = ap (λ (l : Log). length l.records) log in
+    let goes_now : target_at u.records.items (moment_of u) r.act ≡ Some to = (λ i. target_at ((log i).records) (length ((log i).records)) r.act) ∙ goes in
+    let g = goes_to (log_of u) r.act to other goes_now in
+    let kept_now : IsUnmarked (log_of u).marks to = subst (λ (l : Log). IsUnmarked l.marks to) (sym log) kept.unmarked in
+    let may = may_go (plan_of u) u.models.items r (core_with (log_of u) u.store) (versions_sound u number are st) (omega (arith, late, now)) other (g.2 kept_now) in
+    subst (λ (o : Option Name). MayAppend (plan_of u) u.models.items r o (core_with (log_of u) u.store))
+    (ap (stored_root u.store.roots) g.1 ∙ sym shares.is) may
+
+-- what the trail tells
+pub target_undo : (v : Versions) → AreVersions v → first_of (trail_position v.trail).past ≡ target_at v.records.items (moment_of v) Undo
+target_undo v are = ap (λ (at : Rattle.history_model.specs.Positions.Position). first_of at.past) are.position ∙ sym (undo_target v.records.items)
+
+pub target_redo : (v : Versions) → AreVersions v → first_of (trail_position v.trail).future ≡ target_at v.records.items (moment_of v) Redo
+target_redo v are = ap (λ (at : Rattle.history_model.specs.Positions.Position). first_of at.future) are.position ∙ sym (redo_target v.records.items)

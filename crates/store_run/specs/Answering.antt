@@ -1,0 +1,30 @@
+-- What a line that is answered makes of the versions.
+use Rattle.std.specs.Prelude.{◌≡◌, ℕ, None}
+use Rattle.history_model.specs.declared.acts.Act.{Act}
+use Rattle.history_model.specs.declared.acts.Act.TheVariants.{Redo}
+use Rattle.script.specs.declared.commands.ScriptLine.{ScriptLine}
+use Rattle.transcript.specs.declared.answers.Answer.{Answer}
+use Rattle.transcript.specs.declared.answers.Answer.TheVariants as answers
+use Rattle.conformance.specs.Kinds.{answer_at}
+use Rattle.script_runs.specs.Sessions.{GoesOnWith}
+use Rattle.store_run.specs.declared.versions.Versions.{Versions}
+use Rattle.store_run.specs.Kept.{plan_of, log_of, moment_of, noted_of, HoldsJust}
+
+-- whatever has run so far goes on with this answer to the line, which is of the newest moment then
+pub record GoesOnBy (old : Versions) (session : ℕ) (l : ScriptLine) (answer : Answer)
+    (new : Versions) : Type 0 where
+  pub models : new.models.items ≡ old.models.items
+  pub plan : plan_of new ≡ plan_of old
+  pub free : HoldsJust new.store None
+  pub goes_on : GoesOnWith (plan_of old) old.models.items session l (log_of old) (log_of new)
+      (noted_of old) (noted_of new) (answer_at l (moment_of new) answer)
+
+-- the answer to an undo or a redo that has no version to go to
+abbrev pub nothing_to_go_to : Act → Answer
+nothing_to_go_to Redo = answers.NothingToRedo
+nothing_to_go_to other = answers.NothingToUndo
+
+-- the answer to a save, by that to the count of its box
+abbrev pub saved_as : Answer → Answer
+saved_as (answers.Count cells) = answers.Saved cells
+saved_as other = other

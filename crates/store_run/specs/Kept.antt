@@ -1,0 +1,73 @@
+-- What versions over a store of nodes are: models, records and marks, and a store that has the root
+-- of each version which is kept in the place of its number.
+use Rattle.std.specs.Prelude.{◌≡◌, ℕ, ◌<◌, Option, None, List, length, slice_index_or, vec_len, vec_capacity}
+use Rattle.history_model.specs.declared.histories.Mark.{Mark}
+use Rattle.history_model.specs.Logs.{Log}
+use Rattle.history_model.specs.Positions.{position_after}
+use Rattle.history_model.specs.Worlds.{World}
+use Rattle.history_model.specs.Moments.{world_has}
+use Rattle.node_shapes.specs.declared.names.Name.{Name}
+use Rattle.node_shapes.specs.Tree.{Tree}
+use Rattle.node_shapes.specs.Weights.{weigh, weight_of}
+use Rattle.node_words.specs.Plans.{Layout}
+use Rattle.node_places.specs.Spots.{versions}
+use Rattle.block_contents.specs.MarkLists.{marks_below, AreOfVersions}
+use Rattle.core_laws.specs.States.{State}
+use Rattle.core_laws.specs.Soundness.{SoundVersions}
+use Rattle.undo_trail.specs.Trails.{trail_position, HasSlack}
+use Rattle.one_store.specs.Known.{Known, core_of, root_tree}
+use Rattle.script_runs.specs.Keeping.{MadeAndMet}
+use Rattle.store_run.specs.declared.versions.Versions.{Versions}
+
+abbrev pub plan_of : Versions → Layout
+plan_of v = v.store.words.plan
+
+-- the mark of each version that has one
+abbrev pub mark_in : List (Option Mark) → ℕ → Option Mark
+mark_in marks version = slice_index_or marks version None
+
+abbrev pub log_of : Versions → Log
+log_of v = record {
+  side = v.side;
+  records = v.records.items;
+  marks = marks_below (mark_in v.marks.items) versions;
+}
+
+-- how many records there are, and the world of a version
+abbrev pub moment_of : Versions → ℕ
+moment_of v = length v.records.items
+
+abbrev pub world_of : Versions → ℕ → World
+world_of v version = world_has v.models.items v.records.items version
+
+-- the state of a core that they are read as
+abbrev pub core_with : Log → Known → State
+core_with log store = record {
+  book = (core_of store).book;
+  key = (core_of store).key;
+  root = (core_of store).root;
+  log = log;
+  held = (core_of store).held;
+}
+
+-- what the store noted
+abbrev pub noted_of : Versions → MadeAndMet
+noted_of v = record { made = v.store.told.made; met = v.store.told.met }
+
+-- the roots show the cells of their versions, each mark stands at its version, and the trail is
+-- where the records lead
+pub record AreVersions (v : Versions) : Type 0 where
+  pub side : v.side ≡ (plan_of v).side
+  pub sound : SoundVersions (plan_of v) v.models.items (core_with (log_of v) v.store)
+  pub places : length v.marks.items ≡ versions
+  pub of_versions : AreOfVersions (mark_in v.marks.items)
+  pub position : trail_position v.trail ≡ position_after v.records.items
+
+-- one share is held, of this root, or none where there is none
+pub record HoldsJust (store : Known) (root : Option Name) : Type 0 where
+  pub weighs : (f : Tree → ℕ) → weigh f store.told.held ≡ weight_of f (root_tree store root)
+
+-- one more record has room
+pub record HasRoom (v : Versions) : Type 0 where
+  pub record_room : vec_len v.records < vec_capacity v.records
+  pub trail_room : HasSlack v.trail

@@ -1,0 +1,130 @@
+-- What the calls of versions over a store do.
+use Rattle.std.specs.Prelude.{◌≡◌, ℕ, ◌+◌, ◌-◌, ◌<◌, ◌≤◌, Option, Some, None}
+use Rattle.std.specs.List.{Contains}
+use Rattle.history_model.specs.declared.acts.Act.{Act}
+use Rattle.history_model.specs.declared.histories.Mark.{Mark}
+use Rattle.history_model.specs.declared.histories.Record.{Record}
+use Rattle.history_model.specs.Worlds.{World}
+use Rattle.node_shapes.specs.declared.names.Name.{Name}
+use Rattle.node_shapes.specs.Shape.{Shape, ShowsCells}
+use Rattle.node_shapes.specs.Tree.{Tree, shape_of}
+use Rattle.node_shapes.specs.Weights.{weigh, weight_of}
+use Rattle.node_words.specs.declared.shares.Full.{Full}
+use Rattle.node_words.specs.Held.{IsHeld, OnlyHeldChanges}
+use Rattle.node_words.specs.Gathering.{Grows, Fails}
+use Rattle.block_contents.specs.Aligned.{top, world_block}
+use Rattle.block_contents.specs.Versions.{IsKept}
+use Rattle.edit_cells.specs.Worlds.{Rebuilt, world_shape}
+use Rattle.store_notes.specs.Changes.{MakesNothing}
+use Rattle.one_store.specs.Known.{Known, known_seen, root_tree, stored_root}
+use Rattle.one_store.specs.Steps.{SparesRoots}
+use Rattle.possible.specs.Needed.{made_of}
+use Rattle.conformance.specs.Running.{GrowsBy, ForgetsBy}
+use Rattle.store_run.specs.declared.versions.Versions.{Versions}
+use Rattle.store_run.specs.declared.versions.Found.{Found}
+use Rattle.store_run.specs.declared.versions.Found.TheVariants.{Kept, NotThere, Marked}
+use Rattle.store_run.specs.Kept.{plan_of, log_of, moment_of, HoldsJust}
+
+-- whether a version can be read
+pub record HasMark (v : Versions) (version : ℕ) : Type 0 where
+  pub mark : Mark
+  pub listed : Contains (log_of v).marks mark
+  pub same : mark.version ≡ version
+
+abbrev pub IsFound : Versions → ℕ → Found → Type 0
+IsFound v version Kept = IsKept (log_of v) version
+IsFound v version NotThere = moment_of v < version
+IsFound v version Marked = (version ≤ moment_of v) × HasMark v version
+
+-- models, records and marks stay, and so do the roots in their places
+pub record StayVersions (old new : Versions) : Type 0 where
+  pub models : new.models.items ≡ old.models.items
+  pub log : log_of new ≡ log_of old
+  pub spares : SparesRoots old.store new.store
+
+-- the versions stand over another store, and all else stays
+pub record IsOverStore (old new : Versions) : Type 0 where
+  pub side : new.side ≡ old.side
+  pub models : new.models ≡ old.models
+  pub records : new.records ≡ old.records
+  pub marks : new.marks ≡ old.marks
+  pub trail : new.trail ≡ old.trail
+  pub spares : SparesRoots old.store new.store
+
+-- nothing changed that contracts see of the store
+pub record StaysSeen (old new : Versions) : Type 0 where
+  pub stay : StayVersions old new
+  pub seen : known_seen new.store ≡ known_seen old.store
+
+-- nothing was made or met, and nobody holds a share
+pub record LeavesAll (old new : Versions) : Type 0 where
+  pub stay : StayVersions old new
+  pub only : MakesNothing old.store.told new.store.told
+  pub free : HoldsJust new.store None
+
+-- the tree of the root is held, where there is one
+pub record HoldsTree (store : Known) (root : Option Name) : Type 0 where
+  pub each : (n : Name) → root ≡ Some n → IsHeld store.told.held (root_tree store (Some n))
+
+-- a share of the root went back, where there is one
+pub record PutsDown (old : Versions) (root : Option Name) (new : Versions) : Type 0 where
+  pub stay : StayVersions old new
+  pub only : OnlyHeldChanges (known_seen old.store) (known_seen new.store)
+  pub lost : (f : Tree → ℕ) → weight_of f (root_tree old.store root)
+      + weigh f new.store.told.held ≡ weigh f old.store.told.held
+
+-- a share of the version's root came
+pub record SharesRoot (old : Versions) (version : ℕ) (root : Option Name)
+    (new : Versions) : Type 0 where
+  pub stay : StayVersions old new
+  pub only : MakesNothing old.store.told new.store.told
+  pub is : root ≡ stored_root new.store.roots version
+  pub holds : HoldsJust new.store root
+
+-- what an edit makes of the newest version, and the canonical shape of that
+abbrev pub edited_world : Versions → Act → World
+edited_world v act = made_of v.models.items v.records.items act (moment_of v)
+
+abbrev pub target_of : Versions → Act → Shape
+target_of v act = world_shape ((plan_of v).side - 2) (edited_world v act)
+
+-- a share came, beside what was held, of the root of what the edit makes of the newest version
+pub record MakesBeside (old : Versions) (act : Act) (root : Option Name)
+    (new : Versions) : Type 0 where
+  pub rebuilt : Rebuilt (old.side - 2) (edited_world old act) root (known_seen old.store)
+      (known_seen new.store)
+  pub grows : Grows (target_of old act) (known_seen old.store) (known_seen new.store)
+
+-- a share came of the root of what the edit makes, whose parts may have been made
+pub record MakesRoot (old : Versions) (act : Act) (root : Option Name)
+    (new : Versions) : Type 0 where
+  pub stay : StayVersions old new
+  pub holds : HoldsJust new.store root
+  pub level : (n : Name) → root ≡ Some n → n.level ≡ top (plan_of old).side
+  pub shows : ShowsCells (world_block (plan_of old).side) (shape_of (root_tree new.store root))
+      (edited_world old act)
+  pub grows : Grows (target_of old act) (known_seen old.store) (known_seen new.store)
+
+-- a part of what the edit makes met this full bucket, and nobody holds a share
+pub record MeetsBucket (old : Versions) (act : Act) (full : Full) (new : Versions) : Type 0 where
+  pub stay : StayVersions old new
+  pub free : HoldsJust new.store None
+  pub fails : Fails (target_of old act) full.level full.bucket (known_seen old.store)
+      (known_seen new.store)
+
+-- models and plan stay, nothing was made or met, and nobody holds a share
+pub record OnlyLogs (old new : Versions) : Type 0 where
+  pub models : new.models.items ≡ old.models.items
+  pub plan : plan_of new ≡ plan_of old
+  pub only : MakesNothing old.store.told new.store.told
+  pub free : HoldsJust new.store None
+
+-- the record came behind the others
+pub record AppendsRecord (old : Versions) (r : Record) (new : Versions) : Type 0 where
+  pub only : OnlyLogs old new
+  pub grows : GrowsBy (plan_of old) old.models.items r (log_of old) (log_of new)
+
+-- the mark came to its place
+pub record MarksVersion (old : Versions) (mark : Mark) (new : Versions) : Type 0 where
+  pub only : OnlyLogs old new
+  pub forgets : ForgetsBy (plan_of old) old.models.items mark (log_of old) (log_of new)

@@ -1,0 +1,277 @@
+//! How versions answer the lines of scripts.
+ghost use Rattle.std.specs.Prelude.{◌≡◌, ◌+◌, ◌<◌, ◌≤◌, ◌^◌, Bool, true, false};
+ghost use Rattle.history_model.specs.Worlds.{is_edit};
+ghost use Rattle.history_model.specs.Logs.{FitsWorld};
+ghost use Rattle.vw_cell.specs.Places.{FitsAt};
+ghost use Rattle.script.specs.Fitting.{CommandFits, QuestionFits};
+ghost use Rattle.script.specs.declared.commands.Command.TheVariants.{Edit, Forget, Ask, Save, Same};
+ghost use Rattle.script.specs.declared.commands.SaveName.{SaveName as save_name};
+ghost use Rattle.conformance.specs.Answers.{target_at, asked_version};
+ghost use Rattle.store_run.specs.Kept.{moment_of, AreVersions, HoldsJust, HasRoom};
+ghost use Rattle.store_run.specs.Answering.{GoesOnBy, nothing_to_go_to, saved_as};
+
+use crate::versions::{Found, RECORDS, Versions};
+use history_model::{Act, Mark, Question, Record};
+use node_words::Steps;
+use script::Command;
+use std::sync::ledger::Ledger;
+use transcript::Answer;
+use vw_cell::Boxed;
+
+impl<'m> Versions<'m> {
+    /// Does what the line of the session asks for, and answers it.
+    #[tactic(auto, using(crate::proofs::Answering::tells_head))]
+    pub(crate) fn answer_line<L: Ledger>(
+        &mut self,
+        session: u16,
+        line: u32,
+        command: Command,
+        steps: &mut Steps<L>,
+    ) -> Answer
+        requires are { AreVersions self.old }
+        requires free { HoldsJust self.old.store None }
+        requires room { HasRoom self.old }
+        requires fits { CommandFits (2 ^ self.old.side) self.old.models.items command }
+        ensures are { AreVersions self.new }
+        ensures goes_on { GoesOnBy self.old session (record { line = line; command = command })
+            result self.new }
+    {
+        match command {
+            Command::Edit { act, once: _ } => {
+                if is_edit(act) {
+                    self.edit(session, line, act, steps)
+                } else {
+                    self.go(session, line, act)
+                }
+            }
+            Command::Forget(version) => self.forget_version(session, line, version, steps),
+            Command::Ask { version, question } => self.tell(
+                session, line, version, question, steps,
+            ),
+            Command::Save {
+                version,
+                name: _,
+                part,
+            } => self.count_saved(session, line, version, part, steps),
+            Command::Same(v, w) => self.compare(session, line, v, w),
+            Command::Head => Answer::Head,
+        }
+    }
+
+    // An edit: full, or the history is, or it becomes the next record.
+    #[tactic(auto, using(crate::proofs::Targets::may_edit, crate::proofs::Answering::edit_full, crate::proofs::Answering::edit_done, crate::proofs::Answering::edit_late))]
+    fn edit<L: Ledger>(&mut self, session: u16, line: u32, act: Act, steps: &mut Steps<L>) -> Answer
+        requires are { AreVersions self.old }
+        requires free { HoldsJust self.old.store None }
+        requires room { HasRoom self.old }
+        requires edit { is_edit act ≡ true }
+        requires fits { FitsWorld (2 ^ self.old.side) self.old.models.items act }
+        ensures are { AreVersions self.new }
+        ensures goes_on { (once : Bool) → GoesOnBy self.old session
+            (record { line = line; command = Edit act once }) result self.new }
+    {
+        let root = match self.rebuild(act, steps) {
+            Ok(root) => root,
+            Err(full) => {
+                return Answer::Full {
+                    level: full.level,
+                    bucket: full.bucket,
+                };
+            }
+        };
+        if self.moment() == RECORDS {
+            self.give_back(root, steps);
+            return Answer::LogFull;
+        }
+        self.append(Record { session, line, act }, root);
+        Answer::Done
+    }
+
+    // An undo or a redo: it has nowhere to go, its version was forgotten, the history is full, or
+    // it becomes the next record.
+    #[tactic(auto, using(crate::proofs::Targets::may_go_to, crate::proofs::Answering::go_nowhere, crate::proofs::Answering::go_forgotten, crate::proofs::Answering::go_late, crate::proofs::Answering::go_done, crate::proofs::Answering::go_past))]
+    fn go(&mut self, session: u16, line: u32, act: Act) -> Answer
+        requires are { AreVersions self.old }
+        requires free { HoldsJust self.old.store None }
+        requires room { HasRoom self.old }
+        requires other { is_edit act ≡ false }
+        ensures are { AreVersions self.new }
+        ensures goes_on { (once : Bool) → GoesOnBy self.old session
+            (record { line = line; command = Edit act once }) result self.new }
+    {
+        let to = match self.target(act) {
+            Some(to) => to,
+            None => return nothing_to_go_to(act),
+        };
+        match self.find(to) {
+            Found::Kept => {}
+            Found::Marked => return Answer::Forgotten(to),
+            Found::NotThere => return nothing_to_go_to(act),
+        }
+        if self.moment() == RECORDS {
+            return Answer::LogFull;
+        }
+        let root = self.share(to);
+        let _number = self.store.number();
+        self.append(Record { session, line, act }, root);
+        Answer::Done
+    }
+
+    // The version that an undo or a redo goes to.
+    #[tactic(auto, using(crate::proofs::Targets::target_undo, crate::proofs::Targets::target_redo))]
+    fn target(&self, act: Act) -> Option<u32>
+        requires { AreVersions self.now }
+        ensures { result ≡ target_at self.now.records.items (moment_of self.now) act }
+    {
+        match act {
+            Act::Undo => self.trail.undo_target(),
+            Act::Redo => self.trail.redo_target(),
+            _ => None,
+        }
+    }
+
+    #[tactic(auto, using(crate::proofs::Answering::forget_missing, crate::proofs::Answering::forget_marked, crate::proofs::Answering::forgets_head, crate::proofs::Answering::forgot_version, crate::proofs::Answering::kept_earlier))]
+    fn forget_version<L: Ledger>(
+        &mut self,
+        session: u16,
+        line: u32,
+        version: u32,
+        steps: &mut Steps<L>,
+    ) -> Answer
+        requires are { AreVersions self.old }
+        requires free { HoldsJust self.old.store None }
+        ensures are { AreVersions self.new }
+        ensures goes_on { GoesOnBy self.old session
+            (record { line = line; command = Forget version }) result self.new }
+    {
+        match self.find(version) {
+            Found::NotThere => Answer::NoVersion(version),
+            Found::Marked => Answer::Forgotten(version),
+            Found::Kept => {
+                let at = self.moment();
+                if version == at {
+                    return Answer::IsHead;
+                }
+                let mark = Mark {
+                    version,
+                    at,
+                    session,
+                    line,
+                };
+                self.forget(mark, steps);
+                Answer::Forgot(version)
+            }
+        }
+    }
+
+    // The version that is asked for: the newest where none is named.
+    fn asked(&self, version: Option<u32>) -> u32
+        requires { AreVersions self.now }
+        ensures { result ≡ asked_version version (moment_of self.now) }
+    {
+        match version {
+            Some(version) => version,
+            None => self.moment(),
+        }
+    }
+
+    #[tactic(auto, using(crate::proofs::Answering::ask_missing, crate::proofs::Answering::ask_marked, crate::proofs::Answering::asks))]
+    fn tell<L: Ledger>(
+        &mut self,
+        session: u16,
+        line: u32,
+        version: Option<u32>,
+        question: Question,
+        steps: &mut Steps<L>,
+    ) -> Answer
+        requires are { AreVersions self.old }
+        requires free { HoldsJust self.old.store None }
+        requires fits { QuestionFits (2 ^ self.old.side) question }
+        ensures are { AreVersions self.new }
+        ensures goes_on { GoesOnBy self.old session
+            (record { line = line; command = Ask version question }) result self.new }
+    {
+        let _ = (session, line);
+        let asked = self.asked(version);
+        match self.find(asked) {
+            Found::NotThere => Answer::NoVersion(asked),
+            Found::Marked => Answer::Forgotten(asked),
+            Found::Kept => self.ask(asked, question, steps),
+        }
+    }
+
+    #[tactic(auto, using(crate::proofs::Answering::save_missing, crate::proofs::Answering::save_marked, crate::proofs::Answering::saves_count))]
+    fn count_saved<L: Ledger>(
+        &mut self,
+        session: u16,
+        line: u32,
+        version: Option<u32>,
+        part: Boxed,
+        steps: &mut Steps<L>,
+    ) -> Answer
+        requires are { AreVersions self.old }
+        requires free { HoldsJust self.old.store None }
+        requires fits { FitsAt part.at part.size (2 ^ self.old.side) }
+        ensures are { AreVersions self.new }
+        ensures goes_on { (name : save_name) → GoesOnBy self.old session
+            (record { line = line; command = Save version name part }) result self.new }
+    {
+        let _ = (session, line);
+        let asked = self.asked(version);
+        match self.find(asked) {
+            Found::NotThere => Answer::NoVersion(asked),
+            Found::Marked => Answer::Forgotten(asked),
+            Found::Kept => saved(self.ask(asked, Question::Count(part), steps)),
+        }
+    }
+
+    #[tactic(auto, using(crate::proofs::Answering::same_first_missing, crate::proofs::Answering::same_first_marked, crate::proofs::Answering::same_missing, crate::proofs::Answering::same_marked, crate::proofs::Answering::same_told))]
+    fn compare(&self, session: u16, line: u32, v: u32, w: u32) -> Answer
+        requires are { AreVersions self.now }
+        requires free { HoldsJust self.now.store None }
+        ensures { GoesOnBy self.now session (record { line = line; command = Same v w }) result
+            self.now }
+    {
+        let _ = (session, line);
+        let _number = self.store.number();
+        match self.find(v) {
+            Found::Kept => {}
+            Found::NotThere => return Answer::NoVersion(v),
+            Found::Marked => return Answer::Forgotten(v),
+        }
+        match self.find(w) {
+            Found::Kept => {}
+            Found::NotThere => return Answer::NoVersion(w),
+            Found::Marked => return Answer::Forgotten(w),
+        }
+        Answer::Same(self.has_same_roots(v, w))
+    }
+}
+
+fn nothing_to_go_to(act: Act) -> Answer
+    ensures { result ≡ nothing_to_go_to act }
+{
+    match act {
+        Act::Redo => Answer::NothingToRedo,
+        _ => Answer::NothingToUndo,
+    }
+}
+
+// The answer to a save, by that to the count of its box.
+fn saved(counted: Answer) -> Answer
+    ensures { result ≡ saved_as counted }
+{
+    match counted {
+        Answer::Count(cells) => Answer::Saved(cells),
+        other => other,
+    }
+}
+
+fn is_edit(act: Act) -> bool
+    ensures { result ≡ is_edit act }
+{
+    match act {
+        Act::Undo | Act::Redo => false,
+        _ => true,
+    }
+}
