@@ -40,9 +40,9 @@ plain_usage() {
     printf '%s\n' \
         'voxdag takes these words, in this order:' \
         '    voxdag count FILE' \
-        '    voxdag run [--side s] [--buckets b] [--cap c] [--journal J] FILE SCRIPT ..' \
-        's is 4, 8, 16, 32, 64, 128 or 256, b is 1 to 4096, c is 1 to 256. There are 1 to 64 scripts. No name is empty or' \
-        'begins with -. Each SCRIPT.out and J are written, so none may be the name of FILE, of a SCRIPT or of another.'
+        '    voxdag run [--side s] [--buckets b] [--cap c] [--journal J] [--report P] FILE SCRIPT ..' \
+        's is 4, 8, 16 and so on up to 4096, b is 1 to 4096, c is 1 to 256. There are 1 to 64 scripts. No name is empty or' \
+        'begins with -. Each SCRIPT.out, J and P are written, so none may be the name of FILE, of a SCRIPT or of another.'
 }
 
 # The VOX file among the words of a command: that of count, or the first word of run that belongs to no option.
@@ -84,9 +84,9 @@ plain_vox() {
 plain_script() {
     local meaning text
     case $4 in
-        1) meaning='the first word is no command' ;;
+        1) meaning='a word that is no command there' ;;
         2) meaning='a word that is no number of 1 to 9 digits' ;;
-        3) meaning='something reaches out of the world, or a size is 0' ;;
+        3) meaning='something reaches out of the world, a size is 0, or a ray has no steps' ;;
         4) meaning='a word is missing' ;;
         5) meaning='a word too many' ;;
         6) meaning='the VOX file has no such model' ;;

@@ -1,9 +1,18 @@
 -- What each stage gives, as an outcome of the whole command.
-use Rattle.std.proofs.Common.{◌≡◌, ℕ, ◌≤◌, List, [], ◌∷◌, length, Option, Some, None, Ok, Err, refl, sym, ap, subst, ◌∙◌}
+use Rattle.std.proofs.Common.{◌≡◌, ℕ, ◌<◌, ◌≤◌, List, [], ◌∷◌, length, Option, Some, None, Ok, Err, refl, sym, ap, subst, ◌∙◌}
 use Rattle.vw_io.specs.Outside.{Files, ShelfState}
 use Rattle.vw_io.specs.Inputs.{WantedInput, AreTaken}
-use Rattle.vw_io.specs.Outputs.{AreWritten, StopsWith}
+use Rattle.vw_io.specs.Outputs.{Named, AreWritten, StopsWith}
 use Rattle.history_model.specs.Journal.{journal_of}
+use Rattle.vox_read.specs.Contents.{Content}
+use Rattle.vox_read.specs.Files.{ReadsModels}
+use Rattle.script.specs.declared.commands.ScriptLine.{ScriptLine}
+use Rattle.conformance.specs.Runs.{AllRan}
+use Rattle.script_files.specs.Scripts.{scripts_of}
+use Rattle.reporting.specs.Numbers.{AreNumbers}
+use Rattle.reporting.specs.Roots.{RootsTellWorlds, listed_root}
+use Rattle.store_run.specs.declared.runs.StoreRan.{StoreRan}
+use Rattle.script_files.specs.declared.tallies.Done.TheVariants.{Counted, Ran}
 use Rattle.script_files.specs.declared.refusals.CommandRefused.TheVariants.{Text, Output}
 use Rattle.script_files.specs.declared.refusals.TextRefused.{TextRefused}
 use Rattle.script_files.specs.declared.refusals.TextRefused.TheVariants.{Vox, Script, Collides, Memory}
@@ -11,10 +20,10 @@ use Rattle.vw_io.specs.declared.outputs.OutputRefused.{OutputRefused}
 use Rattle.script_files.specs.declared.requests.Request.{Request}
 use Rattle.script_files.specs.declared.requests.Request.TheVariants.{Count, Run}
 use Rattle.script_files.specs.Orders.{Asked}
-use Rattle.script_files.specs.Requests.{inputs_of, journal_output, outputs_of, texts_written}
-use Rattle.script_files.specs.Meanings.{file_in, GivesOutputs, RefusesTexts}
+use Rattle.script_files.specs.Requests.{inputs_of, wanted_output, outputs_of, texts_written}
+use Rattle.script_files.specs.Meanings.{file_in, scripts_in, AreApart, GivesOutputs, RefusesTexts}
 use Rattle.script_files.specs.Outcomes.{Outcome}
-use Rattle.script_files.specs.Stages.{CountsFile, JournalIs, IsPrepared}
+use Rattle.script_files.specs.Stages.{CountsFile, JournalIs, RunTexts, IsStoreRun, AreTexts, IsPrepared}
 
 -- the first text is within the first input's limit
 pub file_within : (files : Option Files) (input : WantedInput) (inputs : List WantedInput) (texts : List (List ℕ)) → AreTaken files (input ∷ inputs) texts → length (file_in texts) ≤ input.limit
@@ -32,7 +41,7 @@ same_state old new files faults = rw (files, faults) refl
 -- ---- `count`
 
 pub counted : (file : List ℕ) (texts : List (List ℕ)) (number : ℕ) (old new : ShelfState) → AreTaken old.files (inputs_of (Count file)) texts → CountsFile (file_in texts) number → new.files ≡ old.files → new.faults ≡ old.faults
-    → Outcome (Ok number) (Count file) old new
+    → Outcome (Ok (Counted number)) (Count file) old new
 counted file texts number old new taken counts files faults =
     record {
       outputs = [];
@@ -53,34 +62,52 @@ not_accepted Memory a texts old new taken says files faults = (tt, same_state ol
 -- ---- `run`
 
 -- the outputs are those of the run
-same_journal : (name : Option (List ℕ)) (text want : List ℕ) → JournalIs name text want → journal_output name text ≡ journal_output name want
-same_journal None text want is = refl
-same_journal (Some name) text want is = rw is refl
+same_wanted : (name : Option (List ℕ)) (text want : List ℕ) → JournalIs name text want → wanted_output name text ≡ wanted_output name want
+same_wanted None text want is = refl
+same_wanted (Some name) text want is = rw is refl
 
-same_outputs : (asked : Asked) (texts : List (List ℕ)) (number : ℕ) (transcripts : List (List ℕ)) (journal : List ℕ) → (p : IsPrepared asked texts number transcripts journal) → outputs_of asked transcripts journal ≡ texts_written asked p.log p.transcripts
-same_outputs asked texts number transcripts journal p =
-    rw (p.are.transcripts_are, same_journal asked.journal journal (journal_of p.log) p.are.journal_is) refl
+-- what a run writes, of its texts
+abbrev pub written_of : Asked → RunTexts → List Named
+written_of asked written = outputs_of asked written.transcripts written.journal written.report
 
-gives_run : (asked : Asked) (texts : List (List ℕ)) (number : ℕ) (transcripts : List (List ℕ)) (journal : List ℕ) → IsPrepared asked texts number transcripts journal → GivesOutputs (Run asked) texts number (outputs_of asked transcripts journal)
-gives_run asked texts number transcripts journal p =
-    record { log = p.log; transcripts = p.transcripts; accepted = p.accepted; counted = p.are.counted; are = same_outputs asked texts number transcripts journal p }
+same_outputs : (asked : Asked) (texts : List (List ℕ)) (written : RunTexts) → (p : IsPrepared asked texts written) → written_of asked written ≡ texts_written asked p.log p.transcripts written.report
+same_outputs asked texts written p =
+    rw (p.are.transcripts_are, same_wanted asked.journal written.journal (journal_of p.log) p.are.journal_is) refl
 
-pub all_written : (asked : Asked) (texts : List (List ℕ)) (number : ℕ) (transcripts : List (List ℕ)) (journal : List ℕ) (old mid new : ShelfState) → AreTaken old.files (inputs_of (Run asked)) texts
-    → IsPrepared asked texts number transcripts journal → mid ≡ old → AreWritten (outputs_of asked transcripts journal) mid.files new.files → new.faults ≡ mid.faults → Outcome (Ok number) (Run asked) old new
-all_written asked texts number transcripts journal old mid new taken p same whole calm =
+gives_run : (asked : Asked) (texts : List (List ℕ)) (written : RunTexts) → IsPrepared asked texts written → GivesOutputs (Run asked) texts (Ran written.tally) (written_of asked written)
+gives_run asked texts written p =
+    record { log = p.log; transcripts = p.transcripts; accepted = p.accepted; tallied = p.are.tallied; report = written.report; reported = p.are.report_is; are = same_outputs asked texts written p }
+
+pub all_written : (asked : Asked) (texts : List (List ℕ)) (written : RunTexts) (old mid new : ShelfState) → AreTaken old.files (inputs_of (Run asked)) texts
+    → IsPrepared asked texts written → mid ≡ old → AreWritten (written_of asked written) mid.files new.files → new.faults ≡ mid.faults → Outcome (Ok (Ran written.tally)) (Run asked) old new
+all_written asked texts written old mid new taken p same whole calm =
     record {
-      outputs = outputs_of asked transcripts journal;
-      comes = record { texts = texts; taken = taken; gives = gives_run asked texts number transcripts journal p };
-      whole = subst (λ (s : ShelfState). AreWritten (outputs_of asked transcripts journal) s.files new.files) same whole;
+      outputs = written_of asked written;
+      comes = record { texts = texts; taken = taken; gives = gives_run asked texts written p };
+      whole = subst (λ (s : ShelfState). AreWritten (written_of asked written) s.files new.files) same whole;
       no_fault = calm ∙ ap (λ s. s.faults) same;
     }
 
-pub not_written : (r : OutputRefused) (asked : Asked) (texts : List (List ℕ)) (number : ℕ) (transcripts : List (List ℕ)) (journal : List ℕ) (old mid new : ShelfState) → AreTaken old.files (inputs_of (Run asked)) texts
-    → IsPrepared asked texts number transcripts journal → mid ≡ old → StopsWith r.why r.name.now (outputs_of asked transcripts journal) mid.files new.files mid.faults new.faults → Outcome (Err (Output r)) (Run asked) old new
-not_written r asked texts number transcripts journal old mid new taken p same ends =
+pub not_written : (r : OutputRefused) (asked : Asked) (texts : List (List ℕ)) (written : RunTexts) (old mid new : ShelfState) → AreTaken old.files (inputs_of (Run asked)) texts
+    → IsPrepared asked texts written → mid ≡ old → StopsWith r.why r.name.now (written_of asked written) mid.files new.files mid.faults new.faults → Outcome (Err (Output r)) (Run asked) old new
+not_written r asked texts written old mid new taken p same ends =
     record {
-      number = number;
-      outputs = outputs_of asked transcripts journal;
-      comes = record { texts = texts; taken = taken; gives = gives_run asked texts number transcripts journal p };
-      stops = subst (λ (s : ShelfState). StopsWith r.why r.name.now (outputs_of asked transcripts journal) s.files new.files s.faults new.faults) same ends;
+      done = Ran written.tally;
+      outputs = written_of asked written;
+      comes = record { texts = texts; taken = taken; gives = gives_run asked texts written p };
+      stops = subst (λ (s : ShelfState). StopsWith r.why r.name.now (written_of asked written) s.files new.files s.faults new.faults) same ends;
     }
+
+-- the run of accepted inputs over a store
+pub store_runs : (asked : Asked) (texts : List (List ℕ)) (models : List Content) (lines : List (List ScriptLine)) (r : StoreRan) → ReadsModels (file_in texts) (Ok models) → scripts_of asked.plan.side models (scripts_in texts) ≡ Ok lines → AreApart asked
+    → AllRan asked.plan models lines r.ran.transcripts.items r.ran.history → length r.ran.history.records < length r.roots.items → RootsTellWorlds models r.ran.history (listed_root r.roots.items) → AreNumbers models r.ran.history r.numbers.items
+    → IsStoreRun asked texts r
+store_runs asked texts models lines r gives read apart run places roots numbers =
+    record { accepted = record { models = models; gives = gives; lines = lines; read = read; apart = apart; run = run }; places = places; roots = roots; numbers = numbers }
+
+-- the texts of a run over a store
+pub prepared_by : (asked : Asked) (texts : List (List ℕ)) (r : StoreRan) (written : RunTexts) → IsStoreRun asked texts r
+    → ((models : List Content) → RootsTellWorlds models r.ran.history (listed_root r.roots.items) → AreNumbers models r.ran.history r.numbers.items → AreTexts asked models r.ran.history r.ran.transcripts.items written)
+    → IsPrepared asked texts written
+prepared_by asked texts r written run are =
+    record { log = r.ran.history; transcripts = r.ran.transcripts.items; accepted = run.accepted; are = are run.accepted.models run.roots run.numbers }

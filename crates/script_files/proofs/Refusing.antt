@@ -1,5 +1,5 @@
 -- What a fault says of its text, it says as a refusal of the command.
-use Rattle.std.proofs.Common.{◌≡◌, ℕ, ◌<◌, List, [], ◌∷◌, length, get_or, Result, Ok, Err, refl, sym, ap, subst, arith}
+use Rattle.std.proofs.Common.{◌≡◌, ℕ, ◌<◌, List, [], ◌∷◌, length, get_or, Result, Ok, refl, sym, ap, subst, arith}
 use Rattle.vox_chunk.specs.declared.faults.VoxFault.{VoxFault}
 use Rattle.vox_chunk.specs.declared.faults.VoxFault.TheVariants as faults
 use Rattle.vox_read.specs.Contents.{Content}

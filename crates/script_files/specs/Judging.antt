@@ -13,6 +13,8 @@ use Rattle.vox_chunk.specs.declared.faults.VoxFault.{VoxFault}
 use Rattle.vox_read.specs.Contents.{Content}
 use Rattle.vox_read.specs.Files.{ReadsModels}
 use Rattle.vox_read.specs.Once.{one_reading}
+use Rattle.script_files.specs.declared.tallies.Done.{Done}
+use Rattle.script_files.specs.declared.tallies.Done.TheVariants.{Counted, Ran}
 use Rattle.script_files.specs.declared.refusals.CommandRefused.{CommandRefused}
 use Rattle.script_files.specs.declared.refusals.CommandRefused.TheVariants as refusals
 use Rattle.script_files.specs.declared.refusals.NumberedFault.{NumberedFault}
@@ -111,12 +113,14 @@ by_reading a files texts v reading taken says judges =
     let j : JudgesTexts a texts v = subst (λ r. JudgesInputs a r v) (all_taken files (inputs_of a) texts taken) judges in
     j.follows ∙ ap (verdict_of a texts) (one_reading (file_in texts) j.reading reading j.says says)
 
-gives_follow : (a : Request) (files : Files) (texts : List (List ℕ)) (number : ℕ)
+gives_follow : (a : Request) (files : Files) (texts : List (List ℕ)) (done : Done)
     (outputs : List Named) (v : Verdict) → AreTaken (Some files) (inputs_of a) texts
-    → GivesOutputs a texts number outputs → Judges files a v → v ≡ Fine
-gives_follow (Count file) files texts number outputs v taken gives judges =
+    → GivesOutputs a texts done outputs → Judges files a v → v ≡ Fine
+gives_follow (Count file) files texts (Ran tally) outputs v taken gives judges = absurd gives
+gives_follow (Run asked) files texts (Counted number) outputs v taken gives judges = absurd gives
+gives_follow (Count file) files texts (Counted number) outputs v taken gives judges =
     by_reading (Count file) files texts v (Ok gives.models) taken gives.gives judges
-gives_follow (Run asked) files texts number outputs v taken gives judges =
+gives_follow (Run asked) files texts (Ran tally) outputs v taken gives judges =
     let fine : verdict_of (Run asked) texts (Ok gives.accepted.models) ≡ Fine = rw (gives.accepted.read, gives.accepted.apart) refl in
     by_reading (Run asked) files texts v
     (Ok gives.accepted.models) taken gives.accepted.gives judges ∙ fine
@@ -149,12 +153,12 @@ text_follows texts.Collides a files v refuses judges =
     names_follow a files refuses.texts v refuses.taken refuses.says judges
 text_follows texts.Memory a files v refuses judges = tt
 
-follows_told : (r : Result ℕ CommandRefused) (a : Request) (files : Files) (faults : ℕ)
+follows_told : (r : Result Done CommandRefused) (a : Request) (files : Files) (faults : ℕ)
     (new : ShelfState) (v : Verdict)
     → Outcome r a (record { files = Some files; faults = faults }) new
     → (Rose faults new.faults → ⊥) → Judges files a v → Follows v r
-follows_told (Ok number) a files faults new v outcome calm judges =
-    gives_follow a files outcome.comes.texts number outcome.outputs v outcome.comes.taken outcome.comes.gives judges
+follows_told (Ok done) a files faults new v outcome calm judges =
+    gives_follow a files outcome.comes.texts done outcome.outputs v outcome.comes.taken outcome.comes.gives judges
 follows_told (Err (refusals.Input r)) a files faults new v outcome calm judges =
     read_follows r.why r.name.now a files faults new.faults v outcome.0 calm judges
 follows_told (Err (refusals.Text r)) a files faults new v outcome calm judges =
@@ -163,7 +167,7 @@ follows_told (Err (refusals.Output r)) a files faults new v outcome calm judges 
     write_follows r.why r.name.now outcome.outputs
     (Some files) new.files faults new.faults outcome.stops calm
 
-pub outcome_follows : (r : Result ℕ CommandRefused) (a : Request) (old new : ShelfState)
+pub outcome_follows : (r : Result Done CommandRefused) (a : Request) (old new : ShelfState)
     → Outcome r a old new → (files : Files) (v : Verdict) → old.files ≡ Some files
     → (Rose old.faults new.faults → ⊥) → Judges files a v → Follows v r
 outcome_follows r a old new outcome files v told calm judges =

@@ -1,6 +1,6 @@
--- What the texts of the inputs mean to each command: its number and its outputs, or what is
--- refused.
-use Rattle.std.specs.Prelude.{◌≡◌, ℕ, ◌∷◌, [], false, List, length, IsTrue, Ok, Err, ⊤}
+-- What the texts of the inputs mean to each command: what its line tells and its outputs, or what
+-- is refused.
+use Rattle.std.specs.Prelude.{◌≡◌, ℕ, ◌∷◌, [], false, Option, Some, None, List, length, IsTrue, Ok, Err, ⊤}
 use Rattle.vw_io.specs.Outputs.{Named}
 use Rattle.vw_io.specs.Names.{collide}
 use Rattle.vox_read.specs.Contents.{Content, cells_of_all}
@@ -9,7 +9,12 @@ use Rattle.history_model.specs.Logs.{Log}
 use Rattle.transcript.specs.declared.answers.LineAnswer.{LineAnswer}
 use Rattle.script.specs.declared.commands.ScriptLine.{ScriptLine}
 use Rattle.script.specs.Fitting.{IsOfText}
-use Rattle.conformance.specs.Runs.{AllRan, RanFreely}
+use Rattle.conformance.specs.Runs.{AllRan}
+use Rattle.reporting.specs.Numbers.{IsTotal}
+use Rattle.reporting.specs.Reports.{IsReport}
+use Rattle.script_files.specs.declared.tallies.Done.{Done}
+use Rattle.script_files.specs.declared.tallies.Done.TheVariants.{Counted, Ran}
+use Rattle.script_files.specs.declared.tallies.Tally.{Tally}
 use Rattle.script_files.specs.declared.refusals.NumberedFault.{NumberedFault}
 use Rattle.script_files.specs.declared.refusals.TextRefused.{TextRefused}
 use Rattle.script_files.specs.declared.refusals.TextRefused.TheVariants.{Vox, Script, Collides, Memory}
@@ -40,7 +45,7 @@ abbrev pub AreApart : Asked → Type 0
 AreApart asked = collide (output_names asked) (inputs_of (Run asked)) ≡ false
 
 -- `run`: the file gives models, no script has a fault, no names collide, and these are the history
--- and the transcripts of the run of all scripts, of which no change was in the way of another
+-- and the transcripts of the run of all scripts
 pub record IsAccepted (asked : Asked) (texts : List (List ℕ)) (log : Log)
     (transcripts : List (List LineAnswer)) : Type 0 where
   pub models : List Content
@@ -49,21 +54,38 @@ pub record IsAccepted (asked : Asked) (texts : List (List ℕ)) (log : Log)
   pub read : scripts_of asked.plan.side models (scripts_in texts) ≡ Ok lines
   pub apart : AreApart asked
   pub run : AllRan asked.plan models lines transcripts log
-  pub freely : RanFreely transcripts log
 
--- the number is that of the records, and the outputs are the transcripts and the journal
-pub record ScriptsRan (asked : Asked) (texts : List (List ℕ)) (number : ℕ)
+-- the numbers of a run: its scripts, the records and marks of its history, and, over all levels,
+-- the different contents of the blocks of the versions that are kept
+pub record TalliesRun (asked : Asked) (models : List Content) (log : Log)
+    (tally : Tally) : Type 0 where
+  pub scripts : tally.scripts ≡ length asked.scripts
+  pub records : tally.records ≡ length log.records
+  pub marks : tally.marks ≡ length log.marks
+  pub nodes : IsTotal models log tally.nodes
+
+-- the report of a history, where one is wanted
+abbrev pub ReportIs : Option (List ℕ) → List Content → Log → List ℕ → Type 0
+ReportIs None models log text = ⊤
+ReportIs (Some name) models log text = IsReport models log text
+
+-- the outputs are the transcripts, the journal and the report of the history
+pub record ScriptsRan (asked : Asked) (texts : List (List ℕ)) (tally : Tally)
     (outputs : List Named) : Type 0 where
   pub log : Log
   pub transcripts : List (List LineAnswer)
   pub accepted : IsAccepted asked texts log transcripts
-  pub counted : number ≡ length log.records
-  pub are : outputs ≡ texts_written asked log transcripts
+  pub tallied : TalliesRun asked accepted.models log tally
+  pub report : List ℕ
+  pub reported : ReportIs asked.report accepted.models log report
+  pub are : outputs ≡ texts_written asked log transcripts report
 
 -- what a command gives where nothing is refused
-abbrev pub GivesOutputs : Request → List (List ℕ) → ℕ → List Named → Type 0
-GivesOutputs (Count file) texts number outputs = CellsCounted texts number outputs
-GivesOutputs (Run asked) texts number outputs = ScriptsRan asked texts number outputs
+abbrev pub GivesOutputs : Request → List (List ℕ) → Done → List Named → Type 0
+GivesOutputs (Count file) texts (Counted number) outputs = CellsCounted texts number outputs
+GivesOutputs (Count file) texts (Ran tally) outputs = ⊥
+GivesOutputs (Run asked) texts (Counted number) outputs = ⊥
+GivesOutputs (Run asked) texts (Ran tally) outputs = ScriptsRan asked texts tally outputs
 
 -- the VOX file gives models, and this is the first fault of the first script that has one
 pub record HasScriptFault (asked : Asked) (texts : List (List ℕ))

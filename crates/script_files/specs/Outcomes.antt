@@ -5,6 +5,7 @@ use Rattle.vw_io.specs.Outside.{Files, ShelfState}
 use Rattle.vw_io.specs.Inputs.{AreTaken, StopsAt}
 use Rattle.vw_io.specs.Outputs.{Named, AreWritten, StopsWith}
 use Rattle.vw_io.specs.declared.shelves.WriteRefused.{WriteRefused}
+use Rattle.script_files.specs.declared.tallies.Done.{Done}
 use Rattle.script_files.specs.declared.refusals.CommandRefused.{CommandRefused}
 use Rattle.script_files.specs.declared.refusals.CommandRefused.TheVariants.{Input, Text, Output}
 use Rattle.script_files.specs.declared.refusals.TextRefused.{TextRefused}
@@ -13,26 +14,26 @@ use Rattle.script_files.specs.declared.requests.Request.{Request}
 use Rattle.script_files.specs.Requests.{inputs_of}
 use Rattle.script_files.specs.Meanings.{GivesOutputs, RefusesTexts}
 
--- all inputs were taken, and with these outputs the command gives this number
-pub record ComesTo (number : ℕ) (outputs : List Named) (a : Request)
+-- all inputs were taken, and this is what the command tells and puts out
+pub record ComesTo (done : Done) (outputs : List Named) (a : Request)
     (files : Option Files) : Type 0 where
   pub texts : List (List ℕ)
   pub taken : AreTaken files (inputs_of a) texts
-  pub gives : GivesOutputs a texts number outputs
+  pub gives : GivesOutputs a texts done outputs
 
 -- it came to its end: all outputs are whole, and nothing else has changed
-pub record Completes (number : ℕ) (a : Request) (old new : ShelfState) : Type 0 where
+pub record Completes (done : Done) (a : Request) (old new : ShelfState) : Type 0 where
   pub outputs : List Named
-  pub comes : ComesTo number outputs a old.files
+  pub comes : ComesTo done outputs a old.files
   pub whole : AreWritten outputs old.files new.files
   pub no_fault : new.faults ≡ old.faults
 
 -- the outputs up to the one of this name were written, and that one was not
 pub record BreaksOff (why : WriteRefused) (name : List ℕ) (a : Request)
     (old new : ShelfState) : Type 0 where
-  pub number : ℕ
+  pub done : Done
   pub outputs : List Named
-  pub comes : ComesTo number outputs a old.files
+  pub comes : ComesTo done outputs a old.files
   pub stops : StopsWith why name outputs old.files new.files old.faults new.faults
 
 -- all inputs were taken, and their texts are refused
@@ -56,6 +57,6 @@ Refused (Input r) a old new =
 Refused (Text r) a old new = RefusesFiles r a old.files × (new ≡ old)
 Refused (Output r) a old new = BreaksOff r.why r.name.now a old new
 
-abbrev pub Outcome : Result ℕ CommandRefused → Request → ShelfState → ShelfState → Type 0
-Outcome (Ok number) a old new = Completes number a old new
+abbrev pub Outcome : Result Done CommandRefused → Request → ShelfState → ShelfState → Type 0
+Outcome (Ok done) a old new = Completes done a old new
 Outcome (Err refused) a old new = Refused refused a old new

@@ -30,13 +30,15 @@ inputs_of (Run asked) =
 abbrev pub transcript_name : List ℕ → List ℕ
 transcript_name script = script ++ codes ".out"
 
-abbrev pub journal_name : Option (List ℕ) → List (List ℕ)
-journal_name None = []
-journal_name (Some name) = name ∷ []
+-- the name of what is wanted
+abbrev pub wanted_name : Option (List ℕ) → List (List ℕ)
+wanted_name None = []
+wanted_name (Some name) = name ∷ []
 
 -- the names of what a run writes
 abbrev pub output_names : Asked → List (List ℕ)
-output_names asked = map transcript_name asked.scripts ++ journal_name asked.journal
+output_names asked =
+    (map transcript_name asked.scripts ++ wanted_name asked.journal) ++ wanted_name asked.report
 
 -- each text under its name
 abbrev pub named_texts : List (List ℕ) → List (List ℕ) → List Named
@@ -45,17 +47,18 @@ named_texts (name ∷ names) [] = []
 named_texts (name ∷ names) (text ∷ texts) =
     record { name = name; bytes = text } ∷ named_texts names texts
 
-abbrev pub journal_output : Option (List ℕ) → List ℕ → List Named
-journal_output None text = []
-journal_output (Some name) text = record { name = name; bytes = text } ∷ []
+-- the text of what is wanted
+abbrev pub wanted_output : Option (List ℕ) → List ℕ → List Named
+wanted_output None text = []
+wanted_output (Some name) text = record { name = name; bytes = text } ∷ []
 
 -- what a run writes, in order
-abbrev pub outputs_of : Asked → List (List ℕ) → List ℕ → List Named
-outputs_of asked transcripts journal =
-    named_texts (map transcript_name asked.scripts) transcripts
-    ++ journal_output asked.journal journal
+abbrev pub outputs_of : Asked → List (List ℕ) → List ℕ → List ℕ → List Named
+outputs_of asked transcripts journal report =
+    (named_texts (map transcript_name asked.scripts) transcripts
+    ++ wanted_output asked.journal journal) ++ wanted_output asked.report report
 
--- the texts of a run's history and transcripts
-abbrev pub texts_written : Asked → Log → List (List LineAnswer) → List Named
-texts_written asked log transcripts =
-    outputs_of asked (map transcript_of transcripts) (journal_of log)
+-- the texts of a run's transcripts and history, and this report
+abbrev pub texts_written : Asked → Log → List (List LineAnswer) → List ℕ → List Named
+texts_written asked log transcripts report =
+    outputs_of asked (map transcript_of transcripts) (journal_of log) report

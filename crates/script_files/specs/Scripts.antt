@@ -4,8 +4,8 @@ use Rattle.plain_text.specs.Steps.{◌>>=◌}
 use Rattle.vox_read.specs.Contents.{Content}
 use Rattle.script.specs.declared.commands.ScriptLine.{ScriptLine}
 use Rattle.script.specs.declared.faults.ScriptFault.{ScriptFault}
-use Rattle.script.specs.Commands.{is_for_bits}
-use Rattle.script.specs.Fitting.{CommandFits, IsForBits, RisesFrom}
+use Rattle.script.specs.Commands.{is_built}
+use Rattle.script.specs.Fitting.{CommandFits, RisesFrom}
 use Rattle.script.specs.Scripts.{commands_of}
 use Rattle.script_files.specs.declared.refusals.NumberedFault.{NumberedFault}
 
@@ -21,7 +21,7 @@ abbrev pub texts_from : ℕ → List Content → ℕ → List (List ℕ)
     → Result (List (List ScriptLine)) NumberedFault
 texts_from side models number [] = Ok []
 texts_from side models number (text ∷ texts) =
-    in_script number (commands_of is_for_bits side models text) >>= λ lines.
+    in_script number (commands_of is_built side models text) >>= λ lines.
     texts_from side models (number + 1) texts >>= λ others. Ok (lines ∷ others)
 
 -- scripts are counted from 0
@@ -30,9 +30,8 @@ abbrev pub scripts_of : ℕ → List Content → List (List ℕ)
 scripts_of side models texts = texts_from side models 0 texts
 
 -- what follows from the language for every script, which its run stands on: each command fits the
--- world and the models, lines rise, and a run over bits knows all commands
+-- world and the models, and lines rise
 pub record AreFitScripts (side : ℕ) (models : List Content)
     (scripts : List (List ScriptLine)) : Type 0 where
   pub fit : All (All (λ l. CommandFits (2 ^ side) models l.command)) scripts
   pub rise : All (RisesFrom 1) scripts
-  pub for_bits : All (All (λ l. IsForBits l.command)) scripts

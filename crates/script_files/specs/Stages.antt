@@ -1,5 +1,5 @@
 -- What the stages of a command give.
-use Rattle.std.specs.Prelude.{◌≡◌, ℕ, List, [], ◌∷◌, ◌++◌, length, map, Option, Some, None, Ok, ⊤}
+use Rattle.std.specs.Prelude.{◌≡◌, ℕ, ◌<◌, List, [], ◌∷◌, ◌++◌, length, map, Option, Some, None, Ok, ⊤}
 use Rattle.vox_read.specs.Contents.{Content, cells_of_all}
 use Rattle.vox_read.specs.Files.{ReadsModels}
 use Rattle.history_model.specs.Journal.{journal_of}
@@ -7,11 +7,15 @@ use Rattle.history_model.specs.Logs.{Log}
 use Rattle.transcript.specs.declared.answers.LineAnswer.{LineAnswer}
 use Rattle.transcript.specs.Lines.{transcript_of}
 use Rattle.script.specs.declared.commands.ScriptLine.{ScriptLine}
-use Rattle.script.specs.Commands.{is_for_bits}
+use Rattle.script.specs.Commands.{is_built}
 use Rattle.script.specs.Scripts.{commands_of}
+use Rattle.reporting.specs.Numbers.{AreNumbers}
+use Rattle.reporting.specs.Roots.{RootsTellWorlds, listed_root}
+use Rattle.store_run.specs.declared.runs.StoreRan.{StoreRan}
+use Rattle.script_files.specs.declared.tallies.Tally.{Tally}
 use Rattle.script_files.specs.Orders.{Asked}
 use Rattle.script_files.specs.Scripts.{AreFitScripts}
-use Rattle.script_files.specs.Meanings.{IsAccepted}
+use Rattle.script_files.specs.Meanings.{IsAccepted, TalliesRun, ReportIs}
 
 -- the bytes give these models, and the number is that of their cells
 pub record CountsFile (bytes : List ℕ) (number : ℕ) : Type 0 where
@@ -24,25 +28,39 @@ abbrev pub JournalIs : Option (List ℕ) → List ℕ → List ℕ → Type 0
 JournalIs None text want = ⊤
 JournalIs (Some name) text want = text ≡ want
 
--- the texts of a run's history and transcripts
-pub record AreTexts (asked : Asked) (log : Log) (transcripts : List (List LineAnswer)) (number : ℕ)
-    (written : List (List ℕ)) (journal : List ℕ) : Type 0 where
-  pub counted : number ≡ length log.records
-  pub transcripts_are : written ≡ map transcript_of transcripts
-  pub journal_is : JournalIs asked.journal journal (journal_of log)
+-- the run of accepted inputs, and what its store's nodes tell
+pub record IsStoreRun (asked : Asked) (texts : List (List ℕ)) (r : StoreRan) : Type 0 where
+  pub accepted : IsAccepted asked texts r.ran.history r.ran.transcripts.items
+  pub places : length r.ran.history.records < length r.roots.items
+  pub roots : RootsTellWorlds accepted.models r.ran.history (listed_root r.roots.items)
+  pub numbers : AreNumbers accepted.models r.ran.history r.numbers.items
 
--- the inputs have no fault, and these are the texts of a run
-pub record IsPrepared (asked : Asked) (texts : List (List ℕ)) (number : ℕ)
-    (written : List (List ℕ)) (journal : List ℕ) : Type 0 where
+-- what a run tells, and its texts
+pub record RunTexts : Type 0 where
+  pub tally : Tally
+  pub transcripts : List (List ℕ)
+  pub journal : List ℕ
+  pub report : List ℕ
+
+-- they are those of a run's history and transcripts
+pub record AreTexts (asked : Asked) (models : List Content) (log : Log)
+    (transcripts : List (List LineAnswer)) (written : RunTexts) : Type 0 where
+  pub tallied : TalliesRun asked models log written.tally
+  pub transcripts_are : written.transcripts ≡ map transcript_of transcripts
+  pub journal_is : JournalIs asked.journal written.journal (journal_of log)
+  pub report_is : ReportIs asked.report models log written.report
+
+-- the inputs have no fault, and these are the texts of their run
+pub record IsPrepared (asked : Asked) (texts : List (List ℕ)) (written : RunTexts) : Type 0 where
   pub log : Log
   pub transcripts : List (List LineAnswer)
   pub accepted : IsAccepted asked texts log transcripts
-  pub are : AreTexts asked log transcripts number written journal
+  pub are : AreTexts asked accepted.models log transcripts written
 
 -- one more script was read, and its commands stand behind those before it
 pub record ReadsScript (side : ℕ) (models : List Content) (text : List ℕ)
     (old new : List (List ScriptLine)) : Type 0 where
   pub lines : List ScriptLine
-  pub read : commands_of is_for_bits side models text ≡ Ok lines
+  pub read : commands_of is_built side models text ≡ Ok lines
   pub kept : new ≡ old ++ lines ∷ []
   pub fit : AreFitScripts side models (lines ∷ [])

@@ -13,6 +13,7 @@ use Rattle.vox_read.specs.Contents.{Content}
 use Rattle.vox_read.specs.Files.{ReadsModels}
 use Rattle.script.specs.declared.commands.ScriptLine.{ScriptLine}
 use Rattle.plain_text.specs.Steps.{◌>>=◌}
+use Rattle.script_files.specs.declared.tallies.Done.{Done}
 use Rattle.script_files.specs.declared.refusals.CommandRefused.{CommandRefused}
 use Rattle.script_files.specs.declared.refusals.CommandRefused.TheVariants.{Input, Text, Output}
 use Rattle.script_files.specs.declared.refusals.NumberedFault.{NumberedFault}
@@ -88,8 +89,8 @@ FollowsText v (Script at) = v ≡ HasScriptFault at
 FollowsText v Collides = v ≡ NamesCollide
 FollowsText v Memory = ⊤
 
-abbrev pub Follows : Verdict → Result ℕ CommandRefused → Type 0
-Follows v (Ok number) = v ≡ Fine
+abbrev pub Follows : Verdict → Result Done CommandRefused → Type 0
+Follows v (Ok done) = v ≡ Fine
 Follows v (Err (Input r)) = FollowsRead v r.why r.name.now
 Follows v (Err (Text r)) = FollowsText v r
 Follows v (Err (Output r)) = FollowsWrite r.why

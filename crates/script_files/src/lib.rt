@@ -1,5 +1,5 @@
 //! The commands of the program from files to files, over any shelf: the cells of a file are
-//! counted, a script is run.
+//! counted, scripts are run.
 //!
 //! Where an input, a text or a name is refused, nothing on the shelf has changed, and
 //! `specs/Outcomes.antt` says what each answer means.
@@ -10,12 +10,11 @@ mod refusals;
 mod requests;
 mod runs;
 mod scripts;
+mod tallies;
 mod texts;
 
 pub use counts::count_file;
 pub use refusals::{CommandRefused, NumberedFault, TextRefused};
 pub use requests::{FileName, Order, Request};
 pub use runs::{run_files, transcript_names};
-
-#[cfg(test)]
-mod tests;
+pub use tallies::{Done, Tally};

@@ -30,12 +30,14 @@ impl<'w> Model for FileName<'w> {
     ghost view = { λ name. name.text.now };
 }
 
-/// What a run is asked for: how the world's store is laid out, the journal's name where there is one,
-/// and the names of the VOX file and of the scripts, of which the first is that of session 0.
+/// What a run is asked for: how the world's store is laid out, the names of the journal and of the
+/// report where they are wanted, and those of the VOX file and of the scripts, of which the first is
+/// that of session 0.
 #[derive(Drop)]
 pub struct Order<'w> {
     pub plan: Plan,
     pub journal: Option<&'w str>,
+    pub report: Option<&'w str>,
     pub file: &'w str,
     pub scripts: &'w [String],
 }
@@ -50,6 +52,7 @@ impl<'w> Model for Order<'w> {
     ghost view = { λ order. record {
       plan = order.plan;
       journal = option_map (λ name. name.now) order.journal;
+      report = option_map (λ name. name.now) order.report;
       file = order.file.now;
       scripts = map string_bytes order.scripts.now;
     } };

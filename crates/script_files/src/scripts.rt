@@ -1,21 +1,20 @@
 ghost use Rattle.std.specs.Prelude.{◌≡◌, ◌≤◌, ◌^◌, ◌+◌, ◌<◌, Ok, All, length, map, IfOk, IfErr, OnOk};
 ghost use Rattle.vox_read.specs.Contents.{AreModels};
-ghost use Rattle.script.specs.Fitting.{CommandFits, IsForBits, RisesFrom};
+ghost use Rattle.script.specs.Fitting.{CommandFits, RisesFrom};
 ghost use Rattle.script_files.specs.declared.requests.Request.TheVariants.{Run};
 ghost use Rattle.script_files.specs.Requests.{inputs_of, output_names};
-ghost use Rattle.script_files.specs.Meanings.{file_in, scripts_in, IsAccepted, RefusesTexts};
+ghost use Rattle.script_files.specs.Meanings.{file_in, scripts_in, RefusesTexts};
 ghost use Rattle.script_files.specs.Refusals.{RefusesScripts};
-ghost use Rattle.script.specs.Commands.{is_for_bits};
+ghost use Rattle.script.specs.Commands.{is_built};
 ghost use Rattle.script.specs.Scripts.{commands_of};
 ghost use Rattle.script_files.specs.Scripts.{scripts_of, in_script, AreFitScripts};
-ghost use Rattle.script_files.specs.Stages.{ReadsScript};
+ghost use Rattle.script_files.specs.Stages.{IsStoreRun, ReadsScript};
 
 use crate::refusals::{NumberedFault, TextRefused};
 use crate::requests::Order;
-use bit_run::run_scripts;
-use conformance::Ran;
-use script::{Script, read_bit_script};
+use script::{Script, read_script};
 use std::alloc::Global;
+use store_run::{StoreRan, run_scripts};
 use vox_read::{Models, read_models};
 use vw_cell::Side;
 use vw_io::{Input, Text, collide};
@@ -29,14 +28,13 @@ pub(crate) fn run_texts(
     names: &[&str],
     inputs: &[Input<'_>],
     texts: Vec<Text>,
-) -> Result<Ran, TextRefused>
+) -> Result<StoreRan, TextRefused>
     requires some { length texts.items ≡ 1 + length order.now.scripts }
     requires few { length order.now.scripts ≤ 64 }
     requires within { length (file_in texts.items) ≤ 2 ^ 28 }
     requires inputs { inputs.now ≡ inputs_of (Run order.now) }
     requires names { map (λ name. name.now) names.now ≡ output_names order.now }
-    ensures accepted { IfOk result (λ ran. IsAccepted order.now texts.items
-        ran.history ran.transcripts.items) }
+    ensures ran { IfOk result (IsStoreRun order.now texts.items) }
     ensures refused { IfErr result (λ refused. RefusesTexts refused (Run order.now) texts.items) }
 {
     let mut texts = texts;
@@ -88,10 +86,10 @@ fn read_next(
     ensures read { OnOk result (ReadsScript side models.now text.now
         scripts.old.items scripts.new.items) }
     ensures refused { IfErr result (λ refused. RefusesScripts refused (in_script
-        (length scripts.old.items) (commands_of is_for_bits side models.now text.now))) }
+        (length scripts.old.items) (commands_of is_built side models.now text.now))) }
 {
     let number = scripts.len() as u16;
-    let script = match read_bit_script(alloc, text.as_slice(), side, models) {
+    let script = match read_script(alloc, text.as_slice(), side, models) {
         Ok(script) => script,
         Err(fault) => {
             return Err(TextRefused::from(NumberedFault {

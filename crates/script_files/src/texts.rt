@@ -1,22 +1,46 @@
-ghost use Rattle.std.specs.Prelude.{◌≡◌, ◌≤◌, List, ℕ, length, map, IfOk};
+ghost use Rattle.std.specs.Prelude.{◌≡◌, ◌≤◌, ◌<◌, List, ℕ, length, map, All, IfOk};
+ghost use Rattle.std.specs.List.{sum};
+ghost use Rattle.vox_read.specs.Contents.{Content};
+ghost use Rattle.history_model.specs.Journal.{journal_of};
+ghost use Rattle.reporting.specs.Numbers.{AreNumbers};
+ghost use Rattle.reporting.specs.Roots.{RootsTellWorlds, listed_root};
 ghost use Rattle.transcript.specs.Lines.{transcript_of};
-ghost use Rattle.script_files.specs.Stages.{AreTexts};
+ghost use Rattle.script_files.specs.Meanings.{ReportIs};
+ghost use Rattle.script_files.specs.Stages.{JournalIs, AreTexts};
 
 use crate::requests::Order;
+use crate::tallies::Tally;
 use conformance::{Ran, Transcript};
-use history_model::journal_text;
+use history_model::{History, journal_text};
+use node_shapes::Name;
+use reporting::report_text;
 use std::alloc::Global;
 use std::marker::Model;
+use store_run::StoreRan;
 use transcript::transcript_text;
 use vw_cell::Memory;
 
-/// The texts of a run, and the number of its records. The journal's text is empty where none is
-/// asked for.
+/// What a run tells, and its texts. Those of the journal and of the report are empty where they are
+/// not asked for.
 #[derive(Drop)]
 pub(crate) struct Texts {
-    pub(crate) number: u32,
+    pub(crate) tally: Tally,
     pub(crate) transcripts: Vec<Lines>,
     pub(crate) journal: Vec<u8>,
+    pub(crate) report: Vec<u8>,
+}
+
+impl Model for Texts {
+    ghost use Rattle.script_files.specs.Stages.{RunTexts};
+
+    ghost Value = { RunTexts };
+
+    ghost view = { λ texts. record {
+      tally = texts.tally;
+      transcripts = texts.transcripts.items;
+      journal = texts.journal.items;
+      report = texts.report.items;
+    } };
 }
 
 /// The text of a transcript. Contracts see its bytes.
@@ -31,28 +55,85 @@ impl Model for Lines {
     ghost view = { λ text. text.bytes.items };
 }
 
-// The texts that the run writes.
-pub(crate) fn texts_of(alloc: Global, order: &Order<'_>, ran: Ran) -> Result<Texts, Memory>
-    requires { length ran.history.records ≤ 65535 }
-    ensures { IfOk result (λ texts. AreTexts order.now ran.history ran.transcripts.items
-        texts.number texts.transcripts.items texts.journal.items) }
+// What the run tells, and the texts that it writes.
+pub(crate) fn texts_of(alloc: Global, order: &Order<'_>, run: StoreRan) -> Result<Texts, Memory>
+    requires few { length run.ran.history.records ≤ 65535 }
+    requires marks { All (λ m. m.version ≤ length run.ran.history.records) run.ran.history.marks }
+    requires places { length run.ran.history.records < length run.roots.items }
+    requires levels { length run.numbers.items ≤ 11 }
+    ensures { IfOk result (λ texts. (models : List Content)
+        → RootsTellWorlds models run.ran.history (listed_root run.roots.items)
+        → AreNumbers models run.ran.history run.numbers.items
+        → AreTexts order.now models run.ran.history run.ran.transcripts.items texts) }
 {
+    let StoreRan {
+        ran,
+        roots,
+        numbers,
+    } = run;
     let Ran {
         history,
         transcripts,
     } = ran;
-    let number = history.records.len() as u32;
+    let tally = Tally {
+        scripts: order.scripts.len() as u64,
+        records: history.records.len() as u64,
+        marks: history.marks.len() as u64,
+        nodes: nodes_of(numbers.as_slice()),
+    };
     let texts = transcript_texts(alloc, transcripts.as_slice())?;
     drop(transcripts);
-    let journal = match order.journal {
-        None => Vec::new(alloc),
-        Some(_) => journal_text(alloc, &history)?,
-    };
+    let journal = asked_journal(alloc, order, &history)?;
+    let report = asked_report(alloc, order, &history, roots.as_slice(), numbers.as_slice())?;
     Ok(Texts {
-        number,
+        tally,
         transcripts: texts,
         journal,
+        report,
     })
+}
+
+// The number of the nodes of all levels.
+fn nodes_of(numbers: &[u32]) -> u64
+    requires { length numbers.now ≤ 11 }
+    ensures { result ≡ sum numbers.now }
+{
+    let mut nodes: u64 = 0;
+    for number in numbers {
+        nodes += u64::from(*number);
+    }
+    nodes
+}
+
+fn asked_journal(alloc: Global, order: &Order<'_>, history: &History) -> Result<Vec<u8>, Memory>
+    ensures { IfOk result
+        (λ text. JournalIs order.now.journal text.items (journal_of history.now)) }
+{
+    match order.journal {
+        None => Ok(Vec::new(alloc)),
+        Some(_) => journal_text(alloc, history),
+    }
+}
+
+fn asked_report(
+    alloc: Global,
+    order: &Order<'_>,
+    history: &History,
+    roots: &[Option<Name>],
+    numbers: &[u32],
+) -> Result<Vec<u8>, Memory>
+    requires few { length history.now.records ≤ 65535 }
+    requires marks { All (λ m. m.version ≤ length history.now.records) history.now.marks }
+    requires places { length history.now.records < length roots.now }
+    ensures { IfOk result (λ text. (models : List Content)
+        → RootsTellWorlds models history.now (listed_root roots.now)
+        → AreNumbers models history.now numbers.now
+        → ReportIs order.now.report models history.now text.items) }
+{
+    match order.report {
+        None => Ok(Vec::new(alloc)),
+        Some(_) => report_text(alloc, history, roots, numbers),
+    }
 }
 
 // The text of each transcript.

@@ -2,8 +2,6 @@
 #![tactic(auto)]
 
 #[cfg(test)]
-mod bit_grids;
-#[cfg(test)]
 mod bit_rows;
 #[cfg(test)]
 mod buckets;

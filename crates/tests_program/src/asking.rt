@@ -1,15 +1,16 @@
 //! What tests ask the program, and a file to ask it about.
 
 use std::alloc::{AllocError, Global};
+use std::test::Fail;
 use voxdag_top::voxdag;
-use vw_io::{MemorySink, Shelf};
+use vw_io::{MemoryShelf, MemorySink, Shelf};
 
 /// A model of one cell, 64 bytes.
 pub const ONE: [u8; 64] =
     *b"VOX \x96\0\0\0MAIN\0\0\0\0\x2c\0\0\0SIZE\x0c\0\0\0\0\0\0\0\x01\0\0\0\x01\0\0\0\x01\0\0\0XYZI\x08\0\0\0\0\0\0\0\x01\0\0\0\0\0\0\x01";
 
-/// A script of two changes and a question, its transcript, its journal at side 8, and the run's
-/// line.
+/// A script of two changes and a question, its transcript, its journal and its report at side 8, and
+/// the run's line.
 pub const GOOD: &str = "fill 0 0 0 2 1 1\nerase 1 0 0 1 1 1\ncount 0 0 0 8 8 8\n";
 
 pub const ANSWERS: &str = "1 @1 ok\n2 @2 ok\n3 @2 count 1\n";
@@ -17,7 +18,37 @@ pub const ANSWERS: &str = "1 @1 ok\n2 @2 ok\n3 @2 count 1\n";
 pub const JOURNAL: &str =
     "voxdag journal 1\nside 8\n1 0 1 fill 0 0 0 2 1 1\n2 0 2 erase 1 0 0 1 1 1\nend\n";
 
-pub const TWO: &str = "scripts 1 records 2 marks 0\n";
+pub const REPORT: &str =
+    "voxdag report 1\nside 8\nrecords 2\nmarks 0\nversion 0 empty\nversion 1 root 1\n\
+     version 2 root 2\nlevel 0 nodes 2\nlevel 1 nodes 2\n";
+
+pub const TWO: &str = "scripts 1 records 2 marks 0 nodes 4\n";
+
+/// A shelf with the file of one cell and the script `s`.
+pub fn shelf_with(alloc: Global, script: &[u8]) -> Result<MemoryShelf, Fail> {
+    let mut shelf = MemoryShelf::new(alloc);
+    shelf.write("one.vox", &ONE)?;
+    shelf.write("s", script)?;
+    Ok(shelf)
+}
+
+/// Whether the file of this name has this text, or where that is left out, there is no such file.
+pub fn has(shelf: &MemoryShelf, name: &str, want: Option<&str>) -> bool {
+    match (shelf.file(name), want) {
+        (Some(found), Some(text)) => found == text.as_bytes(),
+        (None, None) => true,
+        _ => false,
+    }
+}
+
+/// This text so many times.
+pub fn repeated(alloc: Global, text: &str, times: u32) -> Result<Vec<u8>, Fail> {
+    let mut all = Vec::new(alloc);
+    for _ in 0..times {
+        all.extend_from_slice(text.as_bytes())?;
+    }
+    Ok(all)
+}
 
 /// The words of a line, parted by single blanks.
 pub fn words_of(alloc: Global, line: &str) -> Result<Vec<String>, AllocError> {

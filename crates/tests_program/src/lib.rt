@@ -8,4 +8,8 @@ mod count_tests;
 #[cfg(test)]
 mod file_tests;
 #[cfg(test)]
+mod guide_tests;
+#[cfg(test)]
 mod run_tests;
+#[cfg(test)]
+mod version_tests;

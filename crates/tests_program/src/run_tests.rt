@@ -1,4 +1,6 @@
-use crate::asking::{ANSWERS, GOOD, JOURNAL, ONE, TWO, ask, one_fault, words_of};
+use crate::asking::{
+    ANSWERS, GOOD, JOURNAL, ONE, REPORT, TWO, ask, has, one_fault, repeated, shelf_with, words_of,
+};
 use std::alloc::Global;
 use std::test::Fail;
 use voxdag_top::voxdag;
@@ -18,26 +20,12 @@ const EMPTY_JOURNAL: &str = "voxdag journal 1\nside 8\nend\n";
 
 const USAGE: &str = "voxdag: usage\n";
 
-const NONE: &str = "scripts 1 records 0 marks 0\n";
+const NONE: &str = "scripts 1 records 0 marks 0 nodes 0\n";
 
-const SINGLE: &str = "scripts 1 records 1 marks 0\n";
+// One cell in a world of side 8, and in one of side 256.
+const SINGLE: &str = "scripts 1 records 1 marks 0 nodes 2\n";
 
-// A shelf with the file of one cell and the script `s`.
-fn shelf(alloc: Global, script: &[u8]) -> Result<MemoryShelf, Fail> {
-    let mut shelf = MemoryShelf::new(alloc);
-    shelf.write("one.vox", &ONE)?;
-    shelf.write("s", script)?;
-    Ok(shelf)
-}
-
-// Whether the file of this name has this text, or where that is left out, there is no such file.
-fn has(shelf: &MemoryShelf, name: &str, want: Option<&str>) -> bool {
-    match (shelf.file(name), want) {
-        (Some(found), Some(text)) => found == text.as_bytes(),
-        (None, None) => true,
-        _ => false,
-    }
-}
+const DEEP: &str = "scripts 1 records 1 marks 0 nodes 7\n";
 
 // Whether the file of this name is the one of one cell.
 fn has_one(shelf: &MemoryShelf, name: &str) -> bool {
@@ -62,7 +50,7 @@ fn scripts_have_their_outputs(rt: HostRuntime) -> Result<(), Fail> {
         ("\n\r", NONE, "", EMPTY_JOURNAL),
         ("", NONE, "", EMPTY_JOURNAL),
     ] {
-        let mut shelf = shelf(rt.alloc(), script.as_bytes())?;
+        let mut shelf = shelf_with(rt.alloc(), script.as_bytes())?;
         let line = "run --side 8 --journal j one.vox s";
         let (ended, out) = ask(rt.alloc(), line, &mut shelf)?;
         assert_eq!(rt; ended, 0, "at {script}");
@@ -75,6 +63,38 @@ fn scripts_have_their_outputs(rt: HostRuntime) -> Result<(), Fail> {
     Ok(())
 }
 
+// The file of a model of size 2 1 1 with two voxels at x = 1, of these colours.
+fn two_voxels(alloc: Global, first: u8, last: u8) -> Result<Vec<u8>, Fail> {
+    let mut file = Vec::from_slice(
+        alloc,
+        b"VOX \x96\0\0\0MAIN\0\0\0\0\x30\0\0\0SIZE\x0c\0\0\0\0\0\0\0\x02\0\0\0\x01\0\0\0\x01\0\0\0\
+XYZI\x0c\0\0\0\0\0\0\0\x02\0\0\0",
+    )?;
+    file.extend_from_slice(&[1, 0, 0, first, 1, 0, 0, last])?;
+    Ok(file)
+}
+
+#[test]
+fn stamps_set_the_cells_of_a_model(rt: HostRuntime) -> Result<(), Fail> {
+    let script = "stamp 0 6 7 7\ncount 0 0 0 8 8 8\ncount 7 7 7 1 1 1\nfill 0 0 0 2 1 1\n\
+                  stamp 0 0 0 0\ncount 0 0 0 2 1 1\n";
+    for (first, last, cells) in [(5, 6, 1), (5, 0, 0), (0, 5, 1)] {
+        let mut shelf = shelf_with(rt.alloc(), script.as_bytes())?;
+        let file = two_voxels(rt.alloc(), first, last)?;
+        shelf.write("two.vox", file.as_slice())?;
+        let (ended, _) = ask(rt.alloc(), "run --side 8 two.vox s", &mut shelf)?;
+        assert_eq!(rt; ended, 0);
+        let want = format!(in rt.alloc();
+            "1 @1 ok\n2 @1 count {cells}\n3 @1 count {cells}\n4 @2 ok\n5 @3 ok\n6 @3 count 2\n"
+        )?;
+        assert!(rt;
+            has(&shelf, "s.out", Some(want.as_str())),
+            "colours {first} and {last}"
+        );
+    }
+    Ok(())
+}
+
 #[test]
 fn refused_scripts_write_nothing(rt: HostRuntime) -> Result<(), Fail> {
     for (script, printed) in [
@@ -83,75 +103,117 @@ fn refused_scripts_write_nothing(rt: HostRuntime) -> Result<(), Fail> {
         ("paint 0 0 0 1 1 1\n", "voxdag: script 0 1 1\n"),
         ("stamp 1 8 0 0\n", "voxdag: script 0 1 6\n"),
         ("stamp 0 8 0 0\n", "voxdag: script 0 1 3\n"),
+        ("head\nsave a.vox 0 0 0 1 1 1\n", "voxdag: script 0 2 1\n"),
+        ("try fill 0 0 0 1 1 1\n", "voxdag: script 0 1 1\n"),
+        ("fill 255 255 255 1 1 1\n", "voxdag: script 0 1 3\n"),
     ] {
-        let mut shelf = shelf(rt.alloc(), script.as_bytes())?;
-        let line = "run --side 8 --journal j one.vox s";
+        let mut shelf = shelf_with(rt.alloc(), script.as_bytes())?;
+        let line = "run --side 8 --journal j --report p one.vox s";
         let (ended, out) = ask(rt.alloc(), line, &mut shelf)?;
         assert_eq!(rt; ended, 5, "at {script}");
         assert_eq!(rt; out.bytes(), printed.as_bytes(), "at {script}");
         assert!(rt; has(&shelf, "s.out", None), "at {script}");
         assert!(rt; has(&shelf, "j", None), "at {script}");
+        assert!(rt; has(&shelf, "p", None), "at {script}");
+    }
+    Ok(())
+}
+
+const WHOLE: &str = "fill 255 255 255 1 1 1\ncount 0 0 0 256 256 256\n";
+
+// Words of the grammar, a script, the line that is put, and the transcript.
+const WORDS: [(&str, &str, &str, &str); 13] = [
+    ("run --side 8 one.vox s", GOOD, TWO, ANSWERS),
+    ("run --side 008 one.vox s", GOOD, TWO, ANSWERS),
+    ("run --side 256 one.vox s", WHOLE, DEEP, STAMPED),
+    ("run one.vox s", WHOLE, DEEP, STAMPED),
+    ("run --journal j one.vox s", WHOLE, DEEP, STAMPED),
+    ("run --report p one.vox s", WHOLE, DEEP, STAMPED),
+    ("run --journal j --report p one.vox s", WHOLE, DEEP, STAMPED),
+    ("run --side 8 --report p one.vox s", GOOD, TWO, ANSWERS),
+    (
+        "run --side 8 --buckets 1 --cap 256 one.vox s",
+        GOOD,
+        TWO,
+        ANSWERS,
+    ),
+    ("run --side 8 --buckets 4096 one.vox s", GOOD, TWO, ANSWERS),
+    ("run --side 8 --cap 1 one.vox s", GOOD, TWO, ANSWERS),
+    ("run --side 4 one.vox s", "", NONE, ""),
+    (
+        "run --side 512 one.vox s",
+        GOOD,
+        "scripts 1 records 2 marks 0 nodes 16\n",
+        ANSWERS,
+    ),
+];
+
+#[test]
+fn runs_have_their_words(rt: HostRuntime) -> Result<(), Fail> {
+    for (line, script, printed, transcript) in WORDS {
+        let mut shelf = shelf_with(rt.alloc(), script.as_bytes())?;
+        let (ended, out) = ask(rt.alloc(), line, &mut shelf)?;
+        assert_eq!(rt; ended, 0, "at {line}");
+        assert_eq!(rt; out.bytes(), printed.as_bytes(), "at {line}");
+        assert!(rt; has(&shelf, "s.out", Some(transcript)), "at {line}");
+    }
+    Ok(())
+}
+
+// Words outside the grammar.
+const NO_WORDS: [&str; 26] = [
+    "run",
+    "run one.vox",
+    "run one.vox s s",
+    "run --buckets 0 one.vox s",
+    "run --buckets 4097 one.vox s",
+    "run --cap 0 one.vox s",
+    "run --cap 257 one.vox s",
+    "run --cap 1 --buckets 1 one.vox s",
+    "run --cap x one.vox s",
+    "run -- one.vox s",
+    "run --side 2 one.vox s",
+    "run --side 5 one.vox s",
+    "run --side 8192 one.vox s",
+    "run --side 0000008 one.vox s",
+    "run --side=8 one.vox s",
+    "run --side 8 --side 8 one.vox s",
+    "run --journal j --side 8 one.vox s",
+    "run --journal j --journal k one.vox s",
+    "run --report p --journal j one.vox s",
+    "run --report p --report q one.vox s",
+    "run --report one.vox s",
+    "run --report -p one.vox s",
+    "run --report  one.vox s",
+    "run --reports p one.vox s",
+    "run one.vox --report p s",
+    "demo 7",
+];
+
+#[test]
+fn other_words_are_usage(rt: HostRuntime) -> Result<(), Fail> {
+    for line in NO_WORDS {
+        let mut shelf = shelf_with(rt.alloc(), GOOD.as_bytes())?;
+        let (ended, out) = ask(rt.alloc(), line, &mut shelf)?;
+        assert_eq!(rt; ended, 1, "at {line}");
+        assert_eq!(rt; out.bytes(), USAGE.as_bytes(), "at {line}");
+        assert!(rt; has(&shelf, "s.out", None), "at {line}");
     }
     Ok(())
 }
 
 #[test]
-fn runs_have_their_words(rt: HostRuntime) -> Result<(), Fail> {
-    let whole = "fill 255 255 255 1 1 1\ncount 0 0 0 256 256 256\n";
-    let counted = Some(STAMPED);
-    let out_of_world = "voxdag: script 0 1 3\n";
-    for (line, script, status, printed, transcript) in [
-        ("run --side 8 one.vox s", GOOD, 0, TWO, Some(ANSWERS)),
-        ("run --side 008 one.vox s", GOOD, 0, TWO, Some(ANSWERS)),
-        ("run --side 8 one.vox s", whole, 5, out_of_world, None),
-        ("run --side 256 one.vox s", whole, 0, SINGLE, counted),
-        ("run one.vox s", whole, 0, SINGLE, counted),
-        ("run --journal j one.vox s", whole, 0, SINGLE, counted),
-        ("run", GOOD, 1, USAGE, None),
-        ("run one.vox", GOOD, 1, USAGE, None),
-        ("run one.vox s t", GOOD, 2, "voxdag: missing t\n", None),
-        ("run one.vox s s", GOOD, 1, USAGE, None),
-        (
-            "run --side 8 --buckets 1 --cap 256 one.vox s",
-            GOOD,
-            0,
-            TWO,
-            Some(ANSWERS),
-        ),
-        (
-            "run --side 8 --buckets 4096 one.vox s",
-            GOOD,
-            0,
-            TWO,
-            Some(ANSWERS),
-        ),
-        (
-            "run --side 8 --cap 1 one.vox s",
-            GOOD,
-            0,
-            TWO,
-            Some(ANSWERS),
-        ),
-        ("run --buckets 0 one.vox s", GOOD, 1, USAGE, None),
-        ("run --buckets 4097 one.vox s", GOOD, 1, USAGE, None),
-        ("run --cap 0 one.vox s", GOOD, 1, USAGE, None),
-        ("run --cap 257 one.vox s", GOOD, 1, USAGE, None),
-        ("run --cap 1 --buckets 1 one.vox s", GOOD, 1, USAGE, None),
-        ("run --cap x one.vox s", GOOD, 1, USAGE, None),
-        ("run -- one.vox s", GOOD, 1, USAGE, None),
-        ("run --side 5 one.vox s", GOOD, 1, USAGE, None),
-        ("run --side 512 one.vox s", GOOD, 1, USAGE, None),
-        ("run --side 0000008 one.vox s", GOOD, 1, USAGE, None),
-        ("run --side=8 one.vox s", GOOD, 1, USAGE, None),
-        ("run --journal j --side 8 one.vox s", GOOD, 1, USAGE, None),
-        ("run no.vox no", GOOD, 2, "voxdag: missing no.vox\n", None),
-        ("run one.vox no", GOOD, 2, "voxdag: missing no\n", None),
+fn inputs_must_be_there(rt: HostRuntime) -> Result<(), Fail> {
+    for (line, printed) in [
+        ("run one.vox s t", "voxdag: missing t\n"),
+        ("run no.vox no", "voxdag: missing no.vox\n"),
+        ("run one.vox no", "voxdag: missing no\n"),
     ] {
-        let mut shelf = shelf(rt.alloc(), script.as_bytes())?;
+        let mut shelf = shelf_with(rt.alloc(), GOOD.as_bytes())?;
         let (ended, out) = ask(rt.alloc(), line, &mut shelf)?;
-        assert_eq!(rt; ended, status, "at {line}");
+        assert_eq!(rt; ended, 2, "at {line}");
         assert_eq!(rt; out.bytes(), printed.as_bytes(), "at {line}");
-        assert!(rt; has(&shelf, "s.out", transcript), "at {line}");
+        assert!(rt; has(&shelf, "s.out", None), "at {line}");
     }
     Ok(())
 }
@@ -171,14 +233,14 @@ fn scripts_run_one_after_another(rt: HostRuntime) -> Result<(), Fail> {
         (
             STAMP,
             0,
-            "scripts 2 records 3 marks 0\n",
+            "scripts 2 records 3 marks 0 nodes 6\n",
             Some(ANSWERS),
             second,
             both,
         ),
         ("\npaint\n", 5, "voxdag: script 1 2 1\n", None, None, None),
     ] {
-        let mut shelf = shelf(rt.alloc(), GOOD.as_bytes())?;
+        let mut shelf = shelf_with(rt.alloc(), GOOD.as_bytes())?;
         shelf.write("t", script.as_bytes())?;
         let line = "run --side 8 --journal j one.vox s t";
         let (ended, out) = ask(rt.alloc(), line, &mut shelf)?;
@@ -192,14 +254,39 @@ fn scripts_run_one_after_another(rt: HostRuntime) -> Result<(), Fail> {
 }
 
 #[test]
+fn the_first_script_with_a_fault_decides(rt: HostRuntime) -> Result<(), Fail> {
+    for (scripts, printed) in [
+        ("s t u", "voxdag: script 0 1 3\n"),
+        ("t s u", "voxdag: script 0 2 1\n"),
+        ("u s t", "voxdag: script 1 1 3\n"),
+        ("u u t", "voxdag: script 2 2 1\n"),
+    ] {
+        let mut shelf = shelf_with(rt.alloc(), b"fill 0 0 0 0 1 1\n")?;
+        shelf.write("t", b"head\npaint\n")?;
+        shelf.write("u", GOOD.as_bytes())?;
+        shelf.write("u.out", b"kept")?;
+        let line = format!(in rt.alloc(); "run --side 8 one.vox {scripts}")?;
+        let (ended, out) = ask(rt.alloc(), line.as_str(), &mut shelf)?;
+        assert_eq!(rt; ended, 5, "at {scripts}");
+        assert_eq!(rt; out.bytes(), printed.as_bytes(), "at {scripts}");
+        assert!(rt; has(&shelf, "u.out", Some("kept")), "at {scripts}");
+    }
+    Ok(())
+}
+
+#[test]
 fn outputs_take_no_other_name(rt: HostRuntime) -> Result<(), Fail> {
     for line in [
         "run --side 8 --journal s one.vox s",
         "run --side 8 --journal one.vox one.vox s",
         "run --side 8 --journal s.out one.vox s",
+        "run --side 8 --report s one.vox s",
+        "run --side 8 --report one.vox one.vox s",
+        "run --side 8 --report s.out one.vox s",
+        "run --side 8 --journal j --report j one.vox s",
         "run --side 8 s.out s",
     ] {
-        let mut shelf = shelf(rt.alloc(), GOOD.as_bytes())?;
+        let mut shelf = shelf_with(rt.alloc(), GOOD.as_bytes())?;
         shelf.write("s.out", &ONE)?;
         let (ended, out) = ask(rt.alloc(), line, &mut shelf)?;
         assert_eq!(rt; ended, 1, "at {line}");
@@ -211,22 +298,13 @@ fn outputs_take_no_other_name(rt: HostRuntime) -> Result<(), Fail> {
     Ok(())
 }
 
-// This text so many times.
-fn repeated(alloc: Global, text: &str, times: u32) -> Result<Vec<u8>, Fail> {
-    let mut all = Vec::new(alloc);
-    for _ in 0..times {
-        all.extend_from_slice(text.as_bytes())?;
-    }
-    Ok(all)
-}
-
 #[test]
 fn runs_have_65535_records(rt: HostRuntime) -> Result<(), Fail> {
     let script = repeated(rt.alloc(), "fill 0 0 0 1 1 1\n", 65_536)?;
-    let mut shelf = shelf(rt.alloc(), script.as_slice())?;
+    let mut shelf = shelf_with(rt.alloc(), script.as_slice())?;
     let (ended, out) = ask(rt.alloc(), "run --side 8 one.vox s", &mut shelf)?;
     assert_eq!(rt; ended, 0);
-    let printed = b"scripts 1 records 65535 marks 0\n";
+    let printed = b"scripts 1 records 65535 marks 0 nodes 2\n";
     assert_eq!(rt; out.bytes(), printed.as_slice());
     let transcript = shelf.file("s.out").ok_or("a transcript")?;
     assert!(rt; transcript.ends_with(b"\n65535 @65535 ok\n65536 @65535 log full\n"));
@@ -242,7 +320,7 @@ fn long_scripts_are_refused(rt: HostRuntime) -> Result<(), Fail> {
         (8_388_609, 9, "voxdag: too long s\n"),
     ] {
         let script = repeated(rt.alloc(), "\n", lines)?;
-        let mut shelf = shelf(rt.alloc(), script.as_slice())?;
+        let mut shelf = shelf_with(rt.alloc(), script.as_slice())?;
         let (ended, out) = ask(rt.alloc(), "run --side 8 one.vox s", &mut shelf)?;
         assert_eq!(rt; ended, status, "at {lines}");
         assert_eq!(rt; out.bytes(), printed.as_bytes(), "at {lines}");
@@ -251,36 +329,55 @@ fn long_scripts_are_refused(rt: HostRuntime) -> Result<(), Fail> {
     Ok(())
 }
 
-#[test]
-fn each_call_can_fail(rt: HostRuntime) -> Result<(), Fail> {
-    for (call, status, printed, transcript, journal) in [
-        (1, 3, "voxdag: read fault one.vox\n", None, None),
-        (2, 3, "voxdag: read fault s\n", None, None),
-        (3, 6, "voxdag: write fault s.out\n", Some("1 @1 "), None),
+// The call that fails at its fifth byte, the status, the line, and what the three outputs then have.
+type Failing = (u32, u8, &'static str, [Option<&'static str>; 3]);
+
+fn failing() -> [Failing; 6] {
+    let (first, second) = (Some(ANSWERS), Some(JOURNAL));
+    [
+        (1, 3, "voxdag: read fault one.vox\n", [None; 3]),
+        (2, 3, "voxdag: read fault s\n", [None; 3]),
+        (
+            3,
+            6,
+            "voxdag: write fault s.out\n",
+            [Some("1 @1 "), None, None],
+        ),
         (
             4,
             6,
             "voxdag: write fault j\n",
-            Some(ANSWERS),
-            Some("voxda"),
+            [first, Some("voxda"), None],
         ),
-        (5, 0, TWO, Some(ANSWERS), Some(JOURNAL)),
-    ] {
-        let inner = shelf(rt.alloc(), GOOD.as_bytes())?;
+        (
+            5,
+            6,
+            "voxdag: write fault p\n",
+            [first, second, Some("voxda")],
+        ),
+        (6, 0, TWO, [first, second, Some(REPORT)]),
+    ]
+}
+
+#[test]
+fn each_call_can_fail(rt: HostRuntime) -> Result<(), Fail> {
+    for (call, status, printed, [transcript, journal, report]) in failing() {
+        let inner = shelf_with(rt.alloc(), GOOD.as_bytes())?;
         let mut shelf = FaultyShelf::new(inner, one_fault(rt.alloc(), call, 5)?);
-        let line = "run --side 8 --journal j one.vox s";
+        let line = "run --side 8 --journal j --report p one.vox s";
         let (ended, out) = ask(rt.alloc(), line, &mut shelf)?;
         assert_eq!(rt; ended, status, "at {printed}");
         assert_eq!(rt; out.bytes(), printed.as_bytes());
         assert!(rt; has(shelf.files(), "s.out", transcript), "at {printed}");
         assert!(rt; has(shelf.files(), "j", journal), "at {printed}");
+        assert!(rt; has(shelf.files(), "p", report), "at {printed}");
     }
     Ok(())
 }
 
 #[test]
 fn outputs_are_whole_where_no_line_is_put(rt: HostRuntime) -> Result<(), Fail> {
-    let mut shelf = shelf(rt.alloc(), GOOD.as_bytes())?;
+    let mut shelf = shelf_with(rt.alloc(), GOOD.as_bytes())?;
     let mut out = FaultySink::new(rt.alloc(), one_fault(rt.alloc(), 1, 3)?);
     let words = words_of(rt.alloc(), "run --side 8 --journal j one.vox s")?;
     let ended = voxdag(rt.alloc(), words.as_slice(), &mut shelf, &mut out);

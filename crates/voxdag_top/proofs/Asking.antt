@@ -1,5 +1,5 @@
 -- Words ask for 64 scripts at most.
-use Rattle.std.proofs.Common.{◌≡◌, ℕ, ◌≤◌, Bool, true, false, List, [], ◌∷◌, length, Option, Some, None, refl, sym, ap, subst, ◌∙◌, arith, leb-true}
+use Rattle.std.proofs.Common.{◌≡◌, ℕ, ◌≤◌, Bool, true, false, List, [], ◌∷◌, length, Option, Some, None, refl, sym, subst, leb-true}
 use Rattle.std.specs.Prelude.{nat_le, ◌&&◌, if◌then◌else◌, codes, ⊤}
 use Rattle.std.specs.List.{list_all}
 use Rattle.std.specs.Str.{bytes_eq}
@@ -7,7 +7,7 @@ use Rattle.node_words.specs.Plans.{Layout}
 use Rattle.script_files.specs.declared.requests.Request.{Request}
 use Rattle.script_files.specs.declared.requests.Request.TheVariants.{Count, Run}
 use Rattle.script_files.specs.Orders.{Asked}
-use Rattle.voxdag_top.specs.Words.{is_operand, is_number_of_scripts, are_scripts, counted, run_names, named_journal, behind_plan, plan_for, with_cap, named_cap, behind_buckets, with_buckets, named_buckets, behind_side, named_side, run_words, request_of, option_value, short_number, side_of}
+use Rattle.voxdag_top.specs.Words.{is_operand, counted, run_names, named_report, named_journal, behind_plan, plan_for, with_cap, named_cap, with_buckets, named_buckets, behind_side, named_side, run_words, request_of, option_value, short_number, side_of}
 
 -- a request has few scripts
 abbrev pub AreFew : Option Request → Type 0
@@ -15,21 +15,25 @@ AreFew None = ⊤
 AreFew (Some (Count file)) = ⊤
 AreFew (Some (Run asked)) = length asked.scripts ≤ 64
 
-chosen : (plan : Layout) (journal : Option (List ℕ)) (file : List ℕ) (scripts : List (List ℕ)) (a low high all : Bool) → (high ≡ true → length scripts ≤ 64)
-    → AreFew (if a && (low && high && all) then Some (Run (record { plan = plan; journal = journal; file = file; scripts = scripts })) else None)
-chosen plan journal file scripts false low high all few = tt
-chosen plan journal file scripts true false high all few = tt
-chosen plan journal file scripts true true false all few = tt
-chosen plan journal file scripts true true true false few = tt
-chosen plan journal file scripts true true true true few = few refl
+chosen : (plan : Layout) (journal report : Option (List ℕ)) (file : List ℕ) (scripts : List (List ℕ)) (a low high all : Bool) → (high ≡ true → length scripts ≤ 64)
+    → AreFew (if a && (low && high && all) then Some (Run (record { plan = plan; journal = journal; report = report; file = file; scripts = scripts })) else None)
+chosen plan journal report file scripts false low high all few = tt
+chosen plan journal report file scripts true false high all few = tt
+chosen plan journal report file scripts true true false all few = tt
+chosen plan journal report file scripts true true true false few = tt
+chosen plan journal report file scripts true true true true few = few refl
 
-names : (plan : Layout) (journal : Option (List ℕ)) (words : List (List ℕ)) → AreFew (run_names plan journal words)
-names plan journal [] = tt
-names plan journal (file ∷ scripts) = chosen plan journal file scripts (is_operand file) (nat_le 1 (length scripts)) (nat_le (length scripts) 64) (list_all is_operand scripts) (λ is. leb-true (length scripts) 64 is)
+names : (plan : Layout) (journal report : Option (List ℕ)) (words : List (List ℕ)) → AreFew (run_names plan journal report words)
+names plan journal report [] = tt
+names plan journal report (file ∷ scripts) = chosen plan journal report file scripts (is_operand file) (nat_le 1 (length scripts)) (nat_le (length scripts) 64) (list_all is_operand scripts) (λ is. leb-true (length scripts) 64 is)
+
+reports : (plan : Layout) (journal : Option (List ℕ)) (words : List (List ℕ)) (found : Option (List ℕ × List (List ℕ))) → AreFew (named_report plan journal words found)
+reports plan journal words None = names plan journal None words
+reports plan journal words (Some found) = names plan journal (Some found.0) found.1
 
 journals : (plan : Layout) (words : List (List ℕ)) (found : Option (List ℕ × List (List ℕ))) → AreFew (named_journal plan words found)
-journals plan words None = names plan None words
-journals plan words (Some found) = names plan (Some found.0) found.1
+journals plan words None = reports plan None words (option_value (codes "--report") words)
+journals plan words (Some found) = reports plan (Some found.0) found.1 (option_value (codes "--report") found.1)
 
 plans : (plan : Option Layout) (words : List (List ℕ)) → AreFew (behind_plan plan words)
 plans None words = tt

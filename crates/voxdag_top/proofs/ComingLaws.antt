@@ -11,7 +11,7 @@ use Rattle.script_files.specs.declared.requests.Request.{Request}
 use Rattle.script_files.specs.Verdicts.{Verdict, Fine, FollowsRead, FollowsWrite, Follows}
 use Rattle.script_files.specs.Judging.{outcome_follows}
 use Rattle.voxdag_top.specs.declared.endings.Ending.{Ending}
-use Rattle.voxdag_top.specs.declared.endings.Ending.TheVariants.{Counted, Ran, Usage, Refused}
+use Rattle.voxdag_top.specs.declared.endings.Ending.TheVariants.{Completed, Usage, Refused}
 use Rattle.voxdag_top.specs.Endings.{CommandEnds, EndsAs, status_of, input_status, output_status}
 use Rattle.voxdag_top.specs.Finishing.{Runs}
 use Rattle.voxdag_top.specs.Statuses.{IsOr}
@@ -29,8 +29,7 @@ by_status k s result same is = subst (λ (n : ℕ). IsOr n result) same is
 
 -- the answer of the verdict has the verdict's status
 abbrev pub EndFollows : Verdict → Ending → Type 0
-EndFollows v (Counted number) = v ≡ Fine
-EndFollows v (Ran number) = v ≡ Fine
+EndFollows v (Completed done) = v ≡ Fine
 EndFollows v Usage = ⊥
 EndFollows v (Refused r) = Follows v (Err r)
 
@@ -45,8 +44,7 @@ write_status v writes.Failed result follows is = absurd follows
 write_status v writes.Memory result follows is = memory_or (status_for v) result is
 
 status_follows : (v : Verdict) (e : Ending) (result : ℕ) → EndFollows v e → IsOr (status_of e) result → IsOr (status_for v) result
-status_follows v (Counted number) result follows is = by_status (status_for v) 0 result (ap status_for (sym follows)) is
-status_follows v (Ran number) result follows is = by_status (status_for v) 0 result (ap status_for (sym follows)) is
+status_follows v (Completed done) result follows is = by_status (status_for v) 0 result (ap status_for (sym follows)) is
 status_follows v Usage result follows is = absurd follows
 status_follows v (Refused (Input r)) result follows is = read_status v r.why r.name.now result follows is
 status_follows v (Refused (Text (Vox fault))) result follows is = by_status (status_for v) 4 result (ap status_for (sym follows)) is
@@ -56,8 +54,7 @@ status_follows v (Refused (Output r)) result follows is = write_status v r.why r
 status_follows v (Refused (Text Memory)) result follows is = memory_or (status_for v) result is
 
 command_follows : (a : Request) (e : Ending) (old new : ShelfState) (files : Files) (v : Verdict) → CommandEnds e a old new → old.files ≡ Some files → (Rose old.faults new.faults → ⊥) → JudgesWords (Some a) files v → EndFollows v e
-command_follows a (Counted number) old new files v ends told calm judges = outcome_follows (Ok number) a old new ends.1 files v told calm judges
-command_follows a (Ran tally) old new files v ends told calm judges = outcome_follows (Ok tally.records) a old new ends.1 files v told calm judges
+command_follows a (Completed done) old new files v ends told calm judges = outcome_follows (Ok done) a old new ends files v told calm judges
 command_follows a Usage old new files v ends told calm judges = absurd ends
 command_follows a (Refused r) old new files v ends told calm judges = outcome_follows (Err r) a old new ends files v told calm judges
 

@@ -1,5 +1,5 @@
 -- Room for the line of a fault at any output.
-use Rattle.std.proofs.Common.{◌≡◌, ℕ, ◌≤◌, List, [], ◌∷◌, ◌++◌, length, Option, Some, None, Err, sym, subst, ◌∙◌}
+use Rattle.std.proofs.Common.{◌≡◌, ℕ, List, [], ◌∷◌, ◌++◌, Option, Some, None, Err, sym, subst}
 use Rattle.std.specs.Prelude.{IfSome, All, map}
 use Rattle.std.proofs.lemmas.List.Elements.{All-nil, All-cons, All-head, All-tail, All-append}
 use Rattle.vw_io.specs.Outside.{ShelfState}
@@ -10,17 +10,15 @@ use Rattle.script_files.specs.declared.refusals.CommandRefused.{CommandRefused}
 use Rattle.script_files.specs.declared.refusals.CommandRefused.TheVariants.{Input, Text, Output}
 use Rattle.script_files.specs.declared.requests.Request.TheVariants.{Count, Run}
 use Rattle.script_files.specs.Orders.{Asked}
-use Rattle.script_files.specs.Requests.{transcript_name, named_texts, journal_output, outputs_of}
+use Rattle.script_files.specs.Requests.{transcript_name, named_texts, wanted_output, outputs_of}
+use Rattle.script_files.specs.declared.tallies.Done.{Done}
+use Rattle.script_files.specs.declared.tallies.Done.TheVariants.{Counted, Ran}
+use Rattle.script_files.specs.Meanings.{GivesOutputs}
 use Rattle.script_files.specs.Outcomes.{Outcome, BreaksOff}
 use Rattle.voxdag_top.specs.declared.endings.Ending.{Ending}
-use Rattle.voxdag_top.specs.declared.endings.Ending.TheVariants.{Counted, Ran, Usage, Refused}
+use Rattle.voxdag_top.specs.declared.endings.Ending.TheVariants.{Completed, Usage, Refused}
 use Rattle.voxdag_top.specs.Endings.{CommandEnds}
-use Rattle.voxdag_top.specs.Lines.{write_fault_line}
-use Rattle.voxdag_top.specs.Finishing.{WriteHasRoom, RefusalHasRoom, HasLineRoom}
-
--- a line fits in so many bytes
-abbrev pub FitsIn : ℕ → List ℕ → Type 0
-FitsIn room name = length (write_fault_line name) ≤ room
+use Rattle.voxdag_top.specs.Finishing.{FitsIn, NamesFit, WriteHasRoom, RefusalHasRoom, HasLineRoom}
 
 -- the output's name fits
 abbrev pub NameFits : ℕ → Named → Type 0
@@ -39,21 +37,32 @@ named_fit (name ∷ names) [] room fit = All-nil (NameFits room)
 named_fit (name ∷ names) (text ∷ texts) room fit =
     All-cons (NameFits room) (record { name = name; bytes = text }) (named_texts names texts) (All-head (FitsIn room) name names fit) (named_fit names texts room (All-tail (FitsIn room) name names fit))
 
-journal_fits : (journal : Option (List ℕ)) (text : List ℕ) (room : ℕ) → IfSome journal (FitsIn room) → All (NameFits room) (journal_output journal text)
-journal_fits None text room fits = All-nil (NameFits room)
-journal_fits (Some name) text room fits = All-cons (NameFits room) (record { name = name; bytes = text }) [] fits (All-nil (NameFits room))
+wanted_fits : (name : Option (List ℕ)) (text : List ℕ) (room : ℕ) → IfSome name (FitsIn room) → All (NameFits room) (wanted_output name text)
+wanted_fits None text room fits = All-nil (NameFits room)
+wanted_fits (Some name) text room fits = All-cons (NameFits room) (record { name = name; bytes = text }) [] fits (All-nil (NameFits room))
 
-outputs_fit : (asked : Asked) (transcripts : List (List ℕ)) (journal : List ℕ) (room : ℕ) → All (FitsIn room) (map transcript_name asked.scripts) → IfSome asked.journal (FitsIn room) → All (NameFits room) (outputs_of asked transcripts journal)
-outputs_fit asked transcripts journal room of_transcripts of_journal =
-    All-append (NameFits room) (named_texts (map transcript_name asked.scripts) transcripts) (journal_output asked.journal journal) (named_fit (map transcript_name asked.scripts) transcripts room of_transcripts) (journal_fits asked.journal journal room of_journal)
+outputs_fit : (asked : Asked) (transcripts : List (List ℕ)) (journal report : List ℕ) (room : ℕ) → NamesFit asked room → All (NameFits room) (outputs_of asked transcripts journal report)
+outputs_fit asked transcripts journal report room fit =
+    let texts = named_texts (map transcript_name asked.scripts) transcripts in
+    All-append (NameFits room) (texts ++ wanted_output asked.journal journal) (wanted_output asked.report report)
+    (All-append (NameFits room) texts (wanted_output asked.journal journal) (named_fit (map transcript_name asked.scripts) transcripts room fit.transcripts) (wanted_fits asked.journal journal room fit.journal))
+    (wanted_fits asked.report report room fit.report)
+
+given_fit : (asked : Asked) (texts : List (List ℕ)) (done : Done) (outputs : List Named) (room : ℕ) → NamesFit asked room → GivesOutputs (Run asked) texts done outputs → All (NameFits room) outputs
+given_fit asked texts (Counted number) outputs room fit gives = absurd gives
+given_fit asked texts (Ran tally) outputs room fit gives = subst (All (NameFits room)) (sym gives.are) (outputs_fit asked _ _ gives.report room fit)
 
 -- `count` writes nothing
+none_given : (file : List ℕ) (texts : List (List ℕ)) (done : Done) (outputs : List Named) → GivesOutputs (Count file) texts done outputs → outputs ≡ []
+none_given file texts (Counted number) outputs gives = gives.none
+none_given file texts (Ran tally) outputs gives = absurd gives
+
 nothing_parts : (outputs first others : List Named) (output : Named) → outputs ≡ [] → outputs ≡ first ++ output ∷ others → ⊥
 nothing_parts outputs [] others output none parts = cc
 nothing_parts outputs (o ∷ first) others output none parts = cc
 
 count_write : (why : WriteRefused) (name : List ℕ) (file : List ℕ) (old new : ShelfState) → BreaksOff why name (Count file) old new → WriteHasRoom why name 0
-count_write writes.Failed name file old new breaks = absurd (nothing_parts breaks.outputs breaks.stops.0.first breaks.stops.0.others breaks.stops.0.output breaks.comes.gives.none breaks.stops.0.parts)
+count_write writes.Failed name file old new breaks = absurd (nothing_parts breaks.outputs breaks.stops.0.first breaks.stops.0.others breaks.stops.0.output (none_given file breaks.comes.texts breaks.done breaks.outputs breaks.comes.gives) breaks.stops.0.parts)
 count_write writes.Memory name file old new breaks = tt
 
 pub count_refusal : (r : CommandRefused) (file : List ℕ) (old new : ShelfState) → Outcome (Err r) (Count file) old new → RefusalHasRoom r 0
@@ -61,20 +70,19 @@ count_refusal (Output r) file old new outcome = count_write r.why r.name.now fil
 count_refusal (Input r) file old new outcome = tt
 count_refusal (Text r) file old new outcome = tt
 
-run_write : (why : WriteRefused) (name : List ℕ) (asked : Asked) (old new : ShelfState) (room : ℕ) → BreaksOff why name (Run asked) old new → All (FitsIn room) (map transcript_name asked.scripts) → IfSome asked.journal (FitsIn room) → WriteHasRoom why name room
-run_write writes.Failed name asked old new room breaks of_transcripts of_journal =
+run_write : (why : WriteRefused) (name : List ℕ) (asked : Asked) (old new : ShelfState) (room : ℕ) → BreaksOff why name (Run asked) old new → NamesFit asked room → WriteHasRoom why name room
+run_write writes.Failed name asked old new room breaks fit =
     let at = breaks.stops.0 in
     subst (λ (n : List ℕ). FitsIn room n) (sym at.named)
-    (one_fits _ at.first at.others at.output room (outputs_fit asked _ _ room of_transcripts of_journal) (sym breaks.comes.gives.are ∙ at.parts))
-run_write writes.Memory name asked old new room breaks of_transcripts of_journal = tt
+    (one_fits breaks.outputs at.first at.others at.output room (given_fit asked breaks.comes.texts breaks.done breaks.outputs room fit breaks.comes.gives) at.parts)
+run_write writes.Memory name asked old new room breaks fit = tt
 
-run_refusal : (r : CommandRefused) (asked : Asked) (old new : ShelfState) (room : ℕ) → Outcome (Err r) (Run asked) old new → All (FitsIn room) (map transcript_name asked.scripts) → IfSome asked.journal (FitsIn room) → RefusalHasRoom r room
-run_refusal (Output r) asked old new room outcome of_transcripts of_journal = run_write r.why r.name.now asked old new room outcome of_transcripts of_journal
-run_refusal (Input r) asked old new room outcome of_transcripts of_journal = tt
-run_refusal (Text r) asked old new room outcome of_transcripts of_journal = tt
+run_refusal : (r : CommandRefused) (asked : Asked) (old new : ShelfState) (room : ℕ) → Outcome (Err r) (Run asked) old new → NamesFit asked room → RefusalHasRoom r room
+run_refusal (Output r) asked old new room outcome fit = run_write r.why r.name.now asked old new room outcome fit
+run_refusal (Input r) asked old new room outcome fit = tt
+run_refusal (Text r) asked old new room outcome fit = tt
 
-pub run_has_room : (e : Ending) (asked : Asked) (old new : ShelfState) (room : ℕ) → CommandEnds e (Run asked) old new → All (FitsIn room) (map transcript_name asked.scripts) → IfSome asked.journal (FitsIn room) → HasLineRoom e room
-run_has_room (Counted number) asked old new room ends of_transcripts of_journal = tt
-run_has_room (Ran number) asked old new room ends of_transcripts of_journal = tt
-run_has_room Usage asked old new room ends of_transcripts of_journal = tt
-run_has_room (Refused r) asked old new room ends of_transcripts of_journal = run_refusal r asked old new room ends of_transcripts of_journal
+pub run_has_room : (e : Ending) (asked : Asked) (old new : ShelfState) (room : ℕ) → CommandEnds e (Run asked) old new → NamesFit asked room → HasLineRoom e room
+run_has_room (Completed done) asked old new room ends fit = tt
+run_has_room Usage asked old new room ends fit = tt
+run_has_room (Refused r) asked old new room ends fit = run_refusal r asked old new room ends fit

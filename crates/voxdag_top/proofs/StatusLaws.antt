@@ -12,12 +12,11 @@ use Rattle.vw_io.specs.declared.shelves.WriteRefused.TheVariants as writes
 use Rattle.script_files.specs.declared.refusals.CommandRefused.TheVariants.{Input, Text, Output}
 use Rattle.script_files.specs.declared.refusals.TextRefused.TheVariants.{Vox, Script, Collides, Memory}
 use Rattle.script_files.specs.declared.requests.Request.{Request}
-use Rattle.script_files.specs.declared.requests.Request.TheVariants.{Count, Run}
 use Rattle.script_files.specs.Requests.{inputs_of}
 use Rattle.script_files.specs.Outcomes.{BreaksOff}
 use Rattle.voxdag_top.specs.declared.endings.Ending.{Ending}
-use Rattle.voxdag_top.specs.declared.endings.Ending.TheVariants.{Counted, Ran, Usage, Refused}
-use Rattle.voxdag_top.specs.Lines.{run_line, Puts, PutsBeginning, memory_line, input_line, output_line}
+use Rattle.voxdag_top.specs.declared.endings.Ending.TheVariants.{Completed, Usage, Refused}
+use Rattle.voxdag_top.specs.Lines.{Puts, PutsBeginning, memory_line, input_line, output_line}
 use Rattle.voxdag_top.specs.Endings.{EndsAs, ending_line, status_of, input_status, output_status, MayLackLine, WriteMayLackLine}
 use Rattle.voxdag_top.specs.Finishing.{Finishes, Runs, put, failed, lacking}
 use Rattle.voxdag_top.specs.Statuses.{IsOr, is_status, Finished, Unusable, Missed, Faulted, VoxRefused, ScriptRefused, WriteFailed, OutFailed, LacksMemory, Exceeded}
@@ -84,11 +83,7 @@ not_output writes.Memory k is other = false≢true (sym (subst (λ (n : ℕ). li
 -- status 0
 done_at : (a : Option Request) (e : Ending) (old new : Outside) → EndsAs a e old.shelf new.shelf → status_of e ≡ 0 → Puts old.out.told new.out.told (ending_line e) → Finished a old new
 done_at None e old new ends is puts = absurd (let usage = usage_status e ends.0 in omega (arith, is, usage))
-done_at (Some (Count file)) (Counted number) old new ends is puts = record { number = number; done = ends.1; line = puts }
-done_at (Some (Run asked)) (Counted number) old new ends is puts = absurd ends.0
-done_at (Some (Count file)) (Ran number) old new ends is puts = absurd ends.0
-done_at (Some (Run asked)) (Ran tally) old new ends is puts =
-    record { number = tally.records; done = ends.1; line = subst (λ (n : ℕ). Puts old.out.told new.out.told (run_line n tally.records)) ends.0 puts }
+done_at (Some a) (Completed done) old new ends is puts = record { done = done; completes = ends; line = puts }
 done_at (Some a) Usage old new ends is puts = absurd ends
 done_at (Some a) (Refused (Input r)) old new ends is puts = absurd (not_input r.why 0 is refl)
 done_at (Some a) (Refused (Text (Vox fault))) old new ends is puts = absurd (omega arith)
@@ -100,8 +95,7 @@ done_at (Some a) (Refused (Text Memory)) old new ends is puts = absurd (omega ar
 -- status 1
 usage_at : (a : Option Request) (e : Ending) (old new : Outside) → EndsAs a e old.shelf new.shelf → status_of e ≡ 1 → Puts old.out.told new.out.told (ending_line e) → Unusable a old new
 usage_at None e old new ends is puts = record { cause = tt; unchanged = ends.1; line = subst (λ (x : Ending). Puts old.out.told new.out.told (ending_line x)) ends.0 puts }
-usage_at (Some a) (Counted number) old new ends is puts = absurd (omega arith)
-usage_at (Some a) (Ran number) old new ends is puts = absurd (omega arith)
+usage_at (Some a) (Completed done) old new ends is puts = absurd (omega arith)
 usage_at (Some a) Usage old new ends is puts = absurd ends
 usage_at (Some a) (Refused (Input r)) old new ends is puts = absurd (not_input r.why 1 is refl)
 usage_at (Some a) (Refused (Text (Vox fault))) old new ends is puts = absurd (omega arith)
@@ -113,8 +107,7 @@ usage_at (Some a) (Refused (Text Memory)) old new ends is puts = absurd (omega a
 -- status 2
 missing_at : (a : Option Request) (e : Ending) (old new : Outside) → EndsAs a e old.shelf new.shelf → status_of e ≡ 2 → Puts old.out.told new.out.told (ending_line e) → Missed a old new
 missing_at None e old new ends is puts = absurd (let usage = usage_status e ends.0 in omega (arith, is, usage))
-missing_at (Some a) (Counted number) old new ends is puts = absurd (omega arith)
-missing_at (Some a) (Ran number) old new ends is puts = absurd (omega arith)
+missing_at (Some a) (Completed done) old new ends is puts = absurd (omega arith)
 missing_at (Some a) Usage old new ends is puts = absurd ends
 missing_at (Some a) (Refused (Input r)) old new ends is puts =
     let which : r.why ≡ reads.Missing = is_missing r.why is in
@@ -133,8 +126,7 @@ missing_at (Some a) (Refused (Text Memory)) old new ends is puts = absurd (omega
 -- status 3
 read_fault_at : (a : Option Request) (e : Ending) (old new : Outside) → EndsAs a e old.shelf new.shelf → status_of e ≡ 3 → Puts old.out.told new.out.told (ending_line e) → Faulted a old new
 read_fault_at None e old new ends is puts = absurd (let usage = usage_status e ends.0 in omega (arith, is, usage))
-read_fault_at (Some a) (Counted number) old new ends is puts = absurd (omega arith)
-read_fault_at (Some a) (Ran number) old new ends is puts = absurd (omega arith)
+read_fault_at (Some a) (Completed done) old new ends is puts = absurd (omega arith)
 read_fault_at (Some a) Usage old new ends is puts = absurd ends
 read_fault_at (Some a) (Refused (Input r)) old new ends is puts =
     let which : r.why ≡ reads.Failed = is_read_fault r.why is in
@@ -153,8 +145,7 @@ read_fault_at (Some a) (Refused (Text Memory)) old new ends is puts = absurd (om
 -- status 9
 too_long_at : (a : Option Request) (e : Ending) (old new : Outside) → EndsAs a e old.shelf new.shelf → status_of e ≡ 9 → Puts old.out.told new.out.told (ending_line e) → Exceeded a old new
 too_long_at None e old new ends is puts = absurd (let usage = usage_status e ends.0 in omega (arith, is, usage))
-too_long_at (Some a) (Counted number) old new ends is puts = absurd (omega arith)
-too_long_at (Some a) (Ran number) old new ends is puts = absurd (omega arith)
+too_long_at (Some a) (Completed done) old new ends is puts = absurd (omega arith)
 too_long_at (Some a) Usage old new ends is puts = absurd ends
 too_long_at (Some a) (Refused (Input r)) old new ends is puts =
     let which : r.why ≡ reads.TooLong = is_too_long r.why is in
@@ -173,8 +164,7 @@ too_long_at (Some a) (Refused (Text Memory)) old new ends is puts = absurd (omeg
 -- status 4
 vox_refused_at : (a : Option Request) (e : Ending) (old new : Outside) → EndsAs a e old.shelf new.shelf → status_of e ≡ 4 → Puts old.out.told new.out.told (ending_line e) → VoxRefused a old new
 vox_refused_at None e old new ends is puts = absurd (let usage = usage_status e ends.0 in omega (arith, is, usage))
-vox_refused_at (Some a) (Counted number) old new ends is puts = absurd (omega arith)
-vox_refused_at (Some a) (Ran number) old new ends is puts = absurd (omega arith)
+vox_refused_at (Some a) (Completed done) old new ends is puts = absurd (omega arith)
 vox_refused_at (Some a) Usage old new ends is puts = absurd ends
 vox_refused_at (Some a) (Refused (Input r)) old new ends is puts = absurd (not_input r.why 4 is refl)
 vox_refused_at (Some a) (Refused (Text (Vox fault))) old new ends is puts = record { fault = fault; refuses = ends.0; unchanged = ends.1; line = puts }
@@ -186,8 +176,7 @@ vox_refused_at (Some a) (Refused (Text Memory)) old new ends is puts = absurd (o
 -- status 5
 script_refused_at : (a : Option Request) (e : Ending) (old new : Outside) → EndsAs a e old.shelf new.shelf → status_of e ≡ 5 → Puts old.out.told new.out.told (ending_line e) → ScriptRefused a old new
 script_refused_at None e old new ends is puts = absurd (let usage = usage_status e ends.0 in omega (arith, is, usage))
-script_refused_at (Some a) (Counted number) old new ends is puts = absurd (omega arith)
-script_refused_at (Some a) (Ran number) old new ends is puts = absurd (omega arith)
+script_refused_at (Some a) (Completed done) old new ends is puts = absurd (omega arith)
 script_refused_at (Some a) Usage old new ends is puts = absurd ends
 script_refused_at (Some a) (Refused (Input r)) old new ends is puts = absurd (not_input r.why 5 is refl)
 script_refused_at (Some a) (Refused (Text (Vox fault))) old new ends is puts = absurd (omega arith)
@@ -199,8 +188,7 @@ script_refused_at (Some a) (Refused (Text Memory)) old new ends is puts = absurd
 -- status 6
 write_fault_at : (a : Option Request) (e : Ending) (old new : Outside) → EndsAs a e old.shelf new.shelf → status_of e ≡ 6 → Puts old.out.told new.out.told (ending_line e) → WriteFailed a old new
 write_fault_at None e old new ends is puts = absurd (let usage = usage_status e ends.0 in omega (arith, is, usage))
-write_fault_at (Some a) (Counted number) old new ends is puts = absurd (omega arith)
-write_fault_at (Some a) (Ran number) old new ends is puts = absurd (omega arith)
+write_fault_at (Some a) (Completed done) old new ends is puts = absurd (omega arith)
 write_fault_at (Some a) Usage old new ends is puts = absurd ends
 write_fault_at (Some a) (Refused (Input r)) old new ends is puts = absurd (not_input r.why 6 is refl)
 write_fault_at (Some a) (Refused (Text (Vox fault))) old new ends is puts = absurd (omega arith)
@@ -217,8 +205,7 @@ write_fault_at (Some a) (Refused (Text Memory)) old new ends is puts = absurd (o
 
 -- ---- statuses 7 and 8 come with the put alone, or, 8, with want of memory before it
 not_seven : (e : Ending) → status_of e ≡ 7 → ⊥
-not_seven (Counted number) is = omega arith
-not_seven (Ran number) is = omega arith
+not_seven (Completed done) is = omega arith
 not_seven Usage is = omega arith
 not_seven (Refused (Input r)) is = not_input r.why 7 is refl
 not_seven (Refused (Output r)) is = not_output r.why 7 is refl
@@ -241,8 +228,7 @@ memory_line_of : (e : Ending) → status_of e ≡ 8 → MayLackLine e × (ending
 memory_line_of (Refused (Text Memory)) is = (tt, refl)
 memory_line_of (Refused (Input r)) is = (tt, input_lacks r.why r.name.now is)
 memory_line_of (Refused (Output r)) is = output_lacks r.why r.name.now is
-memory_line_of (Counted number) is = absurd (omega arith)
-memory_line_of (Ran number) is = absurd (omega arith)
+memory_line_of (Completed done) is = absurd (omega arith)
 memory_line_of Usage is = absurd (omega arith)
 memory_line_of (Refused (Text (Vox fault))) is = absurd (omega arith)
 memory_line_of (Refused (Text (Script at))) is = absurd (omega arith)
@@ -277,8 +263,7 @@ known_output writes.Failed = refl
 known_output writes.Memory = refl
 
 known_ending : (e : Ending) → IsTrue (is_status (status_of e))
-known_ending (Counted number) = refl
-known_ending (Ran number) = refl
+known_ending (Completed done) = refl
 known_ending Usage = refl
 known_ending (Refused (Input r)) = known_input r.why
 known_ending (Refused (Output r)) = known_output r.why

@@ -1,5 +1,5 @@
 -- How the program ends, what stands behind each ending, its status and its line.
-use Rattle.std.specs.Prelude.{◌≡◌, ℕ, List, length, Option, Some, None, Ok, Err, ⊤}
+use Rattle.std.specs.Prelude.{◌≡◌, ℕ, List, Option, Some, None, Ok, Err, ⊤}
 use Rattle.vw_io.specs.Outside.{ShelfState}
 use Rattle.vw_io.specs.declared.shelves.ReadRefused.{ReadRefused}
 use Rattle.vw_io.specs.declared.shelves.ReadRefused.TheVariants as reads
@@ -12,25 +12,14 @@ use Rattle.script_files.specs.declared.refusals.CommandRefused.TheVariants.{Inpu
 use Rattle.script_files.specs.declared.refusals.TextRefused.{TextRefused}
 use Rattle.script_files.specs.declared.refusals.TextRefused.TheVariants.{Vox, Script, Collides, Memory}
 use Rattle.script_files.specs.declared.requests.Request.{Request}
-use Rattle.script_files.specs.declared.requests.Request.TheVariants.{Count, Run}
 use Rattle.script_files.specs.Outcomes.{Outcome}
 use Rattle.voxdag_top.specs.declared.endings.Ending.{Ending}
-use Rattle.voxdag_top.specs.declared.endings.Ending.TheVariants.{Counted, Ran, Usage, Refused}
-use Rattle.voxdag_top.specs.Lines.{count_line, run_line, usage_line, vox_line, script_line, input_line, output_line, memory_line}
-
-abbrev pub IsCount : Request → Type 0
-IsCount (Count file) = ⊤
-IsCount (Run asked) = ⊥
-
--- a run of so many scripts
-abbrev pub IsRunOf : ℕ → Request → Type 0
-IsRunOf scripts (Count file) = ⊥
-IsRunOf scripts (Run asked) = scripts ≡ length asked.scripts
+use Rattle.voxdag_top.specs.declared.endings.Ending.TheVariants.{Completed, Usage, Refused}
+use Rattle.voxdag_top.specs.Lines.{done_line, usage_line, vox_line, script_line, input_line, output_line, memory_line}
 
 -- an ending of a command
 abbrev pub CommandEnds : Ending → Request → ShelfState → ShelfState → Type 0
-CommandEnds (Counted number) a old new = IsCount a × Outcome (Ok number) a old new
-CommandEnds (Ran tally) a old new = IsRunOf tally.scripts a × Outcome (Ok tally.records) a old new
+CommandEnds (Completed done) a old new = Outcome (Ok done) a old new
 CommandEnds Usage a old new = ⊥
 CommandEnds (Refused r) a old new = Outcome (Err r) a old new
 
@@ -61,8 +50,7 @@ refused_status (Text r) = text_status r
 refused_status (Output r) = output_status r.why
 
 abbrev pub status_of : Ending → ℕ
-status_of (Counted number) = 0
-status_of (Ran tally) = 0
+status_of (Completed done) = 0
 status_of Usage = 1
 status_of (Refused r) = refused_status r
 
@@ -78,8 +66,7 @@ refused_line (Text r) = text_line r
 refused_line (Output r) = output_line r.why r.name.now
 
 abbrev pub ending_line : Ending → List ℕ
-ending_line (Counted number) = count_line number
-ending_line (Ran tally) = run_line tally.scripts tally.records
+ending_line (Completed done) = done_line done
 ending_line Usage = usage_line
 ending_line (Refused r) = refused_line r
 

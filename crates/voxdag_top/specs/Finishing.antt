@@ -1,11 +1,13 @@
 -- A line is put, and the status follows.
-use Rattle.std.specs.Prelude.{◌≡◌, ◌⊎◌, ◌≤◌, ℕ, List, length, Option, ⊤}
+use Rattle.std.specs.Prelude.{◌≡◌, ◌⊎◌, ◌≤◌, ℕ, List, length, map, All, IfSome, Option, ⊤}
 use Rattle.vw_io.specs.Outside.{Rose, SinkState, Outside}
 use Rattle.vw_io.specs.declared.shelves.WriteRefused.{WriteRefused}
 use Rattle.vw_io.specs.declared.shelves.WriteRefused.TheVariants as writes
 use Rattle.script_files.specs.declared.refusals.CommandRefused.{CommandRefused}
 use Rattle.script_files.specs.declared.refusals.CommandRefused.TheVariants.{Input, Text, Output}
 use Rattle.script_files.specs.declared.requests.Request.{Request}
+use Rattle.script_files.specs.Orders.{Asked}
+use Rattle.script_files.specs.Requests.{transcript_name}
 use Rattle.voxdag_top.specs.declared.endings.Ending.{Ending}
 use Rattle.voxdag_top.specs.declared.endings.Ending.TheVariants.{Refused}
 use Rattle.voxdag_top.specs.Endings.{EndsAs, ending_line, status_of, MayLackLine}
@@ -32,9 +34,19 @@ pub record Runs (a : Option Request) (old new : Outside) (result : ℕ) : Type 0
   pub ends : EndsAs a ending old.shelf new.shelf
   pub finish : Finishes ending old.out new.out result
 
+-- the line of a fault at this output fits in so many bytes
+abbrev pub FitsIn : ℕ → List ℕ → Type 0
+FitsIn room name = length (write_fault_line name) ≤ room
+
+-- so does that of each output of a run
+pub record NamesFit (asked : Asked) (room : ℕ) : Type 0 where
+  pub transcripts : All (FitsIn room) (map transcript_name asked.scripts)
+  pub journal : IfSome asked.journal (FitsIn room)
+  pub report : IfSome asked.report (FitsIn room)
+
 -- room of so many bytes is enough for the ending's line, where that line must be made
 abbrev pub WriteHasRoom : WriteRefused → List ℕ → ℕ → Type 0
-WriteHasRoom writes.Failed name room = length (write_fault_line name) ≤ room
+WriteHasRoom writes.Failed name room = FitsIn room name
 WriteHasRoom writes.Memory name room = ⊤
 
 abbrev pub RefusalHasRoom : CommandRefused → ℕ → Type 0

@@ -1,22 +1,24 @@
 -- The line that each ending puts on the output.
-use Rattle.std.specs.Prelude.{◌≡◌, ℕ, List, ◌++◌, length, Option, Some, None, codes}
+use Rattle.std.specs.Prelude.{◌≡◌, ℕ, List, ◌++◌, Option, Some, None, codes}
 use Rattle.std.specs.Fmt.{decimal}
 use Rattle.vw_io.specs.Put.{AppendsPrefix}
 use Rattle.vw_io.specs.declared.shelves.ReadRefused.{ReadRefused}
 use Rattle.vw_io.specs.declared.shelves.ReadRefused.TheVariants as reads
 use Rattle.vw_io.specs.declared.shelves.WriteRefused.{WriteRefused}
 use Rattle.vw_io.specs.declared.shelves.WriteRefused.TheVariants as writes
-use Rattle.script_files.specs.declared.requests.Request.{Request}
-use Rattle.script_files.specs.declared.requests.Request.TheVariants.{Count, Run}
+use Rattle.script_files.specs.declared.tallies.Done.{Done}
+use Rattle.script_files.specs.declared.tallies.Done.TheVariants.{Counted, Ran}
+use Rattle.script_files.specs.declared.tallies.Tally.{Tally}
 
 abbrev pub count_line : ℕ → List ℕ
 count_line n = decimal n ++ codes "\n"
 
--- so many scripts were run: the number of their records, and no marks
-abbrev pub run_line : ℕ → ℕ → List ℕ
-run_line scripts records =
-    codes "scripts " ++ (decimal scripts ++ (codes " records " ++ (decimal records
-    ++ codes " marks 0\n")))
+-- the numbers of a run
+abbrev pub run_line : Tally → List ℕ
+run_line t =
+    codes "scripts " ++ (decimal t.scripts ++ (codes " records " ++ (decimal t.records
+    ++ (codes " marks " ++ (decimal t.marks ++ (codes " nodes " ++ (decimal t.nodes
+    ++ codes "\n")))))))
 
 abbrev pub usage_line : List ℕ
 usage_line = codes "voxdag: usage\n"
@@ -58,9 +60,9 @@ output_line writes.Failed name = write_fault_line name
 output_line writes.Memory name = memory_line
 
 -- the line of a command that came to its end
-abbrev pub done_line : Request → ℕ → List ℕ
-done_line (Count file) number = count_line number
-done_line (Run asked) number = run_line (length asked.scripts) number
+abbrev pub done_line : Done → List ℕ
+done_line (Counted number) = count_line number
+done_line (Ran tally) = run_line tally
 
 -- the line was appended to what was put before, where the output tells that
 abbrev pub Puts : Option (List ℕ) → Option (List ℕ) → List ℕ → Type 0

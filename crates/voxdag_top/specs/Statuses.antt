@@ -12,6 +12,7 @@ use Rattle.script.specs.Faults.{number_of_kind}
 use Rattle.script_files.specs.declared.refusals.NumberedFault.{NumberedFault}
 use Rattle.script_files.specs.declared.refusals.TextRefused.{TextRefused}
 use Rattle.script_files.specs.declared.refusals.TextRefused.TheVariants as texts
+use Rattle.script_files.specs.declared.tallies.Done.{Done}
 use Rattle.script_files.specs.declared.requests.Request.{Request}
 use Rattle.script_files.specs.Requests.{inputs_of}
 use Rattle.script_files.specs.Outcomes as outcomes
@@ -27,12 +28,12 @@ is_status n =
 abbrev pub IsOr : ℕ → ℕ → Type 0
 IsOr status result = (result ≡ status) ⊎ (result ≡ 7) ⊎ (result ≡ 8)
 
--- ---- status 0: the command came to its end, and its number was put
+-- ---- status 0: the command came to its end, and its line was put
 
 pub record CommandDone (a : Request) (old new : Outside) : Type 0 where
-  pub number : ℕ
-  pub done : outcomes.Completes number a old.shelf new.shelf
-  pub line : Puts old.out.told new.out.told (done_line a number)
+  pub done : Done
+  pub completes : outcomes.Completes done a old.shelf new.shelf
+  pub line : Puts old.out.told new.out.told (done_line done)
 
 abbrev pub Finished : Option Request → Outside → Outside → Type 0
 Finished None old new = ⊥

@@ -31,9 +31,9 @@ number_told (Err kind) = None
 abbrev pub short_number : List ℕ → Option ℕ
 short_number word = if nat_le (length word) 6 then number_told (number_of word) else None
 
--- the exponent of a side from 4 to 256
+-- the exponent of a side from 4 to 4,096
 abbrev pub exponent_of : ℕ → Option ℕ
-exponent_of n = find (λ e. 2 ^ e == n) (2 ∷ 3 ∷ 4 ∷ 5 ∷ 6 ∷ 7 ∷ 8 ∷ [])
+exponent_of n = find (λ e. 2 ^ e == n) (2 ∷ 3 ∷ 4 ∷ 5 ∷ 6 ∷ 7 ∷ 8 ∷ 9 ∷ 10 ∷ 11 ∷ 12 ∷ [])
 
 -- a plan with as many buckets on each level, or with the usual ones, where the numbers are in their
 -- ranges
@@ -54,11 +54,18 @@ abbrev pub are_scripts : List (List ℕ) → Bool
 are_scripts words = is_number_of_scripts (length words) && list_all is_operand words
 
 -- `FILE SCRIPT ..`, the last words
-abbrev pub run_names : Layout → Option (List ℕ) → List (List ℕ) → Option Request
-run_names plan journal [] = None
-run_names plan journal (file ∷ scripts) =
+abbrev pub run_names : Layout → Option (List ℕ) → Option (List ℕ) → List (List ℕ)
+    → Option Request
+run_names plan journal report [] = None
+run_names plan journal report (file ∷ scripts) =
     if is_operand file && are_scripts scripts
-    then Some (Run (record { plan = plan; journal = journal; file = file; scripts = scripts }))
+    then Some (Run (record {
+      plan = plan;
+      journal = journal;
+      report = report;
+      file = file;
+      scripts = scripts;
+    }))
     else None
 
 -- the value of an option that stands first, and the words behind it
@@ -67,11 +74,21 @@ option_value option (word ∷ value ∷ others) =
     if bytes_eq word option && is_operand value then Some (value, others) else None
 option_value option _ = None
 
+-- `--report P` may be left out
+abbrev pub named_report : Layout → Option (List ℕ) → List (List ℕ)
+    → Option (List ℕ × List (List ℕ)) → Option Request
+named_report plan journal words None = run_names plan journal None words
+named_report plan journal words (Some found) = run_names plan journal (Some found.0) found.1
+
+abbrev pub behind_journal : Layout → Option (List ℕ) → List (List ℕ) → Option Request
+behind_journal plan journal words =
+    named_report plan journal words (option_value (codes "--report") words)
+
 -- `--journal J` may be left out
 abbrev pub named_journal : Layout → List (List ℕ) → Option (List ℕ × List (List ℕ))
     → Option Request
-named_journal plan words None = run_names plan None words
-named_journal plan words (Some found) = run_names plan (Some found.0) found.1
+named_journal plan words None = behind_journal plan None words
+named_journal plan words (Some found) = behind_journal plan (Some found.0) found.1
 
 abbrev pub behind_plan : Option Layout → List (List ℕ) → Option Request
 behind_plan None words = None
@@ -117,8 +134,8 @@ abbrev pub run_words : List (List ℕ) → Option Request
 run_words words = named_side words (option_value (codes "--side") words)
 
 -- what the words ask for, where they are in the grammar: `count FILE`, or `run`, then at most one
--- pair each of `--side s`, `--buckets b`, `--cap c` and `--journal J` in this order, then
--- `FILE SCRIPT ..`
+-- pair each of `--side s`, `--buckets b`, `--cap c`, `--journal J` and `--report P` in this order,
+-- then `FILE SCRIPT ..`
 abbrev pub request_of : List (List ℕ) → Option Request
 request_of [] = None
 request_of (command ∷ others) =

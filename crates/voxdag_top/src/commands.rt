@@ -5,12 +5,12 @@ ghost use Rattle.script_files.specs.Requests.{transcript_name};
 ghost use Rattle.script_files.specs.Verdicts.{Verdict};
 ghost use Rattle.voxdag_top.specs.Words.{texts, request_of};
 ghost use Rattle.voxdag_top.specs.Endings.{CommandEnds};
-ghost use Rattle.voxdag_top.specs.Finishing.{Runs, HasLineRoom};
+ghost use Rattle.voxdag_top.specs.Finishing.{Runs, NamesFit, HasLineRoom};
 ghost use Rattle.voxdag_top.specs.Verdicts.{JudgesWords, status_for};
 ghost use Rattle.voxdag_top.specs.Statuses.{IsOr, is_status, Finished, Unusable, Missed, Faulted, VoxRefused, ScriptRefused, WriteFailed, OutFailed, LacksMemory, Exceeded};
 ghost use Rattle.voxdag_top.specs.Lines.{write_fault_line};
 
-use crate::endings::{Ending, Tally};
+use crate::endings::Ending;
 use crate::lines::{finish, write_fault_room};
 use crate::words::read_words;
 use script_files::{
@@ -22,11 +22,12 @@ use vw_io::{Shelf, Sink};
 /// The program: does what the words after the program's name ask for, and puts one line on `out`.
 ///
 /// `count FILE` puts the number of cells of the file's models. `run`, then each of `--side s`,
-/// `--buckets b`, `--cap c` and `--journal J` or nothing, in this order, then `FILE SCRIPT ..` runs
-/// 1 to 64 scripts one after another over a world of that side, 4 to 256 and 256 where it is not
-/// given, with the models of the file; it writes each transcript as `SCRIPT.out` and the journal as
-/// `J`, and puts the numbers of scripts and records. A store has `b` buckets of `c` slots on each
-/// level, 1 to 4,096 and 1 to 256. A VOX file has at most 256 MiB, a script 8 MiB.
+/// `--buckets b`, `--cap c`, `--journal J` and `--report P` or nothing, in this order, then
+/// `FILE SCRIPT ..` runs 1 to 64 scripts one after another over a world of that side, 4 to 4,096
+/// and 256 where it is not given, with the models of the file; it writes each transcript as
+/// `SCRIPT.out`, the journal as `J` and the report as `P`, and puts the numbers of scripts, records,
+/// marks and live nodes. The store has `b` buckets of `c` slots on each level, 1 to 4,096 and 1 to
+/// 256. A VOX file has at most 256 MiB, a script 8 MiB.
 ///
 /// The answer is the status with which the process ends: 0 done, 1 words outside the grammar or
 /// names that collide, 2 an input that is not there, 3 a fault of the shelf at an input, 4 a VOX
@@ -107,7 +108,7 @@ fn counted<'w, S: Shelf>(alloc: Global, file: FileName<'w>, shelf: &mut S) -> En
     ensures room { HasLineRoom result 0 }
 {
     match count_file(alloc, file, shelf) {
-        Ok(cells) => Ending::Counted(cells),
+        Ok(counted) => Ending::Completed(counted),
         Err(refused) => Ending::Refused(refused),
     }
 }
@@ -122,10 +123,7 @@ fn run<S: Shelf, O: Sink>(alloc: Global, order: &Order<'_>, shelf: &mut S, out: 
 {
     let lacking = Ending::Refused(CommandRefused::Text(TextRefused::Memory));
     match transcript_names(alloc, order.scripts) {
-        Ok(names) => match String::with_capacity(
-            alloc,
-            write_fault_room(names.as_slice(), order.journal),
-        ) {
+        Ok(names) => match String::with_capacity(alloc, write_fault_room(order, names.as_slice())) {
             Ok(room) => run_named(alloc, order, names.as_slice(), room, shelf, out),
             Err(_) => finish(alloc, &lacking, String::new(alloc), out),
         },
@@ -145,10 +143,7 @@ fn run_named<S: Shelf, O: Sink>(
     requires few { length order.now.scripts ≤ 64 }
     requires named { map string_bytes transcripts.now ≡ map transcript_name order.now.scripts }
     requires empty { string_bytes room ≡ [] }
-    requires transcripts { All (λ name. length (write_fault_line name) ≤ string_capacity room)
-        (map string_bytes transcripts.now) }
-    requires journal { IfSome order.now.journal
-        (λ name. length (write_fault_line name) ≤ string_capacity room) }
+    requires fits { NamesFit order.now (string_capacity room) }
     ensures { Runs (Some (Run order.now))
         (outside (S.state shelf.old) (O.state out.old))
         (outside (S.state shelf.new) (O.state out.new)) result }
@@ -156,6 +151,7 @@ fn run_named<S: Shelf, O: Sink>(
     let asked = Order {
         plan: order.plan,
         journal: order.journal,
+        report: order.report,
         file: order.file,
         scripts: order.scripts,
     };
@@ -174,10 +170,7 @@ fn ran<'w, S: Shelf>(
     ensures { CommandEnds result (Run order.now) (S.state shelf.old) (S.state shelf.new) }
 {
     match run_files(alloc, order, transcripts, shelf) {
-        Ok(records) => Ending::Ran(Tally {
-            scripts: order.scripts.len() as u16,
-            records,
-        }),
+        Ok(done) => Ending::Completed(done),
         Err(refused) => Ending::Refused(refused),
     }
 }

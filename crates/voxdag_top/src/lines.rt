@@ -1,11 +1,12 @@
-ghost use Rattle.std.specs.Prelude.{◌≡◌, ◌≤◌, [], All, length, map, codes, IfOk, IsOkAnd, IfSome, OnErr, string_bytes, string_capacity};
+ghost use Rattle.std.specs.Prelude.{◌≡◌, ◌≤◌, ◌<◌, ◌^◌, [], All, length, map, codes, IfOk, IsOkAnd, IfSome, OnErr, string_bytes, string_capacity};
 ghost use Rattle.script.specs.Faults.{number_of_kind};
-ghost use Rattle.voxdag_top.specs.Lines.{run_line, script_line, input_line, output_line, write_fault_line};
+ghost use Rattle.voxdag_top.specs.Lines.{done_line, run_line, script_line, input_line, output_line, write_fault_line};
 ghost use Rattle.voxdag_top.specs.Endings.{ending_line, refused_line, text_line, status_of, refused_status, MayLackLine, RefusalMayLackLine, WriteMayLackLine};
-ghost use Rattle.voxdag_top.specs.Finishing.{PutEnds, Finishes, HasLineRoom, RefusalHasRoom, WriteHasRoom};
+ghost use Rattle.script_files.specs.Requests.{transcript_name};
+ghost use Rattle.voxdag_top.specs.Finishing.{PutEnds, Finishes, NamesFit, HasLineRoom, RefusalHasRoom, WriteHasRoom};
 
-use crate::endings::{Ending, Tally};
-use script_files::{CommandRefused, NumberedFault, TextRefused};
+use crate::endings::Ending;
+use script_files::{CommandRefused, Done, NumberedFault, Order, Tally, TextRefused};
 use std::alloc::{AllocError, Global};
 use vw_io::{InputRefused, OutputRefused, PutRefused, ReadRefused, Sink, WriteRefused};
 
@@ -35,7 +36,7 @@ fn status(ending: &Ending<'_>) -> u8
     ensures { result ≡ status_of ending.now }
 {
     match ending {
-        Ending::Counted(_) | Ending::Ran(_) => 0,
+        Ending::Completed(_) => 0,
         Ending::Usage => 1,
         Ending::Refused(refused) => refused_status(refused),
     }
@@ -71,19 +72,29 @@ fn line(alloc: Global, ending: &Ending<'_>, room: String) -> Result<String, Allo
     ensures lacking { OnErr result (MayLackLine ending.now) }
 {
     match ending {
-        Ending::Counted(cells) => format!(in alloc; "{cells}\n"),
-        Ending::Ran(tally) => run_line(alloc, *tally),
+        Ending::Completed(done) => done_line(alloc, *done),
         Ending::Usage => format!(in alloc; "voxdag: usage\n"),
         Ending::Refused(refused) => refused_line(alloc, refused, room),
     }
 }
 
+fn done_line(alloc: Global, done: Done) -> Result<String, AllocError>
+    ensures { IfOk result (λ text. string_bytes text ≡ done_line done) }
+{
+    match done {
+        Done::Counted(cells) => format!(in alloc; "{cells}\n"),
+        Done::Ran(tally) => run_line(alloc, tally),
+    }
+}
+
 fn run_line(alloc: Global, tally: Tally) -> Result<String, AllocError>
-    ensures { IfOk result (λ text. string_bytes text ≡ run_line tally.scripts tally.records) }
+    ensures { IfOk result (λ text. string_bytes text ≡ run_line tally) }
 {
     let scripts = tally.scripts;
     let records = tally.records;
-    format!(in alloc; "scripts {scripts} records {records} marks 0\n")
+    let marks = tally.marks;
+    let nodes = tally.nodes;
+    format!(in alloc; "scripts {scripts} records {records} marks {marks} nodes {nodes}\n")
 }
 
 fn refused_line(
@@ -171,18 +182,25 @@ fn write_fault_line(name: &str, room: String) -> Result<String, AllocError>
     Ok(line)
 }
 
-// The length of the longest line that tells a fault of an output.
-pub(crate) fn write_fault_room(transcripts: &[String], journal: Option<&str>) -> usize
-    ensures transcripts { All (λ name. length (write_fault_line name) ≤ result)
-        (map string_bytes transcripts.now) }
-    ensures journal { IfSome journal.entry (λ name. length (write_fault_line name.now) ≤ result) }
+// The length of the longest line that tells a fault of an output of this run.
+pub(crate) fn write_fault_room(order: &Order<'_>, transcripts: &[String]) -> usize
+    requires { map string_bytes transcripts.now ≡ map transcript_name order.now.scripts }
+    ensures { NamesFit order.now result }
 {
-    let mut longest = match journal {
-        None => 0,
-        Some(name) => name.len(),
-    };
+    let mut longest = name_length(order.journal).max(name_length(order.report));
     for transcript in transcripts {
         longest = longest.max(transcript.len());
     }
     longest + 21
+}
+
+// The length of the name of what is wanted.
+fn name_length(name: Option<&str>) -> usize
+    ensures all { IfSome name.entry (λ n. length n.now ≤ result) }
+    ensures small { result < 2 ^ 63 }
+{
+    match name {
+        None => 0,
+        Some(name) => name.len(),
+    }
 }

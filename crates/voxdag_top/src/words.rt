@@ -2,7 +2,7 @@ ghost use Rattle.std.specs.Prelude.{◌≡◌, ◌^◌, None, Some, MatchOption}
 ghost use Rattle.std.specs.Option.{option_map};
 ghost use Rattle.std.specs.Prelude.{ℕ, List, length};
 ghost use Rattle.std.specs.List.{list_all};
-ghost use Rattle.voxdag_top.specs.Words.{texts, exponent_of, request_of, counted, run_words, behind_side, behind_buckets, behind_plan, option_value, plan_for, run_names, are_scripts, is_number_of_scripts, short_number, side_of, is_operand};
+ghost use Rattle.voxdag_top.specs.Words.{texts, exponent_of, request_of, counted, run_words, behind_side, behind_buckets, behind_plan, behind_journal, option_value, plan_for, run_names, are_scripts, is_number_of_scripts, short_number, side_of, is_operand};
 
 use node_words::Plan;
 use script::number;
@@ -66,7 +66,7 @@ fn run_words(words: &[String]) -> Option<Request<'_>>
     ensures { result ≡ run_words (texts words.now) }
 {
     match option_value(words, "--side") {
-        None => behind_side(small_side(256), words),
+        None => behind_side(side_with(256), words),
         Some(found) => behind_side(side_of(found.word), found.others),
     }
 }
@@ -108,21 +108,42 @@ fn behind_plan(plan: Option<Plan>, words: &[String]) -> Option<Request<'_>>
         return None;
     };
     match option_value(words, "--journal") {
-        None => run_names(plan, None, words),
-        Some(found) => run_names(plan, Some(found.word), found.others),
+        None => behind_journal(plan, None, words),
+        Some(found) => behind_journal(plan, Some(found.word), found.others),
+    }
+}
+
+// The words behind the journal: the report may be left out.
+fn behind_journal<'w>(
+    plan: Plan,
+    journal: Option<&'w str>,
+    words: &'w [String],
+) -> Option<Request<'w>>
+    ensures { result ≡ behind_journal plan (option_map (λ name. name.now) journal.entry)
+        (texts words.now) }
+{
+    match option_value(words, "--report") {
+        None => run_names(plan, journal, None, words),
+        Some(found) => run_names(plan, journal, Some(found.word), found.others),
     }
 }
 
 // The names that end the words of `run`.
-fn run_names<'w>(plan: Plan, journal: Option<&'w str>, words: &'w [String]) -> Option<Request<'w>>
+fn run_names<'w>(
+    plan: Plan,
+    journal: Option<&'w str>,
+    report: Option<&'w str>,
+    words: &'w [String],
+) -> Option<Request<'w>>
     ensures { result ≡ run_names plan (option_map (λ name. name.now) journal.entry)
-        (texts words.now) }
+        (option_map (λ name. name.now) report.entry) (texts words.now) }
 {
     match words {
         [file, scripts @ ..] if is_name(file.as_str()) && are_scripts(scripts) => {
             Some(Request::Run(Order {
                 plan,
                 journal,
+                report,
                 file: file.as_str(),
                 scripts,
             }))
@@ -177,24 +198,20 @@ fn short_number(word: &str) -> Option<u32>
     number(word.as_bytes()).ok()
 }
 
-// The side that a word spells, from 4 to 256.
+// The side that a word spells.
 fn side_of(word: &str) -> Option<Side>
     ensures { result ≡ side_of (short_number word.now) }
 {
     match short_number(word) {
-        Some(n) => small_side(n),
+        Some(n) => side_with(n),
         None => None,
     }
 }
 
-// The side of this many cells, from 4 to 256.
-#[tactic(auto, using(crate::proofs::Sides::large))]
-fn small_side(n: u32) -> Option<Side>
+// The side of this many cells, from 4 to 4,096.
+fn side_with(n: u32) -> Option<Side>
     ensures { result ≡ exponent_of n }
 {
-    if n > 256 {
-        return None;
-    }
     Side::new(n)
 }
 

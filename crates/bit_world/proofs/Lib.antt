@@ -1,4 +1,0 @@
-pub mod Rows
-pub mod Boxes
-pub mod Numbers
-pub mod Cells

@@ -1,6 +1,0 @@
-//! One world's cells as bits.
-#![tactic(auto)]
-
-mod grids;
-
-pub use grids::BitWorld;
