@@ -98,7 +98,7 @@ pub makes_octant : (base : List Tree) (level : ℕ) (task : CopyTask) (cells : C
     → (HoldsBlock (part_in (block_side (level - 1)) task.part k) (block_at_origin (level - 1)) × (old ≡ None)) ⊎ (old ≡ root_of (child_of m.tree k))
     → ((j : ℕ) → j < 8 → is_unread (rest_of (level - 1) k task.offset) j ≡ false → name_in sources j ≡ root_of (source_of m.row (begin_of (level - 1) k task.offset) j))
     → ((j : ℕ) → j < 8 → is_unread (rest_of (level - 1) k task.offset) j ≡ true → name_in sources j ≡ None)
-    → MakesCopy (record { old = old; sources = sources; offset = rest_of (level - 1) k task.offset; part = part_in (block_side (level - 1)) task.part k; large = task.large }) base (level - 1) (octant_cells (level - 1) cells k)
+    → MakesCopy (record { old = old; sources = sources; offset = rest_of (level - 1) k task.offset; part = part_in (block_side (level - 1)) task.part k }) base (level - 1) (octant_cells (level - 1) cells k)
 makes_octant base level task cells k old sources one lt m kept there none =
     let up : level ≡ suc (level - 1) = omega arith in
     let o = subst (λ (l : ℕ). IsOffset l task.offset) up m.offset in

@@ -109,9 +109,9 @@ copy_world side at held old from to task before low high a c f g w s =
       };
     }
 
-pub whole_is : (side : ℕ) (old : Option Name) (from : Boxed) (to : Cell) (x y z a b c : ℕ) (large : Bool) → IsShift side from.at.x to.x x a → IsShift side from.at.y to.y y b → IsShift side from.at.z to.z z c
-    → IsWholeTask side old from to (record { old = old; sources = set (None ∷ None ∷ None ∷ None ∷ None ∷ None ∷ None ∷ None ∷ []) (x + 2 * y + 4 * z) old; offset = cell_at a b c; part = record { at = to; size = from.size }; large = large })
-whole_is side old from to x y z a b c large p q r =
+pub whole_is : (side : ℕ) (old : Option Name) (from : Boxed) (to : Cell) (x y z a b c : ℕ) → IsShift side from.at.x to.x x a → IsShift side from.at.y to.y y b → IsShift side from.at.z to.z z c
+    → IsWholeTask side old from to (record { old = old; sources = set (None ∷ None ∷ None ∷ None ∷ None ∷ None ∷ None ∷ None ∷ []) (x + 2 * y + 4 * z) old; offset = cell_at a b c; part = record { at = to; size = from.size } })
+whole_is side old from to x y z a b c p q r =
     let none : List (Option Name) = None ∷ None ∷ None ∷ None ∷ None ∷ None ∷ None ∷ None ∷ [] in
     record {
       x = x;

@@ -9,15 +9,13 @@ use node_words::{Blocks, box_bits, window_bits};
 use vw_cell::{Block, Boxed, Cell};
 
 /// Copies into one block. The cells of a box, told by their places in the block, are taken from a
-/// cube of eight blocks of the block's size, from an offset on. It is known whether the whole box is a
-/// large one.
+/// cube of eight blocks of the block's size, from an offset on.
 #[derive(Clone, Copy, Debug)]
 pub struct CopyTask {
     pub(crate) old: Option<Name>,
     pub(crate) sources: [Option<Name>; 8],
     pub(crate) offset: Cell,
     pub(crate) part: Boxed,
-    pub(crate) large: bool,
 }
 
 pub(crate) const ORIGIN: Cell = Cell { x: 0, y: 0, z: 0 };
@@ -44,7 +42,6 @@ impl Task for CopyTask {
             sources,
             offset: step.rest,
             part,
-            large: self.large,
         }
     }
 
@@ -83,8 +80,9 @@ impl Task for CopyTask {
         mix(old, moved, inside)
     }
 
+    // Copied blocks are often alike, also in small boxes: the cells of a ball's inside are.
     fn repeats(&self) -> bool {
-        self.large
+        true
     }
 
     fn is_same(&self, other: &CopyTask) -> bool {

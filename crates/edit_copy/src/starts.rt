@@ -3,7 +3,6 @@ ghost use Rattle.vw_cell.specs.Places.{FitsAt};
 ghost use Rattle.edit_copy.specs.Starts.{IsWholeTask, IsShift};
 
 use crate::copies::CopyTask;
-use edit_cells::is_large;
 use node_shapes::Name;
 use vw_cell::{Boxed, Cell, Side};
 
@@ -31,7 +30,6 @@ pub(crate) fn whole_task(old: Option<Name>, side: Side, from: Boxed, to: Cell) -
             at: to,
             size: from.size,
         },
-        large: is_large(from.size),
     }
 }
 

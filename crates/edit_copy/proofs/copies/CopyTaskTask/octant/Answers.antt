@@ -45,8 +45,8 @@ returns-clause-task g c base cells keeps m =
     (kept_part _ c.args.level _ k _ _ _ m.tree part (old_block base _ c.args.level m.tree _ keeps m.is_old) c.kept_old-old.ensures.old)
     (λ j l e. sym ((source j l).read e).root) (λ j l e. (source j l).unread e)
     in
-    subst (λ (b : Boxed). MakesCopy (record { old = c.kept_old-old.result; sources = sources; offset = c.step_to-step.result.rest; part = b; large = c.args.self.now.large }) base below (octant_cells below cells k)) (sym part)
-    (subst (λ (o : Cell). MakesCopy (record { old = c.kept_old-old.result; sources = sources; offset = o; part = part_in (block_side below) c.args.self.now.part k; large = c.args.self.now.large }) base below (octant_cells below cells k)) (sym c.step_to-step.ensures.rest) made)
+    subst (λ (b : Boxed). MakesCopy (record { old = c.kept_old-old.result; sources = sources; offset = c.step_to-step.result.rest; part = b }) base below (octant_cells below cells k)) (sym part)
+    (subst (λ (o : Cell). MakesCopy (record { old = c.kept_old-old.result; sources = sources; offset = o; part = part_in (block_side below) c.args.self.now.part k }) base below (octant_cells below cells k)) (sym c.step_to-step.ensures.rest) made)
 
 pub returns-clause-rests : goal.returns-clause-rests
 returns-clause-rests g c = g.met.B.Blocks.rests_on _ _ _ c.kept_old-old.ensures.rests c.sources_in-sources.ensures.rests
