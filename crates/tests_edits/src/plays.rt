@@ -50,6 +50,70 @@ fn low(n: u16) -> u8 {
     (n % 256) as u8
 }
 
+/// Plain cells that are edited as a world is, and what came of the edits.
+#[derive(Drop)]
+struct Played {
+    plain: Grid,
+    tally: Tally,
+}
+
+impl Played {
+    fn begin(alloc: Global, side: u16) -> Result<Played, Fail> {
+        Ok(Played {
+            plain: Grid::empty(alloc, side).map_err(|_| "out of memory")?,
+            tally: Tally {
+                made: 0,
+                full: 0,
+                wrong: 0,
+            },
+        })
+    }
+
+    fn differ(&mut self, wrong: u32) {
+        self.tally.wrong = self.tally.wrong.saturating_add(wrong);
+    }
+
+    fn made(&mut self, alloc: Global, act: &Act, model: &Drawing) -> Result<(), Fail> {
+        self.tally.made = self.tally.made.saturating_add(1);
+        self.plain = self
+            .plain
+            .after(alloc, act, model)
+            .map_err(|_| "out of memory")?;
+        Ok(())
+    }
+
+    fn refused(&mut self, changed: bool) {
+        self.tally.full = self.tally.full.saturating_add(1);
+        self.differ(u32::from(changed));
+    }
+
+    // Compares the world with the plain cells.
+    fn compare(&mut self, world: &mut StoredWorld) {
+        self.differ(world.held());
+        let wrong = differing(world, &self.plain);
+        self.differ(wrong);
+    }
+
+    // Does the act to both.
+    fn edit(
+        &mut self,
+        alloc: Global,
+        world: &mut StoredWorld,
+        act: &Act,
+        stencil: &Stencil,
+        model: &Drawing,
+    ) -> Result<(), Fail> {
+        let before = lives(world);
+        match world.edit(act, stencil) {
+            Ok(()) => self.made(alloc, act, model)?,
+            Err(Refusal::Full(_)) => self.refused(lives(world) != before),
+            Err(Refusal::Unfit) => self.differ(1),
+        }
+        self.compare(world);
+        Ok(())
+    }
+}
+
 /// Draws so many edits, does them to the world, and compares each cell with plain cells after each.
 pub fn play(
     alloc: Global,
@@ -60,36 +124,12 @@ pub fn play(
 ) -> Result<Tally, Fail> {
     let stencil = model.stencil(alloc).ok_or("a stencil")?;
     let side = world.side().cells() as u16;
-    let mut plain = Grid::empty(alloc, side).map_err(|_| "out of memory")?;
-    let mut tally = Tally {
-        made: 0,
-        full: 0,
-        wrong: 0,
-    };
+    let mut played = Played::begin(alloc, side)?;
     for _ in 0..number {
         let act = draws.act(side, model.cells());
-        let before = lives(world);
-        let wrong = match world.edit(&act, &stencil) {
-            Ok(()) => {
-                tally.made = tally.made.saturating_add(1);
-                plain = plain
-                    .after(alloc, &act, model)
-                    .map_err(|_| "out of memory")?;
-                0
-            }
-            Err(Refusal::Full(_)) => {
-                tally.full = tally.full.saturating_add(1);
-                u32::from(lives(world) != before)
-            }
-            Err(Refusal::Unfit) => 1,
-        };
-        tally.wrong = tally
-            .wrong
-            .saturating_add(wrong)
-            .saturating_add(world.held())
-            .saturating_add(differing(world, &plain));
+        played.edit(alloc, world, &act, &stencil, model)?;
     }
-    Ok(tally)
+    Ok(played.tally)
 }
 
 // How many nodes of each level are live.

@@ -1,243 +1,287 @@
-use crate::plays::{acts_done, drawing, floor, number_of_cells, play};
+use crate::plays::{Tally, acts_done, drawing, floor, number_of_cells, play};
+use edit_stamp::Stencil;
 use history_model::{Act, Question};
 use node_words::{Full, Plan};
+use std::alloc::Global;
 use std::test::Fail;
 use test_worlds::{Drawing, Draws, Found, StoredWorld};
 use vw_cell::{Ball, Boxed, Cell, Side};
-
-fn cell(x: u16, y: u16, z: u16) -> Cell {
-    Cell { x, y, z }
-}
-
-fn boxed(at: Cell, size: Cell) -> Boxed {
-    Boxed { at, size }
-}
-
-fn ball(x: u16, y: u16, z: u16, radius: u16) -> Ball {
-    Ball {
-        centre: Cell { x, y, z },
-        radius,
-    }
-}
-
-/// Some edits of an empty world, and how many cells are set then.
-#[derive(Clone, Copy)]
-struct Row<'a> {
-    side: u32,
-    acts: &'a [Act],
-    cells: u64,
-}
 
 const ORIGIN: Cell = Cell { x: 0, y: 0, z: 0 };
 
 const ONE: Cell = Cell { x: 1, y: 1, z: 1 };
 
-#[test]
-fn edits_set_so_many_cells(rt: HostRuntime) -> Result<(), Fail> {
-    // Voxels of colour 0 after and before others of their place.
-    let voxels = vec![in rt.alloc();
-        [0, 0, 0, 1],
-        [1, 0, 0, 2],
-        [2, 0, 0, 0],
-        [4, 3, 2, 9],
-        [4, 3, 2, 0],
-        [3, 1, 1, 0],
-        [3, 1, 1, 5],
-        [0, 2, 2, 7],
-        [4, 0, 2, 7],
-        [2, 2, 0, 3],
-        [2, 3, 0, 3],
-        [1, 1, 1, 255],
-    ]?;
+/// The cell at x = 0, 2 and 4 alone.
+const FIRST: Act = Act::Fill(CORNER);
+
+const THIRD: Act = Act::Fill(Boxed {
+    at: Cell { x: 2, y: 0, z: 0 },
+    size: ONE,
+});
+
+const FIFTH: Act = Act::Fill(Boxed {
+    at: Cell { x: 4, y: 0, z: 0 },
+    size: ONE,
+});
+
+const CORNER: Boxed = Boxed {
+    at: ORIGIN,
+    size: ONE,
+};
+
+/// The whole of a world of side 8.
+const WHOLE: Act = Act::Fill(Boxed {
+    at: ORIGIN,
+    size: Cell { x: 8, y: 8, z: 8 },
+});
+
+/// The first four cells, moved by one.
+const MOVE: Act = Act::Copy(FOUR, Cell { x: 1, y: 0, z: 0 });
+
+const FOUR: Boxed = Boxed {
+    at: ORIGIN,
+    size: Cell { x: 4, y: 1, z: 1 },
+};
+
+const AROUND_0: Ball = Ball {
+    centre: Cell { x: 4, y: 4, z: 4 },
+    radius: 0,
+};
+
+const AROUND_1: Ball = Ball {
+    centre: Cell { x: 4, y: 4, z: 4 },
+    radius: 1,
+};
+
+const AROUND_2: Ball = Ball {
+    centre: Cell { x: 4, y: 4, z: 4 },
+    radius: 2,
+};
+
+const CORNER_BALL: Ball = Ball {
+    centre: ORIGIN,
+    radius: 2,
+};
+
+/// Sides, edits of an empty world, and how many cells are set then. Of the model's places eight have
+/// a colour.
+const ROWS: &[(u32, &[Act], u64)] = &[
+    (8, &[WHOLE], 512),
+    (8, &[FIRST, THIRD, MOVE], 3),
+    (8, &[FIRST, Act::Erase(CORNER)], 0),
+    (8, &[WHOLE, Act::Erase(CORNER)], 511),
+    (16, &[Act::Ball(AROUND_0)], 1),
+    (16, &[Act::Ball(AROUND_1)], 7),
+    (16, &[Act::Ball(AROUND_2)], 33),
+    (8, &[Act::Ball(CORNER_BALL)], 11),
+    (8, &[WHOLE, Act::Carve(CORNER_BALL)], 501),
+    (8, &[Act::Stamp(0, Cell { x: 3, y: 4, z: 5 })], 8),
+    (8, &[FIRST, FIFTH], 2),
+];
+
+/// Voxels of colour 0 stand after and before others of their place.
+const VOXELS: [[u8; 4]; 12] = [
+    [0, 0, 0, 1],
+    [1, 0, 0, 2],
+    [2, 0, 0, 0],
+    [4, 3, 2, 9],
+    [4, 3, 2, 0],
+    [3, 1, 1, 0],
+    [3, 1, 1, 5],
+    [0, 2, 2, 7],
+    [4, 0, 2, 7],
+    [2, 2, 0, 3],
+    [2, 3, 0, 3],
+    [1, 1, 1, 255],
+];
+
+fn small_stencil(alloc: Global) -> Result<Stencil, Fail> {
+    let voxels = Vec::from_array(alloc, VOXELS)?;
     let model = Drawing {
         size: [5, 4, 3],
         voxels,
     };
-    let stencil = model.stencil(rt.alloc()).ok_or("a stencil")?;
-    let first = Act::Fill(boxed(ORIGIN, ONE));
-    let third = Act::Fill(boxed(cell(2, 0, 0), ONE));
-    let fifth = Act::Fill(boxed(cell(4, 0, 0), ONE));
-    let whole = Act::Fill(boxed(ORIGIN, cell(8, 8, 8)));
-    let copy = Act::Copy(boxed(ORIGIN, cell(4, 1, 1)), cell(1, 0, 0));
-    for row in [
-        Row {
-            side: 8,
-            acts: &[whole],
-            cells: 512,
-        },
-        Row {
-            side: 8,
-            acts: &[first, third, copy],
-            cells: 3,
-        },
-        Row {
-            side: 8,
-            acts: &[first, Act::Erase(boxed(ORIGIN, ONE))],
-            cells: 0,
-        },
-        Row {
-            side: 8,
-            acts: &[whole, Act::Erase(boxed(ORIGIN, ONE))],
-            cells: 511,
-        },
-        Row {
-            side: 16,
-            acts: &[Act::Ball(ball(4, 4, 4, 0))],
-            cells: 1,
-        },
-        Row {
-            side: 16,
-            acts: &[Act::Ball(ball(4, 4, 4, 1))],
-            cells: 7,
-        },
-        Row {
-            side: 16,
-            acts: &[Act::Ball(ball(4, 4, 4, 2))],
-            cells: 33,
-        },
-        Row {
-            side: 8,
-            acts: &[Act::Ball(ball(0, 0, 0, 2))],
-            cells: 11,
-        },
-        Row {
-            side: 8,
-            acts: &[whole, Act::Carve(ball(0, 0, 0, 2))],
-            cells: 501,
-        },
-        // Of the model's places eight have a colour.
-        Row {
-            side: 8,
-            acts: &[Act::Stamp(0, cell(3, 4, 5))],
-            cells: 8,
-        },
-        Row {
-            side: 8,
-            acts: &[first, fifth],
-            cells: 2,
-        },
-    ] {
-        let side = Side::new(row.side).ok_or("a side")?;
-        let mut world = StoredWorld::empty(rt.alloc(), &Plan::even(side, 16, 16).ok_or("a plan")?)?;
-        let full = acts_done(&mut world, row.acts, &stencil);
-        assert!(rt; full.is_none(), "{:?}", row.acts);
-        let number = number_of_cells(&mut world);
-        assert!(rt; number == Some(Found::Number(row.cells)), "{:?}", row.acts);
-        assert_eq!(rt; world.held(), 0);
+    Ok(model.stencil(alloc).ok_or("a stencil")?)
+}
+
+// A stencil where none is stamped.
+fn any_stencil(alloc: Global) -> Result<Stencil, Fail> {
+    let model = drawing(alloc, &mut Draws::new(1), [1, 1, 1])?;
+    Ok(model.stencil(alloc).ok_or("a stencil")?)
+}
+
+fn world_of(alloc: Global, side: u32, buckets: u16, cap: u16) -> Result<StoredWorld, Fail> {
+    let side = Side::new(side).ok_or("a side")?;
+    let plan = Plan::even(side, buckets, cap).ok_or("a plan")?;
+    Ok(StoredWorld::empty(alloc, &plan)?)
+}
+
+// How many cells are set after these edits, where none met a full bucket and no share stays held.
+fn cells_after(world: &mut StoredWorld, acts: &[Act], stencil: &Stencil) -> Option<Found> {
+    if acts_done(world, acts, stencil).is_some() || world.held() > 0 {
+        return None;
+    }
+    number_of_cells(world)
+}
+
+#[test]
+fn edits_set_so_many_cells(rt: HostRuntime) -> Result<(), Fail> {
+    let stencil = small_stencil(rt.alloc())?;
+    for &(side, acts, cells) in ROWS {
+        let mut world = world_of(rt.alloc(), side, 16, 16)?;
+        let found = cells_after(&mut world, acts, &stencil);
+        assert!(rt; found == Some(Found::Number(cells)), "{acts:?}");
     }
     Ok(())
+}
+
+const MOVED: &[Act] = &[FIRST, THIRD, MOVE];
+
+const SET: &[(u16, bool)] = &[(0, true), (1, true), (2, false), (3, true), (4, false)];
+
+// Whether just these cells of the first five are set.
+fn are_set(world: &mut StoredWorld, cells: &[(u16, bool)]) -> bool {
+    for &(x, is_set) in cells {
+        let found = world.ask(&Question::Get(Cell { x, y: 0, z: 0 }));
+        if found != Some(Found::Is(is_set)) {
+            return false;
+        }
+    }
+    true
 }
 
 // The cells at x = 0, 1 and 3: those before the copy, and not the one that it wrote.
 #[test]
 fn copies_read_the_cells_before(rt: HostRuntime) -> Result<(), Fail> {
-    let mut draws = Draws::new(1);
-    let stencil = drawing(rt.alloc(), &mut draws, [1, 1, 1])?
-        .stencil(rt.alloc())
-        .ok_or("a stencil")?;
-    let side = Side::new(8).ok_or("a side")?;
-    let mut world = StoredWorld::empty(rt.alloc(), &Plan::even(side, 16, 16).ok_or("a plan")?)?;
-    let acts = [
-        Act::Fill(boxed(ORIGIN, ONE)),
-        Act::Fill(boxed(cell(2, 0, 0), ONE)),
-        Act::Copy(boxed(ORIGIN, cell(4, 1, 1)), cell(1, 0, 0)),
-    ];
-    assert!(rt; acts_done(&mut world, &acts, &stencil).is_none());
-    for (x, is_set) in [(0, true), (1, true), (2, false), (3, true), (4, false)] {
-        let found = world.ask(&Question::Get(cell(x, 0, 0)));
-        assert!(rt; found == Some(Found::Is(is_set)), "at {x}");
-    }
-    let extent = Some(boxed(ORIGIN, cell(4, 1, 1)));
-    assert!(rt; world.ask(&Question::Bounds) == Some(Found::Extent(extent)));
+    let stencil = any_stencil(rt.alloc())?;
+    let mut world = world_of(rt.alloc(), 8, 16, 16)?;
+    assert!(rt; acts_done(&mut world, MOVED, &stencil).is_none());
+    assert!(rt; are_set(&mut world, SET));
+    assert!(rt; world.ask(&Question::Bounds) == Some(Found::Extent(Some(FOUR))));
     Ok(())
+}
+
+/// Edits one after another, and how many cells are set after each.
+const FLOORS: &[(Act, u64)] = &[
+    (Act::Stamp(0, ORIGIN), 15_876),
+    (Act::Stamp(0, Cell { x: 126, y: 0, z: 0 }), 31_752),
+    (Act::Copy(FLOOR, Cell { x: 0, y: 126, z: 0 }), 47_628),
+];
+
+const FLOOR: Boxed = Boxed {
+    at: ORIGIN,
+    size: Cell {
+        x: 126,
+        y: 126,
+        z: 1,
+    },
+};
+
+// The usual plan, whose buckets are enough for floors.
+fn usual_world(alloc: Global) -> Result<StoredWorld, Fail> {
+    let side = Side::new(256).ok_or("a side")?;
+    Ok(StoredWorld::empty(alloc, &Plan::usual(side))?)
 }
 
 // A floor of 126 by 126 voxels in a model of that height, twice, and then once more by a copy.
 #[test]
 fn floors_are_stamped(rt: HostRuntime) -> Result<(), Fail> {
-    let stencil = floor(rt.alloc(), 126)?
-        .stencil(rt.alloc())
-        .ok_or("a stencil")?;
-    let side = Side::new(256).ok_or("a side")?;
-    let mut world = StoredWorld::empty(rt.alloc(), &Plan::usual(side))?;
-    let copy = Act::Copy(boxed(ORIGIN, cell(126, 126, 1)), cell(0, 126, 0));
-    for (act, cells) in [
-        (Act::Stamp(0, ORIGIN), 15_876),
-        (Act::Stamp(0, cell(126, 0, 0)), 31_752),
-        (copy, 47_628),
-    ] {
-        assert!(rt; world.edit(&act, &stencil).is_ok());
-        assert!(rt;
-            number_of_cells(&mut world) == Some(Found::Number(cells)),
-            "{act:?}"
-        );
+    let model = floor(rt.alloc(), 126)?;
+    let stencil = model.stencil(rt.alloc()).ok_or("a stencil")?;
+    let mut world = usual_world(rt.alloc())?;
+    for &(act, cells) in FLOORS {
+        let found = cells_after(&mut world, &[act], &stencil);
+        assert!(rt; found == Some(Found::Number(cells)), "{act:?}");
     }
     Ok(())
+}
+
+/// Sides, edits of which the second meets a full bucket, and the level of that bucket.
+const CROWDED: &[(u32, &[Act], u8)] = &[(8, &[FIRST, FIFTH], 1), (4, &[FIRST, SECOND], 0)];
+
+const SECOND: Act = Act::Fill(Boxed {
+    at: Cell { x: 1, y: 0, z: 0 },
+    size: ONE,
+});
+
+// Whether a world of one cell has a node on each level, and no share is held.
+fn has_one_cell(world: &mut StoredWorld) -> bool {
+    for level in 0..=world.side().root_level() {
+        if world.live(level) != 1 {
+            return false;
+        }
+    }
+    world.held() == 0 && number_of_cells(world) == Some(Found::Number(1))
 }
 
 // One bucket of one node a level.
 #[test]
 fn full_buckets_are_told(rt: HostRuntime) -> Result<(), Fail> {
-    let mut draws = Draws::new(1);
-    let stencil = drawing(rt.alloc(), &mut draws, [1, 1, 1])?
-        .stencil(rt.alloc())
-        .ok_or("a stencil")?;
-    for (side, x, level) in [(8, 4, 1), (4, 1, 0)] {
-        let side = Side::new(side).ok_or("a side")?;
-        let mut world = StoredWorld::empty(rt.alloc(), &Plan::even(side, 1, 1).ok_or("a plan")?)?;
-        let acts = [
-            Act::Fill(boxed(ORIGIN, ONE)),
-            Act::Fill(boxed(cell(x, 0, 0), ONE)),
-        ];
-        let full = acts_done(&mut world, &acts, &stencil);
-        assert!(rt;
-            full == Some(Full { level, bucket: 0 }),
-            "side {}",
-            side.cells()
-        );
-        assert_eq!(rt; world.held(), 0);
-        for level in 0..=side.root_level() {
-            assert_eq!(rt; world.live(level), 1, "level {level}");
-        }
-        assert!(rt; number_of_cells(&mut world) == Some(Found::Number(1)));
+    let stencil = any_stencil(rt.alloc())?;
+    for &(side, acts, level) in CROWDED {
+        let mut world = world_of(rt.alloc(), side, 1, 1)?;
+        let full = acts_done(&mut world, acts, &stencil);
+        assert!(rt; full == Some(Full { level, bucket: 0 }), "side {side}");
+        assert!(rt; has_one_cell(&mut world), "side {side}");
     }
     Ok(())
+}
+
+/// Sides, the sizes of models, and numbers of edits.
+const DRAWN: &[(u32, [u8; 3], u32)] = &[
+    (4, [3, 4, 2], 400),
+    (8, [5, 4, 3], 400),
+    (16, [9, 6, 7], 200),
+    (32, [9, 12, 7], 80),
+];
+
+// What comes of random edits, with so many buckets a level, each for so many nodes.
+fn tally(
+    alloc: Global,
+    draws: &mut Draws,
+    model: &Drawing,
+    side: u32,
+    buckets: u16,
+    cap: u16,
+    number: u32,
+) -> Result<Tally, Fail> {
+    let mut world = world_of(alloc, side, buckets, cap)?;
+    play(alloc, &mut world, draws, model, number)
 }
 
 #[test]
 fn random_edits_are_those_of_plain_cells(rt: HostRuntime) -> Result<(), Fail> {
     let mut draws = Draws::new(7);
-    for (side, model, number) in [
-        (4, [3, 4, 2], 400),
-        (8, [5, 4, 3], 400),
-        (16, [9, 6, 7], 200),
-        (32, [9, 12, 7], 80),
-    ] {
-        let side = Side::new(side).ok_or("a side")?;
-        let model = drawing(rt.alloc(), &mut draws, model)?;
-        let mut world = StoredWorld::empty(rt.alloc(), &Plan::even(side, 64, 64).ok_or("a plan")?)?;
-        let tally = play(rt.alloc(), &mut world, &mut draws, &model, number)?;
-        assert_eq!(rt; tally.wrong, 0, "side {}", side.cells());
-        assert_eq!(rt; tally.made, number, "side {}", side.cells());
+    for &(side, size, number) in DRAWN {
+        let model = drawing(rt.alloc(), &mut draws, size)?;
+        let came = tally(rt.alloc(), &mut draws, &model, side, 64, 64, number)?;
+        assert!(rt; came.wrong == 0 && came.made == number, "side {side}");
     }
     Ok(())
+}
+
+// Random edits in one bucket a level, for each number of nodes from 1 up.
+fn crowded(alloc: Global, draws: &mut Draws, model: &Drawing, side: u32) -> Result<Tally, Fail> {
+    let mut sum = Tally {
+        made: 0,
+        full: 0,
+        wrong: 0,
+    };
+    for cap in 1..=32u16 {
+        let came = tally(alloc, draws, model, side, 1, cap, 30)?;
+        sum.full = sum.full.saturating_add(came.full);
+        sum.wrong = sum.wrong.saturating_add(came.wrong);
+    }
+    Ok(sum)
 }
 
 #[test]
 fn full_buckets_leave_the_store_as_it_was(rt: HostRuntime) -> Result<(), Fail> {
     let mut draws = Draws::new(11);
     let model = drawing(rt.alloc(), &mut draws, [4, 4, 3])?;
-    for side in [4, 8, 16] {
-        let side = Side::new(side).ok_or("a side")?;
-        let mut full: u32 = 0;
-        for cap in 1..=32u16 {
-            let plan = Plan::even(side, 1, cap).ok_or("a plan")?;
-            let mut world = StoredWorld::empty(rt.alloc(), &plan)?;
-            let tally = play(rt.alloc(), &mut world, &mut draws, &model, 30)?;
-            assert_eq!(rt; tally.wrong, 0, "side {} cap {cap}", side.cells());
-            full = full.saturating_add(tally.full);
-        }
-        assert!(rt; full > 0, "side {}", side.cells());
+    for &side in &[4, 8, 16] {
+        let came = crowded(rt.alloc(), &mut draws, &model, side)?;
+        assert!(rt; came.wrong == 0 && came.full > 0, "side {side}");
     }
     Ok(())
 }

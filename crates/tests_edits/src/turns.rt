@@ -166,7 +166,7 @@ fn turns_of(alloc: Global, at: [u16; 3], size: [u16; 3]) -> Result<u32, Fail> {
 
 #[test]
 fn large_fills_take_few_turns(rt: HostRuntime) -> Result<(), Fail> {
-    for (at, size, most) in [
+    for &(at, size, most) in &[
         ([0, 0, 0], [4096, 4096, 4096], 299),
         ([1, 1, 1], [4095, 4095, 4095], 4999),
         ([0, 0, 0], [4095, 4095, 4095], 4999),
