@@ -16,7 +16,25 @@ kept_in r =
     r.i ∷ r.j ∷ r.k ∷ r.l ∷ r.m ∷ r.n ∷ r.o ∷ r.p ∷ []
 
 abbrev pub empty_row : {T : Type 0} → Row T
-empty_row = record { next = 0; a = None; b = None; c = None; d = None; e = None; f = None; g = None; h = None; i = None; j = None; k = None; l = None; m = None; n = None; o = None; p = None }
+empty_row = record {
+  next = 0;
+  a = None;
+  b = None;
+  c = None;
+  d = None;
+  e = None;
+  f = None;
+  g = None;
+  h = None;
+  i = None;
+  j = None;
+  k = None;
+  l = None;
+  m = None;
+  n = None;
+  o = None;
+  p = None;
+}
 
 abbrev pub rows_of : {T : Type 0} → Memo T → List (Row T)
 rows_of m = m.r0 ∷ m.r1 ∷ m.r2 ∷ m.r3 ∷ m.r4 ∷ m.r5 ∷ m.r6 ∷ m.r7 ∷ m.r8 ∷ m.r9 ∷ m.r10 ∷ []

@@ -8,10 +8,7 @@ use Rattle.plain_text.specs.declared.faults.WordFault.TheVariants.{Word}
 use Rattle.plain_text.specs.Steps.{Gives}
 use Rattle.script.specs.declared.commands.Command.{Command}
 use Rattle.script.specs.declared.said.Said.{Said}
-use Rattle.script.specs.declared.names.Known.{Known}
-use Rattle.script.specs.declared.names.Known.TheVariants.{Bits, Built}
-use Rattle.script.specs.Commands.{CommandRow, change_row, all_change_names, question_rows, other_rows, rows, command_read_by, read_known, command_spelled, is_among, is_row}
-use Rattle.script.specs.Known.{knows}
+use Rattle.script.specs.Commands.{CommandRow, change_row, all_change_names, question_rows, other_rows, rows, command_read_by, read_known, command_spelled, is_among, is_row, is_built}
 use Rattle.script.specs.Said.{command_said}
 
 same_bytes : (a b : List ℕ) → bytes_eq a b ≡ true → a ≡ b
@@ -19,49 +16,74 @@ same_bytes a b same = (bytes_eq-Decides a b).0 same
 
 -- ---- rows before others
 
-first_of : (r : CommandRow) (others more : Result Command WordFault) (name : List ℕ) (words : List (List ℕ)) (test : Bool) → bytes_eq name r.name ≡ test
-    → (test ≡ false → others ≡ more) → cond test (r.read words) others ≡ cond test (r.read words) more
+first_of : (r : CommandRow) (others more : Result Command WordFault) (name : List ℕ)
+    (words : List (List ℕ)) (test : Bool) → bytes_eq name r.name ≡ test
+    → (test ≡ false → others ≡ more)
+    → cond test (r.read words) others ≡ cond test (r.read words) more
 first_of r others more name words true is rest = refl
 first_of r others more name words false is rest = rest refl
 
 -- one of the rows has the name
-rows_found : (first rest : List CommandRow) (other : Result Command WordFault) (name : List ℕ) (words : List (List ℕ)) → is_row first name ≡ true
+rows_found : (first rest : List CommandRow) (other : Result Command WordFault) (name : List ℕ)
+    (words : List (List ℕ)) → is_row first name ≡ true
     → command_read_by (first ++ rest) other name words ≡ command_read_by first other name words
 rows_found [] rest other name words is = absurd cc
 rows_found (r ∷ first) rest other name words is =
-    first_of r (command_read_by (first ++ rest) other name words) (command_read_by first other name words) name words (bytes_eq name r.name) refl
-    (λ no. rows_found first rest other name words (sym (ap (λ (b : Bool). b || is_row first name) no) ∙ is))
+    first_of r (command_read_by (first ++ rest) other name words)
+    (command_read_by first other name words) name words (bytes_eq name r.name) refl
+    (λ no. rows_found first rest other name words
+    (sym (ap (λ (b : Bool). b || is_row first name) no) ∙ is))
 
-other_than : (r : CommandRow) (others : Result Command WordFault) (more : Result Command WordFault) (name : List ℕ) (words : List (List ℕ)) (test : Bool) (rest : Bool) → bytes_eq name r.name ≡ test
-    → (test || rest) ≡ false → (rest ≡ false → others ≡ more) → cond test (r.read words) others ≡ more
+other_than : (r : CommandRow) (others : Result Command WordFault) (more : Result Command WordFault)
+    (name : List ℕ) (words : List (List ℕ)) (test : Bool) (rest : Bool)
+    → bytes_eq name r.name ≡ test
+    → (test || rest) ≡ false → (rest ≡ false → others ≡ more)
+    → cond test (r.read words) others ≡ more
 other_than r others more name words true rest is none later = absurd cc
 other_than r others more name words false rest is none later = later none
 
 -- none of them has it
-rows_passed : (first rest : List CommandRow) (other : Result Command WordFault) (name : List ℕ) (words : List (List ℕ)) → is_row first name ≡ false
+rows_passed : (first rest : List CommandRow) (other : Result Command WordFault) (name : List ℕ)
+    (words : List (List ℕ)) → is_row first name ≡ false
     → command_read_by (first ++ rest) other name words ≡ command_read_by rest other name words
 rows_passed [] rest other name words is = refl
 rows_passed (r ∷ first) rest other name words is =
-    other_than r (command_read_by (first ++ rest) other name words) (command_read_by rest other name words) name words (bytes_eq name r.name) (is_row first name) refl is (rows_passed first rest other name words)
+    other_than r (command_read_by (first ++ rest) other name words)
+    (command_read_by rest other name words) name words (bytes_eq name r.name)
+    (is_row first name) refl is (rows_passed first rest other name words)
 
 -- the row of a change reads it by its name
-change_by : (known : List ℕ) (rest : Result Command WordFault) (name : List ℕ) (words : List (List ℕ)) (test : Bool) → bytes_eq name known ≡ test
-    → (test ≡ false → rest ≡ (change_row false name).read words) → cond test ((change_row false known).read words) rest ≡ (change_row false name).read words
-change_by known rest name words true is later = ap (λ (n : List ℕ). (change_row false n).read words) (sym (same_bytes name known is))
+change_by : (known : List ℕ) (rest : Result Command WordFault) (name : List ℕ)
+    (words : List (List ℕ)) (test : Bool) → bytes_eq name known ≡ test
+    → (test ≡ false → rest ≡ (change_row false name).read words)
+    → cond test ((change_row false known).read words) rest ≡ (change_row false name).read words
+change_by known rest name words true is later =
+    ap (λ (n : List ℕ). (change_row false n).read words) (sym (same_bytes name known is))
 change_by known rest name words false is later = later refl
 
-changes_found : (names : List (List ℕ)) (rest : List CommandRow) (other : Result Command WordFault) (name : List ℕ) (words : List (List ℕ)) → is_among names name ≡ true
-    → command_read_by (map (change_row false) names ++ rest) other name words ≡ (change_row false name).read words
+changes_found : (names : List (List ℕ)) (rest : List CommandRow) (other : Result Command WordFault)
+    (name : List ℕ) (words : List (List ℕ)) → is_among names name ≡ true
+    → command_read_by (map (change_row false) names ++ rest) other name words ≡
+    (change_row false name).read words
 changes_found [] rest other name words is = absurd cc
 changes_found (known ∷ names) rest other name words is =
-    change_by known (command_read_by (map (change_row false) names ++ rest) other name words) name words (bytes_eq name known) refl
-    (λ no. changes_found names rest other name words (sym (ap (λ (b : Bool). b || is_among names name) no) ∙ is))
+    change_by known
+    (command_read_by (map (change_row false) names ++ rest) other name words) name words
+    (bytes_eq name known) refl
+    (λ no. changes_found names rest other name words
+    (sym (ap (λ (b : Bool). b || is_among names name) no) ∙ is))
 
-changes_passed : (names : List (List ℕ)) (rest : List CommandRow) (other : Result Command WordFault) (name : List ℕ) (words : List (List ℕ)) → is_among names name ≡ false
-    → command_read_by (map (change_row false) names ++ rest) other name words ≡ command_read_by rest other name words
+changes_passed : (names : List (List ℕ)) (rest : List CommandRow) (other : Result Command WordFault)
+    (name : List ℕ) (words : List (List ℕ)) → is_among names name ≡ false
+    → command_read_by
+    (map (change_row false) names ++ rest) other name words
+    ≡ command_read_by rest other name words
 changes_passed [] rest other name words is = refl
 changes_passed (known ∷ names) rest other name words is =
-    other_than (change_row false known) (command_read_by (map (change_row false) names ++ rest) other name words) (command_read_by rest other name words) name words (bytes_eq name known) (is_among names name) refl is
+    other_than (change_row false known)
+    (command_read_by (map (change_row false) names ++ rest) other name words)
+    (command_read_by rest other name words) name words (bytes_eq name known)
+    (is_among names name) refl is
     (changes_passed names rest other name words)
 
 -- ---- all rows
@@ -76,43 +98,57 @@ abbrev all : (List ℕ → Bool) → List ℕ → List (List ℕ) → Result Com
 all known name words = command_read_by (rows known) (Err Word) name words
 
 -- what was said, where two readings are one
-said_so : (known : List ℕ → Bool) (name : List ℕ) (read : Result Said WordFault) (one two : Result Command WordFault) → one ≡ two
-    → Gives command_said read (read_known known one name) → Gives command_said read (read_known known two name)
-said_so known name read one two same gives = subst (λ (r : Result Command WordFault). Gives command_said read (read_known known r name)) same gives
+said_so : (known : List ℕ → Bool) (name : List ℕ) (read : Result Said WordFault)
+    (one two : Result Command WordFault) → one ≡ two
+    → Gives command_said read (read_known known one name)
+    → Gives command_said read (read_known known two name)
+said_so known name read one two same gives =
+    subst
+    (λ (r : Result Command WordFault). Gives command_said read
+    (read_known known r name)) same gives
 
-pub change_found : (k : Known) (name : List ℕ) (words : List (List ℕ)) (read : Result Said WordFault) → is_among all_change_names name ≡ true
-    → Gives command_said read (read_known (knows k) ((change_row false name).read words) name) → Gives command_said read (command_spelled (knows k) name words)
-change_found k name words read is gives =
-    said_so (knows k) name read ((change_row false name).read words) (all (knows k) name words) (sym (changes_found all_change_names (question_rows ++ other_rows (knows k)) (Err Word) name words is)) gives
+pub change_found : (name : List ℕ) (words : List (List ℕ)) (read : Result Said WordFault)
+    → is_among all_change_names name ≡ true
+    → Gives command_said read (read_known is_built ((change_row false name).read words) name)
+    → Gives command_said read (command_spelled is_built name words)
+change_found name words read is gives =
+    said_so is_built name read ((change_row false name).read words) (all is_built name words)
+    (sym (changes_found all_change_names (question_rows ++ other_rows is_built)
+    (Err Word) name words is)) gives
 
-pub question_found : (k : Known) (name : List ℕ) (words : List (List ℕ)) (read : Result Said WordFault) → is_among all_change_names name ≡ false → is_row question_rows name ≡ true
-    → Gives command_said read (read_known (knows k) (command_read_by question_rows (Err Word) name words) name) → Gives command_said read (command_spelled (knows k) name words)
-question_found k name words read change is gives =
-    said_so (knows k) name read (asked name words) (all (knows k) name words)
-    (sym (changes_passed all_change_names (question_rows ++ other_rows (knows k)) (Err Word) name words change ∙ rows_found question_rows (other_rows (knows k)) (Err Word) name words is)) gives
+pub question_found : (name : List ℕ) (words : List (List ℕ)) (read : Result Said WordFault)
+    → is_among all_change_names name ≡ false → is_row question_rows name ≡ true
+    → Gives command_said read
+    (read_known is_built (command_read_by question_rows (Err Word) name words) name)
+    → Gives command_said read (command_spelled is_built name words)
+question_found name words read change is gives =
+    said_so is_built name read (asked name words) (all is_built name words)
+    (sym (changes_passed all_change_names (question_rows ++ other_rows is_built)
+    (Err Word) name words change
+    ∙ rows_found question_rows (other_rows is_built) (Err Word) name words is)) gives
 
-pub other_found : (k : Known) (name : List ℕ) (words : List (List ℕ)) (read : Result Said WordFault) → is_among all_change_names name ≡ false → is_row question_rows name ≡ false
-    → Gives command_said read (read_known (knows k) (command_read_by (other_rows (knows k)) (Err Word) name words) name) → Gives command_said read (command_spelled (knows k) name words)
-other_found k name words read change question gives =
-    said_so (knows k) name read (others (knows k) name words) (all (knows k) name words)
-    (sym (changes_passed all_change_names (question_rows ++ other_rows (knows k)) (Err Word) name words change ∙ rows_passed question_rows (other_rows (knows k)) (Err Word) name words question)) gives
+pub other_found : (name : List ℕ) (words : List (List ℕ)) (read : Result Said WordFault)
+    → is_among all_change_names name ≡ false → is_row question_rows name ≡ false
+    → Gives command_said read
+    (read_known is_built (command_read_by (other_rows is_built) (Err Word) name words) name)
+    → Gives command_said read (command_spelled is_built name words)
+other_found name words read change question gives =
+    said_so is_built name read (others is_built name words) (all is_built name words)
+    (sym (changes_passed all_change_names (question_rows ++ other_rows is_built)
+    (Err Word) name words change
+    ∙ rows_passed question_rows (other_rows is_built) (Err Word) name words question)) gives
 
 -- ---- what isn't built isn't known
 
-unknown_by : (known : List ℕ → Bool) (name word : List ℕ) (test : Bool) → bytes_eq name word ≡ test → known word ≡ false → known name ≡ true → test ≡ false
-unknown_by known name word true is none some = absurd (let wrong : true ≡ false = sym some ∙ ap known (same_bytes name word is) ∙ none in cc)
+unknown_by : (known : List ℕ → Bool) (name word : List ℕ) (test : Bool) → bytes_eq name word ≡ test
+    → known word ≡ false → known name ≡ true → test ≡ false
+unknown_by known name word true is none some =
+    absurd (let wrong : true ≡ false = sym some ∙ ap known (same_bytes name word is) ∙ none in cc)
 unknown_by known name word false is none some = refl
 
-no_save : (k : Known) → knows k (codes "save") ≡ false
-no_save Bits = refl
-no_save Built = refl
+pub not_save : (name : List ℕ) → is_built name ≡ true → bytes_eq name (codes "save") ≡ false
+not_save name is =
+    unknown_by is_built name (codes "save") (bytes_eq name (codes "save")) refl refl is
 
-no_try : (k : Known) → knows k (codes "try") ≡ false
-no_try Bits = refl
-no_try Built = refl
-
-pub not_save : (k : Known) (name : List ℕ) → knows k name ≡ true → bytes_eq name (codes "save") ≡ false
-not_save k name is = unknown_by (knows k) name (codes "save") (bytes_eq name (codes "save")) refl (no_save k) is
-
-pub not_try : (k : Known) (name : List ℕ) → knows k name ≡ true → bytes_eq name (codes "try") ≡ false
-not_try k name is = unknown_by (knows k) name (codes "try") (bytes_eq name (codes "try")) refl (no_try k) is
+pub not_try : (name : List ℕ) → is_built name ≡ true → bytes_eq name (codes "try") ≡ false
+not_try name is = unknown_by is_built name (codes "try") (bytes_eq name (codes "try")) refl refl is

@@ -1,7 +1,6 @@
 pub mod Lines
 pub mod Numbers
 pub mod Commands
-pub mod Known
 pub mod Placing
 pub mod Said
 pub mod Scripts

@@ -18,4 +18,4 @@ mod words;
 pub use commands::{Command, SaveName, Script, ScriptLine};
 pub use faults::{ScriptFault, ScriptKind};
 pub use numbers::number;
-pub use reading::{read_bit_script, read_script};
+pub use reading::read_script;

@@ -1,15 +1,13 @@
 ghost use Rattle.std.specs.Prelude.{◌≡◌, ◌≤◌, ◌^◌, All, IfOk, IfErr};
 ghost use Rattle.vox_read.specs.Contents.{AreModels};
-ghost use Rattle.script.specs.Commands.{is_built, is_for_bits};
-ghost use Rattle.script.specs.Fitting.{CommandFits, RisesFrom, IsForBits};
-ghost use Rattle.script.specs.Known.{knows};
+ghost use Rattle.script.specs.Commands.{is_built};
+ghost use Rattle.script.specs.Fitting.{CommandFits, RisesFrom};
 ghost use Rattle.script.specs.Placing.{command_read};
 ghost use Rattle.script.specs.Scripts.{command_in, line_command, commands_of, RefusesWords};
 
 use crate::commands::{Command, Script, add_line};
 use crate::faults::{ScriptFault, ScriptKind};
 use crate::lines::{is_plain_text, split_line, trim_return};
-use crate::names::Known;
 use crate::placing::place_command;
 use crate::spelling::spell_command;
 use crate::words::{Words, begins_comment};
@@ -25,6 +23,7 @@ const LINES: u32 = 100_000;
 /// the faults.
 ///
 /// Where memory runs out the answer is [`ScriptKind::Memory`] at line 0, whatever the text says.
+#[tactic(auto, using(crate::proofs::Steps::begins))]
 pub fn read_script(
     alloc: Global,
     bytes: &[u8],
@@ -42,50 +41,12 @@ pub fn read_script(
         (λ script. All (λ l. CommandFits (2 ^ side) models.now l.command) script) }
     ensures rises { IfOk result (λ script. RisesFrom 1 script) }
 {
-    read_known(alloc, bytes, side, models, Known::Built)
-}
-
-/// The same for a run over bits, which knows fill, erase, stamp and count alone.
-pub fn read_bit_script(
-    alloc: Global,
-    bytes: &[u8],
-    side: Side,
-    models: &Models,
-) -> Result<Script, ScriptFault>
-    requires { AreModels models.now }
-    ensures read { IfOk result
-        (λ script. commands_of is_for_bits side models.now bytes.now ≡ Ok script) }
-    ensures refused { IfErr result
-        (λ fault. RefusesWords fault (commands_of is_for_bits side models.now bytes.now)) }
-    ensures fits { IfOk result
-        (λ script. All (λ l. CommandFits (2 ^ side) models.now l.command) script) }
-    ensures rises { IfOk result (λ script. RisesFrom 1 script) }
-    ensures for_bits { IfOk result (λ script. All (λ l. IsForBits l.command) script) }
-{
-    read_known(alloc, bytes, side, models, Known::Bits)
-}
-
-// The same for the commands that are known.
-#[tactic(auto, using(crate::proofs::Steps::begins))]
-fn read_known(
-    alloc: Global,
-    bytes: &[u8],
-    side: Side,
-    models: &Models,
-    known: Known,
-) -> Result<Script, ScriptFault>
-    requires { AreModels models.now }
-    ensures read { IfOk result
-        (λ script. commands_of (knows known) side models.now bytes.now ≡ Ok script) }
-    ensures refused { IfErr result
-        (λ fault. RefusesWords fault (commands_of (knows known) side models.now bytes.now)) }
-{
     let mut lines = Vec::new(alloc);
     let mut rest = bytes;
     let mut number: u32 = 1;
     while !rest.is_empty() {
         let (line, after) = split_line(rest);
-        let command = match read_line(number, line, side, models, known) {
+        let command = match read_line(number, line, side, models) {
             Ok(command) => command,
             Err(kind) => return Err(ScriptFault { line: number, kind }),
         };
@@ -103,11 +64,10 @@ fn read_line(
     line: &[u8],
     side: Side,
     models: &Models,
-    known: Known,
 ) -> Result<Option<Command>, ScriptKind>
     requires { AreModels models.now }
     ensures says { result ≡ line_command
-        (command_read (knows known) (2 ^ side) models.now) number line.now }
+        (command_read is_built (2 ^ side) models.now) number line.now }
     ensures few { IfOk result (λ _. number ≤ 100000) }
 {
     if number > LINES {
@@ -117,18 +77,13 @@ fn read_line(
     if !is_plain_text(text) {
         return Err(ScriptKind::NotAscii);
     }
-    read_words(&mut Words::new(text), side, models, known)
+    read_words(&mut Words::new(text), side, models)
 }
 
 #[tactic(auto, unfolding(crate::specs::Scripts::command_in))]
-fn read_words(
-    words: &mut Words,
-    side: Side,
-    models: &Models,
-    known: Known,
-) -> Result<Option<Command>, ScriptKind>
+fn read_words(words: &mut Words, side: Side, models: &Models) -> Result<Option<Command>, ScriptKind>
     requires { AreModels models.now }
-    ensures { result ≡ command_in (command_read (knows known) (2 ^ side) models.now) words.old }
+    ensures { result ≡ command_in (command_read is_built (2 ^ side) models.now) words.old }
 {
     let Some(first) = words.next_word() else {
         return Ok(None);
@@ -136,7 +91,7 @@ fn read_words(
     if begins_comment(first) {
         return Ok(None);
     }
-    Ok(Some(read_command(first, words, side, models, known)?))
+    Ok(Some(read_command(first, words, side, models)?))
 }
 
 // The command of this name with the words that follow it.
@@ -146,12 +101,11 @@ fn read_command(
     words: &mut Words,
     side: Side,
     models: &Models,
-    known: Known,
 ) -> Result<Command, ScriptKind>
     requires { AreModels models.now }
-    ensures { result ≡ command_read (knows known) (2 ^ side) models.now name.now words.old }
+    ensures { result ≡ command_read is_built (2 ^ side) models.now name.now words.old }
 {
-    match spell_command(name, words, known) {
+    match spell_command(name, words) {
         Ok(said) => place_command(&said, side, models),
         Err(fault) => Err(ScriptKind::from(fault)),
     }

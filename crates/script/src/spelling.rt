@@ -3,11 +3,10 @@ ghost use Rattle.script.specs.declared.commands.Command.TheVariants.{Ask, Head};
 ghost use Rattle.history_model.specs.declared.questions.Question.TheVariants.{Bounds};
 ghost use Rattle.plain_text.specs.declared.faults.WordFault.TheVariants.{Word};
 ghost use Rattle.plain_text.specs.Steps.{Gives};
-ghost use Rattle.script.specs.Commands.{change_row, question_rows, other_rows, command_read_by, read_known, at_words, get_spelled, count_spelled, faces_spelled, command_alone, way_spelled, sized, step_by, ray_spelled, forget_spelled, same_spelled, command_spelled};
-ghost use Rattle.script.specs.Known.{knows};
+ghost use Rattle.script.specs.Commands.{is_built, change_row, question_rows, other_rows, command_read_by, read_known, at_words, get_spelled, count_spelled, faces_spelled, command_alone, way_spelled, sized, step_by, ray_spelled, forget_spelled, same_spelled, command_spelled};
 ghost use Rattle.script.specs.Said.{step_said, way_said, asked_command, command_said};
 
-use crate::names::{Known, is_change, is_question};
+use crate::names::{is_built, is_change, is_question};
 use crate::numbers::number;
 use crate::said::{Asked, Said, Step, Steps};
 use crate::words::Words;
@@ -34,46 +33,46 @@ const AT: &[u8] = b"at";
 
 /// The command of this name with the words that follow it, wherever it may lie.
 #[tactic(auto, using(crate::proofs::RowLaws::change_found, crate::proofs::RowLaws::question_found, crate::proofs::RowLaws::other_found))]
-pub(crate) fn spell_command(name: &[u8], words: &mut Words, known: Known) -> Result<Said, WordFault>
-    ensures { Gives command_said result (command_spelled (knows known) name.now words.old) }
+pub(crate) fn spell_command(name: &[u8], words: &mut Words) -> Result<Said, WordFault>
+    ensures { Gives command_said result (command_spelled is_built name.now words.old) }
 {
     if is_change(name) {
-        return spell_change(name, words, known);
+        return spell_change(name, words);
     }
     if is_question(name) {
-        return spell_ask(name, words, known);
+        return spell_ask(name, words);
     }
-    spell_other(name, words, known)
+    spell_other(name, words)
 }
 
-fn spell_change(name: &[u8], words: &mut Words, known: Known) -> Result<Said, WordFault>
+fn spell_change(name: &[u8], words: &mut Words) -> Result<Said, WordFault>
     ensures { Gives command_said result
-        (read_known (knows known) ((change_row false name.now).read words.old) name.now) }
+        (read_known is_built ((change_row false name.now).read words.old) name.now) }
 {
-    if !known.has(name) {
+    if !is_built(name) {
         return Err(WordFault::Word);
     }
     let act = read_act(name, words)?;
     Ok(Said::Edit(act, false))
 }
 
-fn spell_ask(name: &[u8], words: &mut Words, known: Known) -> Result<Said, WordFault>
+fn spell_ask(name: &[u8], words: &mut Words) -> Result<Said, WordFault>
     ensures { Gives command_said result
-        (read_known (knows known)
+        (read_known is_built
         (command_read_by question_rows (Err Word) name.now words.old) name.now) }
 {
-    let asked = spell_question(name, words, known)?;
+    let asked = spell_question(name, words)?;
     Ok(Said::Ask(None, asked))
 }
 
 // The question of this name with the words that follow it.
 #[tactic(auto, using(crate::proofs::RowLaws::not_save), unfolding(crate::specs::Commands::question_rows))]
-fn spell_question(name: &[u8], words: &mut Words, known: Known) -> Result<Asked, WordFault>
+fn spell_question(name: &[u8], words: &mut Words) -> Result<Asked, WordFault>
     ensures { Gives asked_command result
-        (read_known (knows known)
+        (read_known is_built
         (command_read_by question_rows (Err Word) name.now words.old) name.now) }
 {
-    if !known.has(name) {
+    if !is_built(name) {
         return Err(WordFault::Word);
     }
     if name == GET {
@@ -168,12 +167,12 @@ fn read_size(digits: &[u8], low: bool) -> Result<Step, WordFault>
 
 // A command that is no change and no question.
 #[tactic(auto, using(crate::proofs::RowLaws::not_try), unfolding(crate::specs::Commands::other_rows))]
-fn spell_other(name: &[u8], words: &mut Words, known: Known) -> Result<Said, WordFault>
+fn spell_other(name: &[u8], words: &mut Words) -> Result<Said, WordFault>
     ensures { Gives command_said result
-        (read_known (knows known)
-        (command_read_by (other_rows (knows known)) (Err Word) name.now words.old) name.now) }
+        (read_known is_built
+        (command_read_by (other_rows is_built) (Err Word) name.now words.old) name.now) }
 {
-    if !known.has(name) {
+    if !is_built(name) {
         return Err(WordFault::Word);
     }
     if name == FORGET {
@@ -186,7 +185,7 @@ fn spell_other(name: &[u8], words: &mut Words, known: Known) -> Result<Said, Wor
         return spell_head(words);
     }
     if name == AT {
-        return spell_at(words, known);
+        return spell_at(words);
     }
     Err(WordFault::Word)
 }
@@ -222,12 +221,12 @@ fn spell_head(words: &mut Words) -> Result<Said, WordFault>
 
 // A question of the version that stands before it.
 #[tactic(auto, unfolding(crate::specs::Commands::at_words))]
-fn spell_at(words: &mut Words, known: Known) -> Result<Said, WordFault>
-    ensures { Gives command_said result (at_words (knows known) words.old) }
+fn spell_at(words: &mut Words) -> Result<Said, WordFault>
+    ensures { Gives command_said result (at_words is_built words.old) }
 {
     let version = take_word(words)?;
     let name = take_word(words)?;
-    let asked = spell_question(name, words, known)?;
+    let asked = spell_question(name, words)?;
     let v = number_by::<Words>(version)?;
     Ok(Said::Ask(Some(v), asked))
 }

@@ -1,6 +1,6 @@
 use crate::acts::{ONE, boxed, cell};
 use history_model::{Act, Question, Way};
-use script::{Command, ScriptLine, number, read_bit_script, read_script};
+use script::{Command, ScriptLine, number, read_script};
 use std::test::Fail;
 use vox_read::read_models;
 use vw_cell::{Ball, Boxed, Cell, Side};
@@ -162,25 +162,6 @@ fn comments_and_empty_lines_are_no_commands(rt: HostRuntime) -> Result<(), Fail>
     ] {
         let script = read_script(rt.alloc(), text.as_bytes(), side, &models)?;
         assert_eq!(rt; lines_of(&script.lines), lines, "at {text}");
-    }
-    Ok(())
-}
-
-#[test]
-fn a_run_over_bits_knows_four_commands(rt: HostRuntime) -> Result<(), Fail> {
-    let side = Side::new(8).ok_or("a side")?;
-    let models = read_models(rt.alloc(), &ONE)?;
-    for &(text, known) in &[
-        ("fill 0 0 0 1 1 1", true),
-        ("erase 0 0 0 1 1 1", true),
-        ("stamp 0 0 0 0", true),
-        ("count 0 0 0 1 1 1", true),
-        ("ball 0 0 0 1", false),
-        ("undo", false),
-        ("at 0 count 0 0 0 1 1 1", false),
-    ] {
-        let read = read_bit_script(rt.alloc(), text.as_bytes(), side, &models);
-        assert!(rt; read.is_ok() == known, "at {text}");
     }
     Ok(())
 }
