@@ -15,7 +15,7 @@ use Rattle.node_shapes.proofs.TreeLaws.{shape_of-child}
 use Rattle.block_walk.specs.Roots.{IsBlockOf, HasBlock, cells_of}
 use Rattle.block_walk.specs.Parts.{placed}
 use Rattle.block_walk.specs.Looks.{IsClearRound}
-use Rattle.block_walk.specs.Landings.{IsAtMost, IsBelow, LandsAt, corner_of, land_of, from_place}
+use Rattle.block_walk.specs.Landings.{IsAtMost, IsStepDown, LandsAt, corner_of, land_of, from_place}
 use Rattle.block_walk.specs.declared.landings.Landing.{Landing}
 use Rattle.block_walk.proofs.BlockLaws.{clear_block}
 use Rattle.block_walk.proofs.LookLaws.{twice, placed_set, same_cell, told_leaf, block_still}
@@ -47,7 +47,7 @@ octant_cells level l t k p e h lt i =
     let one : P (level - 1) = λ j. placed_set level (shape_of t) k p h lt j ∙ ap (λ (s : Shape). cells_of (level - 1) s p) (sym (shape_of-child t k)) in
     subst P (sym e) one i
 
-pub lands_next : (held : List Tree) (top : ℕ) (c : Cell) (at next : Landing) (t : Tree) → 1 ≤ at.level → IsAtMost at.inner c → IsBelow held at next → LandsAt held top c at t → LandsAt held top c next t
+pub lands_next : (held : List Tree) (top : ℕ) (c : Cell) (at next : Landing) (t : Tree) → 1 ≤ at.level → IsAtMost at.inner c → IsStepDown held at next → LandsAt held top c at t → LandsAt held top c next t
 lands_next held top c at next t h m b l =
     let half = block_side next.level in
     let k = b.octant in
@@ -74,14 +74,14 @@ lands_next held top c at next t h m b l =
     }
 
 -- the cell is no nearer to the corner of the lower block
-pub still_at_most : (held : List Tree) (at next : Landing) (c : Cell) → IsAtMost at.inner c → IsBelow held at next → IsAtMost next.inner c
+pub still_at_most : (held : List Tree) (at next : Landing) (c : Cell) → IsAtMost at.inner c → IsStepDown held at next → IsAtMost next.inner c
 still_at_most held at next c m b =
     let px : at.inner.x ≡ half_x b.octant * block_side next.level + next.inner.x = ap (λ (p : Cell). p.x) b.place in
     let py : at.inner.y ≡ half_y b.octant * block_side next.level + next.inner.y = ap (λ (p : Cell). p.y) b.place in
     let pz : at.inner.z ≡ half_z b.octant * block_side next.level + next.inner.z = ap (λ (p : Cell). p.z) b.place in
     record { x = omega (arith, px, m.x); y = omega (arith, py, m.y); z = omega (arith, pz, m.z) }
 
-pub has_below : (held : List Tree) (at next : Landing) → IsBelow held at next → HasBlock held at.level at.block → HasBlock held next.level next.block
+pub has_below : (held : List Tree) (at next : Landing) → IsStepDown held at next → HasBlock held at.level at.block → HasBlock held next.level next.block
 has_below held at next b h = record {
   tree = child_of h.tree b.octant;
   is_block = subst (λ (n : ℕ). IsBlockOf held n next.block (child_of h.tree b.octant)) (sym b.level) (b.block h.tree h.is_block);

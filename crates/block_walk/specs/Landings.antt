@@ -16,7 +16,7 @@ pub record IsAtMost (a b : Cell) : Type 0 where
   pub z : a.z ≤ b.z
 
 -- one octant of a block further down, with the same cell
-pub record IsBelow (held : List Tree) (at next : Landing) : Type 0 where
+pub record IsStepDown (held : List Tree) (at next : Landing) : Type 0 where
   pub octant : ℕ
   pub is : octant < 8
   pub level : next.level ≡ at.level - 1

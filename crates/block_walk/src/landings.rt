@@ -3,7 +3,7 @@ ghost use Rattle.vw_cell.specs.Places.{block_side, IsInWorld};
 ghost use Rattle.node_shapes.specs.Tree.{Tree};
 ghost use Rattle.block_walk.specs.Roots.{HasBlock, IsBlockOf};
 ghost use Rattle.block_walk.specs.Parts.{placed};
-ghost use Rattle.block_walk.specs.Landings.{IsAtMost, IsBelow, LandsAt};
+ghost use Rattle.block_walk.specs.Landings.{IsAtMost, IsStepDown, LandsAt};
 
 use crate::blocks::{half_side, octant_name};
 use node_shapes::Name;
@@ -49,7 +49,7 @@ fn below<B: Blocks>(store: &mut B, at: Landing) -> Landing
     requires level { (1 ≤ at.level) × (at.level ≤ 10) }
     requires block { HasBlock (B.seen store.old).held at.level at.block }
     requires inner { IsInWorld (block_side at.level) at.inner }
-    ensures below { IsBelow (B.seen store.old).held at result }
+    ensures below { IsStepDown (B.seen store.old).held at result }
     ensures seen { B.seen store.new ≡ B.seen store.old }
     ensures rests { B.rests store.old store.new }
 {

@@ -5,16 +5,16 @@ use Rattle.std.proofs.lemmas.Bool.{cases_lt}
 use Rattle.node_shapes.specs.declared.names.Name.{Name}
 use Rattle.node_places.specs.Names.{IsName, named}
 use Rattle.entry_words.specs.declared.key_words.Pairs.{Pairs}
-use Rattle.entry_words.specs.Slots.{slot_place, tag_place, IsBucket}
+use Rattle.entry_words.specs.Slots.{tag_place, IsBucket}
 use Rattle.entry_words.specs.Coding.{key_from}
-use Rattle.entry_words.specs.Words.{Written, pairs_at, book_in, key_in, HasEntry, IsLowestFree, AreLiveBelow}
+use Rattle.entry_words.specs.Words.{Written, book_in, key_in, leaf_bits_in, pairs_in, HasEntry, IsLowestFree, AreLiveBelow}
 use Rattle.entry_words.specs.Tags.{tag_of_words, AreTagged, LacksByte, IsFirstPlace}
 use Rattle.entry_words.proofs.SlotLaws.{tag_slot, slot_name}
 use Rattle.entry_words.proofs.TagLaws.{tag_some, tag_same}
 
 -- a slot with no tag is free, and one with a tag is live
 free_slot : (w : Written) (tags : List ℕ) (n : Name) → AreTagged w tags → IsName w.plan n → slice_index tags (tag_place w.plan n) ≡ 0 → book_in w n ≡ 0
-free_slot w tags n t a z = elim (cases_lt 0 (book_in w n)) [ inl some ↦ absurd (omega (arith, t.live n a some, tag_some n.level (slice_index w.bits (slot_place w.plan n)) (pairs_at w.pairs (slot_place w.plan n)), z)) | inr none ↦ omega arith ]
+free_slot w tags n t a z = elim (cases_lt 0 (book_in w n)) [ inl some ↦ absurd (omega (arith, t.live n a some, tag_some n.level (leaf_bits_in w n) (pairs_in w n), z)) | inr none ↦ omega arith ]
 
 live_slot : (w : Written) (tags : List ℕ) (n : Name) → AreTagged w tags → IsName w.plan n → slice_index tags (tag_place w.plan n) ≢ 0 → 1 ≤ book_in w n
 live_slot w tags n t a ne = elim (cases_lt 0 (book_in w n)) [ inl some ↦ some | inr none ↦ absurd (ne (t.free n a (omega arith))) ]
@@ -43,8 +43,8 @@ lowest_free w tags level bucket start end i t b e f first =
     }
 
 -- a slot with the tag and the words of the key has the key
-pub has_key : (w : Written) (tags : List ℕ) (level bucket start end i from bits tag at : ℕ) (pairs : Pairs) → AreTagged w tags → IsBucket w.plan level bucket → start ≡ tag_place w.plan (named level bucket 0) → end ≤ start + w.plan.cap → tag ≡ tag_of_words level bits pairs → start ≤ from → IsFirstPlace tags from end tag i → at ≡ slot_place w.plan (named level bucket (i - start)) → key_from level (slice_index w.bits at) (pairs_at w.pairs at) ≡ key_from level bits pairs → HasEntry w (named level bucket (i - start)) (key_from level bits pairs)
-has_key w tags level bucket start end i from bits tag at pairs t b e f g le place q key =
+pub has_key : (w : Written) (tags : List ℕ) (level bucket start end i from bits tag : ℕ) (pairs : Pairs) → AreTagged w tags → IsBucket w.plan level bucket → start ≡ tag_place w.plan (named level bucket 0) → end ≤ start + w.plan.cap → tag ≡ tag_of_words level bits pairs → start ≤ from → IsFirstPlace tags from end tag i → key_in w (named level bucket (i - start)) ≡ key_from level bits pairs → HasEntry w (named level bucket (i - start)) (key_from level bits pairs)
+has_key w tags level bucket start end i from bits tag pairs t b e f g le place key =
     let low : start ≤ i = omega (arith, place.at_least) in
     let high : i < end = place.below in
     let slot : i - start < w.plan.cap = omega arith in
@@ -53,7 +53,7 @@ has_key w tags level bucket start end i from bits tag at pairs t b e f g le plac
     record {
       is_name = name;
       live = live_slot w tags (named level bucket (i - start)) t name (λ z. omega (arith, z, ap (slice_index tags) tagged, place.there, g, tag_some level bits pairs));
-      key_is = ap (λ (k : ℕ). key_from level (slice_index w.bits k) (pairs_at w.pairs k)) (sym q) ∙ key;
+      key_is = key;
     }
 
 -- no live slot of the bucket before the place `to` has the key
@@ -71,10 +71,9 @@ lacks_to w tags level bucket start from to bits tag pairs t b e g before none s 
 ]
 
 -- a slot with other words has another key
-pub lacks_one : (w : Written) (level bucket start i bits at : ℕ) (pairs : Pairs) → start ≤ i → at ≡ slot_place w.plan (named level bucket (i - start)) → LacksBefore w level bucket start i bits pairs → key_from level (slice_index w.bits at) (pairs_at w.pairs at) ≢ key_from level bits pairs → LacksBefore w level bucket start (i + 1) bits pairs
-lacks_one w level bucket start i bits at pairs low q before other s lt le live = elim (cases_lt (start + s) i) [
+pub lacks_one : (w : Written) (level bucket start i bits : ℕ) (pairs : Pairs) → start ≤ i → LacksBefore w level bucket start i bits pairs → key_in w (named level bucket (i - start)) ≢ key_from level bits pairs → LacksBefore w level bucket start (i + 1) bits pairs
+lacks_one w level bucket start i bits pairs low before other s lt le live = elim (cases_lt (start + s) i) [
   | inl less ↦ before s lt less live
   | inr more ↦ (let slot : s ≡ i - start = omega arith in
-      let same : slot_place w.plan (named level bucket s) ≡ at = ap (λ (k : ℕ). slot_place w.plan (named level bucket k)) slot ∙ sym q in
-      λ p. other (ap (λ (k : ℕ). key_from level (slice_index w.bits k) (pairs_at w.pairs k)) (sym same) ∙ p))
+      λ p. other (ap (λ (k : ℕ). key_in w (named level bucket k)) (sym slot) ∙ p))
 ]

@@ -71,3 +71,7 @@ same_words level a b r s e f = cc
 pub row_key : (level a b : ℕ) (r s : Pairs) → 1 ≤ level → r ≡ s → key_from level a r ≡ key_from level b s
 row_key zero a b r s h e = absurd (omega arith)
 row_key (suc level) a b r s h e = ap (λ (x : Pairs). key_from (suc level) a x) e
+
+pub leaf_key : (level a b : ℕ) (r s : Pairs) → level ≡ 0 → a ≡ b → key_from level a r ≡ key_from level b s
+leaf_key zero a b r s z e = ap (λ (x : ℕ). key_from zero x r) e
+leaf_key (suc level) a b r s z e = absurd (omega (arith, z))

@@ -1,5 +1,5 @@
 -- Different names stand at different places.
-use Rattle.std.proofs.Common.{◌≡◌, ℕ, zero, suc, ◌+◌, ◌-◌, ◌*◌, ◌<◌, ◌≤◌, List, inl, inr, ap, subst, arith}
+use Rattle.std.proofs.Common.{◌≡◌, ℕ, zero, suc, ◌+◌, ◌-◌, ◌*◌, ◌<◌, ◌≤◌, List, inl, inr, ap, ◌∙◌, subst, arith}
 use Rattle.std.proofs.lemmas.Bool.{cases_order}
 use Rattle.std.proofs.lemmas.Nat.{mul-add-lt, mul-le, same_from_place}
 use Rattle.sums.specs.Sums.{sum_below, sum_below-suc}
@@ -9,13 +9,16 @@ use Rattle.node_words.specs.Plans.{Layout, IsPlan}
 use Rattle.node_places.specs.Spots.{levels, buckets_at}
 use Rattle.node_places.specs.Names.{IsName, named}
 use Rattle.std.specs.Prelude.{slice_index}
-use Rattle.entry_words.specs.Slots.{slot_place, tag_place, number_of_slots, slots_at, IsBucket, AreEnds}
+use Rattle.entry_words.specs.Slots.{slot_place, tag_place, nodes_begin, number_of_slots, slots_at, IsBucket, AreEnds}
 
 sum_grows : (f : ℕ → ℕ) (l d : ℕ) → sum_below l f ≤ sum_below (l + d) f
 sum_grows f l zero = let same : l + 0 ≡ l = omega arith in rw same (omega arith)
 sum_grows f l (suc d) =
     let more : l + suc d ≡ suc (l + d) = omega arith in
     rw more (omega (arith, sum_below-suc (l + d) f, sum_grows f l d))
+
+pub levels_grow : (f : ℕ → ℕ) (l : ℕ) → 1 ≤ l → sum_below 1 f ≤ sum_below l f
+levels_grow f l h = subst (λ (n : ℕ). sum_below 1 f ≤ sum_below n f) (omega (arith, h)) (sum_grows f 1 (l - 1))
 
 part_ends : (f : ℕ → ℕ) (l m i : ℕ) → l < m → i ≤ f l → sum_below l f + i ≤ sum_below m f
 part_ends f l m i before inside =
@@ -42,6 +45,24 @@ pub place_in : (p : Layout) (n : Name) → IsName p n → slot_place p n < numbe
 place_in p n i =
     let below = in_level p n i in
     omega (arith, part_ends (slots_at p) n.level (levels p) (suc (n.slot * buckets_at p n.level + n.bucket)) i.level_in (omega (arith, below)))
+
+-- a leaf's slot lies before those of nodes
+pub leaf_before : (p : Layout) (n : Name) → IsName p n → n.level ≡ 0 → slot_place p n < nodes_begin p
+leaf_before p n i z =
+    let below = in_level p n i in
+    omega (arith, part_ends (slots_at p) n.level 1 (suc (n.slot * buckets_at p n.level + n.bucket)) (omega (arith, z)) (omega (arith, below)))
+
+pub node_behind : (p : Layout) (n : Name) → 1 ≤ n.level → nodes_begin p ≤ slot_place p n
+node_behind p n h = omega (arith, levels_grow (slots_at p) n.level h)
+
+-- what the code finds for the place of a node's words
+pub node_value : (p : Layout) (ends : List ℕ) (n : Name) (at begin : ℕ) → AreEnds p ends → IsName p n → 1 ≤ n.level → at ≡ slot_place p n → begin ≡ slice_index ends 1 → (begin ≤ at) × (at - begin ≡ slot_place p n - nodes_begin p)
+node_value p ends n at begin e i h q f =
+    let start : begin ≡ nodes_begin p = f ∙ e.end 1 (omega arith) in
+    (omega (arith, q, start, node_behind p n h), omega (arith, q, start))
+
+pub node_inside : (p : Layout) (n : Name) (at len : ℕ) → IsName p n → 1 ≤ n.level → at ≡ slot_place p n - nodes_begin p → len ≡ number_of_slots p - nodes_begin p → at < len
+node_inside p n at len i h q l = omega (arith, q, l, place_in p n i, node_behind p n h)
 
 pub place_one : (p : Layout) (m n : Name) → IsName p m → IsName p n → slot_place p m ≡ slot_place p n → m ≡ n
 place_one p m n i j e =
@@ -77,6 +98,11 @@ pub place_inside : (p : Layout) (ends : List ℕ) (n : Name) (at s w b len : ℕ
 place_inside p ends n at s w b len plan e i q f g k l =
     let top : n.level ≤ 11 = omega (arith, i.level_in, plan.side_high) in
     rw (q, f, g, k, l) (omega (arith, e.end n.level top, place_in p n i))
+
+pub leaf_inside : (p : Layout) (ends : List ℕ) (n : Name) (at s w b len : ℕ) → IsPlan p → AreEnds p ends → IsName p n → n.level ≡ 0 → at ≡ n.level → s ≡ n.slot → w ≡ buckets_at p n.level → b ≡ n.bucket → len ≡ nodes_begin p → slice_index ends at + (s * w + b) < len
+leaf_inside p ends n at s w b len plan e i z q f g k l =
+    let top : n.level ≤ 11 = omega (arith, i.level_in, plan.side_high) in
+    rw (q, f, g, k, l) (omega (arith, e.end n.level top, leaf_before p n i z))
 
 bucket_ends : (b c n : ℕ) → b < n → b * c + c ≤ c * n
 bucket_ends b c n lt = let more : (suc b) * c ≤ n * c = mul-le (suc b) c n c (omega arith) (omega arith) in omega (arith, more)

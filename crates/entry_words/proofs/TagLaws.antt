@@ -1,19 +1,21 @@
 -- The words and tags of slots stay right.
-use Rattle.std.proofs.Common.{inl, inr, ◌≡◌, ◌≢◌, ℕ, zero, suc, ◌<◌, ◌≤◌, List, length, set, refl, ap, sym, ◌∙◌, arith, get_or-set_same, get_or-set_other}
+use Rattle.std.proofs.Common.{inl, inr, ◌≡◌, ◌≢◌, ℕ, zero, suc, ◌-◌, ◌<◌, ◌≤◌, List, length, set, refl, ap, sym, subst, ◌∙◌, arith, get_or-set_same, get_or-set_other}
 use Rattle.std.specs.Prelude.{slice_index, replicate}
 use Rattle.std.proofs.lemmas.List.{length-replicate, get_or-replicate, get_or_past}
 use Rattle.std.proofs.lemmas.Bool.{cases_eq, cases_lt}
 use Rattle.node_shapes.specs.declared.names.Name.{Name}
+use Rattle.node_words.specs.declared.keys.Key.{Key}
+use Rattle.node_words.specs.Plans.{Layout}
 use Rattle.node_places.specs.Names.{IsName}
 use Rattle.entry_words.specs.declared.key_words.Pairs.{Pairs}
-use Rattle.entry_words.specs.Slots.{slot_place, tag_place}
+use Rattle.entry_words.specs.Slots.{slot_place, tag_place, nodes_begin}
 use Rattle.entry_words.specs.Coding.{key_from}
-use Rattle.entry_words.specs.Words.{Written, pairs_at, no_pairs, book_in}
+use Rattle.entry_words.specs.Words.{Written, pairs_at, no_pairs, book_in, key_in, leaf_bits_in, pairs_in}
 use Rattle.entry_words.specs.Tags.{tag_of_word, tag_of_words, mixed_words, AreTagged}
-use Rattle.entry_words.specs.Changes.{OtherBooksStay, SetsBook, PutsEntry}
-use Rattle.entry_words.proofs.SlotLaws.{place_one, tag_one}
+use Rattle.entry_words.specs.Changes.{OtherBooksStay, OtherKeysStay, SetsBook, PutsKey, PutsEntry}
+use Rattle.entry_words.proofs.SlotLaws.{place_one, tag_one, node_behind}
 use Rattle.entry_words.proofs.WordLaws.{one_leaf, one_row}
-use Rattle.entry_words.proofs.ReadLaws.{same_words}
+use Rattle.entry_words.proofs.ReadLaws.{same_words, leaf_key, row_key}
 
 pub tag_some : (level bits : ℕ) (pairs : Pairs) → 1 ≤ tag_of_words level bits pairs
 unfolding tag_of_word
@@ -34,8 +36,11 @@ at_place xs i j v lt e = ap (slice_index (set xs i v)) e ∙ get_or-set_same xs 
 abbrev pub with_book : Written → ℕ → ℕ → Written
 with_book w i book = record w { books = set w.books i book }
 
-abbrev pub with_entry : Written → ℕ → ℕ → Pairs → Written
-with_entry w i bits pairs = record { plan = w.plan; books = set w.books i 1; bits = set w.bits i bits; pairs = set w.pairs i pairs }
+abbrev pub with_bits : Written → ℕ → ℕ → Written
+with_bits w i bits = record w { bits = set w.bits i bits }
+
+abbrev pub with_pairs : Written → ℕ → Pairs → Written
+with_pairs w i pairs = record w { pairs = set w.pairs i pairs }
 
 -- the place of another name is another place
 other_place : (w : Written) (m n : Name) (i : ℕ) → IsName w.plan m → IsName w.plan n → i ≡ slot_place w.plan n → m ≢ n → slot_place w.plan m ≢ i
@@ -51,17 +56,46 @@ sets_book w n i book b e lt = record {
   others = other_books w n i book b e;
 }
 
-pub puts_entry : (w : Written) (n : Name) (i bits : ℕ) (pairs : Pairs) → IsName w.plan n → i ≡ slot_place w.plan n → i < length w.books → i < length w.bits → i < length w.pairs → PutsEntry w n (key_from n.level bits pairs) (with_entry w i bits pairs)
-puts_entry w n i bits pairs b e lt lt' lt'' = record {
+-- a leaf's slot has these bits now
+pub puts_bits : (w : Written) (n : Name) (i bits : ℕ) (pairs : Pairs) → IsName w.plan n → n.level ≡ 0 → i ≡ slot_place w.plan n → i < length w.bits → PutsKey w n (key_from n.level bits pairs) (with_bits w i bits)
+puts_bits w n i bits pairs b z e lt = record {
   plan = refl;
-  key_is = rw (sym e) (same_words n.level _ _ _ _ (get_or-set_same w.bits i bits 0 lt') (get_or-set_same w.pairs i pairs no_pairs lt''));
-  book_is = at_place w.books i (slot_place w.plan n) 1 lt (sym e);
-  other_keys = record {
-    each = λ m a ne.
-        let other = other_place w m n i a b e ne in
-        same_words m.level _ _ _ _ (get_or-set_other w.bits i (slot_place w.plan m) bits 0 other) (get_or-set_other w.pairs i (slot_place w.plan m) pairs no_pairs other);
+  books = refl;
+  key_is = leaf_key n.level _ bits _ pairs z (at_place w.bits i (slot_place w.plan n) bits lt (sym e));
+  others = record { each = λ m a ne. same_words m.level _ _ _ _ (get_or-set_other w.bits i (slot_place w.plan m) bits 0 (other_place w m n i a b e ne)) refl };
+}
+
+-- another node's words stand at another place
+other_pairs : (w : Written) (m n : Name) (i : ℕ) → IsName w.plan m → IsName w.plan n → 1 ≤ m.level → 1 ≤ n.level → i ≡ slot_place w.plan n - nodes_begin w.plan → m ≢ n → slot_place w.plan m - nodes_begin w.plan ≢ i
+other_pairs w m n i a b h k e ne = λ q. ne (place_one w.plan m n a b (omega (arith, q, e, node_behind w.plan m h, node_behind w.plan n k)))
+
+-- a node's slot has these words now
+pub puts_pairs : (w : Written) (n : Name) (i bits : ℕ) (pairs : Pairs) → IsName w.plan n → 1 ≤ n.level → i ≡ slot_place w.plan n - nodes_begin w.plan → i < length w.pairs → PutsKey w n (key_from n.level bits pairs) (with_pairs w i pairs)
+puts_pairs w n i bits pairs b h e lt = record {
+  plan = refl;
+  books = refl;
+  key_is = row_key n.level _ bits _ pairs h (ap (pairs_at (set w.pairs i pairs)) (sym e) ∙ get_or-set_same w.pairs i pairs no_pairs lt);
+  others = record {
+    each = λ m a ne. elim (cases_lt 0 m.level) [
+      | inl above ↦ row_key m.level _ _ _ _ above (get_or-set_other w.pairs i (slot_place w.plan m - nodes_begin w.plan) pairs no_pairs (other_pairs w m n i a b above h e ne))
+      | inr leaf ↦ leaf_key m.level _ _ _ _ (omega (arith, leaf)) refl
+    ];
   };
-  other_books = other_books w n i 1 b e;
+}
+
+-- a slot whose key was put is live then
+pub puts_entry : (old mid : Written) (n : Name) (i : ℕ) (key : Key) → PutsKey old n key mid → IsName mid.plan n → i ≡ slot_place mid.plan n → i < length mid.books → PutsEntry old n key (with_book mid i 1)
+puts_entry old mid n i key p b e lt = record {
+  plan = p.plan;
+  key_is = p.key_is;
+  book_is = at_place mid.books i (slot_place mid.plan n) 1 lt (sym e);
+  other_keys = p.others;
+  other_books = record {
+    each = λ m a ne.
+        (other_books mid n i 1 b e).each m (subst (λ (q : Layout). IsName q m) (sym p.plan) a) ne
+        ∙ ap (λ (row : List ℕ). slice_index row (slot_place mid.plan m)) p.books
+        ∙ ap (λ (q : Layout). slice_index old.books (slot_place q m)) p.plan;
+  };
 }
 
 -- slots without words are free
@@ -103,21 +137,15 @@ tagged_clear w tags n i j t b e f lt lt' = record {
   ];
 }
 
--- words that stand at a place have a tag
-tag_read : (level l : ℕ) (all_bits : List ℕ) (all_pairs : List Pairs) (i j bits : ℕ) (pairs : Pairs) → i < length all_bits → i < length all_pairs → j ≡ i → l ≡ level → tag_of_words level bits pairs ≡ tag_of_words l (slice_index (set all_bits i bits) j) (pairs_at (set all_pairs i pairs) j)
-tag_read level l all_bits all_pairs i j bits pairs lt lt' e f =
-    let a : bits ≡ slice_index (set all_bits i bits) j = sym (at_place all_bits i j bits lt e) in
-    let b : pairs ≡ pairs_at (set all_pairs i pairs) j = sym (ap (pairs_at (set all_pairs i pairs)) e ∙ get_or-set_same all_pairs i pairs no_pairs lt') in
-    ap (λ (x : ℕ). tag_of_words x bits pairs) (sym f) ∙ ap (λ (x : ℕ). tag_of_words l x pairs) a ∙ ap (λ (x : Pairs). tag_of_words l (slice_index (set all_bits i bits) j) x) b
+-- the key of a free slot has no tag yet
+pub tagged_key : (w : Written) (tags : List ℕ) (n : Name) (bits : List ℕ) (pairs : List Pairs) → AreTagged w tags → book_in w n ≡ 0 → OtherKeysStay w.plan n (key_in w) (key_in (record w { bits = bits; pairs = pairs })) → AreTagged (record w { bits = bits; pairs = pairs }) tags
+tagged_key w tags n bits pairs t free others = record {
+  free = t.free;
+  live = λ m a h. t.live m a h ∙ tag_same m.level _ _ _ _ (sym (others.each m a (λ q. absurd (omega (arith, h, free, ap (book_in w) q)))));
+}
 
-tag_stays : (level : ℕ) (all_bits : List ℕ) (all_pairs : List Pairs) (i j bits : ℕ) (pairs : Pairs) → j ≢ i → tag_of_words level (slice_index all_bits j) (pairs_at all_pairs j) ≡ tag_of_words level (slice_index (set all_bits i bits) j) (pairs_at (set all_pairs i pairs) j)
-tag_stays level all_bits all_pairs i j bits pairs ne =
-    let a : slice_index all_bits j ≡ slice_index (set all_bits i bits) j = sym (get_or-set_other all_bits i j bits 0 ne) in
-    let b : pairs_at all_pairs j ≡ pairs_at (set all_pairs i pairs) j = sym (get_or-set_other all_pairs i j pairs no_pairs ne) in
-    ap (λ (x : ℕ). tag_of_words level x (pairs_at all_pairs j)) a ∙ ap (λ (x : Pairs). tag_of_words level (slice_index (set all_bits i bits) j) x) b
-
-pub tagged_entry : (w : Written) (tags : List ℕ) (n : Name) (i j bits tag : ℕ) (pairs : Pairs) → AreTagged w tags → IsName w.plan n → i ≡ slot_place w.plan n → j ≡ tag_place w.plan n → i < length w.books → i < length w.bits → i < length w.pairs → j < length tags → tag ≡ tag_of_words n.level bits pairs → AreTagged (with_entry w i bits pairs) (set tags j tag)
-tagged_entry w tags n i j bits tag pairs t b e g lt lt1 lt2 lt3 f = record {
+pub tagged_entry : (w : Written) (tags : List ℕ) (n : Name) (i j tag : ℕ) → AreTagged w tags → IsName w.plan n → i ≡ slot_place w.plan n → j ≡ tag_place w.plan n → i < length w.books → j < length tags → tag ≡ tag_of_words n.level (leaf_bits_in w n) (pairs_in w n) → AreTagged (with_book w i 1) (set tags j tag)
+tagged_entry w tags n i j tag t b e g lt lt3 f = record {
   free = λ m a z. elim (cases_eq (slot_place w.plan m) i) [
     | inl q ↦ absurd (omega (arith, at_place w.books i (slot_place w.plan m) 1 lt q, z))
     | inr ne ↦ (let other = other_tag w m n j a b g (λ q. ne (ap (slot_place w.plan) q ∙ sym e)) in
@@ -125,10 +153,9 @@ tagged_entry w tags n i j bits tag pairs t b e g lt lt1 lt2 lt3 f = record {
   ];
   live = λ m a h. elim (cases_eq (slot_place w.plan m) i) [
     | inl q ↦ (let same : m ≡ n = place_one w.plan m n a b (q ∙ e) in
-        at_place tags j (tag_place w.plan m) tag lt3 (ap (tag_place w.plan) same ∙ sym g) ∙ f ∙ tag_read n.level m.level w.bits w.pairs i (slot_place w.plan m) bits pairs lt1 lt2 q (ap (λ (k : Name). k.level) same))
+        at_place tags j (tag_place w.plan m) tag lt3 (ap (tag_place w.plan) same ∙ sym g) ∙ f ∙ ap (λ (k : Name). tag_of_words k.level (leaf_bits_in w k) (pairs_in w k)) (sym same))
     | inr ne ↦ (let other = other_tag w m n j a b g (λ q. ne (ap (slot_place w.plan) q ∙ sym e)) in
         get_or-set_other tags j (tag_place w.plan m) tag 0 other
-        ∙ t.live m a (omega (arith, h, get_or-set_other w.books i (slot_place w.plan m) 1 0 ne))
-        ∙ tag_stays m.level w.bits w.pairs i (slot_place w.plan m) bits pairs ne)
+        ∙ t.live m a (omega (arith, h, get_or-set_other w.books i (slot_place w.plan m) 1 0 ne)))
   ];
 }

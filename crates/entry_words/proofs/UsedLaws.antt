@@ -6,13 +6,12 @@ use Rattle.node_shapes.specs.declared.names.Name.{Name}
 use Rattle.node_words.specs.Plans.{Layout, IsPlan}
 use Rattle.node_words.proofs.PlanLaws.{few_buckets}
 use Rattle.node_places.specs.Names.{IsName, named}
-use Rattle.entry_words.specs.declared.key_words.Pairs.{Pairs}
 use Rattle.entry_words.specs.Slots.{slot_place, IsBucket}
 use Rattle.entry_words.specs.Words.{Written, book_in}
 use Rattle.entry_words.specs.Used.{bucket_number, IsUnusedFrom, AreUsed}
 use Rattle.entry_words.proofs.SlotLaws.{place_one, slot_name}
 use Rattle.entry_words.proofs.ReadLaws.{default_any}
-use Rattle.entry_words.proofs.TagLaws.{at_place, zero_read, with_book, with_entry}
+use Rattle.entry_words.proofs.TagLaws.{at_place, zero_read, with_book}
 
 -- the number of a bucket lies below that of all
 pub number_inside : (p : Layout) (level bucket len : ℕ) → IsPlan p → IsBucket p level bucket → len ≡ 45056 → bucket_number level bucket < len
@@ -49,8 +48,8 @@ unused_clear w used i u lt = record {
 }
 
 -- a slot is used, and its bucket's number lies behind it then
-pub unused_entry : (w : Written) (used : List ℕ) (n : Name) (i j number bits : ℕ) (pairs : Pairs) → AreUsed w used → IsName w.plan n → i ≡ slot_place w.plan n → j ≡ bucket_number n.level n.bucket → j < length used → slice_index used j ≤ number → n.slot + 1 ≤ number → AreUsed (with_entry w i bits pairs) (set used j number)
-unused_entry w used n i j number bits pairs u b e f lt grows behind = record {
+pub unused_entry : (w : Written) (used : List ℕ) (n : Name) (i j number : ℕ) → AreUsed w used → IsName w.plan n → i ≡ slot_place w.plan n → j ≡ bucket_number n.level n.bucket → j < length used → slice_index used j ≤ number → n.slot + 1 ≤ number → AreUsed (with_book w i 1) (set used j number)
+unused_entry w used n i j number u b e f lt grows behind = record {
   unused = λ m a le. elim (cases_eq (slot_place w.plan m) i) [
     | inl q ↦ (let same : m ≡ n = place_one w.plan m n a b (q ∙ e) in
         let slot : m.slot ≡ n.slot = ap (λ (k : Name). k.slot) same in

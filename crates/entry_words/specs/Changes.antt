@@ -20,6 +20,13 @@ pub record SetsBook (old : Written) (n : Name) (book : ℕ) (new : Written) : Ty
   pub book_is : book_in new n ≡ book
   pub others : OtherBooksStay old.plan n (book_in old) (book_in new)
 
+-- n has this key, and nothing else changed
+pub record PutsKey (old : Written) (n : Name) (key : Key) (new : Written) : Type 0 where
+  pub plan : new.plan ≡ old.plan
+  pub books : new.books ≡ old.books
+  pub key_is : key_in new n ≡ key
+  pub others : OtherKeysStay old.plan n (key_in old) (key_in new)
+
 -- n has this key and one reference, and nothing else changed
 pub record PutsEntry (old : Written) (n : Name) (key : Key) (new : Written) : Type 0 where
   pub plan : new.plan ≡ old.plan

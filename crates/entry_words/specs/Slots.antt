@@ -18,6 +18,10 @@ slot_place p n = sum_below n.level (slots_at p) + (n.slot * buckets_at p n.level
 abbrev pub tag_place : Layout → Name → ℕ
 tag_place p n = sum_below n.level (slots_at p) + (n.bucket * p.cap + n.slot)
 
+-- where the slots of nodes begin: behind those of leaves
+abbrev pub nodes_begin : Layout → ℕ
+nodes_begin p = sum_below 1 (slots_at p)
+
 -- how many slots there are
 abbrev pub number_of_slots : Layout → ℕ
 number_of_slots p = sum_below (levels p) (slots_at p)

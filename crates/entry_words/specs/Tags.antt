@@ -1,12 +1,12 @@
 -- A byte beside the words of each slot, by which a key is found. No contract for users shows it.
-use Rattle.std.specs.Prelude.{◌≡◌, ◌≢◌, ℕ, ◌+◌, ◌*◌, ◌/◌, ◌%◌, ◌^◌, ◌<◌, ◌≤◌, List, length, slice_index}
+use Rattle.std.specs.Prelude.{◌≡◌, ◌≢◌, ℕ, ◌+◌, ◌-◌, ◌*◌, ◌/◌, ◌%◌, ◌^◌, ◌<◌, ◌≤◌, List, length, slice_index}
 use Rattle.std.proofs.Common.{zero, suc}
 use Rattle.node_shapes.specs.declared.names.Name.{Name}
 use Rattle.node_words.specs.Plans.{IsPlan}
 use Rattle.node_places.specs.Names.{IsName}
 use Rattle.entry_words.specs.declared.key_words.Pairs.{Pairs}
 use Rattle.entry_words.specs.declared.key_words.KeyWords.{KeyWords}
-use Rattle.entry_words.specs.Slots.{tag_place, number_of_slots, AreEnds}
+use Rattle.entry_words.specs.Slots.{tag_place, nodes_begin, number_of_slots, AreEnds}
 use Rattle.entry_words.specs.Words.{Written, book_in, leaf_bits_in, pairs_in}
 use Rattle.entry_words.specs.Used.{AreUsed}
 
@@ -41,14 +41,15 @@ pub record AreTagged (w : Written) (tags : List ℕ) : Type 0 where
   pub live : (n : Name) → IsName w.plan n → 1 ≤ book_in w n
       → slice_index tags (tag_place w.plan n) ≡ tag_of_words n.level (leaf_bits_in w n) (pairs_in w n)
 
--- there are words and a tag for each slot of the plan, and a number for each bucket
+-- there are a book, the words of a key and a tag for each slot of the plan, and a number for each
+-- bucket
 pub record AreEntries (w : Written) (buckets ends tags used : List ℕ) : Type 0 where
   pub plan_is : IsPlan w.plan
   pub buckets_are : buckets ≡ w.plan.buckets
   pub ends_are : AreEnds w.plan ends
   pub books_are : length w.books ≡ number_of_slots w.plan
-  pub bits_are : length w.bits ≡ number_of_slots w.plan
-  pub pairs_are : length w.pairs ≡ number_of_slots w.plan
+  pub bits_are : length w.bits ≡ nodes_begin w.plan
+  pub pairs_are : length w.pairs ≡ number_of_slots w.plan - nodes_begin w.plan
   pub tags_are : length tags ≡ number_of_slots w.plan
   pub tagged : AreTagged w tags
   pub used_are : length used ≡ 45056

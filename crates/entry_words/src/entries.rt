@@ -1,15 +1,15 @@
-ghost use Rattle.std.specs.Prelude.{◌≡◌, ◌↔◌, ℕ, ◌+◌, ◌<◌, ◌≤◌, ◌^◌, None, IfOk, IfSome, IsTrue, length, slice_index};
+ghost use Rattle.std.specs.Prelude.{◌≡◌, ◌↔◌, ℕ, ◌+◌, ◌-◌, ◌<◌, ◌≤◌, ◌^◌, None, IfOk, IfSome, IsTrue, length};
 ghost use Rattle.node_shapes.specs.declared.names.Name.{Name};
 ghost use Rattle.node_words.specs.declared.keys.Key.TheVariants.{Node};
 ghost use Rattle.node_words.specs.Plans.{IsPlan};
 ghost use Rattle.node_words.specs.Keys.{bucket_of_key};
 ghost use Rattle.node_places.specs.Spots.{levels, buckets_at};
 ghost use Rattle.node_places.specs.Names.{IsName, HasNames, named, key_bits, key_child};
-ghost use Rattle.entry_words.specs.Slots.{slot_place, tag_place, IsBucket};
-ghost use Rattle.entry_words.specs.Coding.{key_of, key_from, pair_number};
-ghost use Rattle.entry_words.specs.Words.{pairs_at, book_in, key_in, HasEntry, LacksKey, IsLowestFree, AreLiveBelow};
+ghost use Rattle.entry_words.specs.Slots.{slot_place, nodes_begin, tag_place, IsBucket};
+ghost use Rattle.entry_words.specs.Coding.{key_of, pair_number};
+ghost use Rattle.entry_words.specs.Words.{book_in, key_in, pairs_in, HasEntry, LacksKey, IsLowestFree, AreLiveBelow};
 ghost use Rattle.entry_words.specs.Used.{bucket_number, IsUnusedFrom};
-ghost use Rattle.entry_words.specs.Changes.{SetsBook, PutsEntry};
+ghost use Rattle.entry_words.specs.Changes.{SetsBook, PutsKey, PutsEntry};
 
 use crate::ends::ends_of;
 use crate::key_words::{KeyWords, NO_PAIRS, Pairs, half_of};
@@ -27,8 +27,8 @@ use vw_cell::Side;
 ///
 /// For each slot there is a byte, its tag, by which searches pass over most slots of a bucket. The
 /// tags of a bucket stand side by side. Of each bucket is known how far its slots were ever used, and
-/// no search goes on behind that. Contracts see neither. Each slot has a place in the row of
-/// bits and in that of pairs, and is read in one of them, as its level says.
+/// no search goes on behind that. Contracts see neither. The slots of leaves have places in the row
+/// of bits, and those of nodes in that of pairs.
 #[derive(Drop)]
 pub struct EntryWords {
     plan: Plan,
@@ -69,14 +69,15 @@ impl EntryWords {
         let buckets = plan.buckets();
         let ends = ends_of(&buckets, plan.cap());
         let size = ends[usize::from(plan.side().root_level()) + 1];
+        let leaves = ends[1];
         let numbers = bucket_number(11, 0);
         Ok(EntryWords {
             plan: *plan,
             buckets,
             ends,
             books: vec![in alloc; 0; size]?,
-            bits: vec![in alloc; 0; size]?,
-            pairs: vec![in alloc; NO_PAIRS; size]?,
+            bits: vec![in alloc; 0; leaves]?,
+            pairs: vec![in alloc; NO_PAIRS; size - leaves]?,
             tags: vec![in alloc; 0; size]?,
             used: vec![in alloc; 0; numbers]?,
         })
@@ -124,10 +125,9 @@ impl EntryWords {
         requires free { book_in self.old n ≡ 0 }
         ensures { PutsEntry self.old n (key_of n.level words) self.new }
     {
+        self.put_key(n, &words);
         let i = self.place(n);
         let tag = self.tag_place(n);
-        self.bits[i] = words.bits;
-        self.pairs[i] = words.pairs;
         let bucket = bucket_number(n.level, n.bucket);
         self.tags[tag] = tag_of(n.level, &words);
         self.used[bucket] = self.used[bucket].max(u16::from(n.slot) + 1);
@@ -163,7 +163,7 @@ impl EntryWords {
         ensures { result ≡ key_child (key_in self.now n) octant }
     {
         let _plan = self.plan;
-        let word = self.word(self.place(n), octant / 2);
+        let word = self.word(n, octant / 2);
         child_in(half_of(word, octant % 2), n.level - 1)
     }
 
@@ -201,12 +201,12 @@ impl EntryWords {
         let mut from = start;
         while let Some(i) = position(&self.tags, from, end, tag) {
             let slot = (i - start) as u8;
-            let at = self.place(Name {
+            let n = Name {
                 level,
                 bucket,
                 slot,
-            });
-            if self.has_words(at, level, &words) {
+            };
+            if self.has_words(n, &words) {
                 return Some(slot);
             }
             from = i + 1;
@@ -243,18 +243,42 @@ impl EntryWords {
         used.min(usize::from(self.plan.cap()))
     }
 
-    // The place of the words of the name's slot.
+    // The words of the key of a free slot.
+    fn put_key(&mut self, n: Name, words: &KeyWords)
+        requires name { IsName self.old.plan n }
+        requires free { book_in self.old n ≡ 0 }
+        ensures { PutsKey self.old n (key_of n.level words.now) self.new }
+    {
+        if n.level == 0 {
+            let i = self.place(n);
+            self.bits[i] = words.bits;
+        } else {
+            let i = self.node_place(n);
+            self.pairs[i] = words.pairs;
+        }
+    }
+
+    // The place of the book of the name's slot, and of a leaf's bits.
     fn place(&self, n: Name) -> usize
         requires { IsName self.now.plan n }
         ensures value { result ≡ slot_place self.now.plan n }
         ensures books { result < length self.now.books }
-        ensures bits { result < length self.now.bits }
-        ensures pairs { result < length self.now.pairs }
+        ensures bits { n.level ≡ 0 → result < length self.now.bits }
     {
         let level = usize::from(n.level);
         let buckets = usize::from(self.buckets[level]);
         let slot = usize::from(n.slot) * buckets + usize::from(n.bucket);
         self.ends[level] + slot
+    }
+
+    // The place of the words of the name's slot in the row of nodes.
+    fn node_place(&self, n: Name) -> usize
+        requires name { IsName self.now.plan n }
+        requires level { 1 ≤ n.level }
+        ensures value { result ≡ slot_place self.now.plan n - nodes_begin self.now.plan }
+        ensures inside { result < length self.now.pairs }
+    {
+        self.place(n) - self.ends[1]
     }
 
     // The place of the tag of the name's slot.
@@ -277,27 +301,25 @@ impl EntryWords {
         self.ends[usize::from(level)] + usize::from(bucket) * cap
     }
 
-    // A word of the node's key in the slot at a place.
-    fn word(&self, i: usize, number: u8) -> u64
-        requires pairs { i < length self.now.pairs }
+    // A word of the key of a node.
+    fn word(&self, n: Name, number: u8) -> u64
+        requires name { IsName self.now.plan n }
+        requires level { 1 ≤ n.level }
         requires number { number < 4 }
-        ensures { result ≡ pair_number (pairs_at self.now.pairs i) number }
+        ensures { result ≡ pair_number (pairs_in self.now n) number }
     {
-        self.pairs[i].word(number)
+        self.pairs[self.node_place(n)].word(number)
     }
 
-    // Whether the words of the slot at a place say the same key.
-    fn has_words(&self, i: usize, level: u8, words: &KeyWords) -> bool
-        requires bits { i < length self.now.bits }
-        requires pairs { i < length self.now.pairs }
-        ensures { IsTrue result ↔
-            (key_from level (slice_index self.now.bits i) (pairs_at self.now.pairs i)
-            ≡ key_of level words.now) }
+    // Whether the name's words are those of this key.
+    fn has_words(&self, n: Name, words: &KeyWords) -> bool
+        requires { IsName self.now.plan n }
+        ensures { IsTrue result ↔ (key_in self.now n ≡ key_of n.level words.now) }
     {
-        if level == 0 {
-            return self.bits[i] == words.bits;
+        if n.level == 0 {
+            return self.bits[self.place(n)] == words.bits;
         }
-        self.pairs[i].is(&words.pairs)
+        self.pairs[self.node_place(n)].is(&words.pairs)
     }
 }
 

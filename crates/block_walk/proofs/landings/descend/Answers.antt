@@ -1,6 +1,6 @@
 use Rattle.std.proofs.Common.{◌∙◌, subst, arith}
 use Rattle.node_words.specs.Held.{Seen}
-use Rattle.block_walk.specs.Landings.{IsBelow}
+use Rattle.block_walk.specs.Landings.{IsStepDown}
 use Rattle.block_walk.proofs.LandLaws.{lands_next, still_at_most, has_below}
 use Rattle.block_walk.proofs.landings.descend.Goals as goal
 
@@ -9,7 +9,7 @@ loop-at-preserved g c =
     let seen = g.B.Blocks.seen in
     let was = c.loop-at.invariant in
     let next = c.below-at.result in
-    let b : IsBelow (seen c.args.store.now).held c.loop-at.at next = subst (λ (s : Seen). IsBelow s.held c.loop-at.at next) was.same c.below-at.ensures.below in
+    let b : IsStepDown (seen c.args.store.now).held c.loop-at.at next = subst (λ (s : Seen). IsStepDown s.held c.loop-at.at next) was.same c.below-at.ensures.below in
     record {
       level = omega (arith, b.level, was.level);
       inner = b.inner;

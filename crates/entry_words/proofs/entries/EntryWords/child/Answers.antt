@@ -1,8 +1,7 @@
-use Rattle.std.proofs.Common.{◌∙◌, ap, subst, ◌/◌, ◌%◌, ℕ}
+use Rattle.std.proofs.Common.{◌∙◌, ap, subst, ◌%◌, ℕ}
 use Rattle.node_words.specs.Plans.{IsPlan}
-use Rattle.entry_words.specs.Coding.{pair_number}
 use Rattle.node_places.specs.KeyWords.{half}
-use Rattle.entry_words.specs.Words.{Written, pairs_at}
+use Rattle.entry_words.specs.Words.{Written}
 use Rattle.entry_words.proofs.ReadLaws.{child_small, child_read_at}
 use Rattle.entry_words.proofs.entries.EntryWords.child.Goals as goal
 
@@ -10,11 +9,11 @@ pub child_in-requires : goal.child_in-requires
 child_in-requires c =
     let w = c.args.self.now in
     let p = subst (λ (v : Written). IsPlan v.plan) c.self.view_is c.self.invariant.plan_is in
-    let e = c.half_of.ensures ∙ ap (λ (x : ℕ). half (c.args.octant % 2) x) (c.word-word.ensures ∙ ap (λ (i : ℕ). pair_number (pairs_at w.pairs i) (c.args.octant / 2)) c.place.ensures.value) in
+    let e = c.half_of.ensures ∙ ap (λ (x : ℕ). half (c.args.octant % 2) x) c.word-word.ensures in
     child_small w.plan c.args.n.level _ _ c.args.octant c.half_of.result p c.requires.level c.requires.octant c.requires.names e
 
 pub returns : goal.returns
 returns c =
     let w = c.args.self.now in
-    let e = c.half_of.ensures ∙ ap (λ (x : ℕ). half (c.args.octant % 2) x) (c.word-word.ensures ∙ ap (λ (i : ℕ). pair_number (pairs_at w.pairs i) (c.args.octant / 2)) c.place.ensures.value) in
+    let e = c.half_of.ensures ∙ ap (λ (x : ℕ). half (c.args.octant % 2) x) c.word-word.ensures in
     c.child_in.ensures.child ∙ child_read_at c.args.n.level _ _ c.args.octant c.half_of.result c.requires.level c.requires.octant e

@@ -1,9 +1,9 @@
-use Rattle.std.proofs.Common.{inl, inr, ◌≡◌, ◌<◌, ◌≤◌, ◌+◌, ℕ, sym, subst, arith, List, refl, ◌∙◌, Bool}
-use Rattle.std.specs.Prelude.{slice_index, IsTrue}
+use Rattle.std.proofs.Common.{inl, inr, ◌≡◌, ◌<◌, ◌≤◌, ◌+◌, ◌-◌, ℕ, sym, subst, arith, List, refl, ◌∙◌, Bool}
+use Rattle.std.specs.Prelude.{IsTrue}
 use Rattle.std.proofs.lemmas.Bool.{cases_lt}
 use Rattle.node_places.specs.Names.{named}
-use Rattle.entry_words.specs.Coding.{key_of, key_from}
-use Rattle.entry_words.specs.Words.{Written, pairs_at, book_in}
+use Rattle.entry_words.specs.Coding.{key_of}
+use Rattle.entry_words.specs.Words.{Written, book_in, key_in}
 use Rattle.entry_words.specs.Tags.{AreTagged, LacksByte, IsFirstPlace}
 use Rattle.entry_words.proofs.FindLaws.{has_key, lacks_to, lacks_one}
 use Rattle.entry_words.proofs.ReadLaws.{untrue}
@@ -15,8 +15,8 @@ returns-then-has_words-clause-found c =
     let end : ℕ = start + c.used_of-used.result in
     let tagged = subst (λ (w : Written). AreTagged w c.self.inside.tags.items) c.self.view_is c.self.invariant.tagged in
     let place = subst (λ (tags : List ℕ). IsFirstPlace tags c.loop-i.from end c.tag_of-tag.result c.in-Some.i) c.deref.ensures.value c.in-Some.ensures.found in
-    has_key c.args.self.now c.self.inside.tags.items c.args.level c.args.bucket start end c.in-Some.i c.loop-i.from c.args.words.bits c.tag_of-tag.result c.place-at.result c.args.words.pairs
-    tagged c.requires c.start-start.ensures.value (omega (arith, c.used_of-used.ensures.within)) c.tag_of-tag.ensures c.loop-i.invariant.low place c.place-at.ensures.value (subst (λ (b : Bool). IsTrue b → key_from c.args.level (slice_index c.args.self.now.bits c.place-at.result) (pairs_at c.args.self.now.pairs c.place-at.result) ≡ key_of c.args.level c.args.words) c.if-has_words.true c.has_words.ensures.0 refl)
+    has_key c.args.self.now c.self.inside.tags.items c.args.level c.args.bucket start end c.in-Some.i c.loop-i.from c.args.words.bits c.tag_of-tag.result c.args.words.pairs
+    tagged c.requires c.start-start.ensures.value (omega (arith, c.used_of-used.ensures.within)) c.tag_of-tag.ensures c.loop-i.invariant.low place (subst (λ (b : Bool). IsTrue b → key_in c.args.self.now (named c.args.level c.args.bucket (c.in-Some.i - start)) ≡ key_of c.args.level c.args.words) c.if-has_words.true c.has_words.ensures.0 refl)
 
 pub loop-i-preserved : goal.loop-i-preserved
 loop-i-preserved c =
@@ -29,7 +29,7 @@ loop-i-preserved c =
     record {
       low = omega (arith, c.loop-i.invariant.low, place.at_least);
       high = omega (arith, place.below);
-      lacks = lacks_one c.args.self.now c.args.level c.args.bucket start c.in-Some.i c.args.words.bits c.place-at.result c.args.words.pairs (omega (arith, c.loop-i.invariant.low, place.at_least)) c.place-at.ensures.value before (λ q. untrue (sym (c.has_words.ensures.1 q) ∙ c.if-has_words.false));
+      lacks = lacks_one c.args.self.now c.args.level c.args.bucket start c.in-Some.i c.args.words.bits c.args.words.pairs (omega (arith, c.loop-i.invariant.low, place.at_least)) before (λ q. untrue (sym (c.has_words.ensures.1 q) ∙ c.if-has_words.false));
     }
 
 pub returns-clause-none : goal.returns-clause-none
