@@ -1,5 +1,5 @@
 -- Different names stand at different places.
-use Rattle.std.proofs.Common.{◌≡◌, ℕ, zero, suc, ◌+◌, ◌-◌, ◌*◌, ◌<◌, ◌≤◌, List, inl, inr, ap, ◌∙◌, subst, arith}
+use Rattle.std.proofs.Common.{◌≡◌, ℕ, zero, suc, ◌+◌, ◌-◌, ◌*◌, ◌^◌, ◌<◌, ◌≤◌, List, inl, inr, ap, sym, ◌∙◌, subst, arith}
 use Rattle.std.proofs.lemmas.Bool.{cases_order}
 use Rattle.std.proofs.lemmas.Nat.{mul-add-lt, mul-le, same_from_place}
 use Rattle.sums.specs.Sums.{sum_below, sum_below-suc}
@@ -9,7 +9,7 @@ use Rattle.node_words.specs.Plans.{Layout, IsPlan}
 use Rattle.node_places.specs.Spots.{levels, buckets_at}
 use Rattle.node_places.specs.Names.{IsName, named}
 use Rattle.std.specs.Prelude.{slice_index}
-use Rattle.entry_words.specs.Slots.{slot_place, tag_place, nodes_begin, number_of_slots, slots_at, IsBucket, AreEnds}
+use Rattle.entry_words.specs.Slots.{bucket_place, slot_place, leaf_place, node_place, tag_place, leaf_buckets, number_of_buckets, number_of_slots, IsBucket, AreEnds}
 
 sum_grows : (f : ℕ → ℕ) (l d : ℕ) → sum_below l f ≤ sum_below (l + d) f
 sum_grows f l zero = let same : l + 0 ≡ l = omega arith in rw same (omega arith)
@@ -38,53 +38,72 @@ parts f l m i j of_l of_m same =
           ]
     ]
 
-in_level : (p : Layout) (n : Name) → IsName p n → n.slot * buckets_at p n.level + n.bucket < slots_at p n.level
-in_level p n i = let in_row = mul-add-lt n.slot (buckets_at p n.level) n.bucket p.cap i.slot_in i.bucket_in in omega (arith, in_row)
+pub name_bucket : (p : Layout) (n : Name) → IsName p n → IsBucket p n.level n.bucket
+name_bucket p n i = record { level_in = i.level_in; bucket_in = i.bucket_in }
 
+-- a bucket lies before the end of all, those of leaves first
+pub bucket_in : (p : Layout) (level bucket : ℕ) → IsBucket p level bucket → bucket_place p level bucket < number_of_buckets p
+bucket_in p level bucket i = omega (arith, part_ends (buckets_at p) level (levels p) (suc bucket) i.level_in (omega (arith, i.bucket_in)))
+
+bucket_one : (p : Layout) (m n : Name) → IsName p m → IsName p n → bucket_place p m.level m.bucket ≡ bucket_place p n.level n.bucket → (m.level ≡ n.level) × (m.bucket ≡ n.bucket)
+bucket_one p m n i j e = parts (buckets_at p) m.level n.level m.bucket n.bucket i.bucket_in j.bucket_in e
+
+pub behind_leaves : (p : Layout) (level bucket : ℕ) → 1 ≤ level → leaf_buckets p ≤ bucket_place p level bucket
+behind_leaves p level bucket h = omega (arith, levels_grow (buckets_at p) level h)
+
+pub some_leaves : (p : Layout) → 1 ≤ levels p → leaf_buckets p ≤ number_of_buckets p
+some_leaves p h = levels_grow (buckets_at p) (levels p) h
+
+-- the place of a slot's book
 pub place_in : (p : Layout) (n : Name) → IsName p n → slot_place p n < number_of_slots p
-place_in p n i =
-    let below = in_level p n i in
-    omega (arith, part_ends (slots_at p) n.level (levels p) (suc (n.slot * buckets_at p n.level + n.bucket)) i.level_in (omega (arith, below)))
-
--- a leaf's slot lies before those of nodes
-pub leaf_before : (p : Layout) (n : Name) → IsName p n → n.level ≡ 0 → slot_place p n < nodes_begin p
-leaf_before p n i z =
-    let below = in_level p n i in
-    omega (arith, part_ends (slots_at p) n.level 1 (suc (n.slot * buckets_at p n.level + n.bucket)) (omega (arith, z)) (omega (arith, below)))
-
-pub node_behind : (p : Layout) (n : Name) → 1 ≤ n.level → nodes_begin p ≤ slot_place p n
-node_behind p n h = omega (arith, levels_grow (slots_at p) n.level h)
-
--- what the code finds for the place of a node's words
-pub node_value : (p : Layout) (ends : List ℕ) (n : Name) (at begin : ℕ) → AreEnds p ends → IsName p n → 1 ≤ n.level → at ≡ slot_place p n → begin ≡ slice_index ends 1 → (begin ≤ at) × (at - begin ≡ slot_place p n - nodes_begin p)
-node_value p ends n at begin e i h q f =
-    let start : begin ≡ nodes_begin p = f ∙ e.end 1 (omega arith) in
-    (omega (arith, q, start, node_behind p n h), omega (arith, q, start))
-
-pub node_inside : (p : Layout) (n : Name) (at len : ℕ) → IsName p n → 1 ≤ n.level → at ≡ slot_place p n - nodes_begin p → len ≡ number_of_slots p - nodes_begin p → at < len
-node_inside p n at len i h q l = omega (arith, q, l, place_in p n i, node_behind p n h)
+place_in p n i = mul-add-lt n.slot (number_of_buckets p) (bucket_place p n.level n.bucket) p.cap i.slot_in (bucket_in p n.level n.bucket (name_bucket p n i))
 
 pub place_one : (p : Layout) (m n : Name) → IsName p m → IsName p n → slot_place p m ≡ slot_place p n → m ≡ n
 place_one p m n i j e =
-    let level = parts (slots_at p) m.level n.level (m.slot * buckets_at p m.level + m.bucket) (n.slot * buckets_at p n.level + n.bucket) (in_level p m i) (in_level p n j) e in
-    let width : buckets_at p m.level ≡ buckets_at p n.level = ap (buckets_at p) level.0 in
-    let same : m.slot * buckets_at p n.level + m.bucket ≡ n.slot * buckets_at p n.level + n.bucket = subst (λ (w : ℕ). m.slot * w + m.bucket ≡ n.slot * buckets_at p n.level + n.bucket) width level.1 in
-    let slot = same_from_place m.slot m.bucket n.slot n.bucket (buckets_at p n.level) (omega (arith, i.bucket_in, width)) j.bucket_in same in
-    same_name m n level.0 slot.1 slot.0
+    let same = same_from_place m.slot (bucket_place p m.level m.bucket) n.slot (bucket_place p n.level n.bucket) (number_of_buckets p)
+    (bucket_in p m.level m.bucket (name_bucket p m i)) (bucket_in p n.level n.bucket (name_bucket p n j)) e in
+    let at = bucket_one p m n i j same.1 in
+    same_name m n at.0 at.1 same.0
 
-tag_in_level : (p : Layout) (n : Name) → IsName p n → n.bucket * p.cap + n.slot < slots_at p n.level
-tag_in_level p n i = mul-add-lt n.bucket p.cap n.slot (buckets_at p n.level) i.bucket_in i.slot_in
+-- the place of a leaf's bits
+leaf_bucket : (p : Layout) (n : Name) → IsName p n → n.level ≡ 0 → n.bucket < leaf_buckets p
+leaf_bucket p n i z = omega (arith, part_ends (buckets_at p) n.level 1 (suc n.bucket) (omega (arith, z)) (omega (arith, i.bucket_in)))
+
+pub leaf_in : (p : Layout) (n : Name) → IsName p n → n.level ≡ 0 → leaf_place p n < leaf_buckets p * p.cap
+leaf_in p n i z = mul-add-lt n.slot (leaf_buckets p) n.bucket p.cap i.slot_in (leaf_bucket p n i z)
+
+pub leaf_one : (p : Layout) (m n : Name) → IsName p m → IsName p n → m.level ≡ 0 → n.level ≡ 0 → leaf_place p m ≡ leaf_place p n → m ≡ n
+leaf_one p m n i j y z e =
+    let same = same_from_place m.slot m.bucket n.slot n.bucket (leaf_buckets p) (leaf_bucket p m i y) (leaf_bucket p n j z) e in
+    same_name m n (y ∙ sym z) same.1 same.0
+
+-- the place of a node's words
+node_bucket : (p : Layout) (n : Name) → IsName p n → 1 ≤ n.level → bucket_place p n.level n.bucket - leaf_buckets p < number_of_buckets p - leaf_buckets p
+node_bucket p n i h = omega (arith, bucket_in p n.level n.bucket (name_bucket p n i), behind_leaves p n.level n.bucket h)
+
+pub node_in : (p : Layout) (n : Name) → IsName p n → 1 ≤ n.level → node_place p n < (number_of_buckets p - leaf_buckets p) * p.cap
+node_in p n i h = mul-add-lt n.slot (number_of_buckets p - leaf_buckets p) (bucket_place p n.level n.bucket - leaf_buckets p) p.cap i.slot_in (node_bucket p n i h)
+
+pub node_one : (p : Layout) (m n : Name) → IsName p m → IsName p n → 1 ≤ m.level → 1 ≤ n.level → node_place p m ≡ node_place p n → m ≡ n
+node_one p m n i j h k e =
+    let same = same_from_place m.slot (bucket_place p m.level m.bucket - leaf_buckets p) n.slot (bucket_place p n.level n.bucket - leaf_buckets p) (number_of_buckets p - leaf_buckets p) (node_bucket p m i h) (node_bucket p n j k) e in
+    let at = bucket_one p m n i j (omega (arith, same.1, behind_leaves p m.level m.bucket h, behind_leaves p n.level n.bucket k)) in
+    same_name m n at.0 at.1 same.0
+
+-- the place of a slot's tag
+pub tags_in : (p : Layout) (level bucket : ℕ) → IsBucket p level bucket → bucket_place p level bucket * p.cap + p.cap ≤ number_of_slots p
+tags_in p level bucket i =
+    let more : suc (bucket_place p level bucket) * p.cap ≤ number_of_slots p = mul-le (suc (bucket_place p level bucket)) p.cap (number_of_buckets p) p.cap (omega (arith, bucket_in p level bucket i)) (omega arith) in
+    omega (arith, more)
 
 pub tag_in : (p : Layout) (n : Name) → IsName p n → tag_place p n < number_of_slots p
-tag_in p n i =
-    let below = tag_in_level p n i in
-    omega (arith, part_ends (slots_at p) n.level (levels p) (suc (n.bucket * p.cap + n.slot)) i.level_in (omega (arith, below)))
+tag_in p n i = omega (arith, tags_in p n.level n.bucket (name_bucket p n i), i.slot_in)
 
 pub tag_one : (p : Layout) (m n : Name) → IsName p m → IsName p n → tag_place p m ≡ tag_place p n → m ≡ n
 tag_one p m n i j e =
-    let level = parts (slots_at p) m.level n.level (m.bucket * p.cap + m.slot) (n.bucket * p.cap + n.slot) (tag_in_level p m i) (tag_in_level p n j) e in
-    let slot = same_from_place m.bucket m.slot n.bucket n.slot p.cap i.slot_in j.slot_in level.1 in
-    same_name m n level.0 slot.0 slot.1
+    let same = same_from_place (bucket_place p m.level m.bucket) m.slot (bucket_place p n.level n.bucket) n.slot p.cap i.slot_in j.slot_in e in
+    let at = bucket_one p m n i j same.0 in
+    same_name m n at.0 at.1 same.1
 
 -- the tags of a bucket stand side by side
 pub tag_slot : (p : Layout) (level bucket slot : ℕ) → tag_place p (named level bucket 0) + slot ≡ tag_place p (named level bucket slot)
@@ -93,23 +112,20 @@ tag_slot p level bucket slot = omega arith
 pub slot_name : (p : Layout) (level bucket slot : ℕ) → IsBucket p level bucket → slot < p.cap → IsName p (named level bucket slot)
 slot_name p level bucket slot i lt = record { level_in = i.level_in; bucket_in = i.bucket_in; slot_in = lt }
 
--- what the code finds for a name's place lies below the number of slots
-pub place_inside : (p : Layout) (ends : List ℕ) (n : Name) (at s w b len : ℕ) → IsPlan p → AreEnds p ends → IsName p n → at ≡ n.level → s ≡ n.slot → w ≡ buckets_at p n.level → b ≡ n.bucket → len ≡ number_of_slots p → slice_index ends at + (s * w + b) < len
-place_inside p ends n at s w b len plan e i q f g k l =
-    let top : n.level ≤ 11 = omega (arith, i.level_in, plan.side_high) in
-    rw (q, f, g, k, l) (omega (arith, e.end n.level top, place_in p n i))
-
-pub leaf_inside : (p : Layout) (ends : List ℕ) (n : Name) (at s w b len : ℕ) → IsPlan p → AreEnds p ends → IsName p n → n.level ≡ 0 → at ≡ n.level → s ≡ n.slot → w ≡ buckets_at p n.level → b ≡ n.bucket → len ≡ nodes_begin p → slice_index ends at + (s * w + b) < len
-leaf_inside p ends n at s w b len plan e i z q f g k l =
-    let top : n.level ≤ 11 = omega (arith, i.level_in, plan.side_high) in
-    rw (q, f, g, k, l) (omega (arith, e.end n.level top, leaf_before p n i z))
-
-bucket_ends : (b c n : ℕ) → b < n → b * c + c ≤ c * n
-bucket_ends b c n lt = let more : (suc b) * c ≤ n * c = mul-le (suc b) c n c (omega arith) (omega arith) in omega (arith, more)
-
--- what the code finds for a bucket's first slot has the slots of the bucket behind it
-pub start_inside : (p : Layout) (ends : List ℕ) (level bucket : ℕ) (at b c len : ℕ) → IsPlan p → AreEnds p ends → IsBucket p level bucket → at ≡ level → b ≡ bucket → c ≡ p.cap → len ≡ number_of_slots p → slice_index ends at + b * c + p.cap ≤ len
-start_inside p ends level bucket at b c len plan e i q f g l =
+-- what the code finds for a bucket's place
+pub bucket_value : (p : Layout) (ends : List ℕ) (level bucket at b : ℕ) → IsPlan p → AreEnds p ends → IsBucket p level bucket → at ≡ level → b ≡ bucket → slice_index ends at + b ≡ bucket_place p level bucket
+bucket_value p ends level bucket at b plan e i q f =
     let top : level ≤ 11 = omega (arith, i.level_in, plan.side_high) in
-    let slots : bucket * p.cap + p.cap ≤ slots_at p level = bucket_ends bucket p.cap (buckets_at p level) i.bucket_in in
-    rw (q, f, g, l) (omega (arith, e.end level top, part_ends (slots_at p) level (levels p) (bucket * p.cap + p.cap) i.level_in slots))
+    rw (q, f) (omega (arith, e.end level top))
+
+-- what the code computes stays small
+pub buckets_small : (p : Layout) (ends : List ℕ) → IsPlan p → AreEnds p ends → number_of_buckets p < 2 ^ 20
+buckets_small p ends plan e =
+    let top : levels p ≤ 11 = omega (arith, plan.side_high) in
+    omega (arith, e.end (levels p) top, e.small (levels p) top)
+
+pub product_small : (a e : ℕ) → a ≤ 256 → e < 2 ^ 20 → a * e < 2 ^ 30
+product_small a e few low = omega (arith, mul-le a e 256 (2 ^ 20) few (omega (arith, low)))
+
+pub product_small_too : (e a : ℕ) → e < 2 ^ 20 → a ≤ 256 → e * a < 2 ^ 30
+product_small_too e a low few = omega (arith, mul-le e a (2 ^ 20) 256 (omega (arith, low)) few)

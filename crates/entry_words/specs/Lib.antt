@@ -1,4 +1,5 @@
 pub mod Slots
+pub mod Rows
 pub mod Coding
 pub mod Words
 pub mod Used

@@ -2,11 +2,11 @@
 use Rattle.std.specs.Prelude.{◌≡◌, ◌≢◌, ℕ, ◌+◌, ◌-◌, ◌*◌, ◌/◌, ◌%◌, ◌^◌, ◌<◌, ◌≤◌, List, length, slice_index}
 use Rattle.std.proofs.Common.{zero, suc}
 use Rattle.node_shapes.specs.declared.names.Name.{Name}
-use Rattle.node_words.specs.Plans.{IsPlan}
+use Rattle.node_words.specs.Plans.{Layout, IsPlan}
 use Rattle.node_places.specs.Names.{IsName}
 use Rattle.entry_words.specs.declared.key_words.Pairs.{Pairs}
 use Rattle.entry_words.specs.declared.key_words.KeyWords.{KeyWords}
-use Rattle.entry_words.specs.Slots.{tag_place, nodes_begin, number_of_slots, AreEnds}
+use Rattle.entry_words.specs.Slots.{tag_place, leaf_buckets, number_of_buckets, number_of_slots, AreEnds}
 use Rattle.entry_words.specs.Words.{Written, book_in, leaf_bits_in, pairs_in}
 use Rattle.entry_words.specs.Used.{AreUsed}
 
@@ -41,19 +41,35 @@ pub record AreTagged (w : Written) (tags : List ℕ) : Type 0 where
   pub live : (n : Name) → IsName w.plan n → 1 ≤ book_in w n
       → slice_index tags (tag_place w.plan n) ≡ tag_of_words n.level (leaf_bits_in w n) (pairs_in w n)
 
--- there are a book, the words of a key and a tag for each slot of the plan, and a number for each
--- bucket
-pub record AreEntries (w : Written) (buckets ends tags used : List ℕ) : Type 0 where
+-- what stands beside the words of slots: the buckets of each level and of those before it, how many
+-- buckets there are, a tag for each slot, a number for each bucket, and how many items the rows have
+-- room for
+pub record Beside : Type 0 where
+  pub buckets : List ℕ
+  pub ends : List ℕ
+  pub width : ℕ
+  pub tags : List ℕ
+  pub used : List ℕ
+  pub room_for_books : ℕ
+  pub room_for_bits : ℕ
+  pub room_for_pairs : ℕ
+
+-- each slot of the plan has room
+pub record HasRoom (p : Layout) (b : Beside) : Type 0 where
+  pub books : number_of_slots p ≤ b.room_for_books
+  pub bits : leaf_buckets p * p.cap ≤ b.room_for_bits
+  pub pairs : (number_of_buckets p - leaf_buckets p) * p.cap ≤ b.room_for_pairs
+
+pub record AreEntries (w : Written) (b : Beside) : Type 0 where
   pub plan_is : IsPlan w.plan
-  pub buckets_are : buckets ≡ w.plan.buckets
-  pub ends_are : AreEnds w.plan ends
-  pub books_are : length w.books ≡ number_of_slots w.plan
-  pub bits_are : length w.bits ≡ nodes_begin w.plan
-  pub pairs_are : length w.pairs ≡ number_of_slots w.plan - nodes_begin w.plan
-  pub tags_are : length tags ≡ number_of_slots w.plan
-  pub tagged : AreTagged w tags
-  pub used_are : length used ≡ 45056
-  pub unused : AreUsed w used
+  pub buckets_are : b.buckets ≡ w.plan.buckets
+  pub ends_are : AreEnds w.plan b.ends
+  pub width_is : b.width ≡ number_of_buckets w.plan
+  pub room_is : HasRoom w.plan b
+  pub tags_are : length b.tags ≡ number_of_slots w.plan
+  pub tagged : AreTagged w b.tags
+  pub used_are : length b.used ≡ number_of_buckets w.plan
+  pub unused : AreUsed w b.used
 
 -- no byte of this part of a row is the one
 abbrev pub LacksByte : List ℕ → ℕ → ℕ → ℕ → Type 0

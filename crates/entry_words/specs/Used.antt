@@ -1,12 +1,9 @@
 -- How far the slots of buckets were ever used. No contract for users shows it.
-use Rattle.std.specs.Prelude.{◌≡◌, ℕ, ◌+◌, ◌*◌, ◌<◌, ◌≤◌, List, slice_index}
+use Rattle.std.specs.Prelude.{◌≡◌, ℕ, ◌<◌, ◌≤◌, List, slice_index}
 use Rattle.node_shapes.specs.declared.names.Name.{Name}
 use Rattle.node_places.specs.Names.{IsName, named}
+use Rattle.entry_words.specs.Slots.{bucket_place}
 use Rattle.entry_words.specs.Words.{Written, book_in}
-
--- the place of a bucket among those of all levels, each level having room for 4,096
-abbrev pub bucket_number : ℕ → ℕ → ℕ
-bucket_number level bucket = level * 4096 + bucket
 
 -- no slot of the bucket from this one on is live
 abbrev pub IsUnusedFrom : Written → ℕ → ℕ → ℕ → Type 0
@@ -16,4 +13,4 @@ IsUnusedFrom w level bucket from =
 -- no slot is live from where its bucket's slots were never used
 pub record AreUsed (w : Written) (used : List ℕ) : Type 0 where
   pub unused : (n : Name) → IsName w.plan n
-      → slice_index used (bucket_number n.level n.bucket) ≤ n.slot → book_in w n ≡ 0
+      → slice_index used (bucket_place w.plan n.level n.bucket) ≤ n.slot → book_in w n ≡ 0

@@ -1,14 +1,15 @@
 -- The words of all slots of a plan, and how they are read as books and keys.
-use Rattle.std.specs.Prelude.{◌≡◌, ◌≢◌, ℕ, ◌-◌, ◌<◌, ◌≤◌, List, slice_index, slice_index_or}
+use Rattle.std.specs.Prelude.{◌≡◌, ◌≢◌, ℕ, ◌<◌, ◌≤◌, List, slice_index, slice_index_or}
 use Rattle.node_shapes.specs.declared.names.Name.{Name}
 use Rattle.node_words.specs.declared.keys.Key.{Key}
 use Rattle.node_words.specs.Plans.{Layout}
 use Rattle.node_places.specs.Names.{IsName, named}
 use Rattle.entry_words.specs.declared.key_words.Pairs.{Pairs}
-use Rattle.entry_words.specs.Slots.{slot_place, nodes_begin}
+use Rattle.entry_words.specs.Slots.{slot_place, leaf_place, node_place}
 use Rattle.entry_words.specs.Coding.{key_from}
 
--- the book of each slot, the bits of each leaf's slot, and the words of each node's
+-- the book of each slot, the bits of each leaf's slot, and the words of each node's, as far as the
+-- rows go; a slot behind them is free
 pub record Written : Type 0 where
   pub plan : Layout
   pub books : List ℕ
@@ -25,12 +26,12 @@ pairs_at pairs i = slice_index_or pairs i no_pairs
 abbrev pub book_in : Written → Name → ℕ
 book_in w n = slice_index w.books (slot_place w.plan n)
 
--- the bits of a leaf's name, and the words of a node's, whose row begins with level 1
+-- the bits of a leaf's name, and the words of a node's
 abbrev pub leaf_bits_in : Written → Name → ℕ
-leaf_bits_in w n = slice_index w.bits (slot_place w.plan n)
+leaf_bits_in w n = slice_index w.bits (leaf_place w.plan n)
 
 abbrev pub pairs_in : Written → Name → Pairs
-pairs_in w n = pairs_at w.pairs (slot_place w.plan n - nodes_begin w.plan)
+pairs_in w n = pairs_at w.pairs (node_place w.plan n)
 
 -- the key of a name. A slot that was freed keeps its key
 abbrev pub key_in : Written → Name → Key

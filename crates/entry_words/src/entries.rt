@@ -1,18 +1,19 @@
-ghost use Rattle.std.specs.Prelude.{◌≡◌, ◌↔◌, ℕ, ◌+◌, ◌-◌, ◌<◌, ◌≤◌, ◌^◌, None, IfOk, IfSome, IsTrue, length};
+ghost use Rattle.std.specs.Prelude.{◌≡◌, ◌↔◌, ℕ, ◌+◌, ◌-◌, ◌*◌, ◌<◌, ◌≤◌, ◌^◌, None, IfOk, IfSome, IsTrue};
 ghost use Rattle.node_shapes.specs.declared.names.Name.{Name};
 ghost use Rattle.node_words.specs.declared.keys.Key.TheVariants.{Node};
 ghost use Rattle.node_words.specs.Plans.{IsPlan};
 ghost use Rattle.node_words.specs.Keys.{bucket_of_key};
 ghost use Rattle.node_places.specs.Spots.{levels, buckets_at};
 ghost use Rattle.node_places.specs.Names.{IsName, HasNames, named, key_bits, key_child};
-ghost use Rattle.entry_words.specs.Slots.{slot_place, nodes_begin, tag_place, IsBucket};
+ghost use Rattle.entry_words.specs.Slots.{bucket_place, slot_place, leaf_place, node_place, tag_place, leaf_buckets, number_of_buckets, number_of_slots, IsBucket};
 ghost use Rattle.entry_words.specs.Coding.{key_of, pair_number};
 ghost use Rattle.entry_words.specs.Words.{book_in, key_in, pairs_in, HasEntry, LacksKey, IsLowestFree, AreLiveBelow};
-ghost use Rattle.entry_words.specs.Used.{bucket_number, IsUnusedFrom};
+ghost use Rattle.entry_words.specs.Used.{IsUnusedFrom};
 ghost use Rattle.entry_words.specs.Changes.{SetsBook, PutsKey, PutsEntry};
 
 use crate::ends::ends_of;
 use crate::key_words::{KeyWords, NO_PAIRS, Pairs, half_of};
+use crate::rows::{item, put};
 use crate::tags::{position, tag_of};
 use node_places::child_in;
 use node_words::{Key, Name, Plan, bucket_of};
@@ -20,20 +21,22 @@ use std::alloc::{AllocError, Global};
 use std::marker::Model;
 use vw_cell::Side;
 
-/// The books and keys of all slots of a plan. It takes all its memory when it is made.
+/// The books and keys of all slots of a plan. It takes all its memory when it is made, and touches
+/// the words of a slot only when that or a later one is used.
 ///
 /// The first slots of all buckets stand side by side, then the second ones, and so on. Since a node
-/// takes the lowest free slot, few nodes lie close together.
+/// takes the lowest free slot, few nodes lie close together, and rows stay short. A slot behind
+/// their ends is free.
 ///
 /// For each slot there is a byte, its tag, by which searches pass over most slots of a bucket. The
 /// tags of a bucket stand side by side. Of each bucket is known how far its slots were ever used, and
-/// no search goes on behind that. Contracts see neither. The slots of leaves have places in the row
-/// of bits, and those of nodes in that of pairs.
+/// no search goes on behind that. Contracts see neither.
 #[derive(Drop)]
 pub struct EntryWords {
     plan: Plan,
     buckets: [u16; 11],
     ends: [usize; 12],
+    width: usize,
     books: Vec<u32>,
     bits: Vec<u64>,
     pairs: Vec<Pairs>,
@@ -41,10 +44,8 @@ pub struct EntryWords {
     used: Vec<u16>,
 }
 
-/// The most buckets of a level.
-const ROW: usize = 4096;
-
 impl Model for EntryWords {
+    ghost use Rattle.std.specs.Prelude.{vec_capacity};
     ghost use Rattle.entry_words.specs.Words.{Written};
     ghost use Rattle.entry_words.specs.Tags.{AreEntries};
 
@@ -54,32 +55,41 @@ impl Model for EntryWords {
         { plan = w.plan; books = w.books.items; bits = w.bits.items; pairs = w.pairs.items } };
 
     ghost invariant = { λ w. AreEntries
-        (record { plan = w.plan; books = w.books.items; bits = w.bits.items; pairs = w.pairs.items })
-        w.buckets w.ends w.tags.items w.used.items };
+        (record
+        { plan = w.plan; books = w.books.items; bits = w.bits.items; pairs = w.pairs.items })
+        (record {
+          buckets = w.buckets;
+          ends = w.ends;
+          width = w.width;
+          tags = w.tags.items;
+          used = w.used.items;
+          room_for_books = vec_capacity w.books;
+          room_for_bits = vec_capacity w.bits;
+          room_for_pairs = vec_capacity w.pairs;
+        }) };
 }
 
 impl EntryWords {
     /// Free slots, as many as the plan has.
-    #[tactic(auto, using(crate::proofs::EntriesLaws::free_at))]
     pub fn begin(alloc: Global, plan: &Plan) -> Result<EntryWords, AllocError>
         ensures plan { IfOk result (λ w. w.plan ≡ plan.now) }
         ensures is_plan { IfOk result (λ w. IsPlan w.plan) }
         ensures free { IfOk result (λ w. (n : Name) → book_in w n ≡ 0) }
     {
         let buckets = plan.buckets();
-        let ends = ends_of(&buckets, plan.cap());
-        let size = ends[usize::from(plan.side().root_level()) + 1];
-        let leaves = ends[1];
-        let numbers = bucket_number(11, 0);
+        let ends = ends_of(&buckets);
+        let width = ends[usize::from(plan.side().root_level()) + 1];
+        let cap = usize::from(plan.cap());
         Ok(EntryWords {
             plan: *plan,
             buckets,
             ends,
-            books: vec![in alloc; 0; size]?,
-            bits: vec![in alloc; 0; leaves]?,
-            pairs: vec![in alloc; NO_PAIRS; size - leaves]?,
-            tags: vec![in alloc; 0; size]?,
-            used: vec![in alloc; 0; numbers]?,
+            width,
+            books: Vec::with_capacity(alloc, width * cap)?,
+            bits: Vec::with_capacity(alloc, ends[1] * cap)?,
+            pairs: Vec::with_capacity(alloc, (width - ends[1]) * cap)?,
+            tags: vec![in alloc; 0; width * cap]?,
+            used: vec![in alloc; 0; width]?,
         })
     }
 
@@ -105,7 +115,7 @@ impl EntryWords {
         requires { IsName self.now.plan n }
         ensures { result ≡ book_in self.now n }
     {
-        self.books[self.place(n)]
+        item(&self.books, self.place(n), 0)
     }
 
     /// A live node has so many references now.
@@ -116,7 +126,7 @@ impl EntryWords {
         ensures { SetsBook self.old n book self.new }
     {
         let i = self.place(n);
-        self.books[i] = book;
+        put(&mut self.books, i, book, 0);
     }
 
     /// A node of this key comes into the name's slot, which is free, with one reference.
@@ -128,10 +138,10 @@ impl EntryWords {
         self.put_key(n, &words);
         let i = self.place(n);
         let tag = self.tag_place(n);
-        let bucket = bucket_number(n.level, n.bucket);
+        let bucket = self.bucket_place(n.level, n.bucket);
         self.tags[tag] = tag_of(n.level, &words);
         self.used[bucket] = self.used[bucket].max(u16::from(n.slot) + 1);
-        self.books[i] = 1;
+        put(&mut self.books, i, 1, 0);
     }
 
     /// The name's slot is free.
@@ -142,7 +152,7 @@ impl EntryWords {
         let i = self.place(n);
         let tag = self.tag_place(n);
         self.tags[tag] = 0;
-        self.books[i] = 0;
+        put(&mut self.books, i, 0, 0);
     }
 
     /// The bits of a leaf.
@@ -151,7 +161,7 @@ impl EntryWords {
         requires level { n.level ≡ 0 }
         ensures { result ≡ key_bits (key_in self.now n) }
     {
-        self.bits[self.place(n)]
+        item(&self.bits, self.leaf_place(n), 0)
     }
 
     /// The child in an octant of a node.
@@ -239,7 +249,7 @@ impl EntryWords {
         ensures small { result < 2 ^ 16 }
         ensures free { IsUnusedFrom self.now level bucket result }
     {
-        let used = usize::from(self.used[bucket_number(level, bucket)]);
+        let used = usize::from(self.used[self.bucket_place(level, bucket)]);
         used.min(usize::from(self.plan.cap()))
     }
 
@@ -250,42 +260,51 @@ impl EntryWords {
         ensures { PutsKey self.old n (key_of n.level words.now) self.new }
     {
         if n.level == 0 {
-            let i = self.place(n);
-            self.bits[i] = words.bits;
+            let i = self.leaf_place(n);
+            put(&mut self.bits, i, words.bits, 0);
         } else {
             let i = self.node_place(n);
-            self.pairs[i] = words.pairs;
+            put(&mut self.pairs, i, words.pairs, NO_PAIRS);
         }
     }
 
-    // The place of the book of the name's slot, and of a leaf's bits.
+    // The place of the name's book.
     fn place(&self, n: Name) -> usize
         requires { IsName self.now.plan n }
         ensures value { result ≡ slot_place self.now.plan n }
-        ensures books { result < length self.now.books }
-        ensures bits { n.level ≡ 0 → result < length self.now.bits }
+        ensures inside { result < number_of_slots self.now.plan }
     {
-        let level = usize::from(n.level);
-        let buckets = usize::from(self.buckets[level]);
-        let slot = usize::from(n.slot) * buckets + usize::from(n.bucket);
-        self.ends[level] + slot
+        usize::from(n.slot) * self.width + self.bucket_place(n.level, n.bucket)
     }
 
-    // The place of the words of the name's slot in the row of nodes.
+    // The place of a leaf's bits.
+    fn leaf_place(&self, n: Name) -> usize
+        requires name { IsName self.now.plan n }
+        requires level { n.level ≡ 0 }
+        ensures value { result ≡ leaf_place self.now.plan n }
+        ensures inside { result < leaf_buckets self.now.plan * self.now.plan.cap }
+    {
+        usize::from(n.slot) * self.ends[1] + usize::from(n.bucket)
+    }
+
+    // The place of a node's words.
     fn node_place(&self, n: Name) -> usize
         requires name { IsName self.now.plan n }
         requires level { 1 ≤ n.level }
-        ensures value { result ≡ slot_place self.now.plan n - nodes_begin self.now.plan }
-        ensures inside { result < length self.now.pairs }
+        ensures value { result ≡ node_place self.now.plan n }
+        ensures inside { let p = self.now.plan in
+            result < (number_of_buckets p - leaf_buckets p) * p.cap }
     {
-        self.place(n) - self.ends[1]
+        let leaves = self.ends[1];
+        let bucket = self.bucket_place(n.level, n.bucket) - leaves;
+        usize::from(n.slot) * (self.width - leaves) + bucket
     }
 
     // The place of the tag of the name's slot.
     fn tag_place(&self, n: Name) -> usize
         requires { IsName self.now.plan n }
         ensures value { result ≡ tag_place self.now.plan n }
-        ensures inside { result < length self.now.books }
+        ensures inside { result < number_of_slots self.now.plan }
     {
         self.start(n.level, n.bucket) + usize::from(n.slot)
     }
@@ -294,11 +313,20 @@ impl EntryWords {
     fn start(&self, level: u8, bucket: u16) -> usize
         requires { IsBucket self.now.plan level bucket }
         ensures value { result ≡ tag_place self.now.plan (named level bucket 0) }
-        ensures inside { result + self.now.plan.cap ≤ length self.now.books }
-        ensures small { result < 2 ^ 41 }
+        ensures inside { result + self.now.plan.cap ≤ number_of_slots self.now.plan }
+        ensures small { result < 2 ^ 36 }
     {
-        let cap = usize::from(self.plan.cap());
-        self.ends[usize::from(level)] + usize::from(bucket) * cap
+        self.bucket_place(level, bucket) * usize::from(self.plan.cap())
+    }
+
+    // The place of a bucket among those of all levels.
+    fn bucket_place(&self, level: u8, bucket: u16) -> usize
+        requires { IsBucket self.now.plan level bucket }
+        ensures value { result ≡ bucket_place self.now.plan level bucket }
+        ensures inside { result < number_of_buckets self.now.plan }
+        ensures small { result < 2 ^ 20 }
+    {
+        self.ends[usize::from(level)] + usize::from(bucket)
     }
 
     // A word of the key of a node.
@@ -308,7 +336,7 @@ impl EntryWords {
         requires number { number < 4 }
         ensures { result ≡ pair_number (pairs_in self.now n) number }
     {
-        self.pairs[self.node_place(n)].word(number)
+        item(&self.pairs, self.node_place(n), NO_PAIRS).word(number)
     }
 
     // Whether the name's words are those of this key.
@@ -317,15 +345,8 @@ impl EntryWords {
         ensures { IsTrue result ↔ (key_in self.now n ≡ key_of n.level words.now) }
     {
         if n.level == 0 {
-            return self.bits[self.place(n)] == words.bits;
+            return item(&self.bits, self.leaf_place(n), 0) == words.bits;
         }
-        self.pairs[self.node_place(n)].is(&words.pairs)
+        item(&self.pairs, self.node_place(n), NO_PAIRS).is(&words.pairs)
     }
-}
-
-// The place of a bucket among those of all levels.
-fn bucket_number(level: u8, bucket: u16) -> usize
-    ensures { result ≡ bucket_number level bucket }
-{
-    usize::from(level) * ROW + usize::from(bucket)
 }

@@ -6,6 +6,7 @@
 mod ends;
 mod entries;
 mod key_words;
+mod rows;
 mod tags;
 
 ghost use Rattle.std.specs.Prelude.{◌≡◌, ◌<◌};

@@ -1,24 +1,28 @@
-use Rattle.std.proofs.Common.{◌≡◌, ◌<◌, ◌∙◌, ap, sym, subst, length, arith}
+use Rattle.std.proofs.Common.{◌≡◌, ◌∙◌, refl, ap, sym, subst, arith}
 use Rattle.node_words.specs.Plans.{Layout}
 use Rattle.node_places.specs.Names.{IsName}
-use Rattle.entry_words.specs.Slots.{slot_place, tag_place}
+use Rattle.entry_words.specs.Slots.{slot_place, tag_place, bucket_place, number_of_slots}
 use Rattle.entry_words.specs.Coding.{key_of}
 use Rattle.entry_words.specs.Words.{Written, key_in}
 use Rattle.entry_words.specs.Changes.{PutsKey}
 use Rattle.entry_words.proofs.TagLaws.{puts_entry, tag_same}
-use Rattle.entry_words.proofs.EntriesLaws.{entries_entry}
+use Rattle.entry_words.proofs.EntriesLaws.{entries_entry, entries_with_room}
 use Rattle.entry_words.proofs.entries.EntryWords.open.Goals as goal
+
+pub put-requires : goal.put-requires
+put-requires c = omega (arith, c.place-i.ensures.inside, ap (λ (w : Written). number_of_slots w.plan) c.self.view_is, c.self.invariant.room_is.books)
 
 pub invariant_of-self : goal.invariant_of-self
 invariant_of-self c =
     let e = sym c.self.view_is in
-    let mid = c.put_key.new.self in
     let at = c.place-i.ensures.value ∙ ap (λ (w : Written). slot_place w.plan c.args.n) e in
     let here = subst (λ (p : Layout). IsName p c.args.n) (sym c.put_key.ensures.plan) c.requires.name in
     let name = subst (λ (w : Written). IsName w.plan c.args.n) e here in
     let tag = c.tag_place-tag.ensures.value ∙ ap (λ (w : Written). tag_place w.plan c.args.n) e in
+    let bucket = c.bucket_place-bucket.ensures.value ∙ ap (λ (w : Written). bucket_place w.plan c.args.n.level c.args.n.bucket) e in
     let key = subst (λ (w : Written). key_in w c.args.n ≡ key_of c.args.n.level c.args.words) e c.put_key.ensures.key_is in
-    entries_entry _ _ _ _ _ c.args.n c.place-i.result c.tag_place-tag.result c.bucket_number-bucket.result c.tag_of.result c.index.result.now _ _ c.self.invariant name at tag (c.tag_of.ensures ∙ sym (tag_same c.args.n.level _ _ _ _ key)) c.bucket_number-bucket.ensures c.index.ensures (omega arith) (omega arith)
+    entries_with_room _ _ _ _ _ (entries_entry _ _ c.args.n c.place-i.result c.tag_place-tag.result c.bucket_place-bucket.result c.tag_of.result c.index.result.now _ _ c.put.new.row.items c.self.invariant name at tag (c.tag_of.ensures ∙ sym (tag_same c.args.n.level _ _ _ _ key)) bucket c.index.ensures (omega arith) (omega arith) c.put.ensures.puts)
+    c.put.ensures.room refl refl
 
 pub returns : goal.returns
 returns c =
@@ -26,7 +30,6 @@ returns c =
     let at = c.place-i.ensures.value ∙ ap (λ (w : Written). slot_place w.plan c.args.n) e in
     let here = subst (λ (p : Layout). IsName p c.args.n) (sym c.put_key.ensures.plan) c.requires.name in
     let name = subst (λ (w : Written). IsName w.plan c.args.n) e here in
-    let in_books = subst (λ (w : Written). c.place-i.result < length w.books) e c.place-i.ensures.books in
     let s = c.self.inside in
     let mid : Written = record { plan = s.plan; books = s.books.items; bits = s.bits.items; pairs = s.pairs.items } in
-    puts_entry c.args.self.now mid c.args.n c.place-i.result (key_of c.args.n.level c.args.words) (subst (λ (w : Written). PutsKey c.args.self.now c.args.n (key_of c.args.n.level c.args.words) w) e c.put_key.ensures) name at in_books
+    puts_entry c.args.self.now mid c.args.n c.place-i.result (key_of c.args.n.level c.args.words) c.put.new.row.items (subst (λ (w : Written). PutsKey c.args.self.now c.args.n (key_of c.args.n.level c.args.words) w) e c.put_key.ensures) name at c.put.ensures.puts
