@@ -5,7 +5,7 @@ use Rattle.node_shapes.specs.declared.names.Name.{Name}
 use Rattle.node_shapes.specs.Shape.{Shape, Leaf, branch_of}
 use Rattle.node_shapes.specs.Tree.{Tree, LeafAt, node_at, shape_of}
 use Rattle.node_words.specs.declared.keys.Key.{Key}
-use Rattle.node_words.specs.Held.{HoldsName}
+use Rattle.node_words.specs.Held.{HoldsName, Wanted}
 use Rattle.node_words.specs.Gathering.{Loses, LosesAll}
 use Rattle.node_words.specs.Keys.{bucket_of_key}
 use Rattle.node_words.specs.Plans.{Layout}
@@ -102,18 +102,17 @@ pub record AddsNode (old : Known) (s : SoughtKey) (n : Name) (new : Known) : Typ
       (tree_over s.level (key_in old.words) n (sought_key s))
       (shape_over s.level (key_in old.words) (sought_key s)) new.told
 
+-- what is noted where a sought key meets a full bucket
+abbrev pub met_by : Written → SoughtKey → Wanted
+met_by words s = record
+    { level = s.level; bucket = s.bucket; shape = shape_over s.level (key_in words) (sought_key s) }
+
 -- each slot of the key's bucket is live, and this was noted
 pub record MeetsFull (old : Known) (s : SoughtKey) (new : Known) : Type 0 where
   pub words : new.words ≡ old.words
   pub roots : new.roots ≡ old.roots
   pub full : AreLiveBelow old.words s.level s.bucket old.words.plan.cap
-  pub told : NotesFull old.told
-      (record {
-        level = s.level;
-        bucket = s.bucket;
-        shape = shape_over s.level (key_in old.words)
-            (sought_key s);
-      }) new.told
+  pub told : NotesFull old.told (met_by old.words s) new.told
 
 -- the root came to its place, and its share went, where there is one
 pub record KeepsRoot (old : Known) (place : ℕ) (root : Option Name) (new : Known) : Type 0 where

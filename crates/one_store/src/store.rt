@@ -203,8 +203,8 @@ impl OneStore {
     /// Whatever met a full bucket, as many different shapes of that level and bucket were made as
     /// it has slots.
     pub fn full_buckets_had_enough(&self)
-        ensures { All
-            (λ w. HasEnough self.now.words.plan self.now.told.made w.level w.bucket) self.now.told.met }
+        ensures { let s = self.now in
+            All (λ w. HasEnough s.words.plan s.told.made w.level w.bucket) s.told.met }
     {
         let _number = self.number;
     }

@@ -6,7 +6,7 @@ ghost use Rattle.entry_words.specs.Words.{key_in};
 ghost use Rattle.core_laws.specs.States.{tree_at};
 ghost use Rattle.store_notes.specs.Changes.{NotesGain, NotesLoss, NotesFreeing, NotesEntry, NotesFull};
 ghost use Rattle.one_store.specs.Known.{trees_below};
-ghost use Rattle.one_store.specs.Steps.{sought_key, tree_over, shape_over};
+ghost use Rattle.one_store.specs.Steps.{sought_key, tree_over, shape_over, met_by};
 
 use crate::sought::SoughtKey;
 use entry_words::EntryWords;
@@ -55,10 +55,8 @@ pub(crate) fn tell_entry<N: Note>(
 }
 
 pub(crate) fn tell_full<N: Note>(notes: &mut Notes, words: &EntryWords, sought: &SoughtKey)
-    requires { NotesFull notes.old
-        (record { level = sought.now.level; bucket = sought.now.bucket; shape = shape_over sought.now.level (key_in words.now) (sought_key sought.now) }) N.next }
-    ensures { NotesFull notes.old
-        (record { level = sought.now.level; bucket = sought.now.bucket; shape = shape_over sought.now.level (key_in words.now) (sought_key sought.now) }) notes.new }
+    requires { NotesFull notes.old (met_by words.now sought.now) N.next }
+    ensures { NotesFull notes.old (met_by words.now sought.now) notes.new }
 {
     notes.note::<N>();
 }
