@@ -1,4 +1,4 @@
-ghost use Rattle.std.specs.Prelude.{◌≡◌, ◌^◌, ◌≤◌, length, All, IfOk};
+ghost use Rattle.std.specs.Prelude.{◌≡◌, ◌^◌, ◌≤◌, [], length, All, IfOk};
 ghost use Rattle.script.specs.Fitting.{CommandFits, RisesFrom};
 ghost use Rattle.conformance.specs.Runs.{AllRan};
 ghost use Rattle.script_runs.specs.Sessions.{IsAtStart, RanSession};
@@ -12,7 +12,7 @@ use vw_cell::Memory;
 
 /// Runs scripts one after another, script k as session k, over a desk where nothing was done yet.
 ///
-/// The room of an answer list is taken before its script's first line.
+/// The lists of all answers have their room before the first command.
 pub fn run_scripts<D: Desk>(
     alloc: Global,
     desk: &mut D,
@@ -28,23 +28,50 @@ pub fn run_scripts<D: Desk>(
     ensures ran { IfOk result (λ transcripts. AllRan (D.plan desk.old) (D.models desk.old)
         scripts.now transcripts.items (D.log desk.new)) }
 {
+    let mut rooms = rooms_of(alloc, scripts)?;
     let mut transcripts = Vec::with_capacity(alloc, scripts.len())?;
     for script in scripts {
         let session = transcripts.len() as u16;
-        let lines = run_script(alloc, desk, session, script.lines.as_slice())?;
+        let room = next_room(alloc, &mut rooms);
+        let lines = run_script(desk, session, script.lines.as_slice(), room)?;
         transcripts.push(Transcript { lines })?;
     }
     desk.look();
     Ok(transcripts)
 }
 
-/// Runs the lines of one script as the session of this number.
+// An empty list with room for the answers of each script, the first script's last.
+fn rooms_of(alloc: Global, scripts: &[Script]) -> Result<Vec<Vec<LineAnswer>>, Memory>
+    ensures { IfOk result (λ rooms. All (λ room. room.items ≡ []) rooms.items) }
+{
+    let mut rooms = Vec::with_capacity(alloc, scripts.len())?;
+    for script in scripts.iter().rev() {
+        rooms.push(Vec::with_capacity(alloc, script.lines.as_slice().len())?)?;
+    }
+    Ok(rooms)
+}
+
+// The last of these lists, all of which are empty.
+fn next_room(alloc: Global, rooms: &mut Vec<Vec<LineAnswer>>) -> Vec<LineAnswer>
+    requires { All (λ room. room.items ≡ []) rooms.old.items }
+    ensures empty { result.items ≡ [] }
+    ensures others { All (λ room. room.items ≡ []) rooms.new.items }
+{
+    match rooms.pop() {
+        Some(room) => room,
+        None => Vec::new(alloc),
+    }
+}
+
+/// Runs the lines of one script as the session of this number. Their answers come into the list,
+/// which is empty before.
 pub fn run_script<D: Desk>(
-    alloc: Global,
     desk: &mut D,
     session: u16,
     lines: &[ScriptLine],
+    room: Vec<LineAnswer>,
 ) -> Result<Vec<LineAnswer>, Memory>
+    requires empty { room.items ≡ [] }
     requires rises { RisesFrom 1 lines.now }
     requires fit { All (λ l. CommandFits (2 ^ (D.plan desk.old).side) (D.models desk.old)
         l.command) lines.now }
@@ -54,7 +81,7 @@ pub fn run_script<D: Desk>(
         session lines.now answers.items (D.log desk.old) (D.log desk.new)
         (D.noted desk.old) (D.noted desk.new)) }
 {
-    let mut answers = Vec::with_capacity(alloc, lines.len())?;
+    let mut answers = room;
     for line in lines {
         let a = desk.answer(session, *line)?;
         answers.push(a)?;

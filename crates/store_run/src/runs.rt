@@ -30,8 +30,8 @@ pub struct StoreRan {
 
 /// Runs scripts one after another, script k as session k, from an empty world of the plan's side.
 ///
-/// The store, room for all records, marks and undos, and a stencil of each model are taken before
-/// the first command; the room of an answer list before its script's first command.
+/// The store, room for all records, marks and undos, a stencil of each model and the lists of all
+/// answers are taken before the first command.
 pub fn run_scripts(
     alloc: Global,
     plan: &Plan,
