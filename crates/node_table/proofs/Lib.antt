@@ -1,0 +1,10 @@
+pub mod StoreSteps
+pub mod Keeps
+pub mod Learned
+pub mod Scans
+pub mod Writing
+pub mod Actions
+pub mod Answering
+pub mod ReadLaws
+pub mod ActLaws
+pub mod BeginLaws

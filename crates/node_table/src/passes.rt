@@ -1,0 +1,106 @@
+// What a session steps with.
+ghost use Rattle.std.specs.Prelude.{◌≡◌, ◌∷◌, [], None};
+ghost use Rattle.node_shapes.specs.Weights.{number_of_trees};
+ghost use Rattle.node_words.specs.Held.{AreCanonical, AreTrees};
+ghost use Rattle.table_rule.specs.Telling.{ViewTells};
+
+use crate::rule::View;
+use atomic_table::Seat;
+use std::marker::Model;
+
+/// A seat of a table, with the number of its session.
+pub(crate) struct NumberedSeat {
+    pub(crate) number: u16,
+    pub(crate) seat: Seat<u8, View>,
+}
+
+impl Model for NumberedSeat {
+    ghost use Rattle.std.specs.Coded.{codes};
+    ghost use Rattle.std.specs.Prelude.{[], true, ◌<◌, ◌≡◌, ◌∷◌};
+    ghost use Rattle.atomic_table.specs.Seated.{table_id_coded};
+    ghost use Rattle.node_shapes.specs.ShapeCode.{coded_shape};
+    ghost use Rattle.node_shapes.specs.TreeCode.{coded_tree};
+    ghost use Rattle.node_table.specs.Seen.{PassSeen};
+    ghost use Rattle.table_rule.specs.Telling.{ViewTells};
+
+    ghost Value = { PassSeen };
+
+    ghost coded = { Prim.hlevel (codes, coded_tree, coded_shape, table_id_coded) };
+
+    ghost view = { λ p. record { table = p.seat.table_id; view = p.seat.me.0 } };
+
+    ghost invariant = { λ p. (p.seat.me.0.numbers ≡ p.number ∷ []) × (p.number < 64)
+        × (p.seat.me.1 ≡ []) × (p.seat.me.0.alive ≡ true) × ViewTells p.seat.me.0 };
+}
+
+/// What a session steps with. It must be spent.
+pub struct Pass {
+    pub(crate) seat: NumberedSeat,
+    pub(crate) held: u32,
+}
+
+impl Model for Pass {
+    ghost use Rattle.std.specs.Coded.{codes};
+    ghost use Rattle.std.specs.Prelude.{◌≡◌};
+    ghost use Rattle.atomic_table.specs.Seated.{table_id_coded};
+    ghost use Rattle.node_shapes.specs.ShapeCode.{coded_shape};
+    ghost use Rattle.node_shapes.specs.TreeCode.{coded_tree};
+    ghost use Rattle.node_shapes.specs.Weights.{number_of_trees};
+    ghost use Rattle.node_table.specs.Seen.{PassSeen};
+
+    ghost Value = { PassSeen };
+
+    ghost coded = { Prim.hlevel (codes, coded_tree, coded_shape, table_id_coded) };
+
+    ghost view = { λ p. p.seat };
+
+    ghost invariant = { λ p. p.held ≡ number_of_trees p.seat.view.held };
+}
+
+impl Pass {
+    /// The number of the session.
+    pub fn number(&self) -> u16
+        ensures { self.now.view.numbers ≡ result ∷ [] }
+    {
+        number_of(&self.seat)
+    }
+
+    /// How many shares the pass holds.
+    pub fn held(&self) -> u32
+        ensures number { result ≡ number_of_trees self.now.view.held }
+        ensures trees { AreTrees self.now.view.plan.side self.now.view.held }
+        ensures canonical { AreCanonical self.now.view.held }
+    {
+        tell(&self.seat);
+        self.held
+    }
+
+    /// What the pass tells of the trees that it reaches. No step is made.
+    pub fn tell(&self)
+        ensures { ViewTells self.now.view }
+    {
+        tell(&self.seat);
+    }
+
+    /// Gives the pass up. Its table can then only be dropped.
+    pub fn end(self)
+        requires held { self.view.held ≡ [] }
+        requires turn { self.view.turn ≡ None }
+    {
+        let Pass { seat, held: _ } = self;
+        let NumberedSeat { number: _, seat: _ } = seat;
+    }
+}
+
+fn number_of(seat: &NumberedSeat) -> u16
+    ensures { seat.now.view.numbers ≡ result ∷ [] }
+{
+    seat.number
+}
+
+// What a seat tells of the trees that it reaches.
+pub(crate) fn tell(seat: &NumberedSeat)
+    ensures { ViewTells seat.now.view }
+{
+    let _number = seat.number;
+}

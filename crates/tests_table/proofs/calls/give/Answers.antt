@@ -1,0 +1,29 @@
+use Rattle.std.proofs.Common.{rules, ◌≡◌, ℕ, ◌≤◌, List, sym, ap, ◌∙◌, subst, arith}
+use Rattle.node_shapes.specs.declared.names.Name.{Name}
+use Rattle.node_shapes.specs.Tree.{Tree}
+use Rattle.node_shapes.specs.Weights.{number_of_trees}
+use Rattle.node_shapes.proofs.WeightLaws.{weigh-nil}
+use Rattle.node_words.specs.Held.{IsHeld, Gains}
+use Rattle.node_words.proofs.HeldLaws.{same_on}
+use Rattle.node_places.specs.Spots.{Turn, IsSpot}
+use Rattle.table_rule.specs.Views.{SeatView}
+use Rattle.node_table.specs.declared.lowering.Lowering.TheVariants.{Freed}
+use Rattle.tests_table.proofs.Giving.{held_bucket, gone_again, came_held, kept_and_given, same_itself, still_held, still_few, nothing_held}
+use Rattle.tests_table.proofs.calls.give.Goals as goal
+
+pub turn-turn-requires-clause-there : goal.turn-turn-requires-clause-there
+turn-turn-requires-clause-there g c =
+    subst (λ (n : Name). IsSpot c.args.table.now.plan (Turn n.level n.bucket)) (sym c.name-n.ensures)
+    (held_bucket c.args.table.now c.args.pass.now c.args.share c.requires.of c.tell.ensures
+    c.requires.held)
+
+pub returns-in-Freed-clause-given : goal.returns-in-Freed-clause-given
+returns-in-Freed-clause-given g c = λ t held root.
+    (let v = c.turn-turn.result.pass.now.view in
+    let same : v.held ≡ c.args.pass.now.view.held =
+    ap (λ (x : SeatView). x.held) c.turn-turn.ensures.view in
+    let now : c.pass-1.given.0.view ≡ c.lower.new.self.1.0.view = search rules in
+    subst (λ (x : SeatView). Gains x.held t c.args.pass.now.view.held) (sym now)
+    (gone_again c.args.pass.now.view v c.lower.new.self.1.0.view t c.args.share
+    (Freed c.in-Freed.children) c.tell.ensures same held root c.requires.leaf
+    (c.in-Freed.ensures.lowered t (subst (λ ts. IsHeld ts t) (sym same) held) root)))

@@ -1,0 +1,120 @@
+ghost use Rattle.std.specs.Prelude.{◌≡◌, ◌≢◌, ◌≤◌, ◌<◌, ◌+◌, None, []};
+ghost use Rattle.node_shapes.specs.Weights.{number_of_trees};
+ghost use Rattle.node_words.specs.Held.{ForHeld, Gains, HoldsName, SameHeld};
+ghost use Rattle.node_table.specs.Seen.{BelongsTo};
+
+use node_table::{Lowering, NodeTable, Pass};
+use node_words::{Share, Steps};
+use std::sync::Wait;
+use std::sync::ledger::Ledger;
+
+/// Gives the share of a leaf back, and says whether the leaf is freed.
+pub fn give<R: Wait, L: Ledger>(
+    rt: &R,
+    table: &NodeTable,
+    pass: &mut Pass,
+    share: Share,
+    steps: &mut Steps<L>,
+) -> bool
+    requires of { BelongsTo table.now pass.old }
+    requires idle { pass.old.view.turn ≡ None }
+    requires held { HoldsName pass.old.view.held share }
+    requires leaf { share.level ≡ 0 }
+    requires room { number_of_trees pass.old.view.held ≤ 4000 }
+    ensures of { BelongsTo table.now pass.new }
+    ensures idle { pass.new.view.turn ≡ None }
+    ensures given { ForHeld pass.old.view.held share
+        (λ t. Gains pass.new.view.held t pass.old.view.held) }
+{
+    pass.tell();
+    let n = share.name();
+    let turn = table.turn(rt, pass, n.level, n.bucket, steps);
+    match turn.lower(share) {
+        Lowering::Left => false,
+        Lowering::Freed(children) => {
+            spend(children);
+            true
+        }
+    }
+}
+
+fn spend(children: [Option<Share>; 8]) {
+    let [a, b, c, d, e, f, g, h] = children;
+    spend_one(a);
+    spend_one(b);
+    spend_one(c);
+    spend_one(d);
+    spend_one(e);
+    spend_one(f);
+    spend_one(g);
+    spend_one(h);
+}
+
+fn spend_one(share: Option<Share>) {
+    match share {
+        Some(share) => {
+            let _name = share.spend();
+        }
+        None => {}
+    }
+}
+
+/// Whether the leaf is taken in this slot, and whether it is freed when its share goes back.
+pub fn comes_and_goes<R: Wait, L: Ledger>(
+    rt: &R,
+    table: &NodeTable,
+    pass: &mut Pass,
+    bits: u64,
+    at: (u8, bool),
+    steps: &mut Steps<L>,
+) -> bool
+    requires of { BelongsTo table.now pass.old }
+    requires idle { pass.old.view.turn ≡ None }
+    requires bits { bits ≢ 0 }
+    requires room { number_of_trees pass.old.view.held ≤ 3999 }
+    ensures of { BelongsTo table.now pass.new }
+    ensures idle { pass.new.view.turn ≡ None }
+    ensures held { SameHeld pass.old.view.held pass.new.view.held }
+{
+    match intern::leaf(rt, table, pass, bits, steps) {
+        Ok(share) => {
+            let slot = share.name().slot;
+            let freed = give(rt, table, pass, share, steps);
+            slot == at.0 && freed == at.1
+        }
+        Err(_) => false,
+    }
+}
+
+/// Whether bucket 0 of level 0 is full without the leaf.
+pub fn is_refused<R: Wait, L: Ledger>(
+    rt: &R,
+    table: &NodeTable,
+    pass: &mut Pass,
+    bits: u64,
+    steps: &mut Steps<L>,
+) -> bool
+    requires of { BelongsTo table.now pass.old }
+    requires idle { pass.old.view.turn ≡ None }
+    requires bits { bits ≢ 0 }
+    requires room { number_of_trees pass.old.view.held ≤ 3999 }
+    ensures of { BelongsTo table.now pass.new }
+    ensures idle { pass.new.view.turn ≡ None }
+    ensures held { SameHeld pass.old.view.held pass.new.view.held }
+{
+    match intern::leaf(rt, table, pass, bits, steps) {
+        Ok(share) => {
+            let _freed = give(rt, table, pass, share, steps);
+            false
+        }
+        Err(full) => full.level == 0 && full.bucket == 0,
+    }
+}
+
+/// Ends a pass that holds nothing.
+pub fn end(pass: Pass)
+    requires held { SameHeld [] pass.view.held }
+    requires idle { pass.view.turn ≡ None }
+{
+    pass.end();
+}

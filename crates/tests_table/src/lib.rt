@@ -1,0 +1,7 @@
+//! Tests of a table of nodes, on one thread and on many.
+#![tactic(auto)]
+
+#[cfg(test)]
+mod calls;
+#[cfg(test)]
+mod tests;
