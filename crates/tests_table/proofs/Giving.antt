@@ -143,3 +143,8 @@ new_spare t passes all = λ k d lt.
       turn = n.turn;
       held = n.held;
     })
+
+pub few_held : (held : List Tree) → held ≡ [] → number_of_trees held ≤ 3000
+few_held held none =
+    (let e = ap (λ (ts : List Tree). number_of_trees ts) none in let n = weigh-nil (λ _. 1) in
+    omega arith)

@@ -1,7 +1,8 @@
-ghost use Rattle.std.specs.Prelude.{◌≡◌, ◌≢◌, ◌≤◌, ◌<◌, ◌+◌, None, []};
+ghost use Rattle.std.specs.Prelude.{◌≡◌, ◌≢◌, ◌≤◌, ◌<◌, ◌+◌, None, [], All};
 ghost use Rattle.node_shapes.specs.Weights.{number_of_trees};
 ghost use Rattle.node_words.specs.Held.{ForHeld, Gains, HoldsName, SameHeld};
 ghost use Rattle.node_table.specs.Seen.{BelongsTo};
+ghost use Rattle.tests_table.specs.Spare.{IsSpare};
 
 use node_table::{Lowering, NodeTable, Pass};
 use node_words::{Share, Steps};
@@ -117,4 +118,17 @@ pub fn end(pass: Pass)
     requires idle { pass.view.turn ≡ None }
 {
     pass.end();
+}
+
+/// Ends all passes, and says how many there were.
+pub fn ended(table: &NodeTable, mut passes: Vec<Pass>) -> u32
+    requires { All (IsSpare table.now) passes.items }
+{
+    let mut number: u32 = 0;
+    while let Some(pass) = passes.pop() {
+        number = number.saturating_add(1);
+        pass.end();
+    }
+    passes.destroy_empty();
+    number
 }

@@ -4,7 +4,7 @@ ghost use Rattle.node_words.specs.Held.{SameHeld};
 ghost use Rattle.node_table.specs.Seen.{BelongsTo};
 ghost use Rattle.tests_table.specs.Spare.{IsSpare};
 
-use crate::calls::{comes_and_goes, end, give, is_refused};
+use crate::calls::{comes_and_goes, end, ended, give, is_refused};
 use node_table::{NodeTable, Pass};
 use node_words::{Plan, Steps};
 use std::marker::Brand;
@@ -120,19 +120,6 @@ fn two_share<R: Wait, L: Ledger>(
     };
     let rest = ended(table, passes);
     share_leaves::<R, L>(rt, table, a, b, blank) && rest == 0
-}
-
-// Ends all passes, and says how many there were.
-fn ended(table: &NodeTable, mut passes: Vec<Pass>) -> u32
-    requires { All (IsSpare table.now) passes.items }
-{
-    let mut number: u32 = 0;
-    while let Some(pass) = passes.pop() {
-        number = number.saturating_add(1);
-        pass.end();
-    }
-    passes.destroy_empty();
-    number
 }
 
 // Two passes of a world of side 8, over one bucket of two slots on each level.

@@ -1,6 +1,6 @@
 use Rattle.std.proofs.Common.{All, vec_len}
 use Rattle.tests_table.specs.Spare.{IsSpare}
-use Rattle.tests_table.proofs.tests.ended.Given as goal
+use Rattle.tests_table.proofs.calls.ended.Given as goal
 
 abbrev pub invariant-loop-pass : goal.invariant-loop-pass
 invariant-loop-pass l = All (IsSpare l.table) l.passes.items

@@ -1,0 +1,17 @@
+use Rattle.std.proofs.Common.{◌≡◌, ◌≤◌, arith}
+use Rattle.node_shapes.specs.Weights.{number_of_trees}
+use Rattle.node_words.proofs.HeldLaws.{same_on}
+use Rattle.tests_table.proofs.Giving.{same_itself, still_few}
+use Rattle.tests_table.proofs.threads.take_often.Goals as goal
+
+pub loop-k-init : goal.loop-k-init
+loop-k-init g c = (c.requires.of, c.requires.idle, same_itself _)
+
+pub comes_and_goes-said-requires-clause-room : goal.comes_and_goes-said-requires-clause-room
+comes_and_goes-said-requires-clause-room g c =
+    still_few _ _ 3999 c.loop-k.invariant.2 (let le = c.requires.room in omega arith)
+
+pub loop-k-preserved : goal.loop-k-preserved
+loop-k-preserved g c =
+    let e = c.comes_and_goes-said.ensures in
+    (e.of, e.idle, same_on _ _ _ c.loop-k.invariant.2 e.held)

@@ -1,0 +1,120 @@
+//! Four threads take and give back the same few leaves.
+ghost use Rattle.std.specs.Prelude.{◌≡◌, ◌≢◌, ◌≤◌, ◌<◌, None, [], All};
+ghost use Rattle.node_shapes.specs.Weights.{number_of_trees};
+ghost use Rattle.node_words.specs.Held.{SameHeld};
+ghost use Rattle.node_table.specs.Seen.{BelongsTo};
+ghost use Rattle.tests_table.specs.Spare.{IsSpare};
+
+use crate::calls::{comes_and_goes, end, ended};
+use node_table::{NodeTable, Pass};
+use node_words::{Plan, Steps};
+use std::marker::Brand;
+use std::sync::Wait;
+use std::sync::ledger::{Blank, Ledger};
+use std::test::Fail;
+use std::thread;
+use std::thread::Threads;
+use vox_read::Models;
+use vw_cell::Side;
+
+// Takes 10,000 leaves, of four that take turns, and gives each back.
+fn take_often<R: Wait, L: Ledger>(rt: &R, table: &NodeTable, pass: &mut Pass, blank: Blank)
+    requires name { blank.name ≡ L.name }
+    requires parts { blank.parts ≡ L.parts }
+    requires some { 0 < L.parts }
+    requires of { BelongsTo table.now pass.old }
+    requires idle { pass.old.view.turn ≡ None }
+    requires room { number_of_trees pass.old.view.held ≤ 3000 }
+    ensures of { BelongsTo table.now pass.new }
+    ensures idle { pass.new.view.turn ≡ None }
+    ensures held { SameHeld pass.old.view.held pass.new.view.held }
+{
+    let mut steps: Steps<L> = Steps::start(blank);
+    for k in 0..10_000u32 {
+        let bits = u64::from(k % 4) + 1;
+        let _said = comes_and_goes(rt, table, pass, bits, (0, true), &mut steps);
+    }
+}
+
+fn take_spare<R: Wait>(rt: &R, table: &NodeTable, pass: &mut Pass)
+    requires { IsSpare table.now pass.old }
+    ensures { IsSpare table.now pass.new }
+{
+    take_often::<R, Brand>(rt, table, pass, Blank::new(1));
+}
+
+fn take_all<R: Threads + Wait + Sync>(rt: &R, table: &NodeTable, passes: &mut [Pass])
+    requires { All (IsSpare table.now) passes.old }
+    ensures { All (IsSpare table.now) passes.new }
+{
+    thread::for_each_mut(
+        rt,
+        passes,
+        4,
+        &|_, pass: &mut Pass|
+            requires { IsSpare table.now pass.now }
+            ensures { IsSpare table.entry.now pass.exit.now }
+        { take_spare(rt, table, pass) },
+    );
+}
+
+// Whether each of the four leaves is added in slot 0, and freed by its one share.
+fn is_empty<R: Wait, L: Ledger>(rt: &R, table: &NodeTable, pass: &mut Pass, blank: Blank) -> bool
+    requires name { blank.name ≡ L.name }
+    requires parts { blank.parts ≡ L.parts }
+    requires some { 0 < L.parts }
+    requires of { BelongsTo table.now pass.old }
+    requires idle { pass.old.view.turn ≡ None }
+    requires room { number_of_trees pass.old.view.held ≤ 3000 }
+    ensures of { BelongsTo table.now pass.new }
+    ensures idle { pass.new.view.turn ≡ None }
+    ensures held { SameHeld pass.old.view.held pass.new.view.held }
+{
+    let mut steps: Steps<L> = Steps::start(blank);
+    let mut empty = true;
+    for bits in 1..5u64 {
+        if !comes_and_goes(rt, table, pass, bits, (0, true), &mut steps) {
+            empty = false;
+        }
+    }
+    empty
+}
+
+// Whether nothing was left by four passes.
+fn left_nothing<R: Wait, L: Ledger>(
+    rt: &R,
+    table: &NodeTable,
+    mut passes: Vec<Pass>,
+    blank: Blank,
+) -> bool
+    requires name { blank.name ≡ L.name }
+    requires parts { blank.parts ≡ L.parts }
+    requires some { 0 < L.parts }
+    requires passes { All (IsSpare table.now) passes.items }
+{
+    let Some(mut pass) = passes.pop() else {
+        passes.destroy_empty();
+        return false;
+    };
+    let empty = is_empty::<R, L>(rt, table, &mut pass, blank);
+    end(pass);
+    ended(table, passes) == 3 && empty
+}
+
+// Four threads at once, over one bucket of four slots.
+#[test]
+#[tactic(auto, using(crate::proofs::Giving::new_spare))]
+fn four_threads_leave_nothing(rt: HostRuntime) -> Result<(), Fail> {
+    let side = Side::new(8).ok_or("a side")?;
+    let plan = Plan::even(side, 1, 4).ok_or("a plan")?;
+    let models = Models {
+        list: Vec::new(rt.alloc()),
+    };
+    let Ok((table, mut passes)) = NodeTable::begin(rt.alloc(), &plan, &models, 4) else {
+        return Err(Fail::from("memory"));
+    };
+    take_all(&rt, &table, passes.as_mut_slice());
+    let empty = left_nothing::<HostRuntime, Brand>(&rt, &table, passes, Blank::new(1));
+    assert!(rt; empty);
+    Ok(())
+}
