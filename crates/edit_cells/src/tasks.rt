@@ -3,7 +3,7 @@ ghost use Rattle.sums.specs.Sums.{sum_below};
 ghost use Rattle.node_shapes.specs.Shape.{Leaf, has};
 ghost use Rattle.node_shapes.specs.Tree.{Tree};
 ghost use Rattle.cell_shapes.specs.CellShapes.{Cells, SameIn, octant_cells};
-ghost use Rattle.edit_cells.specs.Tasks.{Making, MakesSome, MakesCells, ForCells, MakeAlike, IsWhole};
+ghost use Rattle.edit_cells.specs.Tasks.{Making, MakesSome, MakesCells, ForCells, IsWhole};
 
 use node_shapes::Name;
 use node_words::Blocks;
@@ -70,12 +70,4 @@ pub trait Task: Copy {
             (λ base cells. SameIn 0 (has 0 (Leaf result)) cells) }
         ensures seen { B.seen store.new ≡ B.seen store.old }
         ensures rests { B.rests store.old store.new };
-
-    /// Whether many blocks of the edit may be alike, so that a walk is to remember what it made. All
-    /// answers are right.
-    fn repeats(&self) -> bool;
-
-    /// Whether both make the same cells of a block. It reads no node, and may miss some that do.
-    fn is_same(&self, other: &Self) -> bool
-        ensures { IsTrue result → MakeAlike (makes self.now) (makes other.now) };
 }

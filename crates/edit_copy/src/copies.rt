@@ -4,6 +4,7 @@ ghost use Rattle.std.specs.Int.{bit_not, w64};
 use crate::sources::{are_none, leaves_in, same_sources, sources_in, step_to};
 use block_walk::{half_side, leaf_bits, octant_name, part_of, same_boxes, same_cells, same_names};
 use edit_cells::{Task, Whole, old_whole};
+use edit_walk::Repeats;
 use node_shapes::Name;
 use node_words::{Blocks, box_bits, window_bits};
 use vw_cell::{Block, Boxed, Cell};
@@ -79,12 +80,10 @@ impl Task for CopyTask {
         );
         mix(old, moved, inside)
     }
+}
 
-    // Copied blocks are often alike, also in small boxes: the cells of a ball's inside are.
-    fn repeats(&self) -> bool {
-        true
-    }
-
+// Copied blocks are often alike, also in small boxes: the cells of a ball's inside are.
+impl Repeats for CopyTask {
     fn is_same(&self, other: &CopyTask) -> bool {
         if !same_names(self.old, other.old) {
             return false;
@@ -96,6 +95,10 @@ impl Task for CopyTask {
             return false;
         }
         same_sources(&self.sources, &other.sources)
+    }
+
+    fn place(&self, level: u8) -> usize {
+        place_of(level, self)
     }
 }
 
@@ -133,4 +136,54 @@ fn mix(old: u64, moved: u64, inside: u64) -> u64
     ensures { result ≡ bit_or (bit_and old (bit_not w64 inside)) (bit_and moved inside) }
 {
     old & !inside | moved & inside
+}
+
+// Nearly all tasks of one walk differ in these numbers.
+fn place_of(level: u8, task: &CopyTask) -> usize
+    ensures { result < 1024 }
+{
+    let part = word_of(task.part.at)
+        .wrapping_mul(0x9E37_79B9_7F4A_7C15)
+        .wrapping_add(word_of(task.part.size).wrapping_mul(0xBF58_476D_1CE4_E5B9));
+    let offset = word_of(task.offset) + u64::from(level);
+    let blocks = number_of(task.old) + mark_of(&task.sources);
+    let mixed = part
+        .wrapping_add(offset.wrapping_mul(0x94D0_49BB_1331_11EB))
+        .wrapping_add(blocks.wrapping_mul(0xD6E8_FEB8_6659_FD93));
+    (mixed >> 54) as usize % 1024
+}
+
+fn mark_of(sources: &[Option<Name>; 8]) -> u64
+    ensures { result < 2 ^ 34 }
+{
+    let near = 3 * number_of(sources[0])
+        + 5 * number_of(sources[1])
+        + 7 * number_of(sources[2])
+        + 11 * number_of(sources[3]);
+    let far = 13 * number_of(sources[4])
+        + 17 * number_of(sources[5])
+        + 19 * number_of(sources[6])
+        + 23 * number_of(sources[7]);
+    near + far
+}
+
+fn number_of(block: Option<Name>) -> u64
+    ensures { result < 2 ^ 25 }
+{
+    match block {
+        Some(name) => number_in(name),
+        None => 0,
+    }
+}
+
+fn number_in(name: Name) -> u64
+    ensures { result < 2 ^ 25 }
+{
+    1 + u64::from(name.bucket) * 256 + u64::from(name.slot)
+}
+
+fn word_of(c: Cell) -> u64
+    ensures { result < 2 ^ 48 }
+{
+    u64::from(c.x) + 0x1_0000 * u64::from(c.y) + 0x1_0000_0000 * u64::from(c.z)
 }

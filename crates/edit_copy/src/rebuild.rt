@@ -9,7 +9,7 @@ ghost use Rattle.edit_cells.specs.Worlds.{ForEdited, Rebuilt, world_shape};
 
 use crate::starts::whole_task;
 use block_walk::name_of;
-use edit_walk::rebuild_world;
+use edit_walk::{Latest, rebuild_world};
 use node_words::{Full, NodeStore, Share, Steps};
 use std::sync::ledger::Ledger;
 use vw_cell::{Boxed, Cell, Side};
@@ -43,8 +43,9 @@ pub fn rebuild_copy<N: NodeStore, L: Ledger>(
     ensures rests { N.rests store.old store.new }
 {
     let task = whole_task(name_of(old), side, from, to);
+    let mut memo = Latest::new();
     let _held = store.held();
-    match rebuild_world(store, side, &task, steps) {
+    match rebuild_world(store, side, &task, &mut memo, steps) {
         Ok(share) => Ok(share),
         Err(e) => Err(e),
     }

@@ -26,7 +26,7 @@ use Rattle.edit_ops.specs.Boxes.{MakesBox, box_act, touches_first, covers_first,
 use Rattle.edit_ops.specs.Partly.{touches_at, covers_at, is_partly_at}
 
 -- the task of an octant
-pub makes_octant : (base : List Tree) (level : ℕ) (task : BoxTask) (cells : Cells) (k : ℕ) (old : Option Name) → 1 ≤ level → k < 8 → (m : MakesBox task base level cells) → old ≡ root_of (child_of m.paints.tree k) → MakesBox (record { old = old; part = part_in (block_side (level - 1)) task.part k; set = task.set; large = task.large }) base (level - 1) (octant_cells (level - 1) cells k)
+pub makes_octant : (base : List Tree) (level : ℕ) (task : BoxTask) (cells : Cells) (k : ℕ) (old : Option Name) → 1 ≤ level → k < 8 → (m : MakesBox task base level cells) → old ≡ root_of (child_of m.paints.tree k) → MakesBox (record { old = old; part = part_in (block_side (level - 1)) task.part k; set = task.set }) base (level - 1) (octant_cells (level - 1) cells k)
 makes_octant base level task cells k old one lt m e = record {
   small = omega (arith, m.small);
   paints = paints_octant base level task.old old task.set _ _ cells k one lt m.paints e (part_cells (level - 1) task.part k);
@@ -60,8 +60,8 @@ box_edits false b before c = either (is_in_box b c) (before c)
     either false false = refl
 
 -- the task of the whole world
-pub makes_world : (side level : ℕ) (held : List Tree) (set large : Bool) (b : Boxed) (o : Option Name) (before : Cell → Bool) → level ≤ 10 → AreTrees side held → AreCanonical held → ShowsWorld held level o before → MakesBox (record { old = o; part = b; set = set; large = large }) held level (world_cells (edited [] (box_act set b) before))
-makes_world side level held set large b o before small a c w = record {
+pub makes_world : (side level : ℕ) (held : List Tree) (set : Bool) (b : Boxed) (o : Option Name) (before : Cell → Bool) → level ≤ 10 → AreTrees side held → AreCanonical held → ShowsWorld held level o before → MakesBox (record { old = o; part = b; set = set }) held level (world_cells (edited [] (box_act set b) before))
+makes_world side level held set b o before small a c w = record {
   small = small;
   paints = world_paints side level held o before _ set (is_in_box b) _ a c w (box_edits set b before) (same_itself level _);
 }

@@ -66,15 +66,6 @@ impl Task for BallTask {
         );
         paint(self.set, old, inside)
     }
-
-    fn repeats(&self) -> bool {
-        false
-    }
-
-    // Blocks at different places of a ball's edge have different cells.
-    fn is_same(&self, _other: &BallTask) -> bool {
-        false
-    }
 }
 
 // Whether the nearest place of the cube from `at` on lies outside the ball.

@@ -2,18 +2,17 @@ ghost use Rattle.std.specs.Prelude.{◌≡◌, ◌+◌, ◌-◌, ◌*◌, ◌^�
 
 use block_walk::{half_side, leaf_bits, octant_name, part_of, same_boxes, same_names};
 use edit_cells::{Task, Whole, clears_nothing, filled, old_whole, paint};
+use edit_walk::Repeats;
 use node_shapes::Name;
 use node_words::{Blocks, box_bits};
 use vw_cell::{Block, Boxed, Cell};
 
-/// Sets or clears the cells of a box in one block. The box is told by its places in the block, and
-/// whether the whole box is a large one.
+/// Sets or clears the cells of a box in one block. The box is told by its places in the block.
 #[derive(Clone, Copy, Debug, PartialEq, Eq)]
 pub struct BoxTask {
     pub(crate) old: Option<Name>,
     pub(crate) part: Boxed,
     pub(crate) set: bool,
-    pub(crate) large: bool,
 }
 
 const ORIGIN: Cell = Cell { x: 0, y: 0, z: 0 };
@@ -39,7 +38,6 @@ impl Task for BoxTask {
             old,
             part,
             set: self.set,
-            large: self.large,
         }
     }
 
@@ -68,13 +66,15 @@ impl Task for BoxTask {
         );
         paint(self.set, old, inside)
     }
+}
 
-    fn repeats(&self) -> bool {
-        self.large
-    }
-
+impl Repeats for BoxTask {
     fn is_same(&self, other: &BoxTask) -> bool {
         same_tasks(self, other)
+    }
+
+    fn place(&self, level: u8) -> usize {
+        place_of(level, self)
     }
 }
 
@@ -89,4 +89,31 @@ fn same_tasks(a: &BoxTask, b: &BoxTask) -> bool
         return false;
     }
     a.set == b.set
+}
+
+// Nearly all tasks of one walk differ in these numbers.
+fn place_of(level: u8, task: &BoxTask) -> usize
+    ensures { result < 1024 }
+{
+    let old = match task.old {
+        Some(name) => number_of(name),
+        None => 0,
+    };
+    let at = word_of(task.part.at) + u64::from(level);
+    let size = word_of(task.part.size);
+    let mixed = old
+        .wrapping_mul(0x9E37_79B9_7F4A_7C15)
+        .wrapping_add(at.wrapping_mul(0xBF58_476D_1CE4_E5B9))
+        .wrapping_add(size.wrapping_mul(0x94D0_49BB_1331_11EB));
+    (mixed >> 54) as usize % 1024
+}
+
+fn number_of(name: Name) -> u64 {
+    1 + u64::from(name.bucket) * 256 + u64::from(name.slot)
+}
+
+fn word_of(c: Cell) -> u64
+    ensures { result < 2 ^ 48 }
+{
+    u64::from(c.x) + 0x1_0000 * u64::from(c.y) + 0x1_0000_0000 * u64::from(c.z)
 }

@@ -1,10 +1,12 @@
-ghost use Rattle.std.specs.Prelude.{◌≡◌, ◌+◌, ◌-◌, ◌*◌, ◌≤◌, ◌^◌, IfOk, IfErr, OnOk, [], option_copied};
+ghost use Rattle.std.specs.Prelude.{◌≡◌, ◌+◌, ◌-◌, ◌*◌, ◌≤◌, ◌^◌, ℕ, IfOk, IfErr, OnOk, [], option_copied};
 ghost use Rattle.vw_cell.specs.Places.{FitsAt, IsInWorld};
 ghost use Rattle.node_shapes.specs.Weights.{number_of_trees};
 ghost use Rattle.node_words.specs.Gathering.{Grows, Fails};
 ghost use Rattle.history_model.specs.Worlds.{edited};
 ghost use Rattle.block_walk.specs.Roots.{HoldsRoot};
 ghost use Rattle.edit_cells.specs.Worlds.{ForEdited, Rebuilt, world_shape};
+ghost use Rattle.edit_walk.specs.declared.memos.Kept.{Kept};
+ghost use Rattle.edit_ops.specs.declared.boxes.BoxTask.{BoxTask};
 ghost use Rattle.edit_ops.specs.Boxes.{box_act};
 ghost use Rattle.edit_ops.specs.Balls.{ball_act};
 ghost use Rattle.edit_ops.specs.Partly.{world_partly};
@@ -13,7 +15,7 @@ use crate::balls::BallTask;
 use crate::boxes::BoxTask;
 use block_walk::name_of;
 use edit_cells::is_large;
-use edit_walk::rebuild_world;
+use edit_walk::{Latest, Memo, NoMemo, rebuild_world};
 use node_words::{Full, NodeStore, Share, Steps};
 use std::sync::ledger::Ledger;
 use vw_cell::{Ball, Boxed, Cell, Side};
@@ -47,15 +49,61 @@ pub fn rebuild_box<N: NodeStore, L: Ledger>(
     ensures turns { OnOk result
         (steps.new ≤ steps.old + 25 * world_partly side b + 25 * (side - 1)) }
 {
+    if may_repeat(b.size, side) {
+        let mut memo = Latest::new();
+        return match paint_box(store, old, side, b, set, &mut memo, steps) {
+            Ok(share) => Ok(share),
+            Err(e) => Err(e),
+        };
+    }
+    match paint_box(store, old, side, b, set, &mut NoMemo, steps) {
+        Ok(share) => Ok(share),
+        Err(e) => Err(e),
+    }
+}
+
+// Whether many blocks may be alike. Where the box is the whole world, nothing is walked.
+fn may_repeat(size: Cell, side: Side) -> bool {
+    is_large(size) && u32::from(size.x.min(size.y).min(size.z)) < side.cells()
+}
+
+// The same, by a walk that remembers nothing yet.
+fn paint_box<M: Memo<BoxTask>, N: NodeStore, L: Ledger>(
+    store: &mut N,
+    old: Option<&Share>,
+    side: Side,
+    b: Boxed,
+    set: bool,
+    memo: &mut M,
+    steps: &mut Steps<L>,
+) -> Result<Option<Share>, Full>
+    requires side { side ≡ (N.seen store.old).plan.side }
+    requires memo { (l : ℕ) (e : Kept BoxTask) → ¬ M.has memo.old l e }
+    requires inside { FitsAt b.at b.size (2 ^ side) }
+    requires old { HoldsRoot (N.seen store.old).held side (option_copied old) }
+    requires room { number_of_trees (N.seen store.old).held ≤ 3910 }
+    ensures ok { IfOk result (λ r.
+        ForEdited (N.seen store.old) side (option_copied old.entry) (edited [] (box_act set b))
+        (λ world. Rebuilt (side - 2) world r (N.seen store.old) (N.seen store.new))) }
+    ensures grows { OnOk result (
+        ForEdited (N.seen store.old) side (option_copied old.entry) (edited [] (box_act set b))
+        (λ world. Grows (world_shape (side - 2) world) (N.seen store.old) (N.seen store.new))) }
+    ensures full { IfErr result (λ e.
+        ForEdited (N.seen store.old) side (option_copied old.entry) (edited [] (box_act set b))
+        (λ world. Fails (world_shape (side - 2) world) e.level e.bucket (N.seen store.old)
+        (N.seen store.new))) }
+    ensures rests { N.rests store.old store.new }
+    ensures turns { OnOk result
+        (steps.new ≤ steps.old + 25 * world_partly side b + 25 * (side - 1)) }
+{
     let task = BoxTask {
         old: name_of(old),
         part: b,
         set,
-        large: is_large(b.size),
     };
     let _held = store.held();
     let _level = side.root_level();
-    match rebuild_world(store, side, &task, steps) {
+    match rebuild_world(store, side, &task, memo, steps) {
         Ok(share) => Ok(share),
         Err(e) => Err(e),
     }
@@ -95,7 +143,7 @@ pub fn rebuild_ball<N: NodeStore, L: Ledger>(
     };
     let _held = store.held();
     let _level = side.root_level();
-    match rebuild_world(store, side, &task, steps) {
+    match rebuild_world(store, side, &task, &mut NoMemo, steps) {
         Ok(share) => Ok(share),
         Err(e) => Err(e),
     }

@@ -9,7 +9,7 @@ ghost use Rattle.edit_stamp.specs.Stamps.{stamped};
 use crate::stamps::StampTask;
 use crate::stencils::Stencil;
 use block_walk::name_of;
-use edit_walk::rebuild_world;
+use edit_walk::{NoMemo, rebuild_world};
 use node_words::{Full, NodeStore, Share, Steps};
 use std::sync::ledger::Ledger;
 use vw_cell::{Cell, Side};
@@ -49,7 +49,7 @@ pub fn rebuild_stamp<N: NodeStore, L: Ledger>(
     let _held = store.held();
     let _cells = side.cells();
     let _level = side.root_level();
-    match rebuild_world(store, side, &task, steps) {
+    match rebuild_world(store, side, &task, &mut NoMemo, steps) {
         Ok(share) => Ok(share),
         Err(e) => Err(e),
     }

@@ -69,13 +69,4 @@ impl<'s> Task for StampTask<'s> {
         let inside = self.stencil.leaf_bits(self.place, block);
         paint(true, old, inside)
     }
-
-    fn repeats(&self) -> bool {
-        false
-    }
-
-    // Blocks at different places of a stamp have different cells.
-    fn is_same(&self, _other: &StampTask<'s>) -> bool {
-        false
-    }
 }

@@ -1,6 +1,6 @@
 -- What a memo keeps stays true: blocks that are reached stay so while shares come and are joined.
-use Rattle.std.proofs.Common.{◌≡◌, ℕ, zero, suc, refl, ◌+◌, ◌-◌, ◌<◌, ◌≤◌, ◌⊎◌, Some, None, Option, List, [], ◌∷◌, set, slice_index_or, length, sym, ◌∙◌, ap, subst, arith, inl, inr, get_or-set_other, get_or-set_same}
-use Rattle.std.specs.Prelude.{replicate}
+use Rattle.std.proofs.Common.{◌≡◌, ℕ, zero, suc, refl, ◌+◌, ◌-◌, ◌<◌, ◌⊎◌, Some, None, Option, List, [], ◌∷◌, set, slice_index_or, length, sym, ◌∙◌, ap, subst, arith, inl, inr, get_or-set_other, get_or-set_same}
+use Rattle.std.proofs.Math.ListN.{replicate}
 use Rattle.std.proofs.lemmas.Bool.{cases_eq}
 use Rattle.node_shapes.specs.declared.names.Name.{Name}
 use Rattle.node_shapes.specs.Shape.{Shape, octant_shape}
@@ -15,83 +15,55 @@ use Rattle.edit_blocks.specs.Blocks.{Aside, Came, ReachesAll, Joined}
 use Rattle.edit_blocks.proofs.JoinLaws.{gathers_one, gathers_none}
 use Rattle.edit_blocks.proofs.ReachLaws.{keeps_reaches, came_keeps, tree_reached}
 use Rattle.edit_walk.specs.declared.memos.Kept.{Kept}
-use Rattle.edit_walk.specs.declared.memos.Row.{Row}
-use Rattle.edit_walk.specs.declared.memos.Memo.{Memo}
-use Rattle.edit_walk.specs.Memos.{kept_in, empty_row, rows_of, row_of, IsKeptIn, IsRemembered, IsMade, Recalls}
+use Rattle.edit_walk.specs.Memos.{Keeping, IsKeptIn, IsMade, Recalls}
 use Rattle.edit_walk.specs.Walks.{Walk, walk_at, Begins, Built, Partway}
 use Rattle.edit_walk.proofs.WalkLaws.{part_starts, starts_none, starts_held}
 
--- places and rows
+-- places
 
-same_at : {A : Type 0} (n i : ℕ) (a : A) → slice_index_or (replicate n a) i a ≡ a
-same_at zero i a = refl
-same_at (suc n) zero a = refl
-same_at (suc n) (suc i) a = same_at n i a
+nothing_at : (T : Type 0) (n i : ℕ) → slice_index_or (replicate {A = Option (Kept T)} n None) i None ≡ None
+nothing_at T zero i = refl
+nothing_at T (suc n) zero = refl
+nothing_at T (suc n) (suc i) = nothing_at T n i
 
-pub none_remembered : (T : Type 0) (memo : Memo T) (level : ℕ) (e : Kept T) → rows_of memo ≡ replicate 11 empty_row → IsRemembered memo level e → ⊥
-none_remembered T memo level e q (k, h) =
-    let row : row_of memo level ≡ empty_row = ap (λ (rs : List (Row T)). slice_index_or rs level empty_row) q ∙ same_at 11 level empty_row in
-    let none : slice_index_or (kept_in (row_of memo level)) k None ≡ None = ap (λ (r : Row T). slice_index_or (kept_in r) k None) row ∙ same_at 16 k None in
-    cc
+pub none_kept : (T : Type 0) (n level : ℕ) (e : Kept T) → IsKeptIn (replicate n None) level e → ⊥
+none_kept T n level e (k, h, _) = let none = nothing_at T n k in cc
 
-pub row_push : {T : Type 0} (old : Row T) (places : List (Option (Kept T))) (kept e : Kept T) (k : ℕ) → k < 16 → places ≡ set (kept_in old) k (Some kept) → (j : ℕ) → slice_index_or places j None ≡ Some e → (e ≡ kept) ⊎ IsKeptIn old e
-row_push old places kept e k lt q j h = elim (cases_eq j k) [
+pub one_kept : (T : Type 0) (old new : List (Option (Kept T))) (k : ℕ) (kept : Kept T) → k < length old → new ≡ set old k (Some kept) → (level : ℕ) (e : Kept T) → IsKeptIn new level e → ((level ≡ kept.level) × (e ≡ kept)) ⊎ IsKeptIn old level e
+one_kept T old new k kept lt q level e (j, h, at) = elim (cases_eq j k) [
   | inl same ↦
-      let at : slice_index_or places j None ≡ Some kept =
-      ap (λ (ps : List (Option (Kept _))). slice_index_or ps j None) q ∙ ap (λ (i : ℕ). slice_index_or (set (kept_in old) k (Some kept)) i None) same ∙ get_or-set_same (kept_in old) k (Some kept) None (omega arith)
+      let here : slice_index_or new j None ≡ Some kept =
+      ap (λ (ps : List (Option (Kept T))). slice_index_or ps j None) q ∙ ap (λ (i : ℕ). slice_index_or (set old k (Some kept)) i None) same ∙ get_or-set_same old k (Some kept) None lt
       in
-      inl (let w : Some e ≡ Some kept = sym h ∙ at in cc)
+      let is : e ≡ kept = (let w : Some e ≡ Some kept = sym h ∙ here in cc) in
+      inl (sym at ∙ ap (λ (d : Kept T). d.level) is, is)
   | inr other ↦
-      let at : slice_index_or places j None ≡ slice_index_or (kept_in old) j None =
-      ap (λ (ps : List (Option (Kept _))). slice_index_or ps j None) q ∙ get_or-set_other (kept_in old) k j (Some kept) None other
+      let there : slice_index_or new j None ≡ slice_index_or old j None =
+      ap (λ (ps : List (Option (Kept T))). slice_index_or ps j None) q ∙ get_or-set_other old k j (Some kept) None other
       in
-      inr (j, sym at ∙ h)
+      inr (j, sym there ∙ h, at)
 ]
-
--- what holds of the row of a level, for another name of the level
-pub row_at : {T : Type 0} (old new : Memo T) (level at : ℕ) (kept : Kept T) → level ≡ at → ((e : Kept T) → IsKeptIn (row_of new at) e → (e ≡ kept) ⊎ IsKeptIn (row_of old at) e)
-    → (e : Kept T) → IsKeptIn (row_of new level) e → (e ≡ kept) ⊎ IsKeptIn (row_of old level) e
-row_at old new level at kept same h = subst (λ (l : ℕ). (e : Kept _) → IsKeptIn (row_of new l) e → (e ≡ kept) ⊎ IsKeptIn (row_of old l) e) (sym same) h
-
-pub memo_with : (T : Type 0) (old new : Memo T) (level : ℕ) (kept : Kept T) (row : Row T) → level ≤ 10 → rows_of new ≡ set (rows_of old) level row
-    → ((e : Kept T) → IsKeptIn row e → (e ≡ kept) ⊎ IsRemembered old level e) → (l : ℕ) (e : Kept T) → IsRemembered new l e → ((l ≡ level) × (e ≡ kept)) ⊎ IsRemembered old l e
-memo_with T old new level kept row le q with_one l e h = elim (cases_eq l level) [
-  | inl same ↦
-      let at : slice_index_or (rows_of new) l empty_row ≡ row =
-      ap (λ (rs : List (Row T)). slice_index_or rs l empty_row) q ∙ ap (λ (j : ℕ). slice_index_or (set (rows_of old) level row) j empty_row) same ∙ get_or-set_same (rows_of old) level row empty_row (omega arith)
-      in
-      from_row same (with_one e (subst (λ (r : Row T). IsKeptIn r e) at h))
-  | inr other ↦
-      let at : slice_index_or (rows_of new) l empty_row ≡ slice_index_or (rows_of old) l empty_row =
-      ap (λ (rs : List (Row T)). slice_index_or rs l empty_row) q ∙ get_or-set_other (rows_of old) level l row empty_row other
-      in
-      inr (subst (λ (r : Row T). IsKeptIn r e) at h)
-]
-  where
-    from_row : l ≡ level → (e ≡ kept) ⊎ IsRemembered old level e → ((l ≡ level) × (e ≡ kept)) ⊎ IsRemembered old l e
-    from_row s (inl is) = inl (s, is)
-    from_row s (inr k) = inr (subst (λ (j : ℕ). IsRemembered old j e) (sym s) k)
 
 -- the memo
 
-pub recalls_on : {T : Type 0} (makes : T → Making) (base a b : List Tree) (memo : Memo T) → ReachesAll a b → Recalls makes base a memo → Recalls makes base b memo
+pub recalls_on : {T : Type 0} (makes : T → Making) (base a b : List Tree) (memo : Keeping T) → ReachesAll a b → Recalls makes base a memo → Recalls makes base b memo
 recalls_on makes base a b memo r h = record {
   each = λ level e k. let m = h.each level e k in record { tree = m.tree; of = tree_reached a b level m.tree e.name r m.of; cells = m.cells; made = m.made; shape = m.shape };
 }
 
-pub recalls_nothing : {T : Type 0} (makes : T → Making) (base held : List Tree) (memo : Memo T) → ((level : ℕ) (e : Kept T) → IsRemembered memo level e → ⊥) → Recalls makes base held memo
+pub recalls_nothing : {T : Type 0} (makes : T → Making) (base held : List Tree) (memo : Keeping T) → ((level : ℕ) (e : Kept T) → memo level e → ⊥) → Recalls makes base held memo
 recalls_nothing makes base held memo none = record { each = λ level e k. absurd (none level e k) }
 
 -- a block that came is kept
-pub recalls_came : (T : Type 0) (makes : T → Making) (base rest : List Tree) (level : ℕ) (task : T) (cells : Cells) (kept name : Option Name) (seen : Seen) (full : Option Name) (old new : Memo T)
-    → ((l : ℕ) (e : Kept T) → IsRemembered new l e → ((l ≡ level) × (e ≡ record { task = task; name = kept })) ⊎ IsRemembered old l e) → kept ≡ name
+pub recalls_came : (T : Type 0) (makes : T → Making) (base rest : List Tree) (level : ℕ) (task : T) (cells : Cells) (kept name : Option Name) (seen : Seen) (full : Option Name) (old new : Keeping T)
+    → ((l : ℕ) (e : Kept T) → new l e → ((l ≡ level) × (e ≡ record { level = level; task = task; name = kept })) ⊎ old l e) → kept ≡ name
     → makes task base level cells → Built makes base rest level (shape_with level cells) name (walk_at seen full old) → Built makes base rest level (shape_with level cells) name (walk_at seen full new)
 recalls_came T makes base rest level task cells kept name seen full old new keeps same m b = record { came = b.came; recalls = record { each = λ l e k. cases l e (keeps l e k) } }
   where
     is_held : (n : Name) → kept ≡ Some n → IsHeld b.came.now b.came.comes.tree
     is_held n e = record { weighs = λ f. omega (arith, b.came.comes.weighs f, weight_of-there f b.came.comes.tree n (b.came.comes.root ∙ sym same ∙ e)) }
 
-    itself : IsMade makes base b.came.now level (record { task = task; name = kept })
+    itself : IsMade makes base b.came.now level (record { level = level; task = task; name = kept })
     itself = record {
       tree = b.came.comes.tree;
       of = record { root = b.came.comes.root ∙ sym same; reached = λ n e. held_reached b.came.now b.came.comes.tree (is_held n e); levels = b.came.comes.levels };
@@ -100,7 +72,7 @@ recalls_came T makes base rest level task cells kept name seen full old new keep
       shape = b.came.comes.shape;
     }
 
-    cases : (l : ℕ) (e : Kept T) → ((l ≡ level) × (e ≡ record { task = task; name = kept })) ⊎ IsRemembered old l e → IsMade makes base b.came.now l e
+    cases : (l : ℕ) (e : Kept T) → ((l ≡ level) × (e ≡ record { level = level; task = task; name = kept })) ⊎ old l e → IsMade makes base b.came.now l e
     cases l e (inl (p, q)) = subst (λ (j : ℕ). IsMade makes base b.came.now j e) (sym p) (subst (λ (k : Kept T). IsMade makes base b.came.now level k) (sym q) itself)
     cases l e (inr k) = b.recalls.each l e k
 
@@ -139,11 +111,11 @@ partway_one makes base rest level task cells cs ds k name old new lt e p b d = r
 }
 
 -- the first block of a walk
-pub begins_none : {T : Type 0} (makes : T → Making) (base : List Tree) (seen : Seen) (level : ℕ) (task : T) (cells : Cells) (memo : Memo T) → Keeps base seen.held → ((l : ℕ) (e : Kept T) → IsRemembered memo l e → ⊥) → makes task base level cells → Begins makes base seen.held level task cells (walk_at seen None memo)
+pub begins_none : {T : Type 0} (makes : T → Making) (base : List Tree) (seen : Seen) (level : ℕ) (task : T) (cells : Cells) (memo : Keeping T) → Keeps base seen.held → ((l : ℕ) (e : Kept T) → memo l e → ⊥) → makes task base level cells → Begins makes base seen.held level task cells (walk_at seen None memo)
 begins_none makes base seen level task cells memo k none m = record { starts = starts_none base seen k; made = m; recalls = recalls_nothing makes base seen.held memo none }
 
 -- an octant, after those before it
-pub part_begins : {T : Type 0} (makes : T → Making) (base rest : List Tree) (level : ℕ) (task part : T) (cells at : Cells) (cs : List (Option Name)) (k : ℕ) (a b : Seen) (full : Option Name) (memo : Memo T)
+pub part_begins : {T : Type 0} (makes : T → Making) (base rest : List Tree) (level : ℕ) (task part : T) (cells at : Cells) (cs : List (Option Name)) (k : ℕ) (a b : Seen) (full : Option Name) (memo : Keeping T)
     → b ≡ a → (p : Partway makes base rest level task cells cs k (walk_at a full memo)) → makes part base (level - 1) at → Begins makes base p.gathers.now (level - 1) part at (walk_at b full memo)
 part_begins makes base rest level task part cells at cs k a b full memo e p m = record {
   starts = record { keeps = (part_starts base rest a full (level - 1) _ cs k p.keeps p.gathers).keeps; aside = subst (λ (v : Seen). Aside v.held full p.gathers.now) (sym e) p.gathers.aside };

@@ -12,16 +12,15 @@ use Rattle.edit_cells.specs.declared.tasks.Whole.{Whole}
 use Rattle.edit_cells.specs.Tasks.{Making, IsWhole}
 use Rattle.edit_cells.specs.Worlds.{world_cells}
 use Rattle.edit_blocks.specs.Blocks.{Aside, Came, Gathers, RefusesBlock}
-use Rattle.edit_walk.specs.declared.memos.Memo.{Memo}
-use Rattle.edit_walk.specs.Memos.{Recalls}
+use Rattle.edit_walk.specs.Memos.{Keeping, Recalls}
 
--- the state of a walk: what the store is seen as, the full block kept aside, and the memo
-pub record Walk (T : Type 0) : Type 0 where
+-- the state of a walk: what the store is seen as, the full block kept aside, and what is remembered
+pub record Walk (T : Type 0) : Type 1 where
   pub seen : Seen
   pub full : Option Name
-  pub memo : Memo T
+  pub memo : Keeping T
 
-abbrev pub walk_at : {T : Type 0} → Seen → Option Name → Memo T → Walk T
+abbrev pub walk_at : {T : Type 0} → Seen → Option Name → Keeping T → Walk T
 walk_at seen full memo = record { seen = seen; full = full; memo = memo }
 
 -- trees that stay held, the rest, and a full block aside

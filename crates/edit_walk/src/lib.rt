@@ -9,5 +9,6 @@ mod memos;
 mod walks;
 mod worlds;
 
+pub use memos::{Latest, Memo, NoMemo, Repeats};
 pub use walks::rebuild;
 pub use worlds::rebuild_world;

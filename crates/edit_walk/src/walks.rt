@@ -5,6 +5,7 @@ ghost use Rattle.node_words.specs.Gathering.{Comes, Grows, Fails};
 ghost use Rattle.cell_shapes.specs.CellShapes.{shape_with};
 ghost use Rattle.edit_cells.specs.Tasks.{MakesCells, ForCells};
 ghost use Rattle.edit_blocks.specs.Blocks.{height, Aside, Came, RefusesBlock};
+ghost use Rattle.edit_walk.specs.declared.memos.Kept.{Kept};
 ghost use Rattle.edit_walk.specs.Walks.{walk_at, Built, CanBuild, Builds, BuildsParts, StopsWalk, LeavesRest, GathersAll, CanGoOn, ForOctant, CanBeWhole, ForWhole};
 
 use crate::memos::{Kept, Memo};
@@ -16,26 +17,26 @@ use std::sync::ledger::Ledger;
 // A share of the block that the task makes, where a cell of it is set, or the full bucket that was
 // met.
 #[cycle(walk)]
-fn build<T: Task, N: NodeStore, L: Ledger>(
+fn build<T: Task, M: Memo<T>, N: NodeStore, L: Ledger>(
     store: &mut N,
     level: u8,
     task: &T,
     full: &mut Option<Share>,
-    memo: &mut Memo<T>,
+    memo: &mut M,
     steps: &mut Steps<L>,
 ) -> Result<Option<Share>, Full>
     requires level { (level ≤ 10) × (level + 2 ≤ (N.seen store.old).plan.side) }
-    requires task { CanBuild T.makes level task.now (walk_at (N.seen store.old) full.old memo.old) }
+    requires task { CanBuild T.makes level task.now (walk_at (N.seen store.old) full.old (M.has memo.old)) }
     requires room { number_of_trees (N.seen store.old).held + 9 * level ≤ 4000 }
     ensures ok { IfOk result (λ r. Builds T.makes level task.now
-        (walk_at (N.seen store.old) full.old memo.old) r
-        (walk_at (N.seen store.new) full.new memo.new)) }
+        (walk_at (N.seen store.old) full.old (M.has memo.old)) r
+        (walk_at (N.seen store.new) full.new (M.has memo.new))) }
     ensures grows { OnOk result (BuildsParts T.makes level task.now
-        (walk_at (N.seen store.old) full.old memo.old) (N.seen store.new)) }
+        (walk_at (N.seen store.old) full.old (M.has memo.old)) (N.seen store.new)) }
     ensures full { IfErr result (λ e. StopsWalk T.makes level task.now
-        (walk_at (N.seen store.old) full.old memo.old) e.level e.bucket (N.seen store.new)) }
+        (walk_at (N.seen store.old) full.old (M.has memo.old)) e.level e.bucket (N.seen store.new)) }
     ensures rest { OnErr result (LeavesRest T.makes level task.now
-        (walk_at (N.seen store.old) full.old memo.old) (N.seen store.new) full.new) }
+        (walk_at (N.seen store.old) full.old (M.has memo.old)) (N.seen store.new) full.new) }
     ensures rests { N.rests store.old store.new }
     ensures turns { OnOk result (steps.new + 16 * height full.old
         ≤ steps.old + 16 * height full.new + 1 + 25 * T.mixed level task.now) }
@@ -59,28 +60,28 @@ fn build<T: Task, N: NodeStore, L: Ledger>(
 
 // A block that isn't remembered, and is from here on.
 #[cycle(walk)]
-fn fresh<T: Task, N: NodeStore, L: Ledger>(
+fn fresh<T: Task, M: Memo<T>, N: NodeStore, L: Ledger>(
     store: &mut N,
     level: u8,
     task: &T,
     full: &mut Option<Share>,
-    memo: &mut Memo<T>,
+    memo: &mut M,
     steps: &mut Steps<L>,
 ) -> Result<Option<Share>, Full>
     requires level { (level ≤ 10) × (level + 2 ≤ (N.seen store.old).plan.side) }
-    requires task { CanBuild T.makes level task.now (walk_at (N.seen store.old) full.old memo.old) }
+    requires task { CanBuild T.makes level task.now (walk_at (N.seen store.old) full.old (M.has memo.old)) }
     requires room { number_of_trees (N.seen store.old).held + 9 * level ≤ 4000 }
     requires mixed { 1 ≤ level
         → 1 + sum_below 8 (T.mixed_in level task.now) ≤ T.mixed level task.now }
     ensures ok { IfOk result (λ r. Builds T.makes level task.now
-        (walk_at (N.seen store.old) full.old memo.old) r
-        (walk_at (N.seen store.new) full.new memo.new)) }
+        (walk_at (N.seen store.old) full.old (M.has memo.old)) r
+        (walk_at (N.seen store.new) full.new (M.has memo.new))) }
     ensures grows { OnOk result (BuildsParts T.makes level task.now
-        (walk_at (N.seen store.old) full.old memo.old) (N.seen store.new)) }
+        (walk_at (N.seen store.old) full.old (M.has memo.old)) (N.seen store.new)) }
     ensures full { IfErr result (λ e. StopsWalk T.makes level task.now
-        (walk_at (N.seen store.old) full.old memo.old) e.level e.bucket (N.seen store.new)) }
+        (walk_at (N.seen store.old) full.old (M.has memo.old)) e.level e.bucket (N.seen store.new)) }
     ensures rest { OnErr result (LeavesRest T.makes level task.now
-        (walk_at (N.seen store.old) full.old memo.old) (N.seen store.new) full.new) }
+        (walk_at (N.seen store.old) full.old (M.has memo.old)) (N.seen store.new) full.new) }
     ensures rests { N.rests store.old store.new }
     ensures turns { OnOk result (steps.new + 16 * height full.old
         ≤ steps.old + 16 * height full.new + 1 + 25 * T.mixed level task.now) }
@@ -89,7 +90,11 @@ fn fresh<T: Task, N: NodeStore, L: Ledger>(
     match made(store, level, task, full, memo, steps) {
         Ok(share) => {
             let name = named(&share);
-            memo.keep(level, Kept { task: *task, name });
+            memo.keep(Kept {
+                level,
+                task: *task,
+                name,
+            });
             Ok(share)
         }
         Err(e) => Err(e),
@@ -98,28 +103,28 @@ fn fresh<T: Task, N: NodeStore, L: Ledger>(
 
 // A block from its bits or its octants.
 #[cycle(walk)]
-fn made<T: Task, N: NodeStore, L: Ledger>(
+fn made<T: Task, M: Memo<T>, N: NodeStore, L: Ledger>(
     store: &mut N,
     level: u8,
     task: &T,
     full: &mut Option<Share>,
-    memo: &mut Memo<T>,
+    memo: &mut M,
     steps: &mut Steps<L>,
 ) -> Result<Option<Share>, Full>
     requires level { (level ≤ 10) × (level + 2 ≤ (N.seen store.old).plan.side) }
-    requires task { CanBuild T.makes level task.now (walk_at (N.seen store.old) full.old memo.old) }
+    requires task { CanBuild T.makes level task.now (walk_at (N.seen store.old) full.old (M.has memo.old)) }
     requires room { number_of_trees (N.seen store.old).held + 9 * level ≤ 4000 }
     requires mixed { 1 ≤ level
         → 1 + sum_below 8 (T.mixed_in level task.now) ≤ T.mixed level task.now }
     ensures ok { IfOk result (λ r. Builds T.makes level task.now
-        (walk_at (N.seen store.old) full.old memo.old) r
-        (walk_at (N.seen store.new) full.new memo.new)) }
+        (walk_at (N.seen store.old) full.old (M.has memo.old)) r
+        (walk_at (N.seen store.new) full.new (M.has memo.new))) }
     ensures grows { OnOk result (BuildsParts T.makes level task.now
-        (walk_at (N.seen store.old) full.old memo.old) (N.seen store.new)) }
+        (walk_at (N.seen store.old) full.old (M.has memo.old)) (N.seen store.new)) }
     ensures full { IfErr result (λ e. StopsWalk T.makes level task.now
-        (walk_at (N.seen store.old) full.old memo.old) e.level e.bucket (N.seen store.new)) }
+        (walk_at (N.seen store.old) full.old (M.has memo.old)) e.level e.bucket (N.seen store.new)) }
     ensures rest { OnErr result (LeavesRest T.makes level task.now
-        (walk_at (N.seen store.old) full.old memo.old) (N.seen store.new) full.new) }
+        (walk_at (N.seen store.old) full.old (M.has memo.old)) (N.seen store.new) full.new) }
     ensures rests { N.rests store.old store.new }
     ensures turns { OnOk result (steps.new + 16 * height full.old
         ≤ steps.old + 16 * height full.new + 1 + 25 * T.mixed level task.now) }
@@ -177,27 +182,27 @@ fn known<N: NodeStore, L: Ledger>(
 
 // Shares of the octants of the block that the task makes.
 #[cycle(walk)]
-fn gather<T: Task, N: NodeStore, L: Ledger>(
+fn gather<T: Task, M: Memo<T>, N: NodeStore, L: Ledger>(
     store: &mut N,
     level: u8,
     task: &T,
     full: &mut Option<Share>,
-    memo: &mut Memo<T>,
+    memo: &mut M,
     steps: &mut Steps<L>,
 ) -> Result<[Option<Share>; 8], Full>
     requires above { 1 ≤ level }
     requires level { (level ≤ 10) × (level + 2 ≤ (N.seen store.old).plan.side) }
-    requires task { CanBuild T.makes level task.now (walk_at (N.seen store.old) full.old memo.old) }
+    requires task { CanBuild T.makes level task.now (walk_at (N.seen store.old) full.old (M.has memo.old)) }
     requires room { number_of_trees (N.seen store.old).held + 9 * level ≤ 4000 }
     ensures ok { IfOk result (λ r. GathersAll T.makes level task.now
-        (walk_at (N.seen store.old) full.old memo.old) r
-        (walk_at (N.seen store.new) full.new memo.new)) }
+        (walk_at (N.seen store.old) full.old (M.has memo.old)) r
+        (walk_at (N.seen store.new) full.new (M.has memo.new))) }
     ensures grows { OnOk result (BuildsParts T.makes level task.now
-        (walk_at (N.seen store.old) full.old memo.old) (N.seen store.new)) }
+        (walk_at (N.seen store.old) full.old (M.has memo.old)) (N.seen store.new)) }
     ensures full { IfErr result (λ e. StopsWalk T.makes level task.now
-        (walk_at (N.seen store.old) full.old memo.old) e.level e.bucket (N.seen store.new)) }
+        (walk_at (N.seen store.old) full.old (M.has memo.old)) e.level e.bucket (N.seen store.new)) }
     ensures rest { OnErr result (LeavesRest T.makes level task.now
-        (walk_at (N.seen store.old) full.old memo.old) (N.seen store.new) full.new) }
+        (walk_at (N.seen store.old) full.old (M.has memo.old)) (N.seen store.new) full.new) }
     ensures rests { N.rests store.old store.new }
     ensures turns { OnOk result (steps.new + 16 * height full.old
         ≤ steps.old + 16 * height full.new + 8 + 25 * sum_below 8 (T.mixed_in level task.now)) }
@@ -218,35 +223,35 @@ fn gather<T: Task, N: NodeStore, L: Ledger>(
 
 // A share of octant k of the block that the task makes, those before it being in hand.
 #[cycle(walk)]
-fn octant<T: Task, N: NodeStore, L: Ledger>(
+fn octant<T: Task, M: Memo<T>, N: NodeStore, L: Ledger>(
     store: &mut N,
     level: u8,
     task: &T,
     k: u8,
     children: &[Option<Share>; 8],
     full: &mut Option<Share>,
-    memo: &mut Memo<T>,
+    memo: &mut M,
     steps: &mut Steps<L>,
 ) -> Result<Option<Share>, Full>
     requires above { 1 ≤ level }
     requires level { (level ≤ 10) × (level + 2 ≤ (N.seen store.old).plan.side) }
     requires octant { k < 8 }
     requires task { CanGoOn T.makes level task.now children.now k
-        (walk_at (N.seen store.old) full.old memo.old) }
+        (walk_at (N.seen store.old) full.old (M.has memo.old)) }
     requires room { number_of_trees (N.seen store.old).held + 9 * (level - 1) ≤ 4000 }
     ensures ok { IfOk result (λ r. ForOctant T.makes level task.now children.now k
-        (walk_at (N.seen store.old) full.old memo.old)
+        (walk_at (N.seen store.old) full.old (M.has memo.old))
         (λ base rest target. Built T.makes base rest (level - 1) target r
-        (walk_at (N.seen store.new) full.new memo.new))) }
+        (walk_at (N.seen store.new) full.new (M.has memo.new)))) }
     ensures grows { OnOk result (ForOctant T.makes level task.now children.now k
-        (walk_at (N.seen store.old) full.old memo.old)
+        (walk_at (N.seen store.old) full.old (M.has memo.old))
         (λ base rest target. Grows target (N.seen store.old) (N.seen store.new))) }
     ensures full { IfErr result (λ e. ForOctant T.makes level task.now children.now k
-        (walk_at (N.seen store.old) full.old memo.old)
+        (walk_at (N.seen store.old) full.old (M.has memo.old))
         (λ base rest target. RefusesBlock target e.level e.bucket (N.seen store.old)
         (N.seen store.new))) }
     ensures rest { OnErr result (ForOctant T.makes level task.now children.now k
-        (walk_at (N.seen store.old) full.old memo.old)
+        (walk_at (N.seen store.old) full.old (M.has memo.old))
         (λ base rest target. Aside (N.seen store.new).held full.new rest)) }
     ensures rests { N.rests store.old store.new }
     ensures turns { OnOk result (steps.new + 16 * height full.old
@@ -262,13 +267,15 @@ fn octant<T: Task, N: NodeStore, L: Ledger>(
 
 /// A share of the block that the task makes, where a cell of it is set. A store that met a full
 /// bucket holds what it held.
-pub fn rebuild<T: Task, N: NodeStore, L: Ledger>(
+pub fn rebuild<T: Task, M: Memo<T>, N: NodeStore, L: Ledger>(
     store: &mut N,
     level: u8,
     task: &T,
+    memo: &mut M,
     steps: &mut Steps<L>,
 ) -> Result<Option<Share>, Full>
     requires level { (level ≤ 10) × (level + 2 ≤ (N.seen store.old).plan.side) }
+    requires memo { (l : ℕ) (e : Kept T) → ¬ M.has memo.old l e }
     requires task { MakesCells (T.makes task.now) (N.seen store.old).held level }
     requires room { number_of_trees (N.seen store.old).held ≤ 3910 }
     ensures ok { IfOk result (λ r. ForCells (T.makes task.now) (N.seen store.old).held level
@@ -284,8 +291,7 @@ pub fn rebuild<T: Task, N: NodeStore, L: Ledger>(
         (steps.new ≤ steps.old + 25 * T.mixed level task.now + 25 * (level + 1)) }
 {
     let mut full: Option<Share> = None;
-    let mut memo = Memo::empty();
-    match build(store, level, task, &mut full, &mut memo, steps) {
+    match build(store, level, task, &mut full, memo, steps) {
         Ok(share) => {
             back_if(store, full, steps);
             Ok(share)

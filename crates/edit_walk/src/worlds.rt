@@ -1,24 +1,28 @@
-ghost use Rattle.std.specs.Prelude.{◌≡◌, ◌+◌, ◌-◌, ◌*◌, ◌≤◌, IfOk, IfErr, OnOk};
+ghost use Rattle.std.specs.Prelude.{◌≡◌, ◌+◌, ◌-◌, ◌*◌, ◌≤◌, ℕ, IfOk, IfErr, OnOk};
 ghost use Rattle.node_shapes.specs.Weights.{number_of_trees};
 ghost use Rattle.node_words.specs.Gathering.{Grows, Fails};
 ghost use Rattle.edit_cells.specs.Worlds.{world_shape, Rebuilt};
+ghost use Rattle.edit_walk.specs.declared.memos.Kept.{Kept};
 ghost use Rattle.edit_walk.specs.Walks.{MakesWorld, ForWorlds};
 
+use crate::memos::Memo;
 use crate::walks::rebuild;
 use edit_cells::Task;
 use node_words::{Full, NodeStore, Share, Steps};
 use std::sync::ledger::Ledger;
 use vw_cell::Side;
 
-/// A share of the root of the world that the task makes, where a cell of it is set. A store that
-/// met a full bucket holds what it held.
-pub fn rebuild_world<T: Task, N: NodeStore, L: Ledger>(
+/// A share of the root of the world that the task makes, where a cell of it is set. The memo begins
+/// with nothing. A store that met a full bucket holds what it held.
+pub fn rebuild_world<T: Task, M: Memo<T>, N: NodeStore, L: Ledger>(
     store: &mut N,
     side: Side,
     task: &T,
+    memo: &mut M,
     steps: &mut Steps<L>,
 ) -> Result<Option<Share>, Full>
     requires side { side ≡ (N.seen store.old).plan.side }
+    requires memo { (l : ℕ) (e : Kept T) → ¬ M.has memo.old l e }
     requires task { MakesWorld (T.makes task.now) (N.seen store.old).held side }
     requires room { number_of_trees (N.seen store.old).held ≤ 3910 }
     ensures ok { IfOk result (λ r. ForWorlds (T.makes task.now) (N.seen store.old).held side
@@ -33,7 +37,7 @@ pub fn rebuild_world<T: Task, N: NodeStore, L: Ledger>(
         (steps.new ≤ steps.old + 25 * T.mixed (side - 2) task.now + 25 * (side - 1)) }
 {
     let level = side.root_level();
-    match rebuild(store, level, task, steps) {
+    match rebuild(store, level, task, memo, steps) {
         Ok(share) => Ok(share),
         Err(e) => Err(e),
     }

@@ -142,16 +142,19 @@ gather-octant-requires g t c κs within =
         (
           within.1.0,
           (
-            within.1.1,
+            within.1.1.0,
             (
-              one,
+              within.1.1.1,
               (
-                (c.requires.level.0, side),
+                one,
                 (
-                  lt,
+                  (c.requires.level.0, side),
                   (
-                    (base, rest, cells, p),
-                    omega (arith, gathers_number rest _ _ _ _ _ _ p.gathers, (aside_numbers _ rest _ b.starts.aside).least, c.requires.room, one),
+                    lt,
+                    (
+                      (base, rest, cells, p),
+                      omega (arith, gathers_number rest _ _ _ _ _ _ p.gathers, (aside_numbers _ rest _ b.starts.aside).least, c.requires.room, one),
+                    ),
                   ),
                 ),
               ),
@@ -224,12 +227,15 @@ octant-build-requires g t c κs within =
         (
           within.1.0,
           (
-            within.1.1,
+            within.1.1.0,
             (
-              (low, omega (arith, ap (λ (v : Seen). v.plan.side) e, c.requires.level.1)),
+              within.1.1.1,
               (
-                (base, p.gathers.now, at, begins),
-                omega (arith, ap (λ (v : Seen). number_of_trees v.held) e, c.requires.room),
+                (low, omega (arith, ap (λ (v : Seen). v.plan.side) e, c.requires.level.1)),
+                (
+                  (base, p.gathers.now, at, begins),
+                  omega (arith, ap (λ (v : Seen). number_of_trees v.held) e, c.requires.room),
+                ),
               ),
             ),
           ),
@@ -278,4 +284,4 @@ octant-returns-in-Err-clause-rest g t c base rest cells p =
 pub gather-returns-clause-ok : goal.gather-returns-clause-ok
 gather-returns-clause-ok g t c base rest cells b =
     let e : c.loop-k.k ≡ 8 = omega arith in
-    subst (λ (n : ℕ). Partway g.T.Task.makes base rest c.args.level c.args.task.now cells c.loop-k.children n (walk_at (g.N.Blocks.seen c.loop-k.store) c.loop-k.full c.loop-k.memo)) e (c.loop-k.invariant.partway base rest cells b)
+    subst (λ (n : ℕ). Partway g.T.Task.makes base rest c.args.level c.args.task.now cells c.loop-k.children n (walk_at (g.N.Blocks.seen c.loop-k.store) c.loop-k.full (g.M.Memo.has c.loop-k.memo))) e (c.loop-k.invariant.partway base rest cells b)

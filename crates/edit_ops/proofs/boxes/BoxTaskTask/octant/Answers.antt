@@ -17,7 +17,7 @@ pub returns-clause-task : goal.returns-clause-task
 returns-clause-task g c base cells keeps m =
     let e = c.part_of-part.ensures.part ∙ ap (λ (h : _). part_in h c.args.self.now.part c.args.octant) c.half_side-half.ensures.half in
     let child = sym (c.octant_name-old.ensures.octant m.paints.tree (old_block base _ c.args.level m.paints.tree _ keeps m.paints.is_old)).root in
-    subst (λ (b : Boxed). MakesBox (record { old = c.octant_name-old.result; part = b; set = c.args.self.now.set; large = c.args.self.now.large }) base (c.args.level - 1) (octant_cells (c.args.level - 1) cells c.args.octant)) (sym e)
+    subst (λ (b : Boxed). MakesBox (record { old = c.octant_name-old.result; part = b; set = c.args.self.now.set }) base (c.args.level - 1) (octant_cells (c.args.level - 1) cells c.args.octant)) (sym e)
     (makes_octant base c.args.level c.args.self.now cells c.args.octant c.octant_name-old.result c.requires.level c.requires.octant m child)
 
 pub returns-clause-mixed : goal.returns-clause-mixed

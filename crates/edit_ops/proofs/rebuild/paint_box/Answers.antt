@@ -7,7 +7,7 @@ use Rattle.edit_ops.specs.Boxes.{box_act, parts_met}
 use Rattle.edit_ops.proofs.BoxLaws.{makes_world}
 use Rattle.edit_ops.specs.Partly.{world_partly}
 use Rattle.edit_ops.proofs.PartlyLaws.{world_parts}
-use Rattle.edit_ops.proofs.rebuild.rebuild_box.Goals as goal
+use Rattle.edit_ops.proofs.rebuild.paint_box.Goals as goal
 
 pub rebuild_world-requires-clause-task : goal.rebuild_world-requires-clause-task
 rebuild_world-requires-clause-task g c =
@@ -15,28 +15,28 @@ rebuild_world-requires-clause-task g c =
     let held = (g.N.Blocks.seen c.args.store.now).held in
     let l : c.args.side - 2 ≤ 10 = omega arith in
     let v = subst (λ (o : Option Name). ShowsWorld held (c.args.side - 2) o before) (sym c.name_of.ensures) w in
-    (edited [] (box_act c.args.set c.args.b) before, makes_world _ _ held c.args.set _ c.args.b _ before l c.held-held.ensures.trees c.held-held.ensures.canonical v)
+    (edited [] (box_act c.args.set c.args.b) before, makes_world _ _ held c.args.set c.args.b _ before l c.held-held.ensures.trees c.held-held.ensures.canonical v)
 
 pub returns-in-Ok-clause-ok : goal.returns-in-Ok-clause-ok
 returns-in-Ok-clause-ok g c before w =
     let held = (g.N.Blocks.seen c.args.store.now).held in
     let l : c.args.side - 2 ≤ 10 = omega arith in
     let v = subst (λ (o : Option Name). ShowsWorld held (c.args.side - 2) o before) (sym c.name_of.ensures) w in
-    c.in-Ok.ensures.ok _ (makes_world _ _ held c.args.set _ c.args.b _ before l c.held-held.ensures.trees c.held-held.ensures.canonical v)
+    c.in-Ok.ensures.ok _ (makes_world _ _ held c.args.set c.args.b _ before l c.held-held.ensures.trees c.held-held.ensures.canonical v)
 
 pub returns-in-Ok-clause-grows : goal.returns-in-Ok-clause-grows
 returns-in-Ok-clause-grows g c before w =
     let held = (g.N.Blocks.seen c.args.store.now).held in
     let l : c.args.side - 2 ≤ 10 = omega arith in
     let v = subst (λ (o : Option Name). ShowsWorld held (c.args.side - 2) o before) (sym c.name_of.ensures) w in
-    c.in-Ok.ensures.grows (edited [] (box_act c.args.set c.args.b) before) (makes_world _ _ held c.args.set _ c.args.b _ before l c.held-held.ensures.trees c.held-held.ensures.canonical v)
+    c.in-Ok.ensures.grows (edited [] (box_act c.args.set c.args.b) before) (makes_world _ _ held c.args.set c.args.b _ before l c.held-held.ensures.trees c.held-held.ensures.canonical v)
 
 pub returns-in-Err-clause-full : goal.returns-in-Err-clause-full
 returns-in-Err-clause-full g c before w =
     let held = (g.N.Blocks.seen c.args.store.now).held in
     let l : c.args.side - 2 ≤ 10 = omega arith in
     let v = subst (λ (o : Option Name). ShowsWorld held (c.args.side - 2) o before) (sym c.name_of.ensures) w in
-    c.in-Err.ensures.full (edited [] (box_act c.args.set c.args.b) before) (makes_world _ _ held c.args.set _ c.args.b _ before l c.held-held.ensures.trees c.held-held.ensures.canonical v)
+    c.in-Err.ensures.full (edited [] (box_act c.args.set c.args.b) before) (makes_world _ _ held c.args.set c.args.b _ before l c.held-held.ensures.trees c.held-held.ensures.canonical v)
 
 pub returns-in-Ok-clause-turns : goal.returns-in-Ok-clause-turns
 returns-in-Ok-clause-turns g c =

@@ -1,6 +1,6 @@
 use Rattle.std.proofs.Common.{refl}
 use Rattle.edit_copy.proofs.CopyLaws.{copy_same}
-use Rattle.edit_copy.proofs.copies.CopyTaskTask.is_same.Goals as goal
+use Rattle.edit_copy.proofs.copies.CopyTaskRepeats.is_same.Goals as goal
 
 pub returns : goal.returns
 returns c e base level p q m n =
