@@ -14,7 +14,8 @@ pub struct Kept<T> {
     pub name: Option<Name>,
 }
 
-/// What a walk remembers of the blocks that it made, for blocks further on that have the same cells.
+/// What a walk remembers of the blocks that it made, for blocks further on that have the same
+/// cells.
 pub trait Memo<T: Task> {
     /// A block of this level is remembered.
     ghost has: { Self → ℕ → Kept T → Type 0 };
@@ -53,14 +54,14 @@ pub trait Repeats: Task {
     fn is_same(&self, other: &Self) -> bool
         ensures { IsTrue result → MakeAlike (Self.makes self.now) (Self.makes other.now) };
 
-    /// The place of the block of this level among 1,024. The more evenly it spreads, the more blocks
-    /// are found again.
+    /// The place of the block of this level among 1,024. The more evenly it spreads, the more
+    /// blocks are found again.
     fn place(&self, level: u8) -> usize
         ensures { result < 1024 };
 }
 
-/// Remembers a block at each of 1,024 places; a new one takes the place of an old. It takes no memory
-/// but the stack's.
+/// Remembers a block at each of 1,024 places; a new one takes the place of an old. It takes no
+/// memory but the stack's.
 #[derive(Drop)]
 pub struct Latest<T> {
     places: [Option<Kept<T>>; 1024],

@@ -26,7 +26,8 @@ fn build<T: Task, M: Memo<T>, N: NodeStore, L: Ledger>(
     steps: &mut Steps<L>,
 ) -> Result<Option<Share>, Full>
     requires level { (level ≤ 10) × (level + 2 ≤ (N.seen store.old).plan.side) }
-    requires task { CanBuild T.makes level task.now (walk_at (N.seen store.old) full.old (M.has memo.old)) }
+    requires task { CanBuild T.makes level task.now
+        (walk_at (N.seen store.old) full.old (M.has memo.old)) }
     requires room { number_of_trees (N.seen store.old).held + 9 * level ≤ 4000 }
     ensures ok { IfOk result (λ r. Builds T.makes level task.now
         (walk_at (N.seen store.old) full.old (M.has memo.old)) r
@@ -34,7 +35,8 @@ fn build<T: Task, M: Memo<T>, N: NodeStore, L: Ledger>(
     ensures grows { OnOk result (BuildsParts T.makes level task.now
         (walk_at (N.seen store.old) full.old (M.has memo.old)) (N.seen store.new)) }
     ensures full { IfErr result (λ e. StopsWalk T.makes level task.now
-        (walk_at (N.seen store.old) full.old (M.has memo.old)) e.level e.bucket (N.seen store.new)) }
+        (walk_at (N.seen store.old) full.old (M.has memo.old)) e.level e.bucket
+        (N.seen store.new)) }
     ensures rest { OnErr result (LeavesRest T.makes level task.now
         (walk_at (N.seen store.old) full.old (M.has memo.old)) (N.seen store.new) full.new) }
     ensures rests { N.rests store.old store.new }
@@ -69,7 +71,8 @@ fn fresh<T: Task, M: Memo<T>, N: NodeStore, L: Ledger>(
     steps: &mut Steps<L>,
 ) -> Result<Option<Share>, Full>
     requires level { (level ≤ 10) × (level + 2 ≤ (N.seen store.old).plan.side) }
-    requires task { CanBuild T.makes level task.now (walk_at (N.seen store.old) full.old (M.has memo.old)) }
+    requires task { CanBuild T.makes level task.now
+        (walk_at (N.seen store.old) full.old (M.has memo.old)) }
     requires room { number_of_trees (N.seen store.old).held + 9 * level ≤ 4000 }
     requires mixed { 1 ≤ level
         → 1 + sum_below 8 (T.mixed_in level task.now) ≤ T.mixed level task.now }
@@ -79,7 +82,8 @@ fn fresh<T: Task, M: Memo<T>, N: NodeStore, L: Ledger>(
     ensures grows { OnOk result (BuildsParts T.makes level task.now
         (walk_at (N.seen store.old) full.old (M.has memo.old)) (N.seen store.new)) }
     ensures full { IfErr result (λ e. StopsWalk T.makes level task.now
-        (walk_at (N.seen store.old) full.old (M.has memo.old)) e.level e.bucket (N.seen store.new)) }
+        (walk_at (N.seen store.old) full.old (M.has memo.old)) e.level e.bucket
+        (N.seen store.new)) }
     ensures rest { OnErr result (LeavesRest T.makes level task.now
         (walk_at (N.seen store.old) full.old (M.has memo.old)) (N.seen store.new) full.new) }
     ensures rests { N.rests store.old store.new }
@@ -112,7 +116,8 @@ fn made<T: Task, M: Memo<T>, N: NodeStore, L: Ledger>(
     steps: &mut Steps<L>,
 ) -> Result<Option<Share>, Full>
     requires level { (level ≤ 10) × (level + 2 ≤ (N.seen store.old).plan.side) }
-    requires task { CanBuild T.makes level task.now (walk_at (N.seen store.old) full.old (M.has memo.old)) }
+    requires task { CanBuild T.makes level task.now
+        (walk_at (N.seen store.old) full.old (M.has memo.old)) }
     requires room { number_of_trees (N.seen store.old).held + 9 * level ≤ 4000 }
     requires mixed { 1 ≤ level
         → 1 + sum_below 8 (T.mixed_in level task.now) ≤ T.mixed level task.now }
@@ -122,7 +127,8 @@ fn made<T: Task, M: Memo<T>, N: NodeStore, L: Ledger>(
     ensures grows { OnOk result (BuildsParts T.makes level task.now
         (walk_at (N.seen store.old) full.old (M.has memo.old)) (N.seen store.new)) }
     ensures full { IfErr result (λ e. StopsWalk T.makes level task.now
-        (walk_at (N.seen store.old) full.old (M.has memo.old)) e.level e.bucket (N.seen store.new)) }
+        (walk_at (N.seen store.old) full.old (M.has memo.old)) e.level e.bucket
+        (N.seen store.new)) }
     ensures rest { OnErr result (LeavesRest T.makes level task.now
         (walk_at (N.seen store.old) full.old (M.has memo.old)) (N.seen store.new) full.new) }
     ensures rests { N.rests store.old store.new }
@@ -192,7 +198,8 @@ fn gather<T: Task, M: Memo<T>, N: NodeStore, L: Ledger>(
 ) -> Result<[Option<Share>; 8], Full>
     requires above { 1 ≤ level }
     requires level { (level ≤ 10) × (level + 2 ≤ (N.seen store.old).plan.side) }
-    requires task { CanBuild T.makes level task.now (walk_at (N.seen store.old) full.old (M.has memo.old)) }
+    requires task { CanBuild T.makes level task.now
+        (walk_at (N.seen store.old) full.old (M.has memo.old)) }
     requires room { number_of_trees (N.seen store.old).held + 9 * level ≤ 4000 }
     ensures ok { IfOk result (λ r. GathersAll T.makes level task.now
         (walk_at (N.seen store.old) full.old (M.has memo.old)) r
@@ -200,7 +207,8 @@ fn gather<T: Task, M: Memo<T>, N: NodeStore, L: Ledger>(
     ensures grows { OnOk result (BuildsParts T.makes level task.now
         (walk_at (N.seen store.old) full.old (M.has memo.old)) (N.seen store.new)) }
     ensures full { IfErr result (λ e. StopsWalk T.makes level task.now
-        (walk_at (N.seen store.old) full.old (M.has memo.old)) e.level e.bucket (N.seen store.new)) }
+        (walk_at (N.seen store.old) full.old (M.has memo.old)) e.level e.bucket
+        (N.seen store.new)) }
     ensures rest { OnErr result (LeavesRest T.makes level task.now
         (walk_at (N.seen store.old) full.old (M.has memo.old)) (N.seen store.new) full.new) }
     ensures rests { N.rests store.old store.new }
