@@ -11,11 +11,12 @@ use Rattle.block_walk.specs.Parts.{EndsBy, IsEmpty, part_in, half_size}
 use Rattle.block_walk.proofs.LookLaws.{twice}
 use Rattle.block_walk.proofs.Octants.{number_by_octants}
 use Rattle.std.specs.Prelude.{List, Option}
+use Rattle.node_shapes.specs.Tree.{Tree}
 use Rattle.node_words.specs.Held.{Seen}
 use Rattle.block_walk.specs.declared.answers.Known.{Known}
 use Rattle.block_walk.specs.Answers.{AreRight}
 use Rattle.measure.specs.declared.tallies.Part.{Part}
-use Rattle.measure.specs.Tallies.{Counting, in_octant, PassesNone, IsTally}
+use Rattle.measure.specs.Tallies.{Counting, in_octant, PassesNone, IsTally, IsOctantTally}
 
 -- how many cells of a part count in its first k octants
 abbrev pub tallied : ℕ → Boxed → (Cell → Bool) → ℕ → ℕ
@@ -87,6 +88,58 @@ tallied_step counts a b c level half k m n subject inner part octant test e f h 
     let in_b = subst (λ (s : Seen). counts s.held level subject test) (sym e) passes in
     let in_c = subst (λ (s : Seen). counts s.held (level - 1) inner (in_octant level k test)) (sym f) (down test in_b) in
     tallied_more level half k m n part octant test h p (told (in_octant level k test) in_c) sofar
+
+-- an octant in which none of the part lies, and one that was tallied
+pub empty_octant : {S : Type 0} (counts : Counting S) (held : List Tree) (of : Part S) (half k : ℕ)
+    (octant : Boxed) → half ≡ block_side (of.level - 1) → octant ≡ part_in half of.part k
+    → IsEmpty octant → IsOctantTally counts held of k 0
+empty_octant counts held of half k octant h is none test p =
+    empty_tallied octant (in_octant of.level k test) none
+    ∙ ap (λ (b : Boxed). number_in b (in_octant of.level k test))
+    (is ∙ ap (λ (v : ℕ). part_in v of.part k) h)
+
+pub octant_tallied : {S : Type 0} (counts : Counting S) (a b : Seen) (of : Part S) (half k n : ℕ)
+    (inner : S) (octant : Boxed) → b ≡ a → half ≡ block_side (of.level - 1)
+    → octant ≡ part_in half of.part k
+    → ((u : Cell → Bool) → counts a.held of.level of.subject u
+    → counts a.held (of.level - 1) inner (in_octant of.level k u))
+    → IsTally counts b.held (record { subject = inner; level = of.level - 1; part = octant }) n
+    → IsOctantTally counts a.held of k n
+octant_tallied counts a b of half k n inner octant e h is down told test p =
+    told (in_octant of.level k test)
+    (subst (λ (s : Seen). counts s.held (of.level - 1) inner (in_octant of.level k test)) (sym e)
+    (down test p))
+    ∙ ap (λ (b : Boxed). number_in b (in_octant of.level k test))
+    (is ∙ ap (λ (v : ℕ). part_in v of.part k) h)
+
+-- what a call for an octant needs
+pub octant_counts : {S : Type 0} (counts : Counting S) (a b : Seen) (level k : ℕ) (subject inner : S)
+    (test : Cell → Bool) → b ≡ a
+    → ((u : Cell → Bool) → counts a.held level subject u
+    → counts a.held (level - 1) inner (in_octant level k u))
+    → counts a.held level subject test → (u : Cell → Bool) × counts b.held (level - 1) inner u
+octant_counts counts a b level k subject inner test e down p =
+    (in_octant level k test, subst (λ (s : Seen). counts s.held (level - 1) inner (in_octant level k test)) (sym e) (down test p))
+
+pub octant_ends : (half level : ℕ) (part : Boxed) → half ≡ block_side (level - 1)
+    → EndsBy half part → EndsBy (block_side (level - 1)) part
+octant_ends half level part e ends = subst (λ (n : ℕ). EndsBy n part) e ends
+
+-- one more octant that was tallied
+pub octant_more : {S : Type 0} (counts : Counting S) (a b : Seen) (of : Part S) (k m n : ℕ)
+    (test : Cell → Bool) → b ≡ a → IsOctantTally counts b.held of k n
+    → counts a.held of.level of.subject test → m ≡ tallied of.level of.part test k
+    → m + n ≡ tallied of.level of.part test (k + 1)
+octant_more counts a b of k m n test e told p sofar =
+    let last =
+    told test (subst (λ (s : Seen). counts s.held of.level of.subject test) (sym e) p)
+    in
+    let step : tallied of.level of.part test (suc k)
+    ≡ tallied of.level of.part test k
+    + number_in (part_in (block_side (of.level - 1)) of.part k) (in_octant of.level k test) =
+    sum_below-suc k _
+    in
+    rw add-one (omega (arith, step, last, sofar))
 
 -- what is remembered is right after calls that change nothing
 pub right_again : {S : Type 0} (counts : Counting S) (a b c : Seen) (places : List (Option (Known (Part S)))) → b ≡ a → c ≡ b → AreRight (IsTally counts) c.held places → AreRight (IsTally counts) a.held places

@@ -93,6 +93,12 @@ tally_before counts a b of n e told test p = told test (subst (λ (s : Seen). co
 pub right_before : {S : Type 0} (counts : Counting S) (a b : Seen) (places : List (Option (Known (Part S)))) → b ≡ a → AreRight (IsTally counts) b.held places → AreRight (IsTally counts) a.held places
 right_before counts a b places e r = subst (λ (s : Seen). AreRight (IsTally counts) s.held places) e r
 
+pub whole_right_before : {S : Type 0} (counts : Counting S) (a b : Seen)
+    (places : List (Option (Known (Whole S)))) → b ≡ a
+    → AreRight (IsWholeTally counts) b.held places → AreRight (IsWholeTally counts) a.held places
+whole_right_before counts a b places e r =
+    subst (λ (s : Seen). AreRight (IsWholeTally counts) s.held places) e r
+
 -- of a leaf
 pub leaf_tally : {S : Type 0} (counts : Counting S) (held : List Tree) (of : Part S) (bits n : ℕ) → of.level ≡ 0 → ((test : Cell → Bool) → counts held 0 of.subject test → TellsCells bits test) → ((test : Cell → Bool) → TellsCells bits test → n ≡ number_in of.part test) → IsTally counts held of n
 leaf_tally counts held of bits n z bits_are told test p = told test (bits_are test (subst (λ (l : ℕ). counts held l of.subject test) z p))

@@ -1,13 +1,15 @@
 -- How a box is widened, step by step.
 use Rattle.std.proofs.Common.{◌≡◌, ℕ, zero, suc, ◌+◌, ◌-◌, ◌*◌, ◌/◌, ◌%◌, ◌^◌, ◌<◌, ◌≤◌, Some, None, Option, List, Bool, true, false, refl, sym, ap, subst, ◌∙◌, arith, inl, inr, ◌⊎◌}
-use Rattle.std.specs.Prelude.{◌==◌}
+use Rattle.std.specs.Prelude.{◌==◌, ◌&&◌, bit_and}
 use Rattle.std.specs.Int.{bit_at}
-use Rattle.std.proofs.lemmas.Bool.{cases_eq, cases_Bool}
+use Rattle.std.proofs.lemmas.Bool.{and_parts, cases_eq, cases_Bool}
+use Rattle.std.proofs.lemmas.Nat.Bits.{bit_at_and, bit_at-lt}
 use Rattle.vw_cell.specs.declared.cells.Cell.{Cell}
 use Rattle.vw_cell.specs.declared.boxes.Boxed.{Boxed}
 use Rattle.vw_cell.specs.declared.blocks.Block.{Block}
 use Rattle.vw_cell.specs.Counts.{cell_at}
-use Rattle.vw_cell.specs.Places.{block_side, half_x, half_y, half_z, IsWithin, IsInBlock, LiesIn, octant_of}
+use Rattle.vw_cell.specs.Places.{block_side, half_x, half_y, half_z, IsWithin, IsInBlock, LiesIn, octant_of, is_in_box}
+use Rattle.vw_cell.specs.Tests.{is_in_box_tells}
 use Rattle.node_shapes.specs.declared.names.Name.{Name}
 use Rattle.node_shapes.specs.Shape.{Shape, Clear, bits_of, bit_number, has, ShowsCells}
 use Rattle.node_shapes.specs.Tree.{Tree, shape_of, child_of}
@@ -20,6 +22,7 @@ use Rattle.world_questions.specs.Extents.{IsExtent}
 use Rattle.block_walk.specs.Roots.{IsBlockOf, IsOctantOf, HasBlock, ForBlock, ForWorld, cells_of}
 use Rattle.block_walk.proofs.BlockLaws.{clear_block}
 use Rattle.block_walk.proofs.LookLaws.{block_still, twice, root_side, same_cell}
+use Rattle.measure.proofs.LeafCounts.{both}
 use Rattle.measure.proofs.TallyLaws.{small_side}
 use Rattle.measure.specs.Widening.{IsFound, Widens, IsSetIn, IsSetInSome, IsOther, IsOtherAt, IsSetAt, ForPlace, WidensBy, leaf_cell, bit_of}
 
@@ -248,6 +251,37 @@ bits_all place cells bit old new e f p =
     let z1 = i.z.1 in
     record { set_in = m; is = omega arith })
     (λ c m. m) p
+
+-- a leaf whose set cells all lie in the box
+pub leaf_found : (bits mask : ℕ) (b : Boxed) (place : Block) (found : Option Boxed)
+    → place.level ≡ 0 → found ≡ Some b → LeafShows mask place (is_in_box b)
+    → bit_and bits mask ≡ bits → (cells : Cell → Bool) → LeafShows bits place cells
+    → Widens (IsSetIn place cells) (IsSetIn place cells) found found
+leaf_found bits mask b place found e is in_mask all cells shows =
+    widens_same _ _ found (λ c m.
+    let side : block_side place.level ≡ 4 = ap block_side e in
+    let i = m.inside in
+    let x : ℕ = c.x - place.at.x in
+    let y : ℕ = c.y - place.at.y in
+    let z : ℕ = c.z - place.at.z in
+    let lx : x < 4 = omega (arith, side, i.x.0, i.x.1) in
+    let ly : y < 4 = omega (arith, side, i.y.0, i.y.1) in
+    let lz : z < 4 = omega (arith, side, i.z.0, i.z.1) in
+    let n : ℕ = bit_number x y z in
+    let there : c ≡ cell_at (place.at.x + x) (place.at.y + y) (place.at.z + z) =
+    same_cell c _ _ _ (omega (arith, i.x.0)) (omega (arith, i.y.0)) (omega (arith, i.z.0))
+    in
+    let set : (bit_at bits n == 1) ≡ true = shows.each x y z lx ly lz ∙ ap cells (sym there) ∙ m.set in
+    let ones : (bit_at bits n == 1) && (bit_at mask n == 1) ≡ true =
+    sym (both (bit_at bits n) (bit_at mask n) (bit_at-lt bits n) (bit_at-lt mask n))
+    ∙ sym (ap (λ (w : ℕ). w == 1) (bit_at_and bits mask n))
+    ∙ ap (λ (w : ℕ). bit_at w n == 1) all ∙ set
+    in
+    let inside : is_in_box b c ≡ true =
+    ap (is_in_box b) there ∙ sym (in_mask.each x y z lx ly lz)
+    ∙ (and_parts (bit_at bits n == 1) (bit_at mask n == 1) ones).1
+    in
+    subst (λ (f : Option Boxed). IsFound f c) (sym is) (is_in_box_tells b c inside))
 
 -- the box of a whole world
 same_place : (level : ℕ) (s : Shape) (x y z x' y' z' : ℕ) → x ≡ x' → y ≡ y' → z ≡ z' → has level s x y z ≡ has level s x' y' z'

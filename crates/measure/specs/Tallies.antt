@@ -4,7 +4,7 @@ use Rattle.vw_cell.specs.declared.cells.Cell.{Cell}
 use Rattle.vw_cell.specs.Places.{block_side, IsInWorld}
 use Rattle.vw_cell.specs.Counts.{number_in}
 use Rattle.node_shapes.specs.Tree.{Tree}
-use Rattle.block_walk.specs.Parts.{placed, whole_of}
+use Rattle.block_walk.specs.Parts.{placed, part_in, whole_of}
 use Rattle.measure.specs.declared.tallies.Part.{Part}
 use Rattle.measure.specs.declared.wholes.Whole.{Whole}
 
@@ -31,3 +31,10 @@ abbrev pub IsWholeTally : {S : Type 0} → Counting S → List Tree → Whole S 
 IsWholeTally counts held w number =
     (test : Cell → Bool) → counts held w.level w.subject test
     → number ≡ number_in (whole_of w.level) test
+
+-- the number is that of the part's cells in an octant that count
+abbrev pub IsOctantTally : {S : Type 0} → Counting S → List Tree → Part S → ℕ → ℕ → Type 0
+IsOctantTally counts held p octant number =
+    (test : Cell → Bool) → counts held p.level p.subject test
+    → number ≡ number_in (part_in (block_side (p.level - 1)) p.part octant)
+    (in_octant p.level octant test)

@@ -100,7 +100,7 @@ fn bare_towards<B: Blocks>(
         level,
         part,
     };
-    tally(store, &mut known.parts, &mut known.wholes, of)
+    tally(store, &mut known.parts, &mut known.wholes, &of)
 }
 
 ghost use Rattle.measure.specs.Faces.{passes_bare};

@@ -60,7 +60,7 @@ pub fn count<B: Blocks>(store: &mut B, root: Option<&Share>, side: Side, b: Boxe
         level,
         part: b,
     };
-    tally(store, &mut answers, &mut wholes, of)
+    tally(store, &mut answers, &mut wholes, &of)
 }
 
 // The set cells of what stands in a block.

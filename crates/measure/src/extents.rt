@@ -12,7 +12,7 @@ ghost use Rattle.measure.specs.Widening.{IsFound, EndsInside, Widens, IsSetIn, I
 use crate::pruning::{Within, is_known, note};
 use block_walk::{Answers, leaf_bits, name_of, octant_name};
 use node_shapes::Name;
-use node_words::{Blocks, Share};
+use node_words::{Blocks, Share, box_bits};
 use vw_cell::{Block, Boxed, Cell, Side};
 
 /// The least box of all set cells of the root's world. `None` exactly where no cell is set.
@@ -27,173 +27,172 @@ pub fn bounds<B: Blocks>(store: &mut B, root: Option<&Share>, side: Side) -> Opt
     let level = side.root_level();
     let at = Cell { x: 0, y: 0, z: 0 };
     let place = Block { level, at };
-    widened(store, &mut answers, name_of(root), place, 0, None)
+    let mut found = None;
+    widen(store, &mut answers, name_of(root), place, 0, &mut found);
+    found
 }
 
-// The box widened by the set cells of a block. A block that can't widen the box found so far is
-// passed over: one that lies in it, and one like an earlier block that lies as far within it.
+// Widens the box by the set cells of a block. A block that can't widen the box found so far is passed
+// over: one that lies in it, and one like an earlier block that lies as far within it.
 #[cycle(widen)]
-fn widened<B: Blocks>(
+fn widen<B: Blocks>(
     store: &mut B,
     answers: &mut Answers<Within>,
     block: Option<Name>,
     place: Block,
     corner: u8,
-    found: Option<Boxed>,
-) -> Option<Boxed>
+    found: &mut Option<Boxed>,
+)
     requires level { place.level ≤ 10 }
     requires block { HasBlock (B.seen store.old).held place.level block }
     requires inside { LiesIn 4096 place }
     requires corner { corner < 8 }
-    requires found { EndsInside found }
+    requires found { EndsInside found.old }
     requires answers { AreRight tells_within (B.seen store.old).held answers.old.places }
-    ensures widens { WidensBy (B.seen store.old).held block place found result }
-    ensures found { EndsInside result }
+    ensures widens { WidensBy (B.seen store.old).held block place found.old found.new }
+    ensures found { EndsInside found.new }
     ensures answers { AreRight tells_within (B.seen store.old).held answers.new.places }
     ensures seen { B.seen store.new ≡ B.seen store.old }
     ensures rests { B.rests store.old store.new }
 {
     if block.is_none() {
-        return found;
+        return;
     }
-    if covers(found, place) {
-        return found;
+    if covers(*found, place) {
+        return;
     }
     if place.level == 0 {
         let bits = leaf_bits(store, block);
-        return with_leaf(bits, place, found);
+        *found = with_leaf(bits, place, *found);
+        return;
     }
-    if is_known(answers, block, place, found) {
-        return found;
+    if is_known(answers, block, place, *found) {
+        return;
     }
-    let wide = widened_by_octants(store, answers, block, place, corner, found);
-    note(answers, block, place, wide);
-    wide
+    widen_by_octants(store, answers, block, place, corner, found);
+    note(answers, block, place, *found);
 }
 
-// The box widened by the set cells of all octants. The corner of its own block that an octant lies
-// at comes first, and the opposite one next, so the box is soon wide.
+// Widens the box by the set cells of all octants. The corner of its own block that an octant lies at
+// comes first, and the opposite one next, so the box is soon wide.
 #[cycle(widen)]
-fn widened_by_octants<B: Blocks>(
+fn widen_by_octants<B: Blocks>(
     store: &mut B,
     answers: &mut Answers<Within>,
     block: Option<Name>,
     place: Block,
     corner: u8,
-    found: Option<Boxed>,
-) -> Option<Boxed>
+    found: &mut Option<Boxed>,
+)
     requires level { (1 ≤ place.level) × (place.level ≤ 10) }
     requires block { HasBlock (B.seen store.old).held place.level block }
     requires inside { LiesIn 4096 place }
     requires corner { corner < 8 }
-    requires found { EndsInside found }
+    requires found { EndsInside found.old }
     requires answers { AreRight tells_within (B.seen store.old).held answers.old.places }
-    ensures widens { WidensBy (B.seen store.old).held block place found result }
-    ensures found { EndsInside result }
+    ensures widens { WidensBy (B.seen store.old).held block place found.old found.new }
+    ensures found { EndsInside found.new }
     ensures answers { AreRight tells_within (B.seen store.old).held answers.new.places }
     ensures seen { B.seen store.new ≡ B.seen store.old }
     ensures rests { B.rests store.old store.new }
 {
-    let found = widened_in(store, answers, block, place, corner, found);
-    let found = widened_in(store, answers, block, place, 7 - corner, found);
-    widened_by_others(store, answers, block, place, corner, found)
+    widen_in(store, answers, block, place, corner, found);
+    widen_in(store, answers, block, place, 7 - corner, found);
+    widen_by_others(store, answers, block, place, corner, found);
 }
 
-// The box widened by the set cells of one octant.
+// Widens the box by the set cells of one octant.
 #[cycle(widen)]
-fn widened_in<B: Blocks>(
+fn widen_in<B: Blocks>(
     store: &mut B,
     answers: &mut Answers<Within>,
     block: Option<Name>,
     place: Block,
     octant: u8,
-    found: Option<Boxed>,
-) -> Option<Boxed>
+    found: &mut Option<Boxed>,
+)
     requires level { (1 ≤ place.level) × (place.level ≤ 10) }
     requires block { HasBlock (B.seen store.old).held place.level block }
     requires inside { LiesIn 4096 place }
     requires octant { octant < 8 }
-    requires found { EndsInside found }
+    requires found { EndsInside found.old }
     requires answers { AreRight tells_within (B.seen store.old).held answers.old.places }
     ensures widens { ForPlace (B.seen store.old).held block place
         (λ cells. Widens (IsSetIn (octant_of place octant) cells)
-        (IsSetIn place cells) found result) }
-    ensures found { EndsInside result }
+        (IsSetIn place cells) found.old found.new) }
+    ensures found { EndsInside found.new }
     ensures answers { AreRight tells_within (B.seen store.old).held answers.new.places }
     ensures block { HasBlock (B.seen store.new).held place.level block }
     ensures seen { B.seen store.new ≡ B.seen store.old }
     ensures rests { B.rests store.old store.new }
 {
     let child = octant_name(store, place.level, block, octant);
-    widened(store, answers, child, place.child(octant), octant, found)
+    widen(store, answers, child, place.child(octant), octant, found);
 }
 
-// The box widened by the set cells of all octants but that of the corner and its opposite.
+// Widens the box by the set cells of all octants but that of the corner and its opposite.
 #[cycle(widen)]
-fn widened_by_others<B: Blocks>(
+fn widen_by_others<B: Blocks>(
     store: &mut B,
     answers: &mut Answers<Within>,
     block: Option<Name>,
     place: Block,
     corner: u8,
-    found: Option<Boxed>,
-) -> Option<Boxed>
+    found: &mut Option<Boxed>,
+)
     requires level { (1 ≤ place.level) × (place.level ≤ 10) }
     requires block { HasBlock (B.seen store.old).held place.level block }
     requires inside { LiesIn 4096 place }
     requires corner { corner < 8 }
-    requires found { EndsInside found }
+    requires found { EndsInside found.old }
     requires answers { AreRight tells_within (B.seen store.old).held answers.old.places }
     ensures widens { ForPlace (B.seen store.old).held block place
         (λ cells. Widens (IsSetInSome place cells (IsOther corner 8))
-        (IsSetIn place cells) found result) }
-    ensures found { EndsInside result }
+        (IsSetIn place cells) found.old found.new) }
+    ensures found { EndsInside found.new }
     ensures answers { AreRight tells_within (B.seen store.old).held answers.new.places }
     ensures seen { B.seen store.new ≡ B.seen store.old }
     ensures rests { B.rests store.old store.new }
 {
-    let mut wide = found;
     for octant in 0..8u8 {
-        wide = widened_apart(store, answers, block, place, corner, octant, wide);
+        widen_apart(store, answers, block, place, corner, octant, found);
     }
-    wide
 }
 
-// The box widened by the set cells of one octant, if that isn't the one of the corner or its
-// opposite.
+// Widens the box by the set cells of one octant, if that isn't the one of the corner or its opposite.
 #[cycle(widen)]
-fn widened_apart<B: Blocks>(
+fn widen_apart<B: Blocks>(
     store: &mut B,
     answers: &mut Answers<Within>,
     block: Option<Name>,
     place: Block,
     corner: u8,
     octant: u8,
-    found: Option<Boxed>,
-) -> Option<Boxed>
+    found: &mut Option<Boxed>,
+)
     requires level { (1 ≤ place.level) × (place.level ≤ 10) }
     requires block { HasBlock (B.seen store.old).held place.level block }
     requires inside { LiesIn 4096 place }
     requires corner { corner < 8 }
     requires octant { octant < 8 }
-    requires found { EndsInside found }
+    requires found { EndsInside found.old }
     requires answers { AreRight tells_within (B.seen store.old).held answers.old.places }
     ensures widens { ForPlace (B.seen store.old).held block place
         (λ cells. Widens (IsSetInSome place cells (IsOtherAt corner octant))
-        (IsSetIn place cells) found result) }
-    ensures found { EndsInside result }
+        (IsSetIn place cells) found.old found.new) }
+    ensures found { EndsInside found.new }
     ensures answers { AreRight tells_within (B.seen store.old).held answers.new.places }
     ensures block { HasBlock (B.seen store.new).held place.level block }
     ensures seen { B.seen store.new ≡ B.seen store.old }
     ensures rests { B.rests store.old store.new }
 {
     if octant == corner {
-        return found;
+        return;
     }
     if octant == 7 - corner {
-        return found;
+        return;
     }
-    widened_in(store, answers, block, place, octant, found)
+    widen_in(store, answers, block, place, octant, found);
 }
 
 // Whether the box has each cell of the block.
@@ -215,11 +214,29 @@ fn with_leaf(bits: u64, place: Block, found: Option<Boxed>) -> Option<Boxed>
         → Widens (IsSetIn place cells) (IsSetIn place cells) found result }
     ensures found { EndsInside result }
 {
+    if has_leaf(found, bits, place) {
+        return found;
+    }
     let mut wide = found;
     for bit in 0..64u8 {
         wide = with_bit(bits, place, bit, wide);
     }
     wide
+}
+
+// Whether the box found so far has all set cells of a leaf.
+fn has_leaf(found: Option<Boxed>, bits: u64, place: Block) -> bool
+    requires level { place.level ≡ 0 }
+    ensures { IsTrue result → (cells : Cell → Bool) → LeafShows bits place cells
+        → Widens (IsSetIn place cells) (IsSetIn place cells) found found }
+{
+    match found {
+        Some(b) => {
+            let within = box_bits(b, place);
+            bits & within == bits
+        }
+        None => false,
+    }
 }
 
 // The box widened by the cell of one bit, if that is set.

@@ -6,7 +6,7 @@ ghost use Rattle.node_shapes.specs.Tree.{Tree};
 ghost use Rattle.block_walk.specs.Answers.{AreRight};
 ghost use Rattle.block_walk.specs.Parts.{EndsBy};
 ghost use Rattle.measure.specs.Leaves.{TellsCells};
-ghost use Rattle.measure.specs.Tallies.{in_octant, PassesNone, IsTally, IsWholeTally};
+ghost use Rattle.measure.specs.Tallies.{in_octant, PassesNone, IsTally, IsWholeTally, IsOctantTally};
 
 use crate::leaves::count_leaf;
 use crate::wholes::{Whole, tally_whole};
@@ -97,15 +97,15 @@ pub(crate) fn tally<S: Subject, B: Blocks>(
     store: &mut B,
     answers: &mut Answers<Part<S>>,
     wholes: &mut Answers<Whole<S>>,
-    of: Part<S>,
+    of: &Part<S>,
 ) -> u64
-    requires level { of.level ≤ 10 }
+    requires level { of.now.level ≤ 10 }
     requires block { (test : Cell → Bool)
-        × S.counts (B.seen store.old).held of.level of.subject test }
-    requires part { EndsBy (block_side of.level) of.part }
+        × S.counts (B.seen store.old).held of.now.level of.now.subject test }
+    requires part { EndsBy (block_side of.now.level) of.now.part }
     requires answers { AreRight (IsTally S.counts) (B.seen store.old).held answers.old.places }
     requires wholes { AreRight (IsWholeTally S.counts) (B.seen store.old).held wholes.old.places }
-    ensures number { IsTally S.counts (B.seen store.old).held of result }
+    ensures number { IsTally S.counts (B.seen store.old).held of.now result }
     ensures answers { AreRight (IsTally S.counts) (B.seen store.old).held answers.new.places }
     ensures wholes { AreRight (IsWholeTally S.counts) (B.seen store.old).held wholes.new.places }
     ensures seen { B.seen store.new ≡ B.seen store.old }
@@ -124,20 +124,20 @@ pub(crate) fn tally<S: Subject, B: Blocks>(
     if same_boxes(of.part, whole_block(of.level)) {
         return tally_whole(store, wholes, block_of(of));
     }
-    if let Some(number) = answers.find(&of) {
+    if let Some(number) = answers.find(of) {
         return number;
     }
     if has_none(store, wholes, of) {
         return 0;
     }
     let number = tally_octants(store, answers, wholes, of);
-    answers.keep(of, number);
+    answers.keep(*of, number);
     number
 }
 
 // The whole block of which this is a part.
-fn block_of<S: Subject>(of: Part<S>) -> Whole<S>
-    ensures { result ≡ record { subject = of.subject; level = of.level } }
+fn block_of<S: Subject>(of: &Part<S>) -> Whole<S>
+    ensures { result ≡ record { subject = of.now.subject; level = of.now.level } }
 {
     Whole {
         subject: of.subject,
@@ -150,16 +150,16 @@ fn block_of<S: Subject>(of: Part<S>) -> Whole<S>
 fn has_none<S: Subject, B: Blocks>(
     store: &mut B,
     wholes: &mut Answers<Whole<S>>,
-    of: Part<S>,
+    of: &Part<S>,
 ) -> bool
-    requires level { (1 ≤ of.level) × (of.level ≤ 10) }
+    requires level { (1 ≤ of.now.level) × (of.now.level ≤ 10) }
     requires block { (test : Cell → Bool)
-        × S.counts (B.seen store.old).held of.level of.subject test }
-    requires part { EndsBy (block_side of.level) of.part }
+        × S.counts (B.seen store.old).held of.now.level of.now.subject test }
+    requires part { EndsBy (block_side of.now.level) of.now.part }
     requires wholes { AreRight (IsWholeTally S.counts) (B.seen store.old).held wholes.old.places }
-    ensures none { IsTrue result → IsTally S.counts (B.seen store.old).held of 0 }
+    ensures none { IsTrue result → IsTally S.counts (B.seen store.old).held of.now 0 }
     ensures block { (test : Cell → Bool)
-        × S.counts (B.seen store.new).held of.level of.subject test }
+        × S.counts (B.seen store.new).held of.now.level of.now.subject test }
     ensures wholes { AreRight (IsWholeTally S.counts) (B.seen store.old).held wholes.new.places }
     ensures seen { B.seen store.new ≡ B.seen store.old }
     ensures rests { B.rests store.old store.new }
@@ -167,10 +167,14 @@ fn has_none<S: Subject, B: Blocks>(
     if !of.subject.is_even() {
         return false;
     }
-    if !has_alike_octants(store, block_of(of)) {
+    let whole = block_of(of);
+    if let Some(number) = wholes.find(&whole) {
+        return number == 0;
+    }
+    if !has_alike_octants(store, whole) {
         return false;
     }
-    let number = tally_whole(store, wholes, block_of(of));
+    let number = tally_whole(store, wholes, whole);
     if number > 0 {
         return false;
     }
@@ -198,32 +202,57 @@ fn tally_octants<S: Subject, B: Blocks>(
     store: &mut B,
     answers: &mut Answers<Part<S>>,
     wholes: &mut Answers<Whole<S>>,
-    of: Part<S>,
+    of: &Part<S>,
 ) -> u64
-    requires level { (1 ≤ of.level) × (of.level ≤ 10) }
+    requires level { (1 ≤ of.now.level) × (of.now.level ≤ 10) }
     requires block { (test : Cell → Bool)
-        × S.counts (B.seen store.old).held of.level of.subject test }
-    requires part { EndsBy (block_side of.level) of.part }
+        × S.counts (B.seen store.old).held of.now.level of.now.subject test }
+    requires part { EndsBy (block_side of.now.level) of.now.part }
     requires answers { AreRight (IsTally S.counts) (B.seen store.old).held answers.old.places }
     requires wholes { AreRight (IsWholeTally S.counts) (B.seen store.old).held wholes.old.places }
-    ensures number { IsTally S.counts (B.seen store.old).held of result }
+    ensures number { IsTally S.counts (B.seen store.old).held of.now result }
     ensures answers { AreRight (IsTally S.counts) (B.seen store.old).held answers.new.places }
     ensures wholes { AreRight (IsWholeTally S.counts) (B.seen store.old).held wholes.new.places }
     ensures seen { B.seen store.new ≡ B.seen store.old }
     ensures rests { B.rests store.old store.new }
 {
-    let half = half_side(of.level);
-    let level = of.level - 1;
     let mut number = 0;
     for octant in 0..8u8 {
-        let subject = of.subject.octant(store, of.level, octant);
-        let part = part_of(half, of.part, octant);
-        let inner = Part {
-            subject,
-            level,
-            part,
-        };
-        number += tally(store, answers, wholes, inner);
+        number += tally_octant(store, answers, wholes, of, octant);
     }
     number
+}
+
+// The same, of one octant. Where none of the part lies there, nothing of the octant is read.
+#[cycle(tally)]
+fn tally_octant<S: Subject, B: Blocks>(
+    store: &mut B,
+    answers: &mut Answers<Part<S>>,
+    wholes: &mut Answers<Whole<S>>,
+    of: &Part<S>,
+    octant: u8,
+) -> u64
+    requires level { (1 ≤ of.now.level) × (of.now.level ≤ 10) }
+    requires octant { octant < 8 }
+    requires block { (test : Cell → Bool)
+        × S.counts (B.seen store.old).held of.now.level of.now.subject test }
+    requires answers { AreRight (IsTally S.counts) (B.seen store.old).held answers.old.places }
+    requires wholes { AreRight (IsWholeTally S.counts) (B.seen store.old).held wholes.old.places }
+    ensures number { IsOctantTally S.counts (B.seen store.old).held of.now octant result }
+    ensures answers { AreRight (IsTally S.counts) (B.seen store.old).held answers.new.places }
+    ensures wholes { AreRight (IsWholeTally S.counts) (B.seen store.old).held wholes.new.places }
+    ensures seen { B.seen store.new ≡ B.seen store.old }
+    ensures rests { B.rests store.old store.new }
+{
+    let part = part_of(half_side(of.level), of.part, octant);
+    if is_empty(part) {
+        return 0;
+    }
+    let subject = of.subject.octant(store, of.level, octant);
+    let inner = Part {
+        subject,
+        level: of.level - 1,
+        part,
+    };
+    tally(store, answers, wholes, &inner)
 }

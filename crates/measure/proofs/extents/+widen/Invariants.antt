@@ -5,27 +5,27 @@ use Rattle.measure.specs.Pruning.{tells_within}
 use Rattle.measure.specs.Widening.{EndsInside, Widens, IsSetIn, IsSetInSome, IsOther, ForPlace}
 use Rattle.measure.proofs.extents.+widen.Given as goal
 
-abbrev pub decreases-widened : goal.decreases-widened
-decreases-widened g l = 5 * l.place.level + 4
+abbrev pub decreases-widen : goal.decreases-widen
+decreases-widen g l = 5 * l.place.level + 4
 
-abbrev pub decreases-widened_by_octants : goal.decreases-widened_by_octants
-decreases-widened_by_octants g l = 5 * l.place.level + 3
+abbrev pub decreases-widen_by_octants : goal.decreases-widen_by_octants
+decreases-widen_by_octants g l = 5 * l.place.level + 3
 
-abbrev pub decreases-widened_by_others : goal.decreases-widened_by_others
-decreases-widened_by_others g l = 5 * l.place.level + 2
+abbrev pub decreases-widen_by_others : goal.decreases-widen_by_others
+decreases-widen_by_others g l = 5 * l.place.level + 2
 
-abbrev pub decreases-widened_apart : goal.decreases-widened_apart
-decreases-widened_apart g l = 5 * l.place.level + 1
+abbrev pub decreases-widen_apart : goal.decreases-widen_apart
+decreases-widen_apart g l = 5 * l.place.level + 1
 
-abbrev pub decreases-widened_in : goal.decreases-widened_in
-decreases-widened_in g l = 5 * l.place.level
+abbrev pub decreases-widen_in : goal.decreases-widen_in
+decreases-widen_in g l = 5 * l.place.level
 
-abbrev pub invariant-widened_by_others-loop-octant : goal.invariant-widened_by_others-loop-octant
-invariant-widened_by_others-loop-octant g l =
+abbrev pub invariant-widen_by_others-loop-octant : goal.invariant-widen_by_others-loop-octant
+invariant-widen_by_others-loop-octant g l =
     let seen = g.B.Blocks.seen in
     record {
-      widens : ForPlace (seen l.fn.store).held l.fn.block l.fn.place (λ cells. Widens (IsSetInSome l.fn.place cells (IsOther l.fn.corner l.octant)) (IsSetIn l.fn.place cells) l.fn.found l.wide);
-      ends : EndsInside l.wide;
+      widens : ForPlace (seen l.fn.store).held l.fn.block l.fn.place (λ cells. Widens (IsSetInSome l.fn.place cells (IsOther l.fn.corner l.octant)) (IsSetIn l.fn.place cells) l.fn.found l.found);
+      ends : EndsInside l.found;
       right : AreRight tells_within (seen l.fn.store).held l.answers.places;
       block : HasBlock (seen l.store).held l.fn.place.level l.fn.block;
       same : seen l.store ≡ seen l.fn.store;

@@ -6,10 +6,13 @@ use Rattle.measure.proofs.TallyLaws.{tallied}
 use Rattle.measure.proofs.tallies.+tally.Given as goal
 
 abbrev pub decreases-tally : goal.decreases-tally
-decreases-tally g l = 2 * l.of.level + 1
+decreases-tally g l = 3 * l.of.now.level + 2
 
 abbrev pub decreases-tally_octants : goal.decreases-tally_octants
-decreases-tally_octants g l = 2 * l.of.level
+decreases-tally_octants g l = 3 * l.of.now.level + 1
+
+abbrev pub decreases-tally_octant : goal.decreases-tally_octant
+decreases-tally_octant g l = 3 * l.of.now.level
 
 abbrev pub invariant-tally_octants-loop-octant : goal.invariant-tally_octants-loop-octant
 invariant-tally_octants-loop-octant g l =
