@@ -1,3 +1,4 @@
 mod ListingLaws
 mod LeafLaws
 mod FillLaws
+pub mod SavedLaws

@@ -1,3 +1,4 @@
 pub mod Listing
 pub mod Layers
 pub mod Filling
+pub mod Saved

@@ -1,8 +1,10 @@
-//! The set cells of a box as a list of voxels, over any store that can be read.
+//! The set cells of a box as a list of voxels, and as a VOX file, over any store that can be read.
 #![tactic(auto)]
 
 mod boxes;
+mod files;
 mod leaves;
 mod rows;
 
 pub use boxes::cells_in;
+pub use files::box_file;

@@ -27,7 +27,7 @@ use Rattle.script.specs.Numbers.{loose, fits, box_in, ball_in}
 use Rattle.script.specs.Lines.{lines_of, is_comment}
 use Rattle.script.specs.Placing.{command_read, command_placed, stamp_placed, corner_in}
 use Rattle.script.specs.Commands.{command_spelled, question_rows, is_built}
-use Rattle.script.specs.Scripts.{Reader, command_in, line_command, commands_from, commands_of}
+use Rattle.script.specs.Scripts.{Reader, command_in, line_command, within_saves, saves_after, commands_from, commands_of}
 use Rattle.gen_load.specs.Loads.{edit_from, line_state, edits_from, edit_line, region_line, script_from}
 use Rattle.gen_load.specs.Regions.{BoxLiesIn, BallLiesIn, EditLiesIn, stamped_box}
 use Rattle.gen_load.specs.RegionLaws.{edits_lie_in_regions}
@@ -127,14 +127,15 @@ text_read : (read : Reader) (number : ℕ) (name : List ℕ) (ws : List (List �
     (rest : List ℕ) (others : List ScriptLine) → number ≤ 100000
     → list_all is_plain_word (name ∷ ws) ≡ true → is_comment name ≡ false
     → read name ws ≡ Ok command
-    → commands_from read (number + 1) (lines_of rest) ≡ Ok others
-    → commands_from read number (lines_of (line_of (name ∷ ws) ++ 10 ∷ rest)) ≡ Ok
+    → within_saves 0 (Ok (Some command)) ≡ Ok (Some command) → saves_after 0 (Some command) ≡ 0
+    → commands_from read 0 (number + 1) (lines_of rest) ≡ Ok others
+    → commands_from read 0 number (lines_of (line_of (name ∷ ws) ++ 10 ∷ rest)) ≡ Ok
     (record { line = number; command = command } ∷ others)
 unfolding commands_from
-text_read read number name ws command rest others few all plain is more =
+text_read read number name ws command rest others few all plain is fits none more =
     let parted = lines_parted (line_of (name ∷ ws)) rest (line_is_text (name ∷ ws) all) in
     let here = line_read read number name ws command few all plain is in
-    rw (parted, here, more) refl
+    rw (parted, here, fits, none, more) refl
 
 -- ---- commands
 
@@ -227,16 +228,16 @@ radius_short x b lies =
 -- a line and what stands behind it, said by its words
 text_as : (read : Reader) (number : ℕ) (ws : List (List ℕ)) (line rest : List ℕ)
     (all : List ScriptLine) → line_of ws ≡ line
-    → commands_from read number (lines_of (line_of ws ++ 10 ∷ rest)) ≡ Ok all
-    → commands_from read number (lines_of (line ++ 10 ∷ rest)) ≡ Ok all
+    → commands_from read 0 number (lines_of (line_of ws ++ 10 ∷ rest)) ≡ Ok all
+    → commands_from read 0 number (lines_of (line ++ 10 ∷ rest)) ≡ Ok all
 text_as read number ws line rest all same is =
-    subst (λ (text : List ℕ). commands_from read number (lines_of (text ++ 10 ∷ rest))
+    subst (λ (text : List ℕ). commands_from read 0 number (lines_of (text ++ 10 ∷ rest))
     ≡ Ok all) same is
 
 edit_read : (model : Content) (x number : ℕ) (act : Act) (rest : List ℕ) (others : List ScriptLine)
     → model.size ≡ record { x = 32; y = 32; z = 32 } → number ≤ 100000 → EditLiesIn x act
-    → commands_from (reads_with model) (number + 1) (lines_of rest) ≡ Ok others
-    → commands_from (reads_with model) number (lines_of (act_words act ++ 10 ∷ rest)) ≡ Ok
+    → commands_from (reads_with model) 0 (number + 1) (lines_of rest) ≡ Ok others
+    → commands_from (reads_with model) 0 number (lines_of (act_words act ++ 10 ∷ rest)) ≡ Ok
     (record { line = number; command = Edit act false } ∷ others)
 edit_read model x number (Fill b) rest others size few lies more =
     let short = box_short x b lies in
@@ -247,7 +248,7 @@ edit_read model x number (Fill b) rest others size few lies more =
     text_as (reads_with model) number (act_list (Fill b)) (act_words (Fill b)) rest _
     (simp append_assoc refl)
     (text_read (reads_with model) number (codes "fill") (box_list b []) (Edit (Fill b) false) rest
-    others few (box_words_are b short.0 short.1) refl read more)
+    others few (box_words_are b short.0 short.1) refl read refl refl more)
 edit_read model x number (Erase b) rest others size few lies more =
     let short = box_short x b lies in
     let there = box_placed b lies.fits in
@@ -257,7 +258,7 @@ edit_read model x number (Erase b) rest others size few lies more =
     text_as (reads_with model) number (act_list (Erase b)) (act_words (Erase b)) rest _
     (simp append_assoc refl)
     (text_read (reads_with model) number (codes "erase") (box_list b []) (Edit (Erase b) false) rest
-    others few (box_words_are b short.0 short.1) refl read more)
+    others few (box_words_are b short.0 short.1) refl read refl refl more)
 edit_read model x number (Ball b) rest others size few lies more =
     let short = centre_short x b lies in
     let radius = radius_short x b lies in
@@ -269,7 +270,7 @@ edit_read model x number (Ball b) rest others size few lies more =
     (simp append_assoc refl)
     (text_read (reads_with model) number (codes "ball") (ball_list b) (Edit (Ball b) false) rest
     others few (cell_words_are b.centre (decimal b.radius ∷ []) short
-    (and_from _ _ (number_word b.radius radius) refl)) refl read more)
+    (and_from _ _ (number_word b.radius radius) refl)) refl read refl refl more)
 edit_read model x number (Stamp m at) rest others size few (zero_is, lies) more =
     let short = (box_short x (stamped_box at) lies).0 in
     let there = stamp_is_placed model at size lies.fits in
@@ -280,8 +281,8 @@ edit_read model x number (Stamp m at) rest others size few (zero_is, lies) more 
     text_read (reads_with model) number (codes "stamp") (decimal 0 ∷ cell_list at [])
     (Edit (Stamp 0 at) false) rest others few
     (and_from _ _ (number_word 0 (omega arith))
-    (cell_words_are at [] short refl)) refl read more in
-    subst (λ (k : ℕ). commands_from (reads_with model) number
+    (cell_words_are at [] short refl)) refl read refl refl more in
+    subst (λ (k : ℕ). commands_from (reads_with model) 0 number
     (lines_of (act_words (Stamp k at) ++ 10 ∷ rest))
     ≡ Ok (record { line = number; command = Edit (Stamp k at) false } ∷ others))
     (sym zero_is) whole
@@ -293,21 +294,21 @@ edit_read model x number Redo rest others size few lies more = absurd lies
 edits_read : (model : Content) (x number : ℕ) (acts : List Act) (rest : List ℕ)
     (others : List ScriptLine) → model.size ≡ record { x = 32; y = 32; z = 32 }
     → number + length acts ≤ 100000 → All (EditLiesIn x) acts
-    → commands_from (reads_with model) (number + length acts) (lines_of rest) ≡ Ok others
-    → commands_from (reads_with model) number (lines_of (flat_map edit_line acts ++ rest)) ≡ Ok
+    → commands_from (reads_with model) 0 (number + length acts) (lines_of rest) ≡ Ok others
+    → commands_from (reads_with model) 0 number (lines_of (flat_map edit_line acts ++ rest)) ≡ Ok
     (edit_lines number acts ++ others)
 edits_read model x number [] rest others size few lie more =
     let none : number + length {A = Act} [] ≡ number = omega arith in
-    subst (λ (n : ℕ). commands_from (reads_with model) n (lines_of rest) ≡ Ok others) none more
+    subst (λ (n : ℕ). commands_from (reads_with model) 0 n (lines_of rest) ≡ Ok others) none more
 edits_read model x number (act ∷ acts) rest others size few lie more =
     let next : number + length (act ∷ acts) ≡ number + 1 + length acts = omega arith in
     let behind =
     edits_read model x (number + 1) acts rest others size (omega (arith, few))
     (All-tail (EditLiesIn x) act acts lie)
-    (subst (λ (n : ℕ). commands_from (reads_with model) n (lines_of rest) ≡ Ok others) next more) in
+    (subst (λ (n : ℕ). commands_from (reads_with model) 0 n (lines_of rest) ≡ Ok others) next more) in
     let text : act_words act ++ 10 ∷ (flat_map edit_line acts ++ rest)
     ≡ flat_map edit_line (act ∷ acts) ++ rest = simp append_assoc refl in
-    subst (λ (t : List ℕ). commands_from (reads_with model) number (lines_of t)
+    subst (λ (t : List ℕ). commands_from (reads_with model) 0 number (lines_of t)
     ≡ Ok (edit_lines number (act ∷ acts) ++ others)) text
     (edit_read model x number act (flat_map edit_line acts ++ rest)
     (edit_lines (number + 1) acts ++ others) size (omega (arith, few))
@@ -338,12 +339,12 @@ region_words x = rw (digits_of_0, digits_of_64, digits_of_256)
     (ap (λ (text : List ℕ). codes "count " ++ text)
     (append_assoc (decimal x) (codes " 0 0 64 256 256") (codes "\n")))
 
-nothing_read : (read : Reader) (number : ℕ) → commands_from read number (lines_of []) ≡ Ok []
+nothing_read : (read : Reader) (number : ℕ) → commands_from read 0 number (lines_of []) ≡ Ok []
 unfolding commands_from lines_of
 nothing_read read number = refl
 
 region_read : (model : Content) (x : ℕ) → x ≤ 192
-    → commands_from (reads_with model) 201 (lines_of (region_line x)) ≡ Ok
+    → commands_from (reads_with model) 0 201 (lines_of (region_line x)) ≡ Ok
     (record { line = 201; command = Ask None (Count (region_box x)) } ∷ [])
 region_read model x low =
     let b : Boxed = region_box x in
@@ -359,10 +360,10 @@ region_read model x low =
     let read =
     command_by model (codes "count") (box_list b []) (Ask None (Count b)) (Ask None (Count b))
     (count_said b at size) (rw there refl) in
-    subst (λ (text : List ℕ). commands_from (reads_with model) 201 (lines_of text)
+    subst (λ (text : List ℕ). commands_from (reads_with model) 0 201 (lines_of text)
     ≡ Ok (record { line = 201; command = Ask None (Count b) } ∷ [])) (region_words x)
     (text_read (reads_with model) 201 (codes "count") (box_list b []) (Ask None (Count b)) [] []
-    (omega arith) (box_words_are b at size) refl read (nothing_read (reads_with model) 202))
+    (omega arith) (box_words_are b at size) refl read refl refl (nothing_read (reads_with model) 202))
 
 edits_number : (g x k : ℕ) → length (edits_from g x k) ≡ k
 unfolding edits_from
@@ -384,7 +385,7 @@ scripts_are_read g x model size low =
     let acts : List Act = edits_from g x 200 in
     let number : 1 + length acts ≡ 201 = (let l = edits_number g x 200 in omega (arith, l)) in
     let last =
-    subst (λ (n : ℕ). commands_from (reads_with model) n (lines_of (region_line x))
+    subst (λ (n : ℕ). commands_from (reads_with model) 0 n (lines_of (region_line x))
     ≡ Ok (record { line = 201; command = Ask None (Count (region_box x)) } ∷ []))
     (sym number) (region_read model x low) in
     edits_read model x 1 acts (region_line x)

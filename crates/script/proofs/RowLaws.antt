@@ -8,7 +8,7 @@ use Rattle.plain_text.specs.declared.faults.WordFault.TheVariants.{Word}
 use Rattle.plain_text.specs.Steps.{Gives}
 use Rattle.script.specs.declared.commands.Command.{Command}
 use Rattle.script.specs.declared.said.Said.{Said}
-use Rattle.script.specs.Commands.{CommandRow, change_row, all_change_names, question_rows, other_rows, rows, command_read_by, read_known, command_spelled, is_among, is_row, is_built}
+use Rattle.script.specs.Commands.{CommandRow, change_row, all_change_names, question_rows, other_rows, rows, command_read_by, save_spelled, read_known, command_spelled, is_among, is_row, is_built}
 use Rattle.script.specs.Said.{command_said}
 
 same_bytes : (a b : List ℕ) → bytes_eq a b ≡ true → a ≡ b
@@ -138,6 +138,14 @@ other_found name words read change question gives =
     (Err Word) name words change
     ∙ rows_passed question_rows (other_rows is_built) (Err Word) name words question)) gives
 
+-- the row of saves reads them
+pub save_found : (name : List ℕ) (words : List (List ℕ)) → bytes_eq name (codes "save") ≡ true
+    → command_read_by question_rows (Err Word) name words ≡ save_spelled words
+unfolding question_rows
+save_found name words is =
+    subst (λ (n : List ℕ). command_read_by question_rows (Err Word) n words ≡ save_spelled words)
+    (sym (same_bytes name (codes "save") is)) refl
+
 -- ---- what isn't built isn't known
 
 unknown_by : (known : List ℕ → Bool) (name word : List ℕ) (test : Bool) → bytes_eq name word ≡ test
@@ -145,10 +153,6 @@ unknown_by : (known : List ℕ → Bool) (name word : List ℕ) (test : Bool) �
 unknown_by known name word true is none some =
     absurd (let wrong : true ≡ false = sym some ∙ ap known (same_bytes name word is) ∙ none in cc)
 unknown_by known name word false is none some = refl
-
-pub not_save : (name : List ℕ) → is_built name ≡ true → bytes_eq name (codes "save") ≡ false
-not_save name is =
-    unknown_by is_built name (codes "save") (bytes_eq name (codes "save")) refl refl is
 
 pub not_try : (name : List ℕ) → is_built name ≡ true → bytes_eq name (codes "try") ≡ false
 not_try name is = unknown_by is_built name (codes "try") (bytes_eq name (codes "try")) refl refl is

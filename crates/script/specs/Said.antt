@@ -8,10 +8,14 @@ use Rattle.history_model.specs.declared.questions.Question.TheVariants as questi
 use Rattle.script.specs.Numbers.{signed}
 use Rattle.script.specs.declared.commands.Command.{Command}
 use Rattle.script.specs.declared.commands.Command.TheVariants as commands
+use Rattle.script.specs.declared.commands.SaveName.{SaveName}
+use Rattle.script.specs.declared.said.NameWord.{NameWord}
+use Rattle.script.specs.declared.said.Query.{Query}
+use Rattle.script.specs.declared.said.Query.TheVariants as queries
 use Rattle.script.specs.declared.said.Asked.{Asked}
 use Rattle.script.specs.declared.said.Asked.TheVariants.{Get, Count, Bounds, Faces, Ray}
 use Rattle.script.specs.declared.said.Said.{Said}
-use Rattle.script.specs.declared.said.Said.TheVariants.{Edit, Forget, Ask, Same, Head}
+use Rattle.script.specs.declared.said.Said.TheVariants.{Edit, Forget, Ask, Save, Same, Head}
 use Rattle.script.specs.declared.said.Step.{Step}
 use Rattle.script.specs.declared.said.Steps.{Steps}
 
@@ -32,9 +36,19 @@ question_said (Ray from steps) = questions.Ray from (way_said steps)
 abbrev pub asked_command : Asked → Command
 asked_command asked = commands.Ask None (question_said asked)
 
+abbrev pub name_said : NameWord → SaveName
+name_said word = record { bytes = word.bytes; len = word.len }
+
+-- what is asked of the newest version
+abbrev pub query_command : Query → Command
+query_command (queries.Question asked) = asked_command asked
+query_command (queries.Save name at size) = commands.Save None (name_said name) (box_at at size)
+
 abbrev pub command_said : Said → Command
 command_said (Edit act once) = commands.Edit (act_of act) once
 command_said (Forget v) = commands.Forget v
 command_said (Ask version question) = commands.Ask version (question_said question)
+command_said (Save version name at size) =
+    commands.Save version (name_said name) (box_at at size)
 command_said (Same v w) = commands.Same v w
 command_said Head = commands.Head

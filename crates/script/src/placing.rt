@@ -1,17 +1,18 @@
-ghost use Rattle.std.specs.Prelude.{◌≡◌, ◌^◌, ◌<◌, IfOk, OnOk, MatchResult};
-ghost use Rattle.std.specs.List.{slice_get};
+ghost use Rattle.std.specs.Prelude.{◌≡◌, ◌^◌, ◌<◌, true, false, IfOk, OnOk, MatchOption, MatchResult};
+ghost use Rattle.std.specs.List.{list_all, slice_get};
 ghost use Rattle.vox_read.specs.Contents.{AreModels};
 ghost use Rattle.history_model.specs.Spelled.{act_of};
 ghost use Rattle.history_model.specs.Worlds.{box_at};
 ghost use Rattle.script.specs.declared.faults.ScriptKind.TheVariants.{Range};
 ghost use Rattle.script.specs.Numbers.{IsLong, box_in, cell_in, ball_in, way_in};
-ghost use Rattle.script.specs.Placing.{model_size, corner_in, stamp_placed, copy_placed, act_placed, ray_placed, question_placed, command_placed};
-ghost use Rattle.script.specs.Said.{step_said, way_said, question_said, command_said};
+ghost use Rattle.script.specs.Placing.{model_size, corner_in, stamp_placed, copy_placed, act_placed, ray_placed, question_placed, is_letter, is_name_byte, begins_name, is_save_name, save_placed, command_placed};
+ghost use Rattle.script.specs.Numbers.{is_digit};
+ghost use Rattle.script.specs.Said.{step_said, way_said, question_said, name_said, command_said};
 ghost use Rattle.history_model.specs.Spelling.{IsLarge};
 
-use crate::commands::Command;
+use crate::commands::{Command, SaveName};
 use crate::faults::ScriptKind;
-use crate::said::{Asked, Said, Step, Steps};
+use crate::said::{Asked, NameWord, Said, Step, Steps};
 use history_model::{Act, Question, Spelled, Three, Way};
 use vox_read::Models;
 use vw_cell::{Ball, Boxed, Cell, Side};
@@ -31,9 +32,86 @@ pub(crate) fn place_command(said: &Said, side: Side, models: &Models) -> Result<
             let question = place_question(&asked, side)?;
             Ok(Command::Ask { version, question })
         }
+        Said::Save(version, name, at, size) => place_save(version, &name, at, size, side),
         Said::Same(v, w) => Ok(Command::Same(v, w)),
         Said::Head => Ok(Command::Head),
     }
+}
+
+// The save, where a file can have the name and the box.
+fn place_save(
+    version: Option<u32>,
+    name: &NameWord,
+    at: Three,
+    size: Three,
+    side: Side,
+) -> Result<Command, ScriptKind>
+    ensures { result ≡ save_placed (2 ^ side) version (name_said name.now) (box_at at size) }
+{
+    let Some(name) = file_name(name) else {
+        return Err(ScriptKind::Range);
+    };
+    if size.x > 256 || size.y > 256 || size.z > 256 {
+        return Err(ScriptKind::Range);
+    }
+    let part = make_box(at, size, side)?;
+    Ok(Command::Save {
+        version,
+        name,
+        part,
+    })
+}
+
+// The name, where a file can have it.
+#[tactic(auto, using(crate::proofs::SaveNames::is_name))]
+fn file_name(word: &NameWord) -> Option<SaveName>
+    ensures { MatchOption result (is_save_name (name_said word.now) ≡ false)
+        (λ name. (name ≡ name_said word.now) × (is_save_name name ≡ true)) }
+{
+    if word.len > 64 {
+        return None;
+    }
+    let name = &word.bytes[..word.len];
+    if !begins_name(name) || !are_name_bytes(name) {
+        return None;
+    }
+    Some(SaveName {
+        bytes: word.bytes,
+        len: word.len as u8,
+    })
+}
+
+fn are_name_bytes(name: &[u8]) -> bool
+    ensures { result ≡ list_all is_name_byte name.now }
+{
+    name.iter().all(|b| is_name_byte(*b))
+}
+
+fn begins_name(name: &[u8]) -> bool
+    ensures { result ≡ begins_name name.now }
+{
+    match name {
+        [] => false,
+        [first, ..] => is_letter(*first) || is_digit(*first),
+    }
+}
+
+fn is_letter(b: u8) -> bool
+    ensures { result ≡ is_letter b }
+{
+    (65 <= b && b <= 90) || (97 <= b && b <= 122)
+}
+
+fn is_digit(b: u8) -> bool
+    ensures { result ≡ is_digit b }
+{
+    48 <= b && b <= 57
+}
+
+fn is_name_byte(b: u8) -> bool
+    ensures { result ≡ is_name_byte b }
+{
+    is_letter(b) || is_digit(b) || b == b'.' || b == b'_' || b == b'-'
 }
 
 fn place_act(spelled: &Spelled, side: Side, models: &Models) -> Result<Act, ScriptKind>

@@ -3,7 +3,7 @@ ghost use Rattle.vox_read.specs.Contents.{AreModels};
 ghost use Rattle.script.specs.Commands.{is_built};
 ghost use Rattle.script.specs.Fitting.{CommandFits, RisesFrom};
 ghost use Rattle.script.specs.Placing.{command_read};
-ghost use Rattle.script.specs.Scripts.{command_in, line_command, commands_of, RefusesWords};
+ghost use Rattle.script.specs.Scripts.{command_in, line_command, within_saves, saves_after, commands_of, RefusesWords};
 
 use crate::commands::{Command, Script, add_line};
 use crate::faults::{ScriptFault, ScriptKind};
@@ -17,6 +17,9 @@ use vw_cell::Side;
 
 /// The most lines that a script may have.
 const LINES: u32 = 100_000;
+
+/// The most saves that a script may have.
+const SAVES: u32 = 16;
 
 /// Reads the commands of a script for a world of this side and for these models, or its first
 /// fault: that of the first line which has one, and there the one that comes first in the order of
@@ -44,17 +47,49 @@ pub fn read_script(
     let mut lines = Vec::new(alloc);
     let mut rest = bytes;
     let mut number: u32 = 1;
+    let mut saves: u32 = 0;
     while !rest.is_empty() {
         let (line, after) = split_line(rest);
-        let command = match read_line(number, line, side, models) {
+        let command = match read_within(saves, number, line, side, models) {
             Ok(command) => command,
             Err(kind) => return Err(ScriptFault { line: number, kind }),
         };
+        saves = saves_after(saves, &command);
         add_line(&mut lines, number, command)?;
         rest = after;
         number += 1;
     }
     Ok(Script { lines })
+}
+
+// The command of a line after so many saves, where it has one.
+fn read_within(
+    saves: u32,
+    number: u32,
+    line: &[u8],
+    side: Side,
+    models: &Models,
+) -> Result<Option<Command>, ScriptKind>
+    requires { AreModels models.now }
+    ensures says { result ≡ within_saves saves
+        (line_command (command_read is_built (2 ^ side) models.now) number line.now) }
+    ensures few { IfOk result (λ _. number ≤ 100000) }
+    ensures within { saves ≤ 16 → IfOk result (λ here. saves_after saves here ≤ 16) }
+{
+    match read_line(number, line, side, models)? {
+        Some(Command::Save { .. }) if saves >= SAVES => Err(ScriptKind::TooManySaves),
+        command => Ok(command),
+    }
+}
+
+fn saves_after(saves: u32, command: &Option<Command>) -> u32
+    requires { saves ≤ 16 }
+    ensures { result ≡ saves_after saves command.now }
+{
+    match command {
+        Some(Command::Save { .. }) => saves + 1,
+        _ => saves,
+    }
 }
 
 // The command of a line, where it has one.

@@ -25,12 +25,27 @@ pub(crate) enum Asked {
     Ray(Three, Steps),
 }
 
+/// The name of a file as it is spelled: its first bytes, 0 behind them, and how many it has.
+#[derive(Clone, Copy)]
+pub(crate) struct NameWord {
+    pub(crate) bytes: [u8; 64],
+    pub(crate) len: usize,
+}
+
+/// What is asked of a version: a question, or a box under a name.
+#[derive(Clone, Copy)]
+pub(crate) enum Query {
+    Question(Asked),
+    Save(NameWord, Three, Three),
+}
+
 /// The same of a command.
 #[derive(Clone, Copy)]
 pub(crate) enum Said {
     Edit(Spelled, bool),
     Forget(u32),
     Ask(Option<u32>, Asked),
+    Save(Option<u32>, NameWord, Three, Three),
     Same(u32, u32),
     Head,
 }

@@ -1,14 +1,15 @@
-ghost use Rattle.std.specs.Prelude.{◌≡◌, false, Err, None};
+ghost use Rattle.std.specs.Prelude.{◌≡◌, ◌≤◌, ◌++◌, false, Err, None, codes, length, take, drop};
+ghost use Rattle.std.specs.Str.{bytes_eq};
 ghost use Rattle.script.specs.declared.commands.Command.TheVariants.{Ask, Head};
 ghost use Rattle.history_model.specs.declared.questions.Question.TheVariants.{Bounds};
 ghost use Rattle.plain_text.specs.declared.faults.WordFault.TheVariants.{Word};
 ghost use Rattle.plain_text.specs.Steps.{Gives};
-ghost use Rattle.script.specs.Commands.{is_built, change_row, question_rows, other_rows, command_read_by, read_known, at_words, get_spelled, count_spelled, faces_spelled, command_alone, way_spelled, sized, step_by, ray_spelled, forget_spelled, same_spelled, command_spelled};
-ghost use Rattle.script.specs.Said.{step_said, way_said, asked_command, command_said};
+ghost use Rattle.script.specs.Commands.{is_built, change_row, question_rows, other_rows, command_read_by, read_known, at_words, get_spelled, count_spelled, faces_spelled, command_alone, way_spelled, sized, step_by, ray_spelled, save_name, save_spelled, of_version, forget_spelled, same_spelled, command_spelled};
+ghost use Rattle.script.specs.Said.{step_said, way_said, asked_command, name_said, query_command, command_said};
 
 use crate::names::{is_built, is_change, is_question};
 use crate::numbers::number;
-use crate::said::{Asked, Said, Step, Steps};
+use crate::said::{Asked, NameWord, Query, Said, Step, Steps};
 use crate::words::Words;
 use history_model::{read_act, read_box, three_numbers};
 use plain_text::{ThreeWords, WordFault, number_by, take_end, take_three, take_word};
@@ -30,6 +31,8 @@ const SAME: &[u8] = b"same";
 const HEAD: &[u8] = b"head";
 
 const AT: &[u8] = b"at";
+
+const SAVE: &[u8] = b"save";
 
 /// The command of this name with the words that follow it, wherever it may lie.
 #[tactic(auto, using(crate::proofs::RowLaws::change_found, crate::proofs::RowLaws::question_found, crate::proofs::RowLaws::other_found))]
@@ -61,20 +64,52 @@ fn spell_ask(name: &[u8], words: &mut Words) -> Result<Said, WordFault>
         (read_known is_built
         (command_read_by question_rows (Err Word) name.now words.old) name.now) }
 {
-    let asked = spell_question(name, words)?;
-    Ok(Said::Ask(None, asked))
+    let query = spell_query(name, words)?;
+    Ok(of_newest(query))
 }
 
-// The question of this name with the words that follow it.
-#[tactic(auto, using(crate::proofs::RowLaws::not_save), unfolding(crate::specs::Commands::question_rows))]
-fn spell_question(name: &[u8], words: &mut Words) -> Result<Asked, WordFault>
-    ensures { Gives asked_command result
+fn of_newest(query: Query) -> Said
+    ensures { command_said result ≡ query_command query }
+{
+    match query {
+        Query::Question(asked) => Said::Ask(None, asked),
+        Query::Save(name, at, size) => Said::Save(None, name, at, size),
+    }
+}
+
+fn of_version(version: u32, query: Query) -> Said
+    ensures { command_said result ≡ of_version version (query_command query) }
+{
+    match query {
+        Query::Question(asked) => Said::Ask(Some(version), asked),
+        Query::Save(name, at, size) => Said::Save(Some(version), name, at, size),
+    }
+}
+
+// What is asked by this name with the words that follow it.
+#[tactic(auto, using(crate::proofs::RowLaws::save_found))]
+fn spell_query(name: &[u8], words: &mut Words) -> Result<Query, WordFault>
+    ensures { Gives query_command result
         (read_known is_built
         (command_read_by question_rows (Err Word) name.now words.old) name.now) }
 {
     if !is_built(name) {
         return Err(WordFault::Word);
     }
+    if name == SAVE {
+        return spell_save(words);
+    }
+    let asked = spell_question(name, words)?;
+    Ok(Query::Question(asked))
+}
+
+// The question of this name with the words that follow it.
+#[tactic(auto, unfolding(crate::specs::Commands::question_rows))]
+fn spell_question(name: &[u8], words: &mut Words) -> Result<Asked, WordFault>
+    requires { bytes_eq name.now (codes "save") ≡ false }
+    ensures { Gives asked_command result
+        (command_read_by question_rows (Err Word) name.now words.old) }
+{
     if name == GET {
         return spell_get(words);
     }
@@ -122,6 +157,50 @@ fn spell_bounds(words: &mut Words) -> Result<Asked, WordFault>
 {
     take_end(words)?;
     Ok(Asked::Bounds)
+}
+
+#[tactic(auto, unfolding(crate::specs::Commands::save_spelled))]
+fn spell_save(words: &mut Words) -> Result<Query, WordFault>
+    ensures { Gives query_command result (save_spelled words.old) }
+{
+    let name = take_word(words)?;
+    let at = take_three(words)?;
+    let size = take_three(words)?;
+    take_end(words)?;
+    let corner = three_numbers::<Words>(&at)?;
+    let extent = three_numbers::<Words>(&size)?;
+    Ok(Query::Save(name_word(name), corner, extent))
+}
+
+fn name_word(word: &[u8]) -> NameWord
+    ensures { name_said result ≡ save_name word.now }
+{
+    let mut bytes = [0; 64];
+    begin_with(&mut bytes, first_bytes(word));
+    NameWord {
+        bytes,
+        len: word.len(),
+    }
+}
+
+#[tactic(auto, using(crate::proofs::SaveNames::short_word))]
+fn first_bytes(word: &[u8]) -> &[u8]
+    ensures first { result.now ≡ take 64 word.now }
+    ensures few { length result.now ≤ 64 }
+{
+    if word.len() > 64 {
+        let (first, _) = word.split_at(64);
+        return first;
+    }
+    word
+}
+
+// The first bytes become those of the word.
+fn begin_with(bytes: &mut [u8; 64], word: &[u8])
+    requires { length word.now ≤ 64 }
+    ensures { bytes.new ≡ word.now ++ drop (length word.now) bytes.old }
+{
+    bytes[..word.len()].copy_from_slice(word);
 }
 
 #[tactic(auto, unfolding(crate::specs::Commands::ray_spelled))]
@@ -226,7 +305,7 @@ fn spell_at(words: &mut Words) -> Result<Said, WordFault>
 {
     let version = take_word(words)?;
     let name = take_word(words)?;
-    let asked = spell_question(name, words)?;
+    let query = spell_query(name, words)?;
     let v = number_by::<Words>(version)?;
-    Ok(Said::Ask(Some(v), asked))
+    Ok(of_version(v, query))
 }
