@@ -305,7 +305,8 @@ edits_read model x number (act ∷ acts) rest others size few lie more =
     let behind =
     edits_read model x (number + 1) acts rest others size (omega (arith, few))
     (All-tail (EditLiesIn x) act acts lie)
-    (subst (λ (n : ℕ). commands_from (reads_with model) 0 n (lines_of rest) ≡ Ok others) next more) in
+    (subst (λ (n : ℕ). commands_from (reads_with model) 0 n (lines_of rest) ≡ Ok others) next
+    more) in
     let text : act_words act ++ 10 ∷ (flat_map edit_line acts ++ rest)
     ≡ flat_map edit_line (act ∷ acts) ++ rest = simp append_assoc refl in
     subst (λ (t : List ℕ). commands_from (reads_with model) 0 number (lines_of t)
@@ -363,7 +364,8 @@ region_read model x low =
     subst (λ (text : List ℕ). commands_from (reads_with model) 0 201 (lines_of text)
     ≡ Ok (record { line = 201; command = Ask None (Count b) } ∷ [])) (region_words x)
     (text_read (reads_with model) 201 (codes "count") (box_list b []) (Ask None (Count b)) [] []
-    (omega arith) (box_words_are b at size) refl read refl refl (nothing_read (reads_with model) 202))
+    (omega arith) (box_words_are b at size) refl read refl refl
+    (nothing_read (reads_with model) 202))
 
 edits_number : (g x k : ℕ) → length (edits_from g x k) ≡ k
 unfolding edits_from
