@@ -1,0 +1,390 @@
+-- What a change makes of a run: a record that comes next, and a mark that comes to its place.
+use Rattle.std.proofs.Common.{◌≡◌, ◌≢◌, ℕ, zero, suc, ◌+◌, ◌-◌, ◌^◌, ◌<◌, ◌≤◌, Bool, true, false, Some, None, Option, List, [], ◌∷◌, ◌++◌, length, length-append, take, drop, get_or, refl, sym, ◌∙◌, ap, subst, arith, inl, inr}
+use Rattle.std.specs.Prelude.{All, slice_index_or}
+use Rattle.std.specs.List.{AllPairs}
+use Rattle.std.proofs.Math.Seq.{get_or-append_seam}
+use Rattle.std.proofs.lemmas.Bool.{cases_lt}
+use Rattle.std.proofs.lemmas.List.{get_or_append_left, take_all, take_more, take-append-le, take-append-drop, length-take-le, length-drop, get_or-take, get_or-drop}
+use Rattle.std.proofs.lemmas.List.Elements.{All-push}
+use Rattle.std.proofs.lemmas.Option.{none-some, same_Some}
+use Rattle.vw_cell.specs.declared.cells.Cell.{Cell}
+use Rattle.vw_cell.specs.Counts.{cell_at}
+use Rattle.vw_cell.specs.Places.{block_side}
+use Rattle.vox_read.specs.Contents.{Content}
+use Rattle.history_model.specs.declared.acts.Act.{Act}
+use Rattle.history_model.specs.declared.acts.Act.TheVariants.{Fill, Erase, Ball, Carve, Copy, Stamp, Undo, Redo}
+use Rattle.history_model.specs.declared.histories.Mark.{Mark}
+use Rattle.history_model.specs.declared.histories.Record.{Record}
+use Rattle.history_model.specs.Laws.{position_of_next}
+use Rattle.history_model.specs.LegalLaws.{edit_follows, legal_next, legal_empty}
+use Rattle.history_model.specs.Logs.{Log, FitsWorld, MayFollow, HasTarget, IsLegal}
+use Rattle.history_model.specs.PositionLaws.{names_below}
+use Rattle.history_model.specs.Positions.{Position, beginning, position_after, next_position, first_of, undone, redone}
+use Rattle.history_model.specs.Worlds.{World, is_edit}
+use Rattle.node_shapes.specs.Shape.{Shape}
+use Rattle.node_words.specs.Gathering.{unchanged}
+use Rattle.node_words.specs.Plans.{Layout}
+use Rattle.cell_shapes.specs.CellShapes.{Cells, shape_with}
+use Rattle.cell_shapes.proofs.CellShapeLaws.{shape_with-has, shape_with-canonical}
+use Rattle.block_contents.specs.Aligned.{top}
+use Rattle.block_contents.specs.Versions.{IsKept, IsUnmarked, MarkComes}
+use Rattle.block_contents.proofs.MarkLaws.{each_mark, marks_rise, marks_follow}
+use Rattle.possible.specs.Needed.{made_of}
+use Rattle.script.specs.declared.commands.Command.TheVariants.{Edit, Forget}
+use Rattle.script.specs.declared.commands.ScriptLine.{ScriptLine}
+use Rattle.transcript.specs.declared.answers.Answer.TheVariants as answers
+use Rattle.conformance.specs.Answers.{target_at, nothing_to_undo, nothing_to_redo, forgotten, log_full}
+use Rattle.conformance.specs.Kinds.{answer_at}
+use Rattle.conformance.specs.Running.{GrowsBy, ForgetsBy}
+use Rattle.conformance.proofs.LineKinds.{undo_target, redo_target, full_way}
+use Rattle.script_runs.specs.Keeping.{IsTarget, last_moment}
+use Rattle.script_runs.specs.Sessions.{TakesLine}
+use Rattle.script_runs.proofs.Arms.{rebuilt_arm, undone_arm, forgot_arm, before_within}
+use Rattle.plain_run.specs.declared.histories.PlainHistory.{PlainHistory}
+use Rattle.plain_run.specs.Histories.{ArePlain, AreNows, HasMarkOf, plain_log, plain_marks, plain_moment}
+use Rattle.plain_run.specs.Plain.{RunsOn, nothing_noted, nowhere_to_go}
+use Rattle.plain_run.proofs.Lines.{rests, forgotten_now}
+
+-- ---- the first version
+
+pub begun : (h : PlainHistory) → h.records.items ≡ [] → h.marks.items ≡ [] → h.nows.items ≡ 0 ∷ [] → ArePlain h
+begun h records marks nows = record {
+  legal =
+      subst (λ (rs : List Record). IsLegal (2 ^ h.plan.side) h.models.now (record { side = h.plan.side; records = rs; marks = h.marks.items })) (sym records)
+      (subst (λ (ms : List Mark). IsLegal (2 ^ h.plan.side) h.models.now (record { side = h.plan.side; records = []; marks = ms })) (sym marks)
+      (legal_empty (2 ^ h.plan.side) h.models.now h.plan.side refl));
+  nows =
+      subst (λ (rs : List Record). AreNows rs h.nows.items) (sym records)
+      (subst (λ (ns : List ℕ). AreNows [] ns) (sym nows) none_yet);
+}
+  where
+    none_yet : AreNows [] (0 ∷ [])
+    none_yet = record { each_has = omega arith; each = λ n le. first n (omega arith) }
+      where
+        first : (n : ℕ) → n ≡ 0 → slice_index_or (0 ∷ []) n 0 ≡ (position_after (take n [])).now
+        first n is = subst (λ (k : ℕ). slice_index_or (0 ∷ []) k 0 ≡ (position_after (take k [])).now) (sym is) refl
+
+-- ---- one more record
+
+abbrev longer : Log → Record → Log
+longer log r = record { side = log.side; records = log.records ++ r ∷ []; marks = log.marks }
+
+nows_longer : (records : List Record) (nows : List ℕ) (r : Record) (now : ℕ) → AreNows records nows
+    → now ≡ (next_position (length records + 1) r.act (position_after records)).now → AreNows (records ++ r ∷ []) (nows ++ now ∷ [])
+nows_longer records nows r now are is =
+    let more = length-append records (r ∷ []) in
+    let further = length-append nows (now ∷ []) in
+    let all = are.each_has in
+    record {
+      each_has = omega (arith, more, further, all);
+      each = λ n le. elim (cases_lt n (length records + 1)) [
+        | inl lt ↦
+            get_or_append_left nows (now ∷ []) 0 n (omega (arith, lt, all))
+            ∙ are.each n (omega (arith, lt))
+            ∙ ap (λ (rs : List Record). (position_after rs).now) (sym (take-append-le n records (r ∷ []) (omega (arith, lt))))
+        | inr past ↦
+            let last : n ≡ length nows = omega (arith, past, le, more, all) in
+            let whole = take_all n (records ++ r ∷ []) (omega (arith, past, more)) in
+            ap (λ (k : ℕ). slice_index_or (nows ++ now ∷ []) k 0) last
+            ∙ get_or-append_seam nows now [] 0
+            ∙ is ∙ ap (λ (q : Position). q.now) (sym (position_of_next records r))
+            ∙ ap (λ (rs : List Record). (position_after rs).now) (sym whole)
+      ];
+    }
+
+module _ (h g : PlainHistory) (r : Record) (now : ℕ) (are : ArePlain h)
+    (fits : FitsWorld (2 ^ h.plan.side) h.models.now r.act) (follows : MayFollow (plain_marks h) (plain_moment h + 1) r.act (position_after h.records.items))
+    (room : plain_moment h < 65535) (is : now ≡ (next_position (plain_moment h + 1) r.act (position_after h.records.items)).now)
+    (plan : g.plan ≡ h.plan) (models : g.models.now ≡ h.models.now) (records : g.records.items ≡ h.records.items ++ r ∷ [])
+    (marks : g.marks.items ≡ h.marks.items) (nows : g.nows.items ≡ h.nows.items ++ now ∷ []) where
+  log_grown : plain_log g ≡ longer (plain_log h) r
+  log_grown = λ i. record { side = (plan i).side; records = records i; marks = marks i }
+
+  longer_legal : IsLegal (2 ^ h.plan.side) h.models.now (longer (plain_log h) r)
+  longer_legal = legal_next (2 ^ h.plan.side) h.models.now (plain_log h) r are.legal room fits follows
+
+  pub appended_are : ArePlain g
+  appended_are = record {
+    legal =
+        subst (λ (l : Log). IsLegal (2 ^ g.plan.side) g.models.now l) (sym log_grown)
+        (subst (λ (ms : List Content). IsLegal (2 ^ g.plan.side) ms (longer (plain_log h) r)) (sym models)
+        (subst (λ (p : Layout). IsLegal (2 ^ p.side) h.models.now (longer (plain_log h) r)) (sym plan) longer_legal));
+    nows =
+        subst (λ (rs : List Record). AreNows rs g.nows.items) (sym records)
+        (subst (λ (ns : List ℕ). AreNows (h.records.items ++ r ∷ []) ns) (sym nows) (nows_longer h.records.items h.nows.items r now are.nows is));
+  }
+
+  pub appended_grows : GrowsBy h.plan h.models.now r (plain_log h) (plain_log g)
+  appended_grows = subst (λ (l : Log). GrowsBy h.plan h.models.now r (plain_log h) l) (sym log_grown)
+      (record { legal = longer_legal; side = refl; records = refl; marks = refl })
+
+pub edit_may_follow : (h : PlainHistory) (act : Act) → is_edit act ≡ true → MayFollow (plain_marks h) (plain_moment h + 1) act (position_after h.records.items)
+edit_may_follow h act edit = edit_follows (plain_marks h) (plain_moment h + 1) act (position_after h.records.items) edit
+
+edit_now : (n : ℕ) (act : Act) (at : Position) → is_edit act ≡ true → n ≡ (next_position n act at).now
+edit_now n (Fill b) at e = refl
+edit_now n (Erase b) at e = refl
+edit_now n (Ball b) at e = refl
+edit_now n (Carve b) at e = refl
+edit_now n (Copy b to) at e = refl
+edit_now n (Stamp m to) at e = refl
+edit_now n Undo at e = absurd (let no : ⊥ = cc in no)
+edit_now n Redo at e = absurd (let no : ⊥ = cc in no)
+
+pub edit_goes_on : (h : PlainHistory) (act : Act) → is_edit act ≡ true → plain_moment h + 1 ≡ (next_position (plain_moment h + 1) act (position_after h.records.items)).now
+edit_goes_on h act edit = edit_now (plain_moment h + 1) act (position_after h.records.items) edit
+
+-- ---- where an undo or a redo goes
+
+goes_undo : (past : List ℕ) (now : ℕ) (future : List ℕ) (v : ℕ) → first_of past ≡ Some v → v ≡ (undone past now future).now
+goes_undo [] now future v e = absurd (none-some v e)
+goes_undo (to ∷ past) now future v e = sym (same_Some to v e)
+
+goes_redo : (past : List ℕ) (now : ℕ) (future : List ℕ) (v : ℕ) → first_of future ≡ Some v → v ≡ (redone past now future).now
+goes_redo past now [] v e = absurd (none-some v e)
+goes_redo past now (to ∷ future) v e = sym (same_Some to v e)
+
+has_target : (marks : List Mark) (n : ℕ) (past : List ℕ) (v : ℕ) → first_of past ≡ Some v → IsUnmarked marks v → HasTarget marks n past
+has_target marks n [] v e unmarked = absurd (none-some v e)
+has_target marks n (to ∷ more) v e unmarked = λ k m lt same. absurd (unmarked k m lt (same ∙ same_Some to v e))
+
+first_below : (past : List ℕ) (v n : ℕ) → first_of past ≡ Some v → All (λ w. w < n) past → v < n
+first_below [] v n e below = absurd (none-some v e)
+first_below (to ∷ past) v n e below = subst (λ (w : ℕ). w < n) (same_Some to v e) (below 0 0 (omega arith))
+
+record GoesTo (log : Log) (act : Act) (to : ℕ) : Type 0 where
+  there : to ≤ length log.records
+  now : to ≡ (next_position (length log.records + 1) act (position_after log.records)).now
+  may : IsUnmarked log.marks to → MayFollow log.marks (length log.records + 1) act (position_after log.records)
+
+goes_to : (log : Log) (act : Act) (to : ℕ) → is_edit act ≡ false → target_at log.records (length log.records) act ≡ Some to → GoesTo log act to
+goes_to log Undo to other e =
+    let at = position_after log.records in
+    let first : first_of at.past ≡ Some to = sym (undo_target log.records) ∙ e in
+    let lt = first_below at.past to (length log.records + 1) first (names_below log.records).past in
+    record { there = omega arith; now = goes_undo at.past at.now at.future to first; may = has_target log.marks (length log.records + 1) at.past to first }
+goes_to log Redo to other e =
+    let at = position_after log.records in
+    let first : first_of at.future ≡ Some to = sym (redo_target log.records) ∙ e in
+    let lt = first_below at.future to (length log.records + 1) first (names_below log.records).future in
+    record { there = omega arith; now = goes_redo at.past at.now at.future to first; may = has_target log.marks (length log.records + 1) at.future to first }
+goes_to log (Fill b) to other e = absurd (let no : ⊥ = cc in no)
+goes_to log (Erase b) to other e = absurd (let no : ⊥ = cc in no)
+goes_to log (Ball b) to other e = absurd (let no : ⊥ = cc in no)
+goes_to log (Carve b) to other e = absurd (let no : ⊥ = cc in no)
+goes_to log (Copy b c) to other e = absurd (let no : ⊥ = cc in no)
+goes_to log (Stamp b c) to other e = absurd (let no : ⊥ = cc in no)
+
+module _ (h : PlainHistory) (act : Act) (to : ℕ) (other : is_edit act ≡ false) (goes : target_at h.records.items (plain_moment h) act ≡ Some to) where
+  pub goes_there : to ≤ plain_moment h
+  goes_there = (goes_to (plain_log h) act to other goes).there
+
+  pub goes_now : to ≡ (next_position (plain_moment h + 1) act (position_after h.records.items)).now
+  goes_now = (goes_to (plain_log h) act to other goes).now
+
+  pub may_go_to : IsUnmarked (plain_marks h) to → MayFollow (plain_marks h) (plain_moment h + 1) act (position_after h.records.items)
+  may_go_to unmarked = (goes_to (plain_log h) act to other goes).may unmarked
+
+-- ---- lines that change
+
+from_origin : (c : Cell) → cell_at (c.x - 0) (c.y - 0) (c.z - 0) ≡ c
+from_origin c =
+    let x : c.x - 0 ≡ c.x = omega arith in
+    let y : c.y - 0 ≡ c.y = omega arith in
+    let z : c.z - 0 ≡ c.z = omega arith in
+    λ i. record { x = x i; y = y i; z = z i }
+
+abbrev cells_of : World → Cells
+cells_of w = λ x y z. w (cell_at x y z)
+
+abbrev target_of : PlainHistory → Act → Shape
+target_of h act = shape_with (top h.plan.side) (cells_of (made_of h.models.now h.records.items act (plain_moment h)))
+
+is_target : (h : PlainHistory) (act : Act) → is_edit act ≡ true → IsTarget h.plan h.models.now h.records.items act (plain_moment h) (target_of h act)
+is_target h act edit =
+    let w : World = made_of h.models.now h.records.items act (plain_moment h) in
+    let level : ℕ = top h.plan.side in
+    record {
+      edit = edit;
+      canonical = shape_with-canonical level (cells_of w);
+      shows = record {
+        each = λ c i.
+            let x : c.x - 0 < block_side level = omega (arith, i.x.1) in
+            let y : c.y - 0 < block_side level = omega (arith, i.y.1) in
+            let z : c.z - 0 < block_side level = omega (arith, i.z.1) in
+            (shape_with-has level (cells_of w)).each (c.x - 0) (c.y - 0) (c.z - 0) x y z ∙ ap w (from_origin c);
+      };
+    }
+
+module _ (h g : PlainHistory) (session line : ℕ) (act : Act) (once : Bool)
+    (plan : g.plan ≡ h.plan) (models : g.models.now ≡ h.models.now)
+    (grows : GrowsBy h.plan h.models.now (record { session = session; line = line; act = act }) (plain_log h) (plain_log g)) where
+  after : plain_moment g ≡ plain_moment h + 1
+  after = ap (λ (rs : List Record). length rs) grows.records ∙ length-append h.records.items (record { session = session; line = line; act = act } ∷ [])
+
+  abbrev the_line : ScriptLine
+  the_line = record { line = line; command = Edit act once }
+
+  pub edit_done : is_edit act ≡ true → RunsOn h session (record { line = line; command = Edit act once }) answers.Done g
+  edit_done edit = record {
+    plan = plan;
+    models = models;
+    goes_on = λ scripts transcripts script transcript running number later.
+        let low = before_within h.plan h.models.now scripts transcripts script transcript (plain_log h) nothing_noted running in
+        subst (λ (n : ℕ). TakesLine h.plan h.models.now session (last_moment 0 transcript) (record { line = line; command = Edit act once }) (plain_log h) (plain_log g) nothing_noted nothing_noted (answer_at (record { line = line; command = Edit act once }) n answers.Done)) (sym after)
+        (rebuilt_arm h.plan h.models.now session (last_moment 0 transcript) line act once (plain_log h) (plain_log g) (target_of h act) nothing_noted nothing_noted
+        grows (is_target h act edit) low unchanged refl);
+  }
+
+  pub go_done : RunsOn h session (record { line = line; command = Edit act once }) answers.Done g
+  go_done = record {
+    plan = plan;
+    models = models;
+    goes_on = λ scripts transcripts script transcript running number later.
+        subst (λ (n : ℕ). TakesLine h.plan h.models.now session (last_moment 0 transcript) (record { line = line; command = Edit act once }) (plain_log h) (plain_log g) nothing_noted nothing_noted (answer_at (record { line = line; command = Edit act once }) n answers.Done)) (sym after)
+        (undone_arm h.plan h.models.now session (last_moment 0 transcript) line act once (plain_log h) (plain_log g) nothing_noted grows);
+  }
+
+module _ (h : PlainHistory) (session line : ℕ) (act : Act) (once : Bool) (are : ArePlain h) where
+  pub edit_late : is_edit act ≡ true → plain_moment h ≡ 65535 → RunsOn h session (record { line = line; command = Edit act once }) answers.LogFull h
+  edit_late edit all = rests h session (record { line = line; command = Edit act once }) answers.LogFull are refl refl
+      (λ scripts transcripts script transcript so_far number later. log_full act once all (full_way (plain_log h) session line act (inl edit)))
+
+  pub go_late : (to : ℕ) → target_at h.records.items (plain_moment h) act ≡ Some to → IsKept (plain_log h) to → plain_moment h ≡ 65535
+      → RunsOn h session (record { line = line; command = Edit act once }) answers.LogFull h
+  go_late to goes kept all = rests h session (record { line = line; command = Edit act once }) answers.LogFull are refl refl
+      (λ scripts transcripts script transcript so_far number later. log_full act once all (full_way (plain_log h) session line act (inr (to, goes, kept))))
+
+  pub go_forgotten : (to : ℕ) → target_at h.records.items (plain_moment h) act ≡ Some to → HasMarkOf (plain_marks h) to
+      → RunsOn h session (record { line = line; command = Edit act once }) (answers.Forgotten to) h
+  go_forgotten to goes mark = rests h session (record { line = line; command = Edit act once }) (answers.Forgotten to) are refl refl
+      (λ scripts transcripts script transcript so_far number later. forgotten (Edit act once) to goes
+      (forgotten_now h session (record { line = line; command = Edit act once }) to mark scripts transcripts script transcript so_far number later))
+
+  pub go_nowhere : is_edit act ≡ false → target_at h.records.items (plain_moment h) act ≡ None → RunsOn h session (record { line = line; command = Edit act once }) (nowhere_to_go act) h
+  go_nowhere other none = go act other none
+    where
+      go : (a : Act) → is_edit a ≡ false → target_at h.records.items (plain_moment h) a ≡ None → RunsOn h session (record { line = line; command = Edit a once }) (nowhere_to_go a) h
+      go Undo o n = rests h session (record { line = line; command = Edit Undo once }) answers.NothingToUndo are refl refl (λ scripts transcripts script transcript so_far number later. nothing_to_undo once n)
+      go Redo o n = rests h session (record { line = line; command = Edit Redo once }) answers.NothingToRedo are refl refl (λ scripts transcripts script transcript so_far number later. nothing_to_redo once n)
+      go (Fill b) o n = absurd (let no : ⊥ = cc in no)
+      go (Erase b) o n = absurd (let no : ⊥ = cc in no)
+      go (Ball b) o n = absurd (let no : ⊥ = cc in no)
+      go (Carve b) o n = absurd (let no : ⊥ = cc in no)
+      go (Copy b c) o n = absurd (let no : ⊥ = cc in no)
+      go (Stamp b c) o n = absurd (let no : ⊥ = cc in no)
+
+-- ---- marks
+
+pub mark_comes : (marks : List Mark) (mark : Mark) (place : ℕ) → place ≤ length marks
+    → AllPairs (λ a b. a.version < b.version) marks → IsUnmarked marks mark.version
+    → All (λ m. m.version ≤ mark.version) (take place marks)
+    → ((m : Mark) → place < length marks → mark.version < (get_or marks place m).version)
+    → MarkComes marks mark (take place marks ++ mark ∷ drop place marks)
+mark_comes marks mark place le rising unmarked lower higher = record {
+  before = take place marks;
+  after = drop place marks;
+  was = sym (take-append-drop place marks);
+  is = refl;
+  lower = λ k m lt. (
+      let wide : length (take place marks) ≡ place = length-take-le place marks le in
+      let here = get_or-take place marks k m (omega arith) in
+      let low = lower k m lt in
+      let other = unmarked k m (omega arith) in
+      let same : (get_or (take place marks) k m).version ≡ (get_or marks k m).version = ap (λ (x : Mark). x.version) here in
+      omega (arith, low, other, same));
+  higher = λ k m lt. (
+      let wide : length (drop place marks) ≡ length marks - place = length-drop place marks in
+      let here = get_or-drop place marks k m in
+      let first = higher m (omega arith) in
+      subst (λ (x : Mark). mark.version < x.version) (sym here) (go k m (omega arith) first));
+}
+  where
+    go : (k : ℕ) (m : Mark) → place + k < length marks → mark.version < (get_or marks place m).version
+        → mark.version < (get_or marks (place + k) m).version
+    go zero m lt first = let same : place ≡ place + 0 = omega arith in
+        subst (λ (j : ℕ). mark.version < (get_or marks j m).version) same first
+    go (suc k) m lt first = let up = rising place (place + suc k) m (omega arith) (omega arith) in omega arith
+
+module _ (h g : PlainHistory) (mark : Mark) (are : ArePlain h) (earlier : mark.version < plain_moment h) (now : mark.at ≡ plain_moment h)
+    (plan : g.plan ≡ h.plan) (models : g.models.now ≡ h.models.now) (records : g.records.items ≡ h.records.items)
+    (nows : g.nows.items ≡ h.nows.items) (comes : MarkComes (plain_marks h) mark (plain_marks g)) where
+  abbrev marked : Log
+  marked = record { side = h.plan.side; records = h.records.items; marks = g.marks.items }
+
+  log_marked : plain_log g ≡ marked
+  log_marked = λ i. record { side = (plan i).side; records = records i; marks = g.marks.items }
+
+  marked_legal : IsLegal (2 ^ h.plan.side) h.models.now marked
+  marked_legal = record {
+    same_side = refl;
+    few = are.legal.few;
+    fit = are.legal.fit;
+    follow = marks_follow (plain_marks h) (plain_marks g) mark 1 beginning h.records.items comes (omega (arith, now)) are.legal.follow;
+    rising = marks_rise (plain_marks h) (plain_marks g) mark comes are.legal.rising;
+    marked = each_mark (plain_marks h) (plain_marks g) mark comes (λ m. (m.version < m.at) × (m.at ≤ plain_moment h)) are.legal.marked
+        (omega (arith, now, earlier), omega (arith, now));
+  }
+
+  pub marked_are : ArePlain g
+  marked_are = record {
+    legal =
+        subst (λ (l : Log). IsLegal (2 ^ g.plan.side) g.models.now l) (sym log_marked)
+        (subst (λ (ms : List Content). IsLegal (2 ^ g.plan.side) ms marked) (sym models)
+        (subst (λ (p : Layout). IsLegal (2 ^ p.side) h.models.now marked) (sym plan) marked_legal));
+    nows =
+        subst (λ (rs : List Record). AreNows rs g.nows.items) (sym records)
+        (subst (λ (ns : List ℕ). AreNows h.records.items ns) (sym nows) are.nows);
+  }
+
+  pub forgot : RunsOn h mark.session (record { line = mark.line; command = Forget mark.version }) (answers.Forgot mark.version) g
+  forgot =
+      let forgets : ForgetsBy h.plan h.models.now mark (plain_log h) (plain_log g) =
+      subst (λ (l : Log). ForgetsBy h.plan h.models.now mark (plain_log h) l) (sym log_marked)
+      (record { legal = marked_legal; side = refl; records = refl; now = now; marks = comes }) in
+      record {
+        plan = plan;
+        models = models;
+        goes_on = λ scripts transcripts script transcript running number later.
+            subst (λ (n : ℕ). TakesLine h.plan h.models.now mark.session (last_moment 0 transcript) (record { line = mark.line; command = Forget mark.version }) (plain_log h) (plain_log g) nothing_noted nothing_noted
+            (answer_at (record { line = mark.line; command = Forget mark.version }) n (answers.Forgot mark.version))) (sym (ap (λ (rs : List Record). length rs) records))
+            (forgot_arm h.plan h.models.now (last_moment 0 transcript) mark (plain_log h) (plain_log g) nothing_noted forgets);
+      }
+
+pub is_earlier : (h : PlainHistory) (version at : ℕ) → IsKept (plain_log h) version → at ≡ plain_moment h → version ≢ at → version < plain_moment h
+is_earlier h version at kept now other = let le = kept.there in omega (arith, other, now)
+
+pub first_past : (records : List Record) (at : Position) (act : Act) (to : Option ℕ) → is_edit act ≡ false → act ≢ Redo → at ≡ position_after records → to ≡ first_of at.past
+    → to ≡ target_at records (length records) act
+first_past records at act to other back is e = go act other back
+  where
+    go : (a : Act) → is_edit a ≡ false → a ≢ Redo → to ≡ target_at records (length records) a
+    go Undo o n = e ∙ ap (λ (q : Position). first_of q.past) is ∙ sym (undo_target records)
+    go Redo o n = absurd (n refl)
+    go (Fill b) o n = absurd (let no : ⊥ = cc in no)
+    go (Erase b) o n = absurd (let no : ⊥ = cc in no)
+    go (Ball b) o n = absurd (let no : ⊥ = cc in no)
+    go (Carve b) o n = absurd (let no : ⊥ = cc in no)
+    go (Copy b c) o n = absurd (let no : ⊥ = cc in no)
+    go (Stamp b c) o n = absurd (let no : ⊥ = cc in no)
+
+pub first_future : (records : List Record) (at : Position) (to : Option ℕ) → at ≡ position_after records → to ≡ first_of at.future
+    → to ≡ target_at records (length records) Redo
+first_future records at to is e = e ∙ ap (λ (q : Position). first_of q.future) is ∙ sym (redo_target records)
+
+pub all_more : (marks : List Mark) (version k : ℕ) (m : Mark) → k < length marks → m ≡ get_or marks k m → All (λ n. n.version ≤ version) (take k marks) → m.version ≤ version
+    → All (λ n. n.version ≤ version) (take (k + 1) marks)
+all_more marks version k m lt is low here =
+    subst (λ (ms : List Mark). All (λ n. n.version ≤ version) ms) (sym (take_more marks k m lt))
+    (All-push (λ n. n.version ≤ version) (take k marks) (get_or marks k m) low (subst (λ (n : Mark). n.version ≤ version) is here))
+
+-- a mark between those before its place and those from it on
+put_between : (front back : List Mark) (mark : Mark) → (front ++ mark ∷ []) ++ back ≡ front ++ mark ∷ back
+put_between [] back mark = refl
+put_between (m ∷ front) back mark = ap (λ (ms : List Mark). m ∷ ms) (put_between front back mark)
+
+pub comes_put : (marks all front back : List Mark) (mark : Mark) (place : ℕ) → front ≡ take place marks → back ≡ drop place marks → all ≡ (front ++ mark ∷ []) ++ back
+    → MarkComes marks mark (take place marks ++ mark ∷ drop place marks) → MarkComes marks mark all
+comes_put marks all front back mark place is_front is_back is comes =
+    subst (λ (ms : List Mark). MarkComes marks mark ms)
+    (sym (is ∙ put_between front back mark ∙ (λ i. is_front i ++ mark ∷ is_back i))) comes

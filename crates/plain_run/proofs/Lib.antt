@@ -1,0 +1,7 @@
+mod Having
+mod Tracing
+mod Numbers
+mod LeastBoxes
+mod RayLaws
+mod Lines
+mod Changing

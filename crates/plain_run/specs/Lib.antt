@@ -1,0 +1,4 @@
+pub mod Traces
+pub mod Histories
+pub mod Counting
+pub mod Plain

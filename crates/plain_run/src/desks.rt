@@ -1,0 +1,135 @@
+ghost use Rattle.std.specs.Prelude.{◌≡◌, ◌≤◌, ◌^◌, [], length, IfOk, true};
+ghost use Rattle.vox_read.specs.Contents.{AreModels};
+ghost use Rattle.history_model.specs.Logs.{FitsWorld};
+ghost use Rattle.history_model.specs.Moments.{world_has};
+ghost use Rattle.history_model.specs.Worlds.{is_edit};
+ghost use Rattle.possible.specs.Needed.{made_of};
+ghost use Rattle.plain_run.specs.Plain.{nothing_noted};
+
+use crate::histories::PlainHistory;
+use crate::traces::{Traced, trace};
+use history_model::{Act, History};
+use node_words::Plan;
+use script::ScriptLine;
+use script_runs::Desk;
+use std::alloc::Global;
+use std::marker::Model;
+use transcript::LineAnswer;
+use vox_read::Models;
+use vw_cell::{Cell, Memory};
+
+/// A run that keeps its records and marks alone. Contracts see the plan, the models and the
+/// history.
+///
+/// It has no store, and meets no full bucket, whatever the plan says.
+#[derive(Drop)]
+pub struct PlainRun<'m> {
+    history: PlainHistory<'m>,
+}
+
+impl<'m> Model for PlainRun<'m> {
+    ghost use Rattle.plain_run.specs.Histories.{ArePlain};
+    ghost use Rattle.plain_run.specs.Plain.{PlainState, plain_state};
+
+    ghost Value = { PlainState };
+
+    ghost view = { λ r. plain_state r.history };
+
+    ghost invariant = { λ r. ArePlain r.history };
+}
+
+impl<'m> PlainRun<'m> {
+    /// A run where nothing was done yet.
+    pub fn begin(alloc: Global, plan: &Plan, models: &'m Models) -> Result<PlainRun<'m>, Memory>
+        ensures plan { IfOk result (λ r. r.plan ≡ plan.now) }
+        ensures models { IfOk result (λ r. r.models ≡ models.now) }
+        ensures log { IfOk result
+            (λ r. r.log ≡ record { side = plan.now.side; records = []; marks = [] }) }
+    {
+        let history = PlainHistory {
+            alloc,
+            plan: *plan,
+            models,
+            records: Vec::new(alloc),
+            marks: Vec::new(alloc),
+            nows: Vec::from_slice(alloc, &[0])?,
+        };
+        Ok(PlainRun { history })
+    }
+
+    /// How many records there are.
+    pub fn moment(&self) -> u32
+        ensures { result ≡ length self.now.log.records }
+    {
+        self.history.moment()
+    }
+
+    /// Whether the cell is set at the version.
+    pub fn has(&self, version: u32, c: Cell) -> bool
+        requires { version ≤ length self.now.log.records }
+        ensures { result ≡ world_has self.now.models self.now.log.records version c }
+    {
+        self.history.has(version, c)
+    }
+
+    /// Whether the edit makes the cell set, of the newest version.
+    pub fn makes(&self, act: Act, c: Cell) -> bool
+        requires edit { is_edit act ≡ true }
+        requires fits { FitsWorld (2 ^ self.now.plan.side) self.now.models act }
+        ensures { result ≡ made_of self.now.models self.now.log.records act
+            (length self.now.log.records) c }
+    {
+        let newest = self.history.moment();
+        match trace(self.history.plan.side(), self.history.models, act, c) {
+            Traced::Is(set) => set,
+            Traced::As(from) => self.history.has(newest, from),
+            Traced::Gone => false,
+        }
+    }
+
+    /// Whether the version is there and not forgotten.
+    pub fn keeps(&self, version: u32) -> bool {
+        version <= self.history.moment() && !self.history.is_marked(version)
+    }
+
+    /// How many marks there are.
+    pub fn number_of_marks(&self) -> usize {
+        self.history.marks.len()
+    }
+
+    /// The records and marks.
+    pub fn into_history(self) -> History
+        ensures { result ≡ self.entry.log }
+    {
+        let PlainHistory {
+            plan,
+            records,
+            marks,
+            ..
+        } = self.history;
+        History {
+            side: plan.side(),
+            records,
+            marks,
+        }
+    }
+}
+
+impl<'m> Desk for PlainRun<'m> {
+    ghost plan = { λ d. d.plan };
+
+    ghost models = { λ d. d.models };
+
+    ghost log = { λ d. d.log };
+
+    ghost noted = { λ d. nothing_noted };
+
+    fn answer(&mut self, session: u16, l: ScriptLine) -> Result<LineAnswer, Memory> {
+        let line = l.line;
+        let answer = self.history.answer_line(session, l)?;
+        let at = self.history.moment();
+        Ok(LineAnswer { line, at, answer })
+    }
+
+    fn look(&self) {}
+}
