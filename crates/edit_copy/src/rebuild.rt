@@ -1,4 +1,4 @@
-ghost use Rattle.std.specs.Prelude.{◌≡◌, ◌≤◌, ◌-◌, ◌^◌, IfOk, IfErr, OnOk, [], option_copied};
+ghost use Rattle.std.specs.Prelude.{◌≡◌, ◌≤◌, ◌-◌, ◌^◌, ℕ, IfOk, IfErr, OnOk, [], option_copied};
 ghost use Rattle.vw_cell.specs.Places.{FitsAt};
 ghost use Rattle.node_shapes.specs.Weights.{number_of_trees};
 ghost use Rattle.node_words.specs.Gathering.{Grows, Fails};
@@ -6,10 +6,13 @@ ghost use Rattle.history_model.specs.Worlds.{edited};
 ghost use Rattle.history_model.specs.declared.acts.Act.TheVariants.{Copy};
 ghost use Rattle.block_walk.specs.Roots.{HoldsRoot};
 ghost use Rattle.edit_cells.specs.Worlds.{ForEdited, Rebuilt, world_shape};
+ghost use Rattle.edit_walk.specs.declared.memos.Kept.{Kept};
+ghost use Rattle.edit_copy.specs.declared.copies.CopyTask.{CopyTask};
 
+use crate::copies::CopyTask;
 use crate::starts::whole_task;
 use block_walk::name_of;
-use edit_walk::{Latest, rebuild_world};
+use edit_walk::{Latest, Memo, NoMemo, rebuild_world};
 use node_words::{Full, NodeStore, Share, Steps};
 use std::sync::ledger::Ledger;
 use vw_cell::{Boxed, Cell, Side};
@@ -42,11 +45,58 @@ pub fn rebuild_copy<N: NodeStore, L: Ledger>(
         (N.seen store.new))) }
     ensures rests { N.rests store.old store.new }
 {
-    let task = whole_task(name_of(old), side, from, to);
+    if is_small(from.size) {
+        return match copy_box(store, old, side, from, to, &mut NoMemo, steps) {
+            Ok(share) => Ok(share),
+            Err(e) => Err(e),
+        };
+    }
     let mut memo = Latest::new();
-    let _held = store.held();
-    match rebuild_world(store, side, &task, &mut memo, steps) {
+    match copy_box(store, old, side, from, to, &mut memo, steps) {
         Ok(share) => Ok(share),
         Err(e) => Err(e),
     }
+}
+
+// The same, by a walk that remembers nothing yet.
+fn copy_box<M: Memo<CopyTask>, N: NodeStore, L: Ledger>(
+    store: &mut N,
+    old: Option<&Share>,
+    side: Side,
+    from: Boxed,
+    to: Cell,
+    memo: &mut M,
+    steps: &mut Steps<L>,
+) -> Result<Option<Share>, Full>
+    requires side { side ≡ (N.seen store.old).plan.side }
+    requires memo { (l : ℕ) (e : Kept CopyTask) → ¬ M.has memo.old l e }
+    requires from { FitsAt from.at from.size (2 ^ side) }
+    requires to { FitsAt to from.size (2 ^ side) }
+    requires old { HoldsRoot (N.seen store.old).held side (option_copied old) }
+    requires room { number_of_trees (N.seen store.old).held ≤ 3910 }
+    ensures ok { IfOk result (λ r.
+        ForEdited (N.seen store.old) side (option_copied old.entry) (edited [] (Copy from to))
+        (λ world. Rebuilt (side - 2) world r (N.seen store.old) (N.seen store.new))) }
+    ensures grows { OnOk result (
+        ForEdited (N.seen store.old) side (option_copied old.entry) (edited [] (Copy from to))
+        (λ world. Grows (world_shape (side - 2) world) (N.seen store.old) (N.seen store.new))) }
+    ensures full { IfErr result (λ e.
+        ForEdited (N.seen store.old) side (option_copied old.entry) (edited [] (Copy from to))
+        (λ world. Fails (world_shape (side - 2) world) e.level e.bucket (N.seen store.old)
+        (N.seen store.new))) }
+    ensures rests { N.rests store.old store.new }
+{
+    let task = whole_task(name_of(old), side, from, to);
+    let _held = store.held();
+    match rebuild_world(store, side, &task, memo, steps) {
+        Ok(share) => Ok(share),
+        Err(e) => Err(e),
+    }
+}
+
+// To remember blocks costs more than it saves in a box of at most this size on each axis.
+const FEW: u16 = 16;
+
+fn is_small(size: Cell) -> bool {
+    size.x <= FEW && size.y <= FEW && size.z <= FEW
 }
