@@ -27,8 +27,8 @@ plain_words() {
         1) plain_usage ;;
         2) printf '%s: there is no such file\n' "$name" ;;
         3) printf '%s: can'\''t be read: it may be a folder, or a file without leave to read it\n' "${line#voxdag: read fault }" ;;
-        4) plain_vox "$(named_file "$@")" $name ;;
-        5) plain_script "$(named_script "${name%% *}" "$@")" $name ;;
+        4) plain_vox "$(operand 0 "${@:2}")" $name ;;
+        5) plain_script "$(operand $((${name%% *} + 1)) "${@:2}")" $name ;;
         6) printf '%s: can'\''t be written; what was to be written after it is not there\n' "${line#voxdag: write fault }" ;;
         7) printf 'standard output took no line, or a part of it; all files are written\n' ;;
         8) printf 'there was not enough memory\n' ;;
@@ -38,28 +38,30 @@ plain_words() {
 
 plain_usage() {
     printf '%s\n' \
-        'voxdag takes these words, in this order:' \
+        'voxdag takes these words:' \
         '    voxdag count FILE' \
         '    voxdag run [--side s] [--buckets b] [--cap c] [--journal J] [--report P] FILE SCRIPT ..' \
-        's is 4, 8, 16 and so on up to 4096, b is 1 to 4096, c is 1 to 256. There are 1 to 64 scripts. No name is empty or' \
-        'begins with -. Each SCRIPT.out, J and P are written, so none may be the name of FILE, of a SCRIPT or of another.'
+        'Options stand anywhere behind run, each at most once, as --side s or --side=s. s is 4, 8, 16 and so on up to 4096,' \
+        'b is 1 to 4096, c is 1 to 256. There are 1 to 64 scripts. No name is empty, and none begins with - but behind =.' \
+        'Each SCRIPT.out, J and P are written, so none may be the name of FILE, of a SCRIPT or of another.'
 }
 
-# The VOX file among the words of a command: that of count, or the first word of run that belongs to no option.
-named_file() {
-    local command=$1
-    shift
-    while [ "$command" = run ] && [ "${1:0:2}" = -- ]; do shift 2; done
-    printf '%s' "$1"
-}
-
-# named_script NUMBER WORD ..: the script of this number, counted from 0, among the words of run.
-named_script() {
+# operand NUMBER WORD ..: the operand of this number, counted from 0, among the words behind a command. They are in the
+# grammar, so that each option has its value.
+operand() {
     local number=$1
-    shift 2
-    while [ "${1:0:2}" = -- ]; do shift 2; done
-    shift $((number + 1))
-    printf '%s' "$1"
+    shift
+    while [ $# -gt 0 ]; do
+        case $1 in
+            --*=*) shift ;;
+            --*) shift; shift ;;
+            *)
+                [ "$number" = 0 ] && { printf '%s' "$1"; return; }
+                number=$((number - 1))
+                shift
+                ;;
+        esac
+    done
 }
 
 # plain_vox FILE KIND AT

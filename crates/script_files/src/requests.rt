@@ -39,11 +39,11 @@ pub struct Order<'w> {
     pub journal: Option<&'w str>,
     pub report: Option<&'w str>,
     pub file: &'w str,
-    pub scripts: &'w [String],
+    pub scripts: &'w [&'w str],
 }
 
 impl<'w> Model for Order<'w> {
-    ghost use Rattle.std.specs.Prelude.{map, string_bytes};
+    ghost use Rattle.std.specs.Prelude.{map};
     ghost use Rattle.std.specs.Option.{option_map};
     ghost use Rattle.script_files.specs.Orders.{Asked};
 
@@ -54,6 +54,6 @@ impl<'w> Model for Order<'w> {
       journal = option_map (λ name. name.now) order.journal;
       report = option_map (λ name. name.now) order.report;
       file = order.file.now;
-      scripts = map string_bytes order.scripts.now;
+      scripts = map (λ name. name.now) order.scripts.now;
     } };
 }

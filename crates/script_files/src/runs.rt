@@ -55,9 +55,9 @@ pub fn run_files<'w, S: Shelf>(
 }
 
 /// The names of the transcripts: each is its script's with `.out` behind it.
-pub fn transcript_names(alloc: Global, scripts: &[String]) -> Result<Vec<String>, Memory>
+pub fn transcript_names(alloc: Global, scripts: &[&str]) -> Result<Vec<String>, Memory>
     ensures { IfOk result (λ names. map string_bytes names.items
-        ≡ map transcript_name (map string_bytes scripts.now)) }
+        ≡ map transcript_name (map (λ name. name.now) scripts.now)) }
 {
     let mut names = Vec::with_capacity(alloc, scripts.len())?;
     for script in scripts {
@@ -78,7 +78,7 @@ fn inputs_of<'w>(alloc: Global, order: &Order<'w>) -> Result<Vec<Input<'w>>, Mem
     let scripts = order.scripts;
     for script in scripts {
         inputs.push(Input {
-            name: script.as_str(),
+            name: *script,
             limit: SCRIPT_LIMIT,
         })?;
     }

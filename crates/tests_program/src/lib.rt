@@ -13,3 +13,5 @@ mod guide_tests;
 mod run_tests;
 #[cfg(test)]
 mod version_tests;
+#[cfg(test)]
+mod word_tests;

@@ -22,10 +22,8 @@ const USAGE: &str = "voxdag: usage\n";
 
 const NONE: &str = "scripts 1 records 0 marks 0 nodes 0\n";
 
-// One cell in a world of side 8, and in one of side 256.
+// One cell in a world of side 8.
 const SINGLE: &str = "scripts 1 records 1 marks 0 nodes 2\n";
-
-const DEEP: &str = "scripts 1 records 1 marks 0 nodes 7\n";
 
 // Whether the file of this name is the one of one cell.
 fn has_one(shelf: &MemoryShelf, name: &str) -> bool {
@@ -115,89 +113,6 @@ fn refused_scripts_write_nothing(rt: HostRuntime) -> Result<(), Fail> {
         assert!(rt; has(&shelf, "s.out", None), "at {script}");
         assert!(rt; has(&shelf, "j", None), "at {script}");
         assert!(rt; has(&shelf, "p", None), "at {script}");
-    }
-    Ok(())
-}
-
-const WHOLE: &str = "fill 255 255 255 1 1 1\ncount 0 0 0 256 256 256\n";
-
-// Words of the grammar, a script, the line that is put, and the transcript.
-const WORDS: [(&str, &str, &str, &str); 13] = [
-    ("run --side 8 one.vox s", GOOD, TWO, ANSWERS),
-    ("run --side 008 one.vox s", GOOD, TWO, ANSWERS),
-    ("run --side 256 one.vox s", WHOLE, DEEP, STAMPED),
-    ("run one.vox s", WHOLE, DEEP, STAMPED),
-    ("run --journal j one.vox s", WHOLE, DEEP, STAMPED),
-    ("run --report p one.vox s", WHOLE, DEEP, STAMPED),
-    ("run --journal j --report p one.vox s", WHOLE, DEEP, STAMPED),
-    ("run --side 8 --report p one.vox s", GOOD, TWO, ANSWERS),
-    (
-        "run --side 8 --buckets 1 --cap 256 one.vox s",
-        GOOD,
-        TWO,
-        ANSWERS,
-    ),
-    ("run --side 8 --buckets 4096 one.vox s", GOOD, TWO, ANSWERS),
-    ("run --side 8 --cap 1 one.vox s", GOOD, TWO, ANSWERS),
-    ("run --side 4 one.vox s", "", NONE, ""),
-    (
-        "run --side 512 one.vox s",
-        GOOD,
-        "scripts 1 records 2 marks 0 nodes 16\n",
-        ANSWERS,
-    ),
-];
-
-#[test]
-fn runs_have_their_words(rt: HostRuntime) -> Result<(), Fail> {
-    for (line, script, printed, transcript) in WORDS {
-        let mut shelf = shelf_with(rt.alloc(), script.as_bytes())?;
-        let (ended, out) = ask(rt.alloc(), line, &mut shelf)?;
-        assert_eq!(rt; ended, 0, "at {line}");
-        assert_eq!(rt; out.bytes(), printed.as_bytes(), "at {line}");
-        assert!(rt; has(&shelf, "s.out", Some(transcript)), "at {line}");
-    }
-    Ok(())
-}
-
-// Words outside the grammar.
-const NO_WORDS: [&str; 26] = [
-    "run",
-    "run one.vox",
-    "run one.vox s s",
-    "run --buckets 0 one.vox s",
-    "run --buckets 4097 one.vox s",
-    "run --cap 0 one.vox s",
-    "run --cap 257 one.vox s",
-    "run --cap 1 --buckets 1 one.vox s",
-    "run --cap x one.vox s",
-    "run -- one.vox s",
-    "run --side 2 one.vox s",
-    "run --side 5 one.vox s",
-    "run --side 8192 one.vox s",
-    "run --side 0000008 one.vox s",
-    "run --side=8 one.vox s",
-    "run --side 8 --side 8 one.vox s",
-    "run --journal j --side 8 one.vox s",
-    "run --journal j --journal k one.vox s",
-    "run --report p --journal j one.vox s",
-    "run --report p --report q one.vox s",
-    "run --report one.vox s",
-    "run --report -p one.vox s",
-    "run --report  one.vox s",
-    "run --reports p one.vox s",
-    "run one.vox --report p s",
-    "demo 7",
-];
-
-#[test]
-fn other_words_are_usage(rt: HostRuntime) -> Result<(), Fail> {
-    for line in NO_WORDS {
-        let mut shelf = shelf_with(rt.alloc(), GOOD.as_bytes())?;
-        let (ended, out) = ask(rt.alloc(), line, &mut shelf)?;
-        assert_eq!(rt; ended, 1, "at {line}");
-        assert_eq!(rt; out.bytes(), USAGE.as_bytes(), "at {line}");
-        assert!(rt; has(&shelf, "s.out", None), "at {line}");
     }
     Ok(())
 }

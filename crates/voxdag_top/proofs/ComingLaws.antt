@@ -16,7 +16,7 @@ use Rattle.voxdag_top.specs.Endings.{CommandEnds, EndsAs, status_of, input_statu
 use Rattle.voxdag_top.specs.Finishing.{Runs}
 use Rattle.voxdag_top.specs.Statuses.{IsOr}
 use Rattle.voxdag_top.specs.Verdicts.{JudgesWords, status_for}
-use Rattle.voxdag_top.proofs.StatusLaws.{comes}
+use Rattle.voxdag_top.proofs.StatusLaws.{IsEither, comes, unread_status}
 
 -- want of memory may come in place of any status
 memory_or : (k result : ℕ) → IsOr 8 result → IsOr k result
@@ -67,8 +67,12 @@ comes_by a old new result run files v told calm judges =
     status_follows v run.ending result (end_follows a run.ending old.shelf new.shelf files v run.ends told calm judges) (comes run.ending run.finish)
 
 -- words outside the grammar
+unread_comes : (s result : ℕ) → IsEither s → IsOr s result → IsOr 1 result
+unread_comes s result (inl one) is = by_status 1 s result one is
+unread_comes s result (inr eight) is = memory_or 1 result (by_status 8 s result eight is)
+
 usage_at : (a : Option Request) (e : Ending) (old new : ShelfState) (result : ℕ) → EndsAs a e old new → IsOr (status_of e) result → a ≡ None → IsOr 1 result
-usage_at None e old new result ends is none = by_status 1 (status_of e) result (ap status_of ends.0) is
+usage_at None e old new result ends is none = unread_comes (status_of e) result (unread_status e ends.0) is
 usage_at (Some a) e old new result ends is none = absurd (let no : ⊥ = cc in no)
 
 pub usage_by : (a : Option Request) (old new : Outside) (result : ℕ) → Runs a old new result → a ≡ None → IsOr 1 result

@@ -3,4 +3,4 @@ pub mod StatusLaws
 pub mod ComingLaws
 pub mod VerdictLaws
 pub mod Rooms
-pub mod Asking
+pub mod Lacking

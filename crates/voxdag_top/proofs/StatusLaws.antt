@@ -1,5 +1,5 @@
 -- What each status says, from what stands behind the ending and the put of its line.
-use Rattle.std.proofs.Common.{◌≡◌, ℕ, false, inl, inr, List, [], ◌∷◌, Option, Some, None, refl, sym, ap, subst, ◌∙◌, ◌⊎◌, arith}
+use Rattle.std.proofs.Common.{◌≡◌, ℕ, false, inl, inr, List, [], ◌∷◌, Option, Some, None, refl, sym, subst, ◌∙◌, ◌⊎◌, arith}
 use Rattle.std.specs.Prelude.{IsTrue, ◌==◌}
 use Rattle.std.specs.List.{list_any}
 use Rattle.std.proofs.lemmas.Bool.{false≢true}
@@ -17,9 +17,12 @@ use Rattle.script_files.specs.Outcomes.{BreaksOff}
 use Rattle.voxdag_top.specs.declared.endings.Ending.{Ending}
 use Rattle.voxdag_top.specs.declared.endings.Ending.TheVariants.{Completed, Usage, Refused}
 use Rattle.voxdag_top.specs.Lines.{Puts, PutsBeginning, memory_line, input_line, output_line}
-use Rattle.voxdag_top.specs.Endings.{EndsAs, ending_line, status_of, input_status, output_status, MayLackLine, WriteMayLackLine}
+use Rattle.voxdag_top.specs.Endings.{EndsAs, EndsUnread, ending_line, status_of, input_status, output_status, MayLackLine, WriteMayLackLine}
 use Rattle.voxdag_top.specs.Finishing.{Finishes, Runs, put, failed, lacking}
 use Rattle.voxdag_top.specs.Statuses.{IsOr, is_status, Finished, Unusable, Missed, Faulted, VoxRefused, ScriptRefused, WriteFailed, OutFailed, LacksMemory, Exceeded}
+
+abbrev pub IsEither : ℕ → Type 0
+IsEither n = (n ≡ 1) ⊎ (n ≡ 8)
 
 -- a status of a line that was put is that of the ending
 ended : (e : Ending) {k result : ℕ} {old new : SinkState} → (k ≡ 7 → ⊥) → (k ≡ 8 → ⊥) → Finishes e old new result → result ≡ k → (status_of e ≡ k) × Puts old.told new.told (ending_line e)
@@ -39,9 +42,23 @@ comes e (inr (may, put is line)) = inr (inr is)
 comes e (inr (may, failed is rose begun)) = inr (inl is)
 comes e (inr (may, lacking is none)) = inr (inr is)
 
--- words outside the grammar end in status 1
-usage_status : (e : Ending) → e ≡ Usage → status_of e ≡ 1
-usage_status e is = ap status_of is
+-- words outside the grammar end in status 1, or in that of want of memory
+pub unread_status : (e : Ending) → EndsUnread e → IsEither (status_of e)
+unread_status Usage ends = inl refl
+unread_status (Refused (Text Memory)) ends = inr refl
+unread_status (Refused (Text (Vox fault))) ends = absurd ends
+unread_status (Refused (Text (Script at))) ends = absurd ends
+unread_status (Refused (Text Collides)) ends = absurd ends
+unread_status (Refused (Input r)) ends = absurd ends
+unread_status (Refused (Output r)) ends = absurd ends
+unread_status (Completed done) ends = absurd ends
+
+neither : (n k : ℕ) → IsEither n → n ≡ k → (k ≡ 1 → ⊥) → (k ≡ 8 → ⊥) → ⊥
+neither n k (inl one) is not_1 not_8 = not_1 (sym is ∙ one)
+neither n k (inr eight) is not_1 not_8 = not_8 (sym is ∙ eight)
+
+no_unread : (e : Ending) (k : ℕ) → EndsUnread e → status_of e ≡ k → (k ≡ 1 → ⊥) → (k ≡ 8 → ⊥) → ⊥
+no_unread e k ends is not_1 not_8 = neither (status_of e) k (unread_status e ends) is not_1 not_8
 
 -- ---- which refusals have a status
 
@@ -82,7 +99,7 @@ not_output writes.Memory k is other = false≢true (sym (subst (λ (n : ℕ). li
 
 -- status 0
 done_at : (a : Option Request) (e : Ending) (old new : Outside) → EndsAs a e old.shelf new.shelf → status_of e ≡ 0 → Puts old.out.told new.out.told (ending_line e) → Finished a old new
-done_at None e old new ends is puts = absurd (let usage = usage_status e ends.0 in omega (arith, is, usage))
+done_at None e old new ends is puts = absurd (no_unread e 0 ends.0 is (λ s. omega arith) (λ s. omega arith))
 done_at (Some a) (Completed done) old new ends is puts = record { done = done; completes = ends; line = puts }
 done_at (Some a) Usage old new ends is puts = absurd ends
 done_at (Some a) (Refused (Input r)) old new ends is puts = absurd (not_input r.why 0 is refl)
@@ -94,7 +111,14 @@ done_at (Some a) (Refused (Text Memory)) old new ends is puts = absurd (omega ar
 
 -- status 1
 usage_at : (a : Option Request) (e : Ending) (old new : Outside) → EndsAs a e old.shelf new.shelf → status_of e ≡ 1 → Puts old.out.told new.out.told (ending_line e) → Unusable a old new
-usage_at None e old new ends is puts = record { cause = tt; unchanged = ends.1; line = subst (λ (x : Ending). Puts old.out.told new.out.told (ending_line x)) ends.0 puts }
+usage_at None Usage old new ends is puts = record { cause = tt; unchanged = ends.1; line = puts }
+usage_at None (Refused (Text Memory)) old new ends is puts = absurd (omega arith)
+usage_at None (Refused (Text (Vox fault))) old new ends is puts = absurd ends.0
+usage_at None (Refused (Text (Script at))) old new ends is puts = absurd ends.0
+usage_at None (Refused (Text Collides)) old new ends is puts = absurd ends.0
+usage_at None (Refused (Input r)) old new ends is puts = absurd ends.0
+usage_at None (Refused (Output r)) old new ends is puts = absurd ends.0
+usage_at None (Completed done) old new ends is puts = absurd ends.0
 usage_at (Some a) (Completed done) old new ends is puts = absurd (omega arith)
 usage_at (Some a) Usage old new ends is puts = absurd ends
 usage_at (Some a) (Refused (Input r)) old new ends is puts = absurd (not_input r.why 1 is refl)
@@ -106,7 +130,7 @@ usage_at (Some a) (Refused (Text Memory)) old new ends is puts = absurd (omega a
 
 -- status 2
 missing_at : (a : Option Request) (e : Ending) (old new : Outside) → EndsAs a e old.shelf new.shelf → status_of e ≡ 2 → Puts old.out.told new.out.told (ending_line e) → Missed a old new
-missing_at None e old new ends is puts = absurd (let usage = usage_status e ends.0 in omega (arith, is, usage))
+missing_at None e old new ends is puts = absurd (no_unread e 2 ends.0 is (λ s. omega arith) (λ s. omega arith))
 missing_at (Some a) (Completed done) old new ends is puts = absurd (omega arith)
 missing_at (Some a) Usage old new ends is puts = absurd ends
 missing_at (Some a) (Refused (Input r)) old new ends is puts =
@@ -125,7 +149,7 @@ missing_at (Some a) (Refused (Text Memory)) old new ends is puts = absurd (omega
 
 -- status 3
 read_fault_at : (a : Option Request) (e : Ending) (old new : Outside) → EndsAs a e old.shelf new.shelf → status_of e ≡ 3 → Puts old.out.told new.out.told (ending_line e) → Faulted a old new
-read_fault_at None e old new ends is puts = absurd (let usage = usage_status e ends.0 in omega (arith, is, usage))
+read_fault_at None e old new ends is puts = absurd (no_unread e 3 ends.0 is (λ s. omega arith) (λ s. omega arith))
 read_fault_at (Some a) (Completed done) old new ends is puts = absurd (omega arith)
 read_fault_at (Some a) Usage old new ends is puts = absurd ends
 read_fault_at (Some a) (Refused (Input r)) old new ends is puts =
@@ -144,7 +168,7 @@ read_fault_at (Some a) (Refused (Text Memory)) old new ends is puts = absurd (om
 
 -- status 9
 too_long_at : (a : Option Request) (e : Ending) (old new : Outside) → EndsAs a e old.shelf new.shelf → status_of e ≡ 9 → Puts old.out.told new.out.told (ending_line e) → Exceeded a old new
-too_long_at None e old new ends is puts = absurd (let usage = usage_status e ends.0 in omega (arith, is, usage))
+too_long_at None e old new ends is puts = absurd (no_unread e 9 ends.0 is (λ s. omega arith) (λ s. omega arith))
 too_long_at (Some a) (Completed done) old new ends is puts = absurd (omega arith)
 too_long_at (Some a) Usage old new ends is puts = absurd ends
 too_long_at (Some a) (Refused (Input r)) old new ends is puts =
@@ -163,7 +187,7 @@ too_long_at (Some a) (Refused (Text Memory)) old new ends is puts = absurd (omeg
 
 -- status 4
 vox_refused_at : (a : Option Request) (e : Ending) (old new : Outside) → EndsAs a e old.shelf new.shelf → status_of e ≡ 4 → Puts old.out.told new.out.told (ending_line e) → VoxRefused a old new
-vox_refused_at None e old new ends is puts = absurd (let usage = usage_status e ends.0 in omega (arith, is, usage))
+vox_refused_at None e old new ends is puts = absurd (no_unread e 4 ends.0 is (λ s. omega arith) (λ s. omega arith))
 vox_refused_at (Some a) (Completed done) old new ends is puts = absurd (omega arith)
 vox_refused_at (Some a) Usage old new ends is puts = absurd ends
 vox_refused_at (Some a) (Refused (Input r)) old new ends is puts = absurd (not_input r.why 4 is refl)
@@ -175,7 +199,7 @@ vox_refused_at (Some a) (Refused (Text Memory)) old new ends is puts = absurd (o
 
 -- status 5
 script_refused_at : (a : Option Request) (e : Ending) (old new : Outside) → EndsAs a e old.shelf new.shelf → status_of e ≡ 5 → Puts old.out.told new.out.told (ending_line e) → ScriptRefused a old new
-script_refused_at None e old new ends is puts = absurd (let usage = usage_status e ends.0 in omega (arith, is, usage))
+script_refused_at None e old new ends is puts = absurd (no_unread e 5 ends.0 is (λ s. omega arith) (λ s. omega arith))
 script_refused_at (Some a) (Completed done) old new ends is puts = absurd (omega arith)
 script_refused_at (Some a) Usage old new ends is puts = absurd ends
 script_refused_at (Some a) (Refused (Input r)) old new ends is puts = absurd (not_input r.why 5 is refl)
@@ -187,7 +211,7 @@ script_refused_at (Some a) (Refused (Text Memory)) old new ends is puts = absurd
 
 -- status 6
 write_fault_at : (a : Option Request) (e : Ending) (old new : Outside) → EndsAs a e old.shelf new.shelf → status_of e ≡ 6 → Puts old.out.told new.out.told (ending_line e) → WriteFailed a old new
-write_fault_at None e old new ends is puts = absurd (let usage = usage_status e ends.0 in omega (arith, is, usage))
+write_fault_at None e old new ends is puts = absurd (no_unread e 6 ends.0 is (λ s. omega arith) (λ s. omega arith))
 write_fault_at (Some a) (Completed done) old new ends is puts = absurd (omega arith)
 write_fault_at (Some a) Usage old new ends is puts = absurd ends
 write_fault_at (Some a) (Refused (Input r)) old new ends is puts = absurd (not_input r.why 6 is refl)

@@ -23,9 +23,15 @@ CommandEnds (Completed done) a old new = Outcome (Ok done) a old new
 CommandEnds Usage a old new = ⊥
 CommandEnds (Refused r) a old new = Outcome (Err r) a old new
 
+-- words outside the grammar are told, unless memory was wanted before all of them were read
+abbrev pub EndsUnread : Ending → Type 0
+EndsUnread Usage = ⊤
+EndsUnread (Refused (Text Memory)) = ⊤
+EndsUnread _ = ⊥
+
 -- and of what was asked for, which is nothing where the words are outside the grammar
 abbrev pub EndsAs : Option Request → Ending → ShelfState → ShelfState → Type 0
-EndsAs None e old new = (e ≡ Usage) × (new ≡ old)
+EndsAs None e old new = EndsUnread e × (new ≡ old)
 EndsAs (Some a) e old new = CommandEnds e a old new
 
 abbrev pub input_status : ReadRefused → ℕ

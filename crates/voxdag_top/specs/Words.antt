@@ -1,22 +1,12 @@
 -- The words after the program's name, and what they ask for.
-use Rattle.std.specs.Prelude.{ℕ, ◌^◌, ◌==◌, ◌&&◌, Bool, false, not, nat_le, if◌then◌else◌, List, [], ◌∷◌, map, find, length, replicate, Option, Some, None, Result, Ok, Err, codes, String, string_bytes}
-use Rattle.std.specs.List.{list_all}
-use Rattle.std.specs.Global.{Global}
+use Rattle.std.specs.Prelude.{ℕ, ◌^◌, ◌==◌, ◌&&◌, nat_le, if◌then◌else◌, List, [], ◌∷◌, find, length, replicate, Option, Some, None, Result, Ok, Err, codes}
 use Rattle.std.specs.Str.{bytes_eq}
 use Rattle.script.specs.declared.faults.ScriptKind.{ScriptKind}
 use Rattle.script.specs.Numbers.{number_of}
 use Rattle.node_words.specs.Plans.{Layout, is_number_of_buckets, is_cap, usual_buckets}
+use Rattle.command_line.specs.Parts.{LineTexts, is_operand, parts_of, line_texts, are_of_a_run}
 use Rattle.script_files.specs.declared.requests.Request.{Request}
 use Rattle.script_files.specs.declared.requests.Request.TheVariants.{Count, Run}
-
--- the bytes of each word
-abbrev pub texts : List (String Global) → List (List ℕ)
-texts words = map string_bytes words
-
--- a name: not empty, and it doesn't begin with `-`
-abbrev pub is_operand : List ℕ → Bool
-is_operand [] = false
-is_operand (first ∷ others) = not (first == 45)
 
 -- `count FILE`
 abbrev pub counted : List (List ℕ) → Option Request
@@ -44,98 +34,61 @@ plan_for side (Some buckets) cap =
     if is_number_of_buckets buckets && is_cap cap
     then Some (record { side = side; buckets = replicate 11 buckets; cap = cap }) else None
 
--- ---- the words of `run`, from the last ones on
+-- ---- the words of `run`
 
--- 1 to 64 names
-abbrev pub is_number_of_scripts : ℕ → Bool
-is_number_of_scripts n = nat_le 1 n && nat_le n 64
-
-abbrev pub are_scripts : List (List ℕ) → Bool
-are_scripts words = is_number_of_scripts (length words) && list_all is_operand words
-
--- `FILE SCRIPT ..`, the last words
-abbrev pub run_names : Layout → Option (List ℕ) → Option (List ℕ) → List (List ℕ)
-    → Option Request
-run_names plan journal report [] = None
-run_names plan journal report (file ∷ scripts) =
-    if is_operand file && are_scripts scripts
-    then Some (Run (record {
-      plan = plan;
-      journal = journal;
-      report = report;
-      file = file;
-      scripts = scripts;
-    }))
-    else None
-
--- the value of an option that stands first, and the words behind it
-abbrev pub option_value : List ℕ → List (List ℕ) → Option (List ℕ × List (List ℕ))
-option_value option (word ∷ value ∷ others) =
-    if bytes_eq word option && is_operand value then Some (value, others) else None
-option_value option _ = None
-
--- `--report P` may be left out
-abbrev pub named_report : Layout → Option (List ℕ) → List (List ℕ)
-    → Option (List ℕ × List (List ℕ)) → Option Request
-named_report plan journal words None = run_names plan journal None words
-named_report plan journal words (Some found) = run_names plan journal (Some found.0) found.1
-
-abbrev pub behind_journal : Layout → Option (List ℕ) → List (List ℕ) → Option Request
-behind_journal plan journal words =
-    named_report plan journal words (option_value (codes "--report") words)
-
--- `--journal J` may be left out
-abbrev pub named_journal : Layout → List (List ℕ) → Option (List ℕ × List (List ℕ))
-    → Option Request
-named_journal plan words None = behind_journal plan None words
-named_journal plan words (Some found) = behind_journal plan (Some found.0) found.1
-
-abbrev pub behind_plan : Option Layout → List (List ℕ) → Option Request
-behind_plan None words = None
-behind_plan (Some plan) words = named_journal plan words (option_value (codes "--journal") words)
-
--- `--cap c` may be left out, and is then 128
-abbrev pub with_cap : ℕ → Option ℕ → Option ℕ → List (List ℕ) → Option Request
-with_cap side buckets None words = None
-with_cap side buckets (Some cap) words = behind_plan (plan_for side buckets cap) words
-
-abbrev pub named_cap : ℕ → Option ℕ → List (List ℕ) → Option (List ℕ × List (List ℕ))
-    → Option Request
-named_cap side buckets words None = behind_plan (plan_for side buckets 128) words
-named_cap side buckets words (Some found) = with_cap side buckets (short_number found.0) found.1
-
-abbrev pub behind_buckets : ℕ → Option ℕ → List (List ℕ) → Option Request
-behind_buckets side buckets words =
-    named_cap side buckets words (option_value (codes "--cap") words)
-
--- `--buckets b` may be left out, and the usual ones stand then
-abbrev pub with_buckets : ℕ → Option ℕ → List (List ℕ) → Option Request
-with_buckets side None words = None
-with_buckets side (Some buckets) words = behind_buckets side (Some buckets) words
-
-abbrev pub named_buckets : ℕ → List (List ℕ) → Option (List ℕ × List (List ℕ)) → Option Request
-named_buckets side words None = behind_buckets side None words
-named_buckets side words (Some found) = with_buckets side (short_number found.0) found.1
-
-abbrev pub behind_side : Option ℕ → List (List ℕ) → Option Request
-behind_side None words = None
-behind_side (Some side) words = named_buckets side words (option_value (codes "--buckets") words)
-
--- `--side s` may be left out, and is then 256, of exponent 8
+-- the exponent of the side that a run's words tell: 8, that of a side of 256, where they give none
 abbrev pub side_of : Option ℕ → Option ℕ
 side_of None = None
 side_of (Some n) = exponent_of n
 
-abbrev pub named_side : List (List ℕ) → Option (List ℕ × List (List ℕ)) → Option Request
-named_side words None = behind_side (Some 8) words
-named_side words (Some found) = behind_side (side_of (short_number found.0)) found.1
+abbrev pub side_told : Option (List ℕ) → Option ℕ
+side_told None = Some 8
+side_told (Some word) = side_of (short_number word)
+
+-- the cap is 128 where the words give none
+abbrev pub cap_told : Option (List ℕ) → Option ℕ
+cap_told None = Some 128
+cap_told (Some word) = short_number word
+
+-- the usual buckets stand where the words give no number of them
+abbrev pub plan_with : ℕ → Option ℕ → ℕ → Option Layout
+plan_with side None cap = None
+plan_with side (Some buckets) cap = plan_for side (Some buckets) cap
+
+abbrev pub plan_by : ℕ → Option (List ℕ) → ℕ → Option Layout
+plan_by side None cap = plan_for side None cap
+plan_by side (Some word) cap = plan_with side (short_number word) cap
+
+abbrev pub plan_told : Option ℕ → Option (List ℕ) → Option ℕ → Option Layout
+plan_told (Some side) buckets (Some cap) = plan_by side buckets cap
+plan_told side buckets cap = None
+
+abbrev pub plan_in : LineTexts → Option Layout
+plan_in line = plan_told (side_told line.side) line.buckets (cap_told line.cap)
+
+-- the first operand is the VOX file, and the others are the scripts
+abbrev pub run_named : Layout → LineTexts → List (List ℕ) → Option Request
+run_named plan line [] = None
+run_named plan line (file ∷ scripts) = Some (Run (record {
+  plan = plan;
+  journal = line.journal;
+  report = line.report;
+  file = file;
+  scripts = scripts;
+}))
+
+abbrev pub run_planned : Option Layout → LineTexts → Option Request
+run_planned None line = None
+run_planned (Some plan) line = run_named plan line line.operands
 
 abbrev pub run_words : List (List ℕ) → Option Request
-run_words words = named_side words (option_value (codes "--side") words)
+run_words words =
+    let parts = parts_of words in
+    if are_of_a_run parts then run_planned (plan_in (line_texts parts)) (line_texts parts) else None
 
--- what the words ask for, where they are in the grammar: `count FILE`, or `run`, then at most one
--- pair each of `--side s`, `--buckets b`, `--cap c`, `--journal J` and `--report P` in this order,
--- then `FILE SCRIPT ..`
+-- what the words ask for, where they are in the grammar: `count FILE`; or `run`, and behind it in
+-- any order FILE SCRIPT .. and at most once each `--side s`, `--buckets b`, `--cap c`,
+-- `--journal J` and `--report P`
 abbrev pub request_of : List (List ℕ) → Option Request
 request_of [] = None
 request_of (command ∷ others) =

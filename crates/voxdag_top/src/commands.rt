@@ -1,9 +1,10 @@
-ghost use Rattle.std.specs.Prelude.{◌≡◌, ◌≤◌, [], All, Some, None, IsTrue, IfSome, length, map, string_bytes, string_capacity};
+ghost use Rattle.std.specs.Prelude.{◌≡◌, ◌≤◌, ◌∷◌, [], All, Some, None, IsTrue, IfSome, length, map, string_bytes, string_capacity};
 ghost use Rattle.vw_io.specs.Outside.{Files, Rose, outside};
 ghost use Rattle.script_files.specs.declared.requests.Request.TheVariants.{Count, Run};
 ghost use Rattle.script_files.specs.Requests.{transcript_name};
 ghost use Rattle.script_files.specs.Verdicts.{Verdict};
-ghost use Rattle.voxdag_top.specs.Words.{texts, request_of};
+ghost use Rattle.command_line.specs.Texts.{texts};
+ghost use Rattle.voxdag_top.specs.Words.{request_of, counted, run_words, run_planned, plan_in};
 ghost use Rattle.voxdag_top.specs.Endings.{CommandEnds};
 ghost use Rattle.voxdag_top.specs.Finishing.{Runs, NamesFit, HasLineRoom};
 ghost use Rattle.voxdag_top.specs.Verdicts.{JudgesWords, status_for};
@@ -12,22 +13,23 @@ ghost use Rattle.voxdag_top.specs.Lines.{write_fault_line};
 
 use crate::endings::Ending;
 use crate::lines::{finish, write_fault_room};
-use crate::words::read_words;
+use crate::words::plan_in;
+use command_line::{Line, are_of_a_run, is_operand, split};
 use script_files::{
-    CommandRefused, FileName, Order, Request, TextRefused, count_file, run_files, transcript_names,
+    CommandRefused, FileName, Order, TextRefused, count_file, run_files, transcript_names,
 };
 use std::alloc::Global;
 use vw_io::{Shelf, Sink};
 
 /// The program: does what the words after the program's name ask for, and puts one line on `out`.
 ///
-/// `count FILE` puts the number of cells of the file's models. `run`, then each of `--side s`,
-/// `--buckets b`, `--cap c`, `--journal J` and `--report P` or nothing, in this order, then
-/// `FILE SCRIPT ..` runs 1 to 64 scripts one after another over a world of that side, 4 to 4,096
-/// and 256 where it is not given, with the models of the file; it writes each transcript as
-/// `SCRIPT.out`, the journal as `J` and the report as `P`, and puts the numbers of scripts, records,
-/// marks and live nodes. The store has `b` buckets of `c` slots on each level, 1 to 4,096 and 1 to
-/// 256. A VOX file has at most 256 MiB, a script 8 MiB.
+/// `count FILE` puts the number of cells of the file's models. `run FILE SCRIPT ..` runs 1 to 64
+/// scripts one after another over a world with the models of the file; it writes each transcript as
+/// `SCRIPT.out`, and puts the numbers of scripts, records, marks and live nodes. Among these words,
+/// in any order and each at most once, may stand options, as `--side s` or `--side=s`: the world has
+/// the side `s`, 4 to 4,096 and 256 without this option; its store has `--buckets b` of
+/// `--cap c` slots on each level, 1 to 4,096 and 1 to 256; `--journal J` and `--report P` are
+/// written too. A VOX file has at most 256 MiB, a script 8 MiB.
 ///
 /// The answer is the status with which the process ends: 0 done, 1 words outside the grammar or
 /// names that collide, 2 an input that is not there, 3 a fault of the shelf at an input, 4 a VOX
@@ -80,16 +82,95 @@ pub fn voxdag<S: Shelf, O: Sink>(alloc: Global, words: &[String], shelf: &mut S,
 }
 
 // Does what the words ask for, and puts its line.
-#[tactic(auto, using(crate::proofs::Asking::few_scripts))]
 fn answer<S: Shelf, O: Sink>(alloc: Global, words: &[String], shelf: &mut S, out: &mut O) -> u8
     ensures { Runs (request_of (texts words.now))
         (outside (S.state shelf.old) (O.state out.old))
         (outside (S.state shelf.new) (O.state out.new)) result }
 {
-    match read_words(words) {
-        None => finish(alloc, &Ending::Usage, String::new(alloc), out),
-        Some(Request::Count(file)) => count(alloc, file, shelf, out),
-        Some(Request::Run(order)) => run(alloc, &order, shelf, out),
+    match words {
+        [] => finish(alloc, &Ending::Usage, String::new(alloc), out),
+        [command, others @ ..] => named(alloc, command.as_str(), others, shelf, out),
+    }
+}
+
+fn named<S: Shelf, O: Sink>(
+    alloc: Global,
+    command: &str,
+    words: &[String],
+    shelf: &mut S,
+    out: &mut O,
+) -> u8
+    ensures { Runs (request_of (command.now ∷ texts words.now))
+        (outside (S.state shelf.old) (O.state out.old))
+        (outside (S.state shelf.new) (O.state out.new)) result }
+{
+    if command == "count" {
+        return counted_words(alloc, words, shelf, out);
+    }
+    if command == "run" {
+        return run_words(alloc, words, shelf, out);
+    }
+    finish(alloc, &Ending::Usage, String::new(alloc), out)
+}
+
+fn counted_words<S: Shelf, O: Sink>(
+    alloc: Global,
+    words: &[String],
+    shelf: &mut S,
+    out: &mut O,
+) -> u8
+    ensures { Runs (counted (texts words.now))
+        (outside (S.state shelf.old) (O.state out.old))
+        (outside (S.state shelf.new) (O.state out.new)) result }
+{
+    match words {
+        [file] if is_operand(file.as_str()) => {
+            let file = FileName {
+                text: file.as_str(),
+            };
+            count(alloc, file, shelf, out)
+        }
+        _ => finish(alloc, &Ending::Usage, String::new(alloc), out),
+    }
+}
+
+// The words behind `run`: they are read as options and operands first, and their numbers then.
+fn run_words<S: Shelf, O: Sink>(alloc: Global, words: &[String], shelf: &mut S, out: &mut O) -> u8
+    ensures { Runs (run_words (texts words.now))
+        (outside (S.state shelf.old) (O.state out.old))
+        (outside (S.state shelf.new) (O.state out.new)) result }
+{
+    if !are_of_a_run(words) {
+        return finish(alloc, &Ending::Usage, String::new(alloc), out);
+    }
+    let lacking = Ending::Refused(CommandRefused::Text(TextRefused::Memory));
+    match split(alloc, words) {
+        Ok(line) => run_line(alloc, &line, shelf, out),
+        Err(_) => finish(alloc, &lacking, String::new(alloc), out),
+    }
+}
+
+fn run_line<S: Shelf, O: Sink>(alloc: Global, line: &Line<'_>, shelf: &mut S, out: &mut O) -> u8
+    requires few { length line.now.operands ≤ 65 }
+    ensures { Runs (run_planned (plan_in line.now) line.now)
+        (outside (S.state shelf.old) (O.state out.old))
+        (outside (S.state shelf.new) (O.state out.new)) result }
+{
+    let Some(plan) = plan_in(line) else {
+        return finish(alloc, &Ending::Usage, String::new(alloc), out);
+    };
+    match line.operands.as_slice() {
+        [] => finish(alloc, &Ending::Usage, String::new(alloc), out),
+        [file, scripts @ ..] => {
+            let order = Order {
+                plan,
+                journal: line.journal,
+                report: line.report,
+                file: *file,
+                scripts,
+            };
+            run(alloc, &order, shelf, out)
+        }
     }
 }
 

@@ -1,9 +1,8 @@
 -- The file, and the scripts before this one.
 use Rattle.std.proofs.Common.{◌≡◌, ◌∷◌, take, map}
-use Rattle.std.specs.Prelude.{string_bytes}
 use Rattle.script_files.specs.Requests.{vox_limit, script_input}
 use Rattle.script_files.proofs.runs.inputs_of.Given as goal
 
 abbrev pub invariant-loop-script : goal.invariant-loop-script
 invariant-loop-script l =
-    l.inputs.items ≡ record { name = l.order.file; limit = vox_limit } ∷ map script_input (map string_bytes (take l.script-index l.scripts))
+    l.inputs.items ≡ record { name = l.order.file; limit = vox_limit } ∷ map script_input (map (λ name. name.now) (take l.script-index l.scripts))

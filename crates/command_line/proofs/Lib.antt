@@ -1,0 +1,6 @@
+pub mod Heads
+pub mod Rows
+pub mod Walking
+pub mod Splitting
+pub mod Values
+pub mod Matching

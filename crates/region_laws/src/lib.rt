@@ -1,0 +1,21 @@
+//! Laws of the run of a load: what its regions count.
+#![tactic(auto)]
+
+ghost use Rattle.region_laws.specs.Statements.{RegionsAreCounted, LoadsAreCounted};
+
+use conformance::sessions_agree_beside_others;
+
+/// A law: where every change of a load was accepted, each script's last line tells how many cells of
+/// its region the script's changes alone make of the empty world.
+pub fn regions_are_counted()
+    ensures { RegionsAreCounted }
+{
+    sessions_agree_beside_others();
+}
+
+/// A law: so it is of the load of every number.
+pub fn loads_are_counted()
+    ensures { LoadsAreCounted }
+{
+    sessions_agree_beside_others();
+}

@@ -1,0 +1,213 @@
+//! The words that the program takes, and those that it refuses.
+
+use crate::asking::{ANSWERS, GOOD, TWO, ask, has, shelf_with};
+use std::alloc::Global;
+use std::test::Fail;
+
+const USAGE: &str = "voxdag: usage\n";
+
+// A script of one change in the last cell of side 256 and a question, its transcript, and the line.
+const WHOLE: &str = "fill 255 255 255 1 1 1\ncount 0 0 0 256 256 256\n";
+
+const COUNTED: &str = "1 @1 ok\n2 @1 count 1\n";
+
+const DEEP: &str = "scripts 1 records 1 marks 0 nodes 7\n";
+
+// Words that are taken at side 8, with the script of two changes.
+const AT_8: &[&str] = &[
+    "run --side 8 one.vox s",
+    "run --side 008 one.vox s",
+    "run one.vox --side 8 s",
+    "run one.vox s --side 8",
+    "run --side=8 one.vox s",
+    "run one.vox --side=8 s",
+    "run one.vox s --side=8",
+    "run --side 8 --report p one.vox s",
+    "run --report p --side 8 one.vox s",
+    "run --journal j --side 8 one.vox s",
+    "run one.vox --report p s --journal=j --side=000008",
+    "run --side 8 --buckets 1 --cap 256 one.vox s",
+    "run --cap=256 one.vox --buckets 1 s --side 8",
+    "run --side 8 --buckets 4096 one.vox s",
+    "run --side 8 --cap 1 one.vox s",
+    "run --side 8 --journal=-j one.vox s",
+    "run --side 8 --journal=--side=4 one.vox s",
+    "run --side 8 --journal == one.vox s",
+    "run --side 8 --journal=a=b one.vox s",
+    "run --side 8 --journal side one.vox s",
+];
+
+// Words that are taken at side 256, with the script of the last cell.
+const AT_256: &[&str] = &[
+    "run --side 256 one.vox s",
+    "run one.vox s",
+    "run --journal j one.vox s",
+    "run --report p one.vox s",
+    "run --journal j --report p one.vox s",
+    "run --report p one.vox s --journal j",
+    "run one.vox --cap 128 s",
+];
+
+fn is_taken(alloc: Global, line: &str, script: &str, told: (&str, &str)) -> Result<bool, Fail> {
+    let mut shelf = shelf_with(alloc, script.as_bytes())?;
+    let (ended, out) = ask(alloc, line, &mut shelf)?;
+    let (printed, transcript) = told;
+    Ok(ended == 0 && out.bytes() == printed.as_bytes() && has(&shelf, "s.out", Some(transcript)))
+}
+
+#[test]
+fn options_stand_anywhere(rt: HostRuntime) -> Result<(), Fail> {
+    for &line in AT_8 {
+        let taken = is_taken(rt.alloc(), line, GOOD, (TWO, ANSWERS))?;
+        assert!(rt; taken, "at {line}");
+    }
+    for &line in AT_256 {
+        let taken = is_taken(rt.alloc(), line, WHOLE, (DEEP, COUNTED))?;
+        assert!(rt; taken, "at {line}");
+    }
+    let none = ("scripts 1 records 0 marks 0 nodes 0\n", "");
+    let least = is_taken(rt.alloc(), "run --side 4 one.vox s", "", none)?;
+    assert!(rt; least);
+    let sixteen = ("scripts 1 records 2 marks 0 nodes 16\n", ANSWERS);
+    let great = is_taken(rt.alloc(), "run --side 512 one.vox s", GOOD, sixteen)?;
+    assert!(rt; great);
+    Ok(())
+}
+
+#[test]
+fn values_are_the_texts_that_stand_there(rt: HostRuntime) -> Result<(), Fail> {
+    for &(line, name) in &[
+        ("run --journal=-j one.vox s", "-j"),
+        ("run one.vox --journal=--side=4 s", "--side=4"),
+        ("run --journal == one.vox s", "=="),
+        ("run --journal=== one.vox s", "=="),
+        ("run --journal=a=b one.vox s", "a=b"),
+        ("run --journal side one.vox s", "side"),
+        ("run one.vox --journal run s", "run"),
+    ] {
+        let mut shelf = shelf_with(rt.alloc(), GOOD.as_bytes())?;
+        let (ended, _) = ask(rt.alloc(), line, &mut shelf)?;
+        assert_eq!(rt; ended, 0, "at {line}");
+        assert!(rt; shelf.file(name).is_some(), "at {line}");
+    }
+    Ok(())
+}
+
+// Words outside the grammar.
+const NO_WORDS: &[&str] = &[
+    "run",
+    "run one.vox",
+    "run one.vox s s",
+    "run --side 8",
+    "run --side 8 one.vox",
+    "run --side one.vox s",
+    // numbers out of their ranges, or none
+    "run --buckets 0 one.vox s",
+    "run --buckets 4097 one.vox s",
+    "run --cap 0 one.vox s",
+    "run --cap 257 one.vox s",
+    "run --cap x one.vox s",
+    "run --cap=+1 one.vox s",
+    "run --side 2 one.vox s",
+    "run --side 5 one.vox s",
+    "run --side 8192 one.vox s",
+    "run --side 0000008 one.vox s",
+    "run --side=8.0 one.vox s",
+    "run --side=-8 one.vox s",
+    // an option twice
+    "run --side 8 --side 8 one.vox s",
+    "run --side=8 --side 8 one.vox s",
+    "run --side 8 one.vox s --side=8",
+    "run --journal j --journal k one.vox s",
+    "run --report p one.vox --report q s",
+    // a value that is missing, empty or an option
+    "run one.vox s --side",
+    "run --side= one.vox s",
+    "run --journal= one.vox s",
+    "run --report  one.vox s",
+    "run --report -p one.vox s",
+    "run --journal --side 8 one.vox s",
+    "run --journal --side=8 one.vox s",
+    // options that there are not, and misspelt ones
+    "run -- one.vox s",
+    "run one.vox -- s",
+    "run one.vox s --",
+    "run - s",
+    "run one.vox s -",
+    "run --sid 8 one.vox s",
+    "run --sides 8 one.vox s",
+    "run --reports=p one.vox s",
+    "run --Side 8 one.vox s",
+    "run -side 8 one.vox s",
+    "run -s 8 one.vox s",
+    "run ---side 8 one.vox s",
+    "run --side8 one.vox s",
+    "run --side:8 one.vox s",
+    "run --=8 one.vox s",
+    "run --help",
+    "run -h one.vox s",
+    "run --version one.vox s",
+    "run --keep 2 one.vox s",
+    // an empty word
+    "run  one.vox s",
+    "run one.vox s ",
+    " run one.vox s",
+    // other commands, and their words
+    "",
+    "runs one.vox s",
+    "Run one.vox s",
+    "help",
+    "--help",
+    "--side 8 run one.vox s",
+    "count",
+    "count one.vox s",
+    "count -- one.vox",
+    "count --side 8 one.vox",
+    "count one.vox --side=8",
+    "demo 7",
+];
+
+#[test]
+fn other_words_are_usage(rt: HostRuntime) -> Result<(), Fail> {
+    for &line in NO_WORDS {
+        let mut shelf = shelf_with(rt.alloc(), GOOD.as_bytes())?;
+        let (ended, out) = ask(rt.alloc(), line, &mut shelf)?;
+        assert_eq!(rt; ended, 1, "at {line}");
+        assert_eq!(rt; out.bytes(), USAGE.as_bytes(), "at {line}");
+        assert!(rt; has(&shelf, "s.out", None), "at {line}");
+    }
+    Ok(())
+}
+
+// Words that are not meant so, and are names all the same.
+#[test]
+fn words_without_hyphens_are_names(rt: HostRuntime) -> Result<(), Fail> {
+    for &(line, printed) in &[
+        ("run side=8 one.vox s", "voxdag: missing side=8\n"),
+        ("run one.vox s side 8", "voxdag: missing side\n"),
+        ("run one.vox s =", "voxdag: missing =\n"),
+        ("run run run", "voxdag: missing run\n"),
+        ("count count", "voxdag: missing count\n"),
+    ] {
+        let mut shelf = shelf_with(rt.alloc(), GOOD.as_bytes())?;
+        let (ended, out) = ask(rt.alloc(), line, &mut shelf)?;
+        assert_eq!(rt; ended, 2, "at {line}");
+        assert_eq!(rt; out.bytes(), printed.as_bytes(), "at {line}");
+    }
+    Ok(())
+}
+
+#[test]
+fn runs_have_64_scripts(rt: HostRuntime) -> Result<(), Fail> {
+    for (scripts, status) in [(64, 2), (65, 1)] {
+        let mut line = String::from_str(rt.alloc(), "run no.vox")?;
+        for _ in 0..scripts {
+            line.push_str(" t")?;
+        }
+        line.push_str(" --side 8")?;
+        let mut shelf = shelf_with(rt.alloc(), GOOD.as_bytes())?;
+        let (ended, _) = ask(rt.alloc(), line.as_str(), &mut shelf)?;
+        assert_eq!(rt; ended, status, "at {scripts}");
+    }
+    Ok(())
+}
