@@ -40,10 +40,12 @@ plain_usage() {
     printf '%s\n' \
         'voxdag takes these words:' \
         '    voxdag count FILE' \
+        '    voxdag demo N' \
         '    voxdag run [--side s] [--buckets b] [--cap c] [--journal J] [--report P] FILE SCRIPT ..' \
         'Options stand anywhere behind run, each at most once, as --side s or --side=s. s is 4, 8, 16 and so on up to 4096,' \
         'b is 1 to 4096, c is 1 to 256. There are 1 to 64 scripts. No name is empty, and none begins with - but behind =.' \
-        'Each SCRIPT.out, J and P are written, so none may be the name of FILE, of a SCRIPT or of another.'
+        'Each SCRIPT.out, J and P are written, so none may be the name of FILE, of a SCRIPT or of another.' \
+        'N has 1 to 6 digits; demo writes demo.0.out to demo.3.out and demo.journal.'
 }
 
 # operand NUMBER WORD ..: the operand of this number, counted from 0, among the words behind a command. They are in the

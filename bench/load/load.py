@@ -59,4 +59,5 @@ def main():
         sys.stdout.buffer.write(script(numbers, i))
 
 
-main()
+if __name__ == "__main__":
+    main()

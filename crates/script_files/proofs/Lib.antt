@@ -1,3 +1,4 @@
 pub mod Refusing
 pub mod Ending
 pub mod ScriptLists
+pub mod Loading

@@ -1,5 +1,6 @@
 -- What a fault says of its text, it says as a refusal of the command.
-use Rattle.std.proofs.Common.{◌≡◌, ℕ, ◌<◌, List, [], ◌∷◌, length, get_or, Result, Ok, refl, sym, ap, subst, arith}
+use Rattle.std.proofs.Common.{◌≡◌, ℕ, ◌<◌, List, [], ◌∷◌, length, get_or, Result, Ok, Err, refl, sym, ap, subst, arith}
+use Rattle.std.specs.Prelude.{⊤}
 use Rattle.vox_chunk.specs.declared.faults.VoxFault.{VoxFault}
 use Rattle.vox_chunk.specs.declared.faults.VoxFault.TheVariants as faults
 use Rattle.vox_read.specs.Contents.{Content}
@@ -13,24 +14,35 @@ use Rattle.script.specs.Scripts as scripts
 use Rattle.script_files.specs.declared.refusals.TextRefused.{TextRefused}
 use Rattle.script_files.specs.declared.refusals.TextRefused.TheVariants as texts
 use Rattle.script_files.specs.declared.requests.Request.{Request}
-use Rattle.script_files.specs.declared.requests.Request.TheVariants.{Run}
+use Rattle.script_files.specs.declared.requests.Request.TheVariants.{Count, Run, Demo}
 use Rattle.script_files.specs.Orders.{Asked}
-use Rattle.script_files.specs.Meanings.{file_in, scripts_in, RefusesTexts}
+use Rattle.script_files.specs.Meanings.{file_in, scripts_in, RefusesVox, RefusesTexts}
 use Rattle.script_files.specs.Refusals.{of_vox, of_kind, of_fault, RefusesScripts}
 use Rattle.script_files.specs.Scripts.{in_script, scripts_of}
 
-pub vox_refused : (fault : VoxFault) (a : Request) (texts : List (List ℕ)) → files.RefusesFile fault (file_in texts) → RefusesTexts (of_vox fault) a texts
-vox_refused faults.NotVox a texts refuses = refuses
-vox_refused (faults.Version version) a texts refuses = refuses
-vox_refused faults.NoMain a texts refuses = refuses
-vox_refused (faults.Truncated at) a texts refuses = refuses
-vox_refused (faults.ShortSize at) a texts refuses = refuses
-vox_refused (faults.SizeRange at) a texts refuses = refuses
-vox_refused (faults.XyziWithoutSize at) a texts refuses = refuses
-vox_refused (faults.ShortXyzi at) a texts refuses = refuses
-vox_refused (faults.VoxelOutside at) a texts refuses = refuses
-vox_refused (faults.TooManyModels at) a texts refuses = refuses
-vox_refused faults.Memory a texts refuses = tt
+-- the request reads a VOX file
+abbrev pub ReadsVox : Request → Type 0
+ReadsVox (Count file) = ⊤
+ReadsVox (Run asked) = ⊤
+ReadsVox (Demo n) = ⊥
+
+file_refused : (fault : VoxFault) (a : Request) (texts : List (List ℕ)) → ReadsVox a → ReadsModels (file_in texts) (Err fault) → RefusesVox a texts fault
+file_refused fault (Count file) texts reads says = says
+file_refused fault (Run asked) texts reads says = says
+file_refused fault (Demo n) texts reads says = absurd reads
+
+pub vox_refused : (fault : VoxFault) (a : Request) (texts : List (List ℕ)) → ReadsVox a → files.RefusesFile fault (file_in texts) → RefusesTexts (of_vox fault) a texts
+vox_refused faults.NotVox a texts reads refuses = file_refused faults.NotVox a texts reads refuses
+vox_refused (faults.Version version) a texts reads refuses = file_refused (faults.Version version) a texts reads refuses
+vox_refused faults.NoMain a texts reads refuses = file_refused faults.NoMain a texts reads refuses
+vox_refused (faults.Truncated at) a texts reads refuses = file_refused (faults.Truncated at) a texts reads refuses
+vox_refused (faults.ShortSize at) a texts reads refuses = file_refused (faults.ShortSize at) a texts reads refuses
+vox_refused (faults.SizeRange at) a texts reads refuses = file_refused (faults.SizeRange at) a texts reads refuses
+vox_refused (faults.XyziWithoutSize at) a texts reads refuses = file_refused (faults.XyziWithoutSize at) a texts reads refuses
+vox_refused (faults.ShortXyzi at) a texts reads refuses = file_refused (faults.ShortXyzi at) a texts reads refuses
+vox_refused (faults.VoxelOutside at) a texts reads refuses = file_refused (faults.VoxelOutside at) a texts reads refuses
+vox_refused (faults.TooManyModels at) a texts reads refuses = file_refused (faults.TooManyModels at) a texts reads refuses
+vox_refused faults.Memory a texts reads refuses = tt
 
 -- one script's fault
 refused_at : (kind : ScriptKind) (number : ℕ) (fault : ScriptFault) (read : Result (List ScriptLine) ScriptFault) → fault.kind ≡ kind → scripts.RefusesAs kind fault read
@@ -57,8 +69,8 @@ scripts_refused (texts.Vox fault) asked models texts gives refuses = absurd refu
 scripts_refused texts.Collides asked models texts gives refuses = absurd refuses
 
 -- a fault of the first text is the VOX file's
-pub first_refused : (fault : VoxFault) (a : Request) (texts : List (List ℕ)) (file : List ℕ) → file_in texts ≡ file → files.RefusesFile fault file → RefusesTexts (of_vox fault) a texts
-first_refused fault a texts file is refuses = vox_refused fault a texts (subst (files.RefusesFile fault) (sym is) refuses)
+pub first_refused : (fault : VoxFault) (asked : Asked) (texts : List (List ℕ)) (file : List ℕ) → file_in texts ≡ file → files.RefusesFile fault file → RefusesTexts (of_vox fault) (Run asked) texts
+first_refused fault asked texts file is refuses = vox_refused fault (Run asked) texts tt (subst (files.RefusesFile fault) (sym is) refuses)
 
 pub first_text : (texts : List (List ℕ)) (d : List ℕ) → 0 < length texts → file_in texts ≡ get_or texts 0 d
 first_text [] d some = absurd (omega (arith, some))

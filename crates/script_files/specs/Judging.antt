@@ -14,18 +14,18 @@ use Rattle.vox_read.specs.Contents.{Content}
 use Rattle.vox_read.specs.Files.{ReadsModels}
 use Rattle.vox_read.specs.Once.{one_reading}
 use Rattle.script_files.specs.declared.tallies.Done.{Done}
-use Rattle.script_files.specs.declared.tallies.Done.TheVariants.{Counted, Ran}
+use Rattle.script_files.specs.declared.tallies.Done.TheVariants.{Counted, Ran, Shown}
 use Rattle.script_files.specs.declared.refusals.CommandRefused.{CommandRefused}
 use Rattle.script_files.specs.declared.refusals.CommandRefused.TheVariants as refusals
 use Rattle.script_files.specs.declared.refusals.NumberedFault.{NumberedFault}
 use Rattle.script_files.specs.declared.refusals.TextRefused.{TextRefused}
 use Rattle.script_files.specs.declared.refusals.TextRefused.TheVariants as texts
 use Rattle.script_files.specs.declared.requests.Request.{Request}
-use Rattle.script_files.specs.declared.requests.Request.TheVariants.{Count, Run}
+use Rattle.script_files.specs.declared.requests.Request.TheVariants.{Count, Run, Demo}
 use Rattle.script_files.specs.Requests.{inputs_of}
-use Rattle.script_files.specs.Meanings.{file_in, GivesOutputs, RefusesScript, RefusesNames}
+use Rattle.script_files.specs.Meanings.{file_in, GivesOutputs, RefusesVox, RefusesScript, RefusesNames}
 use Rattle.script_files.specs.Outcomes.{RefusesFiles, Outcome}
-use Rattle.script_files.specs.Verdicts.{Verdict, Fine, LacksInput, InputIsLong, HasScriptFault, NamesCollide, input_within, inputs_at, verdict_of, JudgesTexts, JudgesInputs, Judges, FollowsRead, FollowsWrite, FollowsText, Follows}
+use Rattle.script_files.specs.Verdicts.{Verdict, Fine, LacksInput, InputIsLong, HasVoxFault, HasScriptFault, NamesCollide, input_within, inputs_at, verdict_of, JudgesTexts, JudgesInputs, Judges, FollowsRead, FollowsWrite, FollowsText, Follows}
 
 -- ---- one verdict
 
@@ -117,7 +117,12 @@ gives_follow : (a : Request) (files : Files) (texts : List (List ℕ)) (done : D
     (outputs : List Named) (v : Verdict) → AreTaken (Some files) (inputs_of a) texts
     → GivesOutputs a texts done outputs → Judges files a v → v ≡ Fine
 gives_follow (Count file) files texts (Ran tally) outputs v taken gives judges = absurd gives
+gives_follow (Count file) files texts (Shown told) outputs v taken gives judges = absurd gives
 gives_follow (Run asked) files texts (Counted number) outputs v taken gives judges = absurd gives
+gives_follow (Run asked) files texts (Shown told) outputs v taken gives judges = absurd gives
+gives_follow (Demo n) files texts (Counted number) outputs v taken gives judges = absurd gives
+gives_follow (Demo n) files texts (Ran tally) outputs v taken gives judges = absurd gives
+gives_follow (Demo n) files texts (Shown told) outputs v taken gives judges = judges.follows
 gives_follow (Count file) files texts (Counted number) outputs v taken gives judges =
     by_reading (Count file) files texts v (Ok gives.models) taken gives.gives judges
 gives_follow (Run asked) files texts (Ran tally) outputs v taken gives judges =
@@ -129,6 +134,7 @@ script_follows : (a : Request) (files : Files) (texts : List (List ℕ)) (v : Ve
     (at : NumberedFault) → AreTaken (Some files) (inputs_of a) texts → RefusesScript a texts at
     → Judges files a v → v ≡ HasScriptFault at
 script_follows (Count file) files texts v at taken says judges = absurd says
+script_follows (Demo n) files texts v at taken says judges = absurd says
 script_follows (Run asked) files texts v at taken says judges =
     let first : verdict_of (Run asked) texts (Ok says.models) ≡ HasScriptFault at = rw (says.first) refl in
     by_reading (Run asked) files texts v (Ok says.models) taken says.gives judges ∙ first
@@ -137,16 +143,26 @@ names_follow : (a : Request) (files : Files) (texts : List (List ℕ)) (v : Verd
     → AreTaken (Some files) (inputs_of a) texts → RefusesNames a texts → Judges files a v
     → v ≡ NamesCollide
 names_follow (Count file) files texts v taken says judges = absurd says
+names_follow (Demo n) files texts v taken says judges = absurd says
 names_follow (Run asked) files texts v taken says judges =
     let taken_name : verdict_of (Run asked) texts (Ok says.models) ≡ NamesCollide = rw (says.read, says.collides) refl in
     by_reading (Run asked) files texts v (Ok says.models) taken says.gives judges ∙ taken_name
+
+vox_follows : (a : Request) (files : Files) (texts : List (List ℕ)) (v : Verdict)
+    (fault : VoxFault) → AreTaken (Some files) (inputs_of a) texts → RefusesVox a texts fault
+    → Judges files a v → v ≡ HasVoxFault fault
+vox_follows (Count file) files texts v fault taken says judges =
+    by_reading (Count file) files texts v (Err fault) taken says judges
+vox_follows (Run asked) files texts v fault taken says judges =
+    by_reading (Run asked) files texts v (Err fault) taken says judges
+vox_follows (Demo n) files texts v fault taken says judges = absurd says
 
 -- ---- so the answer follows the verdict
 
 text_follows : (r : TextRefused) (a : Request) (files : Files) (v : Verdict)
     → RefusesFiles r a (Some files) → Judges files a v → FollowsText v r
 text_follows (texts.Vox fault) a files v refuses judges =
-    by_reading a files refuses.texts v (Err fault) refuses.taken refuses.says judges
+    vox_follows a files refuses.texts v fault refuses.taken refuses.says judges
 text_follows (texts.Script at) a files v refuses judges =
     script_follows a files refuses.texts v at refuses.taken refuses.says judges
 text_follows texts.Collides a files v refuses judges =

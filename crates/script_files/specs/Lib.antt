@@ -1,6 +1,7 @@
 pub mod Orders
 pub mod Requests
 pub mod Scripts
+pub mod Demos
 pub mod Meanings
 pub mod Outcomes
 pub mod Refusals

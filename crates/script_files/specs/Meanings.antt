@@ -3,6 +3,7 @@
 use Rattle.std.specs.Prelude.{◌≡◌, ℕ, ◌∷◌, [], false, Option, Some, None, List, length, IsTrue, Ok, Err, ⊤}
 use Rattle.vw_io.specs.Outputs.{Named}
 use Rattle.vw_io.specs.Names.{collide}
+use Rattle.vox_chunk.specs.declared.faults.VoxFault.{VoxFault}
 use Rattle.vox_read.specs.Contents.{Content, cells_of_all}
 use Rattle.vox_read.specs.Files.{ReadsModels}
 use Rattle.history_model.specs.Logs.{Log}
@@ -13,16 +14,17 @@ use Rattle.conformance.specs.Runs.{AllRan}
 use Rattle.reporting.specs.Numbers.{IsTotal}
 use Rattle.reporting.specs.Reports.{IsReport}
 use Rattle.script_files.specs.declared.tallies.Done.{Done}
-use Rattle.script_files.specs.declared.tallies.Done.TheVariants.{Counted, Ran}
+use Rattle.script_files.specs.declared.tallies.Done.TheVariants.{Counted, Ran, Shown}
 use Rattle.script_files.specs.declared.tallies.Tally.{Tally}
 use Rattle.script_files.specs.declared.refusals.NumberedFault.{NumberedFault}
 use Rattle.script_files.specs.declared.refusals.TextRefused.{TextRefused}
 use Rattle.script_files.specs.declared.refusals.TextRefused.TheVariants.{Vox, Script, Collides, Memory}
 use Rattle.script_files.specs.declared.requests.Request.{Request}
-use Rattle.script_files.specs.declared.requests.Request.TheVariants.{Count, Run}
+use Rattle.script_files.specs.declared.requests.Request.TheVariants.{Count, Run, Demo}
 use Rattle.script_files.specs.Orders.{Asked}
 use Rattle.script_files.specs.Requests.{inputs_of, output_names, texts_written}
 use Rattle.script_files.specs.Scripts.{scripts_of}
+use Rattle.script_files.specs.Demos.{LoadRan}
 
 -- the text of the VOX file is the first, and those of the scripts come behind it
 abbrev pub file_in : List (List ℕ) → List ℕ
@@ -83,9 +85,9 @@ pub record ScriptsRan (asked : Asked) (texts : List (List ℕ)) (tally : Tally)
 -- what a command gives where nothing is refused
 abbrev pub GivesOutputs : Request → List (List ℕ) → Done → List Named → Type 0
 GivesOutputs (Count file) texts (Counted number) outputs = CellsCounted texts number outputs
-GivesOutputs (Count file) texts (Ran tally) outputs = ⊥
-GivesOutputs (Run asked) texts (Counted number) outputs = ⊥
 GivesOutputs (Run asked) texts (Ran tally) outputs = ScriptsRan asked texts tally outputs
+GivesOutputs (Demo n) texts (Shown told) outputs = LoadRan n told outputs
+GivesOutputs _ texts _ outputs = ⊥
 
 -- the VOX file gives models, and this is the first fault of the first script that has one
 pub record HasScriptFault (asked : Asked) (texts : List (List ℕ))
@@ -97,6 +99,7 @@ pub record HasScriptFault (asked : Asked) (texts : List (List ℕ))
 
 abbrev pub RefusesScript : Request → List (List ℕ) → NumberedFault → Type 0
 RefusesScript (Count file) texts at = ⊥
+RefusesScript (Demo n) texts at = ⊥
 RefusesScript (Run asked) texts at = HasScriptFault asked texts at
 
 -- the VOX file gives models and no script has a fault, and a name of an output is taken
@@ -109,11 +112,18 @@ pub record HasTakenName (asked : Asked) (texts : List (List ℕ)) : Type 0 where
 
 abbrev pub RefusesNames : Request → List (List ℕ) → Type 0
 RefusesNames (Count file) texts = ⊥
+RefusesNames (Demo n) texts = ⊥
 RefusesNames (Run asked) texts = HasTakenName asked texts
+
+-- the VOX file has this as its first fault
+abbrev pub RefusesVox : Request → List (List ℕ) → VoxFault → Type 0
+RefusesVox (Count file) texts fault = ReadsModels (file_in texts) (Err fault)
+RefusesVox (Run asked) texts fault = ReadsModels (file_in texts) (Err fault)
+RefusesVox (Demo n) texts fault = ⊥
 
 -- why the texts, or the names of outputs, are refused
 abbrev pub RefusesTexts : TextRefused → Request → List (List ℕ) → Type 0
-RefusesTexts (Vox fault) a texts = ReadsModels (file_in texts) (Err fault)
+RefusesTexts (Vox fault) a texts = RefusesVox a texts fault
 RefusesTexts (Script at) a texts = RefusesScript a texts at
 RefusesTexts Collides a texts = RefusesNames a texts
 RefusesTexts Memory a texts = ⊤

@@ -6,7 +6,7 @@ use Rattle.history_model.specs.Journal.{journal_of}
 use Rattle.history_model.specs.Logs.{Log}
 use Rattle.script_files.specs.Orders.{Asked}
 use Rattle.script_files.specs.declared.requests.Request.{Request}
-use Rattle.script_files.specs.declared.requests.Request.TheVariants.{Count, Run}
+use Rattle.script_files.specs.declared.requests.Request.TheVariants.{Count, Run, Demo}
 use Rattle.transcript.specs.declared.answers.LineAnswer.{LineAnswer}
 use Rattle.transcript.specs.Lines.{transcript_of}
 
@@ -20,11 +20,12 @@ script_limit = 2 ^ 23
 abbrev pub script_input : List ℕ → WantedInput
 script_input name = record { name = name; limit = script_limit }
 
--- what is read, in order: a VOX file first, and then the scripts
+-- what is read, in order: a VOX file first, and then the scripts. A load is made, and not read
 abbrev pub inputs_of : Request → List WantedInput
 inputs_of (Count file) = record { name = file; limit = vox_limit } ∷ []
 inputs_of (Run asked) =
     record { name = asked.file; limit = vox_limit } ∷ map script_input asked.scripts
+inputs_of (Demo n) = []
 
 -- a transcript's name is its script's with `.out` behind it
 abbrev pub transcript_name : List ℕ → List ℕ

@@ -9,12 +9,18 @@ use Rattle.transcript.specs.Lines.{transcript_of}
 use Rattle.script.specs.declared.commands.ScriptLine.{ScriptLine}
 use Rattle.script.specs.Commands.{is_built}
 use Rattle.script.specs.Scripts.{commands_of}
+use Rattle.conformance.specs.Runs.{AllRan}
+use Rattle.gen_load.specs.Loads.{load_model, load_scripts}
 use Rattle.reporting.specs.Numbers.{AreNumbers}
 use Rattle.reporting.specs.Roots.{RootsTellWorlds, listed_root}
 use Rattle.store_run.specs.declared.runs.StoreRan.{StoreRan}
 use Rattle.script_files.specs.declared.tallies.Tally.{Tally}
 use Rattle.script_files.specs.Orders.{Asked}
-use Rattle.script_files.specs.Scripts.{AreFitScripts}
+use Rattle.script_files.specs.Scripts.{AreFitScripts, scripts_of}
+use Rattle.script_files.specs.declared.tallies.LoadTally.{LoadTally}
+use Rattle.script_files.specs.Demos.{demo_plan, demo_asked}
+use Rattle.region_laws.specs.LastCounts.{region_counts}
+use Rattle.region_laws.specs.Statements.{own_counts}
 use Rattle.script_files.specs.Meanings.{IsAccepted, TalliesRun, ReportIs}
 
 -- the bytes give these models, and the number is that of their cells
@@ -64,3 +70,25 @@ pub record ReadsScript (side : ℕ) (models : List Content) (text : List ℕ)
   pub read : commands_of is_built side models text ≡ Ok lines
   pub kept : new ≡ old ++ lines ∷ []
   pub fit : AreFitScripts side models (lines ∷ [])
+
+-- the run of a load over a store
+pub record IsLoadRun (n : ℕ) (r : StoreRan) : Type 0 where
+  pub lines : List (List ScriptLine)
+  pub read : scripts_of 8 (load_model n ∷ []) (load_scripts n) ≡ Ok lines
+  pub run : AllRan demo_plan (load_model n ∷ []) lines r.ran.transcripts.items r.ran.history
+  pub places : length r.ran.history.records < length r.roots.items
+  pub roots : RootsTellWorlds (load_model n ∷ []) r.ran.history (listed_root r.roots.items)
+  pub numbers : AreNumbers (load_model n ∷ []) r.ran.history r.numbers.items
+
+-- what it tells, and the texts that it writes
+pub record IsLoadTold (n : ℕ) (told : LoadTally) (written : RunTexts) : Type 0 where
+  pub log : Log
+  pub transcripts : List (List LineAnswer)
+  pub lines : List (List ScriptLine)
+  pub read : scripts_of 8 (load_model n ∷ []) (load_scripts n) ≡ Ok lines
+  pub run : AllRan demo_plan (load_model n ∷ []) lines transcripts log
+  pub number : told.number ≡ n
+  pub records : told.records ≡ length log.records
+  pub counts : told.counts ≡ region_counts transcripts
+  pub regions : length log.records ≡ 800 → told.counts ≡ own_counts n
+  pub are : AreTexts demo_asked (load_model n ∷ []) log transcripts written

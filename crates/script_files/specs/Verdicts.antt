@@ -20,7 +20,7 @@ use Rattle.script_files.specs.declared.refusals.NumberedFault.{NumberedFault}
 use Rattle.script_files.specs.declared.refusals.TextRefused.{TextRefused}
 use Rattle.script_files.specs.declared.refusals.TextRefused.TheVariants.{Vox, Script, Collides, Memory}
 use Rattle.script_files.specs.declared.requests.Request.{Request}
-use Rattle.script_files.specs.declared.requests.Request.TheVariants.{Count, Run}
+use Rattle.script_files.specs.declared.requests.Request.TheVariants.{Count, Run, Demo}
 use Rattle.script_files.specs.Orders.{Asked}
 use Rattle.script_files.specs.Requests.{inputs_of, output_names}
 use Rattle.script_files.specs.Meanings.{file_in, scripts_in}
@@ -55,10 +55,12 @@ verdict_of_names asked (Ok lines) =
     if collide (output_names asked) (inputs_of (Run asked)) then NamesCollide else Fine
 
 abbrev pub verdict_of : Request → List (List ℕ) → Result (List Content) VoxFault → Verdict
-verdict_of a texts (Err fault) = HasVoxFault fault
+verdict_of (Count file) texts (Err fault) = HasVoxFault fault
 verdict_of (Count file) texts (Ok models) = Fine
+verdict_of (Run asked) texts (Err fault) = HasVoxFault fault
 verdict_of (Run asked) texts (Ok models) =
     verdict_of_names asked (scripts_of asked.plan.side models (scripts_in texts))
+verdict_of (Demo n) texts reading = Fine
 
 pub record JudgesTexts (a : Request) (texts : List (List ℕ)) (v : Verdict) : Type 0 where
   pub reading : Result (List Content) VoxFault

@@ -1,11 +1,12 @@
 //! The commands of the program from files to files, over any shelf: the cells of a file are
-//! counted, scripts are run.
+//! counted, scripts are run, also those of a load.
 //!
 //! Where an input, a text or a name is refused, nothing on the shelf has changed, and
 //! `specs/Outcomes.antt` says what each answer means.
 #![tactic(auto)]
 
 mod counts;
+mod demos;
 mod refusals;
 mod requests;
 mod runs;
@@ -14,7 +15,8 @@ mod tallies;
 mod texts;
 
 pub use counts::count_file;
+pub use demos::{demo_order, run_demo};
 pub use refusals::{CommandRefused, NumberedFault, TextRefused};
 pub use requests::{FileName, Order, Request};
 pub use runs::{run_files, transcript_names};
-pub use tallies::{Done, Tally};
+pub use tallies::{Done, LoadTally, Tally};

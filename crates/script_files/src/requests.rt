@@ -14,6 +14,8 @@ pub enum Request<'w> {
     Count(FileName<'w>),
     /// To run scripts.
     Run(Order<'w>),
+    /// To run the load of this number.
+    Demo(u32),
 }
 
 /// The name of a file. Contracts see its bytes.

@@ -136,7 +136,7 @@ fn prepare(
 }
 
 // What a run writes, in order.
-fn outputs_of<'w, 't>(
+pub(crate) fn outputs_of<'w, 't>(
     alloc: Global,
     order: &Order<'w>,
     transcripts: &'w [String],

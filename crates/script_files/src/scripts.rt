@@ -67,7 +67,28 @@ fn read_scripts(
 {
     let mut scripts = Vec::new(alloc);
     for text in texts {
-        read_next(alloc, text, side, models, &mut scripts)?;
+        read_next(alloc, text.as_slice(), side, models, &mut scripts)?;
+    }
+    Ok(scripts)
+}
+
+// The commands of a load's scripts.
+pub(crate) fn read_load(
+    alloc: Global,
+    texts: &[Vec<u8>],
+    side: Side,
+    models: &Models,
+) -> Result<Vec<Script>, TextRefused>
+    requires models { AreModels models.now }
+    requires few { length texts.now ≤ 64 }
+    ensures read { IfOk result (λ scripts.
+        scripts_of side models.now (map (λ t. t.items) texts.now) ≡ Ok scripts.items) }
+    ensures number { IfOk result (λ scripts. length scripts.items ≡ length texts.now) }
+    ensures fit { IfOk result (λ scripts. AreFitScripts side models.now scripts.items) }
+{
+    let mut scripts = Vec::new(alloc);
+    for text in texts {
+        read_next(alloc, text.as_slice(), side, models, &mut scripts)?;
     }
     Ok(scripts)
 }
@@ -76,7 +97,7 @@ fn read_scripts(
 #[tactic(auto, using(crate::proofs::Refusing::script_refused))]
 fn read_next(
     alloc: Global,
-    text: &Text,
+    text: &[u8],
     side: Side,
     models: &Models,
     scripts: &mut Vec<Script>,
@@ -89,7 +110,7 @@ fn read_next(
         (length scripts.old.items) (commands_of is_built side models.now text.now))) }
 {
     let number = scripts.len() as u16;
-    let script = match read_script(alloc, text.as_slice(), side, models) {
+    let script = match read_script(alloc, text, side, models) {
         Ok(script) => script,
         Err(fault) => {
             return Err(TextRefused::from(NumberedFault {

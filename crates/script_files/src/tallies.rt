@@ -5,6 +5,8 @@ pub enum Done {
     Counted(u64),
     /// The numbers of a run.
     Ran(Tally),
+    /// The numbers of a load's run.
+    Shown(LoadTally),
 }
 
 /// How many scripts there were, how many records and marks their history has, and how many nodes
@@ -15,4 +17,13 @@ pub struct Tally {
     pub records: u64,
     pub marks: u64,
     pub nodes: u64,
+}
+
+/// The load's number, how many records the history of its run has, and how many cells each region
+/// of the world had when its script counted them.
+#[derive(Clone, Copy, Debug, PartialEq, Eq)]
+pub struct LoadTally {
+    pub number: u32,
+    pub records: u64,
+    pub counts: [u64; 4],
 }

@@ -6,6 +6,8 @@ mod asking;
 #[cfg(test)]
 mod count_tests;
 #[cfg(test)]
+mod demo_tests;
+#[cfg(test)]
 mod file_tests;
 #[cfg(test)]
 mod guide_tests;

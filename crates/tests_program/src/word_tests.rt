@@ -164,7 +164,6 @@ const NO_WORDS: &[&str] = &[
     "count -- one.vox",
     "count --side 8 one.vox",
     "count one.vox --side=8",
-    "demo 7",
 ];
 
 #[test]

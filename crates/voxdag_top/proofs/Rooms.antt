@@ -8,11 +8,12 @@ use Rattle.vw_io.specs.declared.shelves.WriteRefused.{WriteRefused}
 use Rattle.vw_io.specs.declared.shelves.WriteRefused.TheVariants as writes
 use Rattle.script_files.specs.declared.refusals.CommandRefused.{CommandRefused}
 use Rattle.script_files.specs.declared.refusals.CommandRefused.TheVariants.{Input, Text, Output}
-use Rattle.script_files.specs.declared.requests.Request.TheVariants.{Count, Run}
+use Rattle.script_files.specs.declared.requests.Request.TheVariants.{Count, Run, Demo}
 use Rattle.script_files.specs.Orders.{Asked}
 use Rattle.script_files.specs.Requests.{transcript_name, named_texts, wanted_output, outputs_of}
 use Rattle.script_files.specs.declared.tallies.Done.{Done}
-use Rattle.script_files.specs.declared.tallies.Done.TheVariants.{Counted, Ran}
+use Rattle.script_files.specs.declared.tallies.Done.TheVariants.{Counted, Ran, Shown}
+use Rattle.script_files.specs.Demos.{demo_asked}
 use Rattle.script_files.specs.Meanings.{GivesOutputs}
 use Rattle.script_files.specs.Outcomes.{Outcome, BreaksOff}
 use Rattle.voxdag_top.specs.declared.endings.Ending.{Ending}
@@ -50,12 +51,14 @@ outputs_fit asked transcripts journal report room fit =
 
 given_fit : (asked : Asked) (texts : List (List ℕ)) (done : Done) (outputs : List Named) (room : ℕ) → NamesFit asked room → GivesOutputs (Run asked) texts done outputs → All (NameFits room) outputs
 given_fit asked texts (Counted number) outputs room fit gives = absurd gives
+given_fit asked texts (Shown told) outputs room fit gives = absurd gives
 given_fit asked texts (Ran tally) outputs room fit gives = subst (All (NameFits room)) (sym gives.are) (outputs_fit asked _ _ gives.report room fit)
 
 -- `count` writes nothing
 none_given : (file : List ℕ) (texts : List (List ℕ)) (done : Done) (outputs : List Named) → GivesOutputs (Count file) texts done outputs → outputs ≡ []
 none_given file texts (Counted number) outputs gives = gives.none
 none_given file texts (Ran tally) outputs gives = absurd gives
+none_given file texts (Shown told) outputs gives = absurd gives
 
 nothing_parts : (outputs first others : List Named) (output : Named) → outputs ≡ [] → outputs ≡ first ++ output ∷ others → ⊥
 nothing_parts outputs [] others output none parts = cc
@@ -86,3 +89,27 @@ pub run_has_room : (e : Ending) (asked : Asked) (old new : ShelfState) (room : �
 run_has_room (Completed done) asked old new room ends fit = tt
 run_has_room Usage asked old new room ends fit = tt
 run_has_room (Refused r) asked old new room ends fit = run_refusal r asked old new room ends fit
+
+-- ---- `demo`
+
+demo_given_fit : (n : ℕ) (texts : List (List ℕ)) (done : Done) (outputs : List Named) (room : ℕ) → NamesFit demo_asked room → GivesOutputs (Demo n) texts done outputs → All (NameFits room) outputs
+demo_given_fit n texts (Counted number) outputs room fit gives = absurd gives
+demo_given_fit n texts (Ran tally) outputs room fit gives = absurd gives
+demo_given_fit n texts (Shown told) outputs room fit gives = subst (All (NameFits room)) (sym gives.are) (outputs_fit demo_asked _ _ [] room fit)
+
+demo_write : (why : WriteRefused) (name : List ℕ) (n : ℕ) (old new : ShelfState) (room : ℕ) → BreaksOff why name (Demo n) old new → NamesFit demo_asked room → WriteHasRoom why name room
+demo_write writes.Failed name n old new room breaks fit =
+    let at = breaks.stops.0 in
+    subst (λ (m : List ℕ). FitsIn room m) (sym at.named)
+    (one_fits breaks.outputs at.first at.others at.output room (demo_given_fit n breaks.comes.texts breaks.done breaks.outputs room fit breaks.comes.gives) at.parts)
+demo_write writes.Memory name n old new room breaks fit = tt
+
+demo_refusal : (r : CommandRefused) (n : ℕ) (old new : ShelfState) (room : ℕ) → Outcome (Err r) (Demo n) old new → NamesFit demo_asked room → RefusalHasRoom r room
+demo_refusal (Output r) n old new room outcome fit = demo_write r.why r.name.now n old new room outcome fit
+demo_refusal (Input r) n old new room outcome fit = tt
+demo_refusal (Text r) n old new room outcome fit = tt
+
+pub demo_has_room : (e : Ending) (n : ℕ) (old new : ShelfState) (room : ℕ) → CommandEnds e (Demo n) old new → NamesFit demo_asked room → HasLineRoom e room
+demo_has_room (Completed done) n old new room ends fit = tt
+demo_has_room Usage n old new room ends fit = tt
+demo_has_room (Refused r) n old new room ends fit = demo_refusal r n old new room ends fit

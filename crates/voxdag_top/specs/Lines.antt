@@ -1,5 +1,5 @@
 -- The line that each ending puts on the output.
-use Rattle.std.specs.Prelude.{◌≡◌, ℕ, List, ◌++◌, Option, Some, None, codes}
+use Rattle.std.specs.Prelude.{◌≡◌, ℕ, ◌+◌, List, [], ◌∷◌, ◌++◌, Option, Some, None, codes}
 use Rattle.std.specs.Fmt.{decimal}
 use Rattle.vw_io.specs.Put.{AppendsPrefix}
 use Rattle.vw_io.specs.declared.shelves.ReadRefused.{ReadRefused}
@@ -7,8 +7,9 @@ use Rattle.vw_io.specs.declared.shelves.ReadRefused.TheVariants as reads
 use Rattle.vw_io.specs.declared.shelves.WriteRefused.{WriteRefused}
 use Rattle.vw_io.specs.declared.shelves.WriteRefused.TheVariants as writes
 use Rattle.script_files.specs.declared.tallies.Done.{Done}
-use Rattle.script_files.specs.declared.tallies.Done.TheVariants.{Counted, Ran}
+use Rattle.script_files.specs.declared.tallies.Done.TheVariants.{Counted, Ran, Shown}
 use Rattle.script_files.specs.declared.tallies.Tally.{Tally}
+use Rattle.script_files.specs.declared.tallies.LoadTally.{LoadTally}
 
 abbrev pub count_line : ℕ → List ℕ
 count_line n = decimal n ++ codes "\n"
@@ -59,10 +60,23 @@ abbrev pub output_line : WriteRefused → List ℕ → List ℕ
 output_line writes.Failed name = write_fault_line name
 output_line writes.Memory name = memory_line
 
--- the line of a command that came to its end
+-- the lines of a load's run: its number, its records, and the count of each region, from this one on
+abbrev pub region_lines : ℕ → List ℕ → List ℕ
+region_lines region [] = []
+region_lines region (cells ∷ others) =
+    codes "region " ++ (decimal region ++ (codes " count " ++ (decimal cells ++ (codes "\n"
+    ++ region_lines (region + 1) others))))
+
+abbrev pub demo_lines : LoadTally → List ℕ
+demo_lines t =
+    codes "demo " ++ (decimal t.number ++ (codes "\nrecords " ++ (decimal t.records
+    ++ (codes "\n" ++ region_lines 0 t.counts))))
+
+-- the line of a command that came to its end, or its lines
 abbrev pub done_line : Done → List ℕ
 done_line (Counted number) = count_line number
 done_line (Ran tally) = run_line tally
+done_line (Shown told) = demo_lines told
 
 -- the line was appended to what was put before, where the output tells that
 abbrev pub Puts : Option (List ℕ) → Option (List ℕ) → List ℕ → Type 0

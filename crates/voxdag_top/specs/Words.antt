@@ -6,7 +6,7 @@ use Rattle.script.specs.Numbers.{number_of}
 use Rattle.node_words.specs.Plans.{Layout, is_number_of_buckets, is_cap, usual_buckets}
 use Rattle.command_line.specs.Parts.{LineTexts, is_operand, parts_of, line_texts, are_of_a_run}
 use Rattle.script_files.specs.declared.requests.Request.{Request}
-use Rattle.script_files.specs.declared.requests.Request.TheVariants.{Count, Run}
+use Rattle.script_files.specs.declared.requests.Request.TheVariants.{Count, Run, Demo}
 
 -- `count FILE`
 abbrev pub counted : List (List ℕ) → Option Request
@@ -86,11 +86,21 @@ run_words words =
     let parts = parts_of words in
     if are_of_a_run parts then run_planned (plan_in (line_texts parts)) (line_texts parts) else None
 
--- what the words ask for, where they are in the grammar: `count FILE`; or `run`, and behind it in
--- any order FILE SCRIPT .. and at most once each `--side s`, `--buckets b`, `--cap c`,
--- `--journal J` and `--report P`
+-- `demo N`
+abbrev pub demo_of : Option ℕ → Option Request
+demo_of None = None
+demo_of (Some n) = Some (Demo n)
+
+abbrev pub demo_words : List (List ℕ) → Option Request
+demo_words (number ∷ []) = demo_of (short_number number)
+demo_words _ = None
+
+-- what the words ask for, where they are in the grammar: `count FILE`; `demo N`; or `run`, and
+-- behind it in any order FILE SCRIPT .. and at most once each `--side s`, `--buckets b`,
+-- `--cap c`, `--journal J` and `--report P`
 abbrev pub request_of : List (List ℕ) → Option Request
 request_of [] = None
 request_of (command ∷ others) =
     if bytes_eq command (codes "count") then counted others
-    else (if bytes_eq command (codes "run") then run_words others else None)
+    else (if bytes_eq command (codes "run") then run_words others
+    else (if bytes_eq command (codes "demo") then demo_words others else None))

@@ -1,10 +1,11 @@
 ghost use Rattle.std.specs.Prelude.{◌≡◌, ◌≤◌, ◌∷◌, [], All, Some, None, IsTrue, IfSome, length, map, string_bytes, string_capacity};
 ghost use Rattle.vw_io.specs.Outside.{Files, Rose, outside};
-ghost use Rattle.script_files.specs.declared.requests.Request.TheVariants.{Count, Run};
+ghost use Rattle.script_files.specs.declared.requests.Request.TheVariants.{Count, Run, Demo};
 ghost use Rattle.script_files.specs.Requests.{transcript_name};
+ghost use Rattle.script_files.specs.Demos.{demo_asked};
 ghost use Rattle.script_files.specs.Verdicts.{Verdict};
 ghost use Rattle.command_line.specs.Texts.{texts};
-ghost use Rattle.voxdag_top.specs.Words.{request_of, counted, run_words, run_planned, plan_in};
+ghost use Rattle.voxdag_top.specs.Words.{request_of, counted, demo_words, run_words, run_planned, plan_in};
 ghost use Rattle.voxdag_top.specs.Endings.{CommandEnds};
 ghost use Rattle.voxdag_top.specs.Finishing.{Runs, NamesFit, HasLineRoom};
 ghost use Rattle.voxdag_top.specs.Verdicts.{JudgesWords, status_for};
@@ -13,10 +14,11 @@ ghost use Rattle.voxdag_top.specs.Lines.{write_fault_line};
 
 use crate::endings::Ending;
 use crate::lines::{finish, write_fault_room};
-use crate::words::plan_in;
+use crate::words::{number_in, plan_in};
 use command_line::{Line, are_of_a_run, is_operand, split};
 use script_files::{
-    CommandRefused, FileName, Order, TextRefused, count_file, run_files, transcript_names,
+    CommandRefused, FileName, Order, TextRefused, count_file, demo_order, run_demo, run_files,
+    transcript_names,
 };
 use std::alloc::Global;
 use vw_io::{Shelf, Sink};
@@ -29,7 +31,9 @@ use vw_io::{Shelf, Sink};
 /// in any order and each at most once, may stand options, as `--side s` or `--side=s`: the world has
 /// the side `s`, 4 to 4,096 and 256 without this option; its store has `--buckets b` of
 /// `--cap c` slots on each level, 1 to 4,096 and 1 to 256; `--journal J` and `--report P` are
-/// written too. A VOX file has at most 256 MiB, a script 8 MiB.
+/// written too. A VOX file has at most 256 MiB, a script 8 MiB. `demo N` runs the load that the
+/// number N of 1 to 6 digits makes, writes `demo.0.out` to `demo.3.out` and `demo.journal`, and puts
+/// N, the number of records, and how many cells each region had when its script counted them.
 ///
 /// The answer is the status with which the process ends: 0 done, 1 words outside the grammar or
 /// names that collide, 2 an input that is not there, 3 a fault of the shelf at an input, 4 a VOX
@@ -110,6 +114,9 @@ fn named<S: Shelf, O: Sink>(
     if command == "run" {
         return run_words(alloc, words, shelf, out);
     }
+    if command == "demo" {
+        return demo_words(alloc, words, shelf, out);
+    }
     finish(alloc, &Ending::Usage, String::new(alloc), out)
 }
 
@@ -171,6 +178,72 @@ fn run_line<S: Shelf, O: Sink>(alloc: Global, line: &Line<'_>, shelf: &mut S, ou
             };
             run(alloc, &order, shelf, out)
         }
+    }
+}
+
+fn demo_words<S: Shelf, O: Sink>(alloc: Global, words: &[String], shelf: &mut S, out: &mut O) -> u8
+    ensures { Runs (demo_words (texts words.now))
+        (outside (S.state shelf.old) (O.state out.old))
+        (outside (S.state shelf.new) (O.state out.new)) result }
+{
+    match number_in(words) {
+        Some(n) => demo(alloc, n, shelf, out),
+        None => finish(alloc, &Ending::Usage, String::new(alloc), out),
+    }
+}
+
+// Runs a load, once there are the transcripts' names, and room for the line of a fault at an output.
+fn demo<S: Shelf, O: Sink>(alloc: Global, n: u32, shelf: &mut S, out: &mut O) -> u8
+    ensures { Runs (Some (Demo n))
+        (outside (S.state shelf.old) (O.state out.old))
+        (outside (S.state shelf.new) (O.state out.new)) result }
+{
+    let order = demo_order();
+    let lacking = Ending::Refused(CommandRefused::Text(TextRefused::Memory));
+    match transcript_names(alloc, order.scripts) {
+        Ok(names) => match String::with_capacity(
+            alloc,
+            write_fault_room(&order, names.as_slice()),
+        ) {
+            Ok(room) => demo_named(alloc, n, names.as_slice(), room, shelf, out),
+            Err(_) => finish(alloc, &lacking, String::new(alloc), out),
+        },
+        Err(_) => finish(alloc, &lacking, String::new(alloc), out),
+    }
+}
+
+#[tactic(auto, using(crate::proofs::Rooms::demo_has_room))]
+fn demo_named<S: Shelf, O: Sink>(
+    alloc: Global,
+    n: u32,
+    transcripts: &[String],
+    room: String,
+    shelf: &mut S,
+    out: &mut O,
+) -> u8
+    requires named { map string_bytes transcripts.now ≡ map transcript_name demo_asked.scripts }
+    requires empty { string_bytes room ≡ [] }
+    requires fits { NamesFit demo_asked (string_capacity room) }
+    ensures { Runs (Some (Demo n))
+        (outside (S.state shelf.old) (O.state out.old))
+        (outside (S.state shelf.new) (O.state out.new)) result }
+{
+    let ending = shown(alloc, n, transcripts, shelf);
+    finish(alloc, &ending, room, out)
+}
+
+fn shown<'w, S: Shelf>(
+    alloc: Global,
+    n: u32,
+    transcripts: &'w [String],
+    shelf: &mut S,
+) -> Ending<'w>
+    requires { map string_bytes transcripts.now ≡ map transcript_name demo_asked.scripts }
+    ensures { CommandEnds result (Demo n) (S.state shelf.old) (S.state shelf.new) }
+{
+    match run_demo(alloc, n, transcripts, shelf) {
+        Ok(told) => Ending::Completed(told),
+        Err(refused) => Ending::Refused(refused),
     }
 }
 

@@ -1,12 +1,12 @@
-ghost use Rattle.std.specs.Prelude.{◌≡◌, ◌≤◌, ◌<◌, ◌^◌, [], All, length, map, codes, IfOk, IsOkAnd, IfSome, OnErr, string_bytes, string_capacity};
+ghost use Rattle.std.specs.Prelude.{◌≡◌, ◌≤◌, ◌<◌, ◌^◌, ◌+◌, ◌∷◌, ◌++◌, [], OnOk, All, length, map, codes, IfOk, IsOkAnd, IfSome, OnErr, string_bytes, string_capacity};
 ghost use Rattle.script.specs.Faults.{number_of_kind};
-ghost use Rattle.voxdag_top.specs.Lines.{done_line, run_line, script_line, input_line, output_line, write_fault_line};
+ghost use Rattle.voxdag_top.specs.Lines.{done_line, run_line, demo_lines, region_lines, script_line, input_line, output_line, write_fault_line};
 ghost use Rattle.voxdag_top.specs.Endings.{ending_line, refused_line, text_line, status_of, refused_status, MayLackLine, RefusalMayLackLine, WriteMayLackLine};
 ghost use Rattle.script_files.specs.Requests.{transcript_name};
 ghost use Rattle.voxdag_top.specs.Finishing.{PutEnds, Finishes, NamesFit, HasLineRoom, RefusalHasRoom, WriteHasRoom};
 
 use crate::endings::Ending;
-use script_files::{CommandRefused, Done, NumberedFault, Order, Tally, TextRefused};
+use script_files::{CommandRefused, Done, LoadTally, NumberedFault, Order, Tally, TextRefused};
 use std::alloc::{AllocError, Global};
 use vw_io::{InputRefused, OutputRefused, PutRefused, ReadRefused, Sink, WriteRefused};
 
@@ -84,6 +84,7 @@ fn done_line(alloc: Global, done: Done) -> Result<String, AllocError>
     match done {
         Done::Counted(cells) => format!(in alloc; "{cells}\n"),
         Done::Ran(tally) => run_line(alloc, tally),
+        Done::Shown(told) => demo_lines(alloc, told),
     }
 }
 
@@ -95,6 +96,37 @@ fn run_line(alloc: Global, tally: Tally) -> Result<String, AllocError>
     let marks = tally.marks;
     let nodes = tally.nodes;
     format!(in alloc; "scripts {scripts} records {records} marks {marks} nodes {nodes}\n")
+}
+
+fn demo_lines(alloc: Global, told: LoadTally) -> Result<String, AllocError>
+    ensures { IfOk result (λ text. string_bytes text ≡ demo_lines told) }
+{
+    let number = told.number;
+    let records = told.records;
+    let mut text = format!(in alloc; "demo {number}\nrecords {records}\n")?;
+    put_regions(0, told.counts.as_slice(), &mut text)?;
+    Ok(text)
+}
+
+fn put_regions(region: u32, counts: &[u64], text: &mut String) -> Result<(), AllocError>
+    requires { region + length counts.now < 2 ^ 32 }
+    ensures { OnOk result (string_bytes text.new
+        ≡ string_bytes text.old ++ region_lines region counts.now) }
+{
+    match counts {
+        [] => Ok(()),
+        [cells, others @ ..] => {
+            put_region(region, *cells, text)?;
+            put_regions(region + 1, others, text)
+        }
+    }
+}
+
+fn put_region(region: u32, cells: u64, text: &mut String) -> Result<(), AllocError>
+    ensures { OnOk result (string_bytes text.new
+        ≡ string_bytes text.old ++ region_lines region (cells ∷ [])) }
+{
+    write!(text, "region {region} count {cells}\n")
 }
 
 fn refused_line(

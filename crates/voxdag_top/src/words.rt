@@ -1,11 +1,22 @@
 ghost use Rattle.std.specs.Prelude.{◌≡◌, ◌^◌, None, Some, MatchOption};
 ghost use Rattle.std.specs.Option.{option_map};
-ghost use Rattle.voxdag_top.specs.Words.{exponent_of, short_number, plan_for, side_of, side_told, cap_told, plan_with, plan_by, plan_told, plan_in};
+ghost use Rattle.command_line.specs.Texts.{texts};
+ghost use Rattle.voxdag_top.specs.Words.{demo_of, demo_words, exponent_of, short_number, plan_for, side_of, side_told, cap_told, plan_with, plan_by, plan_told, plan_in};
 
 use command_line::Line;
 use node_words::Plan;
 use script::number;
 use vw_cell::Side;
+
+// `N`, the words of `demo`.
+pub(crate) fn number_in(words: &[String]) -> Option<u32>
+    ensures { demo_of result ≡ demo_words (texts words.now) }
+{
+    match words {
+        [number] => short_number(number.as_str()),
+        _ => None,
+    }
+}
 
 // The plan that the options of a run tell, where their numbers are in their ranges.
 pub(crate) fn plan_in(line: &Line<'_>) -> Option<Plan>
