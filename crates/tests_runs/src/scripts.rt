@@ -1,0 +1,116 @@
+//! Scripts of all commands, the same for the same number.
+
+use history_model::Act;
+use std::alloc::{AllocError, Global};
+use test_worlds::Draws;
+use vw_cell::Cell;
+
+const STEPS: [i16; 7] = [-3, -2, -1, 0, 1, 2, 3];
+
+/// The size of the first model.
+const MODEL: Cell = Cell { x: 3, y: 2, z: 2 };
+
+/// A script of so many lines for a world of this side.
+pub(crate) fn script(
+    alloc: Global,
+    seed: u64,
+    side: u16,
+    lines: u16,
+) -> Result<String, AllocError> {
+    let mut draws = Draws::new(seed);
+    let mut text = String::new(alloc);
+    for _ in 0..lines {
+        let line = line(alloc, &mut draws, side)?;
+        text.push_str(line.as_str())?;
+        text.push_str("\n")?;
+    }
+    Ok(text)
+}
+
+fn line(alloc: Global, draws: &mut Draws, side: u16) -> Result<String, AllocError> {
+    match draws.below(20) {
+        0 => format!(in alloc; "undo"),
+        1 => format!(in alloc; "undo"),
+        2 => format!(in alloc; "redo"),
+        3 => format!(in alloc; "forget {}", draws.below(20)),
+        4 => format!(in alloc; "same {} {}", draws.below(20), draws.below(20)),
+        5 => format!(in alloc; "head"),
+        6 => format!(in alloc; "# no command"),
+        7 => format!(in alloc; " \t"),
+        8 => stamped(alloc, draws, side),
+        9 => question(alloc, draws, side),
+        10 => question(alloc, draws, side),
+        11 => question(alloc, draws, side),
+        12 => asked_of(alloc, draws, side),
+        13 => asked_of(alloc, draws, side),
+        _ => edited(alloc, draws, side),
+    }
+}
+
+// An edit, whose stamps are of the first model.
+fn edited(alloc: Global, draws: &mut Draws, side: u16) -> Result<String, AllocError> {
+    let act = draws.act(side, MODEL);
+    format!(in alloc; "{act}")
+}
+
+// A stamp of the second model, which is a single cell.
+fn stamped(alloc: Global, draws: &mut Draws, side: u16) -> Result<String, AllocError> {
+    let at = draws.place(side, Cell { x: 1, y: 1, z: 1 });
+    let act = Act::Stamp(1, at);
+    format!(in alloc; "{act}")
+}
+
+// A question of a version that may be there.
+fn asked_of(alloc: Global, draws: &mut Draws, side: u16) -> Result<String, AllocError> {
+    let version = draws.below(20);
+    let asked = question(alloc, draws, side)?;
+    format!(in alloc; "at {version} {asked}")
+}
+
+fn question(alloc: Global, draws: &mut Draws, side: u16) -> Result<String, AllocError> {
+    match draws.below(6) {
+        0 => pointed(alloc, draws, side),
+        1 => format!(in alloc; "bounds"),
+        2 => boxed(alloc, "count", draws, side),
+        3 => boxed(alloc, "faces", draws, side),
+        _ => ray(alloc, draws, side),
+    }
+}
+
+fn cell(draws: &mut Draws, side: u16) -> Cell {
+    draws.cell(Cell {
+        x: side,
+        y: side,
+        z: side,
+    })
+}
+
+fn pointed(alloc: Global, draws: &mut Draws, side: u16) -> Result<String, AllocError> {
+    let at = numbers(alloc, cell(draws, side))?;
+    format!(in alloc; "get {at}")
+}
+
+fn boxed(alloc: Global, word: &str, draws: &mut Draws, side: u16) -> Result<String, AllocError> {
+    let b = draws.boxed(side);
+    let at = numbers(alloc, b.at)?;
+    let size = numbers(alloc, b.size)?;
+    format!(in alloc; "{word} {at} {size}")
+}
+
+fn ray(alloc: Global, draws: &mut Draws, side: u16) -> Result<String, AllocError> {
+    let from = numbers(alloc, cell(draws, side))?;
+    let dx = step(draws);
+    let dy = step(draws);
+    let dz = if dx == 0 && dy == 0 { 1 } else { step(draws) };
+    format!(in alloc; "ray {from} {dx} {dy} {dz}")
+}
+
+// A step from -3 to 3.
+fn step(draws: &mut Draws) -> i16 {
+    STEPS[usize::from(draws.below(7)) % 7]
+}
+
+fn numbers(alloc: Global, c: Cell) -> Result<String, AllocError> {
+    let Cell { x, y, z } = c;
+    format!(in alloc; "{x} {y} {z}")
+}
