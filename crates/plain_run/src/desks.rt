@@ -1,4 +1,4 @@
-ghost use Rattle.std.specs.Prelude.{◌≡◌, ◌≤◌, ◌^◌, [], length, IfOk, true};
+ghost use Rattle.std.specs.Prelude.{◌≡◌, ◌≢◌, ◌≤◌, ◌^◌, [], All, length, IfOk, true};
 ghost use Rattle.vox_read.specs.Contents.{AreModels};
 ghost use Rattle.history_model.specs.Logs.{FitsWorld};
 ghost use Rattle.history_model.specs.Moments.{world_has};
@@ -88,12 +88,17 @@ impl<'m> PlainRun<'m> {
     }
 
     /// Whether the version is there and not forgotten.
-    pub fn keeps(&self, version: u32) -> bool {
+    pub fn keeps(&self, version: u32) -> bool
+        ensures there { result ≡ true → version ≤ length self.now.log.records }
+        ensures free { result ≡ true → All (λ m. m.version ≢ version) self.now.log.marks }
+    {
         version <= self.history.moment() && !self.history.is_marked(version)
     }
 
     /// How many marks there are.
-    pub fn number_of_marks(&self) -> usize {
+    pub fn number_of_marks(&self) -> usize
+        ensures { result ≡ length self.now.log.marks }
+    {
         self.history.marks.len()
     }
 
