@@ -5,6 +5,7 @@ pub mod Agreeing
 pub mod Running
 pub mod Kinds
 pub mod Refusing
+pub mod Saves
 pub mod Passes
 pub mod Statements
 pub mod Runs

@@ -7,9 +7,11 @@
 
 mod laws;
 mod runs;
+mod saves;
 
 pub use laws::{
     answers_go_on, each_answer_is_a_step, full_only_where_possible, runs_go_on,
     sessions_agree_beside_others, shown_records_are_accepted_once,
 };
 pub use runs::{Ran, Transcript};
+pub use saves::SavedBox;

@@ -12,6 +12,7 @@ mod numbers;
 mod placing;
 mod reading;
 mod said;
+mod save_names;
 mod spelling;
 mod words;
 

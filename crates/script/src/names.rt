@@ -5,7 +5,7 @@ ghost use Rattle.script.specs.Commands.{all_change_names, question_rows, is_amon
 pub(crate) fn is_built(name: &[u8]) -> bool
     ensures { result ≡ is_built name.now }
 {
-    name != b"save".as_slice() && name != b"try".as_slice()
+    name != b"try".as_slice()
 }
 
 // Whether the name is that of a change.

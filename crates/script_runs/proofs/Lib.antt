@@ -3,6 +3,7 @@ pub mod PossibleLaws
 pub mod Refusals
 pub mod StoreLines
 pub mod RunSteps
+pub mod Saving
 pub mod Arms
 pub mod Singles
 pub mod HeadLines

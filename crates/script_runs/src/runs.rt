@@ -1,6 +1,7 @@
-ghost use Rattle.std.specs.Prelude.{◌≡◌, ◌^◌, ◌≤◌, [], length, All, IfOk};
+ghost use Rattle.std.specs.Prelude.{◌≡◌, ◌++◌, ◌^◌, ◌≤◌, [], length, All, IfOk};
 ghost use Rattle.script.specs.Fitting.{CommandFits, RisesFrom};
 ghost use Rattle.conformance.specs.Runs.{AllRan};
+ghost use Rattle.conformance.specs.Saves.{saved_in, saved_of};
 ghost use Rattle.script_runs.specs.Sessions.{IsAtStart, RanSession};
 
 use crate::desks::Desk;
@@ -27,6 +28,8 @@ pub fn run_scripts<D: Desk>(
     ensures models { D.models desk.new ≡ D.models desk.old }
     ensures ran { IfOk result (λ transcripts. AllRan (D.plan desk.old) (D.models desk.old)
         scripts.now transcripts.items (D.log desk.new)) }
+    ensures saved { IfOk result (λ transcripts. D.saved desk.new
+        ≡ D.saved desk.old ++ saved_of scripts.now transcripts.items) }
 {
     let mut rooms = rooms_of(alloc, scripts)?;
     let mut transcripts = Vec::with_capacity(alloc, scripts.len())?;
@@ -80,6 +83,8 @@ pub fn run_script<D: Desk>(
     ensures ran { IfOk result (λ answers. RanSession (D.plan desk.old) (D.models desk.old)
         session lines.now answers.items (D.log desk.old) (D.log desk.new)
         (D.noted desk.old) (D.noted desk.new)) }
+    ensures saved { IfOk result (λ answers. D.saved desk.new
+        ≡ D.saved desk.old ++ saved_in lines.now answers.items) }
 {
     let mut answers = room;
     for line in lines {

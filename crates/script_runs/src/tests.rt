@@ -25,6 +25,8 @@ impl Desk for HeadDesk {
 
     ghost noted = { λ d. record { made = []; met = [] } };
 
+    ghost saved = { λ d. [] };
+
     #[tactic(auto, using(crate::proofs::HeadLines::head_goes_on))]
     fn answer(&mut self, _session: u16, l: ScriptLine) -> Result<LineAnswer, Memory> {
         match l.command {

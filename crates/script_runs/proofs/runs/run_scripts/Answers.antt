@@ -14,6 +14,7 @@ loop-script-preserved g c =
           (g.D.Desk.noted c.loop-script.desk) (g.D.Desk.noted c.run_script.new.desk) c.loop-script-test.true c.loop-script.invariant.1 (c.as_slice.ensures.value ∙ c.script.view_is ∙ c.script-item.is) (c.len-session.ensures ∙ c.loop-script.transcripts.ok.0)
           (ran_same plan (g.D.Desk.plan c.loop-script.desk) models (g.D.Desk.models c.loop-script.desk) _ c.as_slice.result.now c.in_ok-lines.lines.items (g.D.Desk.log c.loop-script.desk) (g.D.Desk.log c.run_script.new.desk) (g.D.Desk.noted c.loop-script.desk) (g.D.Desk.noted c.run_script.new.desk)
           (record { plan = stays.plan; models_stay = stays.models_stay }) c.in_ok-lines.ensures.ran) c.in_ok-push.ensures.items,
+      ?,
       c.next_room-room.ensures.others,
     )
 
