@@ -8,6 +8,7 @@ use Rattle.node_words.specs.Plans.{Layout}
 use Rattle.script.specs.declared.commands.ScriptLine.{ScriptLine}
 use Rattle.transcript.specs.declared.answers.Answer.{Answer}
 use Rattle.transcript.specs.declared.answers.Answer.TheVariants as answers
+use Rattle.conformance.specs.declared.saves.SavedBox.{SavedBox}
 use Rattle.conformance.specs.Kinds.{answer_at}
 use Rattle.script_runs.specs.Keeping.{MadeAndMet}
 use Rattle.script_runs.specs.Sessions.{GoesOnWith}
@@ -18,9 +19,15 @@ pub record PlainState : Type 0 where
   pub plan : Layout
   pub models : List Content
   pub log : Log
+  pub saved : List SavedBox
 
-abbrev pub plain_state : PlainHistory → PlainState
-plain_state h = record { plan = h.plan; models = h.models.now; log = plain_log h }
+abbrev pub plain_state : PlainHistory → List SavedBox → PlainState
+plain_state h saved = record {
+  plan = h.plan;
+  models = h.models.now;
+  log = plain_log h;
+  saved = saved;
+}
 
 -- it has no store, which makes and meets nothing
 abbrev pub nothing_noted : MadeAndMet

@@ -1,30 +1,33 @@
-ghost use Rattle.std.specs.Prelude.{◌≡◌, ◌≢◌, ◌≤◌, ◌^◌, [], All, length, IfOk, true};
+ghost use Rattle.std.specs.Prelude.{◌≡◌, ◌≢◌, ◌≤◌, ◌++◌, ◌^◌, [], All, length, IfOk, OnOk, true};
 ghost use Rattle.vox_read.specs.Contents.{AreModels};
 ghost use Rattle.history_model.specs.Logs.{FitsWorld};
 ghost use Rattle.history_model.specs.Moments.{world_has};
 ghost use Rattle.history_model.specs.Worlds.{is_edit};
+ghost use Rattle.conformance.specs.Saves.{saved_by};
 ghost use Rattle.possible.specs.Needed.{made_of};
 ghost use Rattle.plain_run.specs.Plain.{nothing_noted};
 
 use crate::histories::PlainHistory;
 use crate::traces::{Traced, trace};
+use conformance::SavedBox;
 use history_model::{Act, History};
 use node_words::Plan;
-use script::ScriptLine;
+use script::{Command, ScriptLine};
 use script_runs::Desk;
 use std::alloc::Global;
 use std::marker::Model;
-use transcript::LineAnswer;
+use transcript::{Answer, LineAnswer};
 use vox_read::Models;
 use vw_cell::{Cell, Memory};
 
-/// A run that keeps its records and marks alone. Contracts see the plan, the models and the
-/// history.
+/// A run that keeps its records and marks alone, and which saves it accepted. Contracts see the
+/// plan, the models, the history and the saves.
 ///
 /// It has no store, and meets no full bucket, whatever the plan says.
 #[derive(Drop)]
 pub struct PlainRun<'m> {
     history: PlainHistory<'m>,
+    saved: Vec<SavedBox>,
 }
 
 impl<'m> Model for PlainRun<'m> {
@@ -33,7 +36,7 @@ impl<'m> Model for PlainRun<'m> {
 
     ghost Value = { PlainState };
 
-    ghost view = { λ r. plain_state r.history };
+    ghost view = { λ r. plain_state r.history r.saved.items };
 
     ghost invariant = { λ r. ArePlain r.history };
 }
@@ -45,6 +48,7 @@ impl<'m> PlainRun<'m> {
         ensures models { IfOk result (λ r. r.models ≡ models.now) }
         ensures log { IfOk result
             (λ r. r.log ≡ record { side = plan.now.side; records = []; marks = [] }) }
+        ensures saved { IfOk result (λ r. r.saved ≡ []) }
     {
         let history = PlainHistory {
             alloc,
@@ -54,7 +58,10 @@ impl<'m> PlainRun<'m> {
             marks: Vec::new(alloc),
             nows: Vec::from_slice(alloc, &[0])?,
         };
-        Ok(PlainRun { history })
+        Ok(PlainRun {
+            history,
+            saved: Vec::new(alloc),
+        })
     }
 
     /// How many records there are.
@@ -102,6 +109,13 @@ impl<'m> PlainRun<'m> {
         self.history.marks.len()
     }
 
+    /// The saves that were accepted, in order.
+    pub fn saved(&self) -> &[SavedBox]
+        ensures { result.now ≡ self.now.saved }
+    {
+        self.saved.as_slice()
+    }
+
     /// The records and marks.
     pub fn into_history(self) -> History
         ensures { result ≡ self.entry.log }
@@ -129,12 +143,45 @@ impl<'m> Desk for PlainRun<'m> {
 
     ghost noted = { λ d. nothing_noted };
 
+    ghost saved = { λ d. d.saved };
+
     fn answer(&mut self, session: u16, l: ScriptLine) -> Result<LineAnswer, Memory> {
         let line = l.line;
         let answer = self.history.answer_line(session, l)?;
         let at = self.history.moment();
+        add_saved(&mut self.saved, l.command, at, answer)?;
         Ok(LineAnswer { line, at, answer })
     }
 
     fn look(&self) {}
+}
+
+// Adds the save that was accepted, where it is one.
+fn add_saved(
+    saved: &mut Vec<SavedBox>,
+    command: Command,
+    at: u32,
+    answer: Answer,
+) -> Result<(), Memory>
+    ensures { OnOk result (saved.new.items ≡ saved.old.items ++ saved_by command at answer) }
+{
+    match command {
+        Command::Save {
+            version,
+            name,
+            part,
+        } => match answer {
+            Answer::Saved(_) => {
+                let version = version.unwrap_or(at);
+                saved.push(SavedBox {
+                    name,
+                    version,
+                    part,
+                })?;
+                Ok(())
+            }
+            _ => Ok(()),
+        },
+        _ => Ok(()),
+    }
 }

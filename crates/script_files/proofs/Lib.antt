@@ -1,4 +1,5 @@
 pub mod Refusing
+pub mod Writing
 pub mod Ending
 pub mod ScriptLists
 pub mod Loading

@@ -11,7 +11,8 @@ use Rattle.region_laws.specs.LastCounts.{region_counts}
 use Rattle.region_laws.specs.Statements.{own_counts}
 use Rattle.script_files.specs.declared.tallies.LoadTally.{LoadTally}
 use Rattle.script_files.specs.Orders.{Asked}
-use Rattle.script_files.specs.Requests.{texts_written}
+use Rattle.script_files.specs.Requests.{given_by, texts_written}
+use Rattle.script_files.specs.Reports.{BeginsTexts}
 use Rattle.script_files.specs.Scripts.{scripts_of}
 
 -- the usual plan of side 256
@@ -40,4 +41,14 @@ pub record LoadRan (n : ℕ) (told : LoadTally) (outputs : List Named) : Type 0 
   pub records : told.records ≡ length log.records
   pub counts : told.counts ≡ region_counts transcripts
   pub regions : length log.records ≡ 800 → told.counts ≡ own_counts n
-  pub are : outputs ≡ texts_written demo_asked log transcripts []
+  pub are : outputs ≡ texts_written demo_asked
+      (given_by (load_model n ∷ []) lines log transcripts) []
+
+-- the same as far as these first outputs, of which a later one may not have been made
+pub record LoadBegan (n : ℕ) (outputs : List Named) : Type 0 where
+  pub log : Log
+  pub transcripts : List (List LineAnswer)
+  pub lines : List (List ScriptLine)
+  pub read : scripts_of 8 (load_model n ∷ []) (load_scripts n) ≡ Ok lines
+  pub run : AllRan demo_plan (load_model n ∷ []) lines transcripts log
+  pub begins : BeginsTexts demo_asked (given_by (load_model n ∷ []) lines log transcripts) outputs

@@ -25,6 +25,7 @@ use Rattle.script_files.specs.declared.requests.Request.TheVariants.{Count, Run,
 use Rattle.script_files.specs.Requests.{inputs_of}
 use Rattle.script_files.specs.Meanings.{file_in, GivesOutputs, RefusesVox, RefusesScript, RefusesNames}
 use Rattle.script_files.specs.Outcomes.{RefusesFiles, Outcome}
+use Rattle.script_files.specs.Refusals.{output_name}
 use Rattle.script_files.specs.Verdicts.{Verdict, Fine, LacksInput, InputIsLong, HasVoxFault, HasScriptFault, NamesCollide, input_within, inputs_at, verdict_of, JudgesTexts, JudgesInputs, Judges, FollowsRead, FollowsWrite, FollowsText, Follows}
 
 -- ---- one verdict
@@ -180,7 +181,7 @@ follows_told (Err (refusals.Input r)) a files faults new v outcome calm judges =
 follows_told (Err (refusals.Text r)) a files faults new v outcome calm judges =
     text_follows r a files v outcome.0 judges
 follows_told (Err (refusals.Output r)) a files faults new v outcome calm judges =
-    write_follows r.why r.name.now outcome.outputs
+    write_follows r.why (output_name r.name) outcome.outputs
     (Some files) new.files faults new.faults outcome.stops calm
 
 pub outcome_follows : (r : Result Done CommandRefused) (a : Request) (old new : ShelfState)

@@ -1,6 +1,7 @@
 pub mod Orders
 pub mod Requests
 pub mod Scripts
+pub mod Reports
 pub mod Demos
 pub mod Meanings
 pub mod Outcomes

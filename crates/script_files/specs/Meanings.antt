@@ -12,7 +12,6 @@ use Rattle.script.specs.declared.commands.ScriptLine.{ScriptLine}
 use Rattle.script.specs.Fitting.{IsOfText}
 use Rattle.conformance.specs.Runs.{AllRan}
 use Rattle.reporting.specs.Numbers.{IsTotal}
-use Rattle.reporting.specs.Reports.{IsReport}
 use Rattle.script_files.specs.declared.tallies.Done.{Done}
 use Rattle.script_files.specs.declared.tallies.Done.TheVariants.{Counted, Ran, Shown}
 use Rattle.script_files.specs.declared.tallies.Tally.{Tally}
@@ -22,9 +21,10 @@ use Rattle.script_files.specs.declared.refusals.TextRefused.TheVariants.{Vox, Sc
 use Rattle.script_files.specs.declared.requests.Request.{Request}
 use Rattle.script_files.specs.declared.requests.Request.TheVariants.{Count, Run, Demo}
 use Rattle.script_files.specs.Orders.{Asked}
-use Rattle.script_files.specs.Requests.{inputs_of, output_names, texts_written}
+use Rattle.script_files.specs.Requests.{inputs_of, output_names, given_by, texts_written}
+use Rattle.script_files.specs.Reports.{ReportIs, BeginsTexts}
 use Rattle.script_files.specs.Scripts.{scripts_of}
-use Rattle.script_files.specs.Demos.{LoadRan}
+use Rattle.script_files.specs.Demos.{LoadRan, LoadBegan}
 
 -- the text of the VOX file is the first, and those of the scripts come behind it
 abbrev pub file_in : List (List ℕ) → List ℕ
@@ -42,9 +42,9 @@ pub record CellsCounted (texts : List (List ℕ)) (number : ℕ) (outputs : List
   pub counted : number ≡ cells_of_all models
   pub none : outputs ≡ []
 
--- the names of a run's outputs are those of no input, and of no other output
-abbrev pub AreApart : Asked → Type 0
-AreApart asked = collide (output_names asked) (inputs_of (Run asked)) ≡ false
+-- the names of what a run of these scripts may write are those of no input, and differ
+abbrev pub AreApart : Asked → List (List ScriptLine) → Type 0
+AreApart asked lines = collide (output_names asked lines) (inputs_of (Run asked)) ≡ false
 
 -- `run`: the file gives models, no script has a fault, no names collide, and these are the history
 -- and the transcripts of the run of all scripts
@@ -54,7 +54,7 @@ pub record IsAccepted (asked : Asked) (texts : List (List ℕ)) (log : Log)
   pub gives : ReadsModels (file_in texts) (Ok models)
   pub lines : List (List ScriptLine)
   pub read : scripts_of asked.plan.side models (scripts_in texts) ≡ Ok lines
-  pub apart : AreApart asked
+  pub apart : AreApart asked lines
   pub run : AllRan asked.plan models lines transcripts log
 
 -- the numbers of a run: its scripts, the records and marks of its history, and, over all levels,
@@ -66,12 +66,7 @@ pub record TalliesRun (asked : Asked) (models : List Content) (log : Log)
   pub marks : tally.marks ≡ length log.marks
   pub nodes : IsTotal models log tally.nodes
 
--- the report of a history, where one is wanted
-abbrev pub ReportIs : Option (List ℕ) → List Content → Log → List ℕ → Type 0
-ReportIs None models log text = ⊤
-ReportIs (Some name) models log text = IsReport models log text
-
--- the outputs are the transcripts, the journal and the report of the history
+-- the outputs are the transcripts, the files of the accepted saves, the journal and the report
 pub record ScriptsRan (asked : Asked) (texts : List (List ℕ)) (tally : Tally)
     (outputs : List Named) : Type 0 where
   pub log : Log
@@ -80,7 +75,17 @@ pub record ScriptsRan (asked : Asked) (texts : List (List ℕ)) (tally : Tally)
   pub tallied : TalliesRun asked accepted.models log tally
   pub report : List ℕ
   pub reported : ReportIs asked.report accepted.models log report
-  pub are : outputs ≡ texts_written asked log transcripts report
+  pub are : outputs ≡ texts_written asked
+      (given_by accepted.models accepted.lines log transcripts) report
+
+-- the same as far as these first outputs, of which a later one may not have been made
+pub record ScriptsBegan (asked : Asked) (texts : List (List ℕ)) (outputs : List Named) : Type 0
+    where
+  pub log : Log
+  pub transcripts : List (List LineAnswer)
+  pub accepted : IsAccepted asked texts log transcripts
+  pub begins : BeginsTexts asked
+      (given_by accepted.models accepted.lines log transcripts) outputs
 
 -- what a command gives where nothing is refused
 abbrev pub GivesOutputs : Request → List (List ℕ) → Done → List Named → Type 0
@@ -88,6 +93,12 @@ GivesOutputs (Count file) texts (Counted number) outputs = CellsCounted texts nu
 GivesOutputs (Run asked) texts (Ran tally) outputs = ScriptsRan asked texts tally outputs
 GivesOutputs (Demo n) texts (Shown told) outputs = LoadRan n told outputs
 GivesOutputs _ texts _ outputs = ⊥
+
+-- the first outputs of a command; `count` has none
+abbrev pub BeginsOutputs : Request → List (List ℕ) → List Named → Type 0
+BeginsOutputs (Count file) texts outputs = ⊥
+BeginsOutputs (Run asked) texts outputs = ScriptsBegan asked texts outputs
+BeginsOutputs (Demo n) texts outputs = LoadBegan n outputs
 
 -- the VOX file gives models, and this is the first fault of the first script that has one
 pub record HasScriptFault (asked : Asked) (texts : List (List ℕ))
@@ -108,7 +119,7 @@ pub record HasTakenName (asked : Asked) (texts : List (List ℕ)) : Type 0 where
   pub gives : ReadsModels (file_in texts) (Ok models)
   pub lines : List (List ScriptLine)
   pub read : scripts_of asked.plan.side models (scripts_in texts) ≡ Ok lines
-  pub collides : IsTrue (collide (output_names asked) (inputs_of (Run asked)))
+  pub collides : IsTrue (collide (output_names asked lines) (inputs_of (Run asked)))
 
 abbrev pub RefusesNames : Request → List (List ℕ) → Type 0
 RefusesNames (Count file) texts = ⊥

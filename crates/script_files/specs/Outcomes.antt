@@ -12,7 +12,8 @@ use Rattle.script_files.specs.declared.refusals.TextRefused.{TextRefused}
 use Rattle.script_files.specs.declared.refusals.TextRefused.TheVariants.{Vox, Script, Collides, Memory}
 use Rattle.script_files.specs.declared.requests.Request.{Request}
 use Rattle.script_files.specs.Requests.{inputs_of}
-use Rattle.script_files.specs.Meanings.{GivesOutputs, RefusesTexts}
+use Rattle.script_files.specs.Meanings.{GivesOutputs, BeginsOutputs, RefusesTexts}
+use Rattle.script_files.specs.Refusals.{output_name}
 
 -- all inputs were taken, and this is what the command tells and puts out
 pub record ComesTo (done : Done) (outputs : List Named) (a : Request)
@@ -28,12 +29,17 @@ pub record Completes (done : Done) (a : Request) (old new : ShelfState) : Type 0
   pub whole : AreWritten outputs old.files new.files
   pub no_fault : new.faults ≡ old.faults
 
+-- all inputs were taken, and these are the command's first outputs
+pub record BeginsTo (outputs : List Named) (a : Request) (files : Option Files) : Type 0 where
+  pub texts : List (List ℕ)
+  pub taken : AreTaken files (inputs_of a) texts
+  pub begins : BeginsOutputs a texts outputs
+
 -- the outputs up to the one of this name were written, and that one was not
 pub record BreaksOff (why : WriteRefused) (name : List ℕ) (a : Request)
     (old new : ShelfState) : Type 0 where
-  pub done : Done
   pub outputs : List Named
-  pub comes : ComesTo done outputs a old.files
+  pub begins : BeginsTo outputs a old.files
   pub stops : StopsWith why name outputs old.files new.files old.faults new.faults
 
 -- all inputs were taken, and their texts are refused
@@ -55,7 +61,7 @@ Refused (Input r) a old new =
     StopsAt r.why r.name.now (inputs_of a) old.files old.faults new.faults
     × (new.files ≡ old.files)
 Refused (Text r) a old new = RefusesFiles r a old.files × (new ≡ old)
-Refused (Output r) a old new = BreaksOff r.why r.name.now a old new
+Refused (Output r) a old new = BreaksOff r.why (output_name r.name) a old new
 
 abbrev pub Outcome : Result Done CommandRefused → Request → ShelfState → ShelfState → Type 0
 Outcome (Ok done) a old new = Completes done a old new

@@ -1,13 +1,34 @@
 -- The refusals of texts that faults of its texts become: want of memory stays want of memory.
-use Rattle.std.specs.Prelude.{◌≡◌, Result, Err, ⊤}
+use Rattle.std.specs.Prelude.{◌≡◌, ℕ, true, List, Result, Err, ⊤}
 use Rattle.vox_chunk.specs.declared.faults.VoxFault.{VoxFault}
 use Rattle.vox_chunk.specs.declared.faults.VoxFault.TheVariants as faults
 use Rattle.script.specs.declared.faults.ScriptKind.{ScriptKind}
 use Rattle.script.specs.declared.faults.ScriptKind.TheVariants as kinds
+use Rattle.script.specs.Commands.{name_bytes}
 use Rattle.script.specs.Fitting.{IsOfText}
+use Rattle.script.specs.Placing.{is_save_name}
+use Rattle.script_files.specs.declared.refusals.CommandRefused.{CommandRefused}
+use Rattle.script_files.specs.declared.refusals.CommandRefused.TheVariants.{Output}
 use Rattle.script_files.specs.declared.refusals.NumberedFault.{NumberedFault}
+use Rattle.script_files.specs.declared.refusals.OutputName.{OutputName}
+use Rattle.script_files.specs.declared.refusals.OutputName.TheVariants.{Given, Saved}
 use Rattle.script_files.specs.declared.refusals.TextRefused.{TextRefused}
 use Rattle.script_files.specs.declared.refusals.TextRefused.TheVariants.{Vox, Script, Memory}
+
+-- the bytes of an output's name
+abbrev pub output_name : OutputName → List ℕ
+output_name (Given name) = name.now
+output_name (Saved name) = name_bytes name
+
+-- a file can have the name
+abbrev pub IsOutputName : OutputName → Type 0
+IsOutputName (Given name) = ⊤
+IsOutputName (Saved name) = is_save_name name ≡ true
+
+-- so can the output that was not written
+abbrev pub IsNamed : CommandRefused → Type 0
+IsNamed (Output r) = IsOutputName r.name
+IsNamed _ = ⊤
 
 abbrev pub of_vox : VoxFault → TextRefused
 of_vox faults.Memory = Memory

@@ -9,6 +9,14 @@ use Rattle.script_files.specs.declared.requests.Request.{Request}
 use Rattle.script_files.specs.declared.requests.Request.TheVariants.{Count, Run, Demo}
 use Rattle.transcript.specs.declared.answers.LineAnswer.{LineAnswer}
 use Rattle.transcript.specs.Lines.{transcript_of}
+use Rattle.script.specs.declared.commands.Command.{Command}
+use Rattle.script.specs.declared.commands.Command.TheVariants.{Save}
+use Rattle.script.specs.declared.commands.ScriptLine.{ScriptLine}
+use Rattle.script.specs.Commands.{name_bytes}
+use Rattle.vox_read.specs.Contents.{Content}
+use Rattle.conformance.specs.declared.saves.SavedBox.{SavedBox}
+use Rattle.conformance.specs.Saves.{saved_of}
+use Rattle.store_run.specs.Open.{saved_file}
 
 -- the most bytes of a VOX file and of a script
 abbrev pub vox_limit : ℕ
@@ -36,10 +44,24 @@ abbrev pub wanted_name : Option (List ℕ) → List (List ℕ)
 wanted_name None = []
 wanted_name (Some name) = name ∷ []
 
--- the names of what a run writes
-abbrev pub output_names : Asked → List (List ℕ)
-output_names asked =
-    (map transcript_name asked.scripts ++ wanted_name asked.journal) ++ wanted_name asked.report
+-- the names under which scripts save, accepted or not
+abbrev pub name_saved : Command → List (List ℕ)
+name_saved (Save version name part) = name_bytes name ∷ []
+name_saved _ = []
+
+abbrev pub names_saved_in : List ScriptLine → List (List ℕ)
+names_saved_in [] = []
+names_saved_in (l ∷ lines) = name_saved l.command ++ names_saved_in lines
+
+abbrev pub names_saved : List (List ScriptLine) → List (List ℕ)
+names_saved [] = []
+names_saved (script ∷ scripts) = names_saved_in script ++ names_saved scripts
+
+-- the names of what a run of these scripts may write
+abbrev pub output_names : Asked → List (List ScriptLine) → List (List ℕ)
+output_names asked lines =
+    ((map transcript_name asked.scripts ++ names_saved lines) ++ wanted_name asked.journal)
+    ++ wanted_name asked.report
 
 -- each text under its name
 abbrev pub named_texts : List (List ℕ) → List (List ℕ) → List Named
@@ -53,13 +75,39 @@ abbrev pub wanted_output : Option (List ℕ) → List ℕ → List Named
 wanted_output None text = []
 wanted_output (Some name) text = record { name = name; bytes = text } ∷ []
 
--- what a run writes, in order
-abbrev pub outputs_of : Asked → List (List ℕ) → List ℕ → List ℕ → List Named
-outputs_of asked transcripts journal report =
-    (named_texts (map transcript_name asked.scripts) transcripts
-    ++ wanted_output asked.journal journal) ++ wanted_output asked.report report
+-- what a run has come to: its models, its history and transcripts, and the saves that it accepted
+pub record Given : Type 0 where
+  pub models : List Content
+  pub log : Log
+  pub transcripts : List (List LineAnswer)
+  pub saved : List SavedBox
 
--- the texts of a run's transcripts and history, and this report
-abbrev pub texts_written : Asked → Log → List (List LineAnswer) → List ℕ → List Named
-texts_written asked log transcripts report =
-    outputs_of asked (map transcript_of transcripts) (journal_of log) report
+abbrev pub given_by : List Content → List (List ScriptLine) → Log → List (List LineAnswer) → Given
+given_by models lines log transcripts = record {
+  models = models;
+  log = log;
+  transcripts = transcripts;
+  saved = saved_of lines transcripts;
+}
+
+-- the file of an accepted save, under its name
+abbrev pub saved_output : List Content → Log → SavedBox → Named
+saved_output models log s =
+    record { name = name_bytes s.name; bytes = saved_file models log s }
+
+-- what a run writes first: the texts of its transcripts, and then its saved files, by script and
+-- line
+abbrev pub written_first : Asked → Given → List Named
+written_first asked given =
+    named_texts (map transcript_name asked.scripts) (map transcript_of given.transcripts)
+    ++ map (saved_output given.models given.log) given.saved
+
+-- and then: its journal and this report, where they are wanted
+abbrev pub written_last : Asked → Log → List ℕ → List Named
+written_last asked log report =
+    wanted_output asked.journal (journal_of log) ++ wanted_output asked.report report
+
+-- what a run writes, in order
+abbrev pub texts_written : Asked → Given → List ℕ → List Named
+texts_written asked given report =
+    written_first asked given ++ written_last asked given.log report

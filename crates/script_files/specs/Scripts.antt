@@ -1,11 +1,14 @@
 -- What the texts of scripts say, one after the other.
-use Rattle.std.specs.Prelude.{ℕ, ◌+◌, ◌^◌, List, [], ◌∷◌, All, Result, Ok, Err}
+use Rattle.std.specs.Prelude.{◌≡◌, ℕ, ◌+◌, ◌^◌, true, List, [], ◌∷◌, All, Result, Ok, Err, ⊤}
 use Rattle.plain_text.specs.Steps.{◌>>=◌}
 use Rattle.vox_read.specs.Contents.{Content}
 use Rattle.script.specs.declared.commands.ScriptLine.{ScriptLine}
 use Rattle.script.specs.declared.faults.ScriptFault.{ScriptFault}
 use Rattle.script.specs.Commands.{is_built}
 use Rattle.script.specs.Fitting.{CommandFits, RisesFrom}
+use Rattle.script.specs.Placing.{is_save_name}
+use Rattle.script.specs.declared.commands.Command.{Command}
+use Rattle.script.specs.declared.commands.Command.TheVariants.{Save}
 use Rattle.script.specs.Scripts.{commands_of}
 use Rattle.script_files.specs.declared.refusals.NumberedFault.{NumberedFault}
 
@@ -28,6 +31,14 @@ texts_from side models number (text ∷ texts) =
 abbrev pub scripts_of : ℕ → List Content → List (List ℕ)
     → Result (List (List ScriptLine)) NumberedFault
 scripts_of side models texts = texts_from side models 0 texts
+
+-- a file can have the name under which the line saves, where it does
+abbrev pub FileNameIsOf : Command → Type 0
+FileNameIsOf (Save version name part) = is_save_name name ≡ true
+FileNameIsOf _ = ⊤
+
+abbrev pub HasFileName : ScriptLine → Type 0
+HasFileName l = FileNameIsOf l.command
 
 -- what follows from the language for every script, which its run stands on: each command fits the
 -- world and the models, and lines rise

@@ -1,27 +1,25 @@
 -- What the stages of a command give.
-use Rattle.std.specs.Prelude.{◌≡◌, ℕ, ◌<◌, List, [], ◌∷◌, ◌++◌, length, map, Option, Some, None, Ok, ⊤}
+use Rattle.std.specs.Prelude.{◌≡◌, ℕ, List, [], ◌∷◌, ◌++◌, Option, Some, None, Result, Ok, Err, ⊤}
+use Rattle.vw_io.specs.Outside.{ShelfState}
+use Rattle.vw_io.specs.Outputs.{Named, AreWritten, StopsWith}
 use Rattle.vox_read.specs.Contents.{Content, cells_of_all}
 use Rattle.vox_read.specs.Files.{ReadsModels}
 use Rattle.history_model.specs.Journal.{journal_of}
 use Rattle.history_model.specs.Logs.{Log}
-use Rattle.transcript.specs.declared.answers.LineAnswer.{LineAnswer}
-use Rattle.transcript.specs.Lines.{transcript_of}
 use Rattle.script.specs.declared.commands.ScriptLine.{ScriptLine}
 use Rattle.script.specs.Commands.{is_built}
 use Rattle.script.specs.Scripts.{commands_of}
-use Rattle.conformance.specs.Runs.{AllRan}
 use Rattle.gen_load.specs.Loads.{load_model, load_scripts}
-use Rattle.reporting.specs.Numbers.{AreNumbers}
-use Rattle.reporting.specs.Roots.{RootsTellWorlds, listed_root}
-use Rattle.store_run.specs.declared.runs.StoreRan.{StoreRan}
+use Rattle.store_run.specs.declared.runs.ScriptsRun.{ScriptsRun}
 use Rattle.script_files.specs.declared.tallies.Tally.{Tally}
 use Rattle.script_files.specs.Orders.{Asked}
 use Rattle.script_files.specs.Scripts.{AreFitScripts, scripts_of}
-use Rattle.script_files.specs.declared.tallies.LoadTally.{LoadTally}
-use Rattle.script_files.specs.Demos.{demo_plan, demo_asked}
-use Rattle.region_laws.specs.LastCounts.{region_counts}
-use Rattle.region_laws.specs.Statements.{own_counts}
-use Rattle.script_files.specs.Meanings.{IsAccepted, TalliesRun, ReportIs}
+use Rattle.script_files.specs.declared.refusals.OutputRefused.{OutputRefused}
+use Rattle.script_files.specs.declared.scripts.Read.{Read}
+use Rattle.script_files.specs.Meanings.{file_in, scripts_in, AreApart, TalliesRun}
+use Rattle.script_files.specs.Refusals.{output_name}
+use Rattle.script_files.specs.Reports.{ReportIs, BeginsTexts}
+use Rattle.script_files.specs.Requests.{Given, written_last, texts_written}
 
 -- the bytes give these models, and the number is that of their cells
 pub record CountsFile (bytes : List ℕ) (number : ℕ) : Type 0 where
@@ -34,34 +32,33 @@ abbrev pub JournalIs : Option (List ℕ) → List ℕ → List ℕ → Type 0
 JournalIs None text want = ⊤
 JournalIs (Some name) text want = text ≡ want
 
--- the run of accepted inputs, and what its store's nodes tell
-pub record IsStoreRun (asked : Asked) (texts : List (List ℕ)) (r : StoreRan) : Type 0 where
-  pub accepted : IsAccepted asked texts r.ran.history r.ran.transcripts.items
-  pub places : length r.ran.history.records < length r.roots.items
-  pub roots : RootsTellWorlds accepted.models r.ran.history (listed_root r.roots.items)
-  pub numbers : AreNumbers accepted.models r.ran.history r.numbers.items
+-- no input has a fault, no name is taken, and these are the models and the commands
+pub record IsRead (asked : Asked) (texts : List (List ℕ)) (r : Read) : Type 0 where
+  pub gives : ReadsModels (file_in texts) (Ok r.models)
+  pub read : scripts_of asked.plan.side r.models (scripts_in texts) ≡ Ok r.scripts.items
+  pub apart : AreApart asked r.scripts.items
 
--- what a run tells, and its texts
-pub record RunTexts : Type 0 where
+-- what a run over a store has come to
+abbrev pub given_of : ScriptsRun → Given
+given_of r = record {
+  models = r.run.models;
+  log = r.run.log;
+  transcripts = r.transcripts.items;
+  saved = r.run.saved;
+}
+
+-- what a history tells, and its texts. They are empty where they are not asked for
+pub record HistoryTexts : Type 0 where
   pub tally : Tally
-  pub transcripts : List (List ℕ)
   pub journal : List ℕ
   pub report : List ℕ
 
--- they are those of a run's history and transcripts
+-- they are those of this history
 pub record AreTexts (asked : Asked) (models : List Content) (log : Log)
-    (transcripts : List (List LineAnswer)) (written : RunTexts) : Type 0 where
+    (written : HistoryTexts) : Type 0 where
   pub tallied : TalliesRun asked models log written.tally
-  pub transcripts_are : written.transcripts ≡ map transcript_of transcripts
   pub journal_is : JournalIs asked.journal written.journal (journal_of log)
   pub report_is : ReportIs asked.report models log written.report
-
--- the inputs have no fault, and these are the texts of their run
-pub record IsPrepared (asked : Asked) (texts : List (List ℕ)) (written : RunTexts) : Type 0 where
-  pub log : Log
-  pub transcripts : List (List LineAnswer)
-  pub accepted : IsAccepted asked texts log transcripts
-  pub are : AreTexts asked accepted.models log transcripts written
 
 -- one more script was read, and its commands stand behind those before it
 pub record ReadsScript (side : ℕ) (models : List Content) (text : List ℕ)
@@ -71,24 +68,62 @@ pub record ReadsScript (side : ℕ) (models : List Content) (text : List ℕ)
   pub kept : new ≡ old ++ lines ∷ []
   pub fit : AreFitScripts side models (lines ∷ [])
 
--- the run of a load over a store
-pub record IsLoadRun (n : ℕ) (r : StoreRan) : Type 0 where
-  pub lines : List (List ScriptLine)
-  pub read : scripts_of 8 (load_model n ∷ []) (load_scripts n) ≡ Ok lines
-  pub run : AllRan demo_plan (load_model n ∷ []) lines r.ran.transcripts.items r.ran.history
-  pub places : length r.ran.history.records < length r.roots.items
-  pub roots : RootsTellWorlds (load_model n ∷ []) r.ran.history (listed_root r.roots.items)
-  pub numbers : AreNumbers (load_model n ∷ []) r.ran.history r.numbers.items
+-- the model and the commands of a load
+pub record IsLoadRead (n : ℕ) (r : Read) : Type 0 where
+  pub models : r.models ≡ load_model n ∷ []
+  pub read : scripts_of 8 (load_model n ∷ []) (load_scripts n) ≡ Ok r.scripts.items
 
--- what it tells, and the texts that it writes
-pub record IsLoadTold (n : ℕ) (told : LoadTally) (written : RunTexts) : Type 0 where
-  pub log : Log
-  pub transcripts : List (List LineAnswer)
-  pub lines : List (List ScriptLine)
-  pub read : scripts_of 8 (load_model n ∷ []) (load_scripts n) ≡ Ok lines
-  pub run : AllRan demo_plan (load_model n ∷ []) lines transcripts log
-  pub number : told.number ≡ n
-  pub records : told.records ≡ length log.records
-  pub counts : told.counts ≡ region_counts transcripts
-  pub regions : length log.records ≡ 800 → told.counts ≡ own_counts n
-  pub are : AreTexts demo_asked (load_model n ∷ []) log transcripts written
+-- ---- what is written
+
+-- these outputs were written, or some first ones of them
+abbrev pub Writes : {X : Type 0} → Result X OutputRefused → List Named → ShelfState → ShelfState
+    → Type 0
+Writes (Ok x) outputs old new =
+    AreWritten outputs old.files new.files × (new.faults ≡ old.faults)
+Writes (Err r) outputs old new =
+    StopsWith r.why (output_name r.name) outputs old.files new.files old.faults new.faults
+
+-- the journal and the report were written, and this was told
+pub record WroteHistory (asked : Asked) (models : List Content) (log : Log) (tally : Tally)
+    (old new : ShelfState) : Type 0 where
+  pub tallied : TalliesRun asked models log tally
+  pub report : List ℕ
+  pub reported : ReportIs asked.report models log report
+  pub whole : AreWritten (written_last asked log report) old.files new.files
+  pub calm : new.faults ≡ old.faults
+
+-- or some first ones of these, of which the report may not have been made
+pub record StopsHistory (asked : Asked) (models : List Content) (log : Log) (r : OutputRefused)
+    (old new : ShelfState) : Type 0 where
+  pub outputs : List Named
+  pub report : List ℕ
+  pub rest : List Named
+  pub parts : outputs ++ rest ≡ written_last asked log report
+  pub reported : rest ≡ [] → ReportIs asked.report models log report
+  pub stops : StopsWith r.why (output_name r.name) outputs old.files new.files old.faults new.faults
+
+abbrev pub WritesHistory : Asked → List Content → Log → Result Tally OutputRefused → ShelfState
+    → ShelfState → Type 0
+WritesHistory asked models log (Ok tally) old new = WroteHistory asked models log tally old new
+WritesHistory asked models log (Err r) old new = StopsHistory asked models log r old new
+
+-- all outputs of a run were written, and this was told
+pub record WroteRun (asked : Asked) (given : Given) (tally : Tally) (old new : ShelfState) : Type 0
+    where
+  pub tallied : TalliesRun asked given.models given.log tally
+  pub report : List ℕ
+  pub reported : ReportIs asked.report given.models given.log report
+  pub whole : AreWritten (texts_written asked given report) old.files new.files
+  pub calm : new.faults ≡ old.faults
+
+-- or some first ones
+pub record StopsRun (asked : Asked) (given : Given) (r : OutputRefused) (old new : ShelfState)
+    : Type 0 where
+  pub outputs : List Named
+  pub begins : BeginsTexts asked given outputs
+  pub stops : StopsWith r.why (output_name r.name) outputs old.files new.files old.faults new.faults
+
+abbrev pub WritesRun : Asked → Given → Result Tally OutputRefused → ShelfState → ShelfState
+    → Type 0
+WritesRun asked given (Ok tally) old new = WroteRun asked given tally old new
+WritesRun asked given (Err r) old new = StopsRun asked given r old new

@@ -52,7 +52,7 @@ inputs_at files (input ∷ inputs) =
 abbrev pub verdict_of_names : Asked → Result (List (List ScriptLine)) NumberedFault → Verdict
 verdict_of_names asked (Err at) = HasScriptFault at
 verdict_of_names asked (Ok lines) =
-    if collide (output_names asked) (inputs_of (Run asked)) then NamesCollide else Fine
+    if collide (output_names asked lines) (inputs_of (Run asked)) then NamesCollide else Fine
 
 abbrev pub verdict_of : Request → List (List ℕ) → Result (List Content) VoxFault → Verdict
 verdict_of (Count file) texts (Err fault) = HasVoxFault fault

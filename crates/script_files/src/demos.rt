@@ -1,27 +1,29 @@
-ghost use Rattle.std.specs.Prelude.{◌≡◌, map, string_bytes, IfOk};
+ghost use Rattle.std.specs.Prelude.{◌≡◌, ◌≤◌, length, map, string_bytes, IfOk, IfErr};
+ghost use Rattle.vox_read.specs.Contents.{AreModels};
 ghost use Rattle.script_files.specs.declared.requests.Request.TheVariants.{Demo};
 ghost use Rattle.script_files.specs.Requests.{transcript_name};
 ghost use Rattle.region_laws.specs.LastCounts.{count_told, last_count, region_counts};
-ghost use Rattle.script_files.specs.Demos.{demo_asked, demo_plan};
+ghost use Rattle.script_files.specs.Demos.{demo_asked};
 ghost use Rattle.script_files.specs.Outcomes.{Outcome};
-ghost use Rattle.script_files.specs.Stages.{IsLoadRun, IsLoadTold};
+ghost use Rattle.script_files.specs.Refusals.{IsNamed};
+ghost use Rattle.script_files.specs.Scripts.{AreFitScripts};
+ghost use Rattle.script_files.specs.Stages.{IsLoadRead};
 
+use crate::outputs::write_run;
 use crate::refusals::{CommandRefused, TextRefused};
 use crate::requests::{Order, VOX_LIMIT};
-use crate::runs::outputs_of;
-use crate::scripts::read_load;
+use crate::scripts::{Read, read_load};
 use crate::tallies::{Done, LoadTally};
-use crate::texts::{Texts, texts_of};
 use conformance::Transcript;
 use gen_load::load;
 use node_words::Plan;
 use region_laws::loads_are_counted;
 use std::alloc::Global;
-use store_run::{StoreRan, run_scripts};
+use store_run::run_scripts;
 use transcript::Answer;
 use vox_read::read_models;
 use vw_cell::{Memory, Side};
-use vw_io::{Shelf, write_all};
+use vw_io::Shelf;
 
 static SCRIPTS: [&str; 4] = ["demo.0", "demo.1", "demo.2", "demo.3"];
 
@@ -59,43 +61,26 @@ pub fn run_demo<'w, S: Shelf>(
     shelf: &mut S,
 ) -> Result<Done, CommandRefused<'w>>
     requires { map string_bytes transcripts.now ≡ map transcript_name demo_asked.scripts }
-    ensures { Outcome result (Demo n) (S.state shelf.old) (S.state shelf.new) }
-{
-    let Ok(told) = tell_load(alloc, n) else {
-        return Err(CommandRefused::Text(TextRefused::Memory));
-    };
-    let order = demo_order();
-    let Ok(outputs) = outputs_of(alloc, &order, transcripts, &told.texts) else {
-        return Err(CommandRefused::Text(TextRefused::Memory));
-    };
-    match write_all(outputs.as_slice(), shelf) {
-        Ok(()) => Ok(Done::Shown(told.tally)),
-        Err(refused) => Err(CommandRefused::Output(refused)),
-    }
-}
-
-// What the run of a load tells, and the texts that it writes.
-#[derive(Drop)]
-struct LoadTexts {
-    tally: LoadTally,
-    texts: Texts,
-}
-
-#[tactic(auto, using(crate::proofs::Loading::load_told))]
-fn tell_load(alloc: Global, n: u32) -> Result<LoadTexts, Memory>
-    ensures { IfOk result (λ told. IsLoadTold n told.tally told.texts) }
+    ensures outcome { Outcome result (Demo n) (S.state shelf.old) (S.state shelf.new) }
+    ensures named { IfErr result IsNamed }
 {
     loads_are_counted();
     let order = demo_order();
-    let run = run_load(alloc, n, &order.plan)?;
-    let counts = region_counts(run.ran.transcripts.as_slice());
-    let texts = texts_of(alloc, &order, run)?;
-    let tally = LoadTally {
-        number: n,
-        records: texts.tally.records,
-        counts,
+    let Ok(read) = made_load(alloc, n) else {
+        return Err(CommandRefused::Text(TextRefused::Memory));
     };
-    Ok(LoadTexts { tally, texts })
+    let Ok(run) = run_scripts(alloc, &order.plan, &read.models, read.scripts.as_slice()) else {
+        return Err(CommandRefused::Text(TextRefused::Memory));
+    };
+    let counts = region_counts(run.transcripts.as_slice());
+    match write_run(alloc, &order, transcripts, run, shelf) {
+        Ok(tally) => Ok(Done::Shown(LoadTally {
+            number: n,
+            records: tally.records,
+            counts,
+        })),
+        Err(refused) => Err(CommandRefused::Output(refused)),
+    }
 }
 
 // The number that each of four transcripts ends with.
@@ -126,12 +111,14 @@ fn count_told(answer: Answer) -> u64
     }
 }
 
-// The run of the load. That a run takes each load is a law of loads; a load that it did not take
-// would be told as want of memory.
-#[tactic(auto, using(crate::proofs::Loading::load_runs))]
-fn run_load(alloc: Global, n: u32, plan: &Plan) -> Result<StoreRan, Memory>
-    requires { plan.now ≡ demo_plan }
-    ensures { IfOk result (IsLoadRun n) }
+// The model and the commands of the load. That a run takes each load is a law of loads; a load that
+// it did not take would be told as want of memory.
+#[tactic(auto, using(crate::proofs::Loading::load_read))]
+fn made_load(alloc: Global, n: u32) -> Result<Read, Memory>
+    ensures read { IfOk result (IsLoadRead n) }
+    ensures models { IfOk result (λ read. AreModels read.models) }
+    ensures fit { IfOk result (λ read. AreFitScripts 8 read.models read.scripts.items) }
+    ensures number { IfOk result (λ read. length read.scripts.items ≤ 64) }
 {
     let load = load(alloc, n)?;
     if load.vox.len() as u64 > VOX_LIMIT {
@@ -140,8 +127,8 @@ fn run_load(alloc: Global, n: u32, plan: &Plan) -> Result<StoreRan, Memory>
     let Ok(models) = read_models(alloc, load.vox.as_slice()) else {
         return Err(Memory);
     };
-    let Ok(scripts) = read_load(alloc, load.scripts.as_slice(), plan.side(), &models) else {
+    let Ok(scripts) = read_load(alloc, load.scripts.as_slice(), side(), &models) else {
         return Err(Memory);
     };
-    run_scripts(alloc, plan, &models, scripts.as_slice())
+    Ok(Read { models, scripts })
 }

@@ -7,6 +7,7 @@
 
 mod counts;
 mod demos;
+mod outputs;
 mod refusals;
 mod requests;
 mod runs;
@@ -16,7 +17,7 @@ mod texts;
 
 pub use counts::count_file;
 pub use demos::{demo_order, run_demo};
-pub use refusals::{CommandRefused, NumberedFault, TextRefused};
+pub use refusals::{CommandRefused, NumberedFault, OutputName, OutputRefused, TextRefused};
 pub use requests::{FileName, Order, Request};
 pub use runs::{run_files, transcript_names};
 pub use tallies::{Done, LoadTally, Tally};

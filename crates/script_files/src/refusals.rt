@@ -1,7 +1,7 @@
-use script::{ScriptFault, ScriptKind};
+use script::{SaveName, ScriptFault, ScriptKind};
 use vox_read::VoxFault;
 use vw_cell::Memory;
-use vw_io::{InputRefused, OutputRefused};
+use vw_io::{InputRefused, WriteRefused};
 
 /// Why a command did not come to its end, by the stage at which it stopped.
 #[derive(Clone, Copy, Debug, PartialEq, Eq)]
@@ -12,6 +12,23 @@ pub enum CommandRefused<'w> {
     Text(TextRefused),
     /// An output was not written.
     Output(OutputRefused<'w>),
+}
+
+/// The name of an output.
+#[derive(Clone, Copy, Debug, PartialEq, Eq)]
+pub enum OutputName<'w> {
+    /// It is one of the command's words, or made of one.
+    Given(&'w str),
+    /// A script saves under it.
+    Saved(SaveName),
+}
+
+/// The output that was not written, and why. Where memory was wanted before there was an output to
+/// write, its name is empty.
+#[derive(Clone, Copy, Debug, PartialEq, Eq)]
+pub struct OutputRefused<'w> {
+    pub name: OutputName<'w>,
+    pub why: WriteRefused,
 }
 
 /// The first fault of the first script that has one, and the number of that script, counted from 0.
@@ -70,5 +87,34 @@ impl From<Memory> for TextRefused {
 
     fn from(_: Memory) -> Self {
         TextRefused::Memory
+    }
+}
+
+impl<'w> From<vw_io::OutputRefused<'w>> for OutputRefused<'w> {
+    ghost use Rattle.std.specs.Prelude.{◌≡◌};
+    ghost use Rattle.script_files.specs.declared.refusals.OutputName.TheVariants.{Given};
+
+    ghost from_gives = { λ refused now. (now.name ≡ Given refused.name) × (now.why ≡ refused.why) };
+
+    fn from(refused: vw_io::OutputRefused<'w>) -> Self {
+        OutputRefused {
+            name: OutputName::Given(refused.name),
+            why: refused.why,
+        }
+    }
+}
+
+impl<'w> From<Memory> for OutputRefused<'w> {
+    ghost use Rattle.std.specs.Prelude.{◌≡◌};
+    ghost use Rattle.vw_io.specs.declared.shelves.WriteRefused.TheVariants as writes;
+    ghost use Rattle.script_files.specs.Refusals.{IsOutputName};
+
+    ghost from_gives = { λ _ refused. (refused.why ≡ writes.Memory) × IsOutputName refused.name };
+
+    fn from(_: Memory) -> Self {
+        OutputRefused {
+            name: OutputName::Given(""),
+            why: WriteRefused::Memory,
+        }
     }
 }

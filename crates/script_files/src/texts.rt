@@ -5,39 +5,36 @@ ghost use Rattle.history_model.specs.Journal.{journal_of};
 ghost use Rattle.reporting.specs.Numbers.{AreNumbers};
 ghost use Rattle.reporting.specs.Roots.{RootsTellWorlds, listed_root};
 ghost use Rattle.transcript.specs.Lines.{transcript_of};
-ghost use Rattle.script_files.specs.Meanings.{ReportIs};
+ghost use Rattle.script_files.specs.Reports.{ReportIs};
 ghost use Rattle.script_files.specs.Stages.{JournalIs, AreTexts};
 
 use crate::requests::Order;
 use crate::tallies::Tally;
-use conformance::{Ran, Transcript};
+use conformance::Transcript;
 use history_model::{History, journal_text};
 use node_shapes::Name;
 use reporting::report_text;
 use std::alloc::Global;
 use std::marker::Model;
-use store_run::StoreRan;
+use store_run::{OpenRun, StoreRan};
 use transcript::transcript_text;
 use vw_cell::Memory;
 
-/// What a run tells, and its texts. Those of the journal and of the report are empty where they are
-/// not asked for.
+/// What a history tells, and its texts. They are empty where they are not asked for.
 #[derive(Drop)]
 pub(crate) struct Texts {
     pub(crate) tally: Tally,
-    pub(crate) transcripts: Vec<Lines>,
     pub(crate) journal: Vec<u8>,
     pub(crate) report: Vec<u8>,
 }
 
 impl Model for Texts {
-    ghost use Rattle.script_files.specs.Stages.{RunTexts};
+    ghost use Rattle.script_files.specs.Stages.{HistoryTexts};
 
-    ghost Value = { RunTexts };
+    ghost Value = { HistoryTexts };
 
     ghost view = { λ texts. record {
       tally = texts.tally;
-      transcripts = texts.transcripts.items;
       journal = texts.journal.items;
       report = texts.report.items;
     } };
@@ -55,39 +52,27 @@ impl Model for Lines {
     ghost view = { λ text. text.bytes.items };
 }
 
-// What the run tells, and the texts that it writes.
-pub(crate) fn texts_of(alloc: Global, order: &Order<'_>, run: StoreRan) -> Result<Texts, Memory>
-    requires few { length run.ran.history.records ≤ 65535 }
-    requires marks { All (λ m. m.version ≤ length run.ran.history.records) run.ran.history.marks }
-    requires places { length run.ran.history.records < length run.roots.items }
-    requires levels { length run.numbers.items ≤ 11 }
-    ensures { IfOk result (λ texts. (models : List Content)
-        → RootsTellWorlds models run.ran.history (listed_root run.roots.items)
-        → AreNumbers models run.ran.history run.numbers.items
-        → AreTexts order.now models run.ran.history run.ran.transcripts.items texts) }
+// What the run's history tells, and its texts. The run is closed.
+pub(crate) fn texts_of(alloc: Global, order: &Order<'_>, run: OpenRun<'_>) -> Result<Texts, Memory>
+    requires few { length run.log.records ≤ 65535 }
+    requires marks { All (λ m. m.version ≤ length run.log.records) run.log.marks }
+    ensures { IfOk result (AreTexts order.now run.entry.models run.entry.log) }
 {
     let StoreRan {
-        ran,
+        history,
         roots,
         numbers,
-    } = run;
-    let Ran {
-        history,
-        transcripts,
-    } = ran;
+    } = run.close(alloc)?;
     let tally = Tally {
         scripts: order.scripts.len() as u64,
         records: history.records.len() as u64,
         marks: history.marks.len() as u64,
         nodes: nodes_of(numbers.as_slice()),
     };
-    let texts = transcript_texts(alloc, transcripts.as_slice())?;
-    drop(transcripts);
     let journal = asked_journal(alloc, order, &history)?;
     let report = asked_report(alloc, order, &history, roots.as_slice(), numbers.as_slice())?;
     Ok(Texts {
         tally,
-        transcripts: texts,
         journal,
         report,
     })
@@ -137,7 +122,7 @@ fn asked_report(
 }
 
 // The text of each transcript.
-fn transcript_texts(alloc: Global, transcripts: &[Transcript]) -> Result<Vec<Lines>, Memory>
+pub(crate) fn transcript_texts(alloc: Global, transcripts: &[Transcript]) -> Result<Vec<Lines>, Memory>
     ensures { IfOk result (λ texts. texts.items ≡ map transcript_of transcripts.now) }
 {
     let mut texts = Vec::with_capacity(alloc, transcripts.len())?;

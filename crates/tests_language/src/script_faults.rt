@@ -17,7 +17,9 @@ const WORDS: &[(&str, ScriptKind)] = &[
     ("Fill 0 0 0 1 1 1", ScriptKind::Word),
     ("fills 0 0 0 1 1 1", ScriptKind::Word),
     ("7", ScriptKind::Word),
-    ("save a.vox 0 0 0 1 1 1", ScriptKind::Word),
+    ("at 0 save", ScriptKind::Missing),
+    ("save a.vox 0 0 0 1 1", ScriptKind::Missing),
+    ("save a.vox 0 0 0 1 1 1 1", ScriptKind::Extra),
     ("try fill 0 0 0 1 1 1", ScriptKind::Word),
     ("at 0 undo", ScriptKind::Word),
     ("at 0 head", ScriptKind::Word),
@@ -90,6 +92,15 @@ const NUMBERS: &[(&str, ScriptKind)] = &[
     ("ray 0 0 0 0 0 0", ScriptKind::Range),
     ("ray 0 0 0 1025 0 0", ScriptKind::Range),
     ("at x ray 0 0 0 0 0 -1025", ScriptKind::Number),
+    ("save a_-.9 0 0 0 1 1 x", ScriptKind::Number),
+    ("save a 0 0 0 9 1 1", ScriptKind::Range),
+    ("save .a 0 0 0 1 1 1", ScriptKind::Range),
+    ("save -a 0 0 0 1 1 1", ScriptKind::Range),
+    ("save a/b 0 0 0 1 1 1", ScriptKind::Range),
+    (
+        "save aaaaaaaaaaaaaaaaaaaaaaaaaaaaaaaaaaaaaaaaaaaaaaaaaaaaaaaaaaaaaaaaa 0 0 0 1 1 1",
+        ScriptKind::Range,
+    ),
 ];
 
 fn fault(line: u32, kind: ScriptKind) -> Option<ScriptFault> {
@@ -167,4 +178,21 @@ fn kinds_have_their_numbers(rt: HostRuntime) {
     ] {
         assert!(rt; kind.number() == number, "{kind}");
     }
+}
+
+#[test]
+fn saved_boxes_have_at_most_256_cells_a_side(rt: HostRuntime) -> Result<(), Fail> {
+    let side = Side::new(512).ok_or("a side")?;
+    let models = read_models(rt.alloc(), &ONE)?;
+    for &(text, want) in &[
+        ("save a 0 0 0 256 256 256", None),
+        ("save a 0 0 0 257 1 1", Some(ScriptKind::Range)),
+        ("save a 0 0 0 1 257 1", Some(ScriptKind::Range)),
+        ("save a 0 0 0 1 1 257", Some(ScriptKind::Range)),
+    ] {
+        let read = read_script(rt.alloc(), text.as_bytes(), side, &models);
+        let kind = read.err().map(|fault| fault.kind);
+        assert!(rt; kind == want, "at {text}");
+    }
+    Ok(())
 }

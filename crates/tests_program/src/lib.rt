@@ -14,6 +14,8 @@ mod guide_tests;
 #[cfg(test)]
 mod run_tests;
 #[cfg(test)]
+mod save_tests;
+#[cfg(test)]
 mod version_tests;
 #[cfg(test)]
 mod word_tests;

@@ -1,6 +1,7 @@
 -- Room for the line of a fault at any output.
-use Rattle.std.proofs.Common.{◌≡◌, ℕ, List, [], ◌∷◌, ◌++◌, Option, Some, None, Err, sym, subst}
-use Rattle.std.specs.Prelude.{IfSome, All, map}
+use Rattle.std.proofs.Common.{◌≡◌, ℕ, ◌+◌, ◌≤◌, List, [], ◌∷◌, ◌++◌, length, take, Option, Some, None, Err, sym, ap, subst, ◌∙◌, arith, append_assoc}
+use Rattle.std.specs.Prelude.{IfSome, All, map, codes}
+use Rattle.std.proofs.lemmas.List.{length-append, length-take}
 use Rattle.std.proofs.lemmas.List.Elements.{All-nil, All-cons, All-head, All-tail, All-append}
 use Rattle.vw_io.specs.Outside.{ShelfState}
 use Rattle.vw_io.specs.Outputs.{Named}
@@ -10,16 +11,22 @@ use Rattle.script_files.specs.declared.refusals.CommandRefused.{CommandRefused}
 use Rattle.script_files.specs.declared.refusals.CommandRefused.TheVariants.{Input, Text, Output}
 use Rattle.script_files.specs.declared.requests.Request.TheVariants.{Count, Run, Demo}
 use Rattle.script_files.specs.Orders.{Asked}
-use Rattle.script_files.specs.Requests.{transcript_name, named_texts, wanted_output, outputs_of}
-use Rattle.script_files.specs.declared.tallies.Done.{Done}
-use Rattle.script_files.specs.declared.tallies.Done.TheVariants.{Counted, Ran, Shown}
+use Rattle.vox_read.specs.Contents.{Content}
+use Rattle.history_model.specs.Journal.{journal_of}
+use Rattle.history_model.specs.Logs.{Log}
+use Rattle.transcript.specs.Lines.{transcript_of}
+use Rattle.script.specs.declared.commands.SaveName.{SaveName}
+use Rattle.script.specs.Commands.{name_bytes}
+use Rattle.conformance.specs.declared.saves.SavedBox.{SavedBox}
+use Rattle.script_files.specs.Refusals.{output_name, IsNamed}
+use Rattle.script_files.specs.Reports.{BeginsTexts}
+use Rattle.script_files.specs.Requests.{Given, transcript_name, named_texts, wanted_output, saved_output, written_first, written_last, texts_written}
 use Rattle.script_files.specs.Demos.{demo_asked}
-use Rattle.script_files.specs.Meanings.{GivesOutputs}
 use Rattle.script_files.specs.Outcomes.{Outcome, BreaksOff}
 use Rattle.voxdag_top.specs.declared.endings.Ending.{Ending}
 use Rattle.voxdag_top.specs.declared.endings.Ending.TheVariants.{Completed, Usage, Refused}
 use Rattle.voxdag_top.specs.Endings.{CommandEnds}
-use Rattle.voxdag_top.specs.Finishing.{FitsIn, NamesFit, WriteHasRoom, RefusalHasRoom, HasLineRoom}
+use Rattle.voxdag_top.specs.Finishing.{FitsIn, NamesFit, WriteHasRoom, RefusalHasRoom, HasLineRoom, IsEndingNamed}
 
 -- the output's name fits
 abbrev pub NameFits : ℕ → Named → Type 0
@@ -42,74 +49,106 @@ wanted_fits : (name : Option (List ℕ)) (text : List ℕ) (room : ℕ) → IfSo
 wanted_fits None text room fits = All-nil (NameFits room)
 wanted_fits (Some name) text room fits = All-cons (NameFits room) (record { name = name; bytes = text }) [] fits (All-nil (NameFits room))
 
-outputs_fit : (asked : Asked) (transcripts : List (List ℕ)) (journal report : List ℕ) (room : ℕ) → NamesFit asked room → All (NameFits room) (outputs_of asked transcripts journal report)
-outputs_fit asked transcripts journal report room fit =
-    let texts = named_texts (map transcript_name asked.scripts) transcripts in
-    All-append (NameFits room) (texts ++ wanted_output asked.journal journal) (wanted_output asked.report report)
-    (All-append (NameFits room) texts (wanted_output asked.journal journal) (named_fit (map transcript_name asked.scripts) transcripts room fit.transcripts) (wanted_fits asked.journal journal room fit.journal))
-    (wanted_fits asked.report report room fit.report)
+-- a name of a saved file has at most 64 bytes
+save_fits : (name : SaveName) (room : ℕ) → 85 ≤ room → FitsIn room (name_bytes name)
+save_fits name room long =
+    let few = length-take name.len (take 64 name.bytes) in
+    let within = length-take 64 name.bytes in
+    let line = length-append (codes "voxdag: write fault ") (name_bytes name ++ codes "\n") in
+    let end = length-append (name_bytes name) (codes "\n") in
+    omega (arith, long, few, within, line, end)
 
-given_fit : (asked : Asked) (texts : List (List ℕ)) (done : Done) (outputs : List Named) (room : ℕ) → NamesFit asked room → GivesOutputs (Run asked) texts done outputs → All (NameFits room) outputs
-given_fit asked texts (Counted number) outputs room fit gives = absurd gives
-given_fit asked texts (Shown told) outputs room fit gives = absurd gives
-given_fit asked texts (Ran tally) outputs room fit gives = subst (All (NameFits room)) (sym gives.are) (outputs_fit asked _ _ gives.report room fit)
+saves_fit : (models : List Content) (log : Log) (saved : List SavedBox) (room : ℕ) → 85 ≤ room
+    → All (NameFits room) (map (saved_output models log) saved)
+saves_fit models log [] room long = All-nil (NameFits room)
+saves_fit models log (s ∷ saved) room long =
+    All-cons (NameFits room) (saved_output models log s) (map (saved_output models log) saved)
+    (save_fits s.name room long) (saves_fit models log saved room long)
+
+-- whatever a run writes
+outputs_fit : (asked : Asked) (given : Given) (report : List ℕ) (room : ℕ) → NamesFit asked room
+    → All (NameFits room) (texts_written asked given report)
+outputs_fit asked given report room fit =
+    let names = map transcript_name asked.scripts in
+    let texts = map transcript_of given.transcripts in
+    let journal = journal_of given.log in
+    All-append (NameFits room) (written_first asked given) (written_last asked given.log report)
+    (All-append (NameFits room) (named_texts names texts)
+    (map (saved_output given.models given.log) given.saved)
+    (named_fit names texts room fit.transcripts)
+    (saves_fit given.models given.log given.saved room fit.saved))
+    (All-append (NameFits room) (wanted_output asked.journal journal)
+    (wanted_output asked.report report) (wanted_fits asked.journal journal room fit.journal)
+    (wanted_fits asked.report report room fit.report))
+
+-- an output among the first ones
+began_fits : (asked : Asked) (given : Given) (outputs first others : List Named) (output : Named)
+    (room : ℕ) → NamesFit asked room → BeginsTexts asked given outputs
+    → outputs ≡ first ++ output ∷ others → FitsIn room output.name
+began_fits asked given outputs first others output room fit begins parts =
+    one_fits (texts_written asked given begins.report) first (others ++ begins.rest) output room
+    (outputs_fit asked given begins.report room fit)
+    (sym begins.parts ∙ ap (λ (os : List Named). os ++ begins.rest) parts
+    ∙ append_assoc first (output ∷ others) begins.rest)
 
 -- `count` writes nothing
-none_given : (file : List ℕ) (texts : List (List ℕ)) (done : Done) (outputs : List Named) → GivesOutputs (Count file) texts done outputs → outputs ≡ []
-none_given file texts (Counted number) outputs gives = gives.none
-none_given file texts (Ran tally) outputs gives = absurd gives
-none_given file texts (Shown told) outputs gives = absurd gives
+count_write : (why : WriteRefused) (name : List ℕ) (file : List ℕ) (old new : ShelfState)
+    → BreaksOff why name (Count file) old new → ⊥
+count_write why name file old new breaks = breaks.begins.begins
 
-nothing_parts : (outputs first others : List Named) (output : Named) → outputs ≡ [] → outputs ≡ first ++ output ∷ others → ⊥
-nothing_parts outputs [] others output none parts = cc
-nothing_parts outputs (o ∷ first) others output none parts = cc
-
-count_write : (why : WriteRefused) (name : List ℕ) (file : List ℕ) (old new : ShelfState) → BreaksOff why name (Count file) old new → WriteHasRoom why name 0
-count_write writes.Failed name file old new breaks = absurd (nothing_parts breaks.outputs breaks.stops.0.first breaks.stops.0.others breaks.stops.0.output (none_given file breaks.comes.texts breaks.done breaks.outputs breaks.comes.gives) breaks.stops.0.parts)
-count_write writes.Memory name file old new breaks = tt
-
-pub count_refusal : (r : CommandRefused) (file : List ℕ) (old new : ShelfState) → Outcome (Err r) (Count file) old new → RefusalHasRoom r 0
-count_refusal (Output r) file old new outcome = count_write r.why r.name.now file old new outcome
+pub count_refusal : (r : CommandRefused) (file : List ℕ) (old new : ShelfState)
+    → Outcome (Err r) (Count file) old new → RefusalHasRoom r 0
+count_refusal (Output r) file old new outcome =
+    absurd (count_write r.why (output_name r.name) file old new outcome)
 count_refusal (Input r) file old new outcome = tt
 count_refusal (Text r) file old new outcome = tt
 
-run_write : (why : WriteRefused) (name : List ℕ) (asked : Asked) (old new : ShelfState) (room : ℕ) → BreaksOff why name (Run asked) old new → NamesFit asked room → WriteHasRoom why name room
+run_write : (why : WriteRefused) (name : List ℕ) (asked : Asked) (old new : ShelfState) (room : ℕ)
+    → BreaksOff why name (Run asked) old new → NamesFit asked room → WriteHasRoom why name room
 run_write writes.Failed name asked old new room breaks fit =
     let at = breaks.stops.0 in
+    let began = breaks.begins.begins in
     subst (λ (n : List ℕ). FitsIn room n) (sym at.named)
-    (one_fits breaks.outputs at.first at.others at.output room (given_fit asked breaks.comes.texts breaks.done breaks.outputs room fit breaks.comes.gives) at.parts)
+    (began_fits asked _ breaks.outputs at.first at.others at.output room fit began.begins at.parts)
 run_write writes.Memory name asked old new room breaks fit = tt
 
-run_refusal : (r : CommandRefused) (asked : Asked) (old new : ShelfState) (room : ℕ) → Outcome (Err r) (Run asked) old new → NamesFit asked room → RefusalHasRoom r room
-run_refusal (Output r) asked old new room outcome fit = run_write r.why r.name.now asked old new room outcome fit
-run_refusal (Input r) asked old new room outcome fit = tt
-run_refusal (Text r) asked old new room outcome fit = tt
+run_refusal : (r : CommandRefused) (asked : Asked) (old new : ShelfState) (room : ℕ) → IsNamed r
+    → Outcome (Err r) (Run asked) old new → NamesFit asked room → RefusalHasRoom r room
+run_refusal (Output r) asked old new room named outcome fit =
+    (run_write r.why (output_name r.name) asked old new room outcome fit, named)
+run_refusal (Input r) asked old new room named outcome fit = tt
+run_refusal (Text r) asked old new room named outcome fit = tt
 
-pub run_has_room : (e : Ending) (asked : Asked) (old new : ShelfState) (room : ℕ) → CommandEnds e (Run asked) old new → NamesFit asked room → HasLineRoom e room
-run_has_room (Completed done) asked old new room ends fit = tt
-run_has_room Usage asked old new room ends fit = tt
-run_has_room (Refused r) asked old new room ends fit = run_refusal r asked old new room ends fit
+pub run_has_room : (e : Ending) (asked : Asked) (old new : ShelfState) (room : ℕ)
+    → IsEndingNamed e → CommandEnds e (Run asked) old new → NamesFit asked room
+    → HasLineRoom e room
+run_has_room (Completed done) asked old new room named ends fit = tt
+run_has_room Usage asked old new room named ends fit = tt
+run_has_room (Refused r) asked old new room named ends fit =
+    run_refusal r asked old new room named ends fit
 
 -- ---- `demo`
 
-demo_given_fit : (n : ℕ) (texts : List (List ℕ)) (done : Done) (outputs : List Named) (room : ℕ) → NamesFit demo_asked room → GivesOutputs (Demo n) texts done outputs → All (NameFits room) outputs
-demo_given_fit n texts (Counted number) outputs room fit gives = absurd gives
-demo_given_fit n texts (Ran tally) outputs room fit gives = absurd gives
-demo_given_fit n texts (Shown told) outputs room fit gives = subst (All (NameFits room)) (sym gives.are) (outputs_fit demo_asked _ _ [] room fit)
-
-demo_write : (why : WriteRefused) (name : List ℕ) (n : ℕ) (old new : ShelfState) (room : ℕ) → BreaksOff why name (Demo n) old new → NamesFit demo_asked room → WriteHasRoom why name room
+demo_write : (why : WriteRefused) (name : List ℕ) (n : ℕ) (old new : ShelfState) (room : ℕ)
+    → BreaksOff why name (Demo n) old new → NamesFit demo_asked room → WriteHasRoom why name room
 demo_write writes.Failed name n old new room breaks fit =
     let at = breaks.stops.0 in
+    let began = breaks.begins.begins in
     subst (λ (m : List ℕ). FitsIn room m) (sym at.named)
-    (one_fits breaks.outputs at.first at.others at.output room (demo_given_fit n breaks.comes.texts breaks.done breaks.outputs room fit breaks.comes.gives) at.parts)
+    (began_fits demo_asked _ breaks.outputs at.first at.others at.output room fit began.begins
+    at.parts)
 demo_write writes.Memory name n old new room breaks fit = tt
 
-demo_refusal : (r : CommandRefused) (n : ℕ) (old new : ShelfState) (room : ℕ) → Outcome (Err r) (Demo n) old new → NamesFit demo_asked room → RefusalHasRoom r room
-demo_refusal (Output r) n old new room outcome fit = demo_write r.why r.name.now n old new room outcome fit
-demo_refusal (Input r) n old new room outcome fit = tt
-demo_refusal (Text r) n old new room outcome fit = tt
+demo_refusal : (r : CommandRefused) (n : ℕ) (old new : ShelfState) (room : ℕ) → IsNamed r
+    → Outcome (Err r) (Demo n) old new → NamesFit demo_asked room → RefusalHasRoom r room
+demo_refusal (Output r) n old new room named outcome fit =
+    (demo_write r.why (output_name r.name) n old new room outcome fit, named)
+demo_refusal (Input r) n old new room named outcome fit = tt
+demo_refusal (Text r) n old new room named outcome fit = tt
 
-pub demo_has_room : (e : Ending) (n : ℕ) (old new : ShelfState) (room : ℕ) → CommandEnds e (Demo n) old new → NamesFit demo_asked room → HasLineRoom e room
-demo_has_room (Completed done) n old new room ends fit = tt
-demo_has_room Usage n old new room ends fit = tt
-demo_has_room (Refused r) n old new room ends fit = demo_refusal r n old new room ends fit
+pub demo_has_room : (e : Ending) (n : ℕ) (old new : ShelfState) (room : ℕ) → IsEndingNamed e
+    → CommandEnds e (Demo n) old new → NamesFit demo_asked room → HasLineRoom e room
+demo_has_room (Completed done) n old new room named ends fit = tt
+demo_has_room Usage n old new room named ends fit = tt
+demo_has_room (Refused r) n old new room named ends fit =
+    demo_refusal r n old new room named ends fit

@@ -14,6 +14,7 @@ use Rattle.script_files.specs.declared.refusals.TextRefused.TheVariants.{Vox, Sc
 use Rattle.script_files.specs.declared.requests.Request.{Request}
 use Rattle.script_files.specs.Requests.{inputs_of}
 use Rattle.script_files.specs.Outcomes.{BreaksOff}
+use Rattle.script_files.specs.Refusals.{output_name}
 use Rattle.voxdag_top.specs.declared.endings.Ending.{Ending}
 use Rattle.voxdag_top.specs.declared.endings.Ending.TheVariants.{Completed, Usage, Refused}
 use Rattle.voxdag_top.specs.Lines.{Puts, PutsBeginning, memory_line, input_line, output_line}
@@ -221,9 +222,9 @@ write_fault_at (Some a) (Refused (Text Collides)) old new ends is puts = absurd 
 write_fault_at (Some a) (Refused (Output r)) old new ends is puts =
     let which : r.why ≡ writes.Failed = is_write_fault r.why is in
     record {
-      name = r.name.now;
-      breaks = subst (λ (why : WriteRefused). BreaksOff why r.name.now a old.shelf new.shelf) which ends;
-      line = subst (λ (why : WriteRefused). Puts old.out.told new.out.told (output_line why r.name.now)) which puts;
+      name = output_name r.name;
+      breaks = subst (λ (why : WriteRefused). BreaksOff why (output_name r.name) a old.shelf new.shelf) which ends;
+      line = subst (λ (why : WriteRefused). Puts old.out.told new.out.told (output_line why (output_name r.name))) which puts;
     }
 write_fault_at (Some a) (Refused (Text Memory)) old new ends is puts = absurd (omega arith)
 
@@ -251,7 +252,7 @@ output_lacks writes.Failed name is = absurd (omega arith)
 memory_line_of : (e : Ending) → status_of e ≡ 8 → MayLackLine e × (ending_line e ≡ memory_line)
 memory_line_of (Refused (Text Memory)) is = (tt, refl)
 memory_line_of (Refused (Input r)) is = (tt, input_lacks r.why r.name.now is)
-memory_line_of (Refused (Output r)) is = output_lacks r.why r.name.now is
+memory_line_of (Refused (Output r)) is = output_lacks r.why (output_name r.name) is
 memory_line_of (Completed done) is = absurd (omega arith)
 memory_line_of Usage is = absurd (omega arith)
 memory_line_of (Refused (Text (Vox fault))) is = absurd (omega arith)

@@ -13,6 +13,7 @@ use Rattle.script_files.specs.declared.refusals.TextRefused.{TextRefused}
 use Rattle.script_files.specs.declared.refusals.TextRefused.TheVariants.{Vox, Script, Collides, Memory}
 use Rattle.script_files.specs.declared.requests.Request.{Request}
 use Rattle.script_files.specs.Outcomes.{Outcome}
+use Rattle.script_files.specs.Refusals.{output_name}
 use Rattle.voxdag_top.specs.declared.endings.Ending.{Ending}
 use Rattle.voxdag_top.specs.declared.endings.Ending.TheVariants.{Completed, Usage, Refused}
 use Rattle.voxdag_top.specs.Lines.{done_line, usage_line, vox_line, script_line, input_line, output_line, memory_line}
@@ -69,7 +70,7 @@ text_line Memory = memory_line
 abbrev pub refused_line : CommandRefused → List ℕ
 refused_line (Input r) = input_line r.why r.name.now
 refused_line (Text r) = text_line r
-refused_line (Output r) = output_line r.why r.name.now
+refused_line (Output r) = output_line r.why (output_name r.name)
 
 abbrev pub ending_line : Ending → List ℕ
 ending_line (Completed done) = done_line done

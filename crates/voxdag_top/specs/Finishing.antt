@@ -7,6 +7,7 @@ use Rattle.script_files.specs.declared.refusals.CommandRefused.{CommandRefused}
 use Rattle.script_files.specs.declared.refusals.CommandRefused.TheVariants.{Input, Text, Output}
 use Rattle.script_files.specs.declared.requests.Request.{Request}
 use Rattle.script_files.specs.Orders.{Asked}
+use Rattle.script_files.specs.Refusals.{output_name, IsOutputName, IsNamed}
 use Rattle.script_files.specs.Requests.{transcript_name}
 use Rattle.voxdag_top.specs.declared.endings.Ending.{Ending}
 use Rattle.voxdag_top.specs.declared.endings.Ending.TheVariants.{Refused}
@@ -38,9 +39,11 @@ pub record Runs (a : Option Request) (old new : Outside) (result : ℕ) : Type 0
 abbrev pub FitsIn : ℕ → List ℕ → Type 0
 FitsIn room name = length (write_fault_line name) ≤ room
 
--- so does that of each output of a run
+-- so does that of each output of a run. A saved file's name has at most 64 bytes, and the line 21
+-- more
 pub record NamesFit (asked : Asked) (room : ℕ) : Type 0 where
   pub transcripts : All (FitsIn room) (map transcript_name asked.scripts)
+  pub saved : 85 ≤ room
   pub journal : IfSome asked.journal (FitsIn room)
   pub report : IfSome asked.report (FitsIn room)
 
@@ -52,8 +55,14 @@ WriteHasRoom writes.Memory name room = ⊤
 abbrev pub RefusalHasRoom : CommandRefused → ℕ → Type 0
 RefusalHasRoom (Input r) room = ⊤
 RefusalHasRoom (Text r) room = ⊤
-RefusalHasRoom (Output r) room = WriteHasRoom r.why r.name.now room
+RefusalHasRoom (Output r) room =
+    WriteHasRoom r.why (output_name r.name) room × IsOutputName r.name
 
 abbrev pub HasLineRoom : Ending → ℕ → Type 0
 HasLineRoom (Refused r) room = RefusalHasRoom r room
 HasLineRoom _ room = ⊤
+
+-- an output that was not written is one that a file can have the name of
+abbrev pub IsEndingNamed : Ending → Type 0
+IsEndingNamed (Refused r) = IsNamed r
+IsEndingNamed _ = ⊤

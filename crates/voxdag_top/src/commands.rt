@@ -7,7 +7,7 @@ ghost use Rattle.script_files.specs.Verdicts.{Verdict};
 ghost use Rattle.command_line.specs.Texts.{texts};
 ghost use Rattle.voxdag_top.specs.Words.{request_of, counted, demo_words, run_words, run_planned, plan_in};
 ghost use Rattle.voxdag_top.specs.Endings.{CommandEnds};
-ghost use Rattle.voxdag_top.specs.Finishing.{Runs, NamesFit, HasLineRoom};
+ghost use Rattle.voxdag_top.specs.Finishing.{Runs, NamesFit, HasLineRoom, IsEndingNamed};
 ghost use Rattle.voxdag_top.specs.Verdicts.{JudgesWords, status_for};
 ghost use Rattle.voxdag_top.specs.Statuses.{IsOr, is_status, Finished, Unusable, Missed, Faulted, VoxRefused, ScriptRefused, WriteFailed, OutFailed, LacksMemory, Exceeded};
 ghost use Rattle.voxdag_top.specs.Lines.{write_fault_line};
@@ -27,7 +27,8 @@ use vw_io::{Shelf, Sink};
 ///
 /// `count FILE` puts the number of cells of the file's models. `run FILE SCRIPT ..` runs 1 to 64
 /// scripts one after another over a world with the models of the file; it writes each transcript as
-/// `SCRIPT.out`, and puts the numbers of scripts, records, marks and live nodes. Among these words,
+/// `SCRIPT.out` and each file that a script saves, and puts the numbers of scripts, records, marks
+/// and live nodes. Among these words,
 /// in any order and each at most once, may stand options, as `--side s` or `--side=s`: the world has
 /// the side `s`, 4 to 4,096 and 256 without this option; its store has `--buckets b` of
 /// `--cap c` slots on each level, 1 to 4,096 and 1 to 256; `--journal J` and `--report P` are
@@ -239,7 +240,8 @@ fn shown<'w, S: Shelf>(
     shelf: &mut S,
 ) -> Ending<'w>
     requires { map string_bytes transcripts.now ≡ map transcript_name demo_asked.scripts }
-    ensures { CommandEnds result (Demo n) (S.state shelf.old) (S.state shelf.new) }
+    ensures ends { CommandEnds result (Demo n) (S.state shelf.old) (S.state shelf.new) }
+    ensures named { IsEndingNamed result }
 {
     match run_demo(alloc, n, transcripts, shelf) {
         Ok(told) => Ending::Completed(told),
@@ -321,7 +323,8 @@ fn ran<'w, S: Shelf>(
 ) -> Ending<'w>
     requires few { length order.now.scripts ≤ 64 }
     requires named { map string_bytes transcripts.now ≡ map transcript_name order.now.scripts }
-    ensures { CommandEnds result (Run order.now) (S.state shelf.old) (S.state shelf.new) }
+    ensures ends { CommandEnds result (Run order.now) (S.state shelf.old) (S.state shelf.new) }
+    ensures named { IsEndingNamed result }
 {
     match run_files(alloc, order, transcripts, shelf) {
         Ok(done) => Ending::Completed(done),

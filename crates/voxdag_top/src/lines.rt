@@ -2,13 +2,17 @@ ghost use Rattle.std.specs.Prelude.{◌≡◌, ◌≤◌, ◌<◌, ◌^◌, ◌+
 ghost use Rattle.script.specs.Faults.{number_of_kind};
 ghost use Rattle.voxdag_top.specs.Lines.{done_line, run_line, demo_lines, region_lines, script_line, input_line, output_line, write_fault_line};
 ghost use Rattle.voxdag_top.specs.Endings.{ending_line, refused_line, text_line, status_of, refused_status, MayLackLine, RefusalMayLackLine, WriteMayLackLine};
+ghost use Rattle.script_files.specs.Refusals.{output_name, IsOutputName};
 ghost use Rattle.script_files.specs.Requests.{transcript_name};
 ghost use Rattle.voxdag_top.specs.Finishing.{PutEnds, Finishes, NamesFit, HasLineRoom, RefusalHasRoom, WriteHasRoom};
 
 use crate::endings::Ending;
-use script_files::{CommandRefused, Done, LoadTally, NumberedFault, Order, Tally, TextRefused};
+use script_files::{
+    CommandRefused, Done, LoadTally, NumberedFault, Order, OutputName, OutputRefused, Tally,
+    TextRefused,
+};
 use std::alloc::{AllocError, Global};
-use vw_io::{InputRefused, OutputRefused, PutRefused, ReadRefused, Sink, WriteRefused};
+use vw_io::{InputRefused, PutRefused, ReadRefused, Sink, WriteRefused};
 
 // Puts the ending's line, and gives the status. The room is for a line that must not lack memory.
 pub(crate) fn finish<O: Sink>(alloc: Global, ending: &Ending<'_>, room: String, out: &mut O) -> u8
@@ -190,14 +194,26 @@ fn output_line(
     room: String,
 ) -> Result<String, AllocError>
     requires empty { string_bytes room ≡ [] }
-    requires room { WriteHasRoom output.now.why output.now.name.now (string_capacity room) }
+    requires room { WriteHasRoom output.now.why (output_name output.now.name)
+        (string_capacity room) }
+    requires named { IsOutputName output.now.name }
     ensures text { IfOk result
-        (λ text. string_bytes text ≡ output_line output.now.why output.now.name.now) }
+        (λ text. string_bytes text ≡ output_line output.now.why (output_name output.now.name)) }
     ensures lacking { OnErr result (WriteMayLackLine output.now.why) }
 {
     match output.why {
-        WriteRefused::Failed => write_fault_line(output.name, room),
+        WriteRefused::Failed => write_fault_line(name_text(&output.name), room),
         WriteRefused::Memory => format!(in alloc; "voxdag: memory\n"),
+    }
+}
+
+fn name_text<'a>(name: &'a OutputName<'_>) -> &'a str
+    requires { IsOutputName name.now }
+    ensures { result.now ≡ output_name name.now }
+{
+    match name {
+        OutputName::Given(name) => name,
+        OutputName::Saved(name) => name.as_str(),
     }
 }
 
@@ -214,12 +230,16 @@ fn write_fault_line(name: &str, room: String) -> Result<String, AllocError>
     Ok(line)
 }
 
+/// The most bytes of a name under which a script saves.
+const SAVE_NAME: usize = 64;
+
 // The length of the longest line that tells a fault of an output of this run.
 pub(crate) fn write_fault_room(order: &Order<'_>, transcripts: &[String]) -> usize
     requires { map string_bytes transcripts.now ≡ map transcript_name order.now.scripts }
     ensures { NamesFit order.now result }
 {
-    let mut longest = name_length(order.journal).max(name_length(order.report));
+    let words = name_length(order.journal).max(name_length(order.report));
+    let mut longest = words.max(SAVE_NAME);
     for transcript in transcripts {
         longest = longest.max(transcript.len());
     }

@@ -8,5 +8,6 @@ invariant-loop-transcript l = record {
   transcripts : All (λ name. length name ≤ l.longest) (map string_bytes (take l.transcript-index l.transcripts));
   journal : IfSome l.order.journal (λ name. length name ≤ l.longest);
   report : IfSome l.order.report (λ name. length name ≤ l.longest);
+  saved : 64 ≤ l.longest;
   small : l.longest < 2 ^ 63;
 }

@@ -1,7 +1,7 @@
 -- The names of the transcripts before this one.
 use Rattle.std.proofs.Common.{◌≡◌, take, map}
 use Rattle.std.specs.Prelude.{string_bytes}
-use Rattle.script_files.proofs.runs.names_of.Given as goal
+use Rattle.script_files.proofs.scripts.names_of.Given as goal
 
 abbrev pub invariant-loop-transcript : goal.invariant-loop-transcript
 invariant-loop-transcript l =

@@ -1,5 +1,5 @@
 use Rattle.std.proofs.Common.{length}
-use Rattle.script_files.proofs.runs.+add_transcripts.Given as goal
+use Rattle.script_files.proofs.outputs.+add_transcripts.Given as goal
 
 abbrev pub decreases-add_transcripts : goal.decreases-add_transcripts
 decreases-add_transcripts l = length l.names.now

@@ -1,0 +1,163 @@
+//! What a run writes, one output after the other. Saved files are made one at a time.
+ghost use Rattle.std.specs.Prelude.{◌≡◌, ◌≤◌, ◌<◌, ◌++◌, All, length, map, take, drop, string_bytes, IfErr, OnOk};
+ghost use Rattle.std.specs.Option.{option_map};
+ghost use Rattle.transcript.specs.Lines.{transcript_of};
+ghost use Rattle.script_files.specs.Refusals.{IsOutputName};
+ghost use Rattle.script_files.specs.Requests.{named_texts, saved_output, transcript_name, wanted_output};
+ghost use Rattle.script_files.specs.Stages.{given_of, Writes, WritesHistory, WritesRun};
+
+use crate::refusals::{OutputName, OutputRefused};
+use crate::requests::Order;
+use crate::tallies::Tally;
+use crate::texts::{Lines, Texts, texts_of, transcript_texts};
+use conformance::Transcript;
+use std::alloc::Global;
+use store_run::{OpenRun, ScriptsRun};
+use vw_cell::Memory;
+use vw_io::{Output, Shelf, write_all};
+
+/// Writes the transcripts under these names, then the saved files, and then the journal and the
+/// report where they are asked for. What is saved is held until its files are written.
+pub(crate) fn write_run<'w, S: Shelf>(
+    alloc: Global,
+    order: &Order<'w>,
+    names: &'w [String],
+    run: ScriptsRun<'_>,
+    shelf: &mut S,
+) -> Result<Tally, OutputRefused<'w>>
+    requires named { map string_bytes names.now ≡ map transcript_name order.now.scripts }
+    requires few { length run.run.log.records ≤ 65535 }
+    requires marks { All (λ m. m.version ≤ length run.run.log.records) run.run.log.marks }
+    ensures writes { WritesRun order.now (given_of run.entry) result (S.state shelf.old)
+        (S.state shelf.new) }
+    ensures named { IfErr result (λ refused. IsOutputName refused.name) }
+{
+    let ScriptsRun { run, transcripts } = run;
+    let mut run = run;
+    write_transcripts(alloc, names, transcripts, shelf)?;
+    write_saves(alloc, &mut run, shelf)?;
+    write_history(alloc, order, run, shelf)
+}
+
+// Writes the text of each transcript under its name.
+fn write_transcripts<'w, S: Shelf>(
+    alloc: Global,
+    names: &'w [String],
+    transcripts: Vec<Transcript>,
+    shelf: &mut S,
+) -> Result<(), OutputRefused<'w>>
+    ensures writes { Writes result
+        (named_texts (map string_bytes names.now) (map transcript_of transcripts.items))
+        (S.state shelf.old) (S.state shelf.new) }
+    ensures named { IfErr result (λ refused. IsOutputName refused.name) }
+{
+    let texts = transcript_texts(alloc, transcripts.as_slice())?;
+    drop(transcripts);
+    let mut outputs = Vec::new(alloc);
+    add_transcripts(names, texts.as_slice(), &mut outputs)?;
+    Ok(write_all(outputs.as_slice(), shelf)?)
+}
+
+// Makes and writes the file of each accepted save, one after the other.
+fn write_saves<'w, S: Shelf>(
+    alloc: Global,
+    run: &mut OpenRun<'_>,
+    shelf: &mut S,
+) -> Result<(), OutputRefused<'w>>
+    ensures writes { Writes result (map (saved_output run.old.models run.old.log) run.old.saved)
+        (S.state shelf.old) (S.state shelf.new) }
+    ensures same { run.new ≡ run.old }
+    ensures named { IfErr result (λ refused. IsOutputName refused.name) }
+{
+    for k in 0..run.saves() {
+        write_save(alloc, run, k, shelf)?;
+    }
+    Ok(())
+}
+
+// Makes and writes the file of the save of this number.
+fn write_save<'w, S: Shelf>(
+    alloc: Global,
+    run: &mut OpenRun<'_>,
+    k: usize,
+    shelf: &mut S,
+) -> Result<(), OutputRefused<'w>>
+    requires { k < length run.old.saved }
+    ensures writes { Writes result
+        (take 1 (drop k (map (saved_output run.old.models run.old.log) run.old.saved)))
+        (S.state shelf.old) (S.state shelf.new) }
+    ensures same { run.new ≡ run.old }
+    ensures named { IfErr result (λ refused. IsOutputName refused.name) }
+{
+    let save = run.save(k);
+    let file = run.file(alloc, k)?;
+    match shelf.write(save.name.as_str(), file.as_slice()) {
+        Ok(()) => Ok(()),
+        Err(why) => Err(OutputRefused {
+            name: OutputName::Saved(save.name),
+            why,
+        }),
+    }
+}
+
+// Closes the run, and writes the journal and the report where they are asked for.
+fn write_history<'w, S: Shelf>(
+    alloc: Global,
+    order: &Order<'w>,
+    run: OpenRun<'_>,
+    shelf: &mut S,
+) -> Result<Tally, OutputRefused<'w>>
+    requires few { length run.log.records ≤ 65535 }
+    requires marks { All (λ m. m.version ≤ length run.log.records) run.log.marks }
+    ensures writes { WritesHistory order.now run.entry.models run.entry.log result
+        (S.state shelf.old) (S.state shelf.new) }
+    ensures named { IfErr result (λ refused. IsOutputName refused.name) }
+{
+    let texts = texts_of(alloc, order, run)?;
+    let mut outputs = Vec::new(alloc);
+    add_wanted(order.journal, texts.journal.as_slice(), &mut outputs)?;
+    add_wanted(order.report, texts.report.as_slice(), &mut outputs)?;
+    match write_all(outputs.as_slice(), shelf) {
+        Ok(()) => Ok(texts.tally),
+        Err(refused) => Err(OutputRefused::from(refused)),
+    }
+}
+
+// Adds the text of what is wanted under its name.
+fn add_wanted<'w, 't>(
+    name: Option<&'w str>,
+    text: &'t [u8],
+    outputs: &mut Vec<Output<'w, 't>>,
+) -> Result<(), Memory>
+    ensures { OnOk result (outputs.new.items ≡ outputs.old.items
+        ++ wanted_output (option_map (λ n. n.now) name.entry) text.now) }
+{
+    if let Some(name) = name {
+        outputs.push(Output { name, bytes: text })?;
+    }
+    Ok(())
+}
+
+// Adds each transcript's text under its name.
+fn add_transcripts<'w, 't>(
+    names: &'w [String],
+    texts: &'t [Lines],
+    outputs: &mut Vec<Output<'w, 't>>,
+) -> Result<(), Memory>
+    ensures { OnOk result (outputs.new.items
+        ≡ outputs.old.items ++ named_texts (map string_bytes names.now) texts.now) }
+{
+    match names {
+        [] => Ok(()),
+        [name, names @ ..] => match texts {
+            [] => Ok(()),
+            [text, texts @ ..] => {
+                outputs.push(Output {
+                    name: name.as_str(),
+                    bytes: text.bytes.as_slice(),
+                })?;
+                add_transcripts(names, texts, outputs)
+            }
+        },
+    }
+}
