@@ -146,10 +146,10 @@ impl<'m> Desk for PlainRun<'m> {
     ghost saved = { λ d. d.saved };
 
     fn answer(&mut self, session: u16, l: ScriptLine) -> Result<LineAnswer, Memory> {
-        let line = l.line;
+        let ScriptLine { line, command } = l;
         let answer = self.history.answer_line(session, l)?;
         let at = self.history.moment();
-        add_saved(&mut self.saved, l.command, at, answer)?;
+        add_saved(&mut self.saved, command, at, answer)?;
         Ok(LineAnswer { line, at, answer })
     }
 
