@@ -1,6 +1,7 @@
 -- What each stage gives, as an outcome of the whole command.
-use Rattle.std.proofs.Common.{◌≡◌, ℕ, ◌+◌, ◌≤◌, List, [], ◌∷◌, ◌++◌, length, map, Option, Some, None, Ok, Err, refl, sym, ap, subst, ◌∙◌, arith, append_assoc, append-nil}
+use Rattle.std.proofs.Common.{◌≡◌, ℕ, ◌+◌, ◌≤◌, List, [], ◌∷◌, ◌++◌, length, map, Option, Some, None, Result, Ok, Err, refl, sym, ap, subst, ◌∙◌, arith, append_assoc, append-nil}
 use Rattle.std.proofs.lemmas.List.{length-append}
+use Rattle.vw_io.specs.declared.shelves.WriteRefused.{WriteRefused}
 use Rattle.vw_io.specs.declared.shelves.WriteRefused.TheVariants.{Memory}
 use Rattle.history_model.specs.Logs.{Log}
 use Rattle.vw_io.specs.Outside.{Files, ShelfState}
@@ -16,6 +17,7 @@ use Rattle.store_run.specs.declared.runs.ScriptsRun.{ScriptsRun}
 use Rattle.script_files.specs.declared.tallies.Done.TheVariants.{Counted, Ran}
 use Rattle.script_files.specs.declared.tallies.Tally.{Tally}
 use Rattle.script_files.specs.declared.refusals.CommandRefused.TheVariants.{Text, Output}
+use Rattle.script_files.specs.declared.refusals.OutputName.{OutputName}
 use Rattle.script_files.specs.declared.refusals.OutputRefused.{OutputRefused}
 use Rattle.script_files.specs.declared.refusals.TextRefused.{TextRefused}
 use Rattle.script_files.specs.declared.refusals.TextRefused.TheVariants.{Vox, Script, Collides}
@@ -29,7 +31,7 @@ use Rattle.script_files.specs.Reports.{ReportIs}
 use Rattle.script_files.specs.Requests.{Given, given_by, inputs_of, named_texts, transcript_name, saved_output, wanted_output, written_first, written_last, texts_written}
 use Rattle.script_files.specs.Meanings.{file_in, IsAccepted, TalliesRun, RefusesTexts}
 use Rattle.script_files.specs.Outcomes.{Outcome}
-use Rattle.script_files.specs.Stages.{CountsFile, JournalIs, IsRead, given_of, HistoryTexts, AreTexts, WroteHistory, StopsHistory, WroteRun, StopsRun}
+use Rattle.script_files.specs.Stages.{CountsFile, JournalIs, IsRead, given_of, HistoryTexts, AreTexts, WroteHistory, StopsHistory, WritesHistory, WroteRun, StopsRun, WritesRun}
 use Rattle.script_files.proofs.Writing.{both_written, stops_after, stops_before, stops_at_once}
 
 -- the first text is within the first input's limit
@@ -120,6 +122,17 @@ history_written asked models log written outputs tally old new are is told whole
       (is ∙ last_same asked models log written are) whole;
   calm = calm;
 }
+
+-- a refusal that was made of this name and cause
+pub stops_from : (r : OutputRefused) (name : OutputName) (why : WriteRefused)
+    (outputs : List Named) (old new : ShelfState) → r.name ≡ name → r.why ≡ why
+    → StopsWith why (output_name name) outputs old.files new.files old.faults new.faults
+    → StopsWith r.why (output_name r.name) outputs old.files new.files old.faults new.faults
+stops_from r name why outputs old new named is stops =
+    subst (λ (n : OutputName). StopsWith r.why (output_name n) outputs old.files new.files
+    old.faults new.faults) (sym named)
+    (subst (λ (w : WriteRefused). StopsWith w (output_name name) outputs old.files new.files
+    old.faults new.faults) (sym is) stops)
 
 pub history_stopped : (asked : Asked) (models : List Content) (log : Log) (written : HistoryTexts)
     (outputs : List Named) (r : OutputRefused) (old new : ShelfState)
@@ -218,9 +231,15 @@ module _ (asked : Asked) (given : Given) (old : ShelfState) where
         calm = h.calm ∙ files_calm ∙ texts_calm;
       }
 
+      pub run_writes : (result : Result Tally OutputRefused) (new : ShelfState)
+          → WritesHistory asked given.models given.log result late new
+          → WritesRun asked given result old new
+      run_writes (Ok tally) new h = all_written tally new h
+      run_writes (Err r) new h = stops_in_history r new h
+
 -- ---- `run`
 
-pub accepts : (asked : Asked) (texts : List (List ℕ)) (r : Read) (run : ScriptsRun)
+abbrev pub accepts : (asked : Asked) (texts : List (List ℕ)) (r : Read) (run : ScriptsRun)
     → IsRead asked texts r
     → AllRan asked.plan r.models r.scripts.items run.transcripts.items run.run.log
     → IsAccepted asked texts run.run.log run.transcripts.items

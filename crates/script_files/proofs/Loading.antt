@@ -15,7 +15,7 @@ use Rattle.gen_load.specs.Draws.{state_after}
 use Rattle.gen_load.specs.Loads.{load_model, load_scripts, line_state, scripts_from}
 use Rattle.load_laws.specs.ReadLaws.{scripts_are_read}
 use Rattle.region_laws.specs.LastCounts.{region_counts}
-use Rattle.region_laws.specs.Statements.{load_lines, LoadsAreCounted}
+use Rattle.region_laws.specs.Statements.{load_lines, own_counts, LoadsAreCounted}
 use Rattle.script_files.specs.declared.refusals.NumberedFault.{NumberedFault}
 use Rattle.script_files.specs.declared.tallies.Done.TheVariants.{Shown}
 use Rattle.script_files.specs.declared.tallies.LoadTally.{LoadTally}

@@ -1,7 +1,7 @@
 -- Scripts that are read one after the other.
 use Rattle.std.specs.Prelude.{All}
-use Rattle.std.proofs.Common.{◌≡◌, ℕ, ◌+◌, ◌^◌, ◌<◌, ◌≤◌, List, [], ◌∷◌, ◌++◌, length, drop, get_or, Result, Ok, Err, refl, sym, ap, subst, ◌∙◌, arith, append_assoc, append-nil}
-use Rattle.std.proofs.lemmas.List.{drop_more, drop_all, length-append}
+use Rattle.std.proofs.Common.{◌≡◌, ℕ, ◌+◌, ◌^◌, ◌<◌, ◌≤◌, List, [], ◌∷◌, ◌++◌, length, take, drop, get_or, Result, Ok, Err, refl, sym, ap, subst, ◌∙◌, arith, append_assoc, append-nil}
+use Rattle.std.proofs.lemmas.List.{take_more, drop_more, drop_all, length-append}
 use Rattle.std.proofs.lemmas.List.Elements.{All-nil, All-append}
 use Rattle.plain_text.specs.Steps.{◌>>=◌}
 use Rattle.vox_read.specs.Contents.{Content}
@@ -15,6 +15,7 @@ use Rattle.script_files.specs.declared.refusals.TextRefused.{TextRefused}
 use Rattle.script_files.specs.declared.refusals.TextRefused.TheVariants.{Vox, Script, Collides, Memory}
 use Rattle.script_files.specs.Refusals.{RefusesScripts}
 use Rattle.script_files.specs.Scripts.{in_script, texts_from, scripts_of, AreFitScripts}
+use Rattle.script_files.specs.Requests.{name_saved, names_saved_in}
 use Rattle.script_files.specs.Stages.{ReadsScript}
 
 -- what was read before, and what the texts behind it say
@@ -83,3 +84,24 @@ next_refused (Script at) side models texts text k old within is so_far refuses =
 next_refused Memory side models texts text k old within is so_far refuses = tt
 next_refused (Vox fault) side models texts text k old within is so_far refuses = absurd refuses
 next_refused Collides side models texts text k old within is so_far refuses = absurd refuses
+
+-- ---- names under which scripts save
+
+names_push : (lines : List ScriptLine) (l : ScriptLine)
+    → names_saved_in (lines ++ l ∷ []) ≡ names_saved_in lines ++ name_saved l.command
+names_push [] l = append-nil _
+names_push (k ∷ lines) l =
+    ap (λ (ns : List (List ℕ)). name_saved k.command ++ ns) (names_push lines l)
+    ∙ sym (append_assoc (name_saved k.command) (names_saved_in lines) _)
+
+pub next_names : (start old new : List (List ℕ)) (lines : List ScriptLine) (i : ℕ)
+    (l : ScriptLine) → i < length lines → l ≡ get_or lines i l
+    → old ≡ start ++ names_saved_in (take i lines) → new ≡ old ++ name_saved l.command
+    → new ≡ start ++ names_saved_in (take (i + 1) lines)
+next_names start old new lines i l lt at so_far added =
+    let more : take (i + 1) lines ≡ take i lines ++ l ∷ [] =
+    take_more lines i l lt ∙ ap (λ (k : ScriptLine). take i lines ++ k ∷ []) (sym at) in
+    added ∙ ap (λ (ns : List (List ℕ)). ns ++ name_saved l.command) so_far
+    ∙ append_assoc start (names_saved_in (take i lines)) (name_saved l.command)
+    ∙ ap (λ (ns : List (List ℕ)). start ++ ns) (sym (names_push (take i lines) l))
+    ∙ ap (λ (ls : List ScriptLine). start ++ names_saved_in ls) (sym more)

@@ -1,6 +1,7 @@
 -- Outputs that are written in stages.
 use Rattle.std.proofs.Common.{◌≡◌, ℕ, zero, suc, ◌+◌, ◌<◌, ◌≤◌, List, [], ◌∷◌, ◌++◌, length, take, drop, map, Option, Some, None, Result, Ok, Err, refl, sym, ap, subst, ◌∙◌, arith, append_assoc}
 use Rattle.std.specs.List.{slice_get}
+use Rattle.std.proofs.lemmas.Option.{none-some, get_or_from_slice_get}
 use Rattle.std.proofs.lemmas.List.{take-append-drop, take-take, drop-take, take_all, length-map}
 use Rattle.vw_io.specs.declared.shelves.WriteRefused.{WriteRefused}
 use Rattle.vw_io.specs.declared.shelves.WriteRefused.TheVariants.{Failed, Memory}
@@ -161,8 +162,8 @@ all_outputs outputs k old new past so_far = (
 
 one_output : {X : Type 0} (f : X → Named) (xs : List X) (k : ℕ) (x : X) → slice_get xs k ≡ Some x
     → take 1 (drop k (map f xs)) ≡ f x ∷ []
-one_output f [] k x is = absurd cc
-one_output f (y ∷ xs) zero x is = ap (λ (z : X). f z ∷ []) (some-injective y x is)
+one_output f [] k x is = absurd (none-some x is)
+one_output {X = X} f (y ∷ xs) zero x is = ap (λ (z : X). f z ∷ []) (get_or_from_slice_get (y ∷ xs) 0 x y is)
 one_output f (y ∷ xs) (suc k) x is = one_output f xs k x is
 
 pub output_written : {X : Type 0} (f : X → Named) (xs : List X) (k : ℕ) (x : X) (bytes : List ℕ)

@@ -113,7 +113,6 @@ fn count_told(answer: Answer) -> u64
 
 // The model and the commands of the load. That a run takes each load is a law of loads; a load that
 // it did not take would be told as want of memory.
-#[tactic(auto, using(crate::proofs::Loading::load_read))]
 fn made_load(alloc: Global, n: u32) -> Result<Read, Memory>
     ensures read { IfOk result (IsLoadRead n) }
     ensures models { IfOk result (λ read. AreModels read.models) }

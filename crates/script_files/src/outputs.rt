@@ -1,5 +1,5 @@
 //! What a run writes, one output after the other. Saved files are made one at a time.
-ghost use Rattle.std.specs.Prelude.{◌≡◌, ◌≤◌, ◌<◌, ◌++◌, All, length, map, take, drop, string_bytes, IfErr, OnOk};
+ghost use Rattle.std.specs.Prelude.{◌≡◌, ◌≤◌, ◌<◌, ◌++◌, All, length, map, take, drop, string_bytes, IfOk, IfErr, OnOk};
 ghost use Rattle.std.specs.Option.{option_map};
 ghost use Rattle.transcript.specs.Lines.{transcript_of};
 ghost use Rattle.script_files.specs.Refusals.{IsOutputName};
@@ -34,8 +34,12 @@ pub(crate) fn write_run<'w, S: Shelf>(
 {
     let ScriptsRun { run, transcripts } = run;
     let mut run = run;
-    write_transcripts(alloc, names, transcripts, shelf)?;
-    write_saves(alloc, &mut run, shelf)?;
+    if let Err(refused) = write_transcripts(alloc, names, transcripts, shelf) {
+        return Err(refused);
+    }
+    if let Err(refused) = write_saves(alloc, &mut run, shelf) {
+        return Err(refused);
+    }
     write_history(alloc, order, run, shelf)
 }
 
@@ -70,7 +74,9 @@ fn write_saves<'w, S: Shelf>(
     ensures named { IfErr result (λ refused. IsOutputName refused.name) }
 {
     for k in 0..run.saves() {
-        write_save(alloc, run, k, shelf)?;
+        if let Err(refused) = write_save(alloc, run, k, shelf) {
+            return Err(refused);
+        }
     }
     Ok(())
 }
@@ -113,14 +119,32 @@ fn write_history<'w, S: Shelf>(
         (S.state shelf.old) (S.state shelf.new) }
     ensures named { IfErr result (λ refused. IsOutputName refused.name) }
 {
-    let texts = texts_of(alloc, order, run)?;
-    let mut outputs = Vec::new(alloc);
-    add_wanted(order.journal, texts.journal.as_slice(), &mut outputs)?;
-    add_wanted(order.report, texts.report.as_slice(), &mut outputs)?;
+    let Ok(texts) = texts_of(alloc, order, run) else {
+        return Err(OutputRefused::from(Memory));
+    };
+    let Ok(outputs) = last_outputs(alloc, order, &texts) else {
+        return Err(OutputRefused::from(Memory));
+    };
     match write_all(outputs.as_slice(), shelf) {
         Ok(()) => Ok(texts.tally),
         Err(refused) => Err(OutputRefused::from(refused)),
     }
+}
+
+// The journal and the report, where they are asked for.
+fn last_outputs<'w, 't>(
+    alloc: Global,
+    order: &Order<'w>,
+    texts: &'t Texts,
+) -> Result<Vec<Output<'w, 't>>, Memory>
+    ensures { IfOk result (λ outputs. outputs.items
+        ≡ wanted_output order.now.journal texts.now.journal
+        ++ wanted_output order.now.report texts.now.report) }
+{
+    let mut outputs = Vec::new(alloc);
+    add_wanted(order.journal, texts.journal.as_slice(), &mut outputs)?;
+    add_wanted(order.report, texts.report.as_slice(), &mut outputs)?;
+    Ok(outputs)
 }
 
 // Adds the text of what is wanted under its name.
