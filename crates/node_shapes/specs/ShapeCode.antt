@@ -10,7 +10,8 @@ abbrev pub shape_steps : Shape → List ℕ → List ℕ
 shape_steps Clear more = zero ∷ more
 shape_steps (Leaf bits) more = suc (suc bits) ∷ more
 shape_steps (Branch a b c d e f g h) more =
-    shape_steps a (shape_steps b (shape_steps c (shape_steps d (shape_steps e (shape_steps f (shape_steps g (shape_steps h (suc zero ∷ more))))))))
+    shape_steps a (shape_steps b (shape_steps c (shape_steps d (
+    shape_steps e (shape_steps f (shape_steps g (shape_steps h (suc zero ∷ more))))))))
 
 abbrev pub join_top : List Shape → List Shape
 join_top (h ∷ g ∷ f ∷ e ∷ d ∷ c ∷ b ∷ a ∷ rest) = Branch a b c d e f g h ∷ rest
@@ -31,7 +32,9 @@ pub run_shape-steps : (s : Shape) (more : List ℕ) (stack : List Shape)
 run_shape-steps Clear more stack = refl
 run_shape-steps (Leaf bits) more stack = refl
 run_shape-steps (Branch a b c d e f g h) more stack =
-    run_shape-steps a _ _ ∙ run_shape-steps b _ _ ∙ run_shape-steps c _ _ ∙ run_shape-steps d _ _ ∙ run_shape-steps e _ _ ∙ run_shape-steps f _ _ ∙ run_shape-steps g _ _ ∙ run_shape-steps h _ _
+    run_shape-steps a _ _ ∙ run_shape-steps b _ _ ∙ run_shape-steps c _ _
+    ∙ run_shape-steps d _ _ ∙ run_shape-steps e _ _ ∙ run_shape-steps f _ _
+    ∙ run_shape-steps g _ _ ∙ run_shape-steps h _ _
 
 abbrev pub coded_shape : Coded Shape
 coded_shape =

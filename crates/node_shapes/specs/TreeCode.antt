@@ -28,7 +28,8 @@ abbrev pub tree_steps : Tree → List CodeStep → List CodeStep
 tree_steps Gone more = (zero, no_name) ∷ more
 tree_steps (LeafAt n bits) more = (suc (suc bits), n) ∷ more
 tree_steps (NodeAt n a b c d e f g h) more =
-    tree_steps a (tree_steps b (tree_steps c (tree_steps d (tree_steps e (tree_steps f (tree_steps g (tree_steps h ((suc zero, n) ∷ more))))))))
+    tree_steps a (tree_steps b (tree_steps c (tree_steps d (
+    tree_steps e (tree_steps f (tree_steps g (tree_steps h ((suc zero, n) ∷ more))))))))
 
 abbrev pub join_trees : Name → List Tree → List Tree
 join_trees n (h ∷ g ∷ f ∷ e ∷ d ∷ c ∷ b ∷ a ∷ rest) = NodeAt n a b c d e f g h ∷ rest
@@ -49,7 +50,9 @@ pub run_tree-steps : (t : Tree) (more : List CodeStep) (stack : List Tree)
 run_tree-steps Gone more stack = refl
 run_tree-steps (LeafAt n bits) more stack = refl
 run_tree-steps (NodeAt n a b c d e f g h) more stack =
-    run_tree-steps a _ _ ∙ run_tree-steps b _ _ ∙ run_tree-steps c _ _ ∙ run_tree-steps d _ _ ∙ run_tree-steps e _ _ ∙ run_tree-steps f _ _ ∙ run_tree-steps g _ _ ∙ run_tree-steps h _ _
+    run_tree-steps a _ _ ∙ run_tree-steps b _ _ ∙ run_tree-steps c _ _
+    ∙ run_tree-steps d _ _ ∙ run_tree-steps e _ _ ∙ run_tree-steps f _ _
+    ∙ run_tree-steps g _ _ ∙ run_tree-steps h _ _
 
 abbrev pub coded_tree : Coded Tree
 coded_tree =

@@ -56,8 +56,13 @@ starts : (word : List ℕ) → begins_exactly word ≡ true
     → (0 < length word) × (get_or word 0 0 ≡ 48 → length word ≡ 1)
 starts [] begins = absurd cc
 starts (b ∷ []) begins = (omega arith, λ zero_first. refl)
-starts (b ∷ c ∷ rest) begins =
-    (omega arith, λ zero_first. absurd (let is : eqb b 48 ≡ true = eq-eqb b 48 zero_first in let other : not true ≡ true = rw is at begins in cc))
+starts (b ∷ c ∷ rest) begins = (
+  omega arith,
+  λ zero_first. absurd (
+      let is : eqb b 48 ≡ true = eq-eqb b 48 zero_first in
+      let other : not true ≡ true = rw is at begins in
+      cc),
+)
 
 -- what is read is written so
 pub exact_takes : (bound : ℕ) (word : List ℕ) (n : ℕ) → bound ≤ 2 ^ 64 → exact bound word ≡ Some n
@@ -67,8 +72,11 @@ exact_takes bound word n small same =
     let parts = digit_is n (number_from bound 0 word) (begins_exactly word) same in
     let begins = starts word parts.0 in
     let is = takes_from bound 0 n word parts.1 in
-    let low : value_from 0 word < 2 ^ 64 = omega (arith, is.1, is.2, small) in
-    (subst (λ (m : ℕ). decimal m ≡ word) is.1 (decimal-digits_value own word is.0 begins.0 begins.1 low), is.2)
+    let low : value_from 0 word < 2 ^ 64 = omega (arith, is.1, is.2, small) in (
+      subst (λ (m : ℕ). decimal m ≡ word) is.1
+          (decimal-digits_value own word is.0 begins.0 begins.1 low),
+      is.2,
+    )
 
 other_first : (b : ℕ) (test : Bool) → eqb b 48 ≡ test → 48 < b → not test ≡ true
 other_first b true is lt = absurd (omega (arith, eqb-true b 48 is))
@@ -91,4 +99,7 @@ unfolding exact
 exact_again bound n small less =
     let begins = decimal_begins n (omega arith) in
     let value : value_from 0 (decimal n) ≡ n = digits_value-decimal own n (omega arith) in
-    rw begins (again_from bound 0 (decimal n) (digits_decimal own n (omega arith)) (omega (arith, value, less)) ∙ ap (λ (m : ℕ). Some m) value)
+    rw begins (
+    again_from bound 0 (decimal n) (digits_decimal own n (omega arith))
+    (omega (arith, value, less))
+    ∙ ap (λ (m : ℕ). Some m) value)

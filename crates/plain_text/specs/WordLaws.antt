@@ -18,8 +18,10 @@ pub letters_free : (separator : ℕ) (text : List ℕ) → separator < 48
     → list_all (λ b. leb 48 b) text ≡ true → Free separator text
 letters_free separator [] low all = tt
 letters_free separator (b ∷ rest) low all =
-    let both = and_parts (leb 48 b) (list_all (λ c. leb 48 c) rest) all in
-    (apart separator b (eqb b separator) refl (omega (arith, leb-true 48 b both.0)), letters_free separator rest low both.1)
+    let both = and_parts (leb 48 b) (list_all (λ c. leb 48 c) rest) all in (
+      apart separator b (eqb b separator) refl (omega (arith, leb-true 48 b both.0)),
+      letters_free separator rest low both.1,
+    )
 
 pub words_back : (w : List ℕ) (ws : List (List ℕ)) → AllFree 32 (w ∷ ws)
     → words (join_with_byte 32 (w ∷ ws)) ≡ w ∷ ws

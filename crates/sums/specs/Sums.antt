@@ -28,7 +28,9 @@ pub sum_below-same : (n : ℕ) (f g : ℕ → ℕ) → ((i : ℕ) → i < n → 
 unfolding sum_below
 sum_below-same zero f g same = refl
 sum_below-same (suc n) f g same =
-    let below : sum_below n f ≡ sum_below n g = sum_below-same n f g (λ i lt. same i (omega arith)) in
+    let below : sum_below n f ≡ sum_below n g =
+    sum_below-same n f g (λ i lt. same i (omega arith))
+    in
     let last : f n ≡ g n = same n (omega arith) in
     omega arith
 
@@ -40,12 +42,16 @@ sum_below-change zero k f g lt same = absurd (omega arith)
 sum_below-change (suc n) k f g lt same =
     elim (cases_eq k n) [
       | inl last ↦
-          let below : sum_below n f ≡ sum_below n g = sum_below-same n f g (λ i less. same i (omega arith) (omega arith)) in
+          let below : sum_below n f ≡ sum_below n g =
+          sum_below-same n f g (λ i less. same i (omega arith) (omega arith))
+          in
           let of_f : f k ≡ f n = ap f last in
           let of_g : g k ≡ g n = ap g last in
           omega arith
       | inr other ↦
-          let below : sum_below n g + f k ≡ sum_below n f + g k = sum_below-change n k f g (omega arith) (λ i less. same i (omega arith)) in
+          let below : sum_below n g + f k ≡ sum_below n f + g k =
+          sum_below-change n k f g (omega arith) (λ i less. same i (omega arith))
+          in
           let at_last : f n ≡ g n = same n (omega arith) (λ e. other (sym e)) in
           omega arith
     ]
@@ -70,7 +76,9 @@ sum_below-at zero k f lt = absurd (omega arith)
 sum_below-at (suc n) k f lt =
     elim (cases_eq k n) [
       | inl last ↦ (let here : f k ≡ f n = ap f last in omega arith)
-      | inr other ↦ (let below : f k ≤ sum_below n f = sum_below-at n k f (omega arith) in omega arith)
+      | inr other ↦ (
+          let below : f k ≤ sum_below n f = sum_below-at n k f (omega arith) in
+          omega arith)
     ]
 
 pub sum_below-none : (n : ℕ) (f : ℕ → ℕ) → ((i : ℕ) → f i ≡ 0) → sum_below n f ≡ 0

@@ -34,20 +34,41 @@ one_main bytes of_a of_b = cc
 one_list : (bytes : List ℕ) (a b : List Content) → HasModels bytes a → HasModels bytes b → a ≡ b
 one_list bytes a b of_a of_b =
     let same : of_b.main ≡ of_a.main = one_main bytes of_b.header of_a.header in
-    let read : AreRead bytes of_a.main of_b.children = subst (λ (m : Bounds). AreRead bytes m of_b.children) same of_b.read in
-    let ends : of_a.main.end ≤ place_of bytes of_a.main.first of_b.children = subst (λ (m : Bounds). m.end ≤ place_of bytes m.first of_b.children) same of_b.ends in
-    let number : of_a.children ≡ of_b.children = neither of_a.children of_b.children (not_behind bytes of_a.main of_a.children of_b.children read of_a.ends) (not_behind bytes of_a.main of_b.children of_a.children of_a.read ends) in
-    of_a.are ∙ ap (models_before bytes of_a.main.first) number ∙ sym (subst (λ (m : Bounds). b ≡ models_before bytes m.first of_b.children) same of_b.are)
+    let read : AreRead bytes of_a.main of_b.children =
+    subst (λ (m : Bounds). AreRead bytes m of_b.children) same of_b.read
+    in
+    let ends : of_a.main.end ≤ place_of bytes of_a.main.first of_b.children =
+    subst (λ (m : Bounds). m.end ≤ place_of bytes m.first of_b.children) same of_b.ends
+    in
+    let number : of_a.children ≡ of_b.children =
+    neither of_a.children of_b.children
+    (not_behind bytes of_a.main of_a.children of_b.children read of_a.ends)
+    (not_behind bytes of_a.main of_b.children of_a.children of_a.read ends)
+    in
+    of_a.are ∙ ap (models_before bytes of_a.main.first) number
+    ∙ sym (subst (λ (m : Bounds). b ≡ models_before bytes m.first of_b.children) same of_b.are)
 
 list_or_fault : (bytes : List ℕ) (a : List Content) (fault : VoxFault) → HasModels bytes a
     → IsFirstFault bytes fault → ⊥
 list_or_fault bytes a fault has first =
     let same : first.main ≡ has.main = one_main bytes first.header has.header in
-    let before : AreRead bytes has.main first.child = subst (λ (m : Bounds). AreRead bytes m first.child) same first.before in
-    let begins : place_of bytes has.main.first first.child < has.main.end = subst (λ (m : Bounds). place_of bytes m.first first.child < m.end) same first.begins in
-    let breaks : Breaks bytes has.main first.child fault = subst (λ (m : Bounds). Breaks bytes m first.child fault) same first.breaks in
-    let number : has.children ≡ first.child = neither has.children first.child (not_behind bytes has.main has.children first.child before has.ends) (not_broken bytes has.main first.child has.children fault has.read breaks) in
-    let ends : has.main.end ≤ place_of bytes has.main.first first.child = subst (λ (n : ℕ). has.main.end ≤ place_of bytes has.main.first n) number has.ends in
+    let before : AreRead bytes has.main first.child =
+    subst (λ (m : Bounds). AreRead bytes m first.child) same first.before
+    in
+    let begins : place_of bytes has.main.first first.child < has.main.end =
+    subst (λ (m : Bounds). place_of bytes m.first first.child < m.end) same first.begins
+    in
+    let breaks : Breaks bytes has.main first.child fault =
+    subst (λ (m : Bounds). Breaks bytes m first.child fault) same first.breaks
+    in
+    let number : has.children ≡ first.child =
+    neither has.children first.child
+    (not_behind bytes has.main has.children first.child before has.ends)
+    (not_broken bytes has.main first.child has.children fault has.read breaks)
+    in
+    let ends : has.main.end ≤ place_of bytes has.main.first first.child =
+    subst (λ (n : ℕ). has.main.end ≤ place_of bytes has.main.first n) number has.ends
+    in
     omega (arith, ends, begins)
 
 one_break : (bytes : List ℕ) (main : Bounds) (i : ℕ) (a b : VoxFault) → Breaks bytes main i a
@@ -60,10 +81,19 @@ one_break bytes main i a b (inr (fits, is_a)) (inr (fit, is_b)) = cc
 one_fault : (bytes : List ℕ) (a b : VoxFault) → IsFirstFault bytes a → IsFirstFault bytes b → a ≡ b
 one_fault bytes a b of_a of_b =
     let same : of_b.main ≡ of_a.main = one_main bytes of_b.header of_a.header in
-    let before : AreRead bytes of_a.main of_b.child = subst (λ (m : Bounds). AreRead bytes m of_b.child) same of_b.before in
-    let breaks : Breaks bytes of_a.main of_b.child b = subst (λ (m : Bounds). Breaks bytes m of_b.child b) same of_b.breaks in
-    let number : of_b.child ≡ of_a.child = neither of_b.child of_a.child (not_broken bytes of_a.main of_b.child of_a.child b of_a.before breaks) (not_broken bytes of_a.main of_a.child of_b.child a before of_a.breaks) in
-    one_break bytes of_a.main of_a.child a b of_a.breaks (subst (λ (n : ℕ). Breaks bytes of_a.main n b) number breaks)
+    let before : AreRead bytes of_a.main of_b.child =
+    subst (λ (m : Bounds). AreRead bytes m of_b.child) same of_b.before
+    in
+    let breaks : Breaks bytes of_a.main of_b.child b =
+    subst (λ (m : Bounds). Breaks bytes m of_b.child b) same of_b.breaks
+    in
+    let number : of_b.child ≡ of_a.child =
+    neither of_b.child of_a.child
+    (not_broken bytes of_a.main of_b.child of_a.child b of_a.before breaks)
+    (not_broken bytes of_a.main of_a.child of_b.child a before of_a.breaks)
+    in
+    one_break bytes of_a.main of_a.child a b of_a.breaks
+    (subst (λ (n : ℕ). Breaks bytes of_a.main n b) number breaks)
 
 pub one_reading : (bytes : List ℕ) (a b : Result (List Content) VoxFault) → ReadsModels bytes a
     → ReadsModels bytes b → a ≡ b

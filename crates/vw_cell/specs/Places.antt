@@ -104,7 +104,11 @@ octant_of b octant =
     let half = block_side (b.level - 1) in
     record {
       level = b.level - 1;
-      at = record { x = b.at.x + half * half_x octant; y = b.at.y + half * half_y octant; z = b.at.z + half * half_z octant };
+      at = record {
+        x = b.at.x + half * half_x octant;
+        y = b.at.y + half * half_y octant;
+        z = b.at.z + half * half_z octant;
+      };
     }
 
 -- a cell has numbers of 16 bits

@@ -17,14 +17,24 @@ is_within_holds low size p w = and_from _ _ (le-leb low p w.0) (lt-ltb p (low + 
 
 pub is_in_box_tells : (b : Boxed) (c : Cell) → is_in_box b c ≡ true → IsInBox b c
 is_in_box_tells b c h =
-    let outer = and_parts (is_within b.at.x b.size.x c.x && is_within b.at.y b.size.y c.y) (is_within b.at.z b.size.z c.z) h in
+    let outer =
+    and_parts (is_within b.at.x b.size.x c.x && is_within b.at.y b.size.y c.y)
+    (is_within b.at.z b.size.z c.z) h
+    in
     let inner = and_parts (is_within b.at.x b.size.x c.x) (is_within b.at.y b.size.y c.y) outer.0 in
-    record { x = is_within_tells _ _ _ inner.0; y = is_within_tells _ _ _ inner.1; z = is_within_tells _ _ _ outer.1 }
+    record {
+      x = is_within_tells _ _ _ inner.0;
+      y = is_within_tells _ _ _ inner.1;
+      z = is_within_tells _ _ _ outer.1;
+    }
 
 pub is_in_box_holds : (b : Boxed) (c : Cell) → IsInBox b c → is_in_box b c ≡ true
 is_in_box_holds b c i =
-    and_from (is_within b.at.x b.size.x c.x && is_within b.at.y b.size.y c.y) (is_within b.at.z b.size.z c.z)
-    (and_from (is_within b.at.x b.size.x c.x) (is_within b.at.y b.size.y c.y) (is_within_holds _ _ _ i.x) (is_within_holds _ _ _ i.y)) (is_within_holds _ _ _ i.z)
+    and_from (is_within b.at.x b.size.x c.x && is_within b.at.y b.size.y c.y)
+    (is_within b.at.z b.size.z c.z)
+    (and_from (is_within b.at.x b.size.x c.x) (is_within b.at.y b.size.y c.y)
+    (is_within_holds _ _ _ i.x) (is_within_holds _ _ _ i.y))
+    (is_within_holds _ _ _ i.z)
 
 -- a stretch of no number, and one that is one longer
 pub is_within-none : (low p : ℕ) → is_within low 0 p ≡ false

@@ -9,13 +9,16 @@ use native.Mathlib.Nat.{mod-eq_of_lt, mul-sub, mul_comm, mul-one}
 -- `MAX` shifted down to `piece` bits
 pub low_ones : (piece : ℕ) → piece ≤ 64 → (2 ^ 64 - 1) / 2 ^ (64 - piece) ≡ 2 ^ piece - 1
 low_ones piece inside =
-    let shifted : (2 ^ 64 - 1) / 2 ^ (64 - piece) ≡ 2 ^ (64 - (64 - piece)) - 1 = ones_shr 64 (64 - piece) (omega arith) in
+    let shifted : (2 ^ 64 - 1) / 2 ^ (64 - piece) ≡ 2 ^ (64 - (64 - piece)) - 1 =
+    ones_shr 64 (64 - piece) (omega arith)
+    in
     let left : 64 - (64 - piece) ≡ piece = omega arith in
     shifted ∙ ap (λ (n : ℕ). 2 ^ n - 1) left
 
 pub shifted_ones : (k piece : ℕ) → (2 ^ piece - 1) * 2 ^ k ≡ 2 ^ (k + piece) - 2 ^ k
 shifted_ones k piece =
-    mul_comm (2 ^ piece - 1) (2 ^ k) ∙ mul-sub (2 ^ k) (2 ^ piece) 1 ∙ ap (λ (n : ℕ). 2 ^ k * 2 ^ piece - n) (mul-one (2 ^ k))
+    mul_comm (2 ^ piece - 1) (2 ^ k) ∙ mul-sub (2 ^ k) (2 ^ piece) 1
+    ∙ ap (λ (n : ℕ). 2 ^ k * 2 ^ piece - n) (mul-one (2 ^ k))
     ∙ ap (λ (n : ℕ). n - 2 ^ k) (sym (pow-add 2 k piece))
 
 pub mask_small : (k piece : ℕ) → k + piece ≤ 64 → 2 ^ (k + piece) - 2 ^ k < 2 ^ 64
