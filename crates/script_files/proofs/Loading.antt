@@ -1,5 +1,5 @@
 -- The run of a load, and what it leaves.
-use Rattle.std.proofs.Common.{inl, inr, ◌≡◌, ℕ, ◌*◌, ◌^◌, ◌<◌, ◌≤◌, arith, Result, List, [], ◌∷◌, length, map, Vec, Global, Ok, Err, refl, sym, ap, subst, ◌∙◌}
+use Rattle.std.proofs.Common.{inl, inr, ◌≡◌, ℕ, ◌*◌, ◌^◌, ◌≤◌, arith, Result, List, [], ◌∷◌, length, map, Vec, Global, Ok, Err, refl, ap, subst, ◌∙◌}
 use Rattle.std.proofs.lemmas.Bool.{cases_order}
 use Rattle.std.proofs.lemmas.List.{length-map}
 use Rattle.std.proofs.Math.Nat.{pow-le-pow_right}
@@ -121,7 +121,7 @@ module _ (n : ℕ) (r : Read) (run : ScriptsRun) (old new : ShelfState) (counted
       let lines : r.scripts.items ≡ load_lines n =
       ok_lines r.scripts.items (load_lines n) _ _ read.read (load_is_read n) refl in
       let agrees : Agrees demo_plan (load_model n ∷ []) run.run.log (load_lines n)
-          run.transcripts.items =
+      run.transcripts.items =
       subst (λ (ls : List (List ScriptLine)). Agrees demo_plan (load_model n ∷ []) run.run.log ls
       run.transcripts.items) lines ran_load.agrees in
       counted demo_plan n run.run.log run.transcripts.items agrees all

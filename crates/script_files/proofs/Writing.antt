@@ -1,8 +1,8 @@
 -- Outputs that are written in stages.
-use Rattle.std.proofs.Common.{◌≡◌, ℕ, zero, suc, ◌+◌, ◌<◌, ◌≤◌, List, [], ◌∷◌, ◌++◌, length, take, drop, map, Option, Some, None, Result, Ok, Err, refl, sym, ap, subst, ◌∙◌, arith, append_assoc}
+use Rattle.std.proofs.Common.{◌≡◌, ℕ, zero, suc, ◌+◌, ◌≤◌, List, [], ◌∷◌, ◌++◌, length, take, drop, map, Option, Some, None, Ok, Err, refl, sym, ap, subst, ◌∙◌, arith, append_assoc}
 use Rattle.std.specs.List.{slice_get}
 use Rattle.std.proofs.lemmas.Option.{none-some, get_or_from_slice_get}
-use Rattle.std.proofs.lemmas.List.{take-append-drop, take-take, drop-take, take_all, length-map}
+use Rattle.std.proofs.lemmas.List.{take-append-drop, take-take, drop-take, take_all}
 use Rattle.vw_io.specs.declared.shelves.WriteRefused.{WriteRefused}
 use Rattle.vw_io.specs.declared.shelves.WriteRefused.TheVariants.{Failed, Memory}
 use Rattle.vw_io.specs.Outside.{Files, Rose, ShelfState}
@@ -154,7 +154,7 @@ pub all_outputs : (outputs : List Named) (k : ℕ) (old new : ShelfState) → le
     → IsWrittenTo outputs k old new → Writes {X = Unit {0}} (Ok tt) outputs old new
 all_outputs outputs k old new past so_far = (
   subst (λ (os : List Named). AreWritten os old.files new.files) (take_all k outputs past)
-  so_far.whole,
+      so_far.whole,
   so_far.calm,
 )
 
@@ -172,10 +172,10 @@ pub output_written : {X : Type 0} (f : X → Named) (xs : List X) (k : ℕ) (x :
     → Writes {X = Unit {0}} (Ok tt) (take 1 (drop k (map f xs))) old new
 output_written f xs k x bytes old new done is of_bytes told calm = (
   subst (λ (os : List Named). AreWritten os old.files new.files)
-  (sym (one_output f xs k x is))
-  (next_written (f x ∷ []) (f x) (f x) 0 old.files old.files new.files done (omega arith) refl
-  (none_yet old.files)
-  (subst (λ (b : List ℕ). WriteTold old.files new.files (f x).name b (Ok done)) of_bytes told)),
+      (sym (one_output f xs k x is))
+      (next_written (f x ∷ []) (f x) (f x) 0 old.files old.files new.files done (omega arith) refl
+      (none_yet old.files)
+      (subst (λ (b : List ℕ). WriteTold old.files new.files (f x).name b (Ok done)) of_bytes told)),
   calm,
 )
 

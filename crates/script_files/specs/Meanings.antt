@@ -1,6 +1,6 @@
 -- What the texts of the inputs mean to each command: what its line tells and its outputs, or what
 -- is refused.
-use Rattle.std.specs.Prelude.{◌≡◌, ℕ, ◌∷◌, [], false, Option, Some, None, List, length, IsTrue, Ok, Err, ⊤}
+use Rattle.std.specs.Prelude.{◌≡◌, ℕ, ◌∷◌, [], false, List, length, IsTrue, Ok, Err, ⊤}
 use Rattle.vw_io.specs.Outputs.{Named}
 use Rattle.vw_io.specs.Names.{collide}
 use Rattle.vox_chunk.specs.declared.faults.VoxFault.{VoxFault}
@@ -80,12 +80,12 @@ pub record ScriptsRan (asked : Asked) (texts : List (List ℕ)) (tally : Tally)
 
 -- the same as far as these first outputs, of which a later one may not have been made
 pub record ScriptsBegan (asked : Asked) (texts : List (List ℕ)) (outputs : List Named) : Type 0
-    where
-  pub log : Log
-  pub transcripts : List (List LineAnswer)
-  pub accepted : IsAccepted asked texts log transcripts
-  pub begins : BeginsTexts asked
-      (given_by accepted.models accepted.lines log transcripts) outputs
+  where
+    pub log : Log
+    pub transcripts : List (List LineAnswer)
+    pub accepted : IsAccepted asked texts log transcripts
+    pub begins : BeginsTexts asked
+        (given_by accepted.models accepted.lines log transcripts) outputs
 
 -- what a command gives where nothing is refused
 abbrev pub GivesOutputs : Request → List (List ℕ) → Done → List Named → Type 0

@@ -109,12 +109,12 @@ WritesHistory asked models log (Err r) old new = StopsHistory asked models log r
 
 -- all outputs of a run were written, and this was told
 pub record WroteRun (asked : Asked) (given : Given) (tally : Tally) (old new : ShelfState) : Type 0
-    where
-  pub tallied : TalliesRun asked given.models given.log tally
-  pub report : List ℕ
-  pub reported : ReportIs asked.report given.models given.log report
-  pub whole : AreWritten (texts_written asked given report) old.files new.files
-  pub calm : new.faults ≡ old.faults
+  where
+    pub tallied : TalliesRun asked given.models given.log tally
+    pub report : List ℕ
+    pub reported : ReportIs asked.report given.models given.log report
+    pub whole : AreWritten (texts_written asked given report) old.files new.files
+    pub calm : new.faults ≡ old.faults
 
 -- or some first ones
 pub record StopsRun (asked : Asked) (given : Given) (r : OutputRefused) (old new : ShelfState)

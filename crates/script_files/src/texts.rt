@@ -122,7 +122,10 @@ fn asked_report(
 }
 
 // The text of each transcript.
-pub(crate) fn transcript_texts(alloc: Global, transcripts: &[Transcript]) -> Result<Vec<Lines>, Memory>
+pub(crate) fn transcript_texts(
+    alloc: Global,
+    transcripts: &[Transcript],
+) -> Result<Vec<Lines>, Memory>
     ensures { IfOk result (λ texts. texts.items ≡ map transcript_of transcripts.now) }
 {
     let mut texts = Vec::with_capacity(alloc, transcripts.len())?;

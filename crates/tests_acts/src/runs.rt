@@ -1,20 +1,30 @@
+use conformance::Transcript;
 use node_words::Plan;
 use script::read_script;
 use std::alloc::Global;
 use std::test::Fail;
-use store_run::{StoreRan, run_scripts};
+use store_run::{ScriptsRun, StoreRan, run_scripts};
 use transcript::{Answer, LineAnswer};
 use vox_read::Models;
 use vw_cell::Side;
 
-// What one script gives over this plan, without models.
-fn run(alloc: Global, plan: &Plan, text: &[u8]) -> Result<StoreRan, Fail> {
+// What one script gives.
+#[derive(Drop)]
+struct Gave {
+    transcripts: Vec<Transcript>,
+    ran: StoreRan,
+}
+
+// What it gives over this plan, without models.
+fn run(alloc: Global, plan: &Plan, text: &[u8]) -> Result<Gave, Fail> {
     let models = Models {
         list: Vec::new(alloc),
     };
     let script = read_script(alloc, text, plan.side(), &models).map_err(|_| "a script")?;
-    let ran = run_scripts(alloc, plan, &models, &[script]).map_err(|_| "out of memory")?;
-    Ok(ran)
+    let run = run_scripts(alloc, plan, &models, &[script]).map_err(|_| "out of memory")?;
+    let ScriptsRun { run, transcripts } = run;
+    let ran = run.close(alloc).map_err(|_| "out of memory")?;
+    Ok(Gave { transcripts, ran })
 }
 
 fn usual(side: u32) -> Result<Plan, Fail> {
@@ -23,8 +33,8 @@ fn usual(side: u32) -> Result<Plan, Fail> {
 }
 
 // The transcript of the first script.
-fn answers(ran: &StoreRan) -> &[LineAnswer] {
-    match ran.ran.transcripts.get(0) {
+fn answers(gave: &Gave) -> &[LineAnswer] {
+    match gave.transcripts.get(0) {
         Some(transcript) => transcript.lines.as_slice(),
         None => &[],
     }
@@ -37,7 +47,7 @@ fn answered(line: u32, at: u32, answer: Answer) -> LineAnswer {
 #[test]
 fn undos_and_redos_go_where_the_acts_were(rt: HostRuntime) -> Result<(), Fail> {
     let text = b"undo\nfill 0 0 0 1 1 1\nundo\nfill 1 0 0 1 1 1\nredo\nundo\ncount 0 0 0 4 1 1";
-    let ran = run(rt.alloc(), &usual(8)?, text)?;
+    let gave = run(rt.alloc(), &usual(8)?, text)?;
     let want = [
         answered(1, 0, Answer::NothingToUndo),
         answered(2, 1, Answer::Done),
@@ -47,8 +57,8 @@ fn undos_and_redos_go_where_the_acts_were(rt: HostRuntime) -> Result<(), Fail> {
         answered(6, 4, Answer::Done),
         answered(7, 4, Answer::Count(0)),
     ];
-    assert_eq!(rt; answers(&ran), want.as_slice());
-    assert_eq!(rt; ran.ran.history.records.len(), 4);
+    assert_eq!(rt; answers(&gave), want.as_slice());
+    assert_eq!(rt; gave.ran.history.records.len(), 4);
     Ok(())
 }
 
@@ -56,7 +66,7 @@ fn undos_and_redos_go_where_the_acts_were(rt: HostRuntime) -> Result<(), Fail> {
 fn versions_are_forgotten_and_compared(rt: HostRuntime) -> Result<(), Fail> {
     let text = b"fill 0 0 0 1 1 1\nfill 1 0 0 1 1 1\nforget 1\nundo\nforget 2\nforget 9\n\
 at 1 get 0 0 0\nsame 0 2";
-    let ran = run(rt.alloc(), &usual(8)?, text)?;
+    let gave = run(rt.alloc(), &usual(8)?, text)?;
     let want = [
         answered(1, 1, Answer::Done),
         answered(2, 2, Answer::Done),
@@ -67,8 +77,8 @@ at 1 get 0 0 0\nsame 0 2";
         answered(7, 2, Answer::Forgotten(1)),
         answered(8, 2, Answer::Same(false)),
     ];
-    assert_eq!(rt; answers(&ran), want.as_slice());
-    assert_eq!(rt; ran.ran.history.marks.len(), 1);
+    assert_eq!(rt; answers(&gave), want.as_slice());
+    assert_eq!(rt; gave.ran.history.marks.len(), 1);
     Ok(())
 }
 
@@ -77,7 +87,7 @@ fn a_full_bucket_refuses_an_edit_and_nothing_is_lost(rt: HostRuntime) -> Result<
     let side = Side::new(4).ok_or("a side")?;
     let plan = Plan::even(side, 1, 1).ok_or("a plan")?;
     let text = b"fill 0 0 0 1 1 1\nfill 1 0 0 1 1 1\nat 1 count 0 0 0 4 4 4";
-    let ran = run(rt.alloc(), &plan, text)?;
+    let gave = run(rt.alloc(), &plan, text)?;
     let want = [
         answered(1, 1, Answer::Done),
         answered(
@@ -90,7 +100,7 @@ fn a_full_bucket_refuses_an_edit_and_nothing_is_lost(rt: HostRuntime) -> Result<
         ),
         answered(3, 1, Answer::Count(1)),
     ];
-    assert_eq!(rt; answers(&ran), want.as_slice());
-    assert_eq!(rt; ran.numbers.as_slice(), [1].as_slice());
+    assert_eq!(rt; answers(&gave), want.as_slice());
+    assert_eq!(rt; gave.ran.numbers.as_slice(), [1].as_slice());
     Ok(())
 }

@@ -1,4 +1,4 @@
-use Rattle.std.proofs.Common.{rules, ◌≡◌, ℕ, List, [], ◌∷◌, Ok, map, length, ap, sym, subst, ◌∙◌, arith}
+use Rattle.std.proofs.Common.{rules, ◌≡◌, ℕ, List, [], ◌∷◌, Ok, map, ap, sym, subst, ◌∙◌, arith}
 use Rattle.vox_read.specs.Files.{ReadsModels}
 use Rattle.gen_load.specs.Loads.{load_model, load_scripts}
 use Rattle.script_files.specs.Scripts.{scripts_of}

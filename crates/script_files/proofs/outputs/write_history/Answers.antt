@@ -1,4 +1,4 @@
-use Rattle.std.proofs.Common.{rules, ◌≡◌, ◌∙◌}
+use Rattle.std.proofs.Common.{◌≡◌, ◌∙◌}
 use Rattle.script_files.proofs.Ending.{nothing_began, outputs_last, stops_from, history_stopped}
 use Rattle.script_files.proofs.outputs.write_history.Goals as goal
 

@@ -25,9 +25,9 @@ loop-k-preserved g c =
     let mid = g.S.Shelf.state c.loop-k.shelf in
     let new = g.S.Shelf.state c.write_save.new.shelf in (
       next_output (map (saved_output run.models run.log) run.saved) c.loop-k.k c.in_default.field-0
-      (g.S.Shelf.state c.args.shelf.now) mid new c.loop-k.invariant.0
-      (subst (λ (s : RunState). Writes (Ok c.in_default.field-0)
-      (take 1 (drop c.loop-k.k (map (saved_output s.models s.log) s.saved))) mid new)
-      c.loop-k.invariant.1 c.in_default.ensures.writes),
+          (g.S.Shelf.state c.args.shelf.now) mid new c.loop-k.invariant.0
+          (subst (λ (s : RunState). Writes (Ok c.in_default.field-0)
+          (take 1 (drop c.loop-k.k (map (saved_output s.models s.log) s.saved))) mid new)
+          c.loop-k.invariant.1 c.in_default.ensures.writes),
       c.in_default.ensures.same ∙ c.loop-k.invariant.1,
     )
