@@ -14,7 +14,7 @@ ghost use Rattle.entry_words.specs.Changes.{SetsBook, PutsKey, PutsEntry};
 use crate::ends::ends_of;
 use crate::key_words::{KeyWords, NO_PAIRS, Pairs, half_of};
 use crate::rows::{item, put};
-use crate::tags::{position, tag_of};
+use crate::tags::{BLOCK, position, tag_of};
 use node_places::child_in;
 use node_words::{Key, Name, Plan, bucket_of};
 use std::alloc::{AllocError, Global};
@@ -102,6 +102,7 @@ impl EntryWords {
     }
 
     /// The bucket of a key on this level.
+    #[inline(always)]
     pub fn bucket(&self, level: u8, key: &Key) -> u16
         requires { level < levels self.now.plan }
         ensures bucket { result ≡ bucket_of_key key.now (buckets_at self.now.plan level) }
@@ -130,6 +131,7 @@ impl EntryWords {
     }
 
     /// A node of this key comes into the name's slot, which is free, with one reference.
+    #[inline(always)]
     pub fn open(&mut self, n: Name, words: KeyWords)
         requires name { IsName self.old.plan n }
         requires free { book_in self.old n ≡ 0 }
@@ -198,6 +200,7 @@ impl EntryWords {
     }
 
     /// The slot of a bucket whose live node has this key.
+    #[inline(always)]
     pub fn find(&self, level: u8, bucket: u16, words: KeyWords) -> Option<u8>
         requires { IsBucket self.now.plan level bucket }
         ensures found { IfSome result
@@ -225,6 +228,7 @@ impl EntryWords {
     }
 
     /// The lowest free slot of a bucket.
+    #[inline(always)]
     pub fn free(&self, level: u8, bucket: u16) -> Option<u8>
         requires { IsBucket self.now.plan level bucket }
         ensures lowest { IfSome result (IsLowestFree self.now level bucket) }
@@ -242,7 +246,8 @@ impl EntryWords {
         }
     }
 
-    // How many slots of a bucket, from the first on, may have been used.
+    // How many slots of a bucket, from the first on, may have been used. It is made up to whole blocks
+    // of tags, so that a search for a key that isn't there compares no tag alone.
     fn used_of(&self, level: u8, bucket: u16) -> usize
         requires { IsBucket self.now.plan level bucket }
         ensures within { result ≤ self.now.plan.cap }
@@ -250,10 +255,12 @@ impl EntryWords {
         ensures free { IsUnusedFrom self.now level bucket result }
     {
         let used = usize::from(self.used[self.bucket_place(level, bucket)]);
-        used.min(usize::from(self.plan.cap()))
+        let blocks = (used + (BLOCK - 1)) / BLOCK;
+        (blocks * BLOCK).min(usize::from(self.plan.cap()))
     }
 
     // The words of the key of a free slot.
+    #[inline(always)]
     fn put_key(&mut self, n: Name, words: &KeyWords)
         requires name { IsName self.old.plan n }
         requires free { book_in self.old n ≡ 0 }
@@ -340,6 +347,7 @@ impl EntryWords {
     }
 
     // Whether the name's words are those of this key.
+    #[inline(always)]
     fn has_words(&self, n: Name, words: &KeyWords) -> bool
         requires { IsName self.now.plan n }
         ensures { IsTrue result ↔ (key_in self.now n ≡ key_of n.level words.now) }

@@ -58,6 +58,7 @@ impl Pairs {
 
 /// The words of a key of this level.
 #[tactic(auto, using(crate::proofs::WordLaws::leaf_words, crate::proofs::WordLaws::node_words))]
+#[inline(always)]
 pub fn words_of(level: u8, key: &Key) -> KeyWords
     requires { IsKeyAt level key.now }
     ensures { key_of level result ≡ key.now }

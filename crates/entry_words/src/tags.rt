@@ -4,9 +4,10 @@ ghost use Rattle.entry_words.specs.Tags.{LacksByte, IsFirstPlace, mixed_words, t
 use crate::key_words::KeyWords;
 
 /// How many bytes are looked at in one step.
-const BLOCK: usize = 16;
+pub(crate) const BLOCK: usize = 16;
 
 /// The first place of a byte in this part of a row.
+#[inline(always)]
 pub(crate) fn position(row: &[u8], from: usize, to: usize, byte: u8) -> Option<usize>
     requires order { from ≤ to }
     requires inside { to ≤ length row.now }
@@ -23,6 +24,7 @@ pub(crate) fn position(row: &[u8], from: usize, to: usize, byte: u8) -> Option<u
 }
 
 // Passes over whole blocks without the byte.
+#[inline(always)]
 fn skip_blocks(row: &[u8], from: usize, to: usize, byte: u8) -> usize
     requires order { from ≤ to }
     requires inside { to ≤ length row.now }

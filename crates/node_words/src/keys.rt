@@ -20,6 +20,7 @@ const FINISH: u64 = 0x94D0_49BB_1331_11EB;
 /// The bucket of the key, of so many buckets on its level.
 ///
 /// A node's bucket follows from the buckets of its children, so from what the node contains alone.
+#[inline(always)]
 pub fn bucket_of(key: &Key, buckets: u16) -> u16
     requires { 1 ≤ buckets }
     ensures bucket { result ≡ bucket_of_key key.now buckets }
@@ -35,6 +36,7 @@ pub fn bucket_of(key: &Key, buckets: u16) -> u16
 
 ghost use Rattle.node_words.specs.Keys.{bucket_of_key, child_term, children_hash};
 
+#[inline(always)]
 fn children_hash(children: &[Option<Name>; 8]) -> u64
     ensures { result ≡ children_hash children.now }
 {
