@@ -61,7 +61,7 @@ line_saved old mid now lines i l answers more a lt so_far is saved pushed =
           (sym (saved_push (take i lines) answers l a so_far.as_many));
     } in
     subst (λ (ls : List ScriptLine). SavedByLines old now ls more) (sym next)
-    (subst (λ (as : List LineAnswer). SavedByLines old now (take i lines ++ l ∷ []) as)
+    (subst (λ (bs : List LineAnswer). SavedByLines old now (take i lines ++ l ∷ []) bs)
     (sym pushed) both)
 
 -- the same of whole scripts
@@ -74,14 +74,14 @@ pub no_script_saved : (old : List SavedBox) → SavedByScripts old old [] []
 no_script_saved old = record { as_many = refl; are = sym (append-nil old) }
 
 pub script_saved : (old mid now : List SavedBox) (scripts : List (List ScriptLine)) (i : ℕ)
-    (script : List ScriptLine) (transcripts more : List (List LineAnswer))
+    (d script : List ScriptLine) (transcripts more : List (List LineAnswer))
     (answers : List LineAnswer) → i < length scripts
-    → SavedByScripts old mid (take i scripts) transcripts → script ≡ get_or scripts i script
+    → SavedByScripts old mid (take i scripts) transcripts → script ≡ get_or scripts i d
     → now ≡ mid ++ saved_in script answers → more ≡ transcripts ++ answers ∷ []
     → SavedByScripts old now (take (i + 1) scripts) more
-script_saved old mid now scripts i script transcripts more answers lt so_far is saved pushed =
+script_saved old mid now scripts i d script transcripts more answers lt so_far is saved pushed =
     let next : take (i + 1) scripts ≡ take i scripts ++ script ∷ [] =
-    take_more scripts i script lt
+    take_more scripts i d lt
     ∙ ap (λ (s : List ScriptLine). take i scripts ++ s ∷ []) (sym is) in
     let both : SavedByScripts old now (take i scripts ++ script ∷ []) (transcripts ++ answers ∷ [])
     = record {

@@ -2,6 +2,7 @@ use Rattle.std.proofs.Common.{◌∙◌, subst}
 use Rattle.script.specs.declared.commands.ScriptLine.{ScriptLine}
 use Rattle.script_runs.specs.Sessions.{GoesOnWith}
 use Rattle.script_runs.proofs.RunSteps.{more_lines, goes_on_same}
+use Rattle.script_runs.proofs.Saving.{line_saved}
 use Rattle.script_runs.proofs.runs.run_script.Goals as goal
 
 pub loop-line-preserved : goal.loop-line-preserved
@@ -16,5 +17,6 @@ loop-line-preserved g c =
           (g.D.Desk.noted c.loop-line.desk) (g.D.Desk.noted c.answer.new.self) c.in_ok-a.a (record { plan = stays.plan; models_stay = stays.models_stay })
           (subst (λ (l : ScriptLine). GoesOnWith (g.D.Desk.plan c.loop-line.desk) (g.D.Desk.models c.loop-line.desk) c.args.session l (g.D.Desk.log c.loop-line.desk) (g.D.Desk.log c.answer.new.self) (g.D.Desk.noted c.loop-line.desk) (g.D.Desk.noted c.answer.new.self) c.in_ok-a.a)
           c.line-item.is c.in_ok-a.ensures.goes_on)) c.in_ok-push.ensures.items,
-      ?,
+      line_saved (g.D.Desk.saved c.args.desk.now) (g.D.Desk.saved c.loop-line.desk) (g.D.Desk.saved c.answer.new.self) c.args.lines.now c.loop-line.line-index c.line-item.result c.loop-line.answers.items c.push.new.self.items c.in_ok-a.a
+          c.loop-line-test.true saved c.line-item.is c.in_ok-a.ensures.saved c.in_ok-push.ensures.items,
     )

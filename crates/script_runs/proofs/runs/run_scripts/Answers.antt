@@ -2,6 +2,7 @@ use Rattle.std.proofs.Common.{◌∙◌, subst}
 use Rattle.node_words.specs.Plans.{Layout}
 use Rattle.script_runs.specs.Keeping.{HaveEnough}
 use Rattle.script_runs.proofs.RunSteps.{next_scripts, all_scripts, ran_same}
+use Rattle.script_runs.proofs.Saving.{script_saved}
 use Rattle.script_runs.proofs.runs.run_scripts.Goals as goal
 
 pub loop-script-preserved : goal.loop-script-preserved
@@ -14,7 +15,8 @@ loop-script-preserved g c =
           (g.D.Desk.noted c.loop-script.desk) (g.D.Desk.noted c.run_script.new.desk) c.loop-script-test.true c.loop-script.invariant.1 (c.as_slice.ensures.value ∙ c.script.view_is ∙ c.script-item.is) (c.len-session.ensures ∙ c.loop-script.transcripts.ok.0)
           (ran_same plan (g.D.Desk.plan c.loop-script.desk) models (g.D.Desk.models c.loop-script.desk) _ c.as_slice.result.now c.in_ok-lines.lines.items (g.D.Desk.log c.loop-script.desk) (g.D.Desk.log c.run_script.new.desk) (g.D.Desk.noted c.loop-script.desk) (g.D.Desk.noted c.run_script.new.desk)
           (record { plan = stays.plan; models_stay = stays.models_stay }) c.in_ok-lines.ensures.ran) c.in_ok-push.ensures.items,
-      ?,
+      script_saved (g.D.Desk.saved c.args.desk.now) (g.D.Desk.saved c.loop-script.desk) (g.D.Desk.saved c.run_script.new.desk) c.args.scripts.now c.loop-script.script-index _ c.as_slice.result.now c.loop-script.transcripts.items c.push.new.self.items c.in_ok-lines.lines.items
+          c.loop-script-test.true c.loop-script.invariant.2 (c.as_slice.ensures.value ∙ c.script.view_is ∙ c.script-item.is) c.in_ok-lines.ensures.saved c.in_ok-push.ensures.items,
       c.next_room-room.ensures.others,
     )
 
