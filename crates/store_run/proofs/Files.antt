@@ -1,5 +1,6 @@
 -- The files of saves.
-use Rattle.std.proofs.Common.{◌≡◌, ℕ, ◌+◌, ◌-◌, ◌^◌, ◌<◌, ◌≤◌, zero, suc, Bool, Some, None, Option, List, [], ◌∷◌, length, map, refl, sym, ◌∙◌, ap, subst, arith, get_or}
+use Rattle.std.proofs.Common.{◌≡◌, ℕ, ◌+◌, ◌-◌, ◌^◌, ◌<◌, ◌≤◌, zero, suc, Bool, true, Some, None, Option, List, [], ◌∷◌, length, map, refl, sym, ◌∙◌, ap, subst, arith, get_or}
+use Rattle.std.specs.declared.vec.Vec.{Vec}
 use Rattle.std.specs.Prelude.{slice_get, Result, Ok, Err, IfOk}
 use Rattle.std.proofs.lemmas.Option.{none-some, same_Some, slice_get-get_or}
 use Rattle.vw_cell.specs.declared.boxes.Boxed.{Boxed}
@@ -22,6 +23,7 @@ use Rattle.block_walk.specs.Roots.{IsBlockOf, HoldsRoot, ForWorld, cells_of}
 use Rattle.block_walk.proofs.LookLaws.{root_side}
 use Rattle.extract.specs.Listing.{voxels_joined, voxel_if, box_row, box_layer, voxels_of_box}
 use Rattle.extract.specs.Saved.{file_of_box}
+use Rattle.script.specs.Placing.{is_save_name}
 use Rattle.conformance.specs.declared.saves.SavedBox.{SavedBox}
 use Rattle.store_run.specs.declared.pins.Pin.{Pin}
 use Rattle.store_run.specs.declared.versions.Versions.{Versions}
@@ -111,14 +113,18 @@ module _ (v : Versions) (pins : List Pin) (k : ℕ) (pin : Pin) (p : ArePinned v
     of_level = h.is.level;
   }
 
-  pub pin_file : {E : Type 0} (result : Result (List ℕ) E)
-      → IfOk result (λ file. ForWorld v.store.told.held v.side pin.root (λ cells. file ≡ file_of_box pin.save.part cells))
+  pub pin_named : is_save_name pin.save.name ≡ true
+  pin_named = h.is.fits.is_name
+
+  pub pin_file : {E Z : Type 0} (result : Result (Vec ℕ Z) E) (root : Option Name) → root ≡ pin.root
+      → IfOk result (λ file. ForWorld v.store.told.held v.side root (λ cells. file.items ≡ file_of_box pin.save.part cells))
       → IfOk result (λ file. (s : SavedBox) → slice_get (saves_of pins) k ≡ Some s
-      → file ≡ file_of_box s.part (world_of v s.version))
-  pin_file {E} result told = go result told
+      → file.items ≡ file_of_box s.part (world_of v s.version))
+  pin_file {E} {Z} result root is told =
+      go result (subst (λ (r : Option Name). IfOk result (λ file. ForWorld v.store.told.held v.side r (λ cells. file.items ≡ file_of_box pin.save.part cells))) is told)
     where
-      go : (r : Result (List ℕ) E) → IfOk r (λ file. ForWorld v.store.told.held v.side pin.root (λ cells. file ≡ file_of_box pin.save.part cells))
-          → IfOk r (λ file. (s : SavedBox) → slice_get (saves_of pins) k ≡ Some s → file ≡ file_of_box s.part (world_of v s.version))
+      go : (r : Result (Vec ℕ Z) E) → IfOk r (λ file. ForWorld v.store.told.held v.side pin.root (λ cells. file.items ≡ file_of_box pin.save.part cells))
+          → IfOk r (λ file. (s : SavedBox) → slice_get (saves_of pins) k ≡ Some s → file.items ≡ file_of_box s.part (world_of v s.version))
       go (Err e) told = tt
       go (Ok file) told = λ s of.
           told h.tree block

@@ -95,12 +95,12 @@ fn close_over<L: Ledger>(alloc: Global, pinned: Pinned<'_>, blank: Blank) -> Res
     requires name { blank.name ≡ L.name }
     requires parts { blank.parts ≡ L.parts }
     requires some { 0 < L.parts }
-    ensures history { IfOk result (λ r. r.history ≡ log_of pinned.versions) }
+    ensures history { IfOk result (λ r. r.history ≡ log_of pinned.entry.versions) }
     ensures places { IfOk result (λ r. length r.history.records < length r.roots.items) }
-    ensures roots { IfOk result (λ r. RootsTellWorlds pinned.versions.models.items r.history
+    ensures roots { IfOk result (λ r. RootsTellWorlds pinned.entry.versions.models.items r.history
         (listed_root r.roots.items)) }
     ensures numbers { IfOk result
-        (λ r. AreNumbers pinned.versions.models.items r.history r.numbers.items) }
+        (λ r. AreNumbers pinned.entry.versions.models.items r.history r.numbers.items) }
 {
     let mut steps: Steps<L> = Steps::start(blank);
     let versions = pinned.into_versions(&mut steps);

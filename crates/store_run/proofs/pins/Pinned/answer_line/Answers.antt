@@ -6,7 +6,7 @@ use Rattle.store_run.specs.Pins.{saves_of}
 use Rattle.store_run.specs.Answering.{GoesOnBy}
 use Rattle.store_run.proofs.Answering.{tells_head}
 use Rattle.store_run.proofs.Holding.{same_held}
-use Rattle.store_run.proofs.Pinning.{still_pinned, none_saved}
+use Rattle.store_run.proofs.Pinning.{pinned_few, still_pinned, none_saved}
 use Rattle.store_run.proofs.pins.Pinned.answer_line.Goals as goal
 
 pub returns-then-is_edit-clause-goes_on : goal.returns-then-is_edit-clause-goes_on
@@ -78,3 +78,15 @@ pub returns-in-Save-clause-saved : goal.returns-in-Save-clause-saved
 returns-in-Save-clause-saved g c =
     subst (λ (k : Command). saves_of c.save.new.self.pins.items ≡ saves_of c.args.self.now.pins.items ++ saved_by k (moment_of c.save.new.self.versions) c.save.result)
     (sym c.in-Save.is) c.save.ensures.saved
+
+pub edit-requires-clause-few : goal.edit-requires-clause-few
+edit-requires-clause-few g c = pinned_few c.args.self.now.versions c.args.self.now.pins.items c.requires.are
+
+pub go-requires-clause-few : goal.go-requires-clause-few
+go-requires-clause-few g c = pinned_few c.args.self.now.versions c.args.self.now.pins.items c.requires.are
+
+pub forget_version-requires-clause-few : goal.forget_version-requires-clause-few
+forget_version-requires-clause-few g c = pinned_few c.args.self.now.versions c.args.self.now.pins.items c.requires.are
+
+pub tell-requires-clause-few : goal.tell-requires-clause-few
+tell-requires-clause-few g c = pinned_few c.args.self.now.versions c.args.self.now.pins.items c.requires.are
