@@ -1,5 +1,5 @@
 -- The files of saves.
-use Rattle.std.proofs.Common.{◌≡◌, ℕ, ◌+◌, ◌-◌, ◌^◌, ◌<◌, ◌≤◌, zero, suc, Bool, true, Some, None, Option, List, [], ◌∷◌, length, map, refl, sym, ◌∙◌, ap, subst, arith, get_or}
+use Rattle.std.proofs.Common.{◌≡◌, ℕ, ◌+◌, ◌-◌, ◌^◌, ◌<◌, ◌≤◌, zero, suc, Bool, true, Some, None, Option, List, [], ◌∷◌, length, refl, sym, ◌∙◌, ap, subst, arith, get_or}
 use Rattle.std.specs.declared.vec.Vec.{Vec}
 use Rattle.std.specs.Prelude.{slice_get, Result, Ok, Err, IfOk}
 use Rattle.std.proofs.lemmas.Option.{none-some, same_Some, slice_get-get_or}
@@ -8,27 +8,25 @@ use Rattle.vw_cell.specs.declared.cells.Cell.{Cell}
 use Rattle.vw_cell.specs.Counts.{cell_at}
 use Rattle.vw_cell.specs.Places.{IsInBlock, FitsAt, block_side}
 use Rattle.vox_read.specs.declared.voxels.Voxel.{Voxel}
-use Rattle.vox_read.specs.Contents.{Content}
 use Rattle.vox_write.specs.Written.{model_file}
 use Rattle.history_model.specs.Worlds.{World}
 use Rattle.node_shapes.specs.declared.names.Name.{Name}
 use Rattle.node_shapes.specs.Shape.{Shape, ShowsCells, has}
-use Rattle.node_shapes.specs.Tree.{Tree, shape_of}
-use Rattle.node_shapes.specs.Weights.{weigh, weight_of}
+use Rattle.node_shapes.specs.Tree.{shape_of}
 use Rattle.node_shapes.proofs.WeightLaws.{weight_of-there}
 use Rattle.node_words.specs.Held.{IsHeld}
 use Rattle.node_words.proofs.HeldLaws.{held_reached}
 use Rattle.block_contents.specs.Aligned.{world_block}
 use Rattle.block_walk.specs.Roots.{IsBlockOf, HoldsRoot, ForWorld, cells_of}
 use Rattle.block_walk.proofs.LookLaws.{root_side}
-use Rattle.extract.specs.Listing.{voxels_joined, voxel_if, box_row, box_layer, voxels_of_box}
+use Rattle.extract.specs.Listing.{voxels_joined, voxel_if, box_row, box_layer}
 use Rattle.extract.specs.Saved.{file_of_box}
 use Rattle.script.specs.Placing.{is_save_name}
 use Rattle.conformance.specs.declared.saves.SavedBox.{SavedBox}
 use Rattle.store_run.specs.declared.pins.Pin.{Pin}
 use Rattle.store_run.specs.declared.versions.Versions.{Versions}
 use Rattle.store_run.specs.Kept.{world_of}
-use Rattle.store_run.specs.Pins.{IsPinOf, ArePinned, saves_of}
+use Rattle.store_run.specs.Pins.{ArePinned, saves_of}
 use Rattle.store_run.proofs.Pinning.{HasTree, pin_here}
 
 -- ---- the file of a box goes by its cells alone

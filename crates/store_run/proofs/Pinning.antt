@@ -1,6 +1,6 @@
 -- Pins, and what is held for them.
-use Rattle.std.proofs.Common.{◌≡◌, ℕ, ◌+◌, ◌-◌, ◌^◌, ◌<◌, ◌≤◌, zero, suc, Some, None, Option, List, [], ◌∷◌, ◌++◌, length, map, length-append, append-nil, refl, sym, ◌∙◌, ap, subst, arith}
-use Rattle.std.specs.Prelude.{slice_get, IfOk}
+use Rattle.std.proofs.Common.{◌≡◌, ℕ, ◌+◌, ◌^◌, ◌<◌, ◌≤◌, zero, suc, Some, None, Option, List, [], ◌∷◌, ◌++◌, length, length-append, append-nil, refl, sym, ◌∙◌, ap, subst, arith}
+use Rattle.std.specs.Prelude.{slice_get}
 use Rattle.std.specs.Option.{option_to_list}
 use Rattle.std.proofs.lemmas.List.{map-append}
 use Rattle.std.proofs.lemmas.Option.{none-some, same_Some}
@@ -10,11 +10,10 @@ use Rattle.history_model.specs.declared.histories.Record.{Record}
 use Rattle.history_model.specs.declared.questions.Question.TheVariants as questions
 use Rattle.history_model.specs.Laws.{version_stays}
 use Rattle.history_model.specs.Logs.{Log}
-use Rattle.history_model.specs.Moments.{world_has}
 use Rattle.history_model.specs.Worlds.{World}
 use Rattle.node_shapes.specs.declared.names.Name.{Name}
 use Rattle.node_shapes.specs.Shape.{ShowsCells}
-use Rattle.node_shapes.specs.Tree.{Tree, root_of, shape_of}
+use Rattle.node_shapes.specs.Tree.{Tree, shape_of}
 use Rattle.node_shapes.specs.Weights.{weigh, weight_of, number_of_trees}
 use Rattle.node_shapes.proofs.TreeLaws.{gone_from_root}
 use Rattle.node_shapes.proofs.WeightLaws.{weight_of-there, weight_of-one}
@@ -34,7 +33,7 @@ use Rattle.conformance.specs.Answers.{asked_version}
 use Rattle.conformance.specs.Saves.{saved_by}
 use Rattle.conformance.specs.Telling.{Tells, count}
 use Rattle.entry_words.specs.Words.{key_in}
-use Rattle.one_store.specs.Known.{Known, IsStore, root_tree, stored_root}
+use Rattle.one_store.specs.Known.{IsStore, root_tree, stored_root}
 use Rattle.one_store.proofs.RootLaws.{top_tree}
 use Rattle.one_store.proofs.StoreLaws.{held_is}
 use Rattle.store_run.specs.declared.pins.Pin.{Pin}
@@ -42,8 +41,8 @@ use Rattle.store_run.specs.declared.versions.Versions.{Versions}
 use Rattle.store_run.specs.Kept.{plan_of, log_of, moment_of, world_of, AreVersions, HoldsNothing, HoldsTree, HoldsSame}
 use Rattle.store_run.specs.Steps.{StayVersions, StaysSeen, LeavesAll, SharesRoot, PutsDown}
 use Rattle.store_run.specs.Answering.{GoesOnBy, saved_as}
-use Rattle.store_run.specs.Pins.{IsPinOf, ArePins, pinned_weight, HoldsPins, ArePinned, saves_of}
-use Rattle.store_run.proofs.Holding.{root_is, none_weighs}
+use Rattle.store_run.specs.Pins.{IsPinOf, ArePins, pinned_weight, ArePinned, saves_of}
+use Rattle.store_run.proofs.Holding.{root_is}
 use Rattle.store_run.proofs.Sparing.{tree_same}
 use Rattle.store_run.proofs.Rebuilding.{share_level, kept_still, told_still, stays_on}
 

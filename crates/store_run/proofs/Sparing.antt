@@ -6,7 +6,7 @@ use Rattle.node_shapes.specs.declared.names.Name.{Name}
 use Rattle.node_shapes.specs.Shape.{ShowsCells}
 use Rattle.node_shapes.specs.Tree.{Tree, shape_of}
 use Rattle.node_shapes.specs.Weights.{weight_of}
-use Rattle.node_words.specs.Held.{HoldsName, ForHeld, Gains, OnlyHeldChanges}
+use Rattle.node_words.specs.Held.{ForHeld, Gains, OnlyHeldChanges}
 use Rattle.node_words.specs.Plans.{Layout}
 use Rattle.block_contents.specs.Aligned.{top, world_block}
 use Rattle.core_laws.specs.Counting.{booked, parented, rooted}

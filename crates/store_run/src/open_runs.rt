@@ -90,7 +90,11 @@ impl<'m> OpenRun<'m> {
     }
 }
 
-fn close_over<L: Ledger>(alloc: Global, pinned: Pinned<'_>, blank: Blank) -> Result<StoreRan, Memory>
+fn close_over<L: Ledger>(
+    alloc: Global,
+    pinned: Pinned<'_>,
+    blank: Blank,
+) -> Result<StoreRan, Memory>
     requires are { ArePinned pinned.versions pinned.pins.items }
     requires name { blank.name ≡ L.name }
     requires parts { blank.parts ≡ L.parts }

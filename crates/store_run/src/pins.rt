@@ -119,9 +119,9 @@ impl<'m> Pinned<'m> {
                 }
             }
             Command::Forget(version) => self.versions.forget_version(session, line, version, steps),
-            Command::Ask { version, question } => self.versions.tell(
-                session, line, version, question, steps,
-            ),
+            Command::Ask { version, question } => self
+                .versions
+                .tell(session, line, version, question, steps),
             Command::Save {
                 version,
                 name,
@@ -178,7 +178,9 @@ impl<'m> Pinned<'m> {
     {
         let root = self.versions.share(save.version);
         let question = Question::Count(save.part);
-        let counted = self.versions.tell_root(save.version, root.as_ref(), question);
+        let counted = self
+            .versions
+            .tell_root(save.version, root.as_ref(), question);
         let root = put_away(root);
         self.pins.push_reserved(Pin { save, root });
         counted

@@ -73,9 +73,7 @@ fn run_over<'m, L: Ledger>(
 {
     let records = most_records(scripts);
     let saves = most_saves(scripts);
-    let mut desk: StoreDesk<'m, L> = StoreDesk::begin(
-        alloc, plan, models, records, saves, blank,
-    )?;
+    let mut desk: StoreDesk<'m, L> = StoreDesk::begin(alloc, plan, models, records, saves, blank)?;
     let transcripts = script_runs::run_scripts(alloc, &mut desk, scripts)?;
     let run = OpenRun {
         pinned: desk.into_pinned(),

@@ -171,7 +171,12 @@ impl<'m> Versions<'m> {
 
     /// What the question asks of the version whose root is held.
     #[tactic(auto, using(crate::proofs::Rebuilding::share_level, crate::proofs::Rebuilding::share_shows, crate::proofs::Holding::holds_root, crate::proofs::Sparing::are_spared, crate::proofs::Rebuilding::seen_tree, crate::proofs::Rebuilding::stays_seen, crate::proofs::Rebuilding::root_told))]
-    pub(crate) fn tell_root(&mut self, version: u32, root: Option<&Share>, question: Question) -> Answer
+    pub(crate) fn tell_root(
+        &mut self,
+        version: u32,
+        root: Option<&Share>,
+        question: Question,
+    ) -> Answer
         requires are { AreVersions self.old }
         requires kept { IsKept (log_of self.old) version }
         requires holds { HoldsTree self.old.store (option_copied root) }

@@ -5,7 +5,6 @@ use Rattle.store_run.specs.Kept.{moment_of}
 use Rattle.store_run.specs.Pins.{saves_of}
 use Rattle.store_run.specs.Answering.{GoesOnBy}
 use Rattle.store_run.proofs.Answering.{tells_head}
-use Rattle.store_run.proofs.Holding.{same_held}
 use Rattle.store_run.proofs.Pinning.{pinned_few, still_pinned, none_saved}
 use Rattle.store_run.proofs.pins.Pinned.answer_line.Goals as goal
 
