@@ -1,5 +1,5 @@
 -- What each answer makes of a run.
-use Rattle.std.proofs.Common.{◌≡◌, ◌≢◌, ℕ, ◌+◌, ◌^◌, ◌<◌, ◌≤◌, ◌⊎◌, Bool, true, false, Some, None, Option, List, [], ◌∷◌, length, length-append, refl, sym, ◌∙◌, ap, subst, arith, inl, inr}
+use Rattle.std.proofs.Common.{◌≡◌, ◌≢◌, ℕ, ◌+◌, ◌^◌, ◌<◌, ◌≤◌, ◌⊎◌, append-nil, Bool, true, false, Some, None, Option, List, [], ◌∷◌, ◌++◌, length, length-append, refl, sym, ◌∙◌, ap, subst, arith, inl, inr}
 use Rattle.std.specs.Prelude.{IsTrue, ◌↔◌}
 use Rattle.std.specs.List.{Contains}
 use Rattle.std.proofs.lemmas.Bool.{false≢true}
@@ -37,9 +37,10 @@ use Rattle.script_runs.specs.Sessions.{TakesLine}
 use Rattle.script_runs.proofs.Arms.{rebuilt_arm, undone_arm, forgot_arm, full_arm, late_arm, resting_arm, before_within}
 use Rattle.one_store.specs.Known.{IsStore, known_seen, stored_root}
 use Rattle.store_run.specs.declared.versions.Versions.{Versions}
-use Rattle.store_run.specs.Kept.{plan_of, log_of, moment_of, world_of, noted_of, AreVersions, HoldsJust}
+use Rattle.store_run.specs.Kept.{plan_of, log_of, moment_of, world_of, noted_of, AreVersions, LosesTree, HoldsSame}
 use Rattle.store_run.specs.Steps.{HasMark, LeavesAll, SharesRoot, MakesRoot, MeetsBucket, AppendsRecord, MarksVersion, target_of}
 use Rattle.store_run.specs.Answering.{GoesOnBy, nothing_to_go_to, saved_as}
+use Rattle.store_run.proofs.Holding.{same_again}
 use Rattle.store_run.proofs.Sparing.{versions_sound, gave_nothing}
 use Rattle.store_run.proofs.Targets.{is_target, goes_to}
 
@@ -48,6 +49,9 @@ moment_as old new log = ap (λ (l : Log). length l.records) log
 
 noted_as : (old new : Versions) → new.store.told.made ≡ old.store.told.made → new.store.told.met ≡ old.store.told.met → noted_of new ≡ noted_of old
 noted_as old new made met = λ i. record { made = made i; met = met i }
+
+records_as : (old new : Versions) → log_of new ≡ log_of old → new.records.items ≡ old.records.items ++ []
+records_as old new log = ap (λ (l : Log). l.records) log ∙ sym (append-nil old.records.items)
 
 -- what fits, whatever has run so far
 abbrev pub FitsSoFar : Versions → ℕ → ScriptLine → Answer → Type 0
@@ -63,7 +67,8 @@ pub rests : (v w : Versions) (session : ℕ) (l : ScriptLine) (answer : Answer) 
 rests v w session l answer are leaves resting none fits = record {
   models = leaves.stay.models;
   plan = leaves.stay.spares.plan;
-  free = leaves.free;
+  more = [];
+  records = records_as v w leaves.stay.log;
   goes_on = λ scripts transcripts script transcript running number after. (
       let p = plan_of v in
       let models = v.models.items in
@@ -109,7 +114,8 @@ module _ (v w : Versions) (session line : ℕ) (act : Act) (once : Bool) (are : 
   edit_full full meets = record {
     models = meets.stay.models;
     plan = meets.stay.spares.plan;
-    free = meets.free;
+    more = [];
+    records = records_as v w meets.stay.log;
     goes_on = λ scripts transcripts script transcript running number after. (
         let first = last_moment 0 transcript in
         let low = before_within (plan_of v) v.models.items scripts transcripts script transcript (log_of v) (noted_of v) running in
@@ -126,7 +132,9 @@ module _ (v w : Versions) (session line : ℕ) (act : Act) (once : Bool) (are : 
   edit_done u root makes appends = record {
     models = appends.only.models ∙ makes.stay.models;
     plan = appends.only.plan ∙ makes.stay.spares.plan;
-    free = appends.only.free;
+    more = record { session = session; line = line; act = act } ∷ [];
+    records = appends.grows.records
+        ∙ ap (λ (l : Log). l.records ++ record { session = session; line = line; act = act } ∷ []) makes.stay.log;
     goes_on = λ scripts transcripts script transcript running number after. (
         let first = last_moment 0 transcript in
         let low = before_within (plan_of v) v.models.items scripts transcripts script transcript (log_of v) (noted_of v) running in
@@ -150,7 +158,8 @@ module _ (v w : Versions) (session line : ℕ) (act : Act) (once : Bool) (are : 
   edit_late u root makes all leaves = record {
     models = leaves.stay.models ∙ makes.stay.models;
     plan = leaves.stay.spares.plan ∙ makes.stay.spares.plan;
-    free = leaves.free;
+    more = [];
+    records = records_as v w (leaves.stay.log ∙ makes.stay.log);
     goes_on = λ scripts transcripts script transcript running number after. (
         let first = last_moment 0 transcript in
         let low = before_within (plan_of v) v.models.items scripts transcripts script transcript (log_of v) (noted_of v) running in
@@ -163,6 +172,14 @@ module _ (v w : Versions) (session line : ℕ) (act : Act) (once : Bool) (are : 
         (sym (leaves.stay.log ∙ makes.stay.log)) done);
   }
 
+-- nothing more is held
+pub full_same : (v w : Versions) (act : Act) (full : Full) → MeetsBucket v act full w → HoldsSame v.store w.store
+full_same v w act full meets = record { weighs = meets.fails.held }
+
+pub went_same : (v u w : Versions) (to : ℕ) (root : Option Rattle.node_shapes.specs.declared.names.Name.Name)
+    → SharesRoot v to root u → LosesTree u.store root w.store → HoldsSame v.store w.store
+went_same v u w to root shares loses = same_again v.store u.store w.store root shares.gains loses
+
 -- ---- undos and redos
 
 pub go_done : (v u w : Versions) (session line : ℕ) (act : Act) (once : Bool) (to : ℕ) (root : Option Rattle.node_shapes.specs.declared.names.Name.Name)
@@ -171,7 +188,9 @@ pub go_done : (v u w : Versions) (session line : ℕ) (act : Act) (once : Bool) 
 go_done v u w session line act once to root shares appends = record {
   models = appends.only.models ∙ shares.stay.models;
   plan = appends.only.plan ∙ shares.stay.spares.plan;
-  free = appends.only.free;
+  more = record { session = session; line = line; act = act } ∷ [];
+  records = appends.grows.records
+      ∙ ap (λ (l : Log). l.records ++ record { session = session; line = line; act = act } ∷ []) shares.stay.log;
   goes_on = λ scripts transcripts script transcript running number after. (
       let first = last_moment 0 transcript in
       let l : ScriptLine = record { line = line; command = Edit act once } in
@@ -187,7 +206,7 @@ go_done v u w session line act once to root shares appends = record {
       (subst (λ (n : ℕ). TakesLine (plan_of v) v.models.items session first l (log_of v) (log_of w) (noted_of v) (noted_of v) (answer_at l n answers.Done)) (sym longer) done));
 }
 
-module _ (v : Versions) (session line : ℕ) (act : Act) (once : Bool) (are : AreVersions v) (free : HoldsJust v.store None) (other : is_edit act ≡ false) where
+module _ (v : Versions) (session line : ℕ) (act : Act) (once : Bool) (are : AreVersions v) (other : is_edit act ≡ false) where
   nothing_fits : target_at v.records.items (moment_of v) act ≡ None → FitsSoFar v session (record { line = line; command = Edit act once }) (nothing_to_go_to act)
   nothing_fits none scripts transcripts script transcript so_far number after = go act other none
     where
@@ -229,12 +248,12 @@ module _ (v : Versions) (session line : ℕ) (act : Act) (once : Bool) (are : Ar
       go (Stamp b c) = refl
 
   pub go_nowhere : target_at v.records.items (moment_of v) act ≡ None → GoesOnBy v session (record { line = line; command = Edit act once }) (nothing_to_go_to act) v
-  go_nowhere none = rests v v session (record { line = line; command = Edit act once }) (nothing_to_go_to act) are (gave_nothing v free) nothing_rests nothing_refused (nothing_fits none)
+  go_nowhere none = rests v v session (record { line = line; command = Edit act once }) (nothing_to_go_to act) are (gave_nothing v) nothing_rests nothing_refused (nothing_fits none)
 
   pub go_forgotten : (to : ℕ) → target_at v.records.items (moment_of v) act ≡ Some to → (to ≤ moment_of v) × HasMark v to
       → GoesOnBy v session (record { line = line; command = Edit act once }) (answers.Forgotten to) v
   go_forgotten to goes mark =
-      rests v v session (record { line = line; command = Edit act once }) (answers.Forgotten to) are (gave_nothing v free) refl refl
+      rests v v session (record { line = line; command = Edit act once }) (answers.Forgotten to) are (gave_nothing v) refl refl
       (λ scripts transcripts script transcript so_far number after. forgotten (Edit act once) to goes
       (forgotten_now v session (record { line = line; command = Edit act once }) to mark.1 scripts transcripts script transcript so_far number after))
 
@@ -245,7 +264,7 @@ module _ (v : Versions) (session line : ℕ) (act : Act) (once : Bool) (are : Ar
   pub go_late : (to : ℕ) → target_at v.records.items (moment_of v) act ≡ Some to → IsKept (log_of v) to → moment_of v ≡ 65535
       → GoesOnBy v session (record { line = line; command = Edit act once }) answers.LogFull v
   go_late to goes kept all =
-      rests v v session (record { line = line; command = Edit act once }) answers.LogFull are (gave_nothing v free) refl refl
+      rests v v session (record { line = line; command = Edit act once }) answers.LogFull are (gave_nothing v) refl refl
       (λ scripts transcripts script transcript so_far number after. log_full act once all (λ _. (to, goes, readable_now v session line to kept)))
 
 -- ---- forgetting
@@ -259,7 +278,8 @@ pub forgot_version : (v w : Versions) (session line version at : ℕ) → at ≡
 forgot_version v w session line version at now marks = record {
   models = marks.only.models;
   plan = marks.only.plan;
-  free = marks.only.free;
+  more = [];
+  records = marks.forgets.records ∙ sym (append-nil v.records.items);
   goes_on = λ scripts transcripts script transcript running number after. (
       let first = last_moment 0 transcript in
       let l : ScriptLine = record { line = line; command = Forget version } in
@@ -271,27 +291,27 @@ forgot_version v w session line version at now marks = record {
       (subst (λ (n : ℕ). TakesLine (plan_of v) v.models.items session first l (log_of v) (log_of w) (noted_of v) (noted_of v) (answer_at l n (answers.Forgot version))) (sym same) done));
 }
 
-module _ (v : Versions) (session line : ℕ) (are : AreVersions v) (free : HoldsJust v.store None) where
+module _ (v : Versions) (session line : ℕ) (are : AreVersions v) where
   pub forgets_head : (version : ℕ) → version ≡ moment_of v → GoesOnBy v session (record { line = line; command = Forget version }) answers.IsHead v
   forgets_head version is =
-      rests v v session (record { line = line; command = Forget version }) answers.IsHead are (gave_nothing v free) refl refl
+      rests v v session (record { line = line; command = Forget version }) answers.IsHead are (gave_nothing v) refl refl
       (λ scripts transcripts script transcript so_far number after.
       subst (λ (n : ℕ). Answers (plan_of v) v.models.items (log_of v) (IsStanding (log_of v).marks session line (moment_of v)) session line (moment_of v) (Forget n) answers.IsHead) (sym is) is_head)
 
   pub forget_missing : (version : ℕ) → moment_of v < version → GoesOnBy v session (record { line = line; command = Forget version }) (answers.NoVersion version) v
   forget_missing version past =
-      rests v v session (record { line = line; command = Forget version }) (answers.NoVersion version) are (gave_nothing v free) refl refl
+      rests v v session (record { line = line; command = Forget version }) (answers.NoVersion version) are (gave_nothing v) refl refl
       (names_missing v session (record { line = line; command = Forget version }) version past refl)
 
   pub forget_marked : (version : ℕ) → (version ≤ moment_of v) × HasMark v version → GoesOnBy v session (record { line = line; command = Forget version }) (answers.Forgotten version) v
   forget_marked version mark =
-      rests v v session (record { line = line; command = Forget version }) (answers.Forgotten version) are (gave_nothing v free) refl refl
+      rests v v session (record { line = line; command = Forget version }) (answers.Forgotten version) are (gave_nothing v) refl refl
       (λ scripts transcripts script transcript so_far number after. forgotten (Forget version) version refl
       (forgotten_now v session (record { line = line; command = Forget version }) version mark.1 scripts transcripts script transcript so_far number after))
 
   pub tells_head : GoesOnBy v session (record { line = line; command = Head }) answers.Head v
   tells_head =
-      rests v v session (record { line = line; command = Head }) answers.Head are (gave_nothing v free) refl refl
+      rests v v session (record { line = line; command = Head }) answers.Head are (gave_nothing v) refl refl
       (λ scripts transcripts script transcript so_far number after. head)
 
   -- ---- questions
@@ -304,7 +324,7 @@ module _ (v : Versions) (session line : ℕ) (are : AreVersions v) (free : Holds
   pub ask_missing : (version : Option ℕ) (question : Question) (asked : ℕ) → asked ≡ asked_version version (moment_of v) → moment_of v < asked
       → GoesOnBy v session (record { line = line; command = Ask version question }) (answers.NoVersion asked) v
   ask_missing version question asked is past =
-      rests v v session (record { line = line; command = Ask version question }) (answers.NoVersion asked) are (gave_nothing v free) refl refl
+      rests v v session (record { line = line; command = Ask version question }) (answers.NoVersion asked) are (gave_nothing v) refl refl
       (names_missing v session (record { line = line; command = Ask version question }) asked past
       (subst (λ (n : ℕ). Names (IsStanding (log_of v).marks session line (moment_of v)) (moment_of v) (Ask version question) n) (sym is)
       (ask_names version question (subst (λ (n : ℕ). moment_of v < n) is past))))
@@ -327,7 +347,7 @@ module _ (v : Versions) (session line : ℕ) (are : AreVersions v) (free : Holds
       → GoesOnBy v session (record { line = line; command = Ask version question }) (answers.Forgotten asked) v
   ask_marked version question asked is mark =
       let l : ScriptLine = record { line = line; command = Ask version question } in
-      rests v v session l (answers.Forgotten asked) are (gave_nothing v free) refl refl
+      rests v v session l (answers.Forgotten asked) are (gave_nothing v) refl refl
       (λ scripts transcripts script transcript so_far number after. forgotten (Ask version question) asked
       (subst (λ (n : ℕ). Names (IsStanding (log_of v).marks session line (moment_of v)) (moment_of v) (Ask version question) n) (sym is)
       (ask_marked_names version question (subst (λ (n : ℕ). HasMark v n) is mark.1)))
@@ -342,7 +362,7 @@ module _ (v : Versions) (session line : ℕ) (are : AreVersions v) (free : Holds
   pub save_missing : (version : Option ℕ) (name : SaveName) (part : Boxed) (asked : ℕ) → asked ≡ asked_version version (moment_of v) → moment_of v < asked
       → GoesOnBy v session (record { line = line; command = Save version name part }) (answers.NoVersion asked) v
   save_missing version name part asked is past =
-      rests v v session (record { line = line; command = Save version name part }) (answers.NoVersion asked) are (gave_nothing v free) refl refl
+      rests v v session (record { line = line; command = Save version name part }) (answers.NoVersion asked) are (gave_nothing v) refl refl
       (names_missing v session (record { line = line; command = Save version name part }) asked past
       (subst (λ (n : ℕ). Names (IsStanding (log_of v).marks session line (moment_of v)) (moment_of v) (Save version name part) n) (sym is)
       (save_names version name part (inl (subst (λ (n : ℕ). moment_of v < n) is past)))))
@@ -351,7 +371,7 @@ module _ (v : Versions) (session line : ℕ) (are : AreVersions v) (free : Holds
       → GoesOnBy v session (record { line = line; command = Save version name part }) (answers.Forgotten asked) v
   save_marked version name part asked is mark =
       let l : ScriptLine = record { line = line; command = Save version name part } in
-      rests v v session l (answers.Forgotten asked) are (gave_nothing v free) refl refl
+      rests v v session l (answers.Forgotten asked) are (gave_nothing v) refl refl
       (λ scripts transcripts script transcript so_far number after. forgotten (Save version name part) asked
       (subst (λ (n : ℕ). Names (IsStanding (log_of v).marks session line (moment_of v)) (moment_of v) (Save version name part) n) (sym is)
       (save_names version name part (inr (subst (λ (n : ℕ). HasMark v n) is mark.1))))
@@ -361,25 +381,25 @@ module _ (v : Versions) (session line : ℕ) (are : AreVersions v) (free : Holds
 
   pub same_first_missing : (a b : ℕ) → moment_of v < a → GoesOnBy v session (record { line = line; command = Same a b }) (answers.NoVersion a) v
   same_first_missing a b past =
-      rests v v session (record { line = line; command = Same a b }) (answers.NoVersion a) are (gave_nothing v free) refl refl
+      rests v v session (record { line = line; command = Same a b }) (answers.NoVersion a) are (gave_nothing v) refl refl
       (names_missing v session (record { line = line; command = Same a b }) a past (inl refl))
 
   pub same_missing : (a b : ℕ) → IsKept (log_of v) a → moment_of v < b → GoesOnBy v session (record { line = line; command = Same a b }) (answers.NoVersion b) v
   same_missing a b kept past =
-      rests v v session (record { line = line; command = Same a b }) (answers.NoVersion b) are (gave_nothing v free) refl refl
+      rests v v session (record { line = line; command = Same a b }) (answers.NoVersion b) are (gave_nothing v) refl refl
       (names_missing v session (record { line = line; command = Same a b }) b past (inr (refl, readable_now v session line a kept)))
 
   pub same_first_marked : (a b : ℕ) → (a ≤ moment_of v) × HasMark v a → GoesOnBy v session (record { line = line; command = Same a b }) (answers.Forgotten a) v
   same_first_marked a b mark =
       let l : ScriptLine = record { line = line; command = Same a b } in
-      rests v v session l (answers.Forgotten a) are (gave_nothing v free) refl refl
+      rests v v session l (answers.Forgotten a) are (gave_nothing v) refl refl
       (λ scripts transcripts script transcript so_far number after. forgotten (Same a b) a (inl refl)
       (forgotten_now v session l a mark.1 scripts transcripts script transcript so_far number after))
 
   pub same_marked : (a b : ℕ) → IsKept (log_of v) a → (b ≤ moment_of v) × HasMark v b → GoesOnBy v session (record { line = line; command = Same a b }) (answers.Forgotten b) v
   same_marked a b kept mark =
       let l : ScriptLine = record { line = line; command = Same a b } in
-      rests v v session l (answers.Forgotten b) are (gave_nothing v free) refl refl
+      rests v v session l (answers.Forgotten b) are (gave_nothing v) refl refl
       (λ scripts transcripts script transcript so_far number after. forgotten (Same a b) b (inr (refl, readable_now v session line a kept))
       (forgotten_now v session l b mark.1 scripts transcripts script transcript so_far number after))
 
@@ -387,7 +407,7 @@ module _ (v : Versions) (session line : ℕ) (are : AreVersions v) (free : Holds
       → (IsTrue is ↔ (stored_root v.store.roots a ≡ stored_root v.store.roots b))
       → GoesOnBy v session (record { line = line; command = Same a b }) (answers.Same is) v
   same_told a b number st of_a of_b is roots =
-      rests v v session (record { line = line; command = Same a b }) (answers.Same is) are (gave_nothing v free) refl refl
+      rests v v session (record { line = line; command = Same a b }) (answers.Same is) are (gave_nothing v) refl refl
       (λ scripts transcripts script transcript so_far k after. told is roots)
     where
       side : (plan_of v).side ≡ v.side

@@ -17,8 +17,7 @@ use Rattle.undo_trail.specs.Trails.{trail_position}
 use Rattle.one_store.specs.Known.{root_names, stored_root}
 use Rattle.one_store.proofs.StateLaws.{root_weight, holdings-one}
 use Rattle.store_run.specs.declared.versions.Versions.{Versions}
-use Rattle.store_run.specs.Kept.{plan_of, log_of, noted_of, mark_in, core_with, AreVersions, HoldsJust}
-use Rattle.store_run.proofs.Holding.{none_weighs}
+use Rattle.store_run.specs.Kept.{plan_of, log_of, noted_of, mark_in, core_with, AreVersions, HoldsNothing}
 use Rattle.store_run.proofs.Marking.{none_listed, no_mark}
 
 no_holdings : (f : Name → ℕ) → holdings f (root_names [] ∷ []) ≡ 0
@@ -33,10 +32,8 @@ module _ (v : Versions) (p : Layout) (side : v.side ≡ p.side) (plan : plan_of 
   pub begun_log : log_of v ≡ record { side = p.side; records = []; marks = [] }
   begun_log = λ i. record { side = side i; records = records i; marks = none_listed (mark_in v.marks.items) versions none_marked i }
 
-  pub begun_just : HoldsJust v.store None
-  begun_just = record {
-    weighs = λ f. ap (λ (t : Told). weigh f t.held) told ∙ weigh-nil f ∙ sym (none_weighs v.store f);
-  }
+  pub begun_nothing : HoldsNothing v.store
+  begun_nothing = record { weighs = λ f. ap (λ (t : Told). weigh f t.held) told ∙ weigh-nil f }
 
   pub begun_are : AreVersions v
   begun_are = record {

@@ -1,5 +1,5 @@
 -- What the store tells when all scripts were run.
-use Rattle.std.proofs.Common.{◌≡◌, ℕ, ◌+◌, ◌-◌, ◌<◌, ◌≤◌, None, Option, List, length, sym, ◌∙◌, ap, subst, arith}
+use Rattle.std.proofs.Common.{◌≡◌, ℕ, ◌+◌, ◌-◌, ◌<◌, ◌≤◌, Option, List, length, sym, ◌∙◌, ap, subst, arith}
 use Rattle.history_model.specs.declared.histories.Mark.{Mark}
 use Rattle.history_model.specs.Logs.{Log}
 use Rattle.block_contents.specs.MarkLists.{marks_below}
@@ -13,14 +13,11 @@ use Rattle.reporting.proofs.NumberLaws.{numbers_told}
 use Rattle.one_store.specs.Known.{Known, IsStore, core_of}
 use Rattle.one_store.proofs.StateLaws.{root_weight, holdings-one}
 use Rattle.store_run.specs.declared.versions.Versions.{Versions}
-use Rattle.store_run.specs.Kept.{plan_of, log_of, moment_of, mark_in, core_with, AreVersions, HoldsJust}
-use Rattle.store_run.proofs.Holding.{none_weighs}
+use Rattle.store_run.specs.Kept.{plan_of, log_of, moment_of, mark_in, core_with, AreVersions, HoldsNothing}
 use Rattle.store_run.proofs.Sparing.{versions_sound}
 
-idle : (log : Log) (s : Known) → HoldsJust s None → IsIdle (core_with log s)
-idle log s just = record {
-  weighs = λ f. holdings-one f s.told.held ∙ just.weighs (root_weight f) ∙ none_weighs s (root_weight f);
-}
+idle : (log : Log) (s : Known) → HoldsNothing s → IsIdle (core_with log s)
+idle log s nothing = record { weighs = λ f. holdings-one f s.told.held ∙ nothing.weighs (root_weight f) }
 
 module _ (v : Versions) (number : ℕ) (are : AreVersions v) (st : IsStore v.store number) where
   pub roots_in_range : (roots : List (Option Name)) → roots ≡ v.store.roots → length v.records.items < length roots
@@ -34,7 +31,7 @@ module _ (v : Versions) (number : ℕ) (are : AreVersions v) (st : IsStore v.sto
       subst (λ (r : List (Option Name)). RootsTellWorlds v.models.items (log_of v) (listed_root r)) (sym same)
       (sound_roots (plan_of v) v.models.items (core_with (log_of v) v.store) st.plan.side_low (versions_sound v number are st))
 
-  pub are_numbers : HoldsJust v.store None → (numbers : List ℕ) → length numbers ≡ v.side - 2 + 1
+  pub are_numbers : HoldsNothing v.store → (numbers : List ℕ) → length numbers ≡ v.side - 2 + 1
       → ((level : ℕ) → level < v.side - 2 + 1 → slice_index numbers level ≡ live_number (plan_of v) (core_of v.store) level)
       → AreNumbers v.models.items (log_of v) numbers
   are_numbers free numbers many each =

@@ -1,5 +1,5 @@
--- What is held beside the roots in places: one share of a root, or none.
-use Rattle.std.proofs.Common.{◌≡◌, ℕ, ◌-◌, ◌≤◌, Some, None, Option, refl, ◌∙◌, ap, subst, arith}
+-- What is held beside the roots in places.
+use Rattle.std.proofs.Common.{◌≡◌, ℕ, ◌+◌, ◌-◌, ◌≤◌, Some, None, Option, refl, sym, ap, subst, arith}
 use Rattle.std.specs.Option.{ForSome}
 use Rattle.history_model.specs.Worlds.{World}
 use Rattle.node_shapes.specs.declared.names.Name.{Name}
@@ -15,7 +15,7 @@ use Rattle.edit_cells.specs.Worlds.{ShowsWorld}
 use Rattle.entry_words.specs.Words.{key_in}
 use Rattle.one_store.specs.Known.{Known, root_tree}
 use Rattle.one_store.proofs.StateLaws.{tree_root}
-use Rattle.store_run.specs.Kept.{HoldsJust}
+use Rattle.store_run.specs.Kept.{HoldsTree, GainsTree, LosesTree, HoldsSame}
 
 -- the root of a root's tree
 pub root_is : (s : Known) (root : Option Name) → root_of (root_tree s root) ≡ root
@@ -29,37 +29,53 @@ pub some_weighs : (s : Known) (n : Name) (f : Tree → ℕ)
     → weight_of f (root_tree s (Some n)) ≡ f (root_tree s (Some n))
 some_weighs s n f = weight_of-there f (root_tree s (Some n)) n (root_is s (Some n))
 
-pub just_few : (s : Known) (root : Option Name) → HoldsJust s root → number_of_trees s.told.held ≤ 1
-just_few s root just = omega (arith, just.weighs (λ _. 1), weight_of-one (root_tree s root))
+-- a share that came is held, and is one
+pub gained_tree : (old : Known) (root : Option Name) (new : Known) → GainsTree old root new → HoldsTree new root
+gained_tree old root new gains = record {
+  each = λ n e. record {
+    weighs = λ f. (
+        let same = ap (λ (r : Option Name). weight_of f (root_tree new r)) e in
+        omega (arith, gains.weighs f, same, some_weighs new n f));
+  };
+}
 
-pub just_held : (s : Known) (n : Name) → HoldsJust s (Some n) → IsHeld s.told.held (root_tree s (Some n))
-just_held s n just = record { weighs = λ f. omega (arith, just.weighs f, some_weighs s n f) }
+pub gained_few : (old : Known) (root : Option Name) (new : Known) (most : ℕ) → GainsTree old root new
+    → number_of_trees old.told.held ≤ most → number_of_trees new.told.held ≤ most + 1
+gained_few old root new most gains few = omega (arith, gains.weighs (λ _. 1), weight_of-one (root_tree new root), few)
 
-pub just_name : (s : Known) (n : Name) → HoldsJust s (Some n) → HoldsName s.told.held n
-just_name s n just = record { tree = root_tree s (Some n); is_held = just_held s n just; root = root_is s (Some n) }
+pub gained_room : (old : Known) (root : Option Name) (new : Known) → GainsTree old root new
+    → number_of_trees old.told.held ≤ 2048 → number_of_trees new.told.held ≤ 4008
+gained_room old root new gains few = let one = gained_few old root new 2048 gains few in omega arith
+
+pub tree_name : (s : Known) (n : Name) → HoldsTree s (Some n) → HoldsName s.told.held n
+tree_name s n holds = record { tree = root_tree s (Some n); is_held = holds.each n refl; root = root_is s (Some n) }
 
 -- such a share may be read from
-pub just_root : (s : Known) (side : ℕ) (root : Option Name) → HoldsJust s root
+pub holds_root : (s : Known) (side : ℕ) (root : Option Name) → HoldsTree s root
     → ((n : Name) → root ≡ Some n → n.level ≡ top side) → HoldsRoot s.told.held side root
-just_root s side None just level = tt
-just_root s side (Some n) just level = (just_name s n just, level n refl)
+holds_root s side None holds level = tt
+holds_root s side (Some n) holds level = (tree_name s n holds, level n refl)
 
-pub just_shows : (s : Known) (side : ℕ) (root : Option Name) (world : World) → HoldsJust s root
+pub holds_shows : (s : Known) (side : ℕ) (root : Option Name) (world : World) → HoldsTree s root
     → ((n : Name) → root ≡ Some n → n.level ≡ top side)
     → ShowsCells (world_block side) (shape_of (root_tree s root)) world
     → ShowsWorld s.told.held (side - 2) root world
-just_shows s side root world just level shows = record {
+holds_shows s side root world holds level shows = record {
   tree = root_tree s root;
   is_root = record {
     root = root_is s root;
-    is_held = λ n e. record { weighs = λ f. omega (arith, just.weighs f, weight_of-there f (root_tree s root) n (root_is s root ∙ e)) };
+    is_held = λ n e. subst (λ (r : Option Name). IsHeld s.told.held (root_tree s r)) (sym e) (holds.each n e);
     at = level;
   };
   shows = shows;
 }
 
-pub just_some : (s : Known) (root : Option Name) → HoldsJust s root → ForSome root (λ n. HoldsName s.told.held n)
-just_some s root just = λ n e. just_name s n (subst (λ (r : Option Name). HoldsJust s r) e just)
+pub holds_some : (s : Known) (root : Option Name) → HoldsTree s root → ForSome root (λ n. HoldsName s.told.held n)
+holds_some s root holds = λ n e. tree_name s n (subst (λ (r : Option Name). HoldsTree s r) e holds)
 
-pub just_few_room : (s : Known) (root : Option Name) → HoldsJust s root → number_of_trees s.told.held ≤ 3910
-just_few_room s root just = let few = just_few s root just in omega arith
+pub same_held : (s : Known) → HoldsSame s s
+same_held s = record { weighs = λ f. refl }
+
+-- what came went again
+pub same_again : (a v w : Known) (root : Option Name) → GainsTree a root v → LosesTree v root w → HoldsSame a w
+same_again a v w root gains loses = record { weighs = λ f. omega (arith, gains.weighs f, loses.weighs f) }

@@ -8,3 +8,5 @@ pub mod Logging
 pub mod Targets
 pub mod Answering
 pub mod Ending
+pub mod Pinning
+pub mod Files

@@ -1,5 +1,5 @@
 -- Records and marks that come to versions.
-use Rattle.std.proofs.Common.{◌≡◌, ℕ, ◌+◌, ◌<◌, Some, None, Option, List, [], ◌∷◌, ◌++◌, length, set, refl, sym, ◌∙◌, ap, subst, arith}
+use Rattle.std.proofs.Common.{◌≡◌, ℕ, ◌+◌, ◌<◌, ◌≤◌, Some, None, Option, List, [], ◌∷◌, ◌++◌, length, set, refl, sym, ◌∙◌, ap, subst, arith}
 use Rattle.std.proofs.lemmas.List.{length-set}
 use Rattle.vox_read.specs.Contents.{Content}
 use Rattle.history_model.specs.declared.histories.Mark.{Mark}
@@ -8,7 +8,7 @@ use Rattle.history_model.specs.Logs.{Log}
 use Rattle.history_model.specs.Positions.{position_after, next_position}
 use Rattle.history_model.specs.Laws.{position_of_next}
 use Rattle.node_shapes.specs.declared.names.Name.{Name}
-use Rattle.node_shapes.specs.Weights.{weight_of}
+use Rattle.node_shapes.specs.Weights.{weight_of, number_of_trees}
 use Rattle.node_words.specs.Plans.{Layout}
 use Rattle.node_places.specs.Spots.{versions}
 use Rattle.block_contents.specs.MarkLists.{marks_below, AreOfVersions}
@@ -24,9 +24,9 @@ use Rattle.undo_trail.specs.Trails.{trail_position}
 use Rattle.one_store.specs.Known.{Known, IsStore, core_of, root_tree, stored_root}
 use Rattle.one_store.specs.Steps.{KeepsRoot, GivesRoot}
 use Rattle.store_run.specs.declared.versions.Versions.{Versions}
-use Rattle.store_run.specs.Kept.{plan_of, log_of, moment_of, mark_in, core_with, AreVersions, HoldsJust}
-use Rattle.store_run.specs.Steps.{LeavesAll, AppendsRecord, MarksVersion}
-use Rattle.store_run.proofs.Holding.{none_weighs}
+use Rattle.store_run.specs.Kept.{plan_of, log_of, moment_of, mark_in, core_with, AreVersions, HoldsTree, GainsTree, LosesTree, HoldsSame}
+use Rattle.store_run.specs.Steps.{LeavesAll, PutsDown, AppendsRecord, MarksVersion}
+use Rattle.store_run.proofs.Holding.{gained_tree, gained_few, same_again}
 use Rattle.store_run.proofs.Marking.{gets_mark, of_versions_still, none_where_unmarked}
 use Rattle.store_run.proofs.Sparing.{versions_sound}
 
@@ -67,7 +67,7 @@ module _ (v : Versions) (s : Known) (r : Record) (root : Option Name) (number pl
       step_sound (plan_of v) v.models.items 0 (core_with (log_of v) v.store) (core_with (longer (log_of v) r) s) st.plan.side_low
       (versions_sound v number are st) (appends r root (record { may = may; log = refl; puts = puts }))
 
-  module _ (w : Versions) (keeps : KeepsRoot v.store place root s) (just : HoldsJust v.store root)
+  module _ (w : Versions) (keeps : KeepsRoot v.store place root s)
       (store : w.store ≡ s) (side : w.side ≡ v.side) (models : w.models.items ≡ v.models.items)
       (records : w.records.items ≡ v.records.items ++ r ∷ []) (marks : w.marks.items ≡ v.marks.items)
       (trail : trail_position w.trail ≡ next_position place r.act (trail_position v.trail)) where
@@ -100,12 +100,13 @@ module _ (v : Versions) (s : Known) (r : Record) (root : Option Name) (number pl
           made = ap (λ (k : Known). k.told.made) store ∙ keeps.only.made;
           met = ap (λ (k : Known). k.told.met) store ∙ keeps.only.met;
         };
-        free = subst (λ (k : Known). HoldsJust k None) (sym store)
-            (record { weighs = λ f. omega (arith, keeps.loses.weighs f, just.weighs f, none_weighs s f) });
       };
       grows = subst (λ (l : Log). GrowsBy (plan_of v) v.models.items r (log_of v) l) (sym log_grown)
           (record { legal = longer_sound.versions.legal; side = refl; records = refl; marks = refl });
     }
+
+pub keeps_loses : (old new : Known) (place : ℕ) (root : Option Name) → KeepsRoot old place root new → LosesTree old root new
+keeps_loses old new place root keeps = record { weighs = λ f. keeps.loses.weighs f }
 
 -- ---- marks
 
@@ -144,7 +145,6 @@ module _ (v : Versions) (s : Known) (mark : Mark) (root : Option Name) (number :
       (forgets mark (record { earlier = earlier; now = now; side = refl; records = refl; marks = comes; takes = takes }))
 
   module _ (u : Versions) (gives : GivesRoot v.store mark.version s) (is : root ≡ stored_root v.store.roots mark.version)
-      (nothing : HoldsJust v.store None)
       (store : u.store ≡ s) (side : u.side ≡ v.side) (models : u.models.items ≡ v.models.items)
       (records : u.records.items ≡ v.records.items) (marks : u.marks.items ≡ set v.marks.items mark.version (Some mark))
       (trail : trail_position u.trail ≡ trail_position v.trail) where
@@ -166,13 +166,22 @@ module _ (v : Versions) (s : Known) (mark : Mark) (root : Option Name) (number :
       position = trail ∙ are.position ∙ sym (ap position_after records);
     }
 
-    pub taken_just : HoldsJust u.store root
-    taken_just = subst (λ (k : Known). HoldsJust k root) (sym store) (record {
+    pub taken_gains : GainsTree v.store root u.store
+    taken_gains = subst (λ (k : Known). GainsTree v.store root k) (sym store) (record {
       weighs = λ f. (
           let tree = ap (λ (r : Option Name). weight_of f (root_tree s r)) is in
           let same = ap (λ (x : Written). weight_of f (Rattle.core_laws.specs.States.tree_at (Rattle.entry_words.specs.Words.key_in x) (Rattle.block_contents.specs.Aligned.top x.plan.side) (stored_root v.store.roots mark.version))) gives.words in
-          omega (arith, gives.gains.weighs f, nothing.weighs f, none_weighs v.store f, tree, same));
+          omega (arith, gives.gains.weighs f, tree, same));
     })
+
+    pub taken_tree : HoldsTree u.store root
+    taken_tree = gained_tree v.store root u.store taken_gains
+
+    pub taken_same : (w : Versions) → PutsDown u root w → HoldsSame v.store w.store
+    taken_same w puts = same_again v.store u.store w.store root taken_gains puts.loses
+
+    pub taken_few : number_of_trees v.store.told.held ≤ 2048 → number_of_trees u.store.told.held ≤ 4008
+    taken_few few = let one = gained_few v.store root u.store 2048 taken_gains few in omega arith
 
     pub marks_version : (w : Versions) → LeavesAll u w → MarksVersion v mark w
     marks_version w leaves = record {
@@ -183,7 +192,6 @@ module _ (v : Versions) (s : Known) (mark : Mark) (root : Option Name) (number :
           made = leaves.only.made ∙ ap (λ (k : Known). k.told.made) store ∙ gives.only.made;
           met = leaves.only.met ∙ ap (λ (k : Known). k.told.met) store ∙ gives.only.met;
         };
-        free = leaves.free;
       };
       forgets = subst (λ (l : Log). ForgetsBy (plan_of v) v.models.items mark (log_of v) l) (sym (leaves.stay.log ∙ log_marked))
           (record { legal = marked_sound.versions.legal; side = refl; records = refl; now = now; marks = comes });

@@ -1,5 +1,5 @@
 -- What rebuilding the newest version's root leaves.
-use Rattle.std.proofs.Common.{◌≡◌, ℕ, ◌-◌, ◌^◌, ◌≤◌, Some, None, Option, List, ◌∷◌, Result, Ok, Err, length, refl, sym, ◌∙◌, ap, subst, arith}
+use Rattle.std.proofs.Common.{◌≡◌, ℕ, ◌+◌, ◌-◌, ◌^◌, ◌≤◌, Some, None, Option, List, ◌∷◌, Result, Ok, Err, length, refl, sym, ◌∙◌, ap, subst, arith}
 use Rattle.vox_read.specs.Contents.{Content}
 use Rattle.history_model.specs.declared.acts.Act.{Act}
 use Rattle.history_model.specs.Logs.{Log, IsLegal}
@@ -33,9 +33,9 @@ use Rattle.one_store.specs.Steps.{SparesRoots, spares_on}
 use Rattle.one_store.proofs.RootLaws.{top_tree}
 use Rattle.one_store.proofs.StoreLaws.{held_is}
 use Rattle.store_run.specs.declared.versions.Versions.{Versions}
-use Rattle.store_run.specs.Kept.{plan_of, log_of, moment_of, world_of, AreVersions, HoldsJust}
-use Rattle.store_run.specs.Steps.{StayVersions, StaysSeen, IsOverStore, LeavesAll, SharesRoot, HoldsTree, PutsDown, MakesBeside, MakesRoot, MeetsBucket, edited_world, target_of}
-use Rattle.store_run.proofs.Holding.{root_is, none_weighs, just_root, just_few, just_shows}
+use Rattle.store_run.specs.Kept.{plan_of, log_of, moment_of, world_of, AreVersions, HoldsTree, GainsTree, HoldsSame}
+use Rattle.store_run.specs.Steps.{StayVersions, StaysSeen, IsOverStore, LeavesAll, SharesRoot, PutsDown, MakesBeside, MakesRoot, MeetsBucket, edited_world, target_of}
+use Rattle.store_run.proofs.Holding.{gained_tree, gained_few, holds_root, holds_shows}
 use Rattle.store_run.proofs.Sparing.{with_store, tree_same}
 
 -- the newest version has no mark
@@ -62,17 +62,17 @@ pub share_level : (v : Versions) (version : ℕ) (root : Option Name) (n : Name)
 share_level v version root n are is e = are.sound.level version n (sym is ∙ e) ∙ ap top (sym are.side)
 
 pub share_shows : (v : Versions) (version : ℕ) (root : Option Name) → AreVersions v → IsKept (log_of v) version
-    → HoldsJust v.store root → root ≡ stored_root v.store.roots version
+    → HoldsTree v.store root → root ≡ stored_root v.store.roots version
     → ShowsWorld v.store.told.held (v.side - 2) root (world_of v version)
-share_shows v version root are kept just is =
-    just_shows v.store v.side root (world_of v version) just (λ n e. share_level v version root n are is e)
+share_shows v version root are kept holds is =
+    holds_shows v.store v.side root (world_of v version) holds (λ n e. share_level v version root n are is e)
     (subst (λ (l : ℕ). ShowsCells (world_block l) (shape_of (root_tree v.store root)) (world_of v version)) (sym are.side)
     (subst (λ (r : Option Name). ShowsCells (world_block (plan_of v).side) (shape_of (root_tree v.store r)) (world_of v version)) (sym is)
     (are.sound.shown version kept)))
 
-pub base_root : (v : Versions) (version : ℕ) (base : Option Name) → AreVersions v → HoldsJust v.store base
+pub base_root : (v : Versions) (version : ℕ) (base : Option Name) → AreVersions v → HoldsTree v.store base
     → base ≡ stored_root v.store.roots version → HoldsRoot v.store.told.held v.side base
-base_root v version base are just is = just_root v.store v.side base just (λ n e. share_level v version base n are is e)
+base_root v version base are holds is = holds_root v.store v.side base holds (λ n e. share_level v version base n are is e)
 
 pub newest_is_kept : (v : Versions) (version : ℕ) → AreVersions v → version ≡ moment_of v → IsKept (log_of v) version
 newest_is_kept v version are is =
@@ -84,9 +84,9 @@ over_store v s spares = record { side = refl; models = refl; records = refl; mar
 -- ---- what the rebuild leaves beside the base
 
 module _ (v : Versions) (s : Known) (base : Option Name) (act : Act) (version : ℕ) (result : Result (Option Name) Full)
-    (are : AreVersions v) (just : HoldsJust v.store base) (is : base ≡ stored_root v.store.roots (moment_of v)) where
+    (are : AreVersions v) (holds : HoldsTree v.store base) (is : base ≡ stored_root v.store.roots (moment_of v)) where
   shown : ShowsWorld v.store.told.held (v.side - 2) base (world_of v (moment_of v))
-  shown = share_shows v (moment_of v) base are (newest_is_kept v (moment_of v) are refl) just is
+  shown = share_shows v (moment_of v) base are (newest_is_kept v (moment_of v) are refl) holds is
 
   target_here : world_shape (v.side - 2) (edited_world v act) ≡ target_of v act
   target_here = λ i. world_shape (are.side i - 2) (edited_world v act)
@@ -128,49 +128,49 @@ module _ (v : Versions) (s : Known) (base : Option Name) (act : Act) (version : 
     each = λ n e. record {
       weighs = λ f. (
           let same = ap (λ (r : Option Name). root_tree s r) e in
+          let here = ap (λ (r : Option Name). root_tree v.store r) e in
           let tree = tree_same v.store s (moment_of v) base spares is in
-          let there = weight_of-there f (root_tree v.store base) n (root_is v.store base ∙ e) in
-          let f_same : f (root_tree s (Some n)) ≡ f (root_tree v.store base) = ap f (sym same ∙ tree) in
-          omega (arith, just.weighs f, more result rebuilds refuses f, there, f_same));
+          let f_same : f (root_tree s (Some n)) ≡ f (root_tree v.store (Some n)) = ap f (sym same ∙ tree ∙ here) in
+          omega (arith, (holds.each n e).weighs f, more result rebuilds refuses f, f_same));
     };
   }
 
   pub few_held : RebuildsAct (known_seen v.store) v.side base v.models.items act result (known_seen s)
       → RefusesAct (known_seen v.store) v.side base v.models.items act result (known_seen s)
-      → number_of_trees s.told.held ≤ 2
+      → number_of_trees v.store.told.held ≤ 2049 → number_of_trees s.told.held ≤ 2050
   few_held = go result
     where
       go : (r : Result (Option Name) Full) → RebuildsAct (known_seen v.store) v.side base v.models.items act r (known_seen s)
-          → RefusesAct (known_seen v.store) v.side base v.models.items act r (known_seen s) → number_of_trees s.told.held ≤ 2
-      go (Ok root) rebuilds refuses =
-          let r = rebuilds (world_of v (moment_of v)) shown in
-          omega (arith, r.weighs (λ _. 1), weight_of-one r.tree, just_few v.store base just)
-      go (Err full) rebuilds refuses =
-          let r = refuses (world_of v (moment_of v)) shown in omega (arith, r.held (λ _. 1), just_few v.store base just)
+          → RefusesAct (known_seen v.store) v.side base v.models.items act r (known_seen s)
+          → number_of_trees v.store.told.held ≤ 2049 → number_of_trees s.told.held ≤ 2050
+      go (Ok root) rebuilds refuses few =
+          let r = rebuilds (world_of v (moment_of v)) shown in omega (arith, r.weighs (λ _. 1), weight_of-one r.tree, few)
+      go (Err full) rebuilds refuses few =
+          let r = refuses (world_of v (moment_of v)) shown in omega (arith, r.held (λ _. 1), few)
 
 -- ---- and once the base went back
 
-module _ (v u w : Versions) (base root : Option Name) (act : Act) (number : ℕ)
-    (are : AreVersions v) (st : IsStore w.store number) (just : HoldsJust v.store base)
+module _ (v u w : Versions) (base root : Option Name) (act : Act) (number : ℕ) (before : Known)
+    (are : AreVersions v) (st : IsStore w.store number) (shared : GainsTree before base v.store)
     (is : base ≡ stored_root v.store.roots (moment_of v)) (over : IsOverStore v u) (puts : PutsDown u base w) where
-  -- only the new root's share is left
+  -- of what came since the base was shared, only the new root's share is left
   left_over : (f : Tree → ℕ) → (r : Rebuilt (v.side - 2) (edited_world v act) root (known_seen v.store) (known_seen u.store))
-      → weigh f w.store.told.held ≡ weight_of f r.tree
+      → weigh f w.store.told.held ≡ weight_of f r.tree + weigh f before.told.held
   left_over f r =
       let tree = ap (weight_of f) (tree_same v.store u.store (moment_of v) base over.spares is) in
-      omega (arith, r.weighs f, just.weighs f, puts.lost f, tree)
+      omega (arith, r.weighs f, shared.weighs f, puts.loses.weighs f, tree)
 
   plan_same : w.store.words.plan ≡ v.store.words.plan
-  plan_same = puts.stay.spares.plan ∙ over.spares.plan
+  plan_same = puts.leaves.stay.spares.plan ∙ over.spares.plan
 
   over_log : log_of u ≡ log_of v
   over_log = λ i. record { side = over.side i; records = (over.records i).items; marks = Rattle.block_contents.specs.MarkLists.marks_below (Rattle.store_run.specs.Kept.mark_in ((over.marks i).items)) Rattle.node_places.specs.Spots.versions }
 
   pub all_stay : StayVersions v w
   all_stay = record {
-    models = puts.stay.models ∙ (λ i. (over.models i).items);
-    log = puts.stay.log ∙ over_log;
-    spares = spares_on v.store u.store w.store over.spares puts.stay.spares;
+    models = puts.leaves.stay.models ∙ (λ i. (over.models i).items);
+    log = puts.leaves.stay.log ∙ over_log;
+    spares = spares_on v.store u.store w.store over.spares puts.leaves.stay.spares;
   }
 
   new_level : (n : Name) → (r : Rebuilt (v.side - 2) (edited_world v act) root (known_seen v.store) (known_seen u.store))
@@ -187,13 +187,18 @@ module _ (v u w : Versions) (base root : Option Name) (act : Act) (number : ℕ)
       let level : n.level ≡ top (plan_of w).side = new_level n r e ∙ ap (λ (p : Layout). top p.side) (sym plan_same) in
       held_is w.store number r.tree n st held (r.root ∙ e) ∙ sym (top_tree w.store n level) ∙ ap (root_tree w.store) (sym e)
 
+  root_gained : MakesBeside v act root u → GainsTree before root w.store
+  root_gained makes =
+      let r = makes.rebuilt in
+      let tree = new_tree root r refl in
+      record { weighs = λ f. (let t = ap (weight_of f) tree in omega (arith, left_over f r, t)) }
+
   makes_root : MakesBeside v act root u → MakesRoot v act root w
   makes_root makes =
       let r = makes.rebuilt in
       let tree = new_tree root r refl in
       record {
         stay = all_stay;
-        holds = record { weighs = λ f. (let t = ap (weight_of f) tree in omega (arith, left_over f r, t)) };
         level = λ n e. new_level n r e;
         shows =
             subst (λ (t : Tree). ShowsCells (world_block (plan_of v).side) (shape_of t) (edited_world v act)) tree
@@ -201,8 +206,8 @@ module _ (v u w : Versions) (base root : Option Name) (act : Act) (number : ℕ)
         grows = record {
           plan = plan_same;
           made =
-              subst (λ (list : List Shape). Grew (λ p. IsPart p (target_of v act)) v.store.told.made list) (sym puts.only.made) makes.grows.made;
-          met = puts.only.met ∙ makes.grows.met;
+              subst (λ (list : List Shape). Grew (λ p. IsPart p (target_of v act)) v.store.told.made list) (sym puts.leaves.only.made) makes.grows.made;
+          met = puts.leaves.only.met ∙ makes.grows.met;
         };
       }
 
@@ -212,7 +217,6 @@ makes_on a v w version base root act shares makes =
     let plan = shares.stay.spares.plan in
     record {
       stay = stays_on a v w shares.stay makes.stay;
-      holds = makes.holds;
       level = λ n e. makes.level n e ∙ ap (λ (p : Layout). top p.side) plan;
       shows =
           subst (λ (p : Layout). ShowsCells (world_block p.side) (shape_of (root_tree w.store root)) (edited_world a act)) plan
@@ -237,17 +241,25 @@ module _ (a v u w : Versions) (base : Option Name) (act : Act) (number version :
     where
       go : (r : Result (Option Name) Full) → IfOk r (λ root. MakesBeside v act root u) → IfOk r (λ root. MakesRoot a act root w)
       go (Err e) makes = tt
-      go (Ok root) makes = makes_on a v w version base root act shares (makes_root v u w base root act number are st shares.holds base_place over puts makes)
+      go (Ok root) makes =
+          makes_on a v w version base root act shares (makes_root v u w base root act number a.store are st shares.gains base_place over puts makes)
 
-  nothing_left : HoldsJust a.store None → (full : Full) → Fails (target_of v act) full.level full.bucket (known_seen v.store) (known_seen u.store)
-      → (f : Tree → ℕ) → weigh f w.store.told.held ≡ 0
-  nothing_left free full fails f =
+  pub gained_all : IsStore w.store number → IfOk result (λ root. MakesBeside v act root u) → IfOk result (λ root. GainsTree a.store root w.store)
+  gained_all st = go result
+    where
+      go : (r : Result (Option Name) Full) → IfOk r (λ root. MakesBeside v act root u) → IfOk r (λ root. GainsTree a.store root w.store)
+      go (Err e) makes = tt
+      go (Ok root) makes = root_gained v u w base root act number a.store are st shares.gains base_place over puts makes
+
+  nothing_left : (full : Full) → Fails (target_of v act) full.level full.bucket (known_seen v.store) (known_seen u.store)
+      → (f : Tree → ℕ) → weigh f w.store.told.held ≡ weigh f a.store.told.held
+  nothing_left full fails f =
       let tree = ap (weight_of f) (tree_same v.store u.store (moment_of v) base over.spares base_place) in
-      omega (arith, puts.lost f, fails.held f, shares.holds.weighs f, tree)
+      omega (arith, puts.loses.weighs f, fails.held f, shares.gains.weighs f, tree)
 
-  pub met_all : IsStore w.store number → HoldsJust a.store None → IfErr result (λ full. Fails (target_of v act) full.level full.bucket (known_seen v.store) (known_seen u.store))
+  pub met_all : IsStore w.store number → IfErr result (λ full. Fails (target_of v act) full.level full.bucket (known_seen v.store) (known_seen u.store))
       → IfErr result (λ full. MeetsBucket a act full w)
-  met_all st free = go result
+  met_all st = go result
     where
       go : (r : Result (Option Name) Full) → IfErr r (λ full. Fails (target_of v act) full.level full.bucket (known_seen v.store) (known_seen u.store))
           → IfErr r (λ full. MeetsBucket a act full w)
@@ -256,20 +268,19 @@ module _ (a v u w : Versions) (base : Option Name) (act : Act) (number version :
           let plan = shares.stay.spares.plan in
           let target = target_same a v act shares.stay in
           record {
-            stay = stays_on a v w shares.stay (all_stay v u w base None act number are st shares.holds base_place over puts);
-            free = record { weighs = λ f. omega (arith, nothing_left free full fails f, none_weighs w.store f) };
+            stay = stays_on a v w shares.stay (all_stay v u w base None act number a.store are st shares.gains base_place over puts);
             fails = record {
-              plan = puts.only.plan ∙ fails.plan ∙ plan;
+              plan = puts.leaves.stay.spares.plan ∙ fails.plan ∙ plan;
               made =
                   subst (λ (list : List Shape). Grew (λ p. IsPart p (target_of a act)) list w.store.told.made) shares.only.made
-                  (subst (λ (list : List Shape). Grew (λ p. IsPart p (target_of a act)) v.store.told.made list) (sym puts.only.made)
+                  (subst (λ (list : List Shape). Grew (λ p. IsPart p (target_of a act)) v.store.told.made list) (sym puts.leaves.only.made)
                   (subst (λ (t : Shape). Grew (λ p. IsPart p t) v.store.told.made u.store.told.made) target fails.made));
               wanted = fails.wanted;
               is_part = subst (λ (t : Shape). IsPart fails.wanted t) target fails.is_part;
               sought = subst (λ (p : Layout). IsSought p (record { level = full.level; bucket = full.bucket; shape = fails.wanted })) plan fails.sought;
-              met = puts.only.met ∙ fails.met
+              met = puts.leaves.only.met ∙ fails.met
                   ∙ ap (λ (list : List Wanted). record { level = full.level; bucket = full.bucket; shape = fails.wanted } ∷ list) shares.only.met;
-              held = λ f. omega (arith, nothing_left free full fails f, free.weighs f, none_weighs a.store f);
+              held = λ f. nothing_left full fails f;
             };
           }
 
@@ -281,17 +292,20 @@ fits_still a v act stay fits =
 -- ---- questions
 
 pub root_told : (v : Versions) (version : ℕ) (base : Option Name) (question : Question) (answer : Answer) → AreVersions v → IsKept (log_of v) version
-    → HoldsJust v.store base → base ≡ stored_root v.store.roots version
+    → HoldsTree v.store base → base ≡ stored_root v.store.roots version
     → TellsRoot v.store.told.held v.side base question answer → Tells (2 ^ v.side) (world_of v version) question answer
-root_told v version base question answer are kept just is tells = tells (world_of v version) (share_shows v version base are kept just is)
+root_told v version base question answer are kept holds is tells = tells (world_of v version) (share_shows v version base are kept holds is)
 
-pub seen_just : (v : Versions) (s : Known) (version : ℕ) (base : Option Name) → HoldsJust v.store base → base ≡ stored_root v.store.roots version
-    → SparesRoots v.store s → known_seen s ≡ known_seen v.store → HoldsJust s base
-seen_just v s version base just is spares seen = record {
-  weighs = λ f. (
-      let held = ap (λ (k : Seen). weigh f k.held) seen in
-      let tree = ap (weight_of f) (tree_same v.store s version base spares is) in
-      omega (arith, just.weighs f, held, tree));
+pub seen_tree : (v : Versions) (s : Known) (version : ℕ) (base : Option Name) → HoldsTree v.store base → base ≡ stored_root v.store.roots version
+    → SparesRoots v.store s → known_seen s ≡ known_seen v.store → HoldsTree s base
+seen_tree v s version base holds is spares seen = record {
+  each = λ n e. record {
+    weighs = λ f. (
+        let held = ap (λ (k : Seen). weigh f k.held) seen in
+        let tree : f (root_tree s (Some n)) ≡ f (root_tree v.store (Some n)) =
+        ap f (sym (ap (root_tree s) e) ∙ tree_same v.store s version base spares is ∙ ap (root_tree v.store) e) in
+        omega (arith, (holds.each n e).weighs f, held, tree));
+  };
 }
 
 pub stays_seen : (v : Versions) (s : Known) → SparesRoots v.store s → known_seen s ≡ known_seen v.store → StaysSeen v (with_store v s)
@@ -309,6 +323,22 @@ told_still a v version question answer stay told =
     subst (λ (l : Log). Tells (2 ^ l.side) (Rattle.history_model.specs.Moments.world_has a.models.items l.records version) question answer) stay.log
     (subst (λ (ms : List Content). Tells (2 ^ v.side) (Rattle.history_model.specs.Moments.world_has ms v.records.items version) question answer) stay.models told)
 
+pub shared_tree : (a v : Versions) (version : ℕ) (base : Option Name) → SharesRoot a version base v → HoldsTree v.store base
+shared_tree a v version base shares = gained_tree a.store base v.store shares.gains
+
+pub shared_few : (a v : Versions) (version : ℕ) (base : Option Name) → SharesRoot a version base v
+    → number_of_trees a.store.told.held ≤ 2048 → number_of_trees v.store.told.held ≤ 2049
+shared_few a v version base shares few = let one = gained_few a.store base v.store 2048 shares.gains few in omega arith
+
+pub asked_same : (a v u w : Versions) (version : ℕ) (base : Option Name) → SharesRoot a version base v → StaysSeen v u → PutsDown u base w
+    → HoldsSame a.store w.store
+asked_same a v u w version base shares seen puts = record {
+  weighs = λ f. (
+      let held = ap (λ (k : Seen). weigh f k.held) seen.seen in
+      let tree = ap (weight_of f) (tree_same v.store u.store version base seen.stay.spares shares.is) in
+      omega (arith, shares.gains.weighs f, puts.loses.weighs f, held, tree));
+}
+
 pub asked_all : (a v u w : Versions) (version : ℕ) (base : Option Name) → SharesRoot a version base v → StaysSeen v u → LeavesAll u w → LeavesAll a w
 asked_all a v u w version base shares seen leaves = record {
   stay = stays_on a u w (stays_on a v u shares.stay seen.stay) leaves.stay;
@@ -316,5 +346,4 @@ asked_all a v u w version base shares seen leaves = record {
     made = leaves.only.made ∙ ap (λ (k : Seen). k.made) seen.seen ∙ shares.only.made;
     met = leaves.only.met ∙ ap (λ (k : Seen). k.met) seen.seen ∙ shares.only.met;
   };
-  free = leaves.free;
 }

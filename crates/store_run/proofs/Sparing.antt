@@ -6,7 +6,7 @@ use Rattle.node_shapes.specs.declared.names.Name.{Name}
 use Rattle.node_shapes.specs.Shape.{ShowsCells}
 use Rattle.node_shapes.specs.Tree.{Tree, shape_of}
 use Rattle.node_shapes.specs.Weights.{weight_of}
-use Rattle.node_words.specs.Held.{HoldsName, ForHeld, Gains, OnlyHeldChanges}
+use Rattle.node_words.specs.Held.{ForHeld, Gains, OnlyHeldChanges}
 use Rattle.node_words.specs.Plans.{Layout}
 use Rattle.block_contents.specs.Aligned.{top, world_block}
 use Rattle.core_laws.specs.Counting.{booked, parented, rooted}
@@ -16,9 +16,9 @@ use Rattle.core_laws.specs.States.{IsLive}
 use Rattle.one_store.specs.Known.{Known, IsStore, known_seen, root_tree, stored_root}
 use Rattle.one_store.specs.Steps.{SparesRoots, GainsRoot, spares_itself}
 use Rattle.store_run.specs.declared.versions.Versions.{Versions}
-use Rattle.store_run.specs.Kept.{plan_of, log_of, core_with, AreVersions, HoldsJust, HasRoom}
-use Rattle.store_run.specs.Steps.{StayVersions, LeavesAll, SharesRoot, HoldsTree, PutsDown}
-use Rattle.store_run.proofs.Holding.{root_is, none_weighs, some_weighs, just_held}
+use Rattle.store_run.specs.Kept.{plan_of, log_of, core_with, AreVersions, HoldsTree, HasRoom}
+use Rattle.store_run.specs.Steps.{StayVersions, LeavesAll, SharesRoot, PutsDown}
+use Rattle.store_run.proofs.Holding.{root_is, none_weighs, some_weighs}
 
 -- the versions over another store
 abbrev pub with_store : Versions → Known → Versions
@@ -78,18 +78,24 @@ pub stay_spared : (v : Versions) (s : Known) → SparesRoots v.store s → StayV
 stay_spared v s spares = record { models = refl; log = refl; spares = spares }
 
 -- a share of the root in a place
-pub shares_root : (v : Versions) (s : Known) (version : ℕ) (root : Option Name) → HoldsJust v.store None
+pub shares_root : (v : Versions) (s : Known) (version : ℕ) (root : Option Name)
     → root ≡ stored_root v.store.roots version → GainsRoot v.store version s → SharesRoot v version root (with_store v s)
-shares_root v s version root free is gains = record {
+shares_root v s version root is gains = record {
   stay = stay_spared v s gains.spares;
   only = gains.only;
   is = is ∙ sym (stored_same v.store s version gains.spares);
-  holds = record {
+  gains = record {
     weighs = λ f. (
         let tree : weight_of f (root_tree s root) ≡ weight_of f (root_tree v.store (stored_root v.store.roots version)) =
         ap (weight_of f) (tree_same v.store s version root gains.spares is ∙ ap (root_tree v.store) is) in
-        omega (arith, gains.gains.weighs f, free.weighs f, none_weighs v.store f, tree));
+        omega (arith, gains.gains.weighs f, tree));
   };
+}
+
+pub gave_nothing : (v : Versions) → LeavesAll v v
+gave_nothing v = record {
+  stay = record { models = refl; log = refl; spares = spares_itself v.store };
+  only = record { made = refl; met = refl };
 }
 
 -- a share goes back, where there is one
@@ -98,43 +104,19 @@ pub puts_some : (v : Versions) (s : Known) (n : Name) → HoldsTree v.store (Som
     → OnlyHeldChanges (known_seen v.store) (known_seen s) → SparesRoots v.store s
     → PutsDown v (Some n) (with_store v s)
 puts_some v s n holds back only spares = record {
-  stay = stay_spared v s spares;
-  only = only;
-  lost = λ f. (
-      let lost = back (root_tree v.store (Some n)) (holds.each n refl) (root_is v.store (Some n)) in
-      omega (arith, lost.weighs f, some_weighs v.store n f));
+  leaves = record { stay = stay_spared v s spares; only = record { made = only.made; met = only.met } };
+  loses = record {
+    weighs = λ f. (
+        let lost = back (root_tree v.store (Some n)) (holds.each n refl) (root_is v.store (Some n)) in
+        omega (arith, lost.weighs f, some_weighs v.store n f));
+  };
 }
 
 pub puts_none : (v : Versions) → PutsDown v None v
 puts_none v = record {
-  stay = record { models = refl; log = refl; spares = spares_itself v.store };
-  only = record { plan = refl; made = refl; met = refl };
-  lost = λ f. omega (arith, none_weighs v.store f);
+  leaves = gave_nothing v;
+  loses = record { weighs = λ f. omega (arith, none_weighs v.store f) };
 }
-
--- the one share that is held goes back
-pub gives_back : (old new : Versions) (root : Option Name) → HoldsJust old.store root → PutsDown old root new
-    → LeavesAll old new
-gives_back old new root just puts = record {
-  stay = puts.stay;
-  only = record { made = puts.only.made; met = puts.only.met };
-  free = record { weighs = λ f. omega (arith, puts.lost f, just.weighs f, none_weighs new.store f) };
-}
-
-pub just_tree : (s : Known) (root : Option Name) → HoldsJust s root → HoldsTree s root
-just_tree s root just = record {
-  each = λ n e. just_held s n (subst (λ (r : Option Name). HoldsJust s r) e just);
-}
-
-pub tree_name : (s : Known) (n : Name) → HoldsTree s (Some n) → HoldsName s.told.held n
-tree_name s n holds = record { tree = root_tree s (Some n); is_held = holds.each n refl; root = root_is s (Some n) }
 
 pub room_stays : (v : Versions) (s : Known) → HasRoom v → HasRoom (with_store v s)
 room_stays v s room = record { record_room = room.record_room; trail_room = room.trail_room }
-
-pub gave_nothing : (v : Versions) → HoldsJust v.store None → LeavesAll v v
-gave_nothing v free = record {
-  stay = record { models = refl; log = refl; spares = spares_itself v.store };
-  only = record { made = refl; met = refl };
-  free = free;
-}

@@ -1,6 +1,6 @@
 -- What versions over a store of nodes are: models, records and marks, and a store that has the root
 -- of each version which is kept in the place of its number.
-use Rattle.std.specs.Prelude.{◌≡◌, ℕ, ◌<◌, Option, None, List, length, slice_index_or, vec_len, vec_capacity}
+use Rattle.std.specs.Prelude.{◌≡◌, ℕ, ◌+◌, ◌<◌, Option, Some, None, List, length, slice_index_or, vec_len, vec_capacity}
 use Rattle.history_model.specs.declared.histories.Mark.{Mark}
 use Rattle.history_model.specs.Logs.{Log}
 use Rattle.history_model.specs.Positions.{position_after}
@@ -9,6 +9,7 @@ use Rattle.history_model.specs.Moments.{world_has}
 use Rattle.node_shapes.specs.declared.names.Name.{Name}
 use Rattle.node_shapes.specs.Tree.{Tree}
 use Rattle.node_shapes.specs.Weights.{weigh, weight_of}
+use Rattle.node_words.specs.Held.{IsHeld}
 use Rattle.node_words.specs.Plans.{Layout}
 use Rattle.node_places.specs.Spots.{versions}
 use Rattle.block_contents.specs.MarkLists.{marks_below, AreOfVersions}
@@ -63,9 +64,27 @@ pub record AreVersions (v : Versions) : Type 0 where
   pub of_versions : AreOfVersions (mark_in v.marks.items)
   pub position : trail_position v.trail ≡ position_after v.records.items
 
--- one share is held, of this root, or none where there is none
-pub record HoldsJust (store : Known) (root : Option Name) : Type 0 where
-  pub weighs : (f : Tree → ℕ) → weigh f store.told.held ≡ weight_of f (root_tree store root)
+-- no share is held
+pub record HoldsNothing (store : Known) : Type 0 where
+  pub weighs : (f : Tree → ℕ) → weigh f store.told.held ≡ 0
+
+-- the tree of the root is held, where there is one
+pub record HoldsTree (store : Known) (root : Option Name) : Type 0 where
+  pub each : (n : Name) → root ≡ Some n → IsHeld store.told.held (root_tree store (Some n))
+
+-- besides what was held there is a share of the root, where there is one
+pub record GainsTree (old : Known) (root : Option Name) (new : Known) : Type 0 where
+  pub weighs : (f : Tree → ℕ)
+      → weigh f new.told.held ≡ weight_of f (root_tree new root) + weigh f old.told.held
+
+-- a share of the root is held no longer, where there is one
+pub record LosesTree (old : Known) (root : Option Name) (new : Known) : Type 0 where
+  pub weighs : (f : Tree → ℕ)
+      → weight_of f (root_tree old root) + weigh f new.told.held ≡ weigh f old.told.held
+
+-- what was held is held
+pub record HoldsSame (old new : Known) : Type 0 where
+  pub weighs : (f : Tree → ℕ) → weigh f new.told.held ≡ weigh f old.told.held
 
 -- one more record has room
 pub record HasRoom (v : Versions) : Type 0 where

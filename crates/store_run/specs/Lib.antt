@@ -1,4 +1,6 @@
 pub mod Kept
 pub mod Steps
+pub mod Pins
 pub mod Answering
 pub mod Desks
+pub mod Open

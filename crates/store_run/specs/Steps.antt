@@ -1,5 +1,5 @@
 -- What the calls of versions over a store do.
-use Rattle.std.specs.Prelude.{◌≡◌, ℕ, ◌+◌, ◌-◌, ◌<◌, ◌≤◌, Option, Some, None}
+use Rattle.std.specs.Prelude.{◌≡◌, ℕ, ◌-◌, ◌<◌, ◌≤◌, Option, Some}
 use Rattle.std.specs.List.{Contains}
 use Rattle.history_model.specs.declared.acts.Act.{Act}
 use Rattle.history_model.specs.declared.histories.Mark.{Mark}
@@ -7,23 +7,21 @@ use Rattle.history_model.specs.declared.histories.Record.{Record}
 use Rattle.history_model.specs.Worlds.{World}
 use Rattle.node_shapes.specs.declared.names.Name.{Name}
 use Rattle.node_shapes.specs.Shape.{Shape, ShowsCells}
-use Rattle.node_shapes.specs.Tree.{Tree, shape_of}
-use Rattle.node_shapes.specs.Weights.{weigh, weight_of}
+use Rattle.node_shapes.specs.Tree.{shape_of}
 use Rattle.node_words.specs.declared.shares.Full.{Full}
-use Rattle.node_words.specs.Held.{IsHeld, OnlyHeldChanges}
 use Rattle.node_words.specs.Gathering.{Grows, Fails}
 use Rattle.block_contents.specs.Aligned.{top, world_block}
 use Rattle.block_contents.specs.Versions.{IsKept}
 use Rattle.edit_cells.specs.Worlds.{Rebuilt, world_shape}
 use Rattle.store_notes.specs.Changes.{MakesNothing}
-use Rattle.one_store.specs.Known.{Known, known_seen, root_tree, stored_root}
+use Rattle.one_store.specs.Known.{known_seen, root_tree, stored_root}
 use Rattle.one_store.specs.Steps.{SparesRoots}
 use Rattle.possible.specs.Needed.{made_of}
 use Rattle.conformance.specs.Running.{GrowsBy, ForgetsBy}
 use Rattle.store_run.specs.declared.versions.Versions.{Versions}
 use Rattle.store_run.specs.declared.versions.Found.{Found}
 use Rattle.store_run.specs.declared.versions.Found.TheVariants.{Kept, NotThere, Marked}
-use Rattle.store_run.specs.Kept.{plan_of, log_of, moment_of, HoldsJust}
+use Rattle.store_run.specs.Kept.{plan_of, log_of, moment_of, GainsTree, LosesTree}
 
 -- whether a version can be read
 pub record HasMark (v : Versions) (version : ℕ) : Type 0 where
@@ -56,22 +54,15 @@ pub record StaysSeen (old new : Versions) : Type 0 where
   pub stay : StayVersions old new
   pub seen : known_seen new.store ≡ known_seen old.store
 
--- nothing was made or met, and nobody holds a share
+-- nothing was made or met
 pub record LeavesAll (old new : Versions) : Type 0 where
   pub stay : StayVersions old new
   pub only : MakesNothing old.store.told new.store.told
-  pub free : HoldsJust new.store None
-
--- the tree of the root is held, where there is one
-pub record HoldsTree (store : Known) (root : Option Name) : Type 0 where
-  pub each : (n : Name) → root ≡ Some n → IsHeld store.told.held (root_tree store (Some n))
 
 -- a share of the root went back, where there is one
 pub record PutsDown (old : Versions) (root : Option Name) (new : Versions) : Type 0 where
-  pub stay : StayVersions old new
-  pub only : OnlyHeldChanges (known_seen old.store) (known_seen new.store)
-  pub lost : (f : Tree → ℕ) → weight_of f (root_tree old.store root)
-      + weigh f new.store.told.held ≡ weigh f old.store.told.held
+  pub leaves : LeavesAll old new
+  pub loses : LosesTree old.store root new.store
 
 -- a share of the version's root came
 pub record SharesRoot (old : Versions) (version : ℕ) (root : Option Name)
@@ -79,7 +70,7 @@ pub record SharesRoot (old : Versions) (version : ℕ) (root : Option Name)
   pub stay : StayVersions old new
   pub only : MakesNothing old.store.told new.store.told
   pub is : root ≡ stored_root new.store.roots version
-  pub holds : HoldsJust new.store root
+  pub gains : GainsTree old.store root new.store
 
 -- what an edit makes of the newest version, and the canonical shape of that
 abbrev pub edited_world : Versions → Act → World
@@ -95,29 +86,26 @@ pub record MakesBeside (old : Versions) (act : Act) (root : Option Name)
       (known_seen new.store)
   pub grows : Grows (target_of old act) (known_seen old.store) (known_seen new.store)
 
--- a share came of the root of what the edit makes, whose parts may have been made
+-- the root is that of what the edit makes, whose parts may have been made
 pub record MakesRoot (old : Versions) (act : Act) (root : Option Name)
     (new : Versions) : Type 0 where
   pub stay : StayVersions old new
-  pub holds : HoldsJust new.store root
   pub level : (n : Name) → root ≡ Some n → n.level ≡ top (plan_of old).side
   pub shows : ShowsCells (world_block (plan_of old).side) (shape_of (root_tree new.store root))
       (edited_world old act)
   pub grows : Grows (target_of old act) (known_seen old.store) (known_seen new.store)
 
--- a part of what the edit makes met this full bucket, and nobody holds a share
+-- a part of what the edit makes met this full bucket
 pub record MeetsBucket (old : Versions) (act : Act) (full : Full) (new : Versions) : Type 0 where
   pub stay : StayVersions old new
-  pub free : HoldsJust new.store None
   pub fails : Fails (target_of old act) full.level full.bucket (known_seen old.store)
       (known_seen new.store)
 
--- models and plan stay, nothing was made or met, and nobody holds a share
+-- models and plan stay, and nothing was made or met
 pub record OnlyLogs (old new : Versions) : Type 0 where
   pub models : new.models.items ≡ old.models.items
   pub plan : plan_of new ≡ plan_of old
   pub only : MakesNothing old.store.told new.store.told
-  pub free : HoldsJust new.store None
 
 -- the record came behind the others
 pub record AppendsRecord (old : Versions) (r : Record) (new : Versions) : Type 0 where

@@ -1,9 +1,9 @@
-ghost use Rattle.std.specs.Prelude.{◌≡◌, ◌<◌, ◌^◌, [], None, IfOk};
+ghost use Rattle.std.specs.Prelude.{◌≡◌, ◌<◌, ◌^◌, [], IfOk};
 ghost use Rattle.vox_read.specs.Contents.{AreModels};
-ghost use Rattle.store_run.specs.Desks.{desk_state, IsDesk};
+ghost use Rattle.store_run.specs.Desks.{desk_state};
+ghost use Rattle.store_run.specs.Pins.{ArePinned};
 
-use crate::versions::Versions;
-use history_model::History;
+use crate::pins::Pinned;
 use node_words::{Plan, Steps};
 use script::ScriptLine;
 use script_runs::Desk;
@@ -14,10 +14,11 @@ use transcript::LineAnswer;
 use vox_read::Models;
 use vw_cell::Memory;
 
-/// Answers the lines of scripts over versions in a store. Nobody holds a share between two lines.
+/// Answers the lines of scripts over versions in a store. Between two lines nothing is held but
+/// what was saved.
 #[derive(Drop)]
 pub(crate) struct StoreDesk<'m, L: Ledger> {
-    pub(crate) versions: Versions<'m>,
+    pub(crate) pinned: Pinned<'m>,
     steps: Steps<L>,
 }
 
@@ -25,24 +26,26 @@ impl<'m, L: Ledger> Model for StoreDesk<'m, L> {
     ghost use Rattle.std.specs.Coded.{codes};
     ghost use Rattle.node_shapes.specs.ShapeCode.{coded_shape};
     ghost use Rattle.store_notes.specs.Told.{coded_wanted};
-    ghost use Rattle.store_run.specs.Desks.{DeskState, desk_state, IsDesk};
+    ghost use Rattle.store_run.specs.Desks.{DeskState, desk_state};
+    ghost use Rattle.store_run.specs.Pins.{ArePinned};
 
     ghost Value = { DeskState };
 
     ghost coded = { Prim.hlevel (codes, coded_shape, coded_wanted) };
 
-    ghost view = { λ d. desk_state d.versions };
+    ghost view = { λ d. desk_state d.pinned };
 
-    ghost invariant = { λ d. IsDesk d.versions };
+    ghost invariant = { λ d. ArePinned d.pinned.versions d.pinned.pins.items };
 }
 
 impl<'m, L: Ledger> StoreDesk<'m, L> {
-    /// A desk where nothing was done yet, with room for so many records.
+    /// A desk where nothing was done yet, with room for so many records and saves.
     pub(crate) fn begin(
         alloc: Global,
         plan: &Plan,
         models: &'m Models,
-        most: usize,
+        records: usize,
+        saves: usize,
         blank: Blank,
     ) -> Result<StoreDesk<'m, L>, Memory>
         requires models { AreModels models.now }
@@ -54,20 +57,21 @@ impl<'m, L: Ledger> StoreDesk<'m, L> {
           models = models.now;
           log = record { side = plan.now.side; records = []; marks = [] };
           noted = record { made = []; met = [] };
+          saved = [];
         }) }
     {
-        let versions = Versions::begin(alloc, plan, models, most)?;
+        let pinned = Pinned::begin(alloc, plan, models, records, saves)?;
         let steps = Steps::start(blank);
-        Ok(StoreDesk { versions, steps })
+        Ok(StoreDesk { pinned, steps })
     }
 
     /// What it worked on.
-    pub(crate) fn into_versions(self) -> Versions<'m>
-        ensures is { IsDesk result }
+    pub(crate) fn into_pinned(self) -> Pinned<'m>
+        ensures are { ArePinned result.versions result.pins.items }
         ensures state { desk_state result ≡ self.entry }
     {
-        let StoreDesk { versions, .. } = self;
-        versions
+        let StoreDesk { pinned, .. } = self;
+        pinned
     }
 }
 
@@ -80,16 +84,18 @@ impl<'m, L: Ledger> Desk for StoreDesk<'m, L> {
 
     ghost noted = { λ d. d.noted };
 
+    ghost saved = { λ d. d.saved };
+
     fn answer(&mut self, session: u16, l: ScriptLine) -> Result<LineAnswer, Memory> {
-        self.versions.reserve()?;
+        self.pinned.reserve()?;
         let ScriptLine { line, command } = l;
         let steps = &mut self.steps;
-        let answer = self.versions.answer_line(session, line, command, steps);
-        let at = self.versions.moment();
+        let answer = self.pinned.answer_line(session, line, command, steps);
+        let at = self.pinned.versions.moment();
         Ok(LineAnswer { line, at, answer })
     }
 
     fn look(&self) {
-        self.versions.store.full_buckets_had_enough();
+        self.pinned.versions.store.full_buckets_had_enough();
     }
 }

@@ -1,6 +1,6 @@
 ghost use Rattle.std.specs.Prelude.{◌≡◌, ◌<◌, None, IfOk, OnOk, length};
 ghost use Rattle.block_contents.specs.MarkLists.{marks_below, with_mark};
-ghost use Rattle.store_run.specs.Kept.{log_of, mark_in, AreVersions, HoldsJust};
+ghost use Rattle.store_run.specs.Kept.{log_of, mark_in, AreVersions, HoldsNothing};
 ghost use Rattle.reporting.specs.Numbers.{AreNumbers};
 ghost use Rattle.reporting.specs.Roots.{RootsTellWorlds, listed_root};
 
@@ -30,7 +30,7 @@ impl<'m> Versions<'m> {
     #[tactic(auto, using(crate::proofs::Ending::are_numbers))]
     pub(crate) fn numbers(&self, alloc: Global) -> Result<Vec<u32>, Memory>
         requires are { AreVersions self.now }
-        requires free { HoldsJust self.now.store None }
+        requires free { HoldsNothing self.now.store }
         ensures { IfOk result (λ numbers. AreNumbers self.now.models.items (log_of self.now)
             numbers.items) }
     {

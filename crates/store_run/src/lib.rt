@@ -4,7 +4,10 @@
 mod desks;
 mod endings;
 mod lines;
+mod open_runs;
+mod pins;
 mod runs;
 mod versions;
 
-pub use runs::{StoreRan, run_scripts};
+pub use open_runs::{OpenRun, StoreRan};
+pub use runs::{ScriptsRun, run_scripts};

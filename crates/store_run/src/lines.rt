@@ -2,73 +2,38 @@
 ghost use Rattle.std.specs.Prelude.{◌≡◌, ◌+◌, ◌<◌, ◌≤◌, ◌^◌, Bool, true, false};
 ghost use Rattle.history_model.specs.Worlds.{is_edit};
 ghost use Rattle.history_model.specs.Logs.{FitsWorld};
-ghost use Rattle.vw_cell.specs.Places.{FitsAt};
-ghost use Rattle.script.specs.Fitting.{CommandFits, QuestionFits};
-ghost use Rattle.script.specs.declared.commands.Command.TheVariants.{Edit, Forget, Ask, Save, Same};
-ghost use Rattle.script.specs.declared.commands.SaveName.{SaveName as save_name};
+ghost use Rattle.node_shapes.specs.Weights.{number_of_trees};
+ghost use Rattle.script.specs.Fitting.{QuestionFits};
+ghost use Rattle.script.specs.declared.commands.Command.TheVariants.{Edit, Forget, Ask, Same};
 ghost use Rattle.conformance.specs.Answers.{target_at, asked_version};
-ghost use Rattle.store_run.specs.Kept.{moment_of, AreVersions, HoldsJust, HasRoom};
-ghost use Rattle.store_run.specs.Answering.{GoesOnBy, nothing_to_go_to, saved_as};
+ghost use Rattle.store_run.specs.Kept.{moment_of, AreVersions, HoldsSame, HasRoom};
+ghost use Rattle.store_run.specs.Answering.{GoesOnBy, nothing_to_go_to};
 
 use crate::versions::{Found, RECORDS, Versions};
 use history_model::{Act, Mark, Question, Record};
 use node_words::Steps;
-use script::Command;
 use std::sync::ledger::Ledger;
 use transcript::Answer;
-use vw_cell::Boxed;
 
 impl<'m> Versions<'m> {
-    /// Does what the line of the session asks for, and answers it.
-    #[tactic(auto, using(crate::proofs::Answering::tells_head))]
-    pub(crate) fn answer_line<L: Ledger>(
+    /// An edit: full, or the history is, or it becomes the next record.
+    #[tactic(auto, using(crate::proofs::Targets::may_edit, crate::proofs::Answering::edit_full, crate::proofs::Answering::edit_done, crate::proofs::Answering::edit_late, crate::proofs::Answering::full_same, crate::proofs::Holding::same_again, crate::proofs::Holding::gained_tree, crate::proofs::Holding::gained_room))]
+    pub(crate) fn edit<L: Ledger>(
         &mut self,
         session: u16,
         line: u32,
-        command: Command,
+        act: Act,
         steps: &mut Steps<L>,
     ) -> Answer
         requires are { AreVersions self.old }
-        requires free { HoldsJust self.old.store None }
-        requires room { HasRoom self.old }
-        requires fits { CommandFits (2 ^ self.old.side) self.old.models.items command }
-        ensures are { AreVersions self.new }
-        ensures goes_on { GoesOnBy self.old session (record { line = line; command = command })
-            result self.new }
-    {
-        match command {
-            Command::Edit { act, once: _ } => {
-                if is_edit(act) {
-                    self.edit(session, line, act, steps)
-                } else {
-                    self.go(session, line, act)
-                }
-            }
-            Command::Forget(version) => self.forget_version(session, line, version, steps),
-            Command::Ask { version, question } => self.tell(
-                session, line, version, question, steps,
-            ),
-            Command::Save {
-                version,
-                name: _,
-                part,
-            } => self.count_saved(session, line, version, part, steps),
-            Command::Same(v, w) => self.compare(session, line, v, w),
-            Command::Head => Answer::Head,
-        }
-    }
-
-    // An edit: full, or the history is, or it becomes the next record.
-    #[tactic(auto, using(crate::proofs::Targets::may_edit, crate::proofs::Answering::edit_full, crate::proofs::Answering::edit_done, crate::proofs::Answering::edit_late))]
-    fn edit<L: Ledger>(&mut self, session: u16, line: u32, act: Act, steps: &mut Steps<L>) -> Answer
-        requires are { AreVersions self.old }
-        requires free { HoldsJust self.old.store None }
+        requires few { number_of_trees self.old.store.told.held ≤ 2048 }
         requires room { HasRoom self.old }
         requires edit { is_edit act ≡ true }
         requires fits { FitsWorld (2 ^ self.old.side) self.old.models.items act }
         ensures are { AreVersions self.new }
         ensures goes_on { (once : Bool) → GoesOnBy self.old session
             (record { line = line; command = Edit act once }) result self.new }
+        ensures same { HoldsSame self.old.store self.new.store }
     {
         let root = match self.rebuild(act, steps) {
             Ok(root) => root,
@@ -87,17 +52,18 @@ impl<'m> Versions<'m> {
         Answer::Done
     }
 
-    // An undo or a redo: it has nowhere to go, its version was forgotten, the history is full, or
-    // it becomes the next record.
-    #[tactic(auto, using(crate::proofs::Targets::may_go_to, crate::proofs::Answering::go_nowhere, crate::proofs::Answering::go_forgotten, crate::proofs::Answering::go_late, crate::proofs::Answering::go_done, crate::proofs::Answering::go_past))]
-    fn go(&mut self, session: u16, line: u32, act: Act) -> Answer
+    /// An undo or a redo: it has nowhere to go, its version was forgotten, the history is full, or
+    /// it becomes the next record.
+    #[tactic(auto, using(crate::proofs::Targets::may_go_to, crate::proofs::Answering::go_nowhere, crate::proofs::Answering::go_forgotten, crate::proofs::Answering::go_late, crate::proofs::Answering::go_done, crate::proofs::Answering::go_past, crate::proofs::Answering::went_same, crate::proofs::Holding::same_held, crate::proofs::Rebuilding::shared_tree))]
+    pub(crate) fn go(&mut self, session: u16, line: u32, act: Act) -> Answer
         requires are { AreVersions self.old }
-        requires free { HoldsJust self.old.store None }
+        requires few { number_of_trees self.old.store.told.held ≤ 2048 }
         requires room { HasRoom self.old }
         requires other { is_edit act ≡ false }
         ensures are { AreVersions self.new }
         ensures goes_on { (once : Bool) → GoesOnBy self.old session
             (record { line = line; command = Edit act once }) result self.new }
+        ensures same { HoldsSame self.old.store self.new.store }
     {
         let to = match self.target(act) {
             Some(to) => to,
@@ -130,8 +96,8 @@ impl<'m> Versions<'m> {
         }
     }
 
-    #[tactic(auto, using(crate::proofs::Answering::forget_missing, crate::proofs::Answering::forget_marked, crate::proofs::Answering::forgets_head, crate::proofs::Answering::forgot_version, crate::proofs::Answering::kept_earlier))]
-    fn forget_version<L: Ledger>(
+    #[tactic(auto, using(crate::proofs::Answering::forget_missing, crate::proofs::Answering::forget_marked, crate::proofs::Answering::forgets_head, crate::proofs::Answering::forgot_version, crate::proofs::Answering::kept_earlier, crate::proofs::Holding::same_held))]
+    pub(crate) fn forget_version<L: Ledger>(
         &mut self,
         session: u16,
         line: u32,
@@ -139,10 +105,11 @@ impl<'m> Versions<'m> {
         steps: &mut Steps<L>,
     ) -> Answer
         requires are { AreVersions self.old }
-        requires free { HoldsJust self.old.store None }
+        requires few { number_of_trees self.old.store.told.held ≤ 2048 }
         ensures are { AreVersions self.new }
         ensures goes_on { GoesOnBy self.old session
             (record { line = line; command = Forget version }) result self.new }
+        ensures same { HoldsSame self.old.store self.new.store }
     {
         match self.find(version) {
             Found::NotThere => Answer::NoVersion(version),
@@ -164,8 +131,8 @@ impl<'m> Versions<'m> {
         }
     }
 
-    // The version that is asked for: the newest where none is named.
-    fn asked(&self, version: Option<u32>) -> u32
+    /// The version that is asked for: the newest where none is named.
+    pub(crate) fn asked(&self, version: Option<u32>) -> u32
         requires { AreVersions self.now }
         ensures { result ≡ asked_version version (moment_of self.now) }
     {
@@ -175,8 +142,8 @@ impl<'m> Versions<'m> {
         }
     }
 
-    #[tactic(auto, using(crate::proofs::Answering::ask_missing, crate::proofs::Answering::ask_marked, crate::proofs::Answering::asks))]
-    fn tell<L: Ledger>(
+    #[tactic(auto, using(crate::proofs::Answering::ask_missing, crate::proofs::Answering::ask_marked, crate::proofs::Answering::asks, crate::proofs::Holding::same_held))]
+    pub(crate) fn tell<L: Ledger>(
         &mut self,
         session: u16,
         line: u32,
@@ -185,11 +152,12 @@ impl<'m> Versions<'m> {
         steps: &mut Steps<L>,
     ) -> Answer
         requires are { AreVersions self.old }
-        requires free { HoldsJust self.old.store None }
+        requires few { number_of_trees self.old.store.told.held ≤ 2048 }
         requires fits { QuestionFits (2 ^ self.old.side) question }
         ensures are { AreVersions self.new }
         ensures goes_on { GoesOnBy self.old session
             (record { line = line; command = Ask version question }) result self.new }
+        ensures same { HoldsSame self.old.store self.new.store }
     {
         let _ = (session, line);
         let asked = self.asked(version);
@@ -200,35 +168,9 @@ impl<'m> Versions<'m> {
         }
     }
 
-    #[tactic(auto, using(crate::proofs::Answering::save_missing, crate::proofs::Answering::save_marked, crate::proofs::Answering::saves_count))]
-    fn count_saved<L: Ledger>(
-        &mut self,
-        session: u16,
-        line: u32,
-        version: Option<u32>,
-        part: Boxed,
-        steps: &mut Steps<L>,
-    ) -> Answer
-        requires are { AreVersions self.old }
-        requires free { HoldsJust self.old.store None }
-        requires fits { FitsAt part.at part.size (2 ^ self.old.side) }
-        ensures are { AreVersions self.new }
-        ensures goes_on { (name : save_name) → GoesOnBy self.old session
-            (record { line = line; command = Save version name part }) result self.new }
-    {
-        let _ = (session, line);
-        let asked = self.asked(version);
-        match self.find(asked) {
-            Found::NotThere => Answer::NoVersion(asked),
-            Found::Marked => Answer::Forgotten(asked),
-            Found::Kept => saved(self.ask(asked, Question::Count(part), steps)),
-        }
-    }
-
     #[tactic(auto, using(crate::proofs::Answering::same_first_missing, crate::proofs::Answering::same_first_marked, crate::proofs::Answering::same_missing, crate::proofs::Answering::same_marked, crate::proofs::Answering::same_told))]
-    fn compare(&self, session: u16, line: u32, v: u32, w: u32) -> Answer
+    pub(crate) fn compare(&self, session: u16, line: u32, v: u32, w: u32) -> Answer
         requires are { AreVersions self.now }
-        requires free { HoldsJust self.now.store None }
         ensures { GoesOnBy self.now session (record { line = line; command = Same v w }) result
             self.now }
     {
@@ -257,17 +199,7 @@ fn nothing_to_go_to(act: Act) -> Answer
     }
 }
 
-// The answer to a save, by that to the count of its box.
-fn saved(counted: Answer) -> Answer
-    ensures { result ≡ saved_as counted }
-{
-    match counted {
-        Answer::Count(cells) => Answer::Saved(cells),
-        other => other,
-    }
-}
-
-fn is_edit(act: Act) -> bool
+pub(crate) fn is_edit(act: Act) -> bool
     ensures { result ≡ is_edit act }
 {
     match act {

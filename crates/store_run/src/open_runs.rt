@@ -4,12 +4,15 @@ ghost use Rattle.conformance.specs.declared.saves.SavedBox.{SavedBox};
 ghost use Rattle.reporting.specs.Numbers.{AreNumbers};
 ghost use Rattle.reporting.specs.Roots.{RootsTellWorlds, listed_root};
 ghost use Rattle.script.specs.Placing.{is_save_name};
+ghost use Rattle.store_run.specs.Kept.{log_of};
 ghost use Rattle.store_run.specs.Open.{saved_file};
+ghost use Rattle.store_run.specs.Pins.{ArePinned};
 
-use crate::versions::Versions;
+use crate::pins::Pinned;
 use conformance::SavedBox;
 use history_model::History;
 use node_shapes::Name;
+use node_words::Steps;
 use std::alloc::Global;
 use std::marker::{Brand, Model};
 use std::sync::ledger::{Blank, Ledger};
@@ -19,7 +22,21 @@ use vw_cell::Memory;
 /// that files can be made one at a time, and then tells what the store's nodes do.
 #[derive(Drop)]
 pub struct OpenRun<'m> {
-    pub(crate) versions: Versions<'m>,
+    pub(crate) pinned: Pinned<'m>,
+}
+
+impl<'m> Model for OpenRun<'m> {
+    ghost use Rattle.std.specs.Coded.{codes};
+    ghost use Rattle.store_run.specs.Open.{RunState, run_state};
+    ghost use Rattle.store_run.specs.Pins.{ArePinned};
+
+    ghost Value = { RunState };
+
+    ghost coded = { Prim.hlevel codes };
+
+    ghost view = { λ r. run_state r.pinned };
+
+    ghost invariant = { λ r. ArePinned r.pinned.versions r.pinned.pins.items };
 }
 
 /// What a run leaves when nothing is held any more.
@@ -36,12 +53,18 @@ impl<'m> OpenRun<'m> {
     /// How many saves were accepted.
     pub fn saves(&self) -> usize
         ensures { result ≡ length self.now.saved }
+    {
+        self.pinned.pins.len()
+    }
 
     /// The save of this number, counted from 0.
     pub fn save(&self, k: usize) -> SavedBox
         requires { k < length self.now.saved }
         ensures is { slice_get self.now.saved k ≡ Some result }
         ensures is_name { is_save_name result.name ≡ true }
+    {
+        self.pinned.pins[k].save
+    }
 
     /// The file of the save of this number.
     pub fn file(&mut self, alloc: Global, k: usize) -> Result<Vec<u8>, Memory>
@@ -49,6 +72,9 @@ impl<'m> OpenRun<'m> {
         ensures file { IfOk result (λ file. (s : SavedBox) → slice_get self.old.saved k ≡ Some s
             → file.items ≡ saved_file self.old.models self.old.log s) }
         ensures same { self.new ≡ self.old }
+    {
+        self.pinned.file(alloc, k)
+    }
 
     /// Gives back what is held for saves; then roots and nodes are those of the versions alone.
     pub fn close(self, alloc: Global) -> Result<StoreRan, Memory>
@@ -58,4 +84,36 @@ impl<'m> OpenRun<'m> {
             (listed_root r.roots.items)) }
         ensures numbers { IfOk result
             (λ r. AreNumbers self.entry.models r.history r.numbers.items) }
+    {
+        let OpenRun { pinned } = self;
+        close_over::<Brand>(alloc, pinned, Blank::new(1))
+    }
+}
+
+fn close_over<L: Ledger>(
+    alloc: Global,
+    pinned: Pinned<'_>,
+    blank: Blank,
+) -> Result<StoreRan, Memory>
+    requires are { ArePinned pinned.versions pinned.pins.items }
+    requires name { blank.name ≡ L.name }
+    requires parts { blank.parts ≡ L.parts }
+    requires some { 0 < L.parts }
+    ensures history { IfOk result (λ r. r.history ≡ log_of pinned.entry.versions) }
+    ensures places { IfOk result (λ r. length r.history.records < length r.roots.items) }
+    ensures roots { IfOk result (λ r. RootsTellWorlds pinned.entry.versions.models.items r.history
+        (listed_root r.roots.items)) }
+    ensures numbers { IfOk result
+        (λ r. AreNumbers pinned.entry.versions.models.items r.history r.numbers.items) }
+{
+    let mut steps: Steps<L> = Steps::start(blank);
+    let versions = pinned.into_versions(&mut steps);
+    let roots = versions.roots(alloc)?;
+    let numbers = versions.numbers(alloc)?;
+    let history = versions.history(alloc)?;
+    Ok(StoreRan {
+        history,
+        roots,
+        numbers,
+    })
 }

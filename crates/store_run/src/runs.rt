@@ -2,64 +2,60 @@ ghost use Rattle.std.specs.Prelude.{◌≡◌, ◌^◌, ◌<◌, ◌≤◌, leng
 ghost use Rattle.vox_read.specs.Contents.{AreModels};
 ghost use Rattle.script.specs.Fitting.{CommandFits, RisesFrom};
 ghost use Rattle.conformance.specs.Runs.{AllRan};
-ghost use Rattle.reporting.specs.Numbers.{AreNumbers};
-ghost use Rattle.reporting.specs.Roots.{RootsTellWorlds, listed_root};
+ghost use Rattle.conformance.specs.Saves.{saved_of};
 
 use crate::desks::StoreDesk;
+use crate::open_runs::OpenRun;
+use crate::pins::SAVES;
 use crate::versions::RECORDS;
-use conformance::Ran;
-use node_shapes::Name;
+use conformance::Transcript;
 use node_words::Plan;
-use script::Script;
+use script::{Command, Script, ScriptLine};
 use std::alloc::Global;
 use std::marker::Brand;
 use std::sync::ledger::{Blank, Ledger};
 use vox_read::Models;
 use vw_cell::Memory;
 
-/// What a run of scripts over a store gives: the history and the transcripts, and what the store's
-/// nodes tell at the end.
+/// A run whose scripts were all run, and their transcripts.
 #[derive(Drop)]
-pub struct StoreRan {
-    pub ran: Ran,
-    /// The root of each version, none where it has no set cell or is forgotten.
-    pub roots: Vec<Option<Name>>,
-    /// How many nodes of each level are live, from level 0 up.
-    pub numbers: Vec<u32>,
+pub struct ScriptsRun<'m> {
+    pub run: OpenRun<'m>,
+    pub transcripts: Vec<Transcript>,
 }
 
 /// Runs scripts one after another, script k as session k, from an empty world of the plan's side.
 ///
-/// The store, room for all records, marks and undos, a stencil of each model and the lists of all
-/// answers are taken before the first command.
-pub fn run_scripts(
+/// The store, room for all records, marks, undos and saves, a stencil of each model and the lists of
+/// all answers are taken before the first command.
+pub fn run_scripts<'m>(
     alloc: Global,
     plan: &Plan,
-    models: &Models,
+    models: &'m Models,
     scripts: &[Script],
-) -> Result<StoreRan, Memory>
+) -> Result<ScriptsRun<'m>, Memory>
     requires models { AreModels models.now }
     requires few { length scripts.now ≤ 64 }
     requires rise { All (RisesFrom 1) scripts.now }
     requires fit { All
         (All (λ l. CommandFits (2 ^ plan.now.side) models.now l.command)) scripts.now }
-    ensures ran { IfOk result (λ r. AllRan plan.now models.now scripts.now
-        r.ran.transcripts.items r.ran.history) }
-    ensures places { IfOk result (λ r. length r.ran.history.records < length r.roots.items) }
-    ensures roots { IfOk result (λ r. RootsTellWorlds models.now r.ran.history
-        (listed_root r.roots.items)) }
-    ensures numbers { IfOk result (λ r. AreNumbers models.now r.ran.history r.numbers.items) }
+    ensures ran { IfOk result (λ r. AllRan plan.now models.now scripts.now r.transcripts.items
+        r.run.log) }
+    ensures saved { IfOk result
+        (λ r. r.run.saved ≡ saved_of scripts.now r.transcripts.items) }
+    ensures models { IfOk result (λ r. r.run.models ≡ models.now) }
+    ensures plan { IfOk result (λ r. r.run.plan ≡ plan.now) }
 {
     run_over::<Brand>(alloc, plan, models, scripts, Blank::new(1))
 }
 
-fn run_over<L: Ledger>(
+fn run_over<'m, L: Ledger>(
     alloc: Global,
     plan: &Plan,
-    models: &Models,
+    models: &'m Models,
     scripts: &[Script],
     blank: Blank,
-) -> Result<StoreRan, Memory>
+) -> Result<ScriptsRun<'m>, Memory>
     requires models { AreModels models.now }
     requires few { length scripts.now ≤ 64 }
     requires rise { All (RisesFrom 1) scripts.now }
@@ -68,29 +64,21 @@ fn run_over<L: Ledger>(
     requires name { blank.name ≡ L.name }
     requires parts { blank.parts ≡ L.parts }
     requires some { 0 < L.parts }
-    ensures ran { IfOk result (λ r. AllRan plan.now models.now scripts.now
-        r.ran.transcripts.items r.ran.history) }
-    ensures places { IfOk result (λ r. length r.ran.history.records < length r.roots.items) }
-    ensures roots { IfOk result (λ r. RootsTellWorlds models.now r.ran.history
-        (listed_root r.roots.items)) }
-    ensures numbers { IfOk result (λ r. AreNumbers models.now r.ran.history r.numbers.items) }
+    ensures ran { IfOk result (λ r. AllRan plan.now models.now scripts.now r.transcripts.items
+        r.run.log) }
+    ensures saved { IfOk result
+        (λ r. r.run.saved ≡ saved_of scripts.now r.transcripts.items) }
+    ensures models { IfOk result (λ r. r.run.models ≡ models.now) }
+    ensures plan { IfOk result (λ r. r.run.plan ≡ plan.now) }
 {
-    let most = most_records(scripts);
-    let mut desk: StoreDesk<'_, L> = StoreDesk::begin(alloc, plan, models, most, blank)?;
+    let records = most_records(scripts);
+    let saves = most_saves(scripts);
+    let mut desk: StoreDesk<'m, L> = StoreDesk::begin(alloc, plan, models, records, saves, blank)?;
     let transcripts = script_runs::run_scripts(alloc, &mut desk, scripts)?;
-    let versions = desk.into_versions();
-    let roots = versions.roots(alloc)?;
-    let numbers = versions.numbers(alloc)?;
-    let history = versions.history(alloc)?;
-    let ran = Ran {
-        history,
-        transcripts,
+    let run = OpenRun {
+        pinned: desk.into_pinned(),
     };
-    Ok(StoreRan {
-        ran,
-        roots,
-        numbers,
-    })
+    Ok(ScriptsRun { run, transcripts })
 }
 
 // As many as the scripts have commands, and no more than a history has.
@@ -100,4 +88,23 @@ fn most_records(scripts: &[Script]) -> usize {
         most = most.saturating_add(script.lines.len());
     }
     most.min(RECORDS as usize)
+}
+
+// As many as the scripts have saves, and no more than a run can have.
+fn most_saves(scripts: &[Script]) -> usize {
+    let mut most: usize = 0;
+    for script in scripts {
+        most = most.saturating_add(number_of_saves(script.lines.as_slice()));
+    }
+    most.min(SAVES)
+}
+
+fn number_of_saves(lines: &[ScriptLine]) -> usize {
+    let mut number: usize = 0;
+    for line in lines {
+        if let Command::Save { .. } = line.command {
+            number = number.saturating_add(1);
+        }
+    }
+    number
 }

@@ -49,12 +49,12 @@ ghost use Rattle.node_words.specs.Gathering.{Fails};
 ghost use Rattle.one_store.specs.Known.{known_seen, stored_root};
 ghost use Rattle.script.specs.Fitting.{QuestionFits};
 ghost use Rattle.conformance.specs.Telling.{Tells};
-ghost use Rattle.store_run.specs.Kept.{plan_of, log_of, moment_of, world_of, core_with, noted_of, AreVersions, HoldsJust, HasRoom};
-ghost use Rattle.store_run.specs.Steps.{IsFound, StaysSeen, IsOverStore, MakesBeside, target_of, HoldsTree, PutsDown, LeavesAll, SharesRoot, MakesRoot, MeetsBucket, AppendsRecord, MarksVersion};
+ghost use Rattle.store_run.specs.Kept.{plan_of, log_of, moment_of, world_of, core_with, noted_of, AreVersions, HoldsNothing, HoldsTree, GainsTree, LosesTree, HoldsSame, HasRoom};
+ghost use Rattle.store_run.specs.Steps.{IsFound, StaysSeen, IsOverStore, MakesBeside, target_of, PutsDown, LeavesAll, SharesRoot, MakesRoot, MeetsBucket, AppendsRecord, MarksVersion};
 
 impl<'m> Versions<'m> {
     /// Version 0 alone, with room for so many records.
-    #[tactic(auto, using(crate::proofs::Beginning::begun_are, crate::proofs::Beginning::begun_log, crate::proofs::Beginning::begun_just, crate::proofs::Beginning::begun_noted))]
+    #[tactic(auto, using(crate::proofs::Beginning::begun_are, crate::proofs::Beginning::begun_log, crate::proofs::Beginning::begun_nothing, crate::proofs::Beginning::begun_noted))]
     pub(crate) fn begin(
         alloc: Global,
         plan: &Plan,
@@ -68,7 +68,7 @@ impl<'m> Versions<'m> {
         ensures empty { IfOk result (λ v. log_of v
             ≡ record { side = plan.now.side; records = []; marks = [] }) }
         ensures noted { IfOk result (λ v. noted_of v ≡ record { made = []; met = [] }) }
-        ensures free { IfOk result (λ v. HoldsJust v.store None) }
+        ensures free { IfOk result (λ v. HoldsNothing v.store) }
     {
         Ok(Versions {
             side: plan.side(),
@@ -118,11 +118,11 @@ impl<'m> Versions<'m> {
     }
 
     /// One more share of the version's root.
-    #[tactic(auto, using(crate::proofs::Sparing::shares_root, crate::proofs::Sparing::are_spared, crate::proofs::Sparing::room_stays, crate::proofs::Holding::just_few))]
+    #[tactic(auto, using(crate::proofs::Sparing::shares_root, crate::proofs::Sparing::are_spared, crate::proofs::Sparing::room_stays))]
     pub(crate) fn share(&mut self, version: u32) -> Option<Share>
         requires are { AreVersions self.old }
         requires kept { IsKept (log_of self.old) version }
-        requires free { HoldsJust self.old.store None }
+        requires few { number_of_trees self.old.store.told.held ≤ 2048 }
         ensures are { AreVersions self.new }
         ensures shares { SharesRoot self.old version result self.new }
         ensures room { HasRoom self.old → HasRoom self.new }
@@ -130,23 +130,12 @@ impl<'m> Versions<'m> {
         self.store.root_share(version)
     }
 
-    /// Gives the one share back that is held.
-    #[tactic(auto, using(crate::proofs::Sparing::gives_back, crate::proofs::Sparing::just_tree, crate::proofs::Holding::just_few))]
+    /// Gives a share of a root back, where there is one.
+    #[tactic(auto, using(crate::proofs::Sparing::puts_some, crate::proofs::Sparing::puts_none, crate::proofs::Sparing::are_spared, crate::proofs::Holding::tree_name, crate::proofs::Sparing::room_stays))]
     pub(crate) fn give_back<L: Ledger>(&mut self, root: Option<Share>, steps: &mut Steps<L>)
         requires are { AreVersions self.old }
-        requires holds { HoldsJust self.old.store root }
-        ensures are { AreVersions self.new }
-        ensures leaves { LeavesAll self.old self.new }
-    {
-        self.put_down(root, steps);
-    }
-
-    // Gives a share of a root back, where there is one.
-    #[tactic(auto, using(crate::proofs::Sparing::puts_some, crate::proofs::Sparing::puts_none, crate::proofs::Sparing::are_spared, crate::proofs::Sparing::tree_name, crate::proofs::Sparing::room_stays))]
-    fn put_down<L: Ledger>(&mut self, root: Option<Share>, steps: &mut Steps<L>)
-        requires are { AreVersions self.old }
         requires holds { HoldsTree self.old.store root }
-        requires room { number_of_trees self.old.store.told.held ≤ 4008 }
+        requires few { number_of_trees self.old.store.told.held ≤ 4008 }
         ensures are { AreVersions self.new }
         ensures puts { PutsDown self.old root self.new }
         ensures room { HasRoom self.old → HasRoom self.new }
@@ -158,7 +147,7 @@ impl<'m> Versions<'m> {
     }
 
     /// What the question asks of a version.
-    #[tactic(auto, using(crate::proofs::Rebuilding::asked_all))]
+    #[tactic(auto, using(crate::proofs::Rebuilding::asked_all, crate::proofs::Rebuilding::asked_same, crate::proofs::Rebuilding::shared_tree, crate::proofs::Rebuilding::shared_few))]
     pub(crate) fn ask<L: Ledger>(
         &mut self,
         version: u32,
@@ -167,10 +156,11 @@ impl<'m> Versions<'m> {
     ) -> Answer
         requires are { AreVersions self.old }
         requires kept { IsKept (log_of self.old) version }
-        requires free { HoldsJust self.old.store None }
+        requires few { number_of_trees self.old.store.told.held ≤ 2048 }
         requires fits { QuestionFits (2 ^ self.old.side) question }
         ensures are { AreVersions self.new }
         ensures leaves { LeavesAll self.old self.new }
+        ensures same { HoldsSame self.old.store self.new.store }
         ensures tells { Tells (2 ^ self.old.side) (world_of self.old version) question result }
     {
         let root = self.share(version);
@@ -179,17 +169,22 @@ impl<'m> Versions<'m> {
         answer
     }
 
-    // What the question asks of the version whose root is held.
-    #[tactic(auto, using(crate::proofs::Rebuilding::share_level, crate::proofs::Rebuilding::share_shows, crate::proofs::Holding::just_root, crate::proofs::Sparing::are_spared, crate::proofs::Rebuilding::seen_just, crate::proofs::Rebuilding::stays_seen, crate::proofs::Rebuilding::root_told))]
-    fn tell_root(&mut self, version: u32, root: Option<&Share>, question: Question) -> Answer
+    /// What the question asks of the version whose root is held.
+    #[tactic(auto, using(crate::proofs::Rebuilding::share_level, crate::proofs::Rebuilding::share_shows, crate::proofs::Holding::holds_root, crate::proofs::Sparing::are_spared, crate::proofs::Rebuilding::seen_tree, crate::proofs::Rebuilding::stays_seen, crate::proofs::Rebuilding::root_told))]
+    pub(crate) fn tell_root(
+        &mut self,
+        version: u32,
+        root: Option<&Share>,
+        question: Question,
+    ) -> Answer
         requires are { AreVersions self.old }
         requires kept { IsKept (log_of self.old) version }
-        requires holds { HoldsJust self.old.store (option_copied root) }
+        requires holds { HoldsTree self.old.store (option_copied root) }
         requires is { option_copied root ≡ stored_root self.old.store.roots version }
         requires fits { QuestionFits (2 ^ self.old.side) question }
         ensures are { AreVersions self.new }
         ensures stays { StaysSeen self.old self.new }
-        ensures holds { HoldsJust self.new.store (option_copied root.entry) }
+        ensures holds { HoldsTree self.new.store (option_copied root.entry) }
         ensures tells { Tells (2 ^ self.old.side) (world_of self.old version) question result }
     {
         let side = self.side;
@@ -197,30 +192,31 @@ impl<'m> Versions<'m> {
     }
 
     /// A share of the root of what the edit makes of the newest version.
-    #[tactic(auto, using(crate::proofs::Rebuilding::newest_is_kept, crate::proofs::Rebuilding::made_all, crate::proofs::Rebuilding::met_all))]
+    #[tactic(auto, using(crate::proofs::Rebuilding::newest_is_kept, crate::proofs::Rebuilding::made_all, crate::proofs::Rebuilding::gained_all, crate::proofs::Rebuilding::met_all, crate::proofs::Rebuilding::shared_tree, crate::proofs::Rebuilding::shared_few))]
     pub(crate) fn rebuild<L: Ledger>(
         &mut self,
         act: Act,
         steps: &mut Steps<L>,
     ) -> Result<Option<Share>, Full>
         requires are { AreVersions self.old }
-        requires free { HoldsJust self.old.store None }
+        requires few { number_of_trees self.old.store.told.held ≤ 2048 }
         requires edit { is_edit act ≡ true }
         requires fits { FitsWorld (2 ^ self.old.side) self.old.models.items act }
         ensures are { AreVersions self.new }
         ensures makes { IfOk result (λ root. MakesRoot self.old act root self.new) }
+        ensures gains { IfOk result (λ root. GainsTree self.old.store root self.new.store) }
         ensures meets { IfErr result (λ full. MeetsBucket self.old act full self.new) }
         ensures room { HasRoom self.old → HasRoom self.new }
     {
         let base = self.share(self.moment());
         let made = self.rebuild_from(base.as_ref(), act, steps);
-        self.put_down(base, steps);
+        self.give_back(base, steps);
         let _number = self.store.number();
         made
     }
 
     // The same from the newest version's root, which is held.
-    #[tactic(auto, using(crate::proofs::Rebuilding::makes_beside, crate::proofs::Rebuilding::fails_beside, crate::proofs::Rebuilding::still_held, crate::proofs::Rebuilding::few_held, crate::proofs::Rebuilding::base_root, crate::proofs::Sparing::are_spared, crate::proofs::Rebuilding::over_store, crate::proofs::Holding::just_few_room))]
+    #[tactic(auto, using(crate::proofs::Rebuilding::makes_beside, crate::proofs::Rebuilding::fails_beside, crate::proofs::Rebuilding::still_held, crate::proofs::Rebuilding::few_held, crate::proofs::Rebuilding::base_root, crate::proofs::Sparing::are_spared, crate::proofs::Rebuilding::over_store))]
     fn rebuild_from<L: Ledger>(
         &mut self,
         base: Option<&Share>,
@@ -228,14 +224,15 @@ impl<'m> Versions<'m> {
         steps: &mut Steps<L>,
     ) -> Result<Option<Share>, Full>
         requires are { AreVersions self.old }
-        requires holds { HoldsJust self.old.store (option_copied base) }
+        requires holds { HoldsTree self.old.store (option_copied base) }
+        requires few { number_of_trees self.old.store.told.held ≤ 2049 }
         requires is { option_copied base ≡ stored_root self.old.store.roots (moment_of self.old) }
         requires edit { is_edit act ≡ true }
         requires fits { FitsWorld (2 ^ self.old.side) self.old.models.items act }
         ensures are { AreVersions self.new }
         ensures only { IsOverStore self.old self.new }
         ensures held { HoldsTree self.new.store (option_copied base.entry) }
-        ensures few { number_of_trees self.new.store.told.held ≤ 2 }
+        ensures few { number_of_trees self.new.store.told.held ≤ 2050 }
         ensures makes { IfOk result (λ root. MakesBeside self.old act root self.new) }
         ensures meets { IfErr result (λ full. Fails (target_of self.old act) full.level full.bucket
             (known_seen self.old.store) (known_seen self.new.store)) }
@@ -252,15 +249,16 @@ impl<'m> Versions<'m> {
     }
 
     /// The record comes behind the others, and the share of its root goes to its version.
-    #[tactic(auto, using(crate::proofs::Logging::no_root, crate::proofs::Holding::just_some, crate::proofs::Logging::appended_are, crate::proofs::Logging::appends_record))]
+    #[tactic(auto, using(crate::proofs::Logging::no_root, crate::proofs::Holding::holds_some, crate::proofs::Logging::appended_are, crate::proofs::Logging::appends_record, crate::proofs::Logging::keeps_loses))]
     pub(crate) fn append(&mut self, next: Record, root: Option<Share>)
         requires are { AreVersions self.old }
         requires room { HasRoom self.old }
-        requires holds { HoldsJust self.old.store root }
+        requires holds { HoldsTree self.old.store root }
         requires may { MayAppend (plan_of self.old) self.old.models.items next root
             (core_with (log_of self.old) self.old.store) }
         ensures are { AreVersions self.new }
         ensures appends { AppendsRecord self.old next self.new }
+        ensures loses { LosesTree self.old.store root self.new.store }
     {
         let version = self.moment() + 1;
         let _number = self.store.number();
@@ -271,15 +269,16 @@ impl<'m> Versions<'m> {
     }
 
     /// The mark comes to its version, whose root goes at once.
-    #[tactic(auto, using(crate::proofs::Logging::marked_are, crate::proofs::Logging::taken_just, crate::proofs::Logging::marks_version, crate::proofs::Logging::no_root, crate::proofs::Holding::just_few, crate::proofs::Ending::has_place))]
+    #[tactic(auto, using(crate::proofs::Logging::marked_are, crate::proofs::Logging::taken_tree, crate::proofs::Logging::taken_few, crate::proofs::Logging::taken_same, crate::proofs::Logging::marks_version, crate::proofs::Logging::no_root, crate::proofs::Ending::has_place))]
     pub(crate) fn forget<L: Ledger>(&mut self, mark: Mark, steps: &mut Steps<L>)
         requires are { AreVersions self.old }
-        requires free { HoldsJust self.old.store None }
+        requires few { number_of_trees self.old.store.told.held ≤ 2048 }
         requires kept { IsKept (log_of self.old) mark.version }
         requires earlier { mark.version < moment_of self.old }
         requires now { mark.at ≡ moment_of self.old }
         ensures are { AreVersions self.new }
         ensures marks { MarksVersion self.old mark self.new }
+        ensures same { HoldsSame self.old.store self.new.store }
     {
         let _number = self.store.number();
         self.marks[mark.version as usize] = Some(mark);

@@ -1,4 +1,4 @@
-use Rattle.store_run.proofs.Beginning.{begun_are, begun_log, begun_just}
+use Rattle.store_run.proofs.Beginning.{begun_are, begun_log, begun_nothing}
 use Rattle.store_run.proofs.versions.Versions.begin.Goals as goal
 
 pub returns-clause-are : goal.returns-clause-are
@@ -21,7 +21,7 @@ returns-clause-empty c =
 
 pub returns-clause-free : goal.returns-clause-free
 returns-clause-free c =
-    begun_just (record {
+    begun_nothing (record {
       side = c.side.result;
       models = c.in_ok-draw_models.field-0;
       store = c.in_ok-begin.field-0;

@@ -9,7 +9,7 @@ returns-in-Err-clause-goes_on g c once =
 pub returns-then-moment-eq-RECORDS-clause-goes_on : goal.returns-then-moment-eq-RECORDS-clause-goes_on
 returns-then-moment-eq-RECORDS-clause-goes_on g c once =
     edit_late c.args.self.now c.give_back.new.self c.args.session c.args.line c.args.act once c.requires.are c.requires.edit c.rebuild.new.self c.in-Ok.root
-    c.in-Ok.ensures.makes (omega (arith, c.moment.ensures.value, c.if-moment-eq-RECORDS.true)) c.give_back.ensures.leaves
+    c.in-Ok.ensures.makes (omega (arith, c.moment.ensures.value, c.if-moment-eq-RECORDS.true)) c.give_back.ensures.puts.leaves
 
 pub returns-clause-goes_on : goal.returns-clause-goes_on
 returns-clause-goes_on g c once =

@@ -10,22 +10,22 @@ pub returns-in-None-clause-goes_on : goal.returns-in-None-clause-goes_on
 returns-in-None-clause-goes_on c once =
     subst (λ (a : Answer). GoesOnBy c.args.self.now c.args.session (record { line = c.args.line; command = Edit c.args.act once }) a c.args.self.now)
     (sym c.nothing_to_go_to.ensures)
-    (go_nowhere c.args.self.now c.args.session c.args.line c.args.act once c.requires.are c.requires.free c.requires.other
+    (go_nowhere c.args.self.now c.args.session c.args.line c.args.act once c.requires.are c.requires.other
     (sym c.target.ensures ∙ c.in-None.is))
 
 pub returns-in-Marked-clause-goes_on : goal.returns-in-Marked-clause-goes_on
 returns-in-Marked-clause-goes_on c once =
-    go_forgotten c.args.self.now c.args.session c.args.line c.args.act once c.requires.are c.requires.free c.requires.other c.in-Some.to
+    go_forgotten c.args.self.now c.args.session c.args.line c.args.act once c.requires.are c.requires.other c.in-Some.to
     (sym c.target.ensures ∙ c.in-Some.is) c.in-Marked.ensures
 
 pub returns-in-NotThere-clause-goes_on : goal.returns-in-NotThere-clause-goes_on
 returns-in-NotThere-clause-goes_on c once =
-    go_past c.args.self.now c.args.session c.args.line c.args.act once c.requires.are c.requires.free c.requires.other c.in-Some.to _
+    go_past c.args.self.now c.args.session c.args.line c.args.act once c.requires.are c.requires.other c.in-Some.to _
     (sym c.target.ensures ∙ c.in-Some.is) c.in-NotThere.ensures
 
 pub returns-then-moment-eq-RECORDS-clause-goes_on : goal.returns-then-moment-eq-RECORDS-clause-goes_on
 returns-then-moment-eq-RECORDS-clause-goes_on c once =
-    go_late c.args.self.now c.args.session c.args.line c.args.act once c.requires.are c.requires.free c.requires.other c.in-Some.to
+    go_late c.args.self.now c.args.session c.args.line c.args.act once c.requires.are c.requires.other c.in-Some.to
     (sym c.target.ensures ∙ c.in-Some.is) c.in-Kept.ensures (omega (arith, c.moment.ensures.value, c.if-moment-eq-RECORDS.true))
 
 pub append-requires-clause-may : goal.append-requires-clause-may

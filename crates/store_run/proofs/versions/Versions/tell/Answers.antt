@@ -3,12 +3,12 @@ use Rattle.store_run.proofs.versions.Versions.tell.Goals as goal
 
 pub returns-in-NotThere-clause-goes_on : goal.returns-in-NotThere-clause-goes_on
 returns-in-NotThere-clause-goes_on g c =
-    ask_missing c.args.self.now c.args.session c.args.line c.requires.are c.requires.free c.args.version c.args.question c.asked-asked.result
+    ask_missing c.args.self.now c.args.session c.args.line c.requires.are c.args.version c.args.question c.asked-asked.result
     c.asked-asked.ensures c.in-NotThere.ensures
 
 pub returns-in-Marked-clause-goes_on : goal.returns-in-Marked-clause-goes_on
 returns-in-Marked-clause-goes_on g c =
-    ask_marked c.args.self.now c.args.session c.args.line c.requires.are c.requires.free c.args.version c.args.question c.asked-asked.result
+    ask_marked c.args.self.now c.args.session c.args.line c.requires.are c.args.version c.args.question c.asked-asked.result
     c.asked-asked.ensures c.in-Marked.ensures
 
 pub returns-in-Kept-clause-goes_on : goal.returns-in-Kept-clause-goes_on

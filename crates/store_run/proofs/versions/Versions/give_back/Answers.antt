@@ -1,8 +1,9 @@
 use Rattle.std.proofs.Common.{Option, sym, subst}
 use Rattle.node_shapes.specs.declared.names.Name.{Name}
-use Rattle.store_run.specs.Steps.{HoldsTree, PutsDown}
+use Rattle.store_run.specs.Kept.{HoldsTree}
+use Rattle.store_run.specs.Steps.{PutsDown}
 use Rattle.store_run.proofs.Sparing.{with_store, puts_some}
-use Rattle.store_run.proofs.versions.Versions.put_down.Goals as goal
+use Rattle.store_run.proofs.versions.Versions.give_back.Goals as goal
 
 pub returns-in-Some-clause-puts : goal.returns-in-Some-clause-puts
 returns-in-Some-clause-puts g c =
