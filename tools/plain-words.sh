@@ -90,7 +90,7 @@ plain_script() {
     case $4 in
         1) meaning='a word that is no command there' ;;
         2) meaning='a word that is no number of 1 to 9 digits' ;;
-        3) meaning='something reaches out of the world, a size is 0, or a ray has no steps' ;;
+        3) meaning='something reaches out of the world, a size is 0, a ray has no steps, or no file can have this name or size' ;;
         4) meaning='a word is missing' ;;
         5) meaning='a word too many' ;;
         6) meaning='the VOX file has no such model' ;;
