@@ -4,6 +4,7 @@ ghost use Rattle.std.specs.Prelude.{◌≡◌, ◌≤◌, ◌^◌, length};
 ghost use Rattle.vox_read.specs.Contents.{AreModels};
 
 use crate::reports::tell_end;
+use crate::saves::has_saved;
 use history_model::journal_text;
 use node_words::Plan;
 use plain_run::PlainRun;
@@ -50,7 +51,7 @@ impl Ended {
     }
 }
 
-/// Whether both give the same line, transcripts, journal and report.
+/// Whether both give the same line, transcripts, saved files, journal and report.
 pub(crate) fn is_same_run(alloc: Global, run: Run<'_>) -> Result<bool, Fail> {
     let ended = run_program(alloc, run)?;
     let Ok(models) = read_models(alloc, vox()) else {
@@ -71,6 +72,9 @@ fn is_same_as_plain(
     let first = text_of(alloc, &mut plain, run.plan, models, 0, run.first)?;
     let second = text_of(alloc, &mut plain, run.plan, models, 1, run.second)?;
     if !ended.has("a.out", &first) || !ended.has("b.out", &second) {
+        return Ok(false);
+    }
+    if !has_saved(alloc, &plain, &ended.shelf)? {
         return Ok(false);
     }
     is_same_end(alloc, plain, run.plan, ended)

@@ -19,8 +19,12 @@ pub(crate) fn script(
 ) -> Result<String, AllocError> {
     let mut draws = Draws::new(seed);
     let mut text = String::new(alloc);
-    for _ in 0..lines {
-        let line = line(alloc, &mut draws, side)?;
+    for number in 0..lines {
+        let line = if number % 8 == 7 {
+            saved(alloc, seed, number, &mut draws, side)?
+        } else {
+            line(alloc, &mut draws, side)?
+        };
         text.push_str(line.as_str())?;
         text.push_str("\n")?;
     }
@@ -58,6 +62,24 @@ fn stamped(alloc: Global, draws: &mut Draws, side: u16) -> Result<String, AllocE
     let at = draws.place(side, Cell { x: 1, y: 1, z: 1 });
     let act = Act::Stamp(1, at);
     format!(in alloc; "{act}")
+}
+
+// A save of a box, half of them of a version that may be there. No other line has its name.
+fn saved(
+    alloc: Global,
+    seed: u64,
+    number: u16,
+    draws: &mut Draws,
+    side: u16,
+) -> Result<String, AllocError> {
+    let b = draws.boxed(side);
+    let at = numbers(alloc, b.at)?;
+    let size = numbers(alloc, b.size)?;
+    if number % 16 == 7 {
+        let version = draws.below(20);
+        return format!(in alloc; "at {version} save s{seed}-{number} {at} {size}");
+    }
+    format!(in alloc; "save s{seed}-{number} {at} {size}")
 }
 
 // A question of a version that may be there.

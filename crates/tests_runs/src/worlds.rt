@@ -57,6 +57,7 @@ impl World {
     }
 }
 
-fn is_set(run: &PlainRun<'_>, version: u32, c: Cell) -> bool {
+/// Whether the cell is set at the version, where it is there.
+pub(crate) fn is_set(run: &PlainRun<'_>, version: u32, c: Cell) -> bool {
     version <= run.moment() && run.has(version, c)
 }
