@@ -35,7 +35,13 @@ fn saved(alloc: Global, script: &str) -> Result<MemoryShelf, Fail> {
 fn boxes_are_saved(rt: HostRuntime) -> Result<(), Fail> {
     let script = "fill 3 3 3 1 1 1\nsave a.vox 3 3 3 1 1 1\nsave b.vox 0 0 0 1 1 1\n";
     let mut shelf = saved(rt.alloc(), script)?;
-    assert!(rt; has(&shelf, "s.out", Some("1 @1 ok\n2 @1 saved 1\n3 @1 saved 0\n")));
+    assert!(rt;
+        has(
+            &shelf,
+            "s.out",
+            Some("1 @1 ok\n2 @1 saved 1\n3 @1 saved 0\n")
+        )
+    );
     assert!(rt; holds(&shelf, "a.vox", &ONE));
     assert!(rt; holds(&shelf, "b.vox", &NO_CELL));
     let (ended, out) = ask(rt.alloc(), "count a.vox", &mut shelf)?;
@@ -56,13 +62,15 @@ fn cells_come_by_z_then_y_then_x(rt: HostRuntime) -> Result<(), Fail> {
 // the store. One that is not there or was forgotten before is not saved.
 #[test]
 fn old_versions_are_saved(rt: HostRuntime) -> Result<(), Fail> {
-    let script =
-        "fill 3 3 3 1 1 1\nerase 0 0 0 8 8 8\nat 1 save a.vox 3 3 3 1 1 1\nforget 1\n\
+    let script = "fill 3 3 3 1 1 1\nerase 0 0 0 8 8 8\nat 1 save a.vox 3 3 3 1 1 1\nforget 1\n\
          save b.vox 3 3 3 1 1 1\nat 1 save c.vox 3 3 3 1 1 1\nat 3 save d.vox 3 3 3 1 1 1\n";
     let mut shelf = shelf_with(rt.alloc(), script.as_bytes())?;
     let (ended, out) = ask(rt.alloc(), "run --side 8 --report p one.vox s", &mut shelf)?;
     assert_eq!(rt; ended, 0);
-    assert_eq!(rt; out.bytes(), b"scripts 1 records 2 marks 1 nodes 0\n".as_slice());
+    assert_eq!(rt;
+        out.bytes(),
+        b"scripts 1 records 2 marks 1 nodes 0\n".as_slice()
+    );
     let want = "1 @1 ok\n2 @2 ok\n3 @2 saved 1\n4 @2 forgot 1\n5 @2 saved 0\n6 @2 forgotten 1\n\
                 7 @2 no version 3\n";
     assert!(rt; has(&shelf, "s.out", Some(want)));
@@ -70,8 +78,7 @@ fn old_versions_are_saved(rt: HostRuntime) -> Result<(), Fail> {
     assert!(rt; holds(&shelf, "b.vox", &NO_CELL));
     assert!(rt; has(&shelf, "c.vox", None));
     assert!(rt; has(&shelf, "d.vox", None));
-    let report =
-        "voxdag report 1\nside 8\nrecords 2\nmarks 1\nversion 0 empty\nversion 2 empty\n\
+    let report = "voxdag report 1\nside 8\nrecords 2\nmarks 1\nversion 0 empty\nversion 2 empty\n\
          level 0 nodes 0\nlevel 1 nodes 0\n";
     assert!(rt; has(&shelf, "p", Some(report)));
     Ok(())
@@ -80,10 +87,26 @@ fn old_versions_are_saved(rt: HostRuntime) -> Result<(), Fail> {
 // Transcripts are written first, then the saved files by script and line, then the journal.
 const FAILS: &[(u32, &str, [bool; 5])] = &[
     (4, "voxdag: write fault s.out\n", [false; 5]),
-    (5, "voxdag: write fault t.out\n", [true, false, false, false, false]),
-    (6, "voxdag: write fault b\n", [true, true, false, false, false]),
-    (7, "voxdag: write fault a\n", [true, true, true, false, false]),
-    (8, "voxdag: write fault j\n", [true, true, true, true, false]),
+    (
+        5,
+        "voxdag: write fault t.out\n",
+        [true, false, false, false, false],
+    ),
+    (
+        6,
+        "voxdag: write fault b\n",
+        [true, true, false, false, false],
+    ),
+    (
+        7,
+        "voxdag: write fault a\n",
+        [true, true, true, false, false],
+    ),
+    (
+        8,
+        "voxdag: write fault j\n",
+        [true, true, true, true, false],
+    ),
 ];
 
 #[test]
