@@ -12,6 +12,11 @@ use Rattle.vox_read.specs.Contents.{Content}
 use Rattle.transcript.specs.Lines.{transcript_of}
 use Rattle.conformance.specs.Runs.{AllRan}
 use Rattle.conformance.specs.Saves.{saved_of}
+use Rattle.std.specs.Prelude.{IfOk}
+use Rattle.reporting.specs.Numbers.{AreNumbers}
+use Rattle.reporting.specs.Roots.{RootsTellWorlds, listed_root}
+use Rattle.vw_cell.specs.declared.memory.Memory as cells
+use Rattle.store_run.specs.declared.open_runs.StoreRan.{StoreRan}
 use Rattle.store_run.specs.declared.runs.ScriptsRun.{ScriptsRun}
 use Rattle.script_files.specs.declared.tallies.Done.TheVariants.{Counted, Ran}
 use Rattle.script_files.specs.declared.tallies.Tally.{Tally}
@@ -89,6 +94,19 @@ nothing_began asked models log r state is = record {
   reported = no_report (wanted_output asked.journal (journal_of log)) asked.report models log;
   stops = stops_at_once r.why (output_name r.name) [] state.files state.faults is;
 }
+
+-- the texts of a run that is closed are those of its history
+pub told_texts : (asked : Asked) (models : List Content) (log : Log) (ran : StoreRan)
+    (result : Result HistoryTexts cells.Memory) → ran.history ≡ log
+    → RootsTellWorlds models ran.history (listed_root ran.roots.items)
+    → AreNumbers models ran.history ran.numbers.items
+    → IfOk result (λ texts. (ms : List Content)
+    → RootsTellWorlds ms ran.history (listed_root ran.roots.items)
+    → AreNumbers ms ran.history ran.numbers.items → AreTexts asked ms ran.history texts)
+    → IfOk result (AreTexts asked models log)
+told_texts asked models log ran (Err e) is roots numbers texts = tt
+told_texts asked models log ran (Ok written) is roots numbers texts =
+    subst (λ (l : Log). AreTexts asked models l written) is (texts models roots numbers)
 
 -- the journal where it is asked for
 same_wanted : (name : Option (List ℕ)) (text want : List ℕ) → JournalIs name text want

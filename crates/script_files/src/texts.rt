@@ -58,11 +58,25 @@ pub(crate) fn texts_of(alloc: Global, order: &Order<'_>, run: OpenRun<'_>) -> Re
     requires marks { All (λ m. m.version ≤ length run.log.records) run.log.marks }
     ensures { IfOk result (AreTexts order.now run.entry.models run.entry.log) }
 {
+    let ran = run.close(alloc)?;
+    history_texts(alloc, order, ran)
+}
+
+fn history_texts(alloc: Global, order: &Order<'_>, ran: StoreRan) -> Result<Texts, Memory>
+    requires few { length ran.history.records ≤ 65535 }
+    requires marks { All (λ m. m.version ≤ length ran.history.records) ran.history.marks }
+    requires places { length ran.history.records < length ran.roots.items }
+    requires levels { length ran.numbers.items ≤ 11 }
+    ensures { IfOk result (λ texts. (models : List Content)
+        → RootsTellWorlds models ran.history (listed_root ran.roots.items)
+        → AreNumbers models ran.history ran.numbers.items
+        → AreTexts order.now models ran.history texts) }
+{
     let StoreRan {
         history,
         roots,
         numbers,
-    } = run.close(alloc)?;
+    } = ran;
     let tally = Tally {
         scripts: order.scripts.len() as u64,
         records: history.records.len() as u64,

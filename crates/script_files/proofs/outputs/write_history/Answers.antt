@@ -17,3 +17,9 @@ returns-clause-writes g c =
     c.as_slice.result.now c.from-in-Err.result old new c.in-Ok.ensures is
     (stops_from c.from-in-Err.result _ c.in-Err.refused.why c.as_slice.result.now old new
     c.from-in-Err.ensures.0 c.from-in-Err.ensures.1 c.in-Err.ensures.refused)
+
+pub returns-in_default-last_outputs-clause-writes : goal.returns-in_default-last_outputs-clause-writes
+returns-in_default-last_outputs-clause-writes g c =
+    nothing_began c.args.order.now c.args.run.models c.args.run.log
+    c.from-in_default-last_outputs.result (g.S.Shelf.state c.args.shelf.now)
+    c.from-in_default-last_outputs.ensures.0
