@@ -1,5 +1,6 @@
 use crate::plain::{plain_bounds, plain_cells, plain_count, plain_faces};
 use crate::rays::{first_cell, first_instant};
+use edit_stamp::Stencil;
 use history_model::{Act, Question, Way};
 use node_words::Plan;
 use std::alloc::Global;
@@ -15,6 +16,45 @@ pub struct Twins {
     pub plain: Grid,
 }
 
+/// An empty world in a store with so many buckets a level, each for as many nodes.
+pub fn empty_world(alloc: Global, side: u32, room: u16) -> Result<StoredWorld, Fail> {
+    let side = Side::new(side).ok_or("a side")?;
+    let plan = Plan::even(side, room, room).ok_or("a plan")?;
+    Ok(StoredWorld::empty(alloc, &plan)?)
+}
+
+impl Twins {
+    fn empty(alloc: Global, side: u32) -> Result<Twins, Fail> {
+        let stored = empty_world(alloc, side, 64)?;
+        let cells = stored.side().cells() as u16;
+        let plain = Grid::empty(alloc, cells).map_err(|_| "out of memory")?;
+        Ok(Twins { stored, plain })
+    }
+
+    fn edit(
+        &mut self,
+        alloc: Global,
+        act: &Act,
+        model: &Drawing,
+        stencil: &Stencil,
+    ) -> Result<(), Fail> {
+        if self.stored.edit(act, stencil).is_err() {
+            return Err(Fail::from("an edit"));
+        }
+        let after = self.plain.after(alloc, act, model);
+        self.plain = after.map_err(|_| "out of memory")?;
+        Ok(())
+    }
+}
+
+fn small_model(alloc: Global) -> Result<Drawing, Fail> {
+    let voxels = Vec::from_slice(alloc, &[[0, 0, 0, 1], [2, 0, 3, 1], [1, 1, 1, 1], [0, 1, 2, 1]])?;
+    Ok(Drawing {
+        size: [3, 2, 4],
+        voxels,
+    })
+}
+
 /// A world of this side after so many random edits, and then with so many boxes of a few cells.
 pub fn drawn_twins(
     alloc: Global,
@@ -23,28 +63,24 @@ pub fn drawn_twins(
     edits: u32,
     specks: u32,
 ) -> Result<Twins, Fail> {
-    let side = Side::new(side).ok_or("a side")?;
-    let plan = Plan::even(side, 64, 64).ok_or("a plan")?;
-    let mut stored = StoredWorld::empty(alloc, &plan)?;
-    let cells = side.cells() as u16;
-    let mut plain = Grid::empty(alloc, cells).map_err(|_| "out of memory")?;
-    let model = Drawing {
-        size: [3, 2, 4],
-        voxels: vec![in alloc; [0, 0, 0, 1], [2, 0, 3, 1], [1, 1, 1, 1], [0, 1, 2, 1]]?,
-    };
+    let mut twins = Twins::empty(alloc, side)?;
+    let model = small_model(alloc)?;
     let stencil = model.stencil(alloc).ok_or("a stencil")?;
+    let cells = twins.plain.side();
     for k in 0..edits.saturating_add(specks) {
-        let act = if k < edits {
-            draws.act(cells, model.cells())
-        } else {
-            speck(draws, cells)
-        };
-        stored.edit(&act, &stencil).map_err(|_| "an edit")?;
-        plain = plain
-            .after(alloc, &act, &model)
-            .map_err(|_| "out of memory")?;
+        let act = drawn_act(draws, cells, &model, k < edits);
+        twins.edit(alloc, &act, &model, &stencil)?;
     }
-    Ok(Twins { stored, plain })
+    Ok(twins)
+}
+
+// Any edit, or a few cells.
+fn drawn_act(draws: &mut Draws, side: u16, model: &Drawing, is_any: bool) -> Act {
+    if is_any {
+        draws.act(side, model.cells())
+    } else {
+        speck(draws, side)
+    }
 }
 
 // Sets one or two cells on each axis.
@@ -86,17 +122,26 @@ fn touching_stretch(draws: &mut Draws, side: u16) -> (u16, u16) {
 
 /// How many of the questions of this box are answered otherwise than by plain cells.
 pub fn wrong_of_box(alloc: Global, twins: &mut Twins, b: Boxed) -> Result<u32, Fail> {
-    let count = twins.stored.ask(&Question::Count(b));
-    let faces = twins.stored.ask(&Question::Faces(b));
-    let mut voxels: Vec<Voxel> = vec![in alloc; FIRST]?;
+    let listed = lists_cells(alloc, twins, b)?;
+    let wrong = u32::from(!counts(twins, b)).saturating_add(u32::from(!has_faces(twins, b)));
+    Ok(wrong.saturating_add(u32::from(!listed)))
+}
+
+fn counts(twins: &mut Twins, b: Boxed) -> bool {
+    let found = twins.stored.ask(&Question::Count(b));
+    found == Some(Found::Number(plain_count(&twins.plain, b)))
+}
+
+fn has_faces(twins: &mut Twins, b: Boxed) -> bool {
+    let found = twins.stored.ask(&Question::Faces(b));
+    found == Some(Found::Number(plain_faces(&twins.plain, b)))
+}
+
+fn lists_cells(alloc: Global, twins: &mut Twins, b: Boxed) -> Result<bool, Fail> {
+    let mut voxels: Vec<Voxel> = Vec::from_slice(alloc, &[FIRST])?;
     let listed = twins.stored.cells(b, &mut voxels);
-    let plain = &twins.plain;
-    let same_cells = follow(&voxels, &plain_cells(alloc, plain, b)?);
-    Ok(
-        u32::from(count != Some(Found::Number(plain_count(plain, b))))
-            .saturating_add(u32::from(faces != Some(Found::Number(plain_faces(plain, b)))))
-            .saturating_add(u32::from(!listed || !same_cells)),
-    )
+    let plain = plain_cells(alloc, &twins.plain, b)?;
+    Ok(listed && follow(voxels.as_slice(), plain.as_slice()))
 }
 
 const FIRST: Voxel = Voxel {

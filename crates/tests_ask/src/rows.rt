@@ -1,18 +1,11 @@
+use crate::asks::empty_world;
+use edit_stamp::Stencil;
 use history_model::{Act, Question, Way};
-use node_words::Plan;
 use std::alloc::Global;
 use std::test::Fail;
 use test_worlds::{Drawing, Found, StoredWorld};
 use vox_read::Voxel;
-use vw_cell::{Boxed, Cell, Side};
-
-fn cell(x: u16, y: u16, z: u16) -> Cell {
-    Cell { x, y, z }
-}
-
-fn boxed(at: Cell, size: Cell) -> Boxed {
-    Boxed { at, size }
-}
+use vw_cell::{Boxed, Cell};
 
 const ORIGIN: Cell = Cell { x: 0, y: 0, z: 0 };
 
@@ -32,100 +25,208 @@ const MOST: Boxed = Boxed {
     },
 };
 
-// A world of this side with the cells of some boxes.
-fn filled(alloc: Global, side: u32, boxes: &[Boxed]) -> Result<StoredWorld, Fail> {
-    let side = Side::new(side).ok_or("a side")?;
-    let mut world = StoredWorld::empty(alloc, &Plan::even(side, 16, 16).ok_or("a plan")?)?;
+const FOUR: Boxed = Boxed {
+    at: ORIGIN,
+    size: Cell { x: 4, y: 1, z: 1 },
+};
+
+// The cells of a row at x = 0, 1 and 3, and two others.
+const FIRST: Boxed = Boxed {
+    at: ORIGIN,
+    size: ONE,
+};
+
+const SECOND: Boxed = Boxed {
+    at: Cell { x: 1, y: 0, z: 0 },
+    size: ONE,
+};
+
+const FOURTH: Boxed = Boxed {
+    at: Cell { x: 3, y: 0, z: 0 },
+    size: ONE,
+};
+
+const CORNER: Boxed = Boxed {
+    at: Cell { x: 1, y: 1, z: 0 },
+    size: ONE,
+};
+
+const LAST: Boxed = Boxed {
+    at: Cell { x: 7, y: 7, z: 7 },
+    size: ONE,
+};
+
+const SOME: &[Boxed] = &[FIRST, SECOND, FOURTH];
+
+// A stencil where none is stamped.
+fn any_stencil(alloc: Global) -> Result<Stencil, Fail> {
     let nothing = Drawing {
         size: [1, 1, 1],
-        voxels: vec![in alloc]?,
+        voxels: Vec::new(alloc),
     };
-    let stencil = nothing.stencil(alloc).ok_or("a stencil")?;
+    Ok(nothing.stencil(alloc).ok_or("a stencil")?)
+}
+
+fn fill(world: &mut StoredWorld, boxes: &[Boxed], stencil: &Stencil) -> bool {
     for b in boxes {
-        world.edit(&Act::Fill(*b), &stencil).map_err(|_| "an edit")?;
+        if world.edit(&Act::Fill(*b), stencil).is_err() {
+            return false;
+        }
+    }
+    true
+}
+
+// A world of this side with the cells of some boxes.
+fn filled(alloc: Global, side: u32, boxes: &[Boxed]) -> Result<StoredWorld, Fail> {
+    let stencil = any_stencil(alloc)?;
+    let mut world = empty_world(alloc, side, 16)?;
+    if !fill(&mut world, boxes, &stencil) {
+        return Err(Fail::from("an edit"));
     }
     Ok(world)
 }
 
-fn single(x: u16, y: u16, z: u16) -> Boxed {
-    boxed(Cell { x, y, z }, ONE)
-}
-
-/// A question of a world with the cells of some boxes, and its answer.
-#[derive(Drop)]
-struct Row<'a> {
+// Whether a world of this side with these cells gives this answer, and holds no share then.
+fn has_answer(
+    alloc: Global,
     side: u32,
-    boxes: &'a [Boxed],
-    question: Question,
+    boxes: &[Boxed],
+    question: &Question,
     answer: Found,
+) -> Result<bool, Fail> {
+    let mut world = filled(alloc, side, boxes)?;
+    let found = world.ask(question);
+    Ok(found == Some(answer) && world.held() == 0)
 }
 
-fn make_row<'a>(side: u32, boxes: &'a [Boxed], question: Question, answer: Found) -> Row<'a> {
-    Row {
-        side,
-        boxes,
-        question,
-        answer,
+// Sides, boxes that are set, a box, and how many of its cells are set. The largest world has 4,096
+// cubed cells, and six sides of 4,096 squared.
+const COUNTS: &[(u32, &[Boxed], Boxed, u64)] = &[
+    (8, &[EIGHT], EIGHT, 512),
+    (8, SOME, EIGHT, 3),
+    (4096, &[MOST], MOST, 68_719_476_736),
+];
+
+const FACES: &[(u32, &[Boxed], Boxed, u64)] = &[
+    (8, &[EIGHT], EIGHT, 384),
+    (8, SOME, EIGHT, 16),
+    (4096, &[MOST], MOST, 100_663_296),
+];
+
+const BOUNDS: &[(u32, &[Boxed], Option<Boxed>)] = &[
+    (8, &[EIGHT], Some(EIGHT)),
+    (8, &[], None),
+    (8, SOME, Some(FOUR)),
+    (4096, &[MOST], Some(MOST)),
+];
+
+const CELLS: &[(&[Boxed], Cell, bool)] = &[
+    (&[], ORIGIN, false),
+    (SOME, Cell { x: 2, y: 0, z: 0 }, false),
+    (SOME, Cell { x: 3, y: 0, z: 0 }, true),
+];
+
+#[test]
+fn boxes_have_so_many_cells(rt: HostRuntime) -> Result<(), Fail> {
+    for &(side, boxes, b, number) in COUNTS {
+        let answer = Found::Number(number);
+        let same = has_answer(rt.alloc(), side, boxes, &Question::Count(b), answer)?;
+        assert!(rt; same, "count at side {side}");
     }
+    Ok(())
 }
 
 #[test]
-fn questions_have_these_answers(rt: HostRuntime) -> Result<(), Fail> {
-    let four = boxed(ORIGIN, cell(4, 1, 1));
-    let full = [EIGHT];
-    let some = [single(0, 0, 0), single(1, 0, 0), single(3, 0, 0)];
-    let largest = [MOST];
-    let rows = [
-        make_row(8, &full, Question::Count(EIGHT), Found::Number(512)),
-        make_row(8, &full, Question::Faces(EIGHT), Found::Number(384)),
-        make_row(8, &full, Question::Bounds, Found::Extent(Some(EIGHT))),
-        make_row(8, &[], Question::Bounds, Found::Extent(None)),
-        make_row(8, &[], Question::Get(ORIGIN), Found::Is(false)),
-        make_row(8, &some, Question::Count(EIGHT), Found::Number(3)),
-        make_row(8, &some, Question::Bounds, Found::Extent(Some(four))),
-        make_row(8, &some, Question::Get(cell(2, 0, 0)), Found::Is(false)),
-        make_row(8, &some, Question::Get(cell(3, 0, 0)), Found::Is(true)),
-        make_row(8, &some, Question::Faces(EIGHT), Found::Number(16)),
-        // 4,096 cubed cells, and six sides of 4,096 squared.
-        make_row(
-            4096,
-            &largest,
-            Question::Count(MOST),
-            Found::Number(68_719_476_736),
-        ),
-        make_row(
-            4096,
-            &largest,
-            Question::Faces(MOST),
-            Found::Number(100_663_296),
-        ),
-        make_row(4096, &largest, Question::Bounds, Found::Extent(Some(MOST))),
-    ];
-    for row in &rows {
-        let mut world = filled(rt.alloc(), row.side, row.boxes)?;
-        let found = world.ask(&row.question);
-        assert!(rt; found == Some(row.answer), "{:?}", row.question);
-        assert_eq!(rt; world.held(), 0);
+fn boxes_have_so_many_faces(rt: HostRuntime) -> Result<(), Fail> {
+    for &(side, boxes, b, number) in FACES {
+        let answer = Found::Number(number);
+        let same = has_answer(rt.alloc(), side, boxes, &Question::Faces(b), answer)?;
+        assert!(rt; same, "faces at side {side}");
     }
     Ok(())
+}
+
+#[test]
+fn worlds_have_these_bounds(rt: HostRuntime) -> Result<(), Fail> {
+    for &(side, boxes, bounds) in BOUNDS {
+        let answer = Found::Extent(bounds);
+        let same = has_answer(rt.alloc(), side, boxes, &Question::Bounds, answer)?;
+        assert!(rt; same, "bounds {bounds:?}");
+    }
+    Ok(())
+}
+
+#[test]
+fn cells_are_set_or_not(rt: HostRuntime) -> Result<(), Fail> {
+    for &(boxes, c, is_set) in CELLS {
+        let answer = Found::Is(is_set);
+        let same = has_answer(rt.alloc(), 8, boxes, &Question::Get(c), answer)?;
+        assert!(rt; same, "{c:?}");
+    }
+    Ok(())
+}
+
+const MIDDLES: &[Cell] = &[
+    Cell { x: 3, y: 3, z: 3 },
+    Cell { x: 4, y: 4, z: 4 },
+    Cell { x: 5, y: 6, z: 5 },
+];
+
+// The cell beside this one in one of six directions.
+fn beside(at: Cell, direction: u8) -> Cell {
+    let Cell { x, y, z } = at;
+    match direction {
+        0 => Cell {
+            x: x.wrapping_sub(1),
+            y,
+            z,
+        },
+        1 => Cell {
+            x: x.wrapping_add(1),
+            y,
+            z,
+        },
+        2 => Cell {
+            x,
+            y: y.wrapping_sub(1),
+            z,
+        },
+        3 => Cell {
+            x,
+            y: y.wrapping_add(1),
+            z,
+        },
+        4 => Cell {
+            x,
+            y,
+            z: z.wrapping_sub(1),
+        },
+        _ => Cell {
+            x,
+            y,
+            z: z.wrapping_add(1),
+        },
+    }
+}
+
+fn single(at: Cell) -> Boxed {
+    Boxed { at, size: ONE }
+}
+
+// Whether the cell has five faces beside its neighbour in this direction.
+fn is_covered(alloc: Global, at: Cell, direction: u8) -> Result<bool, Fail> {
+    let middle = single(at);
+    let boxes = [middle, single(beside(at, direction))];
+    has_answer(alloc, 8, &boxes, &Question::Faces(middle), Found::Number(5))
 }
 
 // A cell has a face less where its neighbour on one side is set, in its own leaf or in the next.
 #[test]
 fn neighbours_cover_one_face_each(rt: HostRuntime) -> Result<(), Fail> {
-    for at in [cell(3, 3, 3), cell(4, 4, 4), cell(5, 6, 5)] {
-        let middle = boxed(at, ONE);
-        for beside in [
-            single(at.x.wrapping_sub(1), at.y, at.z),
-            single(at.x.wrapping_add(1), at.y, at.z),
-            single(at.x, at.y.wrapping_sub(1), at.z),
-            single(at.x, at.y.wrapping_add(1), at.z),
-            single(at.x, at.y, at.z.wrapping_sub(1)),
-            single(at.x, at.y, at.z.wrapping_add(1)),
-        ] {
-            let mut world = filled(rt.alloc(), 8, &[middle, beside])?;
-            let found = world.ask(&Question::Faces(middle));
-            assert!(rt; found == Some(Found::Number(5)), "{at:?} {:?}", beside.at);
+    for &at in MIDDLES {
+        for direction in 0..6u8 {
+            let covered = is_covered(rt.alloc(), at, direction)?;
+            assert!(rt; covered, "{at:?} {direction}");
         }
     }
     Ok(())
@@ -140,77 +241,125 @@ struct Shot<'a> {
     hit: Option<Cell>,
 }
 
-fn make_shot<'a>(boxes: &'a [Boxed], from: Cell, steps: [i16; 3], hit: Option<Cell>) -> Shot<'a> {
+const SHOTS: &[Shot<'static>] = &[
+    // It passes from (0, 0, 0) to (1, 1, 1) at one instant.
     Shot {
-        boxes,
-        from,
-        steps,
-        hit,
-    }
+        boxes: &[SECOND],
+        from: ORIGIN,
+        steps: [1, 1, 1],
+        hit: None,
+    },
+    // The cell is touched at one instant alone.
+    Shot {
+        boxes: &[CORNER],
+        from: Cell { x: 0, y: 1, z: 0 },
+        steps: [1, -1, 0],
+        hit: Some(Cell { x: 1, y: 1, z: 0 }),
+    },
+    Shot {
+        boxes: &[FIRST],
+        from: ORIGIN,
+        steps: [-1, 0, 0],
+        hit: Some(ORIGIN),
+    },
+    Shot {
+        boxes: &[FIRST],
+        from: Cell { x: 7, y: 0, z: 0 },
+        steps: [-1024, 0, 0],
+        hit: Some(ORIGIN),
+    },
+    Shot {
+        boxes: &[FIRST],
+        from: Cell { x: 7, y: 0, z: 0 },
+        steps: [1024, 0, 0],
+        hit: None,
+    },
+    Shot {
+        boxes: &[LAST],
+        from: ORIGIN,
+        steps: [1024, 1024, 1024],
+        hit: Some(Cell { x: 7, y: 7, z: 7 }),
+    },
+    Shot {
+        boxes: &[LAST],
+        from: ORIGIN,
+        steps: [1024, 1024, 0],
+        hit: None,
+    },
+];
+
+fn hits(alloc: Global, shot: &Shot<'_>) -> Result<bool, Fail> {
+    let [dx, dy, dz] = shot.steps;
+    let way = Way::new(dx, dy, dz).ok_or("a way")?;
+    let question = Question::Ray(shot.from, way);
+    has_answer(alloc, 8, shot.boxes, &question, Found::Hit(shot.hit))
 }
 
 #[test]
 fn rays_hit_these_cells(rt: HostRuntime) -> Result<(), Fail> {
-    let second = [single(1, 0, 0)];
-    let corner = [single(1, 1, 0)];
-    let first = [single(0, 0, 0)];
-    let far = [single(7, 7, 7)];
-    for shot in [
-        // It passes from (0, 0, 0) to (1, 1, 1) at one instant.
-        make_shot(&second, ORIGIN, [1, 1, 1], None),
-        // The cell is touched at one instant alone.
-        make_shot(&corner, cell(0, 1, 0), [1, -1, 0], Some(cell(1, 1, 0))),
-        make_shot(&first, ORIGIN, [-1, 0, 0], Some(ORIGIN)),
-        make_shot(&first, cell(7, 0, 0), [-1024, 0, 0], Some(ORIGIN)),
-        make_shot(&first, cell(7, 0, 0), [1024, 0, 0], None),
-        make_shot(&far, ORIGIN, [1024, 1024, 1024], Some(cell(7, 7, 7))),
-        make_shot(&far, ORIGIN, [1024, 1024, 0], None),
-    ] {
-        let mut world = filled(rt.alloc(), 8, shot.boxes)?;
-        let [dx, dy, dz] = shot.steps;
-        let way = Way::new(dx, dy, dz).ok_or("a way")?;
-        let found = world.ask(&Question::Ray(shot.from, way));
-        assert!(rt;
-            found == Some(Found::Hit(shot.hit)),
-            "{:?} {:?}",
-            shot.from,
-            shot.steps
-        );
+    for shot in SHOTS {
+        assert!(rt; hits(rt.alloc(), shot)?, "{:?} {:?}", shot.from, shot.steps);
     }
     Ok(())
 }
 
-fn voxel(x: u8, y: u8, z: u8) -> Voxel {
-    Voxel { x, y, z, colour: 1 }
+const LISTED: &[Boxed] = &[
+    Boxed {
+        at: Cell { x: 3, y: 3, z: 3 },
+        size: ONE,
+    },
+    Boxed {
+        at: Cell { x: 3, y: 4, z: 3 },
+        size: ONE,
+    },
+    Boxed {
+        at: Cell { x: 4, y: 3, z: 3 },
+        size: ONE,
+    },
+    Boxed {
+        at: Cell { x: 3, y: 3, z: 4 },
+        size: ONE,
+    },
+];
+
+const PART: Boxed = Boxed {
+    at: Cell { x: 2, y: 3, z: 1 },
+    size: Cell { x: 6, y: 5, z: 7 },
+};
+
+// The places of set cells of a box, by rising z, then y, then x, from the box's corner on.
+const LISTS: &[(Boxed, &[[u8; 3]])] = &[
+    (
+        Boxed {
+            at: Cell { x: 3, y: 3, z: 3 },
+            size: ONE,
+        },
+        &[[0, 0, 0]],
+    ),
+    (FIRST, &[]),
+    (PART, &[[1, 0, 2], [2, 0, 2], [1, 1, 2], [1, 0, 3]]),
+];
+
+fn are_at(voxels: &[Voxel], places: &[[u8; 3]]) -> bool {
+    if voxels.len() != places.len() {
+        return false;
+    }
+    for (voxel, place) in voxels.iter().zip(places) {
+        let &[x, y, z] = place;
+        if *voxel != (Voxel { x, y, z, colour: 1 }) {
+            return false;
+        }
+    }
+    true
 }
 
-// By rising z, then y, then x, from the box's corner on.
 #[test]
 fn cells_are_listed_in_order(rt: HostRuntime) -> Result<(), Fail> {
-    let cells = [
-        single(3, 3, 3),
-        single(3, 4, 3),
-        single(4, 3, 3),
-        single(3, 3, 4),
-    ];
-    let mut world = filled(rt.alloc(), 8, &cells)?;
-    for (b, want) in [
-        (single(3, 3, 3), [voxel(0, 0, 0)].as_slice()),
-        (single(0, 0, 0), [].as_slice()),
-        (
-            boxed(cell(2, 3, 1), cell(6, 5, 7)),
-            [
-                voxel(1, 0, 2),
-                voxel(2, 0, 2),
-                voxel(1, 1, 2),
-                voxel(1, 0, 3),
-            ]
-            .as_slice(),
-        ),
-    ] {
+    let mut world = filled(rt.alloc(), 8, LISTED)?;
+    for &(b, places) in LISTS {
         let mut voxels: Vec<Voxel> = Vec::new(rt.alloc());
-        assert!(rt; world.cells(b, &mut voxels));
-        assert!(rt; voxels.as_slice() == want, "{b:?}");
+        let listed = world.cells(b, &mut voxels);
+        assert!(rt; listed && are_at(voxels.as_slice(), places), "{b:?}");
     }
     Ok(())
 }

@@ -1,4 +1,6 @@
-use crate::asks::{bounds_agree, drawn_twins, ray_agrees, start, touching, way, wrong_of_box};
+use crate::asks::{
+    Twins, bounds_agree, drawn_twins, ray_agrees, start, touching, way, wrong_of_box,
+};
 use std::alloc::Global;
 use std::test::Fail;
 use test_worlds::Draws;
@@ -14,7 +16,7 @@ struct Trial {
     rays: u32,
 }
 
-const TRIALS: [Trial; 9] = [
+const TRIALS: &[Trial] = &[
     Trial {
         side: 4,
         edits: 0,
@@ -83,7 +85,7 @@ const TRIALS: [Trial; 9] = [
 #[test]
 fn random_boxes_are_answered_by_plain_cells(rt: HostRuntime) -> Result<(), Fail> {
     let mut draws = Draws::new(3);
-    for trial in TRIALS {
+    for &trial in TRIALS {
         let wrong = boxes_wrong(rt.alloc(), &mut draws, trial)?;
         assert_eq!(rt; wrong, 0, "side {} edits {}", trial.side, trial.edits);
     }
@@ -93,32 +95,52 @@ fn random_boxes_are_answered_by_plain_cells(rt: HostRuntime) -> Result<(), Fail>
 // How many questions of boxes are answered wrongly in a world.
 fn boxes_wrong(alloc: Global, draws: &mut Draws, trial: Trial) -> Result<u32, Fail> {
     let mut twins = drawn_twins(alloc, draws, trial.side, trial.edits, trial.specks)?;
-    let side = twins.plain.side();
-    let whole = Boxed {
+    let bounds = u32::from(!bounds_agree(&mut twins));
+    let whole = whole(twins.plain.side());
+    let all = wrong_of_box(alloc, &mut twins, whole)?;
+    let parts = parts_wrong(alloc, draws, &mut twins, trial.boxes)?;
+    Ok(bounds.saturating_add(all).saturating_add(parts))
+}
+
+fn whole(side: u16) -> Boxed {
+    Boxed {
         at: Cell { x: 0, y: 0, z: 0 },
         size: Cell {
             x: side,
             y: side,
             z: side,
         },
-    };
-    let mut wrong = wrong_of_box(alloc, &mut twins, whole)?;
-    wrong = wrong.saturating_add(u32::from(!bounds_agree(&mut twins)));
-    for k in 0..trial.boxes {
-        let b = if k % 3 == 0 {
-            touching(draws, side)
-        } else {
-            draws.boxed(side)
-        };
-        wrong = wrong.saturating_add(wrong_of_box(alloc, &mut twins, b)?);
+    }
+}
+
+// The same for so many boxes, of which each third touches sides of the world.
+fn parts_wrong(
+    alloc: Global,
+    draws: &mut Draws,
+    twins: &mut Twins,
+    number: u32,
+) -> Result<u32, Fail> {
+    let side = twins.plain.side();
+    let mut wrong: u32 = 0;
+    for k in 0..number {
+        let b = drawn_box(draws, side, k % 3 == 0);
+        wrong = wrong.saturating_add(wrong_of_box(alloc, twins, b)?);
     }
     Ok(wrong)
+}
+
+fn drawn_box(draws: &mut Draws, side: u16, touches: bool) -> Boxed {
+    if touches {
+        touching(draws, side)
+    } else {
+        draws.boxed(side)
+    }
 }
 
 #[test]
 fn random_rays_hit_the_first_plain_cell(rt: HostRuntime) -> Result<(), Fail> {
     let mut draws = Draws::new(5);
-    for trial in TRIALS {
+    for &trial in TRIALS {
         let wrong = rays_wrong(rt.alloc(), &mut draws, trial)?;
         assert_eq!(rt; wrong, 0, "side {} edits {}", trial.side, trial.edits);
     }
@@ -130,12 +152,15 @@ fn rays_wrong(alloc: Global, draws: &mut Draws, trial: Trial) -> Result<u32, Fai
     let mut twins = drawn_twins(alloc, draws, trial.side, trial.edits, trial.specks)?;
     let mut wrong: u32 = 0;
     for _ in 0..trial.rays {
-        let from = start(draws, &twins.plain);
-        let agrees = match way(draws) {
-            Some(way) => ray_agrees(&mut twins, from, way),
-            None => true,
-        };
-        wrong = wrong.saturating_add(u32::from(!agrees));
+        wrong = wrong.saturating_add(u32::from(!drawn_ray_agrees(draws, &mut twins)));
     }
     Ok(wrong)
+}
+
+fn drawn_ray_agrees(draws: &mut Draws, twins: &mut Twins) -> bool {
+    let from = start(draws, &twins.plain);
+    match way(draws) {
+        Some(way) => ray_agrees(twins, from, way),
+        None => true,
+    }
 }

@@ -32,6 +32,22 @@ pub fn shelf_with(alloc: Global, script: &[u8]) -> Result<MemoryShelf, Fail> {
     Ok(shelf)
 }
 
+/// Whether the file of this name has these bytes.
+pub fn holds(shelf: &MemoryShelf, name: &str, want: &[u8]) -> bool {
+    match shelf.file(name) {
+        Some(found) => found == want,
+        None => false,
+    }
+}
+
+/// Whether the file of this name ends so.
+pub fn holds_last(shelf: &MemoryShelf, name: &str, last: &[u8]) -> bool {
+    match shelf.file(name) {
+        Some(found) => found.ends_with(last),
+        None => false,
+    }
+}
+
 /// Whether the file of this name has this text, or where that is left out, there is no such file.
 pub fn has(shelf: &MemoryShelf, name: &str, want: Option<&str>) -> bool {
     match (shelf.file(name), want) {
@@ -69,6 +85,25 @@ pub fn ask<S: Shelf>(
     let mut out = MemorySink::new(alloc);
     let status = voxdag(alloc, words.as_slice(), shelf, &mut out);
     Ok((status, out))
+}
+
+/// Whether a line of words ends in this status, and the program put this.
+pub fn ends<S: Shelf>(
+    alloc: Global,
+    line: &str,
+    shelf: &mut S,
+    status: u8,
+    printed: &str,
+) -> Result<bool, AllocError> {
+    let (ended, out) = ask(alloc, line, shelf)?;
+    Ok(ended == status && out.bytes() == printed.as_bytes())
+}
+
+/// Whether a line of words is refused so over the script of two changes, and leaves no transcript.
+pub fn is_refused(alloc: Global, line: &str, status: u8, printed: &str) -> Result<bool, Fail> {
+    let mut shelf = shelf_with(alloc, GOOD.as_bytes())?;
+    let ended = ends(alloc, line, &mut shelf, status, printed)?;
+    Ok(ended && has(&shelf, "s.out", None))
 }
 
 /// One call that fails, of this number, and how many bytes go through at it.

@@ -1,6 +1,7 @@
 //! The load of a number, run by the program.
 
-use crate::asking::{ask, has, one_fault};
+use crate::asking::{ends, has, holds_last, one_fault};
+use std::alloc::Global;
 use std::test::Fail;
 use vw_io::{FaultyShelf, MemoryShelf};
 
@@ -8,68 +9,91 @@ use vw_io::{FaultyShelf, MemoryShelf};
 const SEVEN: &str = "demo 7\nrecords 800\nregion 0 count 232434\nregion 1 count 246422\n\
                      region 2 count 239762\nregion 3 count 235497\n";
 
+// The transcripts, and how they end.
+const TRANSCRIPTS: &[(&str, &str)] = &[
+    ("demo.0.out", "\n200 @200 ok\n201 @200 count 232434\n"),
+    ("demo.1.out", "\n200 @400 ok\n201 @400 count 246422\n"),
+    ("demo.2.out", "\n200 @600 ok\n201 @600 count 239762\n"),
+    ("demo.3.out", "\n200 @800 ok\n201 @800 count 235497\n"),
+];
+
+fn has_transcripts(shelf: &MemoryShelf) -> bool {
+    for &(name, last) in TRANSCRIPTS {
+        if !holds_last(shelf, name, last.as_bytes()) {
+            return false;
+        }
+    }
+    has(shelf, "demo.4.out", None)
+}
+
+fn has_journal(shelf: &MemoryShelf) -> bool {
+    match shelf.file("demo.journal") {
+        Some(journal) => journal.starts_with(b"voxdag journal 1\nside 256\n1 0 1 "),
+        None => false,
+    }
+}
+
 #[test]
 fn a_load_is_run(rt: HostRuntime) -> Result<(), Fail> {
     let mut shelf = MemoryShelf::new(rt.alloc());
-    for line in ["demo 7", "demo 000007"] {
-        let (ended, out) = ask(rt.alloc(), line, &mut shelf)?;
-        assert_eq!(rt; ended, 0, "at {line}");
-        assert_eq!(rt; out.bytes(), SEVEN.as_bytes(), "at {line}");
+    for &line in &["demo 7", "demo 000007"] {
+        assert!(rt; ends(rt.alloc(), line, &mut shelf, 0, SEVEN)?, "at {line}");
     }
-    for (name, last) in [
-        ("demo.0.out", "\n200 @200 ok\n201 @200 count 232434\n"),
-        ("demo.1.out", "\n200 @400 ok\n201 @400 count 246422\n"),
-        ("demo.2.out", "\n200 @600 ok\n201 @600 count 239762\n"),
-        ("demo.3.out", "\n200 @800 ok\n201 @800 count 235497\n"),
-    ] {
-        let transcript = shelf.file(name).ok_or("a transcript")?;
-        assert!(rt; transcript.ends_with(last.as_bytes()), "at {name}");
-    }
-    let journal = shelf.file("demo.journal").ok_or("a journal")?;
-    assert!(rt; journal.starts_with(b"voxdag journal 1\nside 256\n1 0 1 "));
-    assert!(rt; has(&shelf, "demo.4.out", None));
+    assert!(rt; has_transcripts(&shelf));
+    assert!(rt; has_journal(&shelf));
     Ok(())
 }
+
+const NO_LOADS: &[&str] = &[
+    "demo",
+    "demo ",
+    "demo x",
+    "demo -7",
+    "demo +7",
+    "demo 7.0",
+    "demo 1234567",
+    "demo 7 8",
+    "demo -- 7",
+    "demo --side 8 7",
+    "demo --help",
+    "Demo 7",
+];
 
 #[test]
 fn a_load_is_told_by_one_number(rt: HostRuntime) -> Result<(), Fail> {
     let mut shelf = MemoryShelf::new(rt.alloc());
-    for &line in &[
-        "demo",
-        "demo ",
-        "demo x",
-        "demo -7",
-        "demo +7",
-        "demo 7.0",
-        "demo 1234567",
-        "demo 7 8",
-        "demo -- 7",
-        "demo --side 8 7",
-        "demo --help",
-        "Demo 7",
-    ] {
-        let (ended, out) = ask(rt.alloc(), line, &mut shelf)?;
-        assert_eq!(rt; ended, 1, "at {line}");
-        assert_eq!(rt; out.bytes(), b"voxdag: usage\n".as_slice(), "at {line}");
-        assert!(rt; has(&shelf, "demo.0.out", None), "at {line}");
+    for &line in NO_LOADS {
+        let refused = ends(rt.alloc(), line, &mut shelf, 1, "voxdag: usage\n")?;
+        assert!(rt; refused && has(&shelf, "demo.0.out", None), "at {line}");
     }
     Ok(())
 }
 
+// The call that fails, the line, and the file that then has two bytes.
+const FAILING: &[(u32, &str, &str)] = &[
+    (1, "voxdag: write fault demo.0.out\n", "demo.0.out"),
+    (3, "voxdag: write fault demo.2.out\n", "demo.2.out"),
+    (5, "voxdag: write fault demo.journal\n", "demo.journal"),
+];
+
+fn is_cut(alloc: Global, call: u32, printed: &str, last: &str) -> Result<bool, Fail> {
+    let inner = MemoryShelf::new(alloc);
+    let mut shelf = FaultyShelf::new(inner, one_fault(alloc, call, 2)?);
+    let ended = ends(alloc, "demo 0", &mut shelf, 6, printed)?;
+    Ok(ended && length_of(shelf.files(), last) == Some(2))
+}
+
+fn length_of(shelf: &MemoryShelf, name: &str) -> Option<usize> {
+    match shelf.file(name) {
+        Some(found) => Some(found.len()),
+        None => None,
+    }
+}
+
 #[test]
 fn each_output_of_a_load_can_fail(rt: HostRuntime) -> Result<(), Fail> {
-    for (call, printed, last) in [
-        (1, "voxdag: write fault demo.0.out\n", "demo.0.out"),
-        (3, "voxdag: write fault demo.2.out\n", "demo.2.out"),
-        (5, "voxdag: write fault demo.journal\n", "demo.journal"),
-    ] {
-        let inner = MemoryShelf::new(rt.alloc());
-        let mut shelf = FaultyShelf::new(inner, one_fault(rt.alloc(), call, 2)?);
-        let (ended, out) = ask(rt.alloc(), "demo 0", &mut shelf)?;
-        assert_eq!(rt; ended, 6, "at {last}");
-        assert_eq!(rt; out.bytes(), printed.as_bytes(), "at {last}");
-        let found = shelf.files().file(last).ok_or("a beginning")?;
-        assert_eq!(rt; found.len(), 2, "at {last}");
+    for &(call, printed, last) in FAILING {
+        assert!(rt; is_cut(rt.alloc(), call, printed, last)?, "at {last}");
     }
     Ok(())
 }

@@ -1,10 +1,11 @@
 use crate::asking::{
-    ANSWERS, GOOD, JOURNAL, ONE, REPORT, TWO, ask, has, one_fault, repeated, shelf_with, words_of,
+    ANSWERS, GOOD, JOURNAL, ONE, REPORT, TWO, ask, ends, has, holds, holds_last, is_refused,
+    one_fault, repeated, shelf_with, words_of,
 };
 use std::alloc::Global;
 use std::test::Fail;
 use voxdag_top::voxdag;
-use vw_io::{FaultyShelf, FaultySink, MemoryShelf, Shelf};
+use vw_io::{FaultyShelf, FaultySink, Shelf};
 
 // Of a script with these changes in the lines 4 and 5.
 const LATER_JOURNAL: &str =
@@ -25,17 +26,24 @@ const NONE: &str = "scripts 1 records 0 marks 0 nodes 0\n";
 // One cell in a world of side 8.
 const SINGLE: &str = "scripts 1 records 1 marks 0 nodes 2\n";
 
-// Whether the file of this name is the one of one cell.
-fn has_one(shelf: &MemoryShelf, name: &str) -> bool {
-    match shelf.file(name) {
-        Some(found) => found == ONE.as_slice(),
-        None => false,
-    }
+// Whether a script that is run alone has this line, transcript and journal, and its inputs stay.
+fn is_run(
+    alloc: Global,
+    script: &str,
+    printed: &str,
+    transcript: &str,
+    journal: &str,
+) -> Result<bool, Fail> {
+    let mut shelf = shelf_with(alloc, script.as_bytes())?;
+    let line = "run --side 8 --journal j one.vox s";
+    let ended = ends(alloc, line, &mut shelf, 0, printed)?;
+    let written = has(&shelf, "s.out", Some(transcript)) && has(&shelf, "j", Some(journal));
+    Ok(ended && written && has(&shelf, "s", Some(script)) && holds(&shelf, "one.vox", &ONE))
 }
 
 #[test]
 fn scripts_have_their_outputs(rt: HostRuntime) -> Result<(), Fail> {
-    for (script, printed, transcript, journal) in [
+    for &(script, printed, transcript, journal) in &[
         (GOOD, TWO, ANSWERS, JOURNAL),
         (STAMP, SINGLE, STAMPED, STAMP_JOURNAL),
         (
@@ -48,15 +56,8 @@ fn scripts_have_their_outputs(rt: HostRuntime) -> Result<(), Fail> {
         ("\n\r", NONE, "", EMPTY_JOURNAL),
         ("", NONE, "", EMPTY_JOURNAL),
     ] {
-        let mut shelf = shelf_with(rt.alloc(), script.as_bytes())?;
-        let line = "run --side 8 --journal j one.vox s";
-        let (ended, out) = ask(rt.alloc(), line, &mut shelf)?;
-        assert_eq!(rt; ended, 0, "at {script}");
-        assert_eq!(rt; out.bytes(), printed.as_bytes(), "at {script}");
-        assert!(rt; has(&shelf, "s.out", Some(transcript)), "at {script}");
-        assert!(rt; has(&shelf, "j", Some(journal)), "at {script}");
-        assert!(rt; has(&shelf, "s", Some(script)), "at {script}");
-        assert!(rt; has_one(&shelf, "one.vox"), "at {script}");
+        let run = is_run(rt.alloc(), script, printed, transcript, journal)?;
+        assert!(rt; run, "at {script}");
     }
     Ok(())
 }
@@ -72,30 +73,40 @@ XYZI\x0c\0\0\0\0\0\0\0\x02\0\0\0",
     Ok(file)
 }
 
+const STAMPS: &str = "stamp 0 6 7 7\ncount 0 0 0 8 8 8\ncount 7 7 7 1 1 1\nfill 0 0 0 2 1 1\n\
+     stamp 0 0 0 0\ncount 0 0 0 2 1 1\n";
+
+// Whether a stamp of such a model sets so many cells.
+fn sets(alloc: Global, first: u8, last: u8, cells: u32) -> Result<bool, Fail> {
+    let mut shelf = shelf_with(alloc, STAMPS.as_bytes())?;
+    shelf.write("two.vox", two_voxels(alloc, first, last)?.as_slice())?;
+    let (ended, _) = ask(alloc, "run --side 8 two.vox s", &mut shelf)?;
+    let want = format!(in alloc;
+        "1 @1 ok\n2 @1 count {cells}\n3 @1 count {cells}\n4 @2 ok\n5 @3 ok\n6 @3 count 2\n"
+    )?;
+    Ok(ended == 0 && has(&shelf, "s.out", Some(want.as_str())))
+}
+
 #[test]
 fn stamps_set_the_cells_of_a_model(rt: HostRuntime) -> Result<(), Fail> {
-    let script = "stamp 0 6 7 7\ncount 0 0 0 8 8 8\ncount 7 7 7 1 1 1\nfill 0 0 0 2 1 1\n\
-                  stamp 0 0 0 0\ncount 0 0 0 2 1 1\n";
-    for (first, last, cells) in [(5, 6, 1), (5, 0, 0), (0, 5, 1)] {
-        let mut shelf = shelf_with(rt.alloc(), script.as_bytes())?;
-        let file = two_voxels(rt.alloc(), first, last)?;
-        shelf.write("two.vox", file.as_slice())?;
-        let (ended, _) = ask(rt.alloc(), "run --side 8 two.vox s", &mut shelf)?;
-        assert_eq!(rt; ended, 0);
-        let want = format!(in rt.alloc();
-            "1 @1 ok\n2 @1 count {cells}\n3 @1 count {cells}\n4 @2 ok\n5 @3 ok\n6 @3 count 2\n"
-        )?;
-        assert!(rt;
-            has(&shelf, "s.out", Some(want.as_str())),
-            "colours {first} and {last}"
-        );
+    for &(first, last, cells) in &[(5, 6, 1), (5, 0, 0), (0, 5, 1)] {
+        let set = sets(rt.alloc(), first, last, cells)?;
+        assert!(rt; set, "colours {first} and {last}");
     }
     Ok(())
 }
 
+fn writes_nothing(alloc: Global, script: &str, printed: &str) -> Result<bool, Fail> {
+    let mut shelf = shelf_with(alloc, script.as_bytes())?;
+    let line = "run --side 8 --journal j --report p one.vox s";
+    let ended = ends(alloc, line, &mut shelf, 5, printed)?;
+    let nothing = has(&shelf, "s.out", None) && has(&shelf, "j", None) && has(&shelf, "p", None);
+    Ok(ended && nothing)
+}
+
 #[test]
 fn refused_scripts_write_nothing(rt: HostRuntime) -> Result<(), Fail> {
-    for (script, printed) in [
+    for &(script, printed) in &[
         ("fill 0 0 0 0 1 1\n", "voxdag: script 0 1 3\n"),
         ("fill 0 0 0 1 1 1\npaint\n", "voxdag: script 0 2 1\n"),
         ("paint 0 0 0 1 1 1\n", "voxdag: script 0 1 1\n"),
@@ -105,30 +116,20 @@ fn refused_scripts_write_nothing(rt: HostRuntime) -> Result<(), Fail> {
         ("try fill 0 0 0 1 1 1\n", "voxdag: script 0 1 1\n"),
         ("fill 255 255 255 1 1 1\n", "voxdag: script 0 1 3\n"),
     ] {
-        let mut shelf = shelf_with(rt.alloc(), script.as_bytes())?;
-        let line = "run --side 8 --journal j --report p one.vox s";
-        let (ended, out) = ask(rt.alloc(), line, &mut shelf)?;
-        assert_eq!(rt; ended, 5, "at {script}");
-        assert_eq!(rt; out.bytes(), printed.as_bytes(), "at {script}");
-        assert!(rt; has(&shelf, "s.out", None), "at {script}");
-        assert!(rt; has(&shelf, "j", None), "at {script}");
-        assert!(rt; has(&shelf, "p", None), "at {script}");
+        let nothing = writes_nothing(rt.alloc(), script, printed)?;
+        assert!(rt; nothing, "at {script}");
     }
     Ok(())
 }
 
 #[test]
 fn inputs_must_be_there(rt: HostRuntime) -> Result<(), Fail> {
-    for (line, printed) in [
+    for &(line, printed) in &[
         ("run one.vox s t", "voxdag: missing t\n"),
         ("run no.vox no", "voxdag: missing no.vox\n"),
         ("run one.vox no", "voxdag: missing no\n"),
     ] {
-        let mut shelf = shelf_with(rt.alloc(), GOOD.as_bytes())?;
-        let (ended, out) = ask(rt.alloc(), line, &mut shelf)?;
-        assert_eq!(rt; ended, 2, "at {line}");
-        assert_eq!(rt; out.bytes(), printed.as_bytes(), "at {line}");
-        assert!(rt; has(&shelf, "s.out", None), "at {line}");
+        assert!(rt; is_refused(rt.alloc(), line, 2, printed)?, "at {line}");
     }
     Ok(())
 }
@@ -140,58 +141,78 @@ const BOTH_JOURNAL: &str =
     "voxdag journal 1\nside 8\n1 0 1 fill 0 0 0 2 1 1\n2 0 2 erase 1 0 0 1 1 1\n\
      3 1 1 stamp 0 7 7 7\nend\n";
 
+// What comes of a second script behind the two changes: the status, the line, both transcripts and
+// the journal.
+type Both = (
+    u8,
+    &'static str,
+    Option<&'static str>,
+    Option<&'static str>,
+    Option<&'static str>,
+);
+
+const BOTH_RUN: Both = (
+    0,
+    "scripts 2 records 3 marks 0 nodes 6\n",
+    Some(ANSWERS),
+    Some(SECOND),
+    Some(BOTH_JOURNAL),
+);
+
+const NONE_RUNS: Both = (5, "voxdag: script 1 2 1\n", None, None, None);
+
+fn is_second(alloc: Global, script: &str, both: &Both) -> Result<bool, Fail> {
+    let &(status, printed, first, second, journal) = both;
+    let mut shelf = shelf_with(alloc, GOOD.as_bytes())?;
+    shelf.write("t", script.as_bytes())?;
+    let line = "run --side 8 --journal j one.vox s t";
+    let ended = ends(alloc, line, &mut shelf, status, printed)?;
+    let written = has(&shelf, "s.out", first) && has(&shelf, "t.out", second);
+    Ok(ended && written && has(&shelf, "j", journal))
+}
+
 #[test]
 fn scripts_run_one_after_another(rt: HostRuntime) -> Result<(), Fail> {
-    let second = Some(SECOND);
-    let both = Some(BOTH_JOURNAL);
-    for (script, status, printed, first, other, journal) in [
-        (
-            STAMP,
-            0,
-            "scripts 2 records 3 marks 0 nodes 6\n",
-            Some(ANSWERS),
-            second,
-            both,
-        ),
-        ("\npaint\n", 5, "voxdag: script 1 2 1\n", None, None, None),
-    ] {
-        let mut shelf = shelf_with(rt.alloc(), GOOD.as_bytes())?;
-        shelf.write("t", script.as_bytes())?;
-        let line = "run --side 8 --journal j one.vox s t";
-        let (ended, out) = ask(rt.alloc(), line, &mut shelf)?;
-        assert_eq!(rt; ended, status, "at {script}");
-        assert_eq!(rt; out.bytes(), printed.as_bytes(), "at {script}");
-        assert!(rt; has(&shelf, "s.out", first), "at {script}");
-        assert!(rt; has(&shelf, "t.out", other), "at {script}");
-        assert!(rt; has(&shelf, "j", journal), "at {script}");
-    }
+    assert!(rt; is_second(rt.alloc(), STAMP, &BOTH_RUN)?);
+    assert!(rt; is_second(rt.alloc(), "\npaint\n", &NONE_RUNS)?);
     Ok(())
+}
+
+// Whether these of three scripts, of which two have a fault, are refused so.
+fn is_first(alloc: Global, scripts: &str, printed: &str) -> Result<bool, Fail> {
+    let mut shelf = shelf_with(alloc, b"fill 0 0 0 0 1 1\n")?;
+    shelf.write("t", b"head\npaint\n")?;
+    shelf.write("u", GOOD.as_bytes())?;
+    shelf.write("u.out", b"kept")?;
+    let line = format!(in alloc; "run --side 8 one.vox {scripts}")?;
+    let ended = ends(alloc, line.as_str(), &mut shelf, 5, printed)?;
+    Ok(ended && has(&shelf, "u.out", Some("kept")))
 }
 
 #[test]
 fn the_first_script_with_a_fault_decides(rt: HostRuntime) -> Result<(), Fail> {
-    for (scripts, printed) in [
+    for &(scripts, printed) in &[
         ("s t u", "voxdag: script 0 1 3\n"),
         ("t s u", "voxdag: script 0 2 1\n"),
         ("u s t", "voxdag: script 1 1 3\n"),
         ("u u t", "voxdag: script 2 2 1\n"),
     ] {
-        let mut shelf = shelf_with(rt.alloc(), b"fill 0 0 0 0 1 1\n")?;
-        shelf.write("t", b"head\npaint\n")?;
-        shelf.write("u", GOOD.as_bytes())?;
-        shelf.write("u.out", b"kept")?;
-        let line = format!(in rt.alloc(); "run --side 8 one.vox {scripts}")?;
-        let (ended, out) = ask(rt.alloc(), line.as_str(), &mut shelf)?;
-        assert_eq!(rt; ended, 5, "at {scripts}");
-        assert_eq!(rt; out.bytes(), printed.as_bytes(), "at {scripts}");
-        assert!(rt; has(&shelf, "u.out", Some("kept")), "at {scripts}");
+        assert!(rt; is_first(rt.alloc(), scripts, printed)?, "at {scripts}");
     }
     Ok(())
 }
 
+fn leaves_all(alloc: Global, line: &str) -> Result<bool, Fail> {
+    let mut shelf = shelf_with(alloc, GOOD.as_bytes())?;
+    shelf.write("s.out", &ONE)?;
+    let ended = ends(alloc, line, &mut shelf, 1, USAGE)?;
+    let same = holds(&shelf, "one.vox", &ONE) && holds(&shelf, "s.out", &ONE);
+    Ok(ended && same && has(&shelf, "s", Some(GOOD)))
+}
+
 #[test]
 fn outputs_take_no_other_name(rt: HostRuntime) -> Result<(), Fail> {
-    for line in [
+    for &line in &[
         "run --side 8 --journal s one.vox s",
         "run --side 8 --journal one.vox one.vox s",
         "run --side 8 --journal s.out one.vox s",
@@ -201,14 +222,7 @@ fn outputs_take_no_other_name(rt: HostRuntime) -> Result<(), Fail> {
         "run --side 8 --journal j --report j one.vox s",
         "run --side 8 s.out s",
     ] {
-        let mut shelf = shelf_with(rt.alloc(), GOOD.as_bytes())?;
-        shelf.write("s.out", &ONE)?;
-        let (ended, out) = ask(rt.alloc(), line, &mut shelf)?;
-        assert_eq!(rt; ended, 1, "at {line}");
-        assert_eq!(rt; out.bytes(), USAGE.as_bytes(), "at {line}");
-        assert!(rt; has_one(&shelf, "one.vox"), "at {line}");
-        assert!(rt; has(&shelf, "s", Some(GOOD)), "at {line}");
-        assert!(rt; has_one(&shelf, "s.out"), "at {line}");
+        assert!(rt; leaves_all(rt.alloc(), line)?, "at {line}");
     }
     Ok(())
 }
@@ -217,75 +231,90 @@ fn outputs_take_no_other_name(rt: HostRuntime) -> Result<(), Fail> {
 fn runs_have_65535_records(rt: HostRuntime) -> Result<(), Fail> {
     let script = repeated(rt.alloc(), "fill 0 0 0 1 1 1\n", 65_536)?;
     let mut shelf = shelf_with(rt.alloc(), script.as_slice())?;
-    let (ended, out) = ask(rt.alloc(), "run --side 8 one.vox s", &mut shelf)?;
-    assert_eq!(rt; ended, 0);
-    let printed = b"scripts 1 records 65535 marks 0 nodes 2\n";
-    assert_eq!(rt; out.bytes(), printed.as_slice());
-    let transcript = shelf.file("s.out").ok_or("a transcript")?;
-    assert!(rt; transcript.ends_with(b"\n65535 @65535 ok\n65536 @65535 log full\n"));
+    let printed = "scripts 1 records 65535 marks 0 nodes 2\n";
+    assert!(rt; ends(rt.alloc(), "run --side 8 one.vox s", &mut shelf, 0, printed)?);
+    let last = b"\n65535 @65535 ok\n65536 @65535 log full\n";
+    assert!(rt; holds_last(&shelf, "s.out", last));
     Ok(())
+}
+
+// Whether a script of so many empty lines ends so, and has a transcript where it is run.
+fn is_run_or_refused(alloc: Global, lines: u32, status: u8, printed: &str) -> Result<bool, Fail> {
+    let script = repeated(alloc, "\n", lines)?;
+    let mut shelf = shelf_with(alloc, script.as_slice())?;
+    let ended = ends(alloc, "run --side 8 one.vox s", &mut shelf, status, printed)?;
+    Ok(ended && shelf.file("s.out").is_some() == (status == 0))
 }
 
 #[test]
 fn long_scripts_are_refused(rt: HostRuntime) -> Result<(), Fail> {
-    for (lines, status, printed) in [
+    for &(lines, status, printed) in &[
         (100_000, 0, NONE),
         (100_001, 5, "voxdag: script 0 100001 7\n"),
         (8_388_608, 5, "voxdag: script 0 100001 7\n"),
         (8_388_609, 9, "voxdag: too long s\n"),
     ] {
-        let script = repeated(rt.alloc(), "\n", lines)?;
-        let mut shelf = shelf_with(rt.alloc(), script.as_slice())?;
-        let (ended, out) = ask(rt.alloc(), "run --side 8 one.vox s", &mut shelf)?;
-        assert_eq!(rt; ended, status, "at {lines}");
-        assert_eq!(rt; out.bytes(), printed.as_bytes(), "at {lines}");
-        assert_eq!(rt; shelf.file("s.out").is_some(), status == 0, "at {lines}");
+        let ended = is_run_or_refused(rt.alloc(), lines, status, printed)?;
+        assert!(rt; ended, "at {lines}");
     }
     Ok(())
 }
 
 // The call that fails at its fifth byte, the status, the line, and what the three outputs then have.
-type Failing = (u32, u8, &'static str, [Option<&'static str>; 3]);
+type Failing = (
+    u32,
+    u8,
+    &'static str,
+    Option<&'static str>,
+    Option<&'static str>,
+    Option<&'static str>,
+);
 
-fn failing() -> [Failing; 6] {
-    let (first, second) = (Some(ANSWERS), Some(JOURNAL));
-    [
-        (1, 3, "voxdag: read fault one.vox\n", [None; 3]),
-        (2, 3, "voxdag: read fault s\n", [None; 3]),
-        (
-            3,
-            6,
-            "voxdag: write fault s.out\n",
-            [Some("1 @1 "), None, None],
-        ),
-        (
-            4,
-            6,
-            "voxdag: write fault j\n",
-            [first, Some("voxda"), None],
-        ),
-        (
-            5,
-            6,
-            "voxdag: write fault p\n",
-            [first, second, Some("voxda")],
-        ),
-        (6, 0, TWO, [first, second, Some(REPORT)]),
-    ]
+const FAILING: &[Failing] = &[
+    (1, 3, "voxdag: read fault one.vox\n", None, None, None),
+    (2, 3, "voxdag: read fault s\n", None, None, None),
+    (
+        3,
+        6,
+        "voxdag: write fault s.out\n",
+        Some("1 @1 "),
+        None,
+        None,
+    ),
+    (
+        4,
+        6,
+        "voxdag: write fault j\n",
+        Some(ANSWERS),
+        Some("voxda"),
+        None,
+    ),
+    (
+        5,
+        6,
+        "voxdag: write fault p\n",
+        Some(ANSWERS),
+        Some(JOURNAL),
+        Some("voxda"),
+    ),
+    (6, 0, TWO, Some(ANSWERS), Some(JOURNAL), Some(REPORT)),
+];
+
+fn fails(alloc: Global, failing: &Failing) -> Result<bool, Fail> {
+    let &(call, status, printed, transcript, journal, report) = failing;
+    let inner = shelf_with(alloc, GOOD.as_bytes())?;
+    let mut shelf = FaultyShelf::new(inner, one_fault(alloc, call, 5)?);
+    let line = "run --side 8 --journal j --report p one.vox s";
+    let ended = ends(alloc, line, &mut shelf, status, printed)?;
+    let files = shelf.files();
+    let left = has(files, "s.out", transcript) && has(files, "j", journal);
+    Ok(ended && left && has(files, "p", report))
 }
 
 #[test]
 fn each_call_can_fail(rt: HostRuntime) -> Result<(), Fail> {
-    for (call, status, printed, [transcript, journal, report]) in failing() {
-        let inner = shelf_with(rt.alloc(), GOOD.as_bytes())?;
-        let mut shelf = FaultyShelf::new(inner, one_fault(rt.alloc(), call, 5)?);
-        let line = "run --side 8 --journal j --report p one.vox s";
-        let (ended, out) = ask(rt.alloc(), line, &mut shelf)?;
-        assert_eq!(rt; ended, status, "at {printed}");
-        assert_eq!(rt; out.bytes(), printed.as_bytes());
-        assert!(rt; has(shelf.files(), "s.out", transcript), "at {printed}");
-        assert!(rt; has(shelf.files(), "j", journal), "at {printed}");
-        assert!(rt; has(shelf.files(), "p", report), "at {printed}");
+    for failing in FAILING {
+        assert!(rt; fails(rt.alloc(), failing)?, "at call {}", failing.0);
     }
     Ok(())
 }

@@ -1,13 +1,14 @@
 //! Versions of a world: undone, redone, forgotten, asked again, and told by the report.
 
-use crate::asking::{ask, has, repeated, shelf_with};
+use crate::asking::{ask, ends, has, holds_last, shelf_with};
+use std::alloc::{AllocError, Global};
 use std::test::Fail;
 use vw_io::Shelf;
 
 // The options of a run, its script, its transcript, and the line that it puts.
 type Row = (&'static str, &'static str, &'static str, &'static str);
 
-const EDITS: [Row; 7] = [
+const EDITS: &[Row] = &[
     (
         "--side 8",
         "fill 0 0 0 1 1 1\nfill 2 0 0 1 1 1\ncopy 0 0 0 4 1 1 to 1 0 0\ncount 0 0 0 8 8 8\n\
@@ -58,15 +59,18 @@ const EDITS: [Row; 7] = [
     ),
 ];
 
+fn is_answered(alloc: Global, row: &Row) -> Result<bool, Fail> {
+    let &(options, script, transcript, printed) = row;
+    let mut shelf = shelf_with(alloc, script.as_bytes())?;
+    let line = format!(in alloc; "run {options} one.vox s")?;
+    let ended = ends(alloc, line.as_str(), &mut shelf, 0, printed)?;
+    Ok(ended && has(&shelf, "s.out", Some(transcript)))
+}
+
 #[test]
 fn commands_have_their_answers(rt: HostRuntime) -> Result<(), Fail> {
-    for (options, script, transcript, printed) in EDITS {
-        let mut shelf = shelf_with(rt.alloc(), script.as_bytes())?;
-        let line = format!(in rt.alloc(); "run {options} one.vox s")?;
-        let (ended, out) = ask(rt.alloc(), line.as_str(), &mut shelf)?;
-        assert_eq!(rt; ended, 0, "at {script}");
-        assert_eq!(rt; out.bytes(), printed.as_bytes(), "at {script}");
-        assert!(rt; has(&shelf, "s.out", Some(transcript)), "at {script}");
+    for row in EDITS {
+        assert!(rt; is_answered(rt.alloc(), row)?, "at {}", row.1);
     }
     Ok(())
 }
@@ -87,7 +91,7 @@ fn undos_stand_in_the_journal(rt: HostRuntime) -> Result<(), Fail> {
 }
 
 // The options of a run, its script, its transcript, and what its report says behind the first line.
-const REPORTS: [Row; 5] = [
+const REPORTS: &[Row] = &[
     (
         "--side 8",
         "fill 0 0 0 1 1 1\nerase 0 0 0 1 1 1\nforget 0\nforget 1\n",
@@ -126,38 +130,47 @@ const REPORTS: [Row; 5] = [
     ),
 ];
 
+fn is_reported(alloc: Global, row: &Row) -> Result<bool, Fail> {
+    let &(options, script, transcript, report) = row;
+    let mut shelf = shelf_with(alloc, script.as_bytes())?;
+    let line = format!(in alloc; "run {options} --report p one.vox s")?;
+    let (ended, _) = ask(alloc, line.as_str(), &mut shelf)?;
+    let want = format!(in alloc; "voxdag report 1\n{report}")?;
+    let told = has(&shelf, "s.out", Some(transcript)) && has(&shelf, "p", Some(want.as_str()));
+    Ok(ended == 0 && told)
+}
+
 #[test]
 fn reports_tell_the_versions_that_are_kept(rt: HostRuntime) -> Result<(), Fail> {
-    for (options, script, transcript, report) in REPORTS {
-        let mut shelf = shelf_with(rt.alloc(), script.as_bytes())?;
-        let line = format!(in rt.alloc(); "run {options} --report p one.vox s")?;
-        let (ended, _) = ask(rt.alloc(), line.as_str(), &mut shelf)?;
-        assert_eq!(rt; ended, 0, "at {script}");
-        assert!(rt; has(&shelf, "s.out", Some(transcript)), "at {script}");
-        let want = format!(in rt.alloc(); "voxdag report 1\n{report}")?;
-        assert!(rt; has(&shelf, "p", Some(want.as_str())), "at {script}");
+    for row in REPORTS {
+        assert!(rt; is_reported(rt.alloc(), row)?, "at {}", row.1);
     }
     Ok(())
 }
 
-#[test]
-fn equal_nodes_of_all_versions_are_one(rt: HostRuntime) -> Result<(), Fail> {
-    let mut script = repeated(rt.alloc(), "", 0)?;
+// A hundred cells of a row, one after another.
+fn row_of_cells(alloc: Global) -> Result<Vec<u8>, AllocError> {
+    let mut script = Vec::new(alloc);
     for i in 0..100u32 {
-        let line = format!(in rt.alloc(); "fill {i} 0 0 1 1 1\n")?;
+        let line = format!(in alloc; "fill {i} 0 0 1 1 1\n")?;
         script.extend_from_slice(line.as_bytes())?;
     }
+    Ok(script)
+}
+
+// How the report of two such scripts ends.
+const LEVELS: &str = "\nversion 200 root 100\nlevel 0 nodes 4\nlevel 1 nodes 8\nlevel 2 nodes 16\n\
+     level 3 nodes 32\nlevel 4 nodes 64\nlevel 5 nodes 100\nlevel 6 nodes 100\n";
+
+#[test]
+fn equal_nodes_of_all_versions_are_one(rt: HostRuntime) -> Result<(), Fail> {
+    let script = row_of_cells(rt.alloc())?;
     let mut shelf = shelf_with(rt.alloc(), script.as_slice())?;
     shelf.write("t", script.as_slice())?;
-    let (ended, out) = ask(rt.alloc(), "run --report p one.vox s t", &mut shelf)?;
-    assert_eq!(rt; ended, 0);
-    let printed = b"scripts 2 records 200 marks 0 nodes 324\n";
-    assert_eq!(rt; out.bytes(), printed.as_slice());
-    let report = shelf.file("p").ok_or("a report")?;
-    let levels = b"\nversion 200 root 100\nlevel 0 nodes 4\nlevel 1 nodes 8\nlevel 2 nodes 16\n\
-level 3 nodes 32\nlevel 4 nodes 64\nlevel 5 nodes 100\nlevel 6 nodes 100\n";
-    assert!(rt; report.ends_with(levels.as_slice()));
-    let transcript = shelf.file("t.out").ok_or("a transcript")?;
-    assert!(rt; transcript.ends_with(b"\n100 @200 ok\n"));
+    let printed = "scripts 2 records 200 marks 0 nodes 324\n";
+    let line = "run --report p one.vox s t";
+    assert!(rt; ends(rt.alloc(), line, &mut shelf, 0, printed)?);
+    assert!(rt; holds_last(&shelf, "p", LEVELS.as_bytes()));
+    assert!(rt; holds_last(&shelf, "t.out", b"\n100 @200 ok\n"));
     Ok(())
 }

@@ -1,6 +1,6 @@
 //! The words that the program takes, and those that it refuses.
 
-use crate::asking::{ANSWERS, GOOD, TWO, ask, has, shelf_with};
+use crate::asking::{ANSWERS, GOOD, TWO, ask, ends, has, is_refused, shelf_with};
 use std::alloc::Global;
 use std::test::Fail;
 
@@ -48,47 +48,82 @@ const AT_256: &[&str] = &[
     "run one.vox --cap 128 s",
 ];
 
-fn is_taken(alloc: Global, line: &str, script: &str, told: (&str, &str)) -> Result<bool, Fail> {
+// Words, their script, and what the program then puts and answers.
+const SIDES: &[(&str, &str, &str, &str)] = &[
+    (
+        "run --side 4 one.vox s",
+        "",
+        "scripts 1 records 0 marks 0 nodes 0\n",
+        "",
+    ),
+    (
+        "run --side 512 one.vox s",
+        GOOD,
+        "scripts 1 records 2 marks 0 nodes 16\n",
+        ANSWERS,
+    ),
+];
+
+fn is_taken(
+    alloc: Global,
+    line: &str,
+    script: &str,
+    printed: &str,
+    transcript: &str,
+) -> Result<bool, Fail> {
     let mut shelf = shelf_with(alloc, script.as_bytes())?;
-    let (ended, out) = ask(alloc, line, &mut shelf)?;
-    let (printed, transcript) = told;
-    Ok(ended == 0 && out.bytes() == printed.as_bytes() && has(&shelf, "s.out", Some(transcript)))
+    let ended = ends(alloc, line, &mut shelf, 0, printed)?;
+    Ok(ended && has(&shelf, "s.out", Some(transcript)))
 }
 
 #[test]
 fn options_stand_anywhere(rt: HostRuntime) -> Result<(), Fail> {
     for &line in AT_8 {
-        let taken = is_taken(rt.alloc(), line, GOOD, (TWO, ANSWERS))?;
+        let taken = is_taken(rt.alloc(), line, GOOD, TWO, ANSWERS)?;
         assert!(rt; taken, "at {line}");
     }
-    for &line in AT_256 {
-        let taken = is_taken(rt.alloc(), line, WHOLE, (DEEP, COUNTED))?;
-        assert!(rt; taken, "at {line}");
-    }
-    let none = ("scripts 1 records 0 marks 0 nodes 0\n", "");
-    let least = is_taken(rt.alloc(), "run --side 4 one.vox s", "", none)?;
-    assert!(rt; least);
-    let sixteen = ("scripts 1 records 2 marks 0 nodes 16\n", ANSWERS);
-    let great = is_taken(rt.alloc(), "run --side 512 one.vox s", GOOD, sixteen)?;
-    assert!(rt; great);
     Ok(())
 }
 
 #[test]
+fn the_side_is_256_where_it_is_left_out(rt: HostRuntime) -> Result<(), Fail> {
+    for &line in AT_256 {
+        let taken = is_taken(rt.alloc(), line, WHOLE, DEEP, COUNTED)?;
+        assert!(rt; taken, "at {line}");
+    }
+    Ok(())
+}
+
+#[test]
+fn other_sides_are_taken(rt: HostRuntime) -> Result<(), Fail> {
+    for &(line, script, printed, transcript) in SIDES {
+        let taken = is_taken(rt.alloc(), line, script, printed, transcript)?;
+        assert!(rt; taken, "at {line}");
+    }
+    Ok(())
+}
+
+// Words, and the name of the journal that they leave.
+const VALUES: &[(&str, &str)] = &[
+    ("run --journal=-j one.vox s", "-j"),
+    ("run one.vox --journal=--side=4 s", "--side=4"),
+    ("run --journal == one.vox s", "=="),
+    ("run --journal=== one.vox s", "=="),
+    ("run --journal=a=b one.vox s", "a=b"),
+    ("run --journal side one.vox s", "side"),
+    ("run one.vox --journal run s", "run"),
+];
+
+fn leaves(alloc: Global, line: &str, name: &str) -> Result<bool, Fail> {
+    let mut shelf = shelf_with(alloc, GOOD.as_bytes())?;
+    let (ended, _) = ask(alloc, line, &mut shelf)?;
+    Ok(ended == 0 && shelf.file(name).is_some())
+}
+
+#[test]
 fn values_are_the_texts_that_stand_there(rt: HostRuntime) -> Result<(), Fail> {
-    for &(line, name) in &[
-        ("run --journal=-j one.vox s", "-j"),
-        ("run one.vox --journal=--side=4 s", "--side=4"),
-        ("run --journal == one.vox s", "=="),
-        ("run --journal=== one.vox s", "=="),
-        ("run --journal=a=b one.vox s", "a=b"),
-        ("run --journal side one.vox s", "side"),
-        ("run one.vox --journal run s", "run"),
-    ] {
-        let mut shelf = shelf_with(rt.alloc(), GOOD.as_bytes())?;
-        let (ended, _) = ask(rt.alloc(), line, &mut shelf)?;
-        assert_eq!(rt; ended, 0, "at {line}");
-        assert!(rt; shelf.file(name).is_some(), "at {line}");
+    for &(line, name) in VALUES {
+        assert!(rt; leaves(rt.alloc(), line, name)?, "at {line}");
     }
     Ok(())
 }
@@ -169,44 +204,43 @@ const NO_WORDS: &[&str] = &[
 #[test]
 fn other_words_are_usage(rt: HostRuntime) -> Result<(), Fail> {
     for &line in NO_WORDS {
-        let mut shelf = shelf_with(rt.alloc(), GOOD.as_bytes())?;
-        let (ended, out) = ask(rt.alloc(), line, &mut shelf)?;
-        assert_eq!(rt; ended, 1, "at {line}");
-        assert_eq!(rt; out.bytes(), USAGE.as_bytes(), "at {line}");
-        assert!(rt; has(&shelf, "s.out", None), "at {line}");
+        assert!(rt; is_refused(rt.alloc(), line, 1, USAGE)?, "at {line}");
     }
     Ok(())
 }
 
 // Words that are not meant so, and are names all the same.
+const NAMES: &[(&str, &str)] = &[
+    ("run side=8 one.vox s", "voxdag: missing side=8\n"),
+    ("run one.vox s side 8", "voxdag: missing side\n"),
+    ("run one.vox s =", "voxdag: missing =\n"),
+    ("run run run", "voxdag: missing run\n"),
+    ("count count", "voxdag: missing count\n"),
+];
+
 #[test]
 fn words_without_hyphens_are_names(rt: HostRuntime) -> Result<(), Fail> {
-    for &(line, printed) in &[
-        ("run side=8 one.vox s", "voxdag: missing side=8\n"),
-        ("run one.vox s side 8", "voxdag: missing side\n"),
-        ("run one.vox s =", "voxdag: missing =\n"),
-        ("run run run", "voxdag: missing run\n"),
-        ("count count", "voxdag: missing count\n"),
-    ] {
-        let mut shelf = shelf_with(rt.alloc(), GOOD.as_bytes())?;
-        let (ended, out) = ask(rt.alloc(), line, &mut shelf)?;
-        assert_eq!(rt; ended, 2, "at {line}");
-        assert_eq!(rt; out.bytes(), printed.as_bytes(), "at {line}");
+    for &(line, printed) in NAMES {
+        assert!(rt; is_refused(rt.alloc(), line, 2, printed)?, "at {line}");
     }
     Ok(())
 }
 
+// The status of a run of so many scripts, whose file isn't there.
+fn status_of(alloc: Global, scripts: u32) -> Result<u8, Fail> {
+    let mut line = String::from_str(alloc, "run no.vox")?;
+    for _ in 0..scripts {
+        line.push_str(" t")?;
+    }
+    line.push_str(" --side 8")?;
+    let mut shelf = shelf_with(alloc, GOOD.as_bytes())?;
+    let (ended, _) = ask(alloc, line.as_str(), &mut shelf)?;
+    Ok(ended)
+}
+
 #[test]
 fn runs_have_64_scripts(rt: HostRuntime) -> Result<(), Fail> {
-    for (scripts, status) in [(64, 2), (65, 1)] {
-        let mut line = String::from_str(rt.alloc(), "run no.vox")?;
-        for _ in 0..scripts {
-            line.push_str(" t")?;
-        }
-        line.push_str(" --side 8")?;
-        let mut shelf = shelf_with(rt.alloc(), GOOD.as_bytes())?;
-        let (ended, _) = ask(rt.alloc(), line.as_str(), &mut shelf)?;
-        assert_eq!(rt; ended, status, "at {scripts}");
-    }
+    assert_eq!(rt; status_of(rt.alloc(), 64)?, 2);
+    assert_eq!(rt; status_of(rt.alloc(), 65)?, 1);
     Ok(())
 }

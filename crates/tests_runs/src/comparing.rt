@@ -1,18 +1,19 @@
 //! Two scripts, run by the program and by the plain run.
 
-ghost use Rattle.std.specs.Prelude.{◌≡◌, ◌≤◌, ◌^◌, length};
+ghost use Rattle.std.specs.Prelude.{◌≡◌, ◌≤◌, ◌^◌, length, All, IfOk};
+ghost use Rattle.script.specs.Fitting.{CommandFits};
 ghost use Rattle.vox_read.specs.Contents.{AreModels};
 
 use crate::reports::tell_end;
+use crate::rooms::Rooms;
 use crate::saves::has_saved;
 use history_model::journal_text;
 use node_words::Plan;
 use plain_run::PlainRun;
-use script::read_script;
-use script_runs::run_script;
+use script::{Script, read_script};
 use std::alloc::{AllocError, Global};
 use std::test::Fail;
-use transcript::transcript_text;
+use transcript::{LineAnswer, read_transcript, transcript_text};
 use vox_read::{Models, read_models};
 use voxdag_top::voxdag;
 use vw_io::{MemoryShelf, MemorySink, Shelf};
@@ -35,14 +36,25 @@ pub(crate) struct Run<'s> {
     pub(crate) second: &'s str,
 }
 
-// What the program ended with.
+/// What the program ended with, and what it answered.
 #[derive(Drop)]
-struct Ended {
+pub(crate) struct Ended {
     shelf: MemoryShelf,
     out: MemorySink,
+    first: Vec<LineAnswer>,
+    second: Vec<LineAnswer>,
 }
 
 impl Ended {
+    /// The answers of the session.
+    pub(crate) fn told(&self, session: u16) -> &[LineAnswer] {
+        if session == 0 {
+            self.first.as_slice()
+        } else {
+            self.second.as_slice()
+        }
+    }
+
     fn has(&self, name: &str, want: &[u8]) -> bool {
         match self.shelf.file(name) {
             Some(found) => found == want,
@@ -51,56 +63,58 @@ impl Ended {
     }
 }
 
-/// Whether both give the same line, transcripts, saved files, journal and report.
-pub(crate) fn is_same_run(alloc: Global, run: Run<'_>) -> Result<bool, Fail> {
-    let ended = run_program(alloc, run)?;
+/// Whether the plain run gives the same line, transcripts, saved files, journal and
+/// report.
+pub(crate) fn is_as_plain(alloc: Global, run: Run<'_>, ended: &Ended) -> Result<bool, Fail> {
     let Ok(models) = read_models(alloc, vox()) else {
         return Err(Fail::from("models"));
     };
-    is_same_as_plain(alloc, run, &models, &ended)
+    is_same(alloc, run, &models, ended)
 }
 
-fn is_same_as_plain(
-    alloc: Global,
-    run: Run<'_>,
-    models: &Models,
-    ended: &Ended,
-) -> Result<bool, Fail>
+fn is_same(alloc: Global, run: Run<'_>, models: &Models, ended: &Ended) -> Result<bool, Fail>
     requires { AreModels models.now }
 {
+    let first = read(alloc, run.first, run.plan, models)?;
+    let second = read(alloc, run.second, run.plan, models)?;
     let mut plain = PlainRun::begin(alloc, run.plan, models)?;
-    let first = text_of(alloc, &mut plain, run.plan, models, 0, run.first)?;
-    let second = text_of(alloc, &mut plain, run.plan, models, 1, run.second)?;
-    if !ended.has("a.out", &first) || !ended.has("b.out", &second) {
-        return Ok(false);
-    }
-    if !has_saved(alloc, &plain, &ended.shelf)? {
+    let mut rooms = Rooms::new(alloc, run.plan);
+    let same = is_same_text(alloc, &mut rooms, &mut plain, 0, &first, ended)?
+        && is_same_text(alloc, &mut rooms, &mut plain, 1, &second, ended)?;
+    if !same || !has_saved(alloc, &plain, &ended.shelf)? {
         return Ok(false);
     }
     is_same_end(alloc, plain, run.plan, ended)
 }
 
-// The plain run's transcript of a script.
-fn text_of(
-    alloc: Global,
-    plain: &mut PlainRun<'_>,
-    plan: &Plan,
-    models: &Models,
-    session: u16,
-    words: &str,
-) -> Result<Vec<u8>, Fail>
-    requires read { AreModels models.now }
-    requires plan { plain.old.plan ≡ plan.now }
-    requires models { plain.old.models ≡ models.now }
-    ensures plan { plain.new.plan ≡ plan.now }
-    ensures models { plain.new.models ≡ models.now }
+fn read(alloc: Global, words: &str, plan: &Plan, models: &Models) -> Result<Script, Fail>
+    requires { AreModels models.now }
+    ensures { IfOk result (All (λ l. CommandFits (2 ^ plan.now.side) models.now l.command)) }
 {
-    let Ok(script) = read_script(alloc, words.as_bytes(), plan.side(), models) else {
-        return Err(Fail::from("a script"));
-    };
-    let answers = run_script(plain, session, script.lines.as_slice(), Vec::new(alloc))?;
+    match read_script(alloc, words.as_bytes(), plan.side(), models) {
+        Ok(script) => Ok(script),
+        Err(_) => Err(Fail::from("a script")),
+    }
+}
+
+// Whether the plain run has the same transcript of the session's script.
+fn is_same_text(
+    alloc: Global,
+    rooms: &mut Rooms,
+    plain: &mut PlainRun<'_>,
+    session: u16,
+    script: &Script,
+    ended: &Ended,
+) -> Result<bool, Fail>
+    requires { All (λ l. CommandFits (2 ^ plain.old.plan.side) plain.old.models l.command)
+        script.now }
+    ensures plan { plain.new.plan ≡ plain.old.plan }
+    ensures models { plain.new.models ≡ plain.old.models }
+{
+    let told = ended.told(session);
+    let answers = rooms.answers(plain, session, script.lines.as_slice(), told)?;
     let text = transcript_text(alloc, answers.as_slice())?;
-    Ok(text)
+    Ok(ended.has(if session == 0 { "a.out" } else { "b.out" }, &text))
 }
 
 // Whether both end with the same journal, report and line.
@@ -123,28 +137,57 @@ fn is_same_end(
     )
 }
 
-fn run_program(alloc: Global, run: Run<'_>) -> Result<Ended, Fail> {
+/// Runs the scripts by the program.
+pub(crate) fn run_program(alloc: Global, run: Run<'_>) -> Result<Ended, Fail> {
+    let mut shelf = shelf_of(alloc, run)?;
+    let words = words(alloc, run.plan)?;
+    let mut out = MemorySink::new(alloc);
+    if !is_done(alloc, words.as_slice(), &mut shelf, &mut out) {
+        return Err(Fail::from("a run"));
+    }
+    let first = told(alloc, &shelf, "a.out")?;
+    let second = told(alloc, &shelf, "b.out")?;
+    Ok(Ended {
+        shelf,
+        out,
+        first,
+        second,
+    })
+}
+
+// The inputs of a run.
+fn shelf_of(alloc: Global, run: Run<'_>) -> Result<MemoryShelf, Fail> {
     let mut shelf = MemoryShelf::new(alloc);
     shelf.write("m.vox", vox())?;
     shelf.write("a", run.first.as_bytes())?;
     shelf.write("b", run.second.as_bytes())?;
-    let side = run.plan.side().cells();
-    let buckets = run.plan.buckets()[0];
-    let cap = run.plan.cap();
-    let line = format!(in alloc;
-        "run --side {side} --buckets {buckets} --cap {cap} --journal j --report p m.vox a b"
-    )?;
-    let words = words_of(alloc, line.as_str())?;
-    let mut out = MemorySink::new(alloc);
-    match voxdag(alloc, &words, &mut shelf, &mut out) {
-        0 => Ok(Ended { shelf, out }),
-        _ => Err(Fail::from("a run")),
+    Ok(shelf)
+}
+
+fn is_done(alloc: Global, words: &[String], shelf: &mut MemoryShelf, out: &mut MemorySink) -> bool {
+    voxdag(alloc, words, shelf, out) == 0
+}
+
+// The answers of a transcript.
+fn told(alloc: Global, shelf: &MemoryShelf, name: &str) -> Result<Vec<LineAnswer>, Fail> {
+    let Some(text) = shelf.file(name) else {
+        return Err(Fail::from("no transcript"));
+    };
+    match read_transcript(alloc, text) {
+        Ok(answers) => Ok(answers),
+        Err(_) => Err(Fail::from("a transcript")),
     }
 }
 
-fn words_of(alloc: Global, line: &str) -> Result<Vec<String>, AllocError> {
+fn words(alloc: Global, plan: &Plan) -> Result<Vec<String>, AllocError> {
+    let side = plan.side().cells();
+    let buckets = plan.buckets()[0];
+    let cap = plan.cap();
+    let line = format!(in alloc;
+        "run --side {side} --buckets {buckets} --cap {cap} --journal j --report p m.vox a b"
+    )?;
     let mut words = Vec::new(alloc);
-    for word in line.split(' ') {
+    for word in line.as_str().split(' ') {
         words.push(String::from_str(alloc, word)?)?;
     }
     Ok(words)

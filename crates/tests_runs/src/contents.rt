@@ -45,6 +45,16 @@ impl Contents {
         Ok(())
     }
 
+    /// Adds these.
+    pub(crate) fn add_all(&mut self, others: &Contents) -> Result<(), AllocError> {
+        for content in &others.all {
+            if !self.has(content) {
+                self.all.push(content.copied(self.alloc)?)?;
+            }
+        }
+        Ok(())
+    }
+
     fn add_level(&mut self, world: &World, level: u8, side: u16) -> Result<(), AllocError> {
         let blocks = world.side / side.max(1);
         for z in 0..blocks {
@@ -76,6 +86,27 @@ impl Contents {
         false
     }
 
+    /// Whether some bucket has more of them than it has slots.
+    pub(crate) fn are_too_many(&self) -> bool {
+        for content in &self.all {
+            if self.has_too_many(content.level, content.bucket) {
+                return true;
+            }
+        }
+        false
+    }
+
+    /// Whether this bucket has more of them than it has slots.
+    pub(crate) fn has_too_many(&self, level: u8, bucket: u16) -> bool {
+        let mut number: u16 = 0;
+        for content in &self.all {
+            if content.level == level && content.bucket == bucket {
+                number = number.saturating_add(1);
+            }
+        }
+        number > self.plan.cap()
+    }
+
     /// How many there are of a level.
     pub(crate) fn number(&self, level: u8) -> u32 {
         let mut number: u32 = 0;
@@ -98,8 +129,20 @@ impl Content {
         true
     }
 
+    // The same contents have the same bucket.
     fn is_same(&self, other: &Content) -> bool {
-        self.level == other.level && self.words.as_slice() == other.words.as_slice()
+        self.level == other.level
+            && self.bucket == other.bucket
+            && self.words.as_slice() == other.words.as_slice()
+    }
+
+    fn copied(&self, alloc: Global) -> Result<Content, AllocError> {
+        let words = Vec::from_slice(alloc, self.words.as_slice())?;
+        Ok(Content {
+            level: self.level,
+            bucket: self.bucket,
+            words,
+        })
     }
 
     // As the child of a node.

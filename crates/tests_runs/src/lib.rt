@@ -8,6 +8,8 @@ mod contents;
 #[cfg(test)]
 mod reports;
 #[cfg(test)]
+mod rooms;
+#[cfg(test)]
 mod saves;
 #[cfg(test)]
 mod scripts;

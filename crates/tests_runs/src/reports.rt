@@ -66,7 +66,7 @@ fn kept_worlds(alloc: Global, run: &PlainRun<'_>, side: u16) -> Result<Vec<Kept>
     let mut kept = Vec::new(alloc);
     for version in 0..run.moment().saturating_add(1) {
         if run.keeps(version) {
-            let cells = World::new(alloc, run, version, side)?;
+            let cells = World::of_version(alloc, run, version, side)?;
             kept.push(Kept { version, cells })?;
         }
     }

@@ -19,16 +19,89 @@ pub(crate) fn script(
 ) -> Result<String, AllocError> {
     let mut draws = Draws::new(seed);
     let mut text = String::new(alloc);
-    for number in 0..lines {
-        let line = if number % 8 == 7 {
-            saved(alloc, seed, number, &mut draws, side)?
-        } else {
-            line(alloc, &mut draws, side)?
-        };
+    for _ in 0..lines {
+        let line = line(alloc, &mut draws, side)?;
         text.push_str(line.as_str())?;
         text.push_str("\n")?;
     }
     Ok(text)
+}
+
+/// The same, where each fourth line is a save.
+pub(crate) fn saving_script(
+    alloc: Global,
+    seed: u64,
+    side: u16,
+    lines: u16,
+) -> Result<String, AllocError> {
+    let mut draws = Draws::new(seed);
+    let mut text = String::new(alloc);
+    for number in 0..lines {
+        let line = line_or_save(alloc, seed, number, &mut draws, side)?;
+        text.push_str(line.as_str())?;
+        text.push_str("\n")?;
+    }
+    Ok(text)
+}
+
+fn line_or_save(
+    alloc: Global,
+    seed: u64,
+    number: u16,
+    draws: &mut Draws,
+    side: u16,
+) -> Result<String, AllocError> {
+    if number % 4 == 3 {
+        return saved(alloc, seed, number, draws, side);
+    }
+    line(alloc, draws, side)
+}
+
+/// The same, where each edit fills or clears a box of octants of the world.
+///
+/// Only few leaves and nodes below the root are different then, and many roots.
+pub(crate) fn coarse_script(
+    alloc: Global,
+    seed: u64,
+    side: u16,
+    lines: u16,
+) -> Result<String, AllocError> {
+    let mut draws = Draws::new(seed);
+    let mut text = String::new(alloc);
+    for _ in 0..lines {
+        let line = coarse_line(alloc, &mut draws, side)?;
+        text.push_str(line.as_str())?;
+        text.push_str("\n")?;
+    }
+    Ok(text)
+}
+
+fn coarse_line(alloc: Global, draws: &mut Draws, side: u16) -> Result<String, AllocError> {
+    match draws.below(9) {
+        0 => format!(in alloc; "undo"),
+        1 => format!(in alloc; "redo"),
+        2 => format!(in alloc; "forget {}", draws.below(20)),
+        3 => question(alloc, draws, side),
+        4 => octants(alloc, "erase", draws, side),
+        _ => octants(alloc, "fill", draws, side),
+    }
+}
+
+// A box of whole octants.
+fn octants(alloc: Global, word: &str, draws: &mut Draws, side: u16) -> Result<String, AllocError> {
+    let (x, width) = halves(draws, side);
+    let (y, depth) = halves(draws, side);
+    let (z, height) = halves(draws, side);
+    format!(in alloc; "{word} {x} {y} {z} {width} {depth} {height}")
+}
+
+// Where one half or both begin, and how long that is.
+fn halves(draws: &mut Draws, side: u16) -> (u16, u16) {
+    match draws.below(3) {
+        0 => (0, side / 2),
+        1 => (side / 2, side / 2),
+        _ => (0, side),
+    }
 }
 
 fn line(alloc: Global, draws: &mut Draws, side: u16) -> Result<String, AllocError> {
@@ -75,7 +148,7 @@ fn saved(
     let b = draws.boxed(side);
     let at = numbers(alloc, b.at)?;
     let size = numbers(alloc, b.size)?;
-    if number % 16 == 7 {
+    if number % 8 == 3 {
         let version = draws.below(20);
         return format!(in alloc; "at {version} save s{seed}-{number} {at} {size}");
     }

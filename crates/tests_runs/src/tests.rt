@@ -1,9 +1,18 @@
-use crate::comparing::{Run, is_same_run};
-use crate::scripts::script;
+use crate::comparing::{Ended, Run, is_as_plain, run_program};
+use crate::scripts::{coarse_script, saving_script, script};
 use node_words::Plan;
-use std::alloc::Global;
+use std::alloc::{AllocError, Global};
 use std::test::Fail;
+use transcript::{Answer, LineAnswer};
 use vw_cell::Side;
+
+// What the edits of a row are.
+#[derive(Clone, Copy)]
+enum Edits {
+    Any,
+    AnyAndSaves,
+    Octants,
+}
 
 // The side, the buckets of each level, their cap, and what the scripts are drawn by.
 type Row = (u16, u16, u16, u64);
@@ -17,29 +26,212 @@ const ROOMY: &[Row] = &[
     (16, 1024, 64, 6),
 ];
 
-// Whether the program and the plain run do the same.
-fn is_same(alloc: Global, row: &Row) -> Result<bool, Fail> {
+// Leaves have no room in these.
+const FEW_LEAVES: &[Row] = &[
+    (4, 1, 1, 11),
+    (4, 1, 2, 12),
+    (4, 2, 1, 13),
+    (4, 1, 3, 14),
+    (4, 1, 4, 15),
+    (4, 1, 6, 16),
+    (4, 2, 4, 17),
+    (4, 1, 8, 18),
+    (8, 4, 1, 21),
+    (8, 3, 2, 22),
+    (8, 2, 3, 23),
+    (8, 3, 6, 25),
+    (8, 1, 8, 26),
+    (16, 7, 1, 31),
+    (16, 5, 2, 32),
+    (16, 3, 3, 37),
+    (16, 3, 4, 34),
+    (16, 2, 6, 35),
+    (16, 1, 8, 38),
+];
+
+// Nodes of level 1 in these, which are roots at side 8.
+const FEW_NODES: &[Row] = &[(8, 4, 1, 21), (8, 3, 2, 22), (8, 2, 4, 24), (16, 5, 2, 32)];
+
+// And roots in these, where each edit fills or clears octants of the world.
+const FEW_ROOTS: &[Row] = &[
+    (8, 1, 1, 47),
+    (8, 1, 2, 41),
+    (8, 1, 4, 43),
+    (8, 2, 6, 48),
+    (8, 1, 8, 46),
+    (16, 1, 3, 42),
+    (16, 2, 3, 44),
+    (16, 1, 6, 45),
+];
+
+// The scripts of a row.
+#[derive(Drop)]
+struct Drawn {
+    plan: Plan,
+    first: String,
+    second: String,
+}
+
+impl Drawn {
+    fn run(&self) -> Run<'_> {
+        Run {
+            plan: &self.plan,
+            first: self.first.as_str(),
+            second: self.second.as_str(),
+        }
+    }
+}
+
+fn draw(alloc: Global, edits: Edits, row: &Row) -> Result<Drawn, Fail> {
     let &(side, buckets, cap, seed) = row;
-    let lines = if side < 16 { 40 } else { 24 };
-    let first = script(alloc, seed, side, lines)?;
-    let second = script(alloc, seed.wrapping_add(100), side, lines / 2)?;
+    let lines = if side < 16 { 40 } else { 20 };
+    let first = text_of(alloc, edits, seed, side, lines)?;
+    let second = text_of(alloc, edits, seed.wrapping_add(100), side, lines / 2)?;
     let side = Side::new(u32::from(side)).ok_or("a side")?;
     let plan = Plan::even(side, buckets, cap).ok_or("a plan")?;
-    is_same_run(
-        alloc,
-        Run {
-            plan: &plan,
-            first: first.as_str(),
-            second: second.as_str(),
-        },
-    )
+    Ok(Drawn {
+        plan,
+        first,
+        second,
+    })
+}
+
+fn text_of(
+    alloc: Global,
+    edits: Edits,
+    seed: u64,
+    side: u16,
+    lines: u16,
+) -> Result<String, AllocError> {
+    match edits {
+        Edits::Any => script(alloc, seed, side, lines),
+        Edits::AnyAndSaves => saving_script(alloc, seed, side, lines),
+        Edits::Octants => coarse_script(alloc, seed, side, lines),
+    }
+}
+
+// What a row showed.
+#[derive(Clone, Copy)]
+struct Shown {
+    same: bool,
+    // whether some edit was refused, and one at this level
+    full: bool,
+    at_level: bool,
+    // whether a change was accepted behind such a refusal
+    goes_on: bool,
+}
+
+fn show(alloc: Global, edits: Edits, level: u8, row: &Row) -> Result<Shown, Fail> {
+    let drawn = draw(alloc, edits, row)?;
+    let ended = run_program(alloc, drawn.run())?;
+    let same = is_as_plain(alloc, drawn.run(), &ended)?;
+    Ok(Shown {
+        same,
+        full: is_full(&ended),
+        at_level: is_full_at(ended.told(0), level) || is_full_at(ended.told(1), level),
+        goes_on: goes_on(ended.told(0)) || goes_on(ended.told(1)),
+    })
+}
+
+fn is_full(ended: &Ended) -> bool {
+    has_full(ended.told(0)) || has_full(ended.told(1))
+}
+
+fn has_full(told: &[LineAnswer]) -> bool {
+    for a in told {
+        if is_refusal(a.answer) {
+            return true;
+        }
+    }
+    false
+}
+
+fn is_refusal(answer: Answer) -> bool {
+    match answer {
+        Answer::Full { .. } => true,
+        _ => false,
+    }
+}
+
+fn is_full_at(told: &[LineAnswer], level: u8) -> bool {
+    for a in told {
+        if names_level(a.answer, level) {
+            return true;
+        }
+    }
+    false
+}
+
+fn names_level(answer: Answer, named: u8) -> bool {
+    match answer {
+        Answer::Full { level, .. } => level == named,
+        _ => false,
+    }
+}
+
+fn goes_on(told: &[LineAnswer]) -> bool {
+    let mut is_behind = false;
+    for a in told {
+        if is_behind && a.answer == Answer::Done {
+            return true;
+        }
+        is_behind = is_behind || is_refusal(a.answer);
+    }
+    false
 }
 
 #[test]
 fn scripts_by_chance_run_as_plain_ones(rt: HostRuntime) -> Result<(), Fail> {
     for row in ROOMY {
-        let same = is_same(rt.alloc(), row)?;
-        assert!(rt; same, "side {}, number {}", row.0, row.3);
+        let shown = show(rt.alloc(), Edits::AnyAndSaves, 0, row)?;
+        assert!(rt; shown.same, "side {}, number {}", row.0, row.3);
+        assert!(rt; !shown.full, "side {}, number {}", row.0, row.3);
+    }
+    Ok(())
+}
+
+#[test]
+fn leaves_without_room_refuse_an_edit(rt: HostRuntime) -> Result<(), Fail> {
+    for row in FEW_LEAVES {
+        let shown = show(rt.alloc(), Edits::Any, 0, row)?;
+        assert!(rt; shown.same, "side {}, number {}", row.0, row.3);
+        assert!(rt;
+            shown.at_level && shown.goes_on,
+            "side {}, number {}",
+            row.0,
+            row.3
+        );
+    }
+    Ok(())
+}
+
+#[test]
+fn nodes_without_room_refuse_an_edit(rt: HostRuntime) -> Result<(), Fail> {
+    for row in FEW_NODES {
+        let shown = show(rt.alloc(), Edits::Any, 1, row)?;
+        assert!(rt; shown.same, "side {}, number {}", row.0, row.3);
+        assert!(rt;
+            shown.at_level && shown.goes_on,
+            "side {}, number {}",
+            row.0,
+            row.3
+        );
+    }
+    Ok(())
+}
+
+#[test]
+fn roots_without_room_refuse_an_edit(rt: HostRuntime) -> Result<(), Fail> {
+    for row in FEW_ROOTS {
+        let root = if row.0 < 16 { 1 } else { 2 };
+        let shown = show(rt.alloc(), Edits::Octants, root, row)?;
+        assert!(rt; shown.same, "side {}, number {}", row.0, row.3);
+        assert!(rt;
+            shown.at_level && shown.goes_on,
+            "side {}, number {}",
+            row.0,
+            row.3
+        );
     }
     Ok(())
 }

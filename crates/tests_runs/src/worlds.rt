@@ -1,5 +1,10 @@
-//! The cells of a version, asked one by one.
+//! The cells of a version, or of what an edit makes of the newest one, asked one by one.
 
+ghost use Rattle.std.specs.Prelude.{◌≡◌, ◌^◌, true};
+ghost use Rattle.history_model.specs.Logs.{FitsWorld};
+ghost use Rattle.history_model.specs.Worlds.{is_edit};
+
+use history_model::Act;
 use plain_run::PlainRun;
 use std::alloc::{AllocError, Global};
 use vw_cell::Cell;
@@ -12,7 +17,8 @@ pub(crate) struct World {
 }
 
 impl World {
-    pub(crate) fn new(
+    /// The cells of a version.
+    pub(crate) fn of_version(
         alloc: Global,
         run: &PlainRun<'_>,
         version: u32,
@@ -23,6 +29,27 @@ impl World {
             for y in 0..side {
                 for x in 0..side {
                     cells.push(is_set(run, version, Cell { x, y, z }))?;
+                }
+            }
+        }
+        Ok(World { side, cells })
+    }
+
+    /// The cells that an edit makes of the newest version.
+    pub(crate) fn made(
+        alloc: Global,
+        run: &PlainRun<'_>,
+        act: Act,
+        side: u16,
+    ) -> Result<World, AllocError>
+        requires edit { is_edit act ≡ true }
+        requires fits { FitsWorld (2 ^ run.now.plan.side) run.now.models act }
+    {
+        let mut cells = Vec::new(alloc);
+        for z in 0..side {
+            for y in 0..side {
+                for x in 0..side {
+                    cells.push(run.makes(act, Cell { x, y, z }))?;
                 }
             }
         }
