@@ -6,7 +6,7 @@ use std::test::Fail;
 use transcript::{Answer, LineAnswer};
 use vw_cell::Side;
 
-// What the edits of a row are.
+// What the edits of a row are, and whether it has saves.
 #[derive(Clone, Copy)]
 enum Edits {
     Any,
