@@ -9,7 +9,8 @@ use Rattle.node_words.specs.declared.keys.Key.{Key}
 use Rattle.node_words.specs.declared.keys.Key.TheVariants.{Node}
 use Rattle.node_words.specs.Held.{AreHeld, HoldsName, ReachesName, name_in}
 use Rattle.node_words.specs.Plans.{Layout}
-use Rattle.node_words.proofs.HeldLaws.{held_reached}
+use Rattle.node_words.proofs.HeldLaws.{held_reached, holds_reaches}
+use Rattle.node_places.specs.Spots.{IsSpot, Turn}
 use Rattle.node_places.specs.Names.{IsName}
 use Rattle.core_laws.specs.Counting.{children_weight}
 use Rattle.core_reading.specs.Reading.{book_of}
@@ -24,7 +25,7 @@ use Rattle.node_table.specs.Learning.{Learns, IsKnownLive, booked, reached}
 use Rattle.node_table.specs.Lowers.{AreChildrenIn, EndsLowered}
 use Rattle.node_table.specs.declared.lowering.Lowering.{Lowering}
 use Rattle.node_table.specs.declared.lowering.Lowering.TheVariants.{Left, Freed}
-use Rattle.node_table.specs.Seen.{TableSeen, PassSeen}
+use Rattle.node_table.specs.Seen.{TableSeen, PassSeen, BelongsTo}
 use Rattle.node_table.specs.Turns.{HasTurn, HasTurnFor}
 
 -- the book of a live entry, once it was loaded
@@ -50,6 +51,18 @@ turn_for table s n h held tells = record {
   name = subst (λ (p : Layout). IsName p n) h.of.plan
       (tells.names held.tree n (held_reached s.view.held held.tree held.is_held) held.root);
 }
+
+-- the bucket of a name that is reached is one of the table's
+pub reached_bucket : (table : TableSeen) (s : PassSeen) (n : Name) → BelongsTo table s
+    → ViewTells s.view → ReachesName s.view.held n → IsSpot table.plan (Turn n.level n.bucket)
+reached_bucket table s n of tells r =
+    let is = subst (λ (p : Layout). IsName p n) of.plan (tells.names r.tree n r.reached r.root) in
+    (is.level_in, is.bucket_in)
+
+pub held_bucket : (table : TableSeen) (s : PassSeen) (n : Name) → BelongsTo table s
+    → ViewTells s.view → HoldsName s.view.held n → IsSpot table.plan (Turn n.level n.bucket)
+held_bucket table s n of tells h =
+    reached_bucket table s n of tells (holds_reaches s.view.held n h)
 
 one_weight : (t : Tree) (root : Option Name) → root_of t ≡ root
     → weight_of (by_name (λ _. 1)) t ≡ weight_of (λ _. 1) t
@@ -115,6 +128,7 @@ pub freed_at : (v w u : SeatView) (t : Tree) (n : Name) → changes.Freed v t n 
 freed_at v w u t n e left = record {
   held = e.held;
   weighs = e.weighs;
+  unheld = e.unheld;
   is = left ∙ ap (λ (x : SeatView). (let z : SeatView = turned x None in z)) e.is;
 }
 
@@ -148,6 +162,7 @@ ends_learned v m w t (Freed children) same e = (
     held = e.0.held;
     weighs = λ f. e.0.weighs f ∙ ap (λ (x : SeatView).
         weight_below f (λ k. child_of t k) 8 + weigh f x.held) same;
+    unheld = e.0.unheld;
     is = e.0.is ∙ ap (λ (x : SeatView). (let z : SeatView = left_with x e.0.held in z)) same;
   },
   e.1,

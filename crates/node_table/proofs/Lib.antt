@@ -8,3 +8,6 @@ pub mod Answering
 pub mod ReadLaws
 pub mod ActLaws
 pub mod BeginLaws
+pub mod OnlyShares
+pub mod Emptying
+pub mod InTurn

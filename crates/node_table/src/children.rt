@@ -1,6 +1,7 @@
 // The children of a node, as shares.
-ghost use Rattle.std.specs.Prelude.{◌≡◌, ◌≤◌};
+ghost use Rattle.std.specs.Prelude.{◌≡◌, ◌<◌, ◌≤◌, ℕ, None, length, slice_set};
 ghost use Rattle.node_words.specs.declared.keys.Key.TheVariants.{Node};
+ghost use Rattle.node_words.specs.Held.{name_in};
 ghost use Rattle.core_laws.specs.Counting.{children_weight, weight};
 
 use node_shapes::Name;
@@ -76,5 +77,38 @@ fn share_of(name: Option<Name>) -> Option<Share>
     match name {
         Some(name) => Some(Share::of_store(name)),
         None => None,
+    }
+}
+
+/// What may be a share is taken out of its place in a row.
+pub fn take_at(children: &mut [Option<Share>], k: usize) -> Option<Share>
+    requires { k < length children.old }
+    ensures taken { result ≡ name_in children.old k }
+    ensures left { children.new ≡ slice_set children.old k None }
+{
+    std::mem::replace(&mut children[k], None)
+}
+
+/// A row without a share may be let go.
+pub fn end_all(children: [Option<Share>; 8])
+    requires { (k : ℕ) → k < 8 → name_in children k ≡ None }
+{
+    let [a, b, c, d, e, f, g, h] = children;
+    end(a);
+    end(b);
+    end(c);
+    end(d);
+    end(e);
+    end(f);
+    end(g);
+    end(h);
+}
+
+fn end(share: Option<Share>)
+    requires { share ≡ None }
+{
+    match share {
+        None => {}
+        Some(_share) => unreachable!(),
     }
 }

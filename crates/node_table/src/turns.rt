@@ -65,6 +65,30 @@ impl NodeTable {
             bucket,
         }
     }
+
+    /// Gives one share back, in a turn of its own.
+    pub fn lower_in_turn<R: Wait, L: Ledger>(
+        &self,
+        rt: &R,
+        pass: &mut Pass,
+        share: Share,
+        steps: &mut Steps<L>,
+    ) -> Lowering
+        requires of { BelongsTo self.now pass.old }
+        requires idle { pass.old.view.turn ≡ None }
+        requires held { HoldsName pass.old.view.held share }
+        requires room { number_of_trees pass.old.view.held ≤ 4089 }
+        ensures of { BelongsTo self.now pass.new }
+        ensures tells { ViewTells pass.old.view }
+        ensures lowered { ForHeld pass.old.view.held share
+            (λ t. EndsLowered pass.old.view t pass.new.view result) }
+        ensures steps { steps.new ≡ steps.old + 1 }
+    {
+        pass.tell();
+        let name = share.name();
+        let turn = self.turn(rt, pass, name.level, name.bucket, steps);
+        turn.lower(share)
+    }
 }
 
 impl<'a> BucketTurn<'a> {

@@ -28,12 +28,14 @@ use Rattle.core_reading.proofs.Readings.{traded, raises_book, lowers_book, frees
 use Rattle.table_rule.specs.Views.{SeatView, bucket_of, key_spot, known_at, names_held}
 use Rattle.table_rule.specs.Turning.{KeepsTurns}
 use Rattle.table_rule.specs.Rules.{KeepsRule, table_state, log_in, MayWrite}
+use Rattle.table_rule.proofs.Lookups.{get_set_same}
 use Rattle.table_rule.proofs.Standings.{root_at, standing_at, standing_child}
 use Rattle.table_rule.proofs.TellingLaw.{word_of_tree}
 use Rattle.table_rule.proofs.PartA.{word_step}
 use Rattle.table_rule.proofs.PartC.{names_weigh}
 use Rattle.table_rule.proofs.StateSteps.{LogStays, ruled_step}
 use Rattle.table_steps.specs.Changes.{holding, Raised, Lowered, Freed}
+use Rattle.table_steps.proofs.Freeing.{written, is_written, freed_unheld}
 use Rattle.table_steps.proofs.Shares.{take_one, held_cons, held_append, row_list, row_list-weighs, row_held}
 
 pub book_log : (old new : Spot → ℕ) (n : Name) (k : ℕ) → Wrote old (book_of n) k new
@@ -292,25 +294,30 @@ frees_share p seat v t n has held root known room models old views r at =
     → Frees p seat n c (table_state p new (set views seat w)) =
     λ new wrote. frees_book p (log_in p) old new (map names_held views)
     (map names_held (set views seat w)) seat n stands.0.name was wrote trade in
+    let rule : (new : Spot → ℕ) → Wrote old (book_of n) 0 new
+    → KeepsRule p models new (set views seat w) =
+    λ new wrote. book_ruled p models old new views seat v w r at n 0 has wrote
+    (frees n (step new wrote))
+    (still_live p c (table_state p new (set views seat w)) n (step new wrote).others stands.0)
+    all refl
+    (λ u h. ⊎_elim
+    (λ l. (let k = row_held row 8 u l in
+    let s = standing_child p c r.sound.entries t k.place
+    (inr (r.knows.held seat v at t held)) in
+    let q = standing_at p c u k.name (subst (StandsOrGone p c) (sym k.same) s) k.root in
+    record { name = k.name; live = q.0; tree = q.1 }))
+    (λ o. r.knows.held seat v at u (kept_held v.held rest.rest u
+    (λ f. (let e = rest.weighs f in omega arith)) o))
+    (held_append (row_list row 8) rest.rest u h))
+    (let e = weighs (λ _. 1) in let o = weight_below-one row 8 in omega arith) in
+    let now : Spot → ℕ = written old (book_of n) 0 in
+    let wrote : Wrote old (book_of n) 0 now = is_written old (book_of n) 0 in
+    let unheld = freed_unheld p models old now views (set views seat w) seat w t n r
+    (rule now wrote) (step now wrote) wrote (get_set_same views seat w v at) stands.1 in
     record {
       view = w;
       event = step;
-      rule = λ new wrote.
-          book_ruled p models old new views seat v w r at n 0 has wrote
-          (frees n (step new wrote))
-          (still_live p c (table_state p new (set views seat w)) n (step new wrote).others stands.0)
-          all refl
-          (λ u h. ⊎_elim
-          (λ l. (let k = row_held row 8 u l in
-          let s = standing_child p c r.sound.entries t k.place
-          (inr (r.knows.held seat v at t held)) in
-          let q = standing_at p c u k.name
-          (subst (StandsOrGone p c) (sym k.same) s) k.root in
-          record { name = k.name; live = q.0; tree = q.1 }))
-          (λ o. r.knows.held seat v at u (kept_held v.held rest.rest u
-          (λ f. (let e = rest.weighs f in omega arith)) o))
-          (held_append (row_list row 8) rest.rest u h))
-          (let e = weighs (λ _. 1) in let o = weight_below-one row 8 in omega arith);
+      rule = rule;
       same = record { alive = refl; plan = refl; models = refl; numbers = refl };
-      told = record { held = all; weighs = weighs; is = refl };
+      told = record { held = all; weighs = weighs; unheld = unheld; is = refl };
     }

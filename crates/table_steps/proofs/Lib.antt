@@ -1,6 +1,7 @@
 pub mod TurnSteps
 pub mod Loads
 pub mod Shares
+pub mod Freeing
 pub mod Books
 pub mod Publishing
 pub mod AnyTree
