@@ -48,7 +48,10 @@ impl Twins {
 }
 
 fn small_model(alloc: Global) -> Result<Drawing, Fail> {
-    let voxels = Vec::from_slice(alloc, &[[0, 0, 0, 1], [2, 0, 3, 1], [1, 1, 1, 1], [0, 1, 2, 1]])?;
+    let voxels = Vec::from_slice(
+        alloc,
+        &[[0, 0, 0, 1], [2, 0, 3, 1], [1, 1, 1, 1], [0, 1, 2, 1]],
+    )?;
     Ok(Drawing {
         size: [3, 2, 4],
         voxels,
