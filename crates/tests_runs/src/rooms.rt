@@ -127,7 +127,8 @@ impl Rooms {
     // Looks at the versions that came since.
     fn look(&mut self, plain: &PlainRun<'_>) -> Result<(), AllocError> {
         let side = self.plan.side().cells() as u16;
-        for version in self.versions.len() as u32..plain.moment().saturating_add(1) {
+        let first = self.versions.len().min(65_536) as u32;
+        for version in first..plain.moment().saturating_add(1) {
             let world = World::of_version(self.alloc, plain, version, side)?;
             self.versions
                 .push(contents(self.alloc, self.plan, &world)?)?;
