@@ -35,7 +35,7 @@ fn has_file(shelf: &MemoryShelf, saved: &SavedBox, want: &[u8]) -> bool {
 // The file of a box: a model of its size with its set cells, by rising z, then y, then x.
 fn file_of(alloc: Global, run: &PlainRun<'_>, saved: &SavedBox) -> Result<Vec<u8>, AllocError> {
     let voxels = voxels_of(alloc, run, saved)?;
-    let bytes = voxels.len() as u32;
+    let bytes = voxels.len().min(65_536) as u32;
     let Cell { x, y, z } = saved.part.size;
     let mut file = Vec::from_slice(alloc, b"VOX \x96\0\0\0MAIN\0\0\0\0")?;
     put(&mut file, bytes.wrapping_add(40))?;
