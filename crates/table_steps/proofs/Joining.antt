@@ -57,8 +57,7 @@ made_there (v ∷ views) (suc j) d s e c =
 module _ (p : Layout) (models : List Content) (mem : Spot → ℕ) (views : List SeatView)
     (seat other : ℕ) (v w : SeatView) (r : KeepsRule p models mem views)
     (at : slice_get views seat ≡ Some v) (at_other : slice_get views other ≡ Some w)
-    (apart : other ≢ seat) (right : v.right ≡ false) (bare : w.held ≡ [])
-    (idle : w.turn ≡ None) where
+    (apart : other ≢ seat) (bare : w.held ≡ []) (idle : w.turn ≡ None) where
   abbrev both : SeatView
   both = joined v w
 
@@ -137,8 +136,8 @@ module _ (p : Layout) (models : List Content) (mem : Spot → ℕ) (views : List
     ]
   ]
 
-  no_right : (A : Type 0) → v.right ≡ true → A
-  no_right A h = absurd (let e : true ≡ false = sym h ∙ right in let no : ⊥ = cc in no)
+  no_right : (A : Type 0) → false ≡ true → A
+  no_right A h = absurd (let no : ⊥ = cc in no)
 
   long : length all ≡ length views
   long = length-set mid other spent ∙ length-set views seat both

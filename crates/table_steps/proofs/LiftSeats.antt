@@ -57,9 +57,9 @@ deals_allowed p models seat v right has s r at = record {
 }
 
 pub joins_allowed : (p : Layout) (models : List Content) (seat : ℕ) (v : SeatView) (other : ℕ)
-    (w : SeatView) → v.right ≡ false → w.held ≡ [] → w.turn ≡ None
+    (w : SeatView) → w.held ≡ [] → w.turn ≡ None
     → Joins (IsRuled p models) seat v other w (joined v w) spent
-joins_allowed p models seat v other w right bare idle s r at apart there =
+joins_allowed p models seat v other w bare idle s r at apart there =
     let both : SeatView = joined v w in
     let at_other : slice_get s.views other ≡ Some w =
     ⊎_elim (λ (t : (other ≡ seat) × (both ≡ w)). absurd (apart t.0))
@@ -68,7 +68,7 @@ joins_allowed p models seat v other w right bare idle s r at apart there =
     record {
       wide = r.wide;
       rule = joins p models (word_at p s.words) s.views seat other v w r.rule
-          (get_std s.views seat v at) at_other apart right bare idle;
+          (get_std s.views seat v at) at_other apart bare idle;
     }
 
 -- a view that holds nothing tells little

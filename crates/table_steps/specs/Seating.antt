@@ -14,7 +14,11 @@ handing v = record v { right = false; next = 0 }
 abbrev pub handed : SeatView → SeatView
 handed v = record v { numbers = []; turn = None; words = []; held = []; made = []; met = [] }
 
--- a seat is joined: its numbers and what it made and met go over
+-- a seat is joined: its numbers and what it made and met go over, and nobody takes one more number
 abbrev pub joined : SeatView → SeatView → SeatView
-joined v w =
-    record v { numbers = w.numbers ++ v.numbers; made = w.made ++ v.made; met = w.met ++ v.met }
+joined v w = record v {
+  numbers = w.numbers ++ v.numbers;
+  right = false;
+  made = w.made ++ v.made;
+  met = w.met ++ v.met;
+}

@@ -123,12 +123,12 @@ RightsAreHandedOn = (p : Layout) (models : List Content) (mem : Spot → ℕ) (v
     × Reseats p (table_state p mem views)
     (table_state p mem (slice_set views seat (handing v) ++ handed v ∷ []))
 
--- a seat without the right takes in what another one has that holds no share and has no turn
+-- a seat takes in what another one has that holds no share and has no turn
 abbrev pub SeatsAreJoined : Type 0
 SeatsAreJoined = (p : Layout) (models : List Content) (mem : Spot → ℕ) (views : List SeatView)
     (seat other : ℕ) (v w : SeatView) → KeepsRule p models mem views
     → slice_get views seat ≡ Some v → slice_get views other ≡ Some w → other ≢ seat
-    → v.right ≡ false → w.held ≡ [] → w.turn ≡ None
+    → w.held ≡ [] → w.turn ≡ None
     → KeepsRule p models mem (slice_set (slice_set views seat (joined v w)) other spent)
     × Reseats p (table_state p mem views)
     (table_state p mem (slice_set (slice_set views seat (joined v w)) other spent))
