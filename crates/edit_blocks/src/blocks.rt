@@ -7,8 +7,8 @@ ghost use Rattle.node_words.specs.Gathering.{Grows};
 ghost use Rattle.cell_shapes.specs.CellShapes.{leaf_shape};
 ghost use Rattle.edit_blocks.specs.Blocks.{Aside, Joined, RefusesBlock, HasOctants, ForOctants, LeafBeside};
 
-use crate::rows::{back_all, end_all};
-use node_words::{Full, NodeRefused, NodeStore, Share, Steps};
+use crate::rows::back_all;
+use node_words::{Full, NodeRefused, NodeStore, Share, Steps, end_all};
 use std::sync::ledger::Ledger;
 
 /// A share of the leaf with these bits, where there are any.

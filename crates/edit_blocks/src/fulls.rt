@@ -7,8 +7,8 @@ ghost use Rattle.cell_shapes.specs.CellShapes.{full_shape};
 ghost use Rattle.edit_blocks.specs.Blocks.{height, RefusesBlock, HasAside, IsAsideFrom, IsAsideAt, KeepsRest, ComesBeside, HasFull, ReachesFull, LeadsToFull, FullBeside, GathersFull};
 
 use crate::blocks::join;
-use crate::rows::{end, put};
-use node_words::{Blocks, Full, Name, NodeStore, Share, Steps};
+use crate::rows::put;
+use node_words::{Blocks, Full, Name, NodeStore, Share, Steps, end};
 use std::sync::ledger::Ledger;
 
 /// A share of the full block of this level. The greatest full block that was made stays held,

@@ -5,7 +5,7 @@ ghost use Rattle.node_words.specs.Held.{OnlyHeldChanges, HoldsChildren, ForChild
 ghost use Rattle.node_words.specs.Gathering.{LosesAll};
 
 use crate::shares::back_if;
-use node_words::{NodeStore, Share, Steps};
+use node_words::{NodeStore, Share, Steps, end, end_all, take_at};
 use std::sync::ledger::Ledger;
 
 /// Puts what may be a share into a place where there is none.
@@ -15,38 +15,6 @@ pub fn put(children: &mut [Option<Share>], k: usize, share: Option<Share>)
     ensures { children.new ≡ slice_set children.old k share }
 {
     end(std::mem::replace(&mut children[k], share));
-}
-
-fn take_at(children: &mut [Option<Share>], k: usize) -> Option<Share>
-    requires { k < length children.old }
-    ensures taken { result ≡ name_in children.old k }
-    ensures left { children.new ≡ slice_set children.old k None }
-{
-    std::mem::replace(&mut children[k], None)
-}
-
-// A place without a share may be let go.
-pub(crate) fn end(share: Option<Share>)
-    requires { share ≡ None }
-{
-    match share {
-        None => {}
-        Some(_share) => unreachable!(),
-    }
-}
-
-pub(crate) fn end_all(children: [Option<Share>; 8])
-    requires { (k : ℕ) → k < 8 → name_in children k ≡ None }
-{
-    let [a, b, c, d, e, f, g, h] = children;
-    end(a);
-    end(b);
-    end(c);
-    end(d);
-    end(e);
-    end(f);
-    end(g);
-    end(h);
 }
 
 /// Gives back the shares of a row.

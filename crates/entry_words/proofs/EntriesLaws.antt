@@ -1,5 +1,5 @@
 -- The struct's invariant, where all slots are free and after each call that writes.
-use Rattle.std.proofs.Common.{◌≡◌, ℕ, ◌+◌, ◌^◌, ◌<◌, ◌≤◌, List, [], length, set, ap, ◌∙◌, arith}
+use Rattle.std.proofs.Common.{◌≡◌, ◌≢◌, ℕ, ◌+◌, ◌^◌, ◌<◌, ◌≤◌, List, [], length, set, ap, ◌∙◌, arith}
 use Rattle.std.specs.Prelude.{slice_index, slice_index_or, replicate}
 use Rattle.std.proofs.lemmas.List.{length-set, length-replicate}
 use Rattle.sums.specs.Sums.{sum_below}
@@ -16,7 +16,7 @@ use Rattle.entry_words.specs.Changes.{OtherKeysStay}
 use Rattle.entry_words.proofs.SlotLaws.{bucket_in, name_bucket, tag_in}
 use Rattle.entry_words.proofs.ReadLaws.{default_any}
 use Rattle.entry_words.proofs.TagLaws.{with_book, with_bits, with_pairs, puts_bits, puts_pairs, tagged_free, tagged_key, tagged_book, tagged_clear, tagged_entry}
-use Rattle.entry_words.proofs.UsedLaws.{unused_free, unused_book, unused_clear, unused_entry}
+use Rattle.entry_words.proofs.UsedLaws.{unused_free, unused_book, unused_clear, unused_entry, filled_free, filled_book, filled_clear, filled_entry}
 
 -- where the levels begin, as the code finds it
 pub ends_given : (p : Layout) (buckets ends : List ℕ) → buckets ≡ p.buckets → ((l : ℕ) → l ≤ 11 → slice_index ends l ≡ sum_below l (λ level. slice_index buckets level)) → ((l : ℕ) → l ≤ 11 → slice_index ends l < 2 ^ 20) → AreEnds p ends
@@ -30,8 +30,8 @@ last_end p ends l plan at e =
     let top : l ≤ 11 = omega (arith, e, plan.side_high) in
     at.end l top ∙ ap (λ (k : ℕ). sum_below k (buckets_at p)) e
 
-pub entries_free : (w : Written) (b : Beside) (size : ℕ) → IsPlan w.plan → b.buckets ≡ w.plan.buckets → AreEnds w.plan b.ends → b.width ≡ number_of_buckets w.plan → HasRoom w.plan b → size ≡ number_of_slots w.plan → w.books ≡ [] → b.tags ≡ replicate size 0 → b.used ≡ replicate b.width 0 → AreEntries w b
-entries_free w b size plan row at wide room slots a d e = record {
+pub entries_free : (w : Written) (b : Beside) (size : ℕ) → IsPlan w.plan → b.buckets ≡ w.plan.buckets → AreEnds w.plan b.ends → b.width ≡ number_of_buckets w.plan → HasRoom w.plan b → size ≡ number_of_slots w.plan → w.books ≡ [] → b.tags ≡ replicate size 0 → b.used ≡ replicate b.width 0 → b.filled ≡ replicate b.width 0 → AreEntries w b
+entries_free w b size plan row at wide room slots a d e f = record {
   plan_is = plan;
   buckets_are = row;
   ends_are = at;
@@ -41,6 +41,8 @@ entries_free w b size plan row at wide room slots a d e = record {
   tagged = tagged_free w b.tags size a d;
   used_are = ap length e ∙ length-replicate b.width 0 ∙ wide;
   unused = unused_free w b.used a;
+  filled_are = ap length f ∙ length-replicate b.width 0 ∙ wide;
+  all_live = filled_free w b.filled b.width f;
 }
 
 pub entries_book : (w : Written) (b : Beside) (n : Name) (i book : ℕ) (books : List ℕ) → AreEntries w b → i ≡ slot_place w.plan n → 1 ≤ book_in w n → 1 ≤ book → PutsItem 0 w.books i book books → AreEntries (with_book w books) b
@@ -54,20 +56,27 @@ entries_book w b n i book books h e live some puts = record {
   tagged = tagged_book w b.tags n i book books h.tagged e live some puts;
   used_are = h.used_are;
   unused = unused_book w b.used n i book books h.unused e live puts;
+  filled_are = h.filled_are;
+  all_live = filled_book w b.filled i book books h.all_live some puts;
 }
 
-pub entries_clear : (w : Written) (b : Beside) (n : Name) (i j : ℕ) (books : List ℕ) → AreEntries w b → IsName w.plan n → i ≡ slot_place w.plan n → j ≡ tag_place w.plan n → PutsItem 0 w.books i 0 books → AreEntries (with_book w books) (record b { tags = set b.tags j 0 })
-entries_clear w b n i j books h a e f puts = record {
-  plan_is = h.plan_is;
-  buckets_are = h.buckets_are;
-  ends_are = h.ends_are;
-  width_is = h.width_is;
-  room_is = record { books = h.room_is.books; bits = h.room_is.bits; pairs = h.room_is.pairs };
-  tags_are = length-set b.tags j 0 ∙ h.tags_are;
-  tagged = tagged_clear w b.tags n i j books h.tagged a e f (omega (arith, tag_in w.plan n a, f, h.tags_are)) puts;
-  used_are = h.used_are;
-  unused = unused_clear w b.used i books h.unused puts;
-}
+pub entries_clear : (w : Written) (b : Beside) (n : Name) (i j k was number d : ℕ) (books : List ℕ) → AreEntries w b → IsName w.plan n → i ≡ slot_place w.plan n → j ≡ tag_place w.plan n → k ≡ bucket_place w.plan n.level n.bucket → was ≡ slice_index_or b.filled k d → number ≤ was → number ≤ n.slot → PutsItem 0 w.books i 0 books → AreEntries (with_book w books) (record b { tags = set b.tags j 0; filled = set b.filled k number })
+entries_clear w b n i j k was number d books h a e f q read falls before puts =
+    let inside : k < length b.filled = omega (arith, bucket_in w.plan n.level n.bucket (name_bucket w.plan n a), h.filled_are, q) in
+    let low : number ≤ slice_index b.filled k = omega (arith, read ∙ default_any b.filled k d 0 inside, falls) in
+    record {
+      plan_is = h.plan_is;
+      buckets_are = h.buckets_are;
+      ends_are = h.ends_are;
+      width_is = h.width_is;
+      room_is = record { books = h.room_is.books; bits = h.room_is.bits; pairs = h.room_is.pairs };
+      tags_are = length-set b.tags j 0 ∙ h.tags_are;
+      tagged = tagged_clear w b.tags n i j books h.tagged a e f (omega (arith, tag_in w.plan n a, f, h.tags_are)) puts;
+      used_are = h.used_are;
+      unused = unused_clear w b.used i books h.unused puts;
+      filled_are = length-set b.filled k number ∙ h.filled_are;
+      all_live = filled_clear w b.filled n i k number books h.all_live a e q inside low before puts;
+    }
 
 pub entries_key : (w : Written) (b : Beside) (n : Name) (bits : List ℕ) (pairs : List Pairs) → AreEntries w b → book_in w n ≡ 0 → OtherKeysStay w.plan n (key_in w) (key_in (record w { bits = bits; pairs = pairs })) → AreEntries (record w { bits = bits; pairs = pairs }) b
 entries_key w b n bits pairs h free others = record {
@@ -80,6 +89,8 @@ entries_key w b n bits pairs h free others = record {
   tagged = tagged_key w b.tags n bits pairs h.tagged free others;
   used_are = h.used_are;
   unused = record { unused = h.unused.unused };
+  filled_are = h.filled_are;
+  all_live = record { live = h.all_live.live };
 }
 
 pub entries_bits : (w : Written) (b : Beside) (n : Name) (i item : ℕ) (bits : List ℕ) → AreEntries w b → IsName w.plan n → n.level ≡ 0 → book_in w n ≡ 0 → i ≡ leaf_place w.plan n → PutsItem 0 w.bits i item bits → AreEntries (with_bits w bits) b
@@ -88,11 +99,14 @@ entries_bits w b n i item bits h a z free e puts = entries_key w b n bits w.pair
 pub entries_pairs : (w : Written) (b : Beside) (n : Name) (i : ℕ) (item : Pairs) (pairs : List Pairs) → AreEntries w b → IsName w.plan n → 1 ≤ n.level → book_in w n ≡ 0 → i ≡ node_place w.plan n → PutsItem no_pairs w.pairs i item pairs → AreEntries (with_pairs w pairs) b
 entries_pairs w b n i item pairs h a above free e puts = entries_key w b n w.bits pairs h free (puts_pairs w n i 0 item pairs a above e puts).others
 
-pub entries_entry : (w : Written) (b : Beside) (n : Name) (i j k tag was number d : ℕ) (books : List ℕ) → AreEntries w b → IsName w.plan n → i ≡ slot_place w.plan n → j ≡ tag_place w.plan n → tag ≡ tag_of_words n.level (leaf_bits_in w n) (pairs_in w n) → k ≡ bucket_place w.plan n.level n.bucket → was ≡ slice_index_or b.used k d → was ≤ number → n.slot + 1 ≤ number → PutsItem 0 w.books i 1 books
-    → AreEntries (with_book w books) (record b { tags = set b.tags j tag; used = set b.used k number })
-entries_entry w b n i j k tag was number d books h a e g f q read grows behind puts =
+pub entries_entry : (w : Written) (b : Beside) (n : Name) (i j k tag was number d were filled d2 : ℕ) (books : List ℕ) → AreEntries w b → IsName w.plan n → i ≡ slot_place w.plan n → j ≡ tag_place w.plan n → tag ≡ tag_of_words n.level (leaf_bits_in w n) (pairs_in w n) → k ≡ bucket_place w.plan n.level n.bucket → was ≡ slice_index_or b.used k d → was ≤ number → n.slot + 1 ≤ number
+    → were ≡ slice_index_or b.filled k d2 → ((s : ℕ) → s < filled → s ≢ n.slot → s < were) → PutsItem 0 w.books i 1 books
+    → AreEntries (with_book w books) (record b { tags = set b.tags j tag; used = set b.used k number; filled = set b.filled k filled })
+entries_entry w b n i j k tag was number d were filled d2 books h a e g f q read grows behind read2 goes_on puts =
     let inside : k < length b.used = omega (arith, bucket_in w.plan n.level n.bucket (name_bucket w.plan n a), h.used_are, q) in
     let low : slice_index b.used k ≤ number = omega (arith, read ∙ default_any b.used k d 0 inside, grows) in
+    let within : k < length b.filled = omega (arith, bucket_in w.plan n.level n.bucket (name_bucket w.plan n a), h.filled_are, q) in
+    let were_read : were ≡ slice_index b.filled k = read2 ∙ default_any b.filled k d2 0 within in
     record {
       plan_is = h.plan_is;
       buckets_are = h.buckets_are;
@@ -103,6 +117,8 @@ entries_entry w b n i j k tag was number d books h a e g f q read grows behind p
       tagged = tagged_entry w b.tags n i j tag books h.tagged a e g (omega (arith, tag_in w.plan n a, g, h.tags_are)) f puts;
       used_are = length-set b.used k number ∙ h.used_are;
       unused = unused_entry w b.used n i k number books h.unused a e q inside low behind puts;
+      filled_are = length-set b.filled k filled ∙ h.filled_are;
+      all_live = filled_entry w b.filled n i k filled books h.all_live a e q within (λ s lt ne. omega (arith, goes_on s lt ne, were_read)) puts;
     }
 
 -- the rows have the room that they had
@@ -117,4 +133,6 @@ entries_with_room w b books bits pairs h e f g = record {
   tagged = h.tagged;
   used_are = h.used_are;
   unused = h.unused;
+  filled_are = h.filled_are;
+  all_live = h.all_live;
 }

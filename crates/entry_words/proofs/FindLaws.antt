@@ -25,21 +25,23 @@ slot_at p level bucket start i e low = omega (arith, tag_slot p level bucket (i 
 slot_after : (p : Rattle.node_words.specs.Plans.Layout) (level bucket start k : ℕ) → start ≡ tag_place p (named level bucket 0) → tag_place p (named level bucket k) ≡ start + k
 slot_after p level bucket start k e = omega (arith, tag_slot p level bucket k)
 
--- where no tag of this part is 0, the slots are live
-pub lives_below : (w : Written) (tags : List ℕ) (level bucket start end slots : ℕ) → AreTagged w tags → IsBucket w.plan level bucket → start ≡ tag_place w.plan (named level bucket 0) → slots ≤ w.plan.cap → start + slots ≤ end → LacksByte tags start end 0 → AreLiveBelow w level bucket slots
-lives_below w tags level bucket start end slots t b e few ends none k lt =
-    let at = slot_after w.plan level bucket start k e in
-    live_slot w tags (named level bucket k) t (slot_name w.plan level bucket k b (omega arith)) (λ z. none (start + k) (omega arith) (omega arith) (ap (slice_index tags) (sym at) ∙ z))
+-- where no tag from some slot on is 0, and the slots before it are live, the slots are live
+pub lives_below : (w : Written) (tags : List ℕ) (level bucket start filled end slots : ℕ) → AreTagged w tags → IsBucket w.plan level bucket → start ≡ tag_place w.plan (named level bucket 0) → slots ≤ w.plan.cap → start + slots ≤ end → AreLiveBelow w level bucket filled → LacksByte tags (start + filled) end 0 → AreLiveBelow w level bucket slots
+lives_below w tags level bucket start filled end slots t b e few ends before none k lt = elim (cases_lt k filled) [
+  | inl low ↦ before k low
+  | inr high ↦ (let at = slot_after w.plan level bucket start k e in
+      live_slot w tags (named level bucket k) t (slot_name w.plan level bucket k b (omega arith)) (λ z. none (start + k) (omega (arith, high)) (omega arith) (ap (slice_index tags) (sym at) ∙ z)))
+]
 
-pub lowest_free : (w : Written) (tags : List ℕ) (level bucket start end i : ℕ) → AreTagged w tags → IsBucket w.plan level bucket → start ≡ tag_place w.plan (named level bucket 0) → end ≤ start + w.plan.cap → IsFirstPlace tags start end 0 i → IsLowestFree w level bucket (i - start)
-lowest_free w tags level bucket start end i t b e f first =
-    let low : start ≤ i = first.at_least in
+pub lowest_free : (w : Written) (tags : List ℕ) (level bucket start filled end i : ℕ) → AreTagged w tags → IsBucket w.plan level bucket → start ≡ tag_place w.plan (named level bucket 0) → end ≤ start + w.plan.cap → AreLiveBelow w level bucket filled → IsFirstPlace tags (start + filled) end 0 i → IsLowestFree w level bucket (i - start)
+lowest_free w tags level bucket start filled end i t b e f before first =
+    let low : start ≤ i = omega (arith, first.at_least) in
     let high : i < end = first.below in
     let slot : i - start < w.plan.cap = omega arith in
     record {
       below = slot;
       free = free_slot w tags (named level bucket (i - start)) t (slot_name w.plan level bucket (i - start) b slot) (ap (slice_index tags) (slot_at w.plan level bucket start i e low) ∙ first.there);
-      lower = lives_below w tags level bucket start i (i - start) t b e (omega arith) (omega arith) first.earlier;
+      lower = lives_below w tags level bucket start filled i (i - start) t b e (omega arith) (omega arith) before first.earlier;
     }
 
 -- a slot with the tag and the words of the key has the key

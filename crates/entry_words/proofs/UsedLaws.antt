@@ -1,16 +1,16 @@
--- Where the slots of buckets were never used.
-use Rattle.std.proofs.Common.{inl, inr, ◌≡◌, ℕ, ◌+◌, ◌<◌, ◌≤◌, List, [], length, set, ap, sym, ◌∙◌, arith, get_or-set_other}
-use Rattle.std.specs.Prelude.{slice_index, slice_index_or}
+-- Where the slots of buckets were never used, and where all are live.
+use Rattle.std.proofs.Common.{inl, inr, ◌≡◌, ◌≢◌, ℕ, ◌+◌, ◌*◌, ◌<◌, ◌≤◌, List, [], length, set, ap, sym, ◌∙◌, arith, get_or-set_other}
+use Rattle.std.specs.Prelude.{slice_index, slice_index_or, replicate}
 use Rattle.std.proofs.lemmas.Bool.{cases_eq}
 use Rattle.node_shapes.specs.declared.names.Name.{Name}
 use Rattle.node_places.specs.Names.{IsName, named}
 use Rattle.entry_words.specs.Slots.{slot_place, bucket_place, number_of_buckets, IsBucket}
-use Rattle.entry_words.specs.Words.{Written, book_in}
-use Rattle.entry_words.specs.Used.{IsUnusedFrom, AreUsed}
+use Rattle.entry_words.specs.Words.{Written, book_in, AreLiveBelow}
+use Rattle.entry_words.specs.Used.{IsUnusedFrom, AreUsed, AreFilled}
 use Rattle.entry_words.specs.Rows.{PutsItem}
 use Rattle.entry_words.proofs.SlotLaws.{place_one, bucket_in, slot_name}
 use Rattle.entry_words.proofs.ReadLaws.{default_any}
-use Rattle.entry_words.proofs.TagLaws.{at_place, with_book}
+use Rattle.entry_words.proofs.TagLaws.{at_place, with_book, zero_read}
 
 -- of a bucket, from the number that is kept or from an earlier slot that is as good
 pub unused_from : (w : Written) (used : List ℕ) (level bucket i number from d : ℕ) → length used ≡ number_of_buckets w.plan → AreUsed w used → IsBucket w.plan level bucket → i ≡ bucket_place w.plan level bucket → number ≡ slice_index_or used i d → ((slot : ℕ) → slot < w.plan.cap → from ≤ slot → number ≤ slot) → IsUnusedFrom w level bucket from
@@ -55,4 +55,50 @@ unused_entry w used n i j number books u b e f lt grows behind puts = record {
     before m le = elim (cases_eq (bucket_place w.plan m.level m.bucket) j) [
       | inl q ↦ omega (arith, at_place used j (bucket_place w.plan m.level m.bucket) number lt q, ap (slice_index used) q, grows, le)
       | inr ne ↦ omega (arith, get_or-set_other used j (bucket_place w.plan m.level m.bucket) number 0 ne, le)
+    ]
+
+-- of a bucket, below the number that is kept, or a lower one
+pub live_to : (w : Written) (filled : List ℕ) (level bucket i number to used d : ℕ) → length filled ≡ number_of_buckets w.plan → AreFilled w filled → IsBucket w.plan level bucket → i ≡ bucket_place w.plan level bucket → number ≡ slice_index_or filled i d → to ≤ number → to ≤ used → used ≤ w.plan.cap → AreLiveBelow w level bucket to
+live_to w filled level bucket i number to used d long l b e f low within few k lt =
+    let inside : i < length filled = omega (arith, e, bucket_in w.plan level bucket b, long) in
+    let at : slice_index filled (bucket_place w.plan level bucket) ≡ number = ap (slice_index filled) (sym e) ∙ sym (f ∙ default_any filled i d 0 inside) in
+    l.live (named level bucket k) (slot_name w.plan level bucket k b (omega arith)) (omega (arith, at, low, lt))
+
+-- where no slot is known to be live, nothing is to be shown
+pub filled_free : (w : Written) (filled : List ℕ) (n : ℕ) → filled ≡ replicate n 0 → AreFilled w filled
+filled_free w filled n e = record { live = λ m a lt. absurd (omega (arith, lt, ap (λ (row : List ℕ). slice_index row (bucket_place w.plan m.level m.bucket)) e, zero_read n (bucket_place w.plan m.level m.bucket))) }
+
+pub filled_book : (w : Written) (filled : List ℕ) (i book : ℕ) (books : List ℕ) → AreFilled w filled → 1 ≤ book → PutsItem 0 w.books i book books → AreFilled (with_book w books) filled
+filled_book w filled i book books l some puts = record {
+  live = λ m a lt. elim (cases_eq (slot_place w.plan m) i) [
+    | inl q ↦ omega (arith, ap (slice_index books) q, puts.here, some)
+    | inr ne ↦ omega (arith, puts.others (slot_place w.plan m) ne, l.live m a lt)
+  ];
+}
+
+-- a slot is free, and its bucket's number doesn't lie behind it then
+pub filled_clear : (w : Written) (filled : List ℕ) (n : Name) (i j number : ℕ) (books : List ℕ) → AreFilled w filled → IsName w.plan n → i ≡ slot_place w.plan n → j ≡ bucket_place w.plan n.level n.bucket → j < length filled → number ≤ slice_index filled j → number ≤ n.slot → PutsItem 0 w.books i 0 books → AreFilled (with_book w books) (set filled j number)
+filled_clear w filled n i j number books l b e f lt falls before puts = record {
+  live = λ m a below. elim (cases_eq (bucket_place w.plan m.level m.bucket) j) [
+    | inl q ↦ (let under : m.slot < number = omega (arith, at_place filled j (bucket_place w.plan m.level m.bucket) number lt q, below) in
+        let other : slot_place w.plan m ≢ i = λ p. absurd (omega (arith, ap (λ (k : Name). k.slot) (place_one w.plan m n a b (p ∙ e)), under, before)) in
+        omega (arith, puts.others (slot_place w.plan m) other, l.live m a (omega (arith, ap (slice_index filled) q, falls, under))))
+    | inr ne ↦ (let other : slot_place w.plan m ≢ i = λ p. ne (ap (λ (k : Name). bucket_place w.plan k.level k.bucket) (place_one w.plan m n a b (p ∙ e)) ∙ sym f) in
+        omega (arith, puts.others (slot_place w.plan m) other, l.live m a (omega (arith, get_or-set_other filled j (bucket_place w.plan m.level m.bucket) number 0 ne, below))))
+  ];
+}
+
+-- a slot is live, and its bucket's number may go on behind it then
+pub filled_entry : (w : Written) (filled : List ℕ) (n : Name) (i j number : ℕ) (books : List ℕ) → AreFilled w filled → IsName w.plan n → i ≡ slot_place w.plan n → j ≡ bucket_place w.plan n.level n.bucket → j < length filled → ((k : ℕ) → k < number → k ≢ n.slot → k < slice_index filled j) → PutsItem 0 w.books i 1 books → AreFilled (with_book w books) (set filled j number)
+filled_entry w filled n i j number books l b e f lt grows puts = record {
+  live = λ m a below. elim (cases_eq (slot_place w.plan m) i) [
+    | inl q ↦ omega (arith, ap (slice_index books) q, puts.here)
+    | inr ne ↦ omega (arith, puts.others (slot_place w.plan m) ne, l.live m a (before m a ne below))
+  ];
+}
+  where
+    before : (m : Name) → IsName w.plan m → slot_place w.plan m ≢ i → m.slot < slice_index (set filled j number) (bucket_place w.plan m.level m.bucket) → m.slot < slice_index filled (bucket_place w.plan m.level m.bucket)
+    before m a ne below = elim (cases_eq (bucket_place w.plan m.level m.bucket) j) [
+      | inl q ↦ omega (arith, ap (slice_index filled) q, grows m.slot (omega (arith, at_place filled j (bucket_place w.plan m.level m.bucket) number lt q, below)) (λ p. ne (omega (arith, e, f, q, p, ap (λ (s : ℕ). s * number_of_buckets w.plan) p))))
+      | inr other ↦ omega (arith, get_or-set_other filled j (bucket_place w.plan m.level m.bucket) number 0 other, below)
     ]

@@ -1,5 +1,6 @@
 -- A byte beside the words of each slot, by which a key is found. No contract for users shows it.
-use Rattle.std.specs.Prelude.{◌≡◌, ◌≢◌, ℕ, ◌+◌, ◌-◌, ◌*◌, ◌/◌, ◌%◌, ◌^◌, ◌<◌, ◌≤◌, List, length, slice_index}
+use Rattle.std.specs.Prelude.{◌≡◌, ◌≢◌, ℕ, ◌+◌, ◌-◌, ◌*◌, ◌/◌, ◌%◌, ◌^◌, ◌<◌, ◌≤◌}
+use Rattle.std.specs.Prelude.{List, length, slice_index}
 use Rattle.std.proofs.Common.{zero, suc}
 use Rattle.node_shapes.specs.declared.names.Name.{Name}
 use Rattle.node_words.specs.Plans.{Layout, IsPlan}
@@ -8,7 +9,7 @@ use Rattle.entry_words.specs.declared.key_words.Pairs.{Pairs}
 use Rattle.entry_words.specs.declared.key_words.KeyWords.{KeyWords}
 use Rattle.entry_words.specs.Slots.{tag_place, leaf_buckets, number_of_buckets, number_of_slots, AreEnds}
 use Rattle.entry_words.specs.Words.{Written, book_in, leaf_bits_in, pairs_in}
-use Rattle.entry_words.specs.Used.{AreUsed}
+use Rattle.entry_words.specs.Used.{AreUsed, AreFilled}
 
 -- a word of 64 bits times a number, and a sum of two, as far as 64 bits go
 abbrev pub times : ℕ → ℕ → ℕ
@@ -21,8 +22,10 @@ tag_plus a b = (a + b) % 2 ^ 64
 unfoldable pub mixed_words : ℕ → ℕ → Pairs → ℕ
 mixed_words zero bits pairs = times bits 0x9E3779B97F4A7C15
 mixed_words (suc level) bits pairs =
-    tag_plus (tag_plus (times pairs.first 0x9E3779B97F4A7C15) (times pairs.second 0xBF58476D1CE4E5B9))
-    (tag_plus (times pairs.third 0x94D049BB133111EB) (times pairs.fourth 0xD6E8FEB86659FD93))
+    tag_plus (tag_plus (times pairs.first 0x9E3779B97F4A7C15)
+    (times pairs.second 0xBF58476D1CE4E5B9))
+    (tag_plus (times pairs.third 0x94D049BB133111EB)
+    (times pairs.fourth 0xD6E8FEB86659FD93))
 
 -- a byte that tells most keys of a bucket apart, and isn't 0
 unfoldable pub tag_of_word : ℕ → ℕ
@@ -42,14 +45,15 @@ pub record AreTagged (w : Written) (tags : List ℕ) : Type 0 where
       → slice_index tags (tag_place w.plan n) ≡ tag_of_words n.level (leaf_bits_in w n) (pairs_in w n)
 
 -- what stands beside the words of slots: the buckets of each level and of those before it, how many
--- buckets there are, a tag for each slot, a number for each bucket, and how many items the rows have
--- room for
+-- buckets there are, a tag for each slot, two numbers for each bucket, and how many items the rows
+-- have room for
 pub record Beside : Type 0 where
   pub buckets : List ℕ
   pub ends : List ℕ
   pub width : ℕ
   pub tags : List ℕ
   pub used : List ℕ
+  pub filled : List ℕ
   pub room_for_books : ℕ
   pub room_for_bits : ℕ
   pub room_for_pairs : ℕ
@@ -70,6 +74,8 @@ pub record AreEntries (w : Written) (b : Beside) : Type 0 where
   pub tagged : AreTagged w b.tags
   pub used_are : length b.used ≡ number_of_buckets w.plan
   pub unused : AreUsed w b.used
+  pub filled_are : length b.filled ≡ number_of_buckets w.plan
+  pub all_live : AreFilled w b.filled
 
 -- no byte of this part of a row is the one
 abbrev pub LacksByte : List ℕ → ℕ → ℕ → ℕ → Type 0

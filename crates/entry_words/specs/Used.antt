@@ -1,4 +1,5 @@
--- How far the slots of buckets were ever used. No contract for users shows it.
+-- How far the slots of buckets were ever used, and up to where all are live. Contracts for users show
+-- the first alone.
 use Rattle.std.specs.Prelude.{◌≡◌, ℕ, ◌<◌, ◌≤◌, List, slice_index}
 use Rattle.node_shapes.specs.declared.names.Name.{Name}
 use Rattle.node_places.specs.Names.{IsName, named}
@@ -14,3 +15,8 @@ IsUnusedFrom w level bucket from =
 pub record AreUsed (w : Written) (used : List ℕ) : Type 0 where
   pub unused : (n : Name) → IsName w.plan n
       → slice_index used (bucket_place w.plan n.level n.bucket) ≤ n.slot → book_in w n ≡ 0
+
+-- each slot below its bucket's number is live
+pub record AreFilled (w : Written) (filled : List ℕ) : Type 0 where
+  pub live : (n : Name) → IsName w.plan n
+      → n.slot < slice_index filled (bucket_place w.plan n.level n.bucket) → 1 ≤ book_in w n

@@ -1,4 +1,4 @@
-ghost use Rattle.std.specs.Prelude.{◌≡◌, ◌↔◌, ℕ, ◌+◌, ◌-◌, ◌*◌, ◌<◌, ◌≤◌, ◌^◌, None, IfOk, IfSome, IsTrue};
+ghost use Rattle.std.specs.Prelude.{◌≡◌, ◌≢◌, ◌↔◌, ℕ, ◌+◌, ◌-◌, ◌*◌, ◌<◌, ◌≤◌, ◌^◌, None, IfOk, IfSome, IsTrue};
 ghost use Rattle.node_shapes.specs.declared.names.Name.{Name};
 ghost use Rattle.node_words.specs.declared.keys.Key.TheVariants.{Node};
 ghost use Rattle.node_words.specs.Plans.{IsPlan};
@@ -30,7 +30,8 @@ use vw_cell::Side;
 ///
 /// For each slot there is a byte, its tag, by which searches pass over most slots of a bucket. The
 /// tags of a bucket stand side by side. Of each bucket is known how far its slots were ever used, and
-/// no search goes on behind that. Contracts see neither.
+/// no search goes on behind that; and up to where all its slots are live, so that a free one is
+/// sought from there. Contracts see none of these.
 #[derive(Drop)]
 pub struct EntryWords {
     plan: Plan,
@@ -42,6 +43,7 @@ pub struct EntryWords {
     pairs: Vec<Pairs>,
     tags: Vec<u8>,
     used: Vec<u16>,
+    filled: Vec<u16>,
 }
 
 impl Model for EntryWords {
@@ -63,6 +65,7 @@ impl Model for EntryWords {
           width = w.width;
           tags = w.tags.items;
           used = w.used.items;
+          filled = w.filled.items;
           room_for_books = vec_capacity w.books;
           room_for_bits = vec_capacity w.bits;
           room_for_pairs = vec_capacity w.pairs;
@@ -90,6 +93,7 @@ impl EntryWords {
             pairs: Vec::with_capacity(alloc, (width - ends[1]) * cap)?,
             tags: vec![in alloc; 0; width * cap]?,
             used: vec![in alloc; 0; width]?,
+            filled: vec![in alloc; 0; width]?,
         })
     }
 
@@ -143,6 +147,7 @@ impl EntryWords {
         let bucket = self.bucket_place(n.level, n.bucket);
         self.tags[tag] = tag_of(n.level, &words);
         self.used[bucket] = self.used[bucket].max(u16::from(n.slot) + 1);
+        self.filled[bucket] = filled_with(self.filled[bucket], n.slot);
         put(&mut self.books, i, 1, 0);
     }
 
@@ -153,7 +158,9 @@ impl EntryWords {
     {
         let i = self.place(n);
         let tag = self.tag_place(n);
+        let bucket = self.bucket_place(n.level, n.bucket);
         self.tags[tag] = 0;
+        self.filled[bucket] = self.filled[bucket].min(u16::from(n.slot));
         put(&mut self.books, i, 0, 0);
     }
 
@@ -236,7 +243,8 @@ impl EntryWords {
     {
         let start = self.start(level, bucket);
         let used = self.used_of(level, bucket);
-        if let Some(i) = position(&self.tags, start, start + used, 0) {
+        let filled = self.filled_of(level, bucket, used);
+        if let Some(i) = position(&self.tags, start + filled, start + used, 0) {
             return Some((i - start) as u8);
         }
         if used < usize::from(self.plan.cap()) {
@@ -246,9 +254,10 @@ impl EntryWords {
         }
     }
 
-    // How many slots of a bucket, from the first on, may have been used. It is made up to whole blocks
-    // of tags, so that a search for a key that isn't there compares no tag alone.
-    fn used_of(&self, level: u8, bucket: u16) -> usize
+    /// How many slots of a bucket, from the first on, may have been used; all others are free. It is
+    /// made up to whole blocks of tags, so that a search for a key that isn't there compares no tag
+    /// alone.
+    pub fn used_of(&self, level: u8, bucket: u16) -> usize
         requires { IsBucket self.now.plan level bucket }
         ensures within { result ≤ self.now.plan.cap }
         ensures small { result < 2 ^ 16 }
@@ -257,6 +266,16 @@ impl EntryWords {
         let used = usize::from(self.used[self.bucket_place(level, bucket)]);
         let blocks = (used + (BLOCK - 1)) / BLOCK;
         (blocks * BLOCK).min(usize::from(self.plan.cap()))
+    }
+
+    // How many slots of a bucket, from the first on, are known to be live, among so many used ones.
+    fn filled_of(&self, level: u8, bucket: u16, used: usize) -> usize
+        requires bucket { IsBucket self.now.plan level bucket }
+        requires within { used ≤ self.now.plan.cap }
+        ensures within { result ≤ used }
+        ensures live { AreLiveBelow self.now level bucket result }
+    {
+        usize::from(self.filled[self.bucket_place(level, bucket)]).min(used)
     }
 
     // The words of the key of a free slot.
@@ -356,5 +375,16 @@ impl EntryWords {
             return item(&self.bits, self.leaf_place(n), 0) == words.bits;
         }
         item(&self.pairs, self.node_place(n), NO_PAIRS).is(&words.pairs)
+    }
+}
+
+// How many slots from the first on are live once this one is, where so many were.
+fn filled_with(filled: u16, slot: u8) -> u16
+    ensures { (k : ℕ) → k < result → k ≢ slot → k < filled }
+{
+    if filled == u16::from(slot) {
+        filled + 1
+    } else {
+        filled
     }
 }

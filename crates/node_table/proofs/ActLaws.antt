@@ -167,16 +167,3 @@ ends_learned v m w t (Freed children) same e = (
   },
   e.1,
 )
-
--- eight names that are told one by one
-pub eight_names : (cs : List (Option Name)) → length cs ≡ 8
-    → name_in cs 0 ∷ name_in cs 1 ∷ name_in cs 2 ∷ name_in cs 3 ∷ name_in cs 4 ∷ name_in cs 5
-    ∷ name_in cs 6 ∷ name_in cs 7 ∷ [] ≡ cs
-eight_names (a ∷ b ∷ c ∷ d ∷ e ∷ f ∷ g ∷ h ∷ []) l = refl
-eight_names _ l = absurd (omega arith)
-
-pub default_same : (cs : List (Option Name)) (k : ℕ) (d e : Option Name) → k < length cs
-    → slice_index_or cs k d ≡ slice_index_or cs k e
-default_same [] k d e lt = absurd (omega arith)
-default_same (c ∷ cs) zero d e lt = refl
-default_same (c ∷ cs) (suc k) d e lt = default_same cs k d e (omega arith)

@@ -14,7 +14,7 @@ ghost use Rattle.node_table.specs.Lowers.{AreChildrenIn, EndsLowered};
 ghost use Rattle.node_table.specs.Seen.{BelongsTo, bucket_named};
 ghost use Rattle.node_table.specs.Turns.{HasTurn, HasTurnFor};
 
-use crate::children::{number_in, shares_of};
+use crate::children::number_in;
 use crate::lowering::Lowering;
 use crate::passes::{NumberedSeat, Pass, tell};
 use crate::places::Place;
@@ -26,7 +26,7 @@ use crate::steps::{
 };
 use crate::tables::NodeTable;
 use node_shapes::Name;
-use node_words::Key;
+use node_words::{Key, shares_of};
 use std::sync::Wait;
 
 // Waits for the turn of the bucket.

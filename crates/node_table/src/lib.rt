@@ -19,7 +19,6 @@ mod steps;
 mod tables;
 mod turns;
 
-pub use children::{end_all, take_at};
 pub use lowering::Lowering;
 pub use passes::Pass;
 pub use places::Place;

@@ -14,13 +14,13 @@ ghost use Rattle.node_table.specs.Seen.{BelongsTo, bucket_named};
 ghost use Rattle.node_table.specs.Turns.{HasTurn};
 
 use crate::acts;
-use crate::children::{number_in, spend_all};
+use crate::children::number_in;
 use crate::lowering::Lowering;
 use crate::passes::Pass;
 use crate::places::Place;
 use crate::tables::NodeTable;
 use node_shapes::Name;
-use node_words::{Key, Share, Steps};
+use node_words::{Key, Share, Steps, spend_all};
 use std::sync::Wait;
 use std::sync::ledger::Ledger;
 

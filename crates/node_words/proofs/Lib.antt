@@ -3,3 +3,4 @@ pub mod KeyLaws
 pub mod GatherLaws
 pub mod PlanLaws
 pub mod WalkLaws
+pub mod RowLaws

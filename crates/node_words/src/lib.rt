@@ -8,6 +8,7 @@
 mod keys;
 mod laws;
 mod plans;
+mod rows;
 mod shares;
 mod stores;
 mod turns;
@@ -21,6 +22,7 @@ pub use laws::{
 pub use node_kernels::{ball_bits, box_bits, window_bits};
 pub use node_shapes::Name;
 pub use plans::Plan;
+pub use rows::{end, end_all, names_of, shares_of, spend_all, take_at};
 pub use shares::{Full, NodeRefused, Share};
 pub use stores::{Blocks, NodeStore};
 pub use turns::Steps;

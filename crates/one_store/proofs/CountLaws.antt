@@ -1,5 +1,5 @@
 -- Live nodes are counted slot by slot and bucket by bucket.
-use Rattle.std.proofs.Common.{◌≡◌, ℕ, zero, suc, ◌+◌, ◌<◌, List, [], ◌∷◌, refl, sym, ◌∙◌, ap, arith}
+use Rattle.std.proofs.Common.{◌≡◌, ℕ, zero, suc, ◌+◌, ◌-◌, ◌<◌, ◌≤◌, List, [], ◌∷◌, refl, sym, ◌∙◌, ap, arith}
 use Rattle.sums.specs.Sums.{sum_below, sum_below-suc, sum_below-zero}
 use Rattle.node_shapes.specs.Tree.{Tree}
 use Rattle.node_shapes.specs.Weights.{weigh, number_of_trees}
@@ -26,6 +26,18 @@ pub counted_next : (f : ℕ → ℕ) (n x y : ℕ) → x ≡ sum_below n f → y
 counted_next f n x y e g =
     let z : n + 1 ≡ suc n = omega arith in
     rw z (omega (arith, e, g, sum_below-suc n f))
+
+-- what is 0 from n on adds nothing
+counted_on : (f : ℕ → ℕ) (n d : ℕ) → ((k : ℕ) → k < n + d → n ≤ k → f k ≡ 0) → sum_below n f ≡ sum_below (n + d) f
+counted_on f n zero none = let z : n + 0 ≡ n = omega arith in rw z refl
+counted_on f n (suc d) none =
+    let z : n + suc d ≡ suc (n + d) = omega arith in
+    rw z (omega (arith, counted_on f n d (λ k lt le. none k (omega (arith, lt)) le), none (n + d) (omega arith) (omega arith), sum_below-suc (n + d) f))
+
+pub counted_all : (f : ℕ → ℕ) (n m : ℕ) → n ≤ m → ((k : ℕ) → k < m → n ≤ k → f k ≡ 0) → sum_below n f ≡ sum_below m f
+counted_all f n m le none =
+    let all : n + (m - n) ≡ m = omega (arith, le) in
+    counted_on f n (m - n) (λ k lt low. none k (omega (arith, lt, all)) low) ∙ ap (λ (k : ℕ). sum_below k f) all
 
 nothing_held : (ts : List Tree) (f : Tree → ℕ) → number_of_trees ts ≡ 0 → weigh f ts ≡ 0
 nothing_held [] f e = weigh-nil f

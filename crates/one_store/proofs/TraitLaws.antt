@@ -35,16 +35,6 @@ use Rattle.one_store.proofs.StateLaws.{row_root, standing_at}
 use Rattle.one_store.proofs.StoreLaws.{held_name, held_is, book_moves, same_plan, same_keys}
 use Rattle.one_store.proofs.BackLaws.{leaf_row, leaf_none, leaf_key, live_names, node_tree}
 
-pub eight_names : (cs : List (Option Name)) → length cs ≡ 8 → name_in cs 0 ∷ name_in cs 1 ∷ name_in cs 2 ∷ name_in cs 3 ∷ name_in cs 4 ∷ name_in cs 5 ∷ name_in cs 6 ∷ name_in cs 7 ∷ [] ≡ cs
-eight_names (a ∷ b ∷ c ∷ d ∷ e ∷ f ∷ g ∷ h ∷ []) l = refl
-eight_names _ l = absurd (omega arith)
-
--- an item that is there doesn't depend on what would stand in its place
-pub default_same : (cs : List (Option Name)) (k : ℕ) (d e : Option Name) → k < length cs → slice_index_or cs k d ≡ slice_index_or cs k e
-default_same [] k d e lt = absurd (omega arith)
-default_same (c ∷ cs) zero d e lt = refl
-default_same (c ∷ cs) (suc k) d e lt = default_same cs k d e (omega arith)
-
 -- what is reached is live
 pub reached : (v : Known) (number : ℕ) (t : Tree) (n : Name) → IsStore v number → IsReached v.told.held t → root_of t ≡ Some n → IsLive v.words.plan (core_of v) n × (tree_in v n ≡ t)
 reached v number t n s r e = standing_at v.words.plan (core_of v) t n (parts_stand v.words.plan (core_of v) s.sound t r.over r.stands (inr (s.stand.each r.over r.is_held))) e

@@ -189,7 +189,7 @@ impl OneStore {
         ensures few { result ≤ 256 }
     {
         let mut number = 0;
-        for slot in 0..self.words.plan().cap() {
+        for slot in 0..self.words.used_of(level, bucket) {
             let n = Name {
                 level,
                 bucket,

@@ -2,7 +2,9 @@ ghost use Rattle.std.specs.Prelude.{◌≡◌, ◌<◌, ◌≤◌, Some, length}
 ghost use Rattle.node_shapes.specs.declared.names.Name.{Name};
 
 use crate::store::{OneStore, number_in};
-use node_words::{Blocks, Full, Key, Name, NodeRefused, NodeStore, Share, Steps};
+use node_words::{
+    Blocks, Full, Key, Name, NodeRefused, NodeStore, Share, Steps, names_of, spend_all,
+};
 use std::sync::ledger::Ledger;
 
 impl Blocks for OneStore {
@@ -170,50 +172,4 @@ impl NodeStore for OneStore {
         self.release(share.spend(), steps);
         let _left = self.number();
     }
-}
-
-fn name_of(share: &Option<Share>) -> Option<Name>
-    ensures { result ≡ share.now }
-{
-    match share {
-        Some(share) => Some(share.name()),
-        None => None,
-    }
-}
-
-#[tactic(auto, using(crate::proofs::TraitLaws::eight_names))]
-fn names_of(children: &[Option<Share>; 8]) -> [Option<Name>; 8]
-    ensures { result ≡ children.now }
-{
-    [
-        name_of(&children[0]),
-        name_of(&children[1]),
-        name_of(&children[2]),
-        name_of(&children[3]),
-        name_of(&children[4]),
-        name_of(&children[5]),
-        name_of(&children[6]),
-        name_of(&children[7]),
-    ]
-}
-
-fn spend(share: Option<Share>) {
-    match share {
-        Some(share) => {
-            let _name = share.spend();
-        }
-        None => {}
-    }
-}
-
-fn spend_all(children: [Option<Share>; 8]) {
-    let [a, b, c, d, e, f, g, h] = children;
-    spend(a);
-    spend(b);
-    spend(c);
-    spend(d);
-    spend(e);
-    spend(f);
-    spend(g);
-    spend(h);
 }

@@ -4,7 +4,7 @@ ghost use Rattle.node_words.specs.Held.{HoldsName, SameHeld};
 ghost use Rattle.one_store.specs.Known.{stored_root};
 ghost use Rattle.tests_core.specs.Hands.{HoldsLeaves};
 
-use node_words::{Full, Name, NodeRefused, NodeStore, Plan, Share, Steps};
+use node_words::{Full, Name, NodeRefused, NodeStore, Plan, Share, Steps, spend_all};
 use one_store::OneStore;
 use std::alloc::{AllocError, Global};
 use std::sync::ledger::Ledger;
@@ -271,26 +271,5 @@ fn share_of(name: Option<Name>) -> Option<Share>
     match name {
         Some(n) => Some(Share::of_store(n)),
         None => None,
-    }
-}
-
-fn spend_all(children: [Option<Share>; 8]) {
-    let [a, b, c, d, e, f, g, h] = children;
-    spend(a);
-    spend(b);
-    spend(c);
-    spend(d);
-    spend(e);
-    spend(f);
-    spend(g);
-    spend(h);
-}
-
-fn spend(share: Option<Share>) {
-    match share {
-        Some(share) => {
-            let _name = share.spend();
-        }
-        None => {}
     }
 }

@@ -3,7 +3,7 @@ ghost use Rattle.node_shapes.specs.Weights.{number_of_trees};
 ghost use Rattle.node_words.specs.Held.{HoldsName};
 ghost use Rattle.one_store.specs.Known.{known_seen, stored_root};
 
-use node_words::{Full, Name, NodeRefused, NodeStore, Share, Steps};
+use node_words::{Full, Name, NodeRefused, NodeStore, Share, Steps, spend_all};
 use one_store::OneStore;
 use std::sync::ledger::Ledger;
 
@@ -72,27 +72,6 @@ fn over<L: Ledger>(store: &mut OneStore, leaf: Share, steps: &mut Steps<L>) -> R
             spend_all(children);
             Err(full)
         }
-    }
-}
-
-fn spend_all(children: [Option<Share>; 8]) {
-    let [a, b, c, d, e, f, g, h] = children;
-    spend(a);
-    spend(b);
-    spend(c);
-    spend(d);
-    spend(e);
-    spend(f);
-    spend(g);
-    spend(h);
-}
-
-fn spend(share: Option<Share>) {
-    match share {
-        Some(share) => {
-            let _name = share.spend();
-        }
-        None => {}
     }
 }
 

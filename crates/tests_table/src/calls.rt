@@ -5,7 +5,7 @@ ghost use Rattle.node_table.specs.Seen.{BelongsTo};
 ghost use Rattle.tests_table.specs.Spare.{IsSpare};
 
 use node_table::{Lowering, NodeTable, Pass};
-use node_words::{Share, Steps};
+use node_words::{Share, Steps, spend_all};
 use std::sync::Wait;
 use std::sync::ledger::Ledger;
 
@@ -33,30 +33,9 @@ pub fn give<R: Wait, L: Ledger>(
     match turn.lower(share) {
         Lowering::Left => false,
         Lowering::Freed(children) => {
-            spend(children);
+            spend_all(children);
             true
         }
-    }
-}
-
-fn spend(children: [Option<Share>; 8]) {
-    let [a, b, c, d, e, f, g, h] = children;
-    spend_one(a);
-    spend_one(b);
-    spend_one(c);
-    spend_one(d);
-    spend_one(e);
-    spend_one(f);
-    spend_one(g);
-    spend_one(h);
-}
-
-fn spend_one(share: Option<Share>) {
-    match share {
-        Some(share) => {
-            let _name = share.spend();
-        }
-        None => {}
     }
 }
 

@@ -1,6 +1,6 @@
 use Rattle.std.proofs.Common.{◌∙◌, refl, ap, sym, subst, arith}
 use Rattle.node_places.specs.Names.{IsName}
-use Rattle.entry_words.specs.Slots.{slot_place, tag_place, number_of_slots}
+use Rattle.entry_words.specs.Slots.{slot_place, tag_place, bucket_place, number_of_slots}
 use Rattle.entry_words.specs.Words.{Written}
 use Rattle.entry_words.specs.Changes.{SetsBook}
 use Rattle.entry_words.proofs.TagLaws.{sets_book, with_book}
@@ -15,8 +15,9 @@ invariant_of-self c =
     let e = sym c.self.view_is in
     let at = c.place-i.ensures.value ∙ ap (λ (w : Written). slot_place w.plan c.args.n) e in
     let tag = c.tag_place-tag.ensures.value ∙ ap (λ (w : Written). tag_place w.plan c.args.n) e in
+    let bucket = c.bucket_place-bucket.ensures.value ∙ ap (λ (w : Written). bucket_place w.plan c.args.n.level c.args.n.bucket) e in
     let name = subst (λ (w : Written). IsName w.plan c.args.n) e c.requires in
-    entries_with_room _ _ _ _ _ (entries_clear _ _ c.args.n c.place-i.result c.tag_place-tag.result c.put.new.row.items c.self.invariant name at tag c.put.ensures.puts) c.put.ensures.room refl refl
+    entries_with_room _ _ _ _ _ (entries_clear _ _ c.args.n c.place-i.result c.tag_place-tag.result c.bucket_place-bucket.result c.index.result.now c.min.result _ c.put.new.row.items c.self.invariant name at tag bucket c.index.ensures (omega (arith, c.min.ensures)) (omega (arith, c.min.ensures, c.from.ensures)) c.put.ensures.puts) c.put.ensures.room refl refl
 
 pub returns : goal.returns
 returns c =

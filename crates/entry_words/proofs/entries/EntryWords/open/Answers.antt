@@ -21,7 +21,7 @@ invariant_of-self c =
     let tag = c.tag_place-tag.ensures.value ∙ ap (λ (w : Written). tag_place w.plan c.args.n) e in
     let bucket = c.bucket_place-bucket.ensures.value ∙ ap (λ (w : Written). bucket_place w.plan c.args.n.level c.args.n.bucket) e in
     let key = subst (λ (w : Written). key_in w c.args.n ≡ key_of c.args.n.level c.args.words) e c.put_key.ensures.key_is in
-    entries_with_room _ _ _ _ _ (entries_entry _ _ c.args.n c.place-i.result c.tag_place-tag.result c.bucket_place-bucket.result c.tag_of.result c.index.result.now _ _ c.put.new.row.items c.self.invariant name at tag (c.tag_of.ensures ∙ sym (tag_same c.args.n.level _ _ _ _ key)) bucket c.index.ensures (omega arith) (omega arith) c.put.ensures.puts)
+    entries_with_room _ _ _ _ _ (entries_entry _ _ c.args.n c.place-i.result c.tag_place-tag.result c.bucket_place-bucket.result c.tag_of.result c.index.result.now _ _ c.index-2.result.now c.filled_with.result _ c.put.new.row.items c.self.invariant name at tag (c.tag_of.ensures ∙ sym (tag_same c.args.n.level _ _ _ _ key)) bucket c.index.ensures (omega arith) (omega arith) c.index-2.ensures c.filled_with.ensures c.put.ensures.puts)
     c.put.ensures.room refl refl
 
 pub returns : goal.returns

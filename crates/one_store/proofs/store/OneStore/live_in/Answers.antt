@@ -1,9 +1,11 @@
-use Rattle.std.proofs.Common.{ap, ◌∙◌, arith, ℕ}
+use Rattle.std.proofs.Common.{ap, sym, subst, ◌∙◌, ◌≡◌, ◌≤◌, arith, ℕ}
+use Rattle.sums.specs.Sums.{sum_below}
 use Rattle.node_places.specs.Names.{named}
 use Rattle.core_laws.specs.Counting.{if_live}
 use Rattle.entry_words.specs.Words.{book_in}
+use Rattle.entry_words.specs.Used.{IsUnusedFrom}
 use Rattle.one_store.specs.Known.{Known}
-use Rattle.one_store.proofs.CountLaws.{counted_none, counted_next}
+use Rattle.one_store.proofs.CountLaws.{counted_none, counted_next, counted_all}
 use Rattle.one_store.proofs.store.OneStore.live_in.Goals as goal
 
 pub loop-slot-init : goal.loop-slot-init
@@ -18,3 +20,14 @@ loop-slot-preserved c =
           (c.one_where_live-number.ensures.value ∙ ap (λ (b : ℕ). if_live b 1) book);
       few = omega (arith, c.loop-slot.invariant.few, c.one_where_live-number.ensures.one);
     }
+
+pub returns-clause-number : goal.returns-clause-number
+returns-clause-number c =
+    let v = c.args.self.now in
+    let used = c.used_of-slot-end.result in
+    let f : ℕ → ℕ = λ slot. if_live (book_in v.words (named c.args.level c.args.bucket slot)) 1 in
+    let free = subst (λ (w : Known). IsUnusedFrom w.words c.args.level c.args.bucket used) c.self.view_is c.used_of-slot-end.ensures.free in
+    let within = subst (λ (w : Known). used ≤ w.words.plan.cap) c.self.view_is c.used_of-slot-end.ensures.within in
+    let all : c.loop-slot.slot ≡ used = omega (arith, c.loop-slot.auto.slot-end, c.loop-slot-test.false) in
+    c.loop-slot.invariant.number_is ∙ ap (λ (n : ℕ). sum_below n f) all
+    ∙ counted_all f used v.words.plan.cap within (λ k lt le. ap (λ (b : ℕ). if_live b 1) (free k lt le))
