@@ -25,3 +25,18 @@ list_crates() {
         echo "$line"
     } > "$work/crates.txt"
 }
+
+# below NAME ..: these crates and all that they stand on, lowest first.
+below() {
+    awk -F"[: ]+" -v above="$*" '
+        !/^#/ && NF { order[++number] = $1; for (i = 2; i <= NF; i++) below[$1] = below[$1] " " $i }
+        END {
+            count = split(above, list, " ")
+            for (i = 1; i <= count; i++) wanted[list[i]] = 1
+            for (i = number; i; i--) if (order[i] in wanted) {
+                count = split(below[order[i]], list, " ")
+                for (j = 1; j <= count; j++) wanted[list[j]] = 1
+            }
+            for (i = 1; i <= number; i++) if (order[i] in wanted) print order[i]
+        }' "$root/crates.txt"
+}

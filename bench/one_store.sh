@@ -9,8 +9,7 @@ here=$(cd "$(dirname "$0")" && pwd)
 root=$(dirname "$here")
 work=$here/work/one_store
 . "$here/copies.sh"
-crates=$(cd "$root" && awk -F"[: ]+" '/^one_store:/ { for (i = 2; i <= NF; i++) print $i }' crates.txt)
-crates="one_store node_kernels bit_set vox_chunk word_bits $crates"
+crates=$(below one_store)
 rounds=5
 mkdir -p "$work/crates/bench_one_store/src"
 copy_crates $crates

@@ -13,15 +13,7 @@ work=$here/work/worlds
 . "$here/copies.sh"
 [ -f "${PEER:-}/store.rs" ] || { echo "PEER must name the folder of the peer's sources" >&2; exit 1; }
 above="one_store edit_ops edit_copy edit_stamp measure ray_walk extract script"
-# what these stand on
-crates=$(awk -F"[: ]+" -v above="$above" '
-    !/^#/ && NF { order[++number] = $1; for (i = 2; i <= NF; i++) below[$1] = below[$1] " " $i }
-    END {
-        count = split(above, list, " ")
-        for (i = 1; i <= count; i++) wanted[list[i]] = 1
-        for (i = number; i; i--) if (order[i] in wanted) { m = split(below[order[i]], more, " "); for (j = 1; j <= m; j++) wanted[more[j]] = 1 }
-        for (i = 1; i <= number; i++) if (order[i] in wanted) print order[i]
-    }' "$root/crates.txt")
+crates=$(below $above)
 mkdir -p "$work/crates" "$work/peer"
 copy_crates $crates
 program=$work/crates/bench_worlds

@@ -3,3 +3,4 @@ pub mod Parts
 pub mod Looks
 pub mod Answers
 pub mod Landings
+pub use Rattle.sums.specs.Sums

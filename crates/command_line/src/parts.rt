@@ -101,7 +101,7 @@ fn operand(word: &str) -> Option<&str>
     if is_operand(word) { Some(word) } else { None }
 }
 
-/// Whether a word can be a name, or an option's value: it is not empty, and does not begin with `-`.
+/// Whether a word can be a name, or an option's value: not empty, and not beginning with `-`.
 pub fn is_operand(word: &str) -> bool
     ensures { result ≡ is_operand word.now }
 {

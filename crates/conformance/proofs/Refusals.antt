@@ -1,6 +1,6 @@
 -- Where nowhere enough is possible, no change was refused for a full bucket.
 use Rattle.std.proofs.Common.{◌≡◌, ℕ, List, [], ◌∷◌, All, refl, arith}
-use Rattle.vox_read.specs.Contents.{Content}
+use Rattle.history_model.specs.Contents.{Content}
 use Rattle.history_model.specs.Logs.{Log}
 use Rattle.node_words.specs.Plans.{Layout}
 use Rattle.possible.specs.Needed.{IsPossible}

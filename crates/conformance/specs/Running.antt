@@ -1,7 +1,7 @@
 -- What a run of scripts one after another keeps, and what one more line makes of it.
 use Rattle.std.specs.Prelude.{◌≡◌, ℕ, ◌^◌, ◌<◌, ◌≤◌, ◌⊎◌, List, [], ◌∷◌, ◌++◌, length, map, All, AllPairs}
 use Rattle.std.specs.List.{AllZip, Contains}
-use Rattle.vox_read.specs.Contents.{Content}
+use Rattle.history_model.specs.Contents.{Content}
 use Rattle.history_model.specs.declared.histories.Record.{Record}
 use Rattle.history_model.specs.declared.histories.Mark.{Mark}
 use Rattle.block_contents.specs.Versions.{MarkComes}

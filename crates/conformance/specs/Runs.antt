@@ -1,6 +1,6 @@
 -- What a run of scripts gives. Session k has script k and transcript k.
 use Rattle.std.specs.Prelude.{◌^◌, List}
-use Rattle.vox_read.specs.Contents.{Content}
+use Rattle.history_model.specs.Contents.{Content}
 use Rattle.history_model.specs.Logs.{Log, IsLegal}
 use Rattle.node_words.specs.Plans.{Layout}
 use Rattle.script.specs.declared.commands.ScriptLine.{ScriptLine}

@@ -1,7 +1,7 @@
 -- The cells of the version that a record makes.
 use Rattle.std.proofs.Common.{ℕ, ◌+◌, sym, ◌∙◌, ap, inl, inr, List, [], ◌∷◌, ◌++◌, length}
 use Rattle.std.proofs.lemmas.Bool.{cases_Bool}
-use Rattle.vox_read.specs.Contents.{Content}
+use Rattle.history_model.specs.Contents.{Content}
 use Rattle.history_model.specs.declared.histories.Record.{Record}
 use Rattle.history_model.specs.Worlds.{World, is_edit}
 use Rattle.history_model.specs.Positions.{Position}

@@ -1,7 +1,7 @@
 -- When a state is sound.
 use Rattle.std.specs.Prelude.{◌≡◌, ◌≢◌, ℕ, zero, suc, ◌+◌, ◌^◌, ◌<◌, Some, None, List, [], length, All}
 use Rattle.std.specs.List.{AllPairs, Contains}
-use Rattle.vox_read.specs.Contents.{Content}
+use Rattle.history_model.specs.Contents.{Content}
 use Rattle.node_shapes.specs.declared.names.Name.{Name}
 use Rattle.node_shapes.specs.Shape.{Shape, Clear, ShowsCells, IsCanonical}
 use Rattle.node_shapes.specs.Buckets.{bucket_of_shape}

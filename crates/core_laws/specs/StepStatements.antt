@@ -1,7 +1,7 @@
 -- What the laws say of steps.
 use Rattle.std.specs.Prelude.{◌≡◌, ◌≢◌, ℕ, ◌≤◌, List, length}
 use Rattle.vw_cell.specs.declared.cells.Cell.{Cell}
-use Rattle.vox_read.specs.Contents.{Content}
+use Rattle.history_model.specs.Contents.{Content}
 use Rattle.node_shapes.specs.declared.names.Name.{Name}
 use Rattle.node_words.specs.Plans.{Layout}
 use Rattle.history_model.specs.Moments.{world_has}

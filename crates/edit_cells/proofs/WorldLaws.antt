@@ -3,7 +3,7 @@ use Rattle.std.proofs.Common.{◌≡◌, ℕ, zero, suc, ◌+◌, ◌-◌, ◌*�
 use Rattle.std.proofs.Math.Nat.{mul_comm}
 use lib.Pow.{pow_mono}
 use Rattle.vw_cell.specs.declared.cells.Cell.{Cell}
-use Rattle.sums.specs.Sums.{sum_below, sum_below-le}
+use Rattle.block_walk.specs.Sums.{sum_below, sum_below-le}
 use Rattle.vw_cell.specs.Counts.{cell_at}
 use Rattle.vw_cell.specs.Places.{block_side, half_x, half_y, half_z, LiesIn, octant_of}
 use Rattle.node_shapes.specs.declared.names.Name.{Name}

@@ -12,8 +12,8 @@ pub fn side_of(level: u8) -> u32
     4 << level
 }
 
-/// A box of at most this size on each axis has few blocks alike, and to seek them costs more than it
-/// saves.
+/// A box of at most this size on each axis has few blocks alike, and to seek them costs more than
+/// it saves.
 const FEW: u16 = 64;
 
 /// Whether many blocks may be alike in an edit of a box of this size.

@@ -1,5 +1,5 @@
 ghost use Rattle.std.specs.Prelude.{◌≡◌, ◌+◌, ◌-◌, ◌<◌, ◌≤◌, ◌↔◌, ℕ, List, IsTrue};
-ghost use Rattle.sums.specs.Sums.{sum_below};
+ghost use Rattle.block_walk.specs.Sums.{sum_below};
 ghost use Rattle.node_shapes.specs.Shape.{Leaf, has};
 ghost use Rattle.node_shapes.specs.Tree.{Tree};
 ghost use Rattle.cell_shapes.specs.CellShapes.{Cells, SameIn, octant_cells};

@@ -7,7 +7,7 @@ use Rattle.std.proofs.lemmas.Bool.Decides.{nat_tests}
 use Rattle.vw_cell.specs.declared.cells.Cell.{Cell}
 use Rattle.vw_cell.specs.declared.blocks.Block.{Block}
 use Rattle.vw_cell.specs.declared.boxes.Boxed.{Boxed}
-use Rattle.sums.specs.Sums.{one_if, sum_below}
+use Rattle.block_walk.specs.Sums.{one_if, sum_below}
 use Rattle.vw_cell.proofs.Overlaps.{meets_only, holds_when, meets_when, holds_only}
 use Rattle.vw_cell.specs.Places.{block_side, is_in_box, Meets, HoldsBlock, Touches, Covers}
 use Rattle.node_shapes.specs.declared.names.Name.{Name}

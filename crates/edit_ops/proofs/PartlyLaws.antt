@@ -5,7 +5,7 @@ use Rattle.std.specs.Prelude.{◌&&◌, not}
 use Rattle.std.proofs.lemmas.Bool.{and_parts, and_from, leb-true, ltb-true, le-leb, lt-ltb}
 use Rattle.vw_cell.specs.declared.cells.Cell.{Cell}
 use Rattle.vw_cell.specs.declared.boxes.Boxed.{Boxed}
-use Rattle.sums.specs.Sums.{one_if, sum_below-same}
+use Rattle.block_walk.specs.Sums.{one_if, sum_below-same}
 use Rattle.vw_cell.specs.Counts.{cell_at}
 use Rattle.vw_cell.specs.Places.{block_side, half_x, half_y, half_z, FitsAt}
 use Rattle.node_shapes.proofs.ShapeLaws.{block_side-suc, block_side_some, halves}

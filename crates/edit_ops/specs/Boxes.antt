@@ -2,7 +2,7 @@
 use Rattle.std.specs.Prelude.{ℕ, ◌+◌, ◌≤◌, Bool, List, true, false, nat_le, nat_lt, ◌&&◌, not}
 use Rattle.std.proofs.Common.{zero, suc}
 use Rattle.vw_cell.specs.declared.boxes.Boxed.{Boxed}
-use Rattle.sums.specs.Sums.{one_if, sum_below}
+use Rattle.block_walk.specs.Sums.{one_if, sum_below}
 use Rattle.vw_cell.specs.Places.{block_side, is_in_box}
 use Rattle.node_shapes.specs.Tree.{Tree}
 use Rattle.history_model.specs.declared.acts.Act.{Act}

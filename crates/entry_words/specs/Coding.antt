@@ -1,5 +1,5 @@
--- How the words of a slot say a key: a leaf's by its bits, and a node's by four words of two children
--- each.
+-- How the words of a slot say a key: a leaf's by its bits, and a node's by four words of two
+-- children each.
 use Rattle.std.specs.Prelude.{ℕ}
 use Rattle.std.proofs.Common.{zero, suc}
 use Rattle.node_words.specs.declared.keys.Key.{Key}

@@ -1,8 +1,8 @@
--- Where the slots of a plan stand in rows. The first slots of all buckets stand side by side, level by
--- level, then their second slots, and so on; leaves have a row of their own for their bits, and nodes
--- one for their words. The tags of a bucket stand side by side.
+-- Where the slots of a plan stand in rows. The first slots of all buckets stand side by side, level
+-- by level, then their second slots, and so on; leaves have a row of their own for their bits, and
+-- nodes one for their words. The tags of a bucket stand side by side.
 use Rattle.std.specs.Prelude.{◌≡◌, ℕ, ◌+◌, ◌-◌, ◌*◌, ◌^◌, ◌<◌, ◌≤◌, List, slice_index}
-use Rattle.sums.specs.Sums.{sum_below}
+use Rattle.node_places.specs.Sums.{sum_below}
 use Rattle.node_shapes.specs.declared.names.Name.{Name}
 use Rattle.node_words.specs.Plans.{Layout}
 use Rattle.node_places.specs.Spots.{levels, buckets_at}

@@ -22,10 +22,9 @@ tag_plus a b = (a + b) % 2 ^ 64
 unfoldable pub mixed_words : ℕ → ℕ → Pairs → ℕ
 mixed_words zero bits pairs = times bits 0x9E3779B97F4A7C15
 mixed_words (suc level) bits pairs =
-    tag_plus (tag_plus (times pairs.first 0x9E3779B97F4A7C15)
-    (times pairs.second 0xBF58476D1CE4E5B9))
-    (tag_plus (times pairs.third 0x94D049BB133111EB)
-    (times pairs.fourth 0xD6E8FEB86659FD93))
+    tag_plus
+    (tag_plus (times pairs.first 0x9E3779B97F4A7C15) (times pairs.second 0xBF58476D1CE4E5B9))
+    (tag_plus (times pairs.third 0x94D049BB133111EB) (times pairs.fourth 0xD6E8FEB86659FD93))
 
 -- a byte that tells most keys of a bucket apart, and isn't 0
 unfoldable pub tag_of_word : ℕ → ℕ
@@ -42,7 +41,8 @@ pub record AreTagged (w : Written) (tags : List ℕ) : Type 0 where
   pub free : (n : Name) → IsName w.plan n → book_in w n ≡ 0
       → slice_index tags (tag_place w.plan n) ≡ 0
   pub live : (n : Name) → IsName w.plan n → 1 ≤ book_in w n
-      → slice_index tags (tag_place w.plan n) ≡ tag_of_words n.level (leaf_bits_in w n) (pairs_in w n)
+      → slice_index tags (tag_place w.plan n)
+      ≡ tag_of_words n.level (leaf_bits_in w n) (pairs_in w n)
 
 -- what stands beside the words of slots: the buckets of each level and of those before it, how many
 -- buckets there are, a tag for each slot, two numbers for each bucket, and how many items the rows

@@ -1,5 +1,5 @@
--- How far the slots of buckets were ever used, and up to where all are live. Contracts for users show
--- the first alone.
+-- How far the slots of buckets were ever used, and up to where all are live. Contracts for users
+-- show the first alone.
 use Rattle.std.specs.Prelude.{◌≡◌, ℕ, ◌<◌, ◌≤◌, List, slice_index}
 use Rattle.node_shapes.specs.declared.names.Name.{Name}
 use Rattle.node_places.specs.Names.{IsName, named}

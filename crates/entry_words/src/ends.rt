@@ -1,5 +1,5 @@
 ghost use Rattle.std.specs.Prelude.{◌≡◌, ℕ, ◌+◌, ◌^◌, ◌<◌, ◌≤◌, slice_index};
-ghost use Rattle.sums.specs.Sums.{sum_below};
+ghost use Rattle.node_places.specs.Sums.{sum_below};
 
 /// How many buckets the first levels have, for each number of levels.
 pub(crate) fn ends_of(buckets: &[u16; 11]) -> [usize; 12]

@@ -29,8 +29,8 @@ use vw_cell::Side;
 /// their ends is free.
 ///
 /// For each slot there is a byte, its tag, by which searches pass over most slots of a bucket. The
-/// tags of a bucket stand side by side. Of each bucket is known how far its slots were ever used, and
-/// no search goes on behind that; and up to where all its slots are live, so that a free one is
+/// tags of a bucket stand side by side. Of each bucket is known how far its slots were ever used,
+/// and no search goes on behind that; and up to where all its slots are live, so that a free one is
 /// sought from there. Contracts see none of these.
 #[derive(Drop)]
 pub struct EntryWords {
@@ -254,9 +254,9 @@ impl EntryWords {
         }
     }
 
-    /// How many slots of a bucket, from the first on, may have been used; all others are free. It is
-    /// made up to whole blocks of tags, so that a search for a key that isn't there compares no tag
-    /// alone.
+    /// How many slots of a bucket, from the first on, may have been used; all others are free. It
+    /// is made up to whole blocks of tags, so that a search for a key that isn't there compares no
+    /// tag alone.
     pub fn used_of(&self, level: u8, bucket: u16) -> usize
         requires { IsBucket self.now.plan level bucket }
         ensures within { result ≤ self.now.plan.cap }

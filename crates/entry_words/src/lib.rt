@@ -1,6 +1,6 @@
-//! The words of a store for one thread: of each slot its book and its tag, and the bits of a leaf or
-//! the words of a node, each kind in a row of its own. Leaves lie close together, and all words of a
-//! node side by side.
+//! The words of a store for one thread: of each slot its book and its tag, and the bits of a leaf
+//! or the words of a node, each kind in a row of its own. Leaves lie close together, and all words
+//! of a node side by side.
 #![tactic(auto)]
 
 mod ends;

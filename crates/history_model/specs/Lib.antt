@@ -16,3 +16,4 @@ pub mod Following
 pub mod Refusals
 pub mod Ways
 pub mod Rays
+pub use Rattle.vox_read.specs.Contents

@@ -4,7 +4,7 @@ use Rattle.table_rule.proofs.PartA.{same_bucket}
 use Rattle.node_shapes.proofs.TreeEqual.{same_name}
 use Rattle.node_table.specs.Acts.{AreChildrenOf}
 -- What comes of asking for a leaf follows from what the view tells.
-use Rattle.node_places.specs.Names.{named}
+use Rattle.node_table.specs.Names.{named}
 use Rattle.table_rule.specs.Views.{SeatView, BucketAt, bucket_of}
 use Rattle.table_rule.specs.Rules.{SameSession}
 use Rattle.table_rule.specs.Telling.{ViewTells, tree_word}
@@ -30,7 +30,7 @@ use Rattle.node_words.specs.declared.keys.Key.TheVariants.{Leaf}
 use Rattle.node_words.specs.declared.shares.Full.{Full}
 use Rattle.node_words.specs.Held.{IsSought, name_in, IsHeld, IsReached, HoldsChildren, Wanted, Gains, AreHeld}
 use Rattle.node_words.proofs.HeldLaws.{gains_keeps, gains_held, reached_more, held_reached, reached_levels}
-use Rattle.node_places.specs.Spots.{key_words, buckets_at}
+use Rattle.node_table.specs.Spots.{key_words, buckets_at}
 use Rattle.node_shapes.specs.Weights.{number_of_trees}
 use Rattle.core_laws.specs.Soundness.{FitsLevel}
 use Rattle.node_table.specs.declared.places.Place.{Place}

@@ -8,8 +8,8 @@ use Rattle.node_shapes.specs.Tree.{LeafAt}
 use Rattle.node_words.specs.declared.shares.Full.{Full}
 use Rattle.node_words.specs.Held.{IsReached, Gains, Grants, OnlyMeets}
 
--- a share of the leaf came. One that was held, or stood below a held node, is that leaf, and then no
--- entry was added
+-- a share of the leaf came. One that was held, or stood below a held node, is that leaf, and then
+-- no entry was added
 pub record LeafCame (v : SeatView) (bits : ℕ) (n : Name) (w : SeatView) : Type 0 where
   pub session : SameSession v w
   pub turn : w.turn ≡ None

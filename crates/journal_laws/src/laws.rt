@@ -1,5 +1,5 @@
 ghost use Rattle.std.specs.Prelude.{◌≡◌, ℕ, List};
-ghost use Rattle.vox_read.specs.Contents.{Content, AreModels};
+ghost use Rattle.history_model.specs.Contents.{Content, AreModels};
 ghost use Rattle.history_model.specs.Journal.{journal_of};
 ghost use Rattle.history_model.specs.Logs.{Log, IsLegal};
 ghost use Rattle.history_model.specs.Entries.{IsSide, IsTold};

@@ -12,7 +12,7 @@ use Rattle.vw_cell.specs.declared.cells.Cell.{Cell}
 use Rattle.vw_cell.specs.declared.boxes.Boxed.{Boxed}
 use Rattle.vw_cell.specs.declared.balls.Ball as ball
 use Rattle.vw_cell.specs.Places.{FitsAt}
-use Rattle.vox_read.specs.Contents.{Content}
+use Rattle.history_model.specs.Contents.{Content}
 use Rattle.plain_text.specs.Parts.{line_of}
 use Rattle.plain_text.specs.Steps.{three_words}
 use Rattle.history_model.specs.declared.acts.Act.{Act}

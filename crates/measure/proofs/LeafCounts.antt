@@ -12,7 +12,7 @@ use Rattle.vw_cell.specs.declared.boxes.Boxed.{Boxed}
 use Rattle.vw_cell.specs.declared.blocks.Block.{Block}
 use Rattle.vw_cell.specs.Places.{is_within, is_in_box, IsWithin}
 use Rattle.vw_cell.specs.Tests.{is_within_holds, is_within_tells}
-use Rattle.sums.specs.Sums.{sum_below, sum_below-same, sum_below-add, one_if}
+use Rattle.block_walk.specs.Sums.{sum_below, sum_below-same, sum_below-add, one_if}
 use Rattle.vw_cell.specs.Counts.{cell_at, number_in}
 use Rattle.node_shapes.specs.Shape.{bit_number}
 use Rattle.node_kernels.specs.Leaves.{LeafShows}

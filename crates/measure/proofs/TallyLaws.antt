@@ -5,7 +5,7 @@ use lib.Pow.{pow_mono}
 use Rattle.vw_cell.specs.declared.cells.Cell.{Cell}
 use Rattle.vw_cell.specs.declared.boxes.Boxed.{Boxed}
 use Rattle.vw_cell.specs.Places.{block_side, half_x, half_y, half_z}
-use Rattle.sums.specs.Sums.{sum_below, sum_below-suc, sum_below-zero, sum_below-le}
+use Rattle.block_walk.specs.Sums.{sum_below, sum_below-suc, sum_below-zero, sum_below-le}
 use Rattle.vw_cell.specs.Counts.{number_in, number_below-none, number_below-same, number_below-le, cell_at}
 use Rattle.block_walk.specs.Parts.{EndsBy, IsEmpty, part_in, half_size}
 use Rattle.block_walk.proofs.LookLaws.{twice}

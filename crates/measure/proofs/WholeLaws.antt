@@ -5,7 +5,7 @@ use Rattle.vw_cell.specs.declared.cells.Cell.{Cell}
 use Rattle.vw_cell.specs.declared.boxes.Boxed.{Boxed}
 use Rattle.vw_cell.specs.Places.{block_side, half_x, half_y, half_z}
 use Rattle.vw_cell.specs.Counts.{number_in, number_below-at, cell_at}
-use Rattle.sums.specs.Sums.{one_if}
+use Rattle.block_walk.specs.Sums.{one_if}
 use Rattle.node_shapes.specs.Tree.{Tree}
 use Rattle.node_words.specs.Held.{Seen}
 use Rattle.block_walk.specs.declared.answers.Known.{Known}

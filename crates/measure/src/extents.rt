@@ -32,8 +32,8 @@ pub fn bounds<B: Blocks>(store: &mut B, root: Option<&Share>, side: Side) -> Opt
     found
 }
 
-// Widens the box by the set cells of a block. A block that can't widen the box found so far is passed
-// over: one that lies in it, and one like an earlier block that lies as far within it.
+// Widens the box by the set cells of a block. A block that can't widen the box found so far is
+// passed over: one that lies in it, and one like an earlier block that lies as far within it.
 #[cycle(widen)]
 fn widen<B: Blocks>(
     store: &mut B,
@@ -73,8 +73,8 @@ fn widen<B: Blocks>(
     note(answers, block, place, *found);
 }
 
-// Widens the box by the set cells of all octants. The corner of its own block that an octant lies at
-// comes first, and the opposite one next, so the box is soon wide.
+// Widens the box by the set cells of all octants. The corner of its own block that an octant lies
+// at comes first, and the opposite one next, so the box is soon wide.
 #[cycle(widen)]
 fn widen_by_octants<B: Blocks>(
     store: &mut B,
@@ -159,7 +159,7 @@ fn widen_by_others<B: Blocks>(
     }
 }
 
-// Widens the box by the set cells of one octant, if that isn't the one of the corner or its opposite.
+// Widens the box by the set cells of one octant, if it isn't that of the corner or its opposite.
 #[cycle(widen)]
 fn widen_apart<B: Blocks>(
     store: &mut B,

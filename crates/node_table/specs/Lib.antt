@@ -6,3 +6,5 @@ pub mod Finding
 pub mod Acts
 pub mod Lowers
 pub mod Begins
+pub use Rattle.node_places.specs.Names
+pub use Rattle.node_places.specs.Spots

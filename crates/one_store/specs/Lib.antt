@@ -1,3 +1,4 @@
 pub mod Known
 pub mod Steps
 pub mod Calls
+pub use Rattle.node_places.specs.Spots

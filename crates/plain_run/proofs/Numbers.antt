@@ -1,7 +1,7 @@
 -- Numbers of cells that pass, summed cell by cell, row by row and layer by layer.
 use Rattle.std.proofs.Common.{◌≡◌, ℕ, zero, suc, ◌+◌, ◌<◌, ◌≤◌, Bool, true, false, refl, sym, ◌∙◌, ap, arith, add-one}
 use Rattle.std.specs.Prelude.{nat_eq}
-use Rattle.sums.specs.Sums.{sum_below, one_if, sum_below-suc, sum_below-zero}
+use Rattle.vox_read.specs.Sums.{sum_below, one_if, sum_below-suc, sum_below-zero}
 use Rattle.vw_cell.specs.declared.boxes.Boxed.{Boxed}
 use Rattle.vw_cell.specs.Counts.{cell_at, number_in, number_below-at}
 use Rattle.history_model.specs.Worlds.{World}

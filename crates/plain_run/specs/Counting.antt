@@ -1,7 +1,7 @@
 -- What the cells of a version are counted for.
 use Rattle.std.specs.Prelude.{◌≡◌, ℕ, ◌+◌, ◌-◌, ◌≤◌, ◌&&◌, not, nat_lt, nat_le, Bool, true, false, ⊤, Option, Some, None}
 use mathlib.Core.Bool.{beq}
-use Rattle.sums.specs.Sums.{sum_below, one_if}
+use Rattle.vox_read.specs.Sums.{sum_below, one_if}
 use Rattle.vw_cell.specs.declared.boxes.Boxed.{Boxed}
 use Rattle.vw_cell.specs.declared.cells.Cell.{Cell}
 use Rattle.vw_cell.specs.Counts.{cell_at}

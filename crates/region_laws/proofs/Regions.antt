@@ -9,7 +9,7 @@ use Rattle.vw_cell.specs.declared.cells.Cell.{Cell}
 use Rattle.vw_cell.specs.declared.balls.Ball as ball
 use Rattle.vw_cell.specs.Places.{is_in_box, is_in_ball, IsInBall}
 use Rattle.vw_cell.specs.Tests.{is_in_box_tells}
-use Rattle.vox_read.specs.Contents.{Content}
+use Rattle.history_model.specs.Contents.{Content}
 use Rattle.history_model.specs.declared.acts.Act.{Act}
 use Rattle.history_model.specs.declared.acts.Act.TheVariants.{Fill, Erase, Ball, Carve, Copy, Stamp, Undo, Redo}
 use Rattle.history_model.specs.declared.histories.Record.{Record}

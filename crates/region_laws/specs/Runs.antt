@@ -2,7 +2,7 @@
 use Rattle.std.specs.Prelude.{Bool, true, false, not, ◌&&◌, List, [], ◌∷◌}
 use Rattle.std.specs.List.{fold}
 use Rattle.vw_cell.specs.declared.cells.Cell.{Cell}
-use Rattle.vox_read.specs.Contents.{Content}
+use Rattle.history_model.specs.Contents.{Content}
 use Rattle.history_model.specs.declared.acts.Act.{Act}
 use Rattle.history_model.specs.declared.acts.Act.TheVariants.{Copy, Undo, Redo}
 use Rattle.history_model.specs.Worlds.{World, nothing, edited}

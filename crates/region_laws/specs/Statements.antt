@@ -1,7 +1,7 @@
 -- What the last lines of a load's transcripts count, where every change was accepted.
 use Rattle.std.specs.Prelude.{◌≡◌, ℕ, ◌*◌, ◌++◌, List, [], ◌∷◌, length, All, None}
 use Rattle.vw_cell.specs.Counts.{number_in}
-use Rattle.vox_read.specs.Contents.{Content}
+use Rattle.history_model.specs.Contents.{Content}
 use Rattle.node_words.specs.Plans.{Layout}
 use Rattle.history_model.specs.declared.acts.Act.{Act}
 use Rattle.history_model.specs.declared.questions.Question.TheVariants.{Count}

@@ -5,8 +5,8 @@ ghost use Rattle.region_laws.specs.Statements.{RegionsAreCounted, LoadsAreCounte
 
 use conformance::sessions_agree_beside_others;
 
-/// A law: where every change of a load was accepted, each script's last line tells how many cells of
-/// its region the script's changes alone make of the empty world.
+/// A law: where every change of a load was accepted, each script's last line tells how many cells
+/// of its region the script's changes alone make of the empty world.
 pub fn regions_are_counted()
     ensures { RegionsAreCounted }
 {

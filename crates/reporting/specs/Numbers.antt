@@ -1,7 +1,7 @@
 -- How many different contents the blocks of each level have in the versions that are kept.
 use Rattle.std.specs.Prelude.{◌≡◌, ℕ, ◌+◌, ◌≤◌, List, length, slice_index}
 use Rattle.std.specs.List.{sum}
-use Rattle.vox_read.specs.Contents.{Content}
+use Rattle.history_model.specs.Contents.{Content}
 use Rattle.history_model.specs.Logs.{Log}
 use Rattle.history_model.specs.Moments.{world_has}
 use Rattle.block_contents.specs.Aligned.{top, world_block}

@@ -1,7 +1,7 @@
 -- How the roots of versions tell which of them have the same cells.
 use Rattle.std.specs.Prelude.{◌≡◌, ◌≢◌, ℕ, ◌+◌, ◌*◌, ◌^◌, ◌<◌, ◌≤◌, true, false, Bool, Option, Some, None, List, map, length, All, AllPairs, slice_index_or}
 use Rattle.std.specs.List.{Contains}
-use Rattle.vox_read.specs.Contents.{Content}
+use Rattle.history_model.specs.Contents.{Content}
 use Rattle.history_model.specs.declared.histories.Mark.{Mark}
 use Rattle.history_model.specs.Logs.{Log}
 use Rattle.history_model.specs.Moments.{world_has}

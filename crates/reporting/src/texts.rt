@@ -1,6 +1,6 @@
 ghost use Rattle.std.specs.Prelude.{◌≡◌, ◌++◌, ◌<◌, ◌≤◌, List, length, All, IfOk, string_bytes};
 ghost use Rattle.std.specs.List.{flat_map};
-ghost use Rattle.vox_read.specs.Contents.{Content};
+ghost use Rattle.history_model.specs.Contents.{Content};
 ghost use Rattle.reporting.specs.Numbers.{AreNumbers};
 ghost use Rattle.reporting.specs.Reports.{IsReport, head_lines, row_line, level_line, level_lines};
 ghost use Rattle.reporting.specs.Roots.{RootsTellWorlds, listed_root};

@@ -62,8 +62,11 @@ stops_after files [] after input [] v taken stops = rw stops refl
 stops_after files [] after input (text ∷ texts) v taken stops = absurd taken
 stops_after files (first ∷ before) after input [] v taken stops = absurd taken
 stops_after files (first ∷ before) after input (text ∷ texts) v taken stops =
-    rw
-    (taken_at files first text taken.0, stops_after files before after input texts v taken.1 stops) refl
+    rw (
+      taken_at files first text taken.0,
+      stops_after files before after input texts v taken.1 stops,
+    )
+    refl
 
 lacking_at : (input : WantedInput) (found : Option (List ℕ)) → found ≡ None
     → input_within input found ≡ Err (LacksInput input.name)
@@ -82,7 +85,9 @@ by_stop : (a : Request) (files : Files) (inputs : List WantedInput) (why : ReadR
     → JudgesInputs a (inputs_at files inputs) v → v ≡ w
 by_stop a files inputs why name faults risen v w stops is judges =
     let at : inputs_at files inputs ≡ Err w =
-    ap (λ is. inputs_at files is) stops.reached.parts ∙ stops_after files stops.reached.before stops.reached.after stops.input stops.reached.texts w stops.reached.taken is in
+    ap (λ is. inputs_at files is) stops.reached.parts
+    ∙ stops_after files stops.reached.before stops.reached.after stops.input
+    stops.reached.texts w stops.reached.taken is in
     subst (λ r. JudgesInputs a r v) at judges
 
 read_follows : (why : ReadRefused) (name : List ℕ) (a : Request) (files : Files) (faults risen : ℕ)
@@ -111,7 +116,8 @@ by_reading : (a : Request) (files : Files) (texts : List (List ℕ)) (v : Verdic
     (reading : Result (List Content) VoxFault) → AreTaken (Some files) (inputs_of a) texts
     → ReadsModels (file_in texts) reading → Judges files a v → v ≡ verdict_of a texts reading
 by_reading a files texts v reading taken says judges =
-    let j : JudgesTexts a texts v = subst (λ r. JudgesInputs a r v) (all_taken files (inputs_of a) texts taken) judges in
+    let j : JudgesTexts a texts v =
+    subst (λ r. JudgesInputs a r v) (all_taken files (inputs_of a) texts taken) judges in
     j.follows ∙ ap (verdict_of a texts) (one_reading (file_in texts) j.reading reading j.says says)
 
 gives_follow : (a : Request) (files : Files) (texts : List (List ℕ)) (done : Done)
@@ -127,7 +133,8 @@ gives_follow (Demo n) files texts (Shown told) outputs v taken gives judges = ju
 gives_follow (Count file) files texts (Counted number) outputs v taken gives judges =
     by_reading (Count file) files texts v (Ok gives.models) taken gives.gives judges
 gives_follow (Run asked) files texts (Ran tally) outputs v taken gives judges =
-    let fine : verdict_of (Run asked) texts (Ok gives.accepted.models) ≡ Fine = rw (gives.accepted.read, gives.accepted.apart) refl in
+    let fine : verdict_of (Run asked) texts (Ok gives.accepted.models) ≡ Fine =
+    rw (gives.accepted.read, gives.accepted.apart) refl in
     by_reading (Run asked) files texts v
     (Ok gives.accepted.models) taken gives.accepted.gives judges ∙ fine
 
@@ -137,7 +144,8 @@ script_follows : (a : Request) (files : Files) (texts : List (List ℕ)) (v : Ve
 script_follows (Count file) files texts v at taken says judges = absurd says
 script_follows (Demo n) files texts v at taken says judges = absurd says
 script_follows (Run asked) files texts v at taken says judges =
-    let first : verdict_of (Run asked) texts (Ok says.models) ≡ HasScriptFault at = rw (says.first) refl in
+    let first : verdict_of (Run asked) texts (Ok says.models) ≡ HasScriptFault at =
+    rw (says.first) refl in
     by_reading (Run asked) files texts v (Ok says.models) taken says.gives judges ∙ first
 
 names_follow : (a : Request) (files : Files) (texts : List (List ℕ)) (v : Verdict)
@@ -146,7 +154,8 @@ names_follow : (a : Request) (files : Files) (texts : List (List ℕ)) (v : Verd
 names_follow (Count file) files texts v taken says judges = absurd says
 names_follow (Demo n) files texts v taken says judges = absurd says
 names_follow (Run asked) files texts v taken says judges =
-    let taken_name : verdict_of (Run asked) texts (Ok says.models) ≡ NamesCollide = rw (says.read, says.collides) refl in
+    let taken_name : verdict_of (Run asked) texts (Ok says.models) ≡ NamesCollide =
+    rw (says.read, says.collides) refl in
     by_reading (Run asked) files texts v (Ok says.models) taken says.gives judges ∙ taken_name
 
 vox_follows : (a : Request) (files : Files) (texts : List (List ℕ)) (v : Verdict)
@@ -175,7 +184,8 @@ follows_told : (r : Result Done CommandRefused) (a : Request) (files : Files) (f
     → Outcome r a (record { files = Some files; faults = faults }) new
     → (Rose faults new.faults → ⊥) → Judges files a v → Follows v r
 follows_told (Ok done) a files faults new v outcome calm judges =
-    gives_follow a files outcome.comes.texts done outcome.outputs v outcome.comes.taken outcome.comes.gives judges
+    gives_follow a files outcome.comes.texts done outcome.outputs v outcome.comes.taken
+    outcome.comes.gives judges
 follows_told (Err (refusals.Input r)) a files faults new v outcome calm judges =
     read_follows r.why r.name.now a files faults new.faults v outcome.0 calm judges
 follows_told (Err (refusals.Text r)) a files faults new v outcome calm judges =

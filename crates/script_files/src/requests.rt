@@ -33,8 +33,8 @@ impl<'w> Model for FileName<'w> {
 }
 
 /// What a run is asked for: how the world's store is laid out, the names of the journal and of the
-/// report where they are wanted, and those of the VOX file and of the scripts, of which the first is
-/// that of session 0.
+/// report where they are wanted, and those of the VOX file and of the scripts, of which the first
+/// is that of session 0.
 #[derive(Drop)]
 pub struct Order<'w> {
     pub plan: Plan,

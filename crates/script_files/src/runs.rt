@@ -18,9 +18,9 @@ use vw_io::{Input, Shelf, read_all};
 ///
 /// It reads the VOX file, of at most 256 MiB, and the scripts, each of at most 8 MiB. Where the VOX
 /// file is accepted, no script has a fault and no output takes an input's name or another output's,
-/// it runs the scripts, each as the session of its place. Then it writes the transcripts under their
-/// names, which are those of the scripts with `.out` behind them, the files that were saved, each
-/// made when it is its turn, and the journal and the report where they are asked for.
+/// it runs the scripts, each as the session of its place. Then it writes the transcripts under
+/// their names, which are those of the scripts with `.out` behind them, the files that were saved,
+/// each made when it is its turn, and the journal and the report where they are asked for.
 #[tactic(auto, using(crate::proofs::Ending::file_within, crate::proofs::Ending::not_accepted, crate::proofs::Ending::run_written, crate::proofs::Ending::run_stopped))]
 pub fn run_files<'w, S: Shelf>(
     alloc: Global,

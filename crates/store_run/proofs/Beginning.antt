@@ -8,7 +8,7 @@ use Rattle.node_shapes.specs.declared.names.Name.{Name}
 use Rattle.node_shapes.specs.Weights.{weigh}
 use Rattle.node_shapes.proofs.WeightLaws.{weigh-nil}
 use Rattle.node_words.specs.Plans.{Layout}
-use Rattle.node_places.specs.Spots.{versions}
+use Rattle.one_store.specs.Spots.{versions}
 use Rattle.core_laws.specs.Counting.{holdings}
 use Rattle.core_laws.proofs.RootCells.{empty_sound}
 use Rattle.entry_words.specs.Words.{book_in}

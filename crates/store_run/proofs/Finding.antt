@@ -2,7 +2,7 @@
 use Rattle.std.proofs.Common.{◌≡◌, ℕ, ◌<◌, ◌≤◌, Some, None, Option, List, length, get_or, sym, ◌∙◌, arith}
 use Rattle.std.proofs.lemmas.List.{get_or_default}
 use Rattle.history_model.specs.declared.histories.Mark.{Mark}
-use Rattle.node_places.specs.Spots.{versions}
+use Rattle.one_store.specs.Spots.{versions}
 use Rattle.block_contents.specs.Versions.{IsKept}
 use Rattle.store_run.specs.declared.versions.Versions.{Versions}
 use Rattle.store_run.specs.Kept.{log_of, moment_of, mark_in, AreVersions}

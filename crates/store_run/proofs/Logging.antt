@@ -10,7 +10,7 @@ use Rattle.history_model.specs.Laws.{position_of_next}
 use Rattle.node_shapes.specs.declared.names.Name.{Name}
 use Rattle.node_shapes.specs.Weights.{weight_of, number_of_trees}
 use Rattle.node_words.specs.Plans.{Layout}
-use Rattle.node_places.specs.Spots.{versions}
+use Rattle.one_store.specs.Spots.{versions}
 use Rattle.block_contents.specs.MarkLists.{marks_below, AreOfVersions}
 use Rattle.block_contents.specs.Versions.{IsKept, MarkComes}
 use Rattle.block_contents.proofs.MarkReadings.{mark_comes}

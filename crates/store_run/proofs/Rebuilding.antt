@@ -164,7 +164,7 @@ module _ (v u w : Versions) (base root : Option Name) (act : Act) (number : ℕ)
   plan_same = puts.leaves.stay.spares.plan ∙ over.spares.plan
 
   over_log : log_of u ≡ log_of v
-  over_log = λ i. record { side = over.side i; records = (over.records i).items; marks = Rattle.block_contents.specs.MarkLists.marks_below (Rattle.store_run.specs.Kept.mark_in ((over.marks i).items)) Rattle.node_places.specs.Spots.versions }
+  over_log = λ i. record { side = over.side i; records = (over.records i).items; marks = Rattle.block_contents.specs.MarkLists.marks_below (Rattle.store_run.specs.Kept.mark_in ((over.marks i).items)) Rattle.one_store.specs.Spots.versions }
 
   pub all_stay : StayVersions v w
   all_stay = record {

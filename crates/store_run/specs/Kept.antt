@@ -11,7 +11,7 @@ use Rattle.node_shapes.specs.Tree.{Tree}
 use Rattle.node_shapes.specs.Weights.{weigh, weight_of}
 use Rattle.node_words.specs.Held.{IsHeld}
 use Rattle.node_words.specs.Plans.{Layout}
-use Rattle.node_places.specs.Spots.{versions}
+use Rattle.one_store.specs.Spots.{versions}
 use Rattle.block_contents.specs.MarkLists.{marks_below, AreOfVersions}
 use Rattle.core_laws.specs.States.{State}
 use Rattle.core_laws.specs.Soundness.{SoundVersions}

@@ -18,8 +18,8 @@ use std::marker::{Brand, Model};
 use std::sync::ledger::{Blank, Ledger};
 use vw_cell::Memory;
 
-/// A run whose scripts were all run. It holds a share of the root of each version that was saved, so
-/// that files can be made one at a time, and then tells what the store's nodes do.
+/// A run whose scripts were all run. It holds a share of the root of each version that was saved,
+/// so that files can be made one at a time, and then tells what the store's nodes do.
 #[derive(Drop)]
 pub struct OpenRun<'m> {
     pub(crate) pinned: Pinned<'m>,

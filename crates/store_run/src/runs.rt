@@ -26,8 +26,8 @@ pub struct ScriptsRun<'m> {
 
 /// Runs scripts one after another, script k as session k, from an empty world of the plan's side.
 ///
-/// The store, room for all records, marks, undos and saves, a stencil of each model and the lists of
-/// all answers are taken before the first command.
+/// The store, room for all records, marks, undos and saves, a stencil of each model and the lists
+/// of all answers are taken before the first command.
 pub fn run_scripts<'m>(
     alloc: Global,
     plan: &Plan,

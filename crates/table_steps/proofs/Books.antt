@@ -2,7 +2,7 @@
 use Rattle.std.proofs.Common.{◌≡◌, ℕ, zero, suc, ◌+◌, ◌<◌, ◌≤◌, Option, Some, None, List, ◌∷◌, ◌++◌, set, refl, sym, ap, ◌∙◌, subst, ⊎_elim, inl, inr, arith, sum_by}
 use Rattle.std.specs.Prelude.{map}
 use Rattle.std.specs.List.{slice_get, Contains}
-use Rattle.sums.specs.Sums.{sum_below}
+use Rattle.node_places.specs.Sums.{sum_below}
 use Rattle.vox_read.specs.Contents.{Content}
 use Rattle.node_shapes.specs.declared.names.Name.{Name}
 use Rattle.node_shapes.specs.Tree.{Tree, root_of, child_of}

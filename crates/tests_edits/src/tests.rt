@@ -63,8 +63,8 @@ const CORNER_BALL: Ball = Ball {
     radius: 2,
 };
 
-/// Sides, edits of an empty world, and how many cells are set then. Of the model's places eight have
-/// a colour.
+/// Sides, edits of an empty world, and how many cells are set then. Of the model's places eight
+/// have a colour.
 const ROWS: &[(u32, &[Act], u64)] = &[
     (8, &[WHOLE], 512),
     (8, &[FIRST, THIRD, MOVE], 3),

@@ -9,8 +9,8 @@ use vw_io::{MemoryShelf, MemorySink, Shelf};
 pub const ONE: [u8; 64] =
     *b"VOX \x96\0\0\0MAIN\0\0\0\0\x2c\0\0\0SIZE\x0c\0\0\0\0\0\0\0\x01\0\0\0\x01\0\0\0\x01\0\0\0XYZI\x08\0\0\0\0\0\0\0\x01\0\0\0\0\0\0\x01";
 
-/// A script of two changes and a question, its transcript, its journal and its report at side 8, and
-/// the run's line.
+/// A script of two changes and a question, its transcript, its journal and its report at side 8,
+/// and the run's line.
 pub const GOOD: &str = "fill 0 0 0 2 1 1\nerase 1 0 0 1 1 1\ncount 0 0 0 8 8 8\n";
 
 pub const ANSWERS: &str = "1 @1 ok\n2 @2 ok\n3 @2 count 1\n";

@@ -5,7 +5,7 @@ use std::alloc::Global;
 use std::test::Fail;
 use vw_io::{FaultyShelf, MemoryShelf};
 
-// What `demo 7` prints: a program in Python, written from the rules of the load alone, prints the same.
+// What `demo 7` prints: a program in Python, written from the load's rules alone, prints it too.
 const SEVEN: &str = "demo 7\nrecords 800\nregion 0 count 232434\nregion 1 count 246422\n\
                      region 2 count 239762\nregion 3 count 235497\n";
 

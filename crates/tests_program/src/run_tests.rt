@@ -260,7 +260,7 @@ fn long_scripts_are_refused(rt: HostRuntime) -> Result<(), Fail> {
     Ok(())
 }
 
-// The call that fails at its fifth byte, the status, the line, and what the three outputs then have.
+// The call that fails at its fifth byte, the status, the line, and what the outputs then have.
 type Failing = (
     u32,
     u8,

@@ -155,7 +155,7 @@ fn saved_names_must_be_free(rt: HostRuntime) -> Result<(), Fail> {
     Ok(())
 }
 
-// A floor of 126 by 126 cells, stamped twice and copied; what is saved is as it was before the copy.
+// A floor of 126 by 126 cells, stamped twice and copied; what is saved is from before the copy.
 #[test]
 fn a_floor_is_saved(rt: HostRuntime) -> Result<(), Fail> {
     let script =

@@ -1,5 +1,5 @@
 ghost use Rattle.std.specs.Prelude.{◌≡◌, ◌≤◌, ◌<◌, None, [], IfOk};
-ghost use Rattle.node_places.specs.Spots.{levels};
+ghost use Rattle.one_store.specs.Spots.{levels};
 ghost use Rattle.one_store.specs.Known.{Known, stored_root};
 
 use crate::calls::{joined, kept, returned, rooted};

@@ -8,8 +8,8 @@ use Rattle.node_words.specs.Held.{IsHeld, Gains, HoldsName, SameHeld}
 use Rattle.node_words.specs.Plans.{Layout}
 use Rattle.node_words.specs.declared.shares.Full.{Full}
 use Rattle.node_words.proofs.HeldLaws.{held_reached, gains_held, came_and_went}
-use Rattle.node_places.specs.Names.{IsName}
-use Rattle.node_places.specs.Spots.{Turn, IsSpot}
+use Rattle.node_table.specs.Names.{IsName}
+use Rattle.node_table.specs.Spots.{Turn, IsSpot}
 use Rattle.table_rule.specs.Telling.{ViewTells}
 use Rattle.table_rule.specs.Views.{SeatView}
 use Rattle.node_table.specs.declared.lowering.Lowering.{Lowering}

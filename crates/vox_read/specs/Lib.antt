@@ -7,3 +7,4 @@ pub mod Children
 pub mod Files
 pub mod Refusals
 pub mod Once
+pub use Rattle.sums.specs.Sums

@@ -60,7 +60,7 @@ abbrev pub output_line : WriteRefused → List ℕ → List ℕ
 output_line writes.Failed name = write_fault_line name
 output_line writes.Memory name = memory_line
 
--- the lines of a load's run: its number, its records, and the count of each region, from this one on
+-- the lines of a load's run: its number, its records, and each region's count, from this one on
 abbrev pub region_lines : ℕ → List ℕ → List ℕ
 region_lines region [] = []
 region_lines region (cells ∷ others) =

@@ -29,12 +29,12 @@ use vw_io::{Shelf, Sink};
 /// scripts one after another over a world with the models of the file; it writes each transcript as
 /// `SCRIPT.out` and each file that a script saves, and puts the numbers of scripts, records, marks
 /// and live nodes. Among these words,
-/// in any order and each at most once, may stand options, as `--side s` or `--side=s`: the world has
-/// the side `s`, 4 to 4,096 and 256 without this option; its store has `--buckets b` of
+/// in any order and each at most once, may stand options, as `--side s` or `--side=s`: the world
+/// has the side `s`, 4 to 4,096 and 256 without this option; its store has `--buckets b` of
 /// `--cap c` slots on each level, 1 to 4,096 and 1 to 256; `--journal J` and `--report P` are
 /// written too. A VOX file has at most 256 MiB, a script 8 MiB. `demo N` runs the load that the
-/// number N of 1 to 6 digits makes, writes `demo.0.out` to `demo.3.out` and `demo.journal`, and puts
-/// N, the number of records, and how many cells each region had when its script counted them.
+/// number N of 1 to 6 digits makes, writes `demo.0.out` to `demo.3.out` and `demo.journal`, and
+/// puts N, the number of records, and how many cells each region had when its script counted them.
 ///
 /// The answer is the status with which the process ends: 0 done, 1 words outside the grammar or
 /// names that collide, 2 an input that is not there, 3 a fault of the shelf at an input, 4 a VOX
@@ -193,7 +193,7 @@ fn demo_words<S: Shelf, O: Sink>(alloc: Global, words: &[String], shelf: &mut S,
     }
 }
 
-// Runs a load, once there are the transcripts' names, and room for the line of a fault at an output.
+// Runs a load, once there are the transcripts' names, and room for the line of an output's fault.
 fn demo<S: Shelf, O: Sink>(alloc: Global, n: u32, shelf: &mut S, out: &mut O) -> u8
     ensures { Runs (Some (Demo n))
         (outside (S.state shelf.old) (O.state out.old))

@@ -3,6 +3,7 @@ ghost use Rattle.vw_io.specs.Inputs.{WantedInput, AreTaken, KeepsText, StopsAt, 
 
 use crate::shelves::{ReadRefused, Shelf};
 use std::alloc::Global;
+use std::convert::AsSlice;
 use std::marker::Model;
 
 /// An input: its name, and the most bytes that its file may have. Contracts see the two.
@@ -42,6 +43,14 @@ impl Text {
     pub fn as_slice(&self) -> &[u8]
         ensures { result.now ≡ self.now }
     {
+        self.bytes.as_slice()
+    }
+}
+
+impl AsSlice<u8> for Text {
+    ghost items = { λ text. text };
+
+    fn as_slice(&self) -> &[u8] {
         self.bytes.as_slice()
     }
 }

@@ -8,8 +8,8 @@ use Rattle.node_shapes.specs.Weights.{number_of_trees}
 use Rattle.node_words.specs.declared.keys.Key.TheVariants.{Leaf}
 use Rattle.node_words.specs.declared.shares.Full.{Full}
 use Rattle.node_words.specs.Plans.{Layout}
-use Rattle.node_places.specs.Names.{named}
-use Rattle.node_places.specs.Spots.{Spot, buckets_at}
+use Rattle.node_table.specs.Names.{named}
+use Rattle.node_table.specs.Spots.{Spot, buckets_at}
 use Rattle.table_rule.specs.Telling.{ViewTells}
 use Rattle.table_rule.specs.Views.{SeatView}
 use Rattle.table_steps.specs.Changes.{HasKeyWords, PassesBelow}

@@ -1,5 +1,5 @@
 use Rattle.std.proofs.Common.{◌+◌, arith, refl, sym, ◌∙◌}
-use Rattle.sums.specs.Sums.{sum_below-zero}
+use Rattle.block_walk.specs.Sums.{sum_below-zero}
 use Rattle.block_walk.specs.Parts.{whole_of}
 use Rattle.measure.proofs.TallyLaws.{none_tallied, tallied_all, tallied_fits}
 use Rattle.measure.proofs.WholeLaws.{whole_ends, whole_step, whole_right_again, whole_leaf_tally}
