@@ -17,7 +17,7 @@ abbrev Different : SeatView → Type 0
 Different v = AllPairs (λ m n. m ≢ n) v.numbers
 
 abbrev Bare : SeatView → Type 0
-Bare v = v.numbers ≡ [] → v.held ≡ []
+Bare v = v.numbers ≡ [] → (v.held ≡ []) × (v.made ≡ [])
 
 -- another word stays
 other_word : (words : List ℕ) (place n : ℕ) → 0 < place
@@ -122,7 +122,7 @@ deals_kept terms seat v some splits s r at =
       bare = each_more (λ v. Bare v) (set s.views seat (handing v)) (handed v)
           (each (λ i v. Bare v) s.views seat (handing v) (λ none. absurd (some none))
           (λ j d other there. r.bare j d there))
-          (λ none. refl);
+          (λ none. (refl, refl));
     }
 
 pub no_first : (n : ℕ) → get_or (let z : ℕ = 0 in replicate n z) 0 0 ≡ 0

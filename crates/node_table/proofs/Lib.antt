@@ -11,3 +11,7 @@ pub mod BeginLaws
 pub mod OnlyShares
 pub mod Emptying
 pub mod InTurn
+pub mod JoinLaws
+pub mod LastWords
+pub mod EndLaws
+pub mod CountLaws

@@ -6,5 +6,7 @@ pub mod Finding
 pub mod Acts
 pub mod Lowers
 pub mod Begins
+pub mod Closing
+pub mod Joins
 pub use Rattle.node_places.specs.Names
 pub use Rattle.node_places.specs.Spots

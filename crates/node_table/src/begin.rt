@@ -17,7 +17,8 @@ use vw_cell::Memory;
 fn lay(alloc: Global, terms: &Terms, plan: &Plan) -> Result<(Words, Seat<u8, View>), AllocError>
     requires { plan.now ≡ terms.now.plan }
     ensures table { IfOk result
-        (λ r. (r.0.shared.table_id.words ≡ width terms.now.plan) × (r.0.shared.key ≡ terms.now)) }
+        (λ r. (r.0.shared.table_id.words ≡ width terms.now.plan) × (r.0.shared.key ≡ terms.now)
+        × (r.0.shared.table_id.slots ≡ 0)) }
     ensures seat { IfOk result (λ r. IsNextSeat r.0.shared.table_id terms.now 0 r.1) }
 {
     let _side = plan.side();

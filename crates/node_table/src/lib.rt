@@ -9,6 +9,9 @@
 mod acts;
 mod begin;
 mod children;
+mod closed;
+mod closing;
+mod counting;
 mod lowering;
 mod passes;
 mod places;
@@ -19,6 +22,7 @@ mod steps;
 mod tables;
 mod turns;
 
+pub use closed::{Closed, Root, TableCloseRefused};
 pub use lowering::Lowering;
 pub use passes::Pass;
 pub use places::Place;

@@ -1,0 +1,64 @@
+-- What a table leaves that is closed.
+use Rattle.std.specs.Prelude.{◌≡◌, ◌≢◌, ℕ, ◌<◌, ◌≤◌, Some, None, List, [], map, length, slice_index, All, vec_len}
+use Rattle.std.specs.List.{AllPairs, Contains, slice_get}
+use Rattle.node_words.specs.Enough.{HasEnough}
+use Rattle.node_words.specs.Held.{Wanted}
+use Rattle.node_words.specs.Plans.{Layout}
+use Rattle.node_places.specs.Spots.{levels}
+use Rattle.block_contents.specs.Versions.{IsKept}
+use Rattle.core_laws.specs.States.{State}
+use Rattle.core_laws.specs.Soundness.{Sound}
+use Rattle.core_laws.specs.Blocks.{IsIdle, live_number}
+use Rattle.table_rule.specs.Views.{SeatView}
+use Rattle.table_rule.specs.Knowing.{all_made}
+use Rattle.node_table.specs.Seen.{TableSeen, PassSeen, BelongsTo}
+use Rattle.node_table.specs.declared.closed.Root.{Root}
+use Rattle.node_table.specs.declared.closed.Closed.{Closed}
+use Rattle.node_table.specs.declared.closed.TableCloseRefused.{TableCloseRefused}
+use Rattle.node_table.specs.declared.closed.TableCloseRefused.TheVariants.{Count, Memory}
+
+-- the pass is one of the table's, has no turn and holds nothing
+pub record IsSpare (t : TableSeen) (s : PassSeen) : Type 0 where
+  pub of : BelongsTo t s
+  pub turn : s.view.turn ≡ None
+  pub held : s.view.held ≡ []
+
+-- why a table is not closed: its passes are not as many as were made, or they are, and there was
+-- no memory. The table and all passes come back as they were
+abbrev pub RefusesClose : TableSeen → List PassSeen → TableCloseRefused → Type 0
+RefusesClose t passes (Count table back made) =
+    (length passes ≢ t.made) × (made ≡ t.made) × (table ≡ t) × (back.items ≡ passes)
+RefusesClose t passes (Memory table back) =
+    (length passes ≡ t.made) × (table ≡ t) × (back.items ≡ passes)
+
+-- the root of each version that is kept, by rising version
+pub record AreRoots (state : State) (roots : List Root) : Type 0 where
+  pub rising : AllPairs (λ a b. a.version < b.version) roots
+  pub kept : All (λ r. IsKept state.log r.version) roots
+  pub named : All (λ r. r.name ≡ state.root r.version) roots
+  pub all : (v : ℕ) → IsKept state.log v → Contains (map (λ r. r.version) roots) v
+
+-- how many entries of each level are live, none above the levels of the world
+pub record AreLiveNumbers (p : Layout) (state : State) (live : List ℕ) : Type 0 where
+  pub as_many : length live ≡ 11
+  pub each : (level : ℕ) → level < levels p
+      → slice_index live level ≡ live_number p state level
+  pub above : (level : ℕ) → levels p ≤ level → slice_index live level ≡ 0
+
+-- the state that a closed table was in is sound, and nobody holds a share; its history, its roots
+-- and the numbers of its live entries are told
+pub record EndsTable (t : TableSeen) (closed : Closed) : Type 0 where
+  pub state : State
+  pub sound : Sound t.plan t.models state
+  pub idle : IsIdle state
+  pub history : closed.history ≡ state.log
+  pub roots : AreRoots state closed.roots.items
+  pub live : AreLiveNumbers t.plan state closed.live
+
+abbrev pub views_of : List PassSeen → List SeatView
+views_of passes = map (λ s. s.view) passes
+
+-- of whatever met a full bucket, the passes together have made enough other shapes
+pub record HadEnough (p : Layout) (passes : List PassSeen) : Type 0 where
+  pub each : (k : ℕ) (s : PassSeen) → slice_get passes k ≡ Some s → (m : Wanted)
+      → Contains s.view.met m → HasEnough p (all_made (views_of passes)) m.level m.bucket
