@@ -1,5 +1,5 @@
 -- What a table leaves that is closed.
-use Rattle.std.specs.Prelude.{◌≡◌, ◌≢◌, ℕ, ◌<◌, ◌≤◌, Some, None, List, [], map, length, slice_index, All, vec_len}
+use Rattle.std.specs.Prelude.{◌≡◌, ◌≢◌, ℕ, ◌<◌, ◌≤◌, Some, None, List, [], map, length, slice_index, All}
 use Rattle.std.specs.List.{AllPairs, Contains, slice_get}
 use Rattle.node_words.specs.Enough.{HasEnough}
 use Rattle.node_words.specs.Held.{Wanted}

@@ -13,7 +13,7 @@ use Rattle.table_rule.specs.Turning.{turn_of}
 use Rattle.table_rule.specs.Knowing.{all_made}
 use Rattle.table_rule.specs.Rules.{table_state}
 use Rattle.node_table.specs.Seen.{PassSeen}
-use Rattle.node_table.specs.Closing.{HadEnough, views_of}
+use Rattle.node_table.specs.Closing.{views_of}
 
 -- no command was logged
 abbrev pub unlogged : ℕ → Log

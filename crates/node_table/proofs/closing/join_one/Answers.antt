@@ -1,4 +1,4 @@
-use Rattle.std.proofs.Common.{◌≡◌, ℕ, List, sym, ap, ◌∙◌, arith}
+use Rattle.std.proofs.Common.{ap, ◌∙◌, arith}
 use Rattle.node_places.specs.Spots.{Sessions}
 use Rattle.node_places.proofs.Apart.{place_low}
 use Rattle.table_steps.proofs.LiftSeats.{joins_allowed}
