@@ -20,4 +20,4 @@ ball_act false b = Carve b
 pub record MakesBall (task : BallTask) (base : List Tree) (level : ℕ) (cells : Cells) : Type 0 where
   pub small : level ≤ 10
   pub inside : LiesIn 4096 (record { level = level; at = task.at })
-  pub paints : Paints base level task.old task.set (cells_from task.at (is_in_ball task.ball)) cells
+  pub paints : Paints base level task.old task.set (cells_from task.at (is_in_ball task.ball.now)) cells

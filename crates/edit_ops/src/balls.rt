@@ -9,16 +9,18 @@ use node_shapes::Name;
 use node_words::{Blocks, ball_bits};
 use vw_cell::{Ball, Block, Cell};
 
-/// Sets or clears the cells of a ball in the block at a place of the world.
-#[derive(Clone, Copy, Debug, PartialEq, Eq)]
-pub struct BallTask {
+/// Sets or clears the cells of a ball in the block at a place of the world. The ball is borrowed and
+/// stands between what differs from block to block: side by side, places would be written in other
+/// widths than they are read in, and the processor would wait.
+#[derive(Clone, Copy)]
+pub struct BallTask<'b> {
     pub(crate) old: Option<Name>,
-    pub(crate) ball: Ball,
+    pub(crate) ball: &'b Ball,
     pub(crate) at: Cell,
     pub(crate) set: bool,
 }
 
-impl Task for BallTask {
+impl<'b> Task for BallTask<'b> {
     ghost use Rattle.std.specs.Prelude.{◌-◌};
     ghost use Rattle.edit_cells.specs.Tasks.{blocks_in};
     ghost use Rattle.edit_ops.specs.Balls.{MakesBall};
@@ -29,7 +31,7 @@ impl Task for BallTask {
 
     ghost mixed_in = { λ level t k. blocks_in (level - 1) };
 
-    fn octant<B: Blocks>(&self, store: &mut B, level: u8, octant: u8) -> BallTask {
+    fn octant<B: Blocks>(&self, store: &mut B, level: u8, octant: u8) -> BallTask<'b> {
         let old = octant_name(store, level, self.old, octant);
         let block = Block { level, at: self.at };
         let part = block.child(octant);
@@ -43,10 +45,10 @@ impl Task for BallTask {
 
     fn whole(&self, level: u8) -> Whole {
         let side = side_of(level);
-        if is_outside(self.ball, self.at, side) {
+        if is_outside(*self.ball, self.at, side) {
             return old_whole(self.old);
         }
-        if is_inside(self.ball, self.at, side) {
+        if is_inside(*self.ball, self.at, side) {
             return filled(self.set);
         }
         if clears_nothing(self.set, self.old) {
@@ -58,7 +60,7 @@ impl Task for BallTask {
     fn bits<B: Blocks>(&self, store: &mut B) -> u64 {
         let old = leaf_bits(store, self.old);
         let inside = ball_bits(
-            self.ball,
+            *self.ball,
             Block {
                 level: 0,
                 at: self.at,

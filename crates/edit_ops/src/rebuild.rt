@@ -137,7 +137,7 @@ pub fn rebuild_ball<N: NodeStore, L: Ledger>(
 {
     let task = BallTask {
         old: name_of(old),
-        ball,
+        ball: &ball,
         at: Cell { x: 0, y: 0, z: 0 },
         set,
     };

@@ -43,7 +43,7 @@ pub fn rebuild_stamp<N: NodeStore, L: Ledger>(
     let task = StampTask {
         old: name_of(old),
         stencil,
-        place: at,
+        place: &at,
         at: Cell { x: 0, y: 0, z: 0 },
     };
     let _held = store.held();

@@ -7,12 +7,14 @@ use node_shapes::Name;
 use node_words::Blocks;
 use vw_cell::{Block, Boxed, Cell};
 
-/// Sets the cells of a model, whose least corner is at `place`, in the block at `at`.
+/// Sets the cells of a model, whose least corner is at `place`, in the block at `at`. What all blocks
+/// have in common is borrowed, and stands between what differs: side by side, places would be written
+/// in other widths than they are read in, and the processor would wait.
 #[derive(Clone, Copy)]
 pub struct StampTask<'s> {
     pub(crate) old: Option<Name>,
     pub(crate) stencil: &'s Stencil,
-    pub(crate) place: Cell,
+    pub(crate) place: &'s Cell,
     pub(crate) at: Cell,
 }
 
@@ -21,7 +23,7 @@ impl<'s> Task for StampTask<'s> {
     ghost use Rattle.edit_cells.specs.Tasks.{blocks_in};
     ghost use Rattle.edit_stamp.specs.Stamps.{MakesStamp};
 
-    ghost makes = { λ t. MakesStamp t.old t.stencil.now t.place t.at };
+    ghost makes = { λ t. MakesStamp t.old t.stencil.now t.place.now t.at };
 
     ghost mixed = { λ level t. blocks_in level };
 
@@ -41,20 +43,20 @@ impl<'s> Task for StampTask<'s> {
 
     fn whole(&self, level: u8) -> Whole {
         let place = Boxed {
-            at: self.place,
+            at: *self.place,
             size: self.stencil.size(),
         };
         let block = Block { level, at: self.at };
         if !place.meets(block) {
             return old_whole(self.old);
         }
-        if self.stencil.is_all(self.place, self.at, level, false) {
+        if self.stencil.is_all(*self.place, self.at, level, false) {
             return old_whole(self.old);
         }
         if !place.holds_block(block) {
             return Whole::Mixed;
         }
-        if self.stencil.is_all(self.place, self.at, level, true) {
+        if self.stencil.is_all(*self.place, self.at, level, true) {
             return Whole::All;
         }
         Whole::Mixed
@@ -66,7 +68,7 @@ impl<'s> Task for StampTask<'s> {
             level: 0,
             at: self.at,
         };
-        let inside = self.stencil.leaf_bits(self.place, block);
+        let inside = self.stencil.leaf_bits(*self.place, block);
         paint(true, old, inside)
     }
 }
