@@ -17,7 +17,6 @@ use Rattle.edit_cells.proofs.PaintLaws.{paints_octant}
 use Rattle.edit_cells.proofs.WorldLaws.{placed_octant, octant_lies, world_lies, from_nowhere}
 use Rattle.edit_cells.proofs.WorldPaints.{world_paints}
 use Rattle.history_model.specs.Worlds.{edited}
-use Rattle.edit_ops.specs.declared.balls.BallTask.{BallTask}
 use Rattle.edit_ops.specs.Balls.{MakesBall, ball_act}
 
 pub square_bound : (n : ℕ) → n ≤ 69631 → n * n ≤ 69631 * 69631
@@ -36,12 +35,12 @@ pub inside : (x y z a b c most : ℕ) → x + y + z ≤ most → a ≤ x → b �
 inside x y z a b c most within p q r = grind (arith, nat_tests)
 
 -- the task of an octant
-pub ball_octant : (base : List Tree) (level : ℕ) (task : BallTask) (cells : Cells) (k : ℕ) (old : Option Name) → 1 ≤ level → k < 8 → (m : MakesBall task base level cells) → old ≡ root_of (child_of m.paints.tree k)
-    → MakesBall (record { old = old; ball = task.ball; at = (octant_of (record { level = level; at = task.at }) k).at; set = task.set }) base (level - 1) (octant_cells (level - 1) cells k)
-ball_octant base level task cells k old one lt m e = record {
+pub ball_octant : (base : List Tree) (level : ℕ) (above : Option Name) (ball : Ball) (at : Cell) (set : Bool) (cells : Cells) (k : ℕ) (old : Option Name) → 1 ≤ level → k < 8 → (m : MakesBall above ball at set base level cells) → old ≡ root_of (child_of m.paints.tree k)
+    → MakesBall old ball (octant_of (record { level = level; at = at }) k).at set base (level - 1) (octant_cells (level - 1) cells k)
+ball_octant base level above ball at set cells k old one lt m e = record {
   small = omega (arith, m.small);
-  inside = octant_lies level task.at k one lt m.inside;
-  paints = paints_octant base level task.old old task.set _ _ cells k one lt m.paints e (placed_octant (level - 1) task.at (is_in_ball task.ball) k);
+  inside = octant_lies level at k one lt m.inside;
+  paints = paints_octant base level above old set _ _ cells k one lt m.paints e (placed_octant (level - 1) at (is_in_ball ball) k);
 }
 
 pub ball_edits : (set : Bool) (b : Ball) (before : Cell → Bool) (c : Cell) → edited [] (ball_act set b) before c ≡ (if is_in_ball b c then set else before c)
@@ -59,7 +58,7 @@ ball_edits false b before c = either (is_in_ball b c) (before c)
     either false false = refl
 
 -- the task of the whole world
-pub ball_world : (side level : ℕ) (held : List Tree) (set : Bool) (b : Ball) (o : Option Name) (before : Cell → Bool) → level ≤ 10 → AreTrees side held → AreCanonical held → ShowsWorld held level o before → MakesBall (record { old = o; ball = b; at = cell_at 0 0 0; set = set }) held level (world_cells (edited [] (ball_act set b) before))
+pub ball_world : (side level : ℕ) (held : List Tree) (set : Bool) (b : Ball) (o : Option Name) (before : Cell → Bool) → level ≤ 10 → AreTrees side held → AreCanonical held → ShowsWorld held level o before → MakesBall o b (cell_at 0 0 0) set held level (world_cells (edited [] (ball_act set b) before))
 ball_world side level held set b o before small a c w = record {
   small = small;
   inside = world_lies level small;

@@ -1,23 +1,25 @@
 -- What an edit of a ball makes of one block.
-use Rattle.std.specs.Prelude.{ℕ, ◌≤◌, Bool, List, true, false}
+use Rattle.std.specs.Prelude.{ℕ, ◌≤◌, Bool, List, Option, true, false}
+use Rattle.vw_cell.specs.declared.cells.Cell.{Cell}
 use Rattle.vw_cell.specs.declared.balls.Ball.{Ball}
 use Rattle.vw_cell.specs.Places.{is_in_ball, LiesIn}
+use Rattle.node_shapes.specs.declared.names.Name.{Name}
 use Rattle.node_shapes.specs.Tree.{Tree}
 use Rattle.history_model.specs.declared.acts.Act.{Act}
 use Rattle.history_model.specs.declared.acts.Act.TheVariants.{Ball as Bulge, Carve}
 use Rattle.cell_shapes.specs.CellShapes.{Cells}
 use Rattle.edit_cells.specs.Paints.{Paints}
 use Rattle.edit_cells.specs.Worlds.{cells_from}
-use Rattle.edit_ops.specs.declared.balls.BallTask.{BallTask}
 
 -- the act that sets or clears the cells of a ball
 abbrev pub ball_act : Bool → Ball → Act
 ball_act true b = Bulge b
 ball_act false b = Carve b
 
--- over these trees the task makes a block of this level with these cells, the block being told by
--- its place in the world
-pub record MakesBall (task : BallTask) (base : List Tree) (level : ℕ) (cells : Cells) : Type 0 where
+-- over these trees the block at this place of the world gets these cells, where those of the ball are
+-- set or cleared
+pub record MakesBall (old : Option Name) (ball : Ball) (at : Cell) (set : Bool) (base : List Tree)
+    (level : ℕ) (cells : Cells) : Type 0 where
   pub small : level ≤ 10
-  pub inside : LiesIn 4096 (record { level = level; at = task.at })
-  pub paints : Paints base level task.old task.set (cells_from task.at (is_in_ball task.ball.now)) cells
+  pub inside : LiesIn 4096 (record { level = level; at = at })
+  pub paints : Paints base level old set (cells_from at (is_in_ball ball)) cells

@@ -25,7 +25,7 @@ impl<'b> Task for BallTask<'b> {
     ghost use Rattle.edit_cells.specs.Tasks.{blocks_in};
     ghost use Rattle.edit_ops.specs.Balls.{MakesBall};
 
-    ghost makes = { MakesBall };
+    ghost makes = { λ t. MakesBall t.old t.ball.now t.at t.set };
 
     ghost mixed = { λ level t. blocks_in level };
 

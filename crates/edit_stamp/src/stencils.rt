@@ -12,7 +12,7 @@ ghost use Rattle.edit_stamp.specs.Tiers.{TellsTier};
 ghost use Rattle.edit_stamp.specs.Stamps.{is_stamped};
 
 use crate::scans::{Leaves, are_all, touched};
-use crate::tiers::{Tier, cubes_over, leaf_count};
+use crate::tiers::{Tier, cubes_over, leaf_count, word_at};
 use edit_cells::side_of;
 use node_words::{box_bits, window_bits};
 use std::alloc::Global;
@@ -73,8 +73,21 @@ impl Stencil {
 
     /// Whether the model's places in a block of the world are all set, or all unset. It may miss
     /// some that are. It looks at 27 words at most: those over the cubes of the model, half as wide
-    /// as the block, that the block touches.
+    /// as the block, that the block touches. Most blocks are told by the first of them.
+    #[inline(always)]
     pub fn is_all(&self, place: Cell, at: Cell, level: u8, set: bool) -> bool
+        requires level { level ≤ 10 }
+        ensures { IsTrue result → AllDrawn self.now place at (block_side level) set }
+    {
+        if self.first_word(place, at, level) != all_bits(set) {
+            return false;
+        }
+        self.is_all_through(place, at, level, set)
+    }
+
+    // The same, by a look at all these words.
+    #[inline(never)]
+    fn is_all_through(&self, place: Cell, at: Cell, level: u8, set: bool) -> bool
         requires level { level ≤ 10 }
         ensures { IsTrue result → AllDrawn self.now place at (block_side level) set }
     {
@@ -85,6 +98,21 @@ impl Stencil {
             return are_all(size, &self.words, leaves, want);
         }
         self.are_all_over((level - 1).min(6), leaves, want)
+    }
+
+    // The first of these words.
+    #[inline(always)]
+    fn first_word(&self, place: Cell, at: Cell, level: u8) -> u64
+        requires { level ≤ 10 }
+    {
+        let x = at.x.saturating_sub(place.x) / 4;
+        let y = at.y.saturating_sub(place.y) / 4;
+        let z = at.z.saturating_sub(place.z) / 4;
+        if level <= 1 {
+            return word_at(self.size, &self.words, x, y, z);
+        }
+        let up = (level - 1).min(6);
+        self.tier(up).word(x >> up, y >> up, z >> up)
     }
 
     // Whether the words of these leaves are all the same, by those over cubes of 2 ^ up leaves a

@@ -54,6 +54,13 @@ impl Tier {
         Tier::over(alloc, self.size, &self.words)
     }
 
+    // The word of the cube at this place, or another one where there is none.
+    pub(crate) fn word(&self, x: u16, y: u16, z: u16) -> u64
+        requires { (x < 16384) × (y < 16384) × (z < 16384) }
+    {
+        word_at(self.size, &self.words, x, y, z)
+    }
+
     // Whether the words of these cubes are all the same.
     pub(crate) fn are_all(&self, cubes: Leaves, want: u64) -> bool
         ensures { IsTrue result
@@ -121,7 +128,7 @@ fn word_over(size: Cell, words: &[u64], at: Cell) -> u64
         y: (2 * at.y + 2).min((size.y + 3) / 4),
         z: (2 * at.z + 2).min((size.z + 3) / 4),
     };
-    let first = word_at(size, words, from);
+    let first = word_at(size, words, from.x, from.y, from.z);
     if are_all(size, words, Leaves { from, to }, first) {
         first
     } else {
@@ -130,13 +137,13 @@ fn word_over(size: Cell, words: &[u64], at: Cell) -> u64
 }
 
 // The word of a leaf, or another one where there is none.
-fn word_at(size: Cell, words: &[u64], at: Cell) -> u64
+pub(crate) fn word_at(size: Cell, words: &[u64], x: u16, y: u16, z: u16) -> u64
     requires size { IsSize size }
-    requires at { (at.x ≤ 128) × (at.y ≤ 128) × (at.z ≤ 128) }
+    requires at { (x < 16384) × (y < 16384) × (z < 16384) }
 {
     let wide = usize::from((size.x + 3) / 4);
     let deep = usize::from((size.y + 3) / 4);
-    let number = (usize::from(at.z) * deep + usize::from(at.y)) * wide + usize::from(at.x);
+    let number = (usize::from(z) * deep + usize::from(y)) * wide + usize::from(x);
     if number < words.len() {
         words[number]
     } else {

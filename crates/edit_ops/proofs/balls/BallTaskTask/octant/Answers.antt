@@ -18,5 +18,5 @@ child-part-requires-clause-inside g c = let (base, cells, keeps, m) = c.requires
 pub returns-clause-task : goal.returns-clause-task
 returns-clause-task g c base cells keeps m =
     let child = sym (c.octant_name-old.ensures.octant m.paints.tree (old_block base _ c.args.level m.paints.tree _ keeps m.paints.is_old)).root in
-    subst (λ (b : Block). MakesBall (record { old = c.octant_name-old.result; ball = c.args.self.now.ball; at = b.at; set = c.args.self.now.set }) base (c.args.level - 1) (octant_cells (c.args.level - 1) cells c.args.octant)) (sym c.child-part.ensures)
-    (ball_octant base c.args.level c.args.self.now cells c.args.octant c.octant_name-old.result c.requires.level c.requires.octant m child)
+    subst (λ (b : Block). MakesBall c.octant_name-old.result c.args.self.now.ball.now b.at c.args.self.now.set base (c.args.level - 1) (octant_cells (c.args.level - 1) cells c.args.octant)) (sym c.child-part.ensures)
+    (ball_octant base c.args.level c.args.self.now.old c.args.self.now.ball.now c.args.self.now.at c.args.self.now.set cells c.args.octant c.octant_name-old.result c.requires.level c.requires.octant m child)

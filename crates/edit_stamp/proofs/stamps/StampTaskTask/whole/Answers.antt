@@ -13,8 +13,8 @@ pub returns-then-not-meets-clause-whole : goal.returns-then-not-meets-clause-who
 returns-then-not-meets-clause-whole c base cells m =
     subst (λ (w : Whole). IsWhole base c.args.level cells w) (sym c.old_whole.ensures)
     (paints_missed base c.args.level c.args.self.now.old _ _ cells
-    (stamp_missed c.args.self.now.stencil.now c.args.self.now.place (record { level = c.args.level; at = c.args.self.now.at })
-    (λ h. false≢true (c.if-not-meets.ensures.1 (subst (λ (s : Cell). Meets (record { at = c.args.self.now.place; size = s }) (record { level = c.args.level; at = c.args.self.now.at })) (sym c.size.ensures.value) h)))) m.paints)
+    (stamp_missed c.args.self.now.stencil.now c.args.self.now.place.now (record { level = c.args.level; at = c.args.self.now.at })
+    (λ h. false≢true (c.if-not-meets.ensures.1 (subst (λ (s : Cell). Meets (record { at = c.args.self.now.place.now; size = s }) (record { level = c.args.level; at = c.args.self.now.at })) (sym c.size.ensures.value) h)))) m.paints)
 
 pub is_all-requires : goal.is_all-requires
 is_all-requires c = let (base, cells, m) = c.requires.task in record { level = m.small }
@@ -25,13 +25,13 @@ is_all-requires-2 c = let (base, cells, m) = c.requires.task in record { level =
 pub returns-then-is_all-clause-whole : goal.returns-then-is_all-clause-whole
 returns-then-is_all-clause-whole c base cells m =
     subst (λ (w : Whole). IsWhole base c.args.level cells w) (sym c.old_whole-then-is_all.ensures)
-    (paints_missed base c.args.level c.args.self.now.old _ _ cells (stamp_empty c.args.self.now.stencil.now c.args.self.now.place c.args.self.now.at c.args.level _ refl (c.if-is_all.ensures refl)) m.paints)
+    (paints_missed base c.args.level c.args.self.now.old _ _ cells (stamp_empty c.args.self.now.stencil.now c.args.self.now.place.now c.args.self.now.at c.args.level _ refl (c.if-is_all.ensures refl)) m.paints)
 
 pub returns-then-is_all-2-clause-whole : goal.returns-then-is_all-2-clause-whole
 returns-then-is_all-2-clause-whole c base cells m =
     paints_held base c.args.level _ true _ cells
-    (stamp_full c.args.self.now.stencil.now c.args.self.now.place c.args.self.now.at c.args.level _ refl (c.if-is_all-2.ensures refl)
-    (subst (λ (s : Cell). HoldsBlock (record { at = c.args.self.now.place; size = s }) (record { level = c.args.level; at = c.args.self.now.at })) c.size.ensures.value (c.if-not-holds_block.ensures.0 refl))) m.paints
+    (stamp_full c.args.self.now.stencil.now c.args.self.now.place.now c.args.self.now.at c.args.level _ refl (c.if-is_all-2.ensures refl)
+    (subst (λ (s : Cell). HoldsBlock (record { at = c.args.self.now.place.now; size = s }) (record { level = c.args.level; at = c.args.self.now.at })) c.size.ensures.value (c.if-not-holds_block.ensures.0 refl))) m.paints
 
 pub returns-clause-mixed : goal.returns-clause-mixed
 returns-clause-mixed c e h = blocks_some c.args.level h

@@ -2,7 +2,7 @@ use Rattle.std.proofs.Common.{ap, ◌∙◌, sym, subst, refl, ℕ}
 use Rattle.vw_cell.specs.declared.cells.Cell.{Cell}
 use Rattle.edit_stamp.specs.Drawings.{Drawn, AllDrawn, AllWords}
 use Rattle.edit_stamp.proofs.StampLaws.{scan_drawn}
-use Rattle.edit_stamp.proofs.stencils.Stencil.is_all.Goals as goal
+use Rattle.edit_stamp.proofs.stencils.Stencil.is_all_through.Goals as goal
 
 pub returns-then-level-le1 : goal.returns-then-level-le1
 returns-then-level-le1 c e =
