@@ -1,5 +1,8 @@
-//! Shares of nodes of a table, by their content: leaves so far.
+//! Shares of nodes of a table, by their content.
 #![tactic(auto)]
+
+mod giving;
+mod nodes;
 
 ghost use Rattle.std.specs.Prelude.{◌≡◌, ◌≢◌, ◌≤◌, ◌+◌, ℕ, None, MatchResult};
 ghost use Rattle.node_shapes.specs.Weights.{number_of_trees};
@@ -10,6 +13,7 @@ ghost use Rattle.intern.specs.Leaves.{LeafCame, LeafRefused};
 
 use node_table::{NodeTable, Pass, Place};
 use node_words::{Full, Key, Share, Steps, bucket_of};
+pub use nodes::node;
 use std::sync::Wait;
 use std::sync::ledger::Ledger;
 
@@ -47,7 +51,7 @@ pub fn leaf<R: Wait, L: Ledger>(
 }
 
 // How many buckets the level has.
-fn buckets(table: &NodeTable, level: u8) -> u16
+pub(crate) fn buckets(table: &NodeTable, level: u8) -> u16
     requires { level ≤ 10 }
     ensures value { result ≡ buckets_at table.now.plan level }
     ensures some { 1 ≤ result }

@@ -1,0 +1,122 @@
+//! Shares of a leaf come and go one by one.
+ghost use Rattle.std.specs.Prelude.{◌≡◌, ◌≢◌, ◌≤◌, ◌<◌, ◌+◌, None, [], All};
+ghost use Rattle.node_shapes.specs.Weights.{number_of_trees};
+ghost use Rattle.node_words.specs.Held.{HoldsName, SameHeld};
+ghost use Rattle.node_table.specs.Seen.{BelongsTo};
+ghost use Rattle.tests_table.specs.Spare.{IsSpare};
+
+use crate::calls::{end, ended, give};
+use node_shapes::Name;
+use node_table::{NodeTable, Pass};
+use node_words::{Plan, Share, Steps};
+use std::marker::Brand;
+use std::sync::Wait;
+use std::sync::ledger::{Blank, Ledger};
+use std::test::Fail;
+use vox_read::Models;
+use vw_cell::Side;
+
+// Takes one more share and gives it back.
+fn more_and_back<R: Wait, L: Ledger>(
+    rt: &R,
+    table: &NodeTable,
+    pass: &mut Pass,
+    share: &Share,
+    steps: &mut Steps<L>,
+) -> bool
+    requires of { BelongsTo table.now pass.old }
+    requires idle { pass.old.view.turn ≡ None }
+    requires held { HoldsName pass.old.view.held share.now }
+    requires room { number_of_trees pass.old.view.held ≤ 3500 }
+    ensures of { BelongsTo table.now pass.new }
+    ensures idle { pass.new.view.turn ≡ None }
+    ensures held { SameHeld pass.old.view.held pass.new.view.held }
+{
+    let more = release::more(rt, table, pass, share, steps);
+    let same = more.name() == share.name();
+    release::back(rt, table, pass, more, steps);
+    same
+}
+
+// Takes one more share by the name and gives it back.
+fn kept_and_back<R: Wait, L: Ledger>(
+    rt: &R,
+    table: &NodeTable,
+    pass: &mut Pass,
+    n: Name,
+    steps: &mut Steps<L>,
+) -> bool
+    requires of { BelongsTo table.now pass.old }
+    requires idle { pass.old.view.turn ≡ None }
+    requires held { HoldsName pass.old.view.held n }
+    requires room { number_of_trees pass.old.view.held ≤ 3500 }
+    ensures of { BelongsTo table.now pass.new }
+    ensures idle { pass.new.view.turn ≡ None }
+    ensures held { SameHeld pass.old.view.held pass.new.view.held }
+{
+    let kept = release::keep_at(rt, table, pass, n, steps);
+    let same = kept.name() == n;
+    release::back(rt, table, pass, kept, steps);
+    same
+}
+
+// Whether a leaf is freed by its one share, after others came and went.
+fn is_counted<R: Wait, L: Ledger>(rt: &R, table: &NodeTable, pass: &mut Pass, blank: Blank) -> bool
+    requires name { blank.name ≡ L.name }
+    requires parts { blank.parts ≡ L.parts }
+    requires some { 0 < L.parts }
+    requires of { BelongsTo table.now pass.old }
+    requires idle { pass.old.view.turn ≡ None }
+    requires room { number_of_trees pass.old.view.held ≤ 3000 }
+    ensures of { BelongsTo table.now pass.new }
+    ensures idle { pass.new.view.turn ≡ None }
+    ensures held { SameHeld pass.old.view.held pass.new.view.held }
+{
+    let mut steps: Steps<L> = Steps::start(blank);
+    match intern::leaf(rt, table, pass, 1, &mut steps) {
+        Ok(share) => {
+            let more = more_and_back(rt, table, pass, &share, &mut steps);
+            let kept = kept_and_back(rt, table, pass, share.name(), &mut steps);
+            let freed = give(rt, table, pass, share, &mut steps);
+            more && kept && freed
+        }
+        Err(_) => false,
+    }
+}
+
+// The same of the one pass that there is.
+fn one_counts<R: Wait, L: Ledger>(
+    rt: &R,
+    table: &NodeTable,
+    mut passes: Vec<Pass>,
+    blank: Blank,
+) -> bool
+    requires name { blank.name ≡ L.name }
+    requires parts { blank.parts ≡ L.parts }
+    requires some { 0 < L.parts }
+    requires passes { All (IsSpare table.now) passes.items }
+{
+    let Some(mut pass) = passes.pop() else {
+        passes.destroy_empty();
+        return false;
+    };
+    let counted = is_counted::<R, L>(rt, table, &mut pass, blank);
+    end(pass);
+    ended(table, passes) == 0 && counted
+}
+
+#[test]
+#[tactic(auto, using(crate::proofs::Giving::new_spare))]
+fn shares_are_counted(rt: HostRuntime) -> Result<(), Fail> {
+    let side = Side::new(8).ok_or("a side")?;
+    let plan = Plan::even(side, 1, 2).ok_or("a plan")?;
+    let models = Models {
+        list: Vec::new(rt.alloc()),
+    };
+    let Ok((table, passes)) = NodeTable::begin(rt.alloc(), &plan, &models, 1) else {
+        return Err(Fail::from("memory"));
+    };
+    let counted = one_counts::<HostRuntime, Brand>(&rt, &table, passes, Blank::new(1));
+    assert!(rt; counted);
+    Ok(())
+}
