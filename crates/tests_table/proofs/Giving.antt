@@ -1,5 +1,5 @@
 -- What is held after a share of a leaf came and went.
-use Rattle.std.proofs.Common.{◌≡◌, ℕ, zero, suc, ◌+◌, ◌<◌, ◌≤◌, Option, Some, None, List, [], ◌∷◌, All, length, get_or, refl, sym, ap, ◌∙◌, subst, arith}
+use Rattle.std.proofs.Common.{◌≡◌, ℕ, zero, suc, ◌+◌, ◌<◌, ◌≤◌, Some, None, List, [], ◌∷◌, ◌++◌, take, All, length, get_or, refl, sym, ap, ◌∙◌, subst, arith}
 use Rattle.node_shapes.specs.declared.names.Name.{Name}
 use Rattle.node_shapes.specs.Tree.{Tree, LeafAt, root_of, child_of}
 use Rattle.node_shapes.specs.Weights.{weigh, weight_below, number_of_trees}
@@ -19,7 +19,7 @@ use Rattle.node_table.specs.Seen.{TableSeen, PassSeen, BelongsTo}
 use Rattle.node_table.proofs.ReadLaws.{has_no_child}
 use Rattle.std.specs.List.{slice_get}
 use Rattle.node_table.specs.Begins.{AreNewPasses, terms_of}
-use Rattle.tests_table.specs.Spare.{IsSpare}
+use Rattle.node_table.specs.Closing.{IsSpare}
 use Rattle.intern.specs.Leaves.{LeafCame, LeafRefused}
 
 -- the bucket of a held name is one of the table's
@@ -148,3 +148,19 @@ pub few_held : (held : List Tree) → held ≡ [] → number_of_trees held ≤ 3
 few_held held none =
     (let e = ap (λ (ts : List Tree). number_of_trees ts) none in let n = weigh-nil (λ _. 1) in
     omega arith)
+
+-- what came back is spare
+pub back_spare : (t u : TableSeen) (passes back : List PassSeen) → All (IsSpare t) passes
+    → u ≡ t → back ≡ passes → All (IsSpare u) back
+back_spare t u passes back all table same =
+    subst (λ (l : List PassSeen). All (IsSpare u) l) (sym same)
+    (subst (λ (x : TableSeen). All (IsSpare x) passes) (sym table) all)
+
+-- what is written back into a list of as many passes
+pub all_written : (P : PassSeen → Type 0) (n : ℕ) (xs ys : List PassSeen) → n ≤ length xs
+    → All P xs → All P (take n (xs ++ ys))
+all_written P zero xs ys le all k d lt = absurd (omega arith)
+all_written P (suc n) [] ys le all k d lt = absurd (omega arith)
+all_written P (suc n) (x ∷ xs) ys le all zero d lt = all zero d (omega arith)
+all_written P (suc n) (x ∷ xs) ys le all (suc k) d lt =
+    all_written P n xs ys (omega arith) (λ j e l. all (suc j) e (omega arith)) k d (omega arith)

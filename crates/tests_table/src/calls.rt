@@ -2,7 +2,7 @@ ghost use Rattle.std.specs.Prelude.{◌≡◌, ◌≢◌, ◌≤◌, ◌<◌, �
 ghost use Rattle.node_shapes.specs.Weights.{number_of_trees};
 ghost use Rattle.node_words.specs.Held.{ForHeld, Gains, HoldsName, SameHeld};
 ghost use Rattle.node_table.specs.Seen.{BelongsTo};
-ghost use Rattle.tests_table.specs.Spare.{IsSpare};
+ghost use Rattle.node_table.specs.Closing.{IsSpare};
 
 use node_table::{Lowering, NodeTable, Pass};
 use node_words::{Share, Steps, spend_all};

@@ -4,6 +4,8 @@
 #[cfg(test)]
 mod calls;
 #[cfg(test)]
+mod closes;
+#[cfg(test)]
 mod shares;
 #[cfg(test)]
 mod tests;

@@ -3,7 +3,7 @@ ghost use Rattle.std.specs.Prelude.{◌≡◌, ◌≢◌, ◌≤◌, ◌<◌, �
 ghost use Rattle.node_shapes.specs.Weights.{number_of_trees};
 ghost use Rattle.node_words.specs.Held.{HoldsName, SameHeld};
 ghost use Rattle.node_table.specs.Seen.{BelongsTo};
-ghost use Rattle.tests_table.specs.Spare.{IsSpare};
+ghost use Rattle.node_table.specs.Closing.{IsSpare};
 
 use crate::calls::{end, ended, give};
 use node_shapes::Name;

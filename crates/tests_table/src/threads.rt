@@ -3,7 +3,7 @@ ghost use Rattle.std.specs.Prelude.{◌≡◌, ◌≢◌, ◌≤◌, ◌<◌, No
 ghost use Rattle.node_shapes.specs.Weights.{number_of_trees};
 ghost use Rattle.node_words.specs.Held.{SameHeld};
 ghost use Rattle.node_table.specs.Seen.{BelongsTo};
-ghost use Rattle.tests_table.specs.Spare.{IsSpare};
+ghost use Rattle.node_table.specs.Closing.{IsSpare};
 
 use crate::calls::{comes_and_goes, end, ended};
 use node_table::{NodeTable, Pass};
@@ -43,7 +43,7 @@ fn take_spare<R: Wait>(rt: &R, table: &NodeTable, pass: &mut Pass)
     take_often::<R, Brand>(rt, table, pass, Blank::new(1));
 }
 
-fn take_all<R: Threads + Wait + Sync>(rt: &R, table: &NodeTable, passes: &mut [Pass])
+pub(crate) fn take_all<R: Threads + Wait + Sync>(rt: &R, table: &NodeTable, passes: &mut [Pass])
     requires { All (IsSpare table.now) passes.old }
     ensures { All (IsSpare table.now) passes.new }
 {

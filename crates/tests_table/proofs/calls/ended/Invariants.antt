@@ -1,5 +1,5 @@
 use Rattle.std.proofs.Common.{All, vec_len}
-use Rattle.tests_table.specs.Spare.{IsSpare}
+use Rattle.node_table.specs.Closing.{IsSpare}
 use Rattle.tests_table.proofs.calls.ended.Given as goal
 
 abbrev pub invariant-loop-pass : goal.invariant-loop-pass

@@ -1,5 +1,4 @@
-use Rattle.std.proofs.Common.{◌≡◌, ◌≤◌, arith}
-use Rattle.node_shapes.specs.Weights.{number_of_trees}
+use Rattle.std.proofs.Common.{arith}
 use Rattle.node_words.proofs.HeldLaws.{same_on}
 use Rattle.tests_table.proofs.Giving.{same_itself, still_few}
 use Rattle.tests_table.proofs.threads.is_empty.Goals as goal

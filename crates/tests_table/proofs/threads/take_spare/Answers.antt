@@ -1,5 +1,4 @@
-use Rattle.std.proofs.Common.{◌≡◌, ◌≤◌, List, [], subst, arith}
-use Rattle.node_shapes.specs.Tree.{Tree}
+use Rattle.std.proofs.Common.{subst}
 use Rattle.node_words.specs.Held.{SameHeld}
 use Rattle.tests_table.proofs.Giving.{nothing_held, few_held}
 use Rattle.tests_table.proofs.threads.take_spare.Goals as goal

@@ -1,0 +1,196 @@
+//! What closing a table gives, and what comes back where it is refused.
+ghost use Rattle.std.specs.Prelude.{◌≡◌, All, IfOk};
+ghost use Rattle.node_table.specs.Closing.{IsSpare};
+
+use crate::calls::ended;
+use crate::threads::take_all;
+use node_table::{Closed, NodeTable, Pass, Root, TableCloseRefused};
+use node_words::Plan;
+use std::alloc::{AllocFailed, Global};
+use std::test::Fail;
+use vox_read::Models;
+use vw_cell::Side;
+
+// Whether nothing is live on any level.
+fn none_live(live: &[u32; 11]) -> bool {
+    for number in live {
+        if *number > 0 {
+            return false;
+        }
+    }
+    true
+}
+
+// Whether no command was logged, version 0 has no root, and nothing is live.
+fn is_blank(closed: &Closed) -> bool {
+    let roots = closed.roots.as_slice();
+    let blank = Root {
+        version: 0,
+        name: None,
+    };
+    let history = &closed.history;
+    let empty = history.records.is_empty() && history.marks.is_empty();
+    roots.len() == 1 && roots[0] == blank && none_live(&closed.live) && empty
+}
+
+// Whether closing the table tells that nothing was left.
+#[tactic(auto, using(crate::proofs::Giving::back_spare))]
+fn closes_blank(alloc: Global, table: NodeTable, passes: Vec<Pass>) -> bool
+    requires { All (IsSpare table) passes.items }
+{
+    match table.close(alloc, passes) {
+        Ok(closed) => is_blank(&closed),
+        Err(
+            TableCloseRefused::Count {
+                table,
+                passes,
+                made: _,
+            },
+        ) => ended(&table, passes) > 64,
+        Err(TableCloseRefused::Memory { table, passes }) => ended(&table, passes) > 64,
+    }
+}
+
+// Whether closing is refused for passes that are missing: how many were made, and how many came
+// back.
+#[tactic(auto, using(crate::proofs::Giving::back_spare))]
+fn is_refused(alloc: Global, table: NodeTable, passes: Vec<Pass>, numbers: (u16, u32)) -> bool
+    requires { All (IsSpare table) passes.items }
+{
+    match table.close(alloc, passes) {
+        Err(
+            TableCloseRefused::Count {
+                table,
+                passes,
+                made,
+            },
+        ) => {
+            let number = ended(&table, passes);
+            made == numbers.0 && number == numbers.1
+        }
+        Err(TableCloseRefused::Memory { table, passes }) => ended(&table, passes) > 64,
+        Ok(_) => false,
+    }
+}
+
+// Whether a table that was refused without one of its passes is closed with it.
+fn closes_later(alloc: Global, table: NodeTable, mut passes: Vec<Pass>, kept: Pass) -> bool
+    requires passes { All (IsSpare table) passes.items }
+    requires kept { IsSpare table kept }
+{
+    match passes.push(kept) {
+        Ok(()) => closes_blank(alloc, table, passes),
+        Err(AllocFailed { value }) => {
+            value.end();
+            ended(&table, passes) > 64
+        }
+    }
+}
+
+// Whether closing is refused while one pass is kept back, and then isn't.
+fn is_refused_once(alloc: Global, table: NodeTable, mut passes: Vec<Pass>) -> bool
+    requires { All (IsSpare table) passes.items }
+{
+    let Some(kept) = passes.pop() else {
+        return ended(&table, passes) > 64;
+    };
+    match table.close(alloc, passes) {
+        Err(
+            TableCloseRefused::Count {
+                table,
+                passes,
+                made,
+            },
+        ) => {
+            let counted = made == 2 && passes.len() == 1;
+            let closed = closes_later(alloc, table, passes, kept);
+            counted && closed
+        }
+        Err(TableCloseRefused::Memory { table, passes }) => {
+            kept.end();
+            ended(&table, passes) > 64
+        }
+        Ok(_) => {
+            kept.end();
+            false
+        }
+    }
+}
+
+// Drops the table, then ends its passes, and says how many there were.
+fn outlive(table: NodeTable, mut passes: Vec<Pass>) -> u32
+    requires { All (IsSpare table) passes.items }
+{
+    drop(table);
+    let mut number: u32 = 0;
+    while let Some(pass) = passes.pop() {
+        number = number.saturating_add(1);
+        pass.end();
+    }
+    passes.destroy_empty();
+    number
+}
+
+// A table of a world of side 8 by the usual plan, with two passes.
+#[tactic(auto, using(crate::proofs::Giving::new_spare))]
+fn begun(alloc: Global) -> Result<(NodeTable, Vec<Pass>), Fail>
+    ensures { IfOk result (λ r. All (IsSpare r.0) r.1.items) }
+{
+    let side = Side::new(8).ok_or("a side")?;
+    let models = Models {
+        list: Vec::new(alloc),
+    };
+    match NodeTable::begin(alloc, &Plan::usual(side), &models, 2) {
+        Ok(begun) => Ok(begun),
+        Err(_) => Err(Fail::from("memory")),
+    }
+}
+
+#[test]
+fn a_new_table_is_blank(rt: HostRuntime) -> Result<(), Fail> {
+    let (table, passes) = begun(rt.alloc())?;
+    assert!(rt; closes_blank(rt.alloc(), table, passes));
+    Ok(())
+}
+
+#[test]
+fn a_pass_too_few_is_refused(rt: HostRuntime) -> Result<(), Fail> {
+    let (table, passes) = begun(rt.alloc())?;
+    assert!(rt; is_refused_once(rt.alloc(), table, passes));
+    Ok(())
+}
+
+// Both passes are given up, so the table can only be dropped.
+#[test]
+fn no_pass_is_refused(rt: HostRuntime) -> Result<(), Fail> {
+    let (table, passes) = begun(rt.alloc())?;
+    let number = ended(&table, passes);
+    let refused = is_refused(rt.alloc(), table, Vec::new(rt.alloc()), (2, 0));
+    assert!(rt; number == 2 && refused);
+    Ok(())
+}
+
+// A table is dropped while its passes are out.
+#[test]
+fn passes_outlive_their_table(rt: HostRuntime) -> Result<(), Fail> {
+    let (table, passes) = begun(rt.alloc())?;
+    assert!(rt; outlive(table, passes) == 2);
+    Ok(())
+}
+
+// Whatever four threads took and gave back, nothing is left.
+#[test]
+#[tactic(auto, using(crate::proofs::Giving::new_spare))]
+fn four_threads_close_blank(rt: HostRuntime) -> Result<(), Fail> {
+    let side = Side::new(8).ok_or("a side")?;
+    let plan = Plan::even(side, 1, 4).ok_or("a plan")?;
+    let models = Models {
+        list: Vec::new(rt.alloc()),
+    };
+    let Ok((table, mut passes)) = NodeTable::begin(rt.alloc(), &plan, &models, 4) else {
+        return Err(Fail::from("memory"));
+    };
+    take_all(&rt, &table, passes.as_mut_slice());
+    assert!(rt; closes_blank(rt.alloc(), table, passes));
+    Ok(())
+}
