@@ -1,13 +1,16 @@
-ghost use Rattle.std.specs.Prelude.{◌≡◌, ◌≢◌, ◌≤◌, ◌<◌, ◌+◌, None, [], All};
+ghost use Rattle.std.specs.Prelude.{◌≡◌, ◌≢◌, ◌≤◌, ◌<◌, ◌+◌, None, [], All, IfOk};
 ghost use Rattle.node_shapes.specs.Weights.{number_of_trees};
 ghost use Rattle.node_words.specs.Held.{ForHeld, Gains, HoldsName, SameHeld};
 ghost use Rattle.node_table.specs.Seen.{BelongsTo};
 ghost use Rattle.node_table.specs.Closing.{IsSpare};
 
 use node_table::{Lowering, NodeTable, Pass};
-use node_words::{Share, Steps, spend_all};
+use node_words::{Plan, Share, Steps, spend_all};
+use std::alloc::Global;
 use std::sync::Wait;
 use std::sync::ledger::Ledger;
+use std::test::Fail;
+use vox_read::Models;
 
 /// Gives the share of a leaf back, and says whether the leaf is freed.
 pub fn give<R: Wait, L: Ledger>(
@@ -110,4 +113,19 @@ pub fn ended(table: &NodeTable, mut passes: Vec<Pass>) -> u32
     }
     passes.destroy_empty();
     number
+}
+
+/// A table by this plan, of a world with no model, and its passes.
+#[tactic(auto, using(crate::proofs::Giving::new_spare))]
+pub fn begun(alloc: Global, plan: &Plan, sessions: u16) -> Result<(NodeTable, Vec<Pass>), Fail>
+    requires { (1 ≤ sessions) × (sessions ≤ 64) }
+    ensures { IfOk result (λ r. All (IsSpare r.0) r.1.items) }
+{
+    let models = Models {
+        list: Vec::new(alloc),
+    };
+    match NodeTable::begin(alloc, plan, &models, sessions) {
+        Ok(begun) => Ok(begun),
+        Err(_) => Err(Fail::from("memory")),
+    }
 }

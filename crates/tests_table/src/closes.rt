@@ -2,13 +2,12 @@
 ghost use Rattle.std.specs.Prelude.{◌≡◌, All, IfOk};
 ghost use Rattle.node_table.specs.Closing.{IsSpare};
 
-use crate::calls::ended;
-use crate::threads::take_all;
+use crate::calls::{begun, ended};
+use crate::threads::all_take;
 use node_table::{Closed, NodeTable, Pass, Root, TableCloseRefused};
 use node_words::Plan;
 use std::alloc::{AllocFailed, Global};
 use std::test::Fail;
-use vox_read::Models;
 use vw_cell::Side;
 
 // Whether nothing is live on any level.
@@ -132,30 +131,23 @@ fn outlive(table: NodeTable, mut passes: Vec<Pass>) -> u32
 }
 
 // A table of a world of side 8 by the usual plan, with two passes.
-#[tactic(auto, using(crate::proofs::Giving::new_spare))]
-fn begun(alloc: Global) -> Result<(NodeTable, Vec<Pass>), Fail>
+fn begun_by_two(alloc: Global) -> Result<(NodeTable, Vec<Pass>), Fail>
     ensures { IfOk result (λ r. All (IsSpare r.0) r.1.items) }
 {
     let side = Side::new(8).ok_or("a side")?;
-    let models = Models {
-        list: Vec::new(alloc),
-    };
-    match NodeTable::begin(alloc, &Plan::usual(side), &models, 2) {
-        Ok(begun) => Ok(begun),
-        Err(_) => Err(Fail::from("memory")),
-    }
+    begun(alloc, &Plan::usual(side), 2)
 }
 
 #[test]
 fn a_new_table_is_blank(rt: HostRuntime) -> Result<(), Fail> {
-    let (table, passes) = begun(rt.alloc())?;
+    let (table, passes) = begun_by_two(rt.alloc())?;
     assert!(rt; closes_blank(rt.alloc(), table, passes));
     Ok(())
 }
 
 #[test]
 fn a_pass_too_few_is_refused(rt: HostRuntime) -> Result<(), Fail> {
-    let (table, passes) = begun(rt.alloc())?;
+    let (table, passes) = begun_by_two(rt.alloc())?;
     assert!(rt; is_refused_once(rt.alloc(), table, passes));
     Ok(())
 }
@@ -163,7 +155,7 @@ fn a_pass_too_few_is_refused(rt: HostRuntime) -> Result<(), Fail> {
 // Both passes are given up, so the table can only be dropped.
 #[test]
 fn no_pass_is_refused(rt: HostRuntime) -> Result<(), Fail> {
-    let (table, passes) = begun(rt.alloc())?;
+    let (table, passes) = begun_by_two(rt.alloc())?;
     let number = ended(&table, passes);
     let refused = is_refused(rt.alloc(), table, Vec::new(rt.alloc()), (2, 0));
     assert!(rt; number == 2 && refused);
@@ -173,24 +165,18 @@ fn no_pass_is_refused(rt: HostRuntime) -> Result<(), Fail> {
 // A table is dropped while its passes are out.
 #[test]
 fn passes_outlive_their_table(rt: HostRuntime) -> Result<(), Fail> {
-    let (table, passes) = begun(rt.alloc())?;
+    let (table, passes) = begun_by_two(rt.alloc())?;
     assert!(rt; outlive(table, passes) == 2);
     Ok(())
 }
 
 // Whatever four threads took and gave back, nothing is left.
 #[test]
-#[tactic(auto, using(crate::proofs::Giving::new_spare))]
 fn four_threads_close_blank(rt: HostRuntime) -> Result<(), Fail> {
     let side = Side::new(8).ok_or("a side")?;
     let plan = Plan::even(side, 1, 4).ok_or("a plan")?;
-    let models = Models {
-        list: Vec::new(rt.alloc()),
-    };
-    let Ok((table, mut passes)) = NodeTable::begin(rt.alloc(), &plan, &models, 4) else {
-        return Err(Fail::from("memory"));
-    };
-    take_all(&rt, &table, passes.as_mut_slice());
+    let (table, passes) = begun(rt.alloc(), &plan, 4)?;
+    let passes = all_take(&rt, &table, passes);
     assert!(rt; closes_blank(rt.alloc(), table, passes));
     Ok(())
 }

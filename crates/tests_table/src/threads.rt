@@ -5,7 +5,7 @@ ghost use Rattle.node_words.specs.Held.{SameHeld};
 ghost use Rattle.node_table.specs.Seen.{BelongsTo};
 ghost use Rattle.node_table.specs.Closing.{IsSpare};
 
-use crate::calls::{comes_and_goes, end, ended};
+use crate::calls::{begun, comes_and_goes, end, ended};
 use node_table::{NodeTable, Pass};
 use node_words::{Plan, Steps};
 use std::marker::Brand;
@@ -14,7 +14,6 @@ use std::sync::ledger::{Blank, Ledger};
 use std::test::Fail;
 use std::thread;
 use std::thread::Threads;
-use vox_read::Models;
 use vw_cell::Side;
 
 // Takes 10,000 leaves, of four that take turns, and gives each back.
@@ -43,7 +42,7 @@ fn take_spare<R: Wait>(rt: &R, table: &NodeTable, pass: &mut Pass)
     take_often::<R, Brand>(rt, table, pass, Blank::new(1));
 }
 
-pub(crate) fn take_all<R: Threads + Wait + Sync>(rt: &R, table: &NodeTable, passes: &mut [Pass])
+fn take_all<R: Threads + Wait + Sync>(rt: &R, table: &NodeTable, passes: &mut [Pass])
     requires { All (IsSpare table.now) passes.old }
     ensures { All (IsSpare table.now) passes.new }
 {
@@ -56,6 +55,19 @@ pub(crate) fn take_all<R: Threads + Wait + Sync>(rt: &R, table: &NodeTable, pass
             ensures { IsSpare table.entry.now pass.exit.now }
         { take_spare(rt, table, pass) },
     );
+}
+
+/// All passes take and give back, each in a thread of its own where there are four at most.
+pub fn all_take<R: Threads + Wait + Sync>(
+    rt: &R,
+    table: &NodeTable,
+    mut passes: Vec<Pass>,
+) -> Vec<Pass>
+    requires { All (IsSpare table.now) passes.items }
+    ensures { All (IsSpare table.now) result.items }
+{
+    take_all(rt, table, passes.as_mut_slice());
+    passes
 }
 
 // Whether each of the four leaves is added in slot 0, and freed by its one share.
@@ -103,17 +115,11 @@ fn left_nothing<R: Wait, L: Ledger>(
 
 // Four threads at once, over one bucket of four slots.
 #[test]
-#[tactic(auto, using(crate::proofs::Giving::new_spare))]
 fn four_threads_leave_nothing(rt: HostRuntime) -> Result<(), Fail> {
     let side = Side::new(8).ok_or("a side")?;
     let plan = Plan::even(side, 1, 4).ok_or("a plan")?;
-    let models = Models {
-        list: Vec::new(rt.alloc()),
-    };
-    let Ok((table, mut passes)) = NodeTable::begin(rt.alloc(), &plan, &models, 4) else {
-        return Err(Fail::from("memory"));
-    };
-    take_all(&rt, &table, passes.as_mut_slice());
+    let (table, passes) = begun(rt.alloc(), &plan, 4)?;
+    let passes = all_take(&rt, &table, passes);
     let empty = left_nothing::<HostRuntime, Brand>(&rt, &table, passes, Blank::new(1));
     assert!(rt; empty);
     Ok(())
