@@ -19,7 +19,8 @@ mkdir -p "$program/src" "$program/proofs"
 tests=$root/crates/tests_table
 cp "$tests/src/calls.rt" "$program/src/"
 cp -a "$tests/specs" "$program/"
-cp -a "$tests/proofs/Giving.antt" "$tests/proofs/Lib.antt" "$tests/proofs/calls" "$program/proofs/"
+cp -a "$tests/proofs/Giving.antt" "$tests/proofs/calls" "$program/proofs/"
+echo "pub mod Giving" > "$program/proofs/Lib.antt"
 sed -i 's/tests_table/bench_table/g' $(find "$program" -name '*.rt' -o -name '*.antt')
 cp "$here/table/main.rt.in" "$program/src/main.rt"
 cp "$here/table/work.rt.in" "$program/src/work.rt"

@@ -11,3 +11,5 @@ mod shares;
 mod tests;
 #[cfg(test)]
 mod threads;
+#[cfg(test)]
+mod worlds;

@@ -1,0 +1,9 @@
+use Rattle.std.proofs.Common.{List, ◌≡◌, ◌≤◌, ◌∙◌, ap, subst, sym, arith}
+use Rattle.node_table.specs.Seen.{PassSeen}
+use Rattle.node_shapes.specs.Weights.{number_of_trees}
+use Rattle.tests_table.proofs.Giving.{few_held}
+use Rattle.tests_table.proofs.worlds.counted_over.Goals as goal
+
+pub counted-number-requires-clause-room : goal.counted-number-requires-clause-room
+counted-number-requires-clause-room g c =
+    few_held _ (ap (λ (s : PassSeen). s.view.held) c.new-store.ensures.pass ∙ c.requires.spare.held)

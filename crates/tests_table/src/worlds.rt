@@ -1,0 +1,117 @@
+//! A world over a pass: an edit and a question run as over any store.
+ghost use Rattle.std.specs.Prelude.{◌≡◌, ◌≤◌, ◌<◌, ◌^◌, None, [], All};
+ghost use Rattle.vw_cell.specs.Places.{FitsAt};
+ghost use Rattle.node_shapes.specs.Weights.{number_of_trees};
+ghost use Rattle.node_words.specs.Held.{SameHeld};
+ghost use Rattle.node_table.specs.Seen.{BelongsTo};
+ghost use Rattle.node_table.specs.Closing.{IsSpare};
+
+use crate::calls::{begun, end, ended};
+use edit_blocks::back_if;
+use edit_ops::rebuild_box;
+use measure::count;
+use node_table::{NodeTable, Pass};
+use node_words::{NodeStore, Plan, Steps};
+use pass_store::PassStore;
+use std::marker::Brand;
+use std::sync::Wait;
+use std::sync::ledger::{Blank, Ledger};
+use std::test::Fail;
+use vw_cell::{Boxed, Cell, Side};
+
+// Fills a box of an empty world, tells how many cells of another one are set, and gives all back.
+fn counted<N: NodeStore, L: Ledger>(
+    store: &mut N,
+    side: Side,
+    filled: Boxed,
+    asked: Boxed,
+    blank: Blank,
+) -> Option<u64>
+    requires name { blank.name ≡ L.name }
+    requires parts { blank.parts ≡ L.parts }
+    requires some { 0 < L.parts }
+    requires side { side ≡ (N.seen store.old).plan.side }
+    requires filled { FitsAt filled.at filled.size (2 ^ side) }
+    requires asked { FitsAt asked.at asked.size (2 ^ side) }
+    requires room { number_of_trees (N.seen store.old).held ≤ 3000 }
+    ensures held { SameHeld (N.seen store.old).held (N.seen store.new).held }
+    ensures rests { N.rests store.old store.new }
+{
+    let mut steps: Steps<L> = Steps::start(blank);
+    match rebuild_box(store, None, side, filled, true, &mut steps) {
+        Ok(root) => {
+            let number = count(store, root.as_ref(), side, asked);
+            back_if(store, root, &mut steps);
+            Some(number)
+        }
+        Err(_full) => None,
+    }
+}
+
+// The same over a pass, which is given up then.
+fn counted_over<R: Wait, L: Ledger>(
+    rt: &R,
+    table: &NodeTable,
+    pass: Pass,
+    filled: Boxed,
+    asked: Boxed,
+    blank: Blank,
+) -> Option<u64>
+    requires name { blank.name ≡ L.name }
+    requires parts { blank.parts ≡ L.parts }
+    requires some { 0 < L.parts }
+    requires spare { IsSpare table.now pass }
+    requires filled { FitsAt filled.at filled.size (2 ^ table.now.plan.side) }
+    requires asked { FitsAt asked.at asked.size (2 ^ table.now.plan.side) }
+{
+    let side = table.plan().side();
+    let mut store = PassStore::new(rt, table, pass);
+    let number = counted::<PassStore<R>, L>(&mut store, side, filled, asked, blank);
+    end(store.into_pass());
+    number
+}
+
+// The number of set cells in the part of x below 4, where a box of 60 cells is filled.
+fn part_of_a_box<R: Wait, L: Ledger>(
+    rt: &R,
+    table: &NodeTable,
+    mut passes: Vec<Pass>,
+    blank: Blank,
+) -> Option<u64>
+    requires name { blank.name ≡ L.name }
+    requires parts { blank.parts ≡ L.parts }
+    requires some { 0 < L.parts }
+    requires passes { All (IsSpare table.now) passes.items }
+{
+    let side = table.plan().side();
+    let Some(pass) = passes.pop() else {
+        passes.destroy_empty();
+        return None;
+    };
+    let filled = Boxed::new(Cell { x: 1, y: 0, z: 2 }, Cell { x: 5, y: 3, z: 4 }, side);
+    let asked = Boxed::new(Cell { x: 0, y: 0, z: 0 }, Cell { x: 4, y: 8, z: 8 }, side);
+    let number = match (filled, asked) {
+        (Some(filled), Some(asked)) => {
+            counted_over::<R, L>(rt, table, pass, filled, asked, blank)
+        }
+        _ => {
+            pass.end();
+            None
+        }
+    };
+    if ended(table, passes) == 0 {
+        number
+    } else {
+        None
+    }
+}
+
+#[test]
+fn edits_and_questions_run_over_a_pass(rt: HostRuntime) -> Result<(), Fail> {
+    let side = Side::new(8).ok_or("a side")?;
+    let plan = Plan::even(side, 1, 16).ok_or("a plan")?;
+    let (table, passes) = begun(rt.alloc(), &plan, 1)?;
+    let number = part_of_a_box::<HostRuntime, Brand>(&rt, &table, passes, Blank::new(1));
+    assert_eq!(rt; number, Some(36));
+    Ok(())
+}
