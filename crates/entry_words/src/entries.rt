@@ -105,14 +105,20 @@ impl EntryWords {
         self.plan
     }
 
-    /// The bucket of a key on this level.
+    /// The bucket of a key on this level. By the usual numbers of buckets it divides without a
+    /// division.
     #[inline(always)]
     pub fn bucket(&self, level: u8, key: &Key) -> u16
         requires { level < levels self.now.plan }
         ensures bucket { result ≡ bucket_of_key key.now (buckets_at self.now.plan level) }
         ensures below { IsBucket self.now.plan level result }
     {
-        bucket_of(key, self.buckets[usize::from(level)])
+        match self.buckets[usize::from(level)] {
+            4096 => bucket_of(key, 4096),
+            1024 => bucket_of(key, 1024),
+            256 => bucket_of(key, 256),
+            buckets => bucket_of(key, buckets),
+        }
     }
 
     /// How many references the name has; 0 where no node is there.

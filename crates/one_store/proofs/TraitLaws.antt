@@ -1,6 +1,6 @@
 -- What the calls of a store promise.
-use Rattle.std.proofs.Common.{◌≡◌, ◌≢◌, ℕ, zero, suc, ◌+◌, ◌-◌, ◌*◌, ◌^◌, ◌≤◌, ◌<◌, Some, Option, List, [], ◌∷◌, length, refl, sym, ◌∙◌, ap, subst, arith, inl, inr}
-use Rattle.std.specs.Prelude.{Result, Ok, Err, IfOk, IfErr, OnOk, slice_index_or}
+use Rattle.std.proofs.Common.{◌≡◌, ◌≢◌, ℕ, zero, suc, ◌+◌, ◌-◌, ◌*◌, ◌^◌, ◌≤◌, ◌<◌, Some, ◌∷◌, refl, sym, ◌∙◌, ap, subst, arith, inl, inr}
+use Rattle.std.specs.Prelude.{Result, Ok, Err, IfOk, IfErr, OnOk}
 use Rattle.std.proofs.lemmas.Option.{none-some}
 use Rattle.node_shapes.specs.declared.names.Name.{Name}
 use Rattle.node_shapes.specs.Shape as shape
@@ -13,7 +13,7 @@ use Rattle.node_shapes.proofs.WeightLaws.{weight_of-there}
 use Rattle.node_words.specs.declared.keys.Key.{Key}
 use Rattle.node_words.specs.declared.keys.Key.TheVariants.{Leaf}
 use Rattle.node_words.specs.Plans.{Layout}
-use Rattle.node_words.specs.Held.{name_in, IsHeld, IsReached, HoldsName, ReachesName, AreTrees, AreCanonical, Gains, OnlyHeldChanges, OnlyMeets, Grants, ReturnsWithin, IsSought}
+use Rattle.node_words.specs.Held.{IsHeld, IsReached, HoldsName, ReachesName, AreTrees, AreCanonical, Gains, OnlyHeldChanges, OnlyMeets, Grants, ReturnsWithin, IsSought}
 use Rattle.node_words.specs.Keys.{bucket_of_key, of_leaf}
 use Rattle.node_words.proofs.KeyLaws.{key_bucket}
 use Rattle.node_places.specs.Spots.{levels, buckets_at}

@@ -257,6 +257,7 @@ impl OneStore {
     }
 
     // A key of this level with its bucket and words.
+    #[inline(always)]
     pub(crate) fn seek(&self, level: u8, key: &Key) -> SoughtKey
         requires level { level < levels self.now.words.plan }
         requires fits { FitsLevel level key.now }
@@ -273,6 +274,7 @@ impl OneStore {
     }
 
     // The live node that has the key.
+    #[inline(always)]
     pub(crate) fn find(&self, sought: &SoughtKey) -> Option<Name>
         requires { IsSoughtKey self.now.words.plan sought.now }
         ensures found { IfSome result

@@ -1,4 +1,4 @@
-use Rattle.std.proofs.Common.{ap, sym, subst, ◌∙◌, ◌≡◌, ◌≤◌, arith, ℕ}
+use Rattle.std.proofs.Common.{ap, subst, ◌∙◌, ◌≡◌, ◌≤◌, arith, ℕ}
 use Rattle.sums.specs.Sums.{sum_below}
 use Rattle.node_places.specs.Names.{named}
 use Rattle.core_laws.specs.Counting.{if_live}
