@@ -14,7 +14,8 @@ use Rattle.intern.specs.Nodes.{IsHeldOver, IsKeptBelow}
 
 -- a child of a node that is held besides
 module _ (v : SeatView) (n : Name) (kept : IsKeptBelow v.held (Some n)) where
-  there : (f : Tree → ℕ) → weight_of f (child_of kept.over kept.octant) ≡ f (child_of kept.over kept.octant)
+  there : (f : Tree → ℕ)
+      → weight_of f (child_of kept.over kept.octant) ≡ f (child_of kept.over kept.octant)
   there f = weight_of-there f (child_of kept.over kept.octant) n kept.root
 
   child_held : IsHeld v.held (child_of kept.over kept.octant)
@@ -38,14 +39,16 @@ module _ (v : SeatView) (n : Name) (kept : IsKeptBelow v.held (Some n)) where
       whole (shape_of-some t (λ r. (let no : None ≡ Some n = sym r ∙ kept.root in
       let never : ⊥ = cc in never))) in
       e.unheld kept.over over
-      (within kept.octant (subst (λ s. IsPart (shape_of t) s) (shape_of-child kept.over kept.octant) some))
+      (within kept.octant
+      (subst (λ s. IsPart (shape_of t) s) (shape_of-child kept.over kept.octant) some))
 
   pub kept_tree : IsHeld v.held (child_of kept.over kept.octant)
   kept_tree = child_held
 
-may_be_held : (held : List Tree) (t : Tree) (n : Name) → root_of t ≡ Some n → MayHold held t
+-- what may be held, and is a node, is held
+pub may_held : (held : List Tree) (t : Tree) (n : Name) → root_of t ≡ Some n → MayHold held t
     → IsHeld held t
-may_be_held held t n root may = record {
+may_held held t n root may = record {
   weighs = λ f. (let a = may.weighs f in let b = weight_of-there f t n root in omega arith);
 }
 
@@ -58,10 +61,6 @@ gave_one v w t n root e =
       weighs = λ f. (let a = e.weighs f in let b = ap (λ ts. weigh f ts) held in
           let c = weight_of-there f t n root in omega arith);
     }
-
-pub may_held : (held : List Tree) (t : Tree) (n : Name) → root_of t ≡ Some n → MayHold held t
-    → IsHeld held t
-may_held = may_be_held
 
 -- where k of the shares went, the next child is kept below the node too
 pub next_kept : (old mid : List Tree) (children : List (Option Name)) (row : ℕ → Tree) (k : ℕ)

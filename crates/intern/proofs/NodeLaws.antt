@@ -15,7 +15,7 @@ use Rattle.node_words.specs.declared.keys.Key.{Key}
 use Rattle.node_words.specs.declared.keys.Key.TheVariants.{Node}
 use Rattle.node_words.specs.declared.shares.Full.{Full}
 use Rattle.node_words.specs.Gathering.{LosesAll}
-use Rattle.node_words.specs.Held.{AreBelow, AreHeld, Gains, HasChild, HoldsChildren, IsReached, IsSought, Wanted, name_in}
+use Rattle.node_words.specs.Held.{AreBelow, AreHeld, Gains, HasChild, IsReached, IsSought, Wanted, name_in}
 use Rattle.node_words.specs.Keys.{ChildFits, bucket_of_key, of_node}
 use Rattle.node_words.specs.Plans.{IsPlan, Layout, buckets_at}
 use Rattle.node_words.proofs.HeldLaws.{child_level, children_canonical, gains_held, gains_keeps, held_reached, reached_child, reached_levels, reached_more, row_held}
@@ -25,7 +25,6 @@ use Rattle.node_places.specs.Names.{IsName, named}
 use Rattle.node_places.specs.Spots.{Spot, key_words}
 use Rattle.node_places.specs.Words.{IsChildAt, word_of_child}
 use Rattle.node_places.proofs.Children.{one_child}
-use Rattle.core_laws.specs.Soundness.{FitsLevel}
 use Rattle.table_rule.proofs.PartA.{same_bucket}
 use Rattle.table_rule.specs.Rules.{SameSession}
 use Rattle.table_rule.specs.Telling.{ViewTells, tree_word, pair_of_children}
@@ -34,13 +33,13 @@ use Rattle.table_steps.specs.Changes.{HasKeyWords, PassesBelow, PassesEntry, tur
 use Rattle.node_table.proofs.Answering.{Keeps}
 use Rattle.node_table.proofs.OnlyShares.{session_on}
 use Rattle.node_table.proofs.ReadLaws.{child_fits, child_small, node_word}
-use Rattle.node_table.specs.Acts.{MayAdd, OnlySharesChange, PublishesUnderTurn, RaisesUnderTurn, AreChildrenOf}
-use Rattle.node_table.specs.Learning.{IsLowestKnownFree}
+use Rattle.node_table.specs.Acts.{OnlySharesChange, PublishesUnderTurn, RaisesUnderTurn}
 use Rattle.node_table.specs.Seen.{PassSeen, TableSeen, bucket_named}
 use Rattle.intern.specs.Nodes.{HoldsBelow, IsHeldOver, NodeCame, NodeIsRefused}
 
 -- what is asked of a call for a node
-pub record Asks (v : SeatView) (level : ℕ) (names : List (Option Name)) (row : ℕ → Tree) : Type 0 where
+pub record Asks (v : SeatView) (level : ℕ) (names : List (Option Name))
+    (row : ℕ → Tree) : Type 0 where
   pub plan : IsPlan v.plan
   pub tells : ViewTells v
   pub eight : length names ≡ 8
@@ -49,17 +48,18 @@ pub record Asks (v : SeatView) (level : ℕ) (names : List (Option Name)) (row :
   pub below : AreBelow level names
   pub are : AreHeld v.held names row
 
-pub fits_node : (level : ℕ) (names : List (Option Name)) → 1 ≤ level → length names ≡ 8
-    → AreBelow level names → HasChild names → FitsLevel level (Node names)
-fits_node zero names above eight below some = absurd (omega arith)
-fits_node (suc level) names above eight below some = (eight, below, some)
+-- what is wanted by the octants of a row
+abbrev row_wanted : ℕ → ℕ → (ℕ → Tree) → Wanted
+row_wanted level bucket row =
+    record { level = level; bucket = bucket; shape = branch_of (λ k. shape_of (row k)) }
 
 -- the words of a node over the row are those of the key of its names
 node_words_are : (m : Name) (row : ℕ → Tree) (names : List (Option Name)) (i : ℕ) → i < 4
     → ((k : ℕ) → k < 8 → root_of (row k) ≡ name_in names k)
     → tree_word (node_at m row) i ≡ key_word (Node names) i
 node_words_are m row names i lt same =
-    let at : (k : ℕ) → k < 8 → word_of_child (root_of (child_of (node_at m row) k)) ≡ word_of_child (name_in names k) =
+    let at : (k : ℕ) → k < 8
+    → word_of_child (root_of (child_of (node_at m row) k)) ≡ word_of_child (name_in names k) =
     λ k lt. ap word_of_child (ap root_of (child_of-node_at m row k lt) ∙ same k lt) in
     let low = at (2 * i) (omega arith) in let high = at (2 * i + 1) (omega arith) in
     let split : tree_word (node_at m row) i ≡ pair_of_children (node_at m row) i = refl in
@@ -70,7 +70,8 @@ pair_same : (a b c d : ℕ) → a ≤ 2 ^ 24 → c ≤ 2 ^ 24 → a + 2 ^ 32 * b
 pair_same a b c d low low' e = (omega arith, omega arith)
 
 -- what holds of both octants of each word holds of all eight
-from_pairs : (P : ℕ → Type 0) → ((i : ℕ) → i < 4 → P (2 * i) × P (2 * i + 1)) → (k : ℕ) → k < 8 → P k
+from_pairs : (P : ℕ → Type 0) → ((i : ℕ) → i < 4 → P (2 * i) × P (2 * i + 1)) → (k : ℕ) → k < 8
+    → P k
 from_pairs P h zero lt = (h 0 (omega arith)).0
 from_pairs P h (suc zero) lt = (h 0 (omega arith)).1
 from_pairs P h (suc (suc zero)) lt = (h 1 (omega arith)).0
@@ -141,7 +142,8 @@ module _ (v : SeatView) (level : ℕ) (names : List (Option Name)) (row : ℕ �
       (λ m e. (let l = q.below.each k m lt e in let a = q.above in omega arith))
 
   -- what an octant contains
-  octant_is : (k : ℕ) → k < 8 → octant_shape (branch_of (λ j. shape_of (row j))) k ≡ shape_of (row k)
+  octant_is : (k : ℕ) → k < 8
+      → octant_shape (branch_of (λ j. shape_of (row j))) k ≡ shape_of (row k)
   octant_is k lt = octant_shape-branch_of (λ j. shape_of (row j)) k lt
 
   fits_at : (l k : ℕ) → level ≡ suc l → k < 8 → (o : Option Name) → name_in names k ≡ o
@@ -178,11 +180,13 @@ module _ (v : SeatView) (level : ℕ) (names : List (Option Name)) (row : ℕ �
       (λ k lt. fits_at (level - 1) k up lt (name_in names k) refl)))
 
   -- the node that is wanted
-  pub node_sought : (bucket : ℕ) → bucket ≡ bucket_of_key (Node names) (slice_index v.plan.buckets level)
+  pub node_sought : (bucket : ℕ)
+      → bucket ≡ bucket_of_key (Node names) (slice_index v.plan.buckets level)
       → bucket < buckets_at v.plan level
-      → IsSought v.plan (record { level = level; bucket = bucket; shape = branch_of (λ j. shape_of (row j)) })
+      → IsSought v.plan (row_wanted level bucket row)
   node_sought bucket is low = record {
-    canonical = children_canonical level v.held names row q.tells.canonical q.above q.some q.below q.are;
+    canonical = children_canonical level v.held names row q.tells.canonical q.above q.some
+        q.below q.are;
     some = λ e. (let no : ⊥ = cc in no);
     bucket_is = is ∙ bucket_is;
     bucket_in = low;
@@ -199,7 +203,8 @@ module _ (v : SeatView) (level : ℕ) (names : List (Option Name)) (row : ℕ �
       go (Some c) e above =
           (let k = q.some.octant in let lt = q.some.below in
           let root = ap root_of (child_of-node_at m row k lt) ∙ q.are.names k lt ∙ e in
-          let high = child_level v.plan.side v.held (node_at m row) k m c q.tells.trees r refl root above in
+          let high = child_level v.plan.side v.held (node_at m row) k m c q.tells.trees r refl root
+          above in
           let low = q.below.each k c lt e in omega arith)
 
 words_of_node : (l : ℕ) → 1 ≤ l → key_words l ≡ 4
@@ -284,8 +289,8 @@ module _ (v u w : SeatView) (level bucket : ℕ) (names : List (Option Name)) (r
   fit : (k : ℕ) → IsChildAt (level - 1) (child k)
   fit k =
       child_fits v.plan (level - 1) (child k) q.plan (child_is_name k)
-      (λ m e. (let l = child_level w.plan.side w.held r.tree k n m tells.trees reached r.root e above in
-      omega arith))
+      (λ m e. (let l = child_level w.plan.side w.held r.tree k n m tells.trees reached r.root e
+      above in omega arith))
 
   word_is : (i : ℕ) → i < 4 → pair_of_children r.tree i ≡ key_word (Node names) i
   word_is i lt =
@@ -370,7 +375,8 @@ module _ (v u w : SeatView) (level bucket : ℕ) (names : List (Option Name)) (r
         };
         hit = λ m h. (
           tells.once r.tree n reached r.root (node_at m row) m
-              (reached_more v.held w.held (node_at m row) (gains_keeps v.held r.tree w.held gains) h) refl
+              (reached_more v.held w.held (node_at m row) (gains_keeps v.held r.tree w.held gains) h)
+              refl
               (at ∙ sym (node_level v level names row q m h))
               (ap shape_of tree_is ∙ shape_of-node n row ∙ sym (shape_of-node m row)),
           made,
@@ -452,9 +458,9 @@ added_now v u w x level bucket names row m n s met at none p now name =
 -- a full bucket was met
 pub refused : (v u w : SeatView) (level bucket : ℕ) (row : ℕ → Tree) (full : Full)
     → NodeSearched v u level bucket → ((m : Name) → ¬ IsReached v.held (node_at m row))
-    → u.met ≡ record { level = level; bucket = bucket; shape = branch_of (λ k. shape_of (row k)) } ∷ v.met
+    → u.met ≡ row_wanted level bucket row ∷ v.met
     → full.level ≡ level → full.bucket ≡ bucket → w ≡ turned u None
-    → IsSought v.plan (record { level = level; bucket = bucket; shape = branch_of (λ k. shape_of (row k)) })
+    → IsSought v.plan (row_wanted level bucket row)
     → NodeIsRefused v level row full w
 refused v u w level bucket row full s none met at here is sought =
     let shape : Shape = branch_of (λ k. shape_of (row k)) in
@@ -469,7 +475,7 @@ refused v u w level bucket row full s none met at here is sought =
       turn = ap (λ (x : SeatView). x.turn) is;
       at_level = at;
       meets = record {
-        sought = subst (λ (z : ℕ × ℕ). IsSought v.plan (record { level = z.0; bucket = z.1; shape = shape }))
+        sought = subst (λ (z : ℕ × ℕ). IsSought v.plan (row_wanted z.0 z.1 row))
             (λ i. (sym at i, sym here i)) sought;
         plan = session.plan;
         held = ap (λ (x : SeatView). x.held) is ∙ s.held;
@@ -482,9 +488,9 @@ refused v u w level bucket row full s none met at here is sought =
 
 pub refused_now : (v u w x : SeatView) (level bucket : ℕ) (row : ℕ → Tree) (full : Full)
     → NodeSearched v u level bucket → ((m : Name) → ¬ IsReached v.held (node_at m row))
-    → u.met ≡ record { level = level; bucket = bucket; shape = branch_of (λ k. shape_of (row k)) } ∷ v.met
+    → u.met ≡ row_wanted level bucket row ∷ v.met
     → full.level ≡ level → full.bucket ≡ bucket → w ≡ turned u None
-    → IsSought v.plan (record { level = level; bucket = bucket; shape = branch_of (λ k. shape_of (row k)) })
+    → IsSought v.plan (row_wanted level bucket row)
     → x ≡ w → NodeIsRefused v level row full x
 refused_now v u w x level bucket row full s none met at here is sought now =
     subst (λ (y : SeatView). NodeIsRefused v level row full y) (sym now)
@@ -532,27 +538,10 @@ node_searched v s t level bucket is k = record {
 pub met_node : (l b level bucket : ℕ) (names : List (Option Name)) (row : ℕ → Tree)
     (old met : List Wanted) → l ≡ level → b ≡ bucket → old ≡ met
     → wanted (named l b 0) (Node names) row ∷ old
-    ≡ record { level = level; bucket = bucket; shape = branch_of (λ k. shape_of (row k)) } ∷ met
+    ≡ row_wanted level bucket row ∷ met
 met_node l b level bucket names row old met at here same =
-    λ i. record { level = at i; bucket = here i; shape = shape_of-node (named l b 0) row i } ∷ same i
-
-pub may_node : (p : Layout) (v : SeatView) (l b slot level bucket : ℕ) (names : List (Option Name))
-    → l ≡ level → 1 ≤ level → length names ≡ 8 → AreBelow level names → HasChild names
-    → b ≡ bucket_of_key (Node names) (buckets_at p level) → HoldsChildren v.held names
-    → IsLowestKnownFree v.words (bucket_named l b) p.cap slot
-    → PassesBelow v.words (Node names) (bucket_named l b) p.cap → number_of_trees v.held ≤ 4095
-    → MayAdd p v (named l b slot) (Node names)
-may_node p v l b slot level bucket names at above eight below some is held first none room = record {
-  slot = first.inside;
-  free = first.free;
-  none = none;
-  fits = subst (λ (k : ℕ). FitsLevel k (Node names)) (sym at) (fits_node level names above eight below some);
-  bucket = is ∙ ap (λ (k : ℕ). bucket_of_key (Node names) (buckets_at p k)) (sym at);
-  held = held;
-  room = room;
-}
-
-pub node_children : (children names : List (Option Name)) → names ≡ children
-    → AreChildrenOf children (Node names)
-node_children children names e =
-    record { each = λ k lt. ap (λ (cs : List (Option Name)). name_in cs k) (sym e) }
+    λ i. record {
+      level = at i;
+      bucket = here i;
+      shape = shape_of-node (named l b 0) row i;
+    } ∷ same i

@@ -73,8 +73,8 @@ pub gave_freed : (v m w : SeatView) (t : Tree) (n : Name) (steps middle now : �
 gave_freed v m w t n steps middle now root h e one r =
     let held : m.held ≡ e.held = ap (λ (x : SeatView). x.held) e.is in
     let there = weight_of-there (λ _. 1) t n root in
-    let rest = lost_into (IsPartOfRow (λ k. child_of t k)) (λ p. IsPart p (shape_of t)) m.held w.held
-    r.freed (row_part t) r.lost in
+    let rest = lost_into (IsPartOfRow (λ k. child_of t k)) (λ p. IsPart p (shape_of t)) m.held
+    w.held r.freed (row_part t) r.lost in
     let weighs = freed_weighs v m t e in
     let turns = r.turns in
     let only = only_on v m w (only_held v m e.held e.is) r.only in
@@ -89,8 +89,8 @@ gave_freed v m w t n steps middle now root h e one r =
             only = only;
             loses = loses;
             freed = shape_of t ∷ r.freed;
-            lost = lost_on (λ p. IsPart p (shape_of t)) v.held m.held w.held (shape_of t ∷ []) r.freed
-                (freed_lost v.held m.held t n root h weighs (freed_unheld v m t e) branch) rest;
+            lost = lost_on (λ p. IsPart p (shape_of t)) v.held m.held w.held (shape_of t ∷ [])
+                r.freed (freed_lost v.held m.held t n root h weighs (freed_unheld v m t e) branch) rest;
             turns = omega arith;
           })
       | inr none ↦
@@ -100,7 +100,8 @@ gave_freed v m w t n steps middle now root h e one r =
             loses = loses;
             freed = r.freed;
             lost = lost_on (λ p. IsPart p (shape_of t)) v.held m.held w.held [] r.freed
-                (lost_none (λ p. IsPart p (shape_of t)) v.held m.held (freed_stays v.held m.held t h weighs))
+                (lost_none (λ p. IsPart p (shape_of t)) v.held m.held
+                (freed_stays v.held m.held t h weighs))
                 rest;
             turns = omega arith;
           })
@@ -164,7 +165,8 @@ children_held v m t children h e are = record {
 pub children_below : (v : SeatView) (t : Tree) (n : Name) (children : List (Option Name))
     → ViewTells v → IsHeld v.held t → root_of t ≡ Some n → AreChildrenIn children t
     → AreBelow n.level children
-children_below v t n children tells h root are = record { each = λ k m lt e. go k m lt e n.level refl }
+children_below v t n children tells h root are =
+    record { each = λ k m lt e. go k m lt e n.level refl }
   where
     go : (k : ℕ) (m : Name) → k < 8 → name_in children k ≡ Some m → (l : ℕ) → n.level ≡ l
         → m.level + 1 ≡ n.level
@@ -184,7 +186,8 @@ children_room v m t n tells h root e room = go n.level refl
   where
     go : (l : ℕ) → n.level ≡ l → number_of_trees m.held + 8 * (n.level - 1) ≤ 4089
     go zero same =
-        (let none = no_row (λ _. 1) t 8 (has_no_child v tells t n (held_reached v.held t h) root same) in
+        (let none = no_row (λ _. 1) t 8
+        (has_no_child v tells t n (held_reached v.held t h) root same) in
         let w = freed_weighs v m t e (λ _. 1) in omega arith)
     go (suc l) same =
         (let few = weight_below-one (λ k. child_of t k) 8 in
@@ -243,6 +246,6 @@ gave_within v w t n steps now root b =
 pub back_room : (v : SeatView) (n : Name) → ViewTells v → v.plan.side ≤ 12 → HoldsName v.held n
     → number_of_trees v.held ≤ 4008 → number_of_trees v.held + 8 * n.level ≤ 4089
 back_room v n tells side h room =
-    let s = reached_levels v.plan.side v.held h.tree n tells.trees (held_reached v.held h.tree h.is_held)
-    h.root in
+    let s = reached_levels v.plan.side v.held h.tree n tells.trees
+    (held_reached v.held h.tree h.is_held) h.root in
     let l = s.in_world in omega arith

@@ -18,7 +18,8 @@ release-release_row-requires g t c κs within =
     let tells = c.in-Freed.ensures.tells in
     let of = c.lower_in_turn.ensures.of in
     let idle : m.turn ≡ None = ap (λ (x : SeatView). x.turn) e.0.is in
-    let level : c.name-level.result.level ≡ n.level = ap (λ (x : Name). x.level) c.name-level.ensures in
+    let level : c.name-level.result.level ≡ n.level =
+    ap (λ (x : Name). x.level) c.name-level.ensures in
     let below : AreBelow c.name-level.result.level children =
     subst (λ (l : ℕ). AreBelow l children) (sym level)
     (children_below v h.tree n children tells h.is_held h.root e.1) in

@@ -26,7 +26,8 @@ returns-in-Left-clause-only g c =
     let v = c.args.pass.now.view in let n = c.in-Some.share in
     let kept : IsKeptBelow v.held (Some n) =
     subst (λ (o : Option Name). IsKeptBelow v.held o) c.in-Some.is c.requires.kept in
-    let e = c.in-Left.ensures.lowered (child_of kept.over kept.octant) (kept_tree v n kept) kept.root in
+    let e = c.in-Left.ensures.lowered (child_of kept.over kept.octant) (kept_tree v n kept)
+    kept.root in
     only_held v c.lower_in_turn.new.pass.view e.held e.is
 
 pub returns-in-Left-clause-loses : goal.returns-in-Left-clause-loses
