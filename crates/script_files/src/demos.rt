@@ -12,7 +12,7 @@ ghost use Rattle.script_files.specs.Stages.{IsLoadRead};
 use crate::outputs::write_run;
 use crate::refusals::{CommandRefused, TextRefused};
 use crate::requests::{Order, VOX_LIMIT};
-use crate::scripts::{Read, read_load};
+use crate::scripts::{Read, read_scripts};
 use crate::tallies::{Done, LoadTally};
 use conformance::Transcript;
 use gen_load::load;
@@ -126,7 +126,7 @@ fn made_load(alloc: Global, n: u32) -> Result<Read, Memory>
     let Ok(models) = read_models(alloc, load.vox.as_slice()) else {
         return Err(Memory);
     };
-    let Ok(scripts) = read_load(alloc, load.scripts.as_slice(), side(), &models) else {
+    let Ok(scripts) = read_scripts(alloc, load.scripts.as_slice(), side(), &models) else {
         return Err(Memory);
     };
     Ok(Read { models, scripts })

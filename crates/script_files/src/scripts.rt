@@ -16,6 +16,7 @@ use crate::refusals::{NumberedFault, TextRefused};
 use crate::requests::Order;
 use script::{Command, Script, ScriptLine, read_script};
 use std::alloc::Global;
+use std::convert::AsSlice;
 use vox_read::{Models, read_models};
 use vw_cell::{Memory, Side};
 use vw_io::{Input, Text, collide};
@@ -29,7 +30,7 @@ pub(crate) struct Read {
 
 // The models and the commands, where the VOX file gives models, no script has a fault, and no name
 // of an output is taken. The texts are given back once they are read.
-#[tactic(auto, using(crate::proofs::Refusing::vox_refused, crate::proofs::Refusing::scripts_refused))]
+#[tactic(auto, using(crate::proofs::Refusing::vox_refused, crate::proofs::Refusing::scripts_refused, crate::proofs::ScriptLists::as_lent))]
 pub(crate) fn read_texts(
     alloc: Global,
     order: &Order<'_>,
@@ -151,39 +152,18 @@ fn add_save<'a>(line: &'a ScriptLine, names: &mut Vec<&'a str>) -> Result<(), Me
 }
 
 // The commands of all scripts, or the first fault of the first that has one.
-fn read_scripts(
+pub(crate) fn read_scripts<T: AsSlice<u8>>(
     alloc: Global,
-    texts: &[Text],
+    texts: &[T],
     side: Side,
     models: &Models,
 ) -> Result<Vec<Script>, TextRefused>
     requires models { AreModels models.now }
     requires few { length texts.now ≤ 64 }
     ensures read { IfOk result
-        (λ scripts. scripts_of side models.now texts.now ≡ Ok scripts.items) }
-    ensures refused { IfErr result
-        (λ refused. RefusesScripts refused (scripts_of side models.now texts.now)) }
-    ensures number { IfOk result (λ scripts. length scripts.items ≡ length texts.now) }
-    ensures fit { IfOk result (λ scripts. AreFitScripts side models.now scripts.items) }
-{
-    let mut scripts = Vec::new(alloc);
-    for text in texts {
-        read_next(alloc, text.as_slice(), side, models, &mut scripts)?;
-    }
-    Ok(scripts)
-}
-
-// The commands of a load's scripts.
-pub(crate) fn read_load(
-    alloc: Global,
-    texts: &[Vec<u8>],
-    side: Side,
-    models: &Models,
-) -> Result<Vec<Script>, TextRefused>
-    requires models { AreModels models.now }
-    requires few { length texts.now ≤ 64 }
-    ensures read { IfOk result (λ scripts.
-        scripts_of side models.now (map (λ t. t.items) texts.now) ≡ Ok scripts.items) }
+        (λ scripts. scripts_of side models.now (map T.items texts.now) ≡ Ok scripts.items) }
+    ensures refused { IfErr result (λ refused.
+        RefusesScripts refused (scripts_of side models.now (map T.items texts.now))) }
     ensures number { IfOk result (λ scripts. length scripts.items ≡ length texts.now) }
     ensures fit { IfOk result (λ scripts. AreFitScripts side models.now scripts.items) }
 {

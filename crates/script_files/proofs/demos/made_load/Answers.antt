@@ -5,8 +5,8 @@ use Rattle.script_files.specs.Scripts.{scripts_of}
 use Rattle.script_files.proofs.Loading.{few_texts, load_read}
 use Rattle.script_files.proofs.demos.made_load.Goals as goal
 
-pub read_load-requires-clause-few : goal.read_load-requires-clause-few
-read_load-requires-clause-few c =
+pub read_scripts-requires-clause-few : goal.read_scripts-requires-clause-few
+read_scripts-requires-clause-few c =
     few_texts c.args.n c.as_slice-2.result.now (ap (map (λ t. t.items)) c.as_slice-2.ensures.value
     ∙ ap (λ l. l.scripts) c.load-2.view_is ∙ c.in_ok-load.ensures.scripts)
 
@@ -19,17 +19,17 @@ returns-clause-read c =
     c.as_slice.ensures.value ∙ ap (λ l. l.vox) c.load-2.view_is in
     let found : ReadsModels c.as_slice.result.now (Ok c.in-Ok.models) = search rules in
     load_read c.args.n c.as_slice.result.now
-    (record { models = c.in-Ok.models; scripts = c.in-Ok-read_load.scripts })
+    (record { models = c.in-Ok.models; scripts = c.in-Ok-read_scripts.scripts })
     (map (λ t. t.items) c.as_slice-2.result.now) found
     (subst (λ (v : List ℕ). ReadsModels v (Ok (load_model c.args.n ∷ []))) (sym vox)
     c.in_ok-load.ensures.reads) texts
     (subst (λ (side : ℕ). scripts_of side c.in-Ok.models
-    (map (λ t. t.items) c.as_slice-2.result.now) ≡ Ok c.in-Ok-read_load.scripts.items)
-    c.side.ensures c.in-Ok-read_load.ensures.read)
+    (map (λ t. t.items) c.as_slice-2.result.now) ≡ Ok c.in-Ok-read_scripts.scripts.items)
+    c.side.ensures c.in-Ok-read_scripts.ensures.read)
 
 pub returns-clause-number : goal.returns-clause-number
 returns-clause-number c =
     let few =
     few_texts c.args.n c.as_slice-2.result.now (ap (map (λ t. t.items)) c.as_slice-2.ensures.value
     ∙ ap (λ l. l.scripts) c.load-2.view_is ∙ c.in_ok-load.ensures.scripts) in
-    omega (arith, few, c.in-Ok-read_load.ensures.number)
+    omega (arith, few, c.in-Ok-read_scripts.ensures.number)

@@ -1,7 +1,0 @@
--- The scripts before this one are read.
-use Rattle.std.proofs.Common.{map}
-use Rattle.script_files.proofs.ScriptLists.{IsReadTo}
-use Rattle.script_files.proofs.scripts.read_load.Given as goal
-
-abbrev pub invariant-loop-text : goal.invariant-loop-text
-invariant-loop-text l = IsReadTo l.side l.models (map (λ t. t.items) l.texts) l.text-index l.scripts.items
