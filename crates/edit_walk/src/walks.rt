@@ -151,6 +151,7 @@ fn made<T: Task, M: Memo<T>, N: NodeStore, L: Ledger>(
 }
 
 // A block that is known as a whole.
+#[inline(always)]
 fn known<N: NodeStore, L: Ledger>(
     store: &mut N,
     level: u8,
