@@ -32,6 +32,7 @@ impl Task for CopyTask {
 
     ghost mixed_in = { λ level t k. blocks_in (level - 1) };
 
+    #[inline(always)]
     fn octant<B: Blocks>(&self, store: &mut B, level: u8, octant: u8) -> CopyTask {
         let half = half_side(level);
         let part = part_of(half, self.part, octant);
