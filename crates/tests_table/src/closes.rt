@@ -34,7 +34,7 @@ fn is_blank(closed: &Closed) -> bool {
 
 // Whether closing the table tells that nothing was left.
 #[tactic(auto, using(crate::proofs::Giving::back_spare))]
-fn closes_blank(alloc: Global, table: NodeTable, passes: Vec<Pass>) -> bool
+pub fn closes_blank(alloc: Global, table: NodeTable, passes: Vec<Pass>) -> bool
     requires { All (IsSpare table) passes.items }
 {
     match table.close(alloc, passes) {

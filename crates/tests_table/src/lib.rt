@@ -6,6 +6,8 @@ mod calls;
 #[cfg(test)]
 mod closes;
 #[cfg(test)]
+mod nodes;
+#[cfg(test)]
 mod shares;
 #[cfg(test)]
 mod tests;

@@ -1,0 +1,187 @@
+//! Four threads make and give back nodes over the same few leaves.
+ghost use Rattle.std.specs.Prelude.{◌≡◌, ◌≢◌, ◌≤◌, ◌<◌, ◌+◌, ℕ, Some, None, All};
+ghost use Rattle.node_shapes.specs.Tree.{Tree, root_of};
+ghost use Rattle.node_shapes.specs.Weights.{number_of_trees};
+ghost use Rattle.node_shapes.specs.declared.names.Name.{Name};
+ghost use Rattle.node_words.specs.Gathering.{Loses, MayHold};
+ghost use Rattle.node_words.specs.Held.{ForHeld, Gains, HoldsName, SameHeld, name_in};
+ghost use Rattle.node_table.specs.Closing.{IsSpare};
+ghost use Rattle.node_table.specs.Seen.{BelongsTo};
+
+use crate::calls::{begun, ended};
+use crate::closes::closes_blank;
+use node_table::{NodeTable, Pass};
+use node_words::{NodeRefused, Plan, Share, Steps, end_all, take_at};
+use std::alloc::Global;
+use std::marker::Brand;
+use std::sync::Wait;
+use std::sync::ledger::{Blank, Ledger};
+use std::test::Fail;
+use std::thread;
+use std::thread::Threads;
+use vw_cell::Side;
+
+// Gives back the first of a row without others.
+fn back_first<R: Wait, L: Ledger>(
+    rt: &R,
+    table: &NodeTable,
+    pass: &mut Pass,
+    children: [Option<Share>; 8],
+    steps: &mut Steps<L>,
+)
+    requires of { BelongsTo table.now pass.old }
+    requires idle { pass.old.view.turn ≡ None }
+    requires held { (n : Name) → name_in children 0 ≡ Some n → HoldsName pass.old.view.held n }
+    requires others { (k : ℕ) → 0 < k → k < 8 → name_in children k ≡ None }
+    requires room { number_of_trees pass.old.view.held ≤ 4000 }
+    ensures of { BelongsTo table.now pass.new }
+    ensures idle { pass.new.view.turn ≡ None }
+    ensures gone { (t : Tree) (n : Name) → name_in children 0 ≡ Some n → root_of t ≡ Some n
+        → MayHold pass.old.view.held t → Gains pass.new.view.held t pass.old.view.held }
+{
+    let mut rest = children;
+    let first = take_at(&mut rest, 0);
+    end_all(rest);
+    match first {
+        Some(share) => release::back(rt, table, pass, share, steps),
+        None => {}
+    }
+}
+
+// The leaf moves into a node over it, which goes back. Says whether the node had room.
+fn over_and_back<R: Wait, L: Ledger>(
+    rt: &R,
+    table: &NodeTable,
+    pass: &mut Pass,
+    leaf: Share,
+    steps: &mut Steps<L>,
+) -> bool
+    requires of { BelongsTo table.now pass.old }
+    requires idle { pass.old.view.turn ≡ None }
+    requires side { 3 ≤ table.now.plan.side }
+    requires held { HoldsName pass.old.view.held leaf }
+    requires leaf { leaf.level ≡ 0 }
+    requires room { number_of_trees pass.old.view.held ≤ 3500 }
+    ensures of { BelongsTo table.now pass.new }
+    ensures idle { pass.new.view.turn ≡ None }
+    ensures given { ForHeld pass.old.view.held leaf
+        (λ t. Gains pass.new.view.held t pass.old.view.held) }
+{
+    let children = [Some(leaf), None, None, None, None, None, None, None];
+    match intern::node(rt, table, pass, 1, children, steps) {
+        Ok(node) => {
+            release::back(rt, table, pass, node, steps);
+            true
+        }
+        Err(refused) => {
+            let NodeRefused { full: _, children } = refused;
+            back_first(rt, table, pass, children, steps);
+            false
+        }
+    }
+}
+
+// A node over a leaf of these bits comes and goes.
+fn comes_over<R: Wait, L: Ledger>(
+    rt: &R,
+    table: &NodeTable,
+    pass: &mut Pass,
+    bits: u64,
+    steps: &mut Steps<L>,
+) -> bool
+    requires of { BelongsTo table.now pass.old }
+    requires idle { pass.old.view.turn ≡ None }
+    requires side { 3 ≤ table.now.plan.side }
+    requires bits { bits ≢ 0 }
+    requires room { number_of_trees pass.old.view.held ≤ 3499 }
+    ensures of { BelongsTo table.now pass.new }
+    ensures idle { pass.new.view.turn ≡ None }
+    ensures held { SameHeld pass.old.view.held pass.new.view.held }
+{
+    match intern::leaf(rt, table, pass, bits, steps) {
+        Ok(share) => over_and_back(rt, table, pass, share, steps),
+        Err(_) => false,
+    }
+}
+
+// Makes 2,000 nodes, of four that take turns, and gives each back.
+fn make_often<R: Wait, L: Ledger>(rt: &R, table: &NodeTable, pass: &mut Pass, blank: Blank)
+    requires name { blank.name ≡ L.name }
+    requires parts { blank.parts ≡ L.parts }
+    requires some { 0 < L.parts }
+    requires side { 3 ≤ table.now.plan.side }
+    requires of { BelongsTo table.now pass.old }
+    requires idle { pass.old.view.turn ≡ None }
+    requires room { number_of_trees pass.old.view.held ≤ 3000 }
+    ensures of { BelongsTo table.now pass.new }
+    ensures idle { pass.new.view.turn ≡ None }
+    ensures held { SameHeld pass.old.view.held pass.new.view.held }
+{
+    let mut steps: Steps<L> = Steps::start(blank);
+    for k in 0..2_000u32 {
+        let bits = u64::from(k % 4) + 1;
+        let _came = comes_over(rt, table, pass, bits, &mut steps);
+    }
+}
+
+fn make_spare<R: Wait>(rt: &R, table: &NodeTable, pass: &mut Pass)
+    requires spare { IsSpare table.now pass.old }
+    requires side { 3 ≤ table.now.plan.side }
+    ensures { IsSpare table.now pass.new }
+{
+    make_often::<R, Brand>(rt, table, pass, Blank::new(1));
+}
+
+fn make_all<R: Threads + Wait + Sync>(rt: &R, table: &NodeTable, passes: &mut [Pass])
+    requires spare { All (IsSpare table.now) passes.old }
+    requires side { 3 ≤ table.now.plan.side }
+    ensures { All (IsSpare table.now) passes.new }
+{
+    thread::for_each_mut(
+        rt,
+        passes,
+        4,
+        &|_, pass: &mut Pass|
+            requires { IsSpare table.now pass.now × (3 ≤ table.now.plan.side) }
+            ensures { IsSpare table.entry.now pass.exit.now }
+        { make_spare(rt, table, pass) },
+    );
+}
+
+// All passes make and give back, each in a thread of its own.
+fn all_make<R: Threads + Wait + Sync>(rt: &R, table: &NodeTable, mut passes: Vec<Pass>) -> Vec<Pass>
+    requires spare { All (IsSpare table.now) passes.items }
+    requires side { 3 ≤ table.now.plan.side }
+    ensures { All (IsSpare table.now) result.items }
+{
+    make_all(rt, table, passes.as_mut_slice());
+    passes
+}
+
+// The same over a table of side 8 or more, which is then closed.
+fn leaves_nothing<R: Threads + Wait + Sync>(
+    rt: &R,
+    alloc: Global,
+    table: NodeTable,
+    passes: Vec<Pass>,
+) -> bool
+    requires { All (IsSpare table) passes.items }
+{
+    if table.plan().side().cells() < 8 {
+        let _number = ended(&table, passes);
+        return false;
+    }
+    let passes = all_make(rt, &table, passes);
+    closes_blank(alloc, table, passes)
+}
+
+// Four threads at once, over one bucket of four slots on each level.
+#[test]
+fn four_threads_make_nodes_and_leave_nothing(rt: HostRuntime) -> Result<(), Fail> {
+    let side = Side::new(8).ok_or("a side")?;
+    let plan = Plan::even(side, 1, 4).ok_or("a plan")?;
+    let (table, passes) = begun(rt.alloc(), &plan, 4)?;
+    let blank = leaves_nothing(&rt, rt.alloc(), table, passes);
+    assert!(rt; blank);
+    Ok(())
+}
