@@ -2,3 +2,4 @@ pub mod WindowLaws
 pub mod CopyLaws
 pub mod CopyBits
 pub mod StartLaws
+pub mod StepLaws

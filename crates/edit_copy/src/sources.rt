@@ -20,6 +20,7 @@ pub(crate) struct Step {
 }
 
 // The step on each axis, for an octant of this level.
+#[tactic(auto, using(crate::proofs::StepLaws::side_twice))]
 pub(crate) fn step_to(offset: Cell, level: u8, octant: u8) -> Step
     requires level { level ≤ 9 }
     requires octant { octant < 8 }
@@ -28,26 +29,47 @@ pub(crate) fn step_to(offset: Cell, level: u8, octant: u8) -> Step
     ensures rest { result.rest ≡ rest_of level octant offset }
 {
     let side = side_of(level);
-    let x = u32::from(octant % 2) * side + u32::from(offset.x);
-    let y = u32::from(octant / 2 % 2) * side + u32::from(offset.y);
-    let z = u32::from(octant / 4 % 2) * side + u32::from(offset.z);
+    let x = axis_step(side, octant % 2, offset.x);
+    let y = axis_step(side, octant / 2 % 2, offset.y);
+    let z = axis_step(side, octant / 4 % 2, offset.z);
     Step {
-        at: cell(x / side, y / side, z / side),
-        rest: cell(x % side, y % side, z % side),
+        at: Cell {
+            x: x.at,
+            y: y.at,
+            z: z.at,
+        },
+        rest: Cell {
+            x: x.rest,
+            y: y.rest,
+            z: z.rest,
+        },
     }
 }
 
-fn cell(x: u32, y: u32, z: u32) -> Cell
-    requires x { x < 65536 }
-    requires y { y < 65536 }
-    requires z { z < 65536 }
-    ensures { result ≡ cell_at x y z }
+// On one axis, in which block of an octant's size a place lies, and where in it.
+#[derive(Clone, Copy)]
+struct AxisStep {
+    at: u16,
+    rest: u16,
+}
+
+// Where the lower or the upper half begins, moved by an offset. It divides by nothing, since a walk
+// asks this thrice an octant.
+#[tactic(auto, using(crate::proofs::StepLaws::step_near, crate::proofs::StepLaws::step_far))]
+fn axis_step(side: u32, half: u8, offset: u16) -> AxisStep
+    requires half { half < 2 }
+    requires offset { offset < 2 * side }
+    ensures at { result.at ≡ (half * side + offset) / side }
+    ensures rest { result.rest ≡ (half * side + offset) % side }
 {
-    Cell {
-        x: x as u16,
-        y: y as u16,
-        z: z as u16,
+    let place = u32::from(offset);
+    if place < side {
+        let at = u16::from(half);
+        return AxisStep { at, rest: offset };
     }
+    let at = u16::from(half) + 1;
+    let rest = (place - side) as u16;
+    AxisStep { at, rest }
 }
 
 // Whether no cell is taken from source j: it is the farther one on an axis on which the offset is
