@@ -127,6 +127,11 @@ gone_again u v w t n end tells same held root level e =
     (leaf_given u v w t n end tells (sym same) (subst (λ ts. IsHeld ts t) (sym same) held) root level
     e)
 
+-- a loan left the shares that its last call left
+pub as_left : (left made : List Tree) (t : Tree) (held : List Tree) → left ≡ made
+    → Gains made t held → Gains left t held
+as_left left made t held is gains = subst (λ (x : List Tree). Gains x t held) (sym is) gains
+
 get_there : (passes : List PassSeen) (k : ℕ) (d : PassSeen) → k < length passes
     → slice_get passes k ≡ Some (get_or passes k d)
 get_there [] k d lt = absurd (omega arith)

@@ -1,10 +1,10 @@
 use Rattle.std.proofs.Common.{rules, ◌≡◌, sym, ap, subst}
 use Rattle.node_shapes.specs.declared.names.Name.{Name}
-use Rattle.node_words.specs.Held.{IsHeld, Gains}
+use Rattle.node_words.specs.Held.{IsHeld}
 use Rattle.node_table.specs.Spots.{Turn, IsSpot}
 use Rattle.table_rule.specs.Views.{SeatView}
 use Rattle.node_table.specs.declared.lowering.Lowering.TheVariants.{Freed}
-use Rattle.tests_table.proofs.Giving.{held_bucket, gone_again}
+use Rattle.tests_table.proofs.Giving.{held_bucket, gone_again, as_left}
 use Rattle.tests_table.proofs.calls.give.Goals as goal
 
 pub turn-turn-requires-clause-there : goal.turn-turn-requires-clause-there
@@ -18,8 +18,7 @@ returns-in-Freed-clause-given g c = λ t held root.
     (let v = c.turn-turn.result.pass.now.view in
     let same : v.held ≡ c.args.pass.now.view.held =
     ap (λ (x : SeatView). x.held) c.turn-turn.ensures.view in
-    let now : c.pass-1.given.0.view ≡ c.lower.new.self.1.0.view = search rules in
-    subst (λ (x : SeatView). Gains x.held t c.args.pass.now.view.held) (sym now)
+    as_left _ c.lower.new.self.1.0.view.held t c.args.pass.now.view.held (search rules)
     (gone_again c.args.pass.now.view v c.lower.new.self.1.0.view t c.args.share
     (Freed c.in-Freed.children) c.tell.ensures same held root c.requires.leaf
     (c.in-Freed.ensures.lowered t (subst (λ ts. IsHeld ts t) (sym same) held) root)))
