@@ -18,7 +18,6 @@ rm -rf "$program/src" "$program/specs" "$program/proofs"
 mkdir -p "$program/src" "$program/proofs"
 tests=$root/crates/tests_table
 cp "$tests/src/calls.rt" "$program/src/"
-cp -a "$tests/specs" "$program/"
 cp -a "$tests/proofs/Giving.antt" "$tests/proofs/calls" "$program/proofs/"
 echo "pub mod Giving" > "$program/proofs/Lib.antt"
 sed -i 's/tests_table/bench_table/g' $(find "$program" -name '*.rt' -o -name '*.antt')
