@@ -14,4 +14,6 @@ mod tests;
 #[cfg(test)]
 mod threads;
 #[cfg(test)]
+mod twins;
+#[cfg(test)]
 mod worlds;
