@@ -16,8 +16,8 @@ abbrev pub ball_act : Bool → Ball → Act
 ball_act true b = Bulge b
 ball_act false b = Carve b
 
--- over these trees the block at this place of the world gets these cells, where those of the ball are
--- set or cleared
+-- over these trees the block at this place of the world gets these cells, where those of the ball
+-- are set or cleared
 pub record MakesBall (old : Option Name) (ball : Ball) (at : Cell) (set : Bool) (base : List Tree)
     (level : ℕ) (cells : Cells) : Type 0 where
   pub small : level ≤ 10

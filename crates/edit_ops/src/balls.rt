@@ -9,9 +9,9 @@ use node_shapes::Name;
 use node_words::{Blocks, ball_bits};
 use vw_cell::{Ball, Block, Cell};
 
-/// Sets or clears the cells of a ball in the block at a place of the world. The ball is borrowed and
-/// stands between what differs from block to block: side by side, places would be written in other
-/// widths than they are read in, and the processor would wait.
+/// Sets or clears the cells of a ball in the block at a place of the world. The ball is borrowed
+/// and stands between what differs from block to block: side by side, places would be written in
+/// other widths than they are read in, and the processor would wait.
 #[derive(Clone, Copy)]
 pub struct BallTask<'b> {
     pub(crate) old: Option<Name>,
