@@ -72,7 +72,8 @@ fn live_book(table: &NodeTable, seat: &mut NumberedSeat, name: Name) -> u64
     ensures known { known_at (book_of name) seat.new.view.words ≡ Some result }
     ensures live { (0 < result) × (result < 2 ^ 40) }
 {
-    let book = look_book(table, seat, name);
+    let start = table.places.bucket(name.level, name.bucket);
+    let book = look_book(table, seat, name, start);
     tell(seat);
     book
 }

@@ -9,7 +9,7 @@ ghost use Rattle.table_steps.specs.Changes.{HasKeyWords, HasOther, PassesBelow, 
 ghost use Rattle.node_table.specs.Finding.{FindsPlace, WritesKey};
 ghost use Rattle.node_table.specs.Learning.{HasOtherKey, Learns, ShowsKey};
 ghost use Rattle.node_table.specs.Seen.{bucket_named};
-ghost use Rattle.node_table.specs.Turns.{HasTurn, HasTurnFor};
+ghost use Rattle.node_table.specs.Turns.{BeginsBucket, HasTurn, HasTurnFor};
 
 use crate::passes::NumberedSeat;
 use crate::places::Place;
@@ -49,19 +49,27 @@ pub(crate) fn words_at(level: u8) -> u8
 }
 
 // Whether the entry has the key, of which this is the first word.
-fn has_key(table: &NodeTable, seat: &mut NumberedSeat, name: Name, key: &Key, first: u64) -> bool
+fn has_key(
+    table: &NodeTable,
+    seat: &mut NumberedSeat,
+    name: Name,
+    start: usize,
+    key: &Key,
+    first: u64,
+) -> bool
     requires turn { HasTurnFor table.now seat.old name }
+    requires start { BeginsBucket table.now.plan name start }
     requires first { first ≡ key_word key.now 0 }
     ensures learns { Learns seat.old seat.new }
     ensures same { result ≡ true → HasKeyWords seat.new.view.words key.now name }
     ensures other { result ≡ false → HasOther seat.new.view.words key.now name }
 {
-    let head = look_key(table, seat, name, 0);
+    let head = look_key(table, seat, name, start, 0);
     if head != first {
         return false;
     }
     for word in 1..words_at(name.level) {
-        let found = look_key(table, seat, name, word);
+        let found = look_key(table, seat, name, start, word);
         if found != word_of(key, word) {
             return false;
         }
@@ -69,19 +77,27 @@ fn has_key(table: &NodeTable, seat: &mut NumberedSeat, name: Name, key: &Key, fi
     true
 }
 
-fn scan_slot(table: &NodeTable, seat: &mut NumberedSeat, name: Name, key: &Key, first: u64) -> Slot
+fn scan_slot(
+    table: &NodeTable,
+    seat: &mut NumberedSeat,
+    name: Name,
+    start: usize,
+    key: &Key,
+    first: u64,
+) -> Slot
     requires turn { HasTurnFor table.now seat.old name }
+    requires start { BeginsBucket table.now.plan name start }
     requires first { first ≡ key_word key.now 0 }
     ensures learns { Learns seat.old seat.new }
     ensures empty { result ≡ Slot.Empty → known_at (book_of name) seat.new.view.words ≡ Some 0 }
     ensures same { result ≡ Slot.Same → ShowsKey seat.new.view.words key.now name }
     ensures other { result ≡ Slot.Other → HasOtherKey seat.new.view.words key.now name }
 {
-    let book = look_book(table, seat, name);
+    let book = look_book(table, seat, name, start);
     if book == 0 {
         return Slot::Empty;
     }
-    if has_key(table, seat, name, key, first) {
+    if has_key(table, seat, name, start, key, first) {
         Slot::Same
     } else {
         Slot::Other
@@ -102,6 +118,7 @@ pub(crate) fn find(
         result }
 {
     let first = word_of(key, 0);
+    let start = table.places.bucket(level, bucket);
     let mut free = None;
     for slot in 0..table.plan.cap() {
         let slot = slot as u8;
@@ -110,7 +127,7 @@ pub(crate) fn find(
             bucket,
             slot,
         };
-        match scan_slot(table, seat, name, key, first) {
+        match scan_slot(table, seat, name, start, key, first) {
             Slot::Same => return Place::At(slot),
             Slot::Empty => {
                 if free.is_none() {

@@ -13,7 +13,7 @@ ghost use Rattle.table_steps.specs.Changes.{Freed, IsFullIn, IsReady, Lowered, P
 ghost use Rattle.table_steps.specs.Changes.{children_of_key, knowing, meeting, turned, wanted};
 ghost use Rattle.node_table.specs.Learning.{Learns};
 ghost use Rattle.node_table.specs.Seen.{BelongsTo, SamePass, bucket_named};
-ghost use Rattle.node_table.specs.Turns.{HasTurn, HasTurnFor};
+ghost use Rattle.node_table.specs.Turns.{BeginsBucket, HasTurn, HasTurnFor};
 
 use crate::passes::{NumberedSeat, tell};
 use crate::rule::{Plays, Telling};
@@ -128,25 +128,39 @@ pub(crate) fn give_back(table: &NodeTable, seat: &mut NumberedSeat, level: u8, b
     store_as::<Brand, ()>(table, seat, place, 0, &());
 }
 
-// The book of an entry of the bucket whose turn the seat has.
-pub(crate) fn look_book(table: &NodeTable, seat: &mut NumberedSeat, name: Name) -> u64
+// The book of an entry of the bucket whose turn the seat has, and whose words begin here.
+pub(crate) fn look_book(
+    table: &NodeTable,
+    seat: &mut NumberedSeat,
+    name: Name,
+    start: usize,
+) -> u64
     requires turn { HasTurnFor table.now seat.old name }
+    requires start { BeginsBucket table.now.plan name start }
     ensures learns { Learns seat.old seat.new }
     ensures known { known_at (book_of name) seat.new.view.words ≡ Some result }
     ensures small { result < 2 ^ 40 }
 {
-    let place = table.places.book(name.level, name.bucket, name.slot);
+    let place = start + usize::from(name.slot);
     load_as::<Brand, Name>(table, seat, place, &name)
 }
 
-// A word of the key of an entry of the bucket whose turn the seat has.
-pub(crate) fn look_key(table: &NodeTable, seat: &mut NumberedSeat, name: Name, word: u8) -> u64
+// A word of the key of an entry of the bucket whose turn the seat has, and whose words begin here.
+pub(crate) fn look_key(
+    table: &NodeTable,
+    seat: &mut NumberedSeat,
+    name: Name,
+    start: usize,
+    word: u8,
+) -> u64
     requires turn { HasTurnFor table.now seat.old name }
+    requires start { BeginsBucket table.now.plan name start }
     requires word { word < key_words name.level }
     ensures learns { Learns seat.old seat.new }
     ensures known { known_at (key_spot name word) seat.new.view.words ≡ Some result }
 {
-    let place = table.places.key(name.level, name.bucket, name.slot, word);
+    let lane = usize::from(word) + 1;
+    let place = start + (lane * usize::from(table.plan.cap()) + usize::from(name.slot));
     load_as::<Brand, (Name, u8)>(table, seat, place, &(name, word))
 }
 

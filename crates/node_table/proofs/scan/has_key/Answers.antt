@@ -9,7 +9,7 @@ pub loop-word-init : goal.loop-word-init
 loop-word-init c = (c.look_key-head.ensures.learns, first_one _ c.args.key.now c.args.name (c.look_key-head.ensures.known ∙ ap (λ (x : ℕ). Some x) (c.if-head-first.false ∙ c.requires.first)))
 
 pub look_key-found-requires : goal.look_key-found-requires
-look_key-found-requires c = record { turn = turn_stays _ _ _ c.args.name c.requires.turn c.loop-word.invariant.0; word = (let e = c.words_at-word-end.ensures.words in let t = c.loop-word-test.true in omega arith) }
+look_key-found-requires c = record { start = c.requires.start; turn = turn_stays _ _ _ c.args.name c.requires.turn c.loop-word.invariant.0; word = (let e = c.words_at-word-end.ensures.words in let t = c.loop-word-test.true in omega arith) }
 
 pub returns-then-found-word_of-clause-learns : goal.returns-then-found-word_of-clause-learns
 returns-then-found-word_of-clause-learns c = learns_on _ _ _ c.loop-word.invariant.0 c.look_key-found.ensures.learns

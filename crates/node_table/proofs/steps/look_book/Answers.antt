@@ -17,15 +17,13 @@ load_as-requires-clause-may c =
     record {
       spot = book_of c.args.name;
       is_spot = r.turn.name;
-      there =
-          c.book-place.ensures
-          ∙ ap (λ (q : Layout). place q (book_of c.args.name)) (c.table.invariant.1 ∙ ap (λ (t : TableSeen). t.plan) c.table.view_is);
+      there = omega (arith, c.requires.start.at, c.from.ensures);
       may = λ seat. rest_step p seat v (book_of c.args.name) (λ (k : ℕ). k)
           (λ (k : ℕ) (w : SeatView). (w ≡ knowing v (book_of c.args.name) k) × ((n : ℕ) → known_at (book_of c.args.name) v.words ≡ Some n → k ≡ n) × (k < 2 ^ 40)) (looks_book p seat v c.args.name r.turn.turn r.turn.name);
     }
 
 pub load_as-requires-clause-behind : goal.load_as-requires-clause-behind
-load_as-requires-clause-behind c = let e = c.book-place.ensures in omega arith
+load_as-requires-clause-behind c = omega (arith, c.requires.start.at)
 
 pub returns-clause-learns : goal.returns-clause-learns
 returns-clause-learns c =

@@ -1,4 +1,4 @@
-use Rattle.std.proofs.Common.{◌≡◌, ℕ, Some, refl, ap, ◌∙◌, arith}
+use Rattle.std.proofs.Common.{◌≡◌, ℕ, ◌+◌, ◌*◌, Some, refl, ap, ◌∙◌, arith}
 use Rattle.node_words.specs.Plans.{Layout}
 use Rattle.node_places.specs.Spots.{place}
 use Rattle.table_rule.specs.Views.{SeatView, bucket_of, key_spot}
@@ -13,18 +13,21 @@ use Rattle.node_table.proofs.steps.look_key.Goals as goal
 pub load_as-requires-clause-may : goal.load_as-requires-clause-may
 load_as-requires-clause-may c =
     let p = c.args.table.now.plan in let r = c.requires in let v = c.args.seat.now.view in
+    let cap : c.from.result ≡ p.cap =
+    c.from.ensures ∙ c.cap.ensures.value
+    ∙ ap (λ (q : Layout). q.cap) (c.table.invariant.0 ∙ ap (λ (t : TableSeen). t.plan) c.table.view_is) in
+    let lanes : (c.from-lane.result + 1) * c.from.result ≡ (c.args.word + 1) * p.cap =
+    ap (λ (k : ℕ). (k + 1) * c.from.result) c.from-lane.ensures ∙ ap (λ (k : ℕ). (c.args.word + 1) * k) cap in
     record {
       spot = key_spot c.args.name c.args.word;
       is_spot = (r.turn.name, r.word);
-      there =
-          c.key-place.ensures
-          ∙ ap (λ (q : Layout). place q (key_spot c.args.name c.args.word)) (c.table.invariant.1 ∙ ap (λ (t : TableSeen). t.plan) c.table.view_is);
+      there = omega (arith, r.start.at, lanes, c.from-2.ensures);
       may = λ seat. rest_step p seat v (key_spot c.args.name c.args.word) (λ (k : ℕ). k)
           (λ (k : ℕ) (w : SeatView). (w ≡ knowing v (key_spot c.args.name c.args.word) k) × ((n : ℕ) → known_at (key_spot c.args.name c.args.word) v.words ≡ Some n → k ≡ n)) (looks p seat v (bucket_of c.args.name) (key_spot c.args.name c.args.word) r.turn.turn (refl, refl));
     }
 
 pub load_as-requires-clause-behind : goal.load_as-requires-clause-behind
-load_as-requires-clause-behind c = let e = c.key-place.ensures in omega arith
+load_as-requires-clause-behind c = omega (arith, c.requires.start.at)
 
 pub returns-clause-learns : goal.returns-clause-learns
 returns-clause-learns c =
