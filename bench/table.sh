@@ -26,6 +26,7 @@ list_crates "bench_table: $above" $crates
 [ "${1:-}" != prepare ] || exit 0
 rustc --edition 2021 -O -C target-cpu=x86-64-v2 -o "$work/plain" "$here/table/plain.rs"
 cd "$program"
+rm -f out/bench_table
 rt run > "$work/build.log" 2>&1 || true
 [ -x out/bench_table ] || { tail -20 "$work/build.log" >&2; exit 1; }
 cc -O2 -o "$work/peak" "$here/peak.c"

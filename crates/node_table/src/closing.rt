@@ -6,7 +6,6 @@ ghost use Rattle.block_contents.specs.Contents.{HasContents};
 ghost use Rattle.block_contents.specs.Versions.{IsKept};
 ghost use Rattle.history_model.specs.Moments.{world_has};
 ghost use Rattle.table_steps.specs.Seating.{joined};
-ghost use Rattle.node_table.specs.Begins.{terms_of};
 ghost use Rattle.node_table.specs.Closing.{EndsTable, HadEnough, IsSpare, RefusesClose};
 ghost use Rattle.node_table.specs.Joins.{GathersPasses, IsJoinable, unlogged};
 
