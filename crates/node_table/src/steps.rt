@@ -129,12 +129,7 @@ pub(crate) fn give_back(table: &NodeTable, seat: &mut NumberedSeat, level: u8, b
 }
 
 // The book of an entry of the bucket whose turn the seat has, and whose words begin here.
-pub(crate) fn look_book(
-    table: &NodeTable,
-    seat: &mut NumberedSeat,
-    name: Name,
-    start: usize,
-) -> u64
+pub(crate) fn look_book(table: &NodeTable, seat: &mut NumberedSeat, name: Name, start: usize) -> u64
     requires turn { HasTurnFor table.now seat.old name }
     requires start { BeginsBucket table.now.plan name start }
     ensures learns { Learns seat.old seat.new }

@@ -1,12 +1,9 @@
-use Rattle.std.proofs.Common.{◌≡◌, ℕ, ◌<◌, ◌^◌, Some, ap, ◌∙◌, arith}
-use Rattle.node_words.specs.Plans.{Layout}
-use Rattle.node_places.specs.Spots.{place}
+use Rattle.std.proofs.Common.{◌≡◌, ℕ, ◌<◌, ◌^◌, Some, arith}
 use Rattle.core_reading.specs.Reading.{book_of}
 use Rattle.table_rule.specs.Views.{SeatView}
 use Rattle.table_rule.specs.Views.{known_at}
 use Rattle.table_steps.specs.Changes.{knowing}
 use Rattle.table_steps.proofs.Small.{looks_book}
-use Rattle.node_table.specs.Seen.{TableSeen}
 use Rattle.node_table.proofs.StoreSteps.{rest_step}
 use Rattle.node_table.proofs.Learned.{learn_word, known_word}
 use Rattle.node_table.proofs.steps.look_book.Goals as goal

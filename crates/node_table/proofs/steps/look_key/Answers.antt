@@ -1,6 +1,5 @@
 use Rattle.std.proofs.Common.{◌≡◌, ℕ, ◌+◌, ◌*◌, Some, refl, ap, ◌∙◌, arith}
 use Rattle.node_words.specs.Plans.{Layout}
-use Rattle.node_places.specs.Spots.{place}
 use Rattle.table_rule.specs.Views.{SeatView, bucket_of, key_spot}
 use Rattle.table_rule.specs.Views.{known_at}
 use Rattle.table_steps.specs.Changes.{knowing}
