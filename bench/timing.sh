@@ -80,7 +80,8 @@ prove_program() {
     cp "$here/$name/main.rt.in" "$work/crates/bench_$name/src/main.rt"
     list_crates "bench_$name: $line" "$@"
     program=$work/crates/bench_$name/out/bench_$name
-    # It may end in a fault there, where what it reads is not made yet.
+    # It may end in a fault there, where what it reads is not made yet. What an earlier call built must not be timed.
+    rm -f "$program"
     (cd "$work/crates/bench_$name" && rt run > "$work/build.log" 2>&1) || true
     [ -x "$program" ] || { tail -20 "$work/build.log" >&2; exit 1; }
     cd "$work"

@@ -28,6 +28,7 @@ cp "$PEER/store.rs" "$PEER/ask.rs" "$work/peer/"
 cp "$here/worlds/plain.rs" "$work/peer/main.rs"
 rustc -O -C target-cpu=x86-64-v2 --edition 2021 -A warnings -o "$work/plain" "$work/peer/main.rs"
 cd "$program"
+rm -f out/bench_worlds
 rt run > "$work/build.log" 2>&1 || true
 [ -x out/bench_worlds ] || { tail -20 "$work/build.log" >&2; exit 1; }
 [ "${1:-}" = time ] || exit 0
