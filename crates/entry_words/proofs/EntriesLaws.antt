@@ -1,5 +1,5 @@
 -- The struct's invariant, where all slots are free and after each call that writes.
-use Rattle.std.proofs.Common.{◌≡◌, ◌≢◌, ℕ, ◌+◌, ◌^◌, ◌<◌, ◌≤◌, List, [], length, set, ap, ◌∙◌, arith}
+use Rattle.std.proofs.Common.{◌≡◌, ◌≢◌, ℕ, ◌+◌, ◌/◌, ◌%◌, ◌^◌, ◌<◌, ◌≤◌, List, [], length, set, ap, ◌∙◌, arith}
 use Rattle.std.specs.Prelude.{slice_index, slice_index_or, replicate}
 use Rattle.std.proofs.lemmas.List.{length-set, length-replicate}
 use Rattle.node_places.specs.Sums.{sum_below}
@@ -8,12 +8,12 @@ use Rattle.node_words.specs.Plans.{Layout, IsPlan}
 use Rattle.node_places.specs.Spots.{levels, buckets_at}
 use Rattle.node_places.specs.Names.{IsName}
 use Rattle.entry_words.specs.declared.key_words.Pairs.{Pairs}
-use Rattle.entry_words.specs.Slots.{slot_place, leaf_place, node_place, tag_place, bucket_place, number_of_buckets, number_of_slots, AreEnds}
+use Rattle.entry_words.specs.Slots.{slot_place, leaf_place, node_place, block_place, bucket_place, number_of_buckets, AreEnds}
 use Rattle.entry_words.specs.Rows.{PutsItem}
 use Rattle.entry_words.specs.Words.{Written, book_in, key_in, leaf_bits_in, pairs_in, no_pairs}
-use Rattle.entry_words.specs.Tags.{tag_of_words, Beside, HasRoom, AreEntries}
+use Rattle.entry_words.specs.Tags.{tag_of_words, PutsTag, Beside, HasRoom, AreEntries}
 use Rattle.entry_words.specs.Changes.{OtherKeysStay}
-use Rattle.entry_words.proofs.SlotLaws.{bucket_in, name_bucket, tag_in}
+use Rattle.entry_words.proofs.SlotLaws.{bucket_in, name_bucket}
 use Rattle.entry_words.proofs.ReadLaws.{default_any}
 use Rattle.entry_words.proofs.TagLaws.{with_book, with_bits, with_pairs, puts_bits, puts_pairs, tagged_free, tagged_key, tagged_book, tagged_clear, tagged_entry}
 use Rattle.entry_words.proofs.UsedLaws.{unused_free, unused_book, unused_clear, unused_entry, filled_free, filled_book, filled_clear, filled_entry}
@@ -30,15 +30,14 @@ last_end p ends l plan at e =
     let top : l ≤ 11 = omega (arith, e, plan.side_high) in
     at.end l top ∙ ap (λ (k : ℕ). sum_below k (buckets_at p)) e
 
-pub entries_free : (w : Written) (b : Beside) (size : ℕ) → IsPlan w.plan → b.buckets ≡ w.plan.buckets → AreEnds w.plan b.ends → b.width ≡ number_of_buckets w.plan → HasRoom w.plan b → size ≡ number_of_slots w.plan → w.books ≡ [] → b.tags ≡ replicate size 0 → b.used ≡ replicate b.width 0 → b.filled ≡ replicate b.width 0 → AreEntries w b
-entries_free w b size plan row at wide room slots a d e f = record {
+pub entries_free : (w : Written) (b : Beside) → IsPlan w.plan → b.buckets ≡ w.plan.buckets → AreEnds w.plan b.ends → b.width ≡ number_of_buckets w.plan → HasRoom w.plan b → w.books ≡ [] → b.tags ≡ [] → b.used ≡ replicate b.width 0 → b.filled ≡ replicate b.width 0 → AreEntries w b
+entries_free w b plan row at wide room a d e f = record {
   plan_is = plan;
   buckets_are = row;
   ends_are = at;
   width_is = wide;
   room_is = room;
-  tags_are = ap length d ∙ length-replicate size 0 ∙ slots;
-  tagged = tagged_free w b.tags size a d;
+  tagged = tagged_free w b.tags a d;
   used_are = ap length e ∙ length-replicate b.width 0 ∙ wide;
   unused = unused_free w b.used a;
   filled_are = ap length f ∙ length-replicate b.width 0 ∙ wide;
@@ -52,7 +51,6 @@ entries_book w b n i book books h e live some puts = record {
   ends_are = h.ends_are;
   width_is = h.width_is;
   room_is = h.room_is;
-  tags_are = h.tags_are;
   tagged = tagged_book w b.tags n i book books h.tagged e live some puts;
   used_are = h.used_are;
   unused = unused_book w b.used n i book books h.unused e live puts;
@@ -60,8 +58,8 @@ entries_book w b n i book books h e live some puts = record {
   all_live = filled_book w b.filled i book books h.all_live some puts;
 }
 
-pub entries_clear : (w : Written) (b : Beside) (n : Name) (i j k was number d : ℕ) (books : List ℕ) → AreEntries w b → IsName w.plan n → i ≡ slot_place w.plan n → j ≡ tag_place w.plan n → k ≡ bucket_place w.plan n.level n.bucket → was ≡ slice_index_or b.filled k d → number ≤ was → number ≤ n.slot → PutsItem 0 w.books i 0 books → AreEntries (with_book w books) (record b { tags = set b.tags j 0; filled = set b.filled k number })
-entries_clear w b n i j k was number d books h a e f q read falls before puts =
+pub entries_clear : (w : Written) (b : Beside) (n : Name) (i block place k was number d : ℕ) (tags : List (List ℕ)) (books : List ℕ) → AreEntries w b → IsName w.plan n → i ≡ slot_place w.plan n → block ≡ block_place w.plan n.level n.bucket (n.slot / 16) → place ≡ n.slot % 16 → PutsTag b.tags block place 0 tags → k ≡ bucket_place w.plan n.level n.bucket → was ≡ slice_index_or b.filled k d → number ≤ was → number ≤ n.slot → PutsItem 0 w.books i 0 books → AreEntries (with_book w books) (record b { tags = tags; filled = set b.filled k number })
+entries_clear w b n i block place k was number d tags books h a e f g changes q read falls before puts =
     let inside : k < length b.filled = omega (arith, bucket_in w.plan n.level n.bucket (name_bucket w.plan n a), h.filled_are, q) in
     let low : number ≤ slice_index b.filled k = omega (arith, read ∙ default_any b.filled k d 0 inside, falls) in
     record {
@@ -69,9 +67,8 @@ entries_clear w b n i j k was number d books h a e f q read falls before puts =
       buckets_are = h.buckets_are;
       ends_are = h.ends_are;
       width_is = h.width_is;
-      room_is = record { books = h.room_is.books; bits = h.room_is.bits; pairs = h.room_is.pairs };
-      tags_are = length-set b.tags j 0 ∙ h.tags_are;
-      tagged = tagged_clear w b.tags n i j books h.tagged a e f (omega (arith, tag_in w.plan n a, f, h.tags_are)) puts;
+      room_is = record { books = h.room_is.books; bits = h.room_is.bits; pairs = h.room_is.pairs; tags = h.room_is.tags };
+      tagged = tagged_clear w b.tags tags n i block place books h.tagged a e f g changes puts;
       used_are = h.used_are;
       unused = unused_clear w b.used i books h.unused puts;
       filled_are = length-set b.filled k number ∙ h.filled_are;
@@ -85,7 +82,6 @@ entries_key w b n bits pairs h free others = record {
   ends_are = h.ends_are;
   width_is = h.width_is;
   room_is = h.room_is;
-  tags_are = h.tags_are;
   tagged = tagged_key w b.tags n bits pairs h.tagged free others;
   used_are = h.used_are;
   unused = record { unused = h.unused.unused };
@@ -99,10 +95,10 @@ entries_bits w b n i item bits h a z free e puts = entries_key w b n bits w.pair
 pub entries_pairs : (w : Written) (b : Beside) (n : Name) (i : ℕ) (item : Pairs) (pairs : List Pairs) → AreEntries w b → IsName w.plan n → 1 ≤ n.level → book_in w n ≡ 0 → i ≡ node_place w.plan n → PutsItem no_pairs w.pairs i item pairs → AreEntries (with_pairs w pairs) b
 entries_pairs w b n i item pairs h a above free e puts = entries_key w b n w.bits pairs h free (puts_pairs w n i 0 item pairs a above e puts).others
 
-pub entries_entry : (w : Written) (b : Beside) (n : Name) (i j k tag was number d were filled d2 : ℕ) (books : List ℕ) → AreEntries w b → IsName w.plan n → i ≡ slot_place w.plan n → j ≡ tag_place w.plan n → tag ≡ tag_of_words n.level (leaf_bits_in w n) (pairs_in w n) → k ≡ bucket_place w.plan n.level n.bucket → was ≡ slice_index_or b.used k d → was ≤ number → n.slot + 1 ≤ number
+pub entries_entry : (w : Written) (b : Beside) (n : Name) (i block place k tag was number d were filled d2 : ℕ) (tags : List (List ℕ)) (books : List ℕ) → AreEntries w b → IsName w.plan n → i ≡ slot_place w.plan n → block ≡ block_place w.plan n.level n.bucket (n.slot / 16) → place ≡ n.slot % 16 → tag ≡ tag_of_words n.level (leaf_bits_in w n) (pairs_in w n) → PutsTag b.tags block place tag tags → k ≡ bucket_place w.plan n.level n.bucket → was ≡ slice_index_or b.used k d → was ≤ number → n.slot + 1 ≤ number
     → were ≡ slice_index_or b.filled k d2 → ((s : ℕ) → s < filled → s ≢ n.slot → s < were) → PutsItem 0 w.books i 1 books
-    → AreEntries (with_book w books) (record b { tags = set b.tags j tag; used = set b.used k number; filled = set b.filled k filled })
-entries_entry w b n i j k tag was number d were filled d2 books h a e g f q read grows behind read2 goes_on puts =
+    → AreEntries (with_book w books) (record b { tags = tags; used = set b.used k number; filled = set b.filled k filled })
+entries_entry w b n i block place k tag was number d were filled d2 tags books h a e f g is changes q read grows behind read2 goes_on puts =
     let inside : k < length b.used = omega (arith, bucket_in w.plan n.level n.bucket (name_bucket w.plan n a), h.used_are, q) in
     let low : slice_index b.used k ≤ number = omega (arith, read ∙ default_any b.used k d 0 inside, grows) in
     let within : k < length b.filled = omega (arith, bucket_in w.plan n.level n.bucket (name_bucket w.plan n a), h.filled_are, q) in
@@ -112,9 +108,8 @@ entries_entry w b n i j k tag was number d were filled d2 books h a e g f q read
       buckets_are = h.buckets_are;
       ends_are = h.ends_are;
       width_is = h.width_is;
-      room_is = record { books = h.room_is.books; bits = h.room_is.bits; pairs = h.room_is.pairs };
-      tags_are = length-set b.tags j tag ∙ h.tags_are;
-      tagged = tagged_entry w b.tags n i j tag books h.tagged a e g (omega (arith, tag_in w.plan n a, g, h.tags_are)) f puts;
+      room_is = record { books = h.room_is.books; bits = h.room_is.bits; pairs = h.room_is.pairs; tags = h.room_is.tags };
+      tagged = tagged_entry w b.tags tags n i block place tag books h.tagged a e f g is changes puts;
       used_are = length-set b.used k number ∙ h.used_are;
       unused = unused_entry w b.used n i k number books h.unused a e q inside low behind puts;
       filled_are = length-set b.filled k filled ∙ h.filled_are;
@@ -122,14 +117,13 @@ entries_entry w b n i j k tag was number d were filled d2 books h a e g f q read
     }
 
 -- the rows have the room that they had
-pub entries_with_room : (w : Written) (b : Beside) (books bits pairs : ℕ) → AreEntries w b → books ≡ b.room_for_books → bits ≡ b.room_for_bits → pairs ≡ b.room_for_pairs → AreEntries w (record b { room_for_books = books; room_for_bits = bits; room_for_pairs = pairs })
-entries_with_room w b books bits pairs h e f g = record {
+pub entries_with_room : (w : Written) (b : Beside) (books bits pairs tags : ℕ) → AreEntries w b → books ≡ b.room_for_books → bits ≡ b.room_for_bits → pairs ≡ b.room_for_pairs → tags ≡ b.room_for_tags → AreEntries w (record b { room_for_books = books; room_for_bits = bits; room_for_pairs = pairs; room_for_tags = tags })
+entries_with_room w b books bits pairs tags h e f g t = record {
   plan_is = h.plan_is;
   buckets_are = h.buckets_are;
   ends_are = h.ends_are;
   width_is = h.width_is;
-  room_is = record { books = omega (arith, h.room_is.books, e); bits = omega (arith, h.room_is.bits, f); pairs = omega (arith, h.room_is.pairs, g) };
-  tags_are = h.tags_are;
+  room_is = record { books = omega (arith, h.room_is.books, e); bits = omega (arith, h.room_is.bits, f); pairs = omega (arith, h.room_is.pairs, g); tags = omega (arith, h.room_is.tags, t) };
   tagged = h.tagged;
   used_are = h.used_are;
   unused = h.unused;

@@ -1,81 +1,98 @@
 -- What tags and words tell of the slots of a bucket.
-use Rattle.std.proofs.Common.{inl, inr, ◌≡◌, ◌≢◌, ℕ, ◌+◌, ◌-◌, ◌<◌, ◌≤◌, List, ap, sym, ◌∙◌, arith}
+use Rattle.std.proofs.Common.{inl, inr, ◌≡◌, ◌≢◌, ℕ, ◌+◌, ◌-◌, ◌*◌, ◌/◌, ◌%◌, ◌<◌, ◌≤◌, List, ap, sym, ◌∙◌, arith}
 use Rattle.std.specs.Prelude.{slice_index}
 use Rattle.std.proofs.lemmas.Bool.{cases_lt}
 use Rattle.node_shapes.specs.declared.names.Name.{Name}
+use Rattle.node_words.specs.Plans.{Layout}
 use Rattle.node_places.specs.Names.{IsName, named}
 use Rattle.entry_words.specs.declared.key_words.Pairs.{Pairs}
-use Rattle.entry_words.specs.Slots.{tag_place, IsBucket}
+use Rattle.entry_words.specs.Slots.{block_place, IsBucket}
 use Rattle.entry_words.specs.Coding.{key_from}
-use Rattle.entry_words.specs.Words.{Written, book_in, key_in, leaf_bits_in, pairs_in, HasEntry, IsLowestFree, AreLiveBelow}
-use Rattle.entry_words.specs.Tags.{tag_of_words, AreTagged, LacksByte, IsFirstPlace}
-use Rattle.entry_words.proofs.SlotLaws.{tag_slot, slot_name}
+use Rattle.entry_words.specs.Words.{Written, book_in, key_in, leaf_bits_in, pairs_in, HasEntry, LacksKeyIn, IsLowestFree, AreLiveBelow}
+use Rattle.entry_words.specs.Tags.{tag_of_words, tags_at, tag_in, AreTagged, LacksByte, IsFirstPlace}
+use Rattle.entry_words.proofs.SlotLaws.{slot_name}
 use Rattle.entry_words.proofs.TagLaws.{tag_some, tag_same}
 
 -- a slot with no tag is free, and one with a tag is live
-free_slot : (w : Written) (tags : List ℕ) (n : Name) → AreTagged w tags → IsName w.plan n → slice_index tags (tag_place w.plan n) ≡ 0 → book_in w n ≡ 0
+free_slot : (w : Written) (tags : List (List ℕ)) (n : Name) → AreTagged w tags → IsName w.plan n → tag_in w.plan tags n ≡ 0 → book_in w n ≡ 0
 free_slot w tags n t a z = elim (cases_lt 0 (book_in w n)) [ inl some ↦ absurd (omega (arith, t.live n a some, tag_some n.level (leaf_bits_in w n) (pairs_in w n), z)) | inr none ↦ omega arith ]
 
-live_slot : (w : Written) (tags : List ℕ) (n : Name) → AreTagged w tags → IsName w.plan n → slice_index tags (tag_place w.plan n) ≢ 0 → 1 ≤ book_in w n
+live_slot : (w : Written) (tags : List (List ℕ)) (n : Name) → AreTagged w tags → IsName w.plan n → tag_in w.plan tags n ≢ 0 → 1 ≤ book_in w n
 live_slot w tags n t a ne = elim (cases_lt 0 (book_in w n)) [ inl some ↦ some | inr none ↦ absurd (ne (t.free n a (omega arith))) ]
 
-slot_at : (p : Rattle.node_words.specs.Plans.Layout) (level bucket start i : ℕ) → start ≡ tag_place p (named level bucket 0) → start ≤ i → tag_place p (named level bucket (i - start)) ≡ i
-slot_at p level bucket start i e low = omega (arith, tag_slot p level bucket (i - start))
+-- these are the tags of a block of a bucket
+abbrev pub AreTagsOf : Layout → List (List ℕ) → ℕ → ℕ → ℕ → List ℕ → Type 0
+AreTagsOf p tags level bucket block row = row ≡ tags_at tags (block_place p level bucket block)
 
-slot_after : (p : Rattle.node_words.specs.Plans.Layout) (level bucket start k : ℕ) → start ≡ tag_place p (named level bucket 0) → tag_place p (named level bucket k) ≡ start + k
-slot_after p level bucket start k e = omega (arith, tag_slot p level bucket k)
+-- the slot of a place in a block
+abbrev pub slot_at : ℕ → ℕ → ℕ
+slot_at block k = block * 16 + k
 
--- where no tag from some slot on is 0, and the slots before it are live, the slots are live
-pub lives_below : (w : Written) (tags : List ℕ) (level bucket start filled end slots : ℕ) → AreTagged w tags → IsBucket w.plan level bucket → start ≡ tag_place w.plan (named level bucket 0) → slots ≤ w.plan.cap → start + slots ≤ end → AreLiveBelow w level bucket filled → LacksByte tags (start + filled) end 0 → AreLiveBelow w level bucket slots
-lives_below w tags level bucket start filled end slots t b e few ends before none k lt = elim (cases_lt k filled) [
-  | inl low ↦ before k low
-  | inr high ↦ (let at = slot_after w.plan level bucket start k e in
-      live_slot w tags (named level bucket k) t (slot_name w.plan level bucket k b (omega arith)) (λ z. none (start + k) (omega (arith, high)) (omega arith) (ap (slice_index tags) (sym at) ∙ z)))
+slot_tag : (p : Layout) (tags : List (List ℕ)) (level bucket block k : ℕ) (row : List ℕ) → k < 16 → AreTagsOf p tags level bucket block row → tag_in p tags (named level bucket (slot_at block k)) ≡ slice_index row k
+slot_tag p tags level bucket block k row lt e =
+    let of_block : slot_at block k / 16 ≡ block = omega (arith, lt) in
+    let at : slot_at block k % 16 ≡ k = omega (arith, lt) in
+    ap (λ (b : ℕ). slice_index (tags_at tags (block_place p level bucket b)) (slot_at block k % 16)) of_block
+    ∙ ap (slice_index (tags_at tags (block_place p level bucket block))) at ∙ ap (λ (r : List ℕ). slice_index r k) (sym e)
+
+-- a place with a tag has a slot
+pub slot_in : (w : Written) (tags : List (List ℕ)) (level bucket block k : ℕ) (row : List ℕ) → AreTagged w tags → IsBucket w.plan level bucket → AreTagsOf w.plan tags level bucket block row → k < 16 → 1 ≤ slice_index row k → slot_at block k < w.plan.cap
+slot_in w tags level bucket block k row t b e lt some = elim (cases_lt (slot_at block k) w.plan.cap) [
+  | inl less ↦ less
+  | inr past ↦ absurd (omega (arith, t.none (named level bucket (slot_at block k)) b past, slot_tag w.plan tags level bucket block k row lt e, some))
 ]
 
-pub lowest_free : (w : Written) (tags : List ℕ) (level bucket start filled end i : ℕ) → AreTagged w tags → IsBucket w.plan level bucket → start ≡ tag_place w.plan (named level bucket 0) → end ≤ start + w.plan.cap → AreLiveBelow w level bucket filled → IsFirstPlace tags (start + filled) end 0 i → IsLowestFree w level bucket (i - start)
-lowest_free w tags level bucket start filled end i t b e f before first =
-    let low : start ≤ i = omega (arith, first.at_least) in
-    let high : i < end = first.below in
-    let slot : i - start < w.plan.cap = omega arith in
-    record {
-      below = slot;
-      free = free_slot w tags (named level bucket (i - start)) t (slot_name w.plan level bucket (i - start) b slot) (ap (slice_index tags) (slot_at w.plan level bucket start i e low) ∙ first.there);
-      lower = lives_below w tags level bucket start filled i (i - start) t b e (omega arith) (omega arith) before first.earlier;
-    }
+-- the slots of the bucket below this one are live
+abbrev pub AreLiveTo : Written → ℕ → ℕ → ℕ → Type 0
+AreLiveTo w level bucket to = (slot : ℕ) → slot < w.plan.cap → slot < to → 1 ≤ book_in w (named level bucket slot)
+
+-- where no tag of a block up to some place is 0, and the slots before the block are live, the slots up to there are
+pub lives_to : (w : Written) (tags : List (List ℕ)) (level bucket block to : ℕ) (row : List ℕ) → AreTagged w tags → IsBucket w.plan level bucket → AreTagsOf w.plan tags level bucket block row → to ≤ 16 → AreLiveTo w level bucket (block * 16) → LacksByte row 0 to 0 → AreLiveTo w level bucket (slot_at block to)
+lives_to w tags level bucket block to row t b e few before none slot lt le = elim (cases_lt slot (block * 16)) [
+  | inl low ↦ before slot lt low
+  | inr high ↦ (let k : ℕ = slot - block * 16 in
+      let is : slot ≡ slot_at block k = omega (arith, high) in
+      let at = ap (λ (s : ℕ). tag_in w.plan tags (named level bucket s)) is ∙ slot_tag w.plan tags level bucket block k row (omega (arith, le, high, few)) e in
+      live_slot w tags (named level bucket slot) t (slot_name w.plan level bucket slot b lt) (λ z. none k (omega arith) (omega (arith, le, high)) (sym at ∙ z)))
+]
+
+pub lowest_free : (w : Written) (tags : List (List ℕ)) (level bucket block k : ℕ) (row : List ℕ) → AreTagged w tags → IsBucket w.plan level bucket → AreTagsOf w.plan tags level bucket block row → AreLiveTo w level bucket (block * 16) → IsFirstPlace row 0 16 0 k → slot_at block k < w.plan.cap → IsLowestFree w level bucket (slot_at block k)
+lowest_free w tags level bucket block k row t b e before first lt = record {
+  below = lt;
+  free = free_slot w tags (named level bucket (slot_at block k)) t (slot_name w.plan level bucket (slot_at block k) b lt) (slot_tag w.plan tags level bucket block k row first.below e ∙ first.there);
+  lower = λ slot le. lives_to w tags level bucket block k row t b e (omega (arith, first.below)) before first.earlier slot (omega (arith, le, lt)) le;
+}
+
+pub none_free : (w : Written) (tags : List (List ℕ)) (level bucket block k : ℕ) (row : List ℕ) → AreTagged w tags → IsBucket w.plan level bucket → AreTagsOf w.plan tags level bucket block row → AreLiveTo w level bucket (block * 16) → IsFirstPlace row 0 16 0 k → w.plan.cap ≤ slot_at block k → AreLiveBelow w level bucket w.plan.cap
+none_free w tags level bucket block k row t b e before first past slot lt =
+    lives_to w tags level bucket block k row t b e (omega (arith, first.below)) before first.earlier slot lt (omega (arith, lt, past))
 
 -- a slot with the tag and the words of the key has the key
-pub has_key : (w : Written) (tags : List ℕ) (level bucket start end i from bits tag : ℕ) (pairs : Pairs) → AreTagged w tags → IsBucket w.plan level bucket → start ≡ tag_place w.plan (named level bucket 0) → end ≤ start + w.plan.cap → tag ≡ tag_of_words level bits pairs → start ≤ from → IsFirstPlace tags from end tag i → key_in w (named level bucket (i - start)) ≡ key_from level bits pairs → HasEntry w (named level bucket (i - start)) (key_from level bits pairs)
-has_key w tags level bucket start end i from bits tag pairs t b e f g le place key =
-    let low : start ≤ i = omega (arith, place.at_least) in
-    let high : i < end = place.below in
-    let slot : i - start < w.plan.cap = omega arith in
-    let tagged = slot_at w.plan level bucket start i e low in
-    let name = slot_name w.plan level bucket (i - start) b slot in
+pub has_key : (w : Written) (tags : List (List ℕ)) (level bucket block from k bits tag : ℕ) (pairs : Pairs) (row : List ℕ) → AreTagged w tags → IsBucket w.plan level bucket → AreTagsOf w.plan tags level bucket block row → tag ≡ tag_of_words level bits pairs → IsFirstPlace row from 16 tag k → key_in w (named level bucket (slot_at block k)) ≡ key_from level bits pairs → HasEntry w (named level bucket (slot_at block k)) (key_from level bits pairs)
+has_key w tags level bucket block from k bits tag pairs row t b e f first key =
+    let some : 1 ≤ slice_index row k = omega (arith, first.there, f, tag_some level bits pairs) in
+    let name = slot_name w.plan level bucket (slot_at block k) b (slot_in w tags level bucket block k row t b e first.below some) in
     record {
       is_name = name;
-      live = live_slot w tags (named level bucket (i - start)) t name (λ z. omega (arith, z, ap (slice_index tags) tagged, place.there, g, tag_some level bits pairs));
+      live = live_slot w tags (named level bucket (slot_at block k)) t name (λ z. omega (arith, z, slot_tag w.plan tags level bucket block k row first.below e, some));
       key_is = key;
     }
 
--- no live slot of the bucket before the place `to` has the key
-abbrev pub LacksBefore : Written → ℕ → ℕ → ℕ → ℕ → ℕ → Pairs → Type 0
-LacksBefore w level bucket start to bits pairs =
-    (s : ℕ) → s < w.plan.cap → start + s < to → 1 ≤ book_in w (named level bucket s) → key_in w (named level bucket s) ≢ key_from level bits pairs
-
 -- slots with other tags have other keys
-pub lacks_to : (w : Written) (tags : List ℕ) (level bucket start from to bits tag : ℕ) (pairs : Pairs) → AreTagged w tags → IsBucket w.plan level bucket → start ≡ tag_place w.plan (named level bucket 0) → tag ≡ tag_of_words level bits pairs → LacksBefore w level bucket start from bits pairs → LacksByte tags from to tag → LacksBefore w level bucket start to bits pairs
-lacks_to w tags level bucket start from to bits tag pairs t b e g before none s lt le live = elim (cases_lt (start + s) from) [
-  | inl less ↦ before s lt less live
-  | inr more ↦ (let at = slot_after w.plan level bucket start s e in
-      let name = slot_name w.plan level bucket s b lt in
-      λ q. none (start + s) more le (ap (slice_index tags) (sym at) ∙ t.live (named level bucket s) name live ∙ tag_same level _ bits _ pairs q ∙ sym g))
+pub lacks_to : (w : Written) (tags : List (List ℕ)) (level bucket block from to bits tag : ℕ) (pairs : Pairs) (row : List ℕ) → AreTagged w tags → IsBucket w.plan level bucket → AreTagsOf w.plan tags level bucket block row → tag ≡ tag_of_words level bits pairs → to ≤ 16 → LacksKeyIn w level bucket (block * 16) (slot_at block from) (key_from level bits pairs) → LacksByte row from to tag → LacksKeyIn w level bucket (block * 16) (slot_at block to) (key_from level bits pairs)
+lacks_to w tags level bucket block from to bits tag pairs row t b e f few before none slot lt low high live = elim (cases_lt slot (slot_at block from)) [
+  | inl less ↦ before slot lt low less live
+  | inr more ↦ (let k : ℕ = slot - block * 16 in
+      let is : slot ≡ slot_at block k = omega (arith, low) in
+      let at = ap (λ (s : ℕ). tag_in w.plan tags (named level bucket s)) is ∙ slot_tag w.plan tags level bucket block k row (omega (arith, low, high, few)) e in
+      let name = slot_name w.plan level bucket slot b lt in
+      λ q. none k (omega (arith, more, low)) (omega (arith, high, low)) (sym at ∙ t.live (named level bucket slot) name live ∙ tag_same level _ bits _ pairs q ∙ sym f))
 ]
 
 -- a slot with other words has another key
-pub lacks_one : (w : Written) (level bucket start i bits : ℕ) (pairs : Pairs) → start ≤ i → LacksBefore w level bucket start i bits pairs → key_in w (named level bucket (i - start)) ≢ key_from level bits pairs → LacksBefore w level bucket start (i + 1) bits pairs
-lacks_one w level bucket start i bits pairs low before other s lt le live = elim (cases_lt (start + s) i) [
-  | inl less ↦ before s lt less live
-  | inr more ↦ (let slot : s ≡ i - start = omega arith in
-      λ p. other (ap (λ (k : ℕ). key_in w (named level bucket k)) (sym slot) ∙ p))
+pub lacks_one : (w : Written) (level bucket block k bits : ℕ) (pairs : Pairs) → LacksKeyIn w level bucket (block * 16) (slot_at block k) (key_from level bits pairs) → key_in w (named level bucket (slot_at block k)) ≢ key_from level bits pairs → LacksKeyIn w level bucket (block * 16) (slot_at block (k + 1)) (key_from level bits pairs)
+lacks_one w level bucket block k bits pairs before other slot lt low high live = elim (cases_lt slot (slot_at block k)) [
+  | inl less ↦ before slot lt low less live
+  | inr more ↦ (let is : slot_at block k ≡ slot = omega (arith, more, high) in
+      λ p. other (ap (λ (s : ℕ). key_in w (named level bucket s)) is ∙ p))
 ]

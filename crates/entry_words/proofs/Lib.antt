@@ -7,3 +7,4 @@ pub mod TagLaws
 pub mod UsedLaws
 pub mod EntriesLaws
 pub mod FindLaws
+pub mod MaskLaws

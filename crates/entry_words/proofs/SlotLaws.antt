@@ -1,5 +1,5 @@
 -- Different names stand at different places.
-use Rattle.std.proofs.Common.{◌≡◌, ℕ, zero, suc, ◌+◌, ◌-◌, ◌*◌, ◌^◌, ◌<◌, ◌≤◌, List, inl, inr, ap, sym, ◌∙◌, subst, arith}
+use Rattle.std.proofs.Common.{◌≡◌, ℕ, zero, suc, ◌+◌, ◌-◌, ◌*◌, ◌/◌, ◌%◌, ◌^◌, ◌<◌, ◌≤◌, List, inl, inr, ap, sym, ◌∙◌, subst, arith}
 use Rattle.std.proofs.lemmas.Bool.{cases_order}
 use Rattle.std.proofs.lemmas.Nat.{mul-add-lt, mul-le, same_from_place}
 use Rattle.node_places.specs.Sums.{sum_below, sum_below-suc}
@@ -9,7 +9,7 @@ use Rattle.node_words.specs.Plans.{Layout, IsPlan}
 use Rattle.node_places.specs.Spots.{levels, buckets_at}
 use Rattle.node_places.specs.Names.{IsName, named}
 use Rattle.std.specs.Prelude.{slice_index}
-use Rattle.entry_words.specs.Slots.{bucket_place, slot_place, leaf_place, node_place, tag_place, leaf_buckets, number_of_buckets, number_of_slots, IsBucket, AreEnds}
+use Rattle.entry_words.specs.Slots.{bucket_place, slot_place, leaf_place, node_place, block_place, leaf_buckets, number_of_buckets, number_of_slots, number_of_blocks, IsBucket, AreEnds}
 
 sum_grows : (f : ℕ → ℕ) (l d : ℕ) → sum_below l f ≤ sum_below (l + d) f
 sum_grows f l zero = let same : l + 0 ≡ l = omega arith in rw same (omega arith)
@@ -45,7 +45,7 @@ name_bucket p n i = record { level_in = i.level_in; bucket_in = i.bucket_in }
 pub bucket_in : (p : Layout) (level bucket : ℕ) → IsBucket p level bucket → bucket_place p level bucket < number_of_buckets p
 bucket_in p level bucket i = omega (arith, part_ends (buckets_at p) level (levels p) (suc bucket) i.level_in (omega (arith, i.bucket_in)))
 
-bucket_one : (p : Layout) (m n : Name) → IsName p m → IsName p n → bucket_place p m.level m.bucket ≡ bucket_place p n.level n.bucket → (m.level ≡ n.level) × (m.bucket ≡ n.bucket)
+bucket_one : (p : Layout) (m n : Name) → IsBucket p m.level m.bucket → IsBucket p n.level n.bucket → bucket_place p m.level m.bucket ≡ bucket_place p n.level n.bucket → (m.level ≡ n.level) × (m.bucket ≡ n.bucket)
 bucket_one p m n i j e = parts (buckets_at p) m.level n.level m.bucket n.bucket i.bucket_in j.bucket_in e
 
 pub behind_leaves : (p : Layout) (level bucket : ℕ) → 1 ≤ level → leaf_buckets p ≤ bucket_place p level bucket
@@ -62,7 +62,7 @@ pub place_one : (p : Layout) (m n : Name) → IsName p m → IsName p n → slot
 place_one p m n i j e =
     let same = same_from_place m.slot (bucket_place p m.level m.bucket) n.slot (bucket_place p n.level n.bucket) (number_of_buckets p)
     (bucket_in p m.level m.bucket (name_bucket p m i)) (bucket_in p n.level n.bucket (name_bucket p n j)) e in
-    let at = bucket_one p m n i j same.1 in
+    let at = bucket_one p m n (name_bucket p m i) (name_bucket p n j) same.1 in
     same_name m n at.0 at.1 same.0
 
 -- the place of a leaf's bits
@@ -87,27 +87,21 @@ node_in p n i h = mul-add-lt n.slot (number_of_buckets p - leaf_buckets p) (buck
 pub node_one : (p : Layout) (m n : Name) → IsName p m → IsName p n → 1 ≤ m.level → 1 ≤ n.level → node_place p m ≡ node_place p n → m ≡ n
 node_one p m n i j h k e =
     let same = same_from_place m.slot (bucket_place p m.level m.bucket - leaf_buckets p) n.slot (bucket_place p n.level n.bucket - leaf_buckets p) (number_of_buckets p - leaf_buckets p) (node_bucket p m i h) (node_bucket p n j k) e in
-    let at = bucket_one p m n i j (omega (arith, same.1, behind_leaves p m.level m.bucket h, behind_leaves p n.level n.bucket k)) in
+    let at = bucket_one p m n (name_bucket p m i) (name_bucket p n j) (omega (arith, same.1, behind_leaves p m.level m.bucket h, behind_leaves p n.level n.bucket k)) in
     same_name m n at.0 at.1 same.0
 
--- the place of a slot's tag
-pub tags_in : (p : Layout) (level bucket : ℕ) → IsBucket p level bucket → bucket_place p level bucket * p.cap + p.cap ≤ number_of_slots p
-tags_in p level bucket i =
-    let more : suc (bucket_place p level bucket) * p.cap ≤ number_of_slots p = mul-le (suc (bucket_place p level bucket)) p.cap (number_of_buckets p) p.cap (omega (arith, bucket_in p level bucket i)) (omega arith) in
-    omega (arith, more)
+-- the place of a block of tags
+pub block_in : (p : Layout) (level bucket block : ℕ) → IsBucket p level bucket → block * 16 < p.cap → block_place p level bucket block < number_of_blocks p
+block_in p level bucket block i lt =
+    let within : block < (p.cap + 15) / 16 = omega (arith, lt) in
+    mul-add-lt block (number_of_buckets p) (bucket_place p level bucket) ((p.cap + 15) / 16) within (bucket_in p level bucket i)
 
-pub tag_in : (p : Layout) (n : Name) → IsName p n → tag_place p n < number_of_slots p
-tag_in p n i = omega (arith, tags_in p n.level n.bucket (name_bucket p n i), i.slot_in)
-
-pub tag_one : (p : Layout) (m n : Name) → IsName p m → IsName p n → tag_place p m ≡ tag_place p n → m ≡ n
-tag_one p m n i j e =
-    let same = same_from_place (bucket_place p m.level m.bucket) m.slot (bucket_place p n.level n.bucket) n.slot p.cap i.slot_in j.slot_in e in
-    let at = bucket_one p m n i j same.0 in
-    same_name m n at.0 at.1 same.1
-
--- the tags of a bucket stand side by side
-pub tag_slot : (p : Layout) (level bucket slot : ℕ) → tag_place p (named level bucket 0) + slot ≡ tag_place p (named level bucket slot)
-tag_slot p level bucket slot = omega arith
+-- slots whose tags stand at one place are one
+pub tag_one : (p : Layout) (m n : Name) → IsBucket p m.level m.bucket → IsBucket p n.level n.bucket → block_place p m.level m.bucket (m.slot / 16) ≡ block_place p n.level n.bucket (n.slot / 16) → m.slot % 16 ≡ n.slot % 16 → m ≡ n
+tag_one p m n i j e f =
+    let same = same_from_place (m.slot / 16) (bucket_place p m.level m.bucket) (n.slot / 16) (bucket_place p n.level n.bucket) (number_of_buckets p) (bucket_in p m.level m.bucket i) (bucket_in p n.level n.bucket j) e in
+    let at = bucket_one p m n i j same.1 in
+    same_name m n at.0 at.1 (omega (arith, same.0, f))
 
 pub slot_name : (p : Layout) (level bucket slot : ℕ) → IsBucket p level bucket → slot < p.cap → IsName p (named level bucket slot)
 slot_name p level bucket slot i lt = record { level_in = i.level_in; bucket_in = i.bucket_in; slot_in = lt }
@@ -126,6 +120,3 @@ buckets_small p ends plan e =
 
 pub product_small : (a e : ℕ) → a ≤ 256 → e < 2 ^ 20 → a * e < 2 ^ 30
 product_small a e few low = omega (arith, mul-le a e 256 (2 ^ 20) few (omega (arith, low)))
-
-pub product_small_too : (e a : ℕ) → e < 2 ^ 20 → a ≤ 256 → e * a < 2 ^ 30
-product_small_too e a low few = omega (arith, mul-le e a (2 ^ 20) 256 (omega (arith, low)) few)

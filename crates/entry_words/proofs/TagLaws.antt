@@ -1,5 +1,5 @@
 -- The words and tags of slots stay right.
-use Rattle.std.proofs.Common.{inl, inr, ◌≡◌, ◌≢◌, ℕ, zero, suc, ◌<◌, ◌≤◌, List, [], length, set, refl, ap, sym, subst, ◌∙◌, arith, get_or-set_same, get_or-set_other}
+use Rattle.std.proofs.Common.{inl, inr, ◌≡◌, ◌≢◌, ℕ, zero, suc, ◌/◌, ◌%◌, ◌<◌, ◌≤◌, List, [], length, set, refl, ap, sym, subst, ◌∙◌, arith, get_or-set_same, get_or-set_other}
 use Rattle.std.specs.Prelude.{slice_index, replicate}
 use Rattle.std.proofs.lemmas.List.{length-replicate, get_or-replicate, get_or_past}
 use Rattle.std.proofs.lemmas.Bool.{cases_eq, cases_lt}
@@ -8,13 +8,13 @@ use Rattle.node_words.specs.declared.keys.Key.{Key}
 use Rattle.node_words.specs.Plans.{Layout}
 use Rattle.node_places.specs.Names.{IsName}
 use Rattle.entry_words.specs.declared.key_words.Pairs.{Pairs}
-use Rattle.entry_words.specs.Slots.{slot_place, leaf_place, node_place, tag_place}
+use Rattle.entry_words.specs.Slots.{slot_place, leaf_place, node_place, block_place, IsBucket}
 use Rattle.entry_words.specs.Coding.{key_from}
 use Rattle.entry_words.specs.Words.{Written, pairs_at, no_pairs, book_in, key_in, leaf_bits_in, pairs_in}
-use Rattle.entry_words.specs.Tags.{tag_of_word, tag_of_words, mixed_words, AreTagged}
+use Rattle.entry_words.specs.Tags.{tag_of_word, tag_of_words, mixed_words, no_tags, tags_at, tag_in, PutsTag, AreTagged}
 use Rattle.entry_words.specs.Rows.{PutsItem}
 use Rattle.entry_words.specs.Changes.{OtherBooksStay, OtherKeysStay, SetsBook, PutsKey, PutsEntry}
-use Rattle.entry_words.proofs.SlotLaws.{place_one, leaf_one, node_one, tag_one}
+use Rattle.entry_words.proofs.SlotLaws.{place_one, leaf_one, node_one, tag_one, name_bucket}
 use Rattle.entry_words.proofs.WordLaws.{one_leaf, one_row}
 use Rattle.entry_words.proofs.ReadLaws.{leaf_key, row_key}
 
@@ -104,14 +104,18 @@ puts_entry old mid n i key books p b e puts = record {
 pub zero_read : (n i : ℕ) → slice_index (replicate n 0) i ≡ 0
 zero_read n i = elim (cases_lt i n) [ inl below ↦ get_or-replicate n i 0 0 below | inr past ↦ get_or_past (replicate n 0) i 0 (omega (arith, past, length-replicate {A = ℕ} n 0)) ]
 
-pub tagged_free : (w : Written) (tags : List ℕ) (n : ℕ) → w.books ≡ [] → tags ≡ replicate n 0 → AreTagged w tags
-tagged_free w tags n e f = record {
-  free = λ m a z. ap (λ (row : List ℕ). slice_index row (tag_place w.plan m)) f ∙ zero_read n (tag_place w.plan m);
+pub tagged_free : (w : Written) (tags : List (List ℕ)) → w.books ≡ [] → tags ≡ [] → AreTagged w tags
+tagged_free w tags e f = record {
+  free = λ m a z. untagged m;
   live = λ m a h. absurd (omega (arith, h, ap (λ (row : List ℕ). slice_index row (slot_place w.plan m)) e));
+  none = λ m a past. untagged m;
 }
+  where
+    untagged : (m : Name) → tag_in w.plan tags m ≡ 0
+    untagged m = ap (λ (row : List (List ℕ)). tag_in w.plan row m) f ∙ zero_read 16 (m.slot % 16)
 
 -- a book that stays over 0 keeps the tags right
-pub tagged_book : (w : Written) (tags : List ℕ) (n : Name) (i book : ℕ) (books : List ℕ) → AreTagged w tags → i ≡ slot_place w.plan n → 1 ≤ book_in w n → 1 ≤ book → PutsItem 0 w.books i book books → AreTagged (with_book w books) tags
+pub tagged_book : (w : Written) (tags : List (List ℕ)) (n : Name) (i book : ℕ) (books : List ℕ) → AreTagged w tags → i ≡ slot_place w.plan n → 1 ≤ book_in w n → 1 ≤ book → PutsItem 0 w.books i book books → AreTagged (with_book w books) tags
 tagged_book w tags n i book books t e live some puts = record {
   free = λ m a z. elim (cases_eq (slot_place w.plan m) i) [
     | inl q ↦ absurd (omega (arith, ap (slice_index books) q, puts.here, z, some))
@@ -121,43 +125,69 @@ tagged_book w tags n i book books t e live some puts = record {
     | inl q ↦ (let same : book_in w m ≡ book_in w n = ap (slice_index w.books) (q ∙ e) in t.live m a (omega (arith, same, live)))
     | inr ne ↦ t.live m a (omega (arith, h, puts.others (slot_place w.plan m) ne))
   ];
+  none = t.none;
 }
 
--- the tags of other names stay where one is written
-other_tag : (w : Written) (m n : Name) (j : ℕ) → IsName w.plan m → IsName w.plan n → j ≡ tag_place w.plan n → m ≢ n → tag_place w.plan m ≢ j
-other_tag w m n j a b e ne = λ q. ne (tag_one w.plan m n a b (q ∙ e))
+-- a tag that was put at a name's place is the name's, and the others stay
+own_tag : (w : Written) (old tags : List (List ℕ)) (n : Name) (block k tag : ℕ) → block ≡ block_place w.plan n.level n.bucket (n.slot / 16) → k ≡ n.slot % 16 → PutsTag old block k tag tags → tag_in w.plan tags n ≡ tag
+own_tag w old tags n block k tag f g puts = ap (λ (b : ℕ). slice_index (tags_at tags b) (n.slot % 16)) (sym f) ∙ ap (slice_index (tags_at tags block)) (sym g) ∙ puts.here
 
-pub tagged_clear : (w : Written) (tags : List ℕ) (n : Name) (i j : ℕ) (books : List ℕ) → AreTagged w tags → IsName w.plan n → i ≡ slot_place w.plan n → j ≡ tag_place w.plan n → j < length tags → PutsItem 0 w.books i 0 books → AreTagged (with_book w books) (set tags j 0)
-tagged_clear w tags n i j books t b e f lt puts = record {
+other_tag : (w : Written) (old tags : List (List ℕ)) (m n : Name) (block k tag : ℕ) → IsBucket w.plan m.level m.bucket → IsName w.plan n → block ≡ block_place w.plan n.level n.bucket (n.slot / 16) → k ≡ n.slot % 16 → PutsTag old block k tag tags → m ≢ n → tag_in w.plan tags m ≡ tag_in w.plan old m
+other_tag w old tags m n block k tag a b f g puts ne = puts.others (block_place w.plan m.level m.bucket (m.slot / 16)) (m.slot % 16) (λ p q. ne (tag_one w.plan m n a (name_bucket w.plan n b) (p ∙ f) (q ∙ g)))
+
+-- the places for which there are no slots keep 0
+none_tagged : (w : Written) (old tags : List (List ℕ)) (m n : Name) (block k tag : ℕ) → AreTagged w old → IsBucket w.plan m.level m.bucket → w.plan.cap ≤ m.slot → IsName w.plan n → block ≡ block_place w.plan n.level n.bucket (n.slot / 16) → k ≡ n.slot % 16 → PutsTag old block k tag tags → tag_in w.plan tags m ≡ 0
+none_tagged w old tags m n block k tag t a past b f g puts =
+    other_tag w old tags m n block k tag a b f g puts (λ q. absurd (omega (arith, past, b.slot_in, ap (λ (l : Name). l.slot) q))) ∙ t.none m a past
+
+pub tagged_clear : (w : Written) (old tags : List (List ℕ)) (n : Name) (i block k : ℕ) (books : List ℕ) → AreTagged w old → IsName w.plan n → i ≡ slot_place w.plan n → block ≡ block_place w.plan n.level n.bucket (n.slot / 16) → k ≡ n.slot % 16 → PutsTag old block k 0 tags → PutsItem 0 w.books i 0 books → AreTagged (with_book w books) tags
+tagged_clear w old tags n i block k books t b e f g changes puts = record {
   free = λ m a z. elim (cases_eq (slot_place w.plan m) i) [
-    | inl q ↦ (let same : m ≡ n = place_one w.plan m n a b (q ∙ e) in at_place tags j (tag_place w.plan m) 0 lt (ap (tag_place w.plan) same ∙ sym f))
-    | inr ne ↦ (let other = other_tag w m n j a b f (λ q. ne (ap (slot_place w.plan) q ∙ sym e)) in get_or-set_other tags j (tag_place w.plan m) 0 0 other ∙ t.free m a (sym (puts.others (slot_place w.plan m) ne) ∙ z))
+    | inl q ↦ (let same : m ≡ n = place_one w.plan m n a b (q ∙ e) in ap (tag_in w.plan tags) same ∙ own_tag w old tags n block k 0 f g changes)
+    | inr ne ↦ other m a ne ∙ t.free m a (sym (puts.others (slot_place w.plan m) ne) ∙ z)
   ];
   live = λ m a h. elim (cases_eq (slot_place w.plan m) i) [
     | inl q ↦ absurd (omega (arith, ap (slice_index books) q, puts.here, h))
-    | inr ne ↦ (let other = other_tag w m n j a b f (λ q. ne (ap (slot_place w.plan) q ∙ sym e)) in get_or-set_other tags j (tag_place w.plan m) 0 0 other ∙ t.live m a (omega (arith, h, puts.others (slot_place w.plan m) ne)))
+    | inr ne ↦ other m a ne ∙ t.live m a (omega (arith, h, puts.others (slot_place w.plan m) ne))
   ];
+  none = λ m a past. none_tagged w old tags m n block k 0 t a past b f g changes;
 }
+  where
+    other : (m : Name) → IsName w.plan m → slot_place w.plan m ≢ i → tag_in w.plan tags m ≡ tag_in w.plan old m
+    other m a ne = other_tag w old tags m n block k 0 (name_bucket w.plan m a) b f g changes (λ q. ne (ap (slot_place w.plan) q ∙ sym e))
 
 -- the key of a free slot has no tag yet
-pub tagged_key : (w : Written) (tags : List ℕ) (n : Name) (bits : List ℕ) (pairs : List Pairs) → AreTagged w tags → book_in w n ≡ 0 → OtherKeysStay w.plan n (key_in w) (key_in (record w { bits = bits; pairs = pairs })) → AreTagged (record w { bits = bits; pairs = pairs }) tags
+pub tagged_key : (w : Written) (tags : List (List ℕ)) (n : Name) (bits : List ℕ) (pairs : List Pairs) → AreTagged w tags → book_in w n ≡ 0 → OtherKeysStay w.plan n (key_in w) (key_in (record w { bits = bits; pairs = pairs })) → AreTagged (record w { bits = bits; pairs = pairs }) tags
 tagged_key w tags n bits pairs t free others = record {
   free = t.free;
   live = λ m a h. t.live m a h ∙ tag_same m.level _ _ _ _ (sym (others.each m a (λ q. absurd (omega (arith, h, free, ap (book_in w) q)))));
+  none = t.none;
 }
 
-pub tagged_entry : (w : Written) (tags : List ℕ) (n : Name) (i j tag : ℕ) (books : List ℕ) → AreTagged w tags → IsName w.plan n → i ≡ slot_place w.plan n → j ≡ tag_place w.plan n → j < length tags → tag ≡ tag_of_words n.level (leaf_bits_in w n) (pairs_in w n) → PutsItem 0 w.books i 1 books → AreTagged (with_book w books) (set tags j tag)
-tagged_entry w tags n i j tag books t b e g lt f puts = record {
+pub tagged_entry : (w : Written) (old tags : List (List ℕ)) (n : Name) (i block k tag : ℕ) (books : List ℕ) → AreTagged w old → IsName w.plan n → i ≡ slot_place w.plan n → block ≡ block_place w.plan n.level n.bucket (n.slot / 16) → k ≡ n.slot % 16 → tag ≡ tag_of_words n.level (leaf_bits_in w n) (pairs_in w n) → PutsTag old block k tag tags → PutsItem 0 w.books i 1 books → AreTagged (with_book w books) tags
+tagged_entry w old tags n i block k tag books t b e f g is changes puts = record {
   free = λ m a z. elim (cases_eq (slot_place w.plan m) i) [
     | inl q ↦ absurd (omega (arith, ap (slice_index books) q, puts.here, z))
-    | inr ne ↦ (let other = other_tag w m n j a b g (λ q. ne (ap (slot_place w.plan) q ∙ sym e)) in
-        get_or-set_other tags j (tag_place w.plan m) tag 0 other ∙ t.free m a (sym (puts.others (slot_place w.plan m) ne) ∙ z))
+    | inr ne ↦ other m a ne ∙ t.free m a (sym (puts.others (slot_place w.plan m) ne) ∙ z)
   ];
   live = λ m a h. elim (cases_eq (slot_place w.plan m) i) [
     | inl q ↦ (let same : m ≡ n = place_one w.plan m n a b (q ∙ e) in
-        at_place tags j (tag_place w.plan m) tag lt (ap (tag_place w.plan) same ∙ sym g) ∙ f ∙ ap (λ (k : Name). tag_of_words k.level (leaf_bits_in w k) (pairs_in w k)) (sym same))
-    | inr ne ↦ (let other = other_tag w m n j a b g (λ q. ne (ap (slot_place w.plan) q ∙ sym e)) in
-        get_or-set_other tags j (tag_place w.plan m) tag 0 other
-        ∙ t.live m a (omega (arith, h, puts.others (slot_place w.plan m) ne)))
+        ap (tag_in w.plan tags) same ∙ own_tag w old tags n block k tag f g changes ∙ is ∙ ap (λ (l : Name). tag_of_words l.level (leaf_bits_in w l) (pairs_in w l)) (sym same))
+    | inr ne ↦ other m a ne ∙ t.live m a (omega (arith, h, puts.others (slot_place w.plan m) ne))
+  ];
+  none = λ m a past. none_tagged w old tags m n block k tag t a past b f g changes;
+}
+  where
+    other : (m : Name) → IsName w.plan m → slot_place w.plan m ≢ i → tag_in w.plan tags m ≡ tag_in w.plan old m
+    other m a ne = other_tag w old tags m n block k tag (name_bucket w.plan m a) b f g changes (λ q. ne (ap (slot_place w.plan) q ∙ sym e))
+
+-- a tag that is put where the row reaches
+pub puts_tag : (old mid : List (List ℕ)) (block k tag : ℕ) → ((i : ℕ) → tags_at mid i ≡ tags_at old i) → block < length mid → k < length (tags_at mid block) → PutsTag old block k tag (set mid block (set (tags_at mid block) k tag))
+puts_tag old mid block k tag same inside place = record {
+  here = ap (λ (row : List ℕ). slice_index row k) (get_or-set_same mid block (set (tags_at mid block) k tag) no_tags inside) ∙ get_or-set_same (tags_at mid block) k tag 0 place;
+  others = λ i j ne. elim (cases_eq i block) [
+    | inl q ↦ (let here = ap (tags_at (set mid block (set (tags_at mid block) k tag))) q ∙ get_or-set_same mid block (set (tags_at mid block) k tag) no_tags inside in
+        ap (λ (row : List ℕ). slice_index row j) here ∙ get_or-set_other (tags_at mid block) k j tag 0 (ne q) ∙ ap (λ (b : ℕ). slice_index (tags_at mid b) j) (sym q) ∙ ap (λ (row : List ℕ). slice_index row j) (same i))
+    | inr away ↦ ap (λ (row : List ℕ). slice_index row j) (get_or-set_other mid block i (set (tags_at mid block) k tag) no_tags away ∙ same i)
   ];
 }

@@ -1,7 +1,8 @@
 -- Where the slots of a plan stand in rows. The first slots of all buckets stand side by side, level
 -- by level, then their second slots, and so on; leaves have a row of their own for their bits, and
--- nodes one for their words. The tags of a bucket stand side by side.
-use Rattle.std.specs.Prelude.{◌≡◌, ℕ, ◌+◌, ◌-◌, ◌*◌, ◌^◌, ◌<◌, ◌≤◌, List, slice_index}
+-- nodes one for their words. Tags stand in blocks of sixteen: the first blocks of all buckets side by
+-- side, then their second blocks, and so on.
+use Rattle.std.specs.Prelude.{◌≡◌, ℕ, ◌+◌, ◌-◌, ◌*◌, ◌/◌, ◌^◌, ◌<◌, ◌≤◌, List, slice_index}
 use Rattle.node_places.specs.Sums.{sum_below}
 use Rattle.node_shapes.specs.declared.names.Name.{Name}
 use Rattle.node_words.specs.Plans.{Layout}
@@ -22,7 +23,7 @@ number_of_slots p = number_of_buckets p * p.cap
 abbrev pub bucket_place : Layout → ℕ → ℕ → ℕ
 bucket_place p level bucket = sum_below level (buckets_at p) + bucket
 
--- the place of a slot's book, of a leaf's bits, of a node's words, and of a slot's tag
+-- the place of a slot's book, of a leaf's bits, and of a node's words
 abbrev pub slot_place : Layout → Name → ℕ
 slot_place p n = n.slot * number_of_buckets p + bucket_place p n.level n.bucket
 
@@ -33,8 +34,12 @@ abbrev pub node_place : Layout → Name → ℕ
 node_place p n = n.slot * (number_of_buckets p - leaf_buckets p)
     + (bucket_place p n.level n.bucket - leaf_buckets p)
 
-abbrev pub tag_place : Layout → Name → ℕ
-tag_place p n = bucket_place p n.level n.bucket * p.cap + n.slot
+-- how many blocks of tags there are, and the place of one of a bucket's
+abbrev pub number_of_blocks : Layout → ℕ
+number_of_blocks p = number_of_buckets p * ((p.cap + 15) / 16)
+
+abbrev pub block_place : Layout → ℕ → ℕ → ℕ → ℕ
+block_place p level bucket block = block * number_of_buckets p + bucket_place p level bucket
 
 -- a bucket of the plan
 pub record IsBucket (p : Layout) (level bucket : ℕ) : Type 0 where

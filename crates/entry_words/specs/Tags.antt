@@ -1,13 +1,13 @@
 -- A byte beside the words of each slot, by which a key is found. No contract for users shows it.
 use Rattle.std.specs.Prelude.{◌≡◌, ◌≢◌, ℕ, ◌+◌, ◌-◌, ◌*◌, ◌/◌, ◌%◌, ◌^◌, ◌<◌, ◌≤◌}
-use Rattle.std.specs.Prelude.{List, length, slice_index}
+use Rattle.std.specs.Prelude.{List, length, slice_index, slice_index_or, replicate}
 use Rattle.std.proofs.Common.{zero, suc}
 use Rattle.node_shapes.specs.declared.names.Name.{Name}
 use Rattle.node_words.specs.Plans.{Layout, IsPlan}
 use Rattle.node_places.specs.Names.{IsName}
 use Rattle.entry_words.specs.declared.key_words.Pairs.{Pairs}
 use Rattle.entry_words.specs.declared.key_words.KeyWords.{KeyWords}
-use Rattle.entry_words.specs.Slots.{tag_place, leaf_buckets, number_of_buckets, number_of_slots, AreEnds}
+use Rattle.entry_words.specs.Slots.{block_place, leaf_buckets, number_of_buckets, number_of_slots, number_of_blocks, IsBucket, AreEnds}
 use Rattle.entry_words.specs.Words.{Written, book_in, leaf_bits_in, pairs_in}
 use Rattle.entry_words.specs.Used.{AreUsed, AreFilled}
 
@@ -36,33 +36,54 @@ tag_of_words level bits pairs = tag_of_word (mixed_words level bits pairs)
 abbrev pub tag_of : ℕ → KeyWords → ℕ
 tag_of level words = tag_of_words level words.bits words.pairs
 
--- a live slot has the tag of its key's words, and a free one has 0
-pub record AreTagged (w : Written) (tags : List ℕ) : Type 0 where
-  pub free : (n : Name) → IsName w.plan n → book_in w n ≡ 0
-      → slice_index tags (tag_place w.plan n) ≡ 0
+-- the tags of a block; behind the end of their row all slots are free
+abbrev pub no_tags : List ℕ
+no_tags = replicate 16 0
+
+abbrev pub tags_at : List (List ℕ) → ℕ → List ℕ
+tags_at tags block = slice_index_or tags block no_tags
+
+-- the tag of a slot
+abbrev pub tag_in : Layout → List (List ℕ) → Name → ℕ
+tag_in p tags n =
+    slice_index (tags_at tags (block_place p n.level n.bucket (n.slot / 16))) (n.slot % 16)
+
+-- the tag stands at a place of a block now, and every other place has what it had
+pub record PutsTag (old : List (List ℕ)) (block k tag : ℕ) (new : List (List ℕ)) : Type 0 where
+  pub here : slice_index (tags_at new block) k ≡ tag
+  pub others : (i j : ℕ) → (i ≡ block → j ≢ k)
+      → slice_index (tags_at new i) j ≡ slice_index (tags_at old i) j
+
+-- a live slot has the tag of its key's words, and a free one has 0, as have the places of the last
+-- blocks for which the buckets have no slots
+pub record AreTagged (w : Written) (tags : List (List ℕ)) : Type 0 where
+  pub free : (n : Name) → IsName w.plan n → book_in w n ≡ 0 → tag_in w.plan tags n ≡ 0
   pub live : (n : Name) → IsName w.plan n → 1 ≤ book_in w n
-      → slice_index tags (tag_place w.plan n)
-      ≡ tag_of_words n.level (leaf_bits_in w n) (pairs_in w n)
+      → tag_in w.plan tags n ≡ tag_of_words n.level (leaf_bits_in w n) (pairs_in w n)
+  pub none : (n : Name) → IsBucket w.plan n.level n.bucket → w.plan.cap ≤ n.slot
+      → tag_in w.plan tags n ≡ 0
 
 -- what stands beside the words of slots: the buckets of each level and of those before it, how many
--- buckets there are, a tag for each slot, two numbers for each bucket, and how many items the rows
--- have room for
+-- buckets there are, tags by blocks, two numbers for each bucket, and how many items the rows have
+-- room for
 pub record Beside : Type 0 where
   pub buckets : List ℕ
   pub ends : List ℕ
   pub width : ℕ
-  pub tags : List ℕ
+  pub tags : List (List ℕ)
   pub used : List ℕ
   pub filled : List ℕ
   pub room_for_books : ℕ
   pub room_for_bits : ℕ
   pub room_for_pairs : ℕ
+  pub room_for_tags : ℕ
 
 -- each slot of the plan has room
 pub record HasRoom (p : Layout) (b : Beside) : Type 0 where
   pub books : number_of_slots p ≤ b.room_for_books
   pub bits : leaf_buckets p * p.cap ≤ b.room_for_bits
   pub pairs : (number_of_buckets p - leaf_buckets p) * p.cap ≤ b.room_for_pairs
+  pub tags : number_of_blocks p ≤ b.room_for_tags
 
 pub record AreEntries (w : Written) (b : Beside) : Type 0 where
   pub plan_is : IsPlan w.plan
@@ -70,7 +91,6 @@ pub record AreEntries (w : Written) (b : Beside) : Type 0 where
   pub ends_are : AreEnds w.plan b.ends
   pub width_is : b.width ≡ number_of_buckets w.plan
   pub room_is : HasRoom w.plan b
-  pub tags_are : length b.tags ≡ number_of_slots w.plan
   pub tagged : AreTagged w b.tags
   pub used_are : length b.used ≡ number_of_buckets w.plan
   pub unused : AreUsed w b.used

@@ -48,6 +48,12 @@ pub record LacksKey (w : Written) (level bucket : ℕ) (key : Key) : Type 0 wher
   pub each : (slot : ℕ) → slot < w.plan.cap → 1 ≤ book_in w (named level bucket slot)
       → key_in w (named level bucket slot) ≢ key
 
+-- no live slot of this part of the bucket has the key
+abbrev pub LacksKeyIn : Written → ℕ → ℕ → ℕ → ℕ → Key → Type 0
+LacksKeyIn w level bucket from to key =
+    (slot : ℕ) → slot < w.plan.cap → from ≤ slot → slot < to
+    → 1 ≤ book_in w (named level bucket slot) → key_in w (named level bucket slot) ≢ key
+
 -- the slots of a bucket below this one are live
 abbrev pub AreLiveBelow : Written → ℕ → ℕ → ℕ → Type 0
 AreLiveBelow w level bucket slots = (k : ℕ) → k < slots → 1 ≤ book_in w (named level bucket k)

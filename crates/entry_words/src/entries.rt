@@ -5,16 +5,17 @@ ghost use Rattle.node_words.specs.Plans.{IsPlan};
 ghost use Rattle.node_words.specs.Keys.{bucket_of_key};
 ghost use Rattle.node_places.specs.Spots.{levels, buckets_at};
 ghost use Rattle.node_places.specs.Names.{IsName, HasNames, named, key_bits, key_child};
-ghost use Rattle.entry_words.specs.Slots.{bucket_place, slot_place, leaf_place, node_place, tag_place, leaf_buckets, number_of_buckets, number_of_slots, IsBucket};
+ghost use Rattle.entry_words.specs.Slots.{bucket_place, slot_place, leaf_place, node_place, block_place, leaf_buckets, number_of_buckets, number_of_slots, number_of_blocks, IsBucket};
 ghost use Rattle.entry_words.specs.Coding.{key_of, pair_number};
-ghost use Rattle.entry_words.specs.Words.{book_in, key_in, pairs_in, HasEntry, LacksKey, IsLowestFree, AreLiveBelow};
+ghost use Rattle.entry_words.specs.Words.{book_in, key_in, pairs_in, HasEntry, LacksKey, LacksKeyIn, IsLowestFree, AreLiveBelow};
+ghost use Rattle.entry_words.specs.Tags.{tag_of};
 ghost use Rattle.entry_words.specs.Used.{IsUnusedFrom};
 ghost use Rattle.entry_words.specs.Changes.{SetsBook, PutsKey, PutsEntry};
 
 use crate::ends::ends_of;
 use crate::key_words::{KeyWords, NO_PAIRS, Pairs, half_of};
 use crate::rows::{item, put};
-use crate::tags::{BLOCK, position, tag_of};
+use crate::tags::{BLOCK, NO_TAGS, position, put_tag, tag_of};
 use node_places::child_in;
 use node_words::{Key, Name, Plan, bucket_of};
 use std::alloc::{AllocError, Global};
@@ -28,10 +29,11 @@ use vw_cell::Side;
 /// takes the lowest free slot, few nodes lie close together, and rows stay short. A slot behind
 /// their ends is free.
 ///
-/// For each slot there is a byte, its tag, by which searches pass over most slots of a bucket. The
-/// tags of a bucket stand side by side. Of each bucket is known how far its slots were ever used,
-/// and no search goes on behind that; and up to where all its slots are live, so that a free one is
-/// sought from there. Contracts see none of these.
+/// For each slot there is a byte, its tag, by which searches pass over most slots of a bucket. They
+/// stand in blocks of sixteen, and the first blocks of all buckets side by side, then the second
+/// ones. Of each bucket is known how far its slots were ever used, and no search goes on behind
+/// that; and up to where all its slots are live, so that a free one is sought from there. Contracts
+/// see none of these.
 #[derive(Drop)]
 pub struct EntryWords {
     plan: Plan,
@@ -41,7 +43,7 @@ pub struct EntryWords {
     books: Vec<u32>,
     bits: Vec<u64>,
     pairs: Vec<Pairs>,
-    tags: Vec<u8>,
+    tags: Vec<[u8; 16]>,
     used: Vec<u16>,
     filled: Vec<u16>,
 }
@@ -69,6 +71,7 @@ impl Model for EntryWords {
           room_for_books = vec_capacity w.books;
           room_for_bits = vec_capacity w.bits;
           room_for_pairs = vec_capacity w.pairs;
+          room_for_tags = vec_capacity w.tags;
         }) };
 }
 
@@ -91,7 +94,7 @@ impl EntryWords {
             books: Vec::with_capacity(alloc, width * cap)?,
             bits: Vec::with_capacity(alloc, ends[1] * cap)?,
             pairs: Vec::with_capacity(alloc, (width - ends[1]) * cap)?,
-            tags: vec![in alloc; 0; width * cap]?,
+            tags: Vec::with_capacity(alloc, width * ((cap + (BLOCK - 1)) / BLOCK))?,
             used: vec![in alloc; 0; width]?,
             filled: vec![in alloc; 0; width]?,
         })
@@ -149,9 +152,10 @@ impl EntryWords {
     {
         self.put_key(n, &words);
         let i = self.place(n);
-        let tag = self.tag_place(n);
+        let slot = usize::from(n.slot);
+        let block = self.block_place(n.level, n.bucket, slot / BLOCK);
         let bucket = self.bucket_place(n.level, n.bucket);
-        self.tags[tag] = tag_of(n.level, &words);
+        put_tag(&mut self.tags, block, slot % BLOCK, tag_of(n.level, &words));
         self.used[bucket] = self.used[bucket].max(u16::from(n.slot) + 1);
         self.filled[bucket] = filled_with(self.filled[bucket], n.slot);
         put(&mut self.books, i, 1, 0);
@@ -163,9 +167,10 @@ impl EntryWords {
         ensures { SetsBook self.old n 0 self.new }
     {
         let i = self.place(n);
-        let tag = self.tag_place(n);
+        let slot = usize::from(n.slot);
+        let block = self.block_place(n.level, n.bucket, slot / BLOCK);
         let bucket = self.bucket_place(n.level, n.bucket);
-        self.tags[tag] = 0;
+        put_tag(&mut self.tags, block, slot % BLOCK, 0);
         self.filled[bucket] = self.filled[bucket].min(u16::from(n.slot));
         put(&mut self.books, i, 0, 0);
     }
@@ -220,22 +225,40 @@ impl EntryWords {
             (λ slot. HasEntry self.now (named level bucket slot) (key_of level words)) }
         ensures none { result ≡ None → LacksKey self.now level bucket (key_of level words) }
     {
-        let start = self.start(level, bucket);
-        let used = self.used_of(level, bucket);
-        let end = start + used;
         let tag = tag_of(level, &words);
-        let mut from = start;
-        while let Some(i) = position(&self.tags, from, end, tag) {
-            let slot = (i - start) as u8;
+        let blocks = (self.used_of(level, bucket) + (BLOCK - 1)) / BLOCK;
+        for block in 0..blocks {
+            if let Some(slot) = self.find_in(level, bucket, block, tag, &words) {
+                return Some(slot);
+            }
+        }
+        None
+    }
+
+    // The slot of a block of a bucket whose live node has this key, by its tag.
+    #[inline(always)]
+    fn find_in(&self, level: u8, bucket: u16, block: usize, tag: u8, words: &KeyWords) -> Option<u8>
+        requires bucket { IsBucket self.now.plan level bucket }
+        requires block { block * 16 < self.now.plan.cap }
+        requires tag { tag ≡ tag_of level words.now }
+        ensures found { IfSome result
+            (λ slot. HasEntry self.now (named level bucket slot) (key_of level words.now)) }
+        ensures none { result ≡ None → LacksKeyIn self.now level bucket (block * 16)
+            (block * 16 + 16) (key_of level words.now) }
+    {
+        let tags = item(&self.tags, self.block_place(level, bucket, block), NO_TAGS);
+        let mut from = 0;
+        while let Some(k) = position(&tags, from, tag) {
+            let slot = (block * BLOCK + k) as u8;
             let n = Name {
                 level,
                 bucket,
                 slot,
             };
-            if self.has_words(n, &words) {
+            if self.has_words(n, words) {
                 return Some(slot);
             }
-            from = i + 1;
+            from = k + 1;
         }
         None
     }
@@ -247,22 +270,19 @@ impl EntryWords {
         ensures lowest { IfSome result (IsLowestFree self.now level bucket) }
         ensures full { result ≡ None → AreLiveBelow self.now level bucket self.now.plan.cap }
     {
-        let start = self.start(level, bucket);
-        let used = self.used_of(level, bucket);
-        let filled = self.filled_of(level, bucket, used);
-        if let Some(i) = position(&self.tags, start + filled, start + used, 0) {
-            return Some((i - start) as u8);
+        let cap = usize::from(self.plan.cap());
+        let first = self.filled_of(level, bucket) / BLOCK;
+        for block in first..(cap + (BLOCK - 1)) / BLOCK {
+            let tags = item(&self.tags, self.block_place(level, bucket, block), NO_TAGS);
+            if let Some(k) = position(&tags, 0, 0) {
+                let slot = block * BLOCK + k;
+                return if slot < cap { Some(slot as u8) } else { None };
+            }
         }
-        if used < usize::from(self.plan.cap()) {
-            Some(used as u8)
-        } else {
-            None
-        }
+        None
     }
 
-    /// How many slots of a bucket, from the first on, may have been used; all others are free. It
-    /// is made up to whole blocks of tags, so that a search for a key that isn't there compares no
-    /// tag alone.
+    /// How many slots of a bucket, from the first on, may have been used; all others are free.
     pub fn used_of(&self, level: u8, bucket: u16) -> usize
         requires { IsBucket self.now.plan level bucket }
         ensures within { result ≤ self.now.plan.cap }
@@ -270,18 +290,17 @@ impl EntryWords {
         ensures free { IsUnusedFrom self.now level bucket result }
     {
         let used = usize::from(self.used[self.bucket_place(level, bucket)]);
-        let blocks = (used + (BLOCK - 1)) / BLOCK;
-        (blocks * BLOCK).min(usize::from(self.plan.cap()))
+        used.min(usize::from(self.plan.cap()))
     }
 
-    // How many slots of a bucket, from the first on, are known to be live, among so many used ones.
-    fn filled_of(&self, level: u8, bucket: u16, used: usize) -> usize
-        requires bucket { IsBucket self.now.plan level bucket }
-        requires within { used ≤ self.now.plan.cap }
-        ensures within { result ≤ used }
+    // How many slots of a bucket, from the first on, are known to be live.
+    fn filled_of(&self, level: u8, bucket: u16) -> usize
+        requires { IsBucket self.now.plan level bucket }
+        ensures within { result ≤ self.now.plan.cap }
         ensures live { AreLiveBelow self.now level bucket result }
     {
-        usize::from(self.filled[self.bucket_place(level, bucket)]).min(used)
+        let filled = usize::from(self.filled[self.bucket_place(level, bucket)]);
+        filled.min(usize::from(self.plan.cap()))
     }
 
     // The words of the key of a free slot.
@@ -332,23 +351,14 @@ impl EntryWords {
         usize::from(n.slot) * (self.width - leaves) + bucket
     }
 
-    // The place of the tag of the name's slot.
-    fn tag_place(&self, n: Name) -> usize
-        requires { IsName self.now.plan n }
-        ensures value { result ≡ tag_place self.now.plan n }
-        ensures inside { result < number_of_slots self.now.plan }
+    // The place of a block of a bucket's tags.
+    fn block_place(&self, level: u8, bucket: u16, block: usize) -> usize
+        requires bucket { IsBucket self.now.plan level bucket }
+        requires block { block * 16 < self.now.plan.cap }
+        ensures value { result ≡ block_place self.now.plan level bucket block }
+        ensures inside { result < number_of_blocks self.now.plan }
     {
-        self.start(n.level, n.bucket) + usize::from(n.slot)
-    }
-
-    // The place of the tag of a bucket's first slot.
-    fn start(&self, level: u8, bucket: u16) -> usize
-        requires { IsBucket self.now.plan level bucket }
-        ensures value { result ≡ tag_place self.now.plan (named level bucket 0) }
-        ensures inside { result + self.now.plan.cap ≤ number_of_slots self.now.plan }
-        ensures small { result < 2 ^ 36 }
-    {
-        self.bucket_place(level, bucket) * usize::from(self.plan.cap())
+        block * self.width + self.bucket_place(level, bucket)
     }
 
     // The place of a bucket among those of all levels.

@@ -1,58 +1,43 @@
-ghost use Rattle.std.specs.Prelude.{◌≡◌, ◌+◌, ◌≤◌, ◌<◌, ◌^◌, ℕ, None, IfSome, false, length};
-ghost use Rattle.entry_words.specs.Tags.{LacksByte, IsFirstPlace, mixed_words, tag_of_word, tag_of};
+ghost use Rattle.std.specs.Prelude.{◌≡◌, ◌+◌, ◌≤◌, ◌<◌, ◌^◌, ℕ, None, IfSome, vec_capacity};
+ghost use Rattle.entry_words.specs.Tags.{LacksByte, IsFirstPlace, PutsTag, mixed_words, tag_of_word, tag_of};
 
 use crate::key_words::KeyWords;
+use crate::rows::reach;
+use std::simd::prelude::*;
 
-/// How many bytes are looked at in one step.
+/// How many tags stand in one block, and are looked at in one step.
 pub(crate) const BLOCK: usize = 16;
 
-/// The first place of a byte in this part of a row.
+/// A block of slots that are all free.
+pub(crate) const NO_TAGS: [u8; 16] = [0; 16];
+
+/// The first place of a byte in a block, from this one on.
 #[inline(always)]
-pub(crate) fn position(row: &[u8], from: usize, to: usize, byte: u8) -> Option<usize>
-    requires order { from ≤ to }
-    requires inside { to ≤ length row.now }
-    ensures found { IfSome result (IsFirstPlace row.now from to byte) }
-    ensures none { result ≡ None → LacksByte row.now from to byte }
+pub(crate) fn position(tags: &[u8; 16], from: usize, byte: u8) -> Option<usize>
+    requires { from ≤ 16 }
+    ensures found { IfSome result (IsFirstPlace tags.now from 16 byte) }
+    ensures none { result ≡ None → LacksByte tags.now from 16 byte }
 {
-    let from = skip_blocks(row, from, to, byte);
-    for i in from..to {
-        if row[i] == byte {
-            return Some(i);
-        }
+    let same = u8x16::from_array(*tags).simd_eq(u8x16::splat(byte));
+    let hits = same.to_bitmask() >> from;
+    if hits == 0 {
+        None
+    } else {
+        Some(from + hits.trailing_zeros() as usize)
     }
-    None
 }
 
-// Passes over whole blocks without the byte.
+/// A tag comes to a place of a block. The row grows up to there by blocks of free slots, within its
+/// room.
 #[inline(always)]
-fn skip_blocks(row: &[u8], from: usize, to: usize, byte: u8) -> usize
-    requires order { from ≤ to }
-    requires inside { to ≤ length row.now }
-    ensures at_least { from ≤ result }
-    ensures at_most { result ≤ to }
-    ensures lacks { LacksByte row.now from result byte }
+pub(crate) fn put_tag(row: &mut Vec<[u8; 16]>, block: usize, k: usize, tag: u8)
+    requires room { block < vec_capacity row.old }
+    requires place { k < 16 }
+    ensures puts { PutsTag row.old.items block k tag row.new.items }
+    ensures room { vec_capacity row.new ≡ vec_capacity row.old }
 {
-    let blocks = (to - from) / BLOCK;
-    for k in 0..blocks {
-        let at = from + k * BLOCK;
-        if is_in_block(row, at, byte) {
-            return at;
-        }
-    }
-    from + blocks * BLOCK
-}
-
-// Whether the byte is in the block that begins here. With no exit in the loop all bytes are
-// compared at once.
-fn is_in_block(row: &[u8], at: usize, byte: u8) -> bool
-    requires { at + 16 ≤ length row.now }
-    ensures { result ≡ false → LacksByte row.now at (at + 16) byte }
-{
-    let mut found = false;
-    for i in at..at + BLOCK {
-        found |= row[i] == byte;
-    }
-    found
+    reach(row, block, NO_TAGS);
+    row[block][k] = tag;
 }
 
 /// The tag of a key of this level.

@@ -21,7 +21,7 @@ invariant_of-self c =
     let name = subst (λ (w : Written). IsName w.plan c.args.n) e c.requires.name in
     let free = subst (λ (w : Written). book_in w c.args.n ≡ 0) e c.requires.free in
     let at = c.leaf_place-i.ensures.value ∙ ap (λ (w : Written). leaf_place w.plan c.args.n) e in
-    entries_with_room _ _ _ _ _ (entries_bits _ _ c.args.n c.leaf_place-i.result c.args.words.now.bits c.put.new.row.items c.self.invariant name c.if-n-eq0.true free at c.put.ensures.puts) refl c.put.ensures.room refl
+    entries_with_room _ _ _ _ _ _ (entries_bits _ _ c.args.n c.leaf_place-i.result c.args.words.now.bits c.put.new.row.items c.self.invariant name c.if-n-eq0.true free at c.put.ensures.puts) refl c.put.ensures.room refl refl
 
 pub invariant_of-self-else-n-eq0 : goal.invariant_of-self-else-n-eq0
 invariant_of-self-else-n-eq0 c =
@@ -29,7 +29,7 @@ invariant_of-self-else-n-eq0 c =
     let name = subst (λ (w : Written). IsName w.plan c.args.n) e c.requires.name in
     let free = subst (λ (w : Written). book_in w c.args.n ≡ 0) e c.requires.free in
     let at = c.node_place-i.ensures.value ∙ ap (λ (w : Written). node_place w.plan c.args.n) e in
-    entries_with_room _ _ _ _ _ (entries_pairs _ _ c.args.n c.node_place-i.result c.args.words.now.pairs c.put-else-n-eq0.new.row.items c.self.invariant name (omega (arith, c.if-n-eq0.false)) free at c.put-else-n-eq0.ensures.puts) refl refl c.put-else-n-eq0.ensures.room
+    entries_with_room _ _ _ _ _ _ (entries_pairs _ _ c.args.n c.node_place-i.result c.args.words.now.pairs c.put-else-n-eq0.new.row.items c.self.invariant name (omega (arith, c.if-n-eq0.false)) free at c.put-else-n-eq0.ensures.puts) refl refl c.put-else-n-eq0.ensures.room refl
 
 pub returns-then-n-eq0 : goal.returns-then-n-eq0
 returns-then-n-eq0 c =

@@ -14,7 +14,7 @@ pub invariant_of-self : goal.invariant_of-self
 invariant_of-self c =
     let e = sym c.self.view_is in
     let at = c.place-i.ensures.value ∙ ap (λ (w : Written). slot_place w.plan c.args.n) e in
-    entries_with_room _ _ _ _ _ (entries_book _ _ c.args.n c.place-i.result c.args.book c.put.new.row.items c.self.invariant at (subst (λ (w : Written). 1 ≤ book_in w c.args.n) e c.requires.live) c.requires.some c.put.ensures.puts) c.put.ensures.room refl refl
+    entries_with_room _ _ _ _ _ _ (entries_book _ _ c.args.n c.place-i.result c.args.book c.put.new.row.items c.self.invariant at (subst (λ (w : Written). 1 ≤ book_in w c.args.n) e c.requires.live) c.requires.some c.put.ensures.puts) c.put.ensures.room refl refl refl
 
 pub returns : goal.returns
 returns c =

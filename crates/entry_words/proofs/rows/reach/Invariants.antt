@@ -1,6 +1,6 @@
 use Rattle.std.proofs.Common.{◌≡◌, slice_index_or, vec_capacity, ℕ, ◌+◌, ◌-◌}
 use Rattle.std.specs.Prelude.{vec_len}
-use Rattle.entry_words.proofs.rows.put.Given as goal
+use Rattle.entry_words.proofs.rows.reach.Given as goal
 
 abbrev pub invariant-loop-empty : goal.invariant-loop-empty
 invariant-loop-empty g l = record {
