@@ -378,7 +378,10 @@ impl EntryWords {
         requires number { number < 4 }
         ensures { result ≡ pair_number (pairs_in self.now n) number }
     {
-        item(&self.pairs, self.node_place(n), NO_PAIRS).word(number)
+        match self.pairs.get(self.node_place(n)) {
+            Some(pairs) => pairs.word(number),
+            None => 0,
+        }
     }
 
     // Whether the name's words are those of this key.

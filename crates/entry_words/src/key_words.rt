@@ -32,17 +32,17 @@ pub(crate) const NO_PAIRS: Pairs = Pairs {
 };
 
 impl Pairs {
-    // The word of this number, from 0 to 3. All are read, since which one is asked for is hard to
-    // foretell, and a choice between two words at hand takes no jump.
+    // The word of this number, from 0 to 3. Where it stands is chosen before it is read, since which
+    // one is asked for is hard to foretell, and a choice between two places takes no jump.
     pub(crate) fn word(&self, number: u8) -> u64
         requires { number < 4 }
         ensures { result ≡ pair_number self.now number }
     {
-        let (first, second, third, fourth) = (self.first, self.second, self.third, self.fourth);
         let even = number % 2 == 0;
-        let low = if even { first } else { second };
-        let high = if even { third } else { fourth };
-        if number < 2 { low } else { high }
+        let low = if even { &self.first } else { &self.second };
+        let high = if even { &self.third } else { &self.fourth };
+        let word = if number < 2 { low } else { high };
+        *word
     }
 
     // Whether all words are those of the other.
