@@ -4,7 +4,7 @@ ghost use prog.Atomic.{either};
 ghost use Rattle.node_shapes.specs.Weights.{number_of_trees};
 ghost use Rattle.node_words.specs.Held.{ForChildren, ForHeld, ForReached, HoldsChildren, HoldsName};
 ghost use Rattle.node_words.specs.Held.{ReachesName};
-ghost use Rattle.node_places.specs.Spots.{IsSpot, Turn, key_words};
+ghost use Rattle.node_places.specs.Spots.{IsSpot, Turn, key_words, place};
 ghost use Rattle.core_reading.specs.Reading.{book_of};
 ghost use Rattle.table_rule.specs.Rules.{MayStep};
 ghost use Rattle.table_rule.specs.Telling.{ViewTells, tree_word};
@@ -13,7 +13,7 @@ ghost use Rattle.table_steps.specs.Changes.{Freed, IsFullIn, IsReady, Lowered, P
 ghost use Rattle.table_steps.specs.Changes.{children_of_key, knowing, meeting, turned, wanted};
 ghost use Rattle.node_table.specs.Learning.{Learns};
 ghost use Rattle.node_table.specs.Seen.{BelongsTo, SamePass, bucket_named};
-ghost use Rattle.node_table.specs.Turns.{BeginsBucket, HasTurn, HasTurnFor};
+ghost use Rattle.node_table.specs.Turns.{HasTurn, HasTurnFor};
 
 use crate::passes::{NumberedSeat, tell};
 use crate::rule::{Plays, Telling};
@@ -96,7 +96,18 @@ pub(crate) fn take(table: &NodeTable, seat: &mut NumberedSeat, level: u8, bucket
     exchange_as::<Brand, (u8, u16)>(table, seat, place, 0, mine, &(level, bucket))
 }
 
-// Waits for the turn of the bucket.
+// How often whoever waits for a turn yields at most between two tries.
+const MOST_YIELDS: u32 = 16;
+
+// Lets others run, so often.
+fn yield_often(times: u32) {
+    for _ in 0..times {
+        thread::yield_now();
+    }
+}
+
+// Waits for the turn of the bucket, the longer the more tries have failed: each try takes the turn's
+// memory away from whoever has the turn.
 pub(crate) fn wait_for<R: Wait>(
     rt: &R,
     table: &NodeTable,
@@ -110,11 +121,13 @@ pub(crate) fn wait_for<R: Wait>(
     ensures same { SamePass seat.old seat.new }
     ensures view { seat.new.view ≡ turned seat.old.view (Some (bucket_named level bucket)) }
 {
+    let mut times = 2;
     for _ in rt.forever() {
         if take(table, seat, level, bucket) == 0 {
             break;
         }
-        thread::yield_now();
+        yield_often(times);
+        times = MOST_YIELDS.min(times * 2);
     }
 }
 
@@ -128,35 +141,32 @@ pub(crate) fn give_back(table: &NodeTable, seat: &mut NumberedSeat, level: u8, b
     store_as::<Brand, ()>(table, seat, place, 0, &());
 }
 
-// The book of an entry of the bucket whose turn the seat has, and whose words begin here.
-pub(crate) fn look_book(table: &NodeTable, seat: &mut NumberedSeat, name: Name, start: usize) -> u64
+// The book of an entry of the bucket whose turn the seat has, which stands here.
+pub(crate) fn look_book(table: &NodeTable, seat: &mut NumberedSeat, name: Name, at: usize) -> u64
     requires turn { HasTurnFor table.now seat.old name }
-    requires start { BeginsBucket table.now.plan name start }
+    requires at { at ≡ place table.now.plan (book_of name) }
     ensures learns { Learns seat.old seat.new }
     ensures known { known_at (book_of name) seat.new.view.words ≡ Some result }
     ensures small { result < 2 ^ 40 }
 {
-    let place = start + usize::from(name.slot);
-    load_as::<Brand, Name>(table, seat, place, &name)
+    load_as::<Brand, Name>(table, seat, at, &name)
 }
 
-// A word of the key of an entry of the bucket whose turn the seat has, and whose words begin here.
+// A word of the key of an entry of the bucket whose turn the seat has, which stands here.
 pub(crate) fn look_key(
     table: &NodeTable,
     seat: &mut NumberedSeat,
     name: Name,
-    start: usize,
     word: u8,
+    at: usize,
 ) -> u64
     requires turn { HasTurnFor table.now seat.old name }
-    requires start { BeginsBucket table.now.plan name start }
     requires word { word < key_words name.level }
+    requires at { at ≡ place table.now.plan (key_spot name word) }
     ensures learns { Learns seat.old seat.new }
     ensures known { known_at (key_spot name word) seat.new.view.words ≡ Some result }
 {
-    let lane = usize::from(word) + 1;
-    let place = start + (lane * usize::from(table.plan.cap()) + usize::from(name.slot));
-    load_as::<Brand, (Name, u8)>(table, seat, place, &(name, word))
+    load_as::<Brand, (Name, u8)>(table, seat, at, &(name, word))
 }
 
 // A word of the key of a free entry.
