@@ -263,7 +263,7 @@ impl EntryWords {
         None
     }
 
-    /// The lowest free slot of a bucket.
+    /// The lowest free slot of a bucket. Where all its used slots are live no tag is read.
     #[inline(always)]
     pub fn free(&self, level: u8, bucket: u16) -> Option<u8>
         requires { IsBucket self.now.plan level bucket }
@@ -271,8 +271,11 @@ impl EntryWords {
         ensures full { result ≡ None → AreLiveBelow self.now level bucket self.now.plan.cap }
     {
         let cap = usize::from(self.plan.cap());
-        let first = self.filled_of(level, bucket) / BLOCK;
-        for block in first..(cap + (BLOCK - 1)) / BLOCK {
+        let filled = self.filled_of(level, bucket);
+        if self.used_of(level, bucket) <= filled {
+            return if filled < cap { Some(filled as u8) } else { None };
+        }
+        for block in filled / BLOCK..(cap + (BLOCK - 1)) / BLOCK {
             let tags = item(&self.tags, self.block_place(level, bucket, block), NO_TAGS);
             if let Some(k) = position(&tags, 0, 0) {
                 let slot = block * BLOCK + k;
