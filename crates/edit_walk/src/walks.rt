@@ -1,6 +1,7 @@
-ghost use Rattle.std.specs.Prelude.{◌≡◌, ◌≢◌, ◌+◌, ◌*◌, ◌-◌, ◌^◌, ◌<◌, ◌≤◌, ℕ, IfOk, OnOk, IfErr, OnErr, max};
+ghost use Rattle.std.specs.Prelude.{◌≡◌, ◌≢◌, ◌+◌, ◌*◌, ◌-◌, ◌^◌, ◌<◌, ◌≤◌, ℕ, None, IfOk, OnOk, IfErr, OnErr, max, replicate};
 ghost use Rattle.sums.specs.Sums.{sum_below};
 ghost use Rattle.node_shapes.specs.Weights.{number_of_trees};
+ghost use Rattle.node_words.specs.Held.{name_in};
 ghost use Rattle.node_words.specs.Gathering.{Comes, Grows, Fails};
 ghost use Rattle.cell_shapes.specs.CellShapes.{shape_with};
 ghost use Rattle.edit_cells.specs.Tasks.{MakesCells, ForCells};
@@ -11,7 +12,7 @@ ghost use Rattle.edit_walk.specs.Walks.{walk_at, Built, CanBuild, Builds, Builds
 use crate::memos::{Kept, Memo};
 use edit_blocks::{again, back_all, back_if, full_block, join, leaf, named, put};
 use edit_cells::{Task, Whole};
-use node_words::{Full, NodeStore, Share, Steps};
+use node_words::{Full, NodeStore, Share, Steps, end_all};
 use std::sync::ledger::Ledger;
 
 // A share of the block that the task makes, where a cell of it is set, or the full bucket that was
@@ -143,10 +144,16 @@ fn made<T: Task, M: Memo<T>, N: NodeStore, L: Ledger>(
             Err(e) => Err(e),
         };
     }
-    let children = gather(store, level, task, full, memo, steps)?;
-    match join(store, level, children, steps) {
-        Ok(share) => Ok(share),
-        Err(e) => Err(e),
+    let mut children: [Option<Share>; 8] = [None, None, None, None, None, None, None, None];
+    match gather(store, level, task, &mut children, full, memo, steps) {
+        Ok(()) => match join(store, level, children, steps) {
+            Ok(share) => Ok(share),
+            Err(e) => Err(e),
+        },
+        Err(e) => {
+            end_all(children);
+            Err(e)
+        }
     }
 }
 
@@ -187,23 +194,25 @@ fn known<N: NodeStore, L: Ledger>(
     }
 }
 
-// Shares of the octants of the block that the task makes.
+// Fills in shares of the octants of the block that the task makes.
 #[cycle(walk)]
 fn gather<T: Task, M: Memo<T>, N: NodeStore, L: Ledger>(
     store: &mut N,
     level: u8,
     task: &T,
+    children: &mut [Option<Share>; 8],
     full: &mut Option<Share>,
     memo: &mut M,
     steps: &mut Steps<L>,
-) -> Result<[Option<Share>; 8], Full>
+) -> Result<(), Full>
     requires above { 1 ≤ level }
+    requires empty { children.old ≡ replicate 8 None }
     requires level { (level ≤ 10) × (level + 2 ≤ (N.seen store.old).plan.side) }
     requires task { CanBuild T.makes level task.now
         (walk_at (N.seen store.old) full.old (M.has memo.old)) }
     requires room { number_of_trees (N.seen store.old).held + 9 * level ≤ 4000 }
-    ensures ok { IfOk result (λ r. GathersAll T.makes level task.now
-        (walk_at (N.seen store.old) full.old (M.has memo.old)) r
+    ensures ok { OnOk result (GathersAll T.makes level task.now
+        (walk_at (N.seen store.old) full.old (M.has memo.old)) children.new
         (walk_at (N.seen store.new) full.new (M.has memo.new))) }
     ensures grows { OnOk result (BuildsParts T.makes level task.now
         (walk_at (N.seen store.old) full.old (M.has memo.old)) (N.seen store.new)) }
@@ -212,22 +221,30 @@ fn gather<T: Task, M: Memo<T>, N: NodeStore, L: Ledger>(
         (N.seen store.new)) }
     ensures rest { OnErr result (LeavesRest T.makes level task.now
         (walk_at (N.seen store.old) full.old (M.has memo.old)) (N.seen store.new) full.new) }
+    ensures none { OnErr result ((k : ℕ) → k < 8 → name_in children.new k ≡ None) }
     ensures rests { N.rests store.old store.new }
     ensures turns { OnOk result (steps.new + 16 * height full.old
         ≤ steps.old + 16 * height full.new + 8 + 25 * sum_below 8 (T.mixed_in level task.now)) }
     ensures height { OnOk result (height full.new ≤ max (height full.old) level) }
 {
-    let mut children: [Option<Share>; 8] = [None, None, None, None, None, None, None, None];
     for k in 0..8usize {
-        match octant(store, level, task, k as u8, &children, full, memo, steps) {
-            Ok(share) => put(&mut children, k, share),
+        match octant(store, level, task, k as u8, children, full, memo, steps) {
+            Ok(share) => put(children, k, share),
             Err(e) => {
-                back_all(store, children, steps);
+                back_all(store, taken(children), steps);
                 return Err(e);
             }
         }
     }
-    Ok(children)
+    Ok(())
+}
+
+// The row, in whose place none stands.
+fn taken(children: &mut [Option<Share>; 8]) -> [Option<Share>; 8]
+    ensures row { result ≡ children.old }
+    ensures none { (k : ℕ) → k < 8 → name_in children.new k ≡ None }
+{
+    std::mem::replace(children, [None, None, None, None, None, None, None, None])
 }
 
 // A share of octant k of the block that the task makes, those before it being in hand.

@@ -273,7 +273,11 @@ impl EntryWords {
         let cap = usize::from(self.plan.cap());
         let filled = self.filled_of(level, bucket);
         if self.used_of(level, bucket) <= filled {
-            return if filled < cap { Some(filled as u8) } else { None };
+            return if filled < cap {
+                Some(filled as u8)
+            } else {
+                None
+            };
         }
         for block in filled / BLOCK..(cap + (BLOCK - 1)) / BLOCK {
             let tags = item(&self.tags, self.block_place(level, bucket, block), NO_TAGS);

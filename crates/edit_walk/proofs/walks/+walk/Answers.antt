@@ -1,6 +1,7 @@
-use Rattle.std.proofs.Common.{add-one, refl, sym, ◌∙◌, ap, subst, arith, ℕ, ◌≡◌, ◌≤◌, ◌<◌, ◌+◌, ◌-◌, ◌^◌}
+use Rattle.std.proofs.Common.{List, Option, length, add-one, refl, sym, ◌∙◌, ap, subst, arith, ℕ, ◌≡◌, ◌≤◌, ◌<◌, ◌+◌, ◌-◌, ◌^◌}
 use Rattle.sums.specs.Sums.{sum_below, sum_below-suc, sum_below-zero}
 use Rattle.node_shapes.specs.Weights.{number_of_trees}
+use Rattle.node_shapes.specs.declared.names.Name.{Name}
 use Rattle.node_words.specs.Plans.{Layout}
 use Rattle.node_words.specs.Held.{Seen}
 use Rattle.node_words.proofs.HeldLaws.{keeps_itself}
@@ -81,50 +82,52 @@ made-returns-in-Err-clause-rest g t c base rest cells b =
 pub made-join-requires-clause-level : goal.made-join-requires-clause-level
 made-join-requires-clause-level g t c =
     let (base, rest, cells, b) = c.requires.task in
-    let x = ap (λ (p : Layout). p.side) (c.in_ok-children.ensures.grows base rest cells b).plan in
+    let x = ap (λ (p : Layout). p.side) (c.in-Ok-gather.ensures.grows base rest cells b).plan in
     (omega arith, omega (arith, x, c.requires.level.1))
 
 pub made-join-requires-clause-octants : goal.made-join-requires-clause-octants
 made-join-requires-clause-octants g t c =
     let (base, rest, cells, b) = c.requires.task in
-    (rest, c.gather.new.full, shape_with c.args.level cells, shape_with-canonical c.args.level cells, (c.in_ok-children.ensures.ok base rest cells b).gathers)
+    (rest, c.gather.new.full, shape_with c.args.level cells, shape_with-canonical c.args.level cells, (c.in-Ok-gather.ensures.ok base rest cells b).gathers)
 
 pub made-join-requires-clause-room : goal.made-join-requires-clause-room
 made-join-requires-clause-room g t c =
     let (base, rest, cells, b) = c.requires.task in
     let one : 1 ≤ c.args.level = omega arith in
-    omega (arith, gathers_number rest _ _ _ _ _ 8 (c.in_ok-children.ensures.ok base rest cells b).gathers, (aside_numbers _ rest _ b.starts.aside).least, c.requires.room)
+    omega (arith, gathers_number rest _ _ _ _ _ 8 (c.in-Ok-gather.ensures.ok base rest cells b).gathers, (aside_numbers _ rest _ b.starts.aside).least, c.requires.room)
 
 pub made-returns-in-Ok-join-clause-ok : goal.made-returns-in-Ok-join-clause-ok
 made-returns-in-Ok-join-clause-ok g t c base rest cells b =
-    let p = c.in_ok-children.ensures.ok base rest cells b in
+    let p = c.in-Ok-gather.ensures.ok base rest cells b in
     joined_built _ base rest _ _ _ _ _ p.recalls (c.in-Ok-join.ensures.ok rest _ _ (shape_with-canonical c.args.level cells) p.gathers)
 
 pub made-returns-in-Ok-join-clause-grows : goal.made-returns-in-Ok-join-clause-grows
 made-returns-in-Ok-join-clause-grows g t c base rest cells b =
-    grows_on _ _ _ _ (c.in_ok-children.ensures.grows base rest cells b) (c.in-Ok-join.ensures.grows rest _ _ (shape_with-canonical c.args.level cells) (c.in_ok-children.ensures.ok base rest cells b).gathers)
+    grows_on _ _ _ _ (c.in-Ok-gather.ensures.grows base rest cells b) (c.in-Ok-join.ensures.grows rest _ _ (shape_with-canonical c.args.level cells) (c.in-Ok-gather.ensures.ok base rest cells b).gathers)
 
 pub made-returns-in-Err-join-clause-full : goal.made-returns-in-Err-join-clause-full
 made-returns-in-Err-join-clause-full g t c base rest cells b =
-    let r = c.in-Err-join.ensures.full rest _ _ (shape_with-canonical c.args.level cells) (c.in_ok-children.ensures.ok base rest cells b).gathers in
-    refuses_after _ _ _ _ _ _ (c.in_ok-children.ensures.grows base rest cells b) r
+    let r = c.in-Err-join.ensures.full rest _ _ (shape_with-canonical c.args.level cells) (c.in-Ok-gather.ensures.ok base rest cells b).gathers in
+    refuses_after _ _ _ _ _ _ (c.in-Ok-gather.ensures.grows base rest cells b) r
 
 pub made-returns-in-Err-join-clause-rest : goal.made-returns-in-Err-join-clause-rest
 made-returns-in-Err-join-clause-rest g t c base rest cells b =
-    c.in-Err-join.ensures.back rest _ _ (shape_with-canonical c.args.level cells) (c.in_ok-children.ensures.ok base rest cells b).gathers
+    c.in-Err-join.ensures.back rest _ _ (shape_with-canonical c.args.level cells) (c.in-Ok-gather.ensures.ok base rest cells b).gathers
 
 pub made-returns-in-Ok-join-clause-turns : goal.made-returns-in-Ok-join-clause-turns
 made-returns-in-Ok-join-clause-turns g t c =
     let one : 1 ≤ c.args.level = omega arith in
-    omega (arith, c.in_ok-children.ensures.turns, c.in-Ok-join.ensures.turns, c.requires.mixed one)
+    omega (arith, c.in-Ok-gather.ensures.turns, c.in-Ok-join.ensures.turns, c.requires.mixed one)
 
 pub gather-loop-k-init : goal.gather-loop-k-init
 gather-loop-k-init g t c = record {
   turns = omega (arith, sum_below-zero (g.T.Task.mixed_in c.args.level c.args.task.now));
   height_is = omega arith;
-  partway = λ base rest cells b. partway_none _ base rest _ _ cells _ b;
+  partway = λ base rest cells b.
+      subst (λ (row : List (Option Name)). Partway g.T.Task.makes base rest c.args.level c.args.task.now cells row 0 (walk_at (g.N.Blocks.seen c.args.store.now) c.args.full.now (g.M.Memo.has c.args.memo.now))) (sym c.requires.empty)
+      (partway_none _ base rest _ _ cells _ b);
   grows = λ base rest cells b. grows_none _ _;
-  long = refl;
+  long = ap length c.requires.empty;
   rests = g.met.N.Blocks.rests_itself _;
 }
 
@@ -174,7 +177,7 @@ gather-back_all-requires-clause-held g t c =
     let (base, rest, cells, b) = c.requires.task in
     let p = c.loop-k.invariant.partway base rest cells b in
     let a = met_gathers rest _ _ _ _ _ _ _ _ p.gathers (c.in-Err.ensures.rest base rest cells p) in
-    record { row = a.gathered.row; are_held = gathers_held rest _ _ _ _ _ _ _ a (keeps_itself _) }
+    record { row = a.gathered.row; are_held = rw c.taken.ensures.row (gathers_held rest _ _ _ _ _ _ _ a (keeps_itself _)) }
 
 pub gather-back_all-requires-clause-room : goal.gather-back_all-requires-clause-room
 gather-back_all-requires-clause-room g t c =
@@ -193,7 +196,7 @@ pub gather-returns-in-Err-clause-rest : goal.gather-returns-in-Err-clause-rest
 gather-returns-in-Err-clause-rest g t c base rest cells b =
     let p = c.loop-k.invariant.partway base rest cells b in
     let a = met_gathers rest _ _ _ _ _ _ _ _ p.gathers (c.in-Err.ensures.rest base rest cells p) in
-    back_aside rest _ _ _ _ _ _ _ _ a (λ f. refl) (c.back_all.ensures.gone p.gathers.gathered.row (gathers_held rest _ _ _ _ _ _ _ a (keeps_itself _)))
+    back_aside rest _ _ _ _ _ _ _ _ a (λ f. refl) (c.back_all.ensures.gone p.gathers.gathered.row (rw c.taken.ensures.row (gathers_held rest _ _ _ _ _ _ _ a (keeps_itself _))))
 
 pub gather-loop-k-preserved : goal.gather-loop-k-preserved
 gather-loop-k-preserved g t c =
