@@ -1,7 +1,7 @@
 -- Scripts that are read one after the other.
 use Rattle.std.specs.Prelude.{All}
 use Rattle.std.proofs.Common.{◌≡◌, ℕ, ◌+◌, ◌^◌, ◌<◌, ◌≤◌, List, [], ◌∷◌, ◌++◌, length, map, take, drop, get_or, Result, Ok, Err, refl, sym, ap, subst, ◌∙◌, arith, append_assoc, append-nil}
-use Rattle.std.proofs.lemmas.List.{take_more, drop_more, drop_all, length-append, map-id}
+use Rattle.std.proofs.lemmas.List.{take_more, drop_more, drop_all, length-append}
 use Rattle.std.proofs.lemmas.List.Elements.{All-nil, All-append}
 use Rattle.plain_text.specs.Steps.{◌>>=◌}
 use Rattle.vox_read.specs.Contents.{Content}
@@ -84,10 +84,6 @@ next_refused (Script at) side models texts text k old within is so_far refuses =
 next_refused Memory side models texts text k old within is so_far refuses = tt
 next_refused (Vox fault) side models texts text k old within is so_far refuses = absurd refuses
 next_refused Collides side models texts text k old within is so_far refuses = absurd refuses
-
--- texts that are lent as they are
-pub as_lent : (texts : List (List ℕ)) → map (λ t. t) texts ≡ texts
-as_lent texts = map-id texts
 
 -- ---- names under which scripts save
 

@@ -30,7 +30,7 @@ pub(crate) struct Read {
 
 // The models and the commands, where the VOX file gives models, no script has a fault, and no name
 // of an output is taken. The texts are given back once they are read.
-#[tactic(auto, using(crate::proofs::Refusing::vox_refused, crate::proofs::Refusing::scripts_refused, crate::proofs::ScriptLists::as_lent))]
+#[tactic(auto, using(crate::proofs::Refusing::scripts_refused))]
 pub(crate) fn read_texts(
     alloc: Global,
     order: &Order<'_>,

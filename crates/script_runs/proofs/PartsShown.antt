@@ -5,7 +5,7 @@ use Rattle.vw_cell.specs.declared.blocks.Block.{Block}
 use Rattle.vw_cell.specs.Places.{octant_of}
 use Rattle.history_model.specs.Worlds.{World}
 use Rattle.node_shapes.specs.Shape.{Shape, Clear, Leaf, Branch, octant_shape, ShowsCells, IsCanonical, IsPart, whole, within}
-use Rattle.node_shapes.proofs.ShapeLaws.{octant_shape-clear, octant_shape-past, octant_canonical}
+use Rattle.node_shapes.proofs.ShapeLaws.{octant_shape-clear, octant_shape-past, octant_canonical, one_level}
 use Rattle.node_shapes.proofs.ShowLaws.{octant_shows}
 use Rattle.node_words.specs.Plans.{Layout}
 use Rattle.block_contents.specs.Aligned.{top, world_block}
@@ -17,20 +17,6 @@ use Rattle.script_runs.specs.Keeping.{IsPartOfWorld}
 pub aligned_low : (all b : Block) → IsAligned all b → b.level ≤ all.level
 aligned_low all b itself = omega arith
 aligned_low all b (octant {b = c} k lt some aligned) = (let low = aligned_low all c aligned in omega arith)
-
--- a shape that isn't clear is canonical on one level alone
-pub one_level : (l m : ℕ) (s : Shape) → IsCanonical l s → IsCanonical m s → s ≢ Clear → l ≡ m
-unfolding IsCanonical
-one_level l m Clear a b some = absurd (some refl)
-one_level zero zero s a b some = refl
-one_level zero (suc m) (Leaf bits) a b some = absurd b.0
-one_level zero (suc m) (Branch o1 o2 o3 o4 o5 o6 o7 o8) a b some = absurd a
-one_level (suc l) zero (Leaf bits) a b some = absurd a.0
-one_level (suc l) zero (Branch o1 o2 o3 o4 o5 o6 o7 o8) a b some = absurd b
-one_level (suc l) (suc m) (Leaf bits) a b some = absurd a.0
-one_level (suc l) (suc m) (Branch o1 o2 o3 o4 o5 o6 o7 o8) a b some =
-    let (k, lt, there) = a.0 in
-    ap suc (one_level l m (octant_shape (Branch o1 o2 o3 o4 o5 o6 o7 o8) k) (a.1 k) (b.1 k) there)
 
 -- no part of no cells but itself
 pub part_of_clear : (s t : Shape) → t ≡ Clear → IsPart s t → s ≡ Clear
@@ -46,7 +32,7 @@ octant_of_leaf (Branch a b c d e f g h) k canonical = absurd canonical
 
 pub part_shown : (p : Layout) (w : World) (level : ℕ) (s t : Shape) (up : ℕ) (b : Block) → b.level ≡ up → IsAligned (world_block p.side) b → IsCanonical up t → ShowsCells b t w → IsCanonical level s → s ≢ Clear → IsPart s t → ShownIn p level s w
 part_shown p w level s t up b same aligned canonical shows right some (whole there) =
-    record { block = b; aligned = aligned; same_level = same ∙ one_level up level s canonical right some; shows = shows }
+    record { block = b; aligned = aligned; same_level = same ∙ one_level up level s some canonical right; shows = shows }
 part_shown p w level s t zero b same aligned canonical shows right some (within k part) = absurd (some (part_of_clear s (octant_shape t k) (octant_of_leaf t k canonical) part))
 part_shown p w level s t (suc up) b same aligned canonical shows right some (within k part) = elim (cases_lt k 8) [
   | inl lt ↦

@@ -1,5 +1,6 @@
 -- Records and marks that come to versions.
 use Rattle.std.proofs.Common.{◌≡◌, ℕ, ◌+◌, ◌<◌, ◌≤◌, Some, None, Option, List, [], ◌∷◌, ◌++◌, length, set, refl, sym, ◌∙◌, ap, subst, arith}
+use Rattle.std.specs.Vec.{with_item}
 use Rattle.std.proofs.lemmas.List.{length-set}
 use Rattle.vox_read.specs.Contents.{Content}
 use Rattle.history_model.specs.declared.histories.Mark.{Mark}
@@ -109,6 +110,11 @@ pub keeps_loses : (old new : Known) (place : ℕ) (root : Option Name) → Keeps
 keeps_loses old new place root keeps = record { weighs = λ f. keeps.loses.weighs f }
 
 -- ---- marks
+
+-- the versions over another store, with one more mark in its place
+abbrev pub marked_over : Versions → Known → Mark → Versions
+marked_over v s mark =
+    record v { store = s; marks = with_item v.marks mark.version (Some mark) }
 
 abbrev marked_log : Versions → Mark → Log
 marked_log v mark = record { side = v.side; records = v.records.items; marks = marks_below (mark_in (set v.marks.items mark.version (Some mark))) versions }

@@ -29,7 +29,7 @@ use transcript::Answer;
 use vox_read::Models;
 use vw_cell::{Boxed, Memory};
 
-/// More saves than a run can have: 16 of each of 64 scripts.
+/// More saves than a run has whose scripts were read: 16 of each of 64.
 pub(crate) const SAVES: usize = 2_048;
 
 /// An accepted save, and the root of its version. A share of that root is put away here, as a store
@@ -82,7 +82,7 @@ impl<'m> Pinned<'m> {
         ensures store { self.new.versions.store ≡ self.old.versions.store }
         ensures pins { self.new.pins.items ≡ self.old.pins.items }
     {
-        // the reader of scripts refuses a save before so many come
+        // the reader of scripts lets half as many through
         if self.pins.len() >= SAVES {
             return Err(Memory);
         }

@@ -27,7 +27,8 @@ pub struct ScriptsRun<'m> {
 /// Runs scripts one after another, script k as session k, from an empty world of the plan's side.
 ///
 /// The store, room for all records, marks, undos and saves, a stencil of each model and the lists
-/// of all answers are taken before the first command.
+/// of all answers are taken before the first command. There is room for 2,048 saves, twice as many
+/// as 64 scripts have that were read; more would be told as want of memory.
 pub fn run_scripts<'m>(
     alloc: Global,
     plan: &Plan,

@@ -1,5 +1,5 @@
 use Rattle.std.proofs.Common.{refl}
-use Rattle.store_run.proofs.Logging.{marked_are, taken_tree, taken_few, taken_same, marks_version}
+use Rattle.store_run.proofs.Logging.{marked_are, marked_over, taken_tree, taken_few, taken_same, marks_version}
 use Rattle.store_run.proofs.versions.Versions.forget.Goals as goal
 
 pub give_back-requires-clause-are : goal.give_back-requires-clause-are
@@ -12,28 +12,14 @@ pub give_back-requires-clause-holds : goal.give_back-requires-clause-holds
 give_back-requires-clause-holds g c =
     taken_tree c.args.self.now c.take_root-root.new.self c.args.mark c.take_root-root.result c.number-number.result c.requires.are c.number-number.ensures.store
     c.requires.kept c.requires.earlier c.requires.now c.take_root-root.ensures.event
-    (record {
-      side = c.args.self.now.side;
-      models = c.args.self.now.models;
-      store = c.take_root-root.new.self;
-      records = c.args.self.now.records;
-      marks = Rattle.std.specs.Vec.with_item c.args.self.now.marks c.args.mark.version (Rattle.std.proofs.Common.Some c.args.mark);
-      trail = c.args.self.now.trail;
-    })
+    (marked_over c.args.self.now c.take_root-root.new.self c.args.mark)
     c.take_root-root.ensures.gives c.take_root-root.ensures.root refl refl refl refl refl refl
 
 pub returns-clause-marks : goal.returns-clause-marks
 returns-clause-marks g c =
     marks_version c.args.self.now c.take_root-root.new.self c.args.mark c.take_root-root.result c.number-number.result c.requires.are c.number-number.ensures.store
     c.requires.kept c.requires.earlier c.requires.now c.take_root-root.ensures.event
-    (record {
-      side = c.args.self.now.side;
-      models = c.args.self.now.models;
-      store = c.take_root-root.new.self;
-      records = c.args.self.now.records;
-      marks = Rattle.std.specs.Vec.with_item c.args.self.now.marks c.args.mark.version (Rattle.std.proofs.Common.Some c.args.mark);
-      trail = c.args.self.now.trail;
-    })
+    (marked_over c.args.self.now c.take_root-root.new.self c.args.mark)
     c.take_root-root.ensures.gives c.take_root-root.ensures.root refl refl refl refl refl refl
     c.give_back.new.self c.give_back.ensures.puts.leaves
 
@@ -41,14 +27,7 @@ pub give_back-requires-clause-few : goal.give_back-requires-clause-few
 give_back-requires-clause-few g c =
     taken_few c.args.self.now c.take_root-root.new.self c.args.mark c.take_root-root.result c.number-number.result c.requires.are c.number-number.ensures.store
     c.requires.kept c.requires.earlier c.requires.now c.take_root-root.ensures.event
-    (record {
-      side = c.args.self.now.side;
-      models = c.args.self.now.models;
-      store = c.take_root-root.new.self;
-      records = c.args.self.now.records;
-      marks = Rattle.std.specs.Vec.with_item c.args.self.now.marks c.args.mark.version (Rattle.std.proofs.Common.Some c.args.mark);
-      trail = c.args.self.now.trail;
-    })
+    (marked_over c.args.self.now c.take_root-root.new.self c.args.mark)
     c.take_root-root.ensures.gives c.take_root-root.ensures.root refl refl refl refl refl refl
     c.requires.few
 
@@ -56,13 +35,6 @@ pub returns-clause-same : goal.returns-clause-same
 returns-clause-same g c =
     taken_same c.args.self.now c.take_root-root.new.self c.args.mark c.take_root-root.result c.number-number.result c.requires.are c.number-number.ensures.store
     c.requires.kept c.requires.earlier c.requires.now c.take_root-root.ensures.event
-    (record {
-      side = c.args.self.now.side;
-      models = c.args.self.now.models;
-      store = c.take_root-root.new.self;
-      records = c.args.self.now.records;
-      marks = Rattle.std.specs.Vec.with_item c.args.self.now.marks c.args.mark.version (Rattle.std.proofs.Common.Some c.args.mark);
-      trail = c.args.self.now.trail;
-    })
+    (marked_over c.args.self.now c.take_root-root.new.self c.args.mark)
     c.take_root-root.ensures.gives c.take_root-root.ensures.root refl refl refl refl refl refl
     c.give_back.new.self c.give_back.ensures.puts
