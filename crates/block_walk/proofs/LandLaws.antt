@@ -1,5 +1,5 @@
 -- What stands where a way down to a cell ends.
-use Rattle.std.proofs.Common.{◌≡◌, ℕ, zero, suc, ◌+◌, ◌-◌, ◌*◌, ◌<◌, ◌≤◌, Bool, true, false, Some, None, Option, List, sym, ap, subst, ◌∙◌, arith}
+use Rattle.std.proofs.Common.{◌≡◌, ℕ, zero, suc, ◌+◌, ◌-◌, ◌*◌, ◌/◌, ◌%◌, ◌<◌, ◌≤◌, Bool, true, false, Some, None, Option, List, refl, sym, ap, subst, ◌∙◌, arith}
 use Rattle.std.specs.Prelude.{◌==◌, IsSome}
 use Rattle.std.specs.Option.{is_some}
 use Rattle.std.specs.Int.{bit_at}
@@ -12,14 +12,18 @@ use Rattle.node_shapes.specs.Shape.{Shape, bits_of, bit_number}
 use Rattle.node_shapes.specs.Tree.{Tree, shape_of, child_of}
 use Rattle.node_shapes.proofs.ShapeLaws.{has-clear}
 use Rattle.node_shapes.proofs.TreeLaws.{shape_of-child}
-use Rattle.block_walk.specs.Roots.{IsBlockOf, HasBlock, cells_of}
+use Rattle.block_walk.specs.Roots.{IsBlockOf, IsOctantOf, HasBlock, cells_of}
 use Rattle.block_walk.specs.Parts.{placed}
 use Rattle.block_walk.specs.Looks.{IsClearRound}
-use Rattle.block_walk.specs.Landings.{IsAtMost, IsStepDown, LandsAt, corner_of, land_of, from_place}
+use Rattle.block_walk.specs.Landings.{IsAtMost, IsStepDown, LandsAt, corner_of, land_of, from_place, inner_place}
 use Rattle.block_walk.specs.declared.landings.Landing.{Landing}
 use Rattle.block_walk.proofs.BlockLaws.{clear_block}
-use Rattle.block_walk.proofs.LookLaws.{twice, placed_set, same_cell, told_leaf, block_still}
+use Rattle.block_walk.proofs.LookLaws.{twice, placed_set, same_cell, told_leaf, block_still, halves_join}
 use Rattle.node_words.specs.Held.{Seen}
+use Rattle.std.proofs.Math.Arith.{mod-mul}
+use lib.Pow.{pow_pos}
+use native.Mathlib.Nat.{mod-eq_of_lt}
+use Rattle.std.proofs.Math.Nat.{mod-le, mod-lt}
 
 -- the way begins at the block itself
 pub lands_first : (held : List Tree) (level : ℕ) (block : Option Name) (c : Cell) (t : Tree) → IsBlockOf held level block t → LandsAt held level c (record { level = level; block = block; inner = c }) t
@@ -74,18 +78,97 @@ lands_next held top c at next t h m b l =
     }
 
 -- the cell is no nearer to the corner of the lower block
-pub still_at_most : (held : List Tree) (at next : Landing) (c : Cell) → IsAtMost at.inner c → IsStepDown held at next → IsAtMost next.inner c
-still_at_most held at next c m b =
-    let px : at.inner.x ≡ half_x b.octant * block_side next.level + next.inner.x = ap (λ (p : Cell). p.x) b.place in
-    let py : at.inner.y ≡ half_y b.octant * block_side next.level + next.inner.y = ap (λ (p : Cell). p.y) b.place in
-    let pz : at.inner.z ≡ half_z b.octant * block_side next.level + next.inner.z = ap (λ (p : Cell). p.z) b.place in
-    record { x = omega (arith, px, m.x); y = omega (arith, py, m.y); z = omega (arith, pz, m.z) }
-
 pub has_below : (held : List Tree) (at next : Landing) → IsStepDown held at next → HasBlock held at.level at.block → HasBlock held next.level next.block
 has_below held at next b h = record {
   tree = child_of h.tree b.octant;
   is_block = subst (λ (n : ℕ). IsBlockOf held n next.block (child_of h.tree b.octant)) (sym b.level) (b.block h.tree h.is_block);
 }
+
+-- the place of a cell in a block of a level, among the places of the next one
+half_place : (n side half h i : ℕ) → 1 ≤ half → side ≡ 2 * half → h ≡ half → i ≡ n / h % 2 → n % side ≡ i * half + n % half
+half_place n side half h i some e f g =
+    let high : i ≡ n / half % 2 = g ∙ ap (λ (d : ℕ). n / d % 2) f in
+    let join : n % (2 * half) ≡ (n / half % 2) * half + n % half = mod-mul n {m = 2} {c = half} (omega arith) some in
+    ap (λ (s : ℕ). n % s) e ∙ join ∙ ap (λ (d : ℕ). d * half + n % half) (sym high)
+
+pub octant_place : (level h i j k : ℕ) (c : Cell) → 1 ≤ level → h ≡ block_side (level - 1) → 1 ≤ h → i < 2 → j < 2 → k < 2 → i ≡ c.x / h % 2 → j ≡ c.y / h % 2 → k ≡ c.z / h % 2
+    → inner_place level c ≡ placed (block_side (level - 1)) (i + 2 * j + 4 * k) (inner_place (level - 1) c)
+octant_place level h i j k c above e some p q r ex ey ez =
+    let half = block_side (level - 1) in
+    let wide = twice level above in
+    let one : 1 ≤ half = omega (arith, e, some) in
+    halves_join half i j k (inner_place level c) (inner_place (level - 1) c) p q r
+    (half_place c.x (block_side level) half h i one wide e ex) (half_place c.y (block_side level) half h j one wide e ey) (half_place c.z (block_side level) half h k one wide e ez)
+
+-- a cell of a block has its place there
+place_small : (level : ℕ) (c : Cell) → IsInWorld (block_side level) c → c ≡ inner_place level c
+place_small level c i = same_cell c _ _ _ (sym (mod-eq_of_lt i.x)) (sym (mod-eq_of_lt i.y)) (sym (mod-eq_of_lt i.z))
+
+place_inside : (level : ℕ) (c : Cell) → IsInWorld (block_side level) (inner_place level c)
+place_inside level c =
+    let some : 0 < block_side level = (let power = pow_pos level in omega (arith, power)) in
+    record { x = mod-lt c.x some; y = mod-lt c.y some; z = mod-lt c.z some }
+
+place_at_most : (level : ℕ) (c : Cell) → IsAtMost (inner_place level c) c
+place_at_most level c = record { x = mod-le c.x (block_side level); y = mod-le c.y (block_side level); z = mod-le c.z (block_side level) }
+
+-- the name of what stands in a block of a level, and a landing there
+abbrev pub at_level : ℕ → Name → Name
+at_level level n = record { bucket = n.bucket; level = level; slot = n.slot }
+
+abbrev pub landing_at : ℕ → Option Name → Cell → Landing
+landing_at level block c = record { level = level; block = block; inner = inner_place level c }
+
+named_at : (held : List Tree) (level : ℕ) (n : Name) (t : Tree) → IsBlockOf held level (Some n) t → n ≡ at_level level n
+named_at held level n t o = ap (λ (l : ℕ). at_level l n) (o.of_level n refl)
+
+pub has_named : (held : List Tree) (level : ℕ) (n : Name) → HasBlock held level (Some n) → HasBlock held level (Some (at_level level n))
+has_named held level n h = subst (λ (m : Name). HasBlock held level (Some m)) (named_at held level n h.tree h.is_block) h
+
+-- the way begins at the node itself
+pub lands_from : (held : List Tree) (level : ℕ) (n : Name) (c : Cell) (t : Tree) → IsInWorld (block_side level) c → IsBlockOf held level (Some n) t → LandsAt held level c (landing_at level (Some (at_level level n)) c) t
+lands_from held level n c t i o =
+    let first = lands_first held level (Some n) c t o in
+    let there = subst (λ (p : Cell). LandsAt held level c (record { level = level; block = Some n; inner = p }) t) (place_small level c i) first in
+    subst (λ (m : Name). LandsAt held level c (landing_at level (Some m) c) t) (named_at held level n t o) there
+
+-- one level further down stands this child, or none
+step_down : (a b : Seen) (level k : ℕ) (n : Name) (child next : Option Name) (c : Cell) → b ≡ a → k < 8 → inner_place level c ≡ placed (block_side (level - 1)) k (inner_place (level - 1) c) → IsOctantOf b.held level (Some n) k child → child ≡ next
+    → IsStepDown a.held (landing_at level (Some n) c) (landing_at (level - 1) next c)
+step_down a b level k n child next c same lt place octant is = record {
+  octant = k;
+  is = lt;
+  level = refl;
+  block = subst (λ (m : Option Name). IsOctantOf a.held level (Some n) k m) is (subst (λ (s : Seen). IsOctantOf s.held level (Some n) k child) same octant);
+  inner = place_inside (level - 1) c;
+  place = place;
+}
+
+child_named : (a b : Seen) (level k : ℕ) (n m : Name) (child : Option Name) → b ≡ a → HasBlock a.held level (Some n) → IsOctantOf b.held level (Some n) k child → child ≡ Some m → m ≡ at_level (level - 1) m
+child_named a b level k n m child same has octant is =
+    let below = subst (λ (d : Option Name). IsOctantOf a.held level (Some n) k d) is (subst (λ (s : Seen). IsOctantOf s.held level (Some n) k child) same octant) in
+    named_at a.held (level - 1) m (child_of has.tree k) (below has.tree has.is_block)
+
+pub step_to : (a b : Seen) (level k : ℕ) (n m : Name) (child : Option Name) (c : Cell) → b ≡ a → k < 8 → inner_place level c ≡ placed (block_side (level - 1)) k (inner_place (level - 1) c) → HasBlock a.held level (Some n) → IsOctantOf b.held level (Some n) k child → child ≡ Some m
+    → IsStepDown a.held (landing_at level (Some n) c) (landing_at (level - 1) (Some (at_level (level - 1) m)) c)
+step_to a b level k n m child c same lt place has octant is =
+    step_down a b level k n child _ c same lt place octant (is ∙ ap (λ (d : Name). Some d) (child_named a b level k n m child same has octant is))
+
+pub lands_below : (held : List Tree) (top level : ℕ) (n : Name) (next : Option Name) (c : Cell) (t : Tree) → 1 ≤ level → IsStepDown held (landing_at level (Some n) c) (landing_at (level - 1) next c) → LandsAt held top c (landing_at level (Some n) c) t → LandsAt held top c (landing_at (level - 1) next c) t
+lands_below held top level n next c t above step l = lands_next held top c (landing_at level (Some n) c) (landing_at (level - 1) next c) t above (place_at_most level c) step l
+
+-- where there is no child, the way ends
+pub lands_nothing : (a b : Seen) (top level k : ℕ) (n : Name) (child : Option Name) (c inner : Cell) (t : Tree) → b ≡ a → 1 ≤ level → k < 8 → inner_place level c ≡ placed (block_side (level - 1)) k (inner_place (level - 1) c) → IsOctantOf b.held level (Some n) k child → child ≡ None → inner ≡ inner_place (level - 1) c
+    → LandsAt a.held top c (landing_at level (Some n) c) t → LandsAt a.held top c (record { level = level - 1; block = None; inner = inner }) t
+lands_nothing a b top level k n child c inner t same above lt place octant is e l =
+    subst (λ (p : Cell). LandsAt a.held top c (record { level = level - 1; block = None; inner = p }) t) (sym e)
+    (lands_below a.held top level n None c t above (step_down a b level k n child None c same lt place octant is) l)
+
+-- or at a leaf
+pub lands_leaf : (held : List Tree) (top level : ℕ) (n : Name) (c inner : Cell) (t : Tree) → level ≡ 0 → inner ≡ inner_place 0 c → LandsAt held top c (landing_at level (Some (at_level level n)) c) t → LandsAt held top c (record { level = 0; block = Some (at_level 0 n); inner = inner }) t
+lands_leaf held top level n c inner t z e l =
+    subst (λ (p : Cell). LandsAt held top c (record { level = 0; block = Some (at_level 0 n); inner = p }) t) (sym e)
+    (subst (λ (d : ℕ). LandsAt held top c (landing_at d (Some (at_level d n)) c) t) z l)
 
 -- what the landing's block has of the cell
 pub lands_cell : (held : List Tree) (top : ℕ) (c : Cell) (at : Landing) (t : Tree) (l : LandsAt held top c at t) → IsAtMost at.inner c → IsInWorld (block_side at.level) at.inner → cells_of top (shape_of t) c ≡ cells_of at.level (shape_of l.tree) at.inner

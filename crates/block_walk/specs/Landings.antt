@@ -1,5 +1,5 @@
 -- Where a way down to a cell of a block stands.
-use Rattle.std.specs.Prelude.{◌≡◌, ℕ, ◌+◌, ◌-◌, ◌<◌, ◌≤◌, List}
+use Rattle.std.specs.Prelude.{◌≡◌, ℕ, ◌+◌, ◌-◌, ◌%◌, ◌<◌, ◌≤◌, List}
 use Rattle.vw_cell.specs.declared.cells.Cell.{Cell}
 use Rattle.vw_cell.specs.declared.boxes.Boxed.{Boxed}
 use Rattle.vw_cell.specs.Places.{block_side, IsInWorld}
@@ -14,6 +14,11 @@ pub record IsAtMost (a b : Cell) : Type 0 where
   pub x : a.x ≤ b.x
   pub y : a.y ≤ b.y
   pub z : a.z ≤ b.z
+
+-- the place of a cell in its block of a level, in a grid of such blocks
+abbrev pub inner_place : ℕ → Cell → Cell
+inner_place level c =
+    cell_at (c.x % block_side level) (c.y % block_side level) (c.z % block_side level)
 
 -- one octant of a block further down, with the same cell
 pub record IsStepDown (held : List Tree) (at next : Landing) : Type 0 where

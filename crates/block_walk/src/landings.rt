@@ -1,11 +1,12 @@
-ghost use Rattle.std.specs.Prelude.{◌≡◌, ◌+◌, ◌-◌, ◌*◌, ◌<◌, ◌≤◌, ℕ, IsSome};
+ghost use Rattle.std.specs.Prelude.{◌≡◌, ◌-◌, ◌/◌, ◌%◌, ◌<◌, ◌≤◌, ℕ, Some, IsSome};
 ghost use Rattle.vw_cell.specs.Places.{block_side, IsInWorld};
 ghost use Rattle.node_shapes.specs.Tree.{Tree};
 ghost use Rattle.block_walk.specs.Roots.{HasBlock, IsBlockOf};
 ghost use Rattle.block_walk.specs.Parts.{placed};
-ghost use Rattle.block_walk.specs.Landings.{IsAtMost, IsStepDown, LandsAt};
+ghost use Rattle.block_walk.specs.Landings.{IsAtMost, LandsAt, inner_place};
 
 use crate::blocks::{half_side, octant_name};
+use crate::looks::whole_block;
 use node_shapes::Name;
 use node_words::Blocks;
 use vw_cell::Cell;
@@ -33,74 +34,102 @@ pub fn descend<B: Blocks>(store: &mut B, level: u8, block: Option<Name>, c: Cell
     ensures seen { B.seen store.new ≡ B.seen store.old }
     ensures rests { B.rests store.old store.new }
 {
-    let mut at = Landing {
-        level,
-        block,
-        inner: c,
-    };
-    while at.level > 0 && at.block.is_some() {
-        at = below(store, at);
+    match block {
+        Some(n) => go_down(store, level, n, c),
+        None => Landing {
+            level,
+            block: None,
+            inner: c,
+        },
     }
-    at
 }
 
-// One level further down.
-fn below<B: Blocks>(store: &mut B, at: Landing) -> Landing
-    requires level { (1 ≤ at.level) × (at.level ≤ 10) }
-    requires block { HasBlock (B.seen store.old).held at.level at.block }
-    requires inner { IsInWorld (block_side at.level) at.inner }
-    ensures below { IsStepDown (B.seen store.old).held at result }
+// The same from a node. Bucket and slot of the node that it stands at are kept apart: put together
+// as a name from one turn to the next, they would be taken apart again before each read.
+fn go_down<B: Blocks>(store: &mut B, level: u8, n: Name, c: Cell) -> Landing
+    requires level { level ≤ 10 }
+    requires block { HasBlock (B.seen store.old).held level (Some n) }
+    requires cell { IsInWorld (block_side level) c }
+    ensures level { result.level ≤ level }
+    ensures inner { IsInWorld (block_side result.level) result.inner }
+    ensures within { IsAtMost result.inner c }
+    ensures lands { (t : Tree) → IsBlockOf (B.seen store.old).held level (Some n) t
+        → LandsAt (B.seen store.old).held level c result t }
+    ensures last { IsSome result.block → result.level ≡ 0 }
+    ensures block { HasBlock (B.seen store.old).held result.level result.block }
     ensures seen { B.seen store.new ≡ B.seen store.old }
     ensures rests { B.rests store.old store.new }
 {
-    let (octant, inner) = octant_at(at.level, at.inner);
-    let block = octant_name(store, at.level, at.block, octant);
+    let mut at = level;
+    let mut bucket = n.bucket;
+    let mut slot = n.slot;
+    while at > 0 {
+        let name = Name {
+            bucket,
+            level: at,
+            slot,
+        };
+        let octant = octant_of(at, c);
+        let child = octant_name(store, at, Some(name), octant);
+        at -= 1;
+        match child {
+            Some(m) => {
+                bucket = m.bucket;
+                slot = m.slot;
+            }
+            None => {
+                return Landing {
+                    level: at,
+                    block: None,
+                    inner: place_in(at, c),
+                };
+            }
+        }
+    }
+    let name = Name {
+        bucket,
+        level: 0,
+        slot,
+    };
     Landing {
-        level: at.level - 1,
-        block,
-        inner,
+        level: 0,
+        block: Some(name),
+        inner: place_in(0, c),
     }
 }
 
-/// The octant that has the cell of a block, and the cell's place in it.
-#[tactic(auto, using(crate::proofs::LookLaws::halves_join, crate::proofs::LookLaws::twice))]
-pub fn octant_at(level: u8, c: Cell) -> (u8, Cell)
+// The octant that has the cell, of each block of this level in a grid of such blocks.
+fn octant_of(level: u8, c: Cell) -> u8
     requires level { (1 ≤ level) × (level ≤ 10) }
-    requires cell { IsInWorld (block_side level) c }
-    ensures octant { result.0 < 8 }
-    ensures inner { IsInWorld (block_side (level - 1)) result.1 }
-    ensures place { c ≡ placed (block_side (level - 1)) result.0 result.1 }
+    ensures octant { result < 8 }
+    ensures place { inner_place level c ≡
+        placed (block_side (level - 1)) result (inner_place (level - 1) c) }
 {
     let half = half_side(level);
-    let x = half_of(c.x, half);
-    let y = half_of(c.y, half);
-    let z = half_of(c.z, half);
-    let inner = Cell {
-        x: x.place,
-        y: y.place,
-        z: z.place,
-    };
-    (x.upper + 2 * y.upper + 4 * z.upper, inner)
+    let x = upper(c.x, half);
+    let y = upper(c.y, half);
+    let z = upper(c.z, half);
+    x + 2 * y + 4 * z
 }
 
-// The lower or the upper half, and a place in it.
-#[derive(Clone, Copy)]
-struct Half {
-    upper: u8,
-    place: u16,
-}
-
-// Which half has the place. It divides by nothing, since a walk asks this thrice a level.
-fn half_of(place: u16, half: u16) -> Half
-    requires { place < half * 2 }
-    ensures place { place ≡ result.upper * half + result.place }
-    ensures upper { result.upper < 2 }
-    ensures below { result.place < half }
+// Whether the place lies in the upper half of twice so many places.
+fn upper(place: u16, half: u16) -> u8
+    requires half { 1 ≤ half }
+    ensures upper { result ≡ place / half % 2 }
+    ensures below { result < 2 }
 {
-    if place < half {
-        Half { upper: 0, place }
-    } else {
-        let place = place - half;
-        Half { upper: 1, place }
+    (place / half % 2) as u8
+}
+
+// The place of the cell in its block of this level.
+fn place_in(level: u8, c: Cell) -> Cell
+    requires level { level ≤ 10 }
+    ensures { result ≡ inner_place level c }
+{
+    let side = whole_block(level).size.x;
+    Cell {
+        x: c.x % side,
+        y: c.y % side,
+        z: c.z % side,
     }
 }

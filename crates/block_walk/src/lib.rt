@@ -13,7 +13,7 @@ mod sameness;
 
 pub use answers::{Answers, Query};
 pub use blocks::{half_side, leaf_bits, name_of, octant_name};
-pub use landings::{Landing, descend, octant_at};
+pub use landings::{Landing, descend};
 pub use laws::{octants_count_their_cells, parts_have_the_cells_of_their_box};
 pub use looks::{leaf_has, look, whole_block};
 pub use parts::{is_empty, part_of};
