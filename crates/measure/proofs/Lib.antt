@@ -1,4 +1,5 @@
 mod LeafCounts
+mod LeafParts
 mod TallyLaws
 mod SubjectLaws
 mod AxisLaws

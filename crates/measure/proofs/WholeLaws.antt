@@ -106,3 +106,13 @@ leaf_tally counts held of bits n z bits_are told test p = told test (bits_are te
 pub whole_leaf_tally : {S : Type 0} (counts : Counting S) (held : List Tree) (of : Whole S) (bits n : ℕ) (part : Boxed) → of.level ≡ 0 → part ≡ whole_of 0 → ((test : Cell → Bool) → counts held 0 of.subject test → TellsCells bits test) → ((test : Cell → Bool) → TellsCells bits test → n ≡ number_in part test) → IsWholeTally counts held of n
 whole_leaf_tally counts held of bits n part z e bits_are told test p =
     told test (bits_are test (subst (λ (l : ℕ). counts held l of.subject test) z p)) ∙ ap (λ (b : Boxed). number_in b test) e ∙ ap (λ (l : ℕ). number_in (whole_of l) test) (sym z)
+
+-- one more of the eight leaves of a whole block
+pub leaves_step : {S : Type 0} (counts : Counting S) (a b c : Seen) (of : Whole S) (k m n bits : ℕ) (inner : S) (whole : Boxed) (test : Cell → Bool) → of.level ≡ 1 → b ≡ a → c ≡ b → k < 8 → whole ≡ whole_of 0
+    → ((u : Cell → Bool) → counts b.held 1 of.subject u → counts b.held 0 inner (in_octant 1 k u)) → ((u : Cell → Bool) → counts c.held 0 inner u → TellsCells bits u) → ((u : Cell → Bool) → TellsCells bits u → n ≡ number_in whole u)
+    → counts a.held of.level of.subject test → m ≡ tallied of.level (whole_of of.level) test k → m + n ≡ tallied of.level (whole_of of.level) test (k + 1)
+leaves_step {S = S} counts a b c of k m n bits inner whole test z e f lt w down bits_are told =
+    let P : ℕ → Type 0 = λ l. counts a.held l of.subject test → m ≡ tallied l (whole_of l) test k → m + n ≡ tallied l (whole_of l) test (k + 1) in
+    let leaf : IsWholeTally counts c.held (record { subject = inner; level = 0 }) n = whole_leaf_tally counts c.held (record { subject = inner; level = 0 }) bits n whole refl w bits_are told in
+    let one : P 1 = λ p sofar. whole_step counts a b c 1 k m n of.subject inner test e f (omega arith) lt down leaf p sofar in
+    subst P (sym z) one

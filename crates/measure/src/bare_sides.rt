@@ -152,6 +152,10 @@ impl Subject for Bare {
     fn is_even(&self) -> bool {
         same_names(self.block, self.beside)
     }
+
+    fn is_dear(&self) -> bool {
+        true
+    }
 }
 
 fn same_directions(a: Direction, b: Direction) -> bool

@@ -97,6 +97,10 @@ impl Subject for SetCells {
     fn is_even(&self) -> bool {
         false
     }
+
+    fn is_dear(&self) -> bool {
+        false
+    }
 }
 
 /// A number that differs where names do, more often than not.

@@ -6,6 +6,7 @@
 mod bare_sides;
 mod counts;
 mod extents;
+mod leaf_parts;
 mod leaves;
 mod pruning;
 mod tallies;

@@ -8,6 +8,7 @@ ghost use Rattle.block_walk.specs.Parts.{EndsBy};
 ghost use Rattle.measure.specs.Leaves.{TellsCells};
 ghost use Rattle.measure.specs.Tallies.{in_octant, PassesNone, IsTally, IsWholeTally, IsOctantTally};
 
+use crate::leaf_parts::tally_leaf_parts;
 use crate::leaves::count_leaf;
 use crate::wholes::{Whole, tally_whole};
 use block_walk::{Answers, Query, half_side, is_empty, part_of, same_boxes, whole_block};
@@ -53,6 +54,10 @@ pub(crate) trait Subject: Copy {
     /// Whether it is worth to ask first if no cell of the whole block counts. No answer depends on
     /// it.
     fn is_even(&self) -> bool;
+
+    /// Whether the number of a block of eight leaves is worth to be remembered. No answer depends
+    /// on it.
+    fn is_dear(&self) -> bool;
 }
 
 ghost use Rattle.std.specs.Prelude.{◌^◌};
@@ -123,6 +128,9 @@ pub(crate) fn tally<S: Subject, B: Blocks>(
     }
     if same_boxes(of.part, whole_block(of.level)) {
         return tally_whole(store, wholes, block_of(of));
+    }
+    if of.level == 1 {
+        return tally_leaf_parts(store, of);
     }
     if let Some(number) = answers.find(of) {
         return number;

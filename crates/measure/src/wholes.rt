@@ -47,9 +47,31 @@ pub(crate) fn tally_whole<S: Subject, B: Blocks>(
     if of.subject.is_nothing() {
         return 0;
     }
+    tally_something(store, answers, of)
+}
+
+// The same, where something may count.
+#[cycle(tally_whole)]
+fn tally_something<S: Subject, B: Blocks>(
+    store: &mut B,
+    answers: &mut Answers<Whole<S>>,
+    of: Whole<S>,
+) -> u64
+    requires level { of.level ≤ 10 }
+    requires block { (test : Cell → Bool)
+        × S.counts (B.seen store.old).held of.level of.subject test }
+    requires answers { AreRight (IsWholeTally S.counts) (B.seen store.old).held answers.old.places }
+    ensures number { IsWholeTally S.counts (B.seen store.old).held of result }
+    ensures answers { AreRight (IsWholeTally S.counts) (B.seen store.old).held answers.new.places }
+    ensures seen { B.seen store.new ≡ B.seen store.old }
+    ensures rests { B.rests store.old store.new }
+{
     if of.level == 0 {
         let bits = of.subject.leaf(store);
         return count_leaf(bits, whole_block(0));
+    }
+    if of.level == 1 && !of.subject.is_dear() {
+        return tally_leaves(store, of);
     }
     if let Some(number) = answers.find(&of) {
         return number;
@@ -75,11 +97,32 @@ fn tally_whole_octants<S: Subject, B: Blocks>(
     ensures seen { B.seen store.new ≡ B.seen store.old }
     ensures rests { B.rests store.old store.new }
 {
+    if of.level == 1 {
+        return tally_leaves(store, of);
+    }
     let level = of.level - 1;
     let mut number = 0;
     for octant in 0..8u8 {
         let subject = of.subject.octant(store, of.level, octant);
         number += tally_whole(store, answers, Whole { subject, level });
+    }
+    number
+}
+
+// The same of a block of eight leaves, which are read side by side: none waits for another.
+fn tally_leaves<S: Subject, B: Blocks>(store: &mut B, of: Whole<S>) -> u64
+    requires level { of.level ≡ 1 }
+    requires block { (test : Cell → Bool)
+        × S.counts (B.seen store.old).held of.level of.subject test }
+    ensures number { IsWholeTally S.counts (B.seen store.old).held of result }
+    ensures seen { B.seen store.new ≡ B.seen store.old }
+    ensures rests { B.rests store.old store.new }
+{
+    let mut number = 0;
+    for octant in 0..8u8 {
+        let subject = of.subject.octant(store, 1, octant);
+        let bits = subject.leaf(store);
+        number += count_leaf(bits, whole_block(0));
     }
     number
 }

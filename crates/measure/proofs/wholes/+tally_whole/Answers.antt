@@ -8,14 +8,14 @@ use Rattle.measure.proofs.wholes.+tally_whole.Goals as goal
 pub tally_whole-returns-then-is_nothing-clause-number : goal.tally_whole-returns-then-is_nothing-clause-number
 tally_whole-returns-then-is_nothing-clause-number g t c test p = none_tallied c.args.of.level (whole_of c.args.of.level) test (whole_ends c.args.of.level) (c.if-is_nothing.ensures refl _ _ test p)
 
-pub tally_whole-returns-then-of-eq0-clause-number : goal.tally_whole-returns-then-of-eq0-clause-number
-tally_whole-returns-then-of-eq0-clause-number g t c = whole_leaf_tally g.S.Subject.counts (g.B.Blocks.seen c.args.store.now).held c.args.of c.leaf-bits.result c.count_leaf.result _ (omega arith) c.whole_block.ensures c.leaf-bits.ensures.bits c.count_leaf.ensures
+pub tally_something-returns-then-of-eq0-clause-number : goal.tally_something-returns-then-of-eq0-clause-number
+tally_something-returns-then-of-eq0-clause-number g t c = whole_leaf_tally g.S.Subject.counts (g.B.Blocks.seen c.args.store.now).held c.args.of c.leaf-bits.result c.count_leaf.result _ (omega arith) c.whole_block.ensures c.leaf-bits.ensures.bits c.count_leaf.ensures
 
-pub tally_whole-returns-in-Some-clause-rests : goal.tally_whole-returns-in-Some-clause-rests
-tally_whole-returns-in-Some-clause-rests g t c = g.met.B.Blocks.rests_itself _
+pub tally_something-returns-in-Some-clause-rests : goal.tally_something-returns-in-Some-clause-rests
+tally_something-returns-in-Some-clause-rests g t c = g.met.B.Blocks.rests_itself _
 
-pub tally_whole-returns-clause-answers : goal.tally_whole-returns-clause-answers
-tally_whole-returns-clause-answers g t c = c.keep.ensures _ c.tally_whole_octants-number.ensures.answers c.tally_whole_octants-number.ensures.number
+pub tally_something-returns-clause-answers : goal.tally_something-returns-clause-answers
+tally_something-returns-clause-answers g t c = c.keep.ensures _ c.tally_whole_octants-number.ensures.answers c.tally_whole_octants-number.ensures.number
 
 pub tally_whole_octants-loop-octant-init : goal.tally_whole_octants-loop-octant-init
 tally_whole_octants-loop-octant-init g t c = record { number = λ test p. sym (sum_below-zero _); right = c.requires.answers; same = refl; rests = g.met.B.Blocks.rests_itself _ }

@@ -7,10 +7,13 @@ use Rattle.measure.proofs.TallyLaws.{tallied}
 use Rattle.measure.proofs.wholes.+tally_whole.Given as goal
 
 abbrev pub decreases-tally_whole : goal.decreases-tally_whole
-decreases-tally_whole g l = 2 * l.of.level + 1
+decreases-tally_whole g l = 3 * l.of.level + 2
+
+abbrev pub decreases-tally_something : goal.decreases-tally_something
+decreases-tally_something g l = 3 * l.of.level + 1
 
 abbrev pub decreases-tally_whole_octants : goal.decreases-tally_whole_octants
-decreases-tally_whole_octants g l = 2 * l.of.level
+decreases-tally_whole_octants g l = 3 * l.of.level
 
 abbrev pub invariant-tally_whole_octants-loop-octant : goal.invariant-tally_whole_octants-loop-octant
 invariant-tally_whole_octants-loop-octant g l =

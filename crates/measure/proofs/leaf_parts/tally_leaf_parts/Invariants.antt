@@ -1,0 +1,13 @@
+use Rattle.std.proofs.Common.{◌≡◌, Bool}
+use Rattle.vw_cell.specs.declared.cells.Cell.{Cell}
+use Rattle.measure.proofs.TallyLaws.{tallied}
+use Rattle.measure.proofs.leaf_parts.tally_leaf_parts.Given as goal
+
+abbrev pub invariant-loop-octant : goal.invariant-loop-octant
+invariant-loop-octant g l =
+    let seen = g.B.Blocks.seen in
+    record {
+      number : (test : Cell → Bool) → g.S.Subject.counts (seen l.fn.store).held l.fn.of.level l.fn.of.subject test → l.number ≡ tallied l.fn.of.level l.fn.of.part test l.octant;
+      same : seen l.store ≡ seen l.fn.store;
+      rests : g.B.Blocks.rests l.fn.store l.store;
+    }
