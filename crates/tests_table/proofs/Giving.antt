@@ -149,10 +149,13 @@ new_spare t passes all = λ k d lt.
       held = n.held;
     })
 
-pub few_held : (held : List Tree) → held ≡ [] → number_of_trees held ≤ 3000
-few_held held none =
+pub none_held : (held : List Tree) → held ≡ [] → number_of_trees held ≡ 0
+none_held held none =
     (let e = ap (λ (ts : List Tree). number_of_trees ts) none in let n = weigh-nil (λ _. 1) in
     omega arith)
+
+pub few_held : (held : List Tree) → held ≡ [] → number_of_trees held ≤ 3000
+few_held held none = let e = none_held held none in omega arith
 
 -- what came back is spare
 pub back_spare : (t u : TableSeen) (passes back : List PassSeen) → All (IsSpare t) passes

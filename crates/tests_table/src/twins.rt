@@ -6,70 +6,16 @@ ghost use Rattle.node_table.specs.Seen.{BelongsTo};
 ghost use Rattle.node_table.specs.Closing.{IsSpare};
 
 use crate::calls::{begun, end, ended, give};
-use node_shapes::Name;
+use crate::cores::{Twin, gives, refuses, takes_back};
 use node_table::{NodeTable, Pass};
-use node_words::{Full, Plan, Steps};
-use std::alloc::Global;
+use node_words::{Plan, Steps};
 use std::marker::Brand;
 use std::sync::Wait;
 use std::sync::ledger::{Blank, Ledger};
 use std::test::Fail;
 use vox_read::Models;
 use vw_cell::Side;
-use world_core::{Core, Event, Reply};
-
-// The pure core beside a table.
-#[derive(Drop)]
-struct Twin<'m> {
-    core: Core<'m>,
-    alloc: Global,
-}
-
-fn is_held(reply: &Reply, name: Name) -> bool {
-    match *reply {
-        Reply::Held(held) => held == name,
-        _ => false,
-    }
-}
-
-fn is_full(reply: &Reply, full: Full) -> bool {
-    match *reply {
-        Reply::Full(met) => met.level == full.level && met.bucket == full.bucket,
-        _ => false,
-    }
-}
-
-fn is_lost(reply: &Reply, freed: bool) -> bool {
-    match *reply {
-        Reply::Left => !freed,
-        Reply::Freed(_) => freed,
-        _ => false,
-    }
-}
-
-// Whether the session gets a share of this name for the leaf.
-fn gives(twin: &mut Twin<'_>, session: u16, bits: u64, name: Name) -> bool {
-    match twin.core.apply(twin.alloc, &Event::Leaf(session, bits)) {
-        Ok(reply) => is_held(&reply, name),
-        Err(_) => false,
-    }
-}
-
-// Whether the session is told of the same full bucket for the leaf.
-fn refuses(twin: &mut Twin<'_>, session: u16, bits: u64, full: Full) -> bool {
-    match twin.core.apply(twin.alloc, &Event::Leaf(session, bits)) {
-        Ok(reply) => is_full(&reply, full),
-        Err(_) => false,
-    }
-}
-
-// Whether the session's share goes, and the entry with it or not.
-fn takes_back(twin: &mut Twin<'_>, session: u16, name: Name, freed: bool) -> bool {
-    match twin.core.apply(twin.alloc, &Event::Lower(session, name)) {
-        Ok(reply) => is_lost(&reply, freed),
-        Err(_) => false,
-    }
-}
+use world_core::Core;
 
 // Whether a leaf comes and goes alike.
 fn is_alike<R: Wait, L: Ledger>(
