@@ -108,46 +108,49 @@ fn journals_are_read(rt: HostRuntime) -> Result<(), Fail> {
     Ok(())
 }
 
+// Texts that are no journal, and the first line with which none goes on.
+const BROKEN: &[(&str, u32)] = &[
+    ("", 1),
+    ("voxdag journal 1", 1),
+    ("voxdag journal 1\n", 2),
+    ("voxdag journal 1\nside 6\nend\n", 2),
+    ("voxdag journal 1\nside 08\nend\n", 2),
+    ("voxdag journal 1\nside 8\n", 3),
+    ("voxdag journal 1\nside 8\nend", 3),
+    ("voxdag journal 1\nside 8\nend\n\n", 4),
+    ("voxdag journal 1\nside 8\nend\nend\n", 4),
+    ("voxdag journal 1\nside 8\n1 0 2 fill 0 0 0 9 1 1\nend\n", 3),
+    (
+        "voxdag journal 1\nside 8\n1 0 2 fill 0 0 0 1 1 01\nend\n",
+        3,
+    ),
+    (
+        "voxdag journal 1\nside 8\n1 0 2 fill  0 0 0 1 1 1\nend\n",
+        3,
+    ),
+    ("voxdag journal 1\nside 8\n1 64 2 undo\nend\n", 3),
+    (
+        "voxdag journal 1\nside 8\n1 0 4294967295 undo\n1 0 3 redo\nend\n",
+        4,
+    ),
+    ("voxdag journal 1\nside 8\n1 0 4294967296 undo\nend\n", 3),
+    (
+        "voxdag journal 1\nside 8\n1 0 2 undo\nmark 1 1 0 3\nend\n",
+        4,
+    ),
+    (
+        "voxdag journal 1\nside 8\n1 0 2 undo\nmark 0 1 0 3\nmark 0 1 0 4\nend\n",
+        5,
+    ),
+    (
+        "voxdag journal 1\nside 8\n1 0 2 undo\nmark 0 1 0 3\n2 0 3 undo\nend\n",
+        5,
+    ),
+];
+
 #[test]
 fn the_first_line_that_does_not_fit_is_told(rt: HostRuntime) -> Result<(), Fail> {
-    for &(text, line) in &[
-        ("", 1),
-        ("voxdag journal 1", 1),
-        ("voxdag journal 1\n", 2),
-        ("voxdag journal 1\nside 6\nend\n", 2),
-        ("voxdag journal 1\nside 08\nend\n", 2),
-        ("voxdag journal 1\nside 8\n", 3),
-        ("voxdag journal 1\nside 8\nend", 3),
-        ("voxdag journal 1\nside 8\nend\n\n", 4),
-        ("voxdag journal 1\nside 8\nend\nend\n", 4),
-        ("voxdag journal 1\nside 8\n1 0 2 fill 0 0 0 9 1 1\nend\n", 3),
-        (
-            "voxdag journal 1\nside 8\n1 0 2 fill 0 0 0 1 1 01\nend\n",
-            3,
-        ),
-        (
-            "voxdag journal 1\nside 8\n1 0 2 fill  0 0 0 1 1 1\nend\n",
-            3,
-        ),
-        ("voxdag journal 1\nside 8\n1 64 2 undo\nend\n", 3),
-        (
-            "voxdag journal 1\nside 8\n1 0 4294967295 undo\n1 0 3 redo\nend\n",
-            4,
-        ),
-        ("voxdag journal 1\nside 8\n1 0 4294967296 undo\nend\n", 3),
-        (
-            "voxdag journal 1\nside 8\n1 0 2 undo\nmark 1 1 0 3\nend\n",
-            4,
-        ),
-        (
-            "voxdag journal 1\nside 8\n1 0 2 undo\nmark 0 1 0 3\nmark 0 1 0 4\nend\n",
-            5,
-        ),
-        (
-            "voxdag journal 1\nside 8\n1 0 2 undo\nmark 0 1 0 3\n2 0 3 undo\nend\n",
-            5,
-        ),
-    ] {
+    for &(text, line) in BROKEN {
         let fault = read_journal(rt.alloc(), text.as_bytes())
             .err()
             .ok_or("a fault")?;
