@@ -100,6 +100,7 @@ pub(crate) fn take(table: &NodeTable, seat: &mut NumberedSeat, level: u8, bucket
 const MOST_YIELDS: u32 = 16;
 
 // Lets others run, so often.
+#[inline(never)]
 fn yield_often(times: u32) {
     for _ in 0..times {
         thread::yield_now();
