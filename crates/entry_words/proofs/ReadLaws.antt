@@ -9,7 +9,6 @@ use Rattle.node_places.specs.Names.{IsName, HasNames, key_child}
 use Rattle.entry_words.specs.declared.key_words.Pairs.{Pairs}
 use Rattle.node_places.specs.KeyWords.{child_of_word, half}
 use Rattle.entry_words.specs.Coding.{key_from, pair_number}
-use Rattle.entry_words.specs.Words.{Written, pairs_at, no_pairs}
 
 -- the child in an octant, by the word and the half that have it
 child_read : (level bits : ℕ) (pairs : Pairs) (k : ℕ) → k < 8 → child_of_word level (half (k % 2) (pair_number pairs (k / 2))) ≡ key_child (key_from (suc level) bits pairs) k
@@ -59,10 +58,6 @@ pub default_any : {A : Type 0} (xs : List A) (i : ℕ) (a b : A) → i < length 
 default_any [] i a b lt = absurd (omega arith)
 default_any (x ∷ xs) zero a b lt = refl
 default_any (x ∷ xs) (suc i) a b lt = default_any xs i a b (omega arith)
-
--- what was read at a place of the nodes' words
-pub pairs_read : (v w : Written) (i : ℕ) (y : Pairs) → v ≡ w → i < length w.pairs → y ≡ slice_index_or v.pairs i y → pairs_at w.pairs i ≡ y
-pairs_read v w i y e lt q = sym (q ∙ ap (λ (u : Written). slice_index_or u.pairs i y) e ∙ default_any w.pairs i y no_pairs lt)
 
 -- equal words say one key
 pub same_words : (level a b : ℕ) (r s : Pairs) → a ≡ b → r ≡ s → key_from level a r ≡ key_from level b s

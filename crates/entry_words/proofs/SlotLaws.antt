@@ -1,7 +1,7 @@
 -- Different names stand at different places.
-use Rattle.std.proofs.Common.{◌≡◌, ℕ, zero, suc, ◌+◌, ◌-◌, ◌*◌, ◌/◌, ◌%◌, ◌^◌, ◌<◌, ◌≤◌, List, inl, inr, ap, sym, ◌∙◌, subst, arith}
-use Rattle.std.proofs.lemmas.Bool.{cases_order}
-use Rattle.std.proofs.lemmas.Nat.{mul-add-lt, mul-le, same_from_place}
+use Rattle.std.proofs.Common.{◌≡◌, ◌≢◌, ◌⊎◌, ℕ, zero, suc, ◌+◌, ◌-◌, ◌*◌, ◌/◌, ◌%◌, ◌^◌, ◌<◌, ◌≤◌, List, inl, inr, ap, sym, ◌∙◌, subst, arith}
+use Rattle.std.proofs.lemmas.Bool.{cases_order, cases_eq}
+use Rattle.std.proofs.lemmas.Nat.{mul-add-lt, same_from_place}
 use Rattle.node_places.specs.Sums.{sum_below, sum_below-suc}
 use Rattle.node_shapes.specs.declared.names.Name.{Name}
 use Rattle.node_shapes.proofs.TreeEqual.{same_name}
@@ -9,16 +9,13 @@ use Rattle.node_words.specs.Plans.{Layout, IsPlan}
 use Rattle.node_places.specs.Spots.{levels, buckets_at}
 use Rattle.node_places.specs.Names.{IsName, named}
 use Rattle.std.specs.Prelude.{slice_index}
-use Rattle.entry_words.specs.Slots.{bucket_place, slot_place, leaf_place, node_place, block_place, leaf_buckets, number_of_buckets, number_of_slots, number_of_blocks, IsBucket, AreEnds}
+use Rattle.entry_words.specs.Slots.{bucket_place, slot_place, block_place, number_of_buckets, number_of_blocks, slots_at, IsBucket, AreEnds}
 
 sum_grows : (f : ℕ → ℕ) (l d : ℕ) → sum_below l f ≤ sum_below (l + d) f
 sum_grows f l zero = let same : l + 0 ≡ l = omega arith in rw same (omega arith)
 sum_grows f l (suc d) =
     let more : l + suc d ≡ suc (l + d) = omega arith in
     rw more (omega (arith, sum_below-suc (l + d) f, sum_grows f l d))
-
-pub levels_grow : (f : ℕ → ℕ) (l : ℕ) → 1 ≤ l → sum_below 1 f ≤ sum_below l f
-levels_grow f l h = subst (λ (n : ℕ). sum_below 1 f ≤ sum_below n f) (omega (arith, h)) (sum_grows f 1 (l - 1))
 
 part_ends : (f : ℕ → ℕ) (l m i : ℕ) → l < m → i ≤ f l → sum_below l f + i ≤ sum_below m f
 part_ends f l m i before inside =
@@ -48,47 +45,34 @@ bucket_in p level bucket i = omega (arith, part_ends (buckets_at p) level (level
 bucket_one : (p : Layout) (m n : Name) → IsBucket p m.level m.bucket → IsBucket p n.level n.bucket → bucket_place p m.level m.bucket ≡ bucket_place p n.level n.bucket → (m.level ≡ n.level) × (m.bucket ≡ n.bucket)
 bucket_one p m n i j e = parts (buckets_at p) m.level n.level m.bucket n.bucket i.bucket_in j.bucket_in e
 
-pub behind_leaves : (p : Layout) (level bucket : ℕ) → 1 ≤ level → leaf_buckets p ≤ bucket_place p level bucket
-behind_leaves p level bucket h = omega (arith, levels_grow (buckets_at p) level h)
+-- the place of a slot in the rows of its level
+pub place_in : (p : Layout) (n : Name) → IsName p n → slot_place p n < slots_at p n.level
+place_in p n i = mul-add-lt n.slot (buckets_at p n.level) n.bucket p.cap i.slot_in i.bucket_in
 
-pub some_leaves : (p : Layout) → 1 ≤ levels p → leaf_buckets p ≤ number_of_buckets p
-some_leaves p h = levels_grow (buckets_at p) (levels p) h
+pub place_one : (p : Layout) (m n : Name) → IsName p m → IsName p n → m.level ≡ n.level → slot_place p m ≡ slot_place p n → m ≡ n
+place_one p m n i j l e =
+    let wide : buckets_at p n.level ≡ buckets_at p m.level = ap (buckets_at p) (sym l) in
+    let at : n.slot * buckets_at p n.level + n.bucket ≡ n.slot * buckets_at p m.level + n.bucket = ap (λ (k : ℕ). n.slot * k + n.bucket) wide in
+    let same = same_from_place m.slot m.bucket n.slot n.bucket (buckets_at p m.level) i.bucket_in (omega (arith, j.bucket_in, wide)) (e ∙ at) in
+    same_name m n l same.1 same.0
 
--- the place of a slot's book
-pub place_in : (p : Layout) (n : Name) → IsName p n → slot_place p n < number_of_slots p
-place_in p n i = mul-add-lt n.slot (number_of_buckets p) (bucket_place p n.level n.bucket) p.cap i.slot_in (bucket_in p n.level n.bucket (name_bucket p n i))
+-- two names are one or not
+pub cases_name : (m n : Name) → (m ≡ n) ⊎ (m ≢ n)
+cases_name m n = elim (cases_eq m.level n.level) [
+  | inr ne ↦ inr (λ q. ne (ap (λ (k : Name). k.level) q))
+  | inl l ↦ elim (cases_eq m.bucket n.bucket) [
+    | inr ne ↦ inr (λ q. ne (ap (λ (k : Name). k.bucket) q))
+    | inl b ↦ elim (cases_eq m.slot n.slot) [
+      | inr ne ↦ inr (λ q. ne (ap (λ (k : Name). k.slot) q))
+      | inl s ↦ inl (same_name m n l b s)
+    ]
+  ]
+]
 
-pub place_one : (p : Layout) (m n : Name) → IsName p m → IsName p n → slot_place p m ≡ slot_place p n → m ≡ n
-place_one p m n i j e =
-    let same = same_from_place m.slot (bucket_place p m.level m.bucket) n.slot (bucket_place p n.level n.bucket) (number_of_buckets p)
-    (bucket_in p m.level m.bucket (name_bucket p m i)) (bucket_in p n.level n.bucket (name_bucket p n j)) e in
-    let at = bucket_one p m n (name_bucket p m i) (name_bucket p n j) same.1 in
-    same_name m n at.0 at.1 same.0
-
--- the place of a leaf's bits
-leaf_bucket : (p : Layout) (n : Name) → IsName p n → n.level ≡ 0 → n.bucket < leaf_buckets p
-leaf_bucket p n i z = omega (arith, part_ends (buckets_at p) n.level 1 (suc n.bucket) (omega (arith, z)) (omega (arith, i.bucket_in)))
-
-pub leaf_in : (p : Layout) (n : Name) → IsName p n → n.level ≡ 0 → leaf_place p n < leaf_buckets p * p.cap
-leaf_in p n i z = mul-add-lt n.slot (leaf_buckets p) n.bucket p.cap i.slot_in (leaf_bucket p n i z)
-
-pub leaf_one : (p : Layout) (m n : Name) → IsName p m → IsName p n → m.level ≡ 0 → n.level ≡ 0 → leaf_place p m ≡ leaf_place p n → m ≡ n
-leaf_one p m n i j y z e =
-    let same = same_from_place m.slot m.bucket n.slot n.bucket (leaf_buckets p) (leaf_bucket p m i y) (leaf_bucket p n j z) e in
-    same_name m n (y ∙ sym z) same.1 same.0
-
--- the place of a node's words
-node_bucket : (p : Layout) (n : Name) → IsName p n → 1 ≤ n.level → bucket_place p n.level n.bucket - leaf_buckets p < number_of_buckets p - leaf_buckets p
-node_bucket p n i h = omega (arith, bucket_in p n.level n.bucket (name_bucket p n i), behind_leaves p n.level n.bucket h)
-
-pub node_in : (p : Layout) (n : Name) → IsName p n → 1 ≤ n.level → node_place p n < (number_of_buckets p - leaf_buckets p) * p.cap
-node_in p n i h = mul-add-lt n.slot (number_of_buckets p - leaf_buckets p) (bucket_place p n.level n.bucket - leaf_buckets p) p.cap i.slot_in (node_bucket p n i h)
-
-pub node_one : (p : Layout) (m n : Name) → IsName p m → IsName p n → 1 ≤ m.level → 1 ≤ n.level → node_place p m ≡ node_place p n → m ≡ n
-node_one p m n i j h k e =
-    let same = same_from_place m.slot (bucket_place p m.level m.bucket - leaf_buckets p) n.slot (bucket_place p n.level n.bucket - leaf_buckets p) (number_of_buckets p - leaf_buckets p) (node_bucket p m i h) (node_bucket p n j k) e in
-    let at = bucket_one p m n (name_bucket p m i) (name_bucket p n j) (omega (arith, same.1, behind_leaves p m.level m.bucket h, behind_leaves p n.level n.bucket k)) in
-    same_name m n at.0 at.1 same.0
+pub bucket_slot : (p : Layout) (m n : Name) → IsName p m → IsName p n → bucket_place p m.level m.bucket ≡ bucket_place p n.level n.bucket → m.slot ≡ n.slot → m ≡ n
+bucket_slot p m n i j e f =
+    let at = bucket_one p m n (name_bucket p m i) (name_bucket p n j) e in
+    same_name m n at.0 at.1 f
 
 -- the place of a block of tags
 pub block_in : (p : Layout) (level bucket block : ℕ) → IsBucket p level bucket → block * 16 < p.cap → block_place p level bucket block < number_of_blocks p
@@ -117,6 +101,3 @@ pub buckets_small : (p : Layout) (ends : List ℕ) → IsPlan p → AreEnds p en
 buckets_small p ends plan e =
     let top : levels p ≤ 11 = omega (arith, plan.side_high) in
     omega (arith, e.end (levels p) top, e.small (levels p) top)
-
-pub product_small : (a e : ℕ) → a ≤ 256 → e < 2 ^ 20 → a * e < 2 ^ 30
-product_small a e few low = omega (arith, mul-le a e 256 (2 ^ 20) few (omega (arith, low)))

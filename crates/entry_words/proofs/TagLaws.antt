@@ -1,5 +1,5 @@
 -- The words and tags of slots stay right.
-use Rattle.std.proofs.Common.{inl, inr, ◌≡◌, ◌≢◌, ℕ, zero, suc, ◌/◌, ◌%◌, ◌<◌, ◌≤◌, List, [], length, set, refl, ap, sym, subst, ◌∙◌, arith, get_or-set_same, get_or-set_other}
+use Rattle.std.proofs.Common.{inl, inr, ◌≡◌, ◌≢◌, ℕ, zero, suc, ◌-◌, ◌/◌, ◌%◌, ◌<◌, ◌≤◌, List, [], length, set, refl, ap, sym, subst, ◌∙◌, arith, get_or-set_same, get_or-set_other}
 use Rattle.std.specs.Prelude.{slice_index, replicate}
 use Rattle.std.proofs.lemmas.List.{length-replicate, get_or-replicate, get_or_past}
 use Rattle.std.proofs.lemmas.Bool.{cases_eq, cases_lt}
@@ -8,13 +8,13 @@ use Rattle.node_words.specs.declared.keys.Key.{Key}
 use Rattle.node_words.specs.Plans.{Layout}
 use Rattle.node_places.specs.Names.{IsName}
 use Rattle.entry_words.specs.declared.key_words.Pairs.{Pairs}
-use Rattle.entry_words.specs.Slots.{slot_place, leaf_place, node_place, block_place, IsBucket}
+use Rattle.entry_words.specs.Slots.{slot_place, block_place, IsBucket}
 use Rattle.entry_words.specs.Coding.{key_from}
-use Rattle.entry_words.specs.Words.{Written, pairs_at, no_pairs, book_in, key_in, leaf_bits_in, pairs_in}
+use Rattle.entry_words.specs.Words.{Written, no_pairs, book_in, key_in, leaf_bits_in, pairs_in}
 use Rattle.entry_words.specs.Tags.{tag_of_word, tag_of_words, mixed_words, no_tags, tags_at, tag_in, PutsTag, AreTagged}
-use Rattle.entry_words.specs.Rows.{PutsItem}
-use Rattle.entry_words.specs.Changes.{OtherBooksStay, OtherKeysStay, SetsBook, PutsKey, PutsEntry}
-use Rattle.entry_words.proofs.SlotLaws.{place_one, leaf_one, node_one, tag_one, name_bucket}
+use Rattle.entry_words.specs.Rows.{PutsItem, PutsIn, item_in}
+use Rattle.entry_words.specs.Changes.{OtherKeysStay, SetsBook, PutsKey, PutsEntry}
+use Rattle.entry_words.proofs.SlotLaws.{place_one, tag_one, name_bucket, cases_name}
 use Rattle.entry_words.proofs.WordLaws.{one_leaf, one_row}
 use Rattle.entry_words.proofs.ReadLaws.{leaf_key, row_key}
 
@@ -34,31 +34,24 @@ tag_same (suc level) a b r s e =
 pub at_place : (xs : List ℕ) (i j v : ℕ) → i < length xs → j ≡ i → slice_index (set xs i v) j ≡ v
 at_place xs i j v lt e = ap (slice_index (set xs i v)) e ∙ get_or-set_same xs i v 0 lt
 
-abbrev pub with_book : Written → List ℕ → Written
+abbrev pub with_book : Written → List (List ℕ) → Written
 with_book w books = record w { books = books }
 
 abbrev pub with_bits : Written → List ℕ → Written
 with_bits w bits = record w { bits = bits }
 
-abbrev pub with_pairs : Written → List Pairs → Written
+abbrev pub with_pairs : Written → List (List Pairs) → Written
 with_pairs w pairs = record w { pairs = pairs }
 
--- the place of another name is another place
-other_place : (w : Written) (m n : Name) (i : ℕ) → IsName w.plan m → IsName w.plan n → i ≡ slot_place w.plan n → m ≢ n → slot_place w.plan m ≢ i
-other_place w m n i a b e ne = λ q. ne (place_one w.plan m n a b (q ∙ e))
-
-other_books : (w : Written) (n : Name) (i book : ℕ) (books : List ℕ) → IsName w.plan n → i ≡ slot_place w.plan n → PutsItem 0 w.books i book books → OtherBooksStay w.plan n (book_in w) (book_in (with_book w books))
-other_books w n i book books b e puts = record { each = λ m a ne. puts.others (slot_place w.plan m) (other_place w m n i a b e ne) }
-
-pub sets_book : (w : Written) (n : Name) (i book : ℕ) (books : List ℕ) → IsName w.plan n → i ≡ slot_place w.plan n → PutsItem 0 w.books i book books → SetsBook w n book (with_book w books)
-sets_book w n i book books b e puts = record {
+pub sets_book : (w : Written) (n : Name) (k i book : ℕ) (books : List (List ℕ)) → IsName w.plan n → k ≡ n.level → i ≡ slot_place w.plan n → PutsIn 0 w.books k i book books → SetsBook w n book (with_book w books)
+sets_book w n k i book books b f e puts = record {
   keys = refl;
-  book_is = ap (slice_index books) (sym e) ∙ puts.here;
-  others = other_books w n i book books b e puts;
+  book_is = ap (λ (l : ℕ). item_in 0 books l (slot_place w.plan n)) (sym f) ∙ ap (item_in 0 books k) (sym e) ∙ puts.here;
+  others = record { each = λ m a ne. puts.others m.level (slot_place w.plan m) (λ p q. ne (place_one w.plan m n a b (p ∙ f) (q ∙ e))) };
 }
 
 -- a leaf's slot has these bits now, and every other name has its key
-pub puts_bits : (w : Written) (n : Name) (i item : ℕ) (pairs : Pairs) (bits : List ℕ) → IsName w.plan n → n.level ≡ 0 → i ≡ leaf_place w.plan n → PutsItem 0 w.bits i item bits → PutsKey w n (key_from n.level item pairs) (with_bits w bits)
+pub puts_bits : (w : Written) (n : Name) (i item : ℕ) (pairs : Pairs) (bits : List ℕ) → IsName w.plan n → n.level ≡ 0 → i ≡ slot_place w.plan n → PutsItem 0 w.bits i item bits → PutsKey w n (key_from n.level item pairs) (with_bits w bits)
 puts_bits w n i item pairs bits b z e puts = record {
   plan = refl;
   books = refl;
@@ -66,37 +59,37 @@ puts_bits w n i item pairs bits b z e puts = record {
   others = record {
     each = λ m a ne. elim (cases_lt 0 m.level) [
       | inl above ↦ row_key m.level _ _ _ _ above refl
-      | inr leaf ↦ (let y : m.level ≡ 0 = omega (arith, leaf) in leaf_key m.level _ _ _ _ y (puts.others (leaf_place w.plan m) (λ q. ne (leaf_one w.plan m n a b y z (q ∙ e)))))
+      | inr leaf ↦ (let y : m.level ≡ 0 = omega (arith, leaf) in leaf_key m.level _ _ _ _ y (puts.others (slot_place w.plan m) (λ q. ne (place_one w.plan m n a b (y ∙ sym z) (q ∙ e)))))
     ];
   };
 }
 
 -- a node's slot has these words now, and every other name has its key
-pub puts_pairs : (w : Written) (n : Name) (i bits : ℕ) (item : Pairs) (pairs : List Pairs) → IsName w.plan n → 1 ≤ n.level → i ≡ node_place w.plan n → PutsItem no_pairs w.pairs i item pairs → PutsKey w n (key_from n.level bits item) (with_pairs w pairs)
-puts_pairs w n i bits item pairs b h e puts = record {
+pub puts_pairs : (w : Written) (n : Name) (k i bits : ℕ) (item : Pairs) (pairs : List (List Pairs)) → IsName w.plan n → 1 ≤ n.level → k ≡ n.level - 1 → i ≡ slot_place w.plan n → PutsIn no_pairs w.pairs k i item pairs → PutsKey w n (key_from n.level bits item) (with_pairs w pairs)
+puts_pairs w n k i bits item pairs b h f e puts = record {
   plan = refl;
   books = refl;
-  key_is = row_key n.level _ bits _ item h (ap (pairs_at pairs) (sym e) ∙ puts.here);
+  key_is = row_key n.level _ bits _ item h (ap (λ (l : ℕ). item_in no_pairs pairs l (slot_place w.plan n)) (sym f) ∙ ap (item_in no_pairs pairs k) (sym e) ∙ puts.here);
   others = record {
     each = λ m a ne. elim (cases_lt 0 m.level) [
-      | inl above ↦ row_key m.level _ _ _ _ above (puts.others (node_place w.plan m) (λ q. ne (node_one w.plan m n a b above h (q ∙ e))))
+      | inl above ↦ row_key m.level _ _ _ _ above (puts.others (m.level - 1) (slot_place w.plan m) (λ p q. ne (place_one w.plan m n a b (omega (arith, above, h, f, p)) (q ∙ e))))
       | inr leaf ↦ leaf_key m.level _ _ _ _ (omega (arith, leaf)) refl
     ];
   };
 }
 
 -- a slot whose key was put is live then
-pub puts_entry : (old mid : Written) (n : Name) (i : ℕ) (key : Key) (books : List ℕ) → PutsKey old n key mid → IsName mid.plan n → i ≡ slot_place mid.plan n → PutsItem 0 mid.books i 1 books → PutsEntry old n key (with_book mid books)
-puts_entry old mid n i key books p b e puts = record {
+pub puts_entry : (old mid : Written) (n : Name) (key : Key) (books : List (List ℕ)) → PutsKey old n key mid → SetsBook mid n 1 (with_book mid books) → PutsEntry old n key (with_book mid books)
+puts_entry old mid n key books p sets = record {
   plan = p.plan;
   key_is = p.key_is;
-  book_is = ap (slice_index books) (sym e) ∙ puts.here;
+  book_is = sets.book_is;
   other_keys = p.others;
   other_books = record {
     each = λ m a ne.
-        (other_books mid n i 1 books b e puts).each m (subst (λ (q : Layout). IsName q m) (sym p.plan) a) ne
-        ∙ ap (λ (row : List ℕ). slice_index row (slot_place mid.plan m)) p.books
-        ∙ ap (λ (q : Layout). slice_index old.books (slot_place q m)) p.plan;
+        sets.others.each m (subst (λ (q : Layout). IsName q m) (sym p.plan) a) ne
+        ∙ ap (λ (rows : List (List ℕ)). item_in 0 rows m.level (slot_place mid.plan m)) p.books
+        ∙ ap (λ (q : Layout). item_in 0 old.books m.level (slot_place q m)) p.plan;
   };
 }
 
@@ -104,10 +97,10 @@ puts_entry old mid n i key books p b e puts = record {
 pub zero_read : (n i : ℕ) → slice_index (replicate n 0) i ≡ 0
 zero_read n i = elim (cases_lt i n) [ inl below ↦ get_or-replicate n i 0 0 below | inr past ↦ get_or_past (replicate n 0) i 0 (omega (arith, past, length-replicate {A = ℕ} n 0)) ]
 
-pub tagged_free : (w : Written) (tags : List (List ℕ)) → w.books ≡ [] → tags ≡ [] → AreTagged w tags
+pub tagged_free : (w : Written) (tags : List (List ℕ)) → ((n : Name) → book_in w n ≡ 0) → tags ≡ [] → AreTagged w tags
 tagged_free w tags e f = record {
   free = λ m a z. untagged m;
-  live = λ m a h. absurd (omega (arith, h, ap (λ (row : List ℕ). slice_index row (slot_place w.plan m)) e));
+  live = λ m a h. absurd (omega (arith, h, e m));
   none = λ m a past. untagged m;
 }
   where
@@ -115,15 +108,15 @@ tagged_free w tags e f = record {
     untagged m = ap (λ (row : List (List ℕ)). tag_in w.plan row m) f ∙ zero_read 16 (m.slot % 16)
 
 -- a book that stays over 0 keeps the tags right
-pub tagged_book : (w : Written) (tags : List (List ℕ)) (n : Name) (i book : ℕ) (books : List ℕ) → AreTagged w tags → i ≡ slot_place w.plan n → 1 ≤ book_in w n → 1 ≤ book → PutsItem 0 w.books i book books → AreTagged (with_book w books) tags
-tagged_book w tags n i book books t e live some puts = record {
-  free = λ m a z. elim (cases_eq (slot_place w.plan m) i) [
-    | inl q ↦ absurd (omega (arith, ap (slice_index books) q, puts.here, z, some))
-    | inr ne ↦ t.free m a (sym (puts.others (slot_place w.plan m) ne) ∙ z)
+pub tagged_book : (w : Written) (tags : List (List ℕ)) (n : Name) (book : ℕ) (books : List (List ℕ)) → AreTagged w tags → 1 ≤ book_in w n → 1 ≤ book → SetsBook w n book (with_book w books) → AreTagged (with_book w books) tags
+tagged_book w tags n book books t live some sets = record {
+  free = λ m a z. elim (cases_name m n) [
+    | inl q ↦ absurd (omega (arith, ap (book_in (with_book w books)) q, sets.book_is, z, some))
+    | inr ne ↦ t.free m a (sym (sets.others.each m a ne) ∙ z)
   ];
-  live = λ m a h. elim (cases_eq (slot_place w.plan m) i) [
-    | inl q ↦ (let same : book_in w m ≡ book_in w n = ap (slice_index w.books) (q ∙ e) in t.live m a (omega (arith, same, live)))
-    | inr ne ↦ t.live m a (omega (arith, h, puts.others (slot_place w.plan m) ne))
+  live = λ m a h. elim (cases_name m n) [
+    | inl q ↦ t.live m a (omega (arith, ap (book_in w) q, live))
+    | inr ne ↦ t.live m a (omega (arith, h, sets.others.each m a ne))
   ];
   none = t.none;
 }
@@ -140,46 +133,45 @@ none_tagged : (w : Written) (old tags : List (List ℕ)) (m n : Name) (block k t
 none_tagged w old tags m n block k tag t a past b f g puts =
     other_tag w old tags m n block k tag a b f g puts (λ q. absurd (omega (arith, past, b.slot_in, ap (λ (l : Name). l.slot) q))) ∙ t.none m a past
 
-pub tagged_clear : (w : Written) (old tags : List (List ℕ)) (n : Name) (i block k : ℕ) (books : List ℕ) → AreTagged w old → IsName w.plan n → i ≡ slot_place w.plan n → block ≡ block_place w.plan n.level n.bucket (n.slot / 16) → k ≡ n.slot % 16 → PutsTag old block k 0 tags → PutsItem 0 w.books i 0 books → AreTagged (with_book w books) tags
-tagged_clear w old tags n i block k books t b e f g changes puts = record {
-  free = λ m a z. elim (cases_eq (slot_place w.plan m) i) [
-    | inl q ↦ (let same : m ≡ n = place_one w.plan m n a b (q ∙ e) in ap (tag_in w.plan tags) same ∙ own_tag w old tags n block k 0 f g changes)
-    | inr ne ↦ other m a ne ∙ t.free m a (sym (puts.others (slot_place w.plan m) ne) ∙ z)
+pub tagged_clear : (w : Written) (old tags : List (List ℕ)) (n : Name) (block k : ℕ) (books : List (List ℕ)) → AreTagged w old → IsName w.plan n → block ≡ block_place w.plan n.level n.bucket (n.slot / 16) → k ≡ n.slot % 16 → PutsTag old block k 0 tags → SetsBook w n 0 (with_book w books) → AreTagged (with_book w books) tags
+tagged_clear w old tags n block k books t b f g changes sets = record {
+  free = λ m a z. elim (cases_name m n) [
+    | inl q ↦ ap (tag_in w.plan tags) q ∙ own_tag w old tags n block k 0 f g changes
+    | inr ne ↦ other m a ne ∙ t.free m a (sym (sets.others.each m a ne) ∙ z)
   ];
-  live = λ m a h. elim (cases_eq (slot_place w.plan m) i) [
-    | inl q ↦ absurd (omega (arith, ap (slice_index books) q, puts.here, h))
-    | inr ne ↦ other m a ne ∙ t.live m a (omega (arith, h, puts.others (slot_place w.plan m) ne))
+  live = λ m a h. elim (cases_name m n) [
+    | inl q ↦ absurd (omega (arith, ap (book_in (with_book w books)) q, sets.book_is, h))
+    | inr ne ↦ other m a ne ∙ t.live m a (omega (arith, h, sets.others.each m a ne))
   ];
   none = λ m a past. none_tagged w old tags m n block k 0 t a past b f g changes;
 }
   where
-    other : (m : Name) → IsName w.plan m → slot_place w.plan m ≢ i → tag_in w.plan tags m ≡ tag_in w.plan old m
-    other m a ne = other_tag w old tags m n block k 0 (name_bucket w.plan m a) b f g changes (λ q. ne (ap (slot_place w.plan) q ∙ sym e))
+    other : (m : Name) → IsName w.plan m → m ≢ n → tag_in w.plan tags m ≡ tag_in w.plan old m
+    other m a ne = other_tag w old tags m n block k 0 (name_bucket w.plan m a) b f g changes ne
 
 -- the key of a free slot has no tag yet
-pub tagged_key : (w : Written) (tags : List (List ℕ)) (n : Name) (bits : List ℕ) (pairs : List Pairs) → AreTagged w tags → book_in w n ≡ 0 → OtherKeysStay w.plan n (key_in w) (key_in (record w { bits = bits; pairs = pairs })) → AreTagged (record w { bits = bits; pairs = pairs }) tags
+pub tagged_key : (w : Written) (tags : List (List ℕ)) (n : Name) (bits : List ℕ) (pairs : List (List Pairs)) → AreTagged w tags → book_in w n ≡ 0 → OtherKeysStay w.plan n (key_in w) (key_in (record w { bits = bits; pairs = pairs })) → AreTagged (record w { bits = bits; pairs = pairs }) tags
 tagged_key w tags n bits pairs t free others = record {
   free = t.free;
   live = λ m a h. t.live m a h ∙ tag_same m.level _ _ _ _ (sym (others.each m a (λ q. absurd (omega (arith, h, free, ap (book_in w) q)))));
   none = t.none;
 }
 
-pub tagged_entry : (w : Written) (old tags : List (List ℕ)) (n : Name) (i block k tag : ℕ) (books : List ℕ) → AreTagged w old → IsName w.plan n → i ≡ slot_place w.plan n → block ≡ block_place w.plan n.level n.bucket (n.slot / 16) → k ≡ n.slot % 16 → tag ≡ tag_of_words n.level (leaf_bits_in w n) (pairs_in w n) → PutsTag old block k tag tags → PutsItem 0 w.books i 1 books → AreTagged (with_book w books) tags
-tagged_entry w old tags n i block k tag books t b e f g is changes puts = record {
-  free = λ m a z. elim (cases_eq (slot_place w.plan m) i) [
-    | inl q ↦ absurd (omega (arith, ap (slice_index books) q, puts.here, z))
-    | inr ne ↦ other m a ne ∙ t.free m a (sym (puts.others (slot_place w.plan m) ne) ∙ z)
+pub tagged_entry : (w : Written) (old tags : List (List ℕ)) (n : Name) (block k tag : ℕ) (books : List (List ℕ)) → AreTagged w old → IsName w.plan n → block ≡ block_place w.plan n.level n.bucket (n.slot / 16) → k ≡ n.slot % 16 → tag ≡ tag_of_words n.level (leaf_bits_in w n) (pairs_in w n) → PutsTag old block k tag tags → SetsBook w n 1 (with_book w books) → AreTagged (with_book w books) tags
+tagged_entry w old tags n block k tag books t b f g is changes sets = record {
+  free = λ m a z. elim (cases_name m n) [
+    | inl q ↦ absurd (omega (arith, ap (book_in (with_book w books)) q, sets.book_is, z))
+    | inr ne ↦ other m a ne ∙ t.free m a (sym (sets.others.each m a ne) ∙ z)
   ];
-  live = λ m a h. elim (cases_eq (slot_place w.plan m) i) [
-    | inl q ↦ (let same : m ≡ n = place_one w.plan m n a b (q ∙ e) in
-        ap (tag_in w.plan tags) same ∙ own_tag w old tags n block k tag f g changes ∙ is ∙ ap (λ (l : Name). tag_of_words l.level (leaf_bits_in w l) (pairs_in w l)) (sym same))
-    | inr ne ↦ other m a ne ∙ t.live m a (omega (arith, h, puts.others (slot_place w.plan m) ne))
+  live = λ m a h. elim (cases_name m n) [
+    | inl q ↦ ap (tag_in w.plan tags) q ∙ own_tag w old tags n block k tag f g changes ∙ is ∙ ap (λ (l : Name). tag_of_words l.level (leaf_bits_in w l) (pairs_in w l)) (sym q)
+    | inr ne ↦ other m a ne ∙ t.live m a (omega (arith, h, sets.others.each m a ne))
   ];
   none = λ m a past. none_tagged w old tags m n block k tag t a past b f g changes;
 }
   where
-    other : (m : Name) → IsName w.plan m → slot_place w.plan m ≢ i → tag_in w.plan tags m ≡ tag_in w.plan old m
-    other m a ne = other_tag w old tags m n block k tag (name_bucket w.plan m a) b f g changes (λ q. ne (ap (slot_place w.plan) q ∙ sym e))
+    other : (m : Name) → IsName w.plan m → m ≢ n → tag_in w.plan tags m ≡ tag_in w.plan old m
+    other m a ne = other_tag w old tags m n block k tag (name_bucket w.plan m a) b f g changes ne
 
 -- a tag that is put where the row reaches
 pub puts_tag : (old mid : List (List ℕ)) (block k tag : ℕ) → ((i : ℕ) → tags_at mid i ≡ tags_at old i) → block < length mid → k < length (tags_at mid block) → PutsTag old block k tag (set mid block (set (tags_at mid block) k tag))

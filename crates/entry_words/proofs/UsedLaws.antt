@@ -1,14 +1,14 @@
 -- Where the slots of buckets were never used, and where all are live.
-use Rattle.std.proofs.Common.{inl, inr, ◌≡◌, ◌≢◌, ℕ, ◌+◌, ◌*◌, ◌<◌, ◌≤◌, List, [], length, set, ap, sym, ◌∙◌, arith, get_or-set_other}
+use Rattle.std.proofs.Common.{inl, inr, ◌≡◌, ◌≢◌, ℕ, ◌+◌, ◌<◌, ◌≤◌, List, length, set, ap, sym, ◌∙◌, arith, get_or-set_other}
 use Rattle.std.specs.Prelude.{slice_index, slice_index_or, replicate}
 use Rattle.std.proofs.lemmas.Bool.{cases_eq}
 use Rattle.node_shapes.specs.declared.names.Name.{Name}
 use Rattle.node_places.specs.Names.{IsName, named}
-use Rattle.entry_words.specs.Slots.{slot_place, bucket_place, number_of_buckets, IsBucket}
+use Rattle.entry_words.specs.Slots.{bucket_place, number_of_buckets, IsBucket}
 use Rattle.entry_words.specs.Words.{Written, book_in, AreLiveBelow}
 use Rattle.entry_words.specs.Used.{IsUnusedFrom, AreUsed, AreFilled}
-use Rattle.entry_words.specs.Rows.{PutsItem}
-use Rattle.entry_words.proofs.SlotLaws.{place_one, bucket_in, slot_name}
+use Rattle.entry_words.specs.Changes.{SetsBook}
+use Rattle.entry_words.proofs.SlotLaws.{bucket_in, slot_name, cases_name, bucket_slot}
 use Rattle.entry_words.proofs.ReadLaws.{default_any}
 use Rattle.entry_words.proofs.TagLaws.{at_place, with_book, zero_read}
 
@@ -20,34 +20,33 @@ unused_from w used level bucket i number from d long u b e f low slot lt le =
     u.unused (named level bucket slot) (slot_name w.plan level bucket slot b lt) (omega (arith, at, low slot lt le))
 
 -- where all slots are free, none was used
-pub unused_free : (w : Written) (used : List ℕ) → w.books ≡ [] → AreUsed w used
-unused_free w used e = record { unused = λ m a le. ap (λ (row : List ℕ). slice_index row (slot_place w.plan m)) e }
+pub unused_free : (w : Written) (used : List ℕ) → ((n : Name) → book_in w n ≡ 0) → AreUsed w used
+unused_free w used e = record { unused = λ m a le. e m }
 
-pub unused_book : (w : Written) (used : List ℕ) (n : Name) (i book : ℕ) (books : List ℕ) → AreUsed w used → i ≡ slot_place w.plan n → 1 ≤ book_in w n → PutsItem 0 w.books i book books → AreUsed (with_book w books) used
-unused_book w used n i book books u e live puts = record {
-  unused = λ m a le. elim (cases_eq (slot_place w.plan m) i) [
-    | inl q ↦ (let same : book_in w m ≡ book_in w n = ap (slice_index w.books) (q ∙ e) in absurd (omega (arith, same, live, u.unused m a le)))
-    | inr ne ↦ puts.others (slot_place w.plan m) ne ∙ u.unused m a le
+pub unused_book : (w : Written) (used : List ℕ) (n : Name) (book : ℕ) (books : List (List ℕ)) → AreUsed w used → 1 ≤ book_in w n → SetsBook w n book (with_book w books) → AreUsed (with_book w books) used
+unused_book w used n book books u live sets = record {
+  unused = λ m a le. elim (cases_name m n) [
+    | inl q ↦ absurd (omega (arith, ap (book_in w) q, live, u.unused m a le))
+    | inr ne ↦ sets.others.each m a ne ∙ u.unused m a le
   ];
 }
 
-pub unused_clear : (w : Written) (used : List ℕ) (i : ℕ) (books : List ℕ) → AreUsed w used → PutsItem 0 w.books i 0 books → AreUsed (with_book w books) used
-unused_clear w used i books u puts = record {
-  unused = λ m a le. elim (cases_eq (slot_place w.plan m) i) [
-    | inl q ↦ ap (slice_index books) q ∙ puts.here
-    | inr ne ↦ puts.others (slot_place w.plan m) ne ∙ u.unused m a le
+pub unused_clear : (w : Written) (used : List ℕ) (n : Name) (books : List (List ℕ)) → AreUsed w used → SetsBook w n 0 (with_book w books) → AreUsed (with_book w books) used
+unused_clear w used n books u sets = record {
+  unused = λ m a le. elim (cases_name m n) [
+    | inl q ↦ ap (book_in (with_book w books)) q ∙ sets.book_is
+    | inr ne ↦ sets.others.each m a ne ∙ u.unused m a le
   ];
 }
 
 -- a slot is used, and its bucket's number lies behind it then
-pub unused_entry : (w : Written) (used : List ℕ) (n : Name) (i j number : ℕ) (books : List ℕ) → AreUsed w used → IsName w.plan n → i ≡ slot_place w.plan n → j ≡ bucket_place w.plan n.level n.bucket → j < length used → slice_index used j ≤ number → n.slot + 1 ≤ number → PutsItem 0 w.books i 1 books → AreUsed (with_book w books) (set used j number)
-unused_entry w used n i j number books u b e f lt grows behind puts = record {
-  unused = λ m a le. elim (cases_eq (slot_place w.plan m) i) [
-    | inl q ↦ (let same : m ≡ n = place_one w.plan m n a b (q ∙ e) in
-        let slot : m.slot ≡ n.slot = ap (λ (k : Name). k.slot) same in
+pub unused_entry : (w : Written) (used : List ℕ) (n : Name) (j number : ℕ) (books : List (List ℕ)) → AreUsed w used → j ≡ bucket_place w.plan n.level n.bucket → j < length used → slice_index used j ≤ number → n.slot + 1 ≤ number → SetsBook w n 1 (with_book w books) → AreUsed (with_book w books) (set used j number)
+unused_entry w used n j number books u f lt grows behind sets = record {
+  unused = λ m a le. elim (cases_name m n) [
+    | inl same ↦ (let slot : m.slot ≡ n.slot = ap (λ (k : Name). k.slot) same in
         let at : bucket_place w.plan m.level m.bucket ≡ j = ap (λ (k : Name). bucket_place w.plan k.level k.bucket) same ∙ sym f in
         absurd (omega (arith, at_place used j (bucket_place w.plan m.level m.bucket) number lt at, slot, le, behind)))
-    | inr ne ↦ puts.others (slot_place w.plan m) ne ∙ u.unused m a (before m le)
+    | inr ne ↦ sets.others.each m a ne ∙ u.unused m a (before m le)
   ];
 }
   where
@@ -68,37 +67,37 @@ live_to w filled level bucket i number to used d long l b e f low within few k l
 pub filled_free : (w : Written) (filled : List ℕ) (n : ℕ) → filled ≡ replicate n 0 → AreFilled w filled
 filled_free w filled n e = record { live = λ m a lt. absurd (omega (arith, lt, ap (λ (row : List ℕ). slice_index row (bucket_place w.plan m.level m.bucket)) e, zero_read n (bucket_place w.plan m.level m.bucket))) }
 
-pub filled_book : (w : Written) (filled : List ℕ) (i book : ℕ) (books : List ℕ) → AreFilled w filled → 1 ≤ book → PutsItem 0 w.books i book books → AreFilled (with_book w books) filled
-filled_book w filled i book books l some puts = record {
-  live = λ m a lt. elim (cases_eq (slot_place w.plan m) i) [
-    | inl q ↦ omega (arith, ap (slice_index books) q, puts.here, some)
-    | inr ne ↦ omega (arith, puts.others (slot_place w.plan m) ne, l.live m a lt)
+pub filled_book : (w : Written) (filled : List ℕ) (n : Name) (book : ℕ) (books : List (List ℕ)) → AreFilled w filled → 1 ≤ book → SetsBook w n book (with_book w books) → AreFilled (with_book w books) filled
+filled_book w filled n book books l some sets = record {
+  live = λ m a lt. elim (cases_name m n) [
+    | inl q ↦ omega (arith, ap (book_in (with_book w books)) q, sets.book_is, some)
+    | inr ne ↦ omega (arith, sets.others.each m a ne, l.live m a lt)
   ];
 }
 
 -- a slot is free, and its bucket's number doesn't lie behind it then
-pub filled_clear : (w : Written) (filled : List ℕ) (n : Name) (i j number : ℕ) (books : List ℕ) → AreFilled w filled → IsName w.plan n → i ≡ slot_place w.plan n → j ≡ bucket_place w.plan n.level n.bucket → j < length filled → number ≤ slice_index filled j → number ≤ n.slot → PutsItem 0 w.books i 0 books → AreFilled (with_book w books) (set filled j number)
-filled_clear w filled n i j number books l b e f lt falls before puts = record {
+pub filled_clear : (w : Written) (filled : List ℕ) (n : Name) (j number : ℕ) (books : List (List ℕ)) → AreFilled w filled → j ≡ bucket_place w.plan n.level n.bucket → j < length filled → number ≤ slice_index filled j → number ≤ n.slot → SetsBook w n 0 (with_book w books) → AreFilled (with_book w books) (set filled j number)
+filled_clear w filled n j number books l f lt falls before sets = record {
   live = λ m a below. elim (cases_eq (bucket_place w.plan m.level m.bucket) j) [
     | inl q ↦ (let under : m.slot < number = omega (arith, at_place filled j (bucket_place w.plan m.level m.bucket) number lt q, below) in
-        let other : slot_place w.plan m ≢ i = λ p. absurd (omega (arith, ap (λ (k : Name). k.slot) (place_one w.plan m n a b (p ∙ e)), under, before)) in
-        omega (arith, puts.others (slot_place w.plan m) other, l.live m a (omega (arith, ap (slice_index filled) q, falls, under))))
-    | inr ne ↦ (let other : slot_place w.plan m ≢ i = λ p. ne (ap (λ (k : Name). bucket_place w.plan k.level k.bucket) (place_one w.plan m n a b (p ∙ e)) ∙ sym f) in
-        omega (arith, puts.others (slot_place w.plan m) other, l.live m a (omega (arith, get_or-set_other filled j (bucket_place w.plan m.level m.bucket) number 0 ne, below))))
+        let other : m ≢ n = λ p. absurd (omega (arith, ap (λ (k : Name). k.slot) p, under, before)) in
+        omega (arith, sets.others.each m a other, l.live m a (omega (arith, ap (slice_index filled) q, falls, under))))
+    | inr ne ↦ (let other : m ≢ n = λ p. ne (ap (λ (k : Name). bucket_place w.plan k.level k.bucket) p ∙ sym f) in
+        omega (arith, sets.others.each m a other, l.live m a (omega (arith, get_or-set_other filled j (bucket_place w.plan m.level m.bucket) number 0 ne, below))))
   ];
 }
 
 -- a slot is live, and its bucket's number may go on behind it then
-pub filled_entry : (w : Written) (filled : List ℕ) (n : Name) (i j number : ℕ) (books : List ℕ) → AreFilled w filled → IsName w.plan n → i ≡ slot_place w.plan n → j ≡ bucket_place w.plan n.level n.bucket → j < length filled → ((k : ℕ) → k < number → k ≢ n.slot → k < slice_index filled j) → PutsItem 0 w.books i 1 books → AreFilled (with_book w books) (set filled j number)
-filled_entry w filled n i j number books l b e f lt grows puts = record {
-  live = λ m a below. elim (cases_eq (slot_place w.plan m) i) [
-    | inl q ↦ omega (arith, ap (slice_index books) q, puts.here)
-    | inr ne ↦ omega (arith, puts.others (slot_place w.plan m) ne, l.live m a (before m a ne below))
+pub filled_entry : (w : Written) (filled : List ℕ) (n : Name) (j number : ℕ) (books : List (List ℕ)) → AreFilled w filled → IsName w.plan n → j ≡ bucket_place w.plan n.level n.bucket → j < length filled → ((k : ℕ) → k < number → k ≢ n.slot → k < slice_index filled j) → SetsBook w n 1 (with_book w books) → AreFilled (with_book w books) (set filled j number)
+filled_entry w filled n j number books l b f lt grows sets = record {
+  live = λ m a below. elim (cases_name m n) [
+    | inl q ↦ omega (arith, ap (book_in (with_book w books)) q, sets.book_is)
+    | inr ne ↦ omega (arith, sets.others.each m a ne, l.live m a (before m a ne below))
   ];
 }
   where
-    before : (m : Name) → IsName w.plan m → slot_place w.plan m ≢ i → m.slot < slice_index (set filled j number) (bucket_place w.plan m.level m.bucket) → m.slot < slice_index filled (bucket_place w.plan m.level m.bucket)
+    before : (m : Name) → IsName w.plan m → m ≢ n → m.slot < slice_index (set filled j number) (bucket_place w.plan m.level m.bucket) → m.slot < slice_index filled (bucket_place w.plan m.level m.bucket)
     before m a ne below = elim (cases_eq (bucket_place w.plan m.level m.bucket) j) [
-      | inl q ↦ omega (arith, ap (slice_index filled) q, grows m.slot (omega (arith, at_place filled j (bucket_place w.plan m.level m.bucket) number lt q, below)) (λ p. ne (omega (arith, e, f, q, p, ap (λ (s : ℕ). s * number_of_buckets w.plan) p))))
+      | inl q ↦ omega (arith, ap (slice_index filled) q, grows m.slot (omega (arith, at_place filled j (bucket_place w.plan m.level m.bucket) number lt q, below)) (λ p. ne (bucket_slot w.plan m n a b (q ∙ f) p)))
       | inr other ↦ omega (arith, get_or-set_other filled j (bucket_place w.plan m.level m.bucket) number 0 other, below)
     ]

@@ -1,38 +1,28 @@
--- Where the slots of a plan stand in rows. The first slots of all buckets stand side by side, level
--- by level, then their second slots, and so on; leaves have a row of their own for their bits, and
--- nodes one for their words. Tags stand in blocks of sixteen: the first blocks of all buckets side by
+-- Where the slots of a plan stand in rows. Each level has a row of its own for books, and one for
+-- the bits of leaves or the words of nodes. In each the first slots of all buckets of the level stand
+-- side by side, then their second slots, and so on. Tags stand in blocks of sixteen: the first blocks of all buckets side by
 -- side, then their second blocks, and so on.
-use Rattle.std.specs.Prelude.{◌≡◌, ℕ, ◌+◌, ◌-◌, ◌*◌, ◌/◌, ◌^◌, ◌<◌, ◌≤◌, List, slice_index}
+use Rattle.std.specs.Prelude.{◌≡◌, ℕ, ◌+◌, ◌*◌, ◌/◌, ◌^◌, ◌<◌, ◌≤◌, List, slice_index}
 use Rattle.node_places.specs.Sums.{sum_below}
 use Rattle.node_shapes.specs.declared.names.Name.{Name}
 use Rattle.node_words.specs.Plans.{Layout}
 use Rattle.node_places.specs.Spots.{levels, buckets_at}
 
--- how many buckets all levels have, and how many of them are for leaves
+-- how many buckets all levels have
 abbrev pub number_of_buckets : Layout → ℕ
 number_of_buckets p = sum_below (levels p) (buckets_at p)
 
-abbrev pub leaf_buckets : Layout → ℕ
-leaf_buckets p = sum_below 1 (buckets_at p)
-
--- how many slots there are
-abbrev pub number_of_slots : Layout → ℕ
-number_of_slots p = number_of_buckets p * p.cap
+-- how many slots a level has
+abbrev pub slots_at : Layout → ℕ → ℕ
+slots_at p level = buckets_at p level * p.cap
 
 -- the place of a bucket among those of all levels
 abbrev pub bucket_place : Layout → ℕ → ℕ → ℕ
 bucket_place p level bucket = sum_below level (buckets_at p) + bucket
 
--- the place of a slot's book, of a leaf's bits, and of a node's words
+-- the place of a slot in the rows of its level
 abbrev pub slot_place : Layout → Name → ℕ
-slot_place p n = n.slot * number_of_buckets p + bucket_place p n.level n.bucket
-
-abbrev pub leaf_place : Layout → Name → ℕ
-leaf_place p n = n.slot * leaf_buckets p + n.bucket
-
-abbrev pub node_place : Layout → Name → ℕ
-node_place p n = n.slot * (number_of_buckets p - leaf_buckets p)
-    + (bucket_place p n.level n.bucket - leaf_buckets p)
+slot_place p n = n.slot * buckets_at p n.level + n.bucket
 
 -- how many blocks of tags there are, and the place of one of a bucket's
 abbrev pub number_of_blocks : Layout → ℕ

@@ -7,7 +7,8 @@ use Rattle.node_words.specs.Plans.{Layout, IsPlan}
 use Rattle.node_places.specs.Names.{IsName}
 use Rattle.entry_words.specs.declared.key_words.Pairs.{Pairs}
 use Rattle.entry_words.specs.declared.key_words.KeyWords.{KeyWords}
-use Rattle.entry_words.specs.Slots.{block_place, leaf_buckets, number_of_buckets, number_of_slots, number_of_blocks, IsBucket, AreEnds}
+use Rattle.entry_words.specs.Slots.{block_place, number_of_buckets, number_of_blocks, slots_at, IsBucket, AreEnds}
+use Rattle.node_places.specs.Spots.{levels}
 use Rattle.entry_words.specs.Words.{Written, book_in, leaf_bits_in, pairs_in}
 use Rattle.entry_words.specs.Used.{AreUsed, AreFilled}
 
@@ -73,16 +74,16 @@ pub record Beside : Type 0 where
   pub tags : List (List ℕ)
   pub used : List ℕ
   pub filled : List ℕ
-  pub room_for_books : ℕ
+  pub rooms_for_books : List ℕ
   pub room_for_bits : ℕ
-  pub room_for_pairs : ℕ
+  pub rooms_for_pairs : List ℕ
   pub room_for_tags : ℕ
 
 -- each slot of the plan has room
 pub record HasRoom (p : Layout) (b : Beside) : Type 0 where
-  pub books : number_of_slots p ≤ b.room_for_books
-  pub bits : leaf_buckets p * p.cap ≤ b.room_for_bits
-  pub pairs : (number_of_buckets p - leaf_buckets p) * p.cap ≤ b.room_for_pairs
+  pub books : (l : ℕ) → l < levels p → slots_at p l ≤ slice_index b.rooms_for_books l
+  pub bits : slots_at p 0 ≤ b.room_for_bits
+  pub pairs : (l : ℕ) → 1 ≤ l → l < levels p → slots_at p l ≤ slice_index b.rooms_for_pairs (l - 1)
   pub tags : number_of_blocks p ≤ b.room_for_tags
 
 pub record AreEntries (w : Written) (b : Beside) : Type 0 where
@@ -90,6 +91,8 @@ pub record AreEntries (w : Written) (b : Beside) : Type 0 where
   pub buckets_are : b.buckets ≡ w.plan.buckets
   pub ends_are : AreEnds w.plan b.ends
   pub width_is : b.width ≡ number_of_buckets w.plan
+  pub books_are : length w.books ≡ levels w.plan
+  pub pairs_are : length w.pairs + 1 ≡ levels w.plan
   pub room_is : HasRoom w.plan b
   pub tagged : AreTagged w b.tags
   pub used_are : length b.used ≡ number_of_buckets w.plan

@@ -1,37 +1,35 @@
 -- The words of all slots of a plan, and how they are read as books and keys.
-use Rattle.std.specs.Prelude.{◌≡◌, ◌≢◌, ℕ, ◌<◌, ◌≤◌, List, slice_index, slice_index_or}
+use Rattle.std.specs.Prelude.{◌≡◌, ◌≢◌, ℕ, ◌-◌, ◌<◌, ◌≤◌, List, slice_index}
 use Rattle.node_shapes.specs.declared.names.Name.{Name}
 use Rattle.node_words.specs.declared.keys.Key.{Key}
 use Rattle.node_words.specs.Plans.{Layout}
 use Rattle.node_places.specs.Names.{IsName, named}
 use Rattle.entry_words.specs.declared.key_words.Pairs.{Pairs}
-use Rattle.entry_words.specs.Slots.{slot_place, leaf_place, node_place}
+use Rattle.entry_words.specs.Slots.{slot_place}
+use Rattle.entry_words.specs.Rows.{item_in}
 use Rattle.entry_words.specs.Coding.{key_from}
 
--- the book of each slot, the bits of each leaf's slot, and the words of each node's, as far as the
--- rows go; a slot behind them is free
+-- the books of each level's slots, the bits of the leaves' slots, and the words of those of each
+-- level above, as far as the rows go; a slot behind them is free
 pub record Written : Type 0 where
   pub plan : Layout
-  pub books : List ℕ
+  pub books : List (List ℕ)
   pub bits : List ℕ
-  pub pairs : List Pairs
+  pub pairs : List (List Pairs)
 
 abbrev pub no_pairs : Pairs
 no_pairs = record { first = 0; second = 0; third = 0; fourth = 0 }
 
-abbrev pub pairs_at : List Pairs → ℕ → Pairs
-pairs_at pairs i = slice_index_or pairs i no_pairs
-
 -- the book of a name; it is live where this isn't 0
 abbrev pub book_in : Written → Name → ℕ
-book_in w n = slice_index w.books (slot_place w.plan n)
+book_in w n = item_in 0 w.books n.level (slot_place w.plan n)
 
 -- the bits of a leaf's name, and the words of a node's
 abbrev pub leaf_bits_in : Written → Name → ℕ
-leaf_bits_in w n = slice_index w.bits (leaf_place w.plan n)
+leaf_bits_in w n = slice_index w.bits (slot_place w.plan n)
 
 abbrev pub pairs_in : Written → Name → Pairs
-pairs_in w n = pairs_at w.pairs (node_place w.plan n)
+pairs_in w n = item_in no_pairs w.pairs (n.level - 1) (slot_place w.plan n)
 
 -- the key of a name. A slot that was freed keeps its key
 abbrev pub key_in : Written → Name → Key

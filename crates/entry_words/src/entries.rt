@@ -5,7 +5,7 @@ ghost use Rattle.node_words.specs.Plans.{IsPlan};
 ghost use Rattle.node_words.specs.Keys.{bucket_of_key};
 ghost use Rattle.node_places.specs.Spots.{levels, buckets_at};
 ghost use Rattle.node_places.specs.Names.{IsName, HasNames, named, key_bits, key_child};
-ghost use Rattle.entry_words.specs.Slots.{bucket_place, slot_place, leaf_place, node_place, block_place, leaf_buckets, number_of_buckets, number_of_slots, number_of_blocks, IsBucket};
+ghost use Rattle.entry_words.specs.Slots.{bucket_place, slot_place, block_place, number_of_buckets, number_of_blocks, slots_at, IsBucket};
 ghost use Rattle.entry_words.specs.Coding.{key_of, pair_number};
 ghost use Rattle.entry_words.specs.Words.{book_in, key_in, pairs_in, HasEntry, LacksKey, LacksKeyIn, IsLowestFree, AreLiveBelow};
 ghost use Rattle.entry_words.specs.Tags.{tag_of};
@@ -14,7 +14,7 @@ ghost use Rattle.entry_words.specs.Changes.{SetsBook, PutsKey, PutsEntry};
 
 use crate::ends::ends_of;
 use crate::key_words::{KeyWords, NO_PAIRS, Pairs, half_of};
-use crate::rows::{item, put};
+use crate::rows::{empty_rows, item, put, put_in, row};
 use crate::tags::{BLOCK, NO_TAGS, position, put_tag, tag_of};
 use node_places::child_in;
 use node_words::{Key, Name, Plan, bucket_of};
@@ -25,9 +25,9 @@ use vw_cell::Side;
 /// The books and keys of all slots of a plan. It takes all its memory when it is made, and touches
 /// the words of a slot only when that or a later one is used.
 ///
-/// The first slots of all buckets stand side by side, then the second ones, and so on. Since a node
-/// takes the lowest free slot, few nodes lie close together, and rows stay short. A slot behind
-/// their ends is free.
+/// Each level has rows of its own. In them the first slots of all buckets stand side by side, then
+/// the second ones, and so on. Since a node takes the lowest free slot, few nodes lie close
+/// together, and rows stay short. A slot behind their ends is free.
 ///
 /// For each slot there is a byte, its tag, by which searches pass over most slots of a bucket. They
 /// stand in blocks of sixteen, and the first blocks of all buckets side by side, then the second
@@ -40,9 +40,9 @@ pub struct EntryWords {
     buckets: [u16; 11],
     ends: [usize; 12],
     width: usize,
-    books: Vec<u32>,
+    books: Vec<Vec<u32>>,
     bits: Vec<u64>,
-    pairs: Vec<Pairs>,
+    pairs: Vec<Vec<Pairs>>,
     tags: Vec<[u8; 16]>,
     used: Vec<u16>,
     filled: Vec<u16>,
@@ -50,17 +50,26 @@ pub struct EntryWords {
 
 impl Model for EntryWords {
     ghost use Rattle.std.specs.Prelude.{vec_capacity};
+    ghost use Rattle.entry_words.specs.Rows.{items_of, rooms_of};
     ghost use Rattle.entry_words.specs.Words.{Written};
     ghost use Rattle.entry_words.specs.Tags.{AreEntries};
 
     ghost Value = { Written };
 
-    ghost view = { λ w. record
-        { plan = w.plan; books = w.books.items; bits = w.bits.items; pairs = w.pairs.items } };
+    ghost view = { λ w. record {
+      plan = w.plan;
+      books = items_of w.books.items;
+      bits = w.bits.items;
+      pairs = items_of w.pairs.items;
+    } };
 
     ghost invariant = { λ w. AreEntries
-        (record
-        { plan = w.plan; books = w.books.items; bits = w.bits.items; pairs = w.pairs.items })
+        (record {
+          plan = w.plan;
+          books = items_of w.books.items;
+          bits = w.bits.items;
+          pairs = items_of w.pairs.items;
+        })
         (record {
           buckets = w.buckets;
           ends = w.ends;
@@ -68,9 +77,9 @@ impl Model for EntryWords {
           tags = w.tags.items;
           used = w.used.items;
           filled = w.filled.items;
-          room_for_books = vec_capacity w.books;
+          rooms_for_books = rooms_of w.books.items;
           room_for_bits = vec_capacity w.bits;
-          room_for_pairs = vec_capacity w.pairs;
+          rooms_for_pairs = rooms_of w.pairs.items;
           room_for_tags = vec_capacity w.tags;
         }) };
 }
@@ -84,16 +93,17 @@ impl EntryWords {
     {
         let buckets = plan.buckets();
         let ends = ends_of(&buckets);
-        let width = ends[usize::from(plan.side().root_level()) + 1];
+        let levels = usize::from(plan.side().root_level()) + 1;
+        let width = ends[levels];
         let cap = usize::from(plan.cap());
         Ok(EntryWords {
             plan: *plan,
             buckets,
             ends,
             width,
-            books: Vec::with_capacity(alloc, width * cap)?,
-            bits: Vec::with_capacity(alloc, ends[1] * cap)?,
-            pairs: Vec::with_capacity(alloc, (width - ends[1]) * cap)?,
+            books: empty_rows(alloc, &buckets, 0, levels, cap)?,
+            bits: Vec::with_capacity(alloc, usize::from(buckets[0]) * cap)?,
+            pairs: empty_rows(alloc, &buckets, 1, levels, cap)?,
             tags: Vec::with_capacity(alloc, width * ((cap + (BLOCK - 1)) / BLOCK))?,
             used: vec![in alloc; 0; width]?,
             filled: vec![in alloc; 0; width]?,
@@ -129,7 +139,7 @@ impl EntryWords {
         requires { IsName self.now.plan n }
         ensures { result ≡ book_in self.now n }
     {
-        item(&self.books, self.place(n), 0)
+        item(row(&self.books, usize::from(n.level)), self.place(n), 0)
     }
 
     /// A live node has so many references now.
@@ -140,7 +150,7 @@ impl EntryWords {
         ensures { SetsBook self.old n book self.new }
     {
         let i = self.place(n);
-        put(&mut self.books, i, book, 0);
+        put_in(&mut self.books, usize::from(n.level), i, book, 0);
     }
 
     /// A node of this key comes into the name's slot, which is free, with one reference.
@@ -158,7 +168,7 @@ impl EntryWords {
         put_tag(&mut self.tags, block, slot % BLOCK, tag_of(n.level, &words));
         self.used[bucket] = self.used[bucket].max(u16::from(n.slot) + 1);
         self.filled[bucket] = filled_with(self.filled[bucket], n.slot);
-        put(&mut self.books, i, 1, 0);
+        put_in(&mut self.books, usize::from(n.level), i, 1, 0);
     }
 
     /// The name's slot is free.
@@ -172,7 +182,7 @@ impl EntryWords {
         let bucket = self.bucket_place(n.level, n.bucket);
         put_tag(&mut self.tags, block, slot % BLOCK, 0);
         self.filled[bucket] = self.filled[bucket].min(u16::from(n.slot));
-        put(&mut self.books, i, 0, 0);
+        put_in(&mut self.books, usize::from(n.level), i, 0, 0);
     }
 
     /// The bits of a leaf.
@@ -181,7 +191,7 @@ impl EntryWords {
         requires level { n.level ≡ 0 }
         ensures { result ≡ key_bits (key_in self.now n) }
     {
-        item(&self.bits, self.leaf_place(n), 0)
+        item(&self.bits, self.place(n), 0)
     }
 
     /// The child in an octant of a node.
@@ -317,45 +327,28 @@ impl EntryWords {
         requires free { book_in self.old n ≡ 0 }
         ensures { PutsKey self.old n (key_of n.level words.now) self.new }
     {
+        let i = self.place(n);
         if n.level == 0 {
-            let i = self.leaf_place(n);
             put(&mut self.bits, i, words.bits, 0);
         } else {
-            let i = self.node_place(n);
-            put(&mut self.pairs, i, words.pairs, NO_PAIRS);
+            put_in(
+                &mut self.pairs,
+                usize::from(n.level) - 1,
+                i,
+                words.pairs,
+                NO_PAIRS,
+            );
         }
     }
 
-    // The place of the name's book.
+    // The place of the name's slot in the rows of its level.
     fn place(&self, n: Name) -> usize
         requires { IsName self.now.plan n }
         ensures value { result ≡ slot_place self.now.plan n }
-        ensures inside { result < number_of_slots self.now.plan }
+        ensures inside { result < slots_at self.now.plan n.level }
     {
-        usize::from(n.slot) * self.width + self.bucket_place(n.level, n.bucket)
-    }
-
-    // The place of a leaf's bits.
-    fn leaf_place(&self, n: Name) -> usize
-        requires name { IsName self.now.plan n }
-        requires level { n.level ≡ 0 }
-        ensures value { result ≡ leaf_place self.now.plan n }
-        ensures inside { result < leaf_buckets self.now.plan * self.now.plan.cap }
-    {
-        usize::from(n.slot) * self.ends[1] + usize::from(n.bucket)
-    }
-
-    // The place of a node's words.
-    fn node_place(&self, n: Name) -> usize
-        requires name { IsName self.now.plan n }
-        requires level { 1 ≤ n.level }
-        ensures value { result ≡ node_place self.now.plan n }
-        ensures inside { let p = self.now.plan in
-            result < (number_of_buckets p - leaf_buckets p) * p.cap }
-    {
-        let leaves = self.ends[1];
-        let bucket = self.bucket_place(n.level, n.bucket) - leaves;
-        usize::from(n.slot) * (self.width - leaves) + bucket
+        usize::from(n.slot) * usize::from(self.buckets[usize::from(n.level)])
+            + usize::from(n.bucket)
     }
 
     // The place of a block of a bucket's tags.
@@ -385,7 +378,7 @@ impl EntryWords {
         requires number { number < 4 }
         ensures { result ≡ pair_number (pairs_in self.now n) number }
     {
-        match self.pairs.get(self.node_place(n)) {
+        match row(&self.pairs, usize::from(n.level) - 1).get(self.place(n)) {
             Some(pairs) => pairs.word(number),
             None => 0,
         }
@@ -398,9 +391,10 @@ impl EntryWords {
         ensures { IsTrue result ↔ (key_in self.now n ≡ key_of n.level words.now) }
     {
         if n.level == 0 {
-            return item(&self.bits, self.leaf_place(n), 0) == words.bits;
+            return item(&self.bits, self.place(n), 0) == words.bits;
         }
-        item(&self.pairs, self.node_place(n), NO_PAIRS).is(&words.pairs)
+        let pairs = row(&self.pairs, usize::from(n.level) - 1);
+        item(pairs, self.place(n), NO_PAIRS).is(&words.pairs)
     }
 }
 

@@ -22,7 +22,7 @@ use Rattle.one_store.specs.declared.sought.SoughtKey.{SoughtKey}
 use Rattle.one_store.specs.Known.{Known, tree_in, trees_below, stored_root, root_tree}
 
 -- the same keys with other books
-abbrev pub with_books : Written → List ℕ → Written
+abbrev pub with_books : Written → List (List ℕ) → Written
 with_books w books = record w { books = books }
 
 -- only books and notes changed

@@ -1,35 +1,35 @@
-use Rattle.std.proofs.Common.{◌≡◌, ◌+◌, ◌-◌, ◌*◌, ◌/◌, ◌∙◌, ℕ, ap, arith}
+use Rattle.std.proofs.Common.{◌≡◌, ◌+◌, ◌-◌, ◌*◌, ◌/◌, ◌≤◌, ◌∙◌, ℕ, List, ap, sym, subst, arith}
 use Rattle.node_places.specs.Spots.{levels}
-use Rattle.std.specs.Prelude.{slice_index}
-use Rattle.entry_words.specs.Slots.{number_of_buckets, leaf_buckets}
-use Rattle.entry_words.proofs.SlotLaws.{some_leaves}
-use Rattle.entry_words.proofs.EntriesLaws.{entries_free, ends_given, last_end}
+use Rattle.std.specs.Prelude.{slice_index, vec_items}
+use Rattle.std.proofs.lemmas.List.{length-map}
+use Rattle.entry_words.specs.Slots.{number_of_buckets, slots_at}
+use Rattle.entry_words.specs.Rows.{rooms_of}
+use Rattle.entry_words.proofs.EntriesLaws.{entries_free, ends_given, last_end, rows_room}
 use Rattle.entry_words.proofs.entries.EntryWords.begin.Goals as goal
-
-pub overflow_sub-width : goal.overflow_sub-width
-overflow_sub-width c =
-    let p = c.args.plan.now in
-    let at = ends_given p _ c.ends_of-ends.result c.buckets-buckets.ensures.value c.ends_of-ends.ensures.ends c.ends_of-ends.ensures.small in
-    let top : c.from.result + 1 ≡ levels p = omega arith in
-    omega (arith, at.end 1 (omega arith), last_end p _ (c.from.result + 1) c.buckets-buckets.ensures.plan at top, some_leaves p (omega (arith, top)))
 
 pub invariant_of-result : goal.invariant_of-result
 invariant_of-result c =
     let p = c.args.plan.now in
-    let at = ends_given p _ c.ends_of-ends.result c.buckets-buckets.ensures.value c.ends_of-ends.ensures.ends c.ends_of-ends.ensures.small in
-    let top : c.from.result + 1 ≡ levels p = omega arith in
-    let wide = last_end p _ (c.from.result + 1) c.buckets-buckets.ensures.plan at top in
-    let leaves = at.end 1 (omega arith) in
+    let given = c.buckets-buckets.ensures.value in
+    let at = ends_given p _ c.ends_of-ends.result given c.ends_of-ends.ensures.ends c.ends_of-ends.ensures.small in
+    let top : c.from-levels.result + 1 ≡ levels p = omega arith in
+    let wide = last_end p _ (c.from-levels.result + 1) c.buckets-buckets.ensures.plan at top in
     let cap = c.from-cap.ensures ∙ c.cap.ensures.value in
-    let slots = ap (λ (k : ℕ). k * c.from-cap.result) wide ∙ ap (λ (k : ℕ). number_of_buckets p * k) cap in
-    let of_leaves = ap (λ (k : ℕ). k * c.from-cap.result) leaves ∙ ap (λ (k : ℕ). leaf_buckets p * k) cap in
-    let of_nodes = ap (λ (k : ℕ). (k - slice_index c.ends_of-ends.result 1) * c.from-cap.result) wide ∙ ap (λ (k : ℕ). (number_of_buckets p - k) * c.from-cap.result) leaves ∙ ap (λ (k : ℕ). (number_of_buckets p - leaf_buckets p) * k) cap in
     let of_blocks = ap (λ (k : ℕ). k * ((c.from-cap.result + 15) / 16)) wide ∙ ap (λ (k : ℕ). number_of_buckets p * ((k + 15) / 16)) cap in
-    entries_free _ _ c.buckets-buckets.ensures.plan c.buckets-buckets.ensures.value at wide
+    let of_leaves : slots_at p 0 ≡ c.from.result * c.from-cap.result = ap (λ (row : List ℕ). slice_index row 0 * p.cap) (sym given) ∙ ap (λ (k : ℕ). k * p.cap) (sym c.from.ensures) ∙ ap (λ (k : ℕ). c.from.result * k) (sym cap) in
+    let books = c.in_ok-empty_rows.field-0.items in
+    let pairs = c.in_ok-empty_rows-2.field-0.items in
+    let room = rows_room p _ 0 _ c.from-cap.result books c.in_ok-empty_rows.ensures given cap in
+    let room2 = rows_room p _ 1 _ c.from-cap.result pairs c.in_ok-empty_rows-2.ensures given cap in
+    entries_free _ _ c.buckets-buckets.ensures.plan given at wide
+    (omega (arith, length-map books vec_items, c.in_ok-empty_rows.ensures.number_is, top))
+    (omega (arith, length-map pairs vec_items, c.in_ok-empty_rows-2.ensures.number_is, top))
     (record {
-      books = omega (arith, slots, c.in_ok-with_capacity.ensures.capacity);
-      bits = omega (arith, of_leaves, c.in_ok-with_capacity-2.ensures.capacity);
-      pairs = omega (arith, of_nodes, c.in_ok-with_capacity-3.ensures.capacity);
-      tags = omega (arith, of_blocks, c.in_ok-with_capacity-4.ensures.capacity);
+      books = λ l lt.
+          let first : l - 0 ≡ l = omega arith in
+          subst (λ (k : ℕ). slots_at p l ≤ slice_index (rooms_of books) k) first (room l (omega arith) (omega (arith, lt, top)));
+      bits = omega (arith, of_leaves, c.in_ok-with_capacity.ensures.capacity);
+      pairs = λ l above lt. room2 l above (omega (arith, above, lt, top));
+      tags = omega (arith, of_blocks, c.in_ok-with_capacity-2.ensures.capacity);
     })
-    c.in_ok-with_capacity.ensures.items c.in_ok-with_capacity-4.ensures.items (c.in_ok-vec.ensures.items_if_clones_equal (λ y e. e)) (c.in_ok-vec-2.ensures.items_if_clones_equal (λ y e. e))
+    c.in_ok-empty_rows.ensures.empty c.in_ok-with_capacity-2.ensures.items (c.in_ok-vec.ensures.items_if_clones_equal (λ y e. e)) (c.in_ok-vec-2.ensures.items_if_clones_equal (λ y e. e))
