@@ -141,7 +141,7 @@ fn mix(old: u64, moved: u64, inside: u64) -> u64
 
 // Nearly all tasks of one walk differ in these numbers.
 fn place_of(level: u8, task: &CopyTask) -> usize
-    ensures { result < 1024 }
+    ensures { result < 2048 }
 {
     let part = word_of(task.part.at)
         .wrapping_mul(0x9E37_79B9_7F4A_7C15)
@@ -151,7 +151,7 @@ fn place_of(level: u8, task: &CopyTask) -> usize
     let mixed = part
         .wrapping_add(offset.wrapping_mul(0x94D0_49BB_1331_11EB))
         .wrapping_add(blocks.wrapping_mul(0xD6E8_FEB8_6659_FD93));
-    (mixed >> 54) as usize % 1024
+    (mixed >> 53) as usize % 2048
 }
 
 fn mark_of(sources: &[Option<Name>; 8]) -> u64

@@ -94,7 +94,7 @@ fn same_tasks(a: &BoxTask, b: &BoxTask) -> bool
 
 // Nearly all tasks of one walk differ in these numbers.
 fn place_of(level: u8, task: &BoxTask) -> usize
-    ensures { result < 1024 }
+    ensures { result < 2048 }
 {
     let old = match task.old {
         Some(name) => number_of(name),
@@ -106,7 +106,7 @@ fn place_of(level: u8, task: &BoxTask) -> usize
         .wrapping_mul(0x9E37_79B9_7F4A_7C15)
         .wrapping_add(at.wrapping_mul(0xBF58_476D_1CE4_E5B9))
         .wrapping_add(size.wrapping_mul(0x94D0_49BB_1331_11EB));
-    (mixed >> 54) as usize % 1024
+    (mixed >> 53) as usize % 2048
 }
 
 fn number_of(name: Name) -> u64 {

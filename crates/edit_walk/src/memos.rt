@@ -54,17 +54,17 @@ pub trait Repeats: Task {
     fn is_same(&self, other: &Self) -> bool
         ensures { IsTrue result → MakeAlike (Self.makes self.now) (Self.makes other.now) };
 
-    /// The place of the block of this level among 1,024. The more evenly it spreads, the more
+    /// The place of the block of this level among 2,048. The more evenly it spreads, the more
     /// blocks are found again.
     fn place(&self, level: u8) -> usize
-        ensures { result < 1024 };
+        ensures { result < 2048 };
 }
 
-/// Remembers a block at each of 1,024 places; a new one takes the place of an old. It takes no
+/// Remembers a block at each of 2,048 places; a new one takes the place of an old. It takes no
 /// memory but the stack's.
 #[derive(Drop)]
 pub struct Latest<T> {
-    places: [Option<Kept<T>>; 1024],
+    places: [Option<Kept<T>>; 2048],
 }
 
 impl<T: Repeats> Latest<T> {
@@ -73,7 +73,7 @@ impl<T: Repeats> Latest<T> {
         ensures { (level : ℕ) (e : Kept T) → ¬ IsKeptIn result.places level e }
     {
         Latest {
-            places: [None; 1024],
+            places: [None; 2048],
         }
     }
 }
