@@ -24,6 +24,9 @@ use std::marker::Brand;
 use std::sync::Wait;
 use std::thread;
 
+// How often whoever waits for a turn yields at most between two tries.
+const MOST_YIELDS: u32 = 16;
+
 // A load. What it tells may speak of `about`, which is for the proof alone.
 fn load_as<W: Telling, A>(
     table: &NodeTable,
@@ -96,9 +99,6 @@ pub(crate) fn take(table: &NodeTable, seat: &mut NumberedSeat, level: u8, bucket
     exchange_as::<Brand, (u8, u16)>(table, seat, place, 0, mine, &(level, bucket))
 }
 
-// How often whoever waits for a turn yields at most between two tries.
-const MOST_YIELDS: u32 = 16;
-
 // Lets others run, so often.
 #[inline(never)]
 fn yield_often(times: u32) {
@@ -107,8 +107,8 @@ fn yield_often(times: u32) {
     }
 }
 
-// Waits for the turn of the bucket, the longer the more tries have failed: each try takes the turn's
-// memory away from whoever has the turn.
+// Waits for the turn of the bucket, the longer the more tries have failed, since each takes the
+// turn's memory away from whoever has the turn.
 pub(crate) fn wait_for<R: Wait>(
     rt: &R,
     table: &NodeTable,
