@@ -1,5 +1,5 @@
 -- The cells of a part of a block of eight leaves, leaf by leaf.
-use Rattle.std.proofs.Common.{◌≡◌, ℕ, zero, suc, ◌+◌, ◌-◌, ◌^◌, ◌<◌, ◌≤◌, Bool, true, false, List, [], ◌∷◌, refl, sym, ap, subst, ◌∙◌, arith}
+use Rattle.std.proofs.Common.{◌≡◌, ℕ, zero, suc, ◌+◌, ◌-◌, ◌^◌, ◌<◌, Bool, true, false, List, [], ◌∷◌, refl, sym, ap, subst, ◌∙◌, arith}
 use Rattle.std.specs.Prelude.{◌==◌, bit_and, slice_index}
 use Rattle.std.specs.Int.{bit_at}
 use Rattle.std.specs.Int.RustNames.{count_ones}
@@ -7,19 +7,20 @@ use Rattle.std.proofs.lemmas.Nat.Bits.{bit_at-zero}
 use Rattle.vw_cell.specs.declared.cells.Cell.{Cell}
 use Rattle.vw_cell.specs.declared.boxes.Boxed.{Boxed}
 use Rattle.vw_cell.specs.declared.blocks.Block.{Block}
-use Rattle.vw_cell.specs.Places.{block_side, is_in_box, half_x, half_y, half_z}
+use Rattle.vw_cell.specs.Places.{block_side, is_in_box}
 use Rattle.vw_cell.specs.Tests.{is_in_box_holds}
 use Rattle.vw_cell.specs.Counts.{cell_at, number_in, number_below-same, number_below-none}
 use Rattle.node_kernels.specs.Leaves.{LeafShows}
 use Rattle.node_words.specs.Held.{Seen}
 use Rattle.node_shapes.specs.Tree.{Tree}
-use Rattle.block_walk.specs.Parts.{EndsBy, part_in, half_at, half_size}
+use Rattle.block_walk.specs.Parts.{EndsBy, part_in}
 use Rattle.block_walk.proofs.PartLaws.{part_has_cells}
 use Rattle.block_walk.proofs.LookLaws.{same_cell}
 use Rattle.measure.specs.declared.tallies.Part.{Part}
 use Rattle.measure.specs.Leaves.{TellsCells, leaf_block}
 use Rattle.measure.specs.Tallies.{Counting, in_octant, IsOctantTally}
 use Rattle.measure.proofs.LeafCounts.{leaf_number}
+use Rattle.measure.proofs.TallyLaws.{part_ends}
 
 -- which of eight words it is
 pub words_show : (b : Boxed) (m n o p q r s t : ℕ)
@@ -52,13 +53,6 @@ part_shown mask k b shows = record {
       ∙ ap (is_in_box (part_in 4 b k)) (sym (at_corner x y z));
 }
 
-half_ends : (half i at size : ℕ) → half_at half i at + half_size half i at size ≤ half
-half_ends half zero at size = omega arith
-half_ends half (suc i) at size = omega arith
-
-part_ends : (b : Boxed) (k : ℕ) → EndsBy 4 (part_in 4 b k)
-part_ends b k = record { x = half_ends 4 (half_x k) b.at.x b.size.x; y = half_ends 4 (half_y k) b.at.y b.size.y; z = half_ends 4 (half_z k) b.at.z b.size.z }
-
 pub counted_within : {S : Type 0} (counts : Counting S) (a c : Seen) (of : Part S) (k n bits mask : ℕ) (inner : S) → of.level ≡ 1 → c ≡ a → bits < 2 ^ 64
     → ((u : Cell → Bool) → counts a.held 1 of.subject u → counts a.held 0 inner (in_octant 1 k u)) → ((u : Cell → Bool) → counts c.held 0 inner u → TellsCells bits u)
     → LeafShows mask (leaf_block k) (is_in_box of.part) → n ≡ count_ones (bit_and bits mask) → IsOctantTally counts a.held of k n
@@ -66,7 +60,7 @@ counted_within {S = S} counts a c of k n bits mask inner level same small down b
     let P : ℕ → Type 0 = λ l. n ≡ number_in (part_in (block_side (l - 1)) of.part k) (in_octant l k test) in
     let there : counts a.held 1 of.subject test = subst (λ (l : ℕ). counts a.held l of.subject test) level p in
     let tells = bits_are (in_octant 1 k test) (subst (λ (s : Seen). counts s.held 0 inner (in_octant 1 k test)) (sym same) (down test there)) in
-    let one : P 1 = is ∙ leaf_number bits mask (part_in 4 of.part k) corner_block (in_octant 1 k test) small (part_ends of.part k) refl (part_shown mask k of.part shows) tells in
+    let one : P 1 = is ∙ leaf_number bits mask (part_in 4 of.part k) corner_block (in_octant 1 k test) small (part_ends 4 of.part k) refl (part_shown mask k of.part shows) tells in
     subst P (sym level) one
 
 -- where no bit is shown, none of the part lies there
@@ -86,5 +80,5 @@ none_there part test ends shows =
 pub none_within : {S : Type 0} (counts : Counting S) (held : List Tree) (of : Part S) (k mask : ℕ) → of.level ≡ 1 → mask ≡ 0 → LeafShows mask (leaf_block k) (is_in_box of.part) → IsOctantTally counts held of k 0
 none_within {S = S} counts held of k mask level none shows test p =
     let P : ℕ → Type 0 = λ l. 0 ≡ number_in (part_in (block_side (l - 1)) of.part k) (in_octant l k test) in
-    let one : P 1 = none_there (part_in 4 of.part k) (in_octant 1 k test) (part_ends of.part k) (subst (λ (m : ℕ). LeafShows m corner_block (is_in_box (part_in 4 of.part k))) none (part_shown mask k of.part shows)) in
+    let one : P 1 = none_there (part_in 4 of.part k) (in_octant 1 k test) (part_ends 4 of.part k) (subst (λ (m : ℕ). LeafShows m corner_block (is_in_box (part_in 4 of.part k))) none (part_shown mask k of.part shows)) in
     subst P (sym level) one

@@ -7,7 +7,7 @@ use Rattle.vw_cell.specs.declared.boxes.Boxed.{Boxed}
 use Rattle.vw_cell.specs.Places.{block_side, half_x, half_y, half_z}
 use Rattle.block_walk.specs.Sums.{sum_below, sum_below-suc, sum_below-zero, sum_below-le}
 use Rattle.vw_cell.specs.Counts.{number_in, number_below-none, number_below-same, number_below-le, cell_at}
-use Rattle.block_walk.specs.Parts.{EndsBy, IsEmpty, part_in, half_size}
+use Rattle.block_walk.specs.Parts.{EndsBy, IsEmpty, part_in, half_at, half_size}
 use Rattle.block_walk.proofs.LookLaws.{twice}
 use Rattle.block_walk.proofs.Octants.{number_by_octants}
 use Rattle.std.specs.Prelude.{List, Option}
@@ -121,9 +121,19 @@ pub octant_counts : {S : Type 0} (counts : Counting S) (a b : Seen) (level k : �
 octant_counts counts a b level k subject inner test e down p =
     (in_octant level k test, subst (λ (s : Seen). counts s.held (level - 1) inner (in_octant level k test)) (sym e) (down test p))
 
-pub octant_ends : (half level : ℕ) (part : Boxed) → half ≡ block_side (level - 1)
-    → EndsBy half part → EndsBy (block_side (level - 1)) part
-octant_ends half level part e ends = subst (λ (n : ℕ). EndsBy n part) e ends
+-- a part ends in its octant
+half_ends : (half i at size : ℕ) → half_at half i at + half_size half i at size ≤ half
+half_ends half zero at size = omega arith
+half_ends half (suc i) at size = omega arith
+
+pub part_ends : (half : ℕ) (b : Boxed) (k : ℕ) → EndsBy half (part_in half b k)
+part_ends half b k = record { x = half_ends half (half_x k) b.at.x b.size.x; y = half_ends half (half_y k) b.at.y b.size.y; z = half_ends half (half_z k) b.at.z b.size.z }
+
+pub octant_ends : (half k : ℕ) (b part : Boxed) → part ≡ part_in half b k → EndsBy half part
+octant_ends half k b part is = subst (λ (p : Boxed). EndsBy half p) (sym is) (part_ends half b k)
+
+pub octant_part : (half other k : ℕ) (b part : Boxed) → other ≡ half → part ≡ part_in other b k → part ≡ part_in half b k
+octant_part half other k b part e is = is ∙ ap (λ (h : ℕ). part_in h b k) e
 
 -- one more octant that was tallied
 pub octant_more : {S : Type 0} (counts : Counting S) (a b : Seen) (of : Part S) (k m n : ℕ)

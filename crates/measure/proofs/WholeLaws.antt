@@ -37,7 +37,7 @@ half_whole half i side e lt = omega (arith, half_none half i, half_all half i si
 abbrev box_at : ℕ → ℕ → ℕ → ℕ → ℕ → ℕ → Boxed
 box_at a b c x y z = record { at = cell_at a b c; size = cell_at x y z }
 
-boxes_same : (a b c x y z a' b' c' x' y' z' : ℕ) → a ≡ a' → b ≡ b' → c ≡ c' → x ≡ x' → y ≡ y' → z ≡ z' → box_at a b c x y z ≡ box_at a' b' c' x' y' z'
+pub boxes_same : (a b c x y z a' b' c' x' y' z' : ℕ) → a ≡ a' → b ≡ b' → c ≡ c' → x ≡ x' → y ≡ y' → z ≡ z' → box_at a b c x y z ≡ box_at a' b' c' x' y' z'
 boxes_same a b c x y z a' b' c' x' y' z' p q r u v w = rw (p, q, r, u, v, w) refl
 
 pub whole_part : (level k : ℕ) → 1 ≤ level → k < 8 → whole_of (level - 1) ≡ part_in (block_side (level - 1)) (whole_of level) k

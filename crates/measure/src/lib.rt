@@ -8,6 +8,7 @@ mod counts;
 mod extents;
 mod leaf_parts;
 mod leaves;
+mod octant_parts;
 mod pruning;
 mod tallies;
 mod wholes;

@@ -4,12 +4,13 @@ ghost use Rattle.vw_cell.specs.Places.{block_side};
 ghost use Rattle.vw_cell.specs.Counts.{number_in};
 ghost use Rattle.node_shapes.specs.Tree.{Tree};
 ghost use Rattle.block_walk.specs.Answers.{AreRight};
-ghost use Rattle.block_walk.specs.Parts.{EndsBy};
+ghost use Rattle.block_walk.specs.Parts.{EndsBy, part_in};
 ghost use Rattle.measure.specs.Leaves.{TellsCells};
 ghost use Rattle.measure.specs.Tallies.{in_octant, PassesNone, IsTally, IsWholeTally, IsOctantTally};
 
 use crate::leaf_parts::tally_leaf_parts;
 use crate::leaves::count_leaf;
+use crate::octant_parts::either_part;
 use crate::wholes::{Whole, tally_whole};
 use block_walk::{Answers, Query, half_side, is_empty, part_of, same_boxes, whole_block};
 use node_words::Blocks;
@@ -97,6 +98,7 @@ pub(crate) fn part_mark(part: Boxed) -> usize
 
 /// How many cells of the part count. Parts that are alike have one number, which is remembered; a
 /// part that is a whole block goes by what stands there alone.
+#[inline(always)]
 #[cycle(tally)]
 pub(crate) fn tally<S: Subject, B: Blocks>(
     store: &mut B,
@@ -122,6 +124,29 @@ pub(crate) fn tally<S: Subject, B: Blocks>(
     if is_empty(of.part) {
         return 0;
     }
+    tally_some(store, answers, wholes, of)
+}
+
+// The same, where something stands in the block and the part has cells.
+#[cycle(tally)]
+fn tally_some<S: Subject, B: Blocks>(
+    store: &mut B,
+    answers: &mut Answers<Part<S>>,
+    wholes: &mut Answers<Whole<S>>,
+    of: &Part<S>,
+) -> u64
+    requires level { of.now.level ≤ 10 }
+    requires block { (test : Cell → Bool)
+        × S.counts (B.seen store.old).held of.now.level of.now.subject test }
+    requires part { EndsBy (block_side of.now.level) of.now.part }
+    requires answers { AreRight (IsTally S.counts) (B.seen store.old).held answers.old.places }
+    requires wholes { AreRight (IsWholeTally S.counts) (B.seen store.old).held wholes.old.places }
+    ensures number { IsTally S.counts (B.seen store.old).held of.now result }
+    ensures answers { AreRight (IsTally S.counts) (B.seen store.old).held answers.new.places }
+    ensures wholes { AreRight (IsWholeTally S.counts) (B.seen store.old).held wholes.new.places }
+    ensures seen { B.seen store.new ≡ B.seen store.old }
+    ensures rests { B.rests store.old store.new }
+{
     if of.level == 0 {
         let bits = of.subject.leaf(store);
         return count_leaf(bits, of.part);
@@ -224,14 +249,20 @@ fn tally_octants<S: Subject, B: Blocks>(
     ensures seen { B.seen store.new ≡ B.seen store.old }
     ensures rests { B.rests store.old store.new }
 {
+    let half = half_side(of.level);
+    let low = part_of(half, of.part, 0);
+    let high = part_of(half, of.part, 7);
     let mut number = 0;
     for octant in 0..8u8 {
-        number += tally_octant(store, answers, wholes, of, octant);
+        let part = either_part(low, high, octant);
+        number += tally_octant(store, answers, wholes, of, octant, part);
     }
     number
 }
 
-// The same, of one octant. Where none of the part lies there, nothing of the octant is read.
+// The same, of one octant, where this is the part in it. Where none lies there, nothing of the
+// octant is read.
+#[inline(always)]
 #[cycle(tally)]
 fn tally_octant<S: Subject, B: Blocks>(
     store: &mut B,
@@ -239,11 +270,14 @@ fn tally_octant<S: Subject, B: Blocks>(
     wholes: &mut Answers<Whole<S>>,
     of: &Part<S>,
     octant: u8,
+    part: Boxed,
 ) -> u64
     requires level { (1 ≤ of.now.level) × (of.now.level ≤ 10) }
     requires octant { octant < 8 }
     requires block { (test : Cell → Bool)
         × S.counts (B.seen store.old).held of.now.level of.now.subject test }
+    requires part { part ≡ part_in (block_side (of.now.level - 1)) of.now.part octant }
+    requires ends { EndsBy (block_side (of.now.level - 1)) part }
     requires answers { AreRight (IsTally S.counts) (B.seen store.old).held answers.old.places }
     requires wholes { AreRight (IsWholeTally S.counts) (B.seen store.old).held wholes.old.places }
     ensures number { IsOctantTally S.counts (B.seen store.old).held of.now octant result }
@@ -252,7 +286,6 @@ fn tally_octant<S: Subject, B: Blocks>(
     ensures seen { B.seen store.new ≡ B.seen store.old }
     ensures rests { B.rests store.old store.new }
 {
-    let part = part_of(half_side(of.level), of.part, octant);
     if is_empty(part) {
         return 0;
     }

@@ -29,6 +29,7 @@ impl<S: Subject> Query for Whole<S> {
 
 /// How many cells of a whole block count. Blocks that are alike have one number, which is
 /// remembered by what stands in them alone.
+#[inline(always)]
 #[cycle(tally_whole)]
 pub(crate) fn tally_whole<S: Subject, B: Blocks>(
     store: &mut B,

@@ -6,13 +6,16 @@ use Rattle.measure.proofs.TallyLaws.{tallied}
 use Rattle.measure.proofs.tallies.+tally.Given as goal
 
 abbrev pub decreases-tally : goal.decreases-tally
-decreases-tally g l = 3 * l.of.now.level + 2
+decreases-tally g l = 4 * l.of.now.level + 3
+
+abbrev pub decreases-tally_some : goal.decreases-tally_some
+decreases-tally_some g l = 4 * l.of.now.level + 2
 
 abbrev pub decreases-tally_octants : goal.decreases-tally_octants
-decreases-tally_octants g l = 3 * l.of.now.level + 1
+decreases-tally_octants g l = 4 * l.of.now.level + 1
 
 abbrev pub decreases-tally_octant : goal.decreases-tally_octant
-decreases-tally_octant g l = 3 * l.of.now.level
+decreases-tally_octant g l = 4 * l.of.now.level
 
 abbrev pub invariant-tally_octants-loop-octant : goal.invariant-tally_octants-loop-octant
 invariant-tally_octants-loop-octant g l =
