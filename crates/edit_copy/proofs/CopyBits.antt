@@ -1,8 +1,6 @@
 -- The bits of a leaf that a copy makes.
-use Rattle.std.proofs.Common.{◌≡◌, ℕ, zero, suc, ◌+◌, ◌-◌, ◌%◌, ◌^◌, ◌<◌, ◌==◌, Bool, None, Option, List, refl, sym, ◌∙◌, ap, subst, arith, min, max}
+use Rattle.std.proofs.Common.{◌≡◌, ℕ, zero, suc, ◌+◌, ◌-◌, ◌%◌, ◌^◌, ◌<◌, ◌==◌, Bool, List, refl, sym, ◌∙◌, ap, arith, min, max}
 use Rattle.std.specs.Prelude.{if◌then◌else◌}
-use Rattle.std.proofs.Common.{inl, inr, set, length, get_or-set_same, get_or-set_other}
-use Rattle.std.proofs.lemmas.Bool.{cases_eq}
 use Rattle.std.specs.Prelude.{bit_or, bit_and, slice_index}
 use Rattle.std.specs.Int.{bit_at, bit_not, w64}
 use Rattle.std.proofs.lemmas.Nat.Bits.{bit_at_or, bit_at_and, bit_at_not, bit_at-lt}
@@ -10,11 +8,9 @@ use Rattle.node_kernels.specs.Leaves.{LeafShows, LiesAcross}
 use Rattle.node_kernels.proofs.LeafLaws.{across_has}
 use Rattle.edit_cells.proofs.WorldLaws.{leaf_places}
 use Rattle.vw_cell.specs.Places.{is_in_box}
-use Rattle.node_shapes.specs.declared.names.Name.{Name}
 use Rattle.node_shapes.specs.Shape.{Shape, Leaf, bits_of, bit_number, octant_number, branch_of, has}
 use Rattle.node_shapes.specs.Tree.{Tree, shape_of}
 use Rattle.node_shapes.proofs.ShapeLaws.{octant_shape-branch_of}
-use Rattle.node_words.specs.Held.{name_in}
 use Rattle.cell_shapes.specs.CellShapes.{Cells, SameIn}
 use Rattle.edit_cells.specs.Worlds.{block_at_origin}
 use Rattle.edit_copy.specs.declared.copies.CopyTask.{CopyTask}
@@ -80,10 +76,3 @@ copy_bits base task cells old inside across bits leaves m small e l a shows q = 
       (ap (λ (n : ℕ). bit_at n i == 1) e ∙ tree_has m.tree x y z)
       ∙ sym (m.shows.each x y z lx ly lz);
 }
-
--- one more name of a row was put
-pub names_more : (xs : List (Option Name)) (k : ℕ) (v : Option Name) (P : ℕ → Option Name → Type 0) → k < length xs → ((i : ℕ) → i < k → P i (name_in xs i)) → P k v → (i : ℕ) → i < k + 1 → P i (name_in (set xs k v) i)
-names_more xs k v P lt h e i below = elim (cases_eq i k) [
-  | inl q ↦ subst (λ (n : Option Name). P i n) (sym (ap (λ (j : ℕ). name_in (set xs k v) j) q ∙ get_or-set_same xs k v None lt)) (subst (λ (j : ℕ). P j v) (sym q) e)
-  | inr ne ↦ subst (λ (n : Option Name). P i n) (sym (get_or-set_other xs k i v None ne)) (h i (omega arith))
-]

@@ -3,3 +3,4 @@ pub mod CopyLaws
 pub mod CopyBits
 pub mod StartLaws
 pub mod StepLaws
+pub mod SourceLaws

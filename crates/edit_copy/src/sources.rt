@@ -90,6 +90,7 @@ fn is_far(half: u8, offset: u16) -> bool
 ghost use Rattle.edit_copy.specs.Copies.{is_unread_on};
 
 // Source j of the octant whose sources begin here, from this offset on.
+#[inline(always)]
 fn source_in<B: Blocks>(
     store: &mut B,
     level: u8,
@@ -136,12 +137,16 @@ pub(crate) fn sources_in<B: Blocks>(
     ensures seen { B.seen store.new ≡ B.seen store.old }
     ensures rests { B.rests store.old store.new }
 {
-    let mut parts: [Option<Name>; 8] = [None; 8];
-    for j in 0..8usize {
-        let part = source_in(store, level, sources, at, offset, j as u8);
-        parts[j] = part;
-    }
-    parts
+    [
+        source_in(store, level, sources, at, offset, 0),
+        source_in(store, level, sources, at, offset, 1),
+        source_in(store, level, sources, at, offset, 2),
+        source_in(store, level, sources, at, offset, 3),
+        source_in(store, level, sources, at, offset, 4),
+        source_in(store, level, sources, at, offset, 5),
+        source_in(store, level, sources, at, offset, 6),
+        source_in(store, level, sources, at, offset, 7),
+    ]
 }
 
 // The bits of eight leaves, or of none.
