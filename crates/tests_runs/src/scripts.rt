@@ -10,26 +10,21 @@ const STEPS: [i16; 7] = [-3, -2, -1, 0, 1, 2, 3];
 /// The size of the first model.
 const MODEL: Cell = Cell { x: 3, y: 2, z: 2 };
 
+/// What the edits of a script are, and whether it has saves.
+#[derive(Clone, Copy)]
+pub(crate) enum Edits {
+    Any,
+    /// The same, where each fourth line is a save.
+    AnyAndSaves,
+    /// Each edit fills or clears a box of octants of the world. Only few leaves and nodes below the
+    /// root are different then, and many roots.
+    Octants,
+}
+
 /// A script of so many lines for a world of this side.
 pub(crate) fn script(
     alloc: Global,
-    seed: u64,
-    side: u16,
-    lines: u16,
-) -> Result<String, AllocError> {
-    let mut draws = Draws::new(seed);
-    let mut text = String::new(alloc);
-    for _ in 0..lines {
-        let line = line(alloc, &mut draws, side)?;
-        text.push_str(line.as_str())?;
-        text.push_str("\n")?;
-    }
-    Ok(text)
-}
-
-/// The same, where each fourth line is a save.
-pub(crate) fn saving_script(
-    alloc: Global,
+    edits: Edits,
     seed: u64,
     side: u16,
     lines: u16,
@@ -37,11 +32,26 @@ pub(crate) fn saving_script(
     let mut draws = Draws::new(seed);
     let mut text = String::new(alloc);
     for number in 0..lines {
-        let line = line_or_save(alloc, seed, number, &mut draws, side)?;
+        let line = next_line(alloc, edits, seed, number, &mut draws, side)?;
         text.push_str(line.as_str())?;
         text.push_str("\n")?;
     }
     Ok(text)
+}
+
+fn next_line(
+    alloc: Global,
+    edits: Edits,
+    seed: u64,
+    number: u16,
+    draws: &mut Draws,
+    side: u16,
+) -> Result<String, AllocError> {
+    match edits {
+        Edits::Any => line(alloc, draws, side),
+        Edits::AnyAndSaves => line_or_save(alloc, seed, number, draws, side),
+        Edits::Octants => coarse_line(alloc, draws, side),
+    }
 }
 
 fn line_or_save(
@@ -55,25 +65,6 @@ fn line_or_save(
         return saved(alloc, seed, number, draws, side);
     }
     line(alloc, draws, side)
-}
-
-/// The same, where each edit fills or clears a box of octants of the world.
-///
-/// Only few leaves and nodes below the root are different then, and many roots.
-pub(crate) fn coarse_script(
-    alloc: Global,
-    seed: u64,
-    side: u16,
-    lines: u16,
-) -> Result<String, AllocError> {
-    let mut draws = Draws::new(seed);
-    let mut text = String::new(alloc);
-    for _ in 0..lines {
-        let line = coarse_line(alloc, &mut draws, side)?;
-        text.push_str(line.as_str())?;
-        text.push_str("\n")?;
-    }
-    Ok(text)
 }
 
 fn coarse_line(alloc: Global, draws: &mut Draws, side: u16) -> Result<String, AllocError> {

@@ -1,18 +1,10 @@
 use crate::comparing::{Ended, Run, is_as_plain, run_program};
-use crate::scripts::{coarse_script, saving_script, script};
+use crate::scripts::{Edits, script};
 use node_words::Plan;
-use std::alloc::{AllocError, Global};
+use std::alloc::Global;
 use std::test::Fail;
 use transcript::{Answer, LineAnswer};
 use vw_cell::Side;
-
-// What the edits of a row are, and whether it has saves.
-#[derive(Clone, Copy)]
-enum Edits {
-    Any,
-    AnyAndSaves,
-    Octants,
-}
 
 // The side, the buckets of each level, their cap, and what the scripts are drawn by.
 type Row = (u16, u16, u16, u64);
@@ -85,8 +77,8 @@ impl Drawn {
 fn draw(alloc: Global, edits: Edits, row: &Row) -> Result<Drawn, Fail> {
     let &(side, buckets, cap, seed) = row;
     let lines = if side < 16 { 40 } else { 20 };
-    let first = text_of(alloc, edits, seed, side, lines)?;
-    let second = text_of(alloc, edits, seed.wrapping_add(100), side, lines / 2)?;
+    let first = script(alloc, edits, seed, side, lines)?;
+    let second = script(alloc, edits, seed.wrapping_add(100), side, lines / 2)?;
     let side = Side::new(u32::from(side)).ok_or("a side")?;
     let plan = Plan::even(side, buckets, cap).ok_or("a plan")?;
     Ok(Drawn {
@@ -94,20 +86,6 @@ fn draw(alloc: Global, edits: Edits, row: &Row) -> Result<Drawn, Fail> {
         first,
         second,
     })
-}
-
-fn text_of(
-    alloc: Global,
-    edits: Edits,
-    seed: u64,
-    side: u16,
-    lines: u16,
-) -> Result<String, AllocError> {
-    match edits {
-        Edits::Any => script(alloc, seed, side, lines),
-        Edits::AnyAndSaves => saving_script(alloc, seed, side, lines),
-        Edits::Octants => coarse_script(alloc, seed, side, lines),
-    }
 }
 
 // What a row showed.
@@ -131,6 +109,13 @@ fn show(alloc: Global, edits: Edits, level: u8, row: &Row) -> Result<Shown, Fail
         at_level: is_full_at(ended.told(0), level) || is_full_at(ended.told(1), level),
         goes_on: goes_on(ended.told(0)) || goes_on(ended.told(1)),
     })
+}
+
+// Whether the row runs as the plain run does, some edit is refused at this level, and a change is
+// accepted behind it.
+fn refuses(alloc: Global, edits: Edits, level: u8, row: &Row) -> Result<bool, Fail> {
+    let shown = show(alloc, edits, level, row)?;
+    Ok(shown.same && shown.at_level && shown.goes_on)
 }
 
 fn is_full(ended: &Ended) -> bool {
@@ -193,14 +178,8 @@ fn scripts_by_chance_run_as_plain_ones(rt: HostRuntime) -> Result<(), Fail> {
 #[test]
 fn leaves_without_room_refuse_an_edit(rt: HostRuntime) -> Result<(), Fail> {
     for row in FEW_LEAVES {
-        let shown = show(rt.alloc(), Edits::Any, 0, row)?;
-        assert!(rt; shown.same, "side {}, number {}", row.0, row.3);
-        assert!(rt;
-            shown.at_level && shown.goes_on,
-            "side {}, number {}",
-            row.0,
-            row.3
-        );
+        let refuses = refuses(rt.alloc(), Edits::Any, 0, row)?;
+        assert!(rt; refuses, "side {}, number {}", row.0, row.3);
     }
     Ok(())
 }
@@ -208,14 +187,8 @@ fn leaves_without_room_refuse_an_edit(rt: HostRuntime) -> Result<(), Fail> {
 #[test]
 fn nodes_without_room_refuse_an_edit(rt: HostRuntime) -> Result<(), Fail> {
     for row in FEW_NODES {
-        let shown = show(rt.alloc(), Edits::Any, 1, row)?;
-        assert!(rt; shown.same, "side {}, number {}", row.0, row.3);
-        assert!(rt;
-            shown.at_level && shown.goes_on,
-            "side {}, number {}",
-            row.0,
-            row.3
-        );
+        let refuses = refuses(rt.alloc(), Edits::Any, 1, row)?;
+        assert!(rt; refuses, "side {}, number {}", row.0, row.3);
     }
     Ok(())
 }
@@ -224,14 +197,8 @@ fn nodes_without_room_refuse_an_edit(rt: HostRuntime) -> Result<(), Fail> {
 fn roots_without_room_refuse_an_edit(rt: HostRuntime) -> Result<(), Fail> {
     for row in FEW_ROOTS {
         let root = if row.0 < 16 { 1 } else { 2 };
-        let shown = show(rt.alloc(), Edits::Octants, root, row)?;
-        assert!(rt; shown.same, "side {}, number {}", row.0, row.3);
-        assert!(rt;
-            shown.at_level && shown.goes_on,
-            "side {}, number {}",
-            row.0,
-            row.3
-        );
+        let refuses = refuses(rt.alloc(), Edits::Octants, root, row)?;
+        assert!(rt; refuses, "side {}, number {}", row.0, row.3);
     }
     Ok(())
 }
