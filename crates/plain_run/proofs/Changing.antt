@@ -6,7 +6,6 @@ use Rattle.std.proofs.Math.Seq.{get_or-append_seam}
 use Rattle.std.proofs.lemmas.Bool.{cases_lt}
 use Rattle.std.proofs.lemmas.List.{get_or_append_left, take_all, take_more, take-append-le, take-append-drop, length-take-le, length-drop, get_or-take, get_or-drop}
 use Rattle.std.proofs.lemmas.List.Elements.{All-push}
-use Rattle.std.proofs.lemmas.Option.{none-some, same_Some}
 use Rattle.vw_cell.specs.declared.cells.Cell.{Cell}
 use Rattle.vw_cell.specs.Counts.{cell_at}
 use Rattle.vw_cell.specs.Places.{block_side}
@@ -17,9 +16,8 @@ use Rattle.history_model.specs.declared.histories.Mark.{Mark}
 use Rattle.history_model.specs.declared.histories.Record.{Record}
 use Rattle.history_model.specs.Laws.{position_of_next}
 use Rattle.history_model.specs.LegalLaws.{edit_follows, legal_next, legal_empty}
-use Rattle.history_model.specs.Logs.{Log, FitsWorld, MayFollow, HasTarget, IsLegal}
-use Rattle.history_model.specs.PositionLaws.{names_below}
-use Rattle.history_model.specs.Positions.{Position, beginning, position_after, next_position, first_of, undone, redone}
+use Rattle.history_model.specs.Logs.{Log, FitsWorld, MayFollow, IsLegal}
+use Rattle.history_model.specs.Positions.{Position, beginning, position_after, next_position, first_of}
 use Rattle.history_model.specs.Worlds.{World, is_edit}
 use Rattle.node_shapes.specs.Shape.{Shape}
 use Rattle.node_words.specs.Gathering.{unchanged}
@@ -39,6 +37,7 @@ use Rattle.conformance.specs.Running.{GrowsBy, ForgetsBy}
 use Rattle.conformance.proofs.LineKinds.{undo_target, redo_target, full_way}
 use Rattle.script_runs.specs.Keeping.{IsTarget, last_moment}
 use Rattle.script_runs.specs.Sessions.{TakesLine}
+use Rattle.script_runs.proofs.Going.{goes_to}
 use Rattle.script_runs.proofs.Arms.{rebuilt_arm, undone_arm, forgot_arm, before_within}
 use Rattle.plain_run.specs.declared.histories.PlainHistory.{PlainHistory}
 use Rattle.plain_run.specs.Histories.{ArePlain, AreNows, HasMarkOf, plain_log, plain_marks, plain_moment}
@@ -136,51 +135,12 @@ edit_goes_on h act edit = edit_now (plain_moment h + 1) act (position_after h.re
 
 -- ---- where an undo or a redo goes
 
-goes_undo : (past : List ℕ) (now : ℕ) (future : List ℕ) (v : ℕ) → first_of past ≡ Some v → v ≡ (undone past now future).now
-goes_undo [] now future v e = absurd (none-some v e)
-goes_undo (to ∷ past) now future v e = sym (same_Some to v e)
-
-goes_redo : (past : List ℕ) (now : ℕ) (future : List ℕ) (v : ℕ) → first_of future ≡ Some v → v ≡ (redone past now future).now
-goes_redo past now [] v e = absurd (none-some v e)
-goes_redo past now (to ∷ future) v e = sym (same_Some to v e)
-
-has_target : (marks : List Mark) (n : ℕ) (past : List ℕ) (v : ℕ) → first_of past ≡ Some v → IsUnmarked marks v → HasTarget marks n past
-has_target marks n [] v e unmarked = absurd (none-some v e)
-has_target marks n (to ∷ more) v e unmarked = λ k m lt same. absurd (unmarked k m lt (same ∙ same_Some to v e))
-
-first_below : (past : List ℕ) (v n : ℕ) → first_of past ≡ Some v → All (λ w. w < n) past → v < n
-first_below [] v n e below = absurd (none-some v e)
-first_below (to ∷ past) v n e below = subst (λ (w : ℕ). w < n) (same_Some to v e) (below 0 0 (omega arith))
-
-record GoesTo (log : Log) (act : Act) (to : ℕ) : Type 0 where
-  there : to ≤ length log.records
-  now : to ≡ (next_position (length log.records + 1) act (position_after log.records)).now
-  may : IsUnmarked log.marks to → MayFollow log.marks (length log.records + 1) act (position_after log.records)
-
-goes_to : (log : Log) (act : Act) (to : ℕ) → is_edit act ≡ false → target_at log.records (length log.records) act ≡ Some to → GoesTo log act to
-goes_to log Undo to other e =
-    let at = position_after log.records in
-    let first : first_of at.past ≡ Some to = sym (undo_target log.records) ∙ e in
-    let lt = first_below at.past to (length log.records + 1) first (names_below log.records).past in
-    record { there = omega arith; now = goes_undo at.past at.now at.future to first; may = has_target log.marks (length log.records + 1) at.past to first }
-goes_to log Redo to other e =
-    let at = position_after log.records in
-    let first : first_of at.future ≡ Some to = sym (redo_target log.records) ∙ e in
-    let lt = first_below at.future to (length log.records + 1) first (names_below log.records).future in
-    record { there = omega arith; now = goes_redo at.past at.now at.future to first; may = has_target log.marks (length log.records + 1) at.future to first }
-goes_to log (Fill b) to other e = absurd (let no : ⊥ = cc in no)
-goes_to log (Erase b) to other e = absurd (let no : ⊥ = cc in no)
-goes_to log (Ball b) to other e = absurd (let no : ⊥ = cc in no)
-goes_to log (Carve b) to other e = absurd (let no : ⊥ = cc in no)
-goes_to log (Copy b c) to other e = absurd (let no : ⊥ = cc in no)
-goes_to log (Stamp b c) to other e = absurd (let no : ⊥ = cc in no)
-
 module _ (h : PlainHistory) (act : Act) (to : ℕ) (other : is_edit act ≡ false) (goes : target_at h.records.items (plain_moment h) act ≡ Some to) where
   pub goes_there : to ≤ plain_moment h
   goes_there = (goes_to (plain_log h) act to other goes).there
 
   pub goes_now : to ≡ (next_position (plain_moment h + 1) act (position_after h.records.items)).now
-  goes_now = (goes_to (plain_log h) act to other goes).now
+  goes_now = sym (goes_to (plain_log h) act to other goes).goes
 
   pub may_go_to : IsUnmarked (plain_marks h) to → MayFollow (plain_marks h) (plain_moment h + 1) act (position_after h.records.items)
   may_go_to unmarked = (goes_to (plain_log h) act to other goes).may unmarked

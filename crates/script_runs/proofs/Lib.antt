@@ -7,3 +7,4 @@ pub mod Saving
 pub mod Arms
 pub mod Singles
 pub mod HeadLines
+pub mod Going

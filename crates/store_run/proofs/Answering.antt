@@ -42,7 +42,8 @@ use Rattle.store_run.specs.Steps.{HasMark, LeavesAll, SharesRoot, MakesRoot, Mee
 use Rattle.store_run.specs.Answering.{GoesOnBy, nothing_to_go_to, saved_as}
 use Rattle.store_run.proofs.Holding.{same_again}
 use Rattle.store_run.proofs.Sparing.{versions_sound, gave_nothing}
-use Rattle.store_run.proofs.Targets.{is_target, goes_to}
+use Rattle.script_runs.proofs.Going.{goes_to}
+use Rattle.store_run.proofs.Targets.{is_target}
 
 moment_as : (old new : Versions) → log_of new ≡ log_of old → moment_of new ≡ moment_of old
 moment_as old new log = ap (λ (l : Log). length l.records) log
@@ -259,7 +260,7 @@ module _ (v : Versions) (session line : ℕ) (act : Act) (once : Bool) (are : Ar
 
   pub go_past : (to : ℕ) (answer : Answer) → target_at v.records.items (moment_of v) act ≡ Some to → moment_of v < to
       → GoesOnBy v session (record { line = line; command = Edit act once }) answer v
-  go_past to answer goes past = absurd (let g = goes_to (log_of v) act to other goes in let le = g.0 in omega arith)
+  go_past to answer goes past = absurd (let g = goes_to (log_of v) act to other goes in let le = g.there in omega arith)
 
   pub go_late : (to : ℕ) → target_at v.records.items (moment_of v) act ≡ Some to → IsKept (log_of v) to → moment_of v ≡ 65535
       → GoesOnBy v session (record { line = line; command = Edit act once }) answers.LogFull v

@@ -1,17 +1,14 @@
 -- What a record that comes next makes, and where an undo or a redo goes.
-use Rattle.std.proofs.Common.{◌≡◌, ◌≢◌, ℕ, ◌+◌, ◌-◌, ◌^◌, ◌<◌, ◌≤◌, true, false, Some, Option, List, [], ◌∷◌, length, refl, sym, ◌∙◌, ap, subst, arith}
-use Rattle.std.specs.Prelude.{All}
-use Rattle.std.proofs.lemmas.Option.{none-some, same_Some}
+use Rattle.std.proofs.Common.{◌≡◌, ◌≢◌, ℕ, ◌+◌, ◌-◌, ◌^◌, ◌<◌, ◌≤◌, true, false, Some, Option, List, length, refl, sym, ◌∙◌, ap, subst, arith}
 use Rattle.vw_cell.specs.declared.cells.Cell.{Cell}
 use Rattle.vw_cell.specs.Counts.{cell_at}
 use Rattle.vw_cell.specs.Places.{block_side}
 use Rattle.vox_read.specs.Contents.{Content}
 use Rattle.history_model.specs.declared.acts.Act.{Act}
-use Rattle.history_model.specs.declared.acts.Act.TheVariants.{Fill, Erase, Ball, Carve, Copy, Stamp, Undo, Redo}
+use Rattle.history_model.specs.declared.acts.Act.TheVariants.{Undo, Redo}
 use Rattle.history_model.specs.declared.histories.Record.{Record}
 use Rattle.history_model.specs.LegalLaws.{edit_follows}
-use Rattle.history_model.specs.Logs.{Log, FitsWorld, MayFollow, HasTarget}
-use Rattle.history_model.specs.PositionLaws.{names_below}
+use Rattle.history_model.specs.Logs.{Log, FitsWorld}
 use Rattle.history_model.specs.Positions.{position_after, first_of, undone, redone}
 use Rattle.history_model.specs.Worlds.{World, is_edit}
 use Rattle.node_shapes.specs.declared.names.Name.{Name}
@@ -22,12 +19,12 @@ use Rattle.cell_shapes.proofs.CellShapeLaws.{shape_with-has, shape_with-canonica
 use Rattle.block_contents.specs.Aligned.{top, world_block}
 use Rattle.block_contents.specs.Versions.{IsKept, IsUnmarked}
 use Rattle.core_laws.specs.LogEvents.{MayAppend}
-use Rattle.core_laws.specs.Making.{version_gone_to}
 use Rattle.core_laws.proofs.Targets.{may_go}
 use Rattle.edit_cells.specs.Worlds.{world_shape, world_cells, block_at_origin}
 use Rattle.conformance.specs.Answers.{target_at}
 use Rattle.conformance.proofs.LineKinds.{undo_target, redo_target}
 use Rattle.script_runs.specs.Keeping.{IsTarget}
+use Rattle.script_runs.proofs.Going.{goes_to}
 use Rattle.undo_trail.specs.Trails.{trail_position}
 use Rattle.one_store.specs.Known.{IsStore, root_tree, stored_root}
 use Rattle.store_run.specs.declared.versions.Versions.{Versions}
@@ -87,46 +84,6 @@ may_edit v u r root are makes edit fits late few =
 
 -- ---- where an undo or a redo goes
 
-goes_undo : (past : List ℕ) (now : ℕ) (future : List ℕ) (v : ℕ) → first_of past ≡ Some v → (undone past now future).now ≡ v
-goes_undo [] now future v e = absurd (none-some v e)
-goes_undo (to ∷ past) now future v e = same_Some to v e
-
-goes_redo : (past : List ℕ) (now : ℕ) (future : List ℕ) (v : ℕ) → first_of future ≡ Some v → (redone past now future).now ≡ v
-goes_redo past now [] v e = absurd (none-some v e)
-goes_redo past now (to ∷ future) v e = same_Some to v e
-
-has_target : (log : Log) (past : List ℕ) (v : ℕ) → first_of past ≡ Some v → IsUnmarked log.marks v → HasTarget log.marks (length log.records + 1) past
-has_target log [] v e unmarked = absurd (none-some v e)
-has_target log (to ∷ more) v e unmarked = λ k m lt same. absurd (unmarked k m lt (same ∙ same_Some to v e))
-
-first_below : (past : List ℕ) (v n : ℕ) → first_of past ≡ Some v → All (λ w. w < n) past → v < n
-first_below [] v n e below = absurd (none-some v e)
-first_below (to ∷ more) v n e below = subst (λ (w : ℕ). w < n) (same_Some to v e) (below 0 0 (omega arith))
-
-pub record GoesTo (records : List Record) (log : Log) (act : Act) (to : ℕ) : Type 0 where
-  pub there : to ≤ length records
-  pub goes : version_gone_to records act ≡ to
-
-pub goes_to : (log : Log) (act : Act) (to : ℕ) → is_edit act ≡ false → target_at log.records (length log.records) act ≡ Some to
-    → (to ≤ length log.records) × (version_gone_to log.records act ≡ to)
-    × (IsUnmarked log.marks to → MayFollow log.marks (length log.records + 1) act (position_after log.records))
-goes_to log Undo to other e =
-    let at = position_after log.records in
-    let first : first_of at.past ≡ Some to = sym (undo_target log.records) ∙ e in
-    let lt = first_below at.past to (length log.records + 1) first (names_below log.records).past in
-    (omega arith, goes_undo at.past at.now at.future to first, has_target log at.past to first)
-goes_to log Redo to other e =
-    let at = position_after log.records in
-    let first : first_of at.future ≡ Some to = sym (redo_target log.records) ∙ e in
-    let lt = first_below at.future to (length log.records + 1) first (names_below log.records).future in
-    (omega arith, goes_redo at.past at.now at.future to first, has_target log at.future to first)
-goes_to log (Fill b) to other e = absurd (let no : ⊥ = cc in no)
-goes_to log (Erase b) to other e = absurd (let no : ⊥ = cc in no)
-goes_to log (Ball b) to other e = absurd (let no : ⊥ = cc in no)
-goes_to log (Carve b) to other e = absurd (let no : ⊥ = cc in no)
-goes_to log (Copy b c) to other e = absurd (let no : ⊥ = cc in no)
-goes_to log (Stamp b c) to other e = absurd (let no : ⊥ = cc in no)
-
 pub may_go_to : (v u : Versions) (r : Record) (to number : ℕ) (root : Option Name) → AreVersions u → IsStore u.store number → SharesRoot v to root u
     → is_edit r.act ≡ false → target_at v.records.items (moment_of v) r.act ≡ Some to → IsKept (log_of v) to → moment_of v ≢ 65535 → moment_of v ≤ 65535
     → MayAppend (plan_of u) u.models.items r root (core_with (log_of u) u.store)
@@ -136,9 +93,9 @@ may_go_to v u r to number root are st shares other goes kept late few =
     let goes_now : target_at u.records.items (moment_of u) r.act ≡ Some to = (λ i. target_at ((log i).records) (length ((log i).records)) r.act) ∙ goes in
     let g = goes_to (log_of u) r.act to other goes_now in
     let kept_now : IsUnmarked (log_of u).marks to = subst (λ (l : Log). IsUnmarked l.marks to) (sym log) kept.unmarked in
-    let may = may_go (plan_of u) u.models.items r (core_with (log_of u) u.store) (versions_sound u number are st) (omega (arith, late, now)) other (g.2 kept_now) in
+    let may = may_go (plan_of u) u.models.items r (core_with (log_of u) u.store) (versions_sound u number are st) (omega (arith, late, now)) other (g.may kept_now) in
     subst (λ (o : Option Name). MayAppend (plan_of u) u.models.items r o (core_with (log_of u) u.store))
-    (ap (stored_root u.store.roots) g.1 ∙ sym shares.is) may
+    (ap (stored_root u.store.roots) g.goes ∙ sym shares.is) may
 
 -- what the trail tells
 pub target_undo : (v : Versions) → AreVersions v → first_of (trail_position v.trail).past ≡ target_at v.records.items (moment_of v) Undo
