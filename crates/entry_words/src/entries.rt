@@ -32,8 +32,8 @@ use vw_cell::Side;
 /// For each slot there is a byte, its tag, by which searches pass over most slots of a bucket. They
 /// stand in blocks of sixteen, and the first blocks of all buckets side by side, then the second
 /// ones. Of each bucket is known how far its slots were ever used, and no search goes on behind
-/// that; and up to where all its slots are live, so that a free one is sought from there. Contracts
-/// see none of these.
+/// that; and up to where all its slots are live, so that a free one is sought from there. No
+/// contract shows these but that of `used_of`.
 #[derive(Drop)]
 pub struct EntryWords {
     plan: Plan,

@@ -32,8 +32,8 @@ pub(crate) const NO_PAIRS: Pairs = Pairs {
 };
 
 impl Pairs {
-    // The word of this number, from 0 to 3. Where it stands is chosen before it is read, since which
-    // one is asked for is hard to foretell, and a choice between two places takes no jump.
+    // The word of this number, from 0 to 3. Where it stands is chosen before it is read, since it
+    // is hard to foretell which one is asked for, and a choice between two places takes no jump.
     pub(crate) fn word(&self, number: u8) -> u64
         requires { number < 4 }
         ensures { result ≡ pair_number self.now number }
