@@ -95,7 +95,7 @@ fn copy_box<M: Memo<CopyTask>, N: NodeStore, L: Ledger>(
 }
 
 // To remember blocks costs more than it saves in a box of at most this size on each axis.
-const FEW: u16 = 16;
+const FEW: u16 = 32;
 
 fn is_small(size: Cell) -> bool {
     size.x <= FEW && size.y <= FEW && size.z <= FEW
