@@ -1,5 +1,5 @@
 #!/usr/bin/env bash
-# Times the store for one thread against the same rows and loops in plain Rust: bench/one_store.sh
+# Times the store for one thread against the same words and loops in plain Rust: bench/one_store.sh
 #
 # The program bench/one_store/main.rt.in stands in no crates.txt, and not under the name of a source, so that the gate
 # doesn't ask for its proof. This makes a folder of copies, proves and builds the program there, and runs it and the

@@ -1,4 +1,4 @@
-//! The peer of the words of a store: the same rows, tags and loops in plain Rust. It prints the same lines.
+//! The peer of the words of a store: the same words, tags and loops in plain Rust, bucket by bucket. It prints the same lines.
 use std::hint::black_box;
 use std::time::Instant;
 
