@@ -16,7 +16,8 @@ item_in empty rows k i = slice_index_or (slice_index_or rows k []) i empty
 pub record PutsIn {A : Type 0} (empty : A) (old : List (List A)) (k i : ℕ) (item : A)
     (new : List (List A)) : Type 0 where
   pub here : item_in empty new k i ≡ item
-  pub others : (l j : ℕ) → (l ≡ k → j ≢ i) → item_in empty new l j ≡ item_in empty old l j
+  pub others : (l j : ℕ) → (l ≡ k → j ≢ i)
+      → item_in empty new l j ≡ item_in empty old l j
   pub rows : length new ≡ length old
 
 -- what stands in rows, and how many items each has room for

@@ -1,7 +1,7 @@
 -- Where the slots of a plan stand in rows. Each level has a row of its own for books, and one for
 -- the bits of leaves or the words of nodes. In each the first slots of all buckets of the level
--- stand side by side, then their second slots, and so on. Tags stand in blocks of sixteen: the first
--- blocks of all buckets side by side, then their second blocks, and so on.
+-- stand side by side, then their second slots, and so on. Tags stand in blocks of sixteen: the
+-- first blocks of all buckets side by side, then their second blocks, and so on.
 use Rattle.std.specs.Prelude.{◌≡◌, ℕ, ◌+◌, ◌*◌, ◌/◌, ◌^◌, ◌<◌, ◌≤◌, List, slice_index}
 use Rattle.node_places.specs.Sums.{sum_below}
 use Rattle.node_shapes.specs.declared.names.Name.{Name}

@@ -50,7 +50,8 @@ tag_in p tags n =
     slice_index (tags_at tags (block_place p n.level n.bucket (n.slot / 16))) (n.slot % 16)
 
 -- the tag stands at a place of a block now, and every other place has what it had
-pub record PutsTag (old : List (List ℕ)) (block k tag : ℕ) (new : List (List ℕ)) : Type 0 where
+pub record PutsTag (old : List (List ℕ)) (block k tag : ℕ) (new : List (List ℕ))
+    : Type 0 where
   pub here : slice_index (tags_at new block) k ≡ tag
   pub others : (i j : ℕ) → (i ≡ block → j ≢ k)
       → slice_index (tags_at new i) j ≡ slice_index (tags_at old i) j
@@ -83,7 +84,8 @@ pub record Beside : Type 0 where
 pub record HasRoom (p : Layout) (b : Beside) : Type 0 where
   pub books : (l : ℕ) → l < levels p → slots_at p l ≤ slice_index b.rooms_for_books l
   pub bits : slots_at p 0 ≤ b.room_for_bits
-  pub pairs : (l : ℕ) → 1 ≤ l → l < levels p → slots_at p l ≤ slice_index b.rooms_for_pairs (l - 1)
+  pub pairs : (l : ℕ) → 1 ≤ l → l < levels p
+      → slots_at p l ≤ slice_index b.rooms_for_pairs (l - 1)
   pub tags : number_of_blocks p ≤ b.room_for_tags
 
 pub record AreEntries (w : Written) (b : Beside) : Type 0 where
