@@ -6,17 +6,13 @@ use Rattle.history_model.specs.Contents.{Content}
 use Rattle.history_model.specs.declared.histories.Mark.{Mark}
 use Rattle.history_model.specs.Logs.{Log}
 use Rattle.node_words.specs.Plans.{Layout}
+pub use Rattle.version_answers.specs.Listing.{Found}
 use Rattle.script.specs.declared.commands.ScriptLine.{ScriptLine}
 use Rattle.transcript.specs.declared.answers.Answer.TheVariants as answers
 use Rattle.transcript.specs.declared.answers.LineAnswer.{LineAnswer}
 use Rattle.conformance.specs.Answers.{Answers, GoesOn}
 use Rattle.conformance.specs.Shown.{Accepted, SameItems, accepted_by, forgotten_by, accepted_in, forgotten_in}
 use Rattle.conformance.specs.Agreeing.{InOrder}
-
--- a version on which there was no mark at this length
-pub record Found : Type 0 where
-  pub version : ℕ
-  pub at : ℕ
 
 -- the session looked at the version at moment n and found no mark, or it is the newest one then;
 -- those that it made itself

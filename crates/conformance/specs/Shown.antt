@@ -4,6 +4,7 @@ use Rattle.std.specs.List.{AllPairs}
 use Rattle.history_model.specs.declared.histories.Record.{Record}
 use Rattle.history_model.specs.declared.histories.Mark.{Mark}
 use Rattle.history_model.specs.Logs.{Log}
+pub use Rattle.version_answers.specs.Listing.{Accepted, numbered}
 use Rattle.script.specs.declared.commands.Command.{Command}
 use Rattle.script.specs.declared.commands.Command.TheVariants.{Edit}
 use Rattle.script.specs.declared.commands.ScriptLine.{ScriptLine}
@@ -15,16 +16,6 @@ use Rattle.conformance.specs.Answers.{mark_of}
 -- two lists have the same items, each as often: they weigh the same by every weight
 pub record SameItems {X : Type 0} (xs ys : List X) : Type 0 where
   pub weighs : (f : X → ℕ) → sum_by f xs ≡ sum_by f ys
-
--- a number and the record that has it
-pub record Accepted : Type 0 where
-  pub at : ℕ
-  pub entry : Record
-
--- records with their numbers, from this one on
-abbrev pub numbered : ℕ → List Record → List Accepted
-numbered n [] = []
-numbered n (r ∷ more) = record { at = n; entry = r } ∷ numbered (n + 1) more
 
 abbrev pub is_done : Answer → Bool
 is_done answers.Done = true
