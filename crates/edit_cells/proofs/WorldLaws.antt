@@ -74,7 +74,7 @@ world_places level s world h = record {
       ∙ h.each (cell_at x y z) (record { x = (omega arith, omega arith); y = (omega arith, omega arith); z = (omega arith, omega arith) });
 }
 
-shape_shows : (level : ℕ) (s : Shape) (world : Cell → Bool) → s ≡ world_shape level world → ShowsCells (block_at_origin level) s world
+pub shape_shows : (level : ℕ) (s : Shape) (world : Cell → Bool) → s ≡ world_shape level world → ShowsCells (block_at_origin level) s world
 shape_shows level s world e = record {
   each = λ c i.
       let x : c.x - 0 < block_side level = omega (arith, i.x.1) in

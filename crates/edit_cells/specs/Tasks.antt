@@ -1,8 +1,9 @@
 -- What an edit makes of a block.
 use Rattle.std.specs.Prelude.{◌≡◌, ℕ, ◌+◌, ◌*◌, Some, List}
 use Rattle.std.proofs.Common.{zero, suc}
-use Rattle.node_shapes.specs.Tree.{Tree, shape_of}
+use Rattle.node_shapes.specs.Tree.{Tree, root_of, shape_of}
 use Rattle.node_words.specs.Gathering.{IsTreeOf}
+use Rattle.node_words.specs.Held.{IsReached}
 use Rattle.node_words.proofs.HeldLaws.{Keeps}
 use Rattle.edit_cells.specs.declared.tasks.Whole.{Whole}
 use Rattle.edit_cells.specs.declared.tasks.Whole.TheVariants.{Nothing, All, Old, Mixed}
@@ -31,6 +32,17 @@ abbrev pub MakeAlike : Making → Making → Type 0
 MakeAlike p q =
     (base : List Tree) (level : ℕ) (a b : Cells) → p base level a → q base level b
     → SameIn level a b
+
+-- no two trees of one name are reached
+abbrev pub OneEach : List Tree → Type 0
+OneEach held =
+    (t u : Tree) → IsReached held t → IsReached held u → root_of t ≡ root_of u → t ≡ u
+
+-- what tasks make by some trees, they make by more trees too
+abbrev pub Lasts : {T : Type 0} → (T → Making) → Type 0
+Lasts makes =
+    (task : _) (base more : List Tree) (level : ℕ) (cells : Cells) → OneEach more
+    → Keeps base more → makes task base level cells → makes task more level cells
 
 -- what is known of a block with these cells as a whole
 abbrev pub IsWhole : List Tree → ℕ → Cells → Whole → Type 0

@@ -3,7 +3,7 @@ ghost use Rattle.block_walk.specs.Sums.{sum_below};
 ghost use Rattle.node_shapes.specs.Shape.{Leaf, has};
 ghost use Rattle.node_shapes.specs.Tree.{Tree};
 ghost use Rattle.cell_shapes.specs.CellShapes.{Cells, SameIn, octant_cells};
-ghost use Rattle.edit_cells.specs.Tasks.{Making, MakesSome, MakesCells, ForCells, IsWhole};
+ghost use Rattle.edit_cells.specs.Tasks.{Making, Lasts, MakesSome, MakesCells, ForCells, IsWhole};
 
 use node_shapes::Name;
 use node_words::Blocks;
@@ -37,6 +37,9 @@ impl Whole {
 pub trait Task: Copy {
     /// The cells that the task makes of a block of some level, while some trees are held.
     ghost makes: { Self → Making };
+
+    /// It makes the same while more is held.
+    ghost lasts: { Lasts makes };
 
     /// A bound on the number of mixed blocks of a block of this level, itself among them, and of
     /// its octant.

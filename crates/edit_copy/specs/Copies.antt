@@ -11,7 +11,8 @@ use Rattle.node_shapes.specs.Tree.{Tree, child_of, shape_of}
 use Rattle.node_words.specs.Held.{name_in}
 use Rattle.block_walk.specs.Roots.{IsBlockOf, IsOctantOf}
 use Rattle.cell_shapes.specs.CellShapes.{Cells, SameIn}
-use Rattle.edit_cells.specs.Paints.{IsOld}
+use Rattle.edit_cells.specs.Paints.{IsOld, old_lasts}
+use Rattle.edit_cells.specs.Tasks.{Lasts}
 use Rattle.edit_cells.specs.Worlds.{block_at_origin}
 use Rattle.edit_copy.specs.declared.copies.CopyTask.{CopyTask}
 
@@ -46,6 +47,20 @@ pub record MakesCopy (task : CopyTask) (base : List Tree) (level : ℕ) (cells :
   pub sources : AreOld base level row task.sources
   pub shows : SameIn level cells
       (moved level task.part task.offset (cube_of row) (has level (shape_of tree)))
+
+pub copy_lasts : Lasts MakesCopy
+copy_lasts task base more level cells one k m = record {
+  small = m.small;
+  offset = m.offset;
+  tree = m.tree;
+  is_old = old_lasts base more level m.tree task.old one k m.is_old;
+  row = m.row;
+  sources = record {
+    each = λ j l. old_lasts base more level (m.row j) (name_in task.sources j) one k
+        (m.sources.each j l);
+  };
+  shows = m.shows;
+}
 
 -- in halves of blocks of this level: where an offset from a half begins, and what is left of it
 abbrev pub step_at : ℕ → ℕ → ℕ → ℕ

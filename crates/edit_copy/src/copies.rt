@@ -24,9 +24,11 @@ pub(crate) const ORIGIN: Cell = Cell { x: 0, y: 0, z: 0 };
 impl Task for CopyTask {
     ghost use Rattle.std.specs.Prelude.{◌-◌};
     ghost use Rattle.edit_cells.specs.Tasks.{blocks_in};
-    ghost use Rattle.edit_copy.specs.Copies.{MakesCopy};
+    ghost use Rattle.edit_copy.specs.Copies.{MakesCopy, copy_lasts};
 
     ghost makes = { MakesCopy };
+
+    ghost lasts = { copy_lasts };
 
     ghost mixed = { λ level t. blocks_in level };
 

@@ -6,4 +6,5 @@ mod rebuild;
 mod sources;
 mod starts;
 
-pub use rebuild::rebuild_copy;
+pub use copies::CopyTask;
+pub use rebuild::{copy_may_repeat, rebuild_copy, rebuild_copy_with};

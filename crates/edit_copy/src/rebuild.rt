@@ -6,8 +6,8 @@ ghost use Rattle.history_model.specs.Worlds.{edited};
 ghost use Rattle.history_model.specs.declared.acts.Act.TheVariants.{Copy};
 ghost use Rattle.block_walk.specs.Roots.{HoldsRoot};
 ghost use Rattle.edit_cells.specs.Worlds.{ForEdited, Rebuilt, world_shape};
-ghost use Rattle.edit_walk.specs.declared.memos.Kept.{Kept};
-ghost use Rattle.edit_copy.specs.declared.copies.CopyTask.{CopyTask};
+ghost use Rattle.edit_walk.specs.Memos.{RecallsHeld};
+ghost use Rattle.edit_copy.specs.Copies.{MakesCopy};
 
 use crate::copies::CopyTask;
 use crate::starts::whole_task;
@@ -20,6 +20,7 @@ use vw_cell::{Boxed, Cell, Side};
 /// A share of the root of the world with the cells of the box put where its least corner goes to
 /// another place, where a cell is set then. The cells are those before the copy, and cells that
 /// were unset are unset there. A store that met a full bucket holds what it held.
+#[tactic(auto, using(edit_walk::proofs::MemoLaws::recalls_none))]
 pub fn rebuild_copy<N: NodeStore, L: Ledger>(
     store: &mut N,
     old: Option<&Share>,
@@ -45,21 +46,22 @@ pub fn rebuild_copy<N: NodeStore, L: Ledger>(
         (N.seen store.new))) }
     ensures rests { N.rests store.old store.new }
 {
-    if is_small(from.size) {
-        return match copy_box(store, old, side, from, to, &mut NoMemo, steps) {
+    if !copy_may_repeat(from.size) {
+        return match rebuild_copy_with(store, old, side, from, to, &mut NoMemo, steps) {
             Ok(share) => Ok(share),
             Err(e) => Err(e),
         };
     }
     let mut memo = Latest::new();
-    match copy_box(store, old, side, from, to, &mut memo, steps) {
+    match rebuild_copy_with(store, old, side, from, to, &mut memo, steps) {
         Ok(share) => Ok(share),
         Err(e) => Err(e),
     }
 }
 
-// The same, by a walk that remembers nothing yet.
-fn copy_box<M: Memo<CopyTask>, N: NodeStore, L: Ledger>(
+/// The same with a memo of blocks that such copies made before, of trees that are still held: a
+/// block that is remembered is shared and not walked again. What is made joins the memo.
+pub fn rebuild_copy_with<M: Memo<CopyTask>, N: NodeStore, L: Ledger>(
     store: &mut N,
     old: Option<&Share>,
     side: Side,
@@ -69,7 +71,7 @@ fn copy_box<M: Memo<CopyTask>, N: NodeStore, L: Ledger>(
     steps: &mut Steps<L>,
 ) -> Result<Option<Share>, Full>
     requires side { side ≡ (N.seen store.old).plan.side }
-    requires memo { (l : ℕ) (e : Kept CopyTask) → ¬ M.has memo.old l e }
+    requires memo { RecallsHeld MakesCopy (N.seen store.old).held (M.has memo.old) }
     requires from { FitsAt from.at from.size (2 ^ side) }
     requires to { FitsAt to from.size (2 ^ side) }
     requires old { HoldsRoot (N.seen store.old).held side (option_copied old) }
@@ -84,6 +86,7 @@ fn copy_box<M: Memo<CopyTask>, N: NodeStore, L: Ledger>(
         ForEdited (N.seen store.old) side (option_copied old.entry) (edited [] (Copy from to))
         (λ world. Fails (world_shape (side - 2) world) e.level e.bucket (N.seen store.old)
         (N.seen store.new))) }
+    ensures memo { OnOk result (RecallsHeld MakesCopy (N.seen store.new).held (M.has memo.new)) }
     ensures rests { N.rests store.old store.new }
 {
     let task = whole_task(name_of(old), side, from, to);
@@ -97,6 +100,7 @@ fn copy_box<M: Memo<CopyTask>, N: NodeStore, L: Ledger>(
 // To remember blocks costs more than it saves in a box of at most this size on each axis.
 const FEW: u16 = 32;
 
-fn is_small(size: Cell) -> bool {
-    size.x <= FEW && size.y <= FEW && size.z <= FEW
+/// Whether many blocks of a copy may be alike, so that it pays to remember them.
+pub fn copy_may_repeat(size: Cell) -> bool {
+    size.x > FEW || size.y > FEW || size.z > FEW
 }

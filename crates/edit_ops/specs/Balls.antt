@@ -7,8 +7,10 @@ use Rattle.node_shapes.specs.declared.names.Name.{Name}
 use Rattle.node_shapes.specs.Tree.{Tree}
 use Rattle.history_model.specs.declared.acts.Act.{Act}
 use Rattle.history_model.specs.declared.acts.Act.TheVariants.{Ball as Bulge, Carve}
+use Rattle.node_words.proofs.HeldLaws.{Keeps}
 use Rattle.cell_shapes.specs.CellShapes.{Cells}
-use Rattle.edit_cells.specs.Paints.{Paints}
+use Rattle.edit_cells.specs.Paints.{Paints, paints_last}
+use Rattle.edit_cells.specs.Tasks.{OneEach}
 use Rattle.edit_cells.specs.Worlds.{cells_from}
 
 -- the act that sets or clears the cells of a ball
@@ -23,3 +25,13 @@ pub record MakesBall (old : Option Name) (ball : Ball) (at : Cell) (set : Bool) 
   pub small : level ≤ 10
   pub inside : LiesIn 4096 (record { level = level; at = at })
   pub paints : Paints base level old set (cells_from at (is_in_ball ball)) cells
+
+pub ball_lasts : (old : Option Name) (ball : Ball) (at : Cell) (set : Bool) (base more : List Tree)
+    (level : ℕ) (cells : Cells) → OneEach more → Keeps base more
+    → MakesBall old ball at set base level cells → MakesBall old ball at set more level cells
+ball_lasts old ball at set base more level cells one k m = record {
+  small = m.small;
+  inside = m.inside;
+  paints = paints_last base more level old set (cells_from at (is_in_ball ball)) cells one k
+      m.paints;
+}

@@ -9,7 +9,8 @@ use Rattle.history_model.specs.declared.acts.Act.{Act}
 use Rattle.history_model.specs.declared.acts.Act.TheVariants.{Fill, Erase}
 use Rattle.block_walk.specs.Parts.{part_in}
 use Rattle.cell_shapes.specs.CellShapes.{Cells}
-use Rattle.edit_cells.specs.Paints.{Paints}
+use Rattle.edit_cells.specs.Paints.{Paints, paints_last}
+use Rattle.edit_cells.specs.Tasks.{Lasts}
 use Rattle.edit_cells.specs.Worlds.{world_cells}
 use Rattle.edit_ops.specs.declared.boxes.BoxTask.{BoxTask}
 
@@ -22,6 +23,13 @@ box_act false b = Erase b
 pub record MakesBox (task : BoxTask) (base : List Tree) (level : ℕ) (cells : Cells) : Type 0 where
   pub small : level ≤ 10
   pub paints : Paints base level task.old task.set (world_cells (is_in_box task.part)) cells
+
+pub box_lasts : Lasts MakesBox
+box_lasts task base more level cells one k m = record {
+  small = m.small;
+  paints = paints_last base more level task.old task.set (world_cells (is_in_box task.part)) cells
+      one k m.paints;
+}
 
 -- the box has a cell of the block of this level at the origin, and doesn't hold the block
 abbrev pub touches_first : ℕ → ℕ → ℕ → Bool

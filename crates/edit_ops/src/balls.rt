@@ -23,9 +23,11 @@ pub struct BallTask<'b> {
 impl<'b> Task for BallTask<'b> {
     ghost use Rattle.std.specs.Prelude.{◌-◌};
     ghost use Rattle.edit_cells.specs.Tasks.{blocks_in};
-    ghost use Rattle.edit_ops.specs.Balls.{MakesBall};
+    ghost use Rattle.edit_ops.specs.Balls.{MakesBall, ball_lasts};
 
     ghost makes = { λ t. MakesBall t.old t.ball.now t.at t.set };
+
+    ghost lasts = { λ t. ball_lasts t.old t.ball.now t.at t.set };
 
     ghost mixed = { λ level t. blocks_in level };
 

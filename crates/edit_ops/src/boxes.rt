@@ -21,9 +21,11 @@ impl Task for BoxTask {
     ghost use Rattle.std.specs.Prelude.{◌-◌};
     ghost use Rattle.vw_cell.specs.Places.{block_side};
     ghost use Rattle.block_walk.specs.Parts.{part_in};
-    ghost use Rattle.edit_ops.specs.Boxes.{MakesBox, parts_met};
+    ghost use Rattle.edit_ops.specs.Boxes.{MakesBox, box_lasts, parts_met};
 
     ghost makes = { MakesBox };
+
+    ghost lasts = { box_lasts };
 
     ghost mixed = { λ level t. parts_met level t.part };
 

@@ -6,5 +6,6 @@ mod boxes;
 mod laws;
 mod rebuild;
 
+pub use boxes::BoxTask;
 pub use laws::{mixed_blocks_are_the_worlds, tests_tell_what_is_partly_met};
-pub use rebuild::{rebuild_ball, rebuild_box};
+pub use rebuild::{box_may_repeat, rebuild_ball, rebuild_box, rebuild_box_with};

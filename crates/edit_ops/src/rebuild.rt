@@ -5,9 +5,8 @@ ghost use Rattle.node_words.specs.Gathering.{Grows, Fails};
 ghost use Rattle.history_model.specs.Worlds.{edited};
 ghost use Rattle.block_walk.specs.Roots.{HoldsRoot};
 ghost use Rattle.edit_cells.specs.Worlds.{ForEdited, Rebuilt, world_shape};
-ghost use Rattle.edit_walk.specs.declared.memos.Kept.{Kept};
-ghost use Rattle.edit_ops.specs.declared.boxes.BoxTask.{BoxTask};
-ghost use Rattle.edit_ops.specs.Boxes.{box_act};
+ghost use Rattle.edit_walk.specs.Memos.{RecallsHeld};
+ghost use Rattle.edit_ops.specs.Boxes.{MakesBox, box_act};
 ghost use Rattle.edit_ops.specs.Balls.{ball_act};
 ghost use Rattle.edit_ops.specs.Partly.{world_partly};
 
@@ -22,6 +21,7 @@ use vw_cell::{Ball, Boxed, Cell, Side};
 
 /// A share of the root of the world with the cells of the box set or cleared, where a cell is set
 /// then. A store that met a full bucket holds what it held.
+#[tactic(auto, using(edit_walk::proofs::MemoLaws::recalls_none))]
 pub fn rebuild_box<N: NodeStore, L: Ledger>(
     store: &mut N,
     old: Option<&Share>,
@@ -49,26 +49,28 @@ pub fn rebuild_box<N: NodeStore, L: Ledger>(
     ensures turns { OnOk result
         (steps.new ≤ steps.old + 25 * world_partly side b + 25 * (side - 1)) }
 {
-    if may_repeat(b.size, side) {
+    if box_may_repeat(b.size, side) {
         let mut memo = Latest::new();
-        return match paint_box(store, old, side, b, set, &mut memo, steps) {
+        return match rebuild_box_with(store, old, side, b, set, &mut memo, steps) {
             Ok(share) => Ok(share),
             Err(e) => Err(e),
         };
     }
-    match paint_box(store, old, side, b, set, &mut NoMemo, steps) {
+    match rebuild_box_with(store, old, side, b, set, &mut NoMemo, steps) {
         Ok(share) => Ok(share),
         Err(e) => Err(e),
     }
 }
 
-// Whether many blocks may be alike. Where the box is the whole world, nothing is walked.
-fn may_repeat(size: Cell, side: Side) -> bool {
+/// Whether many blocks of a box may be alike, so that it pays to remember them. Where the box is the
+/// whole world, nothing is walked.
+pub fn box_may_repeat(size: Cell, side: Side) -> bool {
     is_large(size) && u32::from(size.x.min(size.y).min(size.z)) < side.cells()
 }
 
-// The same, by a walk that remembers nothing yet.
-fn paint_box<M: Memo<BoxTask>, N: NodeStore, L: Ledger>(
+/// The same with a memo of blocks that such edits made before, of trees that are still held: a block
+/// that is remembered is shared and not walked again. What is made joins the memo.
+pub fn rebuild_box_with<M: Memo<BoxTask>, N: NodeStore, L: Ledger>(
     store: &mut N,
     old: Option<&Share>,
     side: Side,
@@ -78,7 +80,7 @@ fn paint_box<M: Memo<BoxTask>, N: NodeStore, L: Ledger>(
     steps: &mut Steps<L>,
 ) -> Result<Option<Share>, Full>
     requires side { side ≡ (N.seen store.old).plan.side }
-    requires memo { (l : ℕ) (e : Kept BoxTask) → ¬ M.has memo.old l e }
+    requires memo { RecallsHeld MakesBox (N.seen store.old).held (M.has memo.old) }
     requires inside { FitsAt b.at b.size (2 ^ side) }
     requires old { HoldsRoot (N.seen store.old).held side (option_copied old) }
     requires room { number_of_trees (N.seen store.old).held ≤ 3910 }
@@ -92,6 +94,7 @@ fn paint_box<M: Memo<BoxTask>, N: NodeStore, L: Ledger>(
         ForEdited (N.seen store.old) side (option_copied old.entry) (edited [] (box_act set b))
         (λ world. Fails (world_shape (side - 2) world) e.level e.bucket (N.seen store.old)
         (N.seen store.new))) }
+    ensures memo { OnOk result (RecallsHeld MakesBox (N.seen store.new).held (M.has memo.new)) }
     ensures rests { N.rests store.old store.new }
     ensures turns { OnOk result
         (steps.new ≤ steps.old + 25 * world_partly side b + 25 * (side - 1)) }
@@ -111,6 +114,7 @@ fn paint_box<M: Memo<BoxTask>, N: NodeStore, L: Ledger>(
 
 /// A share of the root of the world with the cells of the ball set or cleared, where a cell is set
 /// then. A store that met a full bucket holds what it held.
+#[tactic(auto, using(edit_walk::proofs::MemoLaws::recalls_none))]
 pub fn rebuild_ball<N: NodeStore, L: Ledger>(
     store: &mut N,
     old: Option<&Share>,

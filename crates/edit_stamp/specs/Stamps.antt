@@ -4,8 +4,10 @@ use Rattle.vw_cell.specs.declared.cells.Cell.{Cell}
 use Rattle.vw_cell.specs.Places.{is_in_box, LiesIn}
 use Rattle.node_shapes.specs.Tree.{Tree}
 use Rattle.history_model.specs.Worlds.{box_at, less}
+use Rattle.node_words.proofs.HeldLaws.{Keeps}
 use Rattle.cell_shapes.specs.CellShapes.{Cells}
-use Rattle.edit_cells.specs.Paints.{Paints}
+use Rattle.edit_cells.specs.Paints.{Paints, paints_last}
+use Rattle.edit_cells.specs.Tasks.{OneEach}
 use Rattle.edit_cells.specs.Worlds.{cells_from}
 use Rattle.node_shapes.specs.declared.names.Name.{Name}
 use Rattle.std.specs.Prelude.{Option}
@@ -22,6 +24,18 @@ pub record MakesStamp (old : Option Name) (drawn : Drawn) (place at : Cell) (bas
   pub inside : LiesIn 4096 (record { level = level; at = at })
   pub stands : (place.x ≤ 4096) × (place.y ≤ 4096) × (place.z ≤ 4096)
   pub paints : Paints base level old true (cells_from at (is_stamped drawn place)) cells
+
+pub stamp_lasts : (old : Option Name) (drawn : Drawn) (place at : Cell) (base more : List Tree)
+    (level : ℕ) (cells : Cells) → OneEach more → Keeps base more
+    → MakesStamp old drawn place at base level cells
+    → MakesStamp old drawn place at more level cells
+stamp_lasts old drawn place at base more level cells one k m = record {
+  small = m.small;
+  inside = m.inside;
+  stands = m.stands;
+  paints = paints_last base more level old true (cells_from at (is_stamped drawn place)) cells one
+      k m.paints;
+}
 
 -- the world with the cells of the drawn model, whose least corner is at this place
 abbrev pub stamped : Drawn → Cell → (Cell → Bool) → Cell → Bool

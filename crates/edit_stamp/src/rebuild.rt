@@ -16,6 +16,7 @@ use vw_cell::{Cell, Side};
 
 /// A share of the root of the world with the cells of a model set, whose least corner is at this
 /// place, where a cell is set then. A store that met a full bucket holds what it held.
+#[tactic(auto, using(edit_walk::proofs::MemoLaws::recalls_none))]
 pub fn rebuild_stamp<N: NodeStore, L: Ledger>(
     store: &mut N,
     old: Option<&Share>,

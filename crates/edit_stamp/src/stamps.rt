@@ -21,9 +21,11 @@ pub struct StampTask<'s> {
 impl<'s> Task for StampTask<'s> {
     ghost use Rattle.std.specs.Prelude.{◌-◌};
     ghost use Rattle.edit_cells.specs.Tasks.{blocks_in};
-    ghost use Rattle.edit_stamp.specs.Stamps.{MakesStamp};
+    ghost use Rattle.edit_stamp.specs.Stamps.{MakesStamp, stamp_lasts};
 
     ghost makes = { λ t. MakesStamp t.old t.stencil.now t.place.now t.at };
+
+    ghost lasts = { λ t. stamp_lasts t.old t.stencil.now t.place.now t.at };
 
     ghost mixed = { λ level t. blocks_in level };
 

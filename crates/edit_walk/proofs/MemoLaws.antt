@@ -7,15 +7,16 @@ use Rattle.node_shapes.specs.Shape.{Shape, octant_shape}
 use Rattle.node_shapes.specs.Tree.{Tree, shape_of}
 use Rattle.node_shapes.proofs.WeightLaws.{weight_of-there}
 use Rattle.node_words.specs.Held.{Seen, IsHeld}
-use Rattle.node_words.proofs.HeldLaws.{Keeps, held_reached}
+use Rattle.node_words.specs.Gathering.{Loses}
+use Rattle.node_words.proofs.HeldLaws.{Keeps, keeps_itself, held_reached}
 use Rattle.cell_shapes.specs.CellShapes.{Cells, SameIn, shape_with}
 use Rattle.cell_shapes.proofs.CellShapeLaws.{shape_with-same}
-use Rattle.edit_cells.specs.Tasks.{Making}
+use Rattle.edit_cells.specs.Tasks.{Making, Lasts, OneEach}
 use Rattle.edit_blocks.specs.Blocks.{Aside, Came, ReachesAll, Joined}
 use Rattle.edit_blocks.proofs.JoinLaws.{gathers_one, gathers_none}
 use Rattle.edit_blocks.proofs.ReachLaws.{keeps_reaches, came_keeps, tree_reached}
 use Rattle.edit_walk.specs.declared.memos.Kept.{Kept}
-use Rattle.edit_walk.specs.Memos.{Keeping, IsKeptIn, IsMade, Recalls}
+use Rattle.edit_walk.specs.Memos.{Keeping, IsKeptIn, IsMade, Recalls, RecallsHeld}
 use Rattle.edit_walk.specs.Walks.{Walk, walk_at, Begins, Built, Partway}
 use Rattle.edit_walk.proofs.WalkLaws.{part_starts, starts_none, starts_held}
 
@@ -110,9 +111,44 @@ partway_one makes base rest level task cells cs ds k name old new lt e p b d = r
   recalls = b.recalls;
 }
 
+-- what is remembered was made by what is held now
+recalls_by : {T : Type 0} (makes : T → Making) (held : List Tree) (memo : Keeping T) → Lasts makes → OneEach held → RecallsHeld makes held memo → Recalls makes held held memo
+recalls_by makes held memo lasts one r = record {
+  each = λ level e h. let m = r.recalls.each level e h in record {
+    tree = m.tree;
+    of = m.of;
+    cells = m.cells;
+    made = lasts e.task r.base held level m.cells one r.keeps m.made;
+    shape = m.shape;
+  };
+}
+
 -- the first block of a walk
-pub begins_none : {T : Type 0} (makes : T → Making) (base : List Tree) (seen : Seen) (level : ℕ) (task : T) (cells : Cells) (memo : Keeping T) → Keeps base seen.held → ((l : ℕ) (e : Kept T) → memo l e → ⊥) → makes task base level cells → Begins makes base seen.held level task cells (walk_at seen None memo)
-begins_none makes base seen level task cells memo k none m = record { starts = starts_none base seen k; made = m; recalls = recalls_nothing makes base seen.held memo none }
+pub begins_held : {T : Type 0} (makes : T → Making) (base : List Tree) (seen : Seen) (level : ℕ) (task : T) (cells : Cells) (memo : Keeping T) → Lasts makes → OneEach seen.held → Keeps base seen.held → RecallsHeld makes seen.held memo → makes task base level cells → Begins makes seen.held seen.held level task cells (walk_at seen None memo)
+begins_held makes base seen level task cells memo lasts one k r m = record {
+  starts = starts_none seen.held seen (keeps_itself seen.held);
+  made = lasts task base seen.held level cells one k m;
+  recalls = recalls_by makes seen.held memo lasts one r;
+}
+
+-- what is remembered once the full block that was aside went back
+pub recalls_after : {T : Type 0} (makes : T → Making) (old held new : List Tree) (full name : Option Name) (level : ℕ) (target : Shape) (memo : Keeping T) → (c : Came old level target name held full) → Loses held c.aside.tree new → Recalls makes old c.now memo → RecallsHeld makes new memo
+recalls_after makes old held new full name level target memo c l r = record {
+  base = old;
+  keeps = record { weighs = λ f. omega (arith, c.comes.weighs f, c.aside.weighs f, l.weighs f) };
+  recalls = recalls_on makes old c.now new memo (keeps_reaches c.now new now_new) r;
+}
+  where
+    now_new : Keeps c.now new
+    now_new = record { weighs = λ f. omega (arith, c.aside.weighs f, l.weighs f) }
+
+-- nothing is remembered yet
+pub recalls_none : {T : Type 0} (makes : T → Making) (held : List Tree) (memo : Keeping T) → ((level : ℕ) (e : Kept T) → ¬ memo level e) → RecallsHeld makes held memo
+recalls_none makes held memo none = record {
+  base = held;
+  keeps = keeps_itself held;
+  recalls = recalls_nothing makes held held memo none;
+}
 
 -- an octant, after those before it
 pub part_begins : {T : Type 0} (makes : T → Making) (base rest : List Tree) (level : ℕ) (task part : T) (cells at : Cells) (cs : List (Option Name)) (k : ℕ) (a b : Seen) (full : Option Name) (memo : Keeping T)

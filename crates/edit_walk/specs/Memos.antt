@@ -4,6 +4,7 @@ use Rattle.node_shapes.specs.Tree.{Tree, shape_of}
 use Rattle.node_words.specs.Gathering.{IsTreeOf}
 use Rattle.cell_shapes.specs.CellShapes.{Cells, shape_with}
 use Rattle.edit_cells.specs.Tasks.{Making, MakeAlike}
+use Rattle.node_words.proofs.HeldLaws.{Keeps}
 use Rattle.edit_walk.specs.declared.memos.Kept.{Kept}
 
 -- which blocks of each level are remembered
@@ -31,3 +32,10 @@ pub record IsMade {T : Type 0} (makes : T → Making) (base held : List Tree) (l
 pub record Recalls {T : Type 0} (makes : T → Making) (base held : List Tree)
     (memo : Keeping T) : Type 0 where
   pub each : (level : ℕ) (e : Kept T) → memo level e → IsMade makes base held level e
+
+-- all that is remembered was made by trees that are held, and is reached
+pub record RecallsHeld {T : Type 0} (makes : T → Making) (held : List Tree)
+    (memo : Keeping T) : Type 0 where
+  pub base : List Tree
+  pub keeps : Keeps base held
+  pub recalls : Recalls makes base held memo

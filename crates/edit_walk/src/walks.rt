@@ -7,6 +7,7 @@ ghost use Rattle.cell_shapes.specs.CellShapes.{shape_with};
 ghost use Rattle.edit_cells.specs.Tasks.{MakesCells, ForCells};
 ghost use Rattle.edit_blocks.specs.Blocks.{height, Aside, Came, RefusesBlock};
 ghost use Rattle.edit_walk.specs.declared.memos.Kept.{Kept};
+ghost use Rattle.edit_walk.specs.Memos.{RecallsHeld};
 ghost use Rattle.edit_walk.specs.Walks.{walk_at, Built, CanBuild, Builds, BuildsParts, StopsWalk, LeavesRest, GathersAll, CanGoOn, ForOctant, CanBeWhole, ForWhole};
 
 use crate::memos::{Kept, Memo};
@@ -293,6 +294,9 @@ fn octant<T: Task, M: Memo<T>, N: NodeStore, L: Ledger>(
 
 /// A share of the block that the task makes, where a cell of it is set. A store that met a full
 /// bucket holds what it held.
+///
+/// The memo may tell of blocks that were made before, of trees that are still held: such a block
+/// is shared and not walked again. What is made joins the memo.
 pub fn rebuild<T: Task, M: Memo<T>, N: NodeStore, L: Ledger>(
     store: &mut N,
     level: u8,
@@ -301,7 +305,7 @@ pub fn rebuild<T: Task, M: Memo<T>, N: NodeStore, L: Ledger>(
     steps: &mut Steps<L>,
 ) -> Result<Option<Share>, Full>
     requires level { (level ≤ 10) × (level + 2 ≤ (N.seen store.old).plan.side) }
-    requires memo { (l : ℕ) (e : Kept T) → ¬ M.has memo.old l e }
+    requires memo { RecallsHeld T.makes (N.seen store.old).held (M.has memo.old) }
     requires task { MakesCells (T.makes task.now) (N.seen store.old).held level }
     requires room { number_of_trees (N.seen store.old).held ≤ 3910 }
     ensures ok { IfOk result (λ r. ForCells (T.makes task.now) (N.seen store.old).held level
@@ -312,10 +316,12 @@ pub fn rebuild<T: Task, M: Memo<T>, N: NodeStore, L: Ledger>(
     ensures full { IfErr result (λ e. ForCells (T.makes task.now) (N.seen store.old).held level
         (λ base cells. Fails (shape_with level cells) e.level e.bucket (N.seen store.old)
         (N.seen store.new))) }
+    ensures memo { OnOk result (RecallsHeld T.makes (N.seen store.new).held (M.has memo.new)) }
     ensures rests { N.rests store.old store.new }
     ensures turns { OnOk result
         (steps.new ≤ steps.old + 25 * T.mixed level task.now + 25 * (level + 1)) }
 {
+    let _held = store.held();
     let mut full: Option<Share> = None;
     match build(store, level, task, &mut full, memo, steps) {
         Ok(share) => {

@@ -2,7 +2,7 @@ ghost use Rattle.std.specs.Prelude.{◌≡◌, ◌+◌, ◌-◌, ◌*◌, ◌≤
 ghost use Rattle.node_shapes.specs.Weights.{number_of_trees};
 ghost use Rattle.node_words.specs.Gathering.{Grows, Fails};
 ghost use Rattle.edit_cells.specs.Worlds.{world_shape, Rebuilt};
-ghost use Rattle.edit_walk.specs.declared.memos.Kept.{Kept};
+ghost use Rattle.edit_walk.specs.Memos.{RecallsHeld};
 ghost use Rattle.edit_walk.specs.Walks.{MakesWorld, ForWorlds};
 
 use crate::memos::Memo;
@@ -22,7 +22,7 @@ pub fn rebuild_world<T: Task, M: Memo<T>, N: NodeStore, L: Ledger>(
     steps: &mut Steps<L>,
 ) -> Result<Option<Share>, Full>
     requires side { side ≡ (N.seen store.old).plan.side }
-    requires memo { (l : ℕ) (e : Kept T) → ¬ M.has memo.old l e }
+    requires memo { RecallsHeld T.makes (N.seen store.old).held (M.has memo.old) }
     requires task { MakesWorld (T.makes task.now) (N.seen store.old).held side }
     requires room { number_of_trees (N.seen store.old).held ≤ 3910 }
     ensures ok { IfOk result (λ r. ForWorlds (T.makes task.now) (N.seen store.old).held side
@@ -32,6 +32,7 @@ pub fn rebuild_world<T: Task, M: Memo<T>, N: NodeStore, L: Ledger>(
     ensures full { IfErr result (λ e. ForWorlds (T.makes task.now) (N.seen store.old).held side
         (λ world. Fails (world_shape (side - 2) world) e.level e.bucket (N.seen store.old)
         (N.seen store.new))) }
+    ensures memo { OnOk result (RecallsHeld T.makes (N.seen store.new).held (M.has memo.new)) }
     ensures rests { N.rests store.old store.new }
     ensures turns { OnOk result
         (steps.new ≤ steps.old + 25 * T.mixed (side - 2) task.now + 25 * (side - 1)) }

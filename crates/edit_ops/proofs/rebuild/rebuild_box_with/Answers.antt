@@ -7,7 +7,7 @@ use Rattle.edit_ops.specs.Boxes.{box_act, parts_met}
 use Rattle.edit_ops.proofs.BoxLaws.{makes_world}
 use Rattle.edit_ops.specs.Partly.{world_partly}
 use Rattle.edit_ops.proofs.PartlyLaws.{world_parts}
-use Rattle.edit_ops.proofs.rebuild.paint_box.Goals as goal
+use Rattle.edit_ops.proofs.rebuild.rebuild_box_with.Goals as goal
 
 pub rebuild_world-requires-clause-task : goal.rebuild_world-requires-clause-task
 rebuild_world-requires-clause-task g c =

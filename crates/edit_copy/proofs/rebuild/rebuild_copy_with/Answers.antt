@@ -5,7 +5,7 @@ use Rattle.history_model.specs.declared.acts.Act.TheVariants.{Copy}
 use Rattle.edit_cells.specs.Worlds.{ShowsWorld}
 use Rattle.edit_cells.proofs.WorldLaws.{root_shown}
 use Rattle.edit_copy.proofs.StartLaws.{copy_world}
-use Rattle.edit_copy.proofs.rebuild.copy_box.Goals as goal
+use Rattle.edit_copy.proofs.rebuild.rebuild_copy_with.Goals as goal
 
 pub rebuild_world-requires-clause-task : goal.rebuild_world-requires-clause-task
 rebuild_world-requires-clause-task g c =
