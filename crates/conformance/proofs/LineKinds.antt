@@ -35,7 +35,7 @@ goes_nowhere log = record { side = refl; more = []; records = sym (append-nil lo
 
 -- ---- lines that change nothing
 
-resting_not_done : (answer : Answer) → is_resting answer ≡ true → is_done answer ≡ false
+pub resting_not_done : (answer : Answer) → is_resting answer ≡ true → is_done answer ≡ false
 resting_not_done answers.Done rests = absurd (false≢true rests)
 resting_not_done (answers.Forgot v) rests = refl
 resting_not_done (answers.Is set) rests = refl
@@ -55,7 +55,7 @@ resting_not_done answers.NothingToRedo rests = refl
 resting_not_done answers.LogFull rests = refl
 resting_not_done (answers.Stale b) rests = refl
 
-resting_accepts : (session line : ℕ) (command : Command) (n : ℕ) (answer : Answer) → is_done answer ≡ false → accepted_by session line command n answer ≡ []
+pub resting_accepts : (session line : ℕ) (command : Command) (n : ℕ) (answer : Answer) → is_done answer ≡ false → accepted_by session line command n answer ≡ []
 resting_accepts session line (Edit act once) n answer other = rw other refl
 resting_accepts session line (Forget v) n answer other = refl
 resting_accepts session line (Ask version question) n answer other = refl
@@ -63,7 +63,7 @@ resting_accepts session line (Save version name part) n answer other = refl
 resting_accepts session line (Same v w) n answer other = refl
 resting_accepts session line Head n answer other = refl
 
-resting_forgets : (session line n : ℕ) (answer : Answer) → is_resting answer ≡ true → forgotten_by session line n answer ≡ []
+pub resting_forgets : (session line n : ℕ) (answer : Answer) → is_resting answer ≡ true → forgotten_by session line n answer ≡ []
 resting_forgets session line n answers.Done rests = refl
 resting_forgets session line n (answers.Forgot v) rests = absurd (false≢true rests)
 resting_forgets session line n (answers.Is set) rests = refl

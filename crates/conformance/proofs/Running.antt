@@ -19,7 +19,7 @@ use Rattle.conformance.specs.Running.{line_numbers, IsBy, IsSoFar, LineStep}
 use Rattle.conformance.proofs.GoingOn.{answers_stay}
 use Rattle.conformance.proofs.Lists.{zip_push, zip_map, pairs_nil, pairs_push, same_more, same_joined, same_itself}
 
-lines_push : (script : List ScriptLine) (l : ScriptLine) → line_numbers (script ++ l ∷ []) ≡ line_numbers script ++ l.line ∷ []
+pub lines_push : (script : List ScriptLine) (l : ScriptLine) → line_numbers (script ++ l ∷ []) ≡ line_numbers script ++ l.line ∷ []
 lines_push [] l = refl
 lines_push (k ∷ script) l = ap (λ (ns : List ℕ). k.line ∷ ns) (lines_push script l)
 

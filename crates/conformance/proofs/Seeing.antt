@@ -18,10 +18,10 @@ use Rattle.conformance.proofs.GoingOn.{answers_stay}
 use Rattle.conformance.proofs.Lists.{zip_push, zip_map, pairs_push}
 use Rattle.conformance.proofs.Running.{accepted_push, forgotten_push}
 
-longer : (old new : Log) → GoesOn old new → length old.records ≤ length new.records
+pub longer : (old new : Log) → GoesOn old new → length old.records ≤ length new.records
 longer old new g = (let more : length new.records ≡ length (old.records ++ g.more) = ap length g.records in let both = length-append old.records g.more in omega arith)
 
-seen_within : (p : Layout) (models : List Content) (seen : Log) (found : List Found) (own : List Mark) (session : ℕ) (script : List ScriptLine) (transcript : List LineAnswer) → AllZip (LineSeen p models seen found own session) script transcript → All (λ a. a.at ≤ length seen.records) transcript
+pub seen_within : (p : Layout) (models : List Content) (seen : Log) (found : List Found) (own : List Mark) (session : ℕ) (script : List ScriptLine) (transcript : List LineAnswer) → AllZip (LineSeen p models seen found own session) script transcript → All (λ a. a.at ≤ length seen.records) transcript
 seen_within p models seen found own session [] [] all = All-nil _
 seen_within p models seen found own session [] (a ∷ transcript) all = absurd all
 seen_within p models seen found own session (l ∷ script) [] all = absurd all

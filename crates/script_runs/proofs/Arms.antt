@@ -65,7 +65,7 @@ forgot_arm p models first mark log new noted forgets = record {
 }
 
 -- what a store wants is of a level of the world
-sought_low : (p : Layout) (w : World) (target : Shape) (wanted : Wanted) → IsPartOfWorld p w wanted.shape → IsSought p wanted → wanted.level ≤ top p.side
+pub sought_low : (p : Layout) (w : World) (target : Shape) (wanted : Wanted) → IsPartOfWorld p w wanted.shape → IsSought p wanted → wanted.level ≤ top p.side
 sought_low p w target wanted part sought =
     let f = part_of_world p w wanted.level wanted.shape part sought.canonical sought.some in
     let same = f.same_level in
@@ -104,7 +104,7 @@ resting_arm p models session first l log answer noted legal rests none fits = re
 }
 
 -- the moment of the line before is one of the history
-last_within : (n first : ℕ) (transcript : List LineAnswer) → All (λ a. a.at ≤ n) transcript → first ≤ n → last_moment first transcript ≤ n
+pub last_within : (n first : ℕ) (transcript : List LineAnswer) → All (λ a. a.at ≤ n) transcript → first ≤ n → last_moment first transcript ≤ n
 last_within n first [] all low = low
 last_within n first (a ∷ transcript) all low = last_within n a.at transcript (All-tail (λ b. b.at ≤ n) a transcript all) (All-head (λ b. b.at ≤ n) a transcript all)
 

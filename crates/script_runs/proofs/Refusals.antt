@@ -27,7 +27,7 @@ module _ (p : Layout) (models : List Content) (old new : Log) (g : GoesOn old ne
   pub made_stays : (act : Act) (v : ℕ) → v ≤ length old.records → made_of models new.records act v ≡ made_of models old.records act v
   made_stays act v le = ap (λ (w : World). edited models act w) (world_stays old new g (length old.records) (omega arith) models v le)
 
-  part_stays : (act : Act) (v : ℕ) (s : Shape) → v ≤ length old.records → IsPartOfWorld p (made_of models old.records act v) s → IsPartOfWorld p (made_of models new.records act v) s
+  pub part_stays : (act : Act) (v : ℕ) (s : Shape) → v ≤ length old.records → IsPartOfWorld p (made_of models old.records act v) s → IsPartOfWorld p (made_of models new.records act v) s
   part_stays act v s le part = subst (λ (w : World). IsPartOfWorld p w s) (sym (made_stays act v le)) part
 
   longer : length old.records ≤ length new.records

@@ -45,7 +45,7 @@ from_number n [] i d rises lt = absurd (omega arith)
 from_number n (k ∷ lines) zero d rises lt = rises.0
 from_number n (k ∷ lines) (suc i) d rises lt = let later = from_number (k.line + 1) lines i d rises.2 (omega arith) in let first = rises.0 in omega arith
 
-earlier : (n : ℕ) (lines : List ScriptLine) (i : ℕ) (d : ScriptLine) → RisesFrom n lines → i < length lines → IsAfter (take i lines) (get_or lines i d)
+pub earlier : (n : ℕ) (lines : List ScriptLine) (i : ℕ) (d : ScriptLine) → RisesFrom n lines → i < length lines → IsAfter (take i lines) (get_or lines i d)
 earlier n lines zero d rises lt = All-nil _
 earlier n [] (suc i) d rises lt = absurd (omega arith)
 earlier n (k ∷ lines) (suc i) d rises lt =

@@ -1,0 +1,234 @@
+-- What each answer of a session's calls makes of the line that it answers.
+use Rattle.std.proofs.Common.{◌≡◌, ap, ℕ, ◌<◌, ◌^◌, Bool, true, false, Option, Some, List, [], ◌++◌, length, Result, Ok, Err, refl, sym, subst, ◌∙◌, inl, inr, arith, append-nil}
+use Rattle.std.specs.Prelude.{All}
+use Rattle.std.proofs.lemmas.Option.{same_Some}
+use Rattle.std.specs.List.{Contains}
+use Rattle.vw_cell.specs.declared.boxes.Boxed.{Boxed}
+use Rattle.vw_cell.specs.Counts.{number_in}
+use Rattle.history_model.specs.declared.acts.Act.{Act}
+use Rattle.history_model.specs.declared.histories.Mark.{Mark}
+use Rattle.history_model.specs.declared.questions.Question.{Question}
+use Rattle.history_model.specs.Moments.{world_has}
+use Rattle.history_model.specs.Worlds.{World}
+use Rattle.block_contents.specs.Versions.{SameWorld}
+use Rattle.script.specs.declared.commands.Command.{Command}
+use Rattle.script.specs.declared.commands.Command.TheVariants.{Edit, Forget, Ask, Save, Same, Head}
+use Rattle.script.specs.declared.commands.SaveName.{SaveName}
+use Rattle.script.specs.declared.commands.ScriptLine.{ScriptLine}
+use Rattle.transcript.specs.declared.answers.Answer.{Answer}
+use Rattle.transcript.specs.declared.answers.Answer.TheVariants as answers
+use Rattle.transcript.specs.declared.answers.LineAnswer.{LineAnswer}
+use Rattle.conformance.specs.Answers.{Answers, IsForgotten, IsReadable, Names, LooksUp, asked_version, tells, saves, same, different, head, no_version, forgotten, is_head, nothing_to_undo, nothing_to_redo, log_full}
+use Rattle.conformance.specs.Kinds.{is_resting}
+use Rattle.conformance.specs.Passes.{IsLooked}
+use Rattle.conformance.specs.Refusing.{refused_by}
+use Rattle.conformance.specs.Saves.{saved_by}
+use Rattle.conformance.specs.Telling.{Tells, is, count, faces, extent, hit}
+use Rattle.session_runs.specs.declared.calls.ActAnswer.{ActAnswer}
+use Rattle.session_runs.specs.declared.calls.ActAnswer.TheVariants as acts
+use Rattle.session_runs.specs.declared.calls.OnceAnswer.{OnceAnswer}
+use Rattle.session_runs.specs.declared.calls.OnceAnswer.TheVariants as onces
+use Rattle.session_runs.specs.declared.calls.AskedAt.{AskedAt}
+use Rattle.session_runs.specs.declared.calls.SavedAt.{SavedAt}
+use Rattle.version_answers.specs.declared.refusals.PinRefused.{PinRefused}
+use Rattle.version_answers.specs.declared.refusals.PinRefused.TheVariants as pins
+use Rattle.version_answers.specs.declared.refusals.ForgetRefused.{ForgetRefused}
+use Rattle.version_answers.specs.declared.refusals.ForgetRefused.TheVariants as forgets
+use Rattle.version_answers.specs.declared.comparing.SameAt.{SameAt}
+use Rattle.version_answers.specs.declared.comparing.SameRefused.{SameRefused}
+use Rattle.version_answers.specs.declared.comparing.SameRefused.TheVariants as sames
+use Rattle.session_runs.specs.Calls.{KnowsOwn, AcceptsNothing, OnlySees, FindsVersion, SeesMark}
+use Rattle.session_runs.specs.Lines.{AreEarlier, AnswersLine}
+use Rattle.session_runs.specs.Saves.{version_saved, versions_of}
+use Rattle.session_runs.specs.Seen.{SessionOf, SessionSeen}
+use Rattle.session_runs.specs.Told.{IsSeenLength, NamesNone, NamesMarked, ActTold, OnceTold, AskTold, SaveTold, ForgetTold, SameTold, HeadTold, IsEqual, NamesVersion, answered, act_line, once_line, ask_line, save_line, forget_line, same_line, named_version}
+use Rattle.session_runs.proofs.Arms.{accepted_arm, full_arm, stale_arm, refused_arm, forgot_arm, resting_arm, found_readable, marked_forgotten, found_way}
+
+-- what a question is answered with changes nothing
+tells_rests : (side : ℕ) (w : World) (question : Question) (answer : Answer) → Tells side w question answer → is_resting answer ≡ true
+tells_rests side w question answer (is c set e) = refl
+tells_rests side w question answer (count b cells e) = refl
+tells_rests side w question answer (faces b number e) = refl
+tells_rests side w question answer (extent least e) = refl
+tells_rests side w question answer (hit from h found e) = refl
+
+module _ (of : SessionOf) (old new : SessionSeen) (knows : KnowsOwn of.number new) where
+  -- what is shown at the length that was seen holds at the answer's moment
+  at_moment : (l : ScriptLine) (at : ℕ) (answer : Answer) → IsSeenLength new at
+      → AnswersLine of l old new (record { line = l.line; at = length new.log.records; answer = answer })
+      → AnswersLine of l old new (record { line = l.line; at = at; answer = answer })
+  at_moment l at answer at_is takes = subst (λ (n : ℕ). AnswersLine of l old new (record { line = l.line; at = n; answer = answer })) (sym at_is) takes
+
+  -- the own marks are the earlier ones, where nothing was accepted
+  still_earlier : (line : ℕ) → AcceptsNothing old new → AreEarlier old line → AreEarlier new line
+  still_earlier line nothing earlier = subst (λ (ms : List Mark). All (λ m. m.line < line) ms) (sym nothing.marks) earlier
+
+  readable : (line v : ℕ) → FindsVersion new v → IsReadable (IsLooked new.found new.marks line (length new.log.records)) (length new.log.records) v
+  readable line v finds = found_readable of.number line new v knows finds
+
+  seen_marked : (mark : Mark) → Contains new.log.marks mark → SeesMark new mark.version
+  seen_marked mark listed = record { mark = mark; listed = listed; same = refl }
+
+  pub act_takes : (line : ℕ) (act : Act) (once : Bool) (answer : ActAnswer) → AreEarlier old line → ActTold of line act old new answer
+      → AnswersLine of (record { line = line; command = Edit act once }) old new (act_line line answer)
+  act_takes line act once (acts.Done n) earlier told = at_moment (record { line = line; command = Edit act once }) n answers.Done told.at_is (accepted_arm of.plan of.models of.number line act once old new told.appends told.notes)
+  act_takes line act once (acts.Full at full) earlier told =
+      at_moment (record { line = line; command = Edit act once }) at (answers.Full full.level full.bucket) told.at_is
+      (full_arm of.plan of.models of.number line act once full.level full.bucket old new told.nothing told.meets)
+  act_takes line act once acts.LogFull earlier told =
+      at_moment (record { line = line; command = Edit act once }) 65535 answers.LogFull (sym told.all)
+      (refused_arm of.plan of.models of.number line act once answers.LogFull old new told.nothing told.notes refl refl (log_full act once told.all (found_way of.number line new act knows told.way)))
+  act_takes line act once (acts.NothingToUndo at) earlier told =
+      at_moment (record { line = line; command = Edit act once }) at answers.NothingToUndo told.at_is
+      (refused_arm of.plan of.models of.number line act once answers.NothingToUndo old new told.nothing told.notes refl refl
+      (subst (λ (a : Act). Answers of.plan of.models new.log (IsLooked new.found new.marks line (length new.log.records)) of.number line (length new.log.records) (Edit a once) answers.NothingToUndo) (sym told.is)
+      (nothing_to_undo once told.none)))
+  act_takes line act once (acts.NothingToRedo at) earlier told =
+      at_moment (record { line = line; command = Edit act once }) at answers.NothingToRedo told.at_is
+      (refused_arm of.plan of.models of.number line act once answers.NothingToRedo old new told.nothing told.notes refl refl
+      (subst (λ (a : Act). Answers of.plan of.models new.log (IsLooked new.found new.marks line (length new.log.records)) of.number line (length new.log.records) (Edit a once) answers.NothingToRedo) (sym told.is)
+      (nothing_to_redo once told.none)))
+  act_takes line act once (acts.Forgotten at mark) earlier told =
+      at_moment (record { line = line; command = Edit act once }) at (answers.Forgotten mark.version) told.at_is
+      (refused_arm of.plan of.models of.number line act once (answers.Forgotten mark.version) old new told.nothing told.notes refl refl
+      (forgotten (Edit act once) mark.version told.target (marked_forgotten of.number line new mark.version knows (still_earlier line told.nothing earlier) (seen_marked mark told.listed))))
+
+  pub once_takes : (line : ℕ) (act : Act) (answer : OnceAnswer) → AreEarlier old line → OnceTold of line act old new answer
+      → AnswersLine of (record { line = line; command = Edit act true }) old new (once_line line answer)
+  once_takes line act (onces.Done n) earlier told = act_takes line act true (acts.Done n) earlier told
+  once_takes line act (onces.Full at full) earlier told = act_takes line act true (acts.Full at full) earlier told
+  once_takes line act onces.LogFull earlier told = act_takes line act true acts.LogFull earlier told
+  once_takes line act (onces.Stale at base) earlier told =
+      at_moment (record { line = line; command = Edit act true }) at (answers.Stale base) told.at_is
+      (stale_arm of.plan of.models of.number line act base old new told.nothing told.notes told.low told.over told.room)
+
+  -- a version that isn't pinned
+  none_named : (line : ℕ) (command : Command) (version : Option ℕ) (at : ℕ) → ((n v : ℕ) → version ≡ Some v → refused_by command n (answers.NoVersion v) ≡ [])
+      → ((v : ℕ) → version ≡ Some v → length new.log.records < v
+      → Answers of.plan of.models new.log (IsLooked new.found new.marks line (length new.log.records)) of.number line (length new.log.records) command (answers.NoVersion v))
+      → NamesNone version old new at
+      → AnswersLine of (record { line = line; command = command }) old new (answered line at (answers.NoVersion (named_version version)))
+  none_named line command version at none fits told =
+      let at_is = told.at_is in
+      let over = told.over in
+      subst (λ (v : Option ℕ). AnswersLine of (record { line = line; command = command }) old new (answered line at (answers.NoVersion (named_version v)))) (sym told.is)
+      (at_moment (record { line = line; command = command }) at (answers.NoVersion told.named) told.at_is
+      (resting_arm of.plan of.models of.number (record { line = line; command = command }) (answers.NoVersion told.named) old new told.only refl (none (length new.log.records) told.named told.is)
+      (fits told.named told.is (omega arith))))
+
+  marked_named : (line : ℕ) (command : Command) (version : Option ℕ) (at : ℕ) (mark : Mark) → AreEarlier old line → refused_by command (length new.log.records) (answers.Forgotten mark.version) ≡ []
+      → (SeesMark new mark.version → version ≡ Some mark.version
+      → Answers of.plan of.models new.log (IsLooked new.found new.marks line (length new.log.records)) of.number line (length new.log.records) command (answers.Forgotten mark.version))
+      → NamesMarked version old new at mark
+      → AnswersLine of (record { line = line; command = command }) old new (answered line at (answers.Forgotten mark.version))
+  marked_named line command version at mark earlier none fits told =
+      at_moment (record { line = line; command = command }) at (answers.Forgotten mark.version) told.at_is
+      (resting_arm of.plan of.models of.number (record { line = line; command = command }) (answers.Forgotten mark.version) old new told.only refl none (fits (seen_marked mark told.listed) told.is))
+
+  marked_is : (line v : ℕ) → OnlySees old new → AreEarlier old line → SeesMark new v → IsForgotten new.log.marks of.number line (length new.log.records) v
+  marked_is line v only earlier sees = marked_forgotten of.number line new v knows (still_earlier line only.nothing earlier) sees
+
+  ask_ok : (line : ℕ) (version : Option ℕ) (question : Question) (at : ℕ) (answer : Answer) → IsSeenLength new at → OnlySees old new → FindsVersion new (asked_version version at)
+      → Tells (2 ^ new.log.side) (world_has of.models new.log.records (asked_version version at)) question answer → AnswersLine of (record { line = line; command = Ask version question }) old new (answered line at answer)
+  ask_ok line version question at answer at_is only finds tell =
+      at_moment (record { line = line; command = Ask version question }) at answer at_is
+      (resting_arm of.plan of.models of.number (record { line = line; command = Ask version question }) answer old new only (tells_rests _ _ question answer tell) refl
+      (tells version question answer (readable line (asked_version version (length new.log.records)) (subst (λ (n : ℕ). FindsVersion new (asked_version version n)) at_is finds))
+      (subst (λ (n : ℕ). Tells (2 ^ new.log.side) (world_has of.models new.log.records (asked_version version n)) question answer) at_is tell)))
+
+  save_ok : (line : ℕ) (version : Option ℕ) (name : SaveName) (part : Boxed) (at cells : ℕ) → IsSeenLength new at → OnlySees old new → FindsVersion new (asked_version version at)
+      → cells ≡ number_in part (world_has of.models new.log.records (asked_version version at)) → AnswersLine of (record { line = line; command = Save version name part }) old new (answered line at (answers.Saved cells))
+  save_ok line version name part at cells at_is only finds e =
+      at_moment (record { line = line; command = Save version name part }) at (answers.Saved cells) at_is
+      (resting_arm of.plan of.models of.number (record { line = line; command = Save version name part }) (answers.Saved cells) old new only refl refl
+      (saves version name part cells (readable line (asked_version version (length new.log.records)) (subst (λ (n : ℕ). FindsVersion new (asked_version version n)) at_is finds))
+      (subst (λ (n : ℕ). cells ≡ number_in part (world_has of.models new.log.records (asked_version version n))) at_is e)))
+
+  pub ask_takes : (line : ℕ) (version : Option ℕ) (question : Question) (answer : Result AskedAt PinRefused) → AreEarlier old line → AskTold of version question old new answer
+      → AnswersLine of (record { line = line; command = Ask version question }) old new (ask_line line version answer)
+  ask_takes line version question (Ok a) earlier told = ask_ok line version question a.at a.answer told.at_is told.only told.finds told.tells
+  ask_takes line version question (Err (pins.NoVersion at)) earlier told =
+      none_named line (Ask version question) version at (λ n v _. refl)
+      (λ v e over. no_version (Ask version question) v (subst (λ (o : Option ℕ). Names (IsLooked new.found new.marks line (length new.log.records)) (length new.log.records) (Ask o question) v) (sym e) refl) over) told
+  ask_takes line version question (Err (pins.Forgotten at mark)) earlier told =
+      marked_named line (Ask version question) version at mark earlier refl
+      (λ sees e. forgotten (Ask version question) mark.version (subst (λ (o : Option ℕ). LooksUp (IsLooked new.found new.marks line (length new.log.records)) new.log.records (length new.log.records) (Ask o question) mark.version) (sym e) refl)
+      (marked_is line mark.version told.only earlier sees)) told
+
+  pub save_takes : (line : ℕ) (version : Option ℕ) (name : SaveName) (part : Boxed) (answer : Result SavedAt PinRefused) → AreEarlier old line → SaveTold of version part old new answer
+      → AnswersLine of (record { line = line; command = Save version name part }) old new (save_line line version answer)
+  save_takes line version name part (Ok a) earlier told = save_ok line version name part a.at a.cells told.at_is told.only told.finds told.cells
+  save_takes line version name part (Err (pins.NoVersion at)) earlier told =
+      none_named line (Save version name part) version at (λ n v _. refl)
+      (λ v e over. no_version (Save version name part) v (subst (λ (o : Option ℕ). Names (IsLooked new.found new.marks line (length new.log.records)) (length new.log.records) (Save o name part) v) (sym e) refl) over) told
+  save_takes line version name part (Err (pins.Forgotten at mark)) earlier told =
+      marked_named line (Save version name part) version at mark earlier refl
+      (λ sees e. forgotten (Save version name part) mark.version (subst (λ (o : Option ℕ). LooksUp (IsLooked new.found new.marks line (length new.log.records)) new.log.records (length new.log.records) (Save o name part) mark.version) (sym e) refl)
+      (marked_is line mark.version told.only earlier sees)) told
+
+  pub forget_takes : (line version : ℕ) (answer : Result ℕ ForgetRefused) → AreEarlier old line → ForgetTold of line version old new answer
+      → AnswersLine of (record { line = line; command = Forget version }) old new (forget_line line version answer)
+  forget_takes line version (Ok at) earlier told = at_moment (record { line = line; command = Forget version }) at (answers.Forgot version) told.at_is (forgot_arm of.plan of.models of.number line version old new told.forgets)
+  forget_takes line version (Err (forgets.NoVersion at)) earlier told =
+      none_named line (Forget version) (Some version) at (λ n v _. refl) (λ v e over. no_version (Forget version) v (same_Some version v e) over) told
+  forget_takes line version (Err (forgets.IsHead at)) earlier told =
+      subst (λ (v : ℕ). AnswersLine of (record { line = line; command = Forget v }) old new (answered line at answers.IsHead)) (sym (told.is ∙ told.at_is))
+      (at_moment (record { line = line; command = Forget (length new.log.records) }) at answers.IsHead told.at_is
+      (resting_arm of.plan of.models of.number (record { line = line; command = Forget (length new.log.records) }) answers.IsHead old new told.only refl refl is_head))
+  forget_takes line version (Err (forgets.Forgotten at mark)) earlier told =
+      subst (λ (v : ℕ). AnswersLine of (record { line = line; command = Forget version }) old new (answered line at (answers.Forgotten v))) (sym (same_Some version mark.version told.is))
+      (marked_named line (Forget version) (Some version) at mark earlier refl (λ sees e. forgotten (Forget version) mark.version (same_Some version mark.version e) (marked_is line mark.version told.only earlier sees)) told)
+
+  -- the command names the version
+  names_one : (line v w version : ℕ) → NamesVersion v w new version → Names (IsLooked new.found new.marks line (length new.log.records)) (length new.log.records) (Same v w) version
+  names_one line v w version (inl e) = inl e
+  names_one line v w version (inr e) = inr (e.0, readable line v e.1)
+
+  same_ok : (line v w at : ℕ) (equal : Bool) → IsSeenLength new at → OnlySees old new → FindsVersion new v → FindsVersion new w → IsEqual equal (SameWorld (2 ^ new.log.side) (world_has of.models new.log.records v) (world_has of.models new.log.records w))
+      → AnswersLine of (record { line = line; command = Same v w }) old new (answered line at (answers.Same equal))
+  same_ok line v w at true at_is only first second e =
+      at_moment (record { line = line; command = Same v w }) at (answers.Same true) at_is
+      (resting_arm of.plan of.models of.number (record { line = line; command = Same v w }) (answers.Same true) old new only refl refl (same v w (readable line v first) (readable line w second) e))
+  same_ok line v w at false at_is only first second e =
+      at_moment (record { line = line; command = Same v w }) at (answers.Same false) at_is
+      (resting_arm of.plan of.models of.number (record { line = line; command = Same v w }) (answers.Same false) old new only refl refl (different v w (readable line v first) (readable line w second) e))
+
+  pub same_takes : (line v w : ℕ) (answer : Result SameAt SameRefused) → AreEarlier old line → SameTold of v w old new answer
+      → AnswersLine of (record { line = line; command = Same v w }) old new (same_line line answer)
+  same_takes line v w (Ok a) earlier told = same_ok line v w a.at a.equal told.at_is told.only told.first told.second told.equal
+  same_takes line v w (Err (sames.NoVersion at version)) earlier told =
+      let at_is = told.at_is in
+      let over = told.over in
+      at_moment (record { line = line; command = Same v w }) at (answers.NoVersion version) told.at_is
+      (resting_arm of.plan of.models of.number (record { line = line; command = Same v w }) (answers.NoVersion version) old new told.only refl refl (no_version (Same v w) version (names_one line v w version told.named) (omega arith)))
+  same_takes line v w (Err (sames.Forgotten at mark)) earlier told =
+      at_moment (record { line = line; command = Same v w }) at (answers.Forgotten mark.version) told.at_is
+      (resting_arm of.plan of.models of.number (record { line = line; command = Same v w }) (answers.Forgotten mark.version) old new told.only refl refl
+      (forgotten (Same v w) mark.version (names_one line v w mark.version told.named) (marked_is line mark.version told.only earlier (seen_marked mark told.listed))))
+
+  pub head_takes : (line at : ℕ) → HeadTold old new at → AnswersLine of (record { line = line; command = Head }) old new (answered line at answers.Head)
+  head_takes line at told = at_moment (record { line = line; command = Head }) at answers.Head told.at_is (resting_arm of.plan of.models of.number (record { line = line; command = Head }) answers.Head old new told.only refl refl head)
+
+-- the line has this command, and this is its answer
+pub line_is : (of : SessionOf) (old new : SessionSeen) (l : ScriptLine) (command : Command) (a result : LineAnswer) → l.command ≡ command → result ≡ a
+    → AnswersLine of (record { line = l.line; command = command }) old new a → AnswersLine of l old new result
+line_is of old new l command a result of_command told takes =
+    subst (λ (b : LineAnswer). AnswersLine of l old new b) (sym told)
+    (subst (λ (c : Command). AnswersLine of (record { line = l.line; command = c }) old new a) (sym of_command) takes)
+
+-- the line is a try
+pub tried_is : (of : SessionOf) (old new : SessionSeen) (l : ScriptLine) (act : Act) (once : Bool) (a result : LineAnswer) → l.command ≡ Edit act once → once ≡ true → result ≡ a
+    → AnswersLine of (record { line = l.line; command = Edit act true }) old new a → AnswersLine of l old new result
+tried_is of old new l act once a result of_command tried told takes =
+    line_is of old new l (Edit act true) a result (of_command ∙ ap (λ (b : Bool). Edit act b) tried) told takes
+
+-- ---- what is saved
+
+pub none_saved : (old new : List ℕ) → new ≡ old → new ≡ old ++ []
+none_saved old new e = e ∙ sym (append-nil old)
+
+pub save_saved : (old new : List ℕ) (line : ℕ) (version : Option ℕ) (name : SaveName) (part : Boxed) (answer : Result SavedAt PinRefused) → new ≡ old ++ version_saved version answer
+    → new ≡ old ++ versions_of (saved_by (Save version name part) (save_line line version answer).at (save_line line version answer).answer)
+save_saved old new line version name part (Ok a) e = e
+save_saved old new line version name part (Err (pins.NoVersion at)) e = e
+save_saved old new line version name part (Err (pins.Forgotten at mark)) e = e

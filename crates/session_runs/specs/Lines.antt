@@ -1,0 +1,44 @@
+-- What one line makes of what its session has seen and done. This is what a desk of a session has
+-- to show, line by line.
+use Rattle.std.specs.Prelude.{◌≡◌, ℕ, ◌<◌, ◌≤◌, List, ◌++◌, length, All}
+use Rattle.std.specs.List.{Contains}
+use Rattle.script.specs.declared.commands.ScriptLine.{ScriptLine}
+use Rattle.transcript.specs.declared.answers.Answer.TheVariants as answers
+use Rattle.transcript.specs.declared.answers.LineAnswer.{LineAnswer}
+use Rattle.conformance.specs.Answers.{Answers, GoesOn}
+use Rattle.conformance.specs.Passes.{IsLooked, PassSoFar}
+use Rattle.conformance.specs.Running.{line_numbers}
+use Rattle.conformance.specs.Shown.{accepted_by, forgotten_by}
+use Rattle.script_runs.specs.Keeping.{MadeAndMet}
+use Rattle.session_runs.specs.Seen.{SessionOf, SessionSeen}
+use Rattle.session_runs.specs.Notes.{LineNotes, LinesNote}
+
+-- the session's own marks are by earlier lines
+abbrev pub AreEarlier : SessionSeen → ℕ → Type 0
+AreEarlier s line = All (λ m. m.line < line) s.marks
+
+-- the line is answered at the length of what the session has seen then, which goes on from what it
+-- saw; the answer fits that, and rests on versions that the session found; its own records and
+-- marks grow by just what was accepted, and what was made and met is for the line
+pub record AnswersLine (of : SessionOf) (l : ScriptLine) (old new : SessionSeen)
+    (a : LineAnswer) : Type 0 where
+  pub same_line : a.line ≡ l.line
+  pub newest : a.at ≡ length new.log.records
+  pub goes_on : GoesOn old.log new.log
+  pub later : a.answer ≡ answers.Done → length old.log.records < a.at
+  pub unseen : (base : ℕ) → a.answer ≡ answers.Stale base → length old.log.records ≤ base
+  pub found : All (Contains new.found) old.found
+  pub records : new.records ≡ accepted_by of.number l.line l.command a.at a.answer ++ old.records
+  pub marks : new.marks ≡ forgotten_by of.number l.line a.at a.answer ++ old.marks
+  pub fits : Answers of.plan of.models new.log (IsLooked new.found new.marks l.line a.at) of.number
+      l.line a.at l.command a.answer
+  pub notes : LineNotes of.plan of.models new.log.records
+      (length old.log.records) l a old.noted new.noted
+
+-- the lines of a session so far
+pub record SessionSoFar (of : SessionOf) (script : List ScriptLine) (answers : List LineAnswer)
+    (before : MadeAndMet)
+    (s : SessionSeen) : Type 0 where
+  pub pass : PassSoFar of.plan of.models of.number script answers s.log s.found s.records s.marks
+  pub by : All (λ m. Contains (line_numbers script) m.line) s.marks
+  pub notes : LinesNote of.plan of.models s.log.records 0 script answers before s.noted

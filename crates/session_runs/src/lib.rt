@@ -1,0 +1,18 @@
+//! Scripts that sessions run beside each other in one world.
+//!
+//! What the run of one session tells rests on what that session saw alone (`SessionRan` in
+//! `specs/Ran.antt`), and what a closed world tells is one history of all sessions (`ClosesWorld`).
+//! Both together are a run of the scripts, as one after another gives it.
+#![tactic(auto)]
+
+mod calls;
+mod desks;
+mod laws;
+mod lines;
+mod runs;
+
+pub use calls::{ActAnswer, AskedAt, OnceAnswer, SavedAt, SessionCalls};
+pub use desks::SessionDesk;
+pub use laws::{calls_take_lines, sessions_are_a_run, sessions_go_on};
+pub use lines::answer_line;
+pub use runs::run_lines;
