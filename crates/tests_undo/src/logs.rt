@@ -65,6 +65,8 @@ impl<'r> LogWords for PackedLog<'r> {
 
     ghost records = { λ log. log };
 
+    ghost readable = { λ _. Unit {0} };
+
     ghost rests = { λ a b. b ≡ a };
 
     fn len(&mut self) -> u32 {
@@ -74,6 +76,11 @@ impl<'r> LogWords for PackedLog<'r> {
     fn words(&mut self, n: u32) -> [u64; 5] {
         self.reads = self.reads.saturating_add(1);
         self.words[n as usize - 1]
+    }
+
+    fn first_word(&mut self, n: u32) -> u64 {
+        let words = self.words(n);
+        words[0]
     }
 
     ghost rests_itself = { λ a. refl };
