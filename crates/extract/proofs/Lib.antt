@@ -1,4 +1,4 @@
-mod ListingLaws
-mod LeafLaws
+pub mod ListingLaws
+pub mod LeafLaws
 mod FillLaws
 pub mod SavedLaws

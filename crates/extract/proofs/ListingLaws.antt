@@ -48,7 +48,7 @@ length-more : (k n : ℕ) (f : ℕ → List Voxel) → k ≤ n → length (voxel
 length-more k n f h = let piece = length-piece k 0 n f (omega arith) in omega (arith, piece)
 
 -- nothing is appended
-appends_none : {Z : Type 0} (v : Vec Voxel Z) → AppendsVoxels [] v v
+pub appends_none : {Z : Type 0} (v : Vec Voxel Z) → AppendsVoxels [] v v
 appends_none v = record { items = sym (append-nil v.items); len = omega arith; room = refl }
 
 pub none_joined : {Z : Type 0} (f : ℕ → List Voxel) (v : Vec Voxel Z) → AppendsVoxels (voxels_joined 0 f) v v
@@ -96,7 +96,7 @@ length-voxels b cells =
     ∙ sum_below-same b.size.x _ _ (λ x _. length-voxel (cells (cell_at (b.at.x + x) (b.at.y + y) (b.at.z + z))) _ _ _)))
 
 -- a leaf of no bits has no cell
-no_voxels : (n : ℕ) (f : ℕ → List Voxel) → ((i : ℕ) → f i ≡ []) → voxels_joined n f ≡ []
+pub no_voxels : (n : ℕ) (f : ℕ → List Voxel) → ((i : ℕ) → f i ≡ []) → voxels_joined n f ≡ []
 unfolding voxels_joined
 no_voxels zero f none = refl
 no_voxels (suc n) f none = rw (no_voxels n f none, none n) refl

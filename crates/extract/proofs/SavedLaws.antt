@@ -31,7 +31,7 @@ voxel_inside : (size : Cell) (set : Bool) (x y z : ℕ) → x < size.x → y < s
 voxel_inside size true x y z a b c = All-cons (StandsInside size) (record { x = x; y = y; z = z; colour = 1 }) [] (record { x = a; y = b; z = c }) (All-nil (StandsInside size))
 voxel_inside size false x y z a b c = All-nil (StandsInside size)
 
-voxels_inside : (b : Boxed) (cells : Cell → Bool) → All (StandsInside b.size) (voxels_of_box b cells)
+pub voxels_inside : (b : Boxed) (cells : Cell → Bool) → All (StandsInside b.size) (voxels_of_box b cells)
 voxels_inside b cells =
     joined_all (StandsInside b.size) b.size.z (box_layer cells b)
     (λ z of_z. joined_all (StandsInside b.size) b.size.y (λ y. box_row cells b z y b.size.x)
@@ -45,7 +45,7 @@ times zero b x y a_x b_y = omega arith
 times (suc a) b zero y a_x b_y = absurd (omega arith)
 times (suc a) b (suc x) y a_x b_y = let rest = times a b x y (omega arith) b_y in omega (arith, rest)
 
-few_voxels : (b : Boxed) (cells : Cell → Bool) → (b.size.x ≤ 256) × (b.size.y ≤ 256) × (b.size.z ≤ 256) → length (voxels_of_box b cells) ≤ 2 ^ 24
+pub few_voxels : (b : Boxed) (cells : Cell → Bool) → (b.size.x ≤ 256) × (b.size.y ≤ 256) × (b.size.z ≤ 256) → length (voxels_of_box b cells) ≤ 2 ^ 24
 few_voxels b cells small =
     let all : number_in b cells ≤ b.size.z * (b.size.y * b.size.x) = number_below-le b.size (λ q. cells (cell_at (b.at.x + q.x) (b.at.y + q.y) (b.at.z + q.z))) in
     let rows : b.size.y * b.size.x ≤ 256 * 256 = times b.size.y b.size.x 256 256 small.1 small.0 in

@@ -12,7 +12,7 @@ use node_words::Blocks;
 use vw_cell::{Block, Boxed, Cell};
 
 /// The leaves of the layer of a box that has its z-th layer of cells, row by row.
-pub(crate) fn gather<B: Blocks>(
+pub fn gather<B: Blocks>(
     store: &mut B,
     level: u8,
     block: Option<Name>,

@@ -8,3 +8,5 @@ mod rows;
 
 pub use boxes::cells_in;
 pub use files::box_file;
+pub use leaves::gather;
+pub use rows::{push_if, row_start, run_length};

@@ -71,8 +71,8 @@ fn row_in(leaves: &[u64; 4225], b: Boxed, z: u16, y: u16, into: &mut Vec<Voxel>)
     }
 }
 
-// Where the leaves of a row begin in its layer.
-fn row_start(b: Boxed, y: u16) -> usize
+/// Where the leaves of a row begin in its layer.
+pub fn row_start(b: Boxed, y: u16) -> usize
     requires b { IsSmallLayer b }
     requires y { y < b.size.y }
     ensures start { result ≡ ((b.at.y + y) / 4 - b.at.y / 4) * leaves_along b }
@@ -84,8 +84,8 @@ fn row_start(b: Boxed, y: u16) -> usize
     usize::from(down) * usize::from(along)
 }
 
-// How many of the next cells lie in one leaf.
-pub(crate) fn run_length(place: u16, left: u16) -> u16
+/// How many of the next cells lie in one leaf.
+pub fn run_length(place: u16, left: u16) -> u16
     requires left { 1 ≤ left }
     ensures some { 1 ≤ result }
     ensures within { result ≤ left }
@@ -111,8 +111,8 @@ fn run_in(bits: u64, at: Cell, n: u16, to: Cell, into: &mut Vec<Voxel>)
     }
 }
 
-// Appends a voxel where the cell is set.
-fn push_if(set: bool, c: Cell, into: &mut Vec<Voxel>)
+/// Appends a voxel where the cell is set.
+pub fn push_if(set: bool, c: Cell, into: &mut Vec<Voxel>)
     requires c { (c.x < 256) × (c.y < 256) × (c.z < 256) }
     requires room { HasRoom into.old (length (voxel_if set c.x c.y c.z)) }
     ensures { AppendsVoxels (voxel_if set c.x c.y c.z) into.old into.new }

@@ -1,6 +1,6 @@
--- The bytes of a VOX file of one model. A number has four bytes, the lowest first.
+-- The bytes of a VOX file. A number has four bytes, the lowest first.
 use Rattle.std.specs.Prelude.{ℕ, ◌+◌, ◌*◌, List, [], ◌∷◌, ◌++◌, length, codes}
-use Rattle.std.specs.List.{flat_map}
+use Rattle.std.specs.List.{flat_map, sum_by}
 use Rattle.vw_cell.specs.declared.cells.Cell.{Cell}
 use Rattle.byteorder.specs.Endian.{little_bytes}
 use Rattle.vox_read.specs.declared.voxels.Voxel.{Voxel}
@@ -30,3 +30,19 @@ file_front size voxels =
 -- the file of a model: its voxels in their order, each as four bytes
 abbrev pub model_file : Content → List ℕ
 model_file m = file_front m.size (length m.voxels) ++ flat_map voxel_bytes m.voxels
+
+-- ---- a file of many models
+
+-- the chunks of one of them: a SIZE, and an XYZI of its voxels in their order
+unfoldable pub model_chunks : Content → List ℕ
+model_chunks m = chunk_head (codes "SIZE") 12 0 ++ size_bytes m.size
+    ++ chunk_head (codes "XYZI") (4 + 4 * length m.voxels) 0 ++ number_bytes (length m.voxels)
+    ++ flat_map voxel_bytes m.voxels
+
+abbrev pub chunks_length : List Content → ℕ
+chunks_length models = sum_by (λ m. 40 + 4 * length m.voxels) models
+
+-- the file of models in their order
+unfoldable pub models_file : List Content → List ℕ
+models_file models = codes "VOX " ++ number_bytes 150
+    ++ chunk_head (codes "MAIN") 0 (chunks_length models) ++ flat_map model_chunks models

@@ -2,10 +2,10 @@ ghost use Rattle.std.specs.Prelude.{◌≡◌, ◌+◌, ◌*◌, ◌^◌, ◌<�
 ghost use Rattle.std.specs.List.{flat_map};
 ghost use Rattle.vox_read.specs.Contents.{IsSize, StandsInside};
 ghost use Rattle.vox_read.specs.Files.{ReadsModels};
-ghost use Rattle.vox_write.specs.Written.{number_bytes, chunk_head, size_bytes, voxel_bytes, file_front, model_file};
+ghost use Rattle.vox_write.specs.Written.{number_bytes, chunk_head, size_bytes, voxel_bytes, file_front, model_file, model_chunks, chunks_length, models_file};
 ghost use Rattle.vox_write.specs.WrittenLaws.{FilesAreRead};
 
-use vox_read::Voxel;
+use vox_read::{Model, Voxel};
 use vw_cell::{Cell, Memory};
 
 /// Appends the VOX file, of version 150, whose one model has this size and these voxels, in their
@@ -34,6 +34,67 @@ pub fn write_model(size: Cell, voxels: &[Voxel], into: &mut Vec<u8>) -> Result<(
     Ok(())
 }
 
+/// Appends the VOX file, of version 150, of these models in their order, each with its voxels in
+/// theirs. `into` grows once, and is as it was where there is no memory for that.
+pub fn write_models(models: &[Model], into: &mut Vec<u8>) -> Result<(), Memory>
+    requires short { 20 + chunks_length models.now ≤ 2 ^ 28 }
+    ensures written { OnOk result (into.new.items ≡ into.old.items ++ models_file models.now) }
+    ensures refused { OnErr result (into.new.items ≡ into.old.items) }
+{
+    let length = chunks_length(models);
+    into.reserve(20 + length)?;
+    put_models(models, length as u32, into);
+    Ok(())
+}
+
+// The number of bytes of the chunks of models.
+fn chunks_length(models: &[Model]) -> usize
+    requires { chunks_length models.now ≤ 2 ^ 28 }
+    ensures { result ≡ chunks_length models.now }
+{
+    let mut length = 0;
+    for model in models {
+        length += 40 + 4 * model.voxels.len();
+    }
+    length
+}
+
+// The file of models in the room that there is.
+fn put_models(models: &[Model], length: u32, into: &mut Vec<u8>)
+    requires length { length ≡ chunks_length models.now }
+    requires short { length ≤ 2 ^ 28 }
+    requires room { vec_len into.old + (20 + length) ≤ vec_capacity into.old }
+    ensures { into.new.items ≡ into.old.items ++ models_file models.now }
+{
+    put_main(length, into);
+    put_chunks(models, into);
+}
+
+// The chunks of models.
+fn put_chunks(models: &[Model], into: &mut Vec<u8>)
+    requires short { chunks_length models.now ≤ 2 ^ 28 }
+    requires room { vec_len into.old + chunks_length models.now ≤ vec_capacity into.old }
+    ensures { into.new.items ≡ into.old.items ++ flat_map model_chunks models.now }
+{
+    for model in models {
+        put_model(model.size, model.voxels.as_slice(), into);
+    }
+}
+
+// The chunks of one model: a SIZE, and an XYZI.
+fn put_model(size: Cell, voxels: &[Voxel], into: &mut Vec<u8>)
+    requires few { length voxels.now ≤ 2 ^ 26 }
+    requires room { vec_len into.old + (40 + 4 * length voxels.now) ≤ vec_capacity into.old }
+    ensures items { into.new.items
+        ≡ into.old.items ++ model_chunks (record { size = size; voxels = voxels.now }) }
+    ensures len { vec_len into.new ≡ vec_len into.old + (40 + 4 * length voxels.now) }
+    ensures capacity { vec_capacity into.new ≡ vec_capacity into.old }
+{
+    put_size(size, into);
+    put_xyzi(voxels.len() as u32, into);
+    put_voxels(voxels, into);
+}
+
 /// A law: the file of a model says that one model, and so it is what a reader has to answer.
 #[tactic(auto, using(crate::specs::WrittenLaws::files_are_read))]
 pub fn written_models_are_read()
@@ -49,24 +110,23 @@ fn put_front(size: Cell, voxels: u32, into: &mut Vec<u8>)
     ensures len { vec_len into.new ≡ vec_len into.old + 60 }
     ensures capacity { vec_capacity into.new ≡ vec_capacity into.old }
 {
-    put_main(voxels, into);
+    // a SIZE, and an XYZI of so many voxels
+    put_main(40 + 4 * voxels, into);
     put_size(size, into);
     put_xyzi(voxels, into);
 }
 
-// The mark, the version, and how MAIN begins, whose children are a SIZE and an XYZI of so many
-// voxels.
-fn put_main(voxels: u32, into: &mut Vec<u8>)
-    requires few { voxels ≤ 2 ^ 24 }
+// The mark, the version, and how MAIN begins, whose children have so many bytes.
+fn put_main(children: u32, into: &mut Vec<u8>)
     requires room { vec_len into.old + 20 ≤ vec_capacity into.old }
     ensures items { into.new.items ≡ into.old.items ++ codes "VOX " ++ number_bytes 150
-        ++ chunk_head (codes "MAIN") 0 (40 + 4 * voxels) }
+        ++ chunk_head (codes "MAIN") 0 children }
     ensures len { vec_len into.new ≡ vec_len into.old + 20 }
     ensures capacity { vec_capacity into.new ≡ vec_capacity into.old }
 {
     put_four(*b"VOX ", into);
     put_number(150, into);
-    put_head(*b"MAIN", 0, 40 + 4 * voxels, into);
+    put_head(*b"MAIN", 0, children, into);
 }
 
 // The chunk of the size.
@@ -85,7 +145,7 @@ fn put_size(size: Cell, into: &mut Vec<u8>)
 
 // How the chunk of so many voxels begins, with their number.
 fn put_xyzi(voxels: u32, into: &mut Vec<u8>)
-    requires few { voxels ≤ 2 ^ 24 }
+    requires few { voxels ≤ 2 ^ 26 }
     requires room { vec_len into.old + 16 ≤ vec_capacity into.old }
     ensures items { into.new.items ≡ into.old.items
         ++ chunk_head (codes "XYZI") (4 + 4 * voxels) 0 ++ number_bytes voxels }
@@ -112,6 +172,8 @@ fn put_head(id: [u8; 4], content: u32, children: u32, into: &mut Vec<u8>)
 fn put_voxels(voxels: &[Voxel], into: &mut Vec<u8>)
     requires room { vec_len into.old + 4 * length voxels.now ≤ vec_capacity into.old }
     ensures items { into.new.items ≡ into.old.items ++ flat_map voxel_bytes voxels.now }
+    ensures len { vec_len into.new ≡ vec_len into.old + 4 * length voxels.now }
+    ensures capacity { vec_capacity into.new ≡ vec_capacity into.old }
 {
     for voxel in voxels {
         put_voxel(*voxel, into);

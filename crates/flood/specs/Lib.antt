@@ -1,0 +1,4 @@
+pub mod Ways
+pub mod Words
+pub mod Regions
+pub mod Rows

@@ -1,0 +1,21 @@
+pub mod Digits
+pub mod Looking
+pub mod Words
+pub mod Skipping
+pub mod Finding
+pub mod Coming
+pub mod Visiting
+pub mod Within
+pub mod Leasts
+pub mod Ends
+pub mod Lengths
+pub mod Rows
+pub mod Paints
+pub mod Lists
+pub mod Matrices
+pub mod Zips
+pub mod SidesAre
+pub mod Refusing
+pub mod Making
+pub mod Stamps
+mod Alike

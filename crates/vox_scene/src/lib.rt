@@ -1,0 +1,26 @@
+//! The scene of a VOX file: its nodes, and where they place the turned models.
+#![tactic(auto)]
+
+mod dicts;
+mod faults;
+mod nodes;
+mod numbers;
+mod painting;
+mod reading;
+mod scenes;
+mod scripting;
+mod sides;
+mod sizes;
+mod standing;
+mod turnings;
+mod walking;
+
+pub use dicts::Dict;
+pub use faults::SceneFault;
+pub use nodes::{Children, Kind, Node};
+pub use reading::Nodes;
+pub use scenes::{Scene, read_scene, scene_bytes};
+pub use scripting::stamp_text;
+pub use standing::Standing;
+pub use turnings::{Axis, Pose, Row, Shift, Turning, Vector};
+pub use walking::Placed;

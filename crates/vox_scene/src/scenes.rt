@@ -1,0 +1,246 @@
+//! The scene of a file.
+ghost use Rattle.std.specs.Prelude.{◌≡◌, ◌≤◌, ◌<◌, ◌+◌, ◌++◌, ◌^◌, pos, ◌+ℤ◌, ◌≤ℤ◌, List, length, map, take, All, IfOk, IfErr, IfSome, OnOk, OnErr, MatchOption, Ok};
+ghost use Rattle.std.specs.List.{AllZip};
+ghost use Rattle.vox_read.specs.Contents.{Content, AreModels};
+ghost use Rattle.vox_read.specs.Files.{HasModels};
+ghost use Rattle.vox_scene.specs.Placing.{stand_at, IsTurned, AreTurned, IsPlaced};
+ghost use Rattle.vox_write.specs.Written.{chunks_length, models_file};
+ghost use Rattle.vox_scene.specs.Scenes.{HasStands, HasScene, IsSceneOf, HasLarge, RefusesScene};
+ghost use Rattle.vox_scene.specs.Sound.{IsSound, StandsWithin};
+
+use crate::faults::SceneFault;
+use crate::painting::turned;
+use crate::reading::read_nodes;
+use crate::sides::{cells_of, least_side};
+use crate::sizes::scene_length;
+use crate::standing::{Standing, least_corner, stands};
+use crate::turnings::Vector;
+use std::alloc::Global;
+use std::marker::Model;
+use vox_read::{Models, read_models};
+use vox_write::write_models;
+use vw_cell::{Cell, Memory, Side};
+
+/// A scene: the least world that holds it, the turned models, and where each stands.
+#[derive(Drop)]
+pub struct Scene {
+    pub side: Side,
+    pub models: Models,
+    pub places: Vec<Cell>,
+}
+
+impl Model for Scene {
+    ghost use Rattle.vox_scene.specs.Scenes.{SceneSeen};
+
+    ghost Value = { SceneSeen };
+
+    ghost view = { λ s. record { side = s.side; models = s.models; places = s.places.items } };
+}
+
+/// Appends the VOX file of a scene's models, one for each place, with their voxels in order. `into`
+/// is as it was where there is no memory for that.
+pub fn scene_bytes(scene: &Scene, into: &mut Vec<u8>) -> Result<(), Memory>
+    requires short { 20 + chunks_length scene.now.models ≤ 2 ^ 28 }
+    ensures written { OnOk result
+        (into.new.items ≡ into.old.items ++ models_file scene.now.models) }
+    ensures refused { OnErr result (into.new.items ≡ into.old.items) }
+{
+    write_models(scene.models.list.as_slice(), into)
+}
+
+/// The most bytes of a file.
+const BYTES: u64 = 268_435_456;
+
+/// Reads the scene of a file whose models can be read, or tells its first fault.
+///
+/// Want of memory may come in place of any answer.
+pub fn read_scene(alloc: Global, bytes: &[u8]) -> Result<Scene, SceneFault>
+    requires short { length bytes.now ≤ 2 ^ 28 }
+    requires accepted { (models : List Content) × HasModels bytes.now models }
+    ensures read { IfOk result (λ scene. HasScene bytes.now scene) }
+    ensures refused { IfErr result (λ fault. RefusesScene fault bytes.now) }
+{
+    // what can be read is refused for want of memory alone
+    let Ok(models) = read_models(alloc, bytes) else {
+        return Err(SceneFault::Memory);
+    };
+    let standing = match file_stands(alloc, bytes, &models) {
+        Ok(standing) => standing,
+        Err(fault) => return Err(fault),
+    };
+    match scene_of(alloc, &models, standing.as_slice()) {
+        Ok(Some(scene)) => Ok(scene),
+        Ok(None) => Err(SceneFault::TooLarge),
+        Err(_) => Err(SceneFault::Memory),
+    }
+}
+
+// What stands where by the nodes of a file with these models.
+fn file_stands(alloc: Global, bytes: &[u8], models: &Models) -> Result<Vec<Standing>, SceneFault>
+    requires short { length bytes.now ≤ 2 ^ 28 }
+    requires models { AreModels models.now }
+    requires has { HasModels bytes.now models.now }
+    ensures stand { IfOk result
+        (λ standing. HasStands bytes.now (Ok (map (stand_at models.now) standing.items))) }
+    ensures few { IfOk result (λ standing. length standing.items ≤ 1024) }
+    ensures sound { IfOk result
+        (λ standing. All IsSound (map (stand_at models.now) standing.items)) }
+    ensures refused { IfErr result (λ fault. RefusesScene fault bytes.now) }
+{
+    let nodes = match read_nodes(alloc, bytes) {
+        Ok(nodes) => nodes,
+        Err(fault) => return Err(fault),
+    };
+    match stands(alloc, models, &nodes) {
+        Ok(standing) => Ok(standing),
+        Err(fault) => Err(fault),
+    }
+}
+
+// The scene of these stands; none where it is too large.
+fn scene_of(alloc: Global, models: &Models, standing: &[Standing]) -> Result<Option<Scene>, Memory>
+    requires models { AreModels models.now }
+    requires few { length standing.now ≤ 1024 }
+    requires sound { All IsSound (map (stand_at models.now) standing.now) }
+    ensures { IfOk result (λ found. MatchOption found
+        (HasLarge (map (stand_at models.now) standing.now))
+        (λ scene. IsSceneOf (map (stand_at models.now) standing.now) scene)) }
+{
+    let least = least_corner(standing);
+    let Some(exponent) = least_side(models, &least, standing) else {
+        return Ok(None);
+    };
+    if scene_length(alloc, models, standing)? > BYTES {
+        return Ok(None);
+    }
+    let side = side_of(exponent);
+    let list = turned_all(alloc, models, standing)?;
+    let places = places_of(alloc, models, &least, standing)?;
+    Ok(Some(Scene {
+        side,
+        models: Models { list },
+        places,
+    }))
+}
+
+// The side of this exponent.
+fn side_of(exponent: u8) -> Side
+    requires low { 2 ≤ exponent }
+    requires high { exponent ≤ 12 }
+    ensures { result ≡ exponent }
+{
+    match Side::new(cells_of(exponent)) {
+        Some(side) => side,
+        None => unreachable!(),
+    }
+}
+
+// The turned models.
+fn turned_all(
+    alloc: Global,
+    models: &Models,
+    standing: &[Standing],
+) -> Result<Vec<vox_read::Model>, Memory>
+    requires sound { All IsSound (map (stand_at models.now) standing.now) }
+    ensures { IfOk result (λ list. AreTurned (map (stand_at models.now) standing.now) list.items) }
+{
+    let mut list = Vec::new(alloc);
+    for one in standing {
+        let model = turned_one(alloc, models, standing, list.as_slice(), one)?;
+        list.push(model)?;
+    }
+    Ok(list)
+}
+
+// The turned model of a stand, where those of the first stands are known: what stands alike is
+// turned once.
+fn turned_one(
+    alloc: Global,
+    models: &Models,
+    standing: &[Standing],
+    known: &[vox_read::Model],
+    one: &Standing,
+) -> Result<vox_read::Model, Memory>
+    requires sound { IsSound (stand_at models.now one.now) }
+    requires known { AreTurned
+        (map (stand_at models.now) (take (length known.now) standing.now)) known.now }
+    ensures { IfOk result (λ m. IsTurned (stand_at models.now one.now).model one.now.turning m) }
+{
+    if let Some(model) = turned_alike(standing, known, one) {
+        return copied(alloc, model);
+    }
+    let Some(model) = models.list.get(one.model as usize) else {
+        unreachable!()
+    };
+    turned(alloc, model, &one.turning)
+}
+
+// The turned model of the first of some stands that shows the same model turned alike.
+fn turned_alike<'a>(
+    standing: &[Standing],
+    known: &'a [vox_read::Model],
+    one: &Standing,
+) -> Option<&'a vox_read::Model>
+    ensures { (models : List Content)
+        → AreTurned (map (stand_at models) (take (length known.now) standing.now)) known.now
+        → IfSome result
+        (λ m. IsTurned (stand_at models one.now).model one.now.turning m.now) }
+{
+    match (standing, known) {
+        ([first, others @ ..], [model, more @ ..]) => {
+            if first.is_alike(one) {
+                return Some(model);
+            }
+            turned_alike(others, more, one)
+        }
+        _ => None,
+    }
+}
+
+fn copied(alloc: Global, model: &vox_read::Model) -> Result<vox_read::Model, Memory>
+    ensures { IfOk result (λ m. m ≡ model.now) }
+{
+    let voxels = Vec::from_slice(alloc, model.voxels.as_slice())?;
+    Ok(vox_read::Model {
+        size: model.size,
+        voxels,
+    })
+}
+
+// Where all stands stand, told from the least corner.
+fn places_of(
+    alloc: Global,
+    models: &Models,
+    least: &Vector,
+    standing: &[Standing],
+) -> Result<Vec<Cell>, Memory>
+    requires { All (StandsWithin least.now) (map (stand_at models.now) standing.now) }
+    ensures { IfOk result (λ places. AllZip (IsPlaced least.now)
+        (map (stand_at models.now) standing.now) places.items) }
+{
+    let mut places = Vec::new(alloc);
+    for one in standing {
+        places.push(place_of(models, least, one))?;
+    }
+    Ok(places)
+}
+
+fn place_of(models: &Models, least: &Vector, one: &Standing) -> Cell
+    requires { StandsWithin least.now (stand_at models.now one.now) }
+    ensures { IsPlaced least.now (stand_at models.now one.now) result }
+{
+    Cell {
+        x: past(least.x, one.corner.x),
+        y: past(least.y, one.corner.y),
+        z: past(least.z, one.corner.z),
+    }
+}
+
+// How far an entry is past the least one.
+fn past(least: i32, entry: i32) -> u16
+    requires low { least ≤ℤ entry }
+    requires high { entry ≤ℤ (least +ℤ pos 4096) }
+    ensures { (least +ℤ pos result) ≡ entry }
+{
+    (i64::from(entry) - i64::from(least)) as u16
+}
