@@ -82,6 +82,7 @@ pub record Searched (v u : SeatView) (bucket : ℕ) : Type 0 where
   pub turn : u.turn ≡ Some (record { level = 0; bucket = bucket })
   pub held : u.held ≡ v.held
   pub made : u.made ≡ v.made
+  pub log : u.log ≡ v.log
 
 same_on : (u v w : SeatView) → SameSession u v → SameSession v w → SameSession u w
 same_on u v w a b = record { alive = b.alive ∙ a.alive; plan = b.plan ∙ a.plan; models = b.models ∙ a.models; numbers = b.numbers ∙ a.numbers }
@@ -100,6 +101,7 @@ shared v u w bits bucket n s met level has r tells =
     record {
       session = session;
       turn = ap (λ (x : SeatView). x.turn) is;
+      log = ap (λ (x : SeatView). x.log) is ∙ s.log;
       level = level;
       gains = of;
       grants = record { plan = session.plan; made = inl made; met = ap (λ (x : SeatView). x.met) is ∙ met };
@@ -124,6 +126,7 @@ added v u w bits bucket n s met level none p =
     record {
       session = session;
       turn = ap (λ (x : SeatView). x.turn) is;
+      log = ap (λ (x : SeatView). x.log) is ∙ s.log;
       level = level;
       gains = record { weighs = λ f. (let e = p.weighs f in let z = gone_row f in let a = ap (λ ts. weigh f ts) held in let b = ap (λ ts. weigh f ts) s.held in omega arith) };
       grants = record { plan = session.plan; made = inr (ap (λ (x : SeatView). x.made) is ∙ λ i. shape_of-leaf n bits i ∷ s.made i); met = ap (λ (x : SeatView). x.met) is ∙ met };
@@ -138,6 +141,7 @@ refused v u w bits bucket full s none met level at is sought =
     record {
       session = session;
       turn = ap (λ (x : SeatView). x.turn) is;
+      log = ap (λ (x : SeatView). x.log) is ∙ s.log;
       at_level = level;
       meets = record {
         sought = subst (λ (z : ℕ × ℕ). IsSought v.plan (record { level = z.0; bucket = z.1; shape = shape.Leaf bits }))
@@ -156,6 +160,7 @@ searched v s t bucket is k = record {
   turn = k.turn ∙ ap (λ (x : SeatView). x.turn) is;
   held = k.held ∙ ap (λ (x : SeatView). x.held) is;
   made = k.made ∙ ap (λ (x : SeatView). x.made) is;
+  log = k.log ∙ ap (λ (x : SeatView). x.log) is;
 }
 
 pub may_leaf : (p : Layout) (v : SeatView) (l b bits slot : ℕ) → l ≡ 0 → 0 < bits → bits < 2 ^ 64 → b ≡ leaf_bucket bits (buckets_at p 0) → IsLowestKnownFree v.words (bucket_named l b) p.cap slot → PassesBelow v.words (Leaf bits) (bucket_named l b) p.cap → number_of_trees v.held ≤ 4095 → MayAdd p v (named l b slot) (Leaf bits)

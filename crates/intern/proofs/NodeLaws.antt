@@ -251,6 +251,7 @@ pub record NodeSearched (v u : SeatView) (level bucket : ℕ) : Type 0 where
   pub turn : u.turn ≡ Some (bucket_named level bucket)
   pub held : u.held ≡ v.held
   pub made : u.made ≡ v.made
+  pub log : u.log ≡ v.log
 
 -- a live entry had the key
 module _ (v u w : SeatView) (level bucket : ℕ) (names : List (Option Name)) (row : ℕ → Tree)
@@ -363,6 +364,7 @@ module _ (v u w : SeatView) (level bucket : ℕ) (names : List (Option Name)) (r
       record {
         session = session;
         turn = only.turn;
+        log = only.log ∙ ap (λ (x : SeatView). x.log) is ∙ s.log;
         level_is = at;
         joins = record {
           weighs = λ f. (let a = gone.weighs f in let b = gains.weighs f in let c = ap f tree_is in
@@ -433,6 +435,7 @@ added v u w level bucket names row n s met at none p =
     record {
       session = session;
       turn = ap (λ (x : SeatView). x.turn) is;
+      log = ap (λ (x : SeatView). x.log) is ∙ s.log;
       level_is = at;
       joins = record {
         weighs = λ f. (let e = p.weighs f in
@@ -473,6 +476,7 @@ refused v u w level bucket row full s none met at here is sought =
     record {
       session = session;
       turn = ap (λ (x : SeatView). x.turn) is;
+      log = ap (λ (x : SeatView). x.log) is ∙ s.log;
       at_level = at;
       meets = record {
         sought = subst (λ (z : ℕ × ℕ). IsSought v.plan (row_wanted z.0 z.1 row))
@@ -532,6 +536,7 @@ node_searched v s t level bucket is k = record {
   turn = k.turn ∙ ap (λ (x : SeatView). x.turn) is;
   held = k.held ∙ ap (λ (x : SeatView). x.held) is;
   made = k.made ∙ ap (λ (x : SeatView). x.made) is;
+  log = k.log ∙ ap (λ (x : SeatView). x.log) is;
 }
 
 -- what a full bucket refused is the node over the row

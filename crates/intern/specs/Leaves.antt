@@ -13,6 +13,7 @@ use Rattle.node_words.specs.Held.{IsReached, Gains, Grants, OnlyMeets}
 pub record LeafCame (v : SeatView) (bits : ℕ) (n : Name) (w : SeatView) : Type 0 where
   pub session : SameSession v w
   pub turn : w.turn ≡ None
+  pub log : w.log ≡ v.log
   pub level : n.level ≡ 0
   pub gains : Gains v.held (LeafAt n bits) w.held
   pub grants : Grants (seen_of v) (Leaf bits) (seen_of w)
@@ -22,6 +23,7 @@ pub record LeafCame (v : SeatView) (bits : ℕ) (n : Name) (w : SeatView) : Type
 pub record LeafRefused (v : SeatView) (bits : ℕ) (full : Full) (w : SeatView) : Type 0 where
   pub session : SameSession v w
   pub turn : w.turn ≡ None
+  pub log : w.log ≡ v.log
   pub at_level : full.level ≡ 0
   pub meets : OnlyMeets (seen_of v) full.level full.bucket (Leaf bits) (seen_of w)
   pub unreached : (m : Name) → ¬ IsReached v.held (LeafAt m bits)

@@ -15,6 +15,7 @@ pub record NodeCame (v : SeatView) (level : ℕ) (row : ℕ → Tree) (n : Name)
     (w : SeatView) : Type 0 where
   pub session : SameSession v w
   pub turn : w.turn ≡ None
+  pub log : w.log ≡ v.log
   pub level_is : n.level ≡ level
   pub joins : Joins v.held row n w.held
   pub grants : Grants (seen_of v) (branch_of (λ k. shape_of (row k))) (seen_of w)
@@ -25,6 +26,7 @@ pub record NodeIsRefused (v : SeatView) (level : ℕ) (row : ℕ → Tree) (full
     (w : SeatView) : Type 0 where
   pub session : SameSession v w
   pub turn : w.turn ≡ None
+  pub log : w.log ≡ v.log
   pub at_level : full.level ≡ level
   pub meets : OnlyMeets (seen_of v) full.level full.bucket (branch_of (λ k. shape_of (row k)))
       (seen_of w)

@@ -1,6 +1,10 @@
 -- What a table leaves that is closed.
-use Rattle.std.specs.Prelude.{◌≡◌, ◌≢◌, ℕ, ◌<◌, ◌≤◌, Some, None, List, [], map, length, slice_index, All}
-use Rattle.std.specs.List.{AllPairs, Contains, slice_get}
+use Rattle.std.specs.Prelude.{◌≡◌, ◌≢◌, ℕ, ◌<◌, ◌≤◌, false, Some, None, List, [], ◌∷◌, ◌++◌, map, length, slice_index, All}
+use Rattle.std.specs.List.{AllPairs, Contains, slice_get, sum_by}
+use Rattle.history_model.specs.Logs.{Log}
+use Rattle.history_model.specs.declared.histories.Mark.{Mark}
+use Rattle.table_rule.specs.LogKnowing.{IsPrefix, WasFound, numbered_from}
+use Rattle.version_answers.specs.Listing.{Accepted, Found}
 use Rattle.node_words.specs.Enough.{HasEnough}
 use Rattle.node_words.specs.Held.{Wanted}
 use Rattle.node_words.specs.Plans.{Layout}
@@ -17,10 +21,11 @@ use Rattle.node_table.specs.declared.closed.Closed.{Closed}
 use Rattle.node_table.specs.declared.closed.TableCloseRefused.{TableCloseRefused}
 use Rattle.node_table.specs.declared.closed.TableCloseRefused.TheVariants.{Count, Memory}
 
--- the pass is one of the table's, has no turn and holds nothing
+-- the pass is one of the table's, has neither turn and holds nothing
 pub record IsSpare (t : TableSeen) (s : PassSeen) : Type 0 where
   pub of : BelongsTo t s
   pub turn : s.view.turn ≡ None
+  pub log_turn : s.view.log.turn ≡ false
   pub held : s.view.held ≡ []
 
 -- why a table is not closed: its passes are not as many as were made, or they are, and there was
@@ -62,3 +67,27 @@ views_of passes = map (λ s. s.view) passes
 pub record HadEnough (p : Layout) (passes : List PassSeen) : Type 0 where
   pub each : (k : ℕ) (s : PassSeen) → slice_get passes k ≡ Some s → (m : Wanted)
       → Contains s.view.met m → HasEnough p (all_made (views_of passes)) m.level m.bucket
+
+-- the own records and marks of all seats, and what they found without a mark
+abbrev pub all_records : List SeatView → List Accepted
+all_records [] = []
+all_records (v ∷ views) = v.log.records ++ all_records views
+
+abbrev pub all_marks : List SeatView → List Mark
+all_marks [] = []
+all_marks (v ∷ views) = v.log.marks ++ all_marks views
+
+abbrev pub all_found : List SeatView → List Found
+all_found [] = []
+all_found (v ∷ views) = v.log.found ++ all_found views
+
+-- the history is the one of all sessions: each log that a pass has seen is a prefix of it, its
+-- records and marks are those of the passes, each once, and what a pass found without a mark was so
+pub record TellsAll (history : Log) (passes : List PassSeen) : Type 0 where
+  pub seen : (k : ℕ) (s : PassSeen) → slice_get passes k ≡ Some s
+      → IsPrefix s.view.log.seen history
+  pub records : (f : Accepted → ℕ)
+      → sum_by f (all_records (views_of passes)) ≡ sum_by f (numbered_from 1 history.records)
+  pub marks : (f : Mark → ℕ) → sum_by f (all_marks (views_of passes)) ≡ sum_by f history.marks
+  pub found : (k : ℕ) (s : PassSeen) → slice_get passes k ≡ Some s → (f : Found)
+      → Contains s.view.log.found f → WasFound history f

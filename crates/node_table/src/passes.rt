@@ -1,7 +1,8 @@
 // What a session steps with.
-ghost use Rattle.std.specs.Prelude.{◌≡◌, ◌∷◌, [], None};
+ghost use Rattle.std.specs.Prelude.{◌≡◌, ◌≤◌, ◌∷◌, [], None, false};
 ghost use Rattle.node_shapes.specs.Weights.{number_of_trees};
 ghost use Rattle.node_words.specs.Held.{AreCanonical, AreTrees};
+ghost use Rattle.table_rule.specs.LogTelling.{number_seen};
 ghost use Rattle.table_rule.specs.Telling.{ViewTells};
 
 use crate::rule::View;
@@ -37,6 +38,7 @@ impl Model for NumberedSeat {
 pub struct Pass {
     pub(crate) seat: NumberedSeat,
     pub(crate) held: u32,
+    pub(crate) seen: u32,
 }
 
 impl Model for Pass {
@@ -47,6 +49,7 @@ impl Model for Pass {
     ghost use Rattle.node_shapes.specs.TreeCode.{coded_tree};
     ghost use Rattle.node_shapes.specs.Weights.{number_of_trees};
     ghost use Rattle.node_table.specs.Seen.{PassSeen};
+    ghost use Rattle.table_rule.specs.LogTelling.{number_seen};
 
     ghost Value = { PassSeen };
 
@@ -54,7 +57,8 @@ impl Model for Pass {
 
     ghost view = { λ p. p.seat };
 
-    ghost invariant = { λ p. p.held ≡ number_of_trees p.seat.view.held };
+    ghost invariant = { λ p. (p.held ≡ number_of_trees p.seat.view.held)
+        × (p.seen ≡ number_seen p.seat.view) };
 }
 
 impl Pass {
@@ -75,7 +79,17 @@ impl Pass {
         self.held
     }
 
-    /// What the pass tells of the trees that it reaches. No step is made.
+    // How many records of the log the pass has seen.
+    pub(crate) fn seen(&self) -> u32
+        ensures number { result ≡ number_seen self.now.view }
+        ensures few { result ≤ 65535 }
+    {
+        tell(&self.seat);
+        self.seen
+    }
+
+    /// What the pass tells of the trees that it reaches, of its log and of the roots that its log's
+    /// turn has shown. No step is made.
     pub fn tell(&self)
         ensures { ViewTells self.now.view }
     {
@@ -86,8 +100,13 @@ impl Pass {
     pub fn end(self)
         requires held { self.view.held ≡ [] }
         requires turn { self.view.turn ≡ None }
+        requires log_turn { self.view.log.turn ≡ false }
     {
-        let Pass { seat, held: _ } = self;
+        let Pass {
+            seat,
+            held: _,
+            seen: _,
+        } = self;
         let NumberedSeat { number: _, seat: _ } = seat;
     }
 }
@@ -98,7 +117,7 @@ fn number_of(seat: &NumberedSeat) -> u16
     seat.number
 }
 
-// What a seat tells of the trees that it reaches.
+// What a seat tells by itself.
 pub(crate) fn tell(seat: &NumberedSeat)
     ensures { ViewTells seat.now.view }
 {

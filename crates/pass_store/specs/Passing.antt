@@ -19,12 +19,14 @@ pub record StaysOn (a b : PassStored) : Type 0 where
   pub table : b.table ≡ a.table
   pub of : b.pass.table ≡ a.pass.table
   pub session : SameSession a.pass.view b.pass.view
+  pub log : b.pass.view.log ≡ a.pass.view.log
 
 pub stays_itself : (a : PassStored) → StaysOn a a
 stays_itself a = record {
   table = refl;
   of = refl;
   session = record { alive = refl; plan = refl; models = refl; numbers = refl };
+  log = refl;
 }
 
 pub stays_on : (a b c : PassStored) → StaysOn a b → StaysOn b c → StaysOn a c
@@ -37,4 +39,5 @@ stays_on a b c f g = record {
     models = g.session.models ∙ f.session.models;
     numbers = g.session.numbers ∙ f.session.numbers;
   };
+  log = g.log ∙ f.log;
 }

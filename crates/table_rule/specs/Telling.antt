@@ -9,6 +9,7 @@ use Rattle.node_places.specs.Names.{IsName}
 use Rattle.node_places.specs.Spots.{key_words}
 use Rattle.node_places.specs.Words.{word_of_child}
 use Rattle.core_reading.specs.Reading.{book_of}
+use Rattle.table_rule.specs.LogTelling.{LogTells, RootsTell}
 use Rattle.table_rule.specs.Views.{SeatView, bucket_of, key_spot, known_at}
 
 -- the word of a key for two children, of the octants 2i and 2i + 1
@@ -34,7 +35,8 @@ abbrev pub ForNamed : SeatView → (Tree → Name → Type 0) → Type 0
 ForNamed v P = (t : Tree) (n : Name) → IsReached v.held t → root_of t ≡ Some n → P t n
 
 -- what a view in use tells of the trees that it reaches: they are trees of the world with canonical
--- shapes, each in the bucket of its shape, one for each name, and one name for each level and shape
+-- shapes, each in the bucket of its shape, one for each name, and one name for each level and
+-- shape; and of the log, and of roots that its turn has shown
 pub record ViewTells (v : SeatView) : Type 0 where
   pub trees : AreTrees v.plan.side v.held
   pub canonical : AreCanonical v.held
@@ -44,6 +46,8 @@ pub record ViewTells (v : SeatView) : Type 0 where
   pub once : ForNamed v (λ t m. ForNamed v (λ u n. m.level ≡ n.level → shape_of t ≡ shape_of u
       → m ≡ n))
   pub agrees : ForNamed v (λ t n. v.turn ≡ Some (bucket_of n) → ViewAgrees v t n)
+  pub log : LogTells v
+  pub roots : RootsTell v
 
 abbrev pub TellsInUse : SeatView → Type 0
 TellsInUse v = v.alive ≡ true → ViewTells v

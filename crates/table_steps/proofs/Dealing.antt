@@ -1,4 +1,4 @@
--- Kind 1: a view hands the right to a new one.
+-- A view hands the right to a new one.
 use Rattle.std.proofs.Common.{◌≡◌, ◌≢◌, ◌⊎◌, ℕ, zero, suc, ◌+◌, ◌<◌, ◌≤◌, true, Some, List, [], ◌∷◌, ◌++◌, length, length-set, set, refl, sym, ap, ◌∙◌, subst, ⊎_elim, inl, inr, arith, sum_by}
 use Rattle.std.specs.Prelude.{map}
 use Rattle.std.specs.Option.{option_map}
@@ -14,7 +14,7 @@ use Rattle.node_shapes.specs.Weights.{number_of_trees}
 use Rattle.node_shapes.proofs.WeightLaws.{weigh-nil}
 use Rattle.node_words.specs.Plans.{Layout}
 use Rattle.node_words.specs.Held.{IsHeld, Wanted}
-use Rattle.node_places.specs.Spots.{Spot, Sessions, IsSpot}
+use Rattle.node_places.specs.Spots.{Spot, Sessions, LogTurn, IsSpot}
 use Rattle.core_laws.specs.Counting.{holdings}
 use Rattle.node_words.specs.Enough.{HasEnough, enough_stays}
 use Rattle.core_laws.specs.LogEvents.{Reseats}
@@ -24,11 +24,18 @@ use Rattle.table_rule.specs.Views.{SeatView, BucketAt, names_held, known_at}
 use Rattle.table_rule.specs.Turning.{IsOf, turn_of, IsTurnWord, KeepsTurns, IsCarried}
 use Rattle.table_rule.specs.Knowing.{all_made, Knows}
 use Rattle.core_laws.specs.Standing.{Stands}
-use Rattle.table_rule.specs.Rules.{KeepsRule, table_state}
+use Rattle.history_model.specs.Logs.{Log}
+use Rattle.table_rule.specs.LogKnowing.{IsPrefix, OwnsIn, WasFound}
+use Rattle.table_rule.specs.LogTurning.{IsOfLog}
+use Rattle.table_rule.specs.LogViews.{no_log}
+use Rattle.version_answers.specs.Listing.{Found}
+use Rattle.table_rule.specs.LogWords.{log_in}
+use Rattle.table_rule.specs.Rules.{KeepsRule, KeepsLog, table_state}
 use Rattle.table_steps.specs.Seating.{handing, handed}
 use Rattle.table_rule.proofs.Lookups.{each, set_again}
 use Rattle.table_rule.proofs.Containing.{contains_left, contains_right, contains_parts}
-use Rattle.table_rule.proofs.PartA.{carried_set}
+use Rattle.table_rule.proofs.OwnLaws.{own_nothing, nothing_begins}
+use Rattle.table_rule.proofs.PartA.{carried_set, remarked}
 use Rattle.table_rule.proofs.PartC.{made_grows}
 
 module _ {A : Type 0} where
@@ -190,6 +197,41 @@ module _ (p : Layout) (models : List Content) (mem : Spot → ℕ) (views : List
         (λ m c. absurd (let k = c.1 in omega arith));
   }
 
+  deal_log : KeepsLog p mem all
+  deal_log = record {
+    turn = record {
+      turn = dealt (λ i d. d.log.turn ≡ true → IsTurnWord d (mem LogTurn))
+          (λ h. remarked v a _ _ refl refl (r.log.turn.turn seat v at h))
+          (λ j d _ e. r.log.turn.turn j d e) (λ h. absurd (let no : ⊥ = cc in no));
+      back = dealt (λ i d. IsTurnWord d (mem LogTurn) → d.log.turn ≡ true)
+          (λ m. r.log.turn.back seat v at (remarked a v _ _ refl refl m))
+          (λ j d _ e. r.log.turn.back j d e) (λ m. none_has m.number _ m.carried);
+      named = r.log.turn.named;
+      known = dealt
+          (λ i d. (x : Spot) (n : ℕ) → d.log.turn ≡ true → IsOfLog x
+          → known_at x d.log.words ≡ Some n → mem x ≡ n) (r.log.turn.known seat v at)
+          (λ j d _ e. r.log.turn.known j d e) (λ x n h. absurd (let no : ⊥ = cc in no));
+    };
+    written = r.log.written;
+    knows = record {
+      sessions = r.log.knows.sessions;
+      seen = dealt (λ i d. IsPrefix d.log.seen (log_in p mem)) (r.log.knows.seen seat v at)
+          (λ j d _ e. r.log.knows.seen j d e) (nothing_begins v.plan.side (log_in p mem));
+      taken = dealt (λ i d. (l : Log) → Contains d.log.taken l → IsPrefix l (log_in p mem))
+          (r.log.knows.taken seat v at) (λ j d _ e. r.log.knows.taken j d e)
+          (λ l c. absurd (let k = c.1 in omega arith));
+      own = dealt (λ i d. OwnsIn (log_in p mem) d) (r.log.knows.own seat v at)
+          (λ j d _ e. r.log.knows.own j d e) (own_nothing (log_in p mem));
+      own_seen = dealt (λ i d. d.log.taken ≡ [] → OwnsIn d.log.seen d)
+          (r.log.knows.own_seen seat v at) (λ j d _ e. r.log.knows.own_seen j d e)
+          (λ none. own_nothing (no_log v.plan.side));
+      found = dealt
+          (λ i d. (f : Found) → Contains d.log.found f → WasFound (log_in p mem) f)
+          (r.log.knows.found seat v at) (λ j d _ e. r.log.knows.found j d e)
+          (λ f c. absurd (let k = c.1 in omega arith));
+    };
+  }
+
   pub dealt_event : Reseats p (table_state p mem views) (table_state p mem all)
   dealt_event = record {
     entries = record { book = λ m is. refl; key = λ m live. refl };
@@ -204,4 +246,5 @@ module _ (p : Layout) (models : List Content) (mem : Spot → ℕ) (views : List
     turns = deal_turns;
     sound = reseats_sound p models (table_state p mem views) (table_state p mem all) r.sound dealt_event;
     knows = deal_knows;
+    log = deal_log;
   }

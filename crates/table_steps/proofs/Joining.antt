@@ -1,5 +1,5 @@
 -- A seat takes in what another one, that holds nothing and has no turn, has.
-use Rattle.std.proofs.Common.{◌≡◌, ◌≢◌, ℕ, zero, suc, ◌<◌, ◌≤◌, true, false, Some, None, List, [], ◌∷◌, length, set, refl, sym, ap, ◌∙◌, subst, ⊎_elim, inl, inr, length-set, arith}
+use Rattle.std.proofs.Common.{◌≡◌, ◌≢◌, ℕ, zero, suc, ◌<◌, ◌≤◌, true, false, Some, None, List, [], ◌∷◌, ◌++◌, length, set, refl, sym, ap, ◌∙◌, subst, ⊎_elim, inl, inr, length-set, arith}
 use Rattle.std.specs.Prelude.{map}
 use Rattle.std.specs.List.{slice_get, Contains}
 use Rattle.std.specs.Option.{option_map}
@@ -14,7 +14,7 @@ use Rattle.node_shapes.specs.Weights.{number_of_trees}
 use Rattle.node_shapes.proofs.WeightLaws.{weigh-nil}
 use Rattle.node_words.specs.Plans.{Layout}
 use Rattle.node_words.specs.Held.{IsHeld, Wanted}
-use Rattle.node_places.specs.Spots.{Spot, Sessions, IsSpot}
+use Rattle.node_places.specs.Spots.{Spot, Sessions, LogTurn, IsSpot}
 use Rattle.core_laws.specs.Standing.{Stands}
 use Rattle.core_laws.specs.Counting.{holdings}
 use Rattle.node_words.specs.Enough.{HasEnough, enough_stays}
@@ -24,9 +24,16 @@ use Rattle.core_reading.specs.Reading.{names_of}
 use Rattle.table_rule.specs.Views.{SeatView, BucketAt, names_held, known_at, number_dec, spent}
 use Rattle.table_rule.specs.Turning.{IsOf, turn_of, IsTurnWord, IsCarried, KeepsTurns}
 use Rattle.table_rule.specs.Knowing.{all_made, Knows}
+use Rattle.history_model.specs.Logs.{Log}
+use Rattle.table_rule.specs.LogKnowing.{IsPrefix, OwnsIn, WasFound, KnowsLog}
+use Rattle.table_rule.specs.LogTurning.{IsOfLog, KeepsLogTurn}
+use Rattle.table_rule.specs.LogViews.{no_log}
+use Rattle.version_answers.specs.Listing.{Found}
+use Rattle.table_rule.specs.LogWords.{log_in}
 use Rattle.table_rule.specs.Rules.{KeepsRule, table_state}
 use Rattle.table_rule.proofs.Containing.{contains_left, contains_right, contains_parts}
 use Rattle.table_rule.proofs.Lookups.{each, set_again, get_set_same, get_set_kept}
+use Rattle.table_rule.proofs.OwnLaws.{own_nothing, own_both, nothing_begins, first_or_more}
 use Rattle.table_steps.specs.Seating.{joined}
 use Rattle.table_steps.proofs.NumberSteps.{pick, pick_yes, pick_no}
 
@@ -57,7 +64,8 @@ made_there (v ∷ views) (suc j) d s e c =
 module _ (p : Layout) (models : List Content) (mem : Spot → ℕ) (views : List SeatView)
     (seat other : ℕ) (v w : SeatView) (r : KeepsRule p models mem views)
     (at : slice_get views seat ≡ Some v) (at_other : slice_get views other ≡ Some w)
-    (apart : other ≢ seat) (bare : w.held ≡ []) (idle : w.turn ≡ None) where
+    (apart : other ≢ seat) (bare : w.held ≡ []) (idle : w.turn ≡ None)
+    (calm : w.log.turn ≡ false) where
   abbrev both : SeatView
   both = joined v w
 
@@ -253,6 +261,61 @@ module _ (p : Layout) (models : List Content) (mem : Spot → ℕ) (views : List
         (λ j d _ _ e m h. enough_stays p _ _ m.level m.bucket grows (r.knows.met j d e m h));
   }
 
+  -- no number is carried by both
+  two_seats : (s : ℕ) → Contains w.numbers s → Contains v.numbers s → ⊥
+  two_seats s theirs mine =
+      apart (sym (r.turns.owned other w at_other s theirs).1 ∙ (r.turns.owned seat v at s mine).1)
+
+  join_log_turn : KeepsLogTurn mem all
+  join_log_turn = record {
+    turn = everyone (λ i d. d.log.turn ≡ true → IsTurnWord d (mem LogTurn))
+        (λ h. (let t = r.log.turn.turn seat v at h in
+        record {
+          number = t.number;
+          carried = contains_right w.numbers v.numbers t.number t.carried;
+          is = t.is;
+        }))
+        (λ h. absurd (let no : ⊥ = cc in no)) (λ j d _ _ e. r.log.turn.turn j d e);
+    back = everyone (λ i d. IsTurnWord d (mem LogTurn) → d.log.turn ≡ true)
+        (λ m. ⊎_elim
+        (λ l. no_right _ (sym calm ∙ r.log.turn.back other w at_other
+        (record { number = m.number; carried = l; is = m.is })))
+        (λ n. r.log.turn.back seat v at
+        (record { number = m.number; carried = n; is = m.is }))
+        (contains_parts w.numbers v.numbers m.number m.carried))
+        (λ m. no_number m.number _ m.carried) (λ j d _ _ e. r.log.turn.back j d e);
+    named = r.log.turn.named;
+    known = everyone
+        (λ i d. (x : Spot) (n : ℕ) → d.log.turn ≡ true → IsOfLog x
+        → known_at x d.log.words ≡ Some n → mem x ≡ n) (r.log.turn.known seat v at)
+        (λ x n h. absurd (let no : ⊥ = cc in no)) (λ j d _ _ e. r.log.turn.known j d e);
+  }
+
+  join_knows_log : KnowsLog (mem Sessions) (log_in p mem) all
+  join_knows_log = record {
+    sessions = r.log.knows.sessions;
+    seen = everyone (λ i d. IsPrefix d.log.seen (log_in p mem)) (r.log.knows.seen seat v at)
+        (nothing_begins 0 (log_in p mem)) (λ j d _ _ e. r.log.knows.seen j d e);
+    taken = everyone (λ i d. (l : Log) → Contains d.log.taken l → IsPrefix l (log_in p mem))
+        (λ l c. first_or_more w.log.seen (w.log.taken ++ v.log.taken) l c
+        (λ e. subst (λ (x : Log). IsPrefix x (log_in p mem)) e
+        (r.log.knows.seen other w at_other))
+        (λ more. ⊎_elim (r.log.knows.taken other w at_other l) (r.log.knows.taken seat v at l)
+        (contains_parts w.log.taken v.log.taken l more)))
+        (λ l c. absurd (let k = c.1 in omega arith)) (λ j d _ _ e. r.log.knows.taken j d e);
+    own = everyone (λ i d. OwnsIn (log_in p mem) d)
+        (own_both (log_in p mem) w.numbers v.numbers w.log.records v.log.records w.log.marks
+        v.log.marks two_seats (r.log.knows.own other w at_other) (r.log.knows.own seat v at))
+        (own_nothing (log_in p mem)) (λ j d _ _ e. r.log.knows.own j d e);
+    own_seen = everyone (λ i d. d.log.taken ≡ [] → OwnsIn d.log.seen d)
+        (λ none. absurd (let no : ⊥ = cc in no)) (λ none. own_nothing (no_log 0))
+        (λ j d _ _ e. r.log.knows.own_seen j d e);
+    found = everyone (λ i d. (f : Found) → Contains d.log.found f → WasFound (log_in p mem) f)
+        (λ f c. ⊎_elim (r.log.knows.found other w at_other f) (r.log.knows.found seat v at f)
+        (contains_parts w.log.found v.log.found f c))
+        (λ f c. absurd (let k = c.1 in omega arith)) (λ j d _ _ e. r.log.knows.found j d e);
+  }
+
   pub joined_event : Reseats p (table_state p mem views) (table_state p mem all)
   joined_event = record {
     entries = record { book = λ m is. refl; key = λ m live. refl };
@@ -268,4 +331,9 @@ module _ (p : Layout) (models : List Content) (mem : Spot → ℕ) (views : List
     sound =
         reseats_sound p models (table_state p mem views) (table_state p mem all) r.sound joined_event;
     knows = join_knows;
+    log = record {
+      turn = join_log_turn;
+      written = r.log.written;
+      knows = join_knows_log;
+    };
   }

@@ -9,7 +9,7 @@ use Rattle.node_shapes.specs.declared.names.Name.{Name}
 use Rattle.node_shapes.proofs.WeightLaws.{weigh-nil}
 use Rattle.node_words.specs.Plans.{Layout, IsPlan}
 use Rattle.node_words.specs.Held.{IsHeld, Wanted}
-use Rattle.node_places.specs.Spots.{Spot, LogLength, Version, Sessions, IsSpot, place, width}
+use Rattle.node_places.specs.Spots.{Spot, LogTurn, LogLength, Version, Sessions, IsSpot, place, width}
 use Rattle.node_places.proofs.SpotTests.{spot_dec}
 use Rattle.block_contents.specs.Aligned.{top}
 use Rattle.node_places.specs.KeyWords.{child_of_word}
@@ -23,7 +23,14 @@ use Rattle.core_reading.specs.Reading.{kept_root, book_of, where_there, word_at}
 use Rattle.table_rule.specs.Views.{SeatView, BucketAt, starting, known_at}
 use Rattle.table_rule.specs.Turning.{KeepsTurns, turn_of, IsTurnWord, IsOf}
 use Rattle.table_rule.specs.Knowing.{Knows}
-use Rattle.table_rule.specs.Rules.{IsRuled, table_state}
+use Rattle.history_model.specs.Logs.{Log}
+use Rattle.table_rule.specs.LogKnowing.{IsPrefix, OwnsIn, WasFound, KnowsLog}
+use Rattle.table_rule.specs.LogTurning.{IsOfLog}
+use Rattle.table_rule.specs.LogViews.{no_log}
+use Rattle.version_answers.specs.Listing.{Found}
+use Rattle.table_rule.specs.Rules.{KeepsLog, IsRuled, table_state}
+use Rattle.table_rule.proofs.LogReading.{empty_log}
+use Rattle.table_rule.proofs.OwnLaws.{own_nothing, nothing_begins}
 
 at_zero : (n k : ℕ) → let z : ℕ = 0 in get_or (replicate n z) k z ≡ z
 at_zero zero k = refl
@@ -95,7 +102,7 @@ module _ (p : Layout) (models : List Content) (mem : Spot → ℕ) (none : (x : 
     book = λ n is. none _;
     root = λ v. no_root (top p.side) (nat_lt (mem LogLength) v) (mem (Version v 6))
         (mem (Version v 5)) (none _) (none _);
-    log = refl;
+    log = empty_log p mem none;
     held = no_holding;
   }
 
@@ -111,6 +118,41 @@ module _ (p : Layout) (models : List Content) (mem : Spot → ℕ) (none : (x : 
         (λ m c. absurd (let k = c.1 in omega arith));
   }
 
+  opening_log : KeepsLog p mem views
+  opening_log = record {
+    turn = record {
+      turn = only (λ i v. v.log.turn ≡ true → IsTurnWord v (mem LogTurn))
+          (λ h. absurd (let no : ⊥ = cc in no));
+      back = only (λ i v. IsTurnWord v (mem LogTurn) → v.log.turn ≡ true)
+          (λ m. no_number m.number _ m.carried);
+      named = (let e = none LogTurn in omega arith);
+      known = only
+          (λ i v. (x : Spot) (n : ℕ) → v.log.turn ≡ true → IsOfLog x
+          → known_at x v.log.words ≡ Some n → mem x ≡ n)
+          (λ x n h. absurd (let no : ⊥ = cc in no));
+    };
+    written = record {
+      words = λ n i lt low. absurd (let e = none LogLength in omega arith);
+    };
+    knows = subst (λ (l : Log). KnowsLog (mem Sessions) l views) (sym (empty_log p mem none))
+        (record {
+          sessions = record {
+            records = λ k d lt. absurd (omega arith);
+            marks = λ k d lt. absurd (omega arith);
+          };
+          seen = only (λ i v. IsPrefix v.log.seen (no_log p.side))
+              (nothing_begins p.side (no_log p.side));
+          taken = only (λ i v. (l : Log) → Contains v.log.taken l → IsPrefix l (no_log p.side))
+              (λ l c. absurd (let k = c.1 in omega arith));
+          own = only (λ i v. OwnsIn (no_log p.side) v) (own_nothing (no_log p.side));
+          own_seen = only (λ i v. v.log.taken ≡ [] → OwnsIn v.log.seen v)
+              (λ e. own_nothing (no_log p.side));
+          found = only
+              (λ i v. (f : Found) → Contains v.log.found f → WasFound (no_log p.side) f)
+              (λ f c. absurd (let k = c.1 in omega arith));
+        });
+  }
+
 -- a table of words that are 0 meets the rule, with the first seat
 pub opens : (p : Layout) (models : List Content) → IsPlan p
     → IsRuled p models
@@ -124,5 +166,6 @@ opens p models plan =
         turns = opening_turns p models _ none;
         sound = empty_sound p models _ (is_empty p models _ none);
         knows = opening_knows p models _ none;
+        log = opening_log p models _ none;
       };
     }

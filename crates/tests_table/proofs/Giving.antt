@@ -11,6 +11,7 @@ use Rattle.node_words.proofs.HeldLaws.{held_reached, gains_held, came_and_went}
 use Rattle.node_table.specs.Names.{IsName}
 use Rattle.node_table.specs.Spots.{Turn, IsSpot}
 use Rattle.table_rule.specs.Telling.{ViewTells}
+use Rattle.table_rule.specs.LogViews.{LogView}
 use Rattle.table_rule.specs.Views.{SeatView}
 use Rattle.node_table.specs.declared.lowering.Lowering.{Lowering}
 use Rattle.node_table.specs.declared.lowering.Lowering.TheVariants.{Left, Freed}
@@ -146,6 +147,7 @@ new_spare t passes all = λ k d lt.
     record {
       of = record { table = n.table_is; plan = n.plan; models = n.models };
       turn = n.turn;
+      log_turn = ap (λ (l : LogView). l.turn) n.log;
       held = n.held;
     })
 

@@ -1,4 +1,4 @@
-ghost use Rattle.std.specs.Prelude.{◌≡◌, ◌≢◌, ◌≤◌, ◌<◌, ◌+◌, None, [], All, IfOk};
+ghost use Rattle.std.specs.Prelude.{◌≡◌, ◌≢◌, ◌≤◌, ◌<◌, ◌+◌, None, [], All, IfOk, false};
 ghost use Rattle.node_shapes.specs.Weights.{number_of_trees};
 ghost use Rattle.node_words.specs.Held.{ForHeld, Gains, HoldsName, SameHeld};
 ghost use Rattle.node_table.specs.Seen.{BelongsTo};
@@ -27,6 +27,7 @@ pub fn give<R: Wait, L: Ledger>(
     requires room { number_of_trees pass.old.view.held ≤ 4000 }
     ensures of { BelongsTo table.now pass.new }
     ensures idle { pass.new.view.turn ≡ None }
+    ensures log { pass.new.view.log ≡ pass.old.view.log }
     ensures given { ForHeld pass.old.view.held share
         (λ t. Gains pass.new.view.held t pass.old.view.held) }
 {
@@ -57,6 +58,7 @@ pub fn comes_and_goes<R: Wait, L: Ledger>(
     requires room { number_of_trees pass.old.view.held ≤ 3999 }
     ensures of { BelongsTo table.now pass.new }
     ensures idle { pass.new.view.turn ≡ None }
+    ensures log { pass.new.view.log ≡ pass.old.view.log }
     ensures held { SameHeld pass.old.view.held pass.new.view.held }
 {
     match intern::leaf(rt, table, pass, bits, steps) {
@@ -83,6 +85,7 @@ pub fn is_refused<R: Wait, L: Ledger>(
     requires room { number_of_trees pass.old.view.held ≤ 3999 }
     ensures of { BelongsTo table.now pass.new }
     ensures idle { pass.new.view.turn ≡ None }
+    ensures log { pass.new.view.log ≡ pass.old.view.log }
     ensures held { SameHeld pass.old.view.held pass.new.view.held }
 {
     match intern::leaf(rt, table, pass, bits, steps) {
@@ -98,6 +101,7 @@ pub fn is_refused<R: Wait, L: Ledger>(
 pub fn end(pass: Pass)
     requires held { SameHeld [] pass.view.held }
     requires idle { pass.view.turn ≡ None }
+    requires log_idle { pass.view.log.turn ≡ false }
 {
     pass.end();
 }

@@ -55,6 +55,8 @@ fn nest<N: NodeStore, L: Ledger>(
     requires second_side { 3 ≤ (N.seen b.old).plan.side }
     requires first_room { number_of_trees (N.seen a.old).held + 3 * more ≤ 3000 }
     requires second_room { number_of_trees (N.seen b.old).held + 3 * more ≤ 3000 }
+    ensures first_rests { N.rests a.old a.new }
+    ensures second_rests { N.rests b.old b.new }
     ensures first_plan { (N.seen a.new).plan ≡ (N.seen a.old).plan }
     ensures second_plan { (N.seen b.new).plan ≡ (N.seen b.old).plan }
     ensures first_held { SameHeld (N.seen a.old).held (N.seen a.new).held }
@@ -98,6 +100,8 @@ fn over_leaf<N: NodeStore, L: Ledger>(
     requires second_side { 3 ≤ (N.seen b.old).plan.side }
     requires first_room { number_of_trees (N.seen a.old).held + 3 * more ≤ 3001 }
     requires second_room { number_of_trees (N.seen b.old).held + 3 * more ≤ 3000 }
+    ensures first_rests { N.rests a.old a.new }
+    ensures second_rests { N.rests b.old b.new }
     ensures first_plan { (N.seen a.new).plan ≡ (N.seen a.old).plan }
     ensures second_plan { (N.seen b.new).plan ≡ (N.seen b.old).plan }
     ensures first_held { ForHeld (N.seen a.old).held leaf
@@ -141,6 +145,8 @@ fn over_row<N: NodeStore, L: Ledger>(
     requires second_side { 3 ≤ (N.seen b.old).plan.side }
     requires first_room { number_of_trees (N.seen a.old).held + 3 * more ≤ 3002 }
     requires second_room { number_of_trees (N.seen b.old).held + 3 * more ≤ 3000 }
+    ensures first_rests { N.rests a.old a.new }
+    ensures second_rests { N.rests b.old b.new }
     ensures first_plan { (N.seen a.new).plan ≡ (N.seen a.old).plan }
     ensures second_plan { (N.seen b.new).plan ≡ (N.seen b.old).plan }
     ensures first_held { ForChildren (N.seen a.old).held row

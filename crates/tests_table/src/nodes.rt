@@ -36,6 +36,7 @@ fn back_first<R: Wait, L: Ledger>(
     requires room { number_of_trees pass.old.view.held ≤ 4000 }
     ensures of { BelongsTo table.now pass.new }
     ensures idle { pass.new.view.turn ≡ None }
+    ensures log { pass.new.view.log ≡ pass.old.view.log }
     ensures gone { (t : Tree) (n : Name) → name_in children 0 ≡ Some n → root_of t ≡ Some n
         → MayHold pass.old.view.held t → Gains pass.new.view.held t pass.old.view.held }
 {
@@ -64,6 +65,7 @@ fn over_and_back<R: Wait, L: Ledger>(
     requires room { number_of_trees pass.old.view.held ≤ 3500 }
     ensures of { BelongsTo table.now pass.new }
     ensures idle { pass.new.view.turn ≡ None }
+    ensures log { pass.new.view.log ≡ pass.old.view.log }
     ensures given { ForHeld pass.old.view.held leaf
         (λ t. Gains pass.new.view.held t pass.old.view.held) }
 {
@@ -96,6 +98,7 @@ fn comes_over<R: Wait, L: Ledger>(
     requires room { number_of_trees pass.old.view.held ≤ 3499 }
     ensures of { BelongsTo table.now pass.new }
     ensures idle { pass.new.view.turn ≡ None }
+    ensures log { pass.new.view.log ≡ pass.old.view.log }
     ensures held { SameHeld pass.old.view.held pass.new.view.held }
 {
     match intern::leaf(rt, table, pass, bits, steps) {
@@ -115,6 +118,7 @@ fn make_often<R: Wait, L: Ledger>(rt: &R, table: &NodeTable, pass: &mut Pass, bl
     requires room { number_of_trees pass.old.view.held ≤ 3000 }
     ensures of { BelongsTo table.now pass.new }
     ensures idle { pass.new.view.turn ≡ None }
+    ensures log { pass.new.view.log ≡ pass.old.view.log }
     ensures held { SameHeld pass.old.view.held pass.new.view.held }
 {
     let mut steps: Steps<L> = Steps::start(blank);

@@ -30,6 +30,7 @@ fn more_and_back<R: Wait, L: Ledger>(
     requires room { number_of_trees pass.old.view.held ≤ 3500 }
     ensures of { BelongsTo table.now pass.new }
     ensures idle { pass.new.view.turn ≡ None }
+    ensures log { pass.new.view.log ≡ pass.old.view.log }
     ensures held { SameHeld pass.old.view.held pass.new.view.held }
 {
     let more = release::more(rt, table, pass, share, steps);
@@ -52,6 +53,7 @@ fn kept_and_back<R: Wait, L: Ledger>(
     requires room { number_of_trees pass.old.view.held ≤ 3500 }
     ensures of { BelongsTo table.now pass.new }
     ensures idle { pass.new.view.turn ≡ None }
+    ensures log { pass.new.view.log ≡ pass.old.view.log }
     ensures held { SameHeld pass.old.view.held pass.new.view.held }
 {
     let kept = release::keep_at(rt, table, pass, n, steps);
@@ -70,6 +72,7 @@ fn is_counted<R: Wait, L: Ledger>(rt: &R, table: &NodeTable, pass: &mut Pass, bl
     requires room { number_of_trees pass.old.view.held ≤ 3000 }
     ensures of { BelongsTo table.now pass.new }
     ensures idle { pass.new.view.turn ≡ None }
+    ensures log { pass.new.view.log ≡ pass.old.view.log }
     ensures held { SameHeld pass.old.view.held pass.new.view.held }
 {
     let mut steps: Steps<L> = Steps::start(blank);

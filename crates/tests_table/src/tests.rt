@@ -27,6 +27,7 @@ fn beside<R: Wait, L: Ledger>(
     requires room { number_of_trees pass.old.view.held ≤ 3000 }
     ensures of { BelongsTo table.now pass.new }
     ensures idle { pass.new.view.turn ≡ None }
+    ensures log { pass.new.view.log ≡ pass.old.view.log }
     ensures held { SameHeld pass.old.view.held pass.new.view.held }
 {
     match intern::leaf(rt, table, pass, 2, steps) {
@@ -60,6 +61,8 @@ fn is_shared<R: Wait, L: Ledger>(
     requires second_room { number_of_trees b.old.view.held ≤ 3000 }
     ensures first_idle { a.new.view.turn ≡ None }
     ensures second_idle { b.new.view.turn ≡ None }
+    ensures first_log { a.new.view.log ≡ a.old.view.log }
+    ensures second_log { b.new.view.log ≡ b.old.view.log }
     ensures first_held { SameHeld a.old.view.held a.new.view.held }
     ensures second_held { SameHeld b.old.view.held b.new.view.held }
 {

@@ -26,6 +26,7 @@ fn take_often<R: Wait, L: Ledger>(rt: &R, table: &NodeTable, pass: &mut Pass, bl
     requires room { number_of_trees pass.old.view.held ≤ 3000 }
     ensures of { BelongsTo table.now pass.new }
     ensures idle { pass.new.view.turn ≡ None }
+    ensures log { pass.new.view.log ≡ pass.old.view.log }
     ensures held { SameHeld pass.old.view.held pass.new.view.held }
 {
     let mut steps: Steps<L> = Steps::start(blank);
@@ -80,6 +81,7 @@ fn is_empty<R: Wait, L: Ledger>(rt: &R, table: &NodeTable, pass: &mut Pass, blan
     requires room { number_of_trees pass.old.view.held ≤ 3000 }
     ensures of { BelongsTo table.now pass.new }
     ensures idle { pass.new.view.turn ≡ None }
+    ensures log { pass.new.view.log ≡ pass.old.view.log }
     ensures held { SameHeld pass.old.view.held pass.new.view.held }
 {
     let mut steps: Steps<L> = Steps::start(blank);

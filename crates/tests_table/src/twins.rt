@@ -32,6 +32,7 @@ fn is_alike<R: Wait, L: Ledger>(
     requires room { number_of_trees pass.old.view.held ≤ 3999 }
     ensures of { BelongsTo table.now pass.new }
     ensures idle { pass.new.view.turn ≡ None }
+    ensures log { pass.new.view.log ≡ pass.old.view.log }
     ensures held { SameHeld pass.old.view.held pass.new.view.held }
 {
     match intern::leaf(rt, table, pass, leaf.1, steps) {
@@ -59,6 +60,7 @@ fn are_alike<R: Wait, L: Ledger>(
     requires room { number_of_trees pass.old.view.held ≤ 3500 }
     ensures of { BelongsTo table.now pass.new }
     ensures idle { pass.new.view.turn ≡ None }
+    ensures log { pass.new.view.log ≡ pass.old.view.log }
     ensures held { SameHeld pass.old.view.held pass.new.view.held }
 {
     let mut alike = true;
@@ -91,6 +93,8 @@ fn are_alike_beside<R: Wait, L: Ledger>(
     ensures second { BelongsTo table.now b.new }
     ensures first_idle { a.new.view.turn ≡ None }
     ensures second_idle { b.new.view.turn ≡ None }
+    ensures first_log { a.new.view.log ≡ a.old.view.log }
+    ensures second_log { b.new.view.log ≡ b.old.view.log }
     ensures first_held { SameHeld a.old.view.held a.new.view.held }
     ensures second_held { SameHeld b.old.view.held b.new.view.held }
 {
@@ -126,6 +130,8 @@ fn all_alike<R: Wait, L: Ledger>(
     requires second_room { number_of_trees b.old.view.held ≤ 2000 }
     ensures first_idle { a.new.view.turn ≡ None }
     ensures second_idle { b.new.view.turn ≡ None }
+    ensures first_log { a.new.view.log ≡ a.old.view.log }
+    ensures second_log { b.new.view.log ≡ b.old.view.log }
     ensures first_held { SameHeld a.old.view.held a.new.view.held }
     ensures second_held { SameHeld b.old.view.held b.new.view.held }
 {

@@ -48,3 +48,9 @@ end-requires-in-Ok-clause-turn c =
     let s = all_end (IsSpare c.args.table) c.pop.new.self.items c.in-Some.kept
     (subst (λ (l : List PassSeen). All (IsSpare c.args.table) l) c.in-Some.ensures.items c.requires) in
     s.turn
+
+pub end-requires-in-Ok-clause-log_turn : goal.end-requires-in-Ok-clause-log_turn
+end-requires-in-Ok-clause-log_turn c =
+    let s = all_end (IsSpare c.args.table) c.pop.new.self.items c.in-Some.kept
+    (subst (λ (l : List PassSeen). All (IsSpare c.args.table) l) c.in-Some.ensures.items c.requires) in
+    s.log_turn

@@ -6,4 +6,4 @@ use Rattle.tests_table.proofs.nodes.make_often.Given as goal
 abbrev pub invariant-loop-k : goal.invariant-loop-k
 invariant-loop-k g l =
     BelongsTo l.table l.pass × (l.pass.view.turn ≡ None)
-    × SameHeld l.fn.pass.view.held l.pass.view.held
+    × SameHeld l.fn.pass.view.held l.pass.view.held × (l.pass.view.log ≡ l.fn.pass.view.log)

@@ -11,4 +11,6 @@ invariant-loop-bits g l = record {
   second_idle : l.b.view.turn ≡ None;
   first_held : SameHeld l.fn.a.view.held l.a.view.held;
   second_held : SameHeld l.fn.b.view.held l.b.view.held;
+  first_log : l.a.view.log ≡ l.fn.a.view.log;
+  second_log : l.b.view.log ≡ l.fn.b.view.log;
 }
