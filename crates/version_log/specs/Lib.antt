@@ -1,0 +1,14 @@
+pub mod Seeing
+pub mod Roots
+pub mod Pins
+pub mod PinStatements
+pub mod Commits
+pub mod Tries
+pub mod Forgets
+pub mod Sames
+pub mod Targets
+pub mod Reading
+pub mod Lending
+pub mod Keeping
+pub mod Looking
+pub mod Finishing

@@ -1,0 +1,50 @@
+-- What a call leaves of a pass's view.
+use Rattle.std.specs.Prelude.{◌≡◌, ◌<◌, ◌≤◌, ℕ, List, ◌++◌, length}
+use Rattle.std.specs.List.{Contains}
+use Rattle.history_model.specs.declared.histories.Mark.{Mark}
+use Rattle.history_model.specs.Logs.{Log}
+use Rattle.table_rule.specs.LogKnowing.{IsPrefix}
+use Rattle.version_answers.specs.Listing.{Found}
+use Rattle.table_rule.specs.Rules.{SameSession}
+use Rattle.table_rule.specs.Views.{SeatView}
+use Rattle.table_rule.specs.LogTelling.{number_seen}
+
+-- no pair of what was found is lost
+pub record FoundStays (old new : List Found) : Type 0 where
+  pub each : (f : Found) → Contains old f → Contains new f
+
+-- each mark was made behind its version, at a length that the log has
+pub record IsDated (log : Log) : Type 0 where
+  pub each : (m : Mark) → Contains log.marks m
+      → (m.version < m.at) × (m.at ≤ length log.records)
+
+-- the log that was seen, and what was found, may have grown; it is a log of the same side, marks
+-- that came are dated, and no other pass was joined
+pub record KnowsMore (v w : SeatView) : Type 0 where
+  pub seen : IsPrefix v.log.seen w.log.seen
+  pub side : w.log.seen.side ≡ v.log.seen.side
+  pub dated : IsDated v.log.seen → IsDated w.log.seen
+  pub taken : w.log.taken ≡ v.log.taken
+  pub found : FoundStays v.log.found w.log.found
+
+-- other sessions may have been met that had the log's turn
+pub record MetOthers (old new : List ℕ) : Type 0 where
+  pub met : List ℕ
+  pub is : new ≡ met ++ old
+
+-- the same pass of the same session; what it made and met, and its own records and marks
+-- stay, and what it saw of the log may grow
+pub record LooksOn (v w : SeatView) : Type 0 where
+  pub session : SameSession v w
+  pub sees : KnowsMore v w
+  pub records : w.log.records ≡ v.log.records
+  pub marks : w.log.marks ≡ v.log.marks
+  pub busy : MetOthers v.log.busy w.log.busy
+  pub made : w.made ≡ v.made
+  pub met : w.met ≡ v.met
+
+-- the log that is seen has this mark on the version
+pub record HasSeenMark (v : SeatView) (version : ℕ) (mark : Mark) : Type 0 where
+  pub is : mark.version ≡ version
+  pub marked : Contains v.log.seen.marks mark
+  pub later : (version < mark.at) × (mark.at ≤ number_seen v)

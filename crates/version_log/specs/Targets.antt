@@ -1,0 +1,62 @@
+-- Where undos and redos go, and where the history stands after the next act.
+use Rattle.std.specs.Prelude.{◌≡◌, ◌≤◌, ◌^◌, ℕ, Option, None, List, [], ◌∷◌, ◌++◌, IfSome}
+use Rattle.history_model.specs.declared.acts.Act.{Act}
+use Rattle.history_model.specs.declared.acts.Act.TheVariants.{Undo, Redo}
+use Rattle.history_model.specs.declared.histories.Record.{Record}
+use Rattle.history_model.specs.Packing.{last_edit}
+use Rattle.history_model.specs.Positions.{position_after}
+use Rattle.history_model.specs.Worlds.{World}
+use Rattle.node_shapes.specs.declared.names.Name.{Name}
+use Rattle.core_laws.specs.Making.{Makes}
+use Rattle.table_rule.specs.Views.{SeatView}
+use Rattle.undo.specs.declared.standing.Standing.{Standing}
+use Rattle.undo.specs.Targets.{past_top, future_top}
+use Rattle.version_log.specs.declared.ahead.Ahead.{Ahead}
+use Rattle.version_log.specs.Roots.{HoldsRootOf}
+
+-- the version that an undo or a redo goes to; an edit goes to none
+abbrev pub act_target : List Record → Act → Option ℕ
+act_target records Undo = past_top records
+act_target records Redo = future_top records
+act_target records edit = None
+
+-- a record with this act
+abbrev pub with_act : ℕ → ℕ → Act → Record
+with_act session line act = record { session = session; line = line; act = act }
+
+-- once a record with this act is appended this version stands, and this is the last edit
+pub record StandsNext (records : List Record) (act : Act) (now last : ℕ) : Type 0 where
+  pub now_is : (session line : ℕ)
+      → (position_after (records ++ with_act session line act ∷ [])).now ≡ now
+  pub last_is : (session line : ℕ)
+      → last_edit (records ++ with_act session line act ∷ []) ≡ last
+
+-- the same of a standing that was looked up
+pub record StandsBehind (records : List Record) (act : Act) (s : Standing) : Type 0 where
+  pub next : StandsNext records act s.now s.last
+  pub small : (s.now ≤ 65535) × (s.last ≤ 65535)
+
+abbrev pub nothing_kept : Ahead
+nothing_kept = record { undo = None; redo = None }
+
+-- what is kept for an act; nothing is for an edit
+abbrev pub kept_for : Act → Ahead → Option Standing
+kept_for Undo a = a.undo
+kept_for Redo a = a.redo
+kept_for edit a = None
+
+abbrev pub keep_for : Act → Option Standing → Ahead → Ahead
+keep_for Undo behind a = record a { undo = behind }
+keep_for Redo behind a = record a { redo = behind }
+keep_for edit behind a = a
+
+-- what is kept for the act, where something is, is right for these records
+abbrev pub KnowsNext : List Record → Act → Ahead → Type 0
+KnowsNext records act a = IfSome (kept_for act a) (StandsBehind records act)
+
+-- the root shows just the cells that the act makes at the length that is seen; there is none
+-- exactly where there are none
+pub record IsMadeNow (v : SeatView) (act : Act) (root : Option Name) : Type 0 where
+  pub cells : World
+  pub holds : HoldsRootOf v root cells
+  pub makes : Makes (2 ^ v.plan.side) v.models v.log.seen.records act cells

@@ -1,0 +1,38 @@
+-- What a commit that doesn't wait answers.
+use Rattle.std.specs.Prelude.{◌≡◌, Option}
+use Rattle.node_shapes.specs.declared.names.Name.{Name}
+use Rattle.table_rule.specs.Views.{SeatView}
+use Rattle.node_table.specs.LogTurns.{HasLogTurn, IsBusy, TakesLog}
+use Rattle.node_table.specs.Seen.{TableSeen, PassSeen}
+use Rattle.version_log.specs.declared.pinned.Pinned.{Pinned}
+use Rattle.version_log.specs.declared.refusals.CommitRefused.{CommitRefused}
+use Rattle.version_log.specs.declared.refusals.CommitRefused.TheVariants.{LogFull, Stale}
+use Rattle.version_log.specs.declared.refusals.TryRefused.{TryRefused}
+use Rattle.version_log.specs.declared.refusals.TryRefused.TheVariants as tries
+use Rattle.version_log.specs.Commits.{RefusesCommit}
+use Rattle.version_log.specs.Seeing.{LooksOn}
+
+-- the log's turn came, and no other session was met that has it
+pub record TakesAtOnce (t : TableSeen) (v : SeatView) (s : PassSeen) : Type 0 where
+  pub turn : HasLogTurn t s
+  pub takes : TakesLog v s.view
+  pub nobody : s.view.log.busy ≡ v.log.busy
+
+-- the same refusal, as one of a try
+abbrev pub tried : CommitRefused → TryRefused
+tried (LogFull back) = tries.LogFull back
+tried (Stale now back) = tries.Stale now back
+
+-- the turn came at once, the log was looked at, and nothing was committed
+pub record RefusesAtOnce (base : Pinned) (root : Option Name) (e : CommitRefused)
+    (v w : SeatView) : Type 0 where
+  pub looks : LooksOn v w
+  pub nobody : w.log.busy ≡ v.log.busy
+  pub refused : RefusesCommit base root e w
+
+-- or the number of another session joined those that were met with the log's turn, and nothing else
+-- changed
+abbrev pub RefusesTry : Pinned → Option Name → TryRefused → SeatView → SeatView → Type 0
+RefusesTry base root (tries.LogFull back) v w = RefusesAtOnce base root (LogFull back) v w
+RefusesTry base root (tries.Stale now back) v w = RefusesAtOnce base root (Stale now back) v w
+RefusesTry base root (tries.Busy back) v w = (back ≡ root) × IsBusy v w

@@ -1,0 +1,148 @@
+// Records that are appended under the log's turn, whatever their act.
+ghost use Rattle.std.specs.Prelude.{◌≡◌, ◌<◌, ◌≤◌, ◌+◌, ◌^◌, false, IfOk, IfErr, IfSome};
+ghost use Rattle.history_model.specs.Logs.{FitsWorld};
+ghost use Rattle.history_model.specs.Worlds.{is_edit};
+ghost use Rattle.table_rule.specs.LogTelling.{number_seen};
+ghost use Rattle.table_steps.specs.LogChanges.{HasOpenTarget};
+ghost use Rattle.node_table.specs.LogTurns.{HasLogTurn, HasNoTurn, LearnsLog, log_left};
+ghost use Rattle.node_table.specs.Seen.{BelongsTo};
+ghost use Rattle.version_log.specs.Commits.{AppendsNext};
+ghost use Rattle.version_log.specs.Finishing.{RefusesFinish};
+ghost use Rattle.version_log.specs.Seeing.{LooksOn};
+ghost use Rattle.version_log.specs.Targets.{IsMadeNow, KnowsNext, StandsBehind};
+
+use crate::ahead::{Ahead, nothing_kept};
+use crate::commits::MOST_RECORDS;
+use crate::refusals::SureRefused;
+use crate::sures::{Sure, leave};
+use crate::words::{record_words, tell_numbers};
+use history_model::Act;
+use node_table::{LogTurn, NodeTable, Pass};
+use node_words::Share;
+use undo::Standing;
+
+// Where the history stands behind an undo or a redo that has a target: it is kept, or looked up
+// now.
+fn stands_behind(table: &NodeTable, pass: &mut Pass, kept: Option<Standing>, act: &Act) -> Standing
+    requires turn { HasLogTurn table.now pass.old }
+    requires other { is_edit act.now ≡ false }
+    requires target { HasOpenTarget pass.old.view act.now }
+    requires known { IfSome kept (StandsBehind pass.old.view.log.seen.records act.now) }
+    ensures turn { HasLogTurn table.now pass.new }
+    ensures learns { LearnsLog pass.old.view pass.new.view }
+    ensures stands { StandsBehind pass.old.view.log.seen.records act.now result }
+{
+    if let Some(standing) = kept {
+        return standing;
+    }
+    let mut sure = Sure {
+        table,
+        pass,
+        ahead: nothing_kept(),
+    };
+    let behind = sure.look_behind(act);
+    let Sure {
+        table: _,
+        pass: _,
+        ahead: _,
+    } = sure;
+    match behind {
+        Some(standing) => standing,
+        None => unreachable!(),
+    }
+}
+
+// Where the history stands behind the next record. For an edit nothing is looked up.
+fn stands_next(table: &NodeTable, pass: &mut Pass, ahead: Ahead, act: &Act, at: u32) -> Standing
+    requires turn { HasLogTurn table.now pass.old }
+    requires at { at ≡ number_seen pass.old.view }
+    requires room { at < 65535 }
+    requires target { HasOpenTarget pass.old.view act.now }
+    requires known { KnowsNext pass.old.view.log.seen.records act.now ahead }
+    ensures turn { HasLogTurn table.now pass.new }
+    ensures learns { LearnsLog pass.old.view pass.new.view }
+    ensures stands { StandsBehind pass.old.view.log.seen.records act.now result }
+{
+    match act {
+        Act::Undo | Act::Redo => stands_behind(table, pass, ahead.kept_for(act), act),
+        _ => Standing {
+            now: at + 1,
+            last: at + 1,
+        },
+    }
+}
+
+// AppendsNext the next record, whatever its act. The turn is given back.
+pub(crate) fn append_next(
+    table: &NodeTable,
+    pass: &mut Pass,
+    ahead: Ahead,
+    at: u32,
+    line: u32,
+    act: &Act,
+    root: Option<Share>,
+) -> u32
+    requires turn { HasLogTurn table.now pass.old }
+    requires at { at ≡ number_seen pass.old.view }
+    requires room { at < 65535 }
+    requires fits { FitsWorld (2 ^ table.now.plan.side) pass.old.view.models act.now }
+    requires target { HasOpenTarget pass.old.view act.now }
+    requires known { KnowsNext pass.old.view.log.seen.records act.now ahead }
+    requires made { IsMadeNow pass.old.view act.now root }
+    ensures of { BelongsTo table.now pass.new }
+    ensures idle { HasNoTurn pass.new.view }
+    ensures appends { AppendsNext pass.old.view line act.now root result pass.new.view }
+    ensures met_nobody { pass.new.view.log.busy ≡ pass.old.view.log.busy }
+{
+    pass.tell();
+    tell_numbers(act);
+    let number = pass.number();
+    let Standing { now, last } = stands_next(table, pass, ahead, act, at);
+    let words = record_words(act, now, last, number, line);
+    let turn = LogTurn::of(table, pass);
+    turn.append(words, root)
+}
+
+// AppendsNext a record with this root. The turn is given back.
+pub(crate) fn finish(
+    table: &NodeTable,
+    pass: &mut Pass,
+    ahead: Ahead,
+    line: u32,
+    act: &Act,
+    root: Option<Share>,
+) -> Result<u32, SureRefused>
+    requires turn { HasLogTurn table.now pass.old }
+    requires fits { FitsWorld (2 ^ table.now.plan.side) pass.old.view.models act.now }
+    requires target { HasOpenTarget pass.old.view act.now }
+    requires known { KnowsNext pass.old.view.log.seen.records act.now ahead }
+    requires made { IsMadeNow pass.old.view act.now root }
+    ensures of { BelongsTo table.now pass.new }
+    ensures idle { HasNoTurn pass.new.view }
+    ensures appends { IfOk result
+        (λ n. AppendsNext pass.old.view line act.now root n pass.new.view) }
+    ensures refused { IfErr result (λ e. RefusesFinish root e pass.new.view) }
+    ensures left { IfErr result (λ e. pass.new.view ≡ log_left pass.old.view) }
+    ensures looks { IfErr result (λ e. LooksOn pass.old.view pass.new.view) }
+    ensures kept { IfErr result (λ e. pass.new.view.held ≡ pass.old.view.held) }
+{
+    let at = length(table, pass);
+    if at == MOST_RECORDS {
+        leave(table, pass);
+        return Err(SureRefused::LogFull { root });
+    }
+    Ok(append_next(table, pass, ahead, at, line, act, root))
+}
+
+pub(crate) fn length(table: &NodeTable, pass: &mut Pass) -> u32
+    requires { HasLogTurn table.now pass.old }
+    ensures turn { HasLogTurn table.now pass.new }
+    ensures same { pass.new ≡ pass.old }
+    ensures number { result ≡ number_seen pass.old.view }
+    ensures few { result ≤ 65535 }
+{
+    let mut turn = LogTurn::of(table, pass);
+    let at = turn.len();
+    turn.rest();
+    at
+}

@@ -1,0 +1,55 @@
+//! One history of all sessions over a table's log turn: versions are pinned, records appended and
+//! versions forgotten, each by one step of the log.
+//!
+//! All sessions share the turn, so each call loads and stores little under it. Besides the length,
+//! and five words of each record that the session hasn't seen yet:
+//!
+//! | Call | Under the turn |
+//! |---|---|
+//! | `head` | nothing |
+//! | `pin` | 1 load of the mark, 1 of the root; the root's bucket: 1 exchange, 1 load, 2 stores |
+//! | `commit`, `try_commit` | 7 stores: the words of the version, and the length |
+//! | `Sure::target` | 2 loads for an undo; for a redo 1, and 1 for each edit on the way back |
+//! | `Sure::mark`, `Sure::root` | 1 load each |
+//! | `Sure::keep` | 1 load, and the root's bucket |
+//! | `Sure::finish` | 7 stores, and the loads of `target` where that wasn't asked |
+//! | `forget` | 1 load of the mark, 1 of the root, 2 stores |
+//! | `same` | 1 load of each mark, 1 of each root |
+//!
+//! A mark that is found takes a second load. The turn is taken by 1 exchange and given back by 1
+//! store.
+#![tactic(auto)]
+
+mod ahead;
+mod commits;
+mod finishing;
+mod forgets;
+mod forgetting;
+mod heads;
+mod keeping;
+mod laws;
+mod pinned;
+mod pins;
+mod refusals;
+mod roots;
+mod sames;
+mod sures;
+mod taking;
+mod traits;
+mod tries;
+mod words;
+
+pub use ahead::Ahead;
+pub use commits::commit;
+pub use forgets::forget;
+pub use forgetting::Forgot;
+pub use heads::head;
+pub use laws::pins_stay_and_tell;
+pub use pinned::Pinned;
+pub use pins::pin;
+pub use refusals::{CommitRefused, SureRefused, TryRefused};
+pub use sames::same;
+pub use sures::Sure;
+pub use taking::sure;
+pub use tries::try_commit;
+pub use version_answers::{ForgetRefused, PinRefused, SameAt, SameRefused};

@@ -1,0 +1,71 @@
+// Versions that are pinned.
+ghost use Rattle.std.specs.Prelude.{◌≡◌, ◌≤◌, ◌+◌, IfOk, IfErr};
+ghost use Rattle.node_shapes.specs.Weights.{number_of_trees};
+ghost use Rattle.node_table.specs.LogTurns.{HasNoTurn};
+ghost use Rattle.node_table.specs.Seen.{BelongsTo};
+ghost use Rattle.version_log.specs.Pins.{PinsVersion, RefusesPin, version_asked};
+ghost use Rattle.version_log.specs.Roots.{turns_for};
+ghost use Rattle.version_log.specs.Seeing.{LooksOn};
+
+use crate::pinned::Pinned;
+use crate::roots::keep_root;
+use crate::sures::leave;
+use node_table::{NodeTable, Pass};
+use node_words::Steps;
+use std::sync::Wait;
+use std::sync::ledger::Ledger;
+use version_answers::PinRefused;
+
+// The version that is asked for at this length.
+fn version_asked(version: Option<u32>, at: u32) -> u32
+    ensures { result ≡ version_asked version at }
+{
+    match version {
+        Some(version) => version,
+        None => at,
+    }
+}
+
+/// PinsVersion a version, or the head where none is named: it is kept as long as its share isn't
+/// given back. It may wait for the log's turn, and takes one turn of the root's bucket, where there
+/// is a root.
+pub fn pin<R: Wait, L: Ledger>(
+    rt: &R,
+    table: &NodeTable,
+    pass: &mut Pass,
+    version: Option<u32>,
+    steps: &mut Steps<L>,
+) -> Result<Pinned, PinRefused>
+    requires of { BelongsTo table.now pass.old }
+    requires idle { HasNoTurn pass.old.view }
+    requires room { number_of_trees pass.old.view.held ≤ 3900 }
+    ensures of { BelongsTo table.now pass.new }
+    ensures idle { HasNoTurn pass.new.view }
+    ensures looks { LooksOn pass.old.view pass.new.view }
+    ensures pinned { IfOk result (λ p. PinsVersion pass.old.view version p pass.new.view) }
+    ensures refused { IfErr result (λ e. RefusesPin version e pass.new.view) }
+    ensures kept { IfErr result (λ e. pass.new.view.held ≡ pass.old.view.held) }
+    ensures steps { IfOk result (λ p. steps.new ≡ steps.old + turns_for p.root) }
+    ensures no_step { IfErr result (λ e. steps.new ≡ steps.old) }
+{
+    let mut turn = table.log_turn(rt, pass);
+    let at = turn.len();
+    let version = version_asked(version, at);
+    if version > at {
+        turn.leave();
+        return Err(PinRefused::NoVersion { at });
+    }
+    if let Some(mark) = turn.mark(version) {
+        turn.leave();
+        return Err(PinRefused::Forgotten { at, mark });
+    }
+    let root = turn.root(version);
+    turn.rest();
+    let root = keep_root(rt, table, pass, version, root, steps);
+    leave(table, pass);
+    Ok(Pinned {
+        version,
+        moment: at,
+        root,
+    })
+}

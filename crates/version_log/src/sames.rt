@@ -1,0 +1,148 @@
+// Versions that are compared.
+ghost use Rattle.std.specs.Prelude.{◌≡◌, ◌≢◌, ◌↔◌, ◌^◌, ℕ, IsTrue, IfOk, IfErr};
+ghost use Rattle.block_contents.specs.Versions.{SameWorld};
+ghost use Rattle.table_rule.specs.LogTelling.{IsShownUnmarked, number_seen, seen_has};
+ghost use Rattle.node_table.specs.LogTurns.{HasLogTurn, HasNoTurn, LearnsLog};
+ghost use Rattle.node_table.specs.Seen.{BelongsTo};
+ghost use Rattle.version_log.specs.Sames.{IsFoundOpen, RefusesLook, RefusesSame, TellsSame};
+ghost use Rattle.version_log.specs.Seeing.{LooksOn};
+
+use crate::finishing::length;
+use crate::keeping::root_of;
+use crate::sures::leave;
+use crate::taking::take;
+use node_shapes::Name;
+use node_table::{LogTurn, NodeTable, Pass};
+use std::sync::Wait;
+use version_answers::{SameAt, SameRefused};
+
+// Looks whether the version is there without a mark.
+fn look_at(table: &NodeTable, pass: &mut Pass, at: u32, v: u32) -> Result<(), SameRefused>
+    requires turn { HasLogTurn table.now pass.old }
+    requires at { at ≡ number_seen pass.old.view }
+    ensures turn { HasLogTurn table.now pass.new }
+    ensures looks { LooksOn pass.old.view pass.new.view }
+    ensures held { pass.new.view.held ≡ pass.old.view.held }
+    ensures number { number_seen pass.new.view ≡ at }
+    ensures still { (u : ℕ) → IsShownUnmarked pass.old.view u
+        → IsShownUnmarked pass.new.view u }
+    ensures others { (u : ℕ) → u ≢ v → IsFoundOpen pass.old.view u at
+        → IsFoundOpen pass.new.view u at }
+    ensures shown { IfOk result (λ u. IsShownUnmarked pass.new.view v) }
+    ensures found { IfOk result (λ u. IsFoundOpen pass.new.view v at) }
+    ensures refused { IfErr result (λ e. RefusesLook v e pass.new.view) }
+{
+    if v > at {
+        return Err(SameRefused::NoVersion { at, version: v });
+    }
+    let mut turn = LogTurn::of(table, pass);
+    let found = turn.mark(v);
+    turn.rest();
+    match found {
+        Some(mark) => Err(SameRefused::Forgotten { at, mark }),
+        None => Ok(()),
+    }
+}
+
+// Whether two versions without a mark have one root.
+fn is_same_root(table: &NodeTable, pass: &mut Pass, v: u32, w: u32) -> bool
+    requires turn { HasLogTurn table.now pass.old }
+    requires first { IsShownUnmarked pass.old.view v }
+    requires second { IsShownUnmarked pass.old.view w }
+    ensures turn { HasLogTurn table.now pass.new }
+    ensures learns { LearnsLog pass.old.view pass.new.view }
+    ensures equal { IsTrue result ↔ SameWorld (2 ^ pass.old.view.plan.side)
+        (seen_has pass.old.view v) (seen_has pass.old.view w) }
+{
+    let first = root_of(table, pass, v);
+    let second = root_of(table, pass, w);
+    pass.tell();
+    is_one(first, second)
+}
+
+// Whether two roots are one, or both are none.
+fn is_one(a: Option<Name>, b: Option<Name>) -> bool
+    ensures { IsTrue result ↔ (a ≡ b) }
+{
+    match (a, b) {
+        (None, None) => true,
+        (Some(a), Some(b)) => a == b,
+        _ => false,
+    }
+}
+
+// Compares two versions under the log's turn.
+fn compare(
+    table: &NodeTable,
+    pass: &mut Pass,
+    at: u32,
+    v: u32,
+    w: u32,
+) -> Result<SameAt, SameRefused>
+    requires turn { HasLogTurn table.now pass.old }
+    requires at { at ≡ number_seen pass.old.view }
+    ensures turn { HasLogTurn table.now pass.new }
+    ensures looks { LooksOn pass.old.view pass.new.view }
+    ensures held { pass.new.view.held ≡ pass.old.view.held }
+    ensures same { IfOk result (λ s. TellsSame v w s pass.new.view) }
+    ensures refused { IfErr result (λ e. RefusesSame v w e pass.new.view) }
+{
+    if let Err(refused) = look_at(table, pass, at, v) {
+        return Err(refused);
+    }
+    if w != v {
+        return compare_with(table, pass, at, v, w);
+    }
+    Ok(SameAt { at, equal: true })
+}
+
+// Compares a version that was found without a mark with another one.
+fn compare_with(
+    table: &NodeTable,
+    pass: &mut Pass,
+    at: u32,
+    v: u32,
+    w: u32,
+) -> Result<SameAt, SameRefused>
+    requires turn { HasLogTurn table.now pass.old }
+    requires at { at ≡ number_seen pass.old.view }
+    requires shown { IsShownUnmarked pass.old.view v }
+    requires found { IsFoundOpen pass.old.view v at }
+    requires other { v ≢ w }
+    ensures turn { HasLogTurn table.now pass.new }
+    ensures looks { LooksOn pass.old.view pass.new.view }
+    ensures held { pass.new.view.held ≡ pass.old.view.held }
+    ensures same { IfOk result (λ s. TellsSame v w s pass.new.view) }
+    ensures refused { IfErr result (λ e. RefusesSame v w e pass.new.view) }
+{
+    if let Err(refused) = look_at(table, pass, at, w) {
+        return Err(refused);
+    }
+    let equal = is_same_root(table, pass, v, w);
+    Ok(SameAt { at, equal })
+}
+
+/// Whether two versions have the same cells: they have one root then. It may wait for the log's
+/// turn.
+pub fn same<R: Wait>(
+    rt: &R,
+    table: &NodeTable,
+    pass: &mut Pass,
+    v: u32,
+    w: u32,
+) -> Result<SameAt, SameRefused>
+    requires of { BelongsTo table.now pass.old }
+    requires idle { HasNoTurn pass.old.view }
+    ensures of { BelongsTo table.now pass.new }
+    ensures idle { HasNoTurn pass.new.view }
+    ensures looks { LooksOn pass.old.view pass.new.view }
+    ensures held { pass.new.view.held ≡ pass.old.view.held }
+    ensures same { IfOk result (λ s. TellsSame v w s pass.new.view) }
+    ensures refused { IfErr result (λ e. RefusesSame v w e pass.new.view) }
+{
+    take(rt, table, pass);
+    let at = length(table, pass);
+    let answer = compare(table, pass, at, v, w);
+    leave(table, pass);
+    answer
+}
