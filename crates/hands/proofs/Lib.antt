@@ -1,0 +1,3 @@
+mod BoxLaws
+mod HitLaws
+mod LentLaws

@@ -1,0 +1,73 @@
+ghost use Rattle.std.specs.Prelude.{◌≡◌};
+ghost use Rattle.edit_ops.specs.Boxes.{MakesBox, box_act};
+ghost use Rattle.edit_walk.specs.Memos.{IsKeptIn, RecallsHeld};
+
+use crate::makers::ActMaker;
+use act_rebuilds::DrawnModel;
+use edit_ops::{BoxTask, rebuild_box_with};
+use edit_walk::Latest;
+use history_model::Act;
+use node_words::{Full, NodeStore, Share, Steps};
+use std::sync::ledger::Ledger;
+use vw_cell::{Boxed, Side};
+
+/// A box that is set or cleared. A further root takes over what was made of the blocks that stayed
+/// the same.
+#[derive(Drop)]
+pub struct BoxAct<'w, 'm> {
+    models: &'w [DrawnModel<'m>],
+    part: Boxed,
+    set: bool,
+    memo: Latest<BoxTask>,
+}
+
+impl<'w, 'm> BoxAct<'w, 'm> {
+    /// Nothing is made yet.
+    pub fn new(models: &'w [DrawnModel<'m>], part: Boxed, set: bool) -> BoxAct<'w, 'm>
+        ensures models { result.models.now ≡ models.now }
+        ensures act { box_act result.set result.part ≡ box_act set part }
+    {
+        BoxAct {
+            models,
+            part,
+            set,
+            memo: Latest::new(),
+        }
+    }
+}
+
+impl<'w, 'm> ActMaker for BoxAct<'w, 'm> {
+    ghost use Rattle.edit_ops.specs.Boxes.{MakesBox, box_act};
+    ghost use Rattle.edit_walk.specs.Memos.{IsKeptIn, RecallsHeld};
+    ghost use Rattle.hands.specs.Recalling.{recalls_more};
+
+    ghost models = { λ m. m.models.now };
+
+    ghost act = { λ m. box_act m.set m.part };
+
+    ghost recalls = { λ m held. RecallsHeld MakesBox held (IsKeptIn m.memo.places) };
+
+    ghost recalls_more = { λ m held more k r. recalls_more MakesBox held more (IsKeptIn m.memo.places)
+        k r };
+
+    fn act(&self) -> Act {
+        if self.set {
+            Act::Fill(self.part)
+        } else {
+            Act::Erase(self.part)
+        }
+    }
+
+    fn make<N: NodeStore, L: Ledger>(
+        &mut self,
+        store: &mut N,
+        old: Option<&Share>,
+        side: Side,
+        steps: &mut Steps<L>,
+    ) -> Result<Option<Share>, Full> {
+        match rebuild_box_with(store, old, side, self.part, self.set, &mut self.memo, steps) {
+            Ok(root) => Ok(root),
+            Err(full) => Err(full),
+        }
+    }
+}

@@ -1,0 +1,17 @@
+//! Edits over sessions that are borrowed: a session is lent to a hand, the hand is a store of nodes,
+//! and what the hand leaves is the session.
+#![tactic(auto)]
+
+mod boxes;
+mod giving;
+mod hand;
+mod makers;
+mod making;
+mod taking;
+mod traits;
+
+pub use boxes::BoxAct;
+pub use giving::give_back;
+pub use hand::Hand;
+pub use makers::{ActMaker, PlainAct};
+pub use making::make_over;
