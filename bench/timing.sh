@@ -14,9 +14,9 @@ build() {
     done
 }
 
-# The launcher proves and builds the program where that is needed. The timed runs start the program itself.
+# Proves and builds the program where that is needed. The timed runs start the program itself.
 need_product() {
-    [ -n "${VOXDAG:-}" ] || "$root/voxdag" count "$root/models/one.vox" >/dev/null
+    [ -n "${VOXDAG:-}" ] || "$root/prove"
 }
 
 # make_once FILE MAKER WORD..: runs `MAKER WORD.. FILE`, unless the file is there and the maker's source is no newer.
