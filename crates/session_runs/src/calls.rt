@@ -71,12 +71,17 @@ pub trait SessionCalls {
 
     ghost room: { Self → ℕ };
 
+    /// What holds of the session between two calls.
+    ghost stands: { Self → Type 0 };
+
     /// Two states of one session that agree in all that no call of it changes.
     ghost rests: { Self → Self → Type 0 };
 
     /// Carries out the act of this line, as the newest record.
     fn act(&mut self, line: u32, act: Act) -> ActAnswer
         requires fits { FitsWorld (2 ^ (of self.old).plan.side) (of self.old).models act }
+        requires stands { stands self.old }
+        ensures stands { stands self.new }
         ensures of { of self.new ≡ of self.old }
         ensures told { ActTold (of self.old) line act (seen self.old) (seen self.new) result }
         ensures knows { KnowsOwn (of self.old).number (seen self.new) }
@@ -88,6 +93,8 @@ pub trait SessionCalls {
     fn act_once(&mut self, line: u32, act: Act) -> OnceAnswer
         requires fits { FitsWorld (2 ^ (of self.old).plan.side) (of self.old).models act }
         requires edit { is_edit act ≡ true }
+        requires stands { stands self.old }
+        ensures stands { stands self.new }
         ensures of { of self.new ≡ of self.old }
         ensures told { OnceTold (of self.old) line act (seen self.old) (seen self.new) result }
         ensures knows { KnowsOwn (of self.old).number (seen self.new) }
@@ -98,6 +105,8 @@ pub trait SessionCalls {
     /// Answers the question of this version, or of the newest.
     fn ask(&mut self, version: Option<u32>, question: Question) -> Result<AskedAt, PinRefused>
         requires fits { QuestionFits (2 ^ (of self.old).plan.side) question }
+        requires stands { stands self.old }
+        ensures stands { stands self.new }
         ensures of { of self.new ≡ of self.old }
         ensures told { AskTold (of self.old) version question (seen self.old) (seen self.new)
             result }
@@ -115,6 +124,8 @@ pub trait SessionCalls {
     ) -> Result<SavedAt, PinRefused>
         requires fits { SaveFits (2 ^ (of self.old).plan.side) name part }
         requires room { 1 ≤ room self.old }
+        requires stands { stands self.old }
+        ensures stands { stands self.new }
         ensures of { of self.new ≡ of self.old }
         ensures told { SaveTold (of self.old) version part (seen self.old) (seen self.new) result }
         ensures knows { KnowsOwn (of self.old).number (seen self.new) }
@@ -124,6 +135,8 @@ pub trait SessionCalls {
 
     /// Forgets the version, by this line.
     fn forget(&mut self, line: u32, version: u32) -> Result<u32, ForgetRefused>
+        requires stands { stands self.old }
+        ensures stands { stands self.new }
         ensures of { of self.new ≡ of self.old }
         ensures told { ForgetTold (of self.old) line version (seen self.old) (seen self.new)
             result }
@@ -134,6 +147,8 @@ pub trait SessionCalls {
 
     /// Whether both versions have the same cells.
     fn same(&mut self, v: u32, w: u32) -> Result<SameAt, SameRefused>
+        requires stands { stands self.old }
+        ensures stands { stands self.new }
         ensures of { of self.new ≡ of self.old }
         ensures told { SameTold (of self.old) v w (seen self.old) (seen self.new) result }
         ensures knows { KnowsOwn (of self.old).number (seen self.new) }
@@ -143,6 +158,8 @@ pub trait SessionCalls {
 
     /// The length of the history.
     fn head(&mut self) -> u32
+        requires stands { stands self.old }
+        ensures stands { stands self.new }
         ensures of { of self.new ≡ of self.old }
         ensures told { HeadTold (seen self.old) (seen self.new) result }
         ensures knows { KnowsOwn (of self.old).number (seen self.new) }

@@ -21,6 +21,9 @@ pub trait SessionDesk {
 
     ghost room: { Self → ℕ };
 
+    /// What holds of the desk between two lines.
+    ghost stands: { Self → Type 0 };
+
     /// Two states of one desk that agree in all that no call of it changes.
     ghost rests: { Self → Self → Type 0 };
 
@@ -29,6 +32,8 @@ pub trait SessionDesk {
         requires fits { CommandFits (2 ^ (of self.old).plan.side) (of self.old).models l.command }
         requires earlier { AreEarlier (seen self.old) l.line }
         requires room { saves_asked l.command ≤ room self.old }
+        requires stands { stands self.old }
+        ensures stands { stands self.new }
         ensures of { of self.new ≡ of self.old }
         ensures takes { AnswersLine (of self.old) l (seen self.old) (seen self.new) result }
         ensures saved { saved self.new

@@ -19,6 +19,8 @@ pub fn answer_line<C: SessionCalls>(calls: &mut C, l: ScriptLine) -> LineAnswer
     requires fits { CommandFits (2 ^ (C.of calls.old).plan.side) (C.of calls.old).models l.command }
     requires earlier { AreEarlier (C.seen calls.old) l.line }
     requires room { saves_asked l.command ≤ C.room calls.old }
+    requires stands { C.stands calls.old }
+    ensures stands { C.stands calls.new }
     ensures of { C.of calls.new ≡ C.of calls.old }
     ensures takes { AnswersLine (C.of calls.old) l (C.seen calls.old) (C.seen calls.new) result }
     ensures saved { C.saved calls.new

@@ -16,6 +16,8 @@ pub fn run_lines<D: SessionDesk>(desk: &mut D, lines: &[ScriptLine], answers: &m
     requires idle { DidNothing (D.seen desk.old) }
     requires room { vec_len answers.old + length lines.now ≤ vec_capacity answers.old }
     requires saves { saves_asked_in lines.now ≤ D.room desk.old }
+    requires stands { D.stands desk.old }
+    ensures stands { D.stands desk.new }
     ensures of { D.of desk.new ≡ D.of desk.old }
     ensures ran { RunsScript (D.of desk.old) lines.now answers.old.items answers.new.items
         (D.seen desk.old) (D.seen desk.new) (D.saved desk.old) (D.saved desk.new) }

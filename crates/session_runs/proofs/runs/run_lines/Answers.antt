@@ -11,6 +11,7 @@ loop-line-init g c = record {
   len = omega arith;
   capacity = refl;
   saves = (let s = c.requires.saves in omega arith);
+  stands = c.requires.stands;
   rests = g.met.D.SessionDesk.rests_itself _;
 }
 
@@ -39,6 +40,7 @@ loop-line-preserved g c =
           c.answer-answer.ensures.saved c.push_reserved.ensures.items;
       len = omega arith;
       saves = (let room = c.answer-answer.ensures.room in let was = c.loop-line.invariant.saves in let next = asked_next c.args.lines.now c.loop-line.line-index c.line-item.result c.loop-line-test.true c.line-item.is in omega arith);
+      stands = c.answer-answer.ensures.stands;
       rests = g.met.D.SessionDesk.rests_on _ _ _ c.loop-line.invariant.rests c.answer-answer.ensures.rests;
       capacity = c.push_reserved.ensures.capacity ∙ c.loop-line.invariant.capacity;
     }

@@ -10,5 +10,6 @@ invariant-loop-line g l = record {
   len : vec_len l.answers ≡ vec_len l.fn.answers + l.line-index;
   capacity : vec_capacity l.answers ≡ vec_capacity l.fn.answers;
   saves : saves_asked_in l.lines ≤ g.D.SessionDesk.room l.desk + saves_asked_in (take l.line-index l.lines);
+  stands : g.D.SessionDesk.stands l.desk;
   rests : g.D.SessionDesk.rests l.fn.desk l.desk;
 }
