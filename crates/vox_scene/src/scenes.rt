@@ -1,5 +1,5 @@
 //! The scene of a file.
-ghost use Rattle.std.specs.Prelude.{◌≡◌, ◌≤◌, ◌<◌, ◌+◌, ◌++◌, ◌^◌, pos, ◌+ℤ◌, ◌≤ℤ◌, List, length, map, take, All, IfOk, IfErr, IfSome, OnOk, OnErr, MatchOption, Ok};
+ghost use Rattle.std.specs.Prelude.{◌≡◌, ◌≤◌, ◌<◌, ◌+◌, ◌++◌, ◌^◌, pos, ◌+ℤ◌, ◌≤ℤ◌, List, length, map, take, All, IfOk, IfErr, IfSome, IsTrue, OnOk, OnErr, MatchOption, Ok};
 ghost use Rattle.std.specs.List.{AllZip};
 ghost use Rattle.vox_read.specs.Contents.{Content, AreModels};
 ghost use Rattle.vox_read.specs.Files.{HasModels};
@@ -58,6 +58,7 @@ pub fn read_scene(alloc: Global, bytes: &[u8]) -> Result<Scene, SceneFault>
     requires short { length bytes.now ≤ 2 ^ 28 }
     requires accepted { (models : List Content) × HasModels bytes.now models }
     ensures read { IfOk result (λ scene. HasScene bytes.now scene) }
+    ensures short { IfOk result (λ scene. 20 + chunks_length scene.models ≤ 2 ^ 28) }
     ensures refused { IfErr result (λ fault. RefusesScene fault bytes.now) }
 {
     // what can be read is refused for want of memory alone
@@ -102,9 +103,11 @@ fn scene_of(alloc: Global, models: &Models, standing: &[Standing]) -> Result<Opt
     requires models { AreModels models.now }
     requires few { length standing.now ≤ 1024 }
     requires sound { All IsSound (map (stand_at models.now) standing.now) }
-    ensures { IfOk result (λ found. MatchOption found
+    ensures scene { IfOk result (λ found. MatchOption found
         (HasLarge (map (stand_at models.now) standing.now))
         (λ scene. IsSceneOf (map (stand_at models.now) standing.now) scene)) }
+    ensures short { IfOk result
+        (λ found. IfSome found (λ scene. 20 + chunks_length scene.models ≤ 2 ^ 28)) }
 {
     let least = least_corner(standing);
     let Some(exponent) = least_side(models, &least, standing) else {
@@ -115,12 +118,34 @@ fn scene_of(alloc: Global, models: &Models, standing: &[Standing]) -> Result<Opt
     }
     let side = side_of(exponent);
     let list = turned_all(alloc, models, standing)?;
+    // the length was counted by cells; were this one greater, it would be told as want of memory
+    if !is_short(list.as_slice()) {
+        return Err(Memory);
+    }
     let places = places_of(alloc, models, &least, standing)?;
     Ok(Some(Scene {
         side,
         models: Models { list },
         places,
     }))
+}
+
+// Whether the file of these models has at most 2^28 bytes.
+fn is_short(models: &[vox_read::Model]) -> bool
+    ensures { IsTrue result → 20 + chunks_length models.now ≤ 2 ^ 28 }
+{
+    let mut length: usize = 20;
+    for model in models {
+        let voxels = model.voxels.len();
+        if voxels > 1 << 26 {
+            return false;
+        }
+        length += 40 + 4 * voxels;
+        if length > 1 << 28 {
+            return false;
+        }
+    }
+    true
 }
 
 // The side of this exponent.
