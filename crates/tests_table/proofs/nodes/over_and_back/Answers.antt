@@ -76,3 +76,17 @@ returns-in-Err-clause-given g c = λ t held root.
     subst (λ (ts : List Tree). Gains z t ts) r.meets.held
     (c.back_first.ensures.gone t n first root
     (subst (λ (ts : List Tree). MayHold ts t) (sym r.meets.held) (may_be v t n held root))))
+
+pub returns-in-Ok-clause-log : goal.returns-in-Ok-clause-log
+returns-in-Ok-clause-log g c =
+    let h = c.requires.held in
+    c.back.ensures.only.log
+    ∙ (c.in-Ok.ensures.taken (first_row h.tree)
+    (first_held c.args.pass.now.view.held h.tree c.args.leaf h.is_held h.root)).log
+
+pub returns-in-Err-clause-log : goal.returns-in-Err-clause-log
+returns-in-Err-clause-log g c =
+    let h = c.requires.held in
+    c.back_first.ensures.log
+    ∙ (c.in-Err.ensures.taken (first_row h.tree)
+    (first_held c.args.pass.now.view.held h.tree c.args.leaf h.is_held h.root)).log
