@@ -1,0 +1,178 @@
+-- What is asked of a version that is pinned.
+use Rattle.std.proofs.Common.{◌≡◌, ◌⊎◌, ◌-◌, ◌^◌, ◌≤◌, ℕ, Option, Some, None, List, inl, inr, refl, sym, ◌∙◌, ap, subst, arith}
+use Rattle.vox_read.specs.Contents.{Content}
+use Rattle.history_model.specs.Moments.{world_has}
+use Rattle.history_model.specs.Worlds.{World}
+use Rattle.history_model.specs.declared.questions.Question.{Question}
+use Rattle.transcript.specs.declared.answers.Answer.{Answer}
+use Rattle.node_shapes.proofs.WeightLaws.{weight_of-one, weight_of-there}
+use Rattle.node_shapes.specs.declared.names.Name.{Name}
+use Rattle.node_shapes.specs.Tree.{Tree, Gone, LeafAt, NodeAt, root_of}
+use Rattle.node_shapes.specs.Weights.{number_of_trees}
+use Rattle.node_words.specs.Gathering.{MayHold}
+use Rattle.node_words.specs.Held.{IsHeld, OnlyHeldChanges, Seen}
+use Rattle.block_walk.specs.Roots as walks
+use Rattle.edit_cells.specs.Worlds.{ShowsWorld}
+use Rattle.conformance.specs.Answers.{asked_version}
+use Rattle.conformance.specs.Telling.{Tells}
+use Rattle.world_answers.specs.TellsRoots.{TellsRoot}
+use Rattle.table_rule.specs.LogTelling.{seen_has}
+use Rattle.table_rule.specs.Views.{SeatView, seen_of}
+use Rattle.version_log.specs.Pins.{PinsVersion, version_asked}
+use Rattle.version_log.specs.Roots.{GetsRoot, HoldsRootOf}
+use Rattle.version_log.specs.Seeing.{IsDated, LooksOn}
+use Rattle.version_log.specs.Pins.{RefusesPin}
+use Rattle.version_log.specs.declared.pinned.Pinned.{Pinned}
+use Rattle.version_answers.specs.declared.refusals.PinRefused.{PinRefused}
+use Rattle.version_answers.specs.declared.refusals.PinRefused.TheVariants.{NoVersion, Forgotten}
+use Rattle.session_runs.specs.Calls.{FindsVersion}
+use Rattle.session_runs.specs.Seen.{SessionSeen}
+use Rattle.session_runs.specs.Told.{WasAsked, PinIsRefused}
+use Rattle.hands.specs.Lendable.{StaysLendable}
+use Rattle.node_words.specs.Plans.{Layout}
+use Rattle.table_rule.specs.LogViews.{LogView}
+use Rattle.table_rule.specs.Telling.{ViewTells}
+use Rattle.node_table.specs.Seen.{TableSeen, PassSeen}
+use Rattle.session.specs.Resting.{IsAtRest}
+use Rattle.session.specs.Seen.{KnowsItself, of_world, session_seen}
+use Rattle.session.proofs.ForgetLaws.{same_seen}
+use Rattle.session.proofs.SameLaws.{finds}
+use Rattle.session.proofs.SeenLaws.{knows_itself, models_stay, only_sees}
+
+-- what may be held is no node, or is held
+pub held_or_gone : (held : List Tree) (t : Tree) → MayHold held t → (t ≡ Gone) ⊎ IsHeld held t
+held_or_gone held Gone may = inl refl
+held_or_gone held (LeafAt n bits) may =
+    inr (record {
+      weighs = λ f.
+          (let e = weight_of-there f (LeafAt n bits) n refl in let l = may.weighs f in
+          omega (arith, e, l));
+    })
+held_or_gone held (NodeAt n a b c d e f g h) may =
+    inr (record {
+      weighs = λ w.
+          (let s = weight_of-there w (NodeAt n a b c d e f g h) n refl in let l = may.weighs w in
+          omega (arith, s, l));
+    })
+
+named_held : (held : List Tree) (t : Tree) (n : Name) → MayHold held t → root_of t ≡ Some n
+    → IsHeld held t
+named_held held t n may e = elim (held_or_gone held t may) [
+  | inl gone ↦ absurd (let bad : None ≡ Some n = ap root_of (sym gone) ∙ e in cc)
+  | inr there ↦ there
+]
+
+-- a root that is pinned may be walked, and shows the version's cells
+pub may_walk : (v : SeatView) (root : Option Name) (cells : World) → HoldsRootOf v root cells
+    → walks.HoldsRoot v.held v.plan.side root
+may_walk v None cells h = tt
+may_walk v (Some n) cells h = (
+  record { tree = h.tree; is_held = named_held v.held h.tree n h.held h.name; root = h.name },
+  h.level n refl,
+)
+
+pub shows_world : (v : SeatView) (root : Option Name) (cells : World) → HoldsRootOf v root cells
+    → ShowsWorld v.held (v.plan.side - 2) root cells
+shows_world v root cells h = record {
+  tree = h.tree;
+  is_root = record {
+    root = h.name;
+    is_held = λ n e. named_held v.held h.tree n h.held (h.name ∙ e);
+    at = h.level;
+  };
+  shows = h.shows;
+}
+
+pub asked_as : (asked : Option ℕ) (n : ℕ) → version_asked asked n ≡ asked_version asked n
+asked_as None n = refl
+asked_as (Some version) n = refl
+
+-- why nothing is told
+pub refused : (asked : Option ℕ) (v w : SeatView) (e : PinRefused) → LooksOn v w → RefusesPin asked e w
+    → PinIsRefused asked (session_seen v) (session_seen w) e
+refused None v w (NoVersion at) looks is = absurd (let l = is.1 in omega arith)
+refused (Some u) v w (NoVersion at) looks is =
+    record { at_is = is.0; only = only_sees v w looks; named = u; is = refl; over = is.1 }
+refused None v w (Forgotten at mark) looks is =
+    absurd (let here = is.0 in let low = is.1.later.0 in let high = is.1.later.1 in omega arith)
+refused (Some u) v w (Forgotten at mark) looks is =
+    record {
+      at_is = is.0;
+      only = only_sees v w looks;
+      is = ap Some (sym is.1.is);
+      listed = is.1.marked;
+    }
+
+-- few shares are held while the root is
+pub few_pinned : (v w : SeatView) (x : SeatView) (root : Option Name) → GetsRoot v.held root w.held
+    → seen_of x ≡ seen_of w → number_of_trees v.held ≤ 3900 → number_of_trees x.held ≤ 4008
+few_pinned v w x root gains same few =
+    let e = gains.loses.weighs (λ _. 1) in
+    let one = weight_of-one gains.tree in
+    let held = ap (λ (s : Seen). number_of_trees s.held) same in
+    omega arith
+
+module _ (t : TableSeen) (number : ℕ) (asked : Option ℕ) (question : Question) (v w : PassSeen)
+    (p : Pinned) (answer : Answer) (r : IsAtRest t v) (looks : LooksOn v.view w.view)
+    (is : PinsVersion v.view asked p w.view) (root : Option Name) (same : root ≡ p.root)
+    (tells : TellsRoot w.view.held t.plan.side root question answer) where
+  version_is : p.version ≡ asked_version asked p.moment
+  version_is = is.version ∙ asked_as asked p.moment
+
+  plan_side : w.view.plan.side ≡ t.plan.side
+  plan_side = ap (λ (l : Layout). l.side) (looks.session.plan ∙ r.of.plan)
+
+  tells_version : Tells (2 ^ t.plan.side) (seen_has w.view p.version) question answer
+  tells_version =
+      subst (λ (x : Option Name). TellsRoot w.view.held t.plan.side x question answer) same tells
+      (seen_has w.view p.version)
+      (subst (λ (n : ℕ). ShowsWorld w.view.held (n - 2) p.root (seen_has w.view p.version)) plan_side
+      (shows_world w.view p.root (seen_has w.view p.version) is.pinned.root))
+
+  asked_here : WasAsked (of_world t number) asked question (session_seen v.view) (session_seen w.view)
+      (record { at = p.moment; answer = answer })
+  asked_here = record {
+    at_is = is.moment;
+    only = only_sees v.view w.view looks;
+    finds = subst (λ (u : ℕ). FindsVersion (session_seen w.view) u) version_is
+        (finds w.view p.version p.moment is.moment (record {
+          there = is.pinned.version;
+          unmarked = is.unmarked;
+          found = is.pinned.found;
+        }));
+    tells = subst (λ (n : ℕ). Tells (2 ^ n) (world_has t.models w.view.log.seen.records
+        (asked_version asked p.moment)) question answer) (sym (looks.sees.side ∙ r.side))
+        (subst (λ (ms : List Content). Tells (2 ^ t.plan.side) (world_has ms
+        w.view.log.seen.records (asked_version asked p.moment)) question answer)
+        (models_stay t v w r looks)
+        (subst (λ (u : ℕ). Tells (2 ^ t.plan.side) (seen_has w.view u) question answer)
+        version_is tells_version));
+  }
+
+  pub asked_told : (x z : PassSeen) → StaysLendable t w x → seen_of x.view ≡ seen_of w.view
+      → StaysLendable t x z → OnlyHeldChanges (seen_of x.view) (seen_of z.view)
+      → WasAsked (of_world t number) asked question (session_seen v.view) (session_seen z.view)
+      (record { at = p.moment; answer = answer })
+  asked_told x z read seen back only =
+      subst (λ (s : SessionSeen). WasAsked (of_world t number) asked question (session_seen v.view) s
+      (record { at = p.moment; answer = answer }))
+      (sym (same_seen w.view z.view (back.log ∙ read.log)
+      (only.made ∙ ap (λ (s : Seen). s.made) seen) (only.met ∙ ap (λ (s : Seen). s.met) seen)))
+      asked_here
+
+  pub knows_asked : (x z : PassSeen) → StaysLendable t w x → StaysLendable t x z → ViewTells z.view
+      → KnowsItself z.view
+  knows_asked x z read back view_tells =
+      knows_itself z.view view_tells
+      (ap (λ (l : LogView). l.taken) (back.log ∙ read.log) ∙ looks.sees.taken ∙ r.alone)
+      (subst (λ (l : LogView). IsDated l.seen) (sym (back.log ∙ read.log))
+      (looks.sees.dated r.dated))
+
+pub may_walk_as : (t : TableSeen) (v w : PassSeen) (asked : Option ℕ) (p : Pinned)
+    (root : Option Name) → root ≡ p.root → IsAtRest t v → LooksOn v.view w.view
+    → PinsVersion v.view asked p w.view → walks.HoldsRoot w.view.held t.plan.side root
+may_walk_as t v w asked p root same r looks is =
+    subst (λ (x : Option Name). walks.HoldsRoot w.view.held t.plan.side x) (sym same)
+    (subst (λ (n : ℕ). walks.HoldsRoot w.view.held n p.root)
+    (ap (λ (l : Layout). l.side) (looks.session.plan ∙ r.of.plan))
+    (may_walk w.view p.root (seen_has w.view p.version) is.pinned.root))

@@ -1,0 +1,6 @@
+mod AskLaws
+mod BeginLaws
+mod ForgetLaws
+mod PinLaws
+mod SameLaws
+mod SeenLaws

@@ -1,0 +1,14 @@
+use Rattle.std.proofs.Common.{rules}
+use Rattle.session.proofs.PinLaws.{rests_lent}
+use Rattle.session.proofs.ForgetLaws.{same_seen}
+use Rattle.session.proofs.world.World.give_root.Goals as goal
+
+pub returns-clause-rest : goal.returns-clause-rest
+returns-clause-rest g c =
+    rests_lent c.args.self.now _ c.args.s.now c.give_back.new.session (search rules)
+    c.requires.rest c.give_back.ensures.stays
+
+pub returns-clause-seen : goal.returns-clause-seen
+returns-clause-seen g c =
+    same_seen c.args.s.now.view c.give_back.new.session.view c.give_back.ensures.stays.log
+    c.give_back.ensures.only.made c.give_back.ensures.only.met

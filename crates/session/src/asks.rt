@@ -1,0 +1,109 @@
+//! What is asked of a version.
+ghost use Rattle.std.specs.Prelude.{◌≡◌, ◌≤◌, ◌^◌, ℕ, option_copied};
+ghost use Rattle.node_shapes.specs.Weights.{number_of_trees};
+ghost use Rattle.block_walk.specs.Roots.{HoldsRoot};
+ghost use Rattle.node_words.specs.Held.{SameHeld};
+ghost use Rattle.table_rule.specs.Views.{seen_of};
+ghost use Rattle.hands.specs.Lendable.{IsLendable, StaysLendable};
+ghost use Rattle.node_table.specs.Seen.{SamePass};
+ghost use Rattle.script.specs.Fitting.{QuestionFits};
+ghost use Rattle.conformance.specs.Telling.{Tells};
+ghost use Rattle.table_rule.specs.LogTelling.{seen_has};
+ghost use Rattle.version_log.specs.declared.pinned.Pinned.{Pinned};
+ghost use Rattle.version_log.specs.Pins.{IsPinned};
+ghost use Rattle.session_runs.specs.Told.{AskTold};
+ghost use Rattle.world_answers.specs.TellsRoots.{TellsRoot};
+ghost use Rattle.session.specs.Resting.{IsAtRest};
+ghost use Rattle.session.specs.Seen.{KnowsItself, of_world, session_seen};
+
+use crate::world::{Session, World};
+use hands::Hand;
+use history_model::Question;
+use node_words::{Share, Steps};
+use session_runs::AskedAt;
+use std::sync::Wait;
+use std::sync::ledger::Ledger;
+use transcript::Answer;
+use version_log::{PinRefused, Pinned};
+
+impl<'m> World<'m> {
+    // What is asked of a root that the session holds. It takes no turn and waits for nobody.
+    pub(crate) fn tell_root(
+        &self,
+        s: &mut Session,
+        root: Option<&Share>,
+        question: Question,
+    ) -> Answer
+        requires ready { IsLendable self.now s.old }
+        requires root { HoldsRoot s.old.view.held self.now.plan.side (option_copied root) }
+        requires fits { QuestionFits (2 ^ self.now.plan.side) question }
+        ensures stays { StaysLendable self.now s.old s.new }
+        ensures tells { TellsRoot s.old.view.held self.now.plan.side (option_copied root.entry)
+            question result }
+        ensures seen { seen_of s.new.view ≡ seen_of s.old.view }
+    {
+        let side = self.table.plan().side();
+        let mut hand = Hand::new(&(), &self.table, s);
+        world_answers::tell(&mut hand, root, side, question)
+    }
+
+    /// The answer to a question about a version that is pinned. It takes no turn, and waits for
+    /// nobody.
+    pub fn ask(&self, s: &mut Session, p: &Pinned, question: &Question) -> Answer
+        requires rest { IsAtRest self.now s.old }
+        requires pinned { IsPinned s.old.view p.now }
+        requires fits { QuestionFits (2 ^ self.now.plan.side) question.now }
+        ensures rest { IsAtRest self.now s.new }
+        ensures same { SamePass s.old s.new }
+        ensures held { s.new.view.held ≡ s.old.view.held }
+        ensures seen { session_seen s.new.view ≡ session_seen s.old.view }
+        ensures tells { Tells (2 ^ self.now.plan.side) (seen_has s.old.view p.now.version)
+            question.now result }
+        ensures pinned { (q : Pinned) → IsPinned s.old.view q → IsPinned s.new.view q }
+        ensures knows { KnowsItself s.new.view }
+    {
+        let answer = self.tell_root(s, p.root.as_ref(), *question);
+        s.tell();
+        answer
+    }
+
+    /// Answers the question about this version, or about the newest. The version is pinned while
+    /// its root is walked.
+    pub fn ask_version<R: Wait, L: Ledger>(
+        &self,
+        rt: &R,
+        s: &mut Session,
+        version: Option<u32>,
+        question: Question,
+        steps: &mut Steps<L>,
+    ) -> Result<AskedAt, PinRefused>
+        requires rest { IsAtRest self.now s.old }
+        requires fits { QuestionFits (2 ^ self.now.plan.side) question }
+        requires room { number_of_trees s.old.view.held ≤ 3900 }
+        ensures rest { IsAtRest self.now s.new }
+        ensures same { SamePass s.old s.new }
+        ensures held { SameHeld s.old.view.held s.new.view.held }
+        ensures told { (number : ℕ) → AskTold (of_world self.now number) version question
+            (session_seen s.old.view) (session_seen s.new.view) result }
+        ensures knows { KnowsItself s.new.view }
+    {
+        match version_log::pin(rt, &self.table, s, version, steps) {
+            Ok(
+                Pinned {
+                    version: _,
+                    moment,
+                    root,
+                },
+            ) => {
+                let answer = self.tell_root(s, root.as_ref(), question);
+                self.give_back(rt, s, root, steps);
+                s.tell();
+                Ok(AskedAt { at: moment, answer })
+            }
+            Err(refused) => {
+                s.tell();
+                Err(refused)
+            }
+        }
+    }
+}

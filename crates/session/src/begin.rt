@@ -1,0 +1,39 @@
+//! A world is begun.
+ghost use Rattle.std.specs.Prelude.{◌≡◌, ◌≤◌, All, IfOk, vec_len};
+ghost use Rattle.vox_read.specs.Contents.{AreModels};
+ghost use Rattle.node_table.specs.Begins.{AreNewPasses, terms_of};
+ghost use Rattle.session.specs.Resting.{IsAtRest};
+
+use crate::world::{Session, World};
+use act_rebuilds::draw_models;
+use node_table::NodeTable;
+use node_words::Plan;
+use std::alloc::Global;
+use vox_read::Models;
+use vw_cell::Memory;
+
+impl<'m> World<'m> {
+    /// An empty world with these models, and its sessions, numbered from 0 up.
+    pub fn begin(
+        alloc: Global,
+        plan: &Plan,
+        models: &'m Models,
+        sessions: u16,
+    ) -> Result<(World<'m>, Vec<Session>), Memory>
+        requires sessions { (1 ≤ sessions) × (sessions ≤ 64) }
+        requires models { AreModels models.now }
+        ensures world { IfOk result (λ r. (r.0.plan ≡ plan.now) × (r.0.models ≡ models.now)) }
+        ensures made { IfOk result (λ r. (r.0.made ≡ sessions) × (vec_len r.1 ≡ sessions)) }
+        ensures new { IfOk result (λ r. AreNewPasses r.0.id (terms_of r.0) r.1.items) }
+        ensures rest { IfOk result (λ r. All (IsAtRest r.0) r.1.items) }
+    {
+        let drawn = draw_models(alloc, models)?;
+        let (table, sessions) = NodeTable::begin(alloc, plan, models, sessions)?;
+        let world = World {
+            table,
+            drawn,
+            models,
+        };
+        Ok((world, sessions))
+    }
+}

@@ -1,0 +1,69 @@
+//! Versions are forgotten.
+ghost use Rattle.std.specs.Prelude.{◌≡◌, ◌≤◌, ◌∷◌, [], ℕ};
+ghost use Rattle.node_shapes.specs.Weights.{number_of_trees};
+ghost use Rattle.edit_blocks.specs.Blocks.{GoesBack, MayGoBack};
+ghost use Rattle.node_words.specs.Held.{OnlyHeldChanges, SameHeld};
+ghost use Rattle.table_rule.specs.Views.{seen_of};
+ghost use Rattle.hands.specs.Lendable.{IsLendable, StaysLendable};
+ghost use Rattle.node_table.specs.Seen.{SamePass};
+ghost use Rattle.session_runs.specs.Told.{ForgetTold};
+ghost use Rattle.session.specs.Resting.{IsAtRest};
+ghost use Rattle.session.specs.Seen.{KnowsItself, of_world, session_seen};
+
+use crate::world::{Session, World};
+use node_words::{Share, Steps};
+use std::sync::Wait;
+use std::sync::ledger::Ledger;
+use version_log::ForgetRefused;
+
+impl<'m> World<'m> {
+    // Gives back what may be a root.
+    pub(crate) fn give_back<R: Wait, L: Ledger>(
+        &self,
+        rt: &R,
+        s: &mut Session,
+        root: Option<Share>,
+        steps: &mut Steps<L>,
+    )
+        requires ready { IsLendable self.now s.old }
+        requires held { MayGoBack s.old.view.held root }
+        requires room { number_of_trees s.old.view.held ≤ 4008 }
+        ensures stays { StaysLendable self.now s.old s.new }
+        ensures gone { GoesBack root s.old.view.held s.new.view.held }
+        ensures only { OnlyHeldChanges (seen_of s.old.view) (seen_of s.new.view) }
+    {
+        hands::give_back(rt, &self.table, s, root, steps);
+    }
+
+    /// Forgets the version, by this line. The log's share of its root is given back.
+    pub fn forget<R: Wait, L: Ledger>(
+        &self,
+        rt: &R,
+        s: &mut Session,
+        line: u32,
+        version: u32,
+        steps: &mut Steps<L>,
+    ) -> Result<u32, ForgetRefused>
+        requires rest { IsAtRest self.now s.old }
+        requires room { number_of_trees s.old.view.held ≤ 3900 }
+        ensures rest { IsAtRest self.now s.new }
+        ensures same { SamePass s.old s.new }
+        ensures held { SameHeld s.old.view.held s.new.view.held }
+        ensures told { (number : ℕ) → s.old.view.numbers ≡ number ∷ [] → ForgetTold
+            (of_world self.now number) line version (session_seen s.old.view)
+            (session_seen s.new.view) result }
+        ensures knows { KnowsItself s.new.view }
+    {
+        match version_log::forget(rt, &self.table, s, version, line) {
+            Ok(version_log::Forgot { at, root }) => {
+                self.give_back(rt, s, root, steps);
+                s.tell();
+                Ok(at)
+            }
+            Err(refused) => {
+                s.tell();
+                Err(refused)
+            }
+        }
+    }
+}

@@ -1,0 +1,12 @@
+//! A world that many sessions edit and read at the same time, with one history of all of them.
+#![tactic(auto)]
+
+mod asks;
+mod begin;
+mod forgets;
+mod heads;
+mod pins;
+mod sames;
+mod world;
+
+pub use world::{Session, World};

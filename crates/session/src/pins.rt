@@ -1,0 +1,86 @@
+//! Versions that are pinned, and what goes back.
+ghost use Rattle.std.specs.Prelude.{◌≡◌, ◌≤◌, IfOk, IfErr};
+ghost use Rattle.node_shapes.specs.Weights.{number_of_trees};
+ghost use Rattle.edit_blocks.specs.Blocks.{GoesBack, MayGoBack};
+ghost use Rattle.node_table.specs.Seen.{SamePass};
+ghost use Rattle.version_log.specs.Pins.{IsPinned, PinsVersion, RefusesPin};
+ghost use Rattle.version_log.specs.Seeing.{LooksOn};
+ghost use Rattle.session.specs.Resting.{IsAtRest};
+ghost use Rattle.session.specs.Seen.{KnowsItself, session_seen};
+
+use crate::world::{Session, World};
+use hands::give_back;
+use node_words::{Share, Steps};
+use std::sync::Wait;
+use std::sync::ledger::Ledger;
+use version_log::{PinRefused, Pinned};
+
+impl<'m> World<'m> {
+    /// Pins this version, or the newest: it is kept as long as it isn't given back by `unpin`.
+    pub fn pin<R: Wait, L: Ledger>(
+        &self,
+        rt: &R,
+        s: &mut Session,
+        version: Option<u32>,
+        steps: &mut Steps<L>,
+    ) -> Result<Pinned, PinRefused>
+        requires rest { IsAtRest self.now s.old }
+        requires room { number_of_trees s.old.view.held ≤ 3900 }
+        ensures rest { IsAtRest self.now s.new }
+        ensures same { SamePass s.old s.new }
+        ensures looks { LooksOn s.old.view s.new.view }
+        ensures pinned { IfOk result (λ p. PinsVersion s.old.view version p s.new.view) }
+        ensures refused { IfErr result (λ e. RefusesPin version e s.new.view) }
+        ensures kept { IfErr result (λ e. s.new.view.held ≡ s.old.view.held) }
+        ensures knows { KnowsItself s.new.view }
+    {
+        let answer = version_log::pin(rt, &self.table, s, version, steps);
+        s.tell();
+        answer
+    }
+
+    /// Gives back what was pinned.
+    pub fn unpin<R: Wait, L: Ledger>(
+        &self,
+        rt: &R,
+        s: &mut Session,
+        p: Pinned,
+        steps: &mut Steps<L>,
+    )
+        requires rest { IsAtRest self.now s.old }
+        requires pinned { IsPinned s.old.view p }
+        requires room { number_of_trees s.old.view.held ≤ 3901 }
+        ensures rest { IsAtRest self.now s.new }
+        ensures same { SamePass s.old s.new }
+        ensures seen { session_seen s.new.view ≡ session_seen s.old.view }
+        ensures gone { GoesBack p.root s.old.view.held s.new.view.held }
+        ensures knows { KnowsItself s.new.view }
+    {
+        let Pinned {
+            version: _,
+            moment: _,
+            root,
+        } = p;
+        self.give_root(rt, s, root, steps);
+        s.tell();
+    }
+
+    // Gives back what may be a root.
+    pub(crate) fn give_root<R: Wait, L: Ledger>(
+        &self,
+        rt: &R,
+        s: &mut Session,
+        root: Option<Share>,
+        steps: &mut Steps<L>,
+    )
+        requires rest { IsAtRest self.now s.old }
+        requires held { MayGoBack s.old.view.held root }
+        requires room { number_of_trees s.old.view.held ≤ 4008 }
+        ensures rest { IsAtRest self.now s.new }
+        ensures same { SamePass s.old s.new }
+        ensures seen { session_seen s.new.view ≡ session_seen s.old.view }
+        ensures gone { GoesBack root s.old.view.held s.new.view.held }
+    {
+        give_back(rt, &self.table, s, root, steps);
+    }
+}

@@ -1,0 +1,53 @@
+ghost use Rattle.std.specs.Prelude.{◌≡◌, ◌↔◌, ◌^◌, IsTrue};
+ghost use Rattle.history_model.specs.Logs.{FitsWorld};
+
+use act_rebuilds::DrawnModel;
+use history_model::Act;
+use node_table::{NodeTable, Pass};
+use node_words::Plan;
+use std::marker::Model;
+use vox_read::Models;
+
+/// Who works on a world.
+pub type Session = Pass;
+
+/// A world that many sessions edit and read at the same time, and its models as stencils.
+///
+/// Contracts see it as its table, which has its models too.
+#[derive(Drop)]
+pub struct World<'m> {
+    pub(crate) table: NodeTable,
+    pub(crate) drawn: Vec<DrawnModel<'m>>,
+    pub(crate) models: &'m Models,
+}
+
+impl<'m> Model for World<'m> {
+    ghost use Rattle.std.specs.Coded.{codes};
+    ghost use Rattle.std.specs.Prelude.{◌≡◌};
+    ghost use Rattle.atomic_table.specs.Seated.{table_id_coded};
+    ghost use Rattle.node_table.specs.Seen.{TableSeen};
+
+    ghost Value = { TableSeen };
+
+    ghost coded = { Prim.hlevel (codes, table_id_coded) };
+
+    ghost view = { λ w. w.table };
+
+    ghost invariant = { λ w. (w.drawn.items ≡ w.table.models) × (w.models.now ≡ w.table.models) };
+}
+
+impl<'m> World<'m> {
+    /// How the world is laid out.
+    pub fn plan(&self) -> Plan
+        ensures value { result ≡ self.now.plan }
+    {
+        self.table.plan()
+    }
+
+    /// Whether the act lies in this world, and its model is one of the world's.
+    pub fn fits(&self, act: &Act) -> bool
+        ensures { IsTrue result ↔ FitsWorld (2 ^ self.now.plan.side) self.now.models act.now }
+    {
+        act.fits(self.table.plan().side(), self.models)
+    }
+}
