@@ -1,6 +1,11 @@
 mod AskLaws
+mod AttemptLaws
 mod BeginLaws
+mod CommitLaws
+mod EditLaws
 mod ForgetLaws
+mod MakeLaws
 mod PinLaws
 mod SameLaws
 mod SeenLaws
+mod WorkLaws

@@ -1,19 +1,13 @@
 -- Versions that are pinned: their roots are walked, and they stay pinned.
-use Rattle.std.proofs.Common.{◌≡◌, ◌-◌, ◌^◌, ◌≤◌, ◌∙◌, ℕ, Option, Some, length, sym, ap, subst, arith}
+use Rattle.std.proofs.Common.{◌≡◌, ◌-◌, ◌^◌, ◌≤◌, ℕ, Option, length, sym, ap, subst, arith}
 use Rattle.std.specs.List.{Contains}
-use Rattle.history_model.specs.Moments.{world_has}
-use Rattle.history_model.specs.Worlds.{World}
 use Rattle.history_model.specs.declared.questions.Question.{Question}
 use Rattle.transcript.specs.declared.answers.Answer.{Answer}
 use Rattle.conformance.specs.Telling.{Tells}
 use Rattle.node_shapes.specs.declared.names.Name.{Name}
 use Rattle.node_shapes.specs.Weights.{weigh}
-use Rattle.node_shapes.specs.Shape.{ShowsCells}
-use Rattle.node_shapes.specs.Tree.{shape_of}
-use Rattle.node_words.specs.Gathering.{MayHold}
 use Rattle.node_words.specs.Held.{Seen}
 use Rattle.node_words.specs.Plans.{Layout}
-use Rattle.block_contents.specs.Aligned.{top, world_block}
 use Rattle.edit_blocks.specs.Blocks.{MayGoBack}
 use Rattle.block_walk.specs.Roots as walks
 use Rattle.edit_cells.specs.Worlds.{ShowsWorld}
@@ -21,49 +15,13 @@ use Rattle.world_answers.specs.TellsRoots.{TellsRoot}
 use Rattle.table_rule.specs.LogTelling.{number_seen, seen_has}
 use Rattle.table_rule.specs.LogViews.{LogView}
 use Rattle.table_rule.specs.Views.{SeatView, seen_of}
-use Rattle.node_table.specs.Seen.{TableSeen, PassSeen, BelongsTo}
+use Rattle.node_table.specs.Seen.{TableSeen, PassSeen}
 use Rattle.version_log.specs.declared.pinned.Pinned.{Pinned}
 use Rattle.version_log.specs.Pins.{IsPinned}
-use Rattle.version_log.specs.Roots.{HoldsRootOf}
-use Rattle.version_log.specs.Seeing.{IsDated}
 use Rattle.hands.specs.Lendable.{StaysLendable}
 use Rattle.session.specs.Resting.{IsAtRest}
 use Rattle.session.proofs.AskLaws.{may_walk, shows_world}
-
--- a session that may be lent again and knows the same of the log is at rest again; the table is the
--- world's
-pub rests_lent : (t u : TableSeen) (v w : PassSeen) → u ≡ t → IsAtRest t v → StaysLendable u v w
-    → IsAtRest t w
-rests_lent t u v w same r stays =
-    record {
-      of = subst (λ (x : TableSeen). BelongsTo x w) same stays.ready.of;
-      idle = record {
-        bucket = stays.ready.idle;
-        log = ap (λ (l : LogView). l.turn) stays.log ∙ r.idle.log;
-      };
-      alone = ap (λ (l : LogView). l.taken) stays.log ∙ r.alone;
-      side = ap (λ (l : LogView). l.seen.side) stays.log ∙ r.side;
-      dated = subst (λ (l : LogView). IsDated l.seen) (sym stays.log) r.dated;
-    }
-
--- a root of a version stays one while nothing is seen
-pub holds_stays : (v w : SeatView) (root : Option Name) (n : ℕ) → w.plan ≡ v.plan → w.models ≡ v.models
-    → w.log ≡ v.log → (h : HoldsRootOf v root (seen_has v n)) → MayHold w.held h.tree
-    → HoldsRootOf w root (seen_has w n)
-holds_stays v w root n plan models log h held =
-    let cells : seen_has w n ≡ seen_has v n =
-    (λ i. world_has (models i) ((log i).seen.records) n)
-    in
-    record {
-      tree = h.tree;
-      name = h.name;
-      held = held;
-      level = λ m e. subst (λ (p : Layout). m.level ≡ top p.side) (sym plan) (h.level m e);
-      shows = subst (λ (c : World). ShowsCells (world_block w.plan.side) (shape_of h.tree) c)
-          (sym cells)
-          (subst (λ (p : Layout). ShowsCells (world_block p.side) (shape_of h.tree) (seen_has v n))
-          (sym plan) h.shows);
-    }
+use Rattle.session.proofs.CommitLaws.{holds_stays}
 
 module _ (t : TableSeen) (v : PassSeen) (p : Pinned) (root : Option Name) (same : root ≡ p.root)
     (r : IsAtRest t v) (is : IsPinned v.view p) where

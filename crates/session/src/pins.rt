@@ -1,10 +1,12 @@
 //! Versions that are pinned, and what goes back.
-ghost use Rattle.std.specs.Prelude.{◌≡◌, ◌≤◌, IfOk, IfErr};
+ghost use Rattle.std.specs.Prelude.{◌≡◌, ◌≤◌, None, IfOk, IfErr};
 ghost use Rattle.node_shapes.specs.Weights.{number_of_trees};
 ghost use Rattle.edit_blocks.specs.Blocks.{GoesBack, MayGoBack};
 ghost use Rattle.node_table.specs.Seen.{SamePass};
 ghost use Rattle.version_log.specs.Pins.{IsPinned, PinsVersion, RefusesPin};
+ghost use Rattle.version_log.specs.Roots.{GetsRoot};
 ghost use Rattle.version_log.specs.Seeing.{LooksOn};
+ghost use Rattle.session.specs.Attempts.{HasPinnedHead};
 ghost use Rattle.session.specs.Resting.{IsAtRest};
 ghost use Rattle.session.specs.Seen.{KnowsItself, session_seen};
 
@@ -13,7 +15,7 @@ use hands::give_back;
 use node_words::{Share, Steps};
 use std::sync::Wait;
 use std::sync::ledger::Ledger;
-use version_log::{PinRefused, Pinned};
+use version_log::{PinRefused, Pinned, pins_stay_and_tell};
 
 impl<'m> World<'m> {
     /// Pins this version, or the newest: it is kept as long as it isn't given back by `unpin`.
@@ -82,5 +84,27 @@ impl<'m> World<'m> {
         ensures gone { GoesBack root s.old.view.held s.new.view.held }
     {
         give_back(rt, &self.table, s, root, steps);
+    }
+
+    // Pins the newest version.
+    pub(crate) fn pin_head<R: Wait, L: Ledger>(
+        &self,
+        rt: &R,
+        s: &mut Session,
+        steps: &mut Steps<L>,
+    ) -> Pinned
+        requires rest { IsAtRest self.now s.old }
+        requires room { number_of_trees s.old.view.held ≤ 3900 }
+        ensures rest { IsAtRest self.now s.new }
+        ensures same { SamePass s.old s.new }
+        ensures looks { LooksOn s.old.view s.new.view }
+        ensures head { HasPinnedHead s.new.view result }
+        ensures gains { GetsRoot s.old.view.held result.root s.new.view.held }
+    {
+        pins_stay_and_tell();
+        match version_log::pin(rt, &self.table, s, None, steps) {
+            Ok(base) => base,
+            Err(_) => unreachable!(),
+        }
     }
 }

@@ -1,6 +1,7 @@
 use Rattle.std.proofs.Common.{refl, rules}
+use Rattle.session.proofs.AttemptLaws.{rests_lent}
 use Rattle.session.proofs.ForgetLaws.{knows_back}
-use Rattle.session.proofs.PinLaws.{pinned_tells, pinned_walk, rests_lent}
+use Rattle.session.proofs.PinLaws.{pinned_tells, pinned_walk}
 use Rattle.session.proofs.world.World.ask.Goals as goal
 
 pub tell_root-answer-requires-clause-root : goal.tell_root-answer-requires-clause-root

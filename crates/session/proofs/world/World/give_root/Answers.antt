@@ -1,5 +1,5 @@
 use Rattle.std.proofs.Common.{rules}
-use Rattle.session.proofs.PinLaws.{rests_lent}
+use Rattle.session.proofs.AttemptLaws.{rests_lent}
 use Rattle.session.proofs.ForgetLaws.{same_seen}
 use Rattle.session.proofs.world.World.give_root.Goals as goal
 

@@ -1,0 +1,155 @@
+-- What an attempt at an edit leaves, for each of its outcomes.
+use Rattle.std.proofs.Common.{◌≡◌, ◌<◌, ◌≤◌, ◌+◌, ℕ, Option, List, length, refl, sym, ◌∙◌, ap, subst, arith}
+use Rattle.vox_read.specs.Contents.{Content}
+use Rattle.history_model.specs.declared.acts.Act.{Act}
+use Rattle.node_shapes.specs.declared.names.Name.{Name}
+use Rattle.node_shapes.specs.Tree.{Tree}
+use Rattle.node_shapes.specs.Weights.{number_of_trees}
+use Rattle.node_words.specs.declared.shares.Full.{Full}
+use Rattle.node_words.specs.Held.{SameHeld}
+use Rattle.edit_blocks.specs.Blocks.{GoesBack, MayGoBack}
+use Rattle.table_rule.specs.LogTelling.{number_seen}
+use Rattle.table_rule.specs.LogViews.{LogView}
+use Rattle.table_rule.specs.Views.{SeatView}
+use Rattle.node_table.specs.LogTurns.{HasNoTurn}
+use Rattle.node_table.specs.Seen.{TableSeen, PassSeen, BelongsTo, SamePass}
+use Rattle.version_log.specs.Commits.{AppendsNext, RefusesCommit}
+use Rattle.version_log.specs.Roots.{GetsRoot}
+use Rattle.version_log.specs.Seeing.{IsDated, LooksOn}
+use Rattle.version_log.specs.declared.refusals.CommitRefused.{CommitRefused}
+use Rattle.version_log.specs.declared.refusals.CommitRefused.TheVariants.{LogFull, Stale}
+use Rattle.version_log.specs.declared.pinned.Pinned.{Pinned}
+use Rattle.session_runs.specs.declared.calls.ActAnswer.TheVariants as acts
+use Rattle.hands.specs.Lendable.{StaysLendable}
+use Rattle.session.specs.Attempts.{AnswersAct, FailsToMake, HasPinnedHead, IsLate, IsMaker, MakesNextRoot}
+use Rattle.session.specs.Resting.{IsAtRest}
+use Rattle.session.specs.Seen.{session_seen}
+use Rattle.session.proofs.CommitLaws.{appended_held, appends_knows, appends_session, back_same, done_answers, few_gained, full_answers, head_stays, held_by, held_on, late_answers, may_back}
+use Rattle.session.proofs.SeenLaws.{rests}
+use Rattle.session.proofs.WorkLaws.{answers_after, answers_still, knows_on, looks_work, session_on, works_on}
+
+-- a session that may be lent again and knows the same of the log is at rest again; the table is the
+-- world's
+pub rests_lent : (t u : TableSeen) (v w : PassSeen) → u ≡ t → IsAtRest t v → StaysLendable u v w
+    → IsAtRest t w
+rests_lent t u v w same r stays =
+    record {
+      of = subst (λ (x : TableSeen). BelongsTo x w) same stays.ready.of;
+      idle = record {
+        bucket = stays.ready.idle;
+        log = ap (λ (l : LogView). l.turn) stays.log ∙ r.idle.log;
+      };
+      alone = ap (λ (l : LogView). l.taken) stays.log ∙ r.alone;
+      side = ap (λ (l : LogView). l.seen.side) stays.log ∙ r.side;
+      dated = subst (λ (l : LogView). IsDated l.seen) (sym stays.log) r.dated;
+    }
+
+-- and so is one whose record was appended
+pub rests_appended : (t u : TableSeen) (v w : PassSeen) (line : ℕ) (act : Act)
+    (root : Option Name) (n : ℕ) → u ≡ t → IsAtRest t v → BelongsTo u w → HasNoTurn w.view
+    → AppendsNext v.view line act root n w.view → IsAtRest t w
+rests_appended t u v w line act root n same r of idle a =
+    rests t v w r (subst (λ (x : TableSeen). BelongsTo x w) same of) idle
+    (appends_knows v.view w.view line act root n a)
+
+pub same_appended : (t u : TableSeen) (v w : PassSeen) (line : ℕ) (act : Act)
+    (root : Option Name) (n : ℕ) → u ≡ t → IsAtRest t v → BelongsTo u w
+    → AppendsNext v.view line act root n w.view → SamePass v w
+same_appended t u v w line act root n same r of a =
+    record {
+      table = of.table ∙ ap (λ (x : TableSeen). x.id) same ∙ sym r.of.table;
+      session = appends_session v.view w.view line act root n a;
+    }
+
+-- and one that looked at the log
+pub rests_looked : (t u : TableSeen) (v w : PassSeen) → u ≡ t → IsAtRest t v → BelongsTo u w
+    → HasNoTurn w.view → LooksOn v.view w.view → IsAtRest t w
+rests_looked t u v w same r of idle looks =
+    rests t v w r (subst (λ (x : TableSeen). BelongsTo x w) same of) idle looks.sees
+
+pub same_looked : (t u : TableSeen) (v w : PassSeen) → u ≡ t → IsAtRest t v → BelongsTo u w
+    → LooksOn v.view w.view → SamePass v w
+same_looked t u v w same r of looks =
+    record {
+      table = of.table ∙ ap (λ (x : TableSeen). x.id) same ∙ sym r.of.table;
+      session = looks.session;
+    }
+
+-- the same of an act and of a refusal that are equal
+pub appends_as : (v w : SeatView) (line : ℕ) (a b : Act) (root : Option Name) (n : ℕ) → a ≡ b
+    → AppendsNext v line a root n w → AppendsNext v line b root n w
+appends_as v w line a b root n same h =
+    subst (λ (x : Act). AppendsNext v line x root n w) same h
+
+pub refused_as : (base : Pinned) (root : Option Name) (e d : CommitRefused) (x : SeatView)
+    → e ≡ d → RefusesCommit base root e x → RefusesCommit base root d x
+refused_as base root e d x same h =
+    subst (λ (y : CommitRefused). RefusesCommit base root y x) same h
+
+module _ (t : TableSeen) (line : ℕ) (act : Act) (models : List Content) (base : Pinned)
+    (v w : PassSeen) (maker : IsMaker t models act) (head : HasPinnedHead v.view base)
+    (stays : StaysLendable t v w) where
+  pub full_comes : (full : Full) → FailsToMake t act full v.view w.view
+      → SameHeld v.view.held w.view.held
+      × AnswersAct t line act (acts.Full base.moment full) v.view w.view
+  full_comes full fails = (
+    fails.held,
+    full_answers t line act base.moment full v.view w.view
+        (head.now ∙ sym (ap (λ (l : LogView). length l.seen.records) stays.log)) fails,
+  )
+
+  module _ (root : Option Name) (makes : MakesNextRoot t act root v.view w.view) where
+    pub head_made : HasPinnedHead w.view base
+    head_made = head_stays t v w base root head stays makes.gains
+
+    pub done_comes : (x : SeatView) (n : ℕ) → AppendsNext w.view line act root n x
+        → SameHeld v.view.held x.held × AnswersAct t line act (acts.Done n) v.view x
+    done_comes x n a = (
+      appended_held v.view.held w.view.held x.held root makes.gains a.gone,
+      answers_after t line act (acts.Done n) v.view w.view x makes.works
+          (done_answers t line act root n w.view x a),
+    )
+
+    pub late_back : (x : SeatView) (back : Option Name) → LooksOn w.view x
+        → x.held ≡ w.view.held → RefusesCommit base root (LogFull back) x
+        → MayGoBack x.held back
+    late_back x back looks kept refused =
+        subst (λ (r : Option Name). MayGoBack x.held r) (sym refused.0)
+        (may_back v.view.held w.view.held x.held root makes.gains
+        (held_by w.view.held x.held kept))
+
+    pub late_room : (x : SeatView) → x.held ≡ w.view.held
+        → number_of_trees v.view.held ≤ 3901 → number_of_trees x.held ≤ 4008
+    late_room x kept few =
+        let more = few_gained v.view.held w.view.held root makes.gains in
+        let same : number_of_trees x.held ≡ number_of_trees w.view.held =
+        ap number_of_trees kept
+        in
+        omega arith
+
+    pub late_comes : (x y : SeatView) (back : Option Name) → LooksOn w.view x
+        → x.held ≡ w.view.held → RefusesCommit base root (LogFull back) x
+        → session_seen y ≡ session_seen x → GoesBack back x.held y.held
+        → SameHeld v.view.held y.held × AnswersAct t line act acts.LogFull v.view y
+    late_comes x y back looks kept refused seen gone = (
+      back_same v.view.held w.view.held x.held y.held root makes.gains
+          (held_by w.view.held x.held kept)
+          (subst (λ (r : Option Name). GoesBack r x.held y.held) refused.0 gone),
+      answers_still t line act acts.LogFull v.view x y seen
+          (late_answers t line act v.view x maker.edit
+          (works_on t act v.view w.view x makes.works (looks_work t act w.view x looks))
+          refused.1),
+    )
+
+    pub stale_comes : (x : SeatView) (now : ℕ) (back : Option Name) → LooksOn w.view x
+        → x.held ≡ w.view.held → RefusesCommit base root (Stale now back) x
+        → IsLate t act base (record { at = now; root = back }) v.view x
+    stale_comes x now back looks kept refused =
+        record {
+          works = works_on t act v.view w.view x makes.works (looks_work t act w.view x looks);
+          gains = subst (λ (r : Option Name). GetsRoot v.view.held r x.held) (sym refused.0)
+              (subst (λ (ts : List Tree). GetsRoot v.view.held root ts) (sym kept) makes.gains);
+          at_is = refused.1;
+          over = refused.2;
+          room = refused.3;
+        }

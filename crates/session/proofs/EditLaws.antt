@@ -1,0 +1,115 @@
+-- One attempt at an edit of the newest version, which is pinned for it.
+use Rattle.std.proofs.Common.{◌≡◌, ◌<◌, ◌≤◌, ◌+◌, ℕ, Option, List, [], ◌∷◌, ◌++◌, length, refl, sym, ◌∙◌, ap, subst, arith, length-append}
+use Rattle.history_model.specs.declared.acts.Act.{Act}
+use Rattle.node_shapes.specs.declared.names.Name.{Name}
+use Rattle.node_shapes.specs.Tree.{Tree}
+use Rattle.node_shapes.specs.Weights.{number_of_trees}
+use Rattle.node_words.specs.Held.{SameHeld}
+use Rattle.edit_blocks.specs.Blocks.{GoesBack, MayGoBack}
+use Rattle.table_rule.specs.LogTelling.{number_seen}
+use Rattle.table_rule.specs.Views.{SeatView}
+use Rattle.node_table.specs.Seen.{TableSeen}
+use Rattle.version_log.specs.Roots.{GetsRoot}
+use Rattle.version_log.specs.Seeing.{LooksOn}
+use Rattle.version_log.specs.declared.pinned.Pinned.{Pinned}
+use Rattle.session_runs.specs.declared.calls.ActAnswer.{ActAnswer}
+use Rattle.session.specs.declared.attempts.Late.{Late}
+use Rattle.session_runs.specs.declared.calls.OnceAnswer.{OnceAnswer}
+use Rattle.session_runs.specs.declared.calls.OnceAnswer.TheVariants as once
+use Rattle.session_runs.specs.Seen.{SessionSeen}
+use Rattle.session_runs.specs.Told.{ActTold, OnceTold}
+use Rattle.session.specs.declared.attempts.EditAnswer.{EditAnswer}
+use Rattle.session.specs.declared.attempts.EditAnswer.TheVariants as edits
+use Rattle.session.specs.Attempts.{AnswersAct, IsLate, act_answer, once_answer}
+use Rattle.session.specs.Seen.{of_world, session_seen}
+use Rattle.session.proofs.CommitLaws.{back_same, few_gained, may_back, same_number_held}
+use Rattle.session.proofs.WorkLaws.{answers_after, answers_still, looks_work, works_on}
+
+-- the newest version was pinned and will be given back
+module _ (v w : SeatView) (root : Option Name) (gains : GetsRoot v.held root w.held) where
+  pub pinned_room : (k : ℕ) → number_of_trees v.held ≤ k → number_of_trees w.held ≤ k + 1
+  pinned_room k few = let one = few_gained v.held w.held root gains in omega arith
+
+  pub base_back : (x : SeatView) (given : Option Name) → given ≡ root → SameHeld w.held x.held
+      → MayGoBack x.held given
+  base_back x given same held =
+      subst (λ (r : Option Name). MayGoBack x.held r) (sym same)
+      (may_back v.held w.held x.held root gains held)
+
+  pub base_room : (x : SeatView) → SameHeld w.held x.held → number_of_trees v.held ≤ 3900
+      → number_of_trees x.held ≤ 4008
+  base_room x held few =
+      let one = few_gained v.held w.held root gains in
+      let same = same_number_held w.held x.held held in
+      omega arith
+
+  pub base_gone : (x y : SeatView) (given : Option Name) → given ≡ root → SameHeld w.held x.held
+      → GoesBack given x.held y.held → SameHeld v.held y.held
+  base_gone x y given same held gone =
+      back_same v.held w.held x.held y.held root gains held
+      (subst (λ (r : Option Name). GoesBack r x.held y.held) same gone)
+
+-- what was answered behind the pin was answered from before it
+pub pinned_answers : (t : TableSeen) (line : ℕ) (act : Act) (answer : ActAnswer)
+    (v w x y : SeatView) → LooksOn v w → AnswersAct t line act answer w x
+    → session_seen y ≡ session_seen x → AnswersAct t line act answer v y
+pinned_answers t line act answer v w x y looks told seen =
+    answers_still t line act answer v x y seen
+    (answers_after t line act answer v w x (looks_work t act v w looks) told)
+
+-- ---- shares that came
+
+pub two_few : (a b c : List Tree) (q r : Option Name) → GetsRoot a q b → GetsRoot b r c
+    → number_of_trees a ≤ 3900 → number_of_trees c ≤ 3902
+two_few a b c q r f g few =
+    let x = few_gained a b q f in
+    let y = few_gained b c r g in
+    omega arith
+
+pub two_room : (a b c d : List Tree) (q r : Option Name) → GetsRoot a q b → GetsRoot b r c
+    → SameHeld c d → number_of_trees a ≤ 3900 → number_of_trees d ≤ 4008
+two_room a b c d q r f g same few =
+    let x = two_few a b c q r f g few in
+    let y = same_number_held c d same in
+    omega arith
+
+-- ---- one attempt
+
+pub once_told : (t : TableSeen) (line : ℕ) (act : Act) (a : EditAnswer) (x : OnceAnswer)
+    (v w : SeatView) → x ≡ once_answer a → AnswersAct t line act (act_answer a) v w
+    → (number : ℕ) → v.numbers ≡ number ∷ []
+    → OnceTold (of_world t number) line act (session_seen v) (session_seen w) x
+once_told t line act a x v w same told number one =
+    subst (λ (y : OnceAnswer). OnceTold (of_world t number) line act (session_seen v)
+    (session_seen w) y) (sym same) (by a (told number one))
+  where
+    by : (b : EditAnswer)
+        → ActTold (of_world t number) line act (session_seen v) (session_seen w) (act_answer b)
+        → OnceTold (of_world t number) line act (session_seen v) (session_seen w) (once_answer b)
+    by (edits.Done n) h = h
+    by (edits.Full at full) h = h
+    by edits.LogFull h = h
+
+pub stale_told : (t : TableSeen) (line : ℕ) (act : Act) (base : Pinned) (late : Late)
+    (v w x y z : SeatView) → LooksOn v w → base.moment ≡ number_seen w
+    → IsLate t act base late w x → session_seen y ≡ session_seen x
+    → session_seen z ≡ session_seen y → (number : ℕ) → v.numbers ≡ number ∷ []
+    → OnceTold (of_world t number) line act (session_seen v) (session_seen z)
+    (once.Stale late.at base.moment)
+stale_told t line act base late v w x y z looks now is first second number one =
+    subst (λ (s : SessionSeen). OnceTold (of_world t number) line act (session_seen v) s
+    (once.Stale late.at base.moment)) (sym (second ∙ first))
+    (let works = works_on t act v w x (looks_work t act v w looks) is.works in
+    let long = looks.sees.seen.records in
+    let more : number_seen w ≡ length (v.log.seen.records ++ looks.sees.seen.more) =
+    ap length long
+    in
+    let both = length-append v.log.seen.records looks.sees.seen.more in
+    record {
+      at_is = is.at_is;
+      nothing = works.nothing;
+      notes = works.notes;
+      low = omega arith;
+      over = subst (λ (n : ℕ). base.moment < n) is.at_is is.over;
+      room = subst (λ (n : ℕ). n < 65535) is.at_is is.room;
+    })

@@ -1,0 +1,95 @@
+-- What the attempts at an edit leave of a session.
+use Rattle.std.specs.Prelude.{◌≡◌, ℕ, ◌^◌, ◌<◌, true, ⊤, Option, List, [], ◌∷◌, Result, Ok, Err}
+use Rattle.vox_read.specs.Contents.{Content}
+use Rattle.history_model.specs.declared.acts.Act.{Act}
+use Rattle.history_model.specs.Logs.{FitsWorld}
+use Rattle.history_model.specs.Worlds.{is_edit}
+use Rattle.node_shapes.specs.declared.names.Name.{Name}
+use Rattle.node_words.specs.declared.shares.Full.{Full}
+use Rattle.node_words.specs.Held.{SameHeld}
+use Rattle.table_rule.specs.LogTelling.{number_seen}
+use Rattle.table_rule.specs.Rules.{SameSession}
+use Rattle.table_rule.specs.Views.{SeatView}
+use Rattle.node_table.specs.Seen.{TableSeen}
+use Rattle.version_log.specs.declared.pinned.Pinned.{Pinned}
+use Rattle.version_log.specs.Commits.{IsMadeOver}
+use Rattle.version_log.specs.Pins.{IsPinned}
+use Rattle.version_log.specs.Roots.{GetsRoot}
+use Rattle.version_log.specs.Seeing.{KnowsMore}
+use Rattle.session_runs.specs.declared.calls.ActAnswer.{ActAnswer}
+use Rattle.session_runs.specs.declared.calls.ActAnswer.TheVariants as acts
+use Rattle.session_runs.specs.declared.calls.OnceAnswer.{OnceAnswer}
+use Rattle.session_runs.specs.declared.calls.OnceAnswer.TheVariants as once
+use Rattle.session_runs.specs.Calls.{AcceptsNothing, MeetsFullBucket, NotesFor}
+use Rattle.session_runs.specs.Told.{ActTold}
+use Rattle.session.specs.declared.attempts.EditAnswer.{EditAnswer}
+use Rattle.session.specs.declared.attempts.EditAnswer.TheVariants as edits
+use Rattle.session.specs.declared.attempts.Late.{Late}
+use Rattle.session.specs.Seen.{of_world, session_seen}
+
+-- the act is an edit that fits the world, by the world's models
+pub record IsMaker (t : TableSeen) (models : List Content) (act : Act) : Type 0 where
+  pub models_are : models ≡ t.models
+  pub edit : is_edit act ≡ true
+  pub fits : FitsWorld (2 ^ t.plan.side) t.models act
+
+-- the session saw the history go on, and nothing of its own was accepted; what it made and met are
+-- parts of what the act makes of versions that it saw
+pub record WorksOn (t : TableSeen) (act : Act) (v w : SeatView) : Type 0 where
+  pub session : SameSession v w
+  pub sees : KnowsMore v w
+  pub nothing : AcceptsNothing (session_seen v) (session_seen w)
+  pub notes : NotesFor t.plan t.models act (session_seen v) (session_seen w)
+
+-- a share came of the root of what the act makes of the newest version that is seen
+pub record MakesNextRoot (t : TableSeen) (act : Act) (root : Option Name) (v w : SeatView) : Type 0
+  where
+    pub works : WorksOn t act v w
+    pub made : IsMadeOver w (number_seen w) act root
+    pub gains : GetsRoot v.held root w.held
+
+-- a part of it met this full bucket, and the same is held
+pub record FailsToMake (t : TableSeen) (act : Act) (full : Full) (v w : SeatView) : Type 0 where
+  pub works : WorksOn t act v w
+  pub meets : MeetsFullBucket t.plan t.models act full.level full.bucket (session_seen v)
+      (session_seen w)
+  pub held : SameHeld v.held w.held
+
+-- the newest version that is seen is pinned
+pub record HasPinnedHead (v : SeatView) (base : Pinned) : Type 0 where
+  pub pinned : IsPinned v base
+  pub head : base.version ≡ base.moment
+  pub now : base.moment ≡ number_seen v
+
+-- the session of this world was answered so, whatever its number is
+abbrev pub AnswersAct : TableSeen → ℕ → Act → ActAnswer → SeatView → SeatView → Type 0
+AnswersAct t line act answer v w = (number : ℕ) → v.numbers ≡ number ∷ []
+    → ActTold (of_world t number) line act (session_seen v) (session_seen w) answer
+
+-- the answer of an edit as one of an act
+abbrev pub act_answer : EditAnswer → ActAnswer
+act_answer (edits.Done n) = acts.Done n
+act_answer (edits.Full at full) = acts.Full at full
+act_answer edits.LogFull = acts.LogFull
+
+-- another session was faster: the root that was made is held, and the log has this length
+pub record IsLate (t : TableSeen) (act : Act) (base : Pinned) (late : Late) (v w : SeatView)
+    : Type 0 where
+  pub works : WorksOn t act v w
+  pub gains : GetsRoot v.held late.root w.held
+  pub at_is : late.at ≡ number_seen w
+  pub over : base.moment < late.at
+  pub room : late.at < 65535
+
+-- it came to an answer, and the same is held; or it was too late
+abbrev pub Attempts : TableSeen → ℕ → Act → Pinned → Result EditAnswer Late → SeatView → SeatView
+    → Type 0
+Attempts t line act base (Ok answer) v w =
+    SameHeld v.held w.held × AnswersAct t line act (act_answer answer) v w
+Attempts t line act base (Err late) v w = IsLate t act base late v w
+
+-- the answer of an edit as one of an attempt
+abbrev pub once_answer : EditAnswer → OnceAnswer
+once_answer (edits.Done n) = once.Done n
+once_answer (edits.Full at full) = once.Full at full
+once_answer edits.LogFull = once.LogFull
