@@ -21,7 +21,7 @@ pub struct Ran<'m> {
 /// Answers the events one after another, beginning with a core in which nothing was done.
 ///
 /// What holds of all states on the way is said for whatever states the events can have led
-/// through.
+/// through. The core that comes back is of the same plan and models, so it may be given more events.
 pub fn run_events<'m>(
     alloc: Global,
     plan: &Plan,
@@ -32,6 +32,8 @@ pub fn run_events<'m>(
     requires sessions { (1 ≤ sessions) × (sessions ≤ 64) }
     ensures run { IfOk result (λ ran. HasRun plan.now models.entry.now sessions events.now
         ran.replies.items (state_of ran.core)) }
+    ensures plan { IfOk result (λ ran. ran.core.plan ≡ plan.now) }
+    ensures models { IfOk result (λ ran. ran.core.models ≡ models.entry.now) }
     ensures sound { OnOk result (StatesAreSound plan.now models.entry.now sessions events.now) }
     ensures roots { OnOk result (RootsTellCells plan.now models.entry.now sessions events.now) }
     ensures cells { OnOk result (VersionsKeepCells plan.now models.entry.now sessions events.now) }

@@ -51,6 +51,11 @@ const CORNER: Boxed = Boxed {
     size: ONE,
 };
 
+const ABOVE: Boxed = Boxed {
+    at: Cell { x: 0, y: 1, z: 0 },
+    size: ONE,
+};
+
 const LAST: Boxed = Boxed {
     at: Cell { x: 7, y: 7, z: 7 },
     size: ONE,
@@ -255,6 +260,19 @@ const SHOTS: &[Shot<'static>] = &[
         from: Cell { x: 0, y: 1, z: 0 },
         steps: [1, -1, 0],
         hit: Some(Cell { x: 1, y: 1, z: 0 }),
+    },
+    // It passes the side along y first, and is never in (1, 0, 0).
+    Shot {
+        boxes: &[SECOND],
+        from: ORIGIN,
+        steps: [1, 2, 0],
+        hit: None,
+    },
+    Shot {
+        boxes: &[SECOND, ABOVE, CORNER],
+        from: ORIGIN,
+        steps: [1, 2, 0],
+        hit: Some(Cell { x: 0, y: 1, z: 0 }),
     },
     Shot {
         boxes: &[FIRST],

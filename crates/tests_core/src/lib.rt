@@ -9,4 +9,6 @@ mod mirrors;
 #[cfg(test)]
 mod pair_tests;
 #[cfg(test)]
+mod run_tests;
+#[cfg(test)]
 mod table_tests;

@@ -6,8 +6,8 @@ use vox_read::{Model, Models, Voxel};
 use vw_cell::{Boxed, Cell, Memory, Side};
 use world_core::{Core, Event, Reply};
 
-// Whether both replies are one.
-fn is_same(a: &Reply, b: &Reply) -> bool {
+/// Whether both replies are one.
+pub fn is_same(a: &Reply, b: &Reply) -> bool {
     match (a, b) {
         (Reply::Held(a), Reply::Held(b)) => *a == *b,
         (Reply::Full(a), Reply::Full(b)) => *a == *b,

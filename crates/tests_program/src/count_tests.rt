@@ -1,6 +1,6 @@
-use crate::asking::{ONE, ends, one_fault, words_of};
 use std::alloc::{AllocError, Global};
 use std::test::Fail;
+use test_calls::{ONE, ends, one_fault, words_of};
 use voxdag_top::voxdag;
 use vw_io::{FaultyShelf, FaultySink, MemoryShelf, MemorySink, Shelf};
 
@@ -85,13 +85,113 @@ fn count_answers_by_its_file(rt: HostRuntime) -> Result<(), Fail> {
     Ok(())
 }
 
+// The first bytes of the file of one cell, from so many to so many, and the line.
+type Cut = (usize, usize, u8, &'static str);
+
+// MAIN says 44 bytes of children, as in the whole file.
+const CUT_ANYWHERE: &[Cut] = &[
+    (0, 3, 4, "voxdag: vox 1 0\n"),
+    (4, 7, 4, "voxdag: vox 4 4\n"),
+    (8, 63, 4, "voxdag: vox 4 8\n"),
+];
+
+// MAIN says as many as are left behind its own 20.
+const CUT_IN_CHILDREN: &[Cut] = &[
+    (20, 20, 0, "0\n"),
+    (21, 43, 4, "voxdag: vox 4 20\n"),
+    (44, 44, 0, "0\n"),
+    (45, 63, 4, "voxdag: vox 4 44\n"),
+];
+
+fn are_cut(alloc: Global, cut: &Cut, is_framed: bool) -> Result<bool, Fail> {
+    let &(least, most, status, want) = cut;
+    for kept in least..=most {
+        let children = if is_framed {
+            kept.saturating_sub(20)
+        } else {
+            44
+        };
+        let file = changed(alloc, kept, 16, children as u8)?;
+        if !is_counted(alloc, file.as_slice(), status, want)? {
+            return Ok(false);
+        }
+    }
+    Ok(true)
+}
+
 #[test]
-fn no_words_are_usage(rt: HostRuntime) -> Result<(), Fail> {
-    let mut shelf = shelf(rt.alloc())?;
-    let mut out = MemorySink::new(rt.alloc());
-    assert_eq!(rt; voxdag(rt.alloc(), &[], &mut shelf, &mut out), 1);
-    assert_eq!(rt; out.bytes(), b"voxdag: usage\n".as_slice());
+fn cut_files_have_their_fault(rt: HostRuntime) -> Result<(), Fail> {
+    for cut in CUT_ANYWHERE {
+        assert!(rt; are_cut(rt.alloc(), cut, false)?, "from {}", cut.0);
+    }
+    for cut in CUT_IN_CHILDREN {
+        assert!(rt; are_cut(rt.alloc(), cut, true)?, "from {}", cut.0);
+    }
     Ok(())
+}
+
+const PLACE: &[u8] =
+    b"\0\0\0\0\0\0\0\0\x01\0\0\0\xff\xff\xff\xff\xff\xff\xff\xff\x01\0\0\0\0\0\0\0";
+
+const PALETTE: [u8; 1024] = [0xee; 1024];
+
+// The chunks of a file as an editor writes it: a size of 2 1 1, two voxels of the colours 79 and 80,
+// a scene, a layer, a palette and a material.
+const SCENE: &[(&[u8], &[u8])] = &[
+    (b"SIZE", b"\x02\0\0\0\x01\0\0\0\x01\0\0\0"),
+    (b"XYZI", b"\x02\0\0\0\0\0\0\x4f\x01\0\0\x50"),
+    (b"nTRN", PLACE),
+    (b"nGRP", b"\x01\0\0\0\0\0\0\0\x01\0\0\0\x02\0\0\0"),
+    (b"nTRN", PLACE),
+    (b"nSHP", b"\x03\0\0\0\0\0\0\0\x01\0\0\0\0\0\0\0\0\0\0\0"),
+    (b"LAYR", b"\0\0\0\0\0\0\0\0\xff\xff\xff\xff"),
+    (b"RGBA", &PALETTE),
+    (b"MATL", b"\x01\0\0\0\0\0\0\0"),
+];
+
+fn append_chunk(into: &mut Vec<u8>, id: &[u8], content: &[u8]) -> Result<(), Fail> {
+    into.extend_from_slice(id)?;
+    into.extend_from_slice(&u32::try_from(content.len())?.to_le_bytes())?;
+    into.extend_from_slice(b"\0\0\0\0")?;
+    into.extend_from_slice(content)?;
+    Ok(())
+}
+
+// The file of these chunks under a version.
+fn scene(alloc: Global, version: u8) -> Result<Vec<u8>, Fail> {
+    let mut children = Vec::new(alloc);
+    for &(id, content) in SCENE {
+        append_chunk(&mut children, id, content)?;
+    }
+    let mut file = Vec::from_slice(alloc, b"VOX ")?;
+    file.extend_from_slice(&[version, 0, 0, 0])?;
+    file.extend_from_slice(b"MAIN\0\0\0\0")?;
+    file.extend_from_slice(&u32::try_from(children.len())?.to_le_bytes())?;
+    file.extend_from_slice(children.as_slice())?;
+    Ok(file)
+}
+
+#[test]
+fn scenes_are_passed_over(rt: HostRuntime) -> Result<(), Fail> {
+    for &version in &[150u8, 200] {
+        let file = scene(rt.alloc(), version)?;
+        let counted = is_counted(rt.alloc(), file.as_slice(), 0, "2\n")?;
+        assert!(rt; counted, "under {version}");
+    }
+    Ok(())
+}
+
+// Whether a call with no word is refused.
+fn no_word_is_usage(alloc: Global) -> bool {
+    let mut shelf = MemoryShelf::new(alloc);
+    let mut out = MemorySink::new(alloc);
+    let ended = voxdag(alloc, &[], &mut shelf, &mut out);
+    ended == 1 && out.bytes() == b"voxdag: usage\n".as_slice()
+}
+
+#[test]
+fn no_words_are_usage(rt: HostRuntime) {
+    assert!(rt; no_word_is_usage(rt.alloc()));
 }
 
 #[test]

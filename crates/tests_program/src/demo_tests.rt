@@ -1,8 +1,8 @@
 //! The load of a number, run by the program.
 
-use crate::asking::{ends, has, holds_last, one_fault};
 use std::alloc::Global;
 use std::test::Fail;
+use test_calls::{ends, has, holds_last, one_fault};
 use vw_io::{FaultyShelf, MemoryShelf};
 
 // What `demo 7` prints: a program in Python, written from the load's rules alone, prints it too.
@@ -26,11 +26,23 @@ fn has_transcripts(shelf: &MemoryShelf) -> bool {
     has(shelf, "demo.4.out", None)
 }
 
+// Two lines and the last one stand round 800 records.
 fn has_journal(shelf: &MemoryShelf) -> bool {
     match shelf.file("demo.journal") {
-        Some(journal) => journal.starts_with(b"voxdag journal 1\nside 256\n1 0 1 "),
+        Some(journal) => {
+            let begins = journal.starts_with(b"voxdag journal 1\nside 256\n1 0 1 ");
+            begins && journal.ends_with(b"\nend\n") && number_of_lines(journal) == 803
+        }
         None => false,
     }
+}
+
+fn number_of_lines(text: &[u8]) -> u32 {
+    let mut lines: u32 = 0;
+    for &byte in text {
+        lines = lines.saturating_add(u32::from(byte == b'\n'));
+    }
+    lines
 }
 
 #[test]

@@ -1,7 +1,7 @@
 //! The examples of `docs/SCRIPTS.md`, in their order, with the answers that it gives.
 
-use crate::asking::{ask, has, shelf_with};
 use std::test::Fail;
+use test_calls::{ends, has, shelf_with};
 
 const EXAMPLES: &str =
     "fill 0 0 0 4 1 1\nerase 1 0 0 1 1 1\ncopy 0 0 0 2 1 1 to 0 2 0\nball 7 7 7 1\n\
@@ -19,10 +19,8 @@ const TRANSCRIPT: &str =
 #[test]
 fn examples_have_their_answers(rt: HostRuntime) -> Result<(), Fail> {
     let mut shelf = shelf_with(rt.alloc(), EXAMPLES.as_bytes())?;
-    let (ended, out) = ask(rt.alloc(), "run --side 8 one.vox s", &mut shelf)?;
-    assert_eq!(rt; ended, 0);
-    let printed = b"scripts 1 records 8 marks 1 nodes 10\n";
-    assert_eq!(rt; out.bytes(), printed.as_slice());
+    let printed = "scripts 1 records 8 marks 1 nodes 10\n";
+    assert!(rt; ends(rt.alloc(), "run --side 8 one.vox s", &mut shelf, 0, printed)?);
     assert!(rt; has(&shelf, "s.out", Some(TRANSCRIPT)));
     Ok(())
 }

@@ -1,8 +1,7 @@
-//! Tests of the program's top call, over shelves and sinks in memory.
+//! Tests of the words that the program's top call takes, and of `count`, `demo` and the examples,
+//! over shelves and sinks in memory.
 #![tactic(auto)]
 
-#[cfg(test)]
-mod asking;
 #[cfg(test)]
 mod count_tests;
 #[cfg(test)]
@@ -11,11 +10,5 @@ mod demo_tests;
 mod file_tests;
 #[cfg(test)]
 mod guide_tests;
-#[cfg(test)]
-mod run_tests;
-#[cfg(test)]
-mod save_tests;
-#[cfg(test)]
-mod version_tests;
 #[cfg(test)]
 mod word_tests;

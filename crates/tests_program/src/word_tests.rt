@@ -1,8 +1,8 @@
 //! The words that the program takes, and those that it refuses.
 
-use crate::asking::{ANSWERS, GOOD, TWO, ask, ends, has, is_refused, shelf_with};
 use std::alloc::Global;
 use std::test::Fail;
+use test_calls::{ANSWERS, GOOD, TWO, ask, ends, has, is_refused, shelf_with};
 
 const USAGE: &str = "voxdag: usage\n";
 

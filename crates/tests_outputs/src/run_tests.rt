@@ -1,11 +1,11 @@
-use crate::asking::{
-    ANSWERS, GOOD, JOURNAL, ONE, REPORT, TWO, ask, ends, has, holds, holds_last, is_refused,
-    one_fault, repeated, shelf_with, words_of,
-};
 use std::alloc::Global;
 use std::test::Fail;
+use test_calls::{
+    ANSWERS, GOOD, JOURNAL, ONE, TWO, ask, ends, has, holds, holds_last, is_refused, one_fault,
+    repeated, shelf_with, words_of,
+};
 use voxdag_top::voxdag;
-use vw_io::{FaultyShelf, FaultySink, Shelf};
+use vw_io::{FaultyShelf, FaultySink, MemoryShelf, Shelf};
 
 // Of a script with these changes in the lines 4 and 5.
 const LATER_JOURNAL: &str =
@@ -151,13 +151,9 @@ type Both = (
     Option<&'static str>,
 );
 
-const BOTH_RUN: Both = (
-    0,
-    "scripts 2 records 3 marks 0 nodes 6\n",
-    Some(ANSWERS),
-    Some(SECOND),
-    Some(BOTH_JOURNAL),
-);
+const BOTH: &str = "scripts 2 records 3 marks 0 nodes 6\n";
+
+const BOTH_RUN: Both = (0, BOTH, Some(ANSWERS), Some(SECOND), Some(BOTH_JOURNAL));
 
 const NONE_RUNS: Both = (5, "voxdag: script 1 2 1\n", None, None, None);
 
@@ -260,55 +256,79 @@ fn long_scripts_are_refused(rt: HostRuntime) -> Result<(), Fail> {
     Ok(())
 }
 
-// The call that fails at its fifth byte, the status, the line, and what the outputs then have.
-type Failing = (
-    u32,
-    u8,
-    &'static str,
-    Option<&'static str>,
-    Option<&'static str>,
-    Option<&'static str>,
-);
+// The report of both scripts.
+const BOTH_REPORT: &str =
+    "voxdag report 1\nside 8\nrecords 3\nmarks 0\nversion 0 empty\nversion 1 root 1\n\
+     version 2 root 2\nversion 3 root 3\nlevel 0 nodes 3\nlevel 1 nodes 3\n";
+
+// The call that fails behind its fifth byte, the status, the line, and what the outputs then have.
+type Failing = (u32, u8, &'static str, &'static [Option<&'static str>]);
+
+const OUTPUTS: &[&str] = &["s.out", "t.out", "j", "p"];
 
 const FAILING: &[Failing] = &[
-    (1, 3, "voxdag: read fault one.vox\n", None, None, None),
-    (2, 3, "voxdag: read fault s\n", None, None, None),
-    (
-        3,
-        6,
-        "voxdag: write fault s.out\n",
-        Some("1 @1 "),
-        None,
-        None,
-    ),
+    (1, 3, "voxdag: read fault one.vox\n", &[None; 4]),
+    (2, 3, "voxdag: read fault s\n", &[None; 4]),
+    (3, 3, "voxdag: read fault t\n", &[None; 4]),
     (
         4,
         6,
-        "voxdag: write fault j\n",
-        Some(ANSWERS),
-        Some("voxda"),
-        None,
+        "voxdag: write fault s.out\n",
+        &[Some("1 @1 "), None, None, None],
     ),
     (
         5,
         6,
-        "voxdag: write fault p\n",
-        Some(ANSWERS),
-        Some(JOURNAL),
-        Some("voxda"),
+        "voxdag: write fault t.out\n",
+        &[Some(ANSWERS), Some("1 @3 "), None, None],
     ),
-    (6, 0, TWO, Some(ANSWERS), Some(JOURNAL), Some(REPORT)),
+    (
+        6,
+        6,
+        "voxdag: write fault j\n",
+        &[Some(ANSWERS), Some(SECOND), Some("voxda"), None],
+    ),
+    (
+        7,
+        6,
+        "voxdag: write fault p\n",
+        &[
+            Some(ANSWERS),
+            Some(SECOND),
+            Some(BOTH_JOURNAL),
+            Some("voxda"),
+        ],
+    ),
+    (
+        8,
+        0,
+        BOTH,
+        &[
+            Some(ANSWERS),
+            Some(SECOND),
+            Some(BOTH_JOURNAL),
+            Some(BOTH_REPORT),
+        ],
+    ),
 ];
 
 fn fails(alloc: Global, failing: &Failing) -> Result<bool, Fail> {
-    let &(call, status, printed, transcript, journal, report) = failing;
-    let inner = shelf_with(alloc, GOOD.as_bytes())?;
+    let &(call, status, printed, left) = failing;
+    let mut inner = shelf_with(alloc, GOOD.as_bytes())?;
+    inner.write("t", STAMP.as_bytes())?;
     let mut shelf = FaultyShelf::new(inner, one_fault(alloc, call, 5)?);
-    let line = "run --side 8 --journal j --report p one.vox s";
+    let line = "run --side 8 --journal j --report p one.vox s t";
     let ended = ends(alloc, line, &mut shelf, status, printed)?;
-    let files = shelf.files();
-    let left = has(files, "s.out", transcript) && has(files, "j", journal);
-    Ok(ended && left && has(files, "p", report))
+    Ok(ended && are_left(shelf.files(), left))
+}
+
+fn are_left(files: &MemoryShelf, left: &[Option<&str>]) -> bool {
+    for (&name, &want) in OUTPUTS.iter().zip(left) {
+        if !has(files, name, want) {
+            return false;
+        }
+    }
+    true
 }
 
 #[test]
@@ -319,15 +339,18 @@ fn each_call_can_fail(rt: HostRuntime) -> Result<(), Fail> {
     Ok(())
 }
 
+// Whether a run whose line fails behind three bytes has written all.
+fn are_whole(alloc: Global) -> Result<bool, Fail> {
+    let mut shelf = shelf_with(alloc, GOOD.as_bytes())?;
+    let mut out = FaultySink::new(alloc, one_fault(alloc, 1, 3)?);
+    let words = words_of(alloc, "run --side 8 --journal j one.vox s")?;
+    let ended = voxdag(alloc, words.as_slice(), &mut shelf, &mut out);
+    let failed = ended == 7 && out.bytes() == b"scr".as_slice();
+    Ok(failed && has(&shelf, "s.out", Some(ANSWERS)) && has(&shelf, "j", Some(JOURNAL)))
+}
+
 #[test]
 fn outputs_are_whole_where_no_line_is_put(rt: HostRuntime) -> Result<(), Fail> {
-    let mut shelf = shelf_with(rt.alloc(), GOOD.as_bytes())?;
-    let mut out = FaultySink::new(rt.alloc(), one_fault(rt.alloc(), 1, 3)?);
-    let words = words_of(rt.alloc(), "run --side 8 --journal j one.vox s")?;
-    let ended = voxdag(rt.alloc(), words.as_slice(), &mut shelf, &mut out);
-    assert_eq!(rt; ended, 7);
-    assert_eq!(rt; out.bytes(), b"scr".as_slice());
-    assert!(rt; has(&shelf, "s.out", Some(ANSWERS)));
-    assert!(rt; has(&shelf, "j", Some(JOURNAL)));
+    assert!(rt; are_whole(rt.alloc())?);
     Ok(())
 }

@@ -1,8 +1,8 @@
 //! Scripts that save boxes as files.
 
-use crate::asking::{ONE, ask, has, one_fault, repeated, shelf_with};
 use std::alloc::Global;
 use std::test::Fail;
+use test_calls::{ONE, ask, ends, has, holds, one_fault, repeated, shelf_with};
 use vw_io::{FaultyShelf, MemoryShelf, Shelf};
 
 // The file of a model of size 1 1 1 without a voxel: 60 bytes, and MAIN has 40 behind it.
@@ -12,14 +12,6 @@ const NO_CELL: [u8; 60] =
 // The cells (1,0,0), (0,1,0) and (1,1,1) of a box of 2 cells a side, by rising z, then y, then x.
 const THREE: [u8; 72] =
     *b"VOX \x96\0\0\0MAIN\0\0\0\0\x34\0\0\0SIZE\x0c\0\0\0\0\0\0\0\x02\0\0\0\x02\0\0\0\x02\0\0\0XYZI\x10\0\0\0\0\0\0\0\x03\0\0\0\x01\0\0\x01\0\x01\0\x01\x01\x01\x01\x01";
-
-// Whether the file of this name has these bytes.
-fn holds(shelf: &MemoryShelf, name: &str, want: &[u8]) -> bool {
-    match shelf.file(name) {
-        Some(found) => found == want,
-        None => false,
-    }
-}
 
 // A shelf after a run of these lines at side 8, which ends in status 0.
 fn saved(alloc: Global, script: &str) -> Result<MemoryShelf, Fail> {
@@ -44,9 +36,7 @@ fn boxes_are_saved(rt: HostRuntime) -> Result<(), Fail> {
     );
     assert!(rt; holds(&shelf, "a.vox", &ONE));
     assert!(rt; holds(&shelf, "b.vox", &NO_CELL));
-    let (ended, out) = ask(rt.alloc(), "count a.vox", &mut shelf)?;
-    assert_eq!(rt; ended, 0);
-    assert_eq!(rt; out.bytes(), b"1\n".as_slice());
+    assert!(rt; ends(rt.alloc(), "count a.vox", &mut shelf, 0, "1\n")?);
     Ok(())
 }
 
@@ -58,30 +48,33 @@ fn cells_come_by_z_then_y_then_x(rt: HostRuntime) -> Result<(), Fail> {
     Ok(())
 }
 
+const OLD: &str = "fill 3 3 3 1 1 1\nerase 0 0 0 8 8 8\nat 1 save a.vox 3 3 3 1 1 1\nforget 1\n\
+     save b.vox 3 3 3 1 1 1\nat 1 save c.vox 3 3 3 1 1 1\nat 3 save d.vox 3 3 3 1 1 1\n";
+
+const OLD_ANSWERS: &str =
+    "1 @1 ok\n2 @2 ok\n3 @2 saved 1\n4 @2 forgot 1\n5 @2 saved 0\n6 @2 forgotten 1\n\
+     7 @2 no version 3\n";
+
+const OLD_REPORT: &str =
+    "voxdag report 1\nside 8\nrecords 2\nmarks 1\nversion 0 empty\nversion 2 empty\n\
+     level 0 nodes 0\nlevel 1 nodes 0\n";
+
 // A version is saved as it was, also where it is forgotten afterwards, and nothing of it is left in
 // the store. One that is not there or was forgotten before is not saved.
 #[test]
 fn old_versions_are_saved(rt: HostRuntime) -> Result<(), Fail> {
-    let script = "fill 3 3 3 1 1 1\nerase 0 0 0 8 8 8\nat 1 save a.vox 3 3 3 1 1 1\nforget 1\n\
-         save b.vox 3 3 3 1 1 1\nat 1 save c.vox 3 3 3 1 1 1\nat 3 save d.vox 3 3 3 1 1 1\n";
-    let mut shelf = shelf_with(rt.alloc(), script.as_bytes())?;
-    let (ended, out) = ask(rt.alloc(), "run --side 8 --report p one.vox s", &mut shelf)?;
-    assert_eq!(rt; ended, 0);
-    assert_eq!(rt;
-        out.bytes(),
-        b"scripts 1 records 2 marks 1 nodes 0\n".as_slice()
-    );
-    let want = "1 @1 ok\n2 @2 ok\n3 @2 saved 1\n4 @2 forgot 1\n5 @2 saved 0\n6 @2 forgotten 1\n\
-                7 @2 no version 3\n";
-    assert!(rt; has(&shelf, "s.out", Some(want)));
-    assert!(rt; holds(&shelf, "a.vox", &ONE));
-    assert!(rt; holds(&shelf, "b.vox", &NO_CELL));
-    assert!(rt; has(&shelf, "c.vox", None));
-    assert!(rt; has(&shelf, "d.vox", None));
-    let report = "voxdag report 1\nside 8\nrecords 2\nmarks 1\nversion 0 empty\nversion 2 empty\n\
-         level 0 nodes 0\nlevel 1 nodes 0\n";
-    assert!(rt; has(&shelf, "p", Some(report)));
+    let mut shelf = shelf_with(rt.alloc(), OLD.as_bytes())?;
+    let line = "run --side 8 --report p one.vox s";
+    let printed = "scripts 1 records 2 marks 1 nodes 0\n";
+    assert!(rt; ends(rt.alloc(), line, &mut shelf, 0, printed)?);
+    assert!(rt; are_saved(&shelf));
     Ok(())
+}
+
+fn are_saved(shelf: &MemoryShelf) -> bool {
+    let told = has(shelf, "s.out", Some(OLD_ANSWERS)) && has(shelf, "p", Some(OLD_REPORT));
+    let saved = holds(shelf, "a.vox", &ONE) && holds(shelf, "b.vox", &NO_CELL);
+    told && saved && has(shelf, "c.vox", None) && has(shelf, "d.vox", None)
 }
 
 // Transcripts are written first, then the saved files by script and line, then the journal.
@@ -109,18 +102,19 @@ const FAILS: &[(u32, &str, [bool; 5])] = &[
     ),
 ];
 
+fn is_cut(alloc: Global, call: u32, printed: &str, whole: [bool; 5]) -> Result<bool, Fail> {
+    let mut inner = shelf_with(alloc, b"save b 0 0 0 1 1 1\n")?;
+    inner.write("t", b"save a 0 0 0 1 1 1\n")?;
+    let mut shelf = FaultyShelf::new(inner, one_fault(alloc, call, 0)?);
+    let line = "run --side 8 --journal j one.vox s t";
+    let ended = ends(alloc, line, &mut shelf, 6, printed)?;
+    Ok(ended && standing(shelf.files()) == whole)
+}
+
 #[test]
 fn each_saved_file_can_fail(rt: HostRuntime) -> Result<(), Fail> {
     for &(call, printed, whole) in FAILS {
-        let mut inner = shelf_with(rt.alloc(), b"save b 0 0 0 1 1 1\n")?;
-        inner.write("t", b"save a 0 0 0 1 1 1\n")?;
-        let mut shelf = FaultyShelf::new(inner, one_fault(rt.alloc(), call, 0)?);
-        let line = "run --side 8 --journal j one.vox s t";
-        let (ended, out) = ask(rt.alloc(), line, &mut shelf)?;
-        assert_eq!(rt; ended, 6, "at {printed}");
-        assert_eq!(rt; out.bytes(), printed.as_bytes());
-        let there = standing(shelf.files());
-        assert!(rt; there == whole, "at {printed}");
+        assert!(rt; is_cut(rt.alloc(), call, printed, whole)?, "at {printed}");
     }
     Ok(())
 }
@@ -136,6 +130,14 @@ fn standing(shelf: &MemoryShelf) -> [bool; 5] {
     ]
 }
 
+// Whether such a script is refused with its words, and has no transcript.
+fn is_usage(alloc: Global, script: &str) -> Result<bool, Fail> {
+    let mut shelf = shelf_with(alloc, script.as_bytes())?;
+    let line = "run --side 8 --journal j one.vox s";
+    let ended = ends(alloc, line, &mut shelf, 1, "voxdag: usage\n")?;
+    Ok(ended && has(&shelf, "s.out", None))
+}
+
 #[test]
 fn saved_names_must_be_free(rt: HostRuntime) -> Result<(), Fail> {
     for &script in &[
@@ -146,11 +148,7 @@ fn saved_names_must_be_free(rt: HostRuntime) -> Result<(), Fail> {
         "save a 0 0 0 1 1 1\nsave a 0 0 0 1 1 1\n",
         "at 9 save a 0 0 0 1 1 1\nsave a 0 0 0 1 1 1\n",
     ] {
-        let mut shelf = shelf_with(rt.alloc(), script.as_bytes())?;
-        let (ended, out) = ask(rt.alloc(), "run --side 8 --journal j one.vox s", &mut shelf)?;
-        assert_eq!(rt; ended, 1, "at {script}");
-        assert_eq!(rt; out.bytes(), b"voxdag: usage\n".as_slice());
-        assert!(rt; has(&shelf, "s.out", None), "at {script}");
+        assert!(rt; is_usage(rt.alloc(), script)?, "at {script}");
     }
     Ok(())
 }
@@ -189,17 +187,20 @@ XYZI\x14\xf8\0\0\0\0\0\0\x04\x3e\0\0",
     Ok(file)
 }
 
+// Whether a script of so many saves ends so.
+fn is_ended(alloc: Global, saves: u32, status: u8, printed: &str) -> Result<bool, Fail> {
+    let script = repeated(alloc, "save a 0 0 0 1 1 1\n", saves)?;
+    let mut shelf = shelf_with(alloc, script.as_slice())?;
+    Ok(ends(alloc, "run --side 8 one.vox s", &mut shelf, status, printed)?)
+}
+
 #[test]
 fn a_script_saves_16_times(rt: HostRuntime) -> Result<(), Fail> {
     for &(saves, status, printed) in &[
         (16, 1, "voxdag: usage\n"),
         (17, 5, "voxdag: script 0 17 8\n"),
     ] {
-        let script = repeated(rt.alloc(), "save a 0 0 0 1 1 1\n", saves)?;
-        let mut shelf = shelf_with(rt.alloc(), script.as_slice())?;
-        let (ended, out) = ask(rt.alloc(), "run --side 8 one.vox s", &mut shelf)?;
-        assert_eq!(rt; ended, status);
-        assert_eq!(rt; out.bytes(), printed.as_bytes());
+        assert!(rt; is_ended(rt.alloc(), saves, status, printed)?, "at {saves}");
     }
     Ok(())
 }

@@ -1,8 +1,8 @@
 //! Versions of a world: undone, redone, forgotten, asked again, and told by the report.
 
-use crate::asking::{ask, ends, has, holds_last, shelf_with};
 use std::alloc::{AllocError, Global};
 use std::test::Fail;
+use test_calls::{ask, ends, has, holds_last, shelf_with};
 use vw_io::Shelf;
 
 // The options of a run, its script, its transcript, and the line that it puts.
@@ -117,6 +117,22 @@ const REPORTS: &[Row] = &[
         "fill 0 0 0 1 1 1\nfill 1 0 0 1 1 1\nat 1 count 0 0 0 4 4 4\n",
         "1 @1 ok\n2 @1 full 0 0\n3 @1 count 1\n",
         "side 4\nrecords 1\nmarks 0\nversion 0 empty\nversion 1 root 1\nlevel 0 nodes 1\n",
+    ),
+    // a leaf is found again, and the second root has no room
+    (
+        "--side 8 --buckets 1 --cap 1",
+        "fill 0 0 0 1 1 1\nfill 4 0 0 1 1 1\n",
+        "1 @1 ok\n2 @1 full 1 0\n",
+        "side 8\nrecords 1\nmarks 0\nversion 0 empty\nversion 1 root 1\nlevel 0 nodes 1\n\
+         level 1 nodes 1\n",
+    ),
+    // a third leaf has none
+    (
+        "--side 8 --buckets 1 --cap 2",
+        "fill 0 0 0 1 1 1\nfill 4 0 0 2 1 1\nfill 0 4 0 3 1 1\n",
+        "1 @1 ok\n2 @2 ok\n3 @2 full 0 0\n",
+        "side 8\nrecords 2\nmarks 0\nversion 0 empty\nversion 1 root 1\nversion 2 root 2\n\
+         level 0 nodes 2\nlevel 1 nodes 2\n",
     ),
     // a world of 68,719,476,736 cells: no list of them is made in a test's time
     (

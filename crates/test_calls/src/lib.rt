@@ -1,0 +1,10 @@
+//! What tests ask the program's top call, over shelves and sinks in memory, and files to ask it
+//! about.
+#![tactic(auto)]
+
+mod asking;
+
+pub use asking::{
+    ANSWERS, GOOD, JOURNAL, ONE, REPORT, TWO, ask, ends, has, holds, holds_last, is_refused,
+    one_fault, repeated, shelf_with, words_of,
+};
