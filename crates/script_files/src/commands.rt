@@ -1,4 +1,4 @@
-ghost use Rattle.std.specs.Prelude.{◌≡◌, ◌≤◌, length, map, string_bytes, IfErr};
+ghost use Rattle.std.specs.Prelude.{◌≡◌, ◌≤◌, length, map, string_bytes, IfOk, IfErr};
 ghost use Rattle.script_files.specs.Commands.{scripts_asked};
 ghost use Rattle.script_files.specs.Outcomes.{Outcome};
 ghost use Rattle.script_files.specs.Refusals.{IsNamed};
@@ -8,9 +8,10 @@ use crate::counts::count_file;
 use crate::demos::{demo_order, run_demo};
 use crate::refusals::CommandRefused;
 use crate::requests::{FileName, Request};
-use crate::runs::run_files;
+use crate::runs::{run_files, transcript_names};
 use crate::tallies::Done;
 use std::alloc::Global;
+use vw_cell::Memory;
 use vw_io::Shelf;
 
 /// Does what is asked for, from files to files: a row for each command. The transcripts' names are
@@ -35,13 +36,15 @@ pub fn carry_out<'w, S: Shelf>(
     }
 }
 
-/// The names of the scripts whose transcripts a command writes.
-pub fn scripts_asked<'a>(asked: &'a Request<'_>) -> &'a [&'a str]
-    ensures { map (λ name. name.now) result.now ≡ scripts_asked asked.now }
+/// The names of the transcripts that a command writes: none but those of a run's scripts, or of a
+/// load's.
+pub fn names_written(alloc: Global, asked: &Request<'_>) -> Result<Vec<String>, Memory>
+    ensures { IfOk result (λ names. map string_bytes names.items
+        ≡ map transcript_name (scripts_asked asked.now)) }
 {
     match asked {
-        Request::Count(_) => &[],
-        Request::Run(order) => order.scripts,
-        Request::Demo(_) => demo_order().scripts,
+        Request::Count(_) => Ok(Vec::new(alloc)),
+        Request::Run(order) => transcript_names(alloc, order.scripts),
+        Request::Demo(_) => transcript_names(alloc, demo_order().scripts),
     }
 }

@@ -16,9 +16,8 @@ mod scripts;
 mod tallies;
 mod texts;
 
-pub use commands::{carry_out, scripts_asked};
+pub use commands::{carry_out, names_written};
 pub use demos::demo_order;
 pub use refusals::{CommandRefused, NumberedFault, OutputName, OutputRefused, TextRefused};
 pub use requests::{FileName, Order, Request};
-pub use runs::transcript_names;
 pub use tallies::{Done, LoadTally, Tally};

@@ -13,9 +13,7 @@ ghost use Rattle.voxdag_top.specs.Statuses.{IsOr, is_status, Finished, Unusable,
 use crate::endings::Ending;
 use crate::lines::{fault_room, finish};
 use crate::words::{request, words_of_a_run};
-use script_files::{
-    CommandRefused, Request, TextRefused, carry_out, scripts_asked, transcript_names,
-};
+use script_files::{CommandRefused, Request, TextRefused, carry_out, names_written};
 use std::alloc::Global;
 use vw_io::{Shelf, Sink};
 
@@ -112,7 +110,7 @@ fn command<S: Shelf, O: Sink>(
         (outside (S.state shelf.new) (O.state out.new)) result }
 {
     let lacking = Ending::Refused(CommandRefused::Text(TextRefused::Memory));
-    let Ok(names) = transcript_names(alloc, scripts_asked(asked)) else {
+    let Ok(names) = names_written(alloc, asked) else {
         return finish(alloc, &lacking, String::new(alloc), out);
     };
     let Ok(room) = String::with_capacity(alloc, fault_room(asked, names.as_slice())) else {
