@@ -1,10 +1,10 @@
-ghost use Rattle.std.specs.Prelude.{◌≡◌, ◌≤◌, [], Some, None, IsTrue, length, map, string_bytes, string_capacity};
+ghost use Rattle.std.specs.Prelude.{◌≡◌, ◌≤◌, [], Some, None, IsTrue, IfSome, length, map, string_bytes, string_capacity};
 ghost use Rattle.vw_io.specs.Outside.{Files, Rose, outside};
 ghost use Rattle.script_files.specs.Requests.{transcript_name};
 ghost use Rattle.script_files.specs.Commands.{scripts_asked};
 ghost use Rattle.script_files.specs.Verdicts.{Verdict};
 ghost use Rattle.command_line.specs.Texts.{texts};
-ghost use Rattle.voxdag_top.specs.Words.{request_of};
+ghost use Rattle.voxdag_top.specs.Words.{request_of, line_of};
 ghost use Rattle.voxdag_top.specs.Endings.{CommandEnds};
 ghost use Rattle.voxdag_top.specs.Finishing.{Runs, OutputsFit, IsEndingNamed};
 ghost use Rattle.voxdag_top.specs.Verdicts.{JudgesWords, status_for};
@@ -13,6 +13,7 @@ ghost use Rattle.voxdag_top.specs.Statuses.{IsOr, is_status, Finished, Unusable,
 use crate::endings::Ending;
 use crate::lines::{fault_room, finish};
 use crate::words::{request, words_of_a_run};
+use command_line::Line;
 use script_files::{CommandRefused, Request, TextRefused, carry_out, names_written};
 use std::alloc::Global;
 use vw_io::{Shelf, Sink};
@@ -81,16 +82,34 @@ pub fn voxdag<S: Shelf, O: Sink>(alloc: Global, words: &[String], shelf: &mut S,
 }
 
 // Does what the words ask for, and puts its line.
+#[tactic(auto, using(crate::proofs::Lacking::lacks))]
 fn answer<S: Shelf, O: Sink>(alloc: Global, words: &[String], shelf: &mut S, out: &mut O) -> u8
     ensures { Runs (request_of (texts words.now))
         (outside (S.state shelf.old) (O.state out.old))
         (outside (S.state shelf.new) (O.state out.new)) result }
 {
     let lacking = Ending::Refused(CommandRefused::Text(TextRefused::Memory));
-    let Ok(line) = words_of_a_run(alloc, words) else {
-        return finish(alloc, &lacking, String::new(alloc), out);
-    };
-    match request(words, &line) {
+    match words_of_a_run(alloc, words) {
+        Ok(line) => with_line(alloc, words, &line, shelf, out),
+        Err(_) => finish(alloc, &lacking, String::new(alloc), out),
+    }
+}
+
+// The same, where the words of a run were split.
+fn with_line<S: Shelf, O: Sink>(
+    alloc: Global,
+    words: &[String],
+    line: &Option<Line<'_>>,
+    shelf: &mut S,
+    out: &mut O,
+) -> u8
+    requires line { line.now ≡ line_of (texts words.now) }
+    requires few { IfSome line.now (λ l. length l.operands ≤ 65) }
+    ensures { Runs (request_of (texts words.now))
+        (outside (S.state shelf.old) (O.state out.old))
+        (outside (S.state shelf.new) (O.state out.new)) result }
+{
+    match request(words, line) {
         Some(asked) => command(alloc, &asked, shelf, out),
         None => finish(alloc, &Ending::Usage, String::new(alloc), out),
     }
