@@ -3,3 +3,4 @@ pub mod Writing
 pub mod Ending
 pub mod ScriptLists
 pub mod Loading
+pub mod Counting

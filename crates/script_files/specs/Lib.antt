@@ -9,3 +9,4 @@ pub mod Refusals
 pub mod Stages
 pub mod Verdicts
 pub mod Judging
+pub mod Commands

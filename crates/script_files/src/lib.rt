@@ -5,6 +5,7 @@
 //! `specs/Outcomes.antt` says what each answer means.
 #![tactic(auto)]
 
+mod commands;
 mod counts;
 mod demos;
 mod outputs;
@@ -15,9 +16,8 @@ mod scripts;
 mod tallies;
 mod texts;
 
-pub use counts::count_file;
-pub use demos::{demo_order, run_demo};
+pub use commands::{carry_out, names_written};
+pub use demos::demo_order;
 pub use refusals::{CommandRefused, NumberedFault, OutputName, OutputRefused, TextRefused};
 pub use requests::{FileName, Order, Request};
-pub use runs::{run_files, transcript_names};
 pub use tallies::{Done, LoadTally, Tally};

@@ -53,8 +53,8 @@ pub fn run_files<'w, S: Shelf>(
     }
 }
 
-/// The names of the transcripts: each is its script's with `.out` behind it.
-pub fn transcript_names(alloc: Global, scripts: &[&str]) -> Result<Vec<String>, Memory>
+// The names of the transcripts: each is its script's with `.out` behind it.
+pub(crate) fn transcript_names(alloc: Global, scripts: &[&str]) -> Result<Vec<String>, Memory>
     ensures { IfOk result (λ names. map string_bytes names.items
         ≡ map transcript_name (map (λ name. name.now) scripts.now)) }
 {

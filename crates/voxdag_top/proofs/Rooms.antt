@@ -10,6 +10,7 @@ use Rattle.vw_io.specs.declared.shelves.WriteRefused.TheVariants as writes
 use Rattle.script_files.specs.declared.refusals.CommandRefused.{CommandRefused}
 use Rattle.script_files.specs.declared.refusals.CommandRefused.TheVariants.{Input, Text, Output}
 use Rattle.script_files.specs.declared.requests.Request.TheVariants.{Count, Run, Demo}
+use Rattle.script_files.specs.declared.requests.Request.{Request}
 use Rattle.script_files.specs.Orders.{Asked}
 use Rattle.vox_read.specs.Contents.{Content}
 use Rattle.history_model.specs.Journal.{journal_of}
@@ -26,7 +27,7 @@ use Rattle.script_files.specs.Outcomes.{Outcome, BreaksOff}
 use Rattle.voxdag_top.specs.declared.endings.Ending.{Ending}
 use Rattle.voxdag_top.specs.declared.endings.Ending.TheVariants.{Completed, Usage, Refused}
 use Rattle.voxdag_top.specs.Endings.{CommandEnds}
-use Rattle.voxdag_top.specs.Finishing.{FitsIn, NamesFit, WriteHasRoom, RefusalHasRoom, HasLineRoom, IsEndingNamed}
+use Rattle.voxdag_top.specs.Finishing.{FitsIn, NamesFit, OutputsFit, WriteHasRoom, RefusalHasRoom, HasLineRoom, IsEndingNamed}
 
 -- the output's name fits
 abbrev pub NameFits : ℕ → Named → Type 0
@@ -96,13 +97,6 @@ count_write : (why : WriteRefused) (name : List ℕ) (file : List ℕ) (old new 
     → BreaksOff why name (Count file) old new → ⊥
 count_write why name file old new breaks = breaks.begins.begins
 
-pub count_refusal : (r : CommandRefused) (file : List ℕ) (old new : ShelfState)
-    → Outcome (Err r) (Count file) old new → RefusalHasRoom r 0
-count_refusal (Output r) file old new outcome =
-    absurd (count_write r.why (output_name r.name) file old new outcome)
-count_refusal (Input r) file old new outcome = tt
-count_refusal (Text r) file old new outcome = tt
-
 run_write : (why : WriteRefused) (name : List ℕ) (asked : Asked) (old new : ShelfState) (room : ℕ)
     → BreaksOff why name (Run asked) old new → NamesFit asked room → WriteHasRoom why name room
 run_write writes.Failed name asked old new room breaks fit =
@@ -111,23 +105,6 @@ run_write writes.Failed name asked old new room breaks fit =
     subst (λ (n : List ℕ). FitsIn room n) (sym at.named)
     (began_fits asked _ breaks.outputs at.first at.others at.output room fit began.begins at.parts)
 run_write writes.Memory name asked old new room breaks fit = tt
-
-run_refusal : (r : CommandRefused) (asked : Asked) (old new : ShelfState) (room : ℕ) → IsNamed r
-    → Outcome (Err r) (Run asked) old new → NamesFit asked room → RefusalHasRoom r room
-run_refusal (Output r) asked old new room named outcome fit =
-    (run_write r.why (output_name r.name) asked old new room outcome fit, named)
-run_refusal (Input r) asked old new room named outcome fit = tt
-run_refusal (Text r) asked old new room named outcome fit = tt
-
-pub run_has_room : (e : Ending) (asked : Asked) (old new : ShelfState) (room : ℕ)
-    → IsEndingNamed e → CommandEnds e (Run asked) old new → NamesFit asked room
-    → HasLineRoom e room
-run_has_room (Completed done) asked old new room named ends fit = tt
-run_has_room Usage asked old new room named ends fit = tt
-run_has_room (Refused r) asked old new room named ends fit =
-    run_refusal r asked old new room named ends fit
-
--- ---- `demo`
 
 demo_write : (why : WriteRefused) (name : List ℕ) (n : ℕ) (old new : ShelfState) (room : ℕ)
     → BreaksOff why name (Demo n) old new → NamesFit demo_asked room → WriteHasRoom why name room
@@ -139,16 +116,27 @@ demo_write writes.Failed name n old new room breaks fit =
     at.parts)
 demo_write writes.Memory name n old new room breaks fit = tt
 
-demo_refusal : (r : CommandRefused) (n : ℕ) (old new : ShelfState) (room : ℕ) → IsNamed r
-    → Outcome (Err r) (Demo n) old new → NamesFit demo_asked room → RefusalHasRoom r room
-demo_refusal (Output r) n old new room named outcome fit =
-    (demo_write r.why (output_name r.name) n old new room outcome fit, named)
-demo_refusal (Input r) n old new room named outcome fit = tt
-demo_refusal (Text r) n old new room named outcome fit = tt
+-- ---- whichever command it is
 
-pub demo_has_room : (e : Ending) (n : ℕ) (old new : ShelfState) (room : ℕ) → IsEndingNamed e
-    → CommandEnds e (Demo n) old new → NamesFit demo_asked room → HasLineRoom e room
-demo_has_room (Completed done) n old new room named ends fit = tt
-demo_has_room Usage n old new room named ends fit = tt
-demo_has_room (Refused r) n old new room named ends fit =
-    demo_refusal r n old new room named ends fit
+command_write : (why : WriteRefused) (name : List ℕ) (a : Request) (old new : ShelfState)
+    (room : ℕ) → BreaksOff why name a old new → OutputsFit a room → WriteHasRoom why name room
+command_write why name (Count file) old new room breaks fit =
+    absurd (count_write why name file old new breaks)
+command_write why name (Run asked) old new room breaks fit =
+    run_write why name asked old new room breaks fit
+command_write why name (Demo n) old new room breaks fit =
+    demo_write why name n old new room breaks fit
+
+command_refusal : (r : CommandRefused) (a : Request) (old new : ShelfState) (room : ℕ) → IsNamed r
+    → Outcome (Err r) a old new → OutputsFit a room → RefusalHasRoom r room
+command_refusal (Output r) a old new room named outcome fit =
+    (command_write r.why (output_name r.name) a old new room outcome fit, named)
+command_refusal (Input r) a old new room named outcome fit = tt
+command_refusal (Text r) a old new room named outcome fit = tt
+
+pub command_has_room : (e : Ending) (a : Request) (old new : ShelfState) (room : ℕ)
+    → IsEndingNamed e → CommandEnds e a old new → OutputsFit a room → HasLineRoom e room
+command_has_room (Completed done) a old new room named ends fit = tt
+command_has_room Usage a old new room named ends fit = tt
+command_has_room (Refused r) a old new room named ends fit =
+    command_refusal r a old new room named ends fit

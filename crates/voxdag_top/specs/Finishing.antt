@@ -6,6 +6,8 @@ use Rattle.vw_io.specs.declared.shelves.WriteRefused.TheVariants as writes
 use Rattle.script_files.specs.declared.refusals.CommandRefused.{CommandRefused}
 use Rattle.script_files.specs.declared.refusals.CommandRefused.TheVariants.{Input, Text, Output}
 use Rattle.script_files.specs.declared.requests.Request.{Request}
+use Rattle.script_files.specs.declared.requests.Request.TheVariants.{Count, Run, Demo}
+use Rattle.script_files.specs.Demos.{demo_asked}
 use Rattle.script_files.specs.Orders.{Asked}
 use Rattle.script_files.specs.Refusals.{output_name, IsOutputName, IsNamed}
 use Rattle.script_files.specs.Requests.{transcript_name}
@@ -46,6 +48,12 @@ pub record NamesFit (asked : Asked) (room : ℕ) : Type 0 where
   pub saved : 85 ≤ room
   pub journal : IfSome asked.journal (FitsIn room)
   pub report : IfSome asked.report (FitsIn room)
+
+-- and each output of a command
+abbrev pub OutputsFit : Request → ℕ → Type 0
+OutputsFit (Count file) room = ⊤
+OutputsFit (Run asked) room = NamesFit asked room
+OutputsFit (Demo n) room = NamesFit demo_asked room
 
 -- room of so many bytes is enough for the ending's line, where that line must be made
 abbrev pub WriteHasRoom : WriteRefused → List ℕ → ℕ → Type 0

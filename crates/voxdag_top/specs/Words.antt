@@ -81,10 +81,21 @@ abbrev pub run_planned : Option Layout → LineTexts → Option Request
 run_planned None line = None
 run_planned (Some plan) line = run_named plan line line.operands
 
-abbrev pub run_words : List (List ℕ) → Option Request
-run_words words =
+-- the texts of the words behind `run`, where they can stand there
+abbrev pub run_texts : List (List ℕ) → Option LineTexts
+run_texts words =
     let parts = parts_of words in
-    if are_of_a_run parts then run_planned (plan_in (line_texts parts)) (line_texts parts) else None
+    if are_of_a_run parts then Some (line_texts parts) else None
+
+abbrev pub run_asked : Option LineTexts → Option Request
+run_asked None = None
+run_asked (Some line) = run_planned (plan_in line) line
+
+-- the same of all words, where they are those of `run`
+abbrev pub line_of : List (List ℕ) → Option LineTexts
+line_of [] = None
+line_of (command ∷ others) =
+    if bytes_eq command (codes "run") then run_texts others else None
 
 -- `demo N`
 abbrev pub demo_of : Option ℕ → Option Request
@@ -98,9 +109,12 @@ demo_words _ = None
 -- what the words ask for, where they are in the grammar: `count FILE`; `demo N`; or `run`, and
 -- behind it in any order FILE SCRIPT .. and at most once each `--side s`, `--buckets b`,
 -- `--cap c`, `--journal J` and `--report P`
+abbrev pub named_request : List ℕ → List (List ℕ) → Option Request
+named_request command others =
+    if bytes_eq command (codes "count") then counted others
+    else (if bytes_eq command (codes "run") then run_asked (run_texts others)
+    else (if bytes_eq command (codes "demo") then demo_words others else None))
+
 abbrev pub request_of : List (List ℕ) → Option Request
 request_of [] = None
-request_of (command ∷ others) =
-    if bytes_eq command (codes "count") then counted others
-    else (if bytes_eq command (codes "run") then run_words others
-    else (if bytes_eq command (codes "demo") then demo_words others else None))
+request_of (command ∷ others) = named_request command others

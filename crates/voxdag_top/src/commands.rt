@@ -1,25 +1,20 @@
-ghost use Rattle.std.specs.Prelude.{◌≡◌, ◌≤◌, ◌∷◌, [], All, Some, None, IsTrue, IfSome, length, map, string_bytes, string_capacity};
+ghost use Rattle.std.specs.Prelude.{◌≡◌, ◌≤◌, [], Some, None, IsTrue, IfSome, length, map, string_bytes, string_capacity};
 ghost use Rattle.vw_io.specs.Outside.{Files, Rose, outside};
-ghost use Rattle.script_files.specs.declared.requests.Request.TheVariants.{Count, Run, Demo};
 ghost use Rattle.script_files.specs.Requests.{transcript_name};
-ghost use Rattle.script_files.specs.Demos.{demo_asked};
+ghost use Rattle.script_files.specs.Commands.{scripts_asked};
 ghost use Rattle.script_files.specs.Verdicts.{Verdict};
 ghost use Rattle.command_line.specs.Texts.{texts};
-ghost use Rattle.voxdag_top.specs.Words.{request_of, counted, demo_words, run_words, run_planned, plan_in};
+ghost use Rattle.voxdag_top.specs.Words.{request_of, line_of};
 ghost use Rattle.voxdag_top.specs.Endings.{CommandEnds};
-ghost use Rattle.voxdag_top.specs.Finishing.{Runs, NamesFit, HasLineRoom, IsEndingNamed};
+ghost use Rattle.voxdag_top.specs.Finishing.{Runs, OutputsFit, IsEndingNamed};
 ghost use Rattle.voxdag_top.specs.Verdicts.{JudgesWords, status_for};
 ghost use Rattle.voxdag_top.specs.Statuses.{IsOr, is_status, Finished, Unusable, Missed, Faulted, VoxRefused, ScriptRefused, WriteFailed, OutFailed, LacksMemory, Exceeded};
-ghost use Rattle.voxdag_top.specs.Lines.{write_fault_line};
 
 use crate::endings::Ending;
-use crate::lines::{finish, write_fault_room};
-use crate::words::{number_in, plan_in};
-use command_line::{Line, are_of_a_run, is_operand, split};
-use script_files::{
-    CommandRefused, FileName, Order, TextRefused, count_file, demo_order, run_demo, run_files,
-    transcript_names,
-};
+use crate::lines::{fault_room, finish};
+use crate::words::{request, words_of_a_run};
+use command_line::Line;
+use script_files::{CommandRefused, Request, TextRefused, carry_out, names_written};
 use std::alloc::Global;
 use vw_io::{Shelf, Sink};
 
@@ -87,246 +82,97 @@ pub fn voxdag<S: Shelf, O: Sink>(alloc: Global, words: &[String], shelf: &mut S,
 }
 
 // Does what the words ask for, and puts its line.
+#[tactic(auto, using(crate::proofs::Lacking::lacks))]
 fn answer<S: Shelf, O: Sink>(alloc: Global, words: &[String], shelf: &mut S, out: &mut O) -> u8
     ensures { Runs (request_of (texts words.now))
         (outside (S.state shelf.old) (O.state out.old))
         (outside (S.state shelf.new) (O.state out.new)) result }
 {
-    match words {
-        [] => finish(alloc, &Ending::Usage, String::new(alloc), out),
-        [command, others @ ..] => named(alloc, command.as_str(), others, shelf, out),
-    }
-}
-
-fn named<S: Shelf, O: Sink>(
-    alloc: Global,
-    command: &str,
-    words: &[String],
-    shelf: &mut S,
-    out: &mut O,
-) -> u8
-    ensures { Runs (request_of (command.now ∷ texts words.now))
-        (outside (S.state shelf.old) (O.state out.old))
-        (outside (S.state shelf.new) (O.state out.new)) result }
-{
-    if command == "count" {
-        return counted_words(alloc, words, shelf, out);
-    }
-    if command == "run" {
-        return run_words(alloc, words, shelf, out);
-    }
-    if command == "demo" {
-        return demo_words(alloc, words, shelf, out);
-    }
-    finish(alloc, &Ending::Usage, String::new(alloc), out)
-}
-
-fn counted_words<S: Shelf, O: Sink>(
-    alloc: Global,
-    words: &[String],
-    shelf: &mut S,
-    out: &mut O,
-) -> u8
-    ensures { Runs (counted (texts words.now))
-        (outside (S.state shelf.old) (O.state out.old))
-        (outside (S.state shelf.new) (O.state out.new)) result }
-{
-    match words {
-        [file] if is_operand(file.as_str()) => {
-            let file = FileName {
-                text: file.as_str(),
-            };
-            count(alloc, file, shelf, out)
-        }
-        _ => finish(alloc, &Ending::Usage, String::new(alloc), out),
-    }
-}
-
-// The words behind `run`: they are read as options and operands first, and their numbers then.
-fn run_words<S: Shelf, O: Sink>(alloc: Global, words: &[String], shelf: &mut S, out: &mut O) -> u8
-    ensures { Runs (run_words (texts words.now))
-        (outside (S.state shelf.old) (O.state out.old))
-        (outside (S.state shelf.new) (O.state out.new)) result }
-{
-    if !are_of_a_run(words) {
-        return finish(alloc, &Ending::Usage, String::new(alloc), out);
-    }
     let lacking = Ending::Refused(CommandRefused::Text(TextRefused::Memory));
-    match split(alloc, words) {
-        Ok(line) => run_line(alloc, &line, shelf, out),
+    match words_of_a_run(alloc, words) {
+        Ok(line) => with_line(alloc, words, &line, shelf, out),
         Err(_) => finish(alloc, &lacking, String::new(alloc), out),
     }
 }
 
-fn run_line<S: Shelf, O: Sink>(alloc: Global, line: &Line<'_>, shelf: &mut S, out: &mut O) -> u8
-    requires few { length line.now.operands ≤ 65 }
-    ensures { Runs (run_planned (plan_in line.now) line.now)
+// The same, where the words of a run were split.
+fn with_line<S: Shelf, O: Sink>(
+    alloc: Global,
+    words: &[String],
+    line: &Option<Line<'_>>,
+    shelf: &mut S,
+    out: &mut O,
+) -> u8
+    requires line { line.now ≡ line_of (texts words.now) }
+    requires few { IfSome line.now (λ l. length l.operands ≤ 65) }
+    ensures { Runs (request_of (texts words.now))
         (outside (S.state shelf.old) (O.state out.old))
         (outside (S.state shelf.new) (O.state out.new)) result }
 {
-    let Some(plan) = plan_in(line) else {
-        return finish(alloc, &Ending::Usage, String::new(alloc), out);
-    };
-    match line.operands.as_slice() {
-        [] => finish(alloc, &Ending::Usage, String::new(alloc), out),
-        [file, scripts @ ..] => {
-            let order = Order {
-                plan,
-                journal: line.journal,
-                report: line.report,
-                file: *file,
-                scripts,
-            };
-            run(alloc, &order, shelf, out)
-        }
-    }
-}
-
-fn demo_words<S: Shelf, O: Sink>(alloc: Global, words: &[String], shelf: &mut S, out: &mut O) -> u8
-    ensures { Runs (demo_words (texts words.now))
-        (outside (S.state shelf.old) (O.state out.old))
-        (outside (S.state shelf.new) (O.state out.new)) result }
-{
-    match number_in(words) {
-        Some(n) => demo(alloc, n, shelf, out),
+    match request(words, line) {
+        Some(asked) => command(alloc, &asked, shelf, out),
         None => finish(alloc, &Ending::Usage, String::new(alloc), out),
     }
 }
 
-// Runs a load, once there are the transcripts' names, and room for the line of an output's fault.
-fn demo<S: Shelf, O: Sink>(alloc: Global, n: u32, shelf: &mut S, out: &mut O) -> u8
-    ensures { Runs (Some (Demo n))
-        (outside (S.state shelf.old) (O.state out.old))
-        (outside (S.state shelf.new) (O.state out.new)) result }
-{
-    let order = demo_order();
-    let lacking = Ending::Refused(CommandRefused::Text(TextRefused::Memory));
-    match transcript_names(alloc, order.scripts) {
-        Ok(names) => match String::with_capacity(
-            alloc,
-            write_fault_room(&order, names.as_slice()),
-        ) {
-            Ok(room) => demo_named(alloc, n, names.as_slice(), room, shelf, out),
-            Err(_) => finish(alloc, &lacking, String::new(alloc), out),
-        },
-        Err(_) => finish(alloc, &lacking, String::new(alloc), out),
-    }
-}
-
-#[tactic(auto, using(crate::proofs::Rooms::demo_has_room))]
-fn demo_named<S: Shelf, O: Sink>(
+// Does what is asked for, once there are the transcripts' names, and room for the line of a fault
+// at an output.
+fn command<S: Shelf, O: Sink>(
     alloc: Global,
-    n: u32,
-    transcripts: &[String],
-    room: String,
+    asked: &Request<'_>,
     shelf: &mut S,
     out: &mut O,
 ) -> u8
-    requires named { map string_bytes transcripts.now ≡ map transcript_name demo_asked.scripts }
-    requires empty { string_bytes room ≡ [] }
-    requires fits { NamesFit demo_asked (string_capacity room) }
-    ensures { Runs (Some (Demo n))
-        (outside (S.state shelf.old) (O.state out.old))
-        (outside (S.state shelf.new) (O.state out.new)) result }
-{
-    let ending = shown(alloc, n, transcripts, shelf);
-    finish(alloc, &ending, room, out)
-}
-
-fn shown<'w, S: Shelf>(
-    alloc: Global,
-    n: u32,
-    transcripts: &'w [String],
-    shelf: &mut S,
-) -> Ending<'w>
-    requires { map string_bytes transcripts.now ≡ map transcript_name demo_asked.scripts }
-    ensures ends { CommandEnds result (Demo n) (S.state shelf.old) (S.state shelf.new) }
-    ensures named { IsEndingNamed result }
-{
-    match run_demo(alloc, n, transcripts, shelf) {
-        Ok(told) => Ending::Completed(told),
-        Err(refused) => Ending::Refused(refused),
-    }
-}
-
-fn count<S: Shelf, O: Sink>(alloc: Global, file: FileName<'_>, shelf: &mut S, out: &mut O) -> u8
-    ensures { Runs (Some (Count file.entry))
-        (outside (S.state shelf.old) (O.state out.old))
-        (outside (S.state shelf.new) (O.state out.new)) result }
-{
-    let ending = counted(alloc, file, shelf);
-    finish(alloc, &ending, String::new(alloc), out)
-}
-
-#[tactic(auto, using(crate::proofs::Rooms::count_refusal))]
-fn counted<'w, S: Shelf>(alloc: Global, file: FileName<'w>, shelf: &mut S) -> Ending<'w>
-    ensures ends { CommandEnds result (Count file.entry) (S.state shelf.old) (S.state shelf.new) }
-    ensures room { HasLineRoom result 0 }
-{
-    match count_file(alloc, file, shelf) {
-        Ok(counted) => Ending::Completed(counted),
-        Err(refused) => Ending::Refused(refused),
-    }
-}
-
-// Runs the scripts, once there are the transcripts' names, and room for the line of a fault at an
-// output.
-fn run<S: Shelf, O: Sink>(alloc: Global, order: &Order<'_>, shelf: &mut S, out: &mut O) -> u8
-    requires few { length order.now.scripts ≤ 64 }
-    ensures { Runs (Some (Run order.now))
+    requires few { length (scripts_asked asked.now) ≤ 64 }
+    ensures { Runs (Some asked.now)
         (outside (S.state shelf.old) (O.state out.old))
         (outside (S.state shelf.new) (O.state out.new)) result }
 {
     let lacking = Ending::Refused(CommandRefused::Text(TextRefused::Memory));
-    match transcript_names(alloc, order.scripts) {
-        Ok(names) => match String::with_capacity(alloc, write_fault_room(order, names.as_slice())) {
-            Ok(room) => run_named(alloc, order, names.as_slice(), room, shelf, out),
-            Err(_) => finish(alloc, &lacking, String::new(alloc), out),
-        },
-        Err(_) => finish(alloc, &lacking, String::new(alloc), out),
-    }
-}
-
-#[tactic(auto, using(crate::proofs::Rooms::run_has_room))]
-fn run_named<S: Shelf, O: Sink>(
-    alloc: Global,
-    order: &Order<'_>,
-    transcripts: &[String],
-    room: String,
-    shelf: &mut S,
-    out: &mut O,
-) -> u8
-    requires few { length order.now.scripts ≤ 64 }
-    requires named { map string_bytes transcripts.now ≡ map transcript_name order.now.scripts }
-    requires empty { string_bytes room ≡ [] }
-    requires fits { NamesFit order.now (string_capacity room) }
-    ensures { Runs (Some (Run order.now))
-        (outside (S.state shelf.old) (O.state out.old))
-        (outside (S.state shelf.new) (O.state out.new)) result }
-{
-    let asked = Order {
-        plan: order.plan,
-        journal: order.journal,
-        report: order.report,
-        file: order.file,
-        scripts: order.scripts,
+    let Ok(names) = names_written(alloc, asked) else {
+        return finish(alloc, &lacking, String::new(alloc), out);
     };
-    let ending = ran(alloc, &asked, transcripts, shelf);
+    let Ok(room) = String::with_capacity(alloc, fault_room(asked, names.as_slice())) else {
+        return finish(alloc, &lacking, String::new(alloc), out);
+    };
+    named(alloc, asked, names.as_slice(), room, shelf, out)
+}
+
+#[tactic(auto, using(crate::proofs::Rooms::command_has_room))]
+fn named<S: Shelf, O: Sink>(
+    alloc: Global,
+    asked: &Request<'_>,
+    transcripts: &[String],
+    room: String,
+    shelf: &mut S,
+    out: &mut O,
+) -> u8
+    requires few { length (scripts_asked asked.now) ≤ 64 }
+    requires named { map string_bytes transcripts.now
+        ≡ map transcript_name (scripts_asked asked.now) }
+    requires empty { string_bytes room ≡ [] }
+    requires fits { OutputsFit asked.now (string_capacity room) }
+    ensures { Runs (Some asked.now)
+        (outside (S.state shelf.old) (O.state out.old))
+        (outside (S.state shelf.new) (O.state out.new)) result }
+{
+    let ending = ended(alloc, asked, transcripts, shelf);
     finish(alloc, &ending, room, out)
 }
 
-fn ran<'w, S: Shelf>(
+fn ended<'w, S: Shelf>(
     alloc: Global,
-    order: &Order<'w>,
+    asked: &Request<'w>,
     transcripts: &'w [String],
     shelf: &mut S,
 ) -> Ending<'w>
-    requires few { length order.now.scripts ≤ 64 }
-    requires named { map string_bytes transcripts.now ≡ map transcript_name order.now.scripts }
-    ensures ends { CommandEnds result (Run order.now) (S.state shelf.old) (S.state shelf.new) }
+    requires few { length (scripts_asked asked.now) ≤ 64 }
+    requires named { map string_bytes transcripts.now
+        ≡ map transcript_name (scripts_asked asked.now) }
+    ensures ends { CommandEnds result asked.now (S.state shelf.old) (S.state shelf.new) }
     ensures named { IsEndingNamed result }
 {
-    match run_files(alloc, order, transcripts, shelf) {
+    match carry_out(alloc, asked, transcripts, shelf) {
         Ok(done) => Ending::Completed(done),
         Err(refused) => Ending::Refused(refused),
     }

@@ -4,12 +4,13 @@ ghost use Rattle.voxdag_top.specs.Lines.{done_line, run_line, demo_lines, region
 ghost use Rattle.voxdag_top.specs.Endings.{ending_line, refused_line, text_line, status_of, refused_status, MayLackLine, RefusalMayLackLine, WriteMayLackLine};
 ghost use Rattle.script_files.specs.Refusals.{output_name, IsOutputName};
 ghost use Rattle.script_files.specs.Requests.{transcript_name};
-ghost use Rattle.voxdag_top.specs.Finishing.{PutEnds, Finishes, NamesFit, HasLineRoom, RefusalHasRoom, WriteHasRoom};
+ghost use Rattle.script_files.specs.Commands.{scripts_asked};
+ghost use Rattle.voxdag_top.specs.Finishing.{PutEnds, Finishes, NamesFit, OutputsFit, HasLineRoom, RefusalHasRoom, WriteHasRoom};
 
 use crate::endings::Ending;
 use script_files::{
-    CommandRefused, Done, LoadTally, NumberedFault, Order, OutputName, OutputRefused, Tally,
-    TextRefused,
+    CommandRefused, Done, LoadTally, NumberedFault, Order, OutputName, OutputRefused, Request,
+    Tally, TextRefused, demo_order,
 };
 use std::alloc::{AllocError, Global};
 use vw_io::{InputRefused, PutRefused, ReadRefused, Sink, WriteRefused};
@@ -233,8 +234,20 @@ fn write_fault_line(name: &str, room: String) -> Result<String, AllocError>
 /// The most bytes of a name under which a script saves.
 const SAVE_NAME: usize = 64;
 
-// The length of the longest line that tells a fault of an output of this run.
-pub(crate) fn write_fault_room(order: &Order<'_>, transcripts: &[String]) -> usize
+// The length of the longest line that tells a fault of an output of this command.
+pub(crate) fn fault_room(asked: &Request<'_>, transcripts: &[String]) -> usize
+    requires { map string_bytes transcripts.now ≡ map transcript_name (scripts_asked asked.now) }
+    ensures { OutputsFit asked.now result }
+{
+    match asked {
+        Request::Count(_) => 0,
+        Request::Run(order) => write_fault_room(order, transcripts),
+        Request::Demo(_) => write_fault_room(&demo_order(), transcripts),
+    }
+}
+
+// The same of this run.
+fn write_fault_room(order: &Order<'_>, transcripts: &[String]) -> usize
     requires { map string_bytes transcripts.now ≡ map transcript_name order.now.scripts }
     ensures { NamesFit order.now result }
 {

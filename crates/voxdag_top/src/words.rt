@@ -1,15 +1,138 @@
-ghost use Rattle.std.specs.Prelude.{◌≡◌, ◌^◌, None, Some, MatchOption};
+ghost use Rattle.std.specs.Prelude.{◌≡◌, ◌≤◌, ◌∷◌, ◌^◌, None, Some, IfOk, IfSome, length, MatchOption};
 ghost use Rattle.std.specs.Option.{option_map};
 ghost use Rattle.command_line.specs.Texts.{texts};
-ghost use Rattle.voxdag_top.specs.Words.{demo_of, demo_words, exponent_of, short_number, plan_for, side_of, side_told, cap_told, plan_with, plan_by, plan_told, plan_in};
+ghost use Rattle.script_files.specs.Commands.{scripts_asked};
+ghost use Rattle.voxdag_top.specs.Words.{request_of, run_texts, line_of, named_request, counted, run_asked, run_planned, demo_of, demo_words, exponent_of, short_number, plan_for, side_of, side_told, cap_told, plan_with, plan_by, plan_told, plan_in};
 
-use command_line::Line;
+use command_line::{Line, are_of_a_run, is_operand, split};
 use node_words::Plan;
 use script::number;
+use script_files::{FileName, Order, Request};
+use std::alloc::{AllocError, Global};
 use vw_cell::Side;
 
+/// The words behind `run` as options and operands, where they can stand there. Nothing else of what
+/// the words ask for takes memory.
+pub(crate) fn words_of_a_run(
+    alloc: Global,
+    words: &[String],
+) -> Result<Option<Line<'_>>, AllocError>
+    ensures line { IfOk result (λ line. line ≡ line_of (texts words.now)) }
+    ensures few { IfOk result (λ line. IfSome line (λ l. length l.operands ≤ 65)) }
+{
+    match words {
+        [command, others @ ..] if command.as_str() == "run" => run_texts(alloc, others),
+        _ => Ok(None),
+    }
+}
+
+fn run_texts(alloc: Global, words: &[String]) -> Result<Option<Line<'_>>, AllocError>
+    ensures line { IfOk result (λ line. line ≡ run_texts (texts words.now)) }
+    ensures few { IfOk result (λ line. IfSome line (λ l. length l.operands ≤ 65)) }
+{
+    if !are_of_a_run(words) {
+        return Ok(None);
+    }
+    let line = split(alloc, words)?;
+    Ok(Some(line))
+}
+
+/// What the words ask for, where they are in the grammar: a row for each command.
+pub(crate) fn request<'w>(words: &'w [String], line: &'w Option<Line<'w>>) -> Option<Request<'w>>
+    requires line { line.now ≡ line_of (texts words.now) }
+    requires few { IfSome line.now (λ l. length l.operands ≤ 65) }
+    ensures asked { result ≡ request_of (texts words.now) }
+    ensures few { IfSome result (λ a. length (scripts_asked a) ≤ 64) }
+{
+    match words {
+        [] => None,
+        [command, others @ ..] => named_request(command.as_str(), others, line),
+    }
+}
+
+fn named_request<'w>(
+    command: &str,
+    words: &'w [String],
+    line: &'w Option<Line<'w>>,
+) -> Option<Request<'w>>
+    requires line { line.now ≡ line_of (command.now ∷ texts words.now) }
+    requires few { IfSome line.now (λ l. length l.operands ≤ 65) }
+    ensures asked { result ≡ named_request command.now (texts words.now) }
+    ensures few { IfSome result (λ a. length (scripts_asked a) ≤ 64) }
+{
+    if command == "count" {
+        return counted(words);
+    }
+    if command == "run" {
+        return run_asked(line);
+    }
+    if command == "demo" {
+        return shown(words);
+    }
+    None
+}
+
+// `FILE`, the words of `count`.
+fn counted(words: &[String]) -> Option<Request<'_>>
+    ensures asked { result ≡ counted (texts words.now) }
+    ensures few { IfSome result (λ a. length (scripts_asked a) ≤ 64) }
+{
+    match words {
+        [file] if is_operand(file.as_str()) => {
+            let file = FileName {
+                text: file.as_str(),
+            };
+            Some(Request::Count(file))
+        }
+        _ => None,
+    }
+}
+
+// The words of `run`: they were read as options and operands, and their numbers are read now.
+fn run_asked<'w>(line: &'w Option<Line<'w>>) -> Option<Request<'w>>
+    requires few { IfSome line.now (λ l. length l.operands ≤ 65) }
+    ensures asked { result ≡ run_asked line.now }
+    ensures few { IfSome result (λ a. length (scripts_asked a) ≤ 64) }
+{
+    match line {
+        None => None,
+        Some(line) => run_planned(plan_in(line), line),
+    }
+}
+
+fn run_planned<'w>(plan: Option<Plan>, line: &'w Line<'w>) -> Option<Request<'w>>
+    requires few { length line.now.operands ≤ 65 }
+    ensures asked { result ≡ run_planned plan line.now }
+    ensures few { IfSome result (λ a. length (scripts_asked a) ≤ 64) }
+{
+    let plan = plan?;
+    match line.operands.as_slice() {
+        [] => None,
+        [file, scripts @ ..] => {
+            let order = Order {
+                plan,
+                journal: line.journal,
+                report: line.report,
+                file: *file,
+                scripts,
+            };
+            Some(Request::Run(order))
+        }
+    }
+}
+
 // `N`, the words of `demo`.
-pub(crate) fn number_in(words: &[String]) -> Option<u32>
+fn shown(words: &[String]) -> Option<Request<'_>>
+    ensures asked { result ≡ demo_words (texts words.now) }
+    ensures few { IfSome result (λ a. length (scripts_asked a) ≤ 64) }
+{
+    match number_in(words) {
+        Some(n) => Some(Request::Demo(n)),
+        None => None,
+    }
+}
+
+fn number_in(words: &[String]) -> Option<u32>
     ensures { demo_of result ≡ demo_words (texts words.now) }
 {
     match words {
@@ -19,7 +142,7 @@ pub(crate) fn number_in(words: &[String]) -> Option<u32>
 }
 
 // The plan that the options of a run tell, where their numbers are in their ranges.
-pub(crate) fn plan_in(line: &Line<'_>) -> Option<Plan>
+fn plan_in(line: &Line<'_>) -> Option<Plan>
     ensures { result ≡ plan_in line.now }
 {
     plan_told(side_told(line.side), line.buckets, cap_told(line.cap))

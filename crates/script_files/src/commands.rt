@@ -1,0 +1,50 @@
+ghost use Rattle.std.specs.Prelude.{◌≡◌, ◌≤◌, length, map, string_bytes, IfOk, IfErr};
+ghost use Rattle.script_files.specs.Commands.{scripts_asked};
+ghost use Rattle.script_files.specs.Outcomes.{Outcome};
+ghost use Rattle.script_files.specs.Refusals.{IsNamed};
+ghost use Rattle.script_files.specs.Requests.{transcript_name};
+
+use crate::counts::count_file;
+use crate::demos::{demo_order, run_demo};
+use crate::refusals::CommandRefused;
+use crate::requests::{FileName, Request};
+use crate::runs::{run_files, transcript_names};
+use crate::tallies::Done;
+use std::alloc::Global;
+use vw_cell::Memory;
+use vw_io::Shelf;
+
+/// Does what is asked for, from files to files: a row for each command. The transcripts' names are
+/// those of the scripts with `.out` behind them.
+#[tactic(auto, using(crate::proofs::Counting::count_named))]
+pub fn carry_out<'w, S: Shelf>(
+    alloc: Global,
+    asked: &Request<'w>,
+    transcripts: &'w [String],
+    shelf: &mut S,
+) -> Result<Done, CommandRefused<'w>>
+    requires few { length (scripts_asked asked.now) ≤ 64 }
+    requires named { map string_bytes transcripts.now
+        ≡ map transcript_name (scripts_asked asked.now) }
+    ensures outcome { Outcome result asked.now (S.state shelf.old) (S.state shelf.new) }
+    ensures named { IfErr result IsNamed }
+{
+    match asked {
+        Request::Count(file) => count_file(alloc, FileName { text: file.text }, shelf),
+        Request::Run(order) => run_files(alloc, order, transcripts, shelf),
+        Request::Demo(n) => run_demo(alloc, *n, transcripts, shelf),
+    }
+}
+
+/// The names of the transcripts that a command writes: none but those of a run's scripts, or of a
+/// load's.
+pub fn names_written(alloc: Global, asked: &Request<'_>) -> Result<Vec<String>, Memory>
+    ensures { IfOk result (λ names. map string_bytes names.items
+        ≡ map transcript_name (scripts_asked asked.now)) }
+{
+    match asked {
+        Request::Count(_) => Ok(Vec::new(alloc)),
+        Request::Run(order) => transcript_names(alloc, order.scripts),
+        Request::Demo(_) => transcript_names(alloc, demo_order().scripts),
+    }
+}
