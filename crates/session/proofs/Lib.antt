@@ -9,3 +9,6 @@ mod PinLaws
 mod SameLaws
 mod SeenLaws
 mod WorkLaws
+mod CloseLaws
+mod FileLaws
+mod SaveLaws

@@ -1,3 +1,5 @@
 pub mod Seen
 pub mod Resting
 pub mod Attempts
+pub mod Closes
+pub mod Saves

@@ -5,10 +5,16 @@ mod acts;
 mod asks;
 mod attempts;
 mod begin;
+mod closes;
+mod ended;
 mod forgets;
 mod heads;
 mod pins;
 mod sames;
+mod saves;
 mod world;
 
+pub use closes::CloseRefused;
+pub use ended::Ended;
+pub use saves::PinnedSave;
 pub use world::{Session, World};

@@ -1,0 +1,113 @@
+-- What a closed table tells of its passes is what a closed world tells of its sessions.
+use Rattle.std.proofs.Common.{◌≡◌, ℕ, suc, ◌+◌, ◌<◌, ◌^◌, Some, List, [], ◌∷◌, ◌++◌, length, get_or, refl, sym, ◌∙◌, ap, subst, arith}
+use Rattle.std.specs.Prelude.{All, map, sum_by}
+use Rattle.std.specs.List.{Contains, slice_get}
+use Rattle.std.proofs.lemmas.List.Elements.{All-append, All-contains_itself, All-map, All-nil, All-weaker}
+use Rattle.history_model.specs.declared.histories.Mark.{Mark}
+use Rattle.history_model.specs.declared.histories.Record.{Record}
+use Rattle.history_model.specs.Logs.{Log, IsLegal}
+use Rattle.node_shapes.specs.Shape.{Shape}
+use Rattle.node_words.specs.Enough.{HasEnough}
+use Rattle.node_words.specs.Held.{Wanted}
+use Rattle.conformance.specs.Answers.{GoesOn}
+use Rattle.version_answers.specs.Listing.{Accepted, Found, numbered}
+use Rattle.reporting.proofs.RootLaws.{log_side}
+use Rattle.table_rule.specs.Knowing as knowing
+use Rattle.table_rule.specs.LogKnowing.{WasFound, numbered_from}
+use Rattle.node_table.specs.Closing as closing
+use Rattle.node_table.specs.Closing.{EndsTable, HadEnough, IsSpare, TellsAll, views_of}
+use Rattle.node_table.specs.Seen.{TableSeen, PassSeen}
+use Rattle.node_table.specs.declared.closed.Closed.{Closed}
+use Rattle.session_runs.specs.Ran.{ClosesWorld, StillFound, records_of_all, marks_of_all, made_of_all, met_of_all}
+use Rattle.session_runs.specs.Seen.{SessionSeen}
+use Rattle.session.proofs.BeginLaws.{get_there}
+use Rattle.session.specs.Closes.{sessions_seen}
+use Rattle.session.specs.Resting.{IsAtRest}
+use Rattle.session.specs.Seen.{session_seen}
+
+-- sessions at rest that hold nothing may be handed to their table
+pub all_spare : (w : TableSeen) (passes : List PassSeen) → All (IsAtRest w) passes
+    → All (λ s. s.view.held ≡ []) passes → All (IsSpare w) passes
+all_spare w passes rest none = λ k d lt.
+    let r = rest k d lt in
+    record { of = r.of; turn = r.idle.bucket; log_turn = r.idle.log; held = none k d lt }
+
+all_there : {X : Type 0} (P : X → Type 0) (xs : List X) → ((x : X) → Contains xs x → P x) → All P xs
+all_there P xs each = All-weaker (Contains xs) P each xs (All-contains_itself xs)
+
+-- ---- the same lists, as sessions have them
+
+all_mapped : {X : Type 0} (P : X → Type 0) (f : PassSeen → X) (passes : List PassSeen)
+    → ((k : ℕ) (s : PassSeen) → slice_get passes k ≡ Some s → P (f s)) → All P (map f passes)
+all_mapped P f passes each = All-map P f passes (λ k d lt. each k (get_or passes k d) (get_there passes k d lt))
+
+records_same : (passes : List PassSeen) → records_of_all (sessions_seen passes) ≡ closing.all_records (views_of passes)
+records_same [] = refl
+records_same (s ∷ passes) = ap (λ (rs : List Accepted). s.view.log.records ++ rs) (records_same passes)
+
+marks_same : (passes : List PassSeen) → marks_of_all (sessions_seen passes) ≡ closing.all_marks (views_of passes)
+marks_same [] = refl
+marks_same (s ∷ passes) = ap (λ (ms : List Mark). s.view.log.marks ++ ms) (marks_same passes)
+
+made_same : (passes : List PassSeen) → made_of_all (sessions_seen passes) ≡ knowing.all_made (views_of passes)
+made_same [] = refl
+made_same (s ∷ passes) = ap (λ (ss : List Shape). s.view.made ++ ss) (made_same passes)
+
+numbered_same : (n : ℕ) (records : List Record) → numbered_from n records ≡ numbered n records
+unfolding numbered_from
+numbered_same n [] = refl
+numbered_same n (r ∷ more) =
+    ap (λ (rs : List Accepted). record { at = n; entry = r } ∷ rs)
+    (numbered_same (suc n) more ∙ ap (λ (k : ℕ). numbered k more) (let e : suc n ≡ n + 1 = omega arith in e))
+
+-- ---- what met full buckets
+
+met_of : (P : Wanted → Type 0) (passes : List PassSeen)
+    → ((k : ℕ) (s : PassSeen) → slice_get passes k ≡ Some s → (m : Wanted) → Contains s.view.met m → P m)
+    → All P (met_of_all (sessions_seen passes))
+met_of P [] each = All-nil P
+met_of P (s ∷ passes) each =
+    All-append P s.view.met (met_of_all (sessions_seen passes))
+    (all_there P s.view.met (each 0 s refl))
+    (met_of P passes (λ k t is. each (suc k) t is))
+
+-- ---- the world
+
+module _ (w : TableSeen) (passes : List PassSeen) (closed : Closed) (rest : All (IsAtRest w) passes)
+    (ends : EndsTable w closed) (tells : TellsAll closed.history passes) (had : HadEnough w.plan passes) where
+  legal : IsLegal (2 ^ w.plan.side) w.models closed.history
+  legal = subst (λ (log : Log). IsLegal (2 ^ w.plan.side) w.models log) (sym ends.history) ends.sound.versions.legal
+
+  goes_on_to : (k : ℕ) (d : PassSeen) → k < length passes → GoesOn (get_or passes k d).view.log.seen closed.history
+  goes_on_to k d lt =
+      let s = get_or passes k d in
+      let b = tells.seen k s (get_there passes k d lt) in
+      record {
+        side = log_side w.plan w.models closed.history legal ∙ sym (rest k d lt).side;
+        more = b.more;
+        records = b.records;
+        marks = all_there (Contains closed.history.marks) s.view.log.seen.marks b.marks;
+      }
+
+  was_found : (f : Found) → WasFound closed.history f → StillFound closed.history f
+  was_found f was = record { there = was.at; still = was.held }
+
+  found_of : (k : ℕ) (s : PassSeen) → slice_get passes k ≡ Some s → All (StillFound closed.history) s.view.log.found
+  found_of k s is = all_there (StillFound closed.history) s.view.log.found (λ f there. was_found f (tells.found k s is f there))
+
+  pub closes_world : ClosesWorld w.plan w.models (sessions_seen passes) closed.history
+  closes_world = record {
+    legal = legal;
+    seen = All-map (λ (s : SessionSeen). GoesOn s.log closed.history) (λ (s : PassSeen). session_seen s.view) passes goes_on_to;
+    found = all_mapped (λ (s : SessionSeen). All (StillFound closed.history) s.found) (λ (s : PassSeen). session_seen s.view) passes found_of;
+    records = record {
+      weighs = λ f.
+          ap (sum_by f) (sym (numbered_same 1 closed.history.records)) ∙ sym (tells.records f)
+          ∙ ap (sum_by f) (sym (records_same passes));
+    };
+    marks = record {
+      weighs = λ f. sym (tells.marks f) ∙ ap (sum_by f) (sym (marks_same passes));
+    };
+    enough = met_of (λ (m : Wanted). HasEnough w.plan (made_of_all (sessions_seen passes)) m.level m.bucket) passes
+        (λ k s is m there. subst (λ (ss : List Shape). HasEnough w.plan ss m.level m.bucket) (sym (made_same passes)) (had.each k s is m there));
+  }

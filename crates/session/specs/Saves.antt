@@ -1,0 +1,56 @@
+-- A session that holds the roots of what it saved.
+use Rattle.std.specs.Prelude.{◌≡◌, ℕ, ◌≤◌, Some, List, length, map, Result, Ok, Err}
+use Rattle.std.specs.List.{AllZip, Contains, sum_by}
+use Rattle.history_model.specs.Moments.{world_has}
+use Rattle.node_shapes.specs.declared.names.Name.{Name}
+use Rattle.node_shapes.specs.Shape.{ShowsCells}
+use Rattle.node_shapes.specs.Tree.{Tree, root_of, shape_of}
+use Rattle.node_shapes.specs.Weights.{weigh, weight_of}
+use Rattle.node_words.specs.Gathering.{Loses}
+use Rattle.block_contents.specs.Aligned.{top, world_block}
+use Rattle.transcript.specs.declared.answers.Answer.{Answer}
+use Rattle.transcript.specs.declared.answers.Answer.TheVariants as answers
+use Rattle.node_table.specs.Seen.{TableSeen}
+use Rattle.version_log.specs.declared.pinned.Pinned.{Pinned}
+use Rattle.version_answers.specs.declared.refusals.PinRefused.{PinRefused}
+use Rattle.session_runs.specs.declared.calls.SavedAt.{SavedAt}
+use Rattle.session_runs.specs.Seen.{SessionSeen}
+use Rattle.session.specs.declared.saves.PinnedSave.{PinnedSave}
+
+-- the session found the version without a mark at the pin's moment, which it has seen, and the tree
+-- has the pin's root, which is of the top level, and shows just the version's cells
+pub record IsSavedRoot (w : TableSeen) (s : SessionSeen) (p : Pinned) (t : Tree) : Type 0 where
+  pub version : p.version ≤ p.moment
+  pub moment : p.moment ≤ length s.log.records
+  pub found : Contains s.found (record { version = p.version; at = p.moment })
+  pub name : root_of t ≡ p.root
+  pub level : (n : Name) → p.root ≡ Some n → n.level ≡ top w.plan.side
+  pub shows : ShowsCells (world_block w.plan.side) (shape_of t)
+      (world_has w.models s.log.records p.version)
+
+-- what is held is one share of the root of each pin, where there is one
+pub record HoldsSaves (w : TableSeen) (s : SessionSeen) (held : List Tree) (pins : List Pinned)
+    : Type 0 where
+  pub trees : List Tree
+  pub are : AllZip (IsSavedRoot w s) pins trees
+  pub weighs : (f : Tree → ℕ) → weigh f held ≡ sum_by (weight_of f) trees
+
+abbrev pub pinned_versions : List Pinned → List ℕ
+pinned_versions pins = map (λ p. p.version) pins
+
+-- one share of the pin's root came, where there is one
+pub record AddsPin (w : TableSeen) (s : SessionSeen) (old new : List Tree) (p : Pinned) : Type 0
+  where
+    pub tree : Tree
+    pub is : IsSavedRoot w s p tree
+    pub gains : Loses new tree old
+
+-- how many cells the answer to a count tells
+abbrev pub cells_counted : Answer → ℕ
+cells_counted (answers.Count cells) = cells
+cells_counted _ = 0
+
+-- what was told of a save
+abbrev pub saved_told : Result PinnedSave PinRefused → Result SavedAt PinRefused
+saved_told (Ok p) = Ok p.saved
+saved_told (Err refused) = Err refused

@@ -1,0 +1,72 @@
+//! A world is closed.
+ghost use Rattle.std.specs.Prelude.{◌≡◌, [], All, IfErr, IfOk, vec_len};
+ghost use Rattle.node_table.specs.Closing.{EndsTable};
+ghost use Rattle.session_runs.specs.Ran.{ClosesWorld};
+ghost use Rattle.session.specs.Closes.{RefusesWorld, sessions_seen};
+ghost use Rattle.session.specs.Resting.{IsAtRest};
+
+use crate::ended::Ended;
+use crate::world::{Session, World};
+use node_table::TableCloseRefused;
+use std::alloc::Global;
+
+/// Why a world is not closed. All that was handed in comes back.
+pub enum CloseRefused<'m> {
+    /// There are not as many sessions as were made.
+    Count {
+        world: World<'m>,
+        sessions: Vec<Session>,
+        made: u16,
+    },
+    /// There was no room for the answer.
+    Memory {
+        world: World<'m>,
+        sessions: Vec<Session>,
+    },
+}
+
+impl<'m> World<'m> {
+    /// Takes all sessions of the world, and tells what it leaves: one history of all of them, from
+    /// which each saw a part. Refused, all comes back.
+    pub fn close(self, alloc: Global, sessions: Vec<Session>) -> Result<Ended, CloseRefused<'m>>
+        requires rest { All (IsAtRest self) sessions.items }
+        requires spare { All (λ s. s.view.held ≡ []) sessions.items }
+        ensures made { IfOk result (λ e. vec_len sessions ≡ self.entry.made) }
+        ensures ends { IfOk result (λ e. EndsTable self.entry e) }
+        ensures closes { IfOk result (λ e. ClosesWorld self.entry.plan self.entry.models
+            (sessions_seen sessions.items) e.history) }
+        ensures refused { IfErr result (λ e. RefusesWorld self.entry sessions.items e) }
+    {
+        let World {
+            table,
+            drawn,
+            models,
+        } = self;
+        match table.close(alloc, sessions) {
+            Ok(closed) => Ok(Ended::of(closed)),
+            Err(
+                TableCloseRefused::Count {
+                    table,
+                    passes,
+                    made,
+                },
+            ) => Err(CloseRefused::Count {
+                world: World {
+                    table,
+                    drawn,
+                    models,
+                },
+                sessions: passes,
+                made,
+            }),
+            Err(TableCloseRefused::Memory { table, passes }) => Err(CloseRefused::Memory {
+                world: World {
+                    table,
+                    drawn,
+                    models,
+                },
+                sessions: passes,
+            }),
+        }
+    }
+}

@@ -1,0 +1,36 @@
+//! What a closed world leaves.
+ghost use Rattle.std.specs.Prelude.{◌≡◌};
+
+use node_table::Closed;
+use std::marker::Model;
+
+/// What a closed world leaves: its history, the root of each kept version, and how many nodes of
+/// each level were live. [`World::close`](crate::World::close) alone makes one.
+#[derive(Drop)]
+pub struct Ended {
+    closed: Closed,
+}
+
+impl Model for Ended {
+    ghost use Rattle.node_table.specs.declared.closed.Closed.{Closed};
+
+    ghost Value = { Closed };
+
+    ghost view = { λ e. e.closed };
+}
+
+impl Ended {
+    // What closing a world's table left.
+    pub(crate) fn of(closed: Closed) -> Ended
+        ensures { result ≡ closed }
+    {
+        Ended { closed }
+    }
+
+    /// What the world's table left.
+    pub fn closed(&self) -> &Closed
+        ensures { result.now ≡ self.now }
+    {
+        &self.closed
+    }
+}

@@ -1,0 +1,154 @@
+//! Boxes of versions are saved: the version is pinned until its file is made.
+ghost use Rattle.std.specs.Prelude.{◌≡◌, ◌<◌, ◌≤◌, ◌^◌, ℕ, Some, [], IfErr, IfOk, length};
+ghost use Rattle.std.specs.List.{slice_get};
+ghost use Rattle.vw_cell.specs.Places.{FitsAt};
+ghost use Rattle.node_shapes.specs.Weights.{number_of_trees};
+ghost use Rattle.node_words.specs.Held.{SameHeld};
+ghost use Rattle.history_model.specs.Moments.{world_has};
+ghost use Rattle.extract.specs.Saved.{file_of_box};
+ghost use Rattle.table_rule.specs.Views.{seen_of};
+ghost use Rattle.hands.specs.Lendable.{IsLendable, StaysLendable};
+ghost use Rattle.node_table.specs.Seen.{SamePass};
+ghost use Rattle.version_log.specs.declared.pinned.Pinned.{Pinned};
+ghost use Rattle.session_runs.specs.Told.{SaveTold};
+ghost use Rattle.session.specs.Resting.{IsAtRest};
+ghost use Rattle.session.specs.Saves.{AddsPin, HoldsSaves, cells_counted, saved_told};
+ghost use Rattle.session.specs.Seen.{KnowsItself, of_world, session_seen};
+
+use crate::world::{Session, World};
+use extract::box_file;
+use hands::Hand;
+use history_model::Question;
+use node_words::Steps;
+use session_runs::SavedAt;
+use std::alloc::Global;
+use std::marker::Brand;
+use std::sync::Wait;
+use std::sync::ledger::{Blank, Ledger};
+use transcript::Answer;
+use version_answers::PinRefused;
+use version_log::Pinned;
+use vw_cell::{Boxed, Memory};
+
+/// What was told of a save, and the pin of its version. It must be spent.
+pub struct PinnedSave {
+    pub saved: SavedAt,
+    pub pin: Pinned,
+}
+
+// How many cells the answer to a count tells.
+fn cells_counted(answer: Answer) -> u64
+    ensures { result ≡ cells_counted answer }
+{
+    match answer {
+        Answer::Count(cells) => cells,
+        _ => 0,
+    }
+}
+
+impl<'m> World<'m> {
+    /// Pins this version, or the newest, and counts the set cells of the box.
+    pub fn pin_box<R: Wait, L: Ledger>(
+        &self,
+        rt: &R,
+        s: &mut Session,
+        version: Option<u32>,
+        part: Boxed,
+        steps: &mut Steps<L>,
+    ) -> Result<PinnedSave, PinRefused>
+        requires rest { IsAtRest self.now s.old }
+        requires fits { FitsAt part.at part.size (2 ^ self.now.plan.side) }
+        requires room { number_of_trees s.old.view.held ≤ 3900 }
+        ensures rest { IsAtRest self.now s.new }
+        ensures same { SamePass s.old s.new }
+        ensures told { (number : ℕ) → SaveTold (of_world self.now number) version part
+            (session_seen s.old.view) (session_seen s.new.view) (saved_told result) }
+        ensures pinned { IfOk result (λ p. AddsPin self.now (session_seen s.new.view)
+            s.old.view.held s.new.view.held p.pin) }
+        ensures held { IfErr result (λ e. SameHeld s.old.view.held s.new.view.held) }
+        ensures knows { KnowsItself s.new.view }
+    {
+        match self.pin(rt, s, version, steps) {
+            Ok(pin) => {
+                s.tell();
+                let answer = self.ask(s, &pin, &Question::Count(part));
+                let saved = SavedAt {
+                    at: pin.moment,
+                    cells: cells_counted(answer),
+                };
+                Ok(PinnedSave { saved, pin })
+            }
+            Err(refused) => Err(refused),
+        }
+    }
+
+    /// The file of a box at the version of the save of this number. It takes no turn and waits for
+    /// nobody.
+    pub fn saved_file(
+        &self,
+        alloc: Global,
+        s: &mut Session,
+        saves: &[Pinned],
+        k: usize,
+        part: Boxed,
+    ) -> Result<Vec<u8>, Memory>
+        requires ready { IsLendable self.now s.old }
+        requires holds { HoldsSaves self.now (session_seen s.old.view) s.old.view.held saves.now }
+        requires there { k < length saves.now }
+        requires inside { FitsAt part.at part.size (2 ^ self.now.plan.side) }
+        requires small { (part.size.x ≤ 256) × (part.size.y ≤ 256) × (part.size.z ≤ 256) }
+        ensures stays { StaysLendable self.now s.old s.new }
+        ensures seen { seen_of s.new.view ≡ seen_of s.old.view }
+        ensures file { IfOk result (λ file. (p : Pinned) → slice_get saves.now k ≡ Some p
+            → file.items ≡ file_of_box part
+            (world_has self.now.models s.old.view.log.seen.records p.version)) }
+    {
+        let side = self.table.plan().side();
+        let root = saves[k].root.as_ref();
+        let mut hand = Hand::new(&(), &self.table, s);
+        box_file(alloc, &mut hand, root, side, part)
+    }
+
+    /// Gives back what is held for saves, which is all that the session holds.
+    pub fn unpin_saves<R: Wait>(&self, rt: &R, s: &mut Session, saves: Vec<Pinned>)
+        requires rest { IsAtRest self.now s.old }
+        requires holds { HoldsSaves self.now (session_seen s.old.view) s.old.view.held saves.items }
+        requires few { length saves.items ≤ 3900 }
+        ensures rest { IsAtRest self.now s.new }
+        ensures same { SamePass s.old s.new }
+        ensures seen { session_seen s.new.view ≡ session_seen s.old.view }
+        ensures none { s.new.view.held ≡ [] }
+    {
+        unpin_over::<R, Brand>(rt, self, s, saves, Blank::new(1));
+    }
+}
+
+fn unpin_over<R: Wait, L: Ledger>(
+    rt: &R,
+    world: &World<'_>,
+    s: &mut Session,
+    mut saves: Vec<Pinned>,
+    blank: Blank,
+)
+    requires rest { IsAtRest world.now s.old }
+    requires holds { HoldsSaves world.now (session_seen s.old.view) s.old.view.held saves.items }
+    requires few { length saves.items ≤ 3900 }
+    requires name { blank.name ≡ L.name }
+    requires parts { blank.parts ≡ L.parts }
+    requires some { 0 < L.parts }
+    ensures rest { IsAtRest world.now s.new }
+    ensures same { SamePass s.old s.new }
+    ensures seen { session_seen s.new.view ≡ session_seen s.old.view }
+    ensures none { s.new.view.held ≡ [] }
+{
+    let mut steps: Steps<L> = Steps::start(blank);
+    while let Some(pin) = saves.pop() {
+        let Pinned {
+            version: _,
+            moment: _,
+            root,
+        } = pin;
+        world.give_root(rt, s, root, &mut steps);
+    }
+    saves.destroy_empty();
+}
