@@ -1,3 +1,4 @@
 pub mod Giving
 pub mod Making
 pub mod Overs
+pub mod Pairs

@@ -6,6 +6,10 @@ mod calls;
 #[cfg(test)]
 mod closes;
 #[cfg(test)]
+mod cores;
+#[cfg(test)]
+mod node_twins;
+#[cfg(test)]
 mod nodes;
 #[cfg(test)]
 mod shares;
@@ -13,5 +17,7 @@ mod shares;
 mod tests;
 #[cfg(test)]
 mod threads;
+#[cfg(test)]
+mod twins;
 #[cfg(test)]
 mod worlds;

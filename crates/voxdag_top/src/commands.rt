@@ -117,12 +117,7 @@ fn with_line<S: Shelf, O: Sink>(
 
 // Does what is asked for, once there are the transcripts' names, and room for the line of a fault
 // at an output.
-fn command<S: Shelf, O: Sink>(
-    alloc: Global,
-    asked: &Request<'_>,
-    shelf: &mut S,
-    out: &mut O,
-) -> u8
+fn command<S: Shelf, O: Sink>(alloc: Global, asked: &Request<'_>, shelf: &mut S, out: &mut O) -> u8
     requires few { length (scripts_asked asked.now) ≤ 64 }
     ensures { Runs (Some asked.now)
         (outside (S.state shelf.old) (O.state out.old))
