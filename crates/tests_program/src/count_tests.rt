@@ -111,7 +111,8 @@ fn are_cut(alloc: Global, cut: &Cut, is_framed: bool) -> Result<bool, Fail> {
         } else {
             44
         };
-        let file = changed(alloc, kept, 16, children as u8)?;
+        let children = u8::try_from(children).unwrap_or(44);
+        let file = changed(alloc, kept, 16, children)?;
         if !is_counted(alloc, file.as_slice(), status, want)? {
             return Ok(false);
         }
