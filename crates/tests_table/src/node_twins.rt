@@ -9,9 +9,9 @@ ghost use Rattle.node_table.specs.Closing.{IsSpare};
 use crate::calls::{begun, end, ended};
 use crate::cores::{Twin, all_three, gives, joins, joins_not, node_back, refuses, row_back};
 use edit_blocks::back_all;
+use hands::Hand;
 use node_table::{NodeTable, Pass};
 use node_words::{NodeRefused, NodeStore, Plan, Share, Steps, names_of};
-use pass_store::PassStore;
 use std::marker::Brand;
 use std::sync::Wait;
 use std::sync::ledger::{Blank, Ledger};
@@ -190,12 +190,12 @@ fn ends_alike<R: Wait, L: Ledger>(
     requires second { IsSpare table.now passes.1 }
 {
     let mut steps: Steps<L> = Steps::start(blank);
-    let (first, second) = passes;
-    let mut a = PassStore::new(rt, table, first);
-    let mut b = PassStore::new(rt, table, second);
+    let (mut first, mut second) = passes;
+    let mut a = Hand::new(rt, table, &mut first);
+    let mut b = Hand::new(rt, table, &mut second);
     let alike = nest(&mut a, &mut b, twin, (0, 1), 9, &mut steps);
-    end(a.into_pass());
-    end(b.into_pass());
+    end(first);
+    end(second);
     alike
 }
 

@@ -9,10 +9,10 @@ ghost use Rattle.node_table.specs.Closing.{IsSpare};
 use crate::calls::{begun, end, ended};
 use edit_blocks::back_if;
 use edit_ops::rebuild_box;
+use hands::Hand;
 use measure::count;
 use node_table::{NodeTable, Pass};
 use node_words::{NodeStore, Plan, Steps};
-use pass_store::PassStore;
 use std::marker::Brand;
 use std::sync::Wait;
 use std::sync::ledger::{Blank, Ledger};
@@ -52,7 +52,7 @@ fn counted<N: NodeStore, L: Ledger>(
 fn counted_over<R: Wait, L: Ledger>(
     rt: &R,
     table: &NodeTable,
-    pass: Pass,
+    mut pass: Pass,
     filled: Boxed,
     asked: Boxed,
     blank: Blank,
@@ -65,9 +65,9 @@ fn counted_over<R: Wait, L: Ledger>(
     requires asked { FitsAt asked.at asked.size (2 ^ table.now.plan.side) }
 {
     let side = table.plan().side();
-    let mut store = PassStore::new(rt, table, pass);
-    let number = counted::<PassStore<R>, L>(&mut store, side, filled, asked, blank);
-    end(store.into_pass());
+    let mut hand = Hand::new(rt, table, &mut pass);
+    let number = counted::<Hand<R>, L>(&mut hand, side, filled, asked, blank);
+    end(pass);
     number
 }
 
