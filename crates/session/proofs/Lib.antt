@@ -4,10 +4,13 @@ mod BeginLaws
 mod CommitLaws
 mod EditLaws
 mod ForgetLaws
+mod GoLaws
 mod MakeLaws
 mod PinLaws
 mod SameLaws
 mod SeenLaws
+mod SurelyLaws
+mod TurnLaws
 mod WorkLaws
 mod CloseLaws
 mod FileLaws

@@ -12,6 +12,9 @@ mod heads;
 mod pins;
 mod sames;
 mod saves;
+mod surely;
+mod turns;
+mod undoing;
 mod world;
 
 pub use closes::CloseRefused;
