@@ -1,6 +1,7 @@
 mod AskLaws
 mod AttemptLaws
 mod BeginLaws
+mod CellLaws
 mod CommitLaws
 mod EditLaws
 mod ForgetLaws

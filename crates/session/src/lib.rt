@@ -5,6 +5,7 @@ mod acts;
 mod asks;
 mod attempts;
 mod begin;
+mod cells;
 mod closes;
 mod ended;
 mod forgets;
