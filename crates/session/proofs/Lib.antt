@@ -16,3 +16,4 @@ mod WorkLaws
 mod CloseLaws
 mod FileLaws
 mod SaveLaws
+mod DeskLaws
