@@ -6,3 +6,4 @@ mod RunLaws
 mod ListLaws
 mod RegionLaws
 mod FileLaws
+mod ModelLaws

@@ -2,3 +2,4 @@ pub mod Ways
 pub mod Words
 pub mod Regions
 pub mod Rows
+pub mod Models

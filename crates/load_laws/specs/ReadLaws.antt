@@ -26,7 +26,7 @@ use Rattle.script.specs.declared.commands.ScriptLine.{ScriptLine}
 use Rattle.script.specs.Numbers.{loose, fits, box_in, ball_in}
 use Rattle.script.specs.Lines.{lines_of, is_comment}
 use Rattle.script.specs.Placing.{command_read, command_placed, stamp_placed, corner_in}
-use Rattle.script.specs.Commands.{command_spelled, question_rows, is_built}
+use Rattle.script.specs.Commands.{command_spelled, question_rows}
 use Rattle.script.specs.Scripts.{Reader, command_in, line_command, within_saves, saves_after, commands_from, commands_of}
 use Rattle.gen_load.specs.Loads.{edit_from, line_state, edits_from, edit_line, region_line, script_from}
 use Rattle.gen_load.specs.Regions.{BoxLiesIn, BallLiesIn, EditLiesIn, stamped_box}
@@ -141,10 +141,10 @@ text_read read number name ws command rest others few all plain is fits none mor
 
 -- how the load's scripts are read: all commands that are built, side 256, the load's model
 abbrev reads_with : Content → Reader
-reads_with model = command_read is_built 256 (model ∷ [])
+reads_with model = command_read 256 (model ∷ [])
 
 command_by : (model : Content) (name : List ℕ) (ws : List (List ℕ)) (command placed : Command)
-    → command_spelled is_built name ws ≡ Ok command
+    → command_spelled name ws ≡ Ok command
     → command_placed 256 (model ∷ []) command ≡ Ok placed → reads_with model name ws ≡ Ok placed
 unfolding command_read
 command_by model name ws command placed said is = rw said is
@@ -176,28 +176,28 @@ centre_short x b lies =
     record { x = omega (arith, cx); y = omega (arith, cy); z = omega (arith, cz) }
 
 fill_said : (b : Boxed) → IsShort b.at → IsShort b.size
-    → command_spelled is_built (codes "fill") (box_list b []) ≡ Ok (Edit (Fill b) false)
+    → command_spelled (codes "fill") (box_list b []) ≡ Ok (Edit (Fill b) false)
 unfolding act_spelled
 fill_said b at size = let read = box_read b at size in rw read refl
 
 erase_said : (b : Boxed) → IsShort b.at → IsShort b.size
-    → command_spelled is_built (codes "erase") (box_list b []) ≡ Ok (Edit (Erase b) false)
+    → command_spelled (codes "erase") (box_list b []) ≡ Ok (Edit (Erase b) false)
 unfolding act_spelled
 erase_said b at size = let read = box_read b at size in rw read refl
 
 ball_said : (b : ball.Ball) → IsShort b.centre → b.radius ≤ 256
-    → command_spelled is_built (codes "ball") (ball_list b) ≡ Ok (Edit (Ball b) false)
+    → command_spelled (codes "ball") (ball_list b) ≡ Ok (Edit (Ball b) false)
 unfolding act_spelled
 ball_said b centre radius = let read = ball_read b centre radius in rw read refl
 
 stamp_said : (at : Cell) → IsShort at
-    → command_spelled is_built (codes "stamp") (decimal 0 ∷ cell_list at []) ≡ Ok
+    → command_spelled (codes "stamp") (decimal 0 ∷ cell_list at []) ≡ Ok
     (Edit (Stamp 0 at) false)
 unfolding act_spelled
 stamp_said at short = let read = stamp_read at short in rw read refl
 
 count_said : (b : Boxed) → IsShort b.at → IsShort b.size
-    → command_spelled is_built (codes "count") (box_list b []) ≡ Ok (Ask None (Count b))
+    → command_spelled (codes "count") (box_list b []) ≡ Ok (Ask None (Count b))
 unfolding question_rows
 count_said b at size = let read = box_read b at size in rw read refl
 
@@ -379,7 +379,7 @@ edits_number g x (suc k) =
 abbrev pub ScriptsAreRead : Type 0
 ScriptsAreRead =
     (g x : ℕ) (model : Content) → model.size ≡ record { x = 32; y = 32; z = 32 } → x ≤ 192
-    → commands_of is_built 8 (model ∷ []) (script_from g x) ≡ Ok (commands_drawn g x)
+    → commands_of 8 (model ∷ []) (script_from g x) ≡ Ok (commands_drawn g x)
 
 pub scripts_are_read : ScriptsAreRead
 unfolding commands_of

@@ -109,7 +109,7 @@ spelled (Ok command) = Ok command
 spelled (Err fault) = Err (script_kind fault)
 
 -- the command of this name with the words behind it, in a world of this side and with these models
-unfoldable pub command_read : (List ℕ → Bool) → ℕ → List Content → List ℕ → List (List ℕ)
+unfoldable pub command_read : ℕ → List Content → List ℕ → List (List ℕ)
     → Result Command ScriptKind
-command_read known side models name words = spelled (command_spelled known name words) >>=
+command_read side models name words = spelled (command_spelled name words) >>=
     command_placed side models

@@ -1,20 +1,18 @@
 ghost use Rattle.std.specs.Prelude.{◌≡◌};
-ghost use Rattle.script.specs.Commands.{all_change_names, question_rows, is_among, is_row, is_built};
-
-// Whether the command of this name is built.
-pub(crate) fn is_built(name: &[u8]) -> bool
-    ensures { result ≡ is_built name.now }
-{
-    name != b"try".as_slice()
-}
+ghost use Rattle.script.specs.Commands.{all_change_names, change_names, question_rows, is_among, is_row};
 
 // Whether the name is that of a change.
 pub(crate) fn is_change(name: &[u8]) -> bool
     ensures { result ≡ is_among all_change_names name.now }
 {
-    name == b"undo".as_slice()
-        || name == b"redo".as_slice()
-        || name == b"fill".as_slice()
+    name == b"undo".as_slice() || name == b"redo".as_slice() || is_edit(name)
+}
+
+// Whether the name is that of an edit, which may stand behind `try`.
+pub(crate) fn is_edit(name: &[u8]) -> bool
+    ensures { result ≡ is_among change_names name.now }
+{
+    name == b"fill".as_slice()
         || name == b"erase".as_slice()
         || name == b"ball".as_slice()
         || name == b"carve".as_slice()

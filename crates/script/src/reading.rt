@@ -1,6 +1,5 @@
 ghost use Rattle.std.specs.Prelude.{◌≡◌, ◌≤◌, ◌^◌, All, IfOk, IfErr};
 ghost use Rattle.vox_read.specs.Contents.{AreModels};
-ghost use Rattle.script.specs.Commands.{is_built};
 ghost use Rattle.script.specs.Fitting.{CommandFits, RisesFrom};
 ghost use Rattle.script.specs.Placing.{command_read};
 ghost use Rattle.script.specs.Scripts.{command_in, line_command, within_saves, saves_after, commands_of, RefusesWords};
@@ -35,9 +34,9 @@ pub fn read_script(
 ) -> Result<Script, ScriptFault>
     requires { AreModels models.now }
     ensures read { IfOk result
-        (λ script. commands_of is_built side models.now bytes.now ≡ Ok script) }
+        (λ script. commands_of side models.now bytes.now ≡ Ok script) }
     ensures refused { IfErr result
-        (λ fault. RefusesWords fault (commands_of is_built side models.now bytes.now)) }
+        (λ fault. RefusesWords fault (commands_of side models.now bytes.now)) }
 
     // what follows from the language for every script
     ensures fits { IfOk result
@@ -72,7 +71,7 @@ fn read_within(
 ) -> Result<Option<Command>, ScriptKind>
     requires { AreModels models.now }
     ensures says { result ≡ within_saves saves
-        (line_command (command_read is_built (2 ^ side) models.now) number line.now) }
+        (line_command (command_read (2 ^ side) models.now) number line.now) }
     ensures few { IfOk result (λ _. number ≤ 100000) }
     ensures within { saves ≤ 16 → IfOk result (λ here. saves_after saves here ≤ 16) }
 {
@@ -102,7 +101,7 @@ fn read_line(
 ) -> Result<Option<Command>, ScriptKind>
     requires { AreModels models.now }
     ensures says { result ≡ line_command
-        (command_read is_built (2 ^ side) models.now) number line.now }
+        (command_read (2 ^ side) models.now) number line.now }
     ensures few { IfOk result (λ _. number ≤ 100000) }
 {
     if number > LINES {
@@ -118,7 +117,7 @@ fn read_line(
 #[tactic(auto, unfolding(crate::specs::Scripts::command_in))]
 fn read_words(words: &mut Words, side: Side, models: &Models) -> Result<Option<Command>, ScriptKind>
     requires { AreModels models.now }
-    ensures { result ≡ command_in (command_read is_built (2 ^ side) models.now) words.old }
+    ensures { result ≡ command_in (command_read (2 ^ side) models.now) words.old }
 {
     let Some(first) = words.next_word() else {
         return Ok(None);
@@ -138,7 +137,7 @@ fn read_command(
     models: &Models,
 ) -> Result<Command, ScriptKind>
     requires { AreModels models.now }
-    ensures { result ≡ command_read is_built (2 ^ side) models.now name.now words.old }
+    ensures { result ≡ command_read (2 ^ side) models.now name.now words.old }
 {
     match spell_command(name, words) {
         Ok(said) => place_command(&said, side, models),

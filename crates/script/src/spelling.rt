@@ -1,13 +1,13 @@
-ghost use Rattle.std.specs.Prelude.{◌≡◌, ◌≤◌, ◌++◌, false, Err, None, codes, length, take, drop};
+ghost use Rattle.std.specs.Prelude.{◌≡◌, ◌≤◌, ◌++◌, false, true, Err, None, codes, length, take, drop};
 ghost use Rattle.std.specs.Str.{bytes_eq};
 ghost use Rattle.script.specs.declared.commands.Command.TheVariants.{Ask, Head};
 ghost use Rattle.history_model.specs.declared.questions.Question.TheVariants.{Bounds};
 ghost use Rattle.plain_text.specs.declared.faults.WordFault.TheVariants.{Word};
 ghost use Rattle.plain_text.specs.Steps.{Gives};
-ghost use Rattle.script.specs.Commands.{is_built, change_row, question_rows, other_rows, command_read_by, read_known, at_words, get_spelled, count_spelled, faces_spelled, command_alone, way_spelled, sized, step_by, ray_spelled, save_name, save_spelled, of_version, forget_spelled, same_spelled, command_spelled};
+ghost use Rattle.script.specs.Commands.{change_row, tried_rows, question_rows, other_rows, command_read_by, at_words, try_words, get_spelled, count_spelled, faces_spelled, command_alone, way_spelled, sized, step_by, ray_spelled, save_name, save_spelled, of_version, forget_spelled, same_spelled, command_spelled};
 ghost use Rattle.script.specs.Said.{step_said, way_said, asked_command, name_said, query_command, command_said};
 
-use crate::names::{is_built, is_change, is_question};
+use crate::names::{is_change, is_edit, is_question};
 use crate::numbers::number;
 use crate::said::{Asked, NameWord, Query, Said, Step, Steps};
 use crate::words::Words;
@@ -32,15 +32,17 @@ const HEAD: &[u8] = b"head";
 
 const AT: &[u8] = b"at";
 
+const TRY: &[u8] = b"try";
+
 const SAVE: &[u8] = b"save";
 
 /// The command of this name with the words that follow it, wherever it may lie.
 #[tactic(auto, using(crate::proofs::RowLaws::change_found, crate::proofs::RowLaws::question_found, crate::proofs::RowLaws::other_found))]
 pub(crate) fn spell_command(name: &[u8], words: &mut Words) -> Result<Said, WordFault>
-    ensures { Gives command_said result (command_spelled is_built name.now words.old) }
+    ensures { Gives command_said result (command_spelled name.now words.old) }
 {
     if is_change(name) {
-        return spell_change(name, words);
+        return spell_change(false, name, words);
     }
     if is_question(name) {
         return spell_ask(name, words);
@@ -48,21 +50,17 @@ pub(crate) fn spell_command(name: &[u8], words: &mut Words) -> Result<Said, Word
     spell_other(name, words)
 }
 
-fn spell_change(name: &[u8], words: &mut Words) -> Result<Said, WordFault>
-    ensures { Gives command_said result
-        (read_known is_built ((change_row false name.now).read words.old) name.now) }
+// The change of this name, in one attempt where `once` is set.
+fn spell_change(once: bool, name: &[u8], words: &mut Words) -> Result<Said, WordFault>
+    ensures { Gives command_said result ((change_row once name.now).read words.old) }
 {
-    if !is_built(name) {
-        return Err(WordFault::Word);
-    }
     let act = read_act(name, words)?;
-    Ok(Said::Edit(act, false))
+    Ok(Said::Edit(act, once))
 }
 
 fn spell_ask(name: &[u8], words: &mut Words) -> Result<Said, WordFault>
     ensures { Gives command_said result
-        (read_known is_built
-        (command_read_by question_rows (Err Word) name.now words.old) name.now) }
+        (command_read_by question_rows (Err Word) name.now words.old) }
 {
     let query = spell_query(name, words)?;
     Ok(of_newest(query))
@@ -90,12 +88,8 @@ fn of_version(version: u32, query: Query) -> Said
 #[tactic(auto, using(crate::proofs::RowLaws::save_found))]
 fn spell_query(name: &[u8], words: &mut Words) -> Result<Query, WordFault>
     ensures { Gives query_command result
-        (read_known is_built
-        (command_read_by question_rows (Err Word) name.now words.old) name.now) }
+        (command_read_by question_rows (Err Word) name.now words.old) }
 {
-    if !is_built(name) {
-        return Err(WordFault::Word);
-    }
     if name == SAVE {
         return spell_save(words);
     }
@@ -245,15 +239,11 @@ fn read_size(digits: &[u8], low: bool) -> Result<Step, WordFault>
 }
 
 // A command that is no change and no question.
-#[tactic(auto, using(crate::proofs::RowLaws::not_try), unfolding(crate::specs::Commands::other_rows))]
+#[tactic(auto, unfolding(crate::specs::Commands::other_rows))]
 fn spell_other(name: &[u8], words: &mut Words) -> Result<Said, WordFault>
     ensures { Gives command_said result
-        (read_known is_built
-        (command_read_by (other_rows is_built) (Err Word) name.now words.old) name.now) }
+        (command_read_by other_rows (Err Word) name.now words.old) }
 {
-    if !is_built(name) {
-        return Err(WordFault::Word);
-    }
     if name == FORGET {
         return spell_forget(words);
     }
@@ -265,6 +255,9 @@ fn spell_other(name: &[u8], words: &mut Words) -> Result<Said, WordFault>
     }
     if name == AT {
         return spell_at(words);
+    }
+    if name == TRY {
+        return spell_try(words);
     }
     Err(WordFault::Word)
 }
@@ -301,11 +294,31 @@ fn spell_head(words: &mut Words) -> Result<Said, WordFault>
 // A question of the version that stands before it.
 #[tactic(auto, unfolding(crate::specs::Commands::at_words))]
 fn spell_at(words: &mut Words) -> Result<Said, WordFault>
-    ensures { Gives command_said result (at_words is_built words.old) }
+    ensures { Gives command_said result (at_words words.old) }
 {
     let version = take_word(words)?;
     let name = take_word(words)?;
     let query = spell_query(name, words)?;
     let v = number_by::<Words>(version)?;
     Ok(of_version(v, query))
+}
+
+// One of the edits, in one attempt.
+#[tactic(auto, unfolding(crate::specs::Commands::try_words))]
+fn spell_try(words: &mut Words) -> Result<Said, WordFault>
+    ensures { Gives command_said result (try_words words.old) }
+{
+    let name = take_word(words)?;
+    spell_tried(name, words)
+}
+
+#[tactic(auto, using(crate::proofs::RowLaws::tried_found, crate::proofs::RowLaws::tried_unknown))]
+fn spell_tried(name: &[u8], words: &mut Words) -> Result<Said, WordFault>
+    ensures { Gives command_said result
+        (command_read_by tried_rows (Err Word) name.now words.old) }
+{
+    if !is_edit(name) {
+        return Err(WordFault::Word);
+    }
+    spell_change(true, name, words)
 }

@@ -7,7 +7,6 @@ use Rattle.plain_text.specs.Steps.{◌>>=◌}
 use Rattle.vox_read.specs.Contents.{Content}
 use Rattle.script.specs.declared.commands.ScriptLine.{ScriptLine}
 use Rattle.script.specs.declared.faults.ScriptFault.{ScriptFault}
-use Rattle.script.specs.Commands.{is_built}
 use Rattle.script.specs.Fitting.{CommandFits, RisesFrom}
 use Rattle.script.specs.Scripts.{commands_of}
 use Rattle.script_files.specs.declared.refusals.NumberedFault.{NumberedFault}
@@ -55,7 +54,7 @@ next_read side models texts text k old new within at so_far reads =
     let more : drop k texts ≡ text ∷ drop (k + 1) texts = drop_more texts k text within ∙ ap (λ t. t ∷ drop (k + 1) texts) (sym at) in
     let rest = drop (k + 1) texts in
     let here : texts_from side models k (text ∷ rest) ≡ (texts_from side models (k + 1) rest >>= λ others. Ok (reads.lines ∷ others)) =
-    first_read side models k text rest (commands_of is_built side models text) reads.lines reads.read in
+    first_read side models k text rest (commands_of side models text) reads.lines reads.read in
     record {
       number = ap length reads.kept ∙ length-append old (reads.lines ∷ []) ∙ (let n = so_far.number in omega (arith, n));
       read = so_far.read ∙ ap (λ ts. behind old (texts_from side models k ts)) more ∙ ap (behind old) here ∙ one_behind old reads.lines (texts_from side models (k + 1) rest)
@@ -76,10 +75,10 @@ fault_at : (side : ℕ) (models : List Content) (number : ℕ) (others : List (L
 fault_at side models number others old here at is = rw is refl
 
 pub next_refused : (r : TextRefused) (side : ℕ) (models : List Content) (texts : List (List ℕ)) (text : List ℕ) (k : ℕ) (old : List (List ScriptLine)) → k < length texts → text ≡ get_or texts k text
-    → IsReadTo side models texts k old → RefusesScripts r (in_script (length old) (commands_of is_built side models text)) → RefusesScripts r (scripts_of side models texts)
+    → IsReadTo side models texts k old → RefusesScripts r (in_script (length old) (commands_of side models text)) → RefusesScripts r (scripts_of side models texts)
 next_refused (Script at) side models texts text k old within is so_far refuses =
     let more : drop k texts ≡ text ∷ drop (k + 1) texts = drop_more texts k text within ∙ ap (λ t. t ∷ drop (k + 1) texts) (sym is) in
-    let here : in_script k (commands_of is_built side models text) ≡ Err at = subst (λ (n : ℕ). in_script n (commands_of is_built side models text) ≡ Err at) so_far.number refuses.1 in
+    let here : in_script k (commands_of side models text) ≡ Err at = subst (λ (n : ℕ). in_script n (commands_of side models text) ≡ Err at) so_far.number refuses.1 in
     (refuses.0, so_far.read ∙ ap (λ ts. behind old (texts_from side models k ts)) more ∙ fault_at side models k (drop (k + 1) texts) old _ at here)
 next_refused Memory side models texts text k old within is so_far refuses = tt
 next_refused (Vox fault) side models texts text k old within is so_far refuses = absurd refuses

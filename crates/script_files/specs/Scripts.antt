@@ -4,7 +4,6 @@ use Rattle.plain_text.specs.Steps.{◌>>=◌}
 use Rattle.vox_read.specs.Contents.{Content}
 use Rattle.script.specs.declared.commands.ScriptLine.{ScriptLine}
 use Rattle.script.specs.declared.faults.ScriptFault.{ScriptFault}
-use Rattle.script.specs.Commands.{is_built}
 use Rattle.script.specs.Fitting.{CommandFits, RisesFrom}
 use Rattle.script.specs.Placing.{is_save_name}
 use Rattle.script.specs.declared.commands.Command.{Command}
@@ -24,7 +23,7 @@ abbrev pub texts_from : ℕ → List Content → ℕ → List (List ℕ)
     → Result (List (List ScriptLine)) NumberedFault
 texts_from side models number [] = Ok []
 texts_from side models number (text ∷ texts) =
-    in_script number (commands_of is_built side models text) >>= λ lines.
+    in_script number (commands_of side models text) >>= λ lines.
     texts_from side models (number + 1) texts >>= λ others. Ok (lines ∷ others)
 
 -- scripts are counted from 0

@@ -7,7 +7,6 @@ use Rattle.vox_read.specs.Files.{ReadsModels}
 use Rattle.history_model.specs.Journal.{journal_of}
 use Rattle.history_model.specs.Logs.{Log}
 use Rattle.script.specs.declared.commands.ScriptLine.{ScriptLine}
-use Rattle.script.specs.Commands.{is_built}
 use Rattle.script.specs.Scripts.{commands_of}
 use Rattle.gen_load.specs.Loads.{load_model, load_scripts}
 use Rattle.store_run.specs.declared.runs.ScriptsRun.{ScriptsRun}
@@ -64,7 +63,7 @@ pub record AreTexts (asked : Asked) (models : List Content) (log : Log)
 pub record ReadsScript (side : ℕ) (models : List Content) (text : List ℕ)
     (old new : List (List ScriptLine)) : Type 0 where
   pub lines : List ScriptLine
-  pub read : commands_of is_built side models text ≡ Ok lines
+  pub read : commands_of side models text ≡ Ok lines
   pub kept : new ≡ old ++ lines ∷ []
   pub fit : AreFitScripts side models (lines ∷ [])
 

@@ -7,7 +7,6 @@ ghost use Rattle.script_files.specs.declared.requests.Request.TheVariants.{Run};
 ghost use Rattle.script_files.specs.Requests.{inputs_of, output_names, transcript_name, wanted_name, name_saved, names_saved_in, names_saved};
 ghost use Rattle.script_files.specs.Meanings.{file_in, RefusesTexts};
 ghost use Rattle.script_files.specs.Refusals.{RefusesScripts};
-ghost use Rattle.script.specs.Commands.{is_built};
 ghost use Rattle.script.specs.Scripts.{commands_of};
 ghost use Rattle.script_files.specs.Scripts.{scripts_of, in_script, HasFileName, AreFitScripts};
 ghost use Rattle.script_files.specs.Stages.{IsRead, ReadsScript};
@@ -188,7 +187,7 @@ fn read_next(
     ensures read { OnOk result (ReadsScript side models.now text.now
         scripts.old.items scripts.new.items) }
     ensures refused { IfErr result (λ refused. RefusesScripts refused (in_script
-        (length scripts.old.items) (commands_of is_built side models.now text.now))) }
+        (length scripts.old.items) (commands_of side models.now text.now))) }
 {
     let number = scripts.len() as u16;
     let script = match read_script(alloc, text, side, models) {

@@ -55,7 +55,7 @@ held_or_gone held (NodeAt n a b c d e f g h) may =
           omega (arith, s, l));
     })
 
-named_held : (held : List Tree) (t : Tree) (n : Name) → MayHold held t → root_of t ≡ Some n
+pub named_held : (held : List Tree) (t : Tree) (n : Name) → MayHold held t → root_of t ≡ Some n
     → IsHeld held t
 named_held held t n may e = elim (held_or_gone held t may) [
   | inl gone ↦ absurd (let bad : None ≡ Some n = ap root_of (sym gone) ∙ e in cc)

@@ -1,5 +1,5 @@
 -- What an attempt at an edit leaves, for each of its outcomes.
-use Rattle.std.proofs.Common.{◌≡◌, ◌<◌, ◌≤◌, ◌+◌, ℕ, Option, List, length, refl, sym, ◌∙◌, ap, subst, arith}
+use Rattle.std.proofs.Common.{◌≡◌, ◌≤◌, ℕ, Option, List, length, sym, ◌∙◌, ap, subst, arith}
 use Rattle.vox_read.specs.Contents.{Content}
 use Rattle.history_model.specs.declared.acts.Act.{Act}
 use Rattle.node_shapes.specs.declared.names.Name.{Name}
@@ -8,7 +8,6 @@ use Rattle.node_shapes.specs.Weights.{number_of_trees}
 use Rattle.node_words.specs.declared.shares.Full.{Full}
 use Rattle.node_words.specs.Held.{SameHeld}
 use Rattle.edit_blocks.specs.Blocks.{GoesBack, MayGoBack}
-use Rattle.table_rule.specs.LogTelling.{number_seen}
 use Rattle.table_rule.specs.LogViews.{LogView}
 use Rattle.table_rule.specs.Views.{SeatView}
 use Rattle.node_table.specs.LogTurns.{HasNoTurn}
@@ -24,9 +23,9 @@ use Rattle.hands.specs.Lendable.{StaysLendable}
 use Rattle.session.specs.Attempts.{AnswersAct, FailsToMake, HasPinnedHead, IsLate, IsMaker, MakesNextRoot}
 use Rattle.session.specs.Resting.{IsAtRest}
 use Rattle.session.specs.Seen.{session_seen}
-use Rattle.session.proofs.CommitLaws.{appended_held, appends_knows, appends_session, back_same, done_answers, few_gained, full_answers, head_stays, held_by, held_on, late_answers, may_back}
+use Rattle.session.proofs.CommitLaws.{appended_held, appends_knows, appends_session, back_same, done_answers, few_gained, full_answers, head_stays, held_by, late_answers, may_back}
 use Rattle.session.proofs.SeenLaws.{rests}
-use Rattle.session.proofs.WorkLaws.{answers_after, answers_still, knows_on, looks_work, session_on, works_on}
+use Rattle.session.proofs.WorkLaws.{answers_after, answers_still, looks_work, works_on}
 
 -- a session that may be lent again and knows the same of the log is at rest again; the table is the
 -- world's

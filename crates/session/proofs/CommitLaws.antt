@@ -1,5 +1,5 @@
 -- Roots that come and go back, and what an accepted record leaves.
-use Rattle.std.proofs.Common.{◌≡◌, ◌-◌, ◌<◌, ◌≤◌, ◌+◌, ◌^◌, ℕ, zero, suc, true, Option, Some, None, List, [], ◌∷◌, ◌++◌, length, slice_get, refl, sym, ◌∙◌, ap, subst, arith, inl, length-append}
+use Rattle.std.proofs.Common.{◌≡◌, ◌-◌, ◌≤◌, ◌+◌, ◌^◌, ℕ, suc, true, Option, Some, None, List, [], ◌∷◌, ◌++◌, length, slice_get, refl, sym, ◌∙◌, ap, subst, arith, inl, length-append}
 use Rattle.std.specs.List.{Contains}
 use Rattle.vox_read.specs.Contents.{Content}
 use Rattle.history_model.specs.declared.acts.Act.{Act}
@@ -10,10 +10,10 @@ use Rattle.history_model.specs.Worlds.{World, is_edit}
 use Rattle.node_shapes.proofs.WeightLaws.{weight_of-one}
 use Rattle.node_shapes.specs.declared.names.Name.{Name}
 use Rattle.node_shapes.specs.Shape.{ShowsCells}
-use Rattle.node_shapes.specs.Tree.{Tree, root_of, shape_of}
-use Rattle.node_shapes.specs.Weights.{number_of_trees, weigh, weight_of}
+use Rattle.node_shapes.specs.Tree.{Tree, shape_of}
+use Rattle.node_shapes.specs.Weights.{number_of_trees, weigh}
 use Rattle.node_words.specs.Gathering.{MayHold}
-use Rattle.node_words.specs.Held.{OnlyHeldChanges, SameHeld}
+use Rattle.node_words.specs.Held.{SameHeld}
 use Rattle.node_words.specs.Plans.{Layout}
 use Rattle.block_contents.specs.Aligned.{top, world_block}
 use Rattle.node_words.specs.declared.shares.Full.{Full}
@@ -22,11 +22,11 @@ use Rattle.version_answers.specs.Listing.{Accepted}
 use Rattle.table_rule.specs.LogTelling.{number_seen, seen_has}
 use Rattle.table_rule.specs.LogViews.{LogView}
 use Rattle.table_rule.specs.Rules.{SameSession}
-use Rattle.table_rule.specs.Views.{SeatView, seen_of}
+use Rattle.table_rule.specs.Views.{SeatView}
 use Rattle.node_table.specs.Seen.{TableSeen, PassSeen}
 use Rattle.version_log.proofs.LookLaws.{dated_longer}
 use Rattle.version_log.specs.Commits.{AppendsNext, IsMadeOver, IsOwnRecord, with_own}
-use Rattle.version_log.specs.Pins.{IsPinned, PinsVersion}
+use Rattle.version_log.specs.Pins.{PinsVersion}
 use Rattle.version_log.specs.Roots.{GetsRoot, HoldsRootOf}
 use Rattle.version_log.specs.Seeing.{KnowsMore}
 use Rattle.version_log.specs.declared.pinned.Pinned.{Pinned}

@@ -1,5 +1,5 @@
--- One attempt at an edit of the newest version, which is pinned for it.
-use Rattle.std.proofs.Common.{◌≡◌, ◌<◌, ◌≤◌, ◌+◌, ℕ, Option, List, [], ◌∷◌, ◌++◌, length, refl, sym, ◌∙◌, ap, subst, arith, length-append}
+-- An edit, by an attempt and, too late, by one under the log's turn.
+use Rattle.std.proofs.Common.{◌≡◌, ◌<◌, ◌≤◌, ◌+◌, ℕ, Option, List, [], ◌∷◌, ◌++◌, length, sym, ◌∙◌, ap, subst, arith, length-append}
 use Rattle.history_model.specs.declared.acts.Act.{Act}
 use Rattle.node_shapes.specs.declared.names.Name.{Name}
 use Rattle.node_shapes.specs.Tree.{Tree}
@@ -56,6 +56,25 @@ pub pinned_answers : (t : TableSeen) (line : ℕ) (act : Act) (answer : ActAnswe
 pinned_answers t line act answer v w x y looks told seen =
     answers_still t line act answer v x y seen
     (answers_after t line act answer v w x (looks_work t act v w looks) told)
+
+-- and so was what was answered by the second attempt
+pub again_answers : (t : TableSeen) (line : ℕ) (act same : Act) (answer : ActAnswer)
+    (base : Pinned) (late : Late) (v w x y a b : SeatView) → LooksOn v w
+    → IsLate t act base late w x → same ≡ act → AnswersAct t line same answer x y
+    → session_seen a ≡ session_seen y → session_seen b ≡ session_seen a
+    → AnswersAct t line act answer v b
+again_answers t line act same answer base late v w x y a b looks is e told first second =
+    answers_still t line act answer v y b (second ∙ first)
+    (answers_after t line act answer v x y
+    (works_on t act v w x (looks_work t act v w looks) is.works)
+    (subst (λ (z : Act). AnswersAct t line z answer x y) e told))
+
+-- an edit's answer as one of an act
+pub act_told : (t : TableSeen) (line : ℕ) (act : Act) (a : EditAnswer) (x : ActAnswer)
+    (v w : SeatView) → x ≡ act_answer a → AnswersAct t line act (act_answer a) v w
+    → AnswersAct t line act x v w
+act_told t line act a x v w same told =
+    subst (λ (y : ActAnswer). AnswersAct t line act y v w) (sym same) told
 
 -- ---- shares that came
 

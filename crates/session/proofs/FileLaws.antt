@@ -23,7 +23,7 @@ use Rattle.node_words.proofs.HeldLaws.{held_reached}
 use Rattle.block_contents.specs.Aligned.{world_block}
 use Rattle.block_walk.specs.Roots.{IsBlockOf, HoldsRoot, ForWorld, cells_of}
 use Rattle.block_walk.proofs.LookLaws.{root_side}
-use Rattle.extract.specs.Listing.{voxels_joined, voxel_if, box_row, box_layer}
+use Rattle.extract.specs.Listing.{voxels_joined, voxel_if, box_row, box_layer, voxels_of_box}
 use Rattle.extract.specs.Saved.{file_of_box}
 use Rattle.node_table.specs.Seen.{TableSeen}
 use Rattle.version_log.specs.declared.pinned.Pinned.{Pinned}
@@ -41,13 +41,18 @@ unfolding voxels_joined
 joined-same zero f g same = refl
 joined-same (suc n) f g same = rw (joined-same n f g (λ i lt. same i (omega arith)), same n (omega arith)) refl
 
+pub same_voxels : (b : Boxed) (f g : Cell → Bool) → SameIn b f g
+    → voxels_of_box b f ≡ voxels_of_box b g
+same_voxels b f g same =
+    joined-same b.size.z (box_layer f b) (box_layer g b) (λ z of_z.
+    joined-same b.size.y (λ y. box_row f b z y b.size.x) (λ y. box_row g b z y b.size.x) (λ y of_y.
+    joined-same b.size.x _ _ (λ x of_x.
+    ap (λ (set : Bool). voxel_if set (0 + x) y z) (same x y z of_x of_y of_z))))
+
 same_file : (b : Boxed) (f g : Cell → Bool) → SameIn b f g → file_of_box b f ≡ file_of_box b g
 same_file b f g same =
     ap (λ (voxels : List Voxel). model_file (record { size = b.size; voxels = voxels }))
-    (joined-same b.size.z (box_layer f b) (box_layer g b) (λ z of_z.
-    joined-same b.size.y (λ y. box_row f b z y b.size.x) (λ y. box_row g b z y b.size.x) (λ y of_y.
-    joined-same b.size.x _ _ (λ x of_x.
-    ap (λ (set : Bool). voxel_if set (0 + x) y z) (same x y z of_x of_y of_z)))))
+    (same_voxels b f g same)
 
 world_within : (side : ℕ) → 2 ^ side ≤ block_side (side - 2)
 world_within zero = omega arith
@@ -62,7 +67,7 @@ from_origin : (x : ℕ) → x - 0 ≡ x
 from_origin x = omega arith
 
 -- a shape has the cells of the world that it shows
-shown_in : (side : ℕ) (b : Boxed) (s : Shape) (w : World) → ShowsCells (world_block side) s w → FitsAt b.at b.size (2 ^ side)
+pub shown_in : (side : ℕ) (b : Boxed) (s : Shape) (w : World) → ShowsCells (world_block side) s w → FitsAt b.at b.size (2 ^ side)
     → SameIn b (cells_of (side - 2) s) w
 shown_in side b s w shows fits x y z of_x of_y of_z =
     let c = cell_at (b.at.x + x) (b.at.y + y) (b.at.z + z) in

@@ -1,18 +1,15 @@
 -- What a rebuild of the newest version makes and meets, as a session tells it.
-use Rattle.std.proofs.Common.{◌≡◌, ◌-◌, ◌≤◌, ◌^◌, ℕ, Bool, Option, Some, None, List, [], ◌∷◌, ◌++◌, length, refl, sym, ◌∙◌, ap, subst, arith, Ok, Err}
-use Rattle.std.specs.Prelude.{All, IfOk, IfErr, OnOk, Result}
-use Rattle.std.specs.List.{Contains}
+use Rattle.std.proofs.Common.{◌≡◌, ◌-◌, ◌^◌, ℕ, Option, List, [], ◌∷◌, ◌++◌, length, refl, sym, ◌∙◌, ap, subst, arith, Ok, Err}
+use Rattle.std.specs.Prelude.{All}
 use Rattle.std.proofs.lemmas.List.Elements.{All-nil, All-cons, All-weaker}
-use Rattle.vw_cell.specs.declared.cells.Cell.{Cell}
-use Rattle.vw_cell.specs.Places.{IsInWorld}
 use Rattle.vox_read.specs.Contents.{Content}
 use Rattle.history_model.specs.declared.acts.Act.{Act}
 use Rattle.history_model.specs.Logs.{FitsWorld}
 use Rattle.history_model.specs.Moments.{world_has}
-use Rattle.history_model.specs.Worlds.{World, edited, is_edit}
+use Rattle.history_model.specs.Worlds.{World, edited}
 use Rattle.node_shapes.specs.declared.names.Name.{Name}
 use Rattle.node_shapes.specs.Shape.{Shape, IsPart, ShowsCells}
-use Rattle.node_shapes.specs.Tree.{Tree, root_of, shape_of}
+use Rattle.node_shapes.specs.Tree.{shape_of}
 use Rattle.node_shapes.proofs.TreeLaws.{level_of}
 use Rattle.node_words.specs.declared.shares.Full.{Full}
 use Rattle.node_words.specs.Gathering.{Fails, Grew, unchanged, one, Grows}
@@ -28,7 +25,7 @@ use Rattle.possible.specs.Needed.{made_of}
 use Rattle.script_runs.specs.Keeping.{IsPartOfWorld, MakesPart}
 use Rattle.table_rule.specs.LogTelling.{number_seen, seen_has}
 use Rattle.table_rule.specs.LogViews.{LogView}
-use Rattle.table_rule.specs.Views.{SeatView, seen_of}
+use Rattle.table_rule.specs.Views.{seen_of}
 use Rattle.node_table.specs.Seen.{TableSeen, PassSeen}
 use Rattle.version_log.specs.Roots.{HoldsRootOf}
 use Rattle.session_runs.specs.Calls.{AcceptsNothing, NotesFor}

@@ -12,7 +12,7 @@ use Rattle.edit_blocks.specs.Blocks.{MayGoBack}
 use Rattle.block_walk.specs.Roots as walks
 use Rattle.edit_cells.specs.Worlds.{ShowsWorld}
 use Rattle.world_answers.specs.TellsRoots.{TellsRoot}
-use Rattle.table_rule.specs.LogTelling.{number_seen, seen_has}
+use Rattle.table_rule.specs.LogTelling.{seen_has}
 use Rattle.table_rule.specs.LogViews.{LogView}
 use Rattle.table_rule.specs.Views.{SeatView, seen_of}
 use Rattle.node_table.specs.Seen.{TableSeen, PassSeen}

@@ -52,7 +52,7 @@ module _ (t : TableSeen) (asked : Option ℕ) (v w : PassSeen) (p : Pinned) (r :
   models_is : w.view.models ≡ t.models
   models_is = models_stay t v w r looks
 
-  version_is : p.version ≡ asked_version asked p.moment
+  pub version_is : p.version ≡ asked_version asked p.moment
   version_is = is.version ∙ asked_as asked p.moment
 
   -- the version that was saved was found, and its cells were counted

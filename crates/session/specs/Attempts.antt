@@ -1,7 +1,8 @@
 -- What the attempts at an edit leave of a session.
-use Rattle.std.specs.Prelude.{◌≡◌, ℕ, ◌^◌, ◌<◌, true, ⊤, Option, List, [], ◌∷◌, Result, Ok, Err}
+use Rattle.std.specs.Prelude.{◌≡◌, ℕ, ◌^◌, ◌<◌, true, Option, List, [], ◌∷◌, Result, Ok, Err}
 use Rattle.vox_read.specs.Contents.{Content}
 use Rattle.history_model.specs.declared.acts.Act.{Act}
+use Rattle.history_model.specs.declared.acts.Act.TheVariants.{Undo}
 use Rattle.history_model.specs.Logs.{FitsWorld}
 use Rattle.history_model.specs.Worlds.{is_edit}
 use Rattle.node_shapes.specs.declared.names.Name.{Name}
@@ -87,6 +88,11 @@ abbrev pub Attempts : TableSeen → ℕ → Act → Pinned → Result EditAnswer
 Attempts t line act base (Ok answer) v w =
     SameHeld v.held w.held × AnswersAct t line act (act_answer answer) v w
 Attempts t line act base (Err late) v w = IsLate t act base late v w
+
+-- why an undo or a redo goes nowhere
+abbrev pub nothing_to : Act → ℕ → ActAnswer
+nothing_to Undo at = acts.NothingToUndo at
+nothing_to other at = acts.NothingToRedo at
 
 -- the answer of an edit as one of an attempt
 abbrev pub once_answer : EditAnswer → OnceAnswer

@@ -1,25 +1,35 @@
-//! Changes of a world: one attempt at an edit.
+//! Changes of a world: edits, undos and redos, and one attempt at an edit.
 ghost use Rattle.std.specs.Prelude.{◌≡◌, ◌≤◌, ◌∷◌, ◌^◌, [], ℕ, true};
 ghost use Rattle.history_model.specs.Logs.{FitsWorld};
 ghost use Rattle.history_model.specs.Worlds.{is_edit};
 ghost use Rattle.node_shapes.specs.Weights.{number_of_trees};
 ghost use Rattle.node_words.specs.Held.{SameHeld};
 ghost use Rattle.node_table.specs.Seen.{SamePass};
-ghost use Rattle.session_runs.specs.Told.{OnceTold};
-ghost use Rattle.session.specs.Attempts.{once_answer};
+ghost use Rattle.session_runs.specs.Told.{ActTold, OnceTold};
+ghost use Rattle.session.specs.Attempts.{AnswersAct, IsMaker, act_answer, once_answer};
 ghost use Rattle.session.specs.Resting.{IsAtRest};
 ghost use Rattle.session.specs.Seen.{KnowsItself, of_world, session_seen};
 
 use crate::attempts::{EditAnswer, Late};
 use crate::world::{Session, World};
 use gate_run::Gate;
-use hands::PlainAct;
+use hands::{ActMaker, PlainAct};
 use history_model::Act;
 use node_words::{Share, Steps};
-use session_runs::OnceAnswer;
+use session_runs::{ActAnswer, OnceAnswer};
 use std::sync::Wait;
 use std::sync::ledger::Ledger;
 use version_log::Pinned;
+
+fn act_answer(answer: EditAnswer) -> ActAnswer
+    ensures { result ≡ act_answer answer }
+{
+    match answer {
+        EditAnswer::Done { n } => ActAnswer::Done { n },
+        EditAnswer::Full { at, full } => ActAnswer::Full { at, full },
+        EditAnswer::LogFull => ActAnswer::LogFull,
+    }
+}
 
 fn once_answer(answer: EditAnswer) -> OnceAnswer
     ensures { result ≡ once_answer answer }
@@ -44,6 +54,118 @@ fn taken(p: Pinned) -> Option<Share>
 }
 
 impl<'m> World<'m> {
+    /// Carries the act out, as the newest record. An edit whose first attempt comes too late is
+    /// made again while no other session commits, so this is never `Stale`.
+    ///
+    /// It passes the gate between the first attempt and its commit.
+    pub fn act<R: Wait, G: Gate, L: Ledger>(
+        &self,
+        rt: &R,
+        s: &mut Session,
+        line: u32,
+        act: &Act,
+        gate: &G,
+        steps: &mut Steps<L>,
+    ) -> ActAnswer
+        requires rest { IsAtRest self.now s.old }
+        requires fits { FitsWorld (2 ^ self.now.plan.side) self.now.models act.now }
+        requires room { number_of_trees s.old.view.held ≤ 3900 }
+        ensures rest { IsAtRest self.now s.new }
+        ensures same { SamePass s.old s.new }
+        ensures held { SameHeld s.old.view.held s.new.view.held }
+        ensures told { (number : ℕ) → s.old.view.numbers ≡ number ∷ [] → ActTold
+            (of_world self.now number) line act.now (session_seen s.old.view)
+            (session_seen s.new.view) result }
+        ensures knows { KnowsItself s.new.view }
+    {
+        let answer = self.carry_out(rt, s, line, act, gate, steps);
+        s.tell();
+        answer
+    }
+
+    fn carry_out<R: Wait, G: Gate, L: Ledger>(
+        &self,
+        rt: &R,
+        s: &mut Session,
+        line: u32,
+        act: &Act,
+        gate: &G,
+        steps: &mut Steps<L>,
+    ) -> ActAnswer
+        requires rest { IsAtRest self.now s.old }
+        requires fits { FitsWorld (2 ^ self.now.plan.side) self.now.models act.now }
+        requires room { number_of_trees s.old.view.held ≤ 3900 }
+        ensures rest { IsAtRest self.now s.new }
+        ensures same { SamePass s.old s.new }
+        ensures held { SameHeld s.old.view.held s.new.view.held }
+        ensures told { AnswersAct self.now line act.now result s.old.view s.new.view }
+    {
+        match act {
+            Act::Undo | Act::Redo => self.go(rt, s, line, act, steps),
+            _ => self.edit_plainly(rt, s, line, act, gate, steps),
+        }
+    }
+
+    fn edit_plainly<R: Wait, G: Gate, L: Ledger>(
+        &self,
+        rt: &R,
+        s: &mut Session,
+        line: u32,
+        act: &Act,
+        gate: &G,
+        steps: &mut Steps<L>,
+    ) -> ActAnswer
+        requires rest { IsAtRest self.now s.old }
+        requires edit { is_edit act.now ≡ true }
+        requires fits { FitsWorld (2 ^ self.now.plan.side) self.now.models act.now }
+        requires room { number_of_trees s.old.view.held ≤ 3900 }
+        ensures rest { IsAtRest self.now s.new }
+        ensures same { SamePass s.old s.new }
+        ensures held { SameHeld s.old.view.held s.new.view.held }
+        ensures told { AnswersAct self.now line act.now result s.old.view s.new.view }
+    {
+        let mut maker = PlainAct {
+            models: &self.drawn,
+            edit: *act,
+        };
+        act_answer(self.edit(rt, s, line, &mut maker, gate, steps))
+    }
+
+    // The edit, by a first attempt and, too late, by one under the log's turn.
+    fn edit<M: ActMaker, R: Wait, G: Gate, L: Ledger>(
+        &self,
+        rt: &R,
+        s: &mut Session,
+        line: u32,
+        maker: &mut M,
+        gate: &G,
+        steps: &mut Steps<L>,
+    ) -> EditAnswer
+        requires rest { IsAtRest self.now s.old }
+        requires maker { IsMaker self.now (M.models maker.old) (M.act maker.old) }
+        requires room { number_of_trees s.old.view.held ≤ 3900 }
+        requires recalls { M.recalls maker.old s.old.view.held }
+        ensures rest { IsAtRest self.now s.new }
+        ensures same { SamePass s.old s.new }
+        ensures held { SameHeld s.old.view.held s.new.view.held }
+        ensures told { AnswersAct self.now line (M.act maker.old) (act_answer result) s.old.view
+            s.new.view }
+    {
+        let base = self.pin_head(rt, s, steps);
+        match self.attempt(rt, s, &base, line, maker, gate, steps) {
+            Ok(answer) => {
+                self.give_root(rt, s, taken(base), steps);
+                answer
+            }
+            Err(Late { at: _, root }) => {
+                let answer = self.edit_surely(rt, s, line, maker, steps);
+                self.give_root(rt, s, root, steps);
+                self.give_root(rt, s, taken(base), steps);
+                answer
+            }
+        }
+    }
+
     /// Attempts the edit once.
     pub fn act_once<R: Wait, G: Gate, L: Ledger>(
         &self,

@@ -5,6 +5,7 @@ ghost use Rattle.vw_cell.specs.Places.{FitsAt};
 ghost use Rattle.node_shapes.specs.Weights.{number_of_trees};
 ghost use Rattle.node_words.specs.Held.{SameHeld};
 ghost use Rattle.history_model.specs.Moments.{world_has};
+ghost use Rattle.conformance.specs.Answers.{asked_version};
 ghost use Rattle.extract.specs.Saved.{file_of_box};
 ghost use Rattle.table_rule.specs.Views.{seen_of};
 ghost use Rattle.hands.specs.Lendable.{IsLendable, StaysLendable};
@@ -65,6 +66,8 @@ impl<'m> World<'m> {
             (session_seen s.old.view) (session_seen s.new.view) (saved_told result) }
         ensures pinned { IfOk result (λ p. AddsPin self.now (session_seen s.new.view)
             s.old.view.held s.new.view.held p.pin) }
+        ensures asked { IfOk result
+            (λ p. p.pin.version ≡ asked_version version p.saved.at) }
         ensures held { IfErr result (λ e. SameHeld s.old.view.held s.new.view.held) }
         ensures knows { KnowsItself s.new.view }
     {

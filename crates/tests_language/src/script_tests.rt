@@ -85,6 +85,15 @@ const CHANGES: &[(&str, Act)] = &[
     ("redo", Act::Redo),
 ];
 
+const ATTEMPTS: &[(&str, Act)] = &[
+    ("try fill 0 0 0 1 1 1", Act::Fill(UNIT)),
+    ("\ttry  erase 0 0 0 4096 4096 4096 \n", Act::Erase(ALL)),
+    ("try ball 4 5 6 4095", Act::Ball(WIDE)),
+    ("try carve 4095 0 7 0", Act::Carve(POINT)),
+    ("try copy 0 0 0 4 1 1 to 1 0 0", Act::Copy(ROW, NEXT)),
+    ("try stamp 0 4095 4095 4095", Act::Stamp(0, LAST)),
+];
+
 fn questions(way: Way, back: Way) -> [(&'static str, Command); 14] {
     let part = boxed(cell(1, 2, 3), cell(4, 5, 6));
     [
@@ -118,10 +127,12 @@ fn questions(way: Way, back: Way) -> [(&'static str, Command); 14] {
 fn every_change_is_read(rt: HostRuntime) -> Result<(), Fail> {
     let side = Side::new(4096).ok_or("a side")?;
     let models = read_models(rt.alloc(), &ONE)?;
-    for &(text, act) in CHANGES {
-        let script = read_script(rt.alloc(), text.as_bytes(), side, &models)?;
-        let command = Command::Edit { act, once: false };
-        assert!(rt; is_only(&script.lines, command), "at {text}");
+    for (rows, once) in [(CHANGES, false), (ATTEMPTS, true)] {
+        for &(text, act) in rows {
+            let script = read_script(rt.alloc(), text.as_bytes(), side, &models)?;
+            let command = Command::Edit { act, once };
+            assert!(rt; is_only(&script.lines, command), "at {text}");
+        }
     }
     Ok(())
 }

@@ -113,7 +113,7 @@ fn refused_scripts_write_nothing(rt: HostRuntime) -> Result<(), Fail> {
         ("stamp 1 8 0 0\n", "voxdag: script 0 1 6\n"),
         ("stamp 0 8 0 0\n", "voxdag: script 0 1 3\n"),
         ("head\nsave a.vox 0 0 0 1 1\n", "voxdag: script 0 2 4\n"),
-        ("try fill 0 0 0 1 1 1\n", "voxdag: script 0 1 1\n"),
+        ("try undo\n", "voxdag: script 0 1 1\n"),
         ("fill 255 255 255 1 1 1\n", "voxdag: script 0 1 3\n"),
     ] {
         let nothing = writes_nothing(rt.alloc(), script, printed)?;

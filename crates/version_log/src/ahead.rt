@@ -13,8 +13,8 @@ pub struct Ahead {
     pub(crate) redo: Option<Standing>,
 }
 
-// Nothing was looked up.
-pub(crate) fn nothing_kept() -> Ahead
+/// Nothing was looked up.
+pub fn nothing_kept() -> Ahead
     ensures { result ≡ nothing_kept }
 {
     Ahead {

@@ -60,7 +60,7 @@ pub(crate) fn commit_here(
     Ok(append_next(table, pass, nothing_kept(), at, line, act, root))
 }
 
-/// AppendsNext an edit that was made of the head which was pinned, where the log hasn't grown
+/// Appends an edit that was made of the head which was pinned, where the log hasn't grown
 /// since. It may wait for the log's turn.
 pub fn commit<R: Wait>(
     rt: &R,

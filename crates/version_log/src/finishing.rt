@@ -72,7 +72,7 @@ fn stands_next(table: &NodeTable, pass: &mut Pass, ahead: Ahead, act: &Act, at: 
     }
 }
 
-// AppendsNext the next record, whatever its act. The turn is given back.
+// Appends the next record, whatever its act. The turn is given back.
 pub(crate) fn append_next(
     table: &NodeTable,
     pass: &mut Pass,
@@ -103,8 +103,8 @@ pub(crate) fn append_next(
     turn.append(words, root)
 }
 
-// AppendsNext a record with this root. The turn is given back.
-pub(crate) fn finish(
+/// As `Sure::finish`, by a pass that has the log's turn.
+pub fn finish(
     table: &NodeTable,
     pass: &mut Pass,
     ahead: Ahead,
@@ -134,7 +134,8 @@ pub(crate) fn finish(
     Ok(append_next(table, pass, ahead, at, line, act, root))
 }
 
-pub(crate) fn length(table: &NodeTable, pass: &mut Pass) -> u32
+/// How many records the log has, by a pass that has its turn.
+pub fn length(table: &NodeTable, pass: &mut Pass) -> u32
     requires { HasLogTurn table.now pass.old }
     ensures turn { HasLogTurn table.now pass.new }
     ensures same { pass.new ≡ pass.old }

@@ -11,7 +11,7 @@ use node_table::{NodeTable, Pass};
 use std::sync::Wait;
 use version_answers::ForgetRefused;
 
-/// ForgetsVersion an earlier version: it is marked, and the log's share of its root comes. It may
+/// Forgets an earlier version: it is marked, and the log's share of its root comes. It may
 /// wait for the log's turn.
 pub fn forget<R: Wait>(
     rt: &R,

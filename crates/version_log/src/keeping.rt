@@ -27,8 +27,8 @@ pub(crate) fn root_of(table: &NodeTable, pass: &mut Pass, v: u32) -> Option<Name
     root
 }
 
-// A share of it.
-pub(crate) fn keep_version<R: Wait, L: Ledger>(
+/// As `Sure::keep`, by a pass that has the log's turn.
+pub fn keep_version<R: Wait, L: Ledger>(
     rt: &R,
     table: &NodeTable,
     pass: &mut Pass,

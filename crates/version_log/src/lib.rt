@@ -18,6 +18,9 @@
 //!
 //! A mark that is found takes a second load. The turn is taken by 1 exchange and given back by 1
 //! store.
+//!
+//! `Sure` is the turn as a value. Who hands the pass on between its calls makes them on the pass:
+//! `take`, then `length`, `mark`, `target` and `keep_version`, then `finish` or `leave`.
 #![tactic(auto)]
 
 mod ahead;
@@ -28,6 +31,7 @@ mod forgetting;
 mod heads;
 mod keeping;
 mod laws;
+mod looking;
 mod pinned;
 mod pins;
 mod refusals;
@@ -39,17 +43,20 @@ mod traits;
 mod tries;
 mod words;
 
-pub use ahead::Ahead;
+pub use ahead::{Ahead, nothing_kept};
 pub use commits::commit;
+pub use finishing::{finish, length};
 pub use forgets::forget;
 pub use forgetting::Forgot;
 pub use heads::head;
+pub use keeping::keep_version;
 pub use laws::pins_stay_and_tell;
+pub use looking::{Lead, mark, target};
 pub use pinned::Pinned;
 pub use pins::pin;
 pub use refusals::{CommitRefused, SureRefused, TryRefused};
 pub use sames::same;
-pub use sures::Sure;
-pub use taking::sure;
+pub use sures::{Sure, leave};
+pub use taking::{sure, take};
 pub use tries::try_commit;
 pub use version_answers::{ForgetRefused, PinRefused, SameAt, SameRefused};

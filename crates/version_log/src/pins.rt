@@ -26,7 +26,7 @@ fn version_asked(version: Option<u32>, at: u32) -> u32
     }
 }
 
-/// PinsVersion a version, or the head where none is named: it is kept as long as its share isn't
+/// Pins a version, or the head where none is named: it is kept as long as its share isn't
 /// given back. It may wait for the log's turn, and takes one turn of the root's bucket, where there
 /// is a root.
 pub fn pin<R: Wait, L: Ledger>(

@@ -166,7 +166,7 @@ impl<'a> Sure<'a> {
         &mut *self.pass
     }
 
-    /// AppendsNext a record with this root. The turn is given back.
+    /// Appends a record with this root. The turn is given back.
     pub fn finish(self, line: u32, act: &Act, root: Option<Share>) -> Result<u32, SureRefused>
         requires turn { HasLogTurn self.table.now self.pass.now }
         requires fits { FitsWorld (2 ^ self.table.now.plan.side) self.pass.now.view.models
@@ -205,7 +205,8 @@ impl<'a> Sure<'a> {
     }
 }
 
-pub(crate) fn leave(table: &NodeTable, pass: &mut Pass)
+/// The pass gives the log's turn back, and nothing else changes.
+pub fn leave(table: &NodeTable, pass: &mut Pass)
     requires { HasLogTurn table.now pass.old }
     ensures of { BelongsTo table.now pass.new }
     ensures view { pass.new.view ≡ log_left pass.old.view }

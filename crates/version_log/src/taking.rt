@@ -27,8 +27,8 @@ pub fn sure<'a, R: Wait>(rt: &R, table: &'a NodeTable, pass: &'a mut Pass) -> Su
     }
 }
 
-// The pass has the log's turn then.
-pub(crate) fn take<R: Wait>(rt: &R, table: &NodeTable, pass: &mut Pass)
+/// Waits for the log's turn, which the pass has then.
+pub fn take<R: Wait>(rt: &R, table: &NodeTable, pass: &mut Pass)
     requires of { BelongsTo table.now pass.old }
     requires idle { HasNoTurn pass.old.view }
     ensures turn { HasLogTurn table.now pass.new }

@@ -19,3 +19,6 @@ pub mod Refusing
 pub mod Making
 pub mod Stamps
 mod Alike
+pub mod Judging
+pub mod ReadBack
+pub mod TurnedModels

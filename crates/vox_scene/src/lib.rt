@@ -3,6 +3,7 @@
 
 mod dicts;
 mod faults;
+mod laws;
 mod nodes;
 mod numbers;
 mod painting;
@@ -17,6 +18,7 @@ mod walking;
 
 pub use dicts::Dict;
 pub use faults::SceneFault;
+pub use laws::{files_of_models_are_read, scenes_are_judged};
 pub use nodes::{Children, Kind, Node};
 pub use reading::Nodes;
 pub use scenes::{Scene, read_scene, scene_bytes};

@@ -58,6 +58,7 @@ pub fn read_scene(alloc: Global, bytes: &[u8]) -> Result<Scene, SceneFault>
     requires short { length bytes.now ≤ 2 ^ 28 }
     requires accepted { (models : List Content) × HasModels bytes.now models }
     ensures read { IfOk result (λ scene. HasScene bytes.now scene) }
+    ensures models { IfOk result (λ scene. AreModels scene.models) }
     ensures short { IfOk result (λ scene. 20 + chunks_length scene.models ≤ 2 ^ 28) }
     ensures refused { IfErr result (λ fault. RefusesScene fault bytes.now) }
 {
@@ -106,6 +107,7 @@ fn scene_of(alloc: Global, models: &Models, standing: &[Standing]) -> Result<Opt
     ensures scene { IfOk result (λ found. MatchOption found
         (HasLarge (map (stand_at models.now) standing.now))
         (λ scene. IsSceneOf (map (stand_at models.now) standing.now) scene)) }
+    ensures models { IfOk result (λ found. IfSome found (λ scene. AreModels scene.models)) }
     ensures short { IfOk result
         (λ found. IfSome found (λ scene. 20 + chunks_length scene.models ≤ 2 ^ 28)) }
 {

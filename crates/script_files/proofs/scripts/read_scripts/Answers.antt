@@ -1,6 +1,5 @@
 use Rattle.std.proofs.Common.{rules, length, map, sym, arith, ◌∙◌, ap}
 use Rattle.std.proofs.lemmas.List.{get_or-map, length-map}
-use Rattle.script.specs.Commands.{is_built}
 use Rattle.script.specs.Scripts.{commands_of}
 use Rattle.script_files.specs.declared.refusals.TextRefused.{TextRefused}
 use Rattle.script_files.specs.Refusals.{RefusesScripts}
@@ -29,7 +28,7 @@ returns-in_err-read_next-clause-refused g c =
     ∙ sym (get_or-map (λ t. g.T.AsSlice.items t) texts k c.text-item.result c.as_slice.result.now c.loop-text-test.true) in
     let by : (r : TextRefused)
     → RefusesScripts r (in_script (length c.loop-text.scripts.items)
-    (commands_of is_built c.args.side c.args.models.now c.as_slice.result.now))
+    (commands_of c.args.side c.args.models.now c.as_slice.result.now))
     → RefusesScripts r (scripts_of c.args.side c.args.models.now
     (map (λ t. g.T.AsSlice.items t) texts)) =
     λ r. next_refused r c.args.side c.args.models.now (map (λ t. g.T.AsSlice.items t) texts)

@@ -1,4 +1,4 @@
-use Rattle.std.proofs.Common.{◌≡◌, ℕ, List, take, refl, ◌∙◌, ap}
+use Rattle.std.proofs.Common.{ℕ, take, ◌∙◌, ap}
 use Rattle.script.proofs.SaveNames.{all_bytes, is_utf8}
 use Rattle.script.proofs.commands.SaveName.as_str.Goals as goal
 

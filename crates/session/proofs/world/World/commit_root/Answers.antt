@@ -1,6 +1,6 @@
 use Rattle.std.proofs.Common.{rules}
-use Rattle.session.proofs.AttemptLaws.{rests_appended, rests_looked, same_appended, same_looked}
-use Rattle.session.proofs.CommitLaws.{made_of_head, models_fit}
+use Rattle.session.proofs.AttemptLaws.{rests_appended, same_appended}
+use Rattle.session.proofs.CommitLaws.{made_of_head}
 use Rattle.session.proofs.world.World.commit_root.Goals as goal
 
 pub commit-requires-clause-made : goal.commit-requires-clause-made

@@ -1,0 +1,4 @@
+pub mod ReadStamps
+pub mod TurnsBack
+pub mod Unions
+pub mod Built

@@ -1,0 +1,66 @@
+-- The set cells of a box of a version that is pinned.
+use Rattle.std.proofs.Common.{◌≡◌, ◌-◌, ◌^◌, ℕ, Option, List, ◌++◌, ◌∙◌, ap, subst}
+use Rattle.std.specs.Prelude.{Result, Ok, Err, OnOk}
+use Rattle.vw_cell.specs.declared.boxes.Boxed.{Boxed}
+use Rattle.vw_cell.specs.Places.{FitsAt}
+use Rattle.vox_read.specs.declared.voxels.Voxel.{Voxel}
+use Rattle.history_model.specs.Worlds.{World}
+use Rattle.node_shapes.specs.declared.names.Name.{Name}
+use Rattle.node_shapes.specs.Shape.{ShowsCells}
+use Rattle.node_shapes.specs.Tree.{shape_of}
+use Rattle.node_words.proofs.HeldLaws.{held_reached}
+use Rattle.node_words.specs.Plans.{Layout}
+use Rattle.block_contents.specs.Aligned.{top, world_block}
+use Rattle.block_walk.specs.Roots.{ForWorld, IsBlockOf, cells_of}
+use Rattle.extract.specs.Listing.{voxels_of_box}
+use Rattle.table_rule.specs.LogTelling.{seen_has}
+use Rattle.node_table.specs.Seen.{TableSeen, PassSeen}
+use Rattle.version_log.specs.declared.pinned.Pinned.{Pinned}
+use Rattle.version_log.specs.Pins.{IsPinned}
+use Rattle.session.specs.Resting.{IsAtRest}
+use Rattle.session.proofs.AskLaws.{named_held}
+use Rattle.session.proofs.FileLaws.{same_voxels, shown_in}
+
+module _ (t : TableSeen) (v : PassSeen) (p : Pinned) (r : IsAtRest t v) (is : IsPinned v.view p)
+  where
+    world : World
+    world = seen_has v.view p.version
+
+    side_is : v.view.plan.side ≡ t.plan.side
+    side_is = ap (λ (l : Layout). l.side) r.of.plan
+
+    block : IsBlockOf v.view.held (t.plan.side - 2) p.root is.root.tree
+    block =
+        record {
+          root = is.root.name;
+          reached = λ n e. held_reached v.view.held is.root.tree
+              (named_held v.view.held is.root.tree n is.root.held (is.root.name ∙ e));
+          of_level = λ n e. is.root.level n e ∙ ap top side_is;
+        }
+
+    shows : ShowsCells (world_block t.plan.side) (shape_of is.root.tree) (seen_has v.view p.version)
+    shows =
+        subst (λ (k : ℕ). ShowsCells (world_block k) (shape_of is.root.tree)
+        (seen_has v.view p.version)) side_is is.root.shows
+
+    listed : (part : Boxed) → FitsAt part.at part.size (2 ^ t.plan.side) → (old new : List Voxel)
+        → ForWorld v.view.held t.plan.side p.root (λ cells. new ≡ old ++ voxels_of_box part cells)
+        → new ≡ old ++ voxels_of_box part (seen_has v.view p.version)
+    listed part fits old new told =
+        told is.root.tree block
+        ∙ ap (λ (vs : List Voxel). old ++ vs)
+        (same_voxels part (cells_of (t.plan.side - 2) (shape_of is.root.tree))
+        (seen_has v.view p.version)
+        (shown_in t.plan.side part (shape_of is.root.tree) (seen_has v.view p.version) shows fits))
+
+    pub pinned_cells : {X E : Type 0} (result : Result X E) (part : Boxed)
+        → FitsAt part.at part.size (2 ^ t.plan.side) → (old new : List Voxel)
+        → (root : Option Name) → root ≡ p.root
+        → OnOk result (ForWorld v.view.held t.plan.side root
+        (λ cells. new ≡ old ++ voxels_of_box part cells))
+        → OnOk result (new ≡ old ++ voxels_of_box part (seen_has v.view p.version))
+    pinned_cells (Err e) part fits old new root same told = tt
+    pinned_cells (Ok x) part fits old new root same told =
+        listed part fits old new
+        (subst (λ (n : Option Name). ForWorld v.view.held t.plan.side n
+        (λ cells. new ≡ old ++ voxels_of_box part cells)) same told)

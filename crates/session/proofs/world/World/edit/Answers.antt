@@ -1,0 +1,53 @@
+use Rattle.std.proofs.Common.{refl}
+use Rattle.session.proofs.EditLaws.{again_answers, base_gone, base_room, pinned_answers, pinned_room, two_few, two_room}
+use Rattle.session.proofs.SurelyLaws.{gets_keeps}
+use Rattle.session.proofs.world.World.edit.Goals as goal
+
+pub attempt-requires-clause-room : goal.attempt-requires-clause-room
+attempt-requires-clause-room g c =
+    pinned_room c.args.s.now.view c.pin_head-base.new.s.view c.pin_head-base.result.root
+    c.pin_head-base.ensures.gains 3900 c.requires.room
+
+pub attempt-requires-clause-recalls : goal.attempt-requires-clause-recalls
+attempt-requires-clause-recalls g c =
+    g.M.ActMaker.recalls_more c.args.maker.now c.args.s.now.view.held
+    c.pin_head-base.new.s.view.held (gets_keeps _ _ _ c.pin_head-base.ensures.gains)
+    c.requires.recalls
+
+pub give_root-requires-clause-room : goal.give_root-requires-clause-room
+give_root-requires-clause-room g c =
+    base_room c.args.s.now.view c.pin_head-base.new.s.view c.pin_head-base.result.root
+    c.pin_head-base.ensures.gains c.attempt.new.s.view c.in-Ok.ensures.comes.0 c.requires.room
+
+pub edit_surely-answer-requires-clause-room : goal.edit_surely-answer-requires-clause-room
+edit_surely-answer-requires-clause-room g c =
+    two_few _ _ _ _ _ c.pin_head-base.ensures.gains c.in-Err.ensures.comes.gains c.requires.room
+
+pub give_root-requires-in-Err-clause-room : goal.give_root-requires-in-Err-clause-room
+give_root-requires-in-Err-clause-room g c =
+    two_room _ _ _ _ _ _ c.pin_head-base.ensures.gains c.in-Err.ensures.comes.gains
+    c.edit_surely-answer.ensures.held c.requires.room
+
+pub give_root-requires-in-Err-2-clause-room : goal.give_root-requires-in-Err-2-clause-room
+give_root-requires-in-Err-2-clause-room g c =
+    base_room c.args.s.now.view c.pin_head-base.new.s.view c.pin_head-base.result.root
+    c.pin_head-base.ensures.gains c.give_root-in-Err.new.s.view
+    (base_gone c.pin_head-base.new.s.view c.attempt.new.s.view _ c.in-Err.ensures.comes.gains
+    c.edit_surely-answer.new.s.view c.give_root-in-Err.new.s.view c.in-Err.field-0.root refl
+    c.edit_surely-answer.ensures.held c.give_root-in-Err.ensures.gone) c.requires.room
+
+pub returns-in-Ok-clause-told : goal.returns-in-Ok-clause-told
+returns-in-Ok-clause-told g c =
+    pinned_answers c.args.self.now c.args.line _ _ c.args.s.now.view c.pin_head-base.new.s.view
+    c.attempt.new.s.view c.give_root.new.s.view c.pin_head-base.ensures.looks
+    c.in-Ok.ensures.comes.1 c.give_root.ensures.seen
+
+pub returns-in-Err-clause-told : goal.returns-in-Err-clause-told
+returns-in-Err-clause-told g c =
+    again_answers c.args.self.now c.args.line (g.M.ActMaker.act c.args.maker.now)
+    (g.M.ActMaker.act c.attempt.new.maker) _ c.pin_head-base.result c.in-Err.field-0
+    c.args.s.now.view c.pin_head-base.new.s.view c.attempt.new.s.view
+    c.edit_surely-answer.new.s.view c.give_root-in-Err.new.s.view
+    c.give_root-in-Err-2.new.s.view c.pin_head-base.ensures.looks c.in-Err.ensures.comes
+    c.attempt.ensures.act c.edit_surely-answer.ensures.told c.give_root-in-Err.ensures.seen
+    c.give_root-in-Err-2.ensures.seen

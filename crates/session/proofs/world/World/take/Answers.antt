@@ -1,0 +1,21 @@
+use Rattle.std.proofs.Common.{rules}
+use Rattle.version_log.proofs.LookLaws.{takes_looks}
+use Rattle.session.proofs.AttemptLaws.{same_looked}
+use Rattle.session.proofs.TurnLaws.{log_came, taken_held}
+use Rattle.session.proofs.world.World.take.Goals as goal
+
+pub returns-clause-turn : goal.returns-clause-turn
+returns-clause-turn g c =
+    log_came c.args.self.now _ c.args.s.now c.take.new.pass (search rules) c.requires.rest
+    c.take.ensures.turn (takes_looks _ _ c.take.ensures.takes)
+
+pub returns-clause-same : goal.returns-clause-same
+returns-clause-same g c =
+    same_looked c.args.self.now _ c.args.s.now c.take.new.pass (search rules) c.requires.rest
+    c.take.ensures.turn.of (takes_looks _ _ c.take.ensures.takes)
+
+pub returns-clause-looks : goal.returns-clause-looks
+returns-clause-looks g c = takes_looks _ _ c.take.ensures.takes
+
+pub returns-clause-held : goal.returns-clause-held
+returns-clause-held g c = taken_held _ _ c.take.ensures.takes

@@ -1,0 +1,134 @@
+//! The desk at which a session answers the lines of its script.
+ghost use Rattle.std.specs.Prelude.{◌-◌, length, vec_capacity};
+ghost use Rattle.session.specs.Desks.{DeskStands, StaysAtDesk, desk_itself, desk_on};
+ghost use Rattle.session.specs.Saves.{pinned_versions};
+ghost use Rattle.session.specs.Seen.{of_world, session_seen};
+
+use crate::saves::PinnedSave;
+use crate::world::{Session, World};
+use gate_run::Gate;
+use history_model::{Act, Question};
+use node_words::Steps;
+use script::{SaveName, ScriptLine};
+use session_runs::{
+    ActAnswer, AskedAt, OnceAnswer, SavedAt, SessionCalls, SessionDesk, answer_line,
+};
+use std::sync::Wait;
+use std::sync::ledger::Ledger;
+use transcript::LineAnswer;
+use version_answers::{ForgetRefused, PinRefused, SameAt, SameRefused};
+use version_log::Pinned;
+use vw_cell::Boxed;
+
+/// A borrowed session with its world, the pins of what it saved, and the gate that it passes.
+#[derive(Drop)]
+pub(crate) struct ScriptDesk<'a, 'm, R, G, L: Ledger> {
+    pub(crate) rt: &'a R,
+    pub(crate) gate: &'a G,
+    pub(crate) world: &'a World<'m>,
+    pub(crate) session: &'a mut Session,
+    pub(crate) saves: &'a mut Vec<Pinned>,
+    pub(crate) steps: &'a mut Steps<L>,
+    /// The session's number.
+    pub(crate) number: u16,
+    /// How many saves there may be.
+    pub(crate) most: usize,
+}
+
+impl<'a, 'm, R: Wait, G: Gate, L: Ledger> SessionCalls for ScriptDesk<'a, 'm, R, G, L> {
+    ghost of = { λ d. of_world d.world.now d.number };
+
+    ghost seen = { λ d. session_seen d.session.now.view };
+
+    ghost saved = { λ d. pinned_versions d.saves.now.items };
+
+    ghost room = { λ d. d.most - length d.saves.now.items };
+
+    ghost stands = { λ d. DeskStands d.world.now d.number d.most d.session.now d.saves.now.items
+        (vec_capacity d.saves.now) };
+
+    ghost rests = { λ c d. StaysAtDesk c.world.now d.world.now c.session d.session
+        c.saves d.saves };
+
+    fn act(&mut self, line: u32, act: Act) -> ActAnswer {
+        self.world
+            .act(self.rt, self.session, line, &act, self.gate, self.steps)
+    }
+
+    fn act_once(&mut self, line: u32, act: Act) -> OnceAnswer {
+        self.world
+            .act_once(self.rt, self.session, line, &act, self.gate, self.steps)
+    }
+
+    fn ask(&mut self, version: Option<u32>, question: Question) -> Result<AskedAt, PinRefused> {
+        self.world
+            .ask_version(self.rt, self.session, version, question, self.steps)
+    }
+
+    fn save(
+        &mut self,
+        version: Option<u32>,
+        _name: SaveName,
+        part: Boxed,
+    ) -> Result<SavedAt, PinRefused> {
+        match self
+            .world
+            .pin_box(self.rt, self.session, version, part, self.steps)
+        {
+            Ok(PinnedSave { saved, pin }) => {
+                self.saves.push_reserved(pin);
+                Ok(saved)
+            }
+            Err(refused) => Err(refused),
+        }
+    }
+
+    fn forget(&mut self, line: u32, version: u32) -> Result<u32, ForgetRefused> {
+        self.world
+            .forget(self.rt, self.session, line, version, self.steps)
+    }
+
+    fn same(&mut self, v: u32, w: u32) -> Result<SameAt, SameRefused> {
+        self.world.same(self.rt, self.session, v, w)
+    }
+
+    fn head(&mut self) -> u32 {
+        self.world.head(self.rt, self.session)
+    }
+
+    ghost rests_itself = { λ c. desk_itself c.world.now c.session c.saves };
+
+    ghost rests_on = { λ c d e. desk_on c.world.now d.world.now e.world.now c.session d.session
+        e.session c.saves d.saves e.saves };
+}
+
+impl<'a, 'm, R: Wait, G: Gate, L: Ledger> SessionDesk for ScriptDesk<'a, 'm, R, G, L> {
+    ghost of = { λ d. of_world d.world.now d.number };
+
+    ghost seen = { λ d. session_seen d.session.now.view };
+
+    ghost saved = { λ d. pinned_versions d.saves.now.items };
+
+    ghost room = { λ d. d.most - length d.saves.now.items };
+
+    ghost stands = { λ d. DeskStands d.world.now d.number d.most d.session.now d.saves.now.items
+        (vec_capacity d.saves.now) };
+
+    ghost rests = { λ c d. StaysAtDesk c.world.now d.world.now c.session d.session
+        c.saves d.saves };
+
+    fn answer(&mut self, l: ScriptLine) -> LineAnswer {
+        let gate = self.gate;
+        let number = self.number;
+        let line = l.line;
+        gate.before(number, line);
+        let answer = answer_line(self, l);
+        gate.after(number, line);
+        answer
+    }
+
+    ghost rests_itself = { λ c. desk_itself c.world.now c.session c.saves };
+
+    ghost rests_on = { λ c d e. desk_on c.world.now d.world.now e.world.now c.session d.session
+        e.session c.saves d.saves e.saves };
+}
