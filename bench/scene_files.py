@@ -205,15 +205,28 @@ def turned_size(rows, size):
     return tuple(size[column] for column, _ in rows)
 
 
-def scene(data):
-    models = read_models(data)
-    placed = placements(data, models)
+def turned(rows, size, cells):
+    """The cells of a turned model, with their colours."""
+    new = turned_size(rows, size)
+    for cell, colour in cells.items():
+        middle = apply(rows, tuple(2 * p + 1 - s for p, s in zip(cell, size)))
+        yield tuple((m + s - 1) // 2 for m, s in zip(middle, new)), colour
+
+
+def corners_of(placed, models):
+    """Where each placement stands, told from the least corner of all."""
     corners = []
     for model, rows, at in placed:
         size = turned_size(rows, models[model][0])
         corners.append((0, 0, 0) if at is None else tuple(t - s // 2 for t, s in zip(at, size)))
     least = tuple(min((c[k] for c in corners), default=0) for k in range(3))
-    corners = [tuple(c - low for c, low in zip(corner, least)) for corner in corners]
+    return [tuple(c - low for c, low in zip(corner, least)) for corner in corners]
+
+
+def scene(data):
+    models = read_models(data)
+    placed = placements(data, models)
+    corners = corners_of(placed, models)
     most = 4
     for (model, rows, _), corner in zip(placed, corners):
         most = max(most, *(c + s for c, s in zip(corner, turned_size(rows, models[model][0]))))
@@ -226,12 +239,7 @@ def scene(data):
     for model, rows, _ in placed:
         size, cells = models[model]
         new = turned_size(rows, size)
-        listed = []
-        for cell, colour in cells.items():
-            middle = apply(rows, tuple(2 * p + 1 - s for p, s in zip(cell, size)))
-            x, y, z = ((m + s - 1) // 2 for m, s in zip(middle, new))
-            listed.append((z, y, x, colour))
-        listed.sort()
+        listed = sorted((z, y, x, colour) for (x, y, z), colour in turned(rows, size, cells))
         children += b"SIZE" + struct.pack("<5I", 12, 0, *new)
         children += b"XYZI" + struct.pack("<3I", 4 + 4 * len(listed), 0, len(listed))
         for z, y, x, colour in listed:
@@ -399,4 +407,5 @@ def main(words):
         sys.exit(__doc__)
 
 
-main(sys.argv[1:])
+if __name__ == "__main__":
+    main(sys.argv[1:])

@@ -1,5 +1,5 @@
 #!/usr/bin/env python3
-"""Writes the four models of this folder anew, the same bytes each time.
+"""Writes the four models and the scene of this folder anew, the same bytes each time.
 
 A model is a size (sx, sy, sz) and a list of entries (x, y, z, colour), in the order in which they stand in the file.
 z points up, as in MagicaVoxel. Run as: python3 models/make.py
@@ -65,10 +65,94 @@ def letter():
 
 def plain_file(size, entries):
     """The bytes of a model in the plain layout: SIZE and then XYZI, and no other chunk."""
-    n = len(entries)
-    body = b"SIZE" + struct.pack("<5I", 12, 0, *size)
-    body += b"XYZI" + struct.pack("<3I", 4 + 4 * n, 0, n)
-    body += b"".join(bytes(entry) for entry in entries)
+    return file_of(model_chunks(size, entries))
+
+
+# ---- a scene: models, and nodes that turn and move them
+
+def tower():
+    """A square tower of five each way, hollow, with a battlement."""
+    entries = []
+    for z in range(9):
+        for y in range(5):
+            for x in range(5):
+                rim = x in (0, 4) or y in (0, 4)
+                if (z == 0 or rim) and (z < 8 or (x + y) % 2 == 0):
+                    entries.append((x, y, z, 12 if z < 8 else 24))
+    return (5, 5, 9), entries
+
+
+def wall():
+    """A wall along x, with a gate in the middle."""
+    entries = []
+    for z in range(6):
+        for y in range(3):
+            for x in range(15):
+                gate = 6 <= x <= 8 and z < 4
+                if not gate and (z < 5 or x % 2 == 0):
+                    entries.append((x, y, z, 36 if z < 5 else 48))
+    return (15, 3, 6), entries
+
+
+def flight():
+    """Five steps that rise along x, each of its own colour."""
+    return (5, 5, 5), [(x, y, z, 61 + 2 * x) for x in range(5) for y in range(5) for z in range(x + 1)]
+
+
+def block():
+    """What the steps lead to."""
+    return (5, 5, 5), [(x, y, z, 75) for x in range(5) for y in range(5) for z in range(5)]
+
+
+# How a node turns, about z: not at all, and by one, two and three quarters, x to y.
+AHEAD, LEFT, BACK, RIGHT = "4", "17", "52", "33"
+MODELS = (tower, wall, flight, block)
+# The model that is shown, how it is turned, and where its middle stands, rounded down.
+PLACED = [
+    (0, AHEAD, (2, 2, 4)), (0, AHEAD, (22, 2, 4)), (0, AHEAD, (2, 22, 4)), (0, AHEAD, (22, 22, 4)),
+    (1, AHEAD, (12, 2, 3)), (1, BACK, (12, 22, 3)), (1, LEFT, (2, 12, 3)), (1, RIGHT, (22, 12, 3)),
+    (2, AHEAD, (7, 12, 2)), (2, LEFT, (12, 7, 2)), (2, BACK, (17, 12, 2)), (2, RIGHT, (12, 17, 2)),
+    (3, AHEAD, (12, 12, 2)),
+]
+
+
+def dictionary(pairs):
+    texts = [text for pair in pairs for text in pair]
+    return struct.pack("<I", len(pairs)) + b"".join(struct.pack("<I", len(t)) + t.encode() for t in texts)
+
+
+def mover(ident, child, pairs):
+    fields = struct.pack("<I", ident) + dictionary([]) + struct.pack("<4I", child, 2**32 - 1, 0, 1)
+    return chunk(b"nTRN", fields + dictionary(pairs))
+
+
+def court():
+    """A court of four towers, four walls and four flights of steps: node 0 moves the group of all, 1, and each mover of
+    that group shows one model. A model that stands often is one shape."""
+    shapes = [2 + len(PLACED) + k for k in range(len(MODELS))]
+    children = [2 + k for k in range(len(PLACED))]
+    body = b"".join(model_chunks(*model()) for model in MODELS)
+    body += mover(0, 1, [("_t", "-12 -12 0")])
+    body += chunk(b"nGRP", struct.pack("<3I", 1, 0, len(children)) + struct.pack(f"<{len(children)}I", *children))
+    for ident, (model, turn, at) in zip(children, PLACED):
+        pairs = ([("_r", turn)] if turn != AHEAD else []) + [("_t", "%d %d %d" % at)]
+        body += mover(ident, shapes[model], pairs)
+    for model, ident in enumerate(shapes):
+        body += chunk(b"nSHP", struct.pack("<4I", ident, 0, 1, model) + dictionary([]))
+    return file_of(body)
+
+
+def chunk(name, content):
+    return name + struct.pack("<2I", len(content), 0) + content
+
+
+def model_chunks(size, entries):
+    """SIZE and then XYZI."""
+    voxels = struct.pack("<I", len(entries)) + b"".join(bytes(entry) for entry in entries)
+    return chunk(b"SIZE", struct.pack("<3I", *size)) + chunk(b"XYZI", voxels)
+
+
+def file_of(body):
     return b"VOX " + struct.pack("<I", 150) + b"MAIN" + struct.pack("<2I", 0, len(body)) + body
 
 
@@ -84,6 +168,10 @@ def main():
         with open(os.path.join(HERE, f"{model.__name__}.vox"), "wb") as file:
             file.write(plain_file(size, entries))
         print(f"{model.__name__}.vox: size {size}, {len(entries)} entries, {cells(entries)} cells")
+    with open(os.path.join(HERE, "court.vox"), "wb") as file:
+        file.write(court())
+    stands = sum(cells(MODELS[model]()[1]) for model, _, _ in PLACED)
+    print(f"court.vox: {len(MODELS)} models, {len(PLACED)} placements, {stands} cells")
 
 
 main()
