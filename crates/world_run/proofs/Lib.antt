@@ -1,0 +1,7 @@
+mod Accepting
+mod EndLaws
+mod KeptLaws
+mod OpenLaws
+mod RoomLaws
+mod Telling
+mod Working

@@ -1,0 +1,5 @@
+pub mod Ends
+pub mod Open
+pub mod Works
+pub mod Starts
+pub mod Told

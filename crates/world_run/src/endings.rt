@@ -1,0 +1,193 @@
+//! How a run ends: its world is closed, or given up.
+ghost use Rattle.std.specs.Prelude.{◌≡◌, ◌<◌, ◌≤◌, [], ℕ, All, IfOk, length, take, vec_capacity};
+ghost use Rattle.node_table.specs.LogTurns.{HasNoTurn};
+ghost use Rattle.reporting.specs.Numbers.{AreNumbers};
+ghost use Rattle.reporting.specs.Roots.{RootsTellWorlds, listed_root};
+ghost use Rattle.session_runs.specs.Ran.{ClosesWorld};
+ghost use Rattle.session.specs.Closes.{sessions_seen};
+ghost use Rattle.session.specs.Resting.{IsAtRest};
+ghost use Rattle.session.specs.Seen.{session_seen};
+ghost use Rattle.world_run.specs.Ends.{IsEndOf};
+ghost use Rattle.world_run.specs.Open.{IsSaved, saved_seen};
+ghost use Rattle.world_run.specs.Told.{root_in};
+
+use crate::open_runs::SavedSession;
+use node_shapes::Name;
+use node_table::Root;
+use session::{CloseRefused, Ended, Session, World};
+use std::alloc::Global;
+use std::sync::Wait;
+use vw_cell::Memory;
+
+/// What a run leaves when its world is closed.
+#[derive(Drop)]
+pub struct WorldRan {
+    pub ended: Ended,
+    /// The root of each version, none where it has no set cell or is forgotten.
+    pub roots: Vec<Option<Name>>,
+    /// How many nodes of each level are live, from level 0 up.
+    pub numbers: Vec<u32>,
+}
+
+/// Gives back what is held for saves, and closes the world.
+pub(crate) fn close_over<R: Wait>(
+    rt: &R,
+    alloc: Global,
+    world: World<'_>,
+    sessions: Vec<SavedSession>,
+) -> Result<WorldRan, Memory>
+    requires saved { All (IsSaved world) sessions.items }
+    ensures closes { IfOk result (λ r. ClosesWorld world.entry.plan world.entry.models
+        (saved_seen sessions.items) r.ended.history) }
+    ensures is_end { IfOk result
+        (λ r. IsEndOf world.entry.models r.ended.history r.ended) }
+    ensures places { IfOk result
+        (λ r. length r.ended.history.records < length r.roots.items) }
+    ensures roots { IfOk result (λ r. RootsTellWorlds world.entry.models r.ended.history
+        (listed_root r.roots.items)) }
+    ensures numbers { IfOk result
+        (λ r. AreNumbers world.entry.models r.ended.history r.numbers.items) }
+{
+    let Ok(room) = Vec::with_capacity(alloc, sessions.len()) else {
+        give_up_over(rt, &world, sessions);
+        return Err(Memory);
+    };
+    let sessions = unpin_all(rt, &world, sessions, room);
+    let levels = usize::from(world.plan().side().root_level()) + 1;
+    match world.close(alloc, sessions) {
+        Ok(ended) => told(alloc, ended, levels),
+        Err(
+            CloseRefused::Count {
+                world: _world,
+                sessions,
+                made: _,
+            },
+        ) => {
+            end_all(sessions);
+            Err(Memory)
+        }
+        Err(
+            CloseRefused::Memory {
+                world: _world,
+                sessions,
+            },
+        ) => {
+            end_all(sessions);
+            Err(Memory)
+        }
+    }
+}
+
+// What a closed world tells, by version and by level.
+fn told(alloc: Global, ended: Ended, levels: usize) -> Result<WorldRan, Memory>
+    requires levels { levels ≤ 11 }
+    requires roots { All (λ r. r.version ≤ length ended.history.records) ended.roots.items }
+    ensures ended { IfOk result (λ r. r.ended ≡ ended) }
+    ensures places { IfOk result (λ r. length ended.history.records < length r.roots.items) }
+    ensures roots { IfOk result (λ r. (v : ℕ) → listed_root r.roots.items v
+        ≡ root_in ended.roots.items v) }
+    ensures numbers { IfOk result (λ r. r.numbers.items ≡ take levels ended.live) }
+{
+    let closed = ended.closed();
+    let versions = closed.history.records.len() + 1;
+    let roots = roots_by_version(alloc, closed.roots.as_slice(), versions)?;
+    let numbers = first_numbers(alloc, &closed.live, levels)?;
+    Ok(WorldRan {
+        ended,
+        roots,
+        numbers,
+    })
+}
+
+// The roots of so many versions, none where none is listed.
+fn roots_by_version(
+    alloc: Global,
+    roots: &[Root],
+    versions: usize,
+) -> Result<Vec<Option<Name>>, Memory>
+    requires { All (λ r. r.version < versions) roots.now }
+    ensures many { IfOk result (λ all. length all.items ≡ versions) }
+    ensures roots { IfOk result (λ all. (v : ℕ) → listed_root all.items v ≡ root_in roots.now v) }
+{
+    let mut all = vec![in alloc; None; versions]?;
+    let mut k = roots.len();
+    while k > 0 {
+        k -= 1;
+        let Root { version, name } = roots[k];
+        all[version as usize] = name;
+    }
+    Ok(all)
+}
+
+fn first_numbers(alloc: Global, live: &[u32; 11], levels: usize) -> Result<Vec<u32>, Memory>
+    requires { levels ≤ 11 }
+    ensures { IfOk result (λ numbers. numbers.items ≡ take levels live.now) }
+{
+    let mut numbers = Vec::with_capacity(alloc, levels)?;
+    numbers.extend_from_slice(&live[..levels])?;
+    Ok(numbers)
+}
+
+/// Gives back what is held for saves, and gives up the sessions of the world.
+pub(crate) fn give_up_over<R: Wait>(rt: &R, world: &World<'_>, sessions: Vec<SavedSession>)
+    requires saved { All (IsSaved world.now) sessions.items }
+{
+    let mut sessions = sessions.into_iter();
+    while let Some(saved) = sessions.next() {
+        let session = unpin_one(rt, world, saved);
+        session.end();
+    }
+    sessions.destroy_empty();
+}
+
+/// Gives up sessions that hold nothing.
+pub(crate) fn end_all(sessions: Vec<Session>)
+    requires held { All (λ s. s.view.held ≡ []) sessions.items }
+    requires idle { All (λ s. HasNoTurn s.view) sessions.items }
+{
+    let mut sessions = sessions.into_iter();
+    while let Some(session) = sessions.next() {
+        session.end();
+    }
+    sessions.destroy_empty();
+}
+
+// The sessions, when nothing is held any more, behind those of the list.
+fn unpin_all<R: Wait>(
+    rt: &R,
+    world: &World<'_>,
+    sessions: Vec<SavedSession>,
+    room: Vec<Session>,
+) -> Vec<Session>
+    requires saved { All (IsSaved world.now) sessions.items }
+    requires none { room.items ≡ [] }
+    requires capacity { length sessions.items ≤ vec_capacity room }
+    ensures rest { All (IsAtRest world.now) result.items }
+    ensures spare { All (λ s. s.view.held ≡ []) result.items }
+    ensures seen { sessions_seen result.items ≡ saved_seen sessions.items }
+{
+    let mut spare = room;
+    let mut sessions = sessions.into_iter();
+    while let Some(saved) = sessions.next() {
+        let session = unpin_one(rt, world, saved);
+        spare.push_reserved(session);
+    }
+    sessions.destroy_empty();
+    spare
+}
+
+// The session, when nothing is held any more.
+fn unpin_one<R: Wait>(rt: &R, world: &World<'_>, saved: SavedSession) -> Session
+    requires saved { IsSaved world.now saved }
+    ensures rest { IsAtRest world.now result }
+    ensures none { result.view.held ≡ [] }
+    ensures seen { session_seen result.view ≡ session_seen saved.session.view }
+{
+    let SavedSession {
+        mut session,
+        saves: _,
+        pins,
+    } = saved;
+    world.unpin_saves(rt, &mut session, pins);
+    session
+}

@@ -1,0 +1,170 @@
+//! A run whose sessions all ran their scripts.
+ghost use Rattle.std.specs.Prelude.{◌≡◌, ◌<◌, ◌≤◌, true, Some, All, IfOk, length};
+ghost use Rattle.std.specs.List.{slice_get};
+ghost use Rattle.reporting.specs.Numbers.{AreNumbers};
+ghost use Rattle.reporting.specs.Roots.{RootsTellWorlds, listed_root};
+ghost use Rattle.script.specs.Placing.{is_save_name};
+ghost use Rattle.conformance.specs.declared.saves.SavedBox.{SavedBox};
+ghost use Rattle.session_runs.specs.Kept.{KeptSave, kept_at};
+ghost use Rattle.session_runs.specs.Ran.{ClosesWorld};
+ghost use Rattle.session.specs.Seen.{session_seen};
+ghost use Rattle.world_run.specs.Ends.{IsEndOf};
+ghost use Rattle.world_run.specs.Open.{HasSave, IsSaved, SavesAt, kept_in, saved_file};
+
+use crate::endings::{WorldRan, close_over, give_up_over};
+use conformance::SavedBox;
+use session::{Session, World};
+use std::alloc::Global;
+use std::marker::Model;
+use std::sync::Wait;
+use version_log::Pinned;
+use vw_cell::Memory;
+
+/// A session that ran its script, its accepted saves, and the pin of each.
+pub(crate) struct SavedSession {
+    pub(crate) session: Session,
+    pub(crate) saves: Vec<SavedBox>,
+    pub(crate) pins: Vec<Pinned>,
+}
+
+/// A run whose sessions all ran their scripts. It holds what was saved, so that files can be made
+/// one at a time, and then its world is closed, or it is given up.
+pub struct OpenRun<'m> {
+    pub(crate) world: World<'m>,
+    pub(crate) sessions: Vec<SavedSession>,
+}
+
+impl<'m> Model for OpenRun<'m> {
+    ghost use Rattle.std.specs.Prelude.{◌≡◌, ◌≤◌, All, length};
+    ghost use Rattle.std.specs.Coded.{codes};
+    ghost use Rattle.node_shapes.specs.ShapeCode.{coded_shape};
+    ghost use Rattle.store_notes.specs.Told.{coded_wanted};
+    ghost use Rattle.world_run.specs.Open.{IsSaved, RunState, kept_in, saved_seen};
+
+    ghost Value = { RunState };
+
+    ghost coded = { Prim.hlevel (codes, coded_shape, coded_wanted) };
+
+    ghost view = { λ r. record {
+      plan = r.world.plan;
+      models = r.world.models;
+      sessions = saved_seen r.sessions.items;
+      kept = kept_in r.sessions.items;
+    } };
+
+    ghost invariant = { λ r. All (IsSaved r.world) r.sessions.items
+        × (length r.sessions.items ≤ 64) };
+}
+
+// Which save of which session.
+#[derive(Clone, Copy)]
+struct SavePlace {
+    session: usize,
+    save: usize,
+}
+
+// How many saves there are.
+fn number_kept(sessions: &[SavedSession]) -> usize
+    requires few { length sessions.now ≤ 64 }
+    requires each { All (λ s. length s.saves.items ≤ 1024) sessions.now }
+    ensures { result ≡ length (kept_in sessions.now) }
+{
+    let mut number: usize = 0;
+    for s in sessions {
+        number += s.saves.len();
+    }
+    number
+}
+
+// Where the save of this number stands.
+fn place_of(sessions: &[SavedSession], k: usize) -> SavePlace
+    requires { k < length (kept_in sessions.now) }
+    ensures { HasSave sessions.now k result }
+{
+    let mut left = k;
+    for at in 0..sessions.len() {
+        let number = sessions[at].saves.len();
+        if left < number {
+            return SavePlace {
+                session: at,
+                save: left,
+            };
+        }
+        left -= number;
+    }
+    unreachable!()
+}
+
+// The file of the save at this place.
+fn file_in(
+    alloc: Global,
+    world: &World<'_>,
+    s: &mut SavedSession,
+    k: usize,
+) -> Result<Vec<u8>, Memory>
+    requires saved { IsSaved world.now s.old }
+    requires there { k < length s.old.saves.items }
+    ensures saved { IsSaved world.now s.new }
+    ensures same { s.new.saves ≡ s.old.saves }
+    ensures seen { session_seen s.new.session.view ≡ session_seen s.old.session.view }
+    ensures file { IfOk result (λ file. (b : SavedBox) → slice_get s.old.saves.items k ≡ Some b
+        → file.items ≡ saved_file world.now.models
+        (kept_at (session_seen s.old.session.view).log b)) }
+{
+    let part = s.saves[k].part;
+    world.saved_file(alloc, &mut s.session, s.pins.as_slice(), k, part)
+}
+
+impl<'m> OpenRun<'m> {
+    /// How many saves were accepted.
+    pub fn saves(&self) -> usize
+        ensures { result ≡ length self.now.kept }
+    {
+        number_kept(self.sessions.as_slice())
+    }
+
+    /// The save of this number, counted from 0.
+    pub fn save(&self, k: usize) -> SavedBox
+        requires { k < length self.now.kept }
+        ensures is { SavesAt self.now.kept k result }
+        ensures is_name { is_save_name result.name ≡ true }
+    {
+        let place = place_of(self.sessions.as_slice(), k);
+        self.sessions[place.session].saves[place.save]
+    }
+
+    /// The file of the save of this number.
+    pub fn file(&mut self, alloc: Global, k: usize) -> Result<Vec<u8>, Memory>
+        requires { k < length self.old.kept }
+        ensures file { IfOk result (λ file. (s : KeptSave) → slice_get self.old.kept k ≡ Some s
+            → file.items ≡ saved_file self.old.models s) }
+        ensures same { self.new ≡ self.old }
+    {
+        let place = place_of(self.sessions.as_slice(), k);
+        let OpenRun { world, sessions } = self;
+        file_in(alloc, world, &mut sessions[place.session], place.save)
+    }
+
+    /// Gives back what is held for saves, and closes the world.
+    pub fn close<R: Wait>(self, rt: &R, alloc: Global) -> Result<WorldRan, Memory>
+        ensures closes { IfOk result (λ r. ClosesWorld self.entry.plan self.entry.models
+            self.entry.sessions r.ended.history) }
+        ensures is_end { IfOk result
+            (λ r. IsEndOf self.entry.models r.ended.history r.ended) }
+        ensures places { IfOk result
+            (λ r. length r.ended.history.records < length r.roots.items) }
+        ensures roots { IfOk result (λ r. RootsTellWorlds self.entry.models r.ended.history
+            (listed_root r.roots.items)) }
+        ensures numbers { IfOk result
+            (λ r. AreNumbers self.entry.models r.ended.history r.numbers.items) }
+    {
+        let OpenRun { world, sessions } = self;
+        close_over(rt, alloc, world, sessions)
+    }
+
+    /// Gives back what is held for saves, and gives up the sessions and their world.
+    pub fn give_up<R: Wait>(self, rt: &R) {
+        let OpenRun { world, sessions } = self;
+        give_up_over(rt, &world, sessions);
+    }
+}

@@ -1,0 +1,262 @@
+//! Scripts are run in threads.
+ghost use Rattle.std.specs.Prelude.{◌≡◌, ◌^◌, ◌≤◌, [], All, IfOk, length, vec_capacity};
+ghost use Rattle.vox_read.specs.Contents.{AreModels};
+ghost use Rattle.script.specs.Fitting.{CommandFits, RisesFrom};
+ghost use Rattle.gate_run.specs.Runs.{RanEach};
+ghost use Rattle.node_table.specs.Begins.{AreNewPasses, terms_of};
+ghost use Rattle.session_runs.specs.Kept.{kept_of};
+ghost use Rattle.session_runs.specs.Ran.{SessionsRan};
+ghost use Rattle.session.specs.Resting.{IsAtRest};
+ghost use Rattle.std.specs.List.{AllZip};
+ghost use Rattle.world_run.specs.Open.{IsSaved, kept_in, saved_seen};
+ghost use Rattle.world_run.specs.Works.{AreDone, AreWorks, IsRoomFor};
+ghost use Rattle.world_run.specs.Starts.{HasBegun};
+
+use crate::accepted::push_accepted;
+use crate::endings::end_all;
+use crate::open_runs::{OpenRun, SavedSession};
+use crate::rooms::{ScriptRoom, give_up_rooms, rooms_of};
+use crate::works::SessionWork;
+use conformance::Transcript;
+use gate_run::{Gate, Worker, run_all};
+use node_words::Plan;
+use script::Script;
+use session::{Session, World};
+use std::alloc::Global;
+use std::sync::Wait;
+use std::thread::Threads;
+use vox_read::Models;
+use vw_cell::Memory;
+
+/// A run whose sessions all ran their scripts, and their transcripts.
+pub struct ScriptsRun<'m> {
+    pub run: OpenRun<'m>,
+    pub transcripts: Vec<Transcript>,
+}
+
+// What comes of the scripts, in their order.
+struct Outcomes {
+    sessions: Vec<SavedSession>,
+    transcripts: Vec<Transcript>,
+}
+
+// The sessions of a new world, and room for what comes of them.
+struct Start {
+    sessions: Vec<Session>,
+    rooms: Vec<ScriptRoom>,
+    outcomes: Outcomes,
+}
+
+/// Runs scripts in threads, script k as session k, from an empty world of the plan's side.
+///
+/// The world, a stencil of each model and the lists of all answers and saves are taken before the
+/// first command; a command takes no memory. A run of no script, for which no words ask, is told as
+/// want of memory.
+pub fn run_scripts<'m, R: Threads + Wait + Sync, G: Gate + Sync>(
+    rt: &R,
+    gate: &G,
+    alloc: Global,
+    plan: &Plan,
+    models: &'m Models,
+    scripts: &[Script],
+) -> Result<ScriptsRun<'m>, Memory>
+    requires models { AreModels models.now }
+    requires few { length scripts.now ≤ 64 }
+    requires rise { All (RisesFrom 1) scripts.now }
+    requires fit { All
+        (All (λ l. CommandFits (2 ^ plan.now.side) models.now l.command)) scripts.now }
+    ensures ran { IfOk result (λ r. SessionsRan plan.now models.now 0 scripts.now
+        r.transcripts.items r.run.sessions) }
+    ensures saved { IfOk result
+        (λ r. r.run.kept ≡ kept_of scripts.now r.transcripts.items r.run.sessions) }
+    ensures models { IfOk result (λ r. r.run.models ≡ models.now) }
+    ensures plan { IfOk result (λ r. r.run.plan ≡ plan.now) }
+{
+    if scripts.is_empty() {
+        return Err(Memory);
+    }
+    let transcripts = Vec::with_capacity(alloc, scripts.len())?;
+    let rooms = rooms_of(alloc, scripts)?;
+    let Ok(sessions) = Vec::with_capacity(alloc, scripts.len()) else {
+        give_up_rooms(rooms);
+        return Err(Memory);
+    };
+    match World::begin(alloc, plan, models, scripts.len() as u16) {
+        Ok((world, begun)) => {
+            let outcomes = Outcomes {
+                sessions,
+                transcripts,
+            };
+            let start = Start {
+                sessions: begun,
+                rooms,
+                outcomes,
+            };
+            run_in(rt, gate, alloc, world, start, scripts)
+        }
+        Err(refused) => {
+            give_up_rooms(rooms);
+            sessions.destroy_empty();
+            Err(refused)
+        }
+    }
+}
+
+// Runs the scripts in a world where nothing was done yet.
+fn run_in<'m, R: Threads + Wait + Sync, G: Gate + Sync>(
+    rt: &R,
+    gate: &G,
+    alloc: Global,
+    world: World<'m>,
+    start: Start,
+    scripts: &[Script],
+) -> Result<ScriptsRun<'m>, Memory>
+    requires begun { HasBegun world scripts.now start }
+    requires few { length scripts.now ≤ 64 }
+    requires rise { All (RisesFrom 1) scripts.now }
+    requires fit { All (All (λ l. CommandFits (2 ^ world.plan.side) world.models l.command))
+        scripts.now }
+    ensures ran { IfOk result (λ r. SessionsRan world.entry.plan world.entry.models 0 scripts.now
+        r.transcripts.items r.run.sessions) }
+    ensures saved { IfOk result
+        (λ r. r.run.kept ≡ kept_of scripts.now r.transcripts.items r.run.sessions) }
+    ensures models { IfOk result (λ r. r.run.models ≡ world.entry.models) }
+    ensures plan { IfOk result (λ r. r.run.plan ≡ world.entry.plan) }
+{
+    let Start {
+        sessions,
+        rooms,
+        outcomes,
+    } = start;
+    let Ok(room) = Vec::with_capacity(alloc, scripts.len()) else {
+        give_up_rooms(rooms);
+        end_all(sessions);
+        let Outcomes {
+            sessions,
+            transcripts: _,
+        } = outcomes;
+        sessions.destroy_empty();
+        return Err(Memory);
+    };
+    let works = give_out(&world, sessions, rooms, scripts, room);
+    let works = run_works(rt, works, gate);
+    let Outcomes {
+        sessions,
+        transcripts,
+    } = take_in(&world, scripts, works, outcomes);
+    let run = OpenRun { world, sessions };
+    Ok(ScriptsRun { run, transcripts })
+}
+
+// Each session's work: its script, and its room.
+fn give_out<'a, 'm>(
+    world: &'a World<'m>,
+    sessions: Vec<Session>,
+    rooms: Vec<ScriptRoom>,
+    scripts: &'a [Script],
+    room: Vec<SessionWork<'a, 'm>>,
+) -> Vec<SessionWork<'a, 'm>>
+    requires new { AreNewPasses world.now.id (terms_of world.now) sessions.items }
+    requires many { length sessions.items ≡ length scripts.now }
+    requires rooms { AllZip IsRoomFor scripts.now rooms.items }
+    requires rest { All (IsAtRest world.now) sessions.items }
+    requires rise { All (RisesFrom 1) scripts.now }
+    requires fit { All (All (λ l. CommandFits (2 ^ world.now.plan.side) world.now.models
+        l.command)) scripts.now }
+    requires empty { room.items ≡ [] }
+    requires capacity { length scripts.now ≤ vec_capacity room }
+    ensures works { AreWorks world.now 0 scripts.now result.items }
+    ensures many { length result.items ≡ length scripts.now }
+{
+    let mut works = room;
+    let mut sessions = sessions.into_iter();
+    let mut rooms = rooms.into_iter();
+    for script in scripts {
+        let Some(session) = sessions.next() else {
+            unreachable!()
+        };
+        let Some(room) = rooms.next() else {
+            unreachable!()
+        };
+        works.push_reserved(SessionWork {
+            world,
+            session,
+            script,
+            room,
+        });
+    }
+    sessions.destroy_empty();
+    rooms.destroy_empty();
+    works
+}
+
+// Each runs once, in a thread of its own where one can be had.
+fn run_works<R: Threads + Wait + Sync, G: Gate + Sync, W: Worker<G> + Send>(
+    rt: &R,
+    works: Vec<W>,
+    gate: &G,
+) -> Vec<W>
+    requires may { All W.may_run works.items }
+    ensures ran { RanEach W.ran works.items result.items }
+{
+    let mut works = works;
+    run_all(rt, works.as_mut_slice(), gate);
+    works
+}
+
+// What came of the works that are done, in the order of the scripts.
+fn take_in(
+    _world: &World<'_>,
+    scripts: &[Script],
+    works: Vec<SessionWork<'_, '_>>,
+    outcomes: Outcomes,
+) -> Outcomes
+    requires done { AreDone _world.now 0 scripts.now works.items }
+    requires many { length works.items ≡ length scripts.now }
+    requires fit { All (All (λ l. CommandFits (2 ^ _world.now.plan.side) _world.now.models
+        l.command)) scripts.now }
+    requires no_session { outcomes.sessions.items ≡ [] }
+    requires no_transcript { outcomes.transcripts.items ≡ [] }
+    requires sessions { length scripts.now ≤ vec_capacity outcomes.sessions }
+    requires transcripts { length scripts.now ≤ vec_capacity outcomes.transcripts }
+    ensures ran { SessionsRan _world.now.plan _world.now.models 0 scripts.now
+        result.transcripts.items (saved_seen result.sessions.items) }
+    ensures kept { kept_in result.sessions.items ≡ kept_of scripts.now result.transcripts.items
+        (saved_seen result.sessions.items) }
+    ensures saved { All (IsSaved _world.now) result.sessions.items }
+    ensures many { length result.sessions.items ≡ length scripts.now }
+{
+    let Outcomes {
+        mut sessions,
+        mut transcripts,
+    } = outcomes;
+    let mut works = works.into_iter();
+    for script in scripts {
+        let Some(work) = works.next() else {
+            unreachable!()
+        };
+        let SessionWork {
+            world: _,
+            session,
+            script: _,
+            room,
+        } = work;
+        let ScriptRoom {
+            answers,
+            mut saves,
+            pins,
+        } = room;
+        push_accepted(script.lines.as_slice(), answers.as_slice(), &mut saves);
+        sessions.push_reserved(SavedSession {
+            session,
+            saves,
+            pins,
+        });
+        transcripts.push_reserved(Transcript { lines: answers });
+    }
+    works.destroy_empty();
+    Outcomes {
+        sessions,
+        transcripts,
+    }
+}
