@@ -1,0 +1,7 @@
+//! Scripts that run at the same time, each as a session of one world.
+#![tactic(auto)]
+
+#[cfg(test)]
+mod run_tests;
+#[cfg(test)]
+mod turns;
