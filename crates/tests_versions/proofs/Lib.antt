@@ -1,0 +1,2 @@
+pub mod UniformLaws
+pub mod HoldingLaws

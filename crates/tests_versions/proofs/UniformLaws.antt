@@ -1,0 +1,81 @@
+-- What an act that sets all cells of a world of side 4, or none, makes, and which tree shows it.
+use Rattle.std.proofs.Common.{◌≡◌, ◌&&◌, ◌||◌, ◌-◌, ◌^◌, Bool, true, false, not, Option, Some, None, List, refl, sym, ap, ◌∙◌, subst, arith}
+use Rattle.vw_cell.specs.declared.cells.Cell.{Cell}
+use Rattle.vw_cell.specs.Places.{IsInWorld, is_in_box}
+use Rattle.vw_cell.specs.Tests.{is_in_box_holds}
+use Rattle.vox_read.specs.Contents.{Content}
+use Rattle.node_shapes.specs.declared.names.Name.{Name}
+use Rattle.node_shapes.specs.Shape.{Shape, Leaf, ShowsCells, has}
+use Rattle.node_shapes.specs.Tree.{root_of, shape_of}
+use Rattle.node_shapes.proofs.ShapeLaws.{has-clear}
+use Rattle.cell_shapes.specs.CellShapes.{all_cells, shape_with}
+use Rattle.cell_shapes.proofs.CellShapeLaws.{shape_with-has}
+use Rattle.cell_shapes.proofs.FullShapes.{full_leaf, shape_with-full}
+use Rattle.cell_shapes.proofs.SameCells.{same_itself}
+use Rattle.history_model.specs.Logs.{FitsWorld}
+use Rattle.history_model.specs.Making.{MayMake}
+use Rattle.history_model.specs.Worlds.{World, is_edit}
+use Rattle.block_contents.specs.Aligned.{world_block}
+use Rattle.tests_versions.specs.Uniform.{every_cell, uniform_act, uniform_tree, uniform_cells}
+
+pub uniform_edit : (root : Option Name) → is_edit (uniform_act root) ≡ true
+uniform_edit None = refl
+uniform_edit (Some n) = refl
+
+pub uniform_root : (root : Option Name) → root_of (uniform_tree root) ≡ root
+uniform_root None = refl
+uniform_root (Some n) = refl
+
+in_every : (q : Cell) → IsInWorld 4 q → is_in_box every_cell q ≡ true
+in_every q inside =
+    is_in_box_holds every_cell q
+    (record {
+      x = (let a = inside.x in (omega arith, omega arith));
+      y = (let a = inside.y in (omega arith, omega arith));
+      z = (let a = inside.z in (omega arith, omega arith));
+    })
+
+and_false : (b : Bool) → b && false ≡ false
+and_false true = refl
+and_false false = refl
+
+pub makes_uniform : (root : Option Name) (models : List Content) (before : World)
+    → MayMake 4 models (uniform_act root) before (uniform_cells root)
+makes_uniform None models before = record {
+  each = λ q inside.
+      sym (ap (λ b. before q && not b) (in_every q inside) ∙ and_false (before q));
+}
+makes_uniform (Some n) models before = record {
+  each = λ q inside. sym (ap (λ b. b || before q) (in_every q inside));
+}
+
+-- the leaf of all cells
+full_with : shape_with 0 all_cells ≡ Leaf (2 ^ 64 - 1)
+full_with = shape_with-full 0 all_cells (same_itself 0 all_cells) ∙ full_leaf
+
+pub shows_uniform : (root : Option Name)
+    → ShowsCells (world_block 2) (shape_of (uniform_tree root)) (uniform_cells root)
+unfolding shape_of
+shows_uniform None = record {
+  each = λ q inside. has-clear 0 (q.x - 0) (q.y - 0) (q.z - 0);
+}
+shows_uniform (Some n) = record {
+  each = λ q inside.
+      (let x = inside.x in let y = inside.y in let z = inside.z in
+      subst (λ (s : Shape). has 0 s (q.x - 0) (q.y - 0) (q.z - 0) ≡ true) full_with
+      ((shape_with-has 0 all_cells).each (q.x - 0) (q.y - 0) (q.z - 0) (omega arith) (omega arith)
+      (omega arith)));
+}
+
+pub fits_uniform : (root : Option Name) (models : List Content)
+    → FitsWorld 4 models (uniform_act root)
+fits_uniform None models = record {
+  x = (omega arith, omega arith);
+  y = (omega arith, omega arith);
+  z = (omega arith, omega arith);
+}
+fits_uniform (Some n) models = record {
+  x = (omega arith, omega arith);
+  y = (omega arith, omega arith);
+  z = (omega arith, omega arith);
+}

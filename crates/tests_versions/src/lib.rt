@@ -1,0 +1,20 @@
+//! Tests of a table's log and of versions over it: sessions of one small world meet there, on one
+//! thread and on four.
+#![tactic(auto)]
+
+#[cfg(test)]
+mod cores;
+#[cfg(test)]
+mod edits;
+#[cfg(test)]
+mod rows;
+#[cfg(test)]
+mod threads;
+#[cfg(test)]
+mod twins;
+#[cfg(test)]
+mod uniform;
+#[cfg(test)]
+mod versions;
+#[cfg(test)]
+mod words;
