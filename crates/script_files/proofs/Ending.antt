@@ -1,5 +1,5 @@
 -- What each stage gives, as an outcome of the whole command.
-use Rattle.std.proofs.Common.{◌≡◌, ℕ, ◌≤◌, List, [], ◌∷◌, ◌++◌, length, map, Option, Some, None, Result, Ok, Err, refl, sym, ap, subst, ◌∙◌, arith, append_assoc, append-nil}
+use Rattle.std.proofs.Common.{◌≡◌, ◌⊎◌, inl, inr, ℕ, ◌≤◌, List, [], ◌∷◌, ◌++◌, length, map, Option, Some, None, Result, Ok, Err, refl, sym, ap, subst, ◌∙◌, arith, append_assoc, append-nil}
 use Rattle.std.proofs.lemmas.List.{length-append}
 use Rattle.vw_io.specs.declared.shelves.WriteRefused.{WriteRefused}
 use Rattle.vw_io.specs.declared.shelves.WriteRefused.TheVariants.{Memory}
@@ -11,35 +11,50 @@ use Rattle.history_model.specs.Journal.{journal_of}
 use Rattle.vox_read.specs.Contents.{Content}
 use Rattle.transcript.specs.Lines.{transcript_of}
 use Rattle.conformance.specs.Runs.{AllRan}
-use Rattle.conformance.specs.Saves.{saved_of}
-use Rattle.std.specs.Prelude.{IfOk}
+use Rattle.conformance.specs.declared.saves.SavedBox.{SavedBox}
+use Rattle.extract.specs.Saved.{file_of_box}
+use Rattle.history_model.specs.Worlds.{World}
+use Rattle.node_table.specs.declared.closed.Closed.{Closed}
+use Rattle.node_words.specs.Plans.{Layout}
+use Rattle.script.specs.Commands.{name_bytes}
+use Rattle.script.specs.declared.commands.ScriptLine.{ScriptLine}
+use Rattle.transcript.specs.declared.answers.LineAnswer.{LineAnswer}
+use Rattle.session_runs.specs.Kept.{kept_of, kept_by}
+use Rattle.session_runs.specs.Ran.{SessionsRan, ClosesWorld}
+use Rattle.session_runs.specs.Seen.{SessionSeen}
+use Rattle.session_runs.proofs.Closing.{are_a_run}
+use Rattle.session_runs.proofs.KeptWorlds.{saved_stay}
+use Rattle.world_run.specs.Ends.{IsEndOf}
+use Rattle.world_run.specs.Open.{RunState}
+use Rattle.script_files.specs.declared.tallies.RunWritten.{RunWritten}
 use Rattle.reporting.specs.Numbers.{AreNumbers}
 use Rattle.reporting.specs.Roots.{RootsTellWorlds, listed_root}
-use Rattle.vw_cell.specs.declared.memory.Memory as cells
-use Rattle.store_run.specs.declared.open_runs.StoreRan.{StoreRan}
-use Rattle.store_run.specs.declared.runs.ScriptsRun.{ScriptsRun}
+use Rattle.world_run.specs.declared.runs.ScriptsRun.{ScriptsRun}
+use Rattle.world_run.specs.declared.endings.WorldRan.{WorldRan}
 use Rattle.script_files.specs.declared.tallies.Done.TheVariants.{Counted, Ran}
 use Rattle.script_files.specs.declared.tallies.Tally.{Tally}
 use Rattle.script_files.specs.declared.refusals.CommandRefused.TheVariants.{Text, Output}
 use Rattle.script_files.specs.declared.refusals.OutputName.{OutputName}
 use Rattle.script_files.specs.declared.refusals.OutputRefused.{OutputRefused}
 use Rattle.script_files.specs.declared.refusals.TextRefused.{TextRefused}
-use Rattle.script_files.specs.declared.refusals.TextRefused.TheVariants.{Vox, Script, Collides}
+use Rattle.script_files.specs.declared.refusals.TextRefused.TheVariants.{Vox, Script, Collides, NoScene, NoPlace, StoreFull}
 use Rattle.script_files.specs.declared.refusals.TextRefused.TheVariants as texts_refused
 use Rattle.script_files.specs.declared.requests.Request.{Request}
 use Rattle.script_files.specs.declared.requests.Request.TheVariants.{Count, Run}
 use Rattle.script_files.specs.declared.scripts.Read.{Read}
 use Rattle.script_files.specs.Orders.{Asked}
 use Rattle.script_files.specs.Refusals.{output_name}
-use Rattle.script_files.specs.Reports.{ReportIs}
-use Rattle.script_files.specs.Requests.{Given, given_by, inputs_of, named_texts, transcript_name, saved_output, wanted_output, written_first, written_last, texts_written}
-use Rattle.script_files.specs.Meanings.{file_in, IsAccepted, TalliesRun, RefusesTexts}
+use Rattle.script_files.specs.Reports.{ReportIs, BeginsFirst, BeginsTexts}
+use Rattle.script_files.specs.Requests.{Given, given_seen, given_by, inputs_of, named_texts, transcript_name, saved_output, wanted_output, written_first, written_last, texts_written}
+use Rattle.script_files.specs.Meanings.{file_in, IsAccepted, TalliesRun, RefusesTexts, SessionsBegan, ScriptsBegan}
 use Rattle.script_files.specs.Outcomes.{Outcome}
-use Rattle.script_files.specs.Stages.{CountsFile, JournalIs, IsRead, given_of, HistoryTexts, AreTexts, WroteHistory, StopsHistory, WritesHistory, WroteRun, StopsRun, WritesRun}
+use Rattle.script_files.specs.Stages.{CountsFile, JournalIs, IsRead, given_of, ClosesRun, TellsRun, HistoryTexts, AreTexts, WroteHistory, StopsOpen, StopsClosed, WritesClosed, WritesHistory, WroteRun, BeginsClosed, StopsRun, WritesRun}
 use Rattle.script_files.proofs.Writing.{both_written, stops_after, stops_before, stops_at_once}
 
 -- the first text is within the first input's limit
-pub file_within : (files : Option Files) (input : WantedInput) (inputs : List WantedInput) (texts : List (List ℕ)) → AreTaken files (input ∷ inputs) texts → length (file_in texts) ≤ input.limit
+pub file_within : (files : Option Files) (input : WantedInput) (inputs : List WantedInput)
+    (texts : List (List ℕ)) → AreTaken files (input ∷ inputs) texts
+    → length (file_in texts) ≤ input.limit
 file_within files input inputs [] taken = absurd taken
 file_within files input inputs (text ∷ texts) taken = taken.0.within
 
@@ -48,29 +63,50 @@ unwritten : (files : Option Files) → AreWritten [] files files
 unwritten None = refl
 unwritten (Some files) = record { each = λ name. refl }
 
-pub same_state : (old new : ShelfState) → new.files ≡ old.files → new.faults ≡ old.faults → new ≡ old
+pub same_state : (old new : ShelfState) → new.files ≡ old.files → new.faults ≡ old.faults
+    → new ≡ old
 same_state old new files faults = rw (files, faults) refl
 
 -- ---- `count`
 
-pub counted : (file : List ℕ) (texts : List (List ℕ)) (number : ℕ) (old new : ShelfState) → AreTaken old.files (inputs_of (Count file)) texts → CountsFile (file_in texts) number → new.files ≡ old.files → new.faults ≡ old.faults
-    → Outcome (Ok (Counted number)) (Count file) old new
+pub counted : (file : List ℕ) (texts : List (List ℕ)) (number : ℕ) (old new : ShelfState)
+    → AreTaken old.files (inputs_of (Count file)) texts → CountsFile (file_in texts) number
+    → new.files ≡ old.files → new.faults ≡ old.faults
+    → Outcome (Ok (record { done = Counted number; ended = None })) (Count file) old new
 counted file texts number old new taken counts files faults =
     record {
       outputs = [];
-      comes = record { texts = texts; taken = taken; gives = record { models = counts.models; gives = counts.gives; counted = counts.counted; none = refl } };
-      whole = subst (λ (f : Option Files). AreWritten [] old.files f) (sym files) (unwritten old.files);
+      comes = record {
+        texts = texts;
+        taken = taken;
+        gives =
+            record { models = counts.models; gives = counts.gives; counted = counts.counted; none = refl };
+      };
+      whole = subst (λ (f : Option Files). AreWritten [] old.files f) (sym files)
+          (unwritten old.files);
       no_fault = faults;
     }
 
 -- ---- every command
 
 -- the inputs were taken, and their texts are refused
-pub not_accepted : (r : TextRefused) (a : Request) (texts : List (List ℕ)) (old new : ShelfState) → AreTaken old.files (inputs_of a) texts → RefusesTexts r a texts → new.files ≡ old.files → new.faults ≡ old.faults → Outcome (Err (Text r)) a old new
-not_accepted (Vox fault) a texts old new taken says files faults = (record { texts = texts; taken = taken; says = says }, same_state old new files faults)
-not_accepted (Script at) a texts old new taken says files faults = (record { texts = texts; taken = taken; says = says }, same_state old new files faults)
-not_accepted Collides a texts old new taken says files faults = (record { texts = texts; taken = taken; says = says }, same_state old new files faults)
-not_accepted texts_refused.Memory a texts old new taken says files faults = (tt, same_state old new files faults)
+pub not_accepted : (r : TextRefused) (a : Request) (texts : List (List ℕ)) (old new : ShelfState)
+    → AreTaken old.files (inputs_of a) texts → RefusesTexts r a texts → new.files ≡ old.files
+    → new.faults ≡ old.faults → Outcome (Err (Text r)) a old new
+not_accepted (Vox fault) a texts old new taken says files faults =
+    (record { texts = texts; taken = taken; says = says }, same_state old new files faults)
+not_accepted (Script at) a texts old new taken says files faults =
+    (record { texts = texts; taken = taken; says = says }, same_state old new files faults)
+not_accepted Collides a texts old new taken says files faults =
+    (record { texts = texts; taken = taken; says = says }, same_state old new files faults)
+not_accepted (NoScene fault) a texts old new taken says files faults =
+    (record { texts = texts; taken = taken; says = says }, same_state old new files faults)
+not_accepted NoPlace a texts old new taken says files faults =
+    (record { texts = texts; taken = taken; says = says }, same_state old new files faults)
+not_accepted (StoreFull full) a texts old new taken says files faults =
+    (record { texts = texts; taken = taken; says = says }, same_state old new files faults)
+not_accepted texts_refused.Memory a texts old new taken says files faults =
+    (tt, same_state old new files faults)
 
 -- ---- what a run writes
 
@@ -84,29 +120,41 @@ no_report others (Some name) models log none =
     absurd (omega (arith, long, zero))
 
 -- nothing of the journal and the report was written
-pub nothing_began : (asked : Asked) (models : List Content) (log : Log) (r : OutputRefused)
-    (state : ShelfState) → r.why ≡ Memory → StopsHistory asked models log r state state
-nothing_began asked models log r state is = record {
+pub nothing_began : (asked : Asked) (r : RunState) (closed : Closed) (refused : OutputRefused)
+    (state : ShelfState) → ClosesRun r closed → refused.why ≡ Memory
+    → StopsClosed asked r refused state state
+nothing_began asked r closed refused state closes is = record {
+  closed = closed;
+  closes = closes;
   outputs = [];
   report = [];
-  rest = written_last asked log [];
+  rest = written_last asked closed.history [];
   parts = refl;
-  reported = no_report (wanted_output asked.journal (journal_of log)) asked.report models log;
-  stops = stops_at_once r.why (output_name r.name) [] state.files state.faults is;
+  reported = no_report (wanted_output asked.journal (journal_of closed.history)) asked.report
+      r.models closed.history;
+  stops = stops_at_once refused.why (output_name refused.name) [] state.files state.faults is;
 }
 
--- the texts of a run that is closed are those of its history
-pub told_texts : (asked : Asked) (models : List Content) (log : Log) (ran : StoreRan)
-    (result : Result HistoryTexts cells.Memory) → ran.history ≡ log
-    → RootsTellWorlds models ran.history (listed_root ran.roots.items)
-    → AreNumbers models ran.history ran.numbers.items
-    → IfOk result (λ texts. (ms : List Content)
-    → RootsTellWorlds ms ran.history (listed_root ran.roots.items)
-    → AreNumbers ms ran.history ran.numbers.items → AreTexts asked ms ran.history texts)
-    → IfOk result (AreTexts asked models log)
-told_texts asked models log ran (Err e) is roots numbers texts = tt
-told_texts asked models log ran (Ok written) is roots numbers texts =
-    subst (λ (l : Log). AreTexts asked models l written) is (texts models roots numbers)
+pub not_closed : (asked : Asked) (r : RunState) (refused : OutputRefused) (state : ShelfState)
+    → refused.why ≡ Memory → WritesHistory asked r (Err refused) state state
+not_closed asked r refused state is = inl (record {
+  stops = stops_at_once refused.why (output_name refused.name) [] state.files state.faults is;
+})
+
+pub closed_writes : (asked : Asked) (r : RunState) (result : Result RunWritten OutputRefused)
+    (old new : ShelfState) → WritesClosed asked r result old new
+    → WritesHistory asked r result old new
+closed_writes asked r (Ok w) old new writes = writes
+closed_writes asked r (Err refused) old new writes = inr writes
+
+-- the texts of a closed world are those of its history
+pub told_texts : (asked : Asked) (r : RunState) (w : WorldRan) (texts : HistoryTexts)
+    → TellsRun r w
+    → ((models : List Content) → RootsTellWorlds models w.ended.history (listed_root w.roots.items)
+    → AreNumbers models w.ended.history w.numbers.items
+    → AreTexts asked models w.ended.history texts)
+    → AreTexts asked r.models w.ended.history texts
+told_texts asked r w texts tells are = are r.models tells.roots tells.numbers
 
 -- the journal where it is asked for
 same_wanted : (name : Option (List ℕ)) (text want : List ℕ) → JournalIs name text want
@@ -125,20 +173,23 @@ last_same asked models log written are =
     ap (λ (os : List Named). os ++ wanted_output asked.report written.report)
     (same_wanted asked.journal written.journal (journal_of log) are.journal_is)
 
-pub history_written : (asked : Asked) (models : List Content) (log : Log) (written : HistoryTexts)
-    (outputs : List Named) (tally : Tally) (old new : ShelfState)
-    → AreTexts asked models log written → outputs ≡ outputs_last asked written
+pub history_written : (asked : Asked) (r : RunState) (closed : Closed) (written : HistoryTexts)
+    (outputs : List Named) (tally : Tally) (old new : ShelfState) → ClosesRun r closed
+    → AreTexts asked r.models closed.history written → outputs ≡ outputs_last asked written
     → tally ≡ written.tally
     → AreWritten outputs old.files new.files → new.faults ≡ old.faults
-    → WroteHistory asked models log tally old new
-history_written asked models log written outputs tally old new are is told whole calm = record {
-  tallied = subst (λ (t : Tally). TalliesRun asked models log t) (sym told) are.tallied;
-  report = written.report;
-  reported = are.report_is;
-  whole = subst (λ (os : List Named). AreWritten os old.files new.files)
-      (is ∙ last_same asked models log written are) whole;
-  calm = calm;
-}
+    → WroteHistory asked r tally closed old new
+history_written asked r closed written outputs tally old new closes are is told whole calm =
+    record {
+      closes = closes;
+      tallied = subst (λ (t : Tally). TalliesRun asked r.models closed.history t)
+          (sym told) are.tallied;
+      report = written.report;
+      reported = are.report_is;
+      whole = subst (λ (os : List Named). AreWritten os old.files new.files)
+          (is ∙ last_same asked r.models closed.history written are) whole;
+      calm = calm;
+    }
 
 -- a refusal that was made of this name and cause
 pub stops_from : (r : OutputRefused) (name : OutputName) (why : WriteRefused)
@@ -151,50 +202,50 @@ stops_from r name why outputs old new named is stops =
     (subst (λ (w : WriteRefused). StopsWith w (output_name name) outputs old.files new.files
     old.faults new.faults) (sym is) stops)
 
-pub history_stopped : (asked : Asked) (models : List Content) (log : Log) (written : HistoryTexts)
-    (outputs : List Named) (r : OutputRefused) (old new : ShelfState)
-    → AreTexts asked models log written → outputs ≡ outputs_last asked written
-    → StopsWith r.why (output_name r.name) outputs old.files new.files old.faults new.faults
-    → StopsHistory asked models log r old new
-history_stopped asked models log written outputs r old new are is stops = record {
+pub history_stopped : (asked : Asked) (r : RunState) (closed : Closed) (written : HistoryTexts)
+    (outputs : List Named) (refused : OutputRefused) (old new : ShelfState) → ClosesRun r closed
+    → AreTexts asked r.models closed.history written → outputs ≡ outputs_last asked written
+    → StopsWith refused.why (output_name refused.name) outputs old.files new.files old.faults
+    new.faults
+    → StopsClosed asked r refused old new
+history_stopped asked r closed written outputs refused old new closes are is stops = record {
+  closed = closed;
+  closes = closes;
   outputs = outputs;
   report = written.report;
   rest = [];
-  parts = append-nil outputs ∙ is ∙ last_same asked models log written are;
+  parts = append-nil outputs ∙ is ∙ last_same asked r.models closed.history written are;
   reported = λ all. are.report_is;
   stops = stops;
 }
 
 -- ---- all stages of a run
 
-module _ (asked : Asked) (given : Given) (old : ShelfState) where
+module _ (asked : Asked) (run : ScriptsRun) (old : ShelfState) where
+  abbrev given : Given
+  given = given_of run
+
   abbrev texts_named : List Named
   texts_named = named_texts (map transcript_name asked.scripts)
       (map transcript_of given.transcripts)
 
   abbrev files_saved : List Named
-  files_saved = map (saved_output given.models given.log) given.saved
+  files_saved = map (saved_output given.models) given.kept
 
   -- some first ones of these
   began_first : (r : OutputRefused) (new : ShelfState)
       → StopsWith r.why (output_name r.name) (written_first asked given) old.files new.files
       old.faults new.faults
-      → StopsRun asked given r old new
+      → StopsRun asked run r old new
   began_first r new stops = record {
     outputs = written_first asked given;
-    begins = record {
-      report = [];
-      rest = written_last asked given.log [];
-      parts = refl;
-      reported = no_report (wanted_output asked.journal (journal_of given.log)) asked.report
-          given.models given.log;
-    };
+    begins = inl (record { rest = []; parts = append-nil (written_first asked given) });
     stops = stops;
   }
 
   pub stops_in_texts : (r : OutputRefused) (new : ShelfState)
       → StopsWith r.why (output_name r.name) texts_named old.files new.files old.faults new.faults
-      → StopsRun asked given r old new
+      → StopsRun asked run r old new
   stops_in_texts r new stops =
       began_first r new
       (stops_before r.why (output_name r.name) texts_named files_saved old.files new.files
@@ -204,7 +255,7 @@ module _ (asked : Asked) (given : Given) (old : ShelfState) where
       (texts_calm : mid.faults ≡ old.faults) where
     pub stops_in_files : (r : OutputRefused) (new : ShelfState)
         → StopsWith r.why (output_name r.name) files_saved mid.files new.files mid.faults new.faults
-        → StopsRun asked given r old new
+        → StopsRun asked run r old new
     stops_in_files r new stops =
         began_first r new
         (stops_after r.why (output_name r.name) texts_named files_saved old.files mid.files
@@ -217,122 +268,220 @@ module _ (asked : Asked) (given : Given) (old : ShelfState) where
           both_written texts_named files_saved old.files mid.files late.files texts_whole
           files_whole
 
-      pub stops_in_history : (r : OutputRefused) (new : ShelfState)
-          → StopsHistory asked given.models given.log r late new → StopsRun asked given r old new
+      stops_in_closing : (r : OutputRefused) (new : ShelfState) → StopsOpen r late new
+          → StopsRun asked run r old new
+      stops_in_closing r new h =
+          began_first r new
+          (subst (λ (os : List Named). StopsWith r.why (output_name r.name) os old.files new.files
+          old.faults new.faults) (append-nil (written_first asked given))
+          (stops_after r.why (output_name r.name) (written_first asked given) [] old.files
+          late.files new.files old.faults late.faults new.faults first_whole
+          (files_calm ∙ texts_calm) h.stops))
+
+      stops_in_history : (r : OutputRefused) (new : ShelfState)
+          → StopsClosed asked run.run r late new → StopsRun asked run r old new
       stops_in_history r new h = record {
         outputs = written_first asked given ++ h.outputs;
-        begins = record {
-          report = h.report;
-          rest = h.rest;
-          parts =
-              append_assoc (written_first asked given) h.outputs h.rest
-              ∙ ap (λ (os : List Named). written_first asked given ++ os) h.parts;
-          reported = h.reported;
-        };
+        begins = inr (record {
+          closed = h.closed;
+          closes = h.closes;
+          begins = record {
+            report = h.report;
+            rest = h.rest;
+            parts =
+                append_assoc (written_first asked given) h.outputs h.rest
+                ∙ ap (λ (os : List Named). written_first asked given ++ os) h.parts;
+            reported = h.reported;
+          };
+        });
         stops =
             stops_after r.why (output_name r.name) (written_first asked given) h.outputs old.files
             late.files new.files old.faults late.faults new.faults first_whole
             (files_calm ∙ texts_calm) h.stops;
       }
 
-      pub all_written : (tally : Tally) (new : ShelfState)
-          → WroteHistory asked given.models given.log tally late new
-          → WroteRun asked given tally old new
-      all_written tally new h = record {
+      all_written : (tally : Tally) (closed : Closed) (new : ShelfState)
+          → WroteHistory asked run.run tally closed late new
+          → WroteRun asked run tally closed old new
+      all_written tally closed new h = record {
+        closes = h.closes;
         tallied = h.tallied;
         report = h.report;
         reported = h.reported;
         whole =
-            both_written (written_first asked given) (written_last asked given.log h.report)
+            both_written (written_first asked given) (written_last asked closed.history h.report)
             old.files late.files new.files first_whole h.whole;
         calm = h.calm ∙ files_calm ∙ texts_calm;
       }
 
-      pub run_writes : (result : Result Tally OutputRefused) (new : ShelfState)
-          → WritesHistory asked given.models given.log result late new
-          → WritesRun asked given result old new
-      run_writes (Ok tally) new h = all_written tally new h
-      run_writes (Err r) new h = stops_in_history r new h
+      pub run_writes : (result : Result RunWritten OutputRefused) (new : ShelfState)
+          → WritesHistory asked run.run result late new → WritesRun asked run result old new
+      run_writes (Ok w) new h = all_written w.tally w.ended new h
+      run_writes (Err r) new (inl h) = stops_in_closing r new h
+      run_writes (Err r) new (inr h) = stops_in_history r new h
+
+-- ---- what sessions saved, once their world is closed
+
+-- the file of a box at a world, under the save's name
+abbrev pub box_output : SavedBox → World → Named
+box_output save w = record { name = name_bytes save.name; bytes = file_of_box save.part w }
+
+pub saved_same : (p : Layout) (models : List Content) (lines : List (List ScriptLine))
+    (transcripts : List (List LineAnswer)) (sessions : List SessionSeen) (log : Log)
+    → SessionsRan p models 0 lines transcripts sessions → ClosesWorld p models sessions log
+    → map (saved_output models) (kept_of lines transcripts sessions)
+    ≡ map (saved_output models) (kept_by lines transcripts log)
+saved_same p models lines transcripts sessions log ran closes =
+    saved_stay box_output p models log 0 lines transcripts sessions ran closes.seen
+
+-- so what was written first is what the one history gives
+pub first_same : (asked : Asked) (models : List Content) (lines : List (List ScriptLine))
+    (transcripts : List (List LineAnswer)) (sessions : List SessionSeen) (log : Log)
+    → SessionsRan asked.plan models 0 lines transcripts sessions
+    → ClosesWorld asked.plan models sessions log
+    → written_first asked (given_seen models lines transcripts sessions)
+    ≡ written_first asked (given_by models lines log transcripts)
+first_same asked models lines transcripts sessions log ran closes =
+    ap (λ (os : List Named).
+    named_texts (map transcript_name asked.scripts) (map transcript_of transcripts) ++ os)
+    (saved_same asked.plan models lines transcripts sessions log ran closes)
+
+module _ (asked : Asked) (models : List Content) (lines : List (List ScriptLine)) (run : ScriptsRun)
+    (ran : SessionsRan asked.plan models 0 lines run.transcripts.items run.run.sessions)
+    (plan_is : run.run.plan ≡ asked.plan) (models_are : run.run.models ≡ models)
+    (kept : run.run.kept ≡ kept_of lines run.transcripts.items run.run.sessions) where
+  pub given_same : given_of run
+      ≡ given_seen models lines run.transcripts.items run.run.sessions
+  given_same = λ i. record {
+    models = models_are i;
+    transcripts = run.transcripts.items;
+    kept = kept i;
+  }
+
+  module _ (closed : Closed) (closes : ClosesRun run.run closed) where
+    pub closes_world : ClosesWorld asked.plan models run.run.sessions closed.history
+    closes_world =
+        subst (λ (p : Layout). ClosesWorld p models run.run.sessions closed.history) plan_is
+        (subst (λ (ms : List Content). ClosesWorld run.run.plan ms run.run.sessions closed.history)
+        models_are closes.closes)
+
+    pub ends_world : IsEndOf models closed.history closed
+    ends_world =
+        subst (λ (ms : List Content). IsEndOf ms closed.history closed) models_are closes.is_end
+
+    pub is_run : AllRan asked.plan models lines run.transcripts.items closed.history
+    is_run =
+        are_a_run asked.plan models lines run.transcripts.items run.run.sessions closed.history ran
+        closes_world
+
+    pub written_same : written_first asked (given_of run)
+        ≡ written_first asked (given_by models lines closed.history run.transcripts.items)
+    written_same =
+        ap (λ (g : Given). written_first asked g) given_same
+        ∙ first_same asked models lines run.transcripts.items run.run.sessions closed.history ran
+        closes_world
+
+    pub texts_same : (report : List ℕ) → texts_written asked (given_of run) closed.history report
+        ≡ texts_written asked (given_by models lines closed.history run.transcripts.items)
+        closed.history report
+    texts_same report =
+        ap (λ (os : List Named). os ++ written_last asked closed.history report) written_same
+
+    pub begins_same : (outputs : List Named)
+        → BeginsTexts asked (given_of run) closed.history outputs
+        → BeginsTexts asked (given_by models lines closed.history run.transcripts.items)
+        closed.history outputs
+    begins_same outputs b = record {
+      report = b.report;
+      rest = b.rest;
+      parts = b.parts ∙ texts_same b.report;
+      reported = λ none. subst (λ (ms : List Content).
+          ReportIs asked.report ms closed.history b.report) models_are (b.reported none);
+    }
 
 -- ---- `run`
-
-abbrev pub accepts : (asked : Asked) (texts : List (List ℕ)) (r : Read) (run : ScriptsRun)
-    → IsRead asked texts r
-    → AllRan asked.plan r.models r.scripts.items run.transcripts.items run.run.log
-    → IsAccepted asked texts run.run.log run.transcripts.items
-accepts asked texts r run read ran = record {
-  models = r.models;
-  gives = read.gives;
-  lines = r.scripts.items;
-  read = read.read;
-  apart = read.apart;
-  run = ran;
-}
-
--- what a run has come to, by what it was of
-pub same_given : (r : Read) (run : ScriptsRun) → run.run.models ≡ r.models
-    → run.run.saved ≡ saved_of r.scripts.items run.transcripts.items
-    → given_of run ≡ given_by r.models r.scripts.items run.run.log run.transcripts.items
-same_given r run models saved = λ i. record {
-  models = models i;
-  log = run.run.log;
-  transcripts = run.transcripts.items;
-  saved = saved i;
-}
 
 module _ (asked : Asked) (texts : List (List ℕ)) (r : Read) (run : ScriptsRun)
     (old mid new : ShelfState) (taken : AreTaken old.files (inputs_of (Run asked)) texts)
     (read : IsRead asked texts r)
-    (ran : AllRan asked.plan r.models r.scripts.items run.transcripts.items run.run.log)
-    (models : run.run.models ≡ r.models)
-    (saved : run.run.saved ≡ saved_of r.scripts.items run.transcripts.items)
+    (ran : SessionsRan asked.plan r.models 0 r.scripts.items run.transcripts.items run.run.sessions)
+    (plan_is : run.run.plan ≡ asked.plan) (models_are : run.run.models ≡ r.models)
+    (kept : run.run.kept ≡ kept_of r.scripts.items run.transcripts.items run.run.sessions)
     (same : mid ≡ old) where
-  pub run_written : (tally : Tally) → WroteRun asked (given_of run) tally mid new
-      → Outcome (Ok (Ran tally)) (Run asked) old new
-  run_written tally wrote =
-      let given = given_by r.models r.scripts.items run.run.log run.transcripts.items in
-      let w : WroteRun asked given tally old new =
-      subst (λ (s : ShelfState). WroteRun asked given tally s new) same
-      (subst (λ (g : Given). WroteRun asked g tally mid new) (same_given r run models saved) wrote)
-      in
+  abbrev accepts : (closed : Closed) → ClosesRun run.run closed
+      → IsAccepted asked texts closed.history run.transcripts.items
+  accepts closed closes = record {
+    models = r.models;
+    gives = read.gives;
+    lines = r.scripts.items;
+    read = read.read;
+    apart = read.apart;
+    run = is_run asked r.models r.scripts.items run ran plan_is models_are kept closed closes;
+  }
+
+  pub run_written : (tally : Tally) (closed : Closed) → WroteRun asked run tally closed mid new
+      → Outcome (Ok (record { done = Ran tally; ended = Some closed })) (Run asked) old new
+  run_written tally closed wrote =
+      let w : WroteRun asked run tally closed old new =
+      subst (λ (s : ShelfState). WroteRun asked run tally closed s new) same wrote in
       record {
-        outputs = texts_written asked given w.report;
+        outputs = texts_written asked (given_of run) closed.history w.report;
         comes = record {
           texts = texts;
           taken = taken;
           gives = record {
-            log = run.run.log;
+            log = closed.history;
             transcripts = run.transcripts.items;
-            accepted = accepts asked texts r run read ran;
-            tallied = w.tallied;
+            accepted = accepts closed w.closes;
+            ends = ends_world asked r.models r.scripts.items run ran plan_is models_are kept closed
+                w.closes;
+            tallied = subst (λ (ms : List Content). TalliesRun asked ms closed.history tally)
+                models_are w.tallied;
             report = w.report;
-            reported = w.reported;
-            are = refl;
+            reported = subst (λ (ms : List Content).
+                ReportIs asked.report ms closed.history w.report) models_are w.reported;
+            are = texts_same asked r.models r.scripts.items run ran plan_is models_are kept closed
+                w.closes w.report;
           };
         };
         whole = w.whole;
         no_fault = w.calm;
       }
 
-  pub run_stopped : (refused : OutputRefused) → StopsRun asked (given_of run) refused mid new
+  run_begun : (outputs : List Named)
+      → BeginsFirst asked (given_of run) outputs ⊎ BeginsClosed asked run outputs
+      → SessionsBegan asked texts outputs ⊎ ScriptsBegan asked texts outputs
+  run_begun outputs (inl b) = inl (record {
+    models = r.models;
+    gives = read.gives;
+    lines = r.scripts.items;
+    read = read.read;
+    apart = read.apart;
+    transcripts = run.transcripts.items;
+    sessions = run.run.sessions;
+    ran = ran;
+    begins = subst (λ (g : Given). BeginsFirst asked g outputs)
+        (given_same asked r.models r.scripts.items run ran plan_is models_are kept) b;
+  })
+  run_begun outputs (inr b) = inr (record {
+    log = b.closed.history;
+    transcripts = run.transcripts.items;
+    accepted = accepts b.closed b.closes;
+    begins = begins_same asked r.models r.scripts.items run ran plan_is models_are kept b.closed
+        b.closes outputs b.begins;
+  })
+
+  pub run_stopped : (refused : OutputRefused) → StopsRun asked run refused mid new
       → Outcome (Err (Output refused)) (Run asked) old new
   run_stopped refused stopped =
-      let given = given_by r.models r.scripts.items run.run.log run.transcripts.items in
-      let s : StopsRun asked given refused old new =
-      subst (λ (s : ShelfState). StopsRun asked given refused s new) same
-      (subst (λ (g : Given). StopsRun asked g refused mid new) (same_given r run models saved)
-      stopped) in
+      let s : StopsRun asked run refused old new =
+      subst (λ (s : ShelfState). StopsRun asked run refused s new) same stopped in
       record {
         outputs = s.outputs;
         begins = record {
           texts = texts;
           taken = taken;
-          begins = record {
-            log = run.run.log;
-            transcripts = run.transcripts.items;
-            accepted = accepts asked texts r run read ran;
-            begins = s.begins;
-          };
+          begins = run_begun s.outputs s.begins;
         };
         stops = s.stops;
       }

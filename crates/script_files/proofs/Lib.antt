@@ -4,3 +4,5 @@ pub mod Ending
 pub mod ScriptLists
 pub mod Loading
 pub mod Counting
+pub mod Flooding
+pub mod Placing

@@ -1,5 +1,5 @@
 -- The run of a load, and what it leaves.
-use Rattle.std.proofs.Common.{inl, inr, ◌≡◌, ℕ, ◌*◌, ◌^◌, ◌≤◌, arith, Result, List, [], ◌∷◌, length, map, Vec, Global, Ok, Err, refl, ap, subst, ◌∙◌}
+use Rattle.std.proofs.Common.{inl, inr, ◌⊎◌, Some, ◌≡◌, ℕ, ◌*◌, ◌^◌, ◌≤◌, arith, Result, List, [], ◌∷◌, length, map, Vec, Global, Ok, Err, refl, ap, subst, ◌∙◌}
 use Rattle.std.proofs.lemmas.Bool.{cases_order}
 use Rattle.std.proofs.lemmas.List.{length-map}
 use Rattle.std.proofs.Math.Nat.{pow-le-pow_right}
@@ -22,15 +22,20 @@ use Rattle.script_files.specs.declared.tallies.LoadTally.{LoadTally}
 use Rattle.script_files.specs.declared.refusals.CommandRefused.TheVariants.{Output}
 use Rattle.script_files.specs.declared.requests.Request.TheVariants.{Demo}
 use Rattle.script_files.specs.Scripts.{scripts_of}
-use Rattle.conformance.specs.Saves.{saved_of}
-use Rattle.store_run.specs.declared.runs.ScriptsRun.{ScriptsRun}
+use Rattle.node_table.specs.declared.closed.Closed.{Closed}
+use Rattle.session_runs.specs.Kept.{kept_of}
+use Rattle.session_runs.specs.Ran.{SessionsRan}
+use Rattle.vw_io.specs.Outputs.{Named}
+use Rattle.world_run.specs.declared.runs.ScriptsRun.{ScriptsRun}
 use Rattle.script_files.specs.declared.tallies.Tally.{Tally}
 use Rattle.script_files.specs.declared.refusals.OutputRefused.{OutputRefused}
 use Rattle.script_files.specs.declared.scripts.Read.{Read}
-use Rattle.script_files.specs.Requests.{Given, given_by, texts_written}
-use Rattle.script_files.specs.Demos.{demo_plan, demo_asked}
+use Rattle.script_files.specs.Requests.{Given, texts_written}
+use Rattle.script_files.specs.Reports.{BeginsFirst}
+use Rattle.script_files.specs.Demos.{demo_plan, demo_asked, LoadBegan, LoadSessionsBegan}
 use Rattle.script_files.specs.Outcomes.{Outcome}
-use Rattle.script_files.specs.Stages.{IsLoadRead, given_of, WroteRun, StopsRun}
+use Rattle.script_files.specs.Stages.{IsLoadRead, given_of, ClosesRun, WroteRun, BeginsClosed, StopsRun}
+use Rattle.script_files.proofs.Ending.{given_same, is_run, ends_world, texts_same, begins_same}
 
 -- 256 is one power of two alone
 pub eight_of_256 : (s : ℕ) → 2 ^ s ≡ 256 → s ≡ 8
@@ -96,82 +101,96 @@ told_of n records counts = record { number = n; records = records; counts = coun
 
 module _ (n : ℕ) (r : Read) (run : ScriptsRun) (old new : ShelfState) (counted : LoadsAreCounted)
     (read : IsLoadRead n r)
-    (ran : AllRan demo_plan r.models r.scripts.items run.transcripts.items run.run.log)
-    (models : run.run.models ≡ r.models)
-    (saved : run.run.saved ≡ saved_of r.scripts.items run.transcripts.items) where
-  abbrev given : Given
-  given = given_by (load_model n ∷ []) r.scripts.items run.run.log run.transcripts.items
-
-  ran_load : AllRan demo_plan (load_model n ∷ []) r.scripts.items run.transcripts.items run.run.log
+    (ran : SessionsRan demo_plan r.models 0 r.scripts.items run.transcripts.items run.run.sessions)
+    (plan_is : run.run.plan ≡ demo_plan) (models_are : run.run.models ≡ r.models)
+    (kept : run.run.kept ≡ kept_of r.scripts.items run.transcripts.items run.run.sessions) where
+  ran_load : SessionsRan demo_plan (load_model n ∷ []) 0 r.scripts.items run.transcripts.items
+      run.run.sessions
   ran_load =
-      subst (λ (ms : List Content). AllRan demo_plan ms r.scripts.items run.transcripts.items
-      run.run.log) read.models ran
+      subst (λ (ms : List Content). SessionsRan demo_plan ms 0 r.scripts.items
+      run.transcripts.items run.run.sessions) read.models ran
 
-  given_same : given_of run ≡ given
-  given_same = λ i. record {
-    models = (models ∙ read.models) i;
-    log = run.run.log;
-    transcripts = run.transcripts.items;
-    saved = saved i;
-  }
+  load_models : run.run.models ≡ load_model n ∷ []
+  load_models = models_are ∙ read.models
 
-  -- each region's count is what its own script makes
-  own : length run.run.log.records ≡ 800 → region_counts run.transcripts.items ≡ own_counts n
-  own all =
-      let lines : r.scripts.items ≡ load_lines n =
-      ok_lines r.scripts.items (load_lines n) _ _ read.read (load_is_read n) refl in
-      let agrees : Agrees demo_plan (load_model n ∷ []) run.run.log (load_lines n)
-      run.transcripts.items =
-      subst (λ (ls : List (List ScriptLine)). Agrees demo_plan (load_model n ∷ []) run.run.log ls
-      run.transcripts.items) lines ran_load.agrees in
-      counted demo_plan n run.run.log run.transcripts.items agrees all
+  module _ (closed : Closed) (closes : ClosesRun run.run closed) where
+    run_of_load : AllRan demo_plan (load_model n ∷ []) r.scripts.items run.transcripts.items
+        closed.history
+    run_of_load =
+        is_run demo_asked (load_model n ∷ []) r.scripts.items run ran_load plan_is load_models kept
+        closed closes
 
-  pub demo_written : (tally : Tally) (counts : List ℕ) → counts ≡ region_counts run.transcripts.items
-      → WroteRun demo_asked (given_of run) tally old new
-      → Outcome (Ok (Shown (told_of n tally.records counts))) (Demo n) old new
-  demo_written tally counts are wrote =
-      let w : WroteRun demo_asked given tally old new =
-      subst (λ (g : Given). WroteRun demo_asked g tally old new) given_same wrote in
+    -- each region's count is what its own script makes
+    own : length closed.history.records ≡ 800
+        → region_counts run.transcripts.items ≡ own_counts n
+    own all =
+        let lines : r.scripts.items ≡ load_lines n =
+        ok_lines r.scripts.items (load_lines n) _ _ read.read (load_is_read n) refl in
+        let agrees : Agrees demo_plan (load_model n ∷ []) closed.history (load_lines n)
+        run.transcripts.items =
+        subst (λ (ls : List (List ScriptLine)). Agrees demo_plan (load_model n ∷ []) closed.history
+        ls run.transcripts.items) lines run_of_load.agrees in
+        counted demo_plan n closed.history run.transcripts.items agrees all
+
+  pub demo_written : (tally : Tally) (closed : Closed) (counts : List ℕ)
+      → counts ≡ region_counts run.transcripts.items
+      → WroteRun demo_asked run tally closed old new
+      → Outcome (Ok (record { done = Shown (told_of n tally.records counts); ended = Some closed }))
+      (Demo n) old new
+  demo_written tally closed counts are w =
       record {
-        outputs = texts_written demo_asked given w.report;
+        outputs = texts_written demo_asked (given_of run) closed.history [];
         comes = record {
           texts = [];
           taken = tt;
           gives = record {
-            log = run.run.log;
+            log = closed.history;
             transcripts = run.transcripts.items;
             lines = r.scripts.items;
             read = read.read;
-            run = ran_load;
+            run = run_of_load closed w.closes;
+            ends = ends_world demo_asked (load_model n ∷ []) r.scripts.items run ran_load plan_is
+                load_models kept closed w.closes;
             number = refl;
             records = w.tallied.records;
             counts = are;
-            regions = λ all. are ∙ own all;
-            are = refl;
+            regions = λ all. are ∙ own closed w.closes all;
+            are = texts_same demo_asked (load_model n ∷ []) r.scripts.items run ran_load plan_is
+                load_models kept closed w.closes [];
           };
         };
         whole = w.whole;
         no_fault = w.calm;
       }
 
-  pub demo_stopped : (refused : OutputRefused) → StopsRun demo_asked (given_of run) refused old new
+  demo_begun : (outputs : List Named)
+      → BeginsFirst demo_asked (given_of run) outputs ⊎ BeginsClosed demo_asked run outputs
+      → LoadSessionsBegan n outputs ⊎ LoadBegan n outputs
+  demo_begun outputs (inl b) = inl (record {
+    transcripts = run.transcripts.items;
+    lines = r.scripts.items;
+    read = read.read;
+    sessions = run.run.sessions;
+    ran = ran_load;
+    begins = subst (λ (g : Given). BeginsFirst demo_asked g outputs)
+        (given_same demo_asked (load_model n ∷ []) r.scripts.items run ran_load plan_is load_models
+        kept) b;
+  })
+  demo_begun outputs (inr b) = inr (record {
+    log = b.closed.history;
+    transcripts = run.transcripts.items;
+    lines = r.scripts.items;
+    read = read.read;
+    run = run_of_load b.closed b.closes;
+    begins = begins_same demo_asked (load_model n ∷ []) r.scripts.items run ran_load plan_is
+        load_models kept b.closed b.closes outputs b.begins;
+  })
+
+  pub demo_stopped : (refused : OutputRefused) → StopsRun demo_asked run refused old new
       → Outcome (Err (Output refused)) (Demo n) old new
-  demo_stopped refused stopped =
-      let s : StopsRun demo_asked given refused old new =
-      subst (λ (g : Given). StopsRun demo_asked g refused old new) given_same stopped in
+  demo_stopped refused s =
       record {
         outputs = s.outputs;
-        begins = record {
-          texts = [];
-          taken = tt;
-          begins = record {
-            log = run.run.log;
-            transcripts = run.transcripts.items;
-            lines = r.scripts.items;
-            read = read.read;
-            run = ran_load;
-            begins = s.begins;
-          };
-        };
+        begins = record { texts = []; taken = tt; begins = demo_begun s.outputs s.begins };
         stops = s.stops;
       }

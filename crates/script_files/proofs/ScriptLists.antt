@@ -11,7 +11,7 @@ use Rattle.script.specs.Fitting.{CommandFits, RisesFrom}
 use Rattle.script.specs.Scripts.{commands_of}
 use Rattle.script_files.specs.declared.refusals.NumberedFault.{NumberedFault}
 use Rattle.script_files.specs.declared.refusals.TextRefused.{TextRefused}
-use Rattle.script_files.specs.declared.refusals.TextRefused.TheVariants.{Vox, Script, Collides, Memory}
+use Rattle.script_files.specs.declared.refusals.TextRefused.TheVariants.{Vox, Script, Collides, NoScene, NoPlace, StoreFull, Memory}
 use Rattle.script_files.specs.Refusals.{RefusesScripts}
 use Rattle.script_files.specs.Scripts.{in_script, texts_from, scripts_of, AreFitScripts}
 use Rattle.script_files.specs.Requests.{name_saved, names_saved_in}
@@ -83,6 +83,9 @@ next_refused (Script at) side models texts text k old within is so_far refuses =
 next_refused Memory side models texts text k old within is so_far refuses = tt
 next_refused (Vox fault) side models texts text k old within is so_far refuses = absurd refuses
 next_refused Collides side models texts text k old within is so_far refuses = absurd refuses
+next_refused (NoScene fault) side models texts text k old within is so_far refuses = absurd refuses
+next_refused NoPlace side models texts text k old within is so_far refuses = absurd refuses
+next_refused (StoreFull full) side models texts text k old within is so_far refuses = absurd refuses
 
 -- ---- names under which scripts save
 

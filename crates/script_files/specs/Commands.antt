@@ -1,7 +1,7 @@
 -- What all commands have in common.
 use Rattle.std.specs.Prelude.{ℕ, List, []}
 use Rattle.script_files.specs.declared.requests.Request.{Request}
-use Rattle.script_files.specs.declared.requests.Request.TheVariants.{Count, Run, Demo}
+use Rattle.script_files.specs.declared.requests.Request.TheVariants.{Count, Run, Demo, Flood, Scene}
 use Rattle.script_files.specs.Demos.{demo_asked}
 
 -- the names of the scripts whose transcripts a command writes
@@ -9,3 +9,5 @@ abbrev pub scripts_asked : Request → List (List ℕ)
 scripts_asked (Count file) = []
 scripts_asked (Run asked) = asked.scripts
 scripts_asked (Demo n) = demo_asked.scripts
+scripts_asked (Flood asked) = []
+scripts_asked (Scene asked) = []

@@ -6,13 +6,17 @@ use Rattle.node_words.specs.Plans.{Layout, usual_buckets}
 use Rattle.transcript.specs.declared.answers.LineAnswer.{LineAnswer}
 use Rattle.script.specs.declared.commands.ScriptLine.{ScriptLine}
 use Rattle.conformance.specs.Runs.{AllRan}
+use Rattle.session_runs.specs.Ran.{SessionsRan}
+use Rattle.session_runs.specs.Seen.{SessionSeen}
+use Rattle.node_table.specs.declared.closed.Closed.{Closed}
+use Rattle.world_run.specs.Ends.{IsEndOf}
 use Rattle.gen_load.specs.Loads.{load_model, load_scripts}
 use Rattle.region_laws.specs.LastCounts.{region_counts}
 use Rattle.region_laws.specs.Statements.{own_counts}
 use Rattle.script_files.specs.declared.tallies.LoadTally.{LoadTally}
 use Rattle.script_files.specs.Orders.{Asked}
-use Rattle.script_files.specs.Requests.{given_by, texts_written}
-use Rattle.script_files.specs.Reports.{BeginsTexts}
+use Rattle.script_files.specs.Requests.{given_seen, given_by, texts_written}
+use Rattle.script_files.specs.Reports.{BeginsFirst, BeginsTexts}
 use Rattle.script_files.specs.Scripts.{scripts_of}
 
 -- the usual plan of side 256
@@ -31,18 +35,20 @@ demo_asked = record {
 
 -- the scripts of the load were run with its model, and this is what the run tells and writes. Where
 -- every change was accepted, each region has the cells that its own script's changes alone make
-pub record LoadRan (n : ℕ) (told : LoadTally) (outputs : List Named) : Type 0 where
-  pub log : Log
-  pub transcripts : List (List LineAnswer)
-  pub lines : List (List ScriptLine)
-  pub read : scripts_of 8 (load_model n ∷ []) (load_scripts n) ≡ Ok lines
-  pub run : AllRan demo_plan (load_model n ∷ []) lines transcripts log
-  pub number : told.number ≡ n
-  pub records : told.records ≡ length log.records
-  pub counts : told.counts ≡ region_counts transcripts
-  pub regions : length log.records ≡ 800 → told.counts ≡ own_counts n
-  pub are : outputs ≡ texts_written demo_asked
-      (given_by (load_model n ∷ []) lines log transcripts) []
+pub record LoadRan (n : ℕ) (told : LoadTally) (closed : Closed) (outputs : List Named) : Type 0
+  where
+    pub log : Log
+    pub transcripts : List (List LineAnswer)
+    pub lines : List (List ScriptLine)
+    pub read : scripts_of 8 (load_model n ∷ []) (load_scripts n) ≡ Ok lines
+    pub run : AllRan demo_plan (load_model n ∷ []) lines transcripts log
+    pub ends : IsEndOf (load_model n ∷ []) log closed
+    pub number : told.number ≡ n
+    pub records : told.records ≡ length log.records
+    pub counts : told.counts ≡ region_counts transcripts
+    pub regions : length log.records ≡ 800 → told.counts ≡ own_counts n
+    pub are : outputs ≡ texts_written demo_asked
+        (given_by (load_model n ∷ []) lines log transcripts) log []
 
 -- the same as far as these first outputs, of which a later one may not have been made
 pub record LoadBegan (n : ℕ) (outputs : List Named) : Type 0 where
@@ -51,4 +57,15 @@ pub record LoadBegan (n : ℕ) (outputs : List Named) : Type 0 where
   pub lines : List (List ScriptLine)
   pub read : scripts_of 8 (load_model n ∷ []) (load_scripts n) ≡ Ok lines
   pub run : AllRan demo_plan (load_model n ∷ []) lines transcripts log
-  pub begins : BeginsTexts demo_asked (given_by (load_model n ∷ []) lines log transcripts) outputs
+  pub begins : BeginsTexts demo_asked (given_by (load_model n ∷ []) lines log transcripts) log
+      outputs
+
+-- the world wasn't closed yet: these are first ones of the sessions' transcripts
+pub record LoadSessionsBegan (n : ℕ) (outputs : List Named) : Type 0 where
+  pub transcripts : List (List LineAnswer)
+  pub lines : List (List ScriptLine)
+  pub read : scripts_of 8 (load_model n ∷ []) (load_scripts n) ≡ Ok lines
+  pub sessions : List SessionSeen
+  pub ran : SessionsRan demo_plan (load_model n ∷ []) 0 lines transcripts sessions
+  pub begins : BeginsFirst demo_asked
+      (given_seen (load_model n ∷ []) lines transcripts sessions) outputs

@@ -3,6 +3,8 @@ pub mod Requests
 pub mod Scripts
 pub mod Reports
 pub mod Demos
+pub mod Floods
+pub mod Scenes
 pub mod Meanings
 pub mod Outcomes
 pub mod Refusals

@@ -1,6 +1,6 @@
 -- What the texts of the inputs mean to each command: what its line tells and its outputs, or what
 -- is refused.
-use Rattle.std.specs.Prelude.{◌≡◌, ℕ, ◌∷◌, [], false, List, length, IsTrue, Ok, Err, ⊤}
+use Rattle.std.specs.Prelude.{◌≡◌, ◌⊎◌, ℕ, ◌∷◌, [], false, List, length, IsTrue, Option, Some, None, Ok, Err, ⊤}
 use Rattle.vw_io.specs.Outputs.{Named}
 use Rattle.vw_io.specs.Names.{collide}
 use Rattle.vox_chunk.specs.declared.faults.VoxFault.{VoxFault}
@@ -11,20 +11,28 @@ use Rattle.transcript.specs.declared.answers.LineAnswer.{LineAnswer}
 use Rattle.script.specs.declared.commands.ScriptLine.{ScriptLine}
 use Rattle.script.specs.Fitting.{IsOfText}
 use Rattle.conformance.specs.Runs.{AllRan}
+use Rattle.session_runs.specs.Ran.{SessionsRan}
+use Rattle.session_runs.specs.Seen.{SessionSeen}
+use Rattle.node_table.specs.declared.closed.Closed.{Closed}
+use Rattle.world_run.specs.Ends.{IsEndOf}
 use Rattle.reporting.specs.Numbers.{IsTotal}
 use Rattle.script_files.specs.declared.tallies.Done.{Done}
-use Rattle.script_files.specs.declared.tallies.Done.TheVariants.{Counted, Ran, Shown}
+use Rattle.script_files.specs.declared.tallies.Done.TheVariants.{Counted, Ran, Shown, Placed}
 use Rattle.script_files.specs.declared.tallies.Tally.{Tally}
 use Rattle.script_files.specs.declared.refusals.NumberedFault.{NumberedFault}
 use Rattle.script_files.specs.declared.refusals.TextRefused.{TextRefused}
-use Rattle.script_files.specs.declared.refusals.TextRefused.TheVariants.{Vox, Script, Collides, Memory}
+use Rattle.script_files.specs.declared.refusals.TextRefused.TheVariants.{Vox, Script, Collides, NoScene, NoPlace, StoreFull, Memory}
 use Rattle.script_files.specs.declared.requests.Request.{Request}
-use Rattle.script_files.specs.declared.requests.Request.TheVariants.{Count, Run, Demo}
+use Rattle.script_files.specs.declared.requests.Request.TheVariants.{Count, Run, Demo, Flood, Scene}
 use Rattle.script_files.specs.Orders.{Asked}
-use Rattle.script_files.specs.Requests.{inputs_of, output_names, given_by, texts_written}
-use Rattle.script_files.specs.Reports.{ReportIs, BeginsTexts}
+use Rattle.script_files.specs.Requests.{inputs_of, output_names, given_seen, given_by, texts_written}
+use Rattle.script_files.specs.Reports.{ReportIs, BeginsFirst, BeginsTexts}
 use Rattle.script_files.specs.Scripts.{scripts_of}
-use Rattle.script_files.specs.Demos.{LoadRan, LoadBegan}
+use Rattle.script_files.specs.Demos.{LoadRan, LoadBegan, LoadSessionsBegan}
+use Rattle.node_words.specs.declared.shares.Full.{Full}
+use Rattle.script_files.specs.Floods.{RegionFlooded, RegionBegun, LacksPlace, FillsStore}
+use Rattle.vox_scene.specs.declared.faults.SceneFault.{SceneFault}
+use Rattle.script_files.specs.Scenes.{ScenePlaced, SceneBegun, LacksScene}
 
 -- the text of the VOX file is the first, and those of the scripts come behind it
 abbrev pub file_in : List (List ℕ) → List ℕ
@@ -66,17 +74,19 @@ pub record TalliesRun (asked : Asked) (models : List Content) (log : Log)
   pub marks : tally.marks ≡ length log.marks
   pub nodes : IsTotal models log tally.nodes
 
--- the outputs are the transcripts, the files of the accepted saves, the journal and the report
-pub record ScriptsRan (asked : Asked) (texts : List (List ℕ)) (tally : Tally)
+-- the outputs are the transcripts, the files of the accepted saves, the journal and the report, and
+-- the world was closed with the run's history
+pub record ScriptsRan (asked : Asked) (texts : List (List ℕ)) (tally : Tally) (closed : Closed)
     (outputs : List Named) : Type 0 where
   pub log : Log
   pub transcripts : List (List LineAnswer)
   pub accepted : IsAccepted asked texts log transcripts
+  pub ends : IsEndOf accepted.models log closed
   pub tallied : TalliesRun asked accepted.models log tally
   pub report : List ℕ
   pub reported : ReportIs asked.report accepted.models log report
   pub are : outputs ≡ texts_written asked
-      (given_by accepted.models accepted.lines log transcripts) report
+      (given_by accepted.models accepted.lines log transcripts) log report
 
 -- the same as far as these first outputs, of which a later one may not have been made
 pub record ScriptsBegan (asked : Asked) (texts : List (List ℕ)) (outputs : List Named) : Type 0
@@ -85,20 +95,42 @@ pub record ScriptsBegan (asked : Asked) (texts : List (List ℕ)) (outputs : Lis
     pub transcripts : List (List LineAnswer)
     pub accepted : IsAccepted asked texts log transcripts
     pub begins : BeginsTexts asked
-        (given_by accepted.models accepted.lines log transcripts) outputs
+        (given_by accepted.models accepted.lines log transcripts) log outputs
 
--- what a command gives where nothing is refused
-abbrev pub GivesOutputs : Request → List (List ℕ) → Done → List Named → Type 0
-GivesOutputs (Count file) texts (Counted number) outputs = CellsCounted texts number outputs
-GivesOutputs (Run asked) texts (Ran tally) outputs = ScriptsRan asked texts tally outputs
-GivesOutputs (Demo n) texts (Shown told) outputs = LoadRan n told outputs
-GivesOutputs _ texts _ outputs = ⊥
+-- the world wasn't closed yet: each session ran its script, and these are first ones of their
+-- transcripts and saved files
+pub record SessionsBegan (asked : Asked) (texts : List (List ℕ)) (outputs : List Named) : Type 0
+  where
+    pub models : List Content
+    pub gives : ReadsModels (file_in texts) (Ok models)
+    pub lines : List (List ScriptLine)
+    pub read : scripts_of asked.plan.side models (scripts_in texts) ≡ Ok lines
+    pub apart : AreApart asked lines
+    pub transcripts : List (List LineAnswer)
+    pub sessions : List SessionSeen
+    pub ran : SessionsRan asked.plan models 0 lines transcripts sessions
+    pub begins : BeginsFirst asked (given_seen models lines transcripts sessions) outputs
+
+-- what a command gives where nothing is refused, and the closed world where it ran scripts
+abbrev pub GivesOutputs : Request → List (List ℕ) → Done → Option Closed → List Named → Type 0
+GivesOutputs (Count file) texts (Counted number) None outputs = CellsCounted texts number outputs
+GivesOutputs (Run asked) texts (Ran tally) (Some closed) outputs =
+    ScriptsRan asked texts tally closed outputs
+GivesOutputs (Demo n) texts (Shown told) (Some closed) outputs = LoadRan n told closed outputs
+GivesOutputs (Flood asked) texts (Counted number) None outputs =
+    RegionFlooded asked (file_in texts) number outputs
+GivesOutputs (Scene asked) texts (Placed told) None outputs =
+    ScenePlaced asked (file_in texts) told outputs
+GivesOutputs _ texts _ _ outputs = ⊥
 
 -- the first outputs of a command; `count` has none
 abbrev pub BeginsOutputs : Request → List (List ℕ) → List Named → Type 0
 BeginsOutputs (Count file) texts outputs = ⊥
-BeginsOutputs (Run asked) texts outputs = ScriptsBegan asked texts outputs
-BeginsOutputs (Demo n) texts outputs = LoadBegan n outputs
+BeginsOutputs (Run asked) texts outputs =
+    SessionsBegan asked texts outputs ⊎ ScriptsBegan asked texts outputs
+BeginsOutputs (Demo n) texts outputs = LoadSessionsBegan n outputs ⊎ LoadBegan n outputs
+BeginsOutputs (Flood asked) texts outputs = RegionBegun asked (file_in texts) outputs
+BeginsOutputs (Scene asked) texts outputs = SceneBegun asked (file_in texts) outputs
 
 -- the VOX file gives models, and this is the first fault of the first script that has one
 pub record HasScriptFault (asked : Asked) (texts : List (List ℕ))
@@ -111,6 +143,8 @@ pub record HasScriptFault (asked : Asked) (texts : List (List ℕ))
 abbrev pub RefusesScript : Request → List (List ℕ) → NumberedFault → Type 0
 RefusesScript (Count file) texts at = ⊥
 RefusesScript (Demo n) texts at = ⊥
+RefusesScript (Flood asked) texts at = ⊥
+RefusesScript (Scene asked) texts at = ⊥
 RefusesScript (Run asked) texts at = HasScriptFault asked texts at
 
 -- the VOX file gives models and no script has a fault, and a name of an output is taken
@@ -124,6 +158,8 @@ pub record HasTakenName (asked : Asked) (texts : List (List ℕ)) : Type 0 where
 abbrev pub RefusesNames : Request → List (List ℕ) → Type 0
 RefusesNames (Count file) texts = ⊥
 RefusesNames (Demo n) texts = ⊥
+RefusesNames (Flood asked) texts = ⊥
+RefusesNames (Scene asked) texts = ⊥
 RefusesNames (Run asked) texts = HasTakenName asked texts
 
 -- the VOX file has this as its first fault
@@ -131,10 +167,30 @@ abbrev pub RefusesVox : Request → List (List ℕ) → VoxFault → Type 0
 RefusesVox (Count file) texts fault = ReadsModels (file_in texts) (Err fault)
 RefusesVox (Run asked) texts fault = ReadsModels (file_in texts) (Err fault)
 RefusesVox (Demo n) texts fault = ⊥
+RefusesVox (Flood asked) texts fault = ReadsModels (file_in texts) (Err fault)
+RefusesVox (Scene asked) texts fault = ReadsModels (file_in texts) (Err fault)
+
+-- the VOX file is accepted, and its scene has this as its first fault
+abbrev pub RefusesPlaces : Request → List (List ℕ) → SceneFault → Type 0
+RefusesPlaces (Scene asked) texts fault = LacksScene (file_in texts) fault
+RefusesPlaces _ texts fault = ⊥
+
+-- the VOX file has no such model, or the model no such place
+abbrev pub RefusesPlace : Request → List (List ℕ) → Type 0
+RefusesPlace (Flood asked) texts = LacksPlace asked (file_in texts)
+RefusesPlace _ texts = ⊥
+
+-- what the command stamps can fill this bucket
+abbrev pub RefusesFull : Request → List (List ℕ) → Full → Type 0
+RefusesFull (Flood asked) texts full = FillsStore asked (file_in texts) full
+RefusesFull _ texts full = ⊥
 
 -- why the texts, or the names of outputs, are refused
 abbrev pub RefusesTexts : TextRefused → Request → List (List ℕ) → Type 0
 RefusesTexts (Vox fault) a texts = RefusesVox a texts fault
 RefusesTexts (Script at) a texts = RefusesScript a texts at
 RefusesTexts Collides a texts = RefusesNames a texts
+RefusesTexts (NoScene fault) a texts = RefusesPlaces a texts fault
+RefusesTexts NoPlace a texts = RefusesPlace a texts
+RefusesTexts (StoreFull full) a texts = RefusesFull a texts full
 RefusesTexts Memory a texts = ⊤

@@ -10,3 +10,20 @@ pub record Asked : Type 0 where
   pub report : Option (List ℕ)
   pub file : List ℕ
   pub scripts : List (List ℕ)
+
+-- what a flood is asked for: the name of the VOX file, the number of its model, the place from which
+-- is flooded, and the name of the region's file
+pub record FloodAsked : Type 0 where
+  pub file : List ℕ
+  pub model : ℕ
+  pub x : ℕ
+  pub y : ℕ
+  pub z : ℕ
+  pub out : List ℕ
+
+-- what is asked of a scene: the names of the VOX file, of the file of the turned models, and of the
+-- script of their stamps
+pub record SceneAsked : Type 0 where
+  pub file : List ℕ
+  pub out : List ℕ
+  pub script : List ℕ

@@ -5,27 +5,30 @@ use Rattle.vw_io.specs.Outside.{Files, ShelfState}
 use Rattle.vw_io.specs.Inputs.{AreTaken, StopsAt}
 use Rattle.vw_io.specs.Outputs.{Named, AreWritten, StopsWith}
 use Rattle.vw_io.specs.declared.shelves.WriteRefused.{WriteRefused}
+use Rattle.node_table.specs.declared.closed.Closed.{Closed}
+use Rattle.script_files.specs.declared.tallies.Completed.{Completed}
 use Rattle.script_files.specs.declared.tallies.Done.{Done}
 use Rattle.script_files.specs.declared.refusals.CommandRefused.{CommandRefused}
 use Rattle.script_files.specs.declared.refusals.CommandRefused.TheVariants.{Input, Text, Output}
 use Rattle.script_files.specs.declared.refusals.TextRefused.{TextRefused}
-use Rattle.script_files.specs.declared.refusals.TextRefused.TheVariants.{Vox, Script, Collides, Memory}
+use Rattle.script_files.specs.declared.refusals.TextRefused.TheVariants.{Vox, Script, Collides, NoScene, NoPlace, StoreFull, Memory}
 use Rattle.script_files.specs.declared.requests.Request.{Request}
 use Rattle.script_files.specs.Requests.{inputs_of}
 use Rattle.script_files.specs.Meanings.{GivesOutputs, BeginsOutputs, RefusesTexts}
 use Rattle.script_files.specs.Refusals.{output_name}
 
 -- all inputs were taken, and this is what the command tells and puts out
-pub record ComesTo (done : Done) (outputs : List Named) (a : Request)
+pub record ComesTo (done : Done) (ended : Option Closed) (outputs : List Named) (a : Request)
     (files : Option Files) : Type 0 where
   pub texts : List (List ℕ)
   pub taken : AreTaken files (inputs_of a) texts
-  pub gives : GivesOutputs a texts done outputs
+  pub gives : GivesOutputs a texts done ended outputs
 
 -- it came to its end: all outputs are whole, and nothing else has changed
-pub record Completes (done : Done) (a : Request) (old new : ShelfState) : Type 0 where
+pub record Completes (done : Done) (ended : Option Closed) (a : Request)
+    (old new : ShelfState) : Type 0 where
   pub outputs : List Named
-  pub comes : ComesTo done outputs a old.files
+  pub comes : ComesTo done ended outputs a old.files
   pub whole : AreWritten outputs old.files new.files
   pub no_fault : new.faults ≡ old.faults
 
@@ -53,6 +56,9 @@ abbrev pub RefusesFiles : TextRefused → Request → Option Files → Type 0
 RefusesFiles (Vox fault) a files = TextsRefused (Vox fault) a files
 RefusesFiles (Script at) a files = TextsRefused (Script at) a files
 RefusesFiles Collides a files = TextsRefused Collides a files
+RefusesFiles (NoScene fault) a files = TextsRefused (NoScene fault) a files
+RefusesFiles NoPlace a files = TextsRefused NoPlace a files
+RefusesFiles (StoreFull full) a files = TextsRefused (StoreFull full) a files
 RefusesFiles Memory a files = ⊤
 
 -- why it did not come to its end
@@ -63,6 +69,6 @@ Refused (Input r) a old new =
 Refused (Text r) a old new = RefusesFiles r a old.files × (new ≡ old)
 Refused (Output r) a old new = BreaksOff r.why (output_name r.name) a old new
 
-abbrev pub Outcome : Result Done CommandRefused → Request → ShelfState → ShelfState → Type 0
-Outcome (Ok done) a old new = Completes done a old new
+abbrev pub Outcome : Result Completed CommandRefused → Request → ShelfState → ShelfState → Type 0
+Outcome (Ok c) a old new = Completes c.done c.ended a old new
 Outcome (Err refused) a old new = Refused refused a old new

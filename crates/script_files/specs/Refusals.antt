@@ -7,13 +7,17 @@ use Rattle.script.specs.declared.faults.ScriptKind.TheVariants as kinds
 use Rattle.script.specs.Commands.{name_bytes}
 use Rattle.script.specs.Fitting.{IsOfText}
 use Rattle.script.specs.Placing.{is_save_name}
+use Rattle.flood.specs.declared.models.FloodRefused.{FloodRefused}
+use Rattle.flood.specs.declared.models.FloodRefused.TheVariants as floods
+use Rattle.vox_scene.specs.declared.faults.SceneFault.{SceneFault}
+use Rattle.vox_scene.specs.declared.faults.SceneFault.TheVariants as scenes
 use Rattle.script_files.specs.declared.refusals.CommandRefused.{CommandRefused}
 use Rattle.script_files.specs.declared.refusals.CommandRefused.TheVariants.{Output}
 use Rattle.script_files.specs.declared.refusals.NumberedFault.{NumberedFault}
 use Rattle.script_files.specs.declared.refusals.OutputName.{OutputName}
 use Rattle.script_files.specs.declared.refusals.OutputName.TheVariants.{Given, Saved}
 use Rattle.script_files.specs.declared.refusals.TextRefused.{TextRefused}
-use Rattle.script_files.specs.declared.refusals.TextRefused.TheVariants.{Vox, Script, Memory}
+use Rattle.script_files.specs.declared.refusals.TextRefused.TheVariants.{Vox, Script, NoScene, StoreFull, Memory}
 
 -- the bytes of an output's name
 abbrev pub output_name : OutputName → List ℕ
@@ -40,6 +44,14 @@ of_kind _ at = Script at
 
 abbrev pub of_fault : NumberedFault → TextRefused
 of_fault at = of_kind at.fault.kind at
+
+abbrev pub of_scene : SceneFault → TextRefused
+of_scene scenes.Memory = Memory
+of_scene fault = NoScene fault
+
+abbrev pub of_flood : FloodRefused → TextRefused
+of_flood (floods.StoreFull full) = StoreFull full
+of_flood floods.Memory = Memory
 
 -- what a refusal says of what scripts say: a fault is their first one, and want of memory says
 -- nothing

@@ -5,17 +5,23 @@ use Rattle.vox_read.specs.Contents.{Content}
 use Rattle.history_model.specs.Logs.{Log}
 use Rattle.reporting.specs.Reports.{IsReport}
 use Rattle.script_files.specs.Orders.{Asked}
-use Rattle.script_files.specs.Requests.{Given, texts_written}
+use Rattle.script_files.specs.Requests.{Given, written_first, texts_written}
 
 -- the report of a history, where one is wanted
 abbrev pub ReportIs : Option (List ℕ) → List Content → Log → List ℕ → Type 0
 ReportIs None models log text = ⊤
 ReportIs (Some name) models log text = IsReport models log text
 
--- these are first outputs of a run. The report is the last one, and is the history's where it is
--- among them
-pub record BeginsTexts (asked : Asked) (given : Given) (outputs : List Named) : Type 0 where
+-- these are first outputs of a run whose world isn't closed: of the transcripts and saved files
+pub record BeginsFirst (asked : Asked) (given : Given) (outputs : List Named) : Type 0 where
+  pub rest : List Named
+  pub parts : outputs ++ rest ≡ written_first asked given
+
+-- these are first outputs of a run whose world was closed with this history. The report is the last
+-- one, and is the history's where it is among them
+pub record BeginsTexts (asked : Asked) (given : Given) (log : Log) (outputs : List Named)
+    : Type 0 where
   pub report : List ℕ
   pub rest : List Named
-  pub parts : outputs ++ rest ≡ texts_written asked given report
-  pub reported : rest ≡ [] → ReportIs asked.report given.models given.log report
+  pub parts : outputs ++ rest ≡ texts_written asked given log report
+  pub reported : rest ≡ [] → ReportIs asked.report given.models log report

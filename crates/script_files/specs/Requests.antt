@@ -6,7 +6,7 @@ use Rattle.history_model.specs.Journal.{journal_of}
 use Rattle.history_model.specs.Logs.{Log}
 use Rattle.script_files.specs.Orders.{Asked}
 use Rattle.script_files.specs.declared.requests.Request.{Request}
-use Rattle.script_files.specs.declared.requests.Request.TheVariants.{Count, Run, Demo}
+use Rattle.script_files.specs.declared.requests.Request.TheVariants.{Count, Run, Demo, Flood, Scene}
 use Rattle.transcript.specs.declared.answers.LineAnswer.{LineAnswer}
 use Rattle.transcript.specs.Lines.{transcript_of}
 use Rattle.script.specs.declared.commands.Command.{Command}
@@ -14,9 +14,9 @@ use Rattle.script.specs.declared.commands.Command.TheVariants.{Save}
 use Rattle.script.specs.declared.commands.ScriptLine.{ScriptLine}
 use Rattle.script.specs.Commands.{name_bytes}
 use Rattle.vox_read.specs.Contents.{Content}
-use Rattle.conformance.specs.declared.saves.SavedBox.{SavedBox}
-use Rattle.conformance.specs.Saves.{saved_of}
-use Rattle.store_run.specs.Open.{saved_file}
+use Rattle.session_runs.specs.Kept.{KeptSave, kept_of, kept_by}
+use Rattle.session_runs.specs.Seen.{SessionSeen}
+use Rattle.world_run.specs.Open.{saved_file}
 
 -- the most bytes of a VOX file and of a script
 abbrev pub vox_limit : ℕ
@@ -34,6 +34,8 @@ inputs_of (Count file) = record { name = file; limit = vox_limit } ∷ []
 inputs_of (Run asked) =
     record { name = asked.file; limit = vox_limit } ∷ map script_input asked.scripts
 inputs_of (Demo n) = []
+inputs_of (Flood asked) = record { name = asked.file; limit = vox_limit } ∷ []
+inputs_of (Scene asked) = record { name = asked.file; limit = vox_limit } ∷ []
 
 -- a transcript's name is its script's with `.out` behind it
 abbrev pub transcript_name : List ℕ → List ℕ
@@ -75,39 +77,46 @@ abbrev pub wanted_output : Option (List ℕ) → List ℕ → List Named
 wanted_output None text = []
 wanted_output (Some name) text = record { name = name; bytes = text } ∷ []
 
--- what a run has come to: its models, its history and transcripts, and the saves that it accepted
+-- what sessions have come to: the models, their transcripts, and what they saved
 pub record Given : Type 0 where
   pub models : List Content
-  pub log : Log
   pub transcripts : List (List LineAnswer)
-  pub saved : List SavedBox
+  pub kept : List KeptSave
+
+-- by what each session saw, and by the one history of all
+abbrev pub given_seen : List Content → List (List ScriptLine) → List (List LineAnswer)
+    → List SessionSeen → Given
+given_seen models lines transcripts sessions = record {
+  models = models;
+  transcripts = transcripts;
+  kept = kept_of lines transcripts sessions;
+}
 
 abbrev pub given_by : List Content → List (List ScriptLine) → Log → List (List LineAnswer) → Given
 given_by models lines log transcripts = record {
   models = models;
-  log = log;
   transcripts = transcripts;
-  saved = saved_of lines transcripts;
+  kept = kept_by lines transcripts log;
 }
 
 -- the file of an accepted save, under its name
-abbrev pub saved_output : List Content → Log → SavedBox → Named
-saved_output models log s =
-    record { name = name_bytes s.name; bytes = saved_file models log s }
+abbrev pub saved_output : List Content → KeptSave → Named
+saved_output models k =
+    record { name = name_bytes k.save.name; bytes = saved_file models k }
 
 -- what a run writes first: the texts of its transcripts, and then its saved files, by script and
 -- line
 abbrev pub written_first : Asked → Given → List Named
 written_first asked given =
     named_texts (map transcript_name asked.scripts) (map transcript_of given.transcripts)
-    ++ map (saved_output given.models given.log) given.saved
+    ++ map (saved_output given.models) given.kept
 
--- and then: its journal and this report, where they are wanted
+-- and then, once the world is closed: its journal and this report, where they are wanted
 abbrev pub written_last : Asked → Log → List ℕ → List Named
 written_last asked log report =
     wanted_output asked.journal (journal_of log) ++ wanted_output asked.report report
 
 -- what a run writes, in order
-abbrev pub texts_written : Asked → Given → List ℕ → List Named
-texts_written asked given report =
-    written_first asked given ++ written_last asked given.log report
+abbrev pub texts_written : Asked → Given → Log → List ℕ → List Named
+texts_written asked given log report =
+    written_first asked given ++ written_last asked log report

@@ -1,5 +1,5 @@
 -- What the stages of a command give.
-use Rattle.std.specs.Prelude.{◌≡◌, ℕ, List, [], ◌∷◌, ◌++◌, Option, Some, None, Result, Ok, Err, ⊤}
+use Rattle.std.specs.Prelude.{◌≡◌, ◌⊎◌, ℕ, List, [], ◌∷◌, ◌++◌, Option, Some, None, Result, Ok, Err, ⊤}
 use Rattle.vw_io.specs.Outside.{ShelfState}
 use Rattle.vw_io.specs.Outputs.{Named, AreWritten, StopsWith}
 use Rattle.vox_read.specs.Contents.{Content, cells_of_all}
@@ -9,7 +9,15 @@ use Rattle.history_model.specs.Logs.{Log}
 use Rattle.script.specs.declared.commands.ScriptLine.{ScriptLine}
 use Rattle.script.specs.Scripts.{commands_of}
 use Rattle.gen_load.specs.Loads.{load_model, load_scripts}
-use Rattle.store_run.specs.declared.runs.ScriptsRun.{ScriptsRun}
+use Rattle.session_runs.specs.Ran.{ClosesWorld}
+use Rattle.node_table.specs.declared.closed.Closed.{Closed}
+use Rattle.world_run.specs.Ends.{IsEndOf}
+use Rattle.world_run.specs.Open.{RunState}
+use Rattle.reporting.specs.Numbers.{AreNumbers}
+use Rattle.reporting.specs.Roots.{RootsTellWorlds, listed_root}
+use Rattle.world_run.specs.declared.runs.ScriptsRun.{ScriptsRun}
+use Rattle.world_run.specs.declared.endings.WorldRan.{WorldRan}
+use Rattle.script_files.specs.declared.tallies.RunWritten.{RunWritten}
 use Rattle.script_files.specs.declared.tallies.Tally.{Tally}
 use Rattle.script_files.specs.Orders.{Asked}
 use Rattle.script_files.specs.Scripts.{AreFitScripts, scripts_of}
@@ -17,7 +25,7 @@ use Rattle.script_files.specs.declared.refusals.OutputRefused.{OutputRefused}
 use Rattle.script_files.specs.declared.scripts.Read.{Read}
 use Rattle.script_files.specs.Meanings.{file_in, scripts_in, AreApart, TalliesRun}
 use Rattle.script_files.specs.Refusals.{output_name}
-use Rattle.script_files.specs.Reports.{ReportIs, BeginsTexts}
+use Rattle.script_files.specs.Reports.{ReportIs, BeginsFirst, BeginsTexts}
 use Rattle.script_files.specs.Requests.{Given, written_last, texts_written}
 
 -- the bytes give these models, and the number is that of their cells
@@ -37,14 +45,18 @@ pub record IsRead (asked : Asked) (texts : List (List ℕ)) (r : Read) : Type 0 
   pub read : scripts_of asked.plan.side r.models (scripts_in texts) ≡ Ok r.scripts.items
   pub apart : AreApart asked r.scripts.items
 
--- what a run over a store has come to
+-- what a run has come to whose world isn't closed
 abbrev pub given_of : ScriptsRun → Given
 given_of r = record {
   models = r.run.models;
-  log = r.run.log;
   transcripts = r.transcripts.items;
-  saved = r.run.saved;
+  kept = r.run.kept;
 }
+
+-- its world was closed with this history, and left this
+pub record ClosesRun (r : RunState) (closed : Closed) : Type 0 where
+  pub closes : ClosesWorld r.plan r.models r.sessions closed.history
+  pub is_end : IsEndOf r.models closed.history closed
 
 -- what a history tells, and its texts. They are empty where they are not asked for
 pub record HistoryTexts : Type 0 where
@@ -82,47 +94,78 @@ Writes (Ok x) outputs old new =
 Writes (Err r) outputs old new =
     StopsWith r.why (output_name r.name) outputs old.files new.files old.faults new.faults
 
--- the journal and the report were written, and this was told
-pub record WroteHistory (asked : Asked) (models : List Content) (log : Log) (tally : Tally)
+-- the world was closed, the journal and the report were written, and this was told
+pub record WroteHistory (asked : Asked) (r : RunState) (tally : Tally) (closed : Closed)
     (old new : ShelfState) : Type 0 where
-  pub tallied : TalliesRun asked models log tally
+  pub closes : ClosesRun r closed
+  pub tallied : TalliesRun asked r.models closed.history tally
   pub report : List ℕ
-  pub reported : ReportIs asked.report models log report
-  pub whole : AreWritten (written_last asked log report) old.files new.files
+  pub reported : ReportIs asked.report r.models closed.history report
+  pub whole : AreWritten (written_last asked closed.history report) old.files new.files
   pub calm : new.faults ≡ old.faults
 
--- or some first ones of these, of which the report may not have been made
-pub record StopsHistory (asked : Asked) (models : List Content) (log : Log) (r : OutputRefused)
+-- or it was closed, and some first ones of these were written, of which the report may not have
+-- been made
+pub record StopsClosed (asked : Asked) (r : RunState) (refused : OutputRefused)
     (old new : ShelfState) : Type 0 where
+  pub closed : Closed
+  pub closes : ClosesRun r closed
   pub outputs : List Named
   pub report : List ℕ
   pub rest : List Named
-  pub parts : outputs ++ rest ≡ written_last asked log report
-  pub reported : rest ≡ [] → ReportIs asked.report models log report
-  pub stops : StopsWith r.why (output_name r.name) outputs old.files new.files old.faults new.faults
+  pub parts : outputs ++ rest ≡ written_last asked closed.history report
+  pub reported : rest ≡ [] → ReportIs asked.report r.models closed.history report
+  pub stops : StopsWith refused.why (output_name refused.name) outputs old.files new.files
+      old.faults new.faults
 
-abbrev pub WritesHistory : Asked → List Content → Log → Result Tally OutputRefused → ShelfState
+-- what a closed world tells of the run
+pub record TellsRun (r : RunState) (w : WorldRan) : Type 0 where
+  pub closes : ClosesRun r w.ended
+  pub roots : RootsTellWorlds r.models w.ended.history (listed_root w.roots.items)
+  pub numbers : AreNumbers r.models w.ended.history w.numbers.items
+
+abbrev pub WritesClosed : Asked → RunState → Result RunWritten OutputRefused → ShelfState
     → ShelfState → Type 0
-WritesHistory asked models log (Ok tally) old new = WroteHistory asked models log tally old new
-WritesHistory asked models log (Err r) old new = StopsHistory asked models log r old new
+WritesClosed asked r (Ok w) old new = WroteHistory asked r w.tally w.ended old new
+WritesClosed asked r (Err refused) old new = StopsClosed asked r refused old new
+
+-- or it wasn't closed, and nothing was written
+pub record StopsOpen (refused : OutputRefused) (old new : ShelfState) : Type 0 where
+  pub stops : StopsWith refused.why (output_name refused.name) [] old.files new.files old.faults
+      new.faults
+
+abbrev pub WritesHistory : Asked → RunState → Result RunWritten OutputRefused → ShelfState
+    → ShelfState → Type 0
+WritesHistory asked r (Ok w) old new = WroteHistory asked r w.tally w.ended old new
+WritesHistory asked r (Err refused) old new =
+    StopsOpen refused old new ⊎ StopsClosed asked r refused old new
 
 -- all outputs of a run were written, and this was told
-pub record WroteRun (asked : Asked) (given : Given) (tally : Tally) (old new : ShelfState) : Type 0
-  where
-    pub tallied : TalliesRun asked given.models given.log tally
-    pub report : List ℕ
-    pub reported : ReportIs asked.report given.models given.log report
-    pub whole : AreWritten (texts_written asked given report) old.files new.files
-    pub calm : new.faults ≡ old.faults
+pub record WroteRun (asked : Asked) (r : ScriptsRun) (tally : Tally) (closed : Closed)
+    (old new : ShelfState) : Type 0 where
+  pub closes : ClosesRun r.run closed
+  pub tallied : TalliesRun asked r.run.models closed.history tally
+  pub report : List ℕ
+  pub reported : ReportIs asked.report r.run.models closed.history report
+  pub whole : AreWritten (texts_written asked (given_of r) closed.history report) old.files
+      new.files
+  pub calm : new.faults ≡ old.faults
 
--- or some first ones
-pub record StopsRun (asked : Asked) (given : Given) (r : OutputRefused) (old new : ShelfState)
-    : Type 0 where
+-- the world was closed, and these are first outputs
+pub record BeginsClosed (asked : Asked) (r : ScriptsRun) (outputs : List Named) : Type 0 where
+  pub closed : Closed
+  pub closes : ClosesRun r.run closed
+  pub begins : BeginsTexts asked (given_of r) closed.history outputs
+
+-- some first ones were written
+pub record StopsRun (asked : Asked) (r : ScriptsRun) (refused : OutputRefused)
+    (old new : ShelfState) : Type 0 where
   pub outputs : List Named
-  pub begins : BeginsTexts asked given outputs
-  pub stops : StopsWith r.why (output_name r.name) outputs old.files new.files old.faults new.faults
+  pub begins : BeginsFirst asked (given_of r) outputs ⊎ BeginsClosed asked r outputs
+  pub stops : StopsWith refused.why (output_name refused.name) outputs old.files new.files
+      old.faults new.faults
 
-abbrev pub WritesRun : Asked → Given → Result Tally OutputRefused → ShelfState → ShelfState
-    → Type 0
-WritesRun asked given (Ok tally) old new = WroteRun asked given tally old new
-WritesRun asked given (Err r) old new = StopsRun asked given r old new
+abbrev pub WritesRun : Asked → ScriptsRun → Result RunWritten OutputRefused → ShelfState
+    → ShelfState → Type 0
+WritesRun asked r (Ok w) old new = WroteRun asked r w.tally w.ended old new
+WritesRun asked r (Err refused) old new = StopsRun asked r refused old new

@@ -11,19 +11,22 @@ use Rattle.vw_io.specs.declared.shelves.WriteRefused.TheVariants as writes
 use Rattle.vox_chunk.specs.declared.faults.VoxFault.{VoxFault}
 use Rattle.vox_read.specs.Contents.{Content}
 use Rattle.vox_read.specs.Files.{ReadsModels}
+use Rattle.vox_scene.specs.declared.faults.SceneFault.{SceneFault}
+use Rattle.vox_scene.specs.Judged.{JudgesScene}
 use Rattle.script.specs.declared.commands.ScriptLine.{ScriptLine}
 use Rattle.plain_text.specs.Steps.{◌>>=◌}
-use Rattle.script_files.specs.declared.tallies.Done.{Done}
+use Rattle.script_files.specs.declared.tallies.Completed.{Completed}
 use Rattle.script_files.specs.declared.refusals.CommandRefused.{CommandRefused}
 use Rattle.script_files.specs.declared.refusals.CommandRefused.TheVariants.{Input, Text, Output}
 use Rattle.script_files.specs.declared.refusals.NumberedFault.{NumberedFault}
 use Rattle.script_files.specs.declared.refusals.TextRefused.{TextRefused}
-use Rattle.script_files.specs.declared.refusals.TextRefused.TheVariants.{Vox, Script, Collides, Memory}
+use Rattle.script_files.specs.declared.refusals.TextRefused.TheVariants.{Vox, Script, Collides, NoScene, NoPlace, StoreFull, Memory}
 use Rattle.script_files.specs.declared.requests.Request.{Request}
-use Rattle.script_files.specs.declared.requests.Request.TheVariants.{Count, Run, Demo}
+use Rattle.script_files.specs.declared.requests.Request.TheVariants.{Count, Run, Demo, Flood, Scene}
 use Rattle.script_files.specs.Orders.{Asked}
 use Rattle.script_files.specs.Requests.{inputs_of, output_names}
 use Rattle.script_files.specs.Meanings.{file_in, scripts_in}
+use Rattle.script_files.specs.Floods.{has_start_place}
 use Rattle.script_files.specs.Scripts.{scripts_of}
 
 -- the first thing that is wrong with the inputs and the names, if anything is
@@ -34,6 +37,8 @@ pub data Verdict : Type 0 where
   HasVoxFault : VoxFault → Verdict
   HasScriptFault : NumberedFault → Verdict
   NamesCollide : Verdict
+  HasNoPlace : Verdict
+  HasSceneFault : SceneFault → Verdict
 
 -- the bytes of an input, where it can be taken
 abbrev pub input_within : WantedInput → Option (List ℕ) → Result (List ℕ) Verdict
@@ -54,18 +59,37 @@ verdict_of_names asked (Err at) = HasScriptFault at
 verdict_of_names asked (Ok lines) =
     if collide (output_names asked lines) (inputs_of (Run asked)) then NamesCollide else Fine
 
-abbrev pub verdict_of : Request → List (List ℕ) → Result (List Content) VoxFault → Verdict
-verdict_of (Count file) texts (Err fault) = HasVoxFault fault
-verdict_of (Count file) texts (Ok models) = Fine
-verdict_of (Run asked) texts (Err fault) = HasVoxFault fault
-verdict_of (Run asked) texts (Ok models) =
+-- then whether a scene has a fault
+abbrev pub verdict_of_scene : Option SceneFault → Verdict
+verdict_of_scene None = Fine
+verdict_of_scene (Some fault) = HasSceneFault fault
+
+abbrev pub verdict_of : Request → List (List ℕ) → Result (List Content) VoxFault
+    → Option SceneFault → Verdict
+verdict_of (Count file) texts (Err fault) found = HasVoxFault fault
+verdict_of (Count file) texts (Ok models) found = Fine
+verdict_of (Run asked) texts (Err fault) found = HasVoxFault fault
+verdict_of (Run asked) texts (Ok models) found =
     verdict_of_names asked (scripts_of asked.plan.side models (scripts_in texts))
-verdict_of (Demo n) texts reading = Fine
+verdict_of (Demo n) texts reading found = Fine
+verdict_of (Flood asked) texts (Err fault) found = HasVoxFault fault
+verdict_of (Flood asked) texts (Ok models) found =
+    if has_start_place asked models then Fine else HasNoPlace
+verdict_of (Scene asked) texts (Err fault) found = HasVoxFault fault
+verdict_of (Scene asked) texts (Ok models) found = verdict_of_scene found
+
+-- the fault of the scene, if it has one; no other command looks at a scene
+abbrev pub FindsFault : Request → List (List ℕ) → Result (List Content) VoxFault
+    → Option SceneFault → Type 0
+FindsFault (Scene asked) texts (Ok models) found = JudgesScene (file_in texts) found
+FindsFault _ texts reading found = found ≡ None
 
 pub record JudgesTexts (a : Request) (texts : List (List ℕ)) (v : Verdict) : Type 0 where
   pub reading : Result (List Content) VoxFault
   pub says : ReadsModels (file_in texts) reading
-  pub follows : v ≡ verdict_of a texts reading
+  pub found : Option SceneFault
+  pub finds : FindsFault a texts reading found
+  pub follows : v ≡ verdict_of a texts reading found
 
 abbrev pub JudgesInputs : Request → Result (List (List ℕ)) Verdict → Verdict → Type 0
 JudgesInputs a (Err early) v = v ≡ early
@@ -89,10 +113,13 @@ abbrev pub FollowsText : Verdict → TextRefused → Type 0
 FollowsText v (Vox fault) = v ≡ HasVoxFault fault
 FollowsText v (Script at) = v ≡ HasScriptFault at
 FollowsText v Collides = v ≡ NamesCollide
+FollowsText v (NoScene fault) = v ≡ HasSceneFault fault
+FollowsText v NoPlace = v ≡ HasNoPlace
+FollowsText v (StoreFull full) = v ≡ Fine
 FollowsText v Memory = ⊤
 
-abbrev pub Follows : Verdict → Result Done CommandRefused → Type 0
-Follows v (Ok done) = v ≡ Fine
+abbrev pub Follows : Verdict → Result Completed CommandRefused → Type 0
+Follows v (Ok completed) = v ≡ Fine
 Follows v (Err (Input r)) = FollowsRead v r.why r.name.now
 Follows v (Err (Text r)) = FollowsText v r
 Follows v (Err (Output r)) = FollowsWrite r.why

@@ -6,23 +6,30 @@ ghost use Rattle.script_files.specs.Requests.{transcript_name};
 
 use crate::counts::count_file;
 use crate::demos::{demo_order, run_demo};
+use crate::floods::flood_file;
 use crate::refusals::CommandRefused;
 use crate::requests::{FileName, Request};
 use crate::runs::{run_files, transcript_names};
-use crate::tallies::Done;
+use crate::scene_files::scene_file;
+use crate::tallies::Completed;
+use gate_run::Gate;
 use std::alloc::Global;
+use std::sync::Wait;
+use std::thread::Threads;
 use vw_cell::Memory;
 use vw_io::Shelf;
 
 /// Does what is asked for, from files to files: a row for each command. The transcripts' names are
 /// those of the scripts with `.out` behind them.
 #[tactic(auto, using(crate::proofs::Counting::count_named))]
-pub fn carry_out<'w, S: Shelf>(
+pub fn carry_out<'w, S: Shelf, R: Threads + Wait + Sync, G: Gate + Sync>(
+    rt: &R,
+    gate: &G,
     alloc: Global,
     asked: &Request<'w>,
     transcripts: &'w [String],
     shelf: &mut S,
-) -> Result<Done, CommandRefused<'w>>
+) -> Result<Completed, CommandRefused<'w>>
     requires few { length (scripts_asked asked.now) ≤ 64 }
     requires named { map string_bytes transcripts.now
         ≡ map transcript_name (scripts_asked asked.now) }
@@ -31,8 +38,10 @@ pub fn carry_out<'w, S: Shelf>(
 {
     match asked {
         Request::Count(file) => count_file(alloc, FileName { text: file.text }, shelf),
-        Request::Run(order) => run_files(alloc, order, transcripts, shelf),
-        Request::Demo(n) => run_demo(alloc, *n, transcripts, shelf),
+        Request::Run(order) => run_files(rt, gate, alloc, order, transcripts, shelf),
+        Request::Demo(n) => run_demo(rt, gate, alloc, *n, transcripts, shelf),
+        Request::Flood(order) => flood_file(alloc, order, shelf),
+        Request::Scene(order) => scene_file(alloc, order, shelf),
     }
 }
 
@@ -43,7 +52,7 @@ pub fn names_written(alloc: Global, asked: &Request<'_>) -> Result<Vec<String>, 
         ≡ map transcript_name (scripts_asked asked.now)) }
 {
     match asked {
-        Request::Count(_) => Ok(Vec::new(alloc)),
+        Request::Count(_) | Request::Flood(_) | Request::Scene(_) => Ok(Vec::new(alloc)),
         Request::Run(order) => transcript_names(alloc, order.scripts),
         Request::Demo(_) => transcript_names(alloc, demo_order().scripts),
     }

@@ -8,7 +8,7 @@ ghost use Rattle.script_files.specs.Stages.{CountsFile};
 
 use crate::refusals::{CommandRefused, TextRefused};
 use crate::requests::{FileName, VOX_LIMIT};
-use crate::tallies::Done;
+use crate::tallies::{Completed, Done};
 use std::alloc::Global;
 use vox_read::{Models, VoxFault, cell_count, read_models};
 use vw_cell::Memory;
@@ -20,7 +20,7 @@ pub fn count_file<'w, S: Shelf>(
     alloc: Global,
     file: FileName<'w>,
     shelf: &mut S,
-) -> Result<Done, CommandRefused<'w>>
+) -> Result<Completed, CommandRefused<'w>>
     ensures { Outcome result (Count file.entry) (S.state shelf.old) (S.state shelf.new) }
 {
     let inputs = [Input {
@@ -29,7 +29,10 @@ pub fn count_file<'w, S: Shelf>(
     }];
     match read_all(alloc, &inputs, shelf) {
         Ok(texts) => match count_first(alloc, texts) {
-            Ok(cells) => Ok(Done::Counted(cells)),
+            Ok(cells) => Ok(Completed {
+                done: Done::Counted(cells),
+                ended: None,
+            }),
             Err(fault) => Err(CommandRefused::Text(TextRefused::from(fault))),
         },
         Err(refused) => Err(CommandRefused::Input(refused)),

@@ -13,17 +13,20 @@ use crate::outputs::write_run;
 use crate::refusals::{CommandRefused, TextRefused};
 use crate::requests::{Order, VOX_LIMIT};
 use crate::scripts::{Read, read_scripts};
-use crate::tallies::{Done, LoadTally};
+use crate::tallies::{Completed, Done, LoadTally};
 use conformance::Transcript;
+use gate_run::Gate;
 use gen_load::load;
 use node_words::Plan;
 use region_laws::loads_are_counted;
 use std::alloc::Global;
-use store_run::run_scripts;
+use std::sync::Wait;
+use std::thread::Threads;
 use transcript::Answer;
 use vox_read::read_models;
 use vw_cell::{Memory, Side};
 use vw_io::Shelf;
+use world_run::run_scripts;
 
 static SCRIPTS: [&str; 4] = ["demo.0", "demo.1", "demo.2", "demo.3"];
 
@@ -54,12 +57,14 @@ fn side() -> Side
 /// Runs the load of this number, and writes its transcripts under their names and then its journal.
 /// It reads nothing.
 #[tactic(auto, using(crate::proofs::Loading::demo_written, crate::proofs::Loading::demo_stopped))]
-pub fn run_demo<'w, S: Shelf>(
+pub fn run_demo<'w, S: Shelf, R: Threads + Wait + Sync, G: Gate + Sync>(
+    rt: &R,
+    gate: &G,
     alloc: Global,
     n: u32,
     transcripts: &'w [String],
     shelf: &mut S,
-) -> Result<Done, CommandRefused<'w>>
+) -> Result<Completed, CommandRefused<'w>>
     requires { map string_bytes transcripts.now ≡ map transcript_name demo_asked.scripts }
     ensures outcome { Outcome result (Demo n) (S.state shelf.old) (S.state shelf.new) }
     ensures named { IfErr result IsNamed }
@@ -69,16 +74,26 @@ pub fn run_demo<'w, S: Shelf>(
     let Ok(read) = made_load(alloc, n) else {
         return Err(CommandRefused::Text(TextRefused::Memory));
     };
-    let Ok(run) = run_scripts(alloc, &order.plan, &read.models, read.scripts.as_slice()) else {
+    let Ok(run) = run_scripts(
+        rt,
+        gate,
+        alloc,
+        &order.plan,
+        &read.models,
+        read.scripts.as_slice(),
+    ) else {
         return Err(CommandRefused::Text(TextRefused::Memory));
     };
     let counts = region_counts(run.transcripts.as_slice());
-    match write_run(alloc, &order, transcripts, run, shelf) {
-        Ok(tally) => Ok(Done::Shown(LoadTally {
-            number: n,
-            records: tally.records,
-            counts,
-        })),
+    match write_run(rt, alloc, &order, transcripts, run, shelf) {
+        Ok(written) => Ok(Completed {
+            done: Done::Shown(LoadTally {
+                number: n,
+                records: written.tally.records,
+                counts,
+            }),
+            ended: Some(written.ended),
+        }),
         Err(refused) => Err(CommandRefused::Output(refused)),
     }
 }

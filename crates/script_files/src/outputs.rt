@@ -4,43 +4,47 @@ ghost use Rattle.std.specs.Option.{option_map};
 ghost use Rattle.transcript.specs.Lines.{transcript_of};
 ghost use Rattle.script_files.specs.Refusals.{IsOutputName};
 ghost use Rattle.script_files.specs.Requests.{named_texts, saved_output, transcript_name, wanted_output};
-ghost use Rattle.script_files.specs.Stages.{given_of, Writes, WritesHistory, WritesRun};
+ghost use Rattle.world_run.specs.Open.{RunState};
+ghost use Rattle.script_files.specs.Stages.{TellsRun, Writes, WritesClosed, WritesHistory, WritesRun};
 
 use crate::refusals::{OutputName, OutputRefused};
 use crate::requests::Order;
-use crate::tallies::Tally;
-use crate::texts::{Lines, Texts, texts_of, transcript_texts};
+use crate::tallies::RunWritten;
+use crate::texts::{Lines, Texts, history_texts, transcript_texts};
 use conformance::Transcript;
 use std::alloc::Global;
-use store_run::{OpenRun, ScriptsRun};
+use std::sync::Wait;
 use vw_cell::Memory;
 use vw_io::{Output, Shelf, write_all};
+use world_run::{OpenRun, ScriptsRun, WorldRan};
 
 /// Writes the transcripts under these names, then the saved files, and then the journal and the
-/// report where they are asked for. What is saved is held until its files are written.
-pub(crate) fn write_run<'w, S: Shelf>(
+/// report where they are asked for. What is saved is held until its files are written; then the
+/// world is closed.
+pub(crate) fn write_run<'w, S: Shelf, R: Wait>(
+    rt: &R,
     alloc: Global,
     order: &Order<'w>,
     names: &'w [String],
     run: ScriptsRun<'_>,
     shelf: &mut S,
-) -> Result<Tally, OutputRefused<'w>>
+) -> Result<RunWritten, OutputRefused<'w>>
     requires named { map string_bytes names.now ≡ map transcript_name order.now.scripts }
-    requires few { length run.run.log.records ≤ 65535 }
-    requires marks { All (λ m. m.version ≤ length run.run.log.records) run.run.log.marks }
-    ensures writes { WritesRun order.now (given_of run.entry) result (S.state shelf.old)
+    ensures writes { WritesRun order.now run.entry result (S.state shelf.old)
         (S.state shelf.new) }
     ensures named { IfErr result (λ refused. IsOutputName refused.name) }
 {
     let ScriptsRun { run, transcripts } = run;
     let mut run = run;
     if let Err(refused) = write_transcripts(alloc, names, transcripts, shelf) {
+        run.give_up(rt);
         return Err(refused);
     }
     if let Err(refused) = write_saves(alloc, &mut run, shelf) {
+        run.give_up(rt);
         return Err(refused);
     }
-    write_history(alloc, order, run, shelf)
+    write_history(rt, alloc, order, run, shelf)
 }
 
 // Writes the text of each transcript under its name.
@@ -68,7 +72,7 @@ fn write_saves<'w, S: Shelf>(
     run: &mut OpenRun<'_>,
     shelf: &mut S,
 ) -> Result<(), OutputRefused<'w>>
-    ensures writes { Writes result (map (saved_output run.old.models run.old.log) run.old.saved)
+    ensures writes { Writes result (map (saved_output run.old.models) run.old.kept)
         (S.state shelf.old) (S.state shelf.new) }
     ensures same { run.new ≡ run.old }
     ensures named { IfErr result (λ refused. IsOutputName refused.name) }
@@ -88,9 +92,9 @@ fn write_save<'w, S: Shelf>(
     k: usize,
     shelf: &mut S,
 ) -> Result<(), OutputRefused<'w>>
-    requires { k < length run.old.saved }
+    requires { k < length run.old.kept }
     ensures writes { Writes result
-        (take 1 (drop k (map (saved_output run.old.models run.old.log) run.old.saved)))
+        (take 1 (drop k (map (saved_output run.old.models) run.old.kept)))
         (S.state shelf.old) (S.state shelf.new) }
     ensures same { run.new ≡ run.old }
     ensures named { IfErr result (λ refused. IsOutputName refused.name) }
@@ -106,27 +110,54 @@ fn write_save<'w, S: Shelf>(
     }
 }
 
-// Closes the run, and writes the journal and the report where they are asked for.
-fn write_history<'w, S: Shelf>(
+// Closes the world, and writes the journal and the report where they are asked for.
+fn write_history<'w, S: Shelf, R: Wait>(
+    rt: &R,
     alloc: Global,
     order: &Order<'w>,
     run: OpenRun<'_>,
     shelf: &mut S,
-) -> Result<Tally, OutputRefused<'w>>
-    requires few { length run.log.records ≤ 65535 }
-    requires marks { All (λ m. m.version ≤ length run.log.records) run.log.marks }
-    ensures writes { WritesHistory order.now run.entry.models run.entry.log result
+) -> Result<RunWritten, OutputRefused<'w>>
+    ensures writes { WritesHistory order.now run.entry result (S.state shelf.old)
+        (S.state shelf.new) }
+    ensures named { IfErr result (λ refused. IsOutputName refused.name) }
+{
+    let Ok(ran) = run.close(rt, alloc) else {
+        return Err(OutputRefused::from(Memory));
+    };
+    write_closed(alloc, order, ran, shelf)
+}
+
+// Writes the journal and the report of a closed world, where they are asked for.
+fn write_closed<'w, S: Shelf>(
+    alloc: Global,
+    order: &Order<'w>,
+    ran: WorldRan,
+    shelf: &mut S,
+) -> Result<RunWritten, OutputRefused<'w>>
+    requires few { length ran.ended.history.records ≤ 65535 }
+    requires marks { All (λ m. m.version ≤ length ran.ended.history.records)
+        ran.ended.history.marks }
+    requires places { length ran.ended.history.records < length ran.roots.items }
+    requires levels { length ran.numbers.items ≤ 11 }
+    ensures writes { (r : RunState) → TellsRun r ran → WritesClosed order.now r result
         (S.state shelf.old) (S.state shelf.new) }
     ensures named { IfErr result (λ refused. IsOutputName refused.name) }
 {
-    let Ok(texts) = texts_of(alloc, order, run) else {
+    let Ok(texts) = history_texts(alloc, order, &ran) else {
         return Err(OutputRefused::from(Memory));
     };
     let Ok(outputs) = last_outputs(alloc, order, &texts) else {
         return Err(OutputRefused::from(Memory));
     };
     match write_all(outputs.as_slice(), shelf) {
-        Ok(()) => Ok(texts.tally),
+        Ok(()) => {
+            let WorldRan { ended, .. } = ran;
+            Ok(RunWritten {
+                tally: texts.tally,
+                ended,
+            })
+        }
         Err(refused) => Err(OutputRefused::from(refused)),
     }
 }

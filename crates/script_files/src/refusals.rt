@@ -1,5 +1,8 @@
+use flood::FloodRefused;
+use node_words::Full;
 use script::{SaveName, ScriptFault, ScriptKind};
 use vox_read::VoxFault;
+use vox_scene::SceneFault;
 use vw_cell::Memory;
 use vw_io::{InputRefused, WriteRefused};
 
@@ -47,6 +50,12 @@ pub enum TextRefused {
     Script(NumberedFault),
     /// An output's name is an input's, or another output's.
     Collides,
+    /// The file's scene has this fault, which isn't want of memory.
+    NoScene(SceneFault),
+    /// There is no such model, or it has no such place.
+    NoPlace,
+    /// This bucket of the store has no room for one more node.
+    StoreFull(Full),
     /// Want of memory.
     Memory,
 }
@@ -75,6 +84,34 @@ impl From<NumberedFault> for TextRefused {
         match at.fault.kind {
             ScriptKind::Memory => TextRefused::Memory,
             _ => TextRefused::Script(at),
+        }
+    }
+}
+
+impl From<SceneFault> for TextRefused {
+    ghost use Rattle.std.specs.Prelude.{◌≡◌};
+    ghost use Rattle.script_files.specs.Refusals.{of_scene};
+
+    ghost from_gives = { λ fault refused. refused ≡ of_scene fault };
+
+    fn from(fault: SceneFault) -> Self {
+        match fault {
+            SceneFault::Memory => TextRefused::Memory,
+            _ => TextRefused::NoScene(fault),
+        }
+    }
+}
+
+impl From<FloodRefused> for TextRefused {
+    ghost use Rattle.std.specs.Prelude.{◌≡◌};
+    ghost use Rattle.script_files.specs.Refusals.{of_flood};
+
+    ghost from_gives = { λ fault refused. refused ≡ of_flood fault };
+
+    fn from(refused: FloodRefused) -> Self {
+        match refused {
+            FloodRefused::StoreFull(full) => TextRefused::StoreFull(full),
+            FloodRefused::Memory => TextRefused::Memory,
         }
     }
 }

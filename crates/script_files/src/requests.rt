@@ -16,6 +16,10 @@ pub enum Request<'w> {
     Run(Order<'w>),
     /// To run the load of this number.
     Demo(u32),
+    /// To flood a model from a place.
+    Flood(FloodOrder<'w>),
+    /// To place the models of a scene.
+    Scene(SceneOrder<'w>),
 }
 
 /// The name of a file. Contracts see its bytes.
@@ -57,5 +61,53 @@ impl<'w> Model for Order<'w> {
       report = option_map (λ name. name.now) order.report;
       file = order.file.now;
       scripts = map (λ name. name.now) order.scripts.now;
+    } };
+}
+
+/// What a flood is asked for: the VOX file, the number of its model, the place from which is
+/// flooded, and the name of the region's file.
+#[derive(Drop)]
+pub struct FloodOrder<'w> {
+    pub file: &'w str,
+    pub model: u32,
+    pub x: u32,
+    pub y: u32,
+    pub z: u32,
+    pub out: &'w str,
+}
+
+impl<'w> Model for FloodOrder<'w> {
+    ghost use Rattle.script_files.specs.Orders.{FloodAsked};
+
+    ghost Value = { FloodAsked };
+
+    ghost view = { λ order. record {
+      file = order.file.now;
+      model = order.model;
+      x = order.x;
+      y = order.y;
+      z = order.z;
+      out = order.out.now;
+    } };
+}
+
+/// What is asked of a scene: the VOX file, and the names of the file of the turned models and of the
+/// script of their stamps.
+#[derive(Drop)]
+pub struct SceneOrder<'w> {
+    pub file: &'w str,
+    pub out: &'w str,
+    pub script: &'w str,
+}
+
+impl<'w> Model for SceneOrder<'w> {
+    ghost use Rattle.script_files.specs.Orders.{SceneAsked};
+
+    ghost Value = { SceneAsked };
+
+    ghost view = { λ order. record {
+      file = order.file.now;
+      out = order.out.now;
+      script = order.script.now;
     } };
 }

@@ -8,26 +8,32 @@ use crate::outputs::write_run;
 use crate::refusals::{CommandRefused, TextRefused};
 use crate::requests::{Order, SCRIPT_LIMIT, VOX_LIMIT};
 use crate::scripts::read_texts;
-use crate::tallies::Done;
+use crate::tallies::{Completed, Done};
+use gate_run::Gate;
 use std::alloc::Global;
-use store_run::run_scripts;
+use std::sync::Wait;
+use std::thread::Threads;
 use vw_cell::Memory;
 use vw_io::{Input, Shelf, read_all};
+use world_run::run_scripts;
 
-/// Runs scripts from files to files, and gives the numbers of the run.
+/// Runs scripts from files to files, and gives the numbers of the run and its closed world.
 ///
 /// It reads the VOX file, of at most 256 MiB, and the scripts, each of at most 8 MiB. Where the VOX
 /// file is accepted, no script has a fault and no output takes an input's name or another output's,
-/// it runs the scripts, each as the session of its place. Then it writes the transcripts under
-/// their names, which are those of the scripts with `.out` behind them, the files that were saved,
-/// each made when it is its turn, and the journal and the report where they are asked for.
+/// it runs the scripts at the same time, each as the session of its place; the sessions pass the
+/// gate. Then it writes the transcripts under their names, which are those of the scripts with
+/// `.out` behind them, and the files that were saved, each made when it is its turn; it closes the
+/// world, and writes the journal and the report where they are asked for.
 #[tactic(auto, using(crate::proofs::Ending::file_within, crate::proofs::Ending::not_accepted, crate::proofs::Ending::run_written, crate::proofs::Ending::run_stopped))]
-pub fn run_files<'w, S: Shelf>(
+pub fn run_files<'w, S: Shelf, R: Threads + Wait + Sync, G: Gate + Sync>(
+    rt: &R,
+    gate: &G,
     alloc: Global,
     order: &Order<'w>,
     transcripts: &'w [String],
     shelf: &mut S,
-) -> Result<Done, CommandRefused<'w>>
+) -> Result<Completed, CommandRefused<'w>>
     requires few { length order.now.scripts ≤ 64 }
     requires named { map string_bytes transcripts.now ≡ map transcript_name order.now.scripts }
     ensures outcome { Outcome result (Run order.now) (S.state shelf.old) (S.state shelf.new) }
@@ -44,11 +50,21 @@ pub fn run_files<'w, S: Shelf>(
         Ok(read) => read,
         Err(refused) => return Err(CommandRefused::Text(refused)),
     };
-    let Ok(run) = run_scripts(alloc, &order.plan, &read.models, read.scripts.as_slice()) else {
+    let Ok(run) = run_scripts(
+        rt,
+        gate,
+        alloc,
+        &order.plan,
+        &read.models,
+        read.scripts.as_slice(),
+    ) else {
         return Err(CommandRefused::Text(TextRefused::Memory));
     };
-    match write_run(alloc, order, transcripts, run, shelf) {
-        Ok(tally) => Ok(Done::Ran(tally)),
+    match write_run(rt, alloc, order, transcripts, run, shelf) {
+        Ok(written) => Ok(Completed {
+            done: Done::Ran(written.tally),
+            ended: Some(written.ended),
+        }),
         Err(refused) => Err(CommandRefused::Output(refused)),
     }
 }

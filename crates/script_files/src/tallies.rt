@@ -1,3 +1,19 @@
+use session::Ended;
+
+/// How a command came to its end: what its line tells, and the closed world where it ran scripts.
+#[derive(Drop)]
+pub struct Completed {
+    pub done: Done,
+    pub ended: Option<Ended>,
+}
+
+/// What is told of a run whose outputs are written, and its closed world.
+#[derive(Drop)]
+pub struct RunWritten {
+    pub tally: Tally,
+    pub ended: Ended,
+}
+
 /// What the line of a command tells that came to its end.
 #[derive(Clone, Copy, Debug, PartialEq, Eq)]
 pub enum Done {
@@ -7,6 +23,8 @@ pub enum Done {
     Ran(Tally),
     /// The numbers of a load's run.
     Shown(LoadTally),
+    /// The numbers of a scene.
+    Placed(SceneTally),
 }
 
 /// How many scripts there were, how many records and marks their history has, and how many nodes
@@ -26,4 +44,12 @@ pub struct LoadTally {
     pub number: u32,
     pub records: u64,
     pub counts: [u64; 4],
+}
+
+/// How many cells the side of the least world has that holds a scene, and how many models stand in
+/// it.
+#[derive(Clone, Copy, Debug, PartialEq, Eq)]
+pub struct SceneTally {
+    pub side: u32,
+    pub placements: u64,
 }

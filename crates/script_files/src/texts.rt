@@ -16,9 +16,9 @@ use node_shapes::Name;
 use reporting::report_text;
 use std::alloc::Global;
 use std::marker::Model;
-use store_run::{OpenRun, StoreRan};
 use transcript::transcript_text;
 use vw_cell::Memory;
+use world_run::WorldRan;
 
 /// What a history tells, and its texts. They are empty where they are not asked for.
 #[derive(Drop)]
@@ -52,39 +52,34 @@ impl Model for Lines {
     ghost view = { λ text. text.bytes.items };
 }
 
-// What the run's history tells, and its texts. The run is closed.
-pub(crate) fn texts_of(alloc: Global, order: &Order<'_>, run: OpenRun<'_>) -> Result<Texts, Memory>
-    requires few { length run.log.records ≤ 65535 }
-    requires marks { All (λ m. m.version ≤ length run.log.records) run.log.marks }
-    ensures { IfOk result (AreTexts order.now run.entry.models run.entry.log) }
-{
-    let ran = run.close(alloc)?;
-    history_texts(alloc, order, ran)
-}
-
-fn history_texts(alloc: Global, order: &Order<'_>, ran: StoreRan) -> Result<Texts, Memory>
-    requires few { length ran.history.records ≤ 65535 }
-    requires marks { All (λ m. m.version ≤ length ran.history.records) ran.history.marks }
-    requires places { length ran.history.records < length ran.roots.items }
-    requires levels { length ran.numbers.items ≤ 11 }
+// What the history of a closed world tells, and its texts.
+pub(crate) fn history_texts(
+    alloc: Global,
+    order: &Order<'_>,
+    ran: &WorldRan,
+) -> Result<Texts, Memory>
+    requires few { length ran.now.ended.history.records ≤ 65535 }
+    requires marks { All (λ m. m.version ≤ length ran.now.ended.history.records)
+        ran.now.ended.history.marks }
+    requires places { length ran.now.ended.history.records < length ran.now.roots.items }
+    requires levels { length ran.now.numbers.items ≤ 11 }
     ensures { IfOk result (λ texts. (models : List Content)
-        → RootsTellWorlds models ran.history (listed_root ran.roots.items)
-        → AreNumbers models ran.history ran.numbers.items
-        → AreTexts order.now models ran.history texts) }
+        → RootsTellWorlds models ran.now.ended.history (listed_root ran.now.roots.items)
+        → AreNumbers models ran.now.ended.history ran.now.numbers.items
+        → AreTexts order.now models ran.now.ended.history texts) }
 {
-    let StoreRan {
-        history,
-        roots,
-        numbers,
-    } = ran;
+    let closed = ran.ended.closed();
+    let history = &closed.history;
+    let roots = ran.roots.as_slice();
+    let numbers = ran.numbers.as_slice();
     let tally = Tally {
         scripts: order.scripts.len() as u64,
         records: history.records.len() as u64,
         marks: history.marks.len() as u64,
-        nodes: nodes_of(numbers.as_slice()),
+        nodes: nodes_of(numbers),
     };
-    let journal = asked_journal(alloc, order, &history)?;
-    let report = asked_report(alloc, order, &history, roots.as_slice(), numbers.as_slice())?;
+    let journal = asked_journal(alloc, order, history)?;
+    let report = asked_report(alloc, order, history, roots, numbers)?;
     Ok(Texts {
         tally,
         journal,

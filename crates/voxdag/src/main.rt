@@ -15,10 +15,10 @@ fn main(rt: HostRuntime) -> ExitCode {
     let mut shelf = FileShelf::new(&rt);
     let mut out = StdSink::new(&rt);
     let status = match words(&rt) {
-        Ok(words) => voxdag(rt.alloc(), words.as_slice(), &mut shelf, &mut out),
+        Ok(words) => voxdag(&rt, rt.alloc(), words.as_slice(), &mut shelf, &mut out),
         Err(e) if e.kind() == ErrorKind::OutOfMemory => MEMORY,
         // A word that is no text is in no grammar.
-        Err(_) => voxdag(rt.alloc(), &[], &mut shelf, &mut out),
+        Err(_) => voxdag(&rt, rt.alloc(), &[], &mut shelf, &mut out),
     };
     ExitCode::from(status)
 }

@@ -1,5 +1,5 @@
 -- Room for the line of a fault at any output.
-use Rattle.std.proofs.Common.{◌≡◌, ℕ, ◌≤◌, List, [], ◌∷◌, ◌++◌, take, Option, Some, None, Err, sym, ap, subst, ◌∙◌, arith, append_assoc}
+use Rattle.std.proofs.Common.{◌≡◌, inl, inr, ℕ, ◌≤◌, List, [], ◌∷◌, ◌++◌, take, Option, Some, None, Err, sym, ap, subst, ◌∙◌, arith, append_assoc}
 use Rattle.std.specs.Prelude.{IfSome, All, map, codes}
 use Rattle.std.proofs.lemmas.List.{length-append, length-take}
 use Rattle.std.proofs.lemmas.List.Elements.{All-nil, All-cons, All-head, All-tail, All-append}
@@ -9,20 +9,21 @@ use Rattle.vw_io.specs.declared.shelves.WriteRefused.{WriteRefused}
 use Rattle.vw_io.specs.declared.shelves.WriteRefused.TheVariants as writes
 use Rattle.script_files.specs.declared.refusals.CommandRefused.{CommandRefused}
 use Rattle.script_files.specs.declared.refusals.CommandRefused.TheVariants.{Input, Text, Output}
-use Rattle.script_files.specs.declared.requests.Request.TheVariants.{Count, Run, Demo}
+use Rattle.script_files.specs.declared.requests.Request.TheVariants.{Count, Run, Demo, Flood, Scene}
 use Rattle.script_files.specs.declared.requests.Request.{Request}
-use Rattle.script_files.specs.Orders.{Asked}
+use Rattle.script_files.specs.Orders.{Asked, FloodAsked, SceneAsked}
 use Rattle.vox_read.specs.Contents.{Content}
 use Rattle.history_model.specs.Journal.{journal_of}
 use Rattle.history_model.specs.Logs.{Log}
 use Rattle.transcript.specs.Lines.{transcript_of}
 use Rattle.script.specs.declared.commands.SaveName.{SaveName}
 use Rattle.script.specs.Commands.{name_bytes}
-use Rattle.conformance.specs.declared.saves.SavedBox.{SavedBox}
+use Rattle.session_runs.specs.Kept.{KeptSave}
 use Rattle.script_files.specs.Refusals.{output_name, IsNamed}
-use Rattle.script_files.specs.Reports.{BeginsTexts}
+use Rattle.script_files.specs.Reports.{BeginsFirst, BeginsTexts}
 use Rattle.script_files.specs.Requests.{Given, transcript_name, named_texts, wanted_output, saved_output, written_first, written_last, texts_written}
 use Rattle.script_files.specs.Demos.{demo_asked}
+use Rattle.script_files.specs.Meanings.{BeginsOutputs}
 use Rattle.script_files.specs.Outcomes.{Outcome, BreaksOff}
 use Rattle.voxdag_top.specs.declared.endings.Ending.{Ending}
 use Rattle.voxdag_top.specs.declared.endings.Ending.TheVariants.{Completed, Usage, Refused}
@@ -59,62 +60,128 @@ save_fits name room long =
     let end = length-append (name_bytes name) (codes "\n") in
     omega (arith, long, few, within, line, end)
 
-saves_fit : (models : List Content) (log : Log) (saved : List SavedBox) (room : ℕ) → 85 ≤ room
-    → All (NameFits room) (map (saved_output models log) saved)
-saves_fit models log [] room long = All-nil (NameFits room)
-saves_fit models log (s ∷ saved) room long =
-    All-cons (NameFits room) (saved_output models log s) (map (saved_output models log) saved)
-    (save_fits s.name room long) (saves_fit models log saved room long)
+saves_fit : (models : List Content) (kept : List KeptSave) (room : ℕ) → 85 ≤ room
+    → All (NameFits room) (map (saved_output models) kept)
+saves_fit models [] room long = All-nil (NameFits room)
+saves_fit models (k ∷ kept) room long =
+    All-cons (NameFits room) (saved_output models k) (map (saved_output models) kept)
+    (save_fits k.save.name room long) (saves_fit models kept room long)
 
 -- whatever a run writes
-outputs_fit : (asked : Asked) (given : Given) (report : List ℕ) (room : ℕ) → NamesFit asked room
-    → All (NameFits room) (texts_written asked given report)
-outputs_fit asked given report room fit =
+first_fit : (asked : Asked) (given : Given) (room : ℕ) → NamesFit asked room
+    → All (NameFits room) (written_first asked given)
+first_fit asked given room fit =
     let names = map transcript_name asked.scripts in
     let texts = map transcript_of given.transcripts in
-    let journal = journal_of given.log in
-    All-append (NameFits room) (written_first asked given) (written_last asked given.log report)
-    (All-append (NameFits room) (named_texts names texts)
-    (map (saved_output given.models given.log) given.saved)
+    All-append (NameFits room) (named_texts names texts)
+    (map (saved_output given.models) given.kept)
     (named_fit names texts room fit.transcripts)
-    (saves_fit given.models given.log given.saved room fit.saved))
+    (saves_fit given.models given.kept room fit.saved)
+
+outputs_fit : (asked : Asked) (given : Given) (log : Log) (report : List ℕ) (room : ℕ)
+    → NamesFit asked room → All (NameFits room) (texts_written asked given log report)
+outputs_fit asked given log report room fit =
+    let journal = journal_of log in
+    All-append (NameFits room) (written_first asked given) (written_last asked log report)
+    (first_fit asked given room fit)
     (All-append (NameFits room) (wanted_output asked.journal journal)
     (wanted_output asked.report report) (wanted_fits asked.journal journal room fit.journal)
     (wanted_fits asked.report report room fit.report))
 
--- an output among the first ones
-began_fits : (asked : Asked) (given : Given) (outputs first others : List Named) (output : Named)
-    (room : ℕ) → NamesFit asked room → BeginsTexts asked given outputs
+-- an output among the first ones of some outputs
+among_fits : (all outputs rest first others : List Named) (output : Named) (room : ℕ)
+    → All (NameFits room) all → outputs ++ rest ≡ all → outputs ≡ first ++ output ∷ others
+    → FitsIn room output.name
+among_fits all outputs rest first others output room fit parts is =
+    one_fits all first (others ++ rest) output room fit
+    (sym parts ∙ ap (λ (os : List Named). os ++ rest) is
+    ∙ append_assoc first (output ∷ others) rest)
+
+began_fits : (asked : Asked) (given : Given) (log : Log) (outputs first others : List Named)
+    (output : Named) (room : ℕ) → NamesFit asked room → BeginsTexts asked given log outputs
     → outputs ≡ first ++ output ∷ others → FitsIn room output.name
-began_fits asked given outputs first others output room fit begins parts =
-    one_fits (texts_written asked given begins.report) first (others ++ begins.rest) output room
-    (outputs_fit asked given begins.report room fit)
-    (sym begins.parts ∙ ap (λ (os : List Named). os ++ begins.rest) parts
-    ∙ append_assoc first (output ∷ others) begins.rest)
+began_fits asked given log outputs first others output room fit begins parts =
+    among_fits (texts_written asked given log begins.report) outputs begins.rest first others output
+    room (outputs_fit asked given log begins.report room fit) begins.parts parts
+
+first_began_fits : (asked : Asked) (given : Given) (outputs first others : List Named)
+    (output : Named) (room : ℕ) → NamesFit asked room → BeginsFirst asked given outputs
+    → outputs ≡ first ++ output ∷ others → FitsIn room output.name
+first_began_fits asked given outputs first others output room fit begins parts =
+    among_fits (written_first asked given) outputs begins.rest first others output room
+    (first_fit asked given room fit) begins.parts parts
 
 -- `count` writes nothing
 count_write : (why : WriteRefused) (name : List ℕ) (file : List ℕ) (old new : ShelfState)
     → BreaksOff why name (Count file) old new → ⊥
 count_write why name file old new breaks = breaks.begins.begins
 
+run_output : (asked : Asked) (texts : List (List ℕ)) (outputs first others : List Named)
+    (output : Named) (room : ℕ) → BeginsOutputs (Run asked) texts outputs → NamesFit asked room
+    → outputs ≡ first ++ output ∷ others → FitsIn room output.name
+run_output asked texts outputs first others output room (inl b) fit parts =
+    first_began_fits asked _ outputs first others output room fit b.begins parts
+run_output asked texts outputs first others output room (inr b) fit parts =
+    began_fits asked _ _ outputs first others output room fit b.begins parts
+
 run_write : (why : WriteRefused) (name : List ℕ) (asked : Asked) (old new : ShelfState) (room : ℕ)
     → BreaksOff why name (Run asked) old new → NamesFit asked room → WriteHasRoom why name room
 run_write writes.Failed name asked old new room breaks fit =
     let at = breaks.stops.0 in
-    let began = breaks.begins.begins in
     subst (λ (n : List ℕ). FitsIn room n) (sym at.named)
-    (began_fits asked _ breaks.outputs at.first at.others at.output room fit began.begins at.parts)
+    (run_output asked breaks.begins.texts breaks.outputs at.first at.others at.output room
+    breaks.begins.begins fit at.parts)
 run_write writes.Memory name asked old new room breaks fit = tt
+
+-- ---- `demo`
+
+demo_output : (n : ℕ) (texts : List (List ℕ)) (outputs first others : List Named)
+    (output : Named) (room : ℕ) → BeginsOutputs (Demo n) texts outputs → NamesFit demo_asked room
+    → outputs ≡ first ++ output ∷ others → FitsIn room output.name
+demo_output n texts outputs first others output room (inl b) fit parts =
+    first_began_fits demo_asked _ outputs first others output room fit b.begins parts
+demo_output n texts outputs first others output room (inr b) fit parts =
+    began_fits demo_asked _ _ outputs first others output room fit b.begins parts
 
 demo_write : (why : WriteRefused) (name : List ℕ) (n : ℕ) (old new : ShelfState) (room : ℕ)
     → BreaksOff why name (Demo n) old new → NamesFit demo_asked room → WriteHasRoom why name room
 demo_write writes.Failed name n old new room breaks fit =
     let at = breaks.stops.0 in
-    let began = breaks.begins.begins in
     subst (λ (m : List ℕ). FitsIn room m) (sym at.named)
-    (began_fits demo_asked _ breaks.outputs at.first at.others at.output room fit began.begins
-    at.parts)
+    (demo_output n breaks.begins.texts breaks.outputs at.first at.others at.output room
+    breaks.begins.begins fit at.parts)
 demo_write writes.Memory name n old new room breaks fit = tt
+
+-- ---- `flood`
+
+flood_write : (why : WriteRefused) (name : List ℕ) (asked : FloodAsked) (old new : ShelfState)
+    (room : ℕ) → BreaksOff why name (Flood asked) old new → FitsIn room asked.out
+    → WriteHasRoom why name room
+flood_write writes.Failed name asked old new room breaks fit =
+    let at = breaks.stops.0 in
+    let is = breaks.begins.begins.flooded.are in
+    subst (λ (n : List ℕ). FitsIn room n) (sym at.named)
+    (one_fits breaks.outputs at.first at.others at.output room
+    (subst (All (NameFits room)) (sym is)
+    (All-cons (NameFits room) _ [] fit (All-nil (NameFits room)))) at.parts)
+flood_write writes.Memory name asked old new room breaks fit = tt
+
+-- ---- `scene`
+
+scene_write : (why : WriteRefused) (name : List ℕ) (asked : SceneAsked) (old new : ShelfState)
+    (room : ℕ) → BreaksOff why name (Scene asked) old new → FitsIn room asked.out
+    → FitsIn room asked.script → WriteHasRoom why name room
+scene_write writes.Failed name asked old new room breaks fit fits =
+    let at = breaks.stops.0 in
+    let is = breaks.begins.begins.placed.are in
+    let script : Named =
+    record { name = asked.script; bytes = breaks.begins.begins.placed.script } in
+    subst (λ (n : List ℕ). FitsIn room n) (sym at.named)
+    (one_fits breaks.outputs at.first at.others at.output room
+    (subst (All (NameFits room)) (sym is)
+    (All-cons (NameFits room) _ (script ∷ []) fit
+    (All-cons (NameFits room) script [] fits (All-nil (NameFits room))))) at.parts)
+scene_write writes.Memory name asked old new room breaks fit fits = tt
 
 -- ---- whichever command it is
 
@@ -126,6 +193,10 @@ command_write why name (Run asked) old new room breaks fit =
     run_write why name asked old new room breaks fit
 command_write why name (Demo n) old new room breaks fit =
     demo_write why name n old new room breaks fit
+command_write why name (Flood asked) old new room breaks fit =
+    flood_write why name asked old new room breaks fit
+command_write why name (Scene asked) old new room breaks fit =
+    scene_write why name asked old new room breaks fit.0 fit.1
 
 command_refusal : (r : CommandRefused) (a : Request) (old new : ShelfState) (room : ℕ) → IsNamed r
     → Outcome (Err r) a old new → OutputsFit a room → RefusalHasRoom r room

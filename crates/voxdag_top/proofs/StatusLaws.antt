@@ -1,5 +1,5 @@
 -- What each status says, from what stands behind the ending and the put of its line.
-use Rattle.std.proofs.Common.{◌≡◌, ℕ, false, inl, inr, List, [], ◌∷◌, Option, Some, None, refl, sym, subst, ◌∙◌, ◌⊎◌, arith}
+use Rattle.std.proofs.Common.{◌≡◌, ℕ, zero, suc, ap, false, inl, inr, List, [], ◌∷◌, Option, Some, None, refl, sym, subst, ◌∙◌, ◌⊎◌, arith}
 use Rattle.std.specs.Prelude.{IsTrue, ◌==◌}
 use Rattle.std.specs.List.{list_any}
 use Rattle.std.proofs.lemmas.Bool.{false≢true}
@@ -10,17 +10,18 @@ use Rattle.vw_io.specs.declared.shelves.ReadRefused.TheVariants as reads
 use Rattle.vw_io.specs.declared.shelves.WriteRefused.{WriteRefused}
 use Rattle.vw_io.specs.declared.shelves.WriteRefused.TheVariants as writes
 use Rattle.script_files.specs.declared.refusals.CommandRefused.TheVariants.{Input, Text, Output}
-use Rattle.script_files.specs.declared.refusals.TextRefused.TheVariants.{Vox, Script, Collides, Memory}
+use Rattle.script_files.specs.declared.refusals.TextRefused.TheVariants.{Vox, Script, Collides, NoScene, NoPlace, StoreFull, Memory}
 use Rattle.script_files.specs.declared.requests.Request.{Request}
 use Rattle.script_files.specs.Requests.{inputs_of}
-use Rattle.script_files.specs.Outcomes.{BreaksOff}
+use Rattle.node_table.specs.declared.closed.Closed.{Closed}
+use Rattle.script_files.specs.Outcomes.{BreaksOff, Completes}
 use Rattle.script_files.specs.Refusals.{output_name}
 use Rattle.voxdag_top.specs.declared.endings.Ending.{Ending}
 use Rattle.voxdag_top.specs.declared.endings.Ending.TheVariants.{Completed, Usage, Refused}
 use Rattle.voxdag_top.specs.Lines.{Puts, PutsBeginning, memory_line, input_line, output_line}
-use Rattle.voxdag_top.specs.Endings.{EndsAs, EndsUnread, ending_line, status_of, input_status, output_status, MayLackLine, WriteMayLackLine}
+use Rattle.voxdag_top.specs.Endings.{EndsAs, EndsUnread, ended_with, ending_line, status_of, input_status, output_status, MayLackLine, WriteMayLackLine}
 use Rattle.voxdag_top.specs.Finishing.{Finishes, Runs, put, failed, lacking}
-use Rattle.voxdag_top.specs.Statuses.{IsOr, is_status, Finished, Unusable, Missed, Faulted, VoxRefused, ScriptRefused, WriteFailed, OutFailed, LacksMemory, Exceeded}
+use Rattle.voxdag_top.specs.Statuses.{IsOr, is_status, Finished, Unusable, Missed, Faulted, VoxRefused, ScriptRefused, WriteFailed, OutFailed, LacksMemory, Exceeded, NoPlaceThere, SceneRefused, StoreFilled}
 
 abbrev pub IsEither : ℕ → Type 0
 IsEither n = (n ≡ 1) ⊎ (n ≡ 8)
@@ -50,6 +51,9 @@ unread_status (Refused (Text Memory)) ends = inr refl
 unread_status (Refused (Text (Vox fault))) ends = absurd ends
 unread_status (Refused (Text (Script at))) ends = absurd ends
 unread_status (Refused (Text Collides)) ends = absurd ends
+unread_status (Refused (Text (NoScene fault))) ends = absurd ends
+unread_status (Refused (Text NoPlace)) ends = absurd ends
+unread_status (Refused (Text (StoreFull full))) ends = absurd ends
 unread_status (Refused (Input r)) ends = absurd ends
 unread_status (Refused (Output r)) ends = absurd ends
 unread_status (Completed done) ends = absurd ends
@@ -99,16 +103,19 @@ not_output writes.Memory k is other = false≢true (sym (subst (λ (n : ℕ). li
 -- ---- each status
 
 -- status 0
-done_at : (a : Option Request) (e : Ending) (old new : Outside) → EndsAs a e old.shelf new.shelf → status_of e ≡ 0 → Puts old.out.told new.out.told (ending_line e) → Finished a old new
-done_at None e old new ends is puts = absurd (no_unread e 0 ends.0 is (λ s. omega arith) (λ s. omega arith))
-done_at (Some a) (Completed done) old new ends is puts = record { done = done; completes = ends; line = puts }
-done_at (Some a) Usage old new ends is puts = absurd ends
-done_at (Some a) (Refused (Input r)) old new ends is puts = absurd (not_input r.why 0 is refl)
-done_at (Some a) (Refused (Text (Vox fault))) old new ends is puts = absurd (omega arith)
-done_at (Some a) (Refused (Text (Script at))) old new ends is puts = absurd (omega arith)
-done_at (Some a) (Refused (Text Collides)) old new ends is puts = absurd (omega arith)
-done_at (Some a) (Refused (Output r)) old new ends is puts = absurd (not_output r.why 0 is refl)
-done_at (Some a) (Refused (Text Memory)) old new ends is puts = absurd (omega arith)
+done_at : (a : Option Request) (e : Ending) (old new : Outside) (left : Option Closed) → left ≡ ended_with e 0 → EndsAs a e old.shelf new.shelf → status_of e ≡ 0 → Puts old.out.told new.out.told (ending_line e) → Finished a left old new
+done_at None e old new left gives ends is puts = absurd (no_unread e 0 ends.0 is (λ s. omega arith) (λ s. omega arith))
+done_at (Some a) (Completed c) old new left gives ends is puts = record { done = c.done; completes = subst (λ (left : Option Closed). Completes c.done left a old.shelf new.shelf) (sym gives) ends; line = puts }
+done_at (Some a) Usage old new left gives ends is puts = absurd ends
+done_at (Some a) (Refused (Input r)) old new left gives ends is puts = absurd (not_input r.why 0 is refl)
+done_at (Some a) (Refused (Text (Vox fault))) old new left gives ends is puts = absurd (omega arith)
+done_at (Some a) (Refused (Text (Script at))) old new left gives ends is puts = absurd (omega arith)
+done_at (Some a) (Refused (Text Collides)) old new left gives ends is puts = absurd (omega arith)
+done_at (Some a) (Refused (Text (NoScene fault))) old new left gives ends is puts = absurd (omega arith)
+done_at (Some a) (Refused (Text NoPlace)) old new left gives ends is puts = absurd (omega arith)
+done_at (Some a) (Refused (Text (StoreFull full))) old new left gives ends is puts = absurd (omega arith)
+done_at (Some a) (Refused (Output r)) old new left gives ends is puts = absurd (not_output r.why 0 is refl)
+done_at (Some a) (Refused (Text Memory)) old new left gives ends is puts = absurd (omega arith)
 
 -- status 1
 usage_at : (a : Option Request) (e : Ending) (old new : Outside) → EndsAs a e old.shelf new.shelf → status_of e ≡ 1 → Puts old.out.told new.out.told (ending_line e) → Unusable a old new
@@ -117,6 +124,9 @@ usage_at None (Refused (Text Memory)) old new ends is puts = absurd (omega arith
 usage_at None (Refused (Text (Vox fault))) old new ends is puts = absurd ends.0
 usage_at None (Refused (Text (Script at))) old new ends is puts = absurd ends.0
 usage_at None (Refused (Text Collides)) old new ends is puts = absurd ends.0
+usage_at None (Refused (Text (NoScene fault))) old new ends is puts = absurd ends.0
+usage_at None (Refused (Text NoPlace)) old new ends is puts = absurd ends.0
+usage_at None (Refused (Text (StoreFull full))) old new ends is puts = absurd ends.0
 usage_at None (Refused (Input r)) old new ends is puts = absurd ends.0
 usage_at None (Refused (Output r)) old new ends is puts = absurd ends.0
 usage_at None (Completed done) old new ends is puts = absurd ends.0
@@ -126,6 +136,9 @@ usage_at (Some a) (Refused (Input r)) old new ends is puts = absurd (not_input r
 usage_at (Some a) (Refused (Text (Vox fault))) old new ends is puts = absurd (omega arith)
 usage_at (Some a) (Refused (Text (Script at))) old new ends is puts = absurd (omega arith)
 usage_at (Some a) (Refused (Text Collides)) old new ends is puts = record { cause = ends.0; unchanged = ends.1; line = puts }
+usage_at (Some a) (Refused (Text (NoScene fault))) old new ends is puts = absurd (omega arith)
+usage_at (Some a) (Refused (Text NoPlace)) old new ends is puts = absurd (omega arith)
+usage_at (Some a) (Refused (Text (StoreFull full))) old new ends is puts = absurd (omega arith)
 usage_at (Some a) (Refused (Output r)) old new ends is puts = absurd (not_output r.why 1 is refl)
 usage_at (Some a) (Refused (Text Memory)) old new ends is puts = absurd (omega arith)
 
@@ -145,6 +158,9 @@ missing_at (Some a) (Refused (Input r)) old new ends is puts =
 missing_at (Some a) (Refused (Text (Vox fault))) old new ends is puts = absurd (omega arith)
 missing_at (Some a) (Refused (Text (Script at))) old new ends is puts = absurd (omega arith)
 missing_at (Some a) (Refused (Text Collides)) old new ends is puts = absurd (omega arith)
+missing_at (Some a) (Refused (Text (NoScene fault))) old new ends is puts = absurd (omega arith)
+missing_at (Some a) (Refused (Text NoPlace)) old new ends is puts = absurd (omega arith)
+missing_at (Some a) (Refused (Text (StoreFull full))) old new ends is puts = absurd (omega arith)
 missing_at (Some a) (Refused (Output r)) old new ends is puts = absurd (not_output r.why 2 is refl)
 missing_at (Some a) (Refused (Text Memory)) old new ends is puts = absurd (omega arith)
 
@@ -164,6 +180,9 @@ read_fault_at (Some a) (Refused (Input r)) old new ends is puts =
 read_fault_at (Some a) (Refused (Text (Vox fault))) old new ends is puts = absurd (omega arith)
 read_fault_at (Some a) (Refused (Text (Script at))) old new ends is puts = absurd (omega arith)
 read_fault_at (Some a) (Refused (Text Collides)) old new ends is puts = absurd (omega arith)
+read_fault_at (Some a) (Refused (Text (NoScene fault))) old new ends is puts = absurd (omega arith)
+read_fault_at (Some a) (Refused (Text NoPlace)) old new ends is puts = absurd (omega arith)
+read_fault_at (Some a) (Refused (Text (StoreFull full))) old new ends is puts = absurd (omega arith)
 read_fault_at (Some a) (Refused (Output r)) old new ends is puts = absurd (not_output r.why 3 is refl)
 read_fault_at (Some a) (Refused (Text Memory)) old new ends is puts = absurd (omega arith)
 
@@ -183,8 +202,56 @@ too_long_at (Some a) (Refused (Input r)) old new ends is puts =
 too_long_at (Some a) (Refused (Text (Vox fault))) old new ends is puts = absurd (omega arith)
 too_long_at (Some a) (Refused (Text (Script at))) old new ends is puts = absurd (omega arith)
 too_long_at (Some a) (Refused (Text Collides)) old new ends is puts = absurd (omega arith)
+too_long_at (Some a) (Refused (Text (NoScene fault))) old new ends is puts = absurd (omega arith)
+too_long_at (Some a) (Refused (Text NoPlace)) old new ends is puts = absurd (omega arith)
+too_long_at (Some a) (Refused (Text (StoreFull full))) old new ends is puts = absurd (omega arith)
 too_long_at (Some a) (Refused (Output r)) old new ends is puts = absurd (not_output r.why 9 is refl)
 too_long_at (Some a) (Refused (Text Memory)) old new ends is puts = absurd (omega arith)
+
+-- status 10
+no_place_at : (a : Option Request) (e : Ending) (old new : Outside) → EndsAs a e old.shelf new.shelf → status_of e ≡ 10 → Puts old.out.told new.out.told (ending_line e) → NoPlaceThere a old new
+no_place_at None e old new ends is puts = absurd (no_unread e 10 ends.0 is (λ s. omega arith) (λ s. omega arith))
+no_place_at (Some a) (Completed done) old new ends is puts = absurd (omega arith)
+no_place_at (Some a) Usage old new ends is puts = absurd ends
+no_place_at (Some a) (Refused (Input r)) old new ends is puts = absurd (not_input r.why 10 is refl)
+no_place_at (Some a) (Refused (Text (Vox fault))) old new ends is puts = absurd (omega arith)
+no_place_at (Some a) (Refused (Text (Script at))) old new ends is puts = absurd (omega arith)
+no_place_at (Some a) (Refused (Text Collides)) old new ends is puts = absurd (omega arith)
+no_place_at (Some a) (Refused (Text (NoScene fault))) old new ends is puts = absurd (omega arith)
+no_place_at (Some a) (Refused (Text NoPlace)) old new ends is puts = record { refuses = ends.0; unchanged = ends.1; line = puts }
+no_place_at (Some a) (Refused (Text (StoreFull full))) old new ends is puts = absurd (omega arith)
+no_place_at (Some a) (Refused (Output r)) old new ends is puts = absurd (not_output r.why 10 is refl)
+no_place_at (Some a) (Refused (Text Memory)) old new ends is puts = absurd (omega arith)
+
+-- status 11
+scene_refused_at : (a : Option Request) (e : Ending) (old new : Outside) → EndsAs a e old.shelf new.shelf → status_of e ≡ 11 → Puts old.out.told new.out.told (ending_line e) → SceneRefused a old new
+scene_refused_at None e old new ends is puts = absurd (no_unread e 11 ends.0 is (λ s. omega arith) (λ s. omega arith))
+scene_refused_at (Some a) (Completed done) old new ends is puts = absurd (omega arith)
+scene_refused_at (Some a) Usage old new ends is puts = absurd ends
+scene_refused_at (Some a) (Refused (Input r)) old new ends is puts = absurd (not_input r.why 11 is refl)
+scene_refused_at (Some a) (Refused (Text (Vox fault))) old new ends is puts = absurd (omega arith)
+scene_refused_at (Some a) (Refused (Text (Script at))) old new ends is puts = absurd (omega arith)
+scene_refused_at (Some a) (Refused (Text Collides)) old new ends is puts = absurd (omega arith)
+scene_refused_at (Some a) (Refused (Text (NoScene fault))) old new ends is puts = record { fault = fault; refuses = ends.0; unchanged = ends.1; line = puts }
+scene_refused_at (Some a) (Refused (Text NoPlace)) old new ends is puts = absurd (omega arith)
+scene_refused_at (Some a) (Refused (Text (StoreFull full))) old new ends is puts = absurd (omega arith)
+scene_refused_at (Some a) (Refused (Output r)) old new ends is puts = absurd (not_output r.why 11 is refl)
+scene_refused_at (Some a) (Refused (Text Memory)) old new ends is puts = absurd (omega arith)
+
+-- status 13
+full_at : (a : Option Request) (e : Ending) (old new : Outside) → EndsAs a e old.shelf new.shelf → status_of e ≡ 13 → Puts old.out.told new.out.told (ending_line e) → StoreFilled a old new
+full_at None e old new ends is puts = absurd (no_unread e 13 ends.0 is (λ s. omega arith) (λ s. omega arith))
+full_at (Some a) (Completed done) old new ends is puts = absurd (omega arith)
+full_at (Some a) Usage old new ends is puts = absurd ends
+full_at (Some a) (Refused (Input r)) old new ends is puts = absurd (not_input r.why 13 is refl)
+full_at (Some a) (Refused (Text (Vox fault))) old new ends is puts = absurd (omega arith)
+full_at (Some a) (Refused (Text (Script at))) old new ends is puts = absurd (omega arith)
+full_at (Some a) (Refused (Text Collides)) old new ends is puts = absurd (omega arith)
+full_at (Some a) (Refused (Text (NoScene fault))) old new ends is puts = absurd (omega arith)
+full_at (Some a) (Refused (Text NoPlace)) old new ends is puts = absurd (omega arith)
+full_at (Some a) (Refused (Text (StoreFull full))) old new ends is puts = record { full = full; refuses = ends.0; unchanged = ends.1; line = puts }
+full_at (Some a) (Refused (Output r)) old new ends is puts = absurd (not_output r.why 13 is refl)
+full_at (Some a) (Refused (Text Memory)) old new ends is puts = absurd (omega arith)
 
 -- status 4
 vox_refused_at : (a : Option Request) (e : Ending) (old new : Outside) → EndsAs a e old.shelf new.shelf → status_of e ≡ 4 → Puts old.out.told new.out.told (ending_line e) → VoxRefused a old new
@@ -195,6 +262,9 @@ vox_refused_at (Some a) (Refused (Input r)) old new ends is puts = absurd (not_i
 vox_refused_at (Some a) (Refused (Text (Vox fault))) old new ends is puts = record { fault = fault; refuses = ends.0; unchanged = ends.1; line = puts }
 vox_refused_at (Some a) (Refused (Text (Script at))) old new ends is puts = absurd (omega arith)
 vox_refused_at (Some a) (Refused (Text Collides)) old new ends is puts = absurd (omega arith)
+vox_refused_at (Some a) (Refused (Text (NoScene fault))) old new ends is puts = absurd (omega arith)
+vox_refused_at (Some a) (Refused (Text NoPlace)) old new ends is puts = absurd (omega arith)
+vox_refused_at (Some a) (Refused (Text (StoreFull full))) old new ends is puts = absurd (omega arith)
 vox_refused_at (Some a) (Refused (Output r)) old new ends is puts = absurd (not_output r.why 4 is refl)
 vox_refused_at (Some a) (Refused (Text Memory)) old new ends is puts = absurd (omega arith)
 
@@ -207,6 +277,9 @@ script_refused_at (Some a) (Refused (Input r)) old new ends is puts = absurd (no
 script_refused_at (Some a) (Refused (Text (Vox fault))) old new ends is puts = absurd (omega arith)
 script_refused_at (Some a) (Refused (Text (Script at))) old new ends is puts = record { at = at; refuses = ends.0; unchanged = ends.1; line = puts }
 script_refused_at (Some a) (Refused (Text Collides)) old new ends is puts = absurd (omega arith)
+script_refused_at (Some a) (Refused (Text (NoScene fault))) old new ends is puts = absurd (omega arith)
+script_refused_at (Some a) (Refused (Text NoPlace)) old new ends is puts = absurd (omega arith)
+script_refused_at (Some a) (Refused (Text (StoreFull full))) old new ends is puts = absurd (omega arith)
 script_refused_at (Some a) (Refused (Output r)) old new ends is puts = absurd (not_output r.why 5 is refl)
 script_refused_at (Some a) (Refused (Text Memory)) old new ends is puts = absurd (omega arith)
 
@@ -219,6 +292,9 @@ write_fault_at (Some a) (Refused (Input r)) old new ends is puts = absurd (not_i
 write_fault_at (Some a) (Refused (Text (Vox fault))) old new ends is puts = absurd (omega arith)
 write_fault_at (Some a) (Refused (Text (Script at))) old new ends is puts = absurd (omega arith)
 write_fault_at (Some a) (Refused (Text Collides)) old new ends is puts = absurd (omega arith)
+write_fault_at (Some a) (Refused (Text (NoScene fault))) old new ends is puts = absurd (omega arith)
+write_fault_at (Some a) (Refused (Text NoPlace)) old new ends is puts = absurd (omega arith)
+write_fault_at (Some a) (Refused (Text (StoreFull full))) old new ends is puts = absurd (omega arith)
 write_fault_at (Some a) (Refused (Output r)) old new ends is puts =
     let which : r.why ≡ writes.Failed = is_write_fault r.why is in
     record {
@@ -237,6 +313,9 @@ not_seven (Refused (Output r)) is = not_output r.why 7 is refl
 not_seven (Refused (Text (Vox fault))) is = omega arith
 not_seven (Refused (Text (Script at))) is = omega arith
 not_seven (Refused (Text Collides)) is = omega arith
+not_seven (Refused (Text (NoScene fault))) is = omega arith
+not_seven (Refused (Text NoPlace)) is = omega arith
+not_seven (Refused (Text (StoreFull full))) is = omega arith
 not_seven (Refused (Text Memory)) is = omega arith
 
 input_lacks : (why : ReadRefused) (name : List ℕ) → input_status why ≡ 8 → input_line why name ≡ memory_line
@@ -258,6 +337,9 @@ memory_line_of Usage is = absurd (omega arith)
 memory_line_of (Refused (Text (Vox fault))) is = absurd (omega arith)
 memory_line_of (Refused (Text (Script at))) is = absurd (omega arith)
 memory_line_of (Refused (Text Collides)) is = absurd (omega arith)
+memory_line_of (Refused (Text (NoScene fault))) is = absurd (omega arith)
+memory_line_of (Refused (Text NoPlace)) is = absurd (omega arith)
+memory_line_of (Refused (Text (StoreFull full))) is = absurd (omega arith)
 
 out_fault_by : (e : Ending) {result : ℕ} {old new : SinkState} → Finishes e old new result → result ≡ 7 → Rose old.faults new.faults × (PutsBeginning old.told new.told (ending_line e) ⊎ (MayLackLine e × PutsBeginning old.told new.told memory_line))
 out_fault_by e (inl (put is line)) same = absurd (not_seven e (sym is ∙ same))
@@ -295,6 +377,9 @@ known_ending (Refused (Output r)) = known_output r.why
 known_ending (Refused (Text (Vox fault))) = refl
 known_ending (Refused (Text (Script at))) = refl
 known_ending (Refused (Text Collides)) = refl
+known_ending (Refused (Text (NoScene fault))) = refl
+known_ending (Refused (Text NoPlace)) = refl
+known_ending (Refused (Text (StoreFull full))) = refl
 known_ending (Refused (Text Memory)) = refl
 
 known_by : (e : Ending) {result : ℕ} {old new : SinkState} → IsTrue (is_status (status_of e)) → Finishes e old new result → IsTrue (is_status result)
@@ -307,35 +392,54 @@ known_by e known (inr (may, lacking is none)) = rw is refl
 
 -- ---- the clauses, of a whole run
 
-pub known_says : (a : Option Request) (old new : Outside) (result : ℕ) → Runs a old new result → IsTrue (is_status result)
-known_says a old new result run = known_by run.ending (known_ending run.ending) run.finish
+pub known_says : (a : Option Request) (old new : Outside) (result : ℕ) (left : Option Closed) → Runs a old new result left → IsTrue (is_status result)
+known_says a old new result left run = known_by run.ending (known_ending run.ending) run.finish
 
-pub done_says : (a : Option Request) (old new : Outside) (result : ℕ) → Runs a old new result → result ≡ 0 → Finished a old new
-done_says a old new result run is = let p = ended run.ending (λ s. omega arith) (λ s. omega arith) run.finish is in done_at a run.ending old new run.ends p.0 p.1
+pub done_says : (a : Option Request) (old new : Outside) (result : ℕ) (left : Option Closed) → Runs a old new result left → result ≡ 0 → Finished a left old new
+done_says a old new result left run is = let p = ended run.ending (λ s. omega arith) (λ s. omega arith) run.finish is in done_at a run.ending old new left (run.gives ∙ ap (λ (n : ℕ). ended_with run.ending n) is) run.ends p.0 p.1
 
-pub usage_says : (a : Option Request) (old new : Outside) (result : ℕ) → Runs a old new result → result ≡ 1 → Unusable a old new
-usage_says a old new result run is = let p = ended run.ending (λ s. omega arith) (λ s. omega arith) run.finish is in usage_at a run.ending old new run.ends p.0 p.1
+pub usage_says : (a : Option Request) (old new : Outside) (result : ℕ) (left : Option Closed) → Runs a old new result left → result ≡ 1 → Unusable a old new
+usage_says a old new result left run is = let p = ended run.ending (λ s. omega arith) (λ s. omega arith) run.finish is in usage_at a run.ending old new run.ends p.0 p.1
 
-pub missing_says : (a : Option Request) (old new : Outside) (result : ℕ) → Runs a old new result → result ≡ 2 → Missed a old new
-missing_says a old new result run is = let p = ended run.ending (λ s. omega arith) (λ s. omega arith) run.finish is in missing_at a run.ending old new run.ends p.0 p.1
+pub missing_says : (a : Option Request) (old new : Outside) (result : ℕ) (left : Option Closed) → Runs a old new result left → result ≡ 2 → Missed a old new
+missing_says a old new result left run is = let p = ended run.ending (λ s. omega arith) (λ s. omega arith) run.finish is in missing_at a run.ending old new run.ends p.0 p.1
 
-pub read_fault_says : (a : Option Request) (old new : Outside) (result : ℕ) → Runs a old new result → result ≡ 3 → Faulted a old new
-read_fault_says a old new result run is = let p = ended run.ending (λ s. omega arith) (λ s. omega arith) run.finish is in read_fault_at a run.ending old new run.ends p.0 p.1
+pub read_fault_says : (a : Option Request) (old new : Outside) (result : ℕ) (left : Option Closed) → Runs a old new result left → result ≡ 3 → Faulted a old new
+read_fault_says a old new result left run is = let p = ended run.ending (λ s. omega arith) (λ s. omega arith) run.finish is in read_fault_at a run.ending old new run.ends p.0 p.1
 
-pub vox_refused_says : (a : Option Request) (old new : Outside) (result : ℕ) → Runs a old new result → result ≡ 4 → VoxRefused a old new
-vox_refused_says a old new result run is = let p = ended run.ending (λ s. omega arith) (λ s. omega arith) run.finish is in vox_refused_at a run.ending old new run.ends p.0 p.1
+pub vox_refused_says : (a : Option Request) (old new : Outside) (result : ℕ) (left : Option Closed) → Runs a old new result left → result ≡ 4 → VoxRefused a old new
+vox_refused_says a old new result left run is = let p = ended run.ending (λ s. omega arith) (λ s. omega arith) run.finish is in vox_refused_at a run.ending old new run.ends p.0 p.1
 
-pub script_refused_says : (a : Option Request) (old new : Outside) (result : ℕ) → Runs a old new result → result ≡ 5 → ScriptRefused a old new
-script_refused_says a old new result run is = let p = ended run.ending (λ s. omega arith) (λ s. omega arith) run.finish is in script_refused_at a run.ending old new run.ends p.0 p.1
+pub script_refused_says : (a : Option Request) (old new : Outside) (result : ℕ) (left : Option Closed) → Runs a old new result left → result ≡ 5 → ScriptRefused a old new
+script_refused_says a old new result left run is = let p = ended run.ending (λ s. omega arith) (λ s. omega arith) run.finish is in script_refused_at a run.ending old new run.ends p.0 p.1
 
-pub write_fault_says : (a : Option Request) (old new : Outside) (result : ℕ) → Runs a old new result → result ≡ 6 → WriteFailed a old new
-write_fault_says a old new result run is = let p = ended run.ending (λ s. omega arith) (λ s. omega arith) run.finish is in write_fault_at a run.ending old new run.ends p.0 p.1
+pub write_fault_says : (a : Option Request) (old new : Outside) (result : ℕ) (left : Option Closed) → Runs a old new result left → result ≡ 6 → WriteFailed a old new
+write_fault_says a old new result left run is = let p = ended run.ending (λ s. omega arith) (λ s. omega arith) run.finish is in write_fault_at a run.ending old new run.ends p.0 p.1
 
-pub too_long_says : (a : Option Request) (old new : Outside) (result : ℕ) → Runs a old new result → result ≡ 9 → Exceeded a old new
-too_long_says a old new result run is = let p = ended run.ending (λ s. omega arith) (λ s. omega arith) run.finish is in too_long_at a run.ending old new run.ends p.0 p.1
+pub too_long_says : (a : Option Request) (old new : Outside) (result : ℕ) (left : Option Closed) → Runs a old new result left → result ≡ 9 → Exceeded a old new
+too_long_says a old new result left run is = let p = ended run.ending (λ s. omega arith) (λ s. omega arith) run.finish is in too_long_at a run.ending old new run.ends p.0 p.1
 
-pub out_fault_says : (a : Option Request) (old new : Outside) (result : ℕ) → Runs a old new result → result ≡ 7 → OutFailed a old new
-out_fault_says a old new result run is = let p = out_fault_by run.ending run.finish is in record { ending = run.ending; ends = run.ends; rose = p.0; begun = p.1 }
+pub out_fault_says : (a : Option Request) (old new : Outside) (result : ℕ) (left : Option Closed) → Runs a old new result left → result ≡ 7 → OutFailed a old new
+out_fault_says a old new result left run is = let p = out_fault_by run.ending run.finish is in record { ending = run.ending; ends = run.ends; rose = p.0; begun = p.1 }
 
-pub memory_says : (a : Option Request) (old new : Outside) (result : ℕ) → Runs a old new result → result ≡ 8 → LacksMemory a old new
-memory_says a old new result run is = record { ending = run.ending; ends = run.ends; line = memory_by run.ending run.finish is }
+pub memory_says : (a : Option Request) (old new : Outside) (result : ℕ) (left : Option Closed) → Runs a old new result left → result ≡ 8 → LacksMemory a old new
+memory_says a old new result left run is = record { ending = run.ending; ends = run.ends; line = memory_by run.ending run.finish is }
+
+-- no world is given with any other status
+other_status : (e : Ending) (result : ℕ) → (result ≡ 0 → ⊥) → ended_with e result ≡ None
+other_status (Completed c) zero other = absurd (other refl)
+other_status (Completed c) (suc n) other = refl
+other_status Usage result other = refl
+other_status (Refused r) result other = refl
+
+pub no_world_says : (a : Option Request) (old new : Outside) (result : ℕ) (left : Option Closed) → Runs a old new result left → (result ≡ 0 → ⊥) → left ≡ None
+no_world_says a old new result left run other = run.gives ∙ other_status run.ending result other
+
+pub no_place_says : (a : Option Request) (old new : Outside) (result : ℕ) (left : Option Closed) → Runs a old new result left → result ≡ 10 → NoPlaceThere a old new
+no_place_says a old new result left run is = let p = ended run.ending (λ s. omega arith) (λ s. omega arith) run.finish is in no_place_at a run.ending old new run.ends p.0 p.1
+
+pub full_says : (a : Option Request) (old new : Outside) (result : ℕ) (left : Option Closed) → Runs a old new result left → result ≡ 13 → StoreFilled a old new
+full_says a old new result left run is = let p = ended run.ending (λ s. omega arith) (λ s. omega arith) run.finish is in full_at a run.ending old new run.ends p.0 p.1
+
+pub scene_refused_says : (a : Option Request) (old new : Outside) (result : ℕ) (left : Option Closed) → Runs a old new result left → result ≡ 11 → SceneRefused a old new
+scene_refused_says a old new result left run is = let p = ended run.ending (λ s. omega arith) (λ s. omega arith) run.finish is in scene_refused_at a run.ending old new run.ends p.0 p.1

@@ -6,21 +6,24 @@ use Rattle.vw_io.specs.declared.shelves.ReadRefused.TheVariants as reads
 use Rattle.vw_io.specs.declared.shelves.WriteRefused.{WriteRefused}
 use Rattle.vw_io.specs.declared.shelves.WriteRefused.TheVariants as writes
 use Rattle.vox_chunk.specs.Faults.{kind_of, position_of}
+use Rattle.vox_scene.specs.Faults.{scene_kind_of, place_of_fault}
 use Rattle.script.specs.Faults.{number_of_kind}
 use Rattle.script_files.specs.declared.refusals.CommandRefused.{CommandRefused}
 use Rattle.script_files.specs.declared.refusals.CommandRefused.TheVariants.{Input, Text, Output}
 use Rattle.script_files.specs.declared.refusals.TextRefused.{TextRefused}
-use Rattle.script_files.specs.declared.refusals.TextRefused.TheVariants.{Vox, Script, Collides, Memory}
+use Rattle.script_files.specs.declared.refusals.TextRefused.TheVariants.{Vox, Script, Collides, NoScene, NoPlace, StoreFull, Memory}
 use Rattle.script_files.specs.declared.requests.Request.{Request}
 use Rattle.script_files.specs.Outcomes.{Outcome}
 use Rattle.script_files.specs.Refusals.{output_name}
+use Rattle.std.proofs.Common.{zero}
+use Rattle.node_table.specs.declared.closed.Closed.{Closed}
 use Rattle.voxdag_top.specs.declared.endings.Ending.{Ending}
 use Rattle.voxdag_top.specs.declared.endings.Ending.TheVariants.{Completed, Usage, Refused}
-use Rattle.voxdag_top.specs.Lines.{done_line, usage_line, vox_line, script_line, input_line, output_line, memory_line}
+use Rattle.voxdag_top.specs.Lines.{done_line, usage_line, scene_line, no_place_line, full_line, vox_line, script_line, input_line, output_line, memory_line}
 
 -- an ending of a command
 abbrev pub CommandEnds : Ending → Request → ShelfState → ShelfState → Type 0
-CommandEnds (Completed done) a old new = Outcome (Ok done) a old new
+CommandEnds (Completed c) a old new = Outcome (Ok c) a old new
 CommandEnds Usage a old new = ⊥
 CommandEnds (Refused r) a old new = Outcome (Err r) a old new
 
@@ -49,6 +52,9 @@ abbrev pub text_status : TextRefused → ℕ
 text_status (Vox fault) = 4
 text_status (Script at) = 5
 text_status Collides = 1
+text_status NoPlace = 10
+text_status (NoScene fault) = 11
+text_status (StoreFull full) = 13
 text_status Memory = 8
 
 abbrev pub refused_status : CommandRefused → ℕ
@@ -57,7 +63,7 @@ refused_status (Text r) = text_status r
 refused_status (Output r) = output_status r.why
 
 abbrev pub status_of : Ending → ℕ
-status_of (Completed done) = 0
+status_of (Completed c) = 0
 status_of Usage = 1
 status_of (Refused r) = refused_status r
 
@@ -65,6 +71,9 @@ abbrev pub text_line : TextRefused → List ℕ
 text_line (Vox fault) = vox_line (kind_of fault) (position_of fault)
 text_line (Script at) = script_line at.script at.fault.line (number_of_kind at.fault.kind)
 text_line Collides = usage_line
+text_line (NoScene fault) = scene_line (scene_kind_of fault) (place_of_fault fault)
+text_line NoPlace = no_place_line
+text_line (StoreFull full) = full_line full.level full.bucket
 text_line Memory = memory_line
 
 abbrev pub refused_line : CommandRefused → List ℕ
@@ -73,7 +82,7 @@ refused_line (Text r) = text_line r
 refused_line (Output r) = output_line r.why (output_name r.name)
 
 abbrev pub ending_line : Ending → List ℕ
-ending_line (Completed done) = done_line done
+ending_line (Completed c) = done_line c.done
 ending_line Usage = usage_line
 ending_line (Refused r) = refused_line r
 
@@ -91,3 +100,8 @@ RefusalMayLackLine (Output r) = WriteMayLackLine r.why
 abbrev pub MayLackLine : Ending → Type 0
 MayLackLine (Refused r) = RefusalMayLackLine r
 MayLackLine _ = ⊤
+
+-- the closed world that is given with this status
+abbrev pub ended_with : Ending → ℕ → Option Closed
+ended_with (Completed c) zero = c.ended
+ended_with _ _ = None

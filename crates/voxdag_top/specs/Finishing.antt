@@ -3,17 +3,18 @@ use Rattle.std.specs.Prelude.{◌≡◌, ◌⊎◌, ◌≤◌, ℕ, List, length
 use Rattle.vw_io.specs.Outside.{Rose, SinkState, Outside}
 use Rattle.vw_io.specs.declared.shelves.WriteRefused.{WriteRefused}
 use Rattle.vw_io.specs.declared.shelves.WriteRefused.TheVariants as writes
+use Rattle.node_table.specs.declared.closed.Closed.{Closed}
 use Rattle.script_files.specs.declared.refusals.CommandRefused.{CommandRefused}
 use Rattle.script_files.specs.declared.refusals.CommandRefused.TheVariants.{Input, Text, Output}
 use Rattle.script_files.specs.declared.requests.Request.{Request}
-use Rattle.script_files.specs.declared.requests.Request.TheVariants.{Count, Run, Demo}
+use Rattle.script_files.specs.declared.requests.Request.TheVariants.{Count, Run, Demo, Flood, Scene}
 use Rattle.script_files.specs.Demos.{demo_asked}
 use Rattle.script_files.specs.Orders.{Asked}
 use Rattle.script_files.specs.Refusals.{output_name, IsOutputName, IsNamed}
 use Rattle.script_files.specs.Requests.{transcript_name}
 use Rattle.voxdag_top.specs.declared.endings.Ending.{Ending}
 use Rattle.voxdag_top.specs.declared.endings.Ending.TheVariants.{Refused}
-use Rattle.voxdag_top.specs.Endings.{EndsAs, ending_line, status_of, MayLackLine}
+use Rattle.voxdag_top.specs.Endings.{EndsAs, ended_with, ending_line, status_of, MayLackLine}
 use Rattle.voxdag_top.specs.Lines.{memory_line, write_fault_line, Puts, PutsBeginning}
 
 -- the put of a line: the status is the line's; or the output failed at it; or memory was wanted,
@@ -31,11 +32,13 @@ Finishes e old new result =
     PutEnds (ending_line e) (status_of e) old new result
     ⊎ (MayLackLine e × PutEnds memory_line 8 old new result)
 
--- the program from its request to its status
-pub record Runs (a : Option Request) (old new : Outside) (result : ℕ) : Type 0 where
+-- the program from its request to its status and its closed world
+pub record Runs (a : Option Request) (old new : Outside) (result : ℕ) (ended : Option Closed)
+    : Type 0 where
   pub ending : Ending
   pub ends : EndsAs a ending old.shelf new.shelf
   pub finish : Finishes ending old.out new.out result
+  pub gives : ended ≡ ended_with ending result
 
 -- the line of a fault at this output fits in so many bytes
 abbrev pub FitsIn : ℕ → List ℕ → Type 0
@@ -54,6 +57,8 @@ abbrev pub OutputsFit : Request → ℕ → Type 0
 OutputsFit (Count file) room = ⊤
 OutputsFit (Run asked) room = NamesFit asked room
 OutputsFit (Demo n) room = NamesFit demo_asked room
+OutputsFit (Flood asked) room = FitsIn room asked.out
+OutputsFit (Scene asked) room = FitsIn room asked.out × FitsIn room asked.script
 
 -- room of so many bytes is enough for the ending's line, where that line must be made
 abbrev pub WriteHasRoom : WriteRefused → List ℕ → ℕ → Type 0

@@ -7,9 +7,10 @@ use Rattle.vw_io.specs.declared.shelves.ReadRefused.TheVariants as reads
 use Rattle.vw_io.specs.declared.shelves.WriteRefused.{WriteRefused}
 use Rattle.vw_io.specs.declared.shelves.WriteRefused.TheVariants as writes
 use Rattle.script_files.specs.declared.tallies.Done.{Done}
-use Rattle.script_files.specs.declared.tallies.Done.TheVariants.{Counted, Ran, Shown}
+use Rattle.script_files.specs.declared.tallies.Done.TheVariants.{Counted, Ran, Shown, Placed}
 use Rattle.script_files.specs.declared.tallies.Tally.{Tally}
 use Rattle.script_files.specs.declared.tallies.LoadTally.{LoadTally}
+use Rattle.script_files.specs.declared.tallies.SceneTally.{SceneTally}
 
 abbrev pub count_line : ℕ → List ℕ
 count_line n = decimal n ++ codes "\n"
@@ -39,6 +40,18 @@ abbrev pub script_line : ℕ → ℕ → ℕ → List ℕ
 script_line script line kind =
     codes "voxdag: script " ++ (decimal script ++ (codes " " ++ (decimal line
     ++ (codes " " ++ (decimal kind ++ codes "\n")))))
+
+-- a position in the file, or the id of a node
+abbrev pub scene_line : ℕ → ℕ → List ℕ
+scene_line kind at =
+    codes "voxdag: scene " ++ (decimal kind ++ (codes " " ++ (decimal at ++ codes "\n")))
+
+abbrev pub no_place_line : List ℕ
+no_place_line = codes "voxdag: no place\n"
+
+abbrev pub full_line : ℕ → ℕ → List ℕ
+full_line level bucket =
+    codes "voxdag: full " ++ (decimal level ++ (codes " " ++ (decimal bucket ++ codes "\n")))
 
 abbrev pub write_fault_line : List ℕ → List ℕ
 write_fault_line name = codes "voxdag: write fault " ++ (name ++ codes "\n")
@@ -72,11 +85,17 @@ demo_lines t =
     codes "demo " ++ (decimal t.number ++ (codes "\nrecords " ++ (decimal t.records
     ++ (codes "\n" ++ region_lines 0 t.counts))))
 
+abbrev pub placed_line : SceneTally → List ℕ
+placed_line t =
+    codes "side " ++ (decimal t.side ++ (codes " placements " ++ (decimal t.placements
+    ++ codes "\n")))
+
 -- the line of a command that came to its end, or its lines
 abbrev pub done_line : Done → List ℕ
 done_line (Counted number) = count_line number
 done_line (Ran tally) = run_line tally
 done_line (Shown told) = demo_lines told
+done_line (Placed told) = placed_line told
 
 -- the line was appended to what was put before, where the output tells that
 abbrev pub Puts : Option (List ℕ) → Option (List ℕ) → List ℕ → Type 0

@@ -8,21 +8,28 @@ use Rattle.vw_io.specs.declared.shelves.ReadRefused.TheVariants as reads
 use Rattle.vw_io.specs.declared.shelves.WriteRefused.TheVariants as writes
 use Rattle.vox_chunk.specs.declared.faults.VoxFault.{VoxFault}
 use Rattle.vox_chunk.specs.Faults.{kind_of, position_of}
+use Rattle.vox_scene.specs.declared.faults.SceneFault.{SceneFault}
+use Rattle.vox_scene.specs.Faults.{scene_kind_of, place_of_fault}
 use Rattle.script.specs.Faults.{number_of_kind}
 use Rattle.script_files.specs.declared.refusals.NumberedFault.{NumberedFault}
 use Rattle.script_files.specs.declared.refusals.TextRefused.{TextRefused}
 use Rattle.script_files.specs.declared.refusals.TextRefused.TheVariants as texts
+use Rattle.node_table.specs.declared.closed.Closed.{Closed}
 use Rattle.script_files.specs.declared.tallies.Done.{Done}
+use Rattle.node_words.specs.declared.shares.Full.{Full}
 use Rattle.script_files.specs.declared.requests.Request.{Request}
+use Rattle.script_files.specs.declared.requests.Request.TheVariants.{Flood}
+use Rattle.script_files.specs.Verdicts.{Verdict, Fine}
 use Rattle.script_files.specs.Requests.{inputs_of}
 use Rattle.script_files.specs.Outcomes as outcomes
-use Rattle.voxdag_top.specs.Lines.{usage_line, input_line, vox_line, script_line, write_fault_line, memory_line, done_line, Puts, PutsBeginning}
+use Rattle.voxdag_top.specs.Lines.{usage_line, input_line, vox_line, script_line, scene_line, no_place_line, full_line, write_fault_line, memory_line, done_line, Puts, PutsBeginning}
 use Rattle.voxdag_top.specs.declared.endings.Ending.{Ending}
 use Rattle.voxdag_top.specs.Endings.{EndsAs, ending_line, MayLackLine}
 
 abbrev pub is_status : ℕ → Bool
 is_status n =
-    list_any (λ status. status == n) (0 ∷ 1 ∷ 2 ∷ 3 ∷ 4 ∷ 5 ∷ 6 ∷ 7 ∷ 8 ∷ 9 ∷ [])
+    list_any (λ status. status == n) (0 ∷ 1 ∷ 2 ∷ 3 ∷ 4 ∷ 5 ∷ 6 ∷ 7 ∷ 8 ∷ 9 ∷ 10
+    ∷ 11 ∷ 13 ∷ [])
 
 -- this status, or that of a line which could not be put, or want of memory
 abbrev pub IsOr : ℕ → ℕ → Type 0
@@ -30,14 +37,20 @@ IsOr status result = (result ≡ status) ⊎ (result ≡ 7) ⊎ (result ≡ 8)
 
 -- ---- status 0: the command came to its end, and its line was put
 
-pub record CommandDone (a : Request) (old new : Outside) : Type 0 where
+pub record CommandDone (a : Request) (ended : Option Closed) (old new : Outside) : Type 0 where
   pub done : Done
-  pub completes : outcomes.Completes done a old.shelf new.shelf
+  pub completes : outcomes.Completes done ended a old.shelf new.shelf
   pub line : Puts old.out.told new.out.told (done_line done)
 
-abbrev pub Finished : Option Request → Outside → Outside → Type 0
-Finished None old new = ⊥
-Finished (Some a) old new = CommandDone a old new
+-- and the closed world is the run's, where scripts ran
+abbrev pub Finished : Option Request → Option Closed → Outside → Outside → Type 0
+Finished None ended old new = ⊥
+Finished (Some a) ended old new = CommandDone a ended old new
+
+-- whatever world was closed
+pub record CameToEnd (a : Option Request) (old new : Outside) : Type 0 where
+  pub ended : Option Closed
+  pub finished : Finished a ended old new
 
 -- ---- status 1: the words are outside the grammar, or all inputs are accepted and a name of an
 -- output is taken
@@ -95,6 +108,40 @@ pub record ScriptRefused (a : Option Request) (old new : Outside) : Type 0 where
   pub unchanged : new.shelf ≡ old.shelf
   pub line : Puts old.out.told new.out.told
       (script_line at.script at.fault.line (number_of_kind at.fault.kind))
+
+-- ---- status 10: the VOX file is accepted, and it has no such model, or the model no such place
+
+pub record NoPlaceThere (a : Option Request) (old new : Outside) : Type 0 where
+  pub refuses : RefusesText texts.NoPlace a old.shelf.files
+  pub unchanged : new.shelf ≡ old.shelf
+  pub line : Puts old.out.told new.out.told no_place_line
+
+-- ---- status 11: the VOX file is accepted, and this is the first fault of its scene
+
+pub record SceneRefused (a : Option Request) (old new : Outside) : Type 0 where
+  pub fault : SceneFault
+  pub refuses : RefusesText (texts.NoScene fault) a old.shelf.files
+  pub unchanged : new.shelf ≡ old.shelf
+  pub line : Puts old.out.told new.out.told
+      (scene_line (scene_kind_of fault) (place_of_fault fault))
+
+-- ---- status 13: the VOX file is accepted, and what the command stamps can need as many contents of
+-- this level and bucket as a bucket of its store has room for
+
+pub record StoreFilled (a : Option Request) (old new : Outside) : Type 0 where
+  pub full : Full
+  pub refuses : RefusesText (texts.StoreFull full) a old.shelf.files
+  pub unchanged : new.shelf ≡ old.shelf
+  pub line : Puts old.out.told new.out.told (full_line full.level full.bucket)
+
+-- where nothing is wrong the status is 0, or 7 or 8, and of a command with a store of its own it
+-- may be 13
+abbrev pub HasStore : Option Request → Type 0
+HasStore (Some (Flood asked)) = ⊤
+HasStore _ = ⊥
+
+abbrev pub MayCome : Option Request → Verdict → ℕ → ℕ → Type 0
+MayCome a v status result = IsOr status result ⊎ (HasStore a × (v ≡ Fine) × (result ≡ 13))
 
 -- ---- status 6: the shelf failed at an output; those before it are whole, and none after it was
 -- written

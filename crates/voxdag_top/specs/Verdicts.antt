@@ -2,7 +2,7 @@
 use Rattle.std.specs.Prelude.{ℕ, Option, Some, None}
 use Rattle.vw_io.specs.Outside.{Files}
 use Rattle.script_files.specs.declared.requests.Request.{Request}
-use Rattle.script_files.specs.Verdicts.{Verdict, Fine, LacksInput, InputIsLong, HasVoxFault, HasScriptFault, NamesCollide}
+use Rattle.script_files.specs.Verdicts.{Verdict, Fine, LacksInput, InputIsLong, HasVoxFault, HasScriptFault, NamesCollide, HasNoPlace, HasSceneFault}
 use Rattle.script_files.specs.Verdicts as commands
 
 -- the first thing that is wrong with the inputs and the names, if anything is
@@ -17,3 +17,5 @@ status_for (LacksInput name) = 2
 status_for (HasVoxFault fault) = 4
 status_for (HasScriptFault at) = 5
 status_for (InputIsLong name) = 9
+status_for HasNoPlace = 10
+status_for (HasSceneFault fault) = 11

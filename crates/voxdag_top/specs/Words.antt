@@ -1,12 +1,12 @@
 -- The words after the program's name, and what they ask for.
-use Rattle.std.specs.Prelude.{ℕ, ◌^◌, ◌==◌, ◌&&◌, nat_le, if◌then◌else◌, List, [], ◌∷◌, find, length, replicate, Option, Some, None, Result, Ok, Err, codes}
+use Rattle.std.specs.Prelude.{ℕ, ◌^◌, ◌==◌, ◌&&◌, not, nat_le, if◌then◌else◌, List, [], ◌∷◌, find, length, replicate, Option, Some, None, Result, Ok, Err, codes}
 use Rattle.std.specs.Str.{bytes_eq}
 use Rattle.script.specs.declared.faults.ScriptKind.{ScriptKind}
 use Rattle.script.specs.Numbers.{number_of}
 use Rattle.node_words.specs.Plans.{Layout, is_number_of_buckets, is_cap, usual_buckets}
 use Rattle.command_line.specs.Parts.{LineTexts, is_operand, parts_of, line_texts, are_of_a_run}
 use Rattle.script_files.specs.declared.requests.Request.{Request}
-use Rattle.script_files.specs.declared.requests.Request.TheVariants.{Count, Run, Demo}
+use Rattle.script_files.specs.declared.requests.Request.TheVariants.{Count, Run, Demo, Flood, Scene}
 
 -- `count FILE`
 abbrev pub counted : List (List ℕ) → Option Request
@@ -106,14 +106,45 @@ abbrev pub demo_words : List (List ℕ) → Option Request
 demo_words (number ∷ []) = demo_of (short_number number)
 demo_words _ = None
 
--- what the words ask for, where they are in the grammar: `count FILE`; `demo N`; or `run`, and
--- behind it in any order FILE SCRIPT .. and at most once each `--side s`, `--buckets b`,
--- `--cap c`, `--journal J` and `--report P`
+-- `flood FILE m x y z OUT`, each number of 1 to 6 digits
+abbrev pub flood_with : List ℕ → Option ℕ → Option ℕ → Option ℕ → Option ℕ → List ℕ
+    → Option Request
+flood_with file (Some m) (Some x) (Some y) (Some z) out = Some (Flood (record {
+  file = file;
+  model = m;
+  x = x;
+  y = y;
+  z = z;
+  out = out;
+}))
+flood_with file m x y z out = None
+
+abbrev pub flood_words : List (List ℕ) → Option Request
+flood_words (file ∷ m ∷ x ∷ y ∷ z ∷ out ∷ []) =
+    if is_operand file && (is_operand out && not (bytes_eq file out))
+    then flood_with file (short_number m) (short_number x) (short_number y) (short_number z) out
+    else None
+flood_words _ = None
+
+-- `scene FILE OUT SCRIPT`, no two of which are one name
+abbrev pub scene_words : List (List ℕ) → Option Request
+scene_words (file ∷ out ∷ script ∷ []) =
+    if is_operand file && (is_operand out && (is_operand script && (not (bytes_eq file out)
+    && (not (bytes_eq file script) && not (bytes_eq out script)))))
+    then Some (Scene (record { file = file; out = out; script = script })) else None
+scene_words _ = None
+
+-- what the words ask for, where they are in the grammar: `count FILE`; `demo N`;
+-- `flood FILE m x y z OUT`; `scene FILE OUT SCRIPT`; or `run`, and behind it in any order
+-- FILE SCRIPT .. and at most once each `--side s`, `--buckets b`, `--cap c`, `--journal J` and
+-- `--report P`
 abbrev pub named_request : List ℕ → List (List ℕ) → Option Request
 named_request command others =
     if bytes_eq command (codes "count") then counted others
     else (if bytes_eq command (codes "run") then run_asked (run_texts others)
-    else (if bytes_eq command (codes "demo") then demo_words others else None))
+    else (if bytes_eq command (codes "demo") then demo_words others
+    else (if bytes_eq command (codes "flood") then flood_words others
+    else (if bytes_eq command (codes "scene") then scene_words others else None))))
 
 abbrev pub request_of : List (List ℕ) → Option Request
 request_of [] = None

@@ -1,4 +1,4 @@
-ghost use Rattle.std.specs.Prelude.{◌≡◌, ◌≤◌, [], Some, None, IsTrue, IfSome, length, map, string_bytes, string_capacity};
+ghost use Rattle.std.specs.Prelude.{◌≡◌, ◌≢◌, ◌≤◌, [], Some, None, IsTrue, IfSome, length, map, string_bytes, string_capacity};
 ghost use Rattle.vw_io.specs.Outside.{Files, Rose, outside};
 ghost use Rattle.script_files.specs.Requests.{transcript_name};
 ghost use Rattle.script_files.specs.Commands.{scripts_asked};
@@ -8,39 +8,55 @@ ghost use Rattle.voxdag_top.specs.Words.{request_of, line_of};
 ghost use Rattle.voxdag_top.specs.Endings.{CommandEnds};
 ghost use Rattle.voxdag_top.specs.Finishing.{Runs, OutputsFit, IsEndingNamed};
 ghost use Rattle.voxdag_top.specs.Verdicts.{JudgesWords, status_for};
-ghost use Rattle.voxdag_top.specs.Statuses.{IsOr, is_status, Finished, Unusable, Missed, Faulted, VoxRefused, ScriptRefused, WriteFailed, OutFailed, LacksMemory, Exceeded};
+ghost use Rattle.voxdag_top.specs.Statuses.{IsOr, is_status, CameToEnd, Finished, Unusable, Missed, Faulted, VoxRefused, ScriptRefused, WriteFailed, OutFailed, LacksMemory, Exceeded, NoPlaceThere, SceneRefused, StoreFilled, MayCome};
 
-use crate::endings::Ending;
+use crate::endings::{Ending, Gated};
 use crate::lines::{fault_room, finish};
 use crate::words::{request, words_of_a_run};
 use command_line::Line;
+use gate_run::{Gate, NoGate};
 use script_files::{CommandRefused, Request, TextRefused, carry_out, names_written};
 use std::alloc::Global;
+use std::sync::Wait;
+use std::thread::Threads;
 use vw_io::{Shelf, Sink};
 
 /// The program: does what the words after the program's name ask for, and puts one line on `out`.
 ///
 /// `count FILE` puts the number of cells of the file's models. `run FILE SCRIPT ..` runs 1 to 64
-/// scripts one after another over a world with the models of the file; it writes each transcript as
-/// `SCRIPT.out` and each file that a script saves, and puts the numbers of scripts, records, marks
-/// and live nodes. Among these words,
-/// in any order and each at most once, may stand options, as `--side s` or `--side=s`: the world
+/// scripts at the same time, each in a thread of its own, over one world with the models of the
+/// file; it writes each transcript as `SCRIPT.out` and each file that a script saves, and puts the
+/// numbers of scripts, records, marks and live nodes. Among these words, in any order and each at
+/// most once, may stand options, as `--side s` or `--side=s`: the world
 /// has the side `s`, 4 to 4,096 and 256 without this option; its store has `--buckets b` of
 /// `--cap c` slots on each level, 1 to 4,096 and 1 to 256; `--journal J` and `--report P` are
 /// written too. A VOX file has at most 256 MiB, a script 8 MiB. `demo N` runs the load that the
 /// number N of 1 to 6 digits makes, writes `demo.0.out` to `demo.3.out` and `demo.journal`, and
 /// puts N, the number of records, and how many cells each region had when its script counted them.
 ///
+/// `flood FILE m x y z OUT` writes the empty region of model m that is connected with the cell
+/// (x, y, z) as the VOX file OUT, and puts its number of cells; numbers have 1 to 6 digits.
+/// `scene FILE OUT SCRIPT` writes the turned models of the scene of a VOX file as the VOX file OUT,
+/// and a script that stamps each where the scene places it; it puts the side of the least world that
+/// holds them, and their number.
+///
 /// The answer is the status with which the process ends: 0 done, 1 words outside the grammar or
 /// names that collide, 2 an input that is not there, 3 a fault of the shelf at an input, 4 a VOX
 /// file that is refused, 5 a script that is refused, 6 a fault of the shelf at an output, 7 a fault
-/// of `out`, 8 want of memory, 9 an input over its limit. Where a line cannot be put, 7 or 8 comes
-/// in place of its status.
-pub fn voxdag<S: Shelf, O: Sink>(alloc: Global, words: &[String], shelf: &mut S, out: &mut O) -> u8
+/// of `out`, 8 want of memory, 9 an input over its limit, 10 no such model or no such place of it,
+/// 11 a scene that is refused, 13 a full bucket of a command's own store. Where a line cannot be put,
+/// 7 or 8 comes in place of its status.
+pub fn voxdag<S: Shelf, O: Sink, R: Threads + Wait + Sync>(
+    rt: &R,
+    alloc: Global,
+    words: &[String],
+    shelf: &mut S,
+    out: &mut O,
+) -> u8
     ensures known { IsTrue (is_status result) }
 
     // what each status says
-    ensures done { result ≡ 0 → Finished (request_of (texts words.now))
+    ensures done { result ≡ 0 → CameToEnd (request_of (texts words.now))
         (outside (S.state shelf.old) (O.state out.old))
         (outside (S.state shelf.new) (O.state out.new)) }
     ensures usage { result ≡ 1 → Unusable (request_of (texts words.now))
@@ -71,77 +87,171 @@ pub fn voxdag<S: Shelf, O: Sink>(alloc: Global, words: &[String], shelf: &mut S,
         (outside (S.state shelf.old) (O.state out.old))
         (outside (S.state shelf.new) (O.state out.new)) }
 
+    ensures no_place { result ≡ 10 → NoPlaceThere (request_of (texts words.now))
+        (outside (S.state shelf.old) (O.state out.old))
+        (outside (S.state shelf.new) (O.state out.new)) }
+    ensures scene_refused { result ≡ 11 → SceneRefused (request_of (texts words.now))
+        (outside (S.state shelf.old) (O.state out.old))
+        (outside (S.state shelf.new) (O.state out.new)) }
+    ensures full { result ≡ 13 → StoreFilled (request_of (texts words.now))
+        (outside (S.state shelf.old) (O.state out.old))
+        (outside (S.state shelf.new) (O.state out.new)) }
+
     // which status must come: for words outside the grammar, and for all others over a shelf that
     // tells its files and does not fail
     ensures usage_comes { request_of (texts words.now) ≡ None → IsOr 1 result }
     ensures comes { (files : Files) (v : Verdict) → (S.state shelf.old).files ≡ Some files
         → (Rose (S.state shelf.old).faults (S.state shelf.new).faults → ⊥)
-        → JudgesWords (request_of (texts words.now)) files v → IsOr (status_for v) result }
+        → JudgesWords (request_of (texts words.now)) files v
+        → MayCome (request_of (texts words.now)) v (status_for v) result }
 {
-    answer(alloc, words, shelf, out)
+    voxdag_gated(rt, &NoGate, alloc, words, shelf, out).status
+}
+
+/// The same, and what the closed world left: where scripts ran and the status is 0. The sessions of
+/// the scripts pass the gate.
+pub fn voxdag_gated<S: Shelf, O: Sink, R: Threads + Wait + Sync, G: Gate + Sync>(
+    rt: &R,
+    gate: &G,
+    alloc: Global,
+    words: &[String],
+    shelf: &mut S,
+    out: &mut O,
+) -> Gated
+    ensures known { IsTrue (is_status result.status) }
+
+    // what each status says
+    ensures done { result.status ≡ 0 → Finished (request_of (texts words.now)) result.ended
+        (outside (S.state shelf.old) (O.state out.old))
+        (outside (S.state shelf.new) (O.state out.new)) }
+    ensures no_world { result.status ≢ 0 → result.ended ≡ None }
+    ensures usage { result.status ≡ 1 → Unusable (request_of (texts words.now))
+        (outside (S.state shelf.old) (O.state out.old))
+        (outside (S.state shelf.new) (O.state out.new)) }
+    ensures missing { result.status ≡ 2 → Missed (request_of (texts words.now))
+        (outside (S.state shelf.old) (O.state out.old))
+        (outside (S.state shelf.new) (O.state out.new)) }
+    ensures read_fault { result.status ≡ 3 → Faulted (request_of (texts words.now))
+        (outside (S.state shelf.old) (O.state out.old))
+        (outside (S.state shelf.new) (O.state out.new)) }
+    ensures vox_refused { result.status ≡ 4 → VoxRefused (request_of (texts words.now))
+        (outside (S.state shelf.old) (O.state out.old))
+        (outside (S.state shelf.new) (O.state out.new)) }
+    ensures script_refused { result.status ≡ 5 → ScriptRefused (request_of (texts words.now))
+        (outside (S.state shelf.old) (O.state out.old))
+        (outside (S.state shelf.new) (O.state out.new)) }
+    ensures write_fault { result.status ≡ 6 → WriteFailed (request_of (texts words.now))
+        (outside (S.state shelf.old) (O.state out.old))
+        (outside (S.state shelf.new) (O.state out.new)) }
+    ensures out_fault { result.status ≡ 7 → OutFailed (request_of (texts words.now))
+        (outside (S.state shelf.old) (O.state out.old))
+        (outside (S.state shelf.new) (O.state out.new)) }
+    ensures memory { result.status ≡ 8 → LacksMemory (request_of (texts words.now))
+        (outside (S.state shelf.old) (O.state out.old))
+        (outside (S.state shelf.new) (O.state out.new)) }
+    ensures too_long { result.status ≡ 9 → Exceeded (request_of (texts words.now))
+        (outside (S.state shelf.old) (O.state out.old))
+        (outside (S.state shelf.new) (O.state out.new)) }
+    ensures no_place { result.status ≡ 10 → NoPlaceThere (request_of (texts words.now))
+        (outside (S.state shelf.old) (O.state out.old))
+        (outside (S.state shelf.new) (O.state out.new)) }
+    ensures scene_refused { result.status ≡ 11 → SceneRefused (request_of (texts words.now))
+        (outside (S.state shelf.old) (O.state out.old))
+        (outside (S.state shelf.new) (O.state out.new)) }
+    ensures full { result.status ≡ 13 → StoreFilled (request_of (texts words.now))
+        (outside (S.state shelf.old) (O.state out.old))
+        (outside (S.state shelf.new) (O.state out.new)) }
+
+    // which status must come: for words outside the grammar, and for all others over a shelf that
+    // tells its files and does not fail
+    ensures usage_comes { request_of (texts words.now) ≡ None → IsOr 1 result.status }
+    ensures comes { (files : Files) (v : Verdict) → (S.state shelf.old).files ≡ Some files
+        → (Rose (S.state shelf.old).faults (S.state shelf.new).faults → ⊥)
+        → JudgesWords (request_of (texts words.now)) files v
+        → MayCome (request_of (texts words.now)) v (status_for v) result.status }
+{
+    answer(rt, gate, alloc, words, shelf, out)
 }
 
 // Does what the words ask for, and puts its line.
 #[tactic(auto, using(crate::proofs::Lacking::lacks))]
-fn answer<S: Shelf, O: Sink>(alloc: Global, words: &[String], shelf: &mut S, out: &mut O) -> u8
+fn answer<S: Shelf, O: Sink, R: Threads + Wait + Sync, G: Gate + Sync>(
+    rt: &R,
+    gate: &G,
+    alloc: Global,
+    words: &[String],
+    shelf: &mut S,
+    out: &mut O,
+) -> Gated
     ensures { Runs (request_of (texts words.now))
         (outside (S.state shelf.old) (O.state out.old))
-        (outside (S.state shelf.new) (O.state out.new)) result }
+        (outside (S.state shelf.new) (O.state out.new)) result.status result.ended }
 {
     let lacking = Ending::Refused(CommandRefused::Text(TextRefused::Memory));
     match words_of_a_run(alloc, words) {
-        Ok(line) => with_line(alloc, words, &line, shelf, out),
-        Err(_) => finish(alloc, &lacking, String::new(alloc), out),
+        Ok(line) => with_line(rt, gate, alloc, words, &line, shelf, out),
+        Err(_) => finish(alloc, lacking, String::new(alloc), out),
     }
 }
 
 // The same, where the words of a run were split.
-fn with_line<S: Shelf, O: Sink>(
+fn with_line<S: Shelf, O: Sink, R: Threads + Wait + Sync, G: Gate + Sync>(
+    rt: &R,
+    gate: &G,
     alloc: Global,
     words: &[String],
     line: &Option<Line<'_>>,
     shelf: &mut S,
     out: &mut O,
-) -> u8
+) -> Gated
     requires line { line.now ≡ line_of (texts words.now) }
     requires few { IfSome line.now (λ l. length l.operands ≤ 65) }
     ensures { Runs (request_of (texts words.now))
         (outside (S.state shelf.old) (O.state out.old))
-        (outside (S.state shelf.new) (O.state out.new)) result }
+        (outside (S.state shelf.new) (O.state out.new)) result.status result.ended }
 {
     match request(words, line) {
-        Some(asked) => command(alloc, &asked, shelf, out),
-        None => finish(alloc, &Ending::Usage, String::new(alloc), out),
+        Some(asked) => command(rt, gate, alloc, &asked, shelf, out),
+        None => finish(alloc, Ending::Usage, String::new(alloc), out),
     }
 }
 
 // Does what is asked for, once there are the transcripts' names, and room for the line of a fault
 // at an output.
-fn command<S: Shelf, O: Sink>(alloc: Global, asked: &Request<'_>, shelf: &mut S, out: &mut O) -> u8
+fn command<S: Shelf, O: Sink, R: Threads + Wait + Sync, G: Gate + Sync>(
+    rt: &R,
+    gate: &G,
+    alloc: Global,
+    asked: &Request<'_>,
+    shelf: &mut S,
+    out: &mut O,
+) -> Gated
     requires few { length (scripts_asked asked.now) ≤ 64 }
     ensures { Runs (Some asked.now)
         (outside (S.state shelf.old) (O.state out.old))
-        (outside (S.state shelf.new) (O.state out.new)) result }
+        (outside (S.state shelf.new) (O.state out.new)) result.status result.ended }
 {
     let lacking = Ending::Refused(CommandRefused::Text(TextRefused::Memory));
     let Ok(names) = names_written(alloc, asked) else {
-        return finish(alloc, &lacking, String::new(alloc), out);
+        return finish(alloc, lacking, String::new(alloc), out);
     };
     let Ok(room) = String::with_capacity(alloc, fault_room(asked, names.as_slice())) else {
-        return finish(alloc, &lacking, String::new(alloc), out);
+        return finish(alloc, lacking, String::new(alloc), out);
     };
-    named(alloc, asked, names.as_slice(), room, shelf, out)
+    named(rt, gate, alloc, asked, names.as_slice(), room, shelf, out)
 }
 
 #[tactic(auto, using(crate::proofs::Rooms::command_has_room))]
-fn named<S: Shelf, O: Sink>(
+fn named<S: Shelf, O: Sink, R: Threads + Wait + Sync, G: Gate + Sync>(
+    rt: &R,
+    gate: &G,
     alloc: Global,
     asked: &Request<'_>,
     transcripts: &[String],
     room: String,
     shelf: &mut S,
     out: &mut O,
-) -> u8
+) -> Gated
     requires few { length (scripts_asked asked.now) ≤ 64 }
     requires named { map string_bytes transcripts.now
         ≡ map transcript_name (scripts_asked asked.now) }
@@ -149,13 +259,15 @@ fn named<S: Shelf, O: Sink>(
     requires fits { OutputsFit asked.now (string_capacity room) }
     ensures { Runs (Some asked.now)
         (outside (S.state shelf.old) (O.state out.old))
-        (outside (S.state shelf.new) (O.state out.new)) result }
+        (outside (S.state shelf.new) (O.state out.new)) result.status result.ended }
 {
-    let ending = ended(alloc, asked, transcripts, shelf);
-    finish(alloc, &ending, room, out)
+    let ending = ended(rt, gate, alloc, asked, transcripts, shelf);
+    finish(alloc, ending, room, out)
 }
 
-fn ended<'w, S: Shelf>(
+fn ended<'w, S: Shelf, R: Threads + Wait + Sync, G: Gate + Sync>(
+    rt: &R,
+    gate: &G,
     alloc: Global,
     asked: &Request<'w>,
     transcripts: &'w [String],
@@ -167,7 +279,7 @@ fn ended<'w, S: Shelf>(
     ensures ends { CommandEnds result asked.now (S.state shelf.old) (S.state shelf.new) }
     ensures named { IsEndingNamed result }
 {
-    match carry_out(alloc, asked, transcripts, shelf) {
+    match carry_out(rt, gate, alloc, asked, transcripts, shelf) {
         Ok(done) => Ending::Completed(done),
         Err(refused) => Ending::Refused(refused),
     }

@@ -7,6 +7,6 @@ mod laws;
 mod lines;
 mod words;
 
-pub use commands::voxdag;
-pub use endings::Ending;
+pub use commands::{voxdag, voxdag_gated};
+pub use endings::{Ending, Gated};
 pub use laws::{verdicts_are_one, words_have_a_verdict};

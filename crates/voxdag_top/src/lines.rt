@@ -1,22 +1,48 @@
 ghost use Rattle.std.specs.Prelude.{◌≡◌, ◌≤◌, ◌<◌, ◌^◌, ◌+◌, ◌∷◌, ◌++◌, [], OnOk, All, length, map, codes, IfOk, IsOkAnd, IfSome, OnErr, string_bytes, string_capacity};
 ghost use Rattle.script.specs.Faults.{number_of_kind};
-ghost use Rattle.voxdag_top.specs.Lines.{done_line, run_line, demo_lines, region_lines, script_line, input_line, output_line, write_fault_line};
-ghost use Rattle.voxdag_top.specs.Endings.{ending_line, refused_line, text_line, status_of, refused_status, MayLackLine, RefusalMayLackLine, WriteMayLackLine};
+ghost use Rattle.voxdag_top.specs.Lines.{done_line, run_line, demo_lines, placed_line, region_lines, script_line, input_line, output_line, write_fault_line};
+ghost use Rattle.voxdag_top.specs.Endings.{ended_with, ending_line, refused_line, text_line, status_of, refused_status, MayLackLine, RefusalMayLackLine, WriteMayLackLine};
 ghost use Rattle.script_files.specs.Refusals.{output_name, IsOutputName};
 ghost use Rattle.script_files.specs.Requests.{transcript_name};
 ghost use Rattle.script_files.specs.Commands.{scripts_asked};
 ghost use Rattle.voxdag_top.specs.Finishing.{PutEnds, Finishes, NamesFit, OutputsFit, HasLineRoom, RefusalHasRoom, WriteHasRoom};
 
-use crate::endings::Ending;
+use crate::endings::{Ending, Gated};
 use script_files::{
     CommandRefused, Done, LoadTally, NumberedFault, Order, OutputName, OutputRefused, Request,
-    Tally, TextRefused, demo_order,
+    SceneTally, Tally, TextRefused, demo_order,
 };
+use session::Ended;
 use std::alloc::{AllocError, Global};
 use vw_io::{InputRefused, PutRefused, ReadRefused, Sink, WriteRefused};
 
-// Puts the ending's line, and gives the status. The room is for a line that must not lack memory.
-pub(crate) fn finish<O: Sink>(alloc: Global, ending: &Ending<'_>, room: String, out: &mut O) -> u8
+// Puts the ending's line, and gives the status and the closed world. The room is for a line that
+// must not lack memory.
+pub(crate) fn finish<O: Sink>(alloc: Global, ending: Ending<'_>, room: String, out: &mut O) -> Gated
+    requires empty { string_bytes room ≡ [] }
+    requires room { HasLineRoom ending (string_capacity room) }
+    ensures line { Finishes ending.entry (O.state out.old) (O.state out.new) result.status }
+    ensures ended { result.ended ≡ ended_with ending.entry result.status }
+{
+    let status = put_ending(alloc, &ending, room, out);
+    let ended = ended_with(ending, status);
+    Gated { status, ended }
+}
+
+// The closed world of a command that came to its end and whose line was put.
+fn ended_with(ending: Ending<'_>, status: u8) -> Option<Ended>
+    ensures { result ≡ ended_with ending.entry status }
+{
+    match ending {
+        Ending::Completed(completed) => match status {
+            0 => completed.ended,
+            _ => None,
+        },
+        _ => None,
+    }
+}
+
+fn put_ending<O: Sink>(alloc: Global, ending: &Ending<'_>, room: String, out: &mut O) -> u8
     requires empty { string_bytes room ≡ [] }
     requires room { HasLineRoom ending.now (string_capacity room) }
     ensures { Finishes ending.now (O.state out.old) (O.state out.new) result }
@@ -59,6 +85,9 @@ fn refused_status(refused: &CommandRefused<'_>) -> u8
         },
         CommandRefused::Text(text) => match text {
             TextRefused::Collides => 1,
+            TextRefused::NoPlace => 10,
+            TextRefused::NoScene(_) => 11,
+            TextRefused::StoreFull(_) => 13,
             TextRefused::Vox(_) => 4,
             TextRefused::Script(_) => 5,
             TextRefused::Memory => 8,
@@ -77,7 +106,7 @@ fn line(alloc: Global, ending: &Ending<'_>, room: String) -> Result<String, Allo
     ensures lacking { OnErr result (MayLackLine ending.now) }
 {
     match ending {
-        Ending::Completed(done) => done_line(alloc, *done),
+        Ending::Completed(completed) => done_line(alloc, completed.done),
         Ending::Usage => format!(in alloc; "voxdag: usage\n"),
         Ending::Refused(refused) => refused_line(alloc, refused, room),
     }
@@ -90,6 +119,7 @@ fn done_line(alloc: Global, done: Done) -> Result<String, AllocError>
         Done::Counted(cells) => format!(in alloc; "{cells}\n"),
         Done::Ran(tally) => run_line(alloc, tally),
         Done::Shown(told) => demo_lines(alloc, told),
+        Done::Placed(told) => placed_line(alloc, told),
     }
 }
 
@@ -101,6 +131,14 @@ fn run_line(alloc: Global, tally: Tally) -> Result<String, AllocError>
     let marks = tally.marks;
     let nodes = tally.nodes;
     format!(in alloc; "scripts {scripts} records {records} marks {marks} nodes {nodes}\n")
+}
+
+fn placed_line(alloc: Global, told: SceneTally) -> Result<String, AllocError>
+    ensures { IfOk result (λ text. string_bytes text ≡ placed_line told) }
+{
+    let side = told.side;
+    let placements = told.placements;
+    format!(in alloc; "side {side} placements {placements}\n")
 }
 
 fn demo_lines(alloc: Global, told: LoadTally) -> Result<String, AllocError>
@@ -175,6 +213,17 @@ fn text_line(alloc: Global, text: &TextRefused) -> Result<String, AllocError>
         }
         TextRefused::Script(at) => script_line(alloc, at),
         TextRefused::Collides => format!(in alloc; "voxdag: usage\n"),
+        TextRefused::NoScene(fault) => {
+            let kind = fault.kind();
+            let at = fault.at();
+            format!(in alloc; "voxdag: scene {kind} {at}\n")
+        }
+        TextRefused::NoPlace => format!(in alloc; "voxdag: no place\n"),
+        TextRefused::StoreFull(full) => {
+            let level = full.level;
+            let bucket = full.bucket;
+            format!(in alloc; "voxdag: full {level} {bucket}\n")
+        }
         TextRefused::Memory => format!(in alloc; "voxdag: memory\n"),
     }
 }
@@ -243,6 +292,8 @@ pub(crate) fn fault_room(asked: &Request<'_>, transcripts: &[String]) -> usize
         Request::Count(_) => 0,
         Request::Run(order) => write_fault_room(order, transcripts),
         Request::Demo(_) => write_fault_room(&demo_order(), transcripts),
+        Request::Flood(order) => order.out.len() + 21,
+        Request::Scene(order) => order.out.len().max(order.script.len()) + 21,
     }
 }
 

@@ -2,12 +2,12 @@ ghost use Rattle.std.specs.Prelude.{◌≡◌, ◌≤◌, ◌∷◌, ◌^◌, No
 ghost use Rattle.std.specs.Option.{option_map};
 ghost use Rattle.command_line.specs.Texts.{texts};
 ghost use Rattle.script_files.specs.Commands.{scripts_asked};
-ghost use Rattle.voxdag_top.specs.Words.{request_of, run_texts, line_of, named_request, counted, run_asked, run_planned, demo_of, demo_words, exponent_of, short_number, plan_for, side_of, side_told, cap_told, plan_with, plan_by, plan_told, plan_in};
+ghost use Rattle.voxdag_top.specs.Words.{request_of, run_texts, line_of, named_request, counted, run_asked, run_planned, demo_of, flood_words, scene_words, demo_words, exponent_of, short_number, plan_for, side_of, side_told, cap_told, plan_with, plan_by, plan_told, plan_in};
 
 use command_line::{Line, are_of_a_run, is_operand, split};
 use node_words::Plan;
 use script::number;
-use script_files::{FileName, Order, Request};
+use script_files::{FileName, FloodOrder, Order, Request, SceneOrder};
 use std::alloc::{AllocError, Global};
 use vw_cell::Side;
 
@@ -68,6 +68,12 @@ fn named_request<'w>(
     }
     if command == "demo" {
         return shown(words);
+    }
+    if command == "flood" {
+        return flooded(words);
+    }
+    if command == "scene" {
+        return placed(words);
     }
     None
 }
@@ -139,6 +145,47 @@ fn number_in(words: &[String]) -> Option<u32>
         [number] => short_number(number.as_str()),
         _ => None,
     }
+}
+
+// `FILE m x y z OUT`, the words of `flood`.
+fn flooded(words: &[String]) -> Option<Request<'_>>
+    ensures asked { result ≡ flood_words (texts words.now) }
+    ensures few { IfSome result (λ a. length (scripts_asked a) ≤ 64) }
+{
+    let [file, model, x, y, z, out] = words else {
+        return None;
+    };
+    let file = file.as_str();
+    let out = out.as_str();
+    if !(is_operand(file) && is_operand(out) && file != out) {
+        return None;
+    }
+    Some(Request::Flood(FloodOrder {
+        file,
+        model: short_number(model.as_str())?,
+        x: short_number(x.as_str())?,
+        y: short_number(y.as_str())?,
+        z: short_number(z.as_str())?,
+        out,
+    }))
+}
+
+// `FILE OUT SCRIPT`, the words of `scene`.
+fn placed(words: &[String]) -> Option<Request<'_>>
+    ensures asked { result ≡ scene_words (texts words.now) }
+    ensures few { IfSome result (λ a. length (scripts_asked a) ≤ 64) }
+{
+    let [file, out, script] = words else {
+        return None;
+    };
+    let file = file.as_str();
+    let out = out.as_str();
+    let script = script.as_str();
+    let are_operands = is_operand(file) && is_operand(out) && is_operand(script);
+    if !(are_operands && file != out && file != script && out != script) {
+        return None;
+    }
+    Some(Request::Scene(SceneOrder { file, out, script }))
 }
 
 // The plan that the options of a run tell, where their numbers are in their ranges.

@@ -1,5 +1,6 @@
 use Rattle.std.proofs.Common.{ℕ, List, Ok, Err, subst, ◌∙◌}
 use Rattle.vw_io.specs.Write.{WriteTold}
+use Rattle.session_runs.specs.Kept.{KeptSave}
 use Rattle.script_files.specs.Requests.{saved_output}
 use Rattle.script_files.proofs.Writing.{output_written, output_stops}
 use Rattle.script_files.proofs.outputs.write_save.Goals as goal
@@ -7,23 +8,25 @@ use Rattle.script_files.proofs.outputs.write_save.Goals as goal
 pub returns-in-Ok-clause-writes : goal.returns-in-Ok-clause-writes
 returns-in-Ok-clause-writes g c =
     let run = c.args.run.now in
-    let s = c.save-save.result in
+    let at = c.save-save.ensures.is in
+    let s : KeptSave = record { save = c.save-save.result; seen = at.seen } in
     let old = g.S.Shelf.state c.args.shelf.now in
     let new = g.S.Shelf.state c.write.new.self in
-    output_written (saved_output run.models run.log) run.saved c.args.k s c.as_slice.result.now old
-    new c.in-Ok.field-0 c.save-save.ensures.is
-    (c.as_slice.ensures.value ∙ c.in_ok-file.ensures.file s c.save-save.ensures.is)
+    output_written (saved_output run.models) run.kept c.args.k s c.as_slice.result.now old
+    new c.in-Ok.field-0 at.at
+    (c.as_slice.ensures.value ∙ c.in_ok-file.ensures.file s at.at)
     (subst (λ (n : List ℕ). WriteTold old.files new.files n c.as_slice.result.now
     (Ok c.in-Ok.field-0)) c.as_str.ensures c.in-Ok.ensures.told) c.in-Ok.ensures.cause
 
 pub returns-clause-writes : goal.returns-clause-writes
 returns-clause-writes g c =
     let run = c.args.run.now in
-    let s = c.save-save.result in
+    let at = c.save-save.ensures.is in
+    let s : KeptSave = record { save = c.save-save.result; seen = at.seen } in
     let old = g.S.Shelf.state c.args.shelf.now in
     let new = g.S.Shelf.state c.write.new.self in
-    output_stops (saved_output run.models run.log) run.saved c.args.k s c.as_slice.result.now old
-    new c.in-Err.why c.save-save.ensures.is
-    (c.as_slice.ensures.value ∙ c.in_ok-file.ensures.file s c.save-save.ensures.is)
+    output_stops (saved_output run.models) run.kept c.args.k s c.as_slice.result.now old
+    new c.in-Err.why at.at
+    (c.as_slice.ensures.value ∙ c.in_ok-file.ensures.file s at.at)
     (subst (λ (n : List ℕ). WriteTold old.files new.files n c.as_slice.result.now
     (Err c.in-Err.why)) c.as_str.ensures c.in-Err.ensures.told) c.in-Err.ensures.cause

@@ -6,6 +6,6 @@ use Rattle.script_files.proofs.outputs.write_saves.Given as goal
 
 abbrev pub invariant-loop-k : goal.invariant-loop-k
 invariant-loop-k g l =
-    IsWrittenTo (map (saved_output l.fn.run.models l.fn.run.log) l.fn.run.saved) l.k
+    IsWrittenTo (map (saved_output l.fn.run.models) l.fn.run.kept) l.k
     (g.S.Shelf.state l.fn.shelf) (g.S.Shelf.state l.shelf)
     × (l.run ≡ l.fn.run)

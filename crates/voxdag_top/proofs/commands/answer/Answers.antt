@@ -5,5 +5,5 @@ use Rattle.voxdag_top.proofs.commands.answer.Goals as goal
 
 pub returns-in-Err : goal.returns-in-Err
 returns-in-Err g c =
-    lacks (request_of (texts c.args.words.now)) (g.S.Shelf.state c.args.shelf.now) _ _ _
-    c.finish.ensures
+    lacks (request_of (texts c.args.words.now)) (g.S.Shelf.state c.args.shelf.now) _ _ _ _
+    c.finish.ensures.line c.finish.ensures.ended

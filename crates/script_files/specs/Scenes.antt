@@ -1,0 +1,57 @@
+-- What the command `scene` tells and writes, or is refused for.
+use Rattle.std.specs.Prelude.{◌≡◌, ℕ, ◌^◌, List, [], ◌∷◌, length, Ok, Err, ⊤}
+use Rattle.vw_io.specs.Outputs.{Named}
+use Rattle.vox_read.specs.Contents.{Content}
+use Rattle.vox_read.specs.Files.{ReadsModels}
+use Rattle.vox_write.specs.Written.{models_file}
+use Rattle.vox_scene.specs.declared.faults.SceneFault.{SceneFault}
+use Rattle.vox_scene.specs.Scenes.{SceneSeen, HasScene, ReadsScene}
+use Rattle.vox_scene.specs.Written.{stamp_lines}
+use Rattle.scene_laws.specs.Building.{BuildsScene}
+use Rattle.script_files.specs.declared.refusals.TextRefused.{TextRefused}
+use Rattle.script_files.specs.declared.refusals.TextRefused.TheVariants.{Vox, NoScene, Memory}
+use Rattle.script_files.specs.declared.tallies.SceneTally.{SceneTally}
+use Rattle.script_files.specs.Orders.{SceneAsked}
+
+-- the numbers of a scene, the file of its turned models, and the script of their stamps
+pub record TellsScene (scene : SceneSeen) (told : SceneTally) (models script : List ℕ) : Type 0
+  where
+    pub side : told.side ≡ 2 ^ scene.side
+    pub number : told.placements ≡ length scene.places
+    pub file : models ≡ models_file scene.models
+    pub stamps : script ≡ stamp_lines 0 scene.places
+
+-- the file has a scene, with these numbers, this file and this script; they are read as models and
+-- as stamps, which make the scene of the empty world
+pub record PlacesText (bytes : List ℕ) (told : SceneTally) (models script : List ℕ) : Type 0 where
+  pub scene : SceneSeen
+  pub has : HasScene bytes scene
+  pub tells : TellsScene scene told models script
+  pub builds : BuildsScene bytes scene.side models script
+
+-- the turned models' file and the script are the outputs
+pub record ScenePlaced (asked : SceneAsked) (bytes : List ℕ) (told : SceneTally)
+    (outputs : List Named) : Type 0 where
+  pub models : List ℕ
+  pub script : List ℕ
+  pub places : PlacesText bytes told models script
+  pub are : outputs ≡ record { name = asked.out; bytes = models }
+      ∷ record { name = asked.script; bytes = script } ∷ []
+
+-- the same of a scene whose outputs were not all written
+pub record SceneBegun (asked : SceneAsked) (bytes : List ℕ) (outputs : List Named) : Type 0 where
+  pub told : SceneTally
+  pub placed : ScenePlaced asked bytes told outputs
+
+-- the file gives models, and this is the first fault of its scene
+pub record LacksScene (bytes : List ℕ) (fault : SceneFault) : Type 0 where
+  pub models : List Content
+  pub gives : ReadsModels bytes (Ok models)
+  pub first : ReadsScene bytes (Err fault)
+
+-- what a refusal says of the file: want of memory says nothing
+abbrev pub RefusesPlacing : List ℕ → TextRefused → Type 0
+RefusesPlacing bytes (Vox fault) = ReadsModels bytes (Err fault)
+RefusesPlacing bytes (NoScene fault) = LacksScene bytes fault
+RefusesPlacing bytes Memory = ⊤
+RefusesPlacing bytes _ = ⊥
