@@ -1,8 +1,12 @@
 //! What tests ask the program, and a file to ask it about.
 
+use crate::meetings::{Meeting, Rule};
+use gate_run::{Gate, NoGate};
 use std::alloc::{AllocError, Global};
+use std::sync::Wait;
 use std::test::Fail;
-use voxdag_top::voxdag;
+use std::thread::Threads;
+use voxdag_top::voxdag_gated;
 use vw_io::{MemoryShelf, MemorySink, Shelf};
 
 /// A model of one cell, 64 bytes.
@@ -76,33 +80,68 @@ pub fn words_of(alloc: Global, line: &str) -> Result<Vec<String>, AllocError> {
 }
 
 /// The status that a line of words ends in, and what the program put.
-pub fn ask<S: Shelf>(
+pub fn ask<S: Shelf, R: Threads + Wait + Sync>(
+    rt: &R,
+    alloc: Global,
+    line: &str,
+    shelf: &mut S,
+) -> Result<(u8, MemorySink), AllocError> {
+    ask_gated(rt, &NoGate, alloc, line, shelf)
+}
+
+/// The same, where the scripts pass this gate.
+pub fn ask_gated<S: Shelf, R: Threads + Wait + Sync, G: Gate + Sync>(
+    rt: &R,
+    gate: &G,
     alloc: Global,
     line: &str,
     shelf: &mut S,
 ) -> Result<(u8, MemorySink), AllocError> {
     let words = words_of(alloc, line)?;
     let mut out = MemorySink::new(alloc);
-    let status = voxdag(alloc, words.as_slice(), shelf, &mut out);
+    let status = voxdag_gated(rt, gate, alloc, words.as_slice(), shelf, &mut out).status;
     Ok((status, out))
 }
 
 /// Whether a line of words ends in this status, and the program put this.
-pub fn ends<S: Shelf>(
+pub fn ends<S: Shelf, R: Threads + Wait + Sync>(
+    rt: &R,
     alloc: Global,
     line: &str,
     shelf: &mut S,
     status: u8,
     printed: &str,
 ) -> Result<bool, AllocError> {
-    let (ended, out) = ask(alloc, line, shelf)?;
+    let (ended, out) = ask(rt, alloc, line, shelf)?;
     Ok(ended == status && out.bytes() == printed.as_bytes())
 }
 
+/// The same, where the scripts meet so. No line waits in vain.
+pub fn ends_by<S: Shelf, R: Threads + Wait + Sync>(
+    rt: &R,
+    rules: &[Rule],
+    alloc: Global,
+    line: &str,
+    shelf: &mut S,
+    status: u8,
+    printed: &str,
+) -> Result<bool, AllocError> {
+    let meeting = Meeting::new(rules);
+    let (ended, out) = ask_gated(rt, &meeting, alloc, line, shelf)?;
+    let met = !meeting.is_given_up();
+    Ok(met && ended == status && out.bytes() == printed.as_bytes())
+}
+
 /// Whether a line of words is refused so over the script of two changes, and leaves no transcript.
-pub fn is_refused(alloc: Global, line: &str, status: u8, printed: &str) -> Result<bool, Fail> {
+pub fn is_refused<R: Threads + Wait + Sync>(
+    rt: &R,
+    alloc: Global,
+    line: &str,
+    status: u8,
+    printed: &str,
+) -> Result<bool, Fail> {
     let mut shelf = shelf_with(alloc, GOOD.as_bytes())?;
-    let ended = ends(alloc, line, &mut shelf, status, printed)?;
+    let ended = ends(rt, alloc, line, &mut shelf, status, printed)?;
     Ok(ended && has(&shelf, "s.out", None))
 }
 

@@ -3,8 +3,10 @@
 #![tactic(auto)]
 
 mod asking;
+mod meetings;
 
 pub use asking::{
-    ANSWERS, GOOD, JOURNAL, ONE, REPORT, TWO, ask, ends, has, holds, holds_last, is_refused,
-    one_fault, repeated, shelf_with, words_of,
+    ANSWERS, GOOD, JOURNAL, ONE, REPORT, TWO, ask, ask_gated, ends, ends_by, has, holds,
+    holds_last, is_refused, one_fault, repeated, shelf_with, words_of,
 };
+pub use meetings::{Meeting, Moment, Place, Rule};

@@ -1,8 +1,10 @@
 use std::alloc::Global;
+use std::sync::Wait;
 use std::test::Fail;
+use std::thread::Threads;
 use test_calls::{
-    ANSWERS, GOOD, JOURNAL, ONE, TWO, ask, ends, has, holds, holds_last, is_refused, one_fault,
-    repeated, shelf_with, words_of,
+    ANSWERS, GOOD, JOURNAL, ONE, Place, Rule, TWO, ask, ends, ends_by, has, holds, holds_last,
+    is_refused, one_fault, repeated, shelf_with, words_of,
 };
 use voxdag_top::voxdag;
 use vw_io::{FaultyShelf, FaultySink, MemoryShelf, Shelf};
@@ -27,7 +29,8 @@ const NONE: &str = "scripts 1 records 0 marks 0 nodes 0\n";
 const SINGLE: &str = "scripts 1 records 1 marks 0 nodes 2\n";
 
 // Whether a script that is run alone has this line, transcript and journal, and its inputs stay.
-fn is_run(
+fn is_run<R: Threads + Wait + Sync>(
+    rt: &R,
     alloc: Global,
     script: &str,
     printed: &str,
@@ -36,7 +39,7 @@ fn is_run(
 ) -> Result<bool, Fail> {
     let mut shelf = shelf_with(alloc, script.as_bytes())?;
     let line = "run --side 8 --journal j one.vox s";
-    let ended = ends(alloc, line, &mut shelf, 0, printed)?;
+    let ended = ends(rt, alloc, line, &mut shelf, 0, printed)?;
     let written = has(&shelf, "s.out", Some(transcript)) && has(&shelf, "j", Some(journal));
     Ok(ended && written && has(&shelf, "s", Some(script)) && holds(&shelf, "one.vox", &ONE))
 }
@@ -56,7 +59,7 @@ fn scripts_have_their_outputs(rt: HostRuntime) -> Result<(), Fail> {
         ("\n\r", NONE, "", EMPTY_JOURNAL),
         ("", NONE, "", EMPTY_JOURNAL),
     ] {
-        let run = is_run(rt.alloc(), script, printed, transcript, journal)?;
+        let run = is_run(&rt, rt.alloc(), script, printed, transcript, journal)?;
         assert!(rt; run, "at {script}");
     }
     Ok(())
@@ -77,10 +80,16 @@ const STAMPS: &str = "stamp 0 6 7 7\ncount 0 0 0 8 8 8\ncount 7 7 7 1 1 1\nfill 
      stamp 0 0 0 0\ncount 0 0 0 2 1 1\n";
 
 // Whether a stamp of such a model sets so many cells.
-fn sets(alloc: Global, first: u8, last: u8, cells: u32) -> Result<bool, Fail> {
+fn sets<R: Threads + Wait + Sync>(
+    rt: &R,
+    alloc: Global,
+    first: u8,
+    last: u8,
+    cells: u32,
+) -> Result<bool, Fail> {
     let mut shelf = shelf_with(alloc, STAMPS.as_bytes())?;
     shelf.write("two.vox", two_voxels(alloc, first, last)?.as_slice())?;
-    let (ended, _) = ask(alloc, "run --side 8 two.vox s", &mut shelf)?;
+    let (ended, _) = ask(rt, alloc, "run --side 8 two.vox s", &mut shelf)?;
     let want = format!(in alloc;
         "1 @1 ok\n2 @1 count {cells}\n3 @1 count {cells}\n4 @2 ok\n5 @3 ok\n6 @3 count 2\n"
     )?;
@@ -90,16 +99,21 @@ fn sets(alloc: Global, first: u8, last: u8, cells: u32) -> Result<bool, Fail> {
 #[test]
 fn stamps_set_the_cells_of_a_model(rt: HostRuntime) -> Result<(), Fail> {
     for &(first, last, cells) in &[(5, 6, 1), (5, 0, 0), (0, 5, 1)] {
-        let set = sets(rt.alloc(), first, last, cells)?;
+        let set = sets(&rt, rt.alloc(), first, last, cells)?;
         assert!(rt; set, "colours {first} and {last}");
     }
     Ok(())
 }
 
-fn writes_nothing(alloc: Global, script: &str, printed: &str) -> Result<bool, Fail> {
+fn writes_nothing<R: Threads + Wait + Sync>(
+    rt: &R,
+    alloc: Global,
+    script: &str,
+    printed: &str,
+) -> Result<bool, Fail> {
     let mut shelf = shelf_with(alloc, script.as_bytes())?;
     let line = "run --side 8 --journal j --report p one.vox s";
-    let ended = ends(alloc, line, &mut shelf, 5, printed)?;
+    let ended = ends(rt, alloc, line, &mut shelf, 5, printed)?;
     let nothing = has(&shelf, "s.out", None) && has(&shelf, "j", None) && has(&shelf, "p", None);
     Ok(ended && nothing)
 }
@@ -116,7 +130,7 @@ fn refused_scripts_write_nothing(rt: HostRuntime) -> Result<(), Fail> {
         ("try undo\n", "voxdag: script 0 1 1\n"),
         ("fill 255 255 255 1 1 1\n", "voxdag: script 0 1 3\n"),
     ] {
-        let nothing = writes_nothing(rt.alloc(), script, printed)?;
+        let nothing = writes_nothing(&rt, rt.alloc(), script, printed)?;
         assert!(rt; nothing, "at {script}");
     }
     Ok(())
@@ -129,10 +143,13 @@ fn inputs_must_be_there(rt: HostRuntime) -> Result<(), Fail> {
         ("run no.vox no", "voxdag: missing no.vox\n"),
         ("run one.vox no", "voxdag: missing no\n"),
     ] {
-        assert!(rt; is_refused(rt.alloc(), line, 2, printed)?, "at {line}");
+        assert!(rt; is_refused(&rt, rt.alloc(), line, 2, printed)?, "at {line}");
     }
     Ok(())
 }
+
+// The script of two changes has its last answer, on line 3, before the second script begins.
+const IN_TURN: &[Rule] = &[((1, 1, Place::Before), (0, 3, Place::After))];
 
 // The transcript of the stamp behind the two changes, as session 1, and the journal of both.
 const SECOND: &str = "1 @3 ok\n2 @3 count 2\n";
@@ -157,31 +174,41 @@ const BOTH_RUN: Both = (0, BOTH, Some(ANSWERS), Some(SECOND), Some(BOTH_JOURNAL)
 
 const NONE_RUNS: Both = (5, "voxdag: script 1 2 1\n", None, None, None);
 
-fn is_second(alloc: Global, script: &str, both: &Both) -> Result<bool, Fail> {
+fn is_second<R: Threads + Wait + Sync>(
+    rt: &R,
+    alloc: Global,
+    script: &str,
+    both: &Both,
+) -> Result<bool, Fail> {
     let &(status, printed, first, second, journal) = both;
     let mut shelf = shelf_with(alloc, GOOD.as_bytes())?;
     shelf.write("t", script.as_bytes())?;
     let line = "run --side 8 --journal j one.vox s t";
-    let ended = ends(alloc, line, &mut shelf, status, printed)?;
+    let ended = ends_by(rt, IN_TURN, alloc, line, &mut shelf, status, printed)?;
     let written = has(&shelf, "s.out", first) && has(&shelf, "t.out", second);
     Ok(ended && written && has(&shelf, "j", journal))
 }
 
 #[test]
-fn scripts_run_one_after_another(rt: HostRuntime) -> Result<(), Fail> {
-    assert!(rt; is_second(rt.alloc(), STAMP, &BOTH_RUN)?);
-    assert!(rt; is_second(rt.alloc(), "\npaint\n", &NONE_RUNS)?);
+fn scripts_in_turn_have_their_outputs(rt: HostRuntime) -> Result<(), Fail> {
+    assert!(rt; is_second(&rt, rt.alloc(), STAMP, &BOTH_RUN)?);
+    assert!(rt; is_second(&rt, rt.alloc(), "\npaint\n", &NONE_RUNS)?);
     Ok(())
 }
 
 // Whether these of three scripts, of which two have a fault, are refused so.
-fn is_first(alloc: Global, scripts: &str, printed: &str) -> Result<bool, Fail> {
+fn is_first<R: Threads + Wait + Sync>(
+    rt: &R,
+    alloc: Global,
+    scripts: &str,
+    printed: &str,
+) -> Result<bool, Fail> {
     let mut shelf = shelf_with(alloc, b"fill 0 0 0 0 1 1\n")?;
     shelf.write("t", b"head\npaint\n")?;
     shelf.write("u", GOOD.as_bytes())?;
     shelf.write("u.out", b"kept")?;
     let line = format!(in alloc; "run --side 8 one.vox {scripts}")?;
-    let ended = ends(alloc, line.as_str(), &mut shelf, 5, printed)?;
+    let ended = ends(rt, alloc, line.as_str(), &mut shelf, 5, printed)?;
     Ok(ended && has(&shelf, "u.out", Some("kept")))
 }
 
@@ -193,15 +220,18 @@ fn the_first_script_with_a_fault_decides(rt: HostRuntime) -> Result<(), Fail> {
         ("u s t", "voxdag: script 1 1 3\n"),
         ("u u t", "voxdag: script 2 2 1\n"),
     ] {
-        assert!(rt; is_first(rt.alloc(), scripts, printed)?, "at {scripts}");
+        assert!(rt;
+            is_first(&rt, rt.alloc(), scripts, printed)?,
+            "at {scripts}"
+        );
     }
     Ok(())
 }
 
-fn leaves_all(alloc: Global, line: &str) -> Result<bool, Fail> {
+fn leaves_all<R: Threads + Wait + Sync>(rt: &R, alloc: Global, line: &str) -> Result<bool, Fail> {
     let mut shelf = shelf_with(alloc, GOOD.as_bytes())?;
     shelf.write("s.out", &ONE)?;
-    let ended = ends(alloc, line, &mut shelf, 1, USAGE)?;
+    let ended = ends(rt, alloc, line, &mut shelf, 1, USAGE)?;
     let same = holds(&shelf, "one.vox", &ONE) && holds(&shelf, "s.out", &ONE);
     Ok(ended && same && has(&shelf, "s", Some(GOOD)))
 }
@@ -218,7 +248,7 @@ fn outputs_take_no_other_name(rt: HostRuntime) -> Result<(), Fail> {
         "run --side 8 --journal j --report j one.vox s",
         "run --side 8 s.out s",
     ] {
-        assert!(rt; leaves_all(rt.alloc(), line)?, "at {line}");
+        assert!(rt; leaves_all(&rt, rt.alloc(), line)?, "at {line}");
     }
     Ok(())
 }
@@ -228,17 +258,39 @@ fn runs_have_65535_records(rt: HostRuntime) -> Result<(), Fail> {
     let script = repeated(rt.alloc(), "fill 0 0 0 1 1 1\n", 65_536)?;
     let mut shelf = shelf_with(rt.alloc(), script.as_slice())?;
     let printed = "scripts 1 records 65535 marks 0 nodes 2\n";
-    assert!(rt; ends(rt.alloc(), "run --side 8 one.vox s", &mut shelf, 0, printed)?);
+    assert!(rt;
+        ends(
+            &rt,
+            rt.alloc(),
+            "run --side 8 one.vox s",
+            &mut shelf,
+            0,
+            printed
+        )?
+    );
     let last = b"\n65535 @65535 ok\n65536 @65535 log full\n";
     assert!(rt; holds_last(&shelf, "s.out", last));
     Ok(())
 }
 
 // Whether a script of so many empty lines ends so, and has a transcript where it is run.
-fn is_run_or_refused(alloc: Global, lines: u32, status: u8, printed: &str) -> Result<bool, Fail> {
+fn is_run_or_refused<R: Threads + Wait + Sync>(
+    rt: &R,
+    alloc: Global,
+    lines: u32,
+    status: u8,
+    printed: &str,
+) -> Result<bool, Fail> {
     let script = repeated(alloc, "\n", lines)?;
     let mut shelf = shelf_with(alloc, script.as_slice())?;
-    let ended = ends(alloc, "run --side 8 one.vox s", &mut shelf, status, printed)?;
+    let ended = ends(
+        rt,
+        alloc,
+        "run --side 8 one.vox s",
+        &mut shelf,
+        status,
+        printed,
+    )?;
     Ok(ended && shelf.file("s.out").is_some() == (status == 0))
 }
 
@@ -250,7 +302,7 @@ fn long_scripts_are_refused(rt: HostRuntime) -> Result<(), Fail> {
         (8_388_608, 5, "voxdag: script 0 100001 7\n"),
         (8_388_609, 9, "voxdag: too long s\n"),
     ] {
-        let ended = is_run_or_refused(rt.alloc(), lines, status, printed)?;
+        let ended = is_run_or_refused(&rt, rt.alloc(), lines, status, printed)?;
         assert!(rt; ended, "at {lines}");
     }
     Ok(())
@@ -312,13 +364,13 @@ const FAILING: &[Failing] = &[
     ),
 ];
 
-fn fails(alloc: Global, failing: &Failing) -> Result<bool, Fail> {
+fn fails<R: Threads + Wait + Sync>(rt: &R, alloc: Global, failing: &Failing) -> Result<bool, Fail> {
     let &(call, status, printed, left) = failing;
     let mut inner = shelf_with(alloc, GOOD.as_bytes())?;
     inner.write("t", STAMP.as_bytes())?;
     let mut shelf = FaultyShelf::new(inner, one_fault(alloc, call, 5)?);
     let line = "run --side 8 --journal j --report p one.vox s t";
-    let ended = ends(alloc, line, &mut shelf, status, printed)?;
+    let ended = ends_by(rt, IN_TURN, alloc, line, &mut shelf, status, printed)?;
     Ok(ended && are_left(shelf.files(), left))
 }
 
@@ -334,23 +386,23 @@ fn are_left(files: &MemoryShelf, left: &[Option<&str>]) -> bool {
 #[test]
 fn each_call_can_fail(rt: HostRuntime) -> Result<(), Fail> {
     for failing in FAILING {
-        assert!(rt; fails(rt.alloc(), failing)?, "at call {}", failing.0);
+        assert!(rt; fails(&rt, rt.alloc(), failing)?, "at call {}", failing.0);
     }
     Ok(())
 }
 
 // Whether a run whose line fails behind three bytes has written all.
-fn are_whole(alloc: Global) -> Result<bool, Fail> {
+fn are_whole<R: Threads + Wait + Sync>(rt: &R, alloc: Global) -> Result<bool, Fail> {
     let mut shelf = shelf_with(alloc, GOOD.as_bytes())?;
     let mut out = FaultySink::new(alloc, one_fault(alloc, 1, 3)?);
     let words = words_of(alloc, "run --side 8 --journal j one.vox s")?;
-    let ended = voxdag(alloc, words.as_slice(), &mut shelf, &mut out);
+    let ended = voxdag(rt, alloc, words.as_slice(), &mut shelf, &mut out);
     let failed = ended == 7 && out.bytes() == b"scr".as_slice();
     Ok(failed && has(&shelf, "s.out", Some(ANSWERS)) && has(&shelf, "j", Some(JOURNAL)))
 }
 
 #[test]
 fn outputs_are_whole_where_no_line_is_put(rt: HostRuntime) -> Result<(), Fail> {
-    assert!(rt; are_whole(rt.alloc())?);
+    assert!(rt; are_whole(&rt, rt.alloc())?);
     Ok(())
 }

@@ -1,7 +1,9 @@
 //! Scripts that save boxes as files.
 
 use std::alloc::Global;
+use std::sync::Wait;
 use std::test::Fail;
+use std::thread::Threads;
 use test_calls::{ONE, ask, ends, has, holds, one_fault, repeated, shelf_with};
 use vw_io::{FaultyShelf, MemoryShelf, Shelf};
 
@@ -14,9 +16,13 @@ const THREE: [u8; 72] =
     *b"VOX \x96\0\0\0MAIN\0\0\0\0\x34\0\0\0SIZE\x0c\0\0\0\0\0\0\0\x02\0\0\0\x02\0\0\0\x02\0\0\0XYZI\x10\0\0\0\0\0\0\0\x03\0\0\0\x01\0\0\x01\0\x01\0\x01\x01\x01\x01\x01";
 
 // A shelf after a run of these lines at side 8, which ends in status 0.
-fn saved(alloc: Global, script: &str) -> Result<MemoryShelf, Fail> {
+fn saved<R: Threads + Wait + Sync>(
+    rt: &R,
+    alloc: Global,
+    script: &str,
+) -> Result<MemoryShelf, Fail> {
     let mut shelf = shelf_with(alloc, script.as_bytes())?;
-    let (ended, _) = ask(alloc, "run --side 8 one.vox s", &mut shelf)?;
+    let (ended, _) = ask(rt, alloc, "run --side 8 one.vox s", &mut shelf)?;
     if ended != 0 {
         return Err("status 0".into());
     }
@@ -26,7 +32,7 @@ fn saved(alloc: Global, script: &str) -> Result<MemoryShelf, Fail> {
 #[test]
 fn boxes_are_saved(rt: HostRuntime) -> Result<(), Fail> {
     let script = "fill 3 3 3 1 1 1\nsave a.vox 3 3 3 1 1 1\nsave b.vox 0 0 0 1 1 1\n";
-    let mut shelf = saved(rt.alloc(), script)?;
+    let mut shelf = saved(&rt, rt.alloc(), script)?;
     assert!(rt;
         has(
             &shelf,
@@ -36,14 +42,14 @@ fn boxes_are_saved(rt: HostRuntime) -> Result<(), Fail> {
     );
     assert!(rt; holds(&shelf, "a.vox", &ONE));
     assert!(rt; holds(&shelf, "b.vox", &NO_CELL));
-    assert!(rt; ends(rt.alloc(), "count a.vox", &mut shelf, 0, "1\n")?);
+    assert!(rt; ends(&rt, rt.alloc(), "count a.vox", &mut shelf, 0, "1\n")?);
     Ok(())
 }
 
 #[test]
 fn cells_come_by_z_then_y_then_x(rt: HostRuntime) -> Result<(), Fail> {
     let script = "fill 5 6 5 1 1 1\nfill 6 5 5 1 1 1\nfill 6 6 6 1 1 1\nsave t 5 5 5 2 2 2\n";
-    let shelf = saved(rt.alloc(), script)?;
+    let shelf = saved(&rt, rt.alloc(), script)?;
     assert!(rt; holds(&shelf, "t", &THREE));
     Ok(())
 }
@@ -66,7 +72,7 @@ fn old_versions_are_saved(rt: HostRuntime) -> Result<(), Fail> {
     let mut shelf = shelf_with(rt.alloc(), OLD.as_bytes())?;
     let line = "run --side 8 --report p one.vox s";
     let printed = "scripts 1 records 2 marks 1 nodes 0\n";
-    assert!(rt; ends(rt.alloc(), line, &mut shelf, 0, printed)?);
+    assert!(rt; ends(&rt, rt.alloc(), line, &mut shelf, 0, printed)?);
     assert!(rt; are_saved(&shelf));
     Ok(())
 }
@@ -102,19 +108,28 @@ const FAILS: &[(u32, &str, [bool; 5])] = &[
     ),
 ];
 
-fn is_cut(alloc: Global, call: u32, printed: &str, whole: [bool; 5]) -> Result<bool, Fail> {
+fn is_cut<R: Threads + Wait + Sync>(
+    rt: &R,
+    alloc: Global,
+    call: u32,
+    printed: &str,
+    whole: [bool; 5],
+) -> Result<bool, Fail> {
     let mut inner = shelf_with(alloc, b"save b 0 0 0 1 1 1\n")?;
     inner.write("t", b"save a 0 0 0 1 1 1\n")?;
     let mut shelf = FaultyShelf::new(inner, one_fault(alloc, call, 0)?);
     let line = "run --side 8 --journal j one.vox s t";
-    let ended = ends(alloc, line, &mut shelf, 6, printed)?;
+    let ended = ends(rt, alloc, line, &mut shelf, 6, printed)?;
     Ok(ended && standing(shelf.files()) == whole)
 }
 
 #[test]
 fn each_saved_file_can_fail(rt: HostRuntime) -> Result<(), Fail> {
     for &(call, printed, whole) in FAILS {
-        assert!(rt; is_cut(rt.alloc(), call, printed, whole)?, "at {printed}");
+        assert!(rt;
+            is_cut(&rt, rt.alloc(), call, printed, whole)?,
+            "at {printed}"
+        );
     }
     Ok(())
 }
@@ -131,10 +146,10 @@ fn standing(shelf: &MemoryShelf) -> [bool; 5] {
 }
 
 // Whether such a script is refused with its words, and has no transcript.
-fn is_usage(alloc: Global, script: &str) -> Result<bool, Fail> {
+fn is_usage<R: Threads + Wait + Sync>(rt: &R, alloc: Global, script: &str) -> Result<bool, Fail> {
     let mut shelf = shelf_with(alloc, script.as_bytes())?;
     let line = "run --side 8 --journal j one.vox s";
-    let ended = ends(alloc, line, &mut shelf, 1, "voxdag: usage\n")?;
+    let ended = ends(rt, alloc, line, &mut shelf, 1, "voxdag: usage\n")?;
     Ok(ended && has(&shelf, "s.out", None))
 }
 
@@ -148,7 +163,7 @@ fn saved_names_must_be_free(rt: HostRuntime) -> Result<(), Fail> {
         "save a 0 0 0 1 1 1\nsave a 0 0 0 1 1 1\n",
         "at 9 save a 0 0 0 1 1 1\nsave a 0 0 0 1 1 1\n",
     ] {
-        assert!(rt; is_usage(rt.alloc(), script)?, "at {script}");
+        assert!(rt; is_usage(&rt, rt.alloc(), script)?, "at {script}");
     }
     Ok(())
 }
@@ -162,7 +177,7 @@ fn a_floor_is_saved(rt: HostRuntime) -> Result<(), Fail> {
     let mut shelf = shelf_with(rt.alloc(), script.as_bytes())?;
     let model = floor(rt.alloc())?;
     shelf.write("model.vox", model.as_slice())?;
-    let (ended, _) = ask(rt.alloc(), "run model.vox s", &mut shelf)?;
+    let (ended, _) = ask(&rt, rt.alloc(), "run model.vox s", &mut shelf)?;
     assert_eq!(rt; ended, 0);
     let want = "1 @1 ok\n2 @2 ok\n3 @2 count 31752\n4 @3 ok\n5 @3 count 47628\n6 @4 ok\n\
                 7 @4 saved 31752\n";
@@ -188,10 +203,23 @@ XYZI\x14\xf8\0\0\0\0\0\0\x04\x3e\0\0",
 }
 
 // Whether a script of so many saves ends so.
-fn is_ended(alloc: Global, saves: u32, status: u8, printed: &str) -> Result<bool, Fail> {
+fn is_ended<R: Threads + Wait + Sync>(
+    rt: &R,
+    alloc: Global,
+    saves: u32,
+    status: u8,
+    printed: &str,
+) -> Result<bool, Fail> {
     let script = repeated(alloc, "save a 0 0 0 1 1 1\n", saves)?;
     let mut shelf = shelf_with(alloc, script.as_slice())?;
-    Ok(ends(alloc, "run --side 8 one.vox s", &mut shelf, status, printed)?)
+    Ok(ends(
+        rt,
+        alloc,
+        "run --side 8 one.vox s",
+        &mut shelf,
+        status,
+        printed,
+    )?)
 }
 
 #[test]
@@ -200,7 +228,10 @@ fn a_script_saves_16_times(rt: HostRuntime) -> Result<(), Fail> {
         (16, 1, "voxdag: usage\n"),
         (17, 5, "voxdag: script 0 17 8\n"),
     ] {
-        assert!(rt; is_ended(rt.alloc(), saves, status, printed)?, "at {saves}");
+        assert!(rt;
+            is_ended(&rt, rt.alloc(), saves, status, printed)?,
+            "at {saves}"
+        );
     }
     Ok(())
 }

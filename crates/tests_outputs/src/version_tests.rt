@@ -1,9 +1,10 @@
 //! Versions of a world: undone, redone, forgotten, asked again, and told by the report.
 
-use std::alloc::{AllocError, Global};
+use std::alloc::Global;
+use std::sync::Wait;
 use std::test::Fail;
-use test_calls::{ask, ends, has, holds_last, shelf_with};
-use vw_io::Shelf;
+use std::thread::Threads;
+use test_calls::{ask, ends, has, shelf_with};
 
 // The options of a run, its script, its transcript, and the line that it puts.
 type Row = (&'static str, &'static str, &'static str, &'static str);
@@ -59,18 +60,18 @@ const EDITS: &[Row] = &[
     ),
 ];
 
-fn is_answered(alloc: Global, row: &Row) -> Result<bool, Fail> {
+fn is_answered<R: Threads + Wait + Sync>(rt: &R, alloc: Global, row: &Row) -> Result<bool, Fail> {
     let &(options, script, transcript, printed) = row;
     let mut shelf = shelf_with(alloc, script.as_bytes())?;
     let line = format!(in alloc; "run {options} one.vox s")?;
-    let ended = ends(alloc, line.as_str(), &mut shelf, 0, printed)?;
+    let ended = ends(rt, alloc, line.as_str(), &mut shelf, 0, printed)?;
     Ok(ended && has(&shelf, "s.out", Some(transcript)))
 }
 
 #[test]
 fn commands_have_their_answers(rt: HostRuntime) -> Result<(), Fail> {
     for row in EDITS {
-        assert!(rt; is_answered(rt.alloc(), row)?, "at {}", row.1);
+        assert!(rt; is_answered(&rt, rt.alloc(), row)?, "at {}", row.1);
     }
     Ok(())
 }
@@ -84,7 +85,12 @@ const UNDONE_JOURNAL: &str =
 #[test]
 fn undos_stand_in_the_journal(rt: HostRuntime) -> Result<(), Fail> {
     let mut shelf = shelf_with(rt.alloc(), UNDONE.as_bytes())?;
-    let (ended, _) = ask(rt.alloc(), "run --side 8 --journal j one.vox s", &mut shelf)?;
+    let (ended, _) = ask(
+        &rt,
+        rt.alloc(),
+        "run --side 8 --journal j one.vox s",
+        &mut shelf,
+    )?;
     assert_eq!(rt; ended, 0);
     assert!(rt; has(&shelf, "j", Some(UNDONE_JOURNAL)));
     Ok(())
@@ -146,11 +152,11 @@ const REPORTS: &[Row] = &[
     ),
 ];
 
-fn is_reported(alloc: Global, row: &Row) -> Result<bool, Fail> {
+fn is_reported<R: Threads + Wait + Sync>(rt: &R, alloc: Global, row: &Row) -> Result<bool, Fail> {
     let &(options, script, transcript, report) = row;
     let mut shelf = shelf_with(alloc, script.as_bytes())?;
     let line = format!(in alloc; "run {options} --report p one.vox s")?;
-    let (ended, _) = ask(alloc, line.as_str(), &mut shelf)?;
+    let (ended, _) = ask(rt, alloc, line.as_str(), &mut shelf)?;
     let want = format!(in alloc; "voxdag report 1\n{report}")?;
     let told = has(&shelf, "s.out", Some(transcript)) && has(&shelf, "p", Some(want.as_str()));
     Ok(ended == 0 && told)
@@ -159,34 +165,7 @@ fn is_reported(alloc: Global, row: &Row) -> Result<bool, Fail> {
 #[test]
 fn reports_tell_the_versions_that_are_kept(rt: HostRuntime) -> Result<(), Fail> {
     for row in REPORTS {
-        assert!(rt; is_reported(rt.alloc(), row)?, "at {}", row.1);
+        assert!(rt; is_reported(&rt, rt.alloc(), row)?, "at {}", row.1);
     }
-    Ok(())
-}
-
-// A hundred cells of a row, one after another.
-fn row_of_cells(alloc: Global) -> Result<Vec<u8>, AllocError> {
-    let mut script = Vec::new(alloc);
-    for i in 0..100u32 {
-        let line = format!(in alloc; "fill {i} 0 0 1 1 1\n")?;
-        script.extend_from_slice(line.as_bytes())?;
-    }
-    Ok(script)
-}
-
-// How the report of two such scripts ends.
-const LEVELS: &str = "\nversion 200 root 100\nlevel 0 nodes 4\nlevel 1 nodes 8\nlevel 2 nodes 16\n\
-     level 3 nodes 32\nlevel 4 nodes 64\nlevel 5 nodes 100\nlevel 6 nodes 100\n";
-
-#[test]
-fn equal_nodes_of_all_versions_are_one(rt: HostRuntime) -> Result<(), Fail> {
-    let script = row_of_cells(rt.alloc())?;
-    let mut shelf = shelf_with(rt.alloc(), script.as_slice())?;
-    shelf.write("t", script.as_slice())?;
-    let printed = "scripts 2 records 200 marks 0 nodes 324\n";
-    let line = "run --report p one.vox s t";
-    assert!(rt; ends(rt.alloc(), line, &mut shelf, 0, printed)?);
-    assert!(rt; holds_last(&shelf, "p", LEVELS.as_bytes()));
-    assert!(rt; holds_last(&shelf, "t.out", b"\n100 @200 ok\n"));
     Ok(())
 }

@@ -1,5 +1,7 @@
 use std::alloc::{AllocError, Global};
+use std::sync::Wait;
 use std::test::Fail;
+use std::thread::Threads;
 use test_calls::{ONE, ends, one_fault, words_of};
 use voxdag_top::voxdag;
 use vw_io::{FaultyShelf, FaultySink, MemoryShelf, MemorySink, Shelf};
@@ -38,7 +40,7 @@ fn count_answers_by_its_words(rt: HostRuntime) -> Result<(), Fail> {
         ("--help", 1, "voxdag: usage\n"),
     ] {
         assert!(rt;
-            ends(rt.alloc(), line, &mut shelf, status, want)?,
+            ends(&rt, rt.alloc(), line, &mut shelf, status, want)?,
             "at {line}"
         );
     }
@@ -55,10 +57,16 @@ fn changed(alloc: Global, length: usize, at: usize, byte: u8) -> Result<Vec<u8>,
     Ok(file)
 }
 
-fn is_counted(alloc: Global, file: &[u8], status: u8, want: &str) -> Result<bool, Fail> {
+fn is_counted<R: Threads + Wait + Sync>(
+    rt: &R,
+    alloc: Global,
+    file: &[u8],
+    status: u8,
+    want: &str,
+) -> Result<bool, Fail> {
     let mut shelf = MemoryShelf::new(alloc);
     shelf.write("a.vox", file)?;
-    let ended = ends(alloc, "count a.vox", &mut shelf, status, want)?;
+    let ended = ends(rt, alloc, "count a.vox", &mut shelf, status, want)?;
     Ok(ended)
 }
 
@@ -79,7 +87,7 @@ fn count_answers_by_its_file(rt: HostRuntime) -> Result<(), Fail> {
         (40, 16, 20, 4, "voxdag: vox 4 20\n"),
     ] {
         let file = changed(rt.alloc(), length, at, byte)?;
-        let counted = is_counted(rt.alloc(), file.as_slice(), status, want)?;
+        let counted = is_counted(&rt, rt.alloc(), file.as_slice(), status, want)?;
         assert!(rt; counted, "at {want}");
     }
     Ok(())
@@ -103,7 +111,12 @@ const CUT_IN_CHILDREN: &[Cut] = &[
     (45, 63, 4, "voxdag: vox 4 44\n"),
 ];
 
-fn are_cut(alloc: Global, cut: &Cut, is_framed: bool) -> Result<bool, Fail> {
+fn are_cut<R: Threads + Wait + Sync>(
+    rt: &R,
+    alloc: Global,
+    cut: &Cut,
+    is_framed: bool,
+) -> Result<bool, Fail> {
     let &(least, most, status, want) = cut;
     for kept in least..=most {
         let children = if is_framed {
@@ -113,7 +126,7 @@ fn are_cut(alloc: Global, cut: &Cut, is_framed: bool) -> Result<bool, Fail> {
         };
         let children = u8::try_from(children).unwrap_or(44);
         let file = changed(alloc, kept, 16, children)?;
-        if !is_counted(alloc, file.as_slice(), status, want)? {
+        if !is_counted(rt, alloc, file.as_slice(), status, want)? {
             return Ok(false);
         }
     }
@@ -123,10 +136,10 @@ fn are_cut(alloc: Global, cut: &Cut, is_framed: bool) -> Result<bool, Fail> {
 #[test]
 fn cut_files_have_their_fault(rt: HostRuntime) -> Result<(), Fail> {
     for cut in CUT_ANYWHERE {
-        assert!(rt; are_cut(rt.alloc(), cut, false)?, "from {}", cut.0);
+        assert!(rt; are_cut(&rt, rt.alloc(), cut, false)?, "from {}", cut.0);
     }
     for cut in CUT_IN_CHILDREN {
-        assert!(rt; are_cut(rt.alloc(), cut, true)?, "from {}", cut.0);
+        assert!(rt; are_cut(&rt, rt.alloc(), cut, true)?, "from {}", cut.0);
     }
     Ok(())
 }
@@ -176,37 +189,38 @@ fn scene(alloc: Global, version: u8) -> Result<Vec<u8>, Fail> {
 fn scenes_are_passed_over(rt: HostRuntime) -> Result<(), Fail> {
     for &version in &[150u8, 200] {
         let file = scene(rt.alloc(), version)?;
-        let counted = is_counted(rt.alloc(), file.as_slice(), 0, "2\n")?;
+        let counted = is_counted(&rt, rt.alloc(), file.as_slice(), 0, "2\n")?;
         assert!(rt; counted, "under {version}");
     }
     Ok(())
 }
 
 // Whether a call with no word is refused.
-fn no_word_is_usage(alloc: Global) -> bool {
+fn no_word_is_usage<R: Threads + Wait + Sync>(rt: &R, alloc: Global) -> bool {
     let mut shelf = MemoryShelf::new(alloc);
     let mut out = MemorySink::new(alloc);
-    let ended = voxdag(alloc, &[], &mut shelf, &mut out);
+    let ended = voxdag(rt, alloc, &[], &mut shelf, &mut out);
     ended == 1 && out.bytes() == b"voxdag: usage\n".as_slice()
 }
 
 #[test]
 fn no_words_are_usage(rt: HostRuntime) {
-    assert!(rt; no_word_is_usage(rt.alloc()));
+    assert!(rt; no_word_is_usage(&rt, rt.alloc()));
 }
 
 #[test]
 fn a_fault_has_its_line(rt: HostRuntime) -> Result<(), Fail> {
     let mut shelf = FaultyShelf::new(shelf(rt.alloc())?, one_fault(rt.alloc(), 1, 0)?);
     for &(status, want) in &[(3, "voxdag: read fault one.vox\n"), (0, "1\n")] {
-        let counted = ends(rt.alloc(), "count one.vox", &mut shelf, status, want)?;
+        let counted = ends(&rt, rt.alloc(), "count one.vox", &mut shelf, status, want)?;
         assert!(rt; counted, "at {want}");
     }
     Ok(())
 }
 
 // Whether a line of which so many bytes go through ends in status 7, with these bytes.
-fn is_out_fault(
+fn is_out_fault<R: Threads + Wait + Sync>(
+    rt: &R,
     alloc: Global,
     shelf: &mut MemoryShelf,
     line: &str,
@@ -215,7 +229,7 @@ fn is_out_fault(
 ) -> Result<bool, AllocError> {
     let mut out = FaultySink::new(alloc, one_fault(alloc, 1, passes)?);
     let words = words_of(alloc, line)?;
-    let ended = voxdag(alloc, words.as_slice(), shelf, &mut out);
+    let ended = voxdag(rt, alloc, words.as_slice(), shelf, &mut out);
     Ok(ended == 7 && out.bytes() == want.as_bytes())
 }
 
@@ -227,7 +241,7 @@ fn a_line_that_fails_is_status_7(rt: HostRuntime) -> Result<(), Fail> {
         ("count no.vox", 8, "voxdag: "),
         ("count", 99, "voxdag: usage\n"),
     ] {
-        let failed = is_out_fault(rt.alloc(), &mut shelf, line, passes, want)?;
+        let failed = is_out_fault(&rt, rt.alloc(), &mut shelf, line, passes, want)?;
         assert!(rt; failed, "at {line}");
     }
     Ok(())

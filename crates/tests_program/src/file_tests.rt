@@ -20,7 +20,7 @@ fn a_run_over_real_files(rt: HostRuntime) -> Result<(), Fail> {
         ),
     ] {
         assert!(rt;
-            ends(rt.alloc(), line, &mut shelf, status, printed)?,
+            ends(&rt, rt.alloc(), line, &mut shelf, status, printed)?,
             "at {line}"
         );
     }

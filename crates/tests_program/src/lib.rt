@@ -9,6 +9,10 @@ mod demo_tests;
 #[cfg(test)]
 mod file_tests;
 #[cfg(test)]
+mod flood_tests;
+#[cfg(test)]
 mod guide_tests;
+#[cfg(test)]
+mod scene_tests;
 #[cfg(test)]
 mod word_tests;

@@ -1,7 +1,9 @@
 //! The words that the program takes, and those that it refuses.
 
 use std::alloc::Global;
+use std::sync::Wait;
 use std::test::Fail;
+use std::thread::Threads;
 use test_calls::{ANSWERS, GOOD, TWO, ask, ends, has, is_refused, shelf_with};
 
 const USAGE: &str = "voxdag: usage\n";
@@ -64,7 +66,8 @@ const SIDES: &[(&str, &str, &str, &str)] = &[
     ),
 ];
 
-fn is_taken(
+fn is_taken<R: Threads + Wait + Sync>(
+    rt: &R,
     alloc: Global,
     line: &str,
     script: &str,
@@ -72,14 +75,14 @@ fn is_taken(
     transcript: &str,
 ) -> Result<bool, Fail> {
     let mut shelf = shelf_with(alloc, script.as_bytes())?;
-    let ended = ends(alloc, line, &mut shelf, 0, printed)?;
+    let ended = ends(rt, alloc, line, &mut shelf, 0, printed)?;
     Ok(ended && has(&shelf, "s.out", Some(transcript)))
 }
 
 #[test]
 fn options_stand_anywhere(rt: HostRuntime) -> Result<(), Fail> {
     for &line in AT_8 {
-        let taken = is_taken(rt.alloc(), line, GOOD, TWO, ANSWERS)?;
+        let taken = is_taken(&rt, rt.alloc(), line, GOOD, TWO, ANSWERS)?;
         assert!(rt; taken, "at {line}");
     }
     Ok(())
@@ -88,7 +91,7 @@ fn options_stand_anywhere(rt: HostRuntime) -> Result<(), Fail> {
 #[test]
 fn the_side_is_256_where_it_is_left_out(rt: HostRuntime) -> Result<(), Fail> {
     for &line in AT_256 {
-        let taken = is_taken(rt.alloc(), line, WHOLE, DEEP, COUNTED)?;
+        let taken = is_taken(&rt, rt.alloc(), line, WHOLE, DEEP, COUNTED)?;
         assert!(rt; taken, "at {line}");
     }
     Ok(())
@@ -97,7 +100,7 @@ fn the_side_is_256_where_it_is_left_out(rt: HostRuntime) -> Result<(), Fail> {
 #[test]
 fn other_sides_are_taken(rt: HostRuntime) -> Result<(), Fail> {
     for &(line, script, printed, transcript) in SIDES {
-        let taken = is_taken(rt.alloc(), line, script, printed, transcript)?;
+        let taken = is_taken(&rt, rt.alloc(), line, script, printed, transcript)?;
         assert!(rt; taken, "at {line}");
     }
     Ok(())
@@ -114,16 +117,21 @@ const VALUES: &[(&str, &str)] = &[
     ("run one.vox --journal run s", "run"),
 ];
 
-fn leaves(alloc: Global, line: &str, name: &str) -> Result<bool, Fail> {
+fn leaves<R: Threads + Wait + Sync>(
+    rt: &R,
+    alloc: Global,
+    line: &str,
+    name: &str,
+) -> Result<bool, Fail> {
     let mut shelf = shelf_with(alloc, GOOD.as_bytes())?;
-    let (ended, _) = ask(alloc, line, &mut shelf)?;
+    let (ended, _) = ask(rt, alloc, line, &mut shelf)?;
     Ok(ended == 0 && shelf.file(name).is_some())
 }
 
 #[test]
 fn values_are_the_texts_that_stand_there(rt: HostRuntime) -> Result<(), Fail> {
     for &(line, name) in VALUES {
-        assert!(rt; leaves(rt.alloc(), line, name)?, "at {line}");
+        assert!(rt; leaves(&rt, rt.alloc(), line, name)?, "at {line}");
     }
     Ok(())
 }
@@ -204,7 +212,7 @@ const NO_WORDS: &[&str] = &[
 #[test]
 fn other_words_are_usage(rt: HostRuntime) -> Result<(), Fail> {
     for &line in NO_WORDS {
-        assert!(rt; is_refused(rt.alloc(), line, 1, USAGE)?, "at {line}");
+        assert!(rt; is_refused(&rt, rt.alloc(), line, 1, USAGE)?, "at {line}");
     }
     Ok(())
 }
@@ -221,26 +229,26 @@ const NAMES: &[(&str, &str)] = &[
 #[test]
 fn words_without_hyphens_are_names(rt: HostRuntime) -> Result<(), Fail> {
     for &(line, printed) in NAMES {
-        assert!(rt; is_refused(rt.alloc(), line, 2, printed)?, "at {line}");
+        assert!(rt; is_refused(&rt, rt.alloc(), line, 2, printed)?, "at {line}");
     }
     Ok(())
 }
 
 // The status of a run of so many scripts, whose file isn't there.
-fn status_of(alloc: Global, scripts: u32) -> Result<u8, Fail> {
+fn status_of<R: Threads + Wait + Sync>(rt: &R, alloc: Global, scripts: u32) -> Result<u8, Fail> {
     let mut line = String::from_str(alloc, "run no.vox")?;
     for _ in 0..scripts {
         line.push_str(" t")?;
     }
     line.push_str(" --side 8")?;
     let mut shelf = shelf_with(alloc, GOOD.as_bytes())?;
-    let (ended, _) = ask(alloc, line.as_str(), &mut shelf)?;
+    let (ended, _) = ask(rt, alloc, line.as_str(), &mut shelf)?;
     Ok(ended)
 }
 
 #[test]
 fn runs_have_64_scripts(rt: HostRuntime) -> Result<(), Fail> {
-    assert_eq!(rt; status_of(rt.alloc(), 64)?, 2);
-    assert_eq!(rt; status_of(rt.alloc(), 65)?, 1);
+    assert_eq!(rt; status_of(&rt, rt.alloc(), 64)?, 2);
+    assert_eq!(rt; status_of(&rt, rt.alloc(), 65)?, 1);
     Ok(())
 }

@@ -12,10 +12,13 @@ use node_words::Plan;
 use plain_run::PlainRun;
 use script::{Script, read_script};
 use std::alloc::{AllocError, Global};
+use std::sync::Wait;
 use std::test::Fail;
+use std::thread::Threads;
+use test_calls::{Meeting, Place};
 use transcript::{LineAnswer, read_transcript, transcript_text};
 use vox_read::{Models, read_models};
-use voxdag_top::voxdag;
+use voxdag_top::voxdag_gated;
 use vw_io::{MemoryShelf, MemorySink, Shelf};
 
 // Two models: five cells of a box of 3 x 2 x 2, of which a sixth was cleared again, and a cell.
@@ -137,12 +140,19 @@ fn is_same_end(
     )
 }
 
-/// Runs the scripts by the program.
-pub(crate) fn run_program(alloc: Global, run: Run<'_>) -> Result<Ended, Fail> {
+/// Runs the scripts by the program. The second begins once the first has had its last answer.
+pub(crate) fn run_program<R: Threads + Wait + Sync>(
+    rt: &R,
+    alloc: Global,
+    run: Run<'_>,
+) -> Result<Ended, Fail> {
     let mut shelf = shelf_of(alloc, run)?;
     let words = words(alloc, run.plan)?;
     let mut out = MemorySink::new(alloc);
-    if !is_done(alloc, words.as_slice(), &mut shelf, &mut out) {
+    let waits = (1, first_line(run.second), Place::Before);
+    let rules = [(waits, (0, last_line(run.first), Place::After))];
+    let meeting = Meeting::new(&rules);
+    if !is_done(rt, &meeting, alloc, words.as_slice(), &mut shelf, &mut out) {
         return Err(Fail::from("a run"));
     }
     let first = told(alloc, &shelf, "a.out")?;
@@ -164,8 +174,45 @@ fn shelf_of(alloc: Global, run: Run<'_>) -> Result<MemoryShelf, Fail> {
     Ok(shelf)
 }
 
-fn is_done(alloc: Global, words: &[String], shelf: &mut MemoryShelf, out: &mut MemorySink) -> bool {
-    voxdag(alloc, words, shelf, out) == 0
+fn is_done<R: Threads + Wait + Sync>(
+    rt: &R,
+    meeting: &Meeting<'_>,
+    alloc: Global,
+    words: &[String],
+    shelf: &mut MemoryShelf,
+    out: &mut MemorySink,
+) -> bool {
+    let status = voxdag_gated(rt, meeting, alloc, words, shelf, out).status;
+    status == 0 && !meeting.is_given_up()
+}
+
+// The number of the first line of a script that is a command.
+fn first_line(script: &str) -> u32 {
+    let mut number: u32 = 0;
+    for line in script.lines() {
+        number = number.saturating_add(1);
+        if is_command(line) {
+            return number;
+        }
+    }
+    number
+}
+
+fn last_line(script: &str) -> u32 {
+    let mut number: u32 = 0;
+    let mut last: u32 = 0;
+    for line in script.lines() {
+        number = number.saturating_add(1);
+        if is_command(line) {
+            last = number;
+        }
+    }
+    last
+}
+
+// A script by chance has no other lines than commands, comments, and a line of two blanks.
+fn is_command(line: &str) -> bool {
+    !line.starts_with('#') && !line.starts_with(' ')
 }
 
 // The answers of a transcript.

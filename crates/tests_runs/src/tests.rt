@@ -2,7 +2,9 @@ use crate::comparing::{Ended, Run, is_as_plain, run_program};
 use crate::scripts::{Edits, script};
 use node_words::Plan;
 use std::alloc::Global;
+use std::sync::Wait;
 use std::test::Fail;
+use std::thread::Threads;
 use transcript::{Answer, LineAnswer};
 use vw_cell::Side;
 
@@ -99,9 +101,15 @@ struct Shown {
     goes_on: bool,
 }
 
-fn show(alloc: Global, edits: Edits, level: u8, row: &Row) -> Result<Shown, Fail> {
+fn show<R: Threads + Wait + Sync>(
+    rt: &R,
+    alloc: Global,
+    edits: Edits,
+    level: u8,
+    row: &Row,
+) -> Result<Shown, Fail> {
     let drawn = draw(alloc, edits, row)?;
-    let ended = run_program(alloc, drawn.run())?;
+    let ended = run_program(rt, alloc, drawn.run())?;
     let same = is_as_plain(alloc, drawn.run(), &ended)?;
     Ok(Shown {
         same,
@@ -113,8 +121,14 @@ fn show(alloc: Global, edits: Edits, level: u8, row: &Row) -> Result<Shown, Fail
 
 // Whether the row runs as the plain run does, some edit is refused at this level, and a change is
 // accepted behind it.
-fn refuses(alloc: Global, edits: Edits, level: u8, row: &Row) -> Result<bool, Fail> {
-    let shown = show(alloc, edits, level, row)?;
+fn refuses<R: Threads + Wait + Sync>(
+    rt: &R,
+    alloc: Global,
+    edits: Edits,
+    level: u8,
+    row: &Row,
+) -> Result<bool, Fail> {
+    let shown = show(rt, alloc, edits, level, row)?;
     Ok(shown.same && shown.at_level && shown.goes_on)
 }
 
@@ -168,7 +182,7 @@ fn goes_on(told: &[LineAnswer]) -> bool {
 #[test]
 fn scripts_by_chance_run_as_plain_ones(rt: HostRuntime) -> Result<(), Fail> {
     for row in ROOMY {
-        let shown = show(rt.alloc(), Edits::AnyAndSaves, 0, row)?;
+        let shown = show(&rt, rt.alloc(), Edits::AnyAndSaves, 0, row)?;
         assert!(rt; shown.same, "side {}, number {}", row.0, row.3);
         assert!(rt; !shown.full, "side {}, number {}", row.0, row.3);
     }
@@ -178,7 +192,7 @@ fn scripts_by_chance_run_as_plain_ones(rt: HostRuntime) -> Result<(), Fail> {
 #[test]
 fn leaves_without_room_refuse_an_edit(rt: HostRuntime) -> Result<(), Fail> {
     for row in FEW_LEAVES {
-        let refuses = refuses(rt.alloc(), Edits::Any, 0, row)?;
+        let refuses = refuses(&rt, rt.alloc(), Edits::Any, 0, row)?;
         assert!(rt; refuses, "side {}, number {}", row.0, row.3);
     }
     Ok(())
@@ -187,7 +201,7 @@ fn leaves_without_room_refuse_an_edit(rt: HostRuntime) -> Result<(), Fail> {
 #[test]
 fn nodes_without_room_refuse_an_edit(rt: HostRuntime) -> Result<(), Fail> {
     for row in FEW_NODES {
-        let refuses = refuses(rt.alloc(), Edits::Any, 1, row)?;
+        let refuses = refuses(&rt, rt.alloc(), Edits::Any, 1, row)?;
         assert!(rt; refuses, "side {}, number {}", row.0, row.3);
     }
     Ok(())
@@ -197,7 +211,7 @@ fn nodes_without_room_refuse_an_edit(rt: HostRuntime) -> Result<(), Fail> {
 fn roots_without_room_refuse_an_edit(rt: HostRuntime) -> Result<(), Fail> {
     for row in FEW_ROOTS {
         let root = if row.0 < 16 { 1 } else { 2 };
-        let refuses = refuses(rt.alloc(), Edits::Octants, root, row)?;
+        let refuses = refuses(&rt, rt.alloc(), Edits::Octants, root, row)?;
         assert!(rt; refuses, "side {}, number {}", row.0, row.3);
     }
     Ok(())

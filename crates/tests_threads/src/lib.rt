@@ -2,6 +2,10 @@
 #![tactic(auto)]
 
 #[cfg(test)]
+mod meeting_tests;
+#[cfg(test)]
+mod order_tests;
+#[cfg(test)]
 mod run_tests;
 #[cfg(test)]
 mod turns;
