@@ -1,8 +1,9 @@
 #!/usr/bin/env bash
 # Compares `voxdag demo N` with a program in Python that was written from the rules alone: bench/demo.sh [N ..]
 #
-# For each number both write their four transcripts and their journal, each in a folder of its own; these and what stands
-# on standard output must be the same bytes. It needs Python. Where PEERS names the folder with the peer's sources
+# For each number both write their four transcripts and their journal, each in a folder of its own. The product's scripts
+# run at the same time, and Python's one after another: so what stands on standard output must be the same bytes, the
+# transcripts the same lines but for their moments, and the journals the same records, in whatever order. It needs Python. Where PEERS names the folder with the peer's sources
 # (svdag_rs) and the maker of workloads (gen.py), which are no part of this repository, it then times `demo 7` against the
 # peer's run of the same load from files, start and end of the process included; that needs cargo and a C compiler too.
 set -eu
@@ -16,6 +17,11 @@ for n in "$@"; do
     mkdir -p "$made/product" "$made/python"
     (cd "$made/product" && "$product" demo "$n" > printed)
     (cd "$made/python" && python3 "$here/load/demo.py" "$n" > printed)
+    for of in product python; do
+        sed -i 's/^\([0-9]* \)@[0-9]* /\1/' "$made/$of"/demo.*.out
+        sed 's/^[0-9]* //' "$made/$of/demo.journal" | sort > "$made/$of/records"
+        rm "$made/$of/demo.journal"
+    done
     diff -r "$made/product" "$made/python" > /dev/null || { echo "$n: the runs differ" >&2; exit 1; }
     echo "$n: the same $(cat "$made/product"/* | wc -c) bytes, $(tr '\n' ' ' < "$made/product/printed")"
 done

@@ -13,7 +13,7 @@ run_in_plain_words() {
         { printf '%s' "$line"; } 2>/dev/null || status=7
     fi
     case $status in
-        [1-9]) plain_words "$status" "${line%$'\n'}" "$@" >&2 ;;
+        [1-9] | 1[013]) plain_words "$status" "${line%$'\n'}" "$@" >&2 ;;
     esac
     exit "$status"
 }
@@ -33,6 +33,9 @@ plain_words() {
         7) printf 'standard output took no line, or a part of it; all files are written\n' ;;
         8) printf 'there was not enough memory\n' ;;
         9) printf '%s: too long: a VOX file has at most 256 MiB, a script 8 MiB\n' "${line#voxdag: too long }" ;;
+        10) printf '%s: it has no model of this number, or the model no cell at this place\n' "$(operand 0 "${@:2}")" ;;
+        11) plain_scene "$(operand 0 "${@:2}")" $name ;;
+        13) printf 'a bucket of the store has no room for one more node; nothing was written\n' ;;
     esac
 }
 
@@ -41,11 +44,14 @@ plain_usage() {
         'voxdag takes these words:' \
         '    voxdag count FILE' \
         '    voxdag demo N' \
+        '    voxdag flood FILE m x y z OUT' \
+        '    voxdag scene FILE OUT SCRIPT' \
         '    voxdag run [--side s] [--buckets b] [--cap c] [--journal J] [--report P] FILE SCRIPT ..' \
         'Options stand anywhere behind run, each at most once, as --side s or --side=s. s is 4, 8, 16 and so on up to 4096,' \
         'b is 1 to 4096, c is 1 to 256. There are 1 to 64 scripts. No name is empty, and none begins with - but behind =.' \
         'Each SCRIPT.out, J and P are written, so none may be the name of FILE, of a SCRIPT or of another.' \
-        'N has 1 to 6 digits; demo writes demo.0.out to demo.3.out and demo.journal.'
+        'N, m, x, y and z have 1 to 6 digits; demo writes demo.0.out to demo.3.out and demo.journal.' \
+        'FILE, OUT and the SCRIPT of scene are different names.'
 }
 
 # operand NUMBER WORD ..: the operand of this number, counted from 0, among the words behind a command. They are in the
@@ -82,6 +88,21 @@ plain_vox() {
         10) meaning='more than 1,024 models' ;;
     esac
     printf '%s, byte %s: %s\n' "$1" "$3" "$meaning"
+}
+
+# plain_scene FILE KIND AT
+plain_scene() {
+    case $2 in
+        1) printf '%s, byte %s: a node whose fields don'\''t fit into its chunk\n' "$1" "$3" ;;
+        2) printf '%s, byte %s: a second node of one id\n' "$1" "$3" ;;
+        3) printf '%s, byte %s: the node'\''s _r is no turning\n' "$1" "$3" ;;
+        4) printf '%s, byte %s: the node'\''s _t is no move\n' "$1" "$3" ;;
+        5) printf '%s: there is no node %s\n' "$1" "$3" ;;
+        6) printf '%s, node %s: more than 64 nodes below each other\n' "$1" "$3" ;;
+        7) printf '%s, node %s: the file has no such model as it shows\n' "$1" "$3" ;;
+        8) printf '%s, node %s: more than 1,024 placements, or more than 65,536 visits\n' "$1" "$3" ;;
+        9) printf '%s: the scene is larger than 4,096 cells some way, or its models'\'' file than 256 MiB\n' "$1" ;;
+    esac
 }
 
 # plain_script SCRIPT NUMBER LINE KIND. The line itself is read, and what stands before it.
