@@ -3,9 +3,11 @@
 #
 # For each number both write their four transcripts and their journal, each in a folder of its own. The product's scripts
 # run at the same time, and Python's one after another: so what stands on standard output must be the same bytes, the
-# transcripts the same lines but for their moments, and the journals the same records, in whatever order. It needs Python. Where PEERS names the folder with the peer's sources
-# (svdag_rs) and the maker of workloads (gen.py), which are no part of this repository, it then times `demo 7` against the
-# peer's run of the same load from files, start and end of the process included; that needs cargo and a C compiler too.
+# transcripts the same lines but for their moments, and the journals the same records, in whatever order. It needs Python.
+#
+# Where PEERS names the folder with the peer's sources (svdag_rs) and the maker of workloads (gen.py), which are no part
+# of this repository, it then times `demo 7` against the peer's run of the same load from files, start and end of the
+# process included; that needs cargo and a C compiler too.
 set -eu
 here=$(cd "$(dirname "$0")" && pwd)
 . "$here/timing.sh"
