@@ -35,19 +35,26 @@ def large_edits(start, number, low, width):
         yield "%s %d %d %d %d" % (("ball", "carve")[k % 2], *centre, most - draw(4))
 
 
-def questions(start, number, first):
-    """Cells, boxes and rays of versions from `first` on."""
+def middle_balls(start, number, low, width):
+    """Balls that fill a good part of a slab of this width."""
     draw = Chance(start).below
     for _ in range(number):
-        version = first + draw(100)
-        x, y, z = draw(SIDE - 64), draw(SIDE - 64), draw(SIDE - 64)
-        kind = draw(3)
+        r = 20 + draw(40)
+        yield "ball %d %d %d %d" % (low + 60 + draw(width - 120), 60 + draw(SIDE - 120), 60 + draw(SIDE - 120), r)
+
+
+def questions(start, number, low, width):
+    """Cells, large boxes and rays of a slab of this width, of the version that is the newest then."""
+    draw = Chance(start).below
+    for _ in range(number):
+        x, y, z = low + draw(width // 4), draw(SIDE // 2), draw(SIDE // 2)
+        kind = draw(4)
         if kind == 0:
-            yield "at %d get %d %d %d" % (version, x, y, z)
+            yield "get %d %d %d" % (x, y, z)
         elif kind == 1:
-            yield "at %d count %d %d %d %d %d %d" % (version, x, y, z, *(1 + draw(64) for _ in range(3)))
+            yield "ray %d %d %d 0 %d %d" % (x, y, z, *(draw(9) - 4 or 1 for _ in range(2)))
         else:
-            yield "at %d ray %d %d %d %d %d %d" % (version, x, y, z, *(draw(9) - 4 or 1 for _ in range(3)))
+            yield "count %d %d %d %d %d %d" % (x, y, z, width // 2 + draw(width // 4), *(256 + draw(256) for _ in range(2)))
 
 
 def write(folder, name, lines):
@@ -62,7 +69,7 @@ def main(folder):
         write(folder, "apart.%d.txt" % k, small_edits(11 + k, 8000, k * slab, slab))
         write(folder, "large.%d.txt" % k, large_edits(21 + k, 24, k * slab, slab))
         write(folder, "together.%d.txt" % k, small_edits(31 + k, 8000, 0, 64))
-        write(folder, "reader.%d.txt" % k, list(small_edits(41 + k, 100, k * slab, slab)) + list(questions(51 + k, 60000, 1)))
+        write(folder, "reader.%d.txt" % k, list(middle_balls(41 + k, 60, k * slab, slab)) + list(questions(51 + k, 6000, k * slab, slab)))
     write(folder, "editor.txt", small_edits(61, 4000, 0, SIDE))
 
 

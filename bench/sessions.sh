@@ -1,7 +1,7 @@
 #!/usr/bin/env bash
 # Times sessions in threads against one session: bench/sessions.sh
 #
-# It runs scripts that edit apart, edit one place, and read old versions while another one edits, once by one session and once
+# It runs scripts that edit apart, edit one place, and ask while another one edits, once by one session and once
 # by four, and prints how many times the work of one session four do in the same time. What a run with nothing to do
 # takes is taken off each time. It needs four cores with nothing else on them.
 set -eu
