@@ -32,7 +32,7 @@ fn has_transcripts(shelf: &MemoryShelf) -> bool {
 fn has_journal(shelf: &MemoryShelf) -> bool {
     match shelf.file("demo.journal") {
         Some(journal) => {
-            let begins = journal.starts_with(b"voxdag journal 1\nside 256\n1 0 1 ");
+            let begins = journal.starts_with(b"voxdag journal 1\nside 256\n1 ");
             begins && journal.ends_with(b"\nend\n") && number_of_lines(journal) == 803
         }
         None => false,
