@@ -2,7 +2,7 @@
 
 use std::alloc::Global;
 use std::test::Fail;
-use test_calls::{ONE, ends, has, holds};
+use test_calls::{ONE, Place, Rule, ends, ends_by, has, holds};
 use vw_io::{MemoryShelf, Shelf};
 
 /// A model of 3 x 1 x 1 cells whose first two are set, in a group of two movers: the first moves it
@@ -73,6 +73,9 @@ const QUESTIONS: &[u8] =
 const ANSWERS: &str =
     "1 @2 count 4\n2 @2 set\n3 @2 set\n4 @2 set\n5 @2 set\n6 @2 bounds 0 0 1 12 1 2\n";
 
+// The scene's script has its last answer, on line 2, before the questions begin.
+const IN_TURN: &[Rule] = &[((1, 1, Place::Before), (0, 2, Place::After))];
+
 #[test]
 fn what_was_written_builds_the_scene(rt: HostRuntime) -> Result<(), Fail> {
     let mut shelf = shelf(rt.alloc())?;
@@ -80,16 +83,8 @@ fn what_was_written_builds_the_scene(rt: HostRuntime) -> Result<(), Fail> {
     assert!(rt; ends(&rt, rt.alloc(), "scene bars o s", &mut shelf, 0, printed)?);
     shelf.write("q", QUESTIONS)?;
     let printed = "scripts 2 records 2 marks 0 nodes 6\n";
-    assert!(rt;
-        ends(
-            &rt,
-            rt.alloc(),
-            "run --side 16 o s q",
-            &mut shelf,
-            0,
-            printed
-        )?
-    );
+    let line = "run --side 16 o s q";
+    assert!(rt; ends_by(&rt, IN_TURN, rt.alloc(), line, &mut shelf, 0, printed)?);
     assert!(rt; has(&shelf, "q.out", Some(ANSWERS)));
     Ok(())
 }
