@@ -1,0 +1,10 @@
+pub mod ReadLaws
+pub mod TreeLaws
+pub mod FaultLaws
+pub mod VersionLaws
+pub mod KeptLaws
+pub mod OneFault
+pub mod AgreeLaws
+pub mod ByteLaws
+pub mod ListLaws
+pub mod ItsListLaws
