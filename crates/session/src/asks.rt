@@ -17,7 +17,6 @@ ghost use Rattle.session.specs.Resting.{IsAtRest};
 ghost use Rattle.session.specs.Seen.{KnowsItself, of_world, session_seen};
 
 use crate::world::{Session, World};
-use hands::Hand;
 use history_model::Question;
 use node_words::{Share, Steps};
 use session_runs::AskedAt;
@@ -43,7 +42,7 @@ impl<'m> World<'m> {
         ensures seen { seen_of s.new.view ≡ seen_of s.old.view }
     {
         let side = self.table.plan().side();
-        let mut hand = Hand::new(&(), &self.table, s);
+        let mut hand = self.hand(&(), s);
         world_answers::tell(&mut hand, root, side, question)
     }
 

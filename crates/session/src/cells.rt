@@ -13,7 +13,6 @@ ghost use Rattle.session.specs.Resting.{IsAtRest};
 ghost use Rattle.session.specs.Seen.{KnowsItself, session_seen};
 
 use crate::world::{Session, World};
-use hands::Hand;
 use node_words::Share;
 use version_log::Pinned;
 use vox_read::Voxel;
@@ -41,7 +40,7 @@ impl<'m> World<'m> {
         ensures seen { seen_of s.new.view ≡ seen_of s.old.view }
     {
         let side = self.table.plan().side();
-        let mut hand = Hand::new(&(), &self.table, s);
+        let mut hand = self.hand(&(), s);
         extract::cells_in(&mut hand, root, side, part, into)
     }
 

@@ -18,7 +18,6 @@ ghost use Rattle.session.specs.Seen.{KnowsItself, of_world, session_seen};
 
 use crate::world::{Session, World};
 use extract::box_file;
-use hands::Hand;
 use history_model::Question;
 use node_words::Steps;
 use session_runs::SavedAt;
@@ -108,7 +107,7 @@ impl<'m> World<'m> {
     {
         let side = self.table.plan().side();
         let root = saves[k].root.as_ref();
-        let mut hand = Hand::new(&(), &self.table, s);
+        let mut hand = self.hand(&(), s);
         box_file(alloc, &mut hand, root, side, part)
     }
 

@@ -1,7 +1,10 @@
 ghost use Rattle.std.specs.Prelude.{◌≡◌, ◌↔◌, ◌^◌, IsTrue};
 ghost use Rattle.history_model.specs.Logs.{FitsWorld};
+ghost use Rattle.hands.specs.Lendable.{IsLendable};
+ghost use Rattle.hands.specs.Lent.{IsHandOf};
 
 use act_rebuilds::DrawnModel;
+use hands::Hand;
 use history_model::Act;
 use node_table::{NodeTable, Pass};
 use node_words::Plan;
@@ -49,5 +52,14 @@ impl<'m> World<'m> {
         ensures { IsTrue result ↔ FitsWorld (2 ^ self.now.plan.side) self.now.models act.now }
     {
         act.fits(self.table.plan().side(), self.models)
+    }
+
+    /// The session as a store of nodes, for as long as the hand lives. With `()` to wait with it can
+    /// be read, and with a runtime that waits edited too.
+    pub fn hand<'a, R>(&'a self, rt: &'a R, s: &'a mut Session) -> Hand<'a, R>
+        requires ready { IsLendable self.now s.old }
+        ensures { IsHandOf self.now s.entry result }
+    {
+        Hand::new(rt, &self.table, s)
     }
 }

@@ -10,7 +10,7 @@ use Rattle.session.proofs.world.World.saved_file.Goals as goal
 pub box_file-requires-clause-root : goal.box_file-requires-clause-root
 box_file-requires-clause-root c =
     subst (λ (z : PassSeen). HoldsRoot z.view.held c.side-side.result (option_copied c.as_ref-root.result))
-    (sym c.new-hand.ensures.session)
+    (sym c.hand-hand.ensures.session)
     (pin_root c.args.self.now (session_seen c.args.s.now.view) c.args.s.now.view.held
     c.args.saves.now c.args.k c.index-saves-k.result c.requires.holds c.requires.there
     c.index-saves-k.is c.side-side.result (option_copied c.as_ref-root.result) (search rules)
@@ -24,5 +24,5 @@ returns-clause-file c =
     (option_copied c.as_ref-root.result) c.requires.inside (search rules) (search rules)
     (subst (λ (z : PassSeen). IfOk c.box_file.result (λ file. ForWorld z.view.held
     c.side-side.result (option_copied c.as_ref-root.result)
-    (λ cells. file.items ≡ file_of_box c.args.part cells))) c.new-hand.ensures.session
+    (λ cells. file.items ≡ file_of_box c.args.part cells))) c.hand-hand.ensures.session
     c.box_file.ensures.file)
