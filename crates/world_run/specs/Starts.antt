@@ -13,6 +13,7 @@ pub record HasBegun (w : TableSeen) (scripts : List (List ScriptLine)) (s : Star
   pub new : AreNewPasses w.id (terms_of w) s.sessions.items
   pub rest : All (IsAtRest w) s.sessions.items
   pub many : length s.sessions.items ≡ length scripts
+  pub all : w.made ≡ length scripts
   pub rooms : AllZip IsRoomFor scripts s.rooms.items
   pub no_session : s.outcomes.sessions.items ≡ []
   pub no_transcript : s.outcomes.transcripts.items ≡ []

@@ -1,5 +1,5 @@
 //! How a run ends: its world is closed, or given up.
-ghost use Rattle.std.specs.Prelude.{◌≡◌, ◌<◌, ◌≤◌, [], ℕ, All, IfOk, length, take, vec_capacity};
+ghost use Rattle.std.specs.Prelude.{◌≡◌, ◌<◌, ◌≤◌, [], ℕ, All, IfOk, length, take, vec_capacity, vec_len};
 ghost use Rattle.node_table.specs.LogTurns.{HasNoTurn};
 ghost use Rattle.reporting.specs.Numbers.{AreNumbers};
 ghost use Rattle.reporting.specs.Roots.{RootsTellWorlds, listed_root};
@@ -37,6 +37,7 @@ pub(crate) fn close_over<R: Wait>(
     sessions: Vec<SavedSession>,
 ) -> Result<WorldRan, Memory>
     requires saved { All (IsSaved world) sessions.items }
+    requires all { length sessions.items ≡ world.made }
     ensures closes { IfOk result (λ r. ClosesWorld world.entry.plan world.entry.models
         (saved_seen sessions.items) r.ended.history) }
     ensures is_end { IfOk result
@@ -56,16 +57,7 @@ pub(crate) fn close_over<R: Wait>(
     let levels = usize::from(world.plan().side().root_level()) + 1;
     match world.close(alloc, sessions) {
         Ok(ended) => told(alloc, ended, levels),
-        Err(
-            CloseRefused::Count {
-                world: _world,
-                sessions,
-                made: _,
-            },
-        ) => {
-            end_all(sessions);
-            Err(Memory)
-        }
+        Err(CloseRefused::Count { .. }) => unreachable!(),
         Err(
             CloseRefused::Memory {
                 world: _world,
@@ -165,6 +157,7 @@ fn unpin_all<R: Wait>(
     ensures rest { All (IsAtRest world.now) result.items }
     ensures spare { All (λ s. s.view.held ≡ []) result.items }
     ensures seen { sessions_seen result.items ≡ saved_seen sessions.items }
+    ensures many { vec_len result ≡ length sessions.items }
 {
     let mut spare = room;
     let mut sessions = sessions.into_iter();

@@ -27,8 +27,8 @@ pub(crate) struct SavedSession {
     pub(crate) pins: Vec<Pinned>,
 }
 
-/// A run whose sessions all ran their scripts. It holds what was saved, so that files can be made
-/// one at a time, and then its world is closed, or it is given up.
+/// A run whose sessions all ran their scripts, all sessions of its world. It holds what was saved, so
+/// that files can be made one at a time, and then its world is closed, or it is given up.
 pub struct OpenRun<'m> {
     pub(crate) world: World<'m>,
     pub(crate) sessions: Vec<SavedSession>,
@@ -53,6 +53,7 @@ impl<'m> Model for OpenRun<'m> {
     } };
 
     ghost invariant = { λ r. All (IsSaved r.world) r.sessions.items
+        × (length r.sessions.items ≡ r.world.made)
         × (length r.sessions.items ≤ 64) };
 }
 

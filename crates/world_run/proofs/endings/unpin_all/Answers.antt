@@ -12,6 +12,7 @@ unpin_one-session-requires g c = record { saved = first_of (IsSaved c.args.world
 pub loop-saved-preserved : goal.loop-saved-preserved
 loop-saved-preserved g c =
     let room = c.loop-saved.invariant.room in
+    let many = c.loop-saved.invariant.many in
     let one = c.in-Some.ensures.len in
     let pushed = c.push_reserved.ensures.len in
     let wide = c.push_reserved.ensures.capacity in
@@ -25,5 +26,6 @@ loop-saved-preserved g c =
           (All-push (λ (s : PassSeen). s.view.held ≡ []) c.loop-saved.spare.items c.unpin_one-session.result c.loop-saved.invariant.spare c.unpin_one-session.ensures.none);
       seen = seen_more c.loop-saved.spare.items c.push_reserved.new.self.items c.unpin_one-session.result _ _ c.in-Some.saved _ c.push_reserved.ensures.items c.in-Some.ensures.items c.unpin_one-session.ensures.seen
           c.loop-saved.invariant.seen;
+      many = omega arith;
       room = omega arith;
     }

@@ -1,5 +1,5 @@
 use Rattle.std.proofs.Common.{◌≡◌, ◌+◌, ◌++◌, ◌≤◌, [], vec_capacity, vec_len}
-use Rattle.std.specs.Prelude.{All}
+use Rattle.std.specs.Prelude.{All, length}
 use Rattle.std.specs.Vec.Iter.{into_iter_items, into_iter_len}
 use Rattle.session.specs.Closes.{sessions_seen}
 use Rattle.session.specs.Resting.{IsAtRest}
@@ -13,6 +13,7 @@ invariant-loop-saved g l = record {
   spare : All (λ s. s.view.held ≡ []) l.spare.items;
   seen : sessions_seen l.spare.items ++ saved_seen (into_iter_items l.sessions)
       ≡ saved_seen l.fn.sessions.items;
+  many : vec_len l.spare + into_iter_len l.sessions ≡ length l.fn.sessions.items;
   room : vec_len l.spare + into_iter_len l.sessions ≤ vec_capacity l.spare;
 }
 

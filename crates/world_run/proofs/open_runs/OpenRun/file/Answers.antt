@@ -8,7 +8,8 @@ use Rattle.world_run.proofs.open_runs.OpenRun.file.Goals as goal
 pub invariant_of-self : goal.invariant_of-self
 invariant_of-self c = (
   All-set (IsSaved c.self.inside.world) c.self.inside.sessions.items c.place_of-place.result.session c.file_in.new.s c.file_in.ensures.saved c.self.invariant.0,
-  (let few = c.self.invariant.1 in let long = length-set c.self.inside.sessions.items c.place_of-place.result.session c.file_in.new.s in omega arith),
+  length-set c.self.inside.sessions.items c.place_of-place.result.session c.file_in.new.s ∙ c.self.invariant.1,
+  (let few = c.self.invariant.2 in let long = length-set c.self.inside.sessions.items c.place_of-place.result.session c.file_in.new.s in omega arith),
 )
 
 pub returns-clause-file : goal.returns-clause-file
