@@ -1,5 +1,5 @@
 -- What an edit of a ball makes of a block, and bounds of the distances from it.
-use Rattle.std.proofs.Common.{◌≡◌, ℕ, ◌+◌, ◌-◌, ◌*◌, ◌<◌, ◌≤◌, Bool, true, false, Option, List, refl, arith, max, []}
+use Rattle.std.proofs.Common.{◌≡◌, ℕ, ◌+◌, ◌-◌, ◌*◌, ◌<◌, ◌≤◌, Bool, true, false, Option, List, refl, subst, arith, max, []}
 use Rattle.std.specs.Prelude.{nat_le, if◌then◌else◌, ◌&&◌, ◌||◌, not}
 use Rattle.std.specs.Int.{abs_diff}
 use Rattle.std.proofs.lemmas.Bool.Decides.{nat_tests}
@@ -11,9 +11,10 @@ use Rattle.vw_cell.specs.Places.{is_in_ball, square, octant_of}
 use Rattle.node_shapes.specs.declared.names.Name.{Name}
 use Rattle.node_shapes.specs.Tree.{Tree, root_of, child_of}
 use Rattle.node_words.specs.Held.{AreTrees, AreCanonical}
-use Rattle.cell_shapes.specs.CellShapes.{Cells, octant_cells}
-use Rattle.edit_cells.specs.Worlds.{world_cells, ShowsWorld}
-use Rattle.edit_cells.proofs.PaintLaws.{paints_octant}
+use Rattle.cell_shapes.specs.CellShapes.{Cells, SameIn, octant_cells}
+use Rattle.cell_shapes.proofs.SameCells.{same_itself}
+use Rattle.edit_cells.specs.Worlds.{cells_from, world_cells, ShowsWorld}
+use Rattle.edit_cells.proofs.PaintLaws.{paints_octant, paints_same}
 use Rattle.edit_cells.proofs.WorldLaws.{placed_octant, octant_lies, world_lies, from_nowhere}
 use Rattle.edit_cells.proofs.WorldPaints.{world_paints}
 use Rattle.history_model.specs.Worlds.{edited}
@@ -56,6 +57,14 @@ ball_edits false b before c = either (is_in_ball b c) (before c)
     either true false = refl
     either false true = refl
     either false false = refl
+
+-- the same task makes the same cells
+pub ball_same : (base : List Tree) (level : ℕ) (o n : Option Name) (a b : Ball) (at to : Cell) (s t : Bool) (p q : Cells) → o ≡ n → a ≡ b → at ≡ to → s ≡ t → MakesBall o a at s base level p → MakesBall n b to t base level q → SameIn level p q
+ball_same base level o n a b at to s t p q old ball place set m h =
+    paints_same base level o n s t _ _ p q old set
+    (subst (λ (c : Ball). SameIn level (cells_from at (is_in_ball a)) (cells_from to (is_in_ball c))) ball
+    (subst (λ (c : Cell). SameIn level (cells_from at (is_in_ball a)) (cells_from c (is_in_ball a))) place (same_itself level _)))
+    m.paints h.paints
 
 -- the task of the whole world
 pub ball_world : (side level : ℕ) (held : List Tree) (set : Bool) (b : Ball) (o : Option Name) (before : Cell → Bool) → level ≤ 10 → AreTrees side held → AreCanonical held → ShowsWorld held level o before → MakesBall o b (cell_at 0 0 0) set held level (world_cells (edited [] (ball_act set b) before))

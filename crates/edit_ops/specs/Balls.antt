@@ -10,8 +10,9 @@ use Rattle.history_model.specs.declared.acts.Act.TheVariants.{Ball as Bulge, Car
 use Rattle.node_words.proofs.HeldLaws.{Keeps}
 use Rattle.cell_shapes.specs.CellShapes.{Cells}
 use Rattle.edit_cells.specs.Paints.{Paints, paints_last}
-use Rattle.edit_cells.specs.Tasks.{OneEach}
+use Rattle.edit_cells.specs.Tasks.{Making, OneEach}
 use Rattle.edit_cells.specs.Worlds.{cells_from}
+use Rattle.edit_ops.specs.declared.balls.BallTask.{BallTask}
 
 -- the act that sets or clears the cells of a ball
 abbrev pub ball_act : Bool → Ball → Act
@@ -25,6 +26,10 @@ pub record MakesBall (old : Option Name) (ball : Ball) (at : Cell) (set : Bool) 
   pub small : level ≤ 10
   pub inside : LiesIn 4096 (record { level = level; at = at })
   pub paints : Paints base level old set (cells_from at (is_in_ball ball)) cells
+
+-- the same of a task
+abbrev pub makes_ball : BallTask → Making
+makes_ball task = MakesBall task.old task.ball.now task.at task.set
 
 pub ball_lasts : (old : Option Name) (ball : Ball) (at : Cell) (set : Bool) (base more : List Tree)
     (level : ℕ) (cells : Cells) → OneEach more → Keeps base more

@@ -3,8 +3,10 @@ ghost use Rattle.std.specs.Int.{abs_diff};
 ghost use Rattle.vw_cell.specs.Counts.{cell_at};
 ghost use Rattle.vw_cell.specs.Places.{square, is_in_ball};
 
-use block_walk::{leaf_bits, octant_name};
+use crate::boxes::word_of;
+use block_walk::{leaf_bits, octant_name, same_cells, same_names};
 use edit_cells::{Task, Whole, clears_nothing, filled, old_whole, paint, side_of};
+use edit_walk::Repeats;
 use node_shapes::Name;
 use node_words::{Blocks, ball_bits};
 use vw_cell::{Ball, Block, Cell};
@@ -70,6 +72,47 @@ impl<'b> Task for BallTask<'b> {
         );
         paint(self.set, old, inside)
     }
+}
+
+impl<'b> Repeats for BallTask<'b> {
+    fn is_same(&self, other: &BallTask<'b>) -> bool {
+        same_tasks(self, other)
+    }
+
+    fn place(&self, level: u8) -> usize {
+        place_of(level, self.at)
+    }
+}
+
+fn same_tasks(a: &BallTask, b: &BallTask) -> bool
+    ensures { IsTrue result → (a.now.old ≡ b.now.old) × (a.now.ball.now ≡ b.now.ball.now)
+        × (a.now.at ≡ b.now.at) × (a.now.set ≡ b.now.set) }
+{
+    if !same_names(a.old, b.old) {
+        return false;
+    }
+    if !same_balls(*a.ball, *b.ball) {
+        return false;
+    }
+    if !same_cells(a.at, b.at) {
+        return false;
+    }
+    a.set == b.set
+}
+
+fn same_balls(a: Ball, b: Ball) -> bool
+    ensures { IsTrue result → a ≡ b }
+{
+    same_cells(a.centre, b.centre) && a.radius == b.radius
+}
+
+// Walks of one ball meet each block of the world once, so its place there is enough.
+fn place_of(level: u8, at: Cell) -> usize
+    ensures { result < 2048 }
+{
+    let at = word_of(at) + u64::from(level);
+    let mixed = at.wrapping_mul(0x9E37_79B9_7F4A_7C15);
+    (mixed >> 53) as usize % 2048
 }
 
 // Whether the nearest place of the cube from `at` on lies outside the ball.

@@ -115,7 +115,7 @@ fn number_of(name: Name) -> u64 {
     1 + u64::from(name.bucket) * 256 + u64::from(name.slot)
 }
 
-fn word_of(c: Cell) -> u64
+pub(crate) fn word_of(c: Cell) -> u64
     ensures { result < 2 ^ 48 }
 {
     u64::from(c.x) + 0x1_0000 * u64::from(c.y) + 0x1_0000_0000 * u64::from(c.z)

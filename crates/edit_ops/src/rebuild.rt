@@ -7,7 +7,7 @@ ghost use Rattle.block_walk.specs.Roots.{HoldsRoot};
 ghost use Rattle.edit_cells.specs.Worlds.{ForEdited, Rebuilt, world_shape};
 ghost use Rattle.edit_walk.specs.Memos.{RecallsHeld};
 ghost use Rattle.edit_ops.specs.Boxes.{MakesBox, box_act};
-ghost use Rattle.edit_ops.specs.Balls.{ball_act};
+ghost use Rattle.edit_ops.specs.Balls.{ball_act, makes_ball};
 ghost use Rattle.edit_ops.specs.Partly.{world_partly};
 
 use crate::balls::BallTask;
@@ -139,15 +139,53 @@ pub fn rebuild_ball<N: NodeStore, L: Ledger>(
         (N.seen store.new))) }
     ensures rests { N.rests store.old store.new }
 {
+    match rebuild_ball_with(store, old, side, &ball, set, &mut NoMemo, steps) {
+        Ok(share) => Ok(share),
+        Err(e) => Err(e),
+    }
+}
+
+/// The same with a memo of blocks that such edits made before, of trees that are still held. Such a
+/// block is shared and not walked again, and what is made joins the memo.
+pub fn rebuild_ball_with<'b, M: Memo<BallTask<'b>>, N: NodeStore, L: Ledger>(
+    store: &mut N,
+    old: Option<&Share>,
+    side: Side,
+    ball: &'b Ball,
+    set: bool,
+    memo: &mut M,
+    steps: &mut Steps<L>,
+) -> Result<Option<Share>, Full>
+    requires side { side ≡ (N.seen store.old).plan.side }
+    requires memo { RecallsHeld makes_ball (N.seen store.old).held (M.has memo.old) }
+    requires inside { IsInWorld (2 ^ side) ball.now.centre }
+    requires old { HoldsRoot (N.seen store.old).held side (option_copied old) }
+    requires room { number_of_trees (N.seen store.old).held ≤ 3910 }
+    ensures ok { IfOk result (λ r.
+        ForEdited (N.seen store.old) side (option_copied old.entry)
+        (edited [] (ball_act set ball.now))
+        (λ world. Rebuilt (side - 2) world r (N.seen store.old) (N.seen store.new))) }
+    ensures grows { OnOk result (
+        ForEdited (N.seen store.old) side (option_copied old.entry)
+        (edited [] (ball_act set ball.now))
+        (λ world. Grows (world_shape (side - 2) world) (N.seen store.old) (N.seen store.new))) }
+    ensures full { IfErr result (λ e.
+        ForEdited (N.seen store.old) side (option_copied old.entry)
+        (edited [] (ball_act set ball.now))
+        (λ world. Fails (world_shape (side - 2) world) e.level e.bucket (N.seen store.old)
+        (N.seen store.new))) }
+    ensures memo { OnOk result (RecallsHeld makes_ball (N.seen store.new).held (M.has memo.new)) }
+    ensures rests { N.rests store.old store.new }
+{
     let task = BallTask {
         old: name_of(old),
-        ball: &ball,
+        ball,
         at: Cell { x: 0, y: 0, z: 0 },
         set,
     };
     let _held = store.held();
     let _level = side.root_level();
-    match rebuild_world(store, side, &task, &mut NoMemo, steps) {
+    match rebuild_world(store, side, &task, memo, steps) {
         Ok(share) => Ok(share),
         Err(e) => Err(e),
     }

@@ -6,9 +6,11 @@
 #![tactic(auto)]
 
 mod memos;
+mod upper;
 mod walks;
 mod worlds;
 
 pub use memos::{Latest, Memo, NoMemo, Repeats};
+pub use upper::Upper;
 pub use walks::rebuild;
 pub use worlds::rebuild_world;

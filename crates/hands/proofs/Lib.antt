@@ -1,3 +1,4 @@
+mod BallLaws
 mod BoxLaws
 mod HitLaws
 mod LentLaws

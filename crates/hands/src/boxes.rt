@@ -1,4 +1,5 @@
-ghost use Rattle.std.specs.Prelude.{◌≡◌};
+ghost use Rattle.std.specs.Prelude.{◌≡◌, List};
+ghost use Rattle.node_shapes.specs.Tree.{Tree};
 ghost use Rattle.edit_ops.specs.Boxes.{MakesBox, box_act};
 ghost use Rattle.edit_walk.specs.Memos.{IsKeptIn, RecallsHeld};
 
@@ -23,15 +24,19 @@ pub struct BoxAct<'w, 'm> {
 
 impl<'w, 'm> BoxAct<'w, 'm> {
     /// Nothing is made yet.
+    #[tactic(auto, using(edit_walk::proofs::MemoLaws::recalls_none))]
     pub fn new(models: &'w [DrawnModel<'m>], part: Boxed, set: bool) -> BoxAct<'w, 'm>
         ensures models { result.models.now ≡ models.now }
         ensures act { box_act result.set result.part ≡ box_act set part }
+        ensures recalls { (held : List Tree)
+            → RecallsHeld MakesBox held (IsKeptIn result.memo.places) }
     {
+        let memo = Latest::new();
         BoxAct {
             models,
             part,
             set,
-            memo: Latest::new(),
+            memo,
         }
     }
 }

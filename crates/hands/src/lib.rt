@@ -2,7 +2,9 @@
 //! and what the hand leaves is the session.
 #![tactic(auto)]
 
+mod balls;
 mod boxes;
+mod copies;
 mod giving;
 mod hand;
 mod makers;
@@ -10,7 +12,9 @@ mod making;
 mod taking;
 mod traits;
 
+pub use balls::BallAct;
 pub use boxes::BoxAct;
+pub use copies::CopyAct;
 pub use giving::give_back;
 pub use hand::Hand;
 pub use makers::{ActMaker, PlainAct};

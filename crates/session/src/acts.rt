@@ -1,5 +1,8 @@
 //! Changes of a world: edits, undos and redos, and one attempt at an edit.
 ghost use Rattle.std.specs.Prelude.{◌≡◌, ◌≤◌, ◌∷◌, ◌^◌, [], ℕ, true};
+ghost use Rattle.edit_ops.specs.Balls.{ball_act};
+ghost use Rattle.edit_ops.specs.Boxes.{box_act};
+ghost use Rattle.history_model.specs.declared.acts.Act.TheVariants.{Copy};
 ghost use Rattle.history_model.specs.Logs.{FitsWorld};
 ghost use Rattle.history_model.specs.Worlds.{is_edit};
 ghost use Rattle.node_shapes.specs.Weights.{number_of_trees};
@@ -12,14 +15,20 @@ ghost use Rattle.session.specs.Seen.{KnowsItself, of_world, session_seen};
 
 use crate::attempts::{EditAnswer, Late};
 use crate::world::{Session, World};
+use edit_copy::copy_may_repeat;
+use edit_ops::box_may_repeat;
 use gate_run::Gate;
-use hands::{ActMaker, PlainAct};
+use hands::{ActMaker, BallAct, BoxAct, CopyAct, PlainAct};
 use history_model::Act;
 use node_words::{Share, Steps};
 use session_runs::{ActAnswer, OnceAnswer};
 use std::sync::Wait;
 use std::sync::ledger::Ledger;
 use version_log::Pinned;
+use vw_cell::{Ball, Boxed, Cell};
+
+// To make a memo ready costs more than it saves in a ball of a smaller radius.
+const FEW: u16 = 32;
 
 fn act_answer(answer: EditAnswer) -> ActAnswer
     ensures { result ≡ act_answer answer }
@@ -102,7 +111,12 @@ impl<'m> World<'m> {
     {
         match act {
             Act::Undo | Act::Redo => self.go(rt, s, line, act, steps),
-            _ => self.edit_plainly(rt, s, line, act, gate, steps),
+            Act::Fill(b) => self.edit_box(rt, s, line, act, *b, true, gate, steps),
+            Act::Erase(b) => self.edit_box(rt, s, line, act, *b, false, gate, steps),
+            Act::Ball(ball) => self.edit_ball(rt, s, line, act, ball, true, gate, steps),
+            Act::Carve(ball) => self.edit_ball(rt, s, line, act, ball, false, gate, steps),
+            Act::Copy(from, to) => self.edit_copy(rt, s, line, act, *from, *to, gate, steps),
+            Act::Stamp(_, _) => self.edit_plainly(rt, s, line, act, gate, steps),
         }
     }
 
@@ -128,6 +142,93 @@ impl<'m> World<'m> {
             models: &self.drawn,
             edit: *act,
         };
+        act_answer(self.edit(rt, s, line, &mut maker, gate, steps))
+    }
+
+    // A box. Of a large one the second attempt takes over what the first one made.
+    fn edit_box<R: Wait, G: Gate, L: Ledger>(
+        &self,
+        rt: &R,
+        s: &mut Session,
+        line: u32,
+        act: &Act,
+        b: Boxed,
+        set: bool,
+        gate: &G,
+        steps: &mut Steps<L>,
+    ) -> ActAnswer
+        requires rest { IsAtRest self.now s.old }
+        requires act { act.now ≡ box_act set b }
+        requires edit { is_edit act.now ≡ true }
+        requires fits { FitsWorld (2 ^ self.now.plan.side) self.now.models act.now }
+        requires room { number_of_trees s.old.view.held ≤ 3900 }
+        ensures rest { IsAtRest self.now s.new }
+        ensures same { SamePass s.old s.new }
+        ensures held { SameHeld s.old.view.held s.new.view.held }
+        ensures told { AnswersAct self.now line act.now result s.old.view s.new.view }
+    {
+        if !box_may_repeat(b.size, self.plan().side()) {
+            return self.edit_plainly(rt, s, line, act, gate, steps);
+        }
+        let mut maker = BoxAct::new(&self.drawn, b, set);
+        act_answer(self.edit(rt, s, line, &mut maker, gate, steps))
+    }
+
+    // A ball, and so of a large one.
+    fn edit_ball<R: Wait, G: Gate, L: Ledger>(
+        &self,
+        rt: &R,
+        s: &mut Session,
+        line: u32,
+        act: &Act,
+        ball: &Ball,
+        set: bool,
+        gate: &G,
+        steps: &mut Steps<L>,
+    ) -> ActAnswer
+        requires rest { IsAtRest self.now s.old }
+        requires act { act.now ≡ ball_act set ball.now }
+        requires edit { is_edit act.now ≡ true }
+        requires fits { FitsWorld (2 ^ self.now.plan.side) self.now.models act.now }
+        requires room { number_of_trees s.old.view.held ≤ 3900 }
+        ensures rest { IsAtRest self.now s.new }
+        ensures same { SamePass s.old s.new }
+        ensures held { SameHeld s.old.view.held s.new.view.held }
+        ensures told { AnswersAct self.now line act.now result s.old.view s.new.view }
+    {
+        if ball.radius < FEW {
+            return self.edit_plainly(rt, s, line, act, gate, steps);
+        }
+        let mut maker = BallAct::new(&self.drawn, ball, set);
+        act_answer(self.edit(rt, s, line, &mut maker, gate, steps))
+    }
+
+    // A copy, and so of a large one.
+    fn edit_copy<R: Wait, G: Gate, L: Ledger>(
+        &self,
+        rt: &R,
+        s: &mut Session,
+        line: u32,
+        act: &Act,
+        from: Boxed,
+        to: Cell,
+        gate: &G,
+        steps: &mut Steps<L>,
+    ) -> ActAnswer
+        requires rest { IsAtRest self.now s.old }
+        requires act { act.now ≡ Copy from to }
+        requires edit { is_edit act.now ≡ true }
+        requires fits { FitsWorld (2 ^ self.now.plan.side) self.now.models act.now }
+        requires room { number_of_trees s.old.view.held ≤ 3900 }
+        ensures rest { IsAtRest self.now s.new }
+        ensures same { SamePass s.old s.new }
+        ensures held { SameHeld s.old.view.held s.new.view.held }
+        ensures told { AnswersAct self.now line act.now result s.old.view s.new.view }
+    {
+        if !copy_may_repeat(from.size) {
+            return self.edit_plainly(rt, s, line, act, gate, steps);
+        }
+        let mut maker = CopyAct::new(&self.drawn, from, to);
         act_answer(self.edit(rt, s, line, &mut maker, gate, steps))
     }
 
