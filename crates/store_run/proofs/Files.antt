@@ -31,7 +31,7 @@ use Rattle.store_run.proofs.Pinning.{HasTree, pin_here}
 
 -- ---- the file of a box goes by its cells alone
 
-abbrev SameIn : Boxed → (Cell → Bool) → (Cell → Bool) → Type 0
+abbrev pub SameIn : Boxed → (Cell → Bool) → (Cell → Bool) → Type 0
 SameIn b f g = (x y z : ℕ) → x < b.size.x → y < b.size.y → z < b.size.z
     → f (cell_at (b.at.x + x) (b.at.y + y) (b.at.z + z)) ≡ g (cell_at (b.at.x + x) (b.at.y + y) (b.at.z + z))
 
@@ -40,7 +40,7 @@ unfolding voxels_joined
 joined-same zero f g same = refl
 joined-same (suc n) f g same = rw (joined-same n f g (λ i lt. same i (omega arith)), same n (omega arith)) refl
 
-same_file : (b : Boxed) (f g : Cell → Bool) → SameIn b f g → file_of_box b f ≡ file_of_box b g
+pub same_file : (b : Boxed) (f g : Cell → Bool) → SameIn b f g → file_of_box b f ≡ file_of_box b g
 same_file b f g same =
     ap (λ (voxels : List Voxel). model_file (record { size = b.size; voxels = voxels }))
     (joined-same b.size.z (box_layer f b) (box_layer g b) (λ z of_z.
@@ -61,7 +61,7 @@ from_origin : (x : ℕ) → x - 0 ≡ x
 from_origin x = omega arith
 
 -- a shape has the cells of the world that it shows
-shown_in : (side : ℕ) (b : Boxed) (s : Shape) (w : World) → ShowsCells (world_block side) s w → FitsAt b.at b.size (2 ^ side)
+pub shown_in : (side : ℕ) (b : Boxed) (s : Shape) (w : World) → ShowsCells (world_block side) s w → FitsAt b.at b.size (2 ^ side)
     → SameIn b (cells_of (side - 2) s) w
 shown_in side b s w shows fits x y z of_x of_y of_z =
     let c = cell_at (b.at.x + x) (b.at.y + y) (b.at.z + z) in

@@ -10,3 +10,7 @@ pub mod Answering
 pub mod Ending
 pub mod Pinning
 pub mod Files
+pub mod Opening
+pub mod StampActs
+pub mod Changing
+pub mod OwnModels

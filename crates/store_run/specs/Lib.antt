@@ -4,3 +4,6 @@ pub mod Pins
 pub mod Answering
 pub mod Desks
 pub mod Open
+pub mod Worlds
+pub mod Stamps
+pub mod Changing

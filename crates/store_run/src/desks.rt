@@ -17,12 +17,12 @@ use vw_cell::Memory;
 /// Answers the lines of scripts over versions in a store. Between two lines nothing is held but
 /// what was saved.
 #[derive(Drop)]
-pub(crate) struct StoreDesk<'m, L: Ledger> {
-    pub(crate) pinned: Pinned<'m>,
+pub(crate) struct StoreDesk<L: Ledger> {
+    pub(crate) pinned: Pinned,
     steps: Steps<L>,
 }
 
-impl<'m, L: Ledger> Model for StoreDesk<'m, L> {
+impl<L: Ledger> Model for StoreDesk<L> {
     ghost use Rattle.std.specs.Coded.{codes};
     ghost use Rattle.node_shapes.specs.ShapeCode.{coded_shape};
     ghost use Rattle.store_notes.specs.Told.{coded_wanted};
@@ -38,23 +38,23 @@ impl<'m, L: Ledger> Model for StoreDesk<'m, L> {
     ghost invariant = { λ d. ArePinned d.pinned.versions d.pinned.pins.items };
 }
 
-impl<'m, L: Ledger> StoreDesk<'m, L> {
+impl<L: Ledger> StoreDesk<L> {
     /// A desk where nothing was done yet, with room for so many records and saves.
     pub(crate) fn begin(
         alloc: Global,
         plan: &Plan,
-        models: &'m Models,
+        models: Models,
         records: usize,
         saves: usize,
         blank: Blank,
-    ) -> Result<StoreDesk<'m, L>, Memory>
-        requires models { AreModels models.now }
+    ) -> Result<StoreDesk<L>, Memory>
+        requires models { AreModels models }
         requires name { blank.name ≡ L.name }
         requires parts { blank.parts ≡ L.parts }
         requires some { 0 < L.parts }
         ensures { IfOk result (λ d. d ≡ record {
           plan = plan.now;
-          models = models.now;
+          models = models;
           log = record { side = plan.now.side; records = []; marks = [] };
           noted = record { made = []; met = [] };
           saved = [];
@@ -66,16 +66,16 @@ impl<'m, L: Ledger> StoreDesk<'m, L> {
     }
 
     /// What it worked on.
-    pub(crate) fn into_pinned(self) -> Pinned<'m>
+    pub(crate) fn into_pinned(self) -> Pinned
         ensures are { ArePinned result.versions result.pins.items }
-        ensures state { desk_state result ≡ self.entry }
+        ensures state { desk_state result ≡ self }
     {
         let StoreDesk { pinned, .. } = self;
         pinned
     }
 }
 
-impl<'m, L: Ledger> Desk for StoreDesk<'m, L> {
+impl<L: Ledger> Desk for StoreDesk<L> {
     ghost plan = { λ d. d.plan };
 
     ghost models = { λ d. d.models };

@@ -10,7 +10,7 @@ use node_shapes::Name;
 use std::alloc::Global;
 use vw_cell::Memory;
 
-impl<'m> Versions<'m> {
+impl Versions {
     /// The root of each version.
     #[tactic(auto, using(crate::proofs::Ending::roots_tell, crate::proofs::Ending::roots_in_range))]
     pub(crate) fn roots(&self, alloc: Global) -> Result<Vec<Option<Name>>, Memory>
@@ -43,11 +43,27 @@ impl<'m> Versions<'m> {
         Ok(numbers)
     }
 
+    /// A copy of the records and marks.
+    #[tactic(auto, using(crate::proofs::Ending::history_is))]
+    pub(crate) fn told(&self, alloc: Global) -> Result<History, Memory>
+        requires { AreVersions self.now }
+        ensures { IfOk result (λ history. history ≡ log_of self.now) }
+    {
+        let mut records = Vec::with_capacity(alloc, self.records.len())?;
+        records.extend_from_slice(self.records.as_slice())?;
+        let marks = marks_in(alloc, self.marks.as_slice())?;
+        Ok(History {
+            side: self.side,
+            records,
+            marks,
+        })
+    }
+
     /// The records and marks.
     #[tactic(auto, using(crate::proofs::Ending::history_is))]
     pub(crate) fn history(self, alloc: Global) -> Result<History, Memory>
         requires { AreVersions self }
-        ensures { IfOk result (λ history. history ≡ log_of self.entry) }
+        ensures { IfOk result (λ history. history ≡ log_of self) }
     {
         let Versions {
             side,

@@ -4,10 +4,13 @@
 mod desks;
 mod endings;
 mod lines;
+mod models;
 mod open_runs;
+mod open_worlds;
 mod pins;
 mod runs;
 mod versions;
 
 pub use open_runs::{OpenRun, StoreRan};
+pub use open_worlds::OpenWorld;
 pub use runs::{ScriptsRun, run_scripts};

@@ -5,9 +5,10 @@ ghost use Rattle.history_model.specs.Logs.{FitsWorld};
 ghost use Rattle.node_shapes.specs.Weights.{number_of_trees};
 ghost use Rattle.script.specs.Fitting.{QuestionFits};
 ghost use Rattle.script.specs.declared.commands.Command.TheVariants.{Edit, Forget, Ask, Same};
-ghost use Rattle.conformance.specs.Answers.{target_at, asked_version};
-ghost use Rattle.store_run.specs.Kept.{moment_of, AreVersions, HoldsSame, HasRoom};
+ghost use Rattle.conformance.specs.Answers.{target_at, asked_version, mark_of};
+ghost use Rattle.store_run.specs.Kept.{log_of, moment_of, AreVersions, HoldsSame, HasRoom};
 ghost use Rattle.store_run.specs.Answering.{GoesOnBy, nothing_to_go_to};
+ghost use Rattle.store_run.specs.Changing.{Changes, Forgets};
 
 use crate::versions::{Found, RECORDS, Versions};
 use history_model::{Act, Mark, Question, Record};
@@ -15,7 +16,7 @@ use node_words::Steps;
 use std::sync::ledger::Ledger;
 use transcript::Answer;
 
-impl<'m> Versions<'m> {
+impl Versions {
     /// An edit: full, or the history is, or it becomes the next record.
     #[tactic(auto, using(crate::proofs::Targets::may_edit, crate::proofs::Answering::edit_full, crate::proofs::Answering::edit_done, crate::proofs::Answering::edit_late, crate::proofs::Answering::full_same, crate::proofs::Holding::same_again, crate::proofs::Holding::gained_tree, crate::proofs::Holding::gained_room))]
     pub(crate) fn edit<L: Ledger>(
@@ -33,6 +34,8 @@ impl<'m> Versions<'m> {
         ensures are { AreVersions self.new }
         ensures goes_on { (once : Bool) → GoesOnBy self.old session
             (record { line = line; command = Edit act once }) result self.new }
+        ensures logs { Changes (log_of self.old)
+            (record { session = session; line = line; act = act }) result (log_of self.new) }
         ensures same { HoldsSame self.old.store self.new.store }
     {
         let root = match self.rebuild(act, steps) {
@@ -63,6 +66,8 @@ impl<'m> Versions<'m> {
         ensures are { AreVersions self.new }
         ensures goes_on { (once : Bool) → GoesOnBy self.old session
             (record { line = line; command = Edit act once }) result self.new }
+        ensures logs { Changes (log_of self.old)
+            (record { session = session; line = line; act = act }) result (log_of self.new) }
         ensures same { HoldsSame self.old.store self.new.store }
     {
         let to = match self.target(act) {
@@ -109,6 +114,8 @@ impl<'m> Versions<'m> {
         ensures are { AreVersions self.new }
         ensures goes_on { GoesOnBy self.old session
             (record { line = line; command = Forget version }) result self.new }
+        ensures logs { Forgets (log_of self.old)
+            (mark_of version (moment_of self.old) session line) result (log_of self.new) }
         ensures same { HoldsSame self.old.store self.new.store }
     {
         match self.find(version) {

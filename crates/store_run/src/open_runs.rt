@@ -21,11 +21,11 @@ use vw_cell::Memory;
 /// A run whose scripts were all run. It holds a share of the root of each version that was saved,
 /// so that files can be made one at a time, and then tells what the store's nodes do.
 #[derive(Drop)]
-pub struct OpenRun<'m> {
-    pub(crate) pinned: Pinned<'m>,
+pub struct OpenRun {
+    pub(crate) pinned: Pinned,
 }
 
-impl<'m> Model for OpenRun<'m> {
+impl Model for OpenRun {
     ghost use Rattle.std.specs.Coded.{codes};
     ghost use Rattle.store_run.specs.Open.{RunState, run_state};
     ghost use Rattle.store_run.specs.Pins.{ArePinned};
@@ -49,7 +49,7 @@ pub struct StoreRan {
     pub numbers: Vec<u32>,
 }
 
-impl<'m> OpenRun<'m> {
+impl OpenRun {
     /// How many saves were accepted.
     pub fn saves(&self) -> usize
         ensures { result ≡ length self.now.saved }
@@ -78,33 +78,29 @@ impl<'m> OpenRun<'m> {
 
     /// Gives back what is held for saves; then roots and nodes are those of the versions alone.
     pub fn close(self, alloc: Global) -> Result<StoreRan, Memory>
-        ensures history { IfOk result (λ r. r.history ≡ self.entry.log) }
+        ensures history { IfOk result (λ r. r.history ≡ self.log) }
         ensures places { IfOk result (λ r. length r.history.records < length r.roots.items) }
-        ensures roots { IfOk result (λ r. RootsTellWorlds self.entry.models r.history
+        ensures roots { IfOk result (λ r. RootsTellWorlds self.models r.history
             (listed_root r.roots.items)) }
         ensures numbers { IfOk result
-            (λ r. AreNumbers self.entry.models r.history r.numbers.items) }
+            (λ r. AreNumbers self.models r.history r.numbers.items) }
     {
         let OpenRun { pinned } = self;
         close_over::<Brand>(alloc, pinned, Blank::new(1))
     }
 }
 
-fn close_over<L: Ledger>(
-    alloc: Global,
-    pinned: Pinned<'_>,
-    blank: Blank,
-) -> Result<StoreRan, Memory>
+fn close_over<L: Ledger>(alloc: Global, pinned: Pinned, blank: Blank) -> Result<StoreRan, Memory>
     requires are { ArePinned pinned.versions pinned.pins.items }
     requires name { blank.name ≡ L.name }
     requires parts { blank.parts ≡ L.parts }
     requires some { 0 < L.parts }
-    ensures history { IfOk result (λ r. r.history ≡ log_of pinned.entry.versions) }
+    ensures history { IfOk result (λ r. r.history ≡ log_of pinned.versions) }
     ensures places { IfOk result (λ r. length r.history.records < length r.roots.items) }
-    ensures roots { IfOk result (λ r. RootsTellWorlds pinned.entry.versions.models.items r.history
+    ensures roots { IfOk result (λ r. RootsTellWorlds pinned.versions.models.items r.history
         (listed_root r.roots.items)) }
     ensures numbers { IfOk result
-        (λ r. AreNumbers pinned.entry.versions.models.items r.history r.numbers.items) }
+        (λ r. AreNumbers pinned.versions.models.items r.history r.numbers.items) }
 {
     let mut steps: Steps<L> = Steps::start(blank);
     let versions = pinned.into_versions(&mut steps);

@@ -42,25 +42,25 @@ pub(crate) struct Pin {
 
 /// Versions, and the pins of the saves that were accepted, in order.
 #[derive(Drop)]
-pub(crate) struct Pinned<'m> {
-    pub(crate) versions: Versions<'m>,
+pub(crate) struct Pinned {
+    pub(crate) versions: Versions,
     pub(crate) pins: Vec<Pin>,
 }
 
-impl<'m> Pinned<'m> {
+impl Pinned {
     /// Version 0 alone, with room for so many records and saves.
     #[tactic(auto, using(crate::proofs::Pinning::nothing_pinned))]
     pub(crate) fn begin(
         alloc: Global,
         plan: &Plan,
-        models: &'m Models,
+        models: Models,
         records: usize,
         saves: usize,
-    ) -> Result<Pinned<'m>, Memory>
-        requires { AreModels models.now }
+    ) -> Result<Pinned, Memory>
+        requires { AreModels models }
         ensures are { IfOk result (λ p. ArePinned p.versions p.pins.items) }
         ensures plan { IfOk result (λ p. plan_of p.versions ≡ plan.now) }
-        ensures models { IfOk result (λ p. p.versions.models.items ≡ models.now) }
+        ensures models { IfOk result (λ p. p.versions.models.items ≡ models) }
         ensures empty { IfOk result (λ p. log_of p.versions
             ≡ record { side = plan.now.side; records = []; marks = [] }) }
         ensures noted { IfOk result (λ p. noted_of p.versions ≡ record { made = []; met = [] }) }
@@ -209,11 +209,11 @@ impl<'m> Pinned<'m> {
 
     /// The versions, when nothing is held any more.
     #[tactic(auto, using(crate::proofs::Pinning::popped_tree, crate::proofs::Pinning::popped_few, crate::proofs::Pinning::popped_pinned, crate::proofs::Pinning::none_pinned))]
-    pub(crate) fn into_versions<L: Ledger>(self, steps: &mut Steps<L>) -> Versions<'m>
+    pub(crate) fn into_versions<L: Ledger>(self, steps: &mut Steps<L>) -> Versions
         requires { ArePinned self.versions self.pins.items }
         ensures are { AreVersions result }
         ensures free { HoldsNothing result.store }
-        ensures stay { StayVersions self.entry.versions result }
+        ensures stay { StayVersions self.versions result }
     {
         let Pinned {
             mut versions,

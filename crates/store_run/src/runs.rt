@@ -19,8 +19,8 @@ use vw_cell::Memory;
 
 /// A run whose scripts were all run, and their transcripts.
 #[derive(Drop)]
-pub struct ScriptsRun<'m> {
-    pub run: OpenRun<'m>,
+pub struct ScriptsRun {
+    pub run: OpenRun,
     pub transcripts: Vec<Transcript>,
 }
 
@@ -29,52 +29,52 @@ pub struct ScriptsRun<'m> {
 /// The store, room for all records, marks, undos and saves, a stencil of each model and the lists
 /// of all answers are taken before the first command. There is room for 2,048 saves, twice as many
 /// as 64 scripts have that were read; more would be told as want of memory.
-pub fn run_scripts<'m>(
+pub fn run_scripts(
     alloc: Global,
     plan: &Plan,
-    models: &'m Models,
+    models: Models,
     scripts: &[Script],
-) -> Result<ScriptsRun<'m>, Memory>
-    requires models { AreModels models.now }
+) -> Result<ScriptsRun, Memory>
+    requires models { AreModels models }
     requires few { length scripts.now ≤ 64 }
     requires rise { All (RisesFrom 1) scripts.now }
     requires fit { All
-        (All (λ l. CommandFits (2 ^ plan.now.side) models.now l.command)) scripts.now }
-    ensures ran { IfOk result (λ r. AllRan plan.now models.now scripts.now r.transcripts.items
+        (All (λ l. CommandFits (2 ^ plan.now.side) models l.command)) scripts.now }
+    ensures ran { IfOk result (λ r. AllRan plan.now models scripts.now r.transcripts.items
         r.run.log) }
     ensures saved { IfOk result
         (λ r. r.run.saved ≡ saved_of scripts.now r.transcripts.items) }
-    ensures models { IfOk result (λ r. r.run.models ≡ models.now) }
+    ensures models { IfOk result (λ r. r.run.models ≡ models) }
     ensures plan { IfOk result (λ r. r.run.plan ≡ plan.now) }
 {
     run_over::<Brand>(alloc, plan, models, scripts, Blank::new(1))
 }
 
-fn run_over<'m, L: Ledger>(
+fn run_over<L: Ledger>(
     alloc: Global,
     plan: &Plan,
-    models: &'m Models,
+    models: Models,
     scripts: &[Script],
     blank: Blank,
-) -> Result<ScriptsRun<'m>, Memory>
-    requires models { AreModels models.now }
+) -> Result<ScriptsRun, Memory>
+    requires models { AreModels models }
     requires few { length scripts.now ≤ 64 }
     requires rise { All (RisesFrom 1) scripts.now }
     requires fit { All
-        (All (λ l. CommandFits (2 ^ plan.now.side) models.now l.command)) scripts.now }
+        (All (λ l. CommandFits (2 ^ plan.now.side) models l.command)) scripts.now }
     requires name { blank.name ≡ L.name }
     requires parts { blank.parts ≡ L.parts }
     requires some { 0 < L.parts }
-    ensures ran { IfOk result (λ r. AllRan plan.now models.now scripts.now r.transcripts.items
+    ensures ran { IfOk result (λ r. AllRan plan.now models scripts.now r.transcripts.items
         r.run.log) }
     ensures saved { IfOk result
         (λ r. r.run.saved ≡ saved_of scripts.now r.transcripts.items) }
-    ensures models { IfOk result (λ r. r.run.models ≡ models.now) }
+    ensures models { IfOk result (λ r. r.run.models ≡ models) }
     ensures plan { IfOk result (λ r. r.run.plan ≡ plan.now) }
 {
     let records = most_records(scripts);
     let saves = most_saves(scripts);
-    let mut desk: StoreDesk<'m, L> = StoreDesk::begin(alloc, plan, models, records, saves, blank)?;
+    let mut desk: StoreDesk<L> = StoreDesk::begin(alloc, plan, models, records, saves, blank)?;
     let transcripts = script_runs::run_scripts(alloc, &mut desk, scripts)?;
     let run = OpenRun {
         pinned: desk.into_pinned(),

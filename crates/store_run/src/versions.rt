@@ -1,6 +1,6 @@
 ghost use Rattle.std.specs.Prelude.{◌≡◌, ◌+◌, ◌<◌, ◌≤◌, ◌^◌, ◌↔◌, true, None, IfOk, IfErr, OnOk, IsTrue, [], length, replicate, option_copied};
 
-use act_rebuilds::{DrawnModel, draw_models, rebuild_act};
+use crate::models::{OwnModel, own_models, rebuild_own};
 use history_model::{Act, History, Mark, Question, Record};
 use node_words::{Full, Name, NodeStore, Plan, Share, Steps};
 use one_store::OneStore;
@@ -21,9 +21,9 @@ const VERSIONS: usize = 65_536;
 /// The versions of a world: records and marks, and a store that has the root of each version which
 /// is kept in the place of its number.
 #[derive(Drop)]
-pub(crate) struct Versions<'m> {
+pub(crate) struct Versions {
     pub(crate) side: Side,
-    pub(crate) models: Vec<DrawnModel<'m>>,
+    pub(crate) models: Vec<OwnModel>,
     pub(crate) store: OneStore,
     pub(crate) records: Vec<Record>,
     // by version
@@ -52,19 +52,19 @@ ghost use Rattle.conformance.specs.Telling.{Tells};
 ghost use Rattle.store_run.specs.Kept.{plan_of, log_of, moment_of, world_of, core_with, noted_of, AreVersions, HoldsNothing, HoldsTree, GainsTree, LosesTree, HoldsSame, HasRoom};
 ghost use Rattle.store_run.specs.Steps.{IsFound, StaysSeen, IsOverStore, MakesBeside, target_of, PutsDown, LeavesAll, SharesRoot, MakesRoot, MeetsBucket, AppendsRecord, MarksVersion};
 
-impl<'m> Versions<'m> {
+impl Versions {
     /// Version 0 alone, with room for so many records.
     #[tactic(auto, using(crate::proofs::Beginning::begun_are, crate::proofs::Beginning::begun_log, crate::proofs::Beginning::begun_nothing, crate::proofs::Beginning::begun_noted))]
     pub(crate) fn begin(
         alloc: Global,
         plan: &Plan,
-        models: &'m Models,
+        models: Models,
         most: usize,
-    ) -> Result<Versions<'m>, Memory>
-        requires { AreModels models.now }
+    ) -> Result<Versions, Memory>
+        requires { AreModels models }
         ensures are { IfOk result AreVersions }
         ensures plan { IfOk result (λ v. plan_of v ≡ plan.now) }
-        ensures models { IfOk result (λ v. v.models.items ≡ models.now) }
+        ensures models { IfOk result (λ v. v.models.items ≡ models) }
         ensures empty { IfOk result (λ v. log_of v
             ≡ record { side = plan.now.side; records = []; marks = [] }) }
         ensures noted { IfOk result (λ v. noted_of v ≡ record { made = []; met = [] }) }
@@ -72,7 +72,7 @@ impl<'m> Versions<'m> {
     {
         Ok(Versions {
             side: plan.side(),
-            models: draw_models(alloc, models)?,
+            models: own_models(alloc, models)?,
             store: OneStore::begin(alloc, plan)?,
             records: Vec::with_capacity(alloc, most)?,
             marks: no_marks(alloc)?,
@@ -238,7 +238,7 @@ impl<'m> Versions<'m> {
             (known_seen self.old.store) (known_seen self.new.store)) }
     {
         let side = self.side;
-        rebuild_act(
+        rebuild_own(
             &mut self.store,
             base,
             side,

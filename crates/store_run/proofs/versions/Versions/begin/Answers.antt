@@ -10,7 +10,7 @@ pub returns-clause-empty : goal.returns-clause-empty
 returns-clause-empty c =
     begun_log (record {
       side = c.side.result;
-      models = c.in_ok-draw_models.field-0;
+      models = c.in_ok-own_models.field-0;
       store = c.in_ok-begin.field-0;
       records = c.in_ok-with_capacity.field-0;
       marks = c.in_ok-no_marks.field-0;
@@ -23,7 +23,7 @@ pub returns-clause-free : goal.returns-clause-free
 returns-clause-free c =
     begun_nothing (record {
       side = c.side.result;
-      models = c.in_ok-draw_models.field-0;
+      models = c.in_ok-own_models.field-0;
       store = c.in_ok-begin.field-0;
       records = c.in_ok-with_capacity.field-0;
       marks = c.in_ok-no_marks.field-0;

@@ -9,8 +9,8 @@ use Rattle.store_run.proofs.versions.Versions.rebuild_from.Goals as goal
 pub returns-clause-makes : goal.returns-clause-makes
 returns-clause-makes g c =
     let v = c.args.self.now in
-    let s = c.rebuild_act.new.store in
+    let s = c.rebuild_own.new.store in
     let base = option_copied c.args.base in
-    makes_beside v s base c.args.act 0 c.rebuild_act.result c.requires.are c.requires.holds c.requires.is
-    (subst (λ (ms : List Content). RebuildsAct (known_seen v.store) v.side base ms c.args.act c.rebuild_act.result (known_seen s)) c.as_slice.ensures.value c.rebuild_act.ensures.ok)
-    (subst (λ (ms : List Content). GrowsByAct (known_seen v.store) v.side base ms c.args.act c.rebuild_act.result (known_seen s)) c.as_slice.ensures.value c.rebuild_act.ensures.grows)
+    makes_beside v s base c.args.act 0 c.rebuild_own.result c.requires.are c.requires.holds c.requires.is
+    (subst (λ (ms : List Content). RebuildsAct (known_seen v.store) v.side base ms c.args.act c.rebuild_own.result (known_seen s)) c.as_slice.ensures.value c.rebuild_own.ensures.ok)
+    (subst (λ (ms : List Content). GrowsByAct (known_seen v.store) v.side base ms c.args.act c.rebuild_own.result (known_seen s)) c.as_slice.ensures.value c.rebuild_own.ensures.grows)

@@ -1,0 +1,94 @@
+-- What a change makes of a world that stands open.
+use Rattle.std.proofs.Common.{◌≡◌, ◌↔◌, ℕ, ◌-◌, ◌^◌, Bool, Option, List, ◌∙◌, ap, subst}
+use Rattle.std.specs.declared.vec.Vec.{Vec}
+use Rattle.std.specs.Prelude.{Result, Ok, Err, IfOk, IsTrue}
+use Rattle.vw_cell.specs.declared.boxes.Boxed.{Boxed}
+use Rattle.vw_cell.specs.Places.{FitsAt}
+use Rattle.vox_read.specs.Contents.{Content}
+use Rattle.history_model.specs.Logs.{Log}
+use Rattle.history_model.specs.Moments.{world_has}
+use Rattle.node_shapes.specs.declared.names.Name.{Name}
+use Rattle.node_shapes.specs.Tree.{shape_of}
+use Rattle.node_words.proofs.HeldLaws.{held_reached}
+use Rattle.block_contents.specs.Versions.{IsKept, SameWorld}
+use Rattle.core_laws.proofs.RootCells.{same_cells, same_root}
+use Rattle.block_walk.specs.Roots.{IsBlockOf, ForWorld, cells_of}
+use Rattle.extract.specs.Saved.{file_of_box}
+use Rattle.one_store.specs.Known.{IsStore, stored_root}
+use Rattle.script.specs.declared.commands.ScriptLine.{ScriptLine}
+use Rattle.transcript.specs.declared.answers.Answer.{Answer}
+use Rattle.conformance.specs.Kinds.{answer_at}
+use Rattle.script_runs.specs.Sessions.{GoesOnWith}
+use Rattle.store_run.specs.declared.versions.Versions.{Versions}
+use Rattle.store_run.specs.Kept.{plan_of, log_of, moment_of, noted_of, world_of, AreVersions, HoldsTree}
+use Rattle.store_run.specs.Steps.{StayVersions}
+use Rattle.store_run.proofs.Rebuilding.{share_shows}
+use Rattle.store_run.proofs.Files.{same_file, shown_in}
+use Rattle.store_run.proofs.Sparing.{versions_sound}
+use Rattle.store_run.specs.Answering.{GoesOnBy}
+use Rattle.store_run.specs.Worlds.{WorldState, world_state}
+use Rattle.store_run.specs.Changing.{Changes, MakesVersion}
+use Rattle.store_run.proofs.Changing.{made_version}
+use Rattle.transcript.specs.declared.answers.Answer.TheVariants.{Done}
+use Rattle.history_model.specs.declared.histories.Record.{Record}
+
+-- room for one more changes nothing that is seen
+pub room_same : (u v : Versions) (s : WorldState) → world_state u ≡ s → v.models.items ≡ u.models.items → log_of v ≡ log_of u
+    → v.store ≡ u.store → world_state v ≡ s
+room_same u v s is models log store =
+    (λ i. record { plan = (store i).words.plan; models = models i; log = log i; noted = record { made = (store i).told.made; met = (store i).told.met } })
+    ∙ is
+
+module _ (v w : Versions) (s : WorldState) (is : world_state v ≡ s) (session : ℕ) (l : ScriptLine) (answer : Answer) (g : GoesOnBy v session l answer w) where
+  pub changed_plan : plan_of w ≡ s.plan
+  changed_plan = g.plan ∙ ap (λ (t : WorldState). t.plan) is
+
+  pub changed_models : w.models.items ≡ s.models
+  changed_models = g.models ∙ ap (λ (t : WorldState). t.models) is
+
+  pub changed_goes : GoesOnWith s.plan s.models session l s.log (log_of w) s.noted (noted_of w) (answer_at l (moment_of w) answer)
+  changed_goes =
+      subst (λ (t : WorldState). GoesOnWith t.plan t.models session l t.log (log_of w) t.noted (noted_of w) (answer_at l (moment_of w) answer)) is g.goes_on
+
+module _ (v w : Versions) (s : WorldState) (is : world_state v ≡ s) (r : Record) (answer : Answer) (logs : Changes (log_of v) r answer (log_of w)) where
+  pub changed_logs : Changes s.log r answer (log_of w)
+  changed_logs = subst (λ (t : WorldState). Changes t.log r answer (log_of w)) is logs
+
+  pub changed_makes : answer ≡ Done → MakesVersion s.models s.log r.act (log_of w)
+  changed_makes done = made_version s.models s.log (log_of w) r answer changed_logs done
+
+-- ---- the file of a box of a version
+
+pub root_file : {E Z : Type 0} (v : Versions) (version : ℕ) (base : Option Name) (part : Boxed) (result : Result (Vec ℕ Z) E) → AreVersions v
+    → IsKept (log_of v) version → HoldsTree v.store base → base ≡ stored_root v.store.roots version → FitsAt part.at part.size (2 ^ v.side)
+    → IfOk result (λ file. ForWorld v.store.told.held v.side base (λ cells. file.items ≡ file_of_box part cells))
+    → IfOk result (λ file. file.items ≡ file_of_box part (world_of v version))
+root_file v version base part (Err e) are kept holds is fits told = tt
+root_file v version base part (Ok file) are kept holds is fits told =
+    let s = share_shows v version base are kept holds is in
+    let block : IsBlockOf v.store.told.held (v.side - 2) base s.tree = record {
+      root = s.is_root.root;
+      reached = λ n e. held_reached v.store.told.held s.tree (s.is_root.is_held n e);
+      of_level = s.is_root.at;
+    } in
+    told s.tree block
+    ∙ same_file part (cells_of (v.side - 2) (shape_of s.tree)) (world_of v version)
+    (shown_in v.side part (shape_of s.tree) (world_of v version) s.shows fits)
+
+pub file_still : {E Z : Type 0} (a v : Versions) (version : ℕ) (part : Boxed) (result : Result (Vec ℕ Z) E) → StayVersions a v
+    → IfOk result (λ file. file.items ≡ file_of_box part (world_of v version))
+    → IfOk result (λ file. file.items ≡ file_of_box part (world_of a version))
+file_still {E} {Z} a v version part result stay told =
+    subst (λ (l : Log). IfOk result (λ file. file.items ≡ file_of_box part (world_has a.models.items l.records version))) stay.log
+    (subst (λ (ms : List Content). IfOk result (λ file. file.items ≡ file_of_box part (world_has ms v.records.items version))) stay.models told)
+
+-- ---- two versions
+
+-- they have the same cells exactly where they have one root
+pub same_by_roots : (v : Versions) (number a b : ℕ) (is : Bool) → AreVersions v → IsStore v.store number → IsKept (log_of v) a → IsKept (log_of v) b
+    → (IsTrue is ↔ (stored_root v.store.roots a ≡ stored_root v.store.roots b))
+    → (IsTrue is ↔ SameWorld (2 ^ (plan_of v).side) (world_of v a) (world_of v b))
+same_by_roots v number a b is are st of_a of_b roots = (
+  (λ yes. same_cells (plan_of v) v.models.items _ st.plan.side_low (versions_sound v number are st) a b of_a of_b (roots.0 yes)),
+  (λ cells. roots.1 (same_root (plan_of v) v.models.items _ st.plan.side_low (versions_sound v number are st) a b of_a of_b cells)),
+)

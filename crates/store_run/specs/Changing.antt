@@ -1,0 +1,73 @@
+-- What a change that is asked for makes of a history, answer by answer.
+use Rattle.std.specs.Prelude.{◌≡◌, ℕ, ◌+◌, ◌<◌, ◌≤◌, Bool, true, false, Some, None, List, [], ◌∷◌, ◌++◌, length}
+use Rattle.vw_cell.specs.declared.cells.Cell.{Cell}
+use Rattle.vox_read.specs.Contents.{Content}
+use Rattle.history_model.specs.declared.acts.Act.{Act}
+use Rattle.history_model.specs.declared.histories.Record.{Record}
+use Rattle.history_model.specs.declared.histories.Mark.{Mark}
+use Rattle.history_model.specs.Logs.{Log}
+use Rattle.history_model.specs.Worlds.{is_edit, edited}
+use Rattle.history_model.specs.Moments.{world_has}
+use Rattle.block_contents.specs.Versions.{IsKept, MarkComes}
+use Rattle.transcript.specs.declared.answers.Answer.{Answer}
+use Rattle.transcript.specs.declared.answers.Answer.TheVariants as answers
+use Rattle.conformance.specs.Answers.{target_at}
+use Rattle.store_run.specs.Answering.{nothing_to_go_to}
+
+-- the history with one more record
+abbrev pub with_record : Log → Record → Log
+with_record log r = record { side = log.side; records = log.records ++ r ∷ []; marks = log.marks }
+
+-- the act is an undo or a redo, and goes to this version
+pub record GoesToVersion (log : Log) (act : Act) (to : ℕ) : Type 0 where
+  pub other : is_edit act ≡ false
+  pub goes : target_at log.records (length log.records) act ≡ Some to
+
+-- it is an edit, or there is a version for it to go to that isn't forgotten
+pub record HasWay (log : Log) (act : Act) : Type 0 where
+  pub other : is_edit act ≡ false → (to : ℕ) × GoesToVersion log act to × IsKept log to
+
+-- an act is answered: the record comes behind the others, or the history stays. A history has
+-- 65,535 records at most
+pub data Changes (log : Log) (r : Record) : Answer → Log → Type 0 where
+  done : (new : Log) → length log.records < 65535 → HasWay log r.act → new ≡ with_record log r
+      → Changes log r answers.Done new
+  full : (new : Log) (level bucket : ℕ) → is_edit r.act ≡ true → new ≡ log
+      → Changes log r (answers.Full level bucket) new
+  log_full : (new : Log) → length log.records ≡ 65535 → HasWay log r.act → new ≡ log
+      → Changes log r answers.LogFull new
+  forgotten : (new : Log) (to : ℕ) → GoesToVersion log r.act to → ¬ IsKept log to → new ≡ log
+      → Changes log r (answers.Forgotten to) new
+  nothing : (new : Log) → is_edit r.act ≡ false
+      → target_at log.records (length log.records) r.act ≡ None → new ≡ log
+      → Changes log r (nothing_to_go_to r.act) new
+
+-- the mark comes to its version, and nothing else changes
+pub record Marks (log : Log) (mark : Mark) (new : Log) : Type 0 where
+  pub kept : IsKept log mark.version
+  pub earlier : mark.version < length log.records
+  pub side : new.side ≡ log.side
+  pub records : new.records ≡ log.records
+  pub marks : MarkComes log.marks mark new.marks
+
+-- a version is to be forgotten by this mark, and is, or the history stays
+pub data Forgets (log : Log) (mark : Mark) : Answer → Log → Type 0 where
+  forgot : (new : Log) → Marks log mark new → Forgets log mark (answers.Forgot mark.version) new
+  no_version : length log.records < mark.version
+      → Forgets log mark (answers.NoVersion mark.version) log
+  forgotten : mark.version ≤ length log.records → ¬ IsKept log mark.version
+      → Forgets log mark (answers.Forgotten mark.version) log
+  is_head : mark.version ≡ length log.records → Forgets log mark answers.IsHead log
+
+-- there is one version more: it has what the act makes of the one before, or what the version has
+-- that an undo or a redo goes to; and each earlier one has what it had
+pub record MakesVersion (models : List Content) (old : Log) (act : Act) (new : Log) : Type 0 where
+  pub one_more : length new.records ≡ length old.records + 1
+  pub earlier : (v : ℕ) → v ≤ length old.records → (c : Cell)
+      → world_has models new.records v c ≡ world_has models old.records v c
+  pub edit : is_edit act ≡ true → (c : Cell)
+      → world_has models new.records (length old.records + 1) c
+      ≡ edited models act (world_has models old.records (length old.records)) c
+  pub other : (to : ℕ) → GoesToVersion old act to → (c : Cell)
+      → world_has models new.records (length old.records + 1) c
+      ≡ world_has models old.records to c

@@ -1,0 +1,33 @@
+-- What a world that stands open is: versions in a store, with nothing held between two calls.
+use Rattle.std.specs.Prelude.{List, Option, Some, None}
+use Rattle.vw_cell.specs.declared.cells.Cell.{Cell}
+use Rattle.vox_read.specs.Contents.{Content}
+use Rattle.history_model.specs.Logs.{Log}
+use Rattle.node_words.specs.Plans.{Layout}
+use Rattle.script_runs.specs.Keeping.{MadeAndMet}
+use Rattle.store_run.specs.declared.versions.Versions.{Versions}
+use Rattle.store_run.specs.Kept.{plan_of, log_of, noted_of, AreVersions, HoldsNothing}
+
+pub record WorldState : Type 0 where
+  pub plan : Layout
+  pub models : List Content
+  pub log : Log
+  pub noted : MadeAndMet
+
+abbrev pub world_state : Versions → WorldState
+world_state v = record {
+  plan = plan_of v;
+  models = v.models.items;
+  log = log_of v;
+  noted = noted_of v;
+}
+
+-- between two calls
+pub record IsAtRest (v : Versions) : Type 0 where
+  pub are : AreVersions v
+  pub nothing : HoldsNothing v.store
+
+-- the size of a model, where there is one
+abbrev pub size_of : Option Content → Option Cell
+size_of None = None
+size_of (Some model) = Some model.size

@@ -1,0 +1,315 @@
+//! A world that stands open, and is changed and asked one call at a time.
+ghost use Rattle.std.specs.Prelude.{◌≡◌, ◌↔◌, ◌<◌, ◌≤◌, ◌^◌, Bool, [], Some, IfOk, IfSome, IsTrue, OnErr, length, option_copied};
+ghost use Rattle.std.specs.List.{slice_get};
+ghost use Rattle.vw_cell.specs.Places.{FitsAt};
+ghost use Rattle.vox_read.specs.Contents.{AreModels};
+ghost use Rattle.history_model.specs.Journal.{journal_of};
+ghost use Rattle.history_model.specs.Logs.{FitsWorld};
+ghost use Rattle.history_model.specs.Moments.{world_has};
+ghost use Rattle.block_contents.specs.Versions.{IsKept, SameWorld};
+ghost use Rattle.extract.specs.Saved.{file_of_box};
+ghost use Rattle.script.specs.Fitting.{QuestionFits};
+ghost use Rattle.script.specs.declared.commands.Command.TheVariants.{Edit, Forget};
+ghost use Rattle.transcript.specs.declared.answers.Answer.TheVariants.{Done};
+ghost use Rattle.conformance.specs.Answers.{mark_of};
+ghost use Rattle.conformance.specs.Kinds.{answer_at};
+ghost use Rattle.conformance.specs.Telling.{Tells};
+ghost use Rattle.script_runs.specs.Sessions.{GoesOnWith};
+ghost use Rattle.one_store.specs.Known.{stored_root};
+ghost use Rattle.store_run.specs.Answering.{GoesOnBy};
+ghost use Rattle.store_run.specs.Changing.{Changes, Forgets, MakesVersion};
+ghost use Rattle.store_run.specs.Kept.{log_of, moment_of, world_of, HasRoom, AreVersions, HoldsTree};
+ghost use Rattle.store_run.specs.Steps.{LeavesAll, StaysSeen};
+ghost use Rattle.store_run.specs.Worlds.{IsAtRest, size_of};
+
+use crate::lines::is_edit;
+use crate::versions::{Found, Versions};
+use extract::box_file;
+use history_model::{Act, Question, journal_text};
+use node_words::{Plan, Share, Steps};
+use std::alloc::Global;
+use std::marker::{Brand, Model};
+use std::sync::ledger::{Blank, Ledger};
+use transcript::Answer;
+use vox_read::Models;
+use vw_cell::{Boxed, Cell, Memory, Side};
+
+/// The most records for which room is taken at the start.
+const FIRST_ROOM: usize = 1_024;
+
+/// A world that stands open: its models, and its versions, which are changed and asked one call at
+/// a time. Nothing is held between two calls.
+///
+/// Contracts see its plan, its models, its history, and which contents its store made or had no
+/// room for.
+#[derive(Drop)]
+pub struct OpenWorld {
+    versions: Versions,
+}
+
+impl Model for OpenWorld {
+    ghost use Rattle.std.specs.Coded.{codes};
+    ghost use Rattle.node_shapes.specs.ShapeCode.{coded_shape};
+    ghost use Rattle.store_notes.specs.Told.{coded_wanted};
+    ghost use Rattle.store_run.specs.Worlds.{WorldState, world_state, IsAtRest};
+
+    ghost Value = { WorldState };
+
+    ghost coded = { Prim.hlevel (codes, coded_shape, coded_wanted) };
+
+    ghost view = { λ w. world_state w.versions };
+
+    ghost invariant = { λ w. IsAtRest w.versions };
+}
+
+impl OpenWorld {
+    /// An empty world with these models.
+    pub fn begin(alloc: Global, plan: &Plan, models: Models) -> Result<OpenWorld, Memory>
+        requires { AreModels models }
+        ensures { IfOk result (λ w. w ≡ record {
+          plan = plan.now;
+          models = models;
+          log = record { side = plan.now.side; records = []; marks = [] };
+          noted = record { made = []; met = [] };
+        }) }
+    {
+        let versions = Versions::begin(alloc, plan, models, FIRST_ROOM)?;
+        Ok(OpenWorld { versions })
+    }
+
+    /// The world's side.
+    pub fn side(&self) -> Side
+        ensures { result ≡ self.now.plan.side }
+    {
+        self.versions.side
+    }
+
+    /// The size of the model of this number, counted from 0.
+    pub fn model_size(&self, number: usize) -> Option<Cell>
+        ensures { result ≡ size_of (slice_get self.now.models number) }
+    {
+        match self.versions.models.get(number) {
+            Some(model) => Some(model.size()),
+            None => None,
+        }
+    }
+
+    /// How many records there are, which is the number of the newest version.
+    pub fn moment(&self) -> u32
+        ensures { result ≡ length self.now.log.records }
+    {
+        self.versions.moment()
+    }
+
+    /// Whether the version is there, and isn't forgotten.
+    #[tactic(auto, using(crate::proofs::Changing::marked_gone))]
+    pub fn is_kept(&self, version: u32) -> bool
+        ensures { IsTrue result ↔ IsKept self.now.log version }
+    {
+        match self.versions.find(version) {
+            Found::Kept => true,
+            Found::NotThere | Found::Marked => false,
+        }
+    }
+
+    /// Does what the act asks for, as this line of this session.
+    pub fn change(&mut self, session: u16, line: u32, act: Act) -> Result<Answer, Memory>
+        requires fits { FitsWorld (2 ^ self.old.plan.side) self.old.models act }
+        ensures plan { self.new.plan ≡ self.old.plan }
+        ensures models { self.new.models ≡ self.old.models }
+        ensures logs { IfOk result (λ answer. Changes self.old.log
+            (record { session = session; line = line; act = act }) answer self.new.log) }
+        ensures makes { IfOk result (λ answer. answer ≡ Done
+            → MakesVersion self.old.models self.old.log act self.new.log) }
+        ensures goes_on { IfOk result (λ answer. (once : Bool)
+            → GoesOnWith self.old.plan self.old.models session
+            (record { line = line; command = Edit act once }) self.old.log self.new.log
+            self.old.noted self.new.noted
+            (answer_at (record { line = line; command = Edit act once })
+            (length self.new.log.records) answer)) }
+        ensures same { OnErr result (self.new ≡ self.old) }
+    {
+        self.versions.reserve()?;
+        let answer = change_over::<Brand>(&mut self.versions, session, line, act, Blank::new(1));
+        Ok(answer)
+    }
+
+    /// Forgets a version, as this line of this session.
+    pub fn forget(&mut self, session: u16, line: u32, version: u32) -> Answer
+        ensures plan { self.new.plan ≡ self.old.plan }
+        ensures models { self.new.models ≡ self.old.models }
+        ensures logs { Forgets self.old.log
+            (mark_of version (length self.old.log.records) session line) result self.new.log }
+        ensures goes_on { GoesOnWith self.old.plan self.old.models session
+            (record { line = line; command = Forget version }) self.old.log self.new.log
+            self.old.noted self.new.noted
+            (answer_at (record { line = line; command = Forget version })
+            (length self.new.log.records) result) }
+    {
+        forget_over::<Brand>(&mut self.versions, session, line, version, Blank::new(1))
+    }
+
+    /// What the question asks of a version.
+    pub fn ask(&mut self, version: u32, question: Question) -> Answer
+        requires kept { IsKept self.old.log version }
+        requires fits { QuestionFits (2 ^ self.old.plan.side) question }
+        ensures tells { Tells (2 ^ self.old.plan.side)
+            (world_has self.old.models self.old.log.records version) question result }
+        ensures same { self.new ≡ self.old }
+    {
+        ask_over::<Brand>(&mut self.versions, version, question, Blank::new(1))
+    }
+
+    /// Whether two versions have the same cells.
+    #[tactic(auto, using(crate::proofs::Opening::same_by_roots))]
+    pub fn same(&self, v: u32, w: u32) -> bool
+        requires first { IsKept self.now.log v }
+        requires second { IsKept self.now.log w }
+        ensures { IsTrue result ↔ SameWorld (2 ^ self.now.plan.side)
+            (world_has self.now.models self.now.log.records v)
+            (world_has self.now.models self.now.log.records w) }
+    {
+        let _number = self.versions.store.number();
+        self.versions.has_same_roots(v, w)
+    }
+
+    /// The VOX file of a box of a version.
+    pub fn file(&mut self, alloc: Global, version: u32, part: Boxed) -> Result<Vec<u8>, Memory>
+        requires kept { IsKept self.old.log version }
+        requires inside { FitsAt part.at part.size (2 ^ self.old.plan.side) }
+        requires small { (part.size.x ≤ 256) × (part.size.y ≤ 256) × (part.size.z ≤ 256) }
+        ensures file { IfOk result (λ file. file.items ≡ file_of_box part
+            (world_has self.old.models self.old.log.records version)) }
+        ensures same { self.new ≡ self.old }
+    {
+        file_over::<Brand>(&mut self.versions, alloc, version, part, Blank::new(1))
+    }
+
+    /// The text of the history's journal.
+    pub fn journal(&self, alloc: Global) -> Result<Vec<u8>, Memory>
+        ensures { IfOk result (λ text. text.items ≡ journal_of self.now.log) }
+    {
+        let history = self.versions.told(alloc)?;
+        journal_text(alloc, &history)
+    }
+}
+
+// Each call has a ledger of its own.
+fn change_over<L: Ledger>(
+    versions: &mut Versions,
+    session: u16,
+    line: u32,
+    act: Act,
+    blank: Blank,
+) -> Answer
+    requires rest { IsAtRest versions.old }
+    requires room { HasRoom versions.old }
+    requires fits { FitsWorld (2 ^ versions.old.side) versions.old.models.items act }
+    requires name { blank.name ≡ L.name }
+    requires parts { blank.parts ≡ L.parts }
+    requires some { 0 < L.parts }
+    ensures rest { IsAtRest versions.new }
+    ensures logs { Changes (log_of versions.old)
+        (record { session = session; line = line; act = act }) result (log_of versions.new) }
+    ensures goes_on { (once : Bool) → GoesOnBy versions.old session
+        (record { line = line; command = Edit act once }) result versions.new }
+{
+    let mut steps: Steps<L> = Steps::start(blank);
+    if is_edit(act) {
+        versions.edit(session, line, act, &mut steps)
+    } else {
+        versions.go(session, line, act)
+    }
+}
+
+fn forget_over<L: Ledger>(
+    versions: &mut Versions,
+    session: u16,
+    line: u32,
+    version: u32,
+    blank: Blank,
+) -> Answer
+    requires rest { IsAtRest versions.old }
+    requires name { blank.name ≡ L.name }
+    requires parts { blank.parts ≡ L.parts }
+    requires some { 0 < L.parts }
+    ensures rest { IsAtRest versions.new }
+    ensures logs { Forgets (log_of versions.old)
+        (mark_of version (moment_of versions.old) session line) result (log_of versions.new) }
+    ensures goes_on { GoesOnBy versions.old session
+        (record { line = line; command = Forget version }) result versions.new }
+{
+    let mut steps: Steps<L> = Steps::start(blank);
+    versions.forget_version(session, line, version, &mut steps)
+}
+
+fn ask_over<L: Ledger>(
+    versions: &mut Versions,
+    version: u32,
+    question: Question,
+    blank: Blank,
+) -> Answer
+    requires rest { IsAtRest versions.old }
+    requires kept { IsKept (log_of versions.old) version }
+    requires fits { QuestionFits (2 ^ versions.old.side) question }
+    requires name { blank.name ≡ L.name }
+    requires parts { blank.parts ≡ L.parts }
+    requires some { 0 < L.parts }
+    ensures rest { IsAtRest versions.new }
+    ensures leaves { LeavesAll versions.old versions.new }
+    ensures tells { Tells (2 ^ versions.old.side) (world_of versions.old version) question result }
+{
+    let mut steps: Steps<L> = Steps::start(blank);
+    versions.ask(version, question, &mut steps)
+}
+
+#[tactic(auto, using(crate::proofs::Rebuilding::asked_all, crate::proofs::Rebuilding::asked_same, crate::proofs::Rebuilding::shared_tree, crate::proofs::Rebuilding::shared_few, crate::proofs::Opening::file_still))]
+fn file_over<L: Ledger>(
+    versions: &mut Versions,
+    alloc: Global,
+    version: u32,
+    part: Boxed,
+    blank: Blank,
+) -> Result<Vec<u8>, Memory>
+    requires rest { IsAtRest versions.old }
+    requires kept { IsKept (log_of versions.old) version }
+    requires inside { FitsAt part.at part.size (2 ^ versions.old.side) }
+    requires small { (part.size.x ≤ 256) × (part.size.y ≤ 256) × (part.size.z ≤ 256) }
+    requires name { blank.name ≡ L.name }
+    requires parts { blank.parts ≡ L.parts }
+    requires some { 0 < L.parts }
+    ensures rest { IsAtRest versions.new }
+    ensures leaves { LeavesAll versions.old versions.new }
+    ensures file { IfOk result
+        (λ file. file.items ≡ file_of_box part (world_of versions.old version)) }
+{
+    let mut steps: Steps<L> = Steps::start(blank);
+    let root = versions.share(version);
+    let file = file_root(versions, alloc, version, root.as_ref(), part);
+    versions.give_back(root, &mut steps);
+    file
+}
+
+#[tactic(auto, using(crate::proofs::Rebuilding::share_level, crate::proofs::Holding::holds_root, crate::proofs::Sparing::are_spared, crate::proofs::Rebuilding::seen_tree, crate::proofs::Rebuilding::stays_seen, crate::proofs::Opening::root_file))]
+fn file_root(
+    versions: &mut Versions,
+    alloc: Global,
+    version: u32,
+    root: Option<&Share>,
+    part: Boxed,
+) -> Result<Vec<u8>, Memory>
+    requires are { AreVersions versions.old }
+    requires kept { IsKept (log_of versions.old) version }
+    requires holds { HoldsTree versions.old.store (option_copied root) }
+    requires is { option_copied root ≡ stored_root versions.old.store.roots version }
+    requires inside { FitsAt part.at part.size (2 ^ versions.old.side) }
+    requires small { (part.size.x ≤ 256) × (part.size.y ≤ 256) × (part.size.z ≤ 256) }
+    ensures are { AreVersions versions.new }
+    ensures stays { StaysSeen versions.old versions.new }
+    ensures holds { HoldsTree versions.new.store (option_copied root.entry) }
+    ensures file { IfOk result
+        (λ file. file.items ≡ file_of_box part (world_of versions.old version)) }
+{
+    let side = versions.side;
+    box_file(alloc, &mut versions.store, root, side, part)
+}
