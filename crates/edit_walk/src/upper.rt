@@ -25,7 +25,7 @@ impl<T: Repeats> Upper<T> {
         }
     }
 
-    // Whether a block of this level may not be replaced at this place by one of that level.
+    // Whether one of this level is smaller than the block that stands at this place.
     fn is_smaller(&self, place: usize, level: u8) -> bool
         requires { place < 512 }
     {

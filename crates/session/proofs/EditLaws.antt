@@ -1,9 +1,6 @@
 -- An edit, by an attempt and, too late, by one under the log's turn.
-use Rattle.std.proofs.Common.{◌≡◌, ◌<◌, ◌≤◌, ◌+◌, ◌^◌, ℕ, true, Option, List, [], ◌∷◌, ◌++◌, length, sym, ◌∙◌, ap, subst, arith, length-append}
-use Rattle.vox_read.specs.Contents.{Content}
+use Rattle.std.proofs.Common.{◌≡◌, ◌<◌, ◌≤◌, ◌+◌, ℕ, Option, List, [], ◌∷◌, ◌++◌, length, sym, ◌∙◌, ap, subst, arith, length-append}
 use Rattle.history_model.specs.declared.acts.Act.{Act}
-use Rattle.history_model.specs.Logs.{FitsWorld}
-use Rattle.history_model.specs.Worlds.{is_edit}
 use Rattle.node_shapes.specs.declared.names.Name.{Name}
 use Rattle.node_shapes.specs.Tree.{Tree}
 use Rattle.node_shapes.specs.Weights.{number_of_trees}
@@ -23,7 +20,7 @@ use Rattle.session_runs.specs.Seen.{SessionSeen}
 use Rattle.session_runs.specs.Told.{ActTold, OnceTold}
 use Rattle.session.specs.declared.attempts.EditAnswer.{EditAnswer}
 use Rattle.session.specs.declared.attempts.EditAnswer.TheVariants as edits
-use Rattle.session.specs.Attempts.{AnswersAct, IsLate, IsMaker, act_answer, once_answer}
+use Rattle.session.specs.Attempts.{AnswersAct, IsLate, act_answer, once_answer}
 use Rattle.session.specs.Seen.{of_world, session_seen}
 use Rattle.session.proofs.CommitLaws.{back_same, few_gained, may_back, same_number_held}
 use Rattle.session.proofs.WorkLaws.{answers_after, answers_still, looks_work, works_on}
@@ -78,20 +75,6 @@ pub act_told : (t : TableSeen) (line : ℕ) (act : Act) (a : EditAnswer) (x : Ac
     → AnswersAct t line act x v w
 act_told t line act a x v w same told =
     subst (λ (y : ActAnswer). AnswersAct t line act y v w) (sym same) told
-
--- the same of a maker that makes this act
-pub made_told : (t : TableSeen) (line : ℕ) (act made : Act) (a : EditAnswer) (x : ActAnswer)
-    (v w : SeatView) → made ≡ act → x ≡ act_answer a
-    → AnswersAct t line made (act_answer a) v w → AnswersAct t line act x v w
-made_told t line act made a x v w is same told =
-    subst (λ (b : Act). AnswersAct t line b x v w) is (act_told t line made a x v w same told)
-
-pub is_maker : (t : TableSeen) (models : List Content) (act made : Act) → models ≡ t.models
-    → made ≡ act → is_edit act ≡ true → FitsWorld (2 ^ t.plan.side) t.models act
-    → IsMaker t models made
-is_maker t models act made same is edit fits =
-    subst (λ (b : Act). IsMaker t models b) (sym is)
-    (record { models_are = same; edit = edit; fits = fits })
 
 -- ---- shares that came
 
