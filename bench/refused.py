@@ -1,0 +1,183 @@
+#!/usr/bin/env python3
+"""Runs a program again and again, with another allocation refused each time: refused.py PROGRAM LIBRARY [ROW ..]
+
+LIBRARY is refuse.c, built. Each row below is run with nothing refused, then with its first allocation refused, its second
+and so on, until one isn't reached any more, and then without threads. With an allocation refused it has to end with status
+0, or with status 8 and the line `voxdag: memory` or none; the outputs that stand have to be the first ones of their list,
+each whole, and all of them with status 0. Without threads it has to end as with nothing refused. The first run that ends
+otherwise is shown, with status 1.
+
+Whole is what the row says in bytes here, or what the program in load/demo.py gives. Of scripts that run at the same time
+the moments and the order of the records are left out, as these may differ from run to run.
+"""
+import collections
+import concurrent.futures
+import os
+import pathlib
+import re
+import struct
+import subprocess
+import sys
+import tempfile
+
+HERE = pathlib.Path(__file__).resolve().parent
+WORKERS = 4
+
+ONE = b"VOX " + struct.pack("<I", 150) + b"MAIN" + struct.pack("<II", 0, 44) \
+    + b"SIZE" + struct.pack("<5I", 12, 0, 1, 1, 1) + b"XYZI" + struct.pack("<3I", 8, 0, 1) + bytes([0, 0, 0, 1])
+
+UNDO = b"""undo
+fill 0 0 0 1 1 1
+undo
+fill 1 0 0 1 1 1
+redo
+undo
+count 0 0 0 4 1 1
+"""
+
+UNDO_OUT = b"""1 @0 nothing to undo
+2 @1 ok
+3 @2 ok
+4 @3 ok
+5 @3 nothing to redo
+6 @4 ok
+7 @4 count 0
+"""
+
+UNDO_JOURNAL = b"""voxdag journal 1
+side 8
+1 0 2 fill 0 0 0 1 1 1
+2 0 3 undo
+3 0 4 fill 1 0 0 1 1 1
+4 0 6 undo
+end
+"""
+
+# Two leaves, and a node above each; the versions 0, 2 and 4 are empty.
+UNDO_REPORT = b"""voxdag report 1
+side 8
+records 4
+marks 0
+version 0 empty
+version 1 root 1
+version 2 empty
+version 3 root 3
+version 4 empty
+level 0 nodes 2
+level 1 nodes 2
+"""
+
+SAVE = b"fill 3 3 3 1 1 1\nsave a.vox 3 3 3 1 1 1\nsave b.vox 0 0 0 1 1 1\n"
+SAVE_OUT = b"1 @1 ok\n2 @1 saved 1\n3 @1 saved 0\n"
+NONE = ONE[:16] + struct.pack("<I", 40) + ONE[20:48] + struct.pack("<3I", 4, 0, 0)
+
+# A row: what it is, the words, the inputs, and the outputs in order; the last one is what is printed.
+ROWS = [
+    ("undo", "run --side 8 --journal J --report P one.vox s", {"one.vox": ONE, "s": UNDO},
+     {"s.out": UNDO_OUT, "J": UNDO_JOURNAL, "P": UNDO_REPORT, "printed": b"scripts 1 records 4 marks 0 nodes 4\n"}),
+    ("save", "run --side 8 one.vox s", {"one.vox": ONE, "s": SAVE},
+     {"s.out": SAVE_OUT, "a.vox": ONE, "b.vox": NONE, "printed": b"scripts 1 records 1 marks 0 nodes 2\n"}),
+    ("count", "count one.vox", {"one.vox": ONE}, {"printed": b"1\n"}),
+    ("flood", "flood one.vox 0 0 0 0 o.vox", {"one.vox": ONE}, {"o.vox": NONE, "printed": b"0\n"}),
+    ("scene", "scene one.vox o.vox s", {"one.vox": ONE},
+     {"o.vox": ONE, "s": b"stamp 0 0 0 0\n", "printed": b"side 4 placements 1\n"}),
+]
+
+
+def demo(number):
+    """The row of a demo, from the program that was written from the rules alone."""
+    with tempfile.TemporaryDirectory() as folder:
+        done = subprocess.run([sys.executable, HERE / "load/demo.py", str(number)], cwd=folder, check=True, stdout=subprocess.PIPE)
+        names = [f"demo.{i}.out" for i in range(4)] + ["demo.journal"]
+        outputs = {name: (pathlib.Path(folder) / name).read_bytes() for name in names}
+    return f"demo{number}", f"demo {number}", {}, {**outputs, "printed": done.stdout}
+
+
+def settled(row, name, text):
+    """The part of an output that is the same at each run: one script's is the whole."""
+    if not row.startswith("demo"):
+        return text
+    if name.endswith(".journal"):
+        return sorted(line.partition(b" ")[2] for line in text.split(b"\n"))
+    return re.sub(rb"(?m)^(\d+) @\d+ ", rb"\1 ", text)
+
+
+def run(program, library, row, call=0, thread=0):
+    """One run: its status, the outputs that stand and what is printed, and how many calls of both kinds there were."""
+    _, words, inputs, _ = row
+    with tempfile.TemporaryDirectory() as top:
+        folder = pathlib.Path(top) / "run"
+        folder.mkdir()
+        for name, text in inputs.items():
+            (folder / name).write_bytes(text)
+        counts = pathlib.Path(top) / "counts"
+        counts.write_bytes(bytes(16))
+        environment = {**os.environ, "LD_PRELOAD": library, "REFUSE_COUNTS": str(counts), "REFUSE_CALL": str(call),
+                       "REFUSE_THREAD": str(thread)}
+        try:
+            done = subprocess.run([program, *words.split()], cwd=folder, env=environment, stdin=subprocess.DEVNULL,
+                                  stdout=subprocess.PIPE, stderr=subprocess.DEVNULL, timeout=120)
+            status, printed = done.returncode, done.stdout
+        except subprocess.TimeoutExpired as expired:
+            status, printed = "no end", expired.stdout or b""
+        given = {path.name: path.read_bytes() for path in folder.iterdir() if inputs.get(path.name) != path.read_bytes()}
+        return status, {**given, "printed": printed}, struct.unpack("<QQ", counts.read_bytes())
+
+
+def fault(row, status, given, must_end):
+    """What is wrong with how a run ended, or nothing."""
+    name, _, _, wanted = row
+    files = [output for output in wanted if output in given and output != "printed"]
+    if set(given) - set(wanted):
+        return f"other files stand there: {sorted(set(given) - set(wanted))}"
+    if files != list(wanted)[:len(files)]:
+        return f"an output is missing before {files[-1]}"
+    broken = [output for output in files if settled(name, output, given[output]) != settled(name, output, wanted[output])]
+    if broken:
+        return f"{broken[0]} is not whole: {given[broken[0]]!r}"
+    if status == 0:
+        return None if len(files) == len(wanted) - 1 and given["printed"] == wanted["printed"] else "not all is there"
+    if status != 8 or must_end:
+        return f"it ended with status {status}"
+    return None if given["printed"] in (b"", b"voxdag: memory\n") else f"it printed {given['printed']!r}"
+
+
+def try_row(program, library, row):
+    """Runs a row in all ways, and says how it ended."""
+    ways = collections.Counter()
+
+    def tried(call=0, thread=0):
+        status, given, counts = run(program, library, row, call, thread)
+        said = fault(row, status, given, call == 0)
+        if said:
+            sys.exit(f"{row[0]}, allocation {call}, thread {thread}: {said}")
+        return status, len(given) - 1, counts
+
+    _, outputs, (calls, threads) = tried()
+    with concurrent.futures.ThreadPoolExecutor(WORKERS) as pool:
+        number, reached = 0, True
+        while reached:
+            for status, stood, counts in pool.map(lambda n: tried(n), range(number + 1, number + 65)):
+                number += 1
+                reached = counts[0] >= number
+                if reached:
+                    ways[status, stood] += 1
+    for thread in range(1, threads + 1):
+        tried(thread=thread)
+    print(f"{row[0]}: {sum(ways.values())} allocations refused in turn ({calls} with none refused)")
+    for (status, stood), times in sorted(ways.items()):
+        print(f"  {times:6} ended with status {status}, {stood} of {outputs} outputs there")
+    if threads:
+        print(f"  {threads} threads, refused from each of them on in turn: status 0, all outputs there")
+
+
+def main():
+    program, library = (str(pathlib.Path(name).resolve()) for name in sys.argv[1:3])
+    rows = [*ROWS, demo(7)]
+    for row in rows:
+        if row[0] in sys.argv[3:] or not sys.argv[3:]:
+            try_row(program, library, row)
+
+
+if __name__ == "__main__":
+    main()
