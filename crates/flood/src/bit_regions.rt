@@ -19,13 +19,13 @@ pub(crate) fn region_of(alloc: Global, clear: &[u64], start: usize) -> Result<Ve
     let mut reached = vec![in alloc; 0; clear.len()]?;
     reached[w] = clear[w] & 1 << (start % 64);
     let mut stack = Vec::new(alloc);
-    stack.push(w)?;
+    stack.push(w as u32)?;
     settle(clear, &mut reached, &mut stack)?;
     Ok(reached)
 }
 
 // Visits words until none waits.
-fn settle(clear: &[u64], reached: &mut [u64], stack: &mut Vec<usize>) -> Result<(), Memory>
+fn settle(clear: &[u64], reached: &mut [u64], stack: &mut Vec<u32>) -> Result<(), Memory>
     requires size { length clear.now ≤ 262144 }
     requires same { length reached.old ≡ length clear.now }
     requires inside { (u : ℕ) → Contains stack.old.items u → u < length clear.now }
@@ -33,13 +33,13 @@ fn settle(clear: &[u64], reached: &mut [u64], stack: &mut Vec<usize>) -> Result<
         (Settles clear.now reached.old reached.new stack.old.items) }
 {
     while let Some(w) = stack.pop() {
-        visit(clear, reached, stack, w)?;
+        visit(clear, reached, stack, w as usize)?;
     }
     Ok(())
 }
 
 // ReachesWord what is beside the bits of a word.
-fn visit(clear: &[u64], reached: &mut [u64], stack: &mut Vec<usize>, w: usize) -> Result<(), Memory>
+fn visit(clear: &[u64], reached: &mut [u64], stack: &mut Vec<u32>, w: usize) -> Result<(), Memory>
     requires size { length clear.now ≤ 262144 }
     requires same { length reached.old ≡ length clear.now }
     requires w { w < length clear.now }
@@ -97,9 +97,10 @@ fn beyond(size: usize, w: usize, k: u8, bits: u64) -> Bits
 fn reach(
     clear: &[u64],
     reached: &mut [u64],
-    stack: &mut Vec<usize>,
+    stack: &mut Vec<u32>,
     there: Bits,
 ) -> Result<(), Memory>
+    requires size { length clear.now ≤ 262144 }
     requires same { length reached.old ≡ length clear.now }
     requires word { there.word < length clear.now }
     ensures reached { OnOk result
@@ -113,6 +114,6 @@ fn reach(
         return Ok(());
     }
     reached[v] = bits;
-    stack.push(v)?;
+    stack.push(v as u32)?;
     Ok(())
 }
