@@ -24,15 +24,15 @@ use vw_io::{Shelf, Sink};
 /// The program: does what the words after the program's name ask for, and puts one line on `out`.
 ///
 /// `count FILE` puts the number of cells of the file's models. `run FILE SCRIPT ..` runs 1 to 64
-/// scripts at the same time, each in a thread of its own, over one world with the models of the
-/// file; it writes each transcript as `SCRIPT.out` and each file that a script saves, and puts the
-/// numbers of scripts, records, marks and live nodes. Among these words, in any order and each at
-/// most once, may stand options, as `--side s` or `--side=s`: the world
-/// has the side `s`, 4 to 4,096 and 256 without this option; its store has `--buckets b` of
-/// `--cap c` slots on each level, 1 to 4,096 and 1 to 256; `--journal J` and `--report P` are
-/// written too. A VOX file has at most 256 MiB, a script 8 MiB. `demo N` runs the load that the
-/// number N of 1 to 6 digits makes, writes `demo.0.out` to `demo.3.out` and `demo.journal`, and
-/// puts N, the number of records, and how many cells each region had when its script counted them.
+/// scripts over one world with the models of the file, at the same time where the system gives
+/// threads; it writes each transcript as `SCRIPT.out` and each file that a script saves, and puts
+/// the numbers of scripts, records, marks and live nodes. Among these words, in any order and each
+/// at most once, may stand options, as `--side s` or `--side=s`: the world has the side `s`, 4 to
+/// 4,096 and 256 without this option; its store has `--buckets b` of `--cap c` slots on each level,
+/// 1 to 4,096 and 1 to 256; `--journal J` and `--report P` are written too. A VOX file has at most
+/// 256 MiB, a script 8 MiB. `demo N` runs the load that the number N of 1 to 6 digits makes, writes
+/// `demo.0.out` to `demo.3.out` and `demo.journal`, and puts N, the number of records, and how many
+/// cells each region had when its script counted them.
 ///
 /// `flood FILE m x y z OUT` writes the empty region of model m that is connected with the cell
 /// (x, y, z) as the VOX file OUT, and puts its number of cells; numbers have 1 to 6 digits.
