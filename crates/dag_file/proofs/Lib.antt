@@ -8,3 +8,14 @@ pub mod AgreeLaws
 pub mod ByteLaws
 pub mod ListLaws
 pub mod ItsListLaws
+pub mod KeyLaws
+pub mod IndexLaws
+pub mod OrderLaws
+pub mod HeaderLaws
+pub mod RunLaws
+pub mod ByteRange
+pub mod FileLaws
+pub mod LayerLaws
+pub mod MadeLaws
+pub mod WrittenLaws
+pub mod CanonicalLaws

@@ -2,19 +2,25 @@
 #![tactic(auto)]
 
 mod blocks;
+mod contents;
 mod entries;
 mod faults;
 mod fields;
 mod headers;
+mod keys;
 mod laws;
+mod layers;
 mod naming;
+mod putting;
 mod reading;
 mod roots;
 mod views;
+mod writing;
 
 pub use faults::DagFault;
 pub use laws::{
     a_list_has_one_file, faults_are_of_broken_files, files_of_one_list_are_one,
-    right_files_are_of_their_lists, right_files_keep_shapes,
+    held_roots_show_canonical_shapes, right_files_are_of_their_lists, right_files_keep_shapes,
 };
 pub use views::DagView;
+pub use writing::write_dag;
