@@ -14,3 +14,5 @@ pub mod Opening
 pub mod StampActs
 pub mod Changing
 pub mod OwnModels
+pub mod Taking
+pub mod Filling

@@ -7,3 +7,4 @@ pub mod Open
 pub mod Worlds
 pub mod Stamps
 pub mod Changing
+pub mod Replaying

@@ -8,9 +8,12 @@ mod models;
 mod open_runs;
 mod open_worlds;
 mod pins;
+mod replaying;
+mod replays;
 mod runs;
 mod versions;
 
 pub use open_runs::{OpenRun, StoreRan};
 pub use open_worlds::OpenWorld;
+pub use replaying::{Replay, ReplayRefused};
 pub use runs::{ScriptsRun, run_scripts};

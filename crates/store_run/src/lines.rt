@@ -90,7 +90,7 @@ impl Versions {
 
     // The version that an undo or a redo goes to.
     #[tactic(auto, using(crate::proofs::Targets::target_undo, crate::proofs::Targets::target_redo))]
-    fn target(&self, act: Act) -> Option<u32>
+    pub(crate) fn target(&self, act: Act) -> Option<u32>
         requires { AreVersions self.now }
         ensures { result ≡ target_at self.now.records.items (moment_of self.now) act }
     {

@@ -1,0 +1,97 @@
+-- A history that is replayed record by record over a store, and of which no version is forgotten.
+use Rattle.std.specs.Prelude.{◌≡◌, ℕ, ◌+◌, Bool, true, false, List, [], ◌∷◌, ◌++◌, length, Result, Ok, Err, All, ⊤}
+use Rattle.vox_read.specs.Contents.{Content}
+use Rattle.history_model.specs.declared.acts.Act.{Act}
+use Rattle.history_model.specs.declared.histories.Record.{Record}
+use Rattle.history_model.specs.Logs.{MayFollow}
+use Rattle.history_model.specs.Positions.{position_after}
+use Rattle.node_shapes.specs.Shape.{IsPart}
+use Rattle.node_words.specs.declared.shares.Full.{Full}
+use Rattle.node_words.specs.Enough.{HasEnough}
+use Rattle.node_words.specs.Gathering.{Grew}
+use Rattle.node_words.specs.Plans.{Layout}
+use Rattle.possible.specs.Needed.{Span, IsPossible}
+use Rattle.script_runs.specs.Keeping.{MadeAndMet, IsMadeInRun}
+use Rattle.store_notes.specs.Changes.{MakesNothing}
+use Rattle.store_run.specs.declared.versions.Versions.{Versions}
+use Rattle.store_run.specs.declared.replaying.ReplayRefused.{ReplayRefused}
+use Rattle.store_run.specs.declared.replaying.ReplayRefused.TheVariants as refusals
+use Rattle.store_run.specs.Kept.{plan_of, log_of, noted_of, AreVersions, HoldsNothing}
+use Rattle.store_run.specs.Steps.{target_of}
+
+-- the plan, the models, the records so far, and what the store noted
+pub record ReplayState : Type 0 where
+  pub plan : Layout
+  pub models : List Content
+  pub records : List Record
+  pub noted : MadeAndMet
+
+abbrev pub replay_state : Versions → ReplayState
+replay_state v = record {
+  plan = plan_of v;
+  models = v.models.items;
+  records = v.records.items;
+  noted = noted_of v;
+}
+
+-- versions of which none has a mark, and no share is held
+pub record IsReplay (v : Versions) : Type 0 where
+  pub are : AreVersions v
+  pub free : HoldsNothing v.store
+  pub unmarked : (log_of v).marks ≡ []
+
+-- each of some records, of which the first is number n + 1, on the version before it alone
+abbrev pub spans_from : ℕ → List Record → List Span
+spans_from n [] = []
+spans_from n (r ∷ more) = record { act = r.act; first = n; last = n } ∷ spans_from (n + 1) more
+
+-- the records need as many different contents of this level and bucket as it has slots, or more,
+-- each record on the version before it alone
+abbrev pub MayFillReplay : Layout → List Content → List Record → Full → Type 0
+MayFillReplay p models records full =
+    IsPossible p models records (spans_from 0 records) full.level full.bucket p.cap
+
+-- whatever the store made is a part of what a record makes of the version before it
+pub record MakesOnlyParts (s : ReplayState) : Type 0 where
+  pub parts : All (IsMadeInRun s.plan s.models s.records (spans_from 0 s.records)) s.noted.made
+
+-- the record came behind the others
+pub record TakesRecord (old : Versions) (r : Record) (new : Versions) : Type 0 where
+  pub plan : plan_of new ≡ plan_of old
+  pub models : new.models.items ≡ old.models.items
+  pub records : new.records.items ≡ old.records.items ++ r ∷ []
+  pub marks : (log_of new).marks ≡ (log_of old).marks
+
+-- an edit came behind the others, whose parts may have been made
+pub record TakesEdit (old : Versions) (r : Record) (new : Versions) : Type 0 where
+  pub takes : TakesRecord old r new
+  pub made : Grew (λ s. IsPart s (target_of old r.act)) old.store.told.made new.store.told.made
+
+-- an undo or a redo did, for which nothing is made
+pub record TakesWay (old : Versions) (r : Record) (new : Versions) : Type 0 where
+  pub takes : TakesRecord old r new
+  pub only : MakesNothing old.store.told new.store.told
+
+-- a part of what the edit makes found its bucket full, of which enough was made, and no record came
+pub record FillsBucket (old : Versions) (act : Act) (full : Full) (new : Versions) : Type 0 where
+  pub plan : plan_of new ≡ plan_of old
+  pub models : new.models.items ≡ old.models.items
+  pub log : log_of new ≡ log_of old
+  pub made : Grew (λ s. IsPart s (target_of old act)) old.store.told.made new.store.told.made
+  pub enough : HasEnough (plan_of old) new.store.told.made full.level full.bucket
+
+-- the record can follow these, of which no version is forgotten
+abbrev pub CanFollow : List Record → Record → Type 0
+CanFollow records r = MayFollow [] (length records + 1) r.act (position_after records)
+
+-- what comes of a record that is to be replayed
+abbrev pub Replays : List Record → Record → Result Bool ReplayRefused → List Record → Type 0
+Replays old r (Ok true) new = CanFollow old r × (new ≡ old ++ r ∷ [])
+Replays old r (Ok false) new = (CanFollow old r → ⊥) × (new ≡ old)
+Replays old r (Err refused) new = new ≡ old
+
+-- what a refusal says: want of memory says nothing
+abbrev pub RefusesRecord : ReplayState → Record → ReplayRefused → Type 0
+RefusesRecord s r (refusals.Full full) =
+    MayFillReplay s.plan s.models (s.records ++ r ∷ []) full
+RefusesRecord s r refusals.Memory = ⊤
