@@ -1,11 +1,18 @@
 -- Sessions that hold nothing.
-use Rattle.std.proofs.Common.{◌≡◌, ◌<◌, ◌≤◌, ℕ, List, [], ◌∷◌, length, get_or, refl, sym, ◌∙◌, ap, subst, arith}
+use Rattle.std.proofs.Common.{◌≡◌, ◌<◌, ◌≤◌, ℕ, Option, List, [], ◌∷◌, ◌++◌, length, length-append, get_or, refl, sym, ◌∙◌, ap, subst, arith}
 use Rattle.std.specs.Prelude.{All}
+use Rattle.std.proofs.Math.Seq.{get_or-append_seam}
+use Rattle.std.proofs.lemmas.List.{get_or_append_left}
+use Rattle.std.proofs.lemmas.List.Elements.{All-push}
 use Rattle.std.proofs.lemmas.Option.{slice_get-get_or}
-use Rattle.node_shapes.proofs.WeightLaws.{weigh-cons}
+use Rattle.node_shapes.proofs.WeightLaws.{weigh-cons, weight_of-one}
+use Rattle.node_shapes.specs.declared.names.Name.{Name}
 use Rattle.node_shapes.specs.Tree.{Tree}
 use Rattle.node_shapes.specs.Weights.{number_of_trees, weigh}
+use Rattle.node_words.specs.Gathering.{MayHold}
 use Rattle.node_words.specs.Held.{SameHeld}
+use Rattle.edit_blocks.specs.Blocks.{GoesBack}
+use Rattle.version_log.specs.Roots.{GetsRoot}
 use Rattle.node_table.specs.Begins.{AreNewPasses, terms_of}
 use Rattle.node_table.specs.Seen.{TableSeen, PassSeen}
 use Rattle.session.specs.Resting.{IsAtRest}
@@ -36,6 +43,41 @@ still_free t s z free rest same =
           (same.weighs (λ _. 1) ∙ ap number_of_trees free.held ∙ no_trees);
     }
 
+-- a version was pinned, and the same is held since
+pub pinned_few : (t : TableSeen) (s z w : PassSeen) (root : Option Name) → IsFree t s
+    → GetsRoot s.view.held root z.view.held → w.view.held ≡ z.view.held
+    → number_of_trees w.view.held ≤ 3901
+pinned_few t s z w root free g same =
+    let e = g.loses.weighs (λ _. 1) in
+    let one = weight_of-one g.tree in
+    let few = few_free t s free in
+    let here : number_of_trees w.view.held ≡ number_of_trees z.view.held =
+    ap number_of_trees same
+    in
+    omega arith
+
+still_held : (held more now : List Tree) (root : Option Name) → (g : GetsRoot held root more)
+    → now ≡ more → MayHold now g.tree
+still_held held more now root g same =
+    subst (λ (ts : List Tree). MayHold ts g.tree) (sym same)
+    (record { weighs = λ f. (let e = g.loses.weighs f in omega arith) })
+
+-- and its root goes back
+pub unpinned_free : (t : TableSeen) (s z w x : PassSeen) (root : Option Name) → IsFree t s
+    → GetsRoot s.view.held root z.view.held → w.view.held ≡ z.view.held
+    → GoesBack root w.view.held x.view.held → IsAtRest t x → IsFree t x
+unpinned_free t s z w x root free g same back rest =
+    let gone = back g.tree g.name
+    (still_held s.view.held z.view.held w.view.held root g same)
+    in
+    let e = g.loses.weighs (λ _. 1) in
+    let l = gone.weighs (λ _. 1) in
+    let here : weigh (λ _. 1) w.view.held ≡ weigh (λ _. 1) z.view.held =
+    ap (weigh (λ _. 1)) same
+    in
+    let none : number_of_trees s.view.held ≡ 0 = ap number_of_trees free.held ∙ no_trees in
+    record { rest = rest; held = none_held x.view.held (omega arith) }
+
 pub all_free : (t : TableSeen) (passes : List PassSeen) → AreNewPasses t.id (terms_of t) passes
     → All (IsAtRest t) passes → All (IsFree t) passes
 all_free t passes new rest = λ k d lt.
@@ -43,3 +85,27 @@ all_free t passes new rest = λ k d lt.
       rest = rest k d lt;
       held = (new.each k (get_or passes k d) (slice_get-get_or passes k d lt)).held;
     }
+
+pub more_free : (t : TableSeen) (passes more : List PassSeen) (s : PassSeen)
+    → more ≡ passes ++ s ∷ [] → All (IsFree t) passes → IsFree t s → All (IsFree t) more
+more_free t passes more s is free one =
+    subst (λ (ps : List PassSeen). All (IsFree t) ps) (sym is)
+    (All-push (IsFree t) passes s free one)
+
+-- the last one is free, and those before it
+whole_free : (t : TableSeen) (passes rest : List PassSeen) (s : PassSeen)
+    → passes ≡ rest ++ s ∷ [] → All (IsFree t) passes → All (IsFree t) (rest ++ s ∷ [])
+whole_free t passes rest s is free = subst (λ (ps : List PassSeen). All (IsFree t) ps) is free
+
+pub rest_free : (t : TableSeen) (passes rest : List PassSeen) (s : PassSeen)
+    → passes ≡ rest ++ s ∷ [] → All (IsFree t) passes → All (IsFree t) rest
+rest_free t passes rest s is free = λ k d lt.
+    subst (λ (p : PassSeen). IsFree t p) (get_or_append_left rest (s ∷ []) d k lt)
+    (whole_free t passes rest s is free k d (omega (arith, length-append rest (s ∷ []))))
+
+pub last_free : (t : TableSeen) (passes rest : List PassSeen) (s : PassSeen)
+    → passes ≡ rest ++ s ∷ [] → All (IsFree t) passes → IsFree t s
+last_free t passes rest s is free =
+    subst (λ (p : PassSeen). IsFree t p) (get_or-append_seam rest s [] s)
+    (whole_free t passes rest s is free (length rest) s
+    (omega (arith, length-append rest (s ∷ []))))

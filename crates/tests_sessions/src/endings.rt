@@ -2,10 +2,13 @@
 ghost use Rattle.std.specs.Prelude.{All, IfSome};
 ghost use Rattle.tests_sessions.specs.Free.{IsFree};
 
-use crate::worlds::{acts, boxed, cell, sessions_ended, world_begun};
+use crate::calls::Call::{Act, Forget};
+use crate::calls::{Row, Told, answered};
+use crate::worlds::{FIRST, SECOND, sessions_ended, world_begun};
 use gate_run::NoGate;
-use history_model::Act;
+use history_model::Act::Fill;
 use session::{CloseRefused, Ended, Session, World};
+use session_runs::ActAnswer;
 use std::alloc::Global;
 use std::sync::Wait;
 use std::test::Fail;
@@ -34,56 +37,125 @@ fn closed(alloc: Global, world: World<'_>, sessions: Vec<Session>) -> Option<End
     }
 }
 
-// One session, which carried out the act.
-fn acted<R: Wait>(
-    rt: &R,
+// The sessions and one more.
+fn with_one_more(
     alloc: Global,
     world: &World<'_>,
     mut sessions: Vec<Session>,
-    act: &Act,
+    one: Session,
 ) -> Option<Vec<Session>>
-    requires { All (IsFree world.now) sessions.items }
-    ensures { IfSome result (λ one. All (IsFree world.now) one.items) }
+    requires sessions { All (IsFree world.now) sessions.items }
+    requires one { IsFree world.now one }
+    ensures { IfSome result (λ more. All (IsFree world.now) more.items) }
 {
-    let Some(mut session) = sessions.pop() else {
+    let Ok(mut more) = Vec::with_capacity(alloc, sessions.len().saturating_add(1)) else {
+        one.end();
         sessions_ended(world, sessions);
         return None;
     };
-    sessions_ended(world, sessions);
-    let Ok(mut one) = Vec::with_capacity(alloc, 1) else {
-        session.end();
-        return None;
-    };
-    acts(rt, world, &mut session, 1, act, &NoGate);
-    one.push_reserved(session);
-    Some(one)
+    while let Some(session) = sessions.pop() {
+        more.push_reserved(session);
+    }
+    sessions.destroy_empty();
+    more.push_reserved(one);
+    Some(more)
 }
 
-// How many records and how many nodes of the lowest levels a world leaves behind one act.
-fn left_behind<R: Wait>(
-    rt: &R,
+// How many sessions the world has, by what refused it without this one, and what it leaves with it.
+fn closed_late(
     alloc: Global,
     world: World<'_>,
     sessions: Vec<Session>,
-    act: &Act,
-) -> Option<(usize, [u32; 3])>
-    requires { All (IsFree world) sessions.items }
+    one: Session,
+) -> Option<(u16, Ended)>
+    requires sessions { All (IsFree world) sessions.items }
+    requires one { IsFree world one }
 {
-    let sessions = acted(rt, alloc, &world, sessions, act)?;
-    let ended = closed(alloc, world, sessions)?;
-    let left = ended.closed();
-    let live = [left.live[0], left.live[1], left.live[2]];
-    Some((left.history.records.len(), live))
+    match world.close(alloc, sessions) {
+        Err(
+            CloseRefused::Count {
+                world,
+                sessions,
+                made,
+            },
+        ) => {
+            let all = with_one_more(alloc, &world, sessions, one)?;
+            let ended = closed(alloc, world, all)?;
+            Some((made, ended))
+        }
+        Err(CloseRefused::Memory { world, sessions }) => {
+            one.end();
+            sessions_ended(&world, sessions);
+            None
+        }
+        Ok(_) => {
+            one.end();
+            None
+        }
+    }
 }
 
+// What a world leaves: how many records, marks and kept versions, and the nodes of its two levels.
+#[derive(Clone, Copy, Debug, PartialEq, Eq)]
+struct Left {
+    records: usize,
+    marks: usize,
+    kept: usize,
+    live: [u32; 2],
+}
+
+fn left_by(ended: &Ended) -> Left {
+    let closed = ended.closed();
+    Left {
+        records: closed.history.records.len(),
+        marks: closed.history.marks.len(),
+        kept: closed.roots.len(),
+        live: [closed.live[0], closed.live[1]],
+    }
+}
+
+// The last session makes its calls, and the world is closed without it and then with it. How many
+// calls were right, how many sessions the world has, and what it leaves.
+fn ends<R: Wait>(
+    rt: &R,
+    alloc: Global,
+    world: World<'_>,
+    mut sessions: Vec<Session>,
+    rows: &[Row],
+) -> Option<(u32, u16, Left)>
+    requires { All (IsFree world) sessions.items }
+{
+    let Some(mut one) = sessions.pop() else {
+        sessions_ended(&world, sessions);
+        return None;
+    };
+    let right = answered(rt, &world, &mut one, rows, &NoGate);
+    let (made, ended) = closed_late(alloc, world, sessions, one)?;
+    Some((right, made, left_by(&ended)))
+}
+
+// Version 1 is forgotten, and the versions 0 and 2 are kept.
+const ROWS: &[Row] = &[
+    (Act(Fill(FIRST)), Told::Act(ActAnswer::Done { n: 1 })),
+    (Act(Fill(SECOND)), Told::Act(ActAnswer::Done { n: 2 })),
+    (Forget(1), Told::Forget(Ok(2))),
+];
+
 #[test]
-fn a_closed_world_has_its_history(rt: HostRuntime) -> Result<(), Fail> {
+fn a_world_is_closed_with_all_its_sessions(rt: HostRuntime) -> Result<(), Fail> {
     let models = Models {
         list: Vec::new(rt.alloc()),
     };
-    let (world, sessions) = world_begun(rt.alloc(), 8, 64, 256, &models, 1)?;
-    let fill = Act::Fill(boxed(cell(0, 0, 0), cell(1, 1, 1)));
-    let left = left_behind(&rt, rt.alloc(), world, sessions, &fill);
-    assert_eq!(rt; left, Some((1, [1, 1, 0])));
+    let (world, sessions) = world_begun(rt.alloc(), 8, 64, 256, &models, 2)?;
+    let left = Left {
+        records: 2,
+        marks: 1,
+        kept: 2,
+        live: [1, 1],
+    };
+    assert_eq!(rt;
+        ends(&rt, rt.alloc(), world, sessions, ROWS),
+        Some((3, 2, left))
+    );
     Ok(())
 }

@@ -1,9 +1,19 @@
-//! Tests of the sessions of one world.
+//! Tests of sessions of one world, on one thread and on two.
 #![tactic(auto)]
 
 #[cfg(test)]
-mod acts;
+mod calls;
 #[cfg(test)]
 mod endings;
+#[cfg(test)]
+mod meetings;
+#[cfg(test)]
+mod pins;
+#[cfg(test)]
+mod players;
+#[cfg(test)]
+mod rows;
+#[cfg(test)]
+mod turns;
 #[cfg(test)]
 mod worlds;

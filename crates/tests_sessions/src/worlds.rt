@@ -1,28 +1,38 @@
-//! Worlds that begin and end, and what their sessions do.
-ghost use Rattle.std.specs.Prelude.{◌≡◌, ◌≤◌, ◌<◌, ◌^◌, [], All, IfOk};
-ghost use Rattle.history_model.specs.Logs.{FitsWorld};
+//! Worlds that begin and end.
+ghost use Rattle.std.specs.Prelude.{◌≡◌, ◌≤◌, ◌^◌, [], All, IfOk, IfSome};
+ghost use Rattle.vw_cell.specs.Places.{FitsAt};
 ghost use Rattle.tests_sessions.specs.Free.{IsFree};
 
-use gate_run::Gate;
-use history_model::Act;
-use node_words::{Plan, Steps};
+use node_words::Plan;
 use session::{Session, World};
-use session_runs::ActAnswer;
 use std::alloc::Global;
-use std::marker::Brand;
-use std::sync::Wait;
-use std::sync::ledger::{Blank, Ledger};
 use std::test::Fail;
 use vox_read::Models;
 use vw_cell::{Boxed, Cell, Side};
 
-pub const fn cell(x: u16, y: u16, z: u16) -> Cell {
-    Cell { x, y, z }
-}
+/// All cells of a world of side 8.
+pub const WHOLE: Boxed = Boxed {
+    at: Cell { x: 0, y: 0, z: 0 },
+    size: Cell { x: 8, y: 8, z: 8 },
+};
 
-pub fn boxed(at: Cell, size: Cell) -> Boxed {
-    Boxed { at, size }
-}
+/// The first cell of a world.
+pub const FIRST: Boxed = Boxed {
+    at: Cell { x: 0, y: 0, z: 0 },
+    size: Cell { x: 1, y: 1, z: 1 },
+};
+
+/// The cell beside it, in the same leaf.
+pub const SECOND: Boxed = Boxed {
+    at: Cell { x: 1, y: 0, z: 0 },
+    size: Cell { x: 1, y: 1, z: 1 },
+};
+
+/// The first cell of the next leaf.
+pub const AWAY: Boxed = Boxed {
+    at: Cell { x: 4, y: 0, z: 0 },
+    size: Cell { x: 1, y: 1, z: 1 },
+};
 
 /// A world of this side, with so many buckets of so many slots on each level, and its sessions.
 pub fn world_begun<'m>(
@@ -45,6 +55,13 @@ pub fn world_begun<'m>(
     }
 }
 
+/// The box, where it lies in the world.
+pub fn within(world: &World<'_>, part: Boxed) -> Option<Boxed>
+    ensures { IfSome result (λ b. FitsAt b.at b.size (2 ^ world.now.plan.side)) }
+{
+    Boxed::new(part.at, part.size, world.plan().side())
+}
+
 /// The sessions are given up.
 pub fn sessions_ended(world: &World<'_>, mut sessions: Vec<Session>)
     requires { All (IsFree world.now) sessions.items }
@@ -53,43 +70,4 @@ pub fn sessions_ended(world: &World<'_>, mut sessions: Vec<Session>)
         session.end();
     }
     sessions.destroy_empty();
-}
-
-fn acts_with<R: Wait, G: Gate, L: Ledger>(
-    rt: &R,
-    world: &World<'_>,
-    s: &mut Session,
-    line: u32,
-    act: &Act,
-    gate: &G,
-    blank: Blank,
-) -> ActAnswer
-    requires name { blank.name ≡ L.name }
-    requires parts { blank.parts ≡ L.parts }
-    requires some { 0 < L.parts }
-    requires free { IsFree world.now s.old }
-    requires fits { FitsWorld (2 ^ world.now.plan.side) world.now.models act.now }
-    ensures free { IsFree world.now s.new }
-{
-    let mut steps: Steps<L> = Steps::start(blank);
-    world.act(rt, s, line, act, gate, &mut steps)
-}
-
-/// The answer to the act of this line, where it fits the world.
-pub fn acts<R: Wait, G: Gate>(
-    rt: &R,
-    world: &World<'_>,
-    s: &mut Session,
-    line: u32,
-    act: &Act,
-    gate: &G,
-) -> Option<ActAnswer>
-    requires { IsFree world.now s.old }
-    ensures { IsFree world.now s.new }
-{
-    if !world.fits(act) {
-        return None;
-    }
-    let blank = Blank::new(1);
-    Some(acts_with::<R, G, Brand>(rt, world, s, line, act, gate, blank))
 }

@@ -1,0 +1,237 @@
+//! Calls of a world by a session, and what the session is told.
+ghost use Rattle.std.specs.Prelude.{◌≡◌, ◌<◌, ◌^◌};
+ghost use Rattle.vw_cell.specs.Places.{FitsAt};
+ghost use Rattle.version_log.specs.Pins.{IsPinned};
+ghost use Rattle.session.specs.Resting.{IsAtRest};
+ghost use Rattle.tests_sessions.specs.Free.{IsFree};
+
+use crate::worlds::within;
+use gate_run::Gate;
+use history_model::{Act, Question};
+use node_words::Steps;
+use session::{Session, World};
+use session_runs::{ActAnswer, OnceAnswer};
+use std::marker::Brand;
+use std::sync::Wait;
+use std::sync::ledger::{Blank, Ledger};
+use transcript::Answer;
+use version_log::{ForgetRefused, PinRefused, Pinned, SameAt, SameRefused};
+use vw_cell::Boxed;
+
+/// A call, and with what.
+#[derive(Clone, Copy)]
+pub enum Call {
+    Act(Act),
+    /// One attempt to fill a box.
+    FillOnce(Boxed),
+    /// Pins a version, or the newest, counts the cells of a box of it so many times, and gives it
+    /// back.
+    Count(Option<u32>, Boxed, u32),
+    Forget(u32),
+    Same(u32, u32),
+    Head,
+}
+
+/// What the session is told.
+#[derive(Clone, Copy, Debug, PartialEq, Eq)]
+pub enum Told {
+    /// The act or the box leaves the world.
+    Outside,
+    Act(ActAnswer),
+    Once(OnceAnswer),
+    /// The version was pinned at this length, and these are the least and the greatest count.
+    Count(u32, u64, u64),
+    NotPinned(PinRefused),
+    Forget(Result<u32, ForgetRefused>),
+    Same(Result<SameAt, SameRefused>),
+    Head(u32),
+}
+
+// How many cells the answer to a count tells.
+fn cells_of(answer: Answer) -> u64 {
+    match answer {
+        Answer::Count(cells) => cells,
+        _ => 0,
+    }
+}
+
+fn carries_out<R: Wait, G: Gate, L: Ledger>(
+    rt: &R,
+    world: &World<'_>,
+    s: &mut Session,
+    line: u32,
+    act: &Act,
+    gate: &G,
+    steps: &mut Steps<L>,
+) -> Told
+    requires { IsFree world.now s.old }
+    ensures { IsFree world.now s.new }
+{
+    if world.fits(act) {
+        Told::Act(world.act(rt, s, line, act, gate, steps))
+    } else {
+        Told::Outside
+    }
+}
+
+fn fills_once<R: Wait, G: Gate, L: Ledger>(
+    rt: &R,
+    world: &World<'_>,
+    s: &mut Session,
+    line: u32,
+    part: Boxed,
+    gate: &G,
+    steps: &mut Steps<L>,
+) -> Told
+    requires { IsFree world.now s.old }
+    ensures { IsFree world.now s.new }
+{
+    let act = Act::Fill(part);
+    if world.fits(&act) {
+        Told::Once(world.act_once(rt, s, line, &act, gate, steps))
+    } else {
+        Told::Outside
+    }
+}
+
+// The least and the greatest count. Before each it passes the gate, as between a pin and a commit,
+// by the number of a line of its own.
+fn counts_pinned<G: Gate>(
+    world: &World<'_>,
+    s: &mut Session,
+    p: &Pinned,
+    line: u32,
+    part: Boxed,
+    times: u32,
+    gate: &G,
+) -> (u64, u64)
+    requires rest { IsAtRest world.now s.old }
+    requires pinned { IsPinned s.old.view p.now }
+    requires fits { FitsAt part.at part.size (2 ^ world.now.plan.side) }
+    ensures rest { IsAtRest world.now s.new }
+    ensures pinned { IsPinned s.new.view p.now }
+    ensures held { s.new.view.held ≡ s.old.view.held }
+{
+    let number = s.number();
+    let mut least = u64::MAX;
+    let mut greatest = 0;
+    for k in 0..times {
+        gate.between(number, line.saturating_add(k));
+        let cells = cells_of(world.ask(s, p, &Question::Count(part)));
+        least = least.min(cells);
+        greatest = greatest.max(cells);
+    }
+    (least, greatest)
+}
+
+fn counts<R: Wait, G: Gate, L: Ledger>(
+    rt: &R,
+    world: &World<'_>,
+    s: &mut Session,
+    line: u32,
+    version: Option<u32>,
+    part: Boxed,
+    times: u32,
+    gate: &G,
+    steps: &mut Steps<L>,
+) -> Told
+    requires free { IsFree world.now s.old }
+    requires fits { FitsAt part.at part.size (2 ^ world.now.plan.side) }
+    ensures free { IsFree world.now s.new }
+{
+    match world.pin(rt, s, version, steps) {
+        Ok(pinned) => {
+            let (least, greatest) = counts_pinned(world, s, &pinned, line, part, times, gate);
+            let moment = pinned.moment;
+            world.unpin(rt, s, pinned, steps);
+            Told::Count(moment, least, greatest)
+        }
+        Err(refused) => Told::NotPinned(refused),
+    }
+}
+
+fn forgets<R: Wait, L: Ledger>(
+    rt: &R,
+    world: &World<'_>,
+    s: &mut Session,
+    line: u32,
+    version: u32,
+    steps: &mut Steps<L>,
+) -> Told
+    requires { IsFree world.now s.old }
+    ensures { IsFree world.now s.new }
+{
+    Told::Forget(world.forget(rt, s, line, version, steps))
+}
+
+fn tell_over<R: Wait, G: Gate, L: Ledger>(
+    rt: &R,
+    world: &World<'_>,
+    s: &mut Session,
+    line: u32,
+    call: Call,
+    gate: &G,
+    blank: Blank,
+) -> Told
+    requires name { blank.name ≡ L.name }
+    requires parts { blank.parts ≡ L.parts }
+    requires some { 0 < L.parts }
+    requires free { IsFree world.now s.old }
+    ensures free { IsFree world.now s.new }
+{
+    let mut steps: Steps<L> = Steps::start(blank);
+    match call {
+        Call::Act(act) => carries_out(rt, world, s, line, &act, gate, &mut steps),
+        Call::FillOnce(part) => fills_once(rt, world, s, line, part, gate, &mut steps),
+        Call::Count(version, part, times) => match within(world, part) {
+            Some(part) => counts(rt, world, s, line, version, part, times, gate, &mut steps),
+            None => Told::Outside,
+        },
+        Call::Forget(version) => forgets(rt, world, s, line, version, &mut steps),
+        Call::Same(v, w) => Told::Same(world.same(rt, s, v, w)),
+        Call::Head => Told::Head(world.head(rt, s)),
+    }
+}
+
+/// What the session is told by this call, as that of this line.
+pub fn tell<R: Wait, G: Gate>(
+    rt: &R,
+    world: &World<'_>,
+    s: &mut Session,
+    line: u32,
+    call: Call,
+    gate: &G,
+) -> Told
+    requires { IsFree world.now s.old }
+    ensures { IsFree world.now s.new }
+{
+    tell_over::<R, G, Brand>(rt, world, s, line, call, gate, Blank::new(1))
+}
+
+/// A call, and what the session is to be told.
+pub type Row = (Call, Told);
+
+/// How many calls, line by line from line 1 on, are told what stands beside them.
+pub fn answered<R: Wait, G: Gate>(
+    rt: &R,
+    world: &World<'_>,
+    s: &mut Session,
+    rows: &[Row],
+    gate: &G,
+) -> u32
+    requires { IsFree world.now s.old }
+    ensures { IsFree world.now s.new }
+{
+    let number = s.number();
+    let mut right = 0u32;
+    let mut line = 0u32;
+    for row in rows {
+        line = line.saturating_add(1);
+        gate.before(number, line);
+        if tell(rt, world, s, line, row.0, gate) == row.1 {
+            right = right.saturating_add(1);
+        }
+        gate.after(number, line);
+    }
+    right
+}

@@ -1,0 +1,113 @@
+//! Workers with a session each.
+ghost use Rattle.std.specs.Prelude.{◌≡◌, All, IfSome};
+ghost use Rattle.gate_run.specs.Runs.{RanEach};
+ghost use Rattle.tests_sessions.specs.Free.{IsFree};
+ghost use Rattle.tests_sessions.specs.Players.{IsReady};
+
+use crate::calls::{Row, answered};
+use crate::worlds::sessions_ended;
+use gate_run::{Gate, Worker, run_all};
+use session::{Session, World};
+use std::alloc::Global;
+use std::sync::Wait;
+use std::thread::Threads;
+
+/// A session that makes its calls, and how many of them were told what stands beside them.
+pub struct Player<'a, 'm> {
+    pub world: &'a World<'m>,
+    pub session: Session,
+    pub rows: &'a [Row],
+    pub right: u32,
+}
+
+impl<'a, 'm, G: Gate> Worker<G> for Player<'a, 'm> {
+    ghost use Rattle.tests_sessions.specs.Players.{IsReady};
+
+    ghost may_run = { IsReady };
+
+    ghost ran = { λ old new. IsReady new };
+
+    fn run<R: Wait>(&mut self, rt: &R, gate: &G) {
+        self.right = answered(rt, self.world, &mut self.session, self.rows, gate);
+    }
+}
+
+// Session 0 makes the first calls, and each other the second ones.
+fn players_of<'a, 'm>(
+    alloc: Global,
+    world: &'a World<'m>,
+    mut sessions: Vec<Session>,
+    first: &'a [Row],
+    second: &'a [Row],
+) -> Option<Vec<Player<'a, 'm>>>
+    requires { All (IsFree world.now) sessions.items }
+    ensures { IfSome result (λ players. All IsReady players.items) }
+{
+    let Ok(mut players) = Vec::with_capacity(alloc, sessions.len()) else {
+        sessions_ended(world, sessions);
+        return None;
+    };
+    while let Some(session) = sessions.pop() {
+        let rows = if session.number() == 0 { first } else { second };
+        players.push_reserved(Player {
+            world,
+            session,
+            rows,
+            right: 0,
+        });
+    }
+    sessions.destroy_empty();
+    Some(players)
+}
+
+// Each runs once, in a thread of its own where one can be had.
+fn all_ran<R: Threads + Wait + Sync, G: Gate + Sync, W: Worker<G> + Send>(
+    rt: &R,
+    mut workers: Vec<W>,
+    gate: &G,
+) -> Vec<W>
+    requires may { All W.may_run workers.items }
+    ensures ran { RanEach W.ran workers.items result.items }
+{
+    run_all(rt, workers.as_mut_slice(), gate);
+    workers
+}
+
+// How many calls of all of them were right. Their sessions are given up.
+fn players_ended(mut players: Vec<Player<'_, '_>>) -> u32
+    requires { All IsReady players.items }
+{
+    let mut right = 0u32;
+    while let Some(player) = players.pop() {
+        let Player {
+            world: _,
+            session,
+            rows: _,
+            right: more,
+        } = player;
+        right = right.saturating_add(more);
+        session.end();
+    }
+    players.destroy_empty();
+    right
+}
+
+/// How many calls of two sessions, each in a thread of its own where one can be had, are told what
+/// stands beside them.
+pub fn both_answered<R: Threads + Wait + Sync, G: Gate + Sync>(
+    rt: &R,
+    alloc: Global,
+    world: &World<'_>,
+    sessions: Vec<Session>,
+    first: &[Row],
+    second: &[Row],
+    gate: &G,
+) -> u32
+    requires { All (IsFree world.now) sessions.items }
+{
+    let Some(players) = players_of(alloc, world, sessions, first, second) else {
+        return 0;
+    };
+    let players = all_ran(rt, players, gate);
+    players_ended(players)
+}

@@ -1,0 +1,185 @@
+//! Calls of two sessions of one world, one session after the other.
+ghost use Rattle.std.specs.Prelude.{All};
+ghost use Rattle.tests_sessions.specs.Free.{IsFree};
+
+use crate::calls::Call::{Act, Count, FillOnce, Forget, Head, Same};
+use crate::calls::{Row, Told, answered};
+use crate::worlds::{AWAY, FIRST, SECOND, WHOLE, world_begun};
+use gate_run::NoGate;
+use history_model::Act::{Fill, Redo, Undo};
+use history_model::Mark;
+use node_words::Full;
+use session::{Session, World};
+use session_runs::{ActAnswer, OnceAnswer};
+use std::alloc::Global;
+use std::sync::Wait;
+use std::test::Fail;
+use version_log::{ForgetRefused, PinRefused, SameAt, SameRefused};
+use vox_read::Models;
+use vw_cell::{Boxed, Cell};
+
+// How many calls are right: the last session makes the first ones, and then the one before it, where
+// there is one, makes the second ones.
+fn rows_answered<R: Wait>(
+    rt: &R,
+    world: &World<'_>,
+    mut sessions: Vec<Session>,
+    first: &[Row],
+    second: &[Row],
+) -> u32
+    requires { All (IsFree world.now) sessions.items }
+{
+    let mut right = 0u32;
+    let mut rows = first;
+    while let Some(mut session) = sessions.pop() {
+        let more = answered(rt, world, &mut session, rows, &NoGate);
+        right = right.saturating_add(more);
+        rows = second;
+        session.end();
+    }
+    sessions.destroy_empty();
+    right
+}
+
+// The same in a new world of side 8.
+fn answered_in<R: Wait>(
+    rt: &R,
+    alloc: Global,
+    buckets: u16,
+    cap: u16,
+    first: &[Row],
+    second: &[Row],
+) -> Result<u32, Fail> {
+    let models = Models {
+        list: Vec::new(alloc),
+    };
+    let (world, sessions) = world_begun(alloc, 8, buckets, cap, &models, 2)?;
+    Ok(rows_answered(rt, &world, sessions, first, second))
+}
+
+// Undo and redo are of the one history, whoever made it.
+const MAKES: &[Row] = &[
+    (Act(Undo), Told::Act(ActAnswer::NothingToUndo { at: 0 })),
+    (Act(Fill(FIRST)), Told::Act(ActAnswer::Done { n: 1 })),
+    (Act(Undo), Told::Act(ActAnswer::Done { n: 2 })),
+    (Act(Fill(SECOND)), Told::Act(ActAnswer::Done { n: 3 })),
+];
+
+const GOES_BACK: &[Row] = &[
+    (Act(Redo), Told::Act(ActAnswer::NothingToRedo { at: 3 })),
+    (Act(Undo), Told::Act(ActAnswer::Done { n: 4 })),
+    (Count(None, WHOLE, 1), Told::Count(4, 0, 0)),
+    (Act(Redo), Told::Act(ActAnswer::Done { n: 5 })),
+    (Count(None, WHOLE, 1), Told::Count(5, 1, 1)),
+];
+
+#[test]
+fn undos_have_their_answers(rt: HostRuntime) -> Result<(), Fail> {
+    assert_eq!(rt; answered_in(&rt, rt.alloc(), 64, 256, MAKES, GOES_BACK)?, 9);
+    Ok(())
+}
+
+const FORGETS: &[Row] = &[
+    (Act(Fill(FIRST)), Told::Act(ActAnswer::Done { n: 1 })),
+    (Act(Fill(SECOND)), Told::Act(ActAnswer::Done { n: 2 })),
+    (Forget(1), Told::Forget(Ok(2))),
+];
+
+// What session 1 forgot by its line 3.
+const MARK: Mark = Mark {
+    version: 1,
+    at: 2,
+    session: 1,
+    line: 3,
+};
+
+const MEETS_A_MARK: &[Row] = &[
+    (Count(None, WHOLE, 1), Told::Count(2, 2, 2)),
+    (
+        Count(Some(1), WHOLE, 1),
+        Told::NotPinned(PinRefused::Forgotten { at: 2, mark: MARK }),
+    ),
+    (
+        Count(Some(3), WHOLE, 1),
+        Told::NotPinned(PinRefused::NoVersion { at: 2 }),
+    ),
+    (
+        Act(Undo),
+        Told::Act(ActAnswer::Forgotten { at: 2, mark: MARK }),
+    ),
+    (
+        Forget(1),
+        Told::Forget(Err(ForgetRefused::Forgotten { at: 2, mark: MARK })),
+    ),
+    (
+        Forget(2),
+        Told::Forget(Err(ForgetRefused::IsHead { at: 2 })),
+    ),
+    (
+        Forget(9),
+        Told::Forget(Err(ForgetRefused::NoVersion { at: 2 })),
+    ),
+    (
+        Same(0, 2),
+        Told::Same(Ok(SameAt {
+            at: 2,
+            equal: false,
+        })),
+    ),
+    (Same(2, 2), Told::Same(Ok(SameAt { at: 2, equal: true }))),
+    (
+        Same(0, 1),
+        Told::Same(Err(SameRefused::Forgotten { at: 2, mark: MARK })),
+    ),
+    (
+        Same(9, 1),
+        Told::Same(Err(SameRefused::NoVersion { at: 2, version: 9 })),
+    ),
+    (Head, Told::Head(2)),
+    (FillOnce(FIRST), Told::Once(OnceAnswer::Done { n: 3 })),
+    (Same(2, 3), Told::Same(Ok(SameAt { at: 3, equal: true }))),
+    (Head, Told::Head(3)),
+];
+
+#[test]
+fn a_forgotten_version_is_refused(rt: HostRuntime) -> Result<(), Fail> {
+    assert_eq!(rt;
+        answered_in(&rt, rt.alloc(), 64, 256, FORGETS, MEETS_A_MARK)?,
+        18
+    );
+    Ok(())
+}
+
+// One slot on each level: a cell in another leaf needs a second node.
+const FULL: Full = Full {
+    level: 1,
+    bucket: 0,
+};
+
+const FILLS: &[Row] = &[
+    (Act(Fill(FIRST)), Told::Act(ActAnswer::Done { n: 1 })),
+    (
+        Act(Fill(AWAY)),
+        Told::Act(ActAnswer::Full { at: 1, full: FULL }),
+    ),
+];
+
+const OUTSIDE: Boxed = Boxed {
+    at: Cell { x: 8, y: 0, z: 0 },
+    size: Cell { x: 1, y: 1, z: 1 },
+};
+
+const FILLS_TOO: &[Row] = &[
+    (
+        FillOnce(AWAY),
+        Told::Once(OnceAnswer::Full { at: 1, full: FULL }),
+    ),
+    (Act(Fill(OUTSIDE)), Told::Outside),
+    (Count(None, WHOLE, 1), Told::Count(1, 1, 1)),
+];
+
+#[test]
+fn a_full_bucket_is_told(rt: HostRuntime) -> Result<(), Fail> {
+    assert_eq!(rt; answered_in(&rt, rt.alloc(), 1, 1, FILLS, FILLS_TOO)?, 5);
+    Ok(())
+}
