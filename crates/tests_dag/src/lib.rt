@@ -1,0 +1,14 @@
+//! DAG files byte by byte: what is refused and where, what a file tells of its versions, and files
+//! that are written of a store's versions.
+#![tactic(auto)]
+
+mod changes;
+mod looks;
+mod worlds;
+
+pub use changes::{changes_of, cuts_of};
+pub use looks::{Counted, fault_in, look_at};
+pub use worlds::full_world_file;
+
+#[cfg(test)]
+mod tests;
