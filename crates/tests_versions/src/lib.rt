@@ -7,6 +7,8 @@ mod cores;
 #[cfg(test)]
 mod edits;
 #[cfg(test)]
+mod endings;
+#[cfg(test)]
 mod rows;
 #[cfg(test)]
 mod threads;
