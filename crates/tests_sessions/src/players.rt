@@ -2,7 +2,6 @@
 ghost use Rattle.std.specs.Prelude.{◌≡◌, All, IfSome};
 ghost use Rattle.gate_run.specs.Runs.{RanEach};
 ghost use Rattle.tests_sessions.specs.Free.{IsFree};
-ghost use Rattle.tests_sessions.specs.Players.{IsReady};
 
 use crate::calls::{Row, answered};
 use crate::worlds::sessions_ended;
@@ -21,11 +20,11 @@ pub struct Player<'a, 'm> {
 }
 
 impl<'a, 'm, G: Gate> Worker<G> for Player<'a, 'm> {
-    ghost use Rattle.tests_sessions.specs.Players.{IsReady};
+    ghost use Rattle.tests_sessions.specs.Free.{IsFree};
 
-    ghost may_run = { IsReady };
+    ghost may_run = { λ p. IsFree p.world.now p.session };
 
-    ghost ran = { λ old new. IsReady new };
+    ghost ran = { λ old new. IsFree new.world.now new.session };
 
     fn run<R: Wait>(&mut self, rt: &R, gate: &G) {
         self.right = answered(rt, self.world, &mut self.session, self.rows, gate);
@@ -41,7 +40,7 @@ fn players_of<'a, 'm>(
     second: &'a [Row],
 ) -> Option<Vec<Player<'a, 'm>>>
     requires { All (IsFree world.now) sessions.items }
-    ensures { IfSome result (λ players. All IsReady players.items) }
+    ensures { IfSome result (λ players. All (λ p. IsFree p.world.now p.session) players.items) }
 {
     let Ok(mut players) = Vec::with_capacity(alloc, sessions.len()) else {
         sessions_ended(world, sessions);
@@ -75,7 +74,7 @@ fn all_ran<R: Threads + Wait + Sync, G: Gate + Sync, W: Worker<G> + Send>(
 
 // How many calls of all of them were right. Their sessions are given up.
 fn players_ended(mut players: Vec<Player<'_, '_>>) -> u32
-    requires { All IsReady players.items }
+    requires { All (λ p. IsFree p.world.now p.session) players.items }
 {
     let mut right = 0u32;
     while let Some(player) = players.pop() {

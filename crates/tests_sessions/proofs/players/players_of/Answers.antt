@@ -1,6 +1,8 @@
 use Rattle.std.proofs.Common.{arith}
+use Rattle.tests_sessions.specs.declared.players.Player.{Player}
+use Rattle.tests_sessions.specs.Free.{IsFree}
 use Rattle.tests_sessions.proofs.FreeLaws.{last_free, rest_free}
-use Rattle.tests_sessions.proofs.PlayLaws.{more_ready}
+use Rattle.tests_sessions.proofs.PlayLaws.{all_more}
 use Rattle.tests_sessions.proofs.players.players_of.Goals as goal
 
 pub loop-session-preserved : goal.loop-session-preserved
@@ -12,7 +14,8 @@ loop-session-preserved c =
     record {
       free = rest_free c.args.world.now c.loop-session.sessions.items c.pop.new.self.items
           c.in-Some.session c.in-Some.ensures.items c.loop-session.invariant.free;
-      ready = more_ready c.loop-session.players.items c.push_reserved.new.self.items _
+      ready = all_more (λ (p : Player). IsFree p.world.now p.session)
+          c.loop-session.players.items c.push_reserved.new.self.items _
           c.push_reserved.ensures.items c.loop-session.invariant.ready
           (last_free c.args.world.now c.loop-session.sessions.items c.pop.new.self.items
           c.in-Some.session c.in-Some.ensures.items c.loop-session.invariant.free);
