@@ -1,0 +1,110 @@
+-- A history is legal where its marks are, and its records follow one another.
+use Rattle.std.proofs.Common.{◌≡◌, ℕ, ◌^◌, ◌<◌, ◌≤◌, List, length, Option, refl, sym, arith}
+use Rattle.std.specs.Prelude.{All}
+use Rattle.history_model.specs.Contents.{Content}
+use Rattle.history_model.specs.declared.histories.Mark.{Mark}
+use Rattle.history_model.specs.declared.histories.Record.{Record}
+use Rattle.history_model.specs.Logs.{Log, FitsWorld, IsLegal}
+use Rattle.std.proofs.Common.{◌↔◌, subst}
+use Rattle.node_words.specs.Plans.{Layout}
+use Rattle.script.specs.declared.commands.ScriptLine.{ScriptLine}
+use Rattle.transcript.specs.declared.answers.LineAnswer.{LineAnswer}
+use Rattle.conformance.specs.Agreeing.{Agrees}
+use Rattle.audit.specs.declared.audits.AuditRefused.{AuditRefused}
+use Rattle.audit.specs.Audits.{IsAudited, RefusesAlong}
+use Rattle.store_run.specs.Replaying.{ReplayState}
+use Rattle.audit.specs.declared.replaying.Ways.{Ways}
+use Rattle.audit.specs.Reruns.{IsRerun}
+use Rattle.audit.specs.Marks.{AreLegalMarks, TellsMarks}
+use Rattle.audit.specs.Replaying.{FollowEach, AreWays}
+
+pub too_many : (models : List Content) (log : Log) → 65535 < length log.records
+    → IsLegal (2 ^ log.side) models log → ⊥
+too_many models log over legal = let few = legal.few in omega (arith, over, few)
+
+pub no_marks : (models : List Content) (log : Log) → (AreLegalMarks (length log.records) log.marks → ⊥)
+    → IsLegal (2 ^ log.side) models log → ⊥
+no_marks models log wrong legal = wrong (record { rising = legal.rising; marked = legal.marked })
+
+pub no_fit : (models : List Content) (log : Log)
+    → (All (λ r. FitsWorld (2 ^ log.side) models r.act) log.records → ⊥)
+    → IsLegal (2 ^ log.side) models log → ⊥
+no_fit models log wrong legal = wrong legal.fit
+
+pub no_follow : (models : List Content) (log : Log)
+    → (FollowEach (2 ^ log.side) models log.marks log.records → ⊥) → IsLegal (2 ^ log.side) models log → ⊥
+no_follow models log wrong legal = wrong (record { fit = legal.fit; follow = legal.follow })
+
+pub legal_by : (models : List Content) (log : Log) → length log.records ≤ 65535
+    → AreLegalMarks (length log.records) log.marks → FollowEach (2 ^ log.side) models log.marks log.records
+    → IsLegal (2 ^ log.side) models log
+legal_by models log few marks follow = record {
+  same_side = refl;
+  few = few;
+  fit = follow.fit;
+  follow = follow.follow;
+  rising = marks.rising;
+  marked = marks.marked;
+}
+
+pub legal_rerun : (log : Log) (replay : ReplayState) (ways : List Ways) (table : List (Option Mark))
+    → replay.records ≡ log.records → replay.plan.side ≡ log.side → length log.records ≤ 65535
+    → AreWays log.records ways → TellsMarks log.marks table → IsRerun log replay ways table
+legal_rerun log replay ways table records side few are tells =
+    record { records = records; side = side; few = few; are_ways = are; tells = tells }
+
+pub never_audited : (p : Layout) (models : List Content) (log : Log) (scripts : List (List ScriptLine)) (transcripts : List (List LineAnswer))
+    → p.side ≡ log.side → (IsLegal (2 ^ log.side) models log → ⊥) → IsAudited p models log scripts transcripts → ⊥
+never_audited p models log scripts transcripts side wrong audited =
+    wrong (subst (λ (s : ℕ). IsLegal (2 ^ s) models log) side audited.legal)
+
+pub audited_by : (p : Layout) (models : List Content) (log : Log) (scripts : List (List ScriptLine)) (transcripts : List (List LineAnswer))
+    → p.side ≡ log.side → IsLegal (2 ^ log.side) models log
+    → Agrees p models log scripts transcripts ↔ IsAudited p models log scripts transcripts
+audited_by p models log scripts transcripts side legal = (
+  λ agrees. record { legal = subst (λ (s : ℕ). IsLegal (2 ^ s) models log) (sym side) legal; agrees = agrees },
+  λ audited. audited.agrees,
+)
+
+-- ---- by the plans of the side
+
+pub audited_by_plan : (p q : Layout) (models : List Content) (log : Log) (scripts : List (List ScriptLine))
+    (transcripts : List (List LineAnswer)) (answer : Type 0) → p ≡ q
+    → answer ↔ IsAudited p models log scripts transcripts → answer ↔ IsAudited q models log scripts transcripts
+audited_by_plan p q models log scripts transcripts answer same both =
+    subst (λ (r : Layout). answer ↔ IsAudited r models log scripts transcripts) same both
+
+pub refused_by_plan : (p q : Layout) (models : List Content) (records : List Record) (refused : AuditRefused)
+    → p ≡ q → RefusesAlong p models records refused → RefusesAlong q models records refused
+refused_by_plan p q models records refused same refuses =
+    subst (λ (r : Layout). RefusesAlong r models records refused) same refuses
+
+-- ---- by the state with which a replay begins
+
+pub follows_log : (s : ReplayState) (side : ℕ) (models : List Content) (marks : List Mark) (records : List Record)
+    → s.plan.side ≡ side → s.models ≡ models → FollowEach (2 ^ s.plan.side) s.models marks records
+    → FollowEach (2 ^ side) models marks records
+follows_log s side models marks records same list follow =
+    subst (λ (n : ℕ). FollowEach (2 ^ n) models marks records) same
+    (subst (λ (ms : List Content). FollowEach (2 ^ s.plan.side) ms marks records) list follow)
+
+pub follows_begun : (s : ReplayState) (side : ℕ) (models : List Content) (marks : List Mark) (records : List Record)
+    → s.plan.side ≡ side → s.models ≡ models → FollowEach (2 ^ side) models marks records
+    → FollowEach (2 ^ s.plan.side) s.models marks records
+follows_begun s side models marks records same list follow =
+    subst (λ (ms : List Content). FollowEach (2 ^ s.plan.side) ms marks records) (sym list)
+    (subst (λ (n : ℕ). FollowEach (2 ^ n) models marks records) (sym same) follow)
+
+pub fit_begun : (s : ReplayState) (side : ℕ) (models : List Content) (records : List Record)
+    → s.plan.side ≡ side → s.models ≡ models → All (λ r. FitsWorld (2 ^ side) models r.act) records
+    → All (λ r. FitsWorld (2 ^ s.plan.side) s.models r.act) records
+fit_begun s side models records same list all =
+    subst (λ (ms : List Content). All (λ (r : Record). FitsWorld (2 ^ s.plan.side) ms r.act) records) (sym list)
+    (subst (λ (n : ℕ). All (λ (r : Record). FitsWorld (2 ^ n) models r.act) records) (sym same) all)
+
+pub refused_begun : (s : ReplayState) (p : Layout) (models : List Content) (records : List Record)
+    (refused : AuditRefused) → s.plan ≡ p → s.models ≡ models
+    → RefusesAlong s.plan s.models records refused → RefusesAlong p models records refused
+refused_begun s p models records refused plan same refuses =
+    subst (λ (q : Layout). RefusesAlong q models records refused) plan
+    (subst (λ (ms : List Content). RefusesAlong s.plan ms records refused) same refuses)

@@ -1,0 +1,13 @@
+pub mod OneAnswer
+pub mod Running
+pub mod Marking
+pub mod Following
+pub mod Fitting
+pub mod Recalling
+pub mod Told
+pub mod Ordering
+pub mod Counting
+pub mod Showing
+pub mod Gathering
+pub mod Judging
+pub mod Lining

@@ -1,0 +1,172 @@
+//! Whether a history, scripts and transcripts are those of one run.
+ghost use Rattle.std.specs.Prelude.{◌≡◌, ◌+◌, ◌<◌, ◌≤◌, ◌^◌, ◌↔◌, All, IfOk, IfErr, IfSome, IsTrue, MatchOption, length};
+ghost use Rattle.vox_read.specs.Contents.{AreModels};
+ghost use Rattle.history_model.specs.Logs.{FitsWorld, IsLegal};
+ghost use Rattle.node_words.specs.Plans.{is_number_of_buckets};
+ghost use Rattle.script.specs.Fitting.{CommandFits, RisesFrom};
+ghost use Rattle.audit.specs.Audits.{IsAudited, RefusesAlong, RefusesAudit, judged_by, replay_plan};
+ghost use Rattle.audit.specs.Reruns.{IsRerun};
+
+use crate::audits::AuditRefused;
+use crate::marks::{RECORDS, mark_table};
+use crate::replaying::replay_all;
+use crate::reruns::Rerun;
+use conformance::Transcript;
+use history_model::{History, Record};
+use node_words::Plan;
+use script::Script;
+use std::alloc::Global;
+use std::marker::Brand;
+use std::sync::ledger::{Blank, Ledger};
+use store_run::Replay;
+use vox_read::Models;
+use vw_cell::Side;
+
+/// Whether the history is legal and agrees with the scripts and their transcripts, which show just
+/// it: script k and transcript k are those of session k. A full bucket that a transcript tells is
+/// judged by the usual buckets of each level, or by so many on each.
+///
+/// The history is replayed once, up to its first record that can't follow those before it, and
+/// every version is kept, also one that is forgotten.
+#[tactic(auto, using(crate::proofs::Judging::audited_by_plan, crate::proofs::Judging::refused_by_plan))]
+pub fn audit(
+    alloc: Global,
+    history: &History,
+    models: Models,
+    scripts: &[Script],
+    transcripts: &[Transcript],
+    buckets: Option<u16>,
+) -> Result<bool, AuditRefused>
+    requires models { AreModels models }
+    requires buckets { IfSome buckets (λ b. IsTrue (is_number_of_buckets b)) }
+    requires fits { All (All (λ l. CommandFits (2 ^ history.now.side) models l.command))
+        scripts.now }
+    requires rise { All (RisesFrom 1) scripts.now }
+    requires few { length scripts.now ≤ 64 }
+    ensures answer { IfOk result
+        (λ answer. IsTrue answer ↔ IsAudited (judged_by history.now.side buckets) models
+        history.now scripts.now transcripts.now) }
+    ensures refused { IfErr result (RefusesAudit models history.now) }
+{
+    let judged = judging_plan(history.side, buckets);
+    let replayed = match Plan::even(history.side, 4096, 256) {
+        Some(replayed) => replayed,
+        None => unreachable!(),
+    };
+    let blank = Blank::new(1);
+    audit_over::<Brand>(
+        alloc,
+        history,
+        models,
+        scripts,
+        transcripts,
+        &judged,
+        &replayed,
+        blank,
+    )
+}
+
+// The plan by whose buckets a full one is judged.
+fn judging_plan(side: Side, buckets: Option<u16>) -> Plan
+    requires { IfSome buckets (λ b. IsTrue (is_number_of_buckets b)) }
+    ensures { result ≡ judged_by side buckets }
+{
+    match buckets {
+        None => Plan::usual(side),
+        Some(buckets) => match Plan::even(side, buckets, 128) {
+            Some(plan) => plan,
+            None => unreachable!(),
+        },
+    }
+}
+
+#[tactic(auto, using(crate::proofs::Judging::audited_by, crate::proofs::Judging::never_audited))]
+fn audit_over<L: Ledger>(
+    alloc: Global,
+    log: &History,
+    models: Models,
+    scripts: &[Script],
+    transcripts: &[Transcript],
+    judged: &Plan,
+    replayed: &Plan,
+    blank: Blank,
+) -> Result<bool, AuditRefused>
+    requires models { AreModels models }
+    requires side { judged.now.side ≡ log.now.side }
+    requires replayed { replayed.now.side ≡ log.now.side }
+    requires fits { All (All (λ l. CommandFits (2 ^ log.now.side) models l.command))
+        scripts.now }
+    requires rise { All (RisesFrom 1) scripts.now }
+    requires few { length scripts.now ≤ 64 }
+    requires name { blank.name ≡ L.name }
+    requires parts { blank.parts ≡ L.parts }
+    requires some { 0 < L.parts }
+    ensures answer { IfOk result (λ answer. IsTrue answer
+        ↔ IsAudited judged.now models log.now scripts.now transcripts.now) }
+    ensures refused { IfErr result (RefusesAlong replayed.now models log.now.records) }
+{
+    match run_again::<L>(alloc, log, models, replayed, blank) {
+        Ok(Some(rerun)) => {
+            let mut rerun = rerun;
+            Ok(rerun.agrees(log, judged, scripts, transcripts))
+        }
+        Ok(None) => Ok(false),
+        Err(refused) => Err(refused),
+    }
+}
+
+// The history replayed, where it is legal.
+#[tactic(auto, using(crate::proofs::Judging::legal_rerun, crate::proofs::Judging::no_marks, crate::proofs::Judging::no_fit, crate::proofs::Judging::no_follow, crate::proofs::Judging::too_many))]
+fn run_again<L: Ledger>(
+    alloc: Global,
+    log: &History,
+    models: Models,
+    replayed: &Plan,
+    blank: Blank,
+) -> Result<Option<Rerun<L>>, AuditRefused>
+    requires models { AreModels models }
+    requires side { replayed.now.side ≡ log.now.side }
+    requires name { blank.name ≡ L.name }
+    requires parts { blank.parts ≡ L.parts }
+    requires some { 0 < L.parts }
+    ensures legal { IfOk result
+        (λ found. MatchOption found (IsLegal (2 ^ log.now.side) models log.now → ⊥)
+        (λ r. IsLegal (2 ^ log.now.side) models log.now
+        × IsRerun log.now r.replay r.ways.items r.table.items
+        × (r.replay.models ≡ models))) }
+    ensures refused { IfErr result (RefusesAlong replayed.now models log.now.records) }
+{
+    let count = log.records.len();
+    if count > RECORDS {
+        return Ok(None);
+    }
+    let table = match mark_table(alloc, log.marks.as_slice(), count) {
+        Ok(Some(table)) => table,
+        Ok(None) => return Ok(None),
+        Err(_) => return Err(AuditRefused::Memory),
+    };
+    let records = log.records.as_slice();
+    if !acts_fit(records, log.side, &models) {
+        return Ok(None);
+    }
+    let mut replay: Replay<L> = match Replay::begin(alloc, replayed, models, count, blank) {
+        Ok(replay) => replay,
+        Err(_) => return Err(AuditRefused::Memory),
+    };
+    match replay_all(alloc, &mut replay, records, table.as_slice()) {
+        Ok(Some(ways)) => Ok(Some(Rerun {
+            replay,
+            ways,
+            table,
+        })),
+        Ok(None) => Ok(None),
+        Err(refused) => Err(refused),
+    }
+}
+
+// Whether each act lies in the world, with a model that is there.
+fn acts_fit(records: &[Record], side: Side, models: &Models) -> bool
+    ensures { IsTrue result ↔ All (λ r. FitsWorld (2 ^ side) models.now r.act) records.now }
+{
+    records.iter().all(|r| r.act.fits(side, models))
+}

@@ -1,0 +1,21 @@
+//! Whether a journal, scripts and transcripts are those of one run, told without the program that
+//! ran them.
+#![tactic(auto)]
+
+mod answering;
+mod audits;
+mod counts;
+mod fits;
+mod judges;
+mod laws;
+mod lines;
+mod marks;
+mod replaying;
+mod reruns;
+mod sessions;
+mod telling;
+
+pub use audits::AuditRefused;
+pub use judges::audit;
+pub use laws::{answers_are_told, counts_are_enough, questions_have_one_answer, runs_are_audited};
+pub use replaying::Ways;
