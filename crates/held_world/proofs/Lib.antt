@@ -1,0 +1,4 @@
+pub mod AsBox
+pub mod Fitting
+pub mod Changing
+pub mod Opening

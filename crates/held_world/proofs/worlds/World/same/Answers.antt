@@ -1,0 +1,12 @@
+use Rattle.std.proofs.Common.{refl}
+use Rattle.held_world.specs.Calls.{WorldCompares}
+use Rattle.held_world.proofs.worlds.World.same.Goals as goal
+
+pub returns-then-not-is_kept : goal.returns-then-not-is_kept
+returns-then-not-is_kept c = WorldCompares.first c.why_gone.result c.why_gone.ensures refl
+
+pub returns-then-not-is_kept-2 : goal.returns-then-not-is_kept-2
+returns-then-not-is_kept-2 c = WorldCompares.second c.why_gone-then-not-is_kept-2.result (c.if-not-is_kept.ensures.0 refl) c.why_gone-then-not-is_kept-2.ensures refl
+
+pub returns : goal.returns
+returns c = WorldCompares.told (c.if-not-is_kept.ensures.0 refl) (c.if-not-is_kept-2.ensures.0 refl) c.same.ensures

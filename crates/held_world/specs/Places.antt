@@ -1,0 +1,27 @@
+-- The numbers that C hands in, as cells and boxes.
+use Rattle.std.specs.Prelude.{ℕ, ◌≤◌, Bool, true, false, Option, Some, None}
+use Rattle.vw_cell.specs.declared.cells.Cell.{Cell}
+use Rattle.vw_cell.specs.declared.boxes.Boxed.{Boxed}
+use Rattle.vw_cell.specs.declared.balls.Ball.{Ball}
+use Rattle.held_world.specs.declared.places.Place.{Place}
+use Rattle.held_world.specs.declared.places.Stretch.{Stretch}
+
+abbrev pub cell_of : Place → Cell
+cell_of p = record { x = p.x; y = p.y; z = p.z }
+
+abbrev pub box_of : Stretch → Boxed
+box_of s = record { at = cell_of s.at; size = cell_of s.size }
+
+abbrev pub ball_of : Place → ℕ → Ball
+ball_of centre radius = record { centre = cell_of centre; radius = radius }
+
+-- 16 bits are enough for each of the numbers
+pub record IsSmall (c : Cell) : Type 0 where
+  pub x : c.x ≤ 65535
+  pub y : c.y ≤ 65535
+  pub z : c.z ≤ 65535
+
+-- a box, where there is one
+abbrev pub extent_of : Bool → Stretch → Option Boxed
+extent_of false s = None
+extent_of true s = Some (box_of s)

@@ -1,0 +1,18 @@
+//! A world that C holds between two calls, and what each call does to it.
+//!
+//! A call takes its numbers as they come, tests them, and answers a status of `statuses`.
+#![tactic(auto)]
+
+mod asks;
+mod handle;
+mod kept;
+mod outputs;
+mod parts;
+mod places;
+pub mod statuses;
+mod worlds;
+
+pub use handle::{Handle, handles_cross};
+pub use kept::Kept;
+pub use places::{Place, Stretch};
+pub use worlds::World;

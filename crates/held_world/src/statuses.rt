@@ -1,0 +1,34 @@
+//! What a call answers: 0 where it was done, and else why not.
+
+/// It was done.
+pub const DONE: u32 = 0;
+/// The handle holds no world.
+pub const CLOSED: u32 = 1;
+/// Want of memory. Nothing changed.
+pub const NO_MEMORY: u32 = 2;
+/// A place, a box, a ball or a model leaves the world, or a size is 0.
+pub const OUTSIDE: u32 = 3;
+/// There is no such version yet.
+pub const NO_VERSION: u32 = 4;
+/// The version was forgotten.
+pub const FORGOTTEN: u32 = 5;
+/// No change is left to undo.
+pub const NOTHING_TO_UNDO: u32 = 6;
+/// No undo is left to take back.
+pub const NOTHING_TO_REDO: u32 = 7;
+/// A history has 65,535 records at most.
+pub const HISTORY_FULL: u32 = 8;
+/// A bucket of the store has no room. No version came.
+pub const STORE_FULL: u32 = 9;
+/// The newest version can't be forgotten.
+pub const IS_NEWEST: u32 = 10;
+/// What is to be written doesn't fit the room for it.
+pub const TOO_SMALL: u32 = 11;
+/// No side of a world, or no number of slots of a bucket.
+pub const BAD_PLAN: u32 = 12;
+/// The handle holds a world already.
+pub const IS_OPEN: u32 = 13;
+/// There is no model of this number.
+pub const NO_MODEL: u32 = 14;
+/// The bytes are no VOX file whose models can be read.
+pub const BAD_FILE: u32 = 15;
