@@ -1,0 +1,438 @@
+//! A voxel world for C: a handle that C owns, and a function for each command.
+//!
+//! Each number that C hands in is tested before it counts. A status is 0 where a command was
+//! carried out, and else says why not. `include/voxdag.h` has all of this in the words of C.
+#![tactic(auto)]
+
+ghost use Rattle.std.specs.Prelude.{◌≡◌, ◌↔◌, None};
+ghost use Rattle.history_model.specs.declared.acts.Act.TheVariants.{Fill, Erase, Carve, Copy, Stamp, Undo, Redo};
+ghost use Rattle.history_model.specs.declared.acts.Act.TheVariants as acts;
+ghost use Rattle.history_model.specs.declared.questions.Question.TheVariants as questions;
+ghost use Rattle.transcript.specs.declared.answers.Answer.TheVariants as answers;
+ghost use Rattle.held_world.specs.Places.{cell_of, box_of, ball_of, extent_of};
+ghost use Rattle.held_world.specs.Calls.{ByHandle, WorldChanges, WorldForgets, WorldAsks, WorldCompares, WorldSaves, WorldJournals, Opens};
+ghost use Rattle.held_world.specs.Calls.{TellsNewest, TellsSize};
+
+use held_world::{Handle, Place, Stretch, World, statuses as status};
+use std::alloc::Global;
+
+/// Sets the cells of a box.
+#[tactic(auto, using(crate::proofs::Through::through_closed, crate::proofs::Through::through_open))]
+#[unsafe(no_mangle)]
+pub extern "C" fn voxdag_c_fill(alloc: Global, handle: &mut Handle, part: &Stretch) -> u32
+    ensures { ByHandle (λ w status v. WorldChanges w (Fill (box_of part.now)) status v)
+        handle.old.kept.value result handle.new.kept.value }
+{
+    match handle.take(alloc) {
+        None => status::CLOSED,
+        Some(mut world) => {
+            let status = world.fill(*part);
+            handle.put(world);
+            status
+        }
+    }
+}
+
+/// Clears the cells of a box.
+#[tactic(auto, using(crate::proofs::Through::through_closed, crate::proofs::Through::through_open))]
+#[unsafe(no_mangle)]
+pub extern "C" fn voxdag_c_erase(alloc: Global, handle: &mut Handle, part: &Stretch) -> u32
+    ensures { ByHandle (λ w status v. WorldChanges w (Erase (box_of part.now)) status v)
+        handle.old.kept.value result handle.new.kept.value }
+{
+    match handle.take(alloc) {
+        None => status::CLOSED,
+        Some(mut world) => {
+            let status = world.erase(*part);
+            handle.put(world);
+            status
+        }
+    }
+}
+
+/// Sets the cells of a ball.
+#[tactic(auto, using(crate::proofs::Through::through_closed, crate::proofs::Through::through_open))]
+#[unsafe(no_mangle)]
+pub extern "C" fn voxdag_c_ball(
+    alloc: Global,
+    handle: &mut Handle,
+    centre: &Place,
+    radius: u32,
+) -> u32
+    ensures { ByHandle
+        (λ w status v. WorldChanges w (acts.Ball (ball_of centre.now radius)) status v)
+        handle.old.kept.value result handle.new.kept.value }
+{
+    match handle.take(alloc) {
+        None => status::CLOSED,
+        Some(mut world) => {
+            let status = world.ball(*centre, radius);
+            handle.put(world);
+            status
+        }
+    }
+}
+
+/// Clears the cells of a ball.
+#[tactic(auto, using(crate::proofs::Through::through_closed, crate::proofs::Through::through_open))]
+#[unsafe(no_mangle)]
+pub extern "C" fn voxdag_c_carve(
+    alloc: Global,
+    handle: &mut Handle,
+    centre: &Place,
+    radius: u32,
+) -> u32
+    ensures { ByHandle (λ w status v. WorldChanges w (Carve (ball_of centre.now radius)) status v)
+        handle.old.kept.value result handle.new.kept.value }
+{
+    match handle.take(alloc) {
+        None => status::CLOSED,
+        Some(mut world) => {
+            let status = world.carve(*centre, radius);
+            handle.put(world);
+            status
+        }
+    }
+}
+
+/// Puts what the box has where its least corner goes to the place.
+#[tactic(auto, using(crate::proofs::Through::through_closed, crate::proofs::Through::through_open))]
+#[unsafe(no_mangle)]
+pub extern "C" fn voxdag_c_copy(
+    alloc: Global,
+    handle: &mut Handle,
+    part: &Stretch,
+    to: &Place,
+) -> u32
+    ensures { ByHandle
+        (λ w status v. WorldChanges w (Copy (box_of part.now) (cell_of to.now)) status v)
+        handle.old.kept.value result handle.new.kept.value }
+{
+    match handle.take(alloc) {
+        None => status::CLOSED,
+        Some(mut world) => {
+            let status = world.copy(*part, *to);
+            handle.put(world);
+            status
+        }
+    }
+}
+
+/// Sets the cells of a model, whose number counts from 0, with its least corner at the place.
+#[tactic(auto, using(crate::proofs::Through::through_closed, crate::proofs::Through::through_open))]
+#[unsafe(no_mangle)]
+pub extern "C" fn voxdag_c_stamp(alloc: Global, handle: &mut Handle, number: u16, at: &Place) -> u32
+    ensures { ByHandle (λ w status v. WorldChanges w (Stamp number (cell_of at.now)) status v)
+        handle.old.kept.value result handle.new.kept.value }
+{
+    match handle.take(alloc) {
+        None => status::CLOSED,
+        Some(mut world) => {
+            let status = world.stamp(number, *at);
+            handle.put(world);
+            status
+        }
+    }
+}
+
+/// Goes back to the version before the last change.
+#[tactic(auto, using(crate::proofs::Through::through_closed, crate::proofs::Through::through_open))]
+#[unsafe(no_mangle)]
+pub extern "C" fn voxdag_c_undo(alloc: Global, handle: &mut Handle) -> u32
+    ensures { ByHandle (λ w status v. WorldChanges w Undo status v)
+        handle.old.kept.value result handle.new.kept.value }
+{
+    match handle.take(alloc) {
+        None => status::CLOSED,
+        Some(mut world) => {
+            let status = world.undo();
+            handle.put(world);
+            status
+        }
+    }
+}
+
+/// Takes an undo back.
+#[tactic(auto, using(crate::proofs::Through::through_closed, crate::proofs::Through::through_open))]
+#[unsafe(no_mangle)]
+pub extern "C" fn voxdag_c_redo(alloc: Global, handle: &mut Handle) -> u32
+    ensures { ByHandle (λ w status v. WorldChanges w Redo status v)
+        handle.old.kept.value result handle.new.kept.value }
+{
+    match handle.take(alloc) {
+        None => status::CLOSED,
+        Some(mut world) => {
+            let status = world.redo();
+            handle.put(world);
+            status
+        }
+    }
+}
+
+/// Forgets a version.
+#[tactic(auto, using(crate::proofs::Through::through_closed, crate::proofs::Through::through_open))]
+#[unsafe(no_mangle)]
+pub extern "C" fn voxdag_c_forget(alloc: Global, handle: &mut Handle, version: u32) -> u32
+    ensures { ByHandle (λ w status v. WorldForgets w version status v)
+        handle.old.kept.value result handle.new.kept.value }
+{
+    match handle.take(alloc) {
+        None => status::CLOSED,
+        Some(mut world) => {
+            let status = world.forget(version);
+            handle.put(world);
+            status
+        }
+    }
+}
+
+/// The number of the newest version.
+#[tactic(auto, using(crate::proofs::Through::through_closed, crate::proofs::Through::through_open))]
+#[unsafe(no_mangle)]
+pub extern "C" fn voxdag_c_newest(alloc: Global, handle: &mut Handle, version: &mut u32) -> u32
+    ensures { ByHandle (λ w status v. (v ≡ w) × TellsNewest w status version.new)
+        handle.old.kept.value result handle.new.kept.value }
+{
+    match handle.take(alloc) {
+        None => status::CLOSED,
+        Some(mut world) => {
+            let status = world.put_newest(version);
+            handle.put(world);
+            status
+        }
+    }
+}
+
+/// The size of a model, whose number counts from 0.
+#[tactic(auto, using(crate::proofs::Through::through_closed, crate::proofs::Through::through_open))]
+#[unsafe(no_mangle)]
+pub extern "C" fn voxdag_c_model_size(
+    alloc: Global,
+    handle: &mut Handle,
+    number: u16,
+    size: &mut Place,
+) -> u32
+    ensures { ByHandle (λ w status v. (v ≡ w) × TellsSize w number size.old size.new status)
+        handle.old.kept.value result handle.new.kept.value }
+{
+    match handle.take(alloc) {
+        None => status::CLOSED,
+        Some(mut world) => {
+            let status = world.put_model_size(number, size);
+            handle.put(world);
+            status
+        }
+    }
+}
+
+/// Whether a cell of a version is set.
+#[tactic(auto, using(crate::proofs::Through::through_closed, crate::proofs::Through::through_open))]
+#[unsafe(no_mangle)]
+pub extern "C" fn voxdag_c_get(
+    alloc: Global,
+    handle: &mut Handle,
+    version: u32,
+    place: &Place,
+    set: &mut bool,
+) -> u32
+    ensures { ByHandle
+        (λ w status v. (v ≡ w) × WorldAsks w version (questions.Get (cell_of place.now))
+        (λ a. a ≡ answers.Is set.new) (set.new ≡ set.old) status)
+        handle.old.kept.value result handle.new.kept.value }
+{
+    match handle.take(alloc) {
+        None => status::CLOSED,
+        Some(mut world) => {
+            let status = world.get(version, *place, set);
+            handle.put(world);
+            status
+        }
+    }
+}
+
+/// How many cells of a box of a version are set.
+#[tactic(auto, using(crate::proofs::Through::through_closed, crate::proofs::Through::through_open))]
+#[unsafe(no_mangle)]
+pub extern "C" fn voxdag_c_count(
+    alloc: Global,
+    handle: &mut Handle,
+    version: u32,
+    part: &Stretch,
+    cells: &mut u64,
+) -> u32
+    ensures { ByHandle
+        (λ w status v. (v ≡ w) × WorldAsks w version (questions.Count (box_of part.now))
+        (λ a. a ≡ answers.Count cells.new) (cells.new ≡ cells.old) status)
+        handle.old.kept.value result handle.new.kept.value }
+{
+    match handle.take(alloc) {
+        None => status::CLOSED,
+        Some(mut world) => {
+            let status = world.count(version, *part, cells);
+            handle.put(world);
+            status
+        }
+    }
+}
+
+/// How many pairs there are of a set cell of the box and a neighbour that isn't set.
+#[tactic(auto, using(crate::proofs::Through::through_closed, crate::proofs::Through::through_open))]
+#[unsafe(no_mangle)]
+pub extern "C" fn voxdag_c_faces(
+    alloc: Global,
+    handle: &mut Handle,
+    version: u32,
+    part: &Stretch,
+    faces: &mut u64,
+) -> u32
+    ensures { ByHandle
+        (λ w status v. (v ≡ w) × WorldAsks w version (questions.Faces (box_of part.now))
+        (λ a. a ≡ answers.Faces faces.new) (faces.new ≡ faces.old) status)
+        handle.old.kept.value result handle.new.kept.value }
+{
+    match handle.take(alloc) {
+        None => status::CLOSED,
+        Some(mut world) => {
+            let status = world.faces(version, *part, faces);
+            handle.put(world);
+            status
+        }
+    }
+}
+
+/// The least box that has all set cells of a version, where some are set.
+#[tactic(auto, using(crate::proofs::Through::through_closed, crate::proofs::Through::through_open))]
+#[unsafe(no_mangle)]
+pub extern "C" fn voxdag_c_bounds(
+    alloc: Global,
+    handle: &mut Handle,
+    version: u32,
+    some: &mut bool,
+    least: &mut Stretch,
+) -> u32
+    ensures { ByHandle (λ w status v. (v ≡ w) × WorldAsks w version (questions.Bounds)
+        (λ a. a ≡ answers.Extent (extent_of some.new least.new))
+        ((some.new ≡ some.old) × (least.new ≡ least.old)) status)
+        handle.old.kept.value result handle.new.kept.value }
+{
+    match handle.take(alloc) {
+        None => status::CLOSED,
+        Some(mut world) => {
+            let status = world.bounds(version, some, least);
+            handle.put(world);
+            status
+        }
+    }
+}
+
+/// Whether two versions have the same cells.
+#[tactic(auto, using(crate::proofs::Through::through_closed, crate::proofs::Through::through_open))]
+#[unsafe(no_mangle)]
+pub extern "C" fn voxdag_c_same(
+    alloc: Global,
+    handle: &mut Handle,
+    a: u32,
+    b: u32,
+    same: &mut bool,
+) -> u32
+    ensures { ByHandle (λ w status v. (v ≡ w) × WorldCompares w a b same.old same.new status)
+        handle.old.kept.value result handle.new.kept.value }
+{
+    match handle.take(alloc) {
+        None => status::CLOSED,
+        Some(mut world) => {
+            let status = world.same(a, b, same);
+            handle.put(world);
+            status
+        }
+    }
+}
+
+/// The VOX file of a box of a version, and how many bytes it has.
+#[tactic(auto, using(crate::proofs::Through::through_closed, crate::proofs::Through::through_open))]
+#[unsafe(no_mangle)]
+pub extern "C" fn voxdag_c_save(
+    alloc: Global,
+    handle: &mut Handle,
+    version: u32,
+    part: &Stretch,
+    out: &mut [u8],
+    needed: &mut usize,
+) -> u32
+    ensures { ByHandle (λ w status v. (v ≡ w) × WorldSaves w version (box_of part.now)
+        out.old out.new needed.old needed.new status)
+        handle.old.kept.value result handle.new.kept.value }
+{
+    match handle.take(alloc) {
+        None => status::CLOSED,
+        Some(mut world) => {
+            let status = world.save(alloc, version, *part, out, needed);
+            handle.put(world);
+            status
+        }
+    }
+}
+
+/// The text of the journal, and how many bytes it has.
+#[tactic(auto, using(crate::proofs::Through::through_closed, crate::proofs::Through::through_open))]
+#[unsafe(no_mangle)]
+pub extern "C" fn voxdag_c_journal(
+    alloc: Global,
+    handle: &mut Handle,
+    out: &mut [u8],
+    needed: &mut usize,
+) -> u32
+    ensures { ByHandle
+        (λ w status v. (v ≡ w) × WorldJournals w out.old out.new needed.old needed.new status)
+        handle.old.kept.value result handle.new.kept.value }
+{
+    match handle.take(alloc) {
+        None => status::CLOSED,
+        Some(mut world) => {
+            let status = world.journal(alloc, out, needed);
+            handle.put(world);
+            status
+        }
+    }
+}
+
+/// Opens an empty world of this side, from 4 to 4,096 and a power of two, with buckets of so many
+/// nodes, where 0 stands for the usual number, and with the models of a VOX file, where no bytes
+/// stand for no models.
+#[unsafe(no_mangle)]
+pub extern "C" fn voxdag_c_open(
+    alloc: Global,
+    handle: &mut Handle,
+    side: u32,
+    cap: u16,
+    file: &[u8],
+) -> u32
+    ensures { Opens side cap file.now handle.old.kept.value result handle.new.kept.value }
+{
+    if let Some(world) = handle.take(alloc) {
+        handle.put(world);
+        return status::IS_OPEN;
+    }
+    match World::from_bytes(alloc, side, cap, file) {
+        Ok(world) => {
+            handle.put(world);
+            status::DONE
+        }
+        Err(status) => status,
+    }
+}
+
+/// Closes the world, and gives its memory back.
+#[unsafe(no_mangle)]
+pub extern "C" fn voxdag_c_close(alloc: Global, handle: &mut Handle) -> u32
+    ensures closed { handle.new.kept.value ≡ None }
+    ensures was { result ≡ 1 ↔ handle.old.kept.value ≡ None }
+{
+    match handle.take(alloc) {
+        None => status::CLOSED,
+        Some(world) => {
+            drop(world);
+            status::DONE
+        }
+    }
+}

@@ -1,0 +1,50 @@
+use std::sync::{Arc, Mutex};
+use std::thread;
+use voxdag::{place, Boxed, Place, Refusal, World};
+
+fn boxed(at: Place, size: Place) -> Boxed {
+    Boxed { at, size }
+}
+
+#[test]
+fn a_world_is_edited_asked_undone_saved_and_shared() -> Result<(), Refusal> {
+    let all = boxed(place(0, 0, 0), place(64, 64, 64));
+    let cube = boxed(place(0, 0, 0), place(8, 8, 8));
+    let mut world = World::open(64, 0, &[])?;
+    world.fill(cube)?;
+    world.erase(boxed(place(0, 0, 0), place(8, 8, 4)))?;
+    assert_eq!(world.count(1, all)?, 512);
+    assert_eq!(world.count(2, all)?, 256);
+    assert_eq!(world.faces(1, all)?, 384);
+    assert_eq!(world.bounds(2)?, Some(boxed(place(0, 0, 4), place(8, 8, 4))));
+    assert_eq!(world.bounds(0)?, None);
+    world.undo()?;
+    assert_eq!(world.newest()?, 3);
+    assert!(world.same(1, 3)?);
+    assert!(!world.same(2, 3)?);
+    assert_eq!(world.fill(boxed(place(60, 0, 0), place(8, 1, 1))), Err(Refusal::Outside));
+    assert_eq!(world.get(9, place(0, 0, 0)), Err(Refusal::NoVersion));
+    assert_eq!(world.stamp(0, place(0, 0, 0)), Err(Refusal::NoModel));
+
+    let file = world.save(1, cube)?;
+    let mut other = World::open(16, 0, &file)?;
+    assert_eq!(other.model_size(0)?, place(8, 8, 8));
+    other.stamp(0, place(8, 8, 8))?;
+    assert!(other.get(1, place(15, 15, 15))?);
+    assert!(String::from_utf8(other.journal()?).unwrap().ends_with("1 0 1 stamp 0 8 8 8\nend\n"));
+
+    let shared = Arc::new(Mutex::new(world));
+    let threads: Vec<_> = (0..4)
+        .map(|k| {
+            let shared = Arc::clone(&shared);
+            thread::spawn(move || shared.lock().unwrap().fill(boxed(place(16 * k, 32, 0), place(16, 1, 1))))
+        })
+        .collect();
+    for thread in threads {
+        thread.join().unwrap()?;
+    }
+    let mut world = shared.lock().unwrap();
+    assert_eq!(world.newest()?, 7);
+    assert_eq!(world.count(7, boxed(place(0, 32, 0), place(64, 1, 1)))?, 64);
+    Ok(())
+}

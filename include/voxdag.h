@@ -1,0 +1,300 @@
+/* voxdag.h: a proved voxel world with versions, for C and C++.
+ *
+ * A world is a cube of SIDE cells on each axis, each of them set or clear. Every change that is
+ * accepted makes a version; version 0 is the empty world, and any version can be asked until it is
+ * forgotten. Coordinates count cells; z is up. docs/LIBRARY.md says how to build and link.
+ *
+ * OWNERSHIP. A voxdag_world is a struct that the caller owns: begin with VOXDAG_CLOSED, hand its
+ * address to every call, and read and write none of its fields. Don't copy it, and close it before
+ * it goes. It may be moved (the old bytes are never used again). After voxdag_close it is a closed
+ * one again, which every call but voxdag_open refuses.
+ *
+ * ARGUMENTS. Every number is tested, whatever it is, and a status says what was wrong with it; so
+ * is every pointer for null. What can't be tested: a pointer that isn't null points to one value of
+ * its type (a buffer: to `size` bytes), which nothing else reads or writes during the call, and an
+ * output doesn't overlap another argument.
+ *
+ * OUTPUTS are written where a comment says so, and else stay what they were. A call that answers
+ * anything but VOXDAG_OK changed no version, forgot none, and made none.
+ *
+ * MEMORY. A world takes all memory of its store when it is opened (docs/LIBRARY.md says how much).
+ * Any call may answer VOXDAG_NO_MEMORY, and then nothing changed. No call ends the program, waits
+ * or prints. malloc, realloc and free are those of the program: of one allocator, and aligned as C
+ * asks.
+ *
+ * THREADS. One call at a time on each world: keep it on one thread, or put a lock of your own round
+ * each call; then a world may go from thread to thread. Different worlds have nothing in common.
+ * Not from a signal handler, nor in the forked child of a process with threads.
+ */
+#ifndef VOXDAG_H
+#define VOXDAG_H
+
+#include <stdbool.h>
+#include <stddef.h>
+#include <stdint.h>
+
+#ifdef __cplusplus
+extern "C" {
+#endif
+
+typedef uint32_t voxdag_status;
+
+enum {
+    VOXDAG_OK = 0,              /* it was done */
+    VOXDAG_IS_CLOSED = 1,       /* no world is open here */
+    VOXDAG_NO_MEMORY = 2,       /* want of memory */
+    VOXDAG_OUTSIDE = 3,         /* a place, box, ball or model leaves the world, or a size is 0 */
+    VOXDAG_NO_VERSION = 4,      /* there is no such version yet */
+    VOXDAG_FORGOTTEN = 5,       /* the version was forgotten */
+    VOXDAG_NOTHING_TO_UNDO = 6, /* no change is left to undo */
+    VOXDAG_NOTHING_TO_REDO = 7, /* no undo is left to take back */
+    VOXDAG_HISTORY_FULL = 8,    /* there are 65,535 records, the most that a history has */
+    VOXDAG_STORE_FULL = 9,      /* a bucket of the store has no room for what the change needs */
+    VOXDAG_IS_NEWEST = 10,      /* the newest version can't be forgotten */
+    VOXDAG_TOO_SMALL = 11,      /* the buffer is too small for what is to be written */
+    VOXDAG_BAD_PLAN = 12,       /* no side of a world, or no number of slots of a bucket */
+    VOXDAG_IS_OPEN = 13,        /* a world is open here, and stays open */
+    VOXDAG_NO_MODEL = 14,       /* there is no model of this number */
+    VOXDAG_BAD_FILE = 15,       /* no VOX file whose models can be read, or over 2^28 bytes */
+    VOXDAG_NULL = 16            /* an argument is null */
+};
+
+/* All bytes 0: no world is open. */
+typedef struct voxdag_world {
+    bool is_open;
+    void *at;
+} voxdag_world;
+
+#ifdef __cplusplus
+#define VOXDAG_CLOSED voxdag_world{}
+#else
+#define VOXDAG_CLOSED ((voxdag_world){0})
+#endif
+
+/* A place, or a size, in cells. A negative number is a very large one here, and so is refused. */
+typedef struct voxdag_place { uint32_t x, y, z; } voxdag_place;
+
+/* A box: its least corner and its size, which is at least 1 on each axis. */
+typedef struct voxdag_box { voxdag_place at, size; } voxdag_box;
+
+/* What the library exports. These test all but null: call the functions below. */
+voxdag_status voxdag_c_open(voxdag_world *w, uint32_t side, uint16_t cap, const uint8_t *file, size_t size);
+voxdag_status voxdag_c_close(voxdag_world *w);
+voxdag_status voxdag_c_fill(voxdag_world *w, const voxdag_box *part);
+voxdag_status voxdag_c_erase(voxdag_world *w, const voxdag_box *part);
+voxdag_status voxdag_c_ball(voxdag_world *w, const voxdag_place *centre, uint32_t radius);
+voxdag_status voxdag_c_carve(voxdag_world *w, const voxdag_place *centre, uint32_t radius);
+voxdag_status voxdag_c_copy(voxdag_world *w, const voxdag_box *part, const voxdag_place *to);
+voxdag_status voxdag_c_stamp(voxdag_world *w, uint16_t model, const voxdag_place *at);
+voxdag_status voxdag_c_undo(voxdag_world *w);
+voxdag_status voxdag_c_redo(voxdag_world *w);
+voxdag_status voxdag_c_forget(voxdag_world *w, uint32_t version);
+voxdag_status voxdag_c_newest(voxdag_world *w, uint32_t *version);
+voxdag_status voxdag_c_model_size(voxdag_world *w, uint16_t model, voxdag_place *size);
+voxdag_status voxdag_c_get(voxdag_world *w, uint32_t version, const voxdag_place *at, bool *set);
+voxdag_status voxdag_c_count(voxdag_world *w, uint32_t version, const voxdag_box *part, uint64_t *cells);
+voxdag_status voxdag_c_faces(voxdag_world *w, uint32_t version, const voxdag_box *part, uint64_t *faces);
+voxdag_status voxdag_c_bounds(voxdag_world *w, uint32_t version, bool *some, voxdag_box *least);
+voxdag_status voxdag_c_same(voxdag_world *w, uint32_t a, uint32_t b, bool *same);
+voxdag_status voxdag_c_save(voxdag_world *w, uint32_t version, const voxdag_box *part, uint8_t *out, size_t size, size_t *needed);
+voxdag_status voxdag_c_journal(voxdag_world *w, uint8_t *out, size_t size, size_t *needed);
+
+/* ---- Opening and closing */
+
+/* Opens an empty world. side: 4, 8, 16, .., 4096. cap: how many nodes a bucket of the store has
+ * room for, 1 to 256, and 0 for the usual 128. file: the bytes of a VOX file whose models can be
+ * stamped, which are read here and not kept; null with size 0 for no models.
+ *   IS_OPEN    w has a world already
+ *   BAD_PLAN   no world has this side, or no bucket this cap
+ *   BAD_FILE   a rule of VOX files is broken, or size is over 2^28
+ *   NO_MEMORY  */
+static inline voxdag_status voxdag_open_with(voxdag_world *w, uint32_t side, uint32_t cap, const uint8_t *file, size_t size)
+{
+    static const uint8_t none = 0;
+    if (!w || (!file && size)) return VOXDAG_NULL;
+    if (w->is_open) return VOXDAG_IS_OPEN;
+    if (cap > 256) return VOXDAG_BAD_PLAN;
+    return voxdag_c_open(w, side, (uint16_t)cap, file ? file : &none, size);
+}
+
+/* The same with the usual cap and no models. */
+static inline voxdag_status voxdag_open(voxdag_world *w, uint32_t side)
+{
+    return voxdag_open_with(w, side, 0, NULL, 0);
+}
+
+/* Closes the world and gives its memory back. IS_CLOSED where there was none. */
+static inline voxdag_status voxdag_close(voxdag_world *w)
+{
+    if (!w) return VOXDAG_NULL;
+    return voxdag_c_close(w);
+}
+
+/* ---- Changes
+ *
+ * With OK there is one version more, whose number is the newest one's and one: it has the cells of
+ * the newest version but for what the change says, and every earlier version has what it had.
+ * With anything else no version came. Where several of these could be answered, the first is:
+ *   IS_CLOSED      exactly where no world is open
+ *   OUTSIDE        exactly where the change leaves the world (NO_MODEL: where there is no such model)
+ *   NO_MEMORY      at any change
+ *   STORE_FULL     a bucket has no room for what the change needs; the world can still be asked
+ *   HISTORY_FULL   exactly where there are 65,535 records already */
+
+/* Sets, or clears, the cells of a box that lies in the world. */
+static inline voxdag_status voxdag_fill(voxdag_world *w, const voxdag_box *part)
+{
+    if (!w || !part) return VOXDAG_NULL;
+    return voxdag_c_fill(w, part);
+}
+
+static inline voxdag_status voxdag_erase(voxdag_world *w, const voxdag_box *part)
+{
+    if (!w || !part) return VOXDAG_NULL;
+    return voxdag_c_erase(w, part);
+}
+
+/* Sets, or clears, the cells of a ball: those whose distance from the centre, a cell of the world,
+ * is at most the radius, 0 to 4,095. What lies outside the world is nobody's. */
+static inline voxdag_status voxdag_ball(voxdag_world *w, const voxdag_place *centre, uint32_t radius)
+{
+    if (!w || !centre) return VOXDAG_NULL;
+    return voxdag_c_ball(w, centre, radius);
+}
+
+static inline voxdag_status voxdag_carve(voxdag_world *w, const voxdag_place *centre, uint32_t radius)
+{
+    if (!w || !centre) return VOXDAG_NULL;
+    return voxdag_c_carve(w, centre, radius);
+}
+
+/* Puts the cells of a box, set and clear ones, where its least corner goes to `to`. Both boxes lie in
+ * the world, and may overlap: what is put is what the box had before. */
+static inline voxdag_status voxdag_copy(voxdag_world *w, const voxdag_box *part, const voxdag_place *to)
+{
+    if (!w || !part || !to) return VOXDAG_NULL;
+    return voxdag_c_copy(w, part, to);
+}
+
+/* Sets the cells of a model, whose number counts from 0 in its file, with its least corner at `at`.
+ * The model's whole size lies in the world. */
+static inline voxdag_status voxdag_stamp(voxdag_world *w, uint32_t model, const voxdag_place *at)
+{
+    if (!w || !at) return VOXDAG_NULL;
+    return voxdag_c_stamp(w, model > UINT16_MAX ? UINT16_MAX : (uint16_t)model, at);
+}
+
+/* The next version has the cells of the one before the last change that isn't undone; redo takes the
+ * last undo back, until a change that is no undo and no redo.
+ *   NOTHING_TO_UNDO, NOTHING_TO_REDO   exactly where there is no version to go to
+ *   FORGOTTEN                          exactly where that version is forgotten */
+static inline voxdag_status voxdag_undo(voxdag_world *w)
+{
+    if (!w) return VOXDAG_NULL;
+    return voxdag_c_undo(w);
+}
+
+static inline voxdag_status voxdag_redo(voxdag_world *w)
+{
+    if (!w) return VOXDAG_NULL;
+    return voxdag_c_redo(w);
+}
+
+/* Forgets a version for good, so that what only it needs makes room. No version comes.
+ *   NO_VERSION   exactly where it is above the newest one
+ *   FORGOTTEN    exactly where it is forgotten already
+ *   IS_NEWEST    exactly where it is the newest one */
+static inline voxdag_status voxdag_forget(voxdag_world *w, uint32_t version)
+{
+    if (!w) return VOXDAG_NULL;
+    return voxdag_c_forget(w, version);
+}
+
+/* ---- Questions of a version
+ *
+ * They change nothing. With OK, and with OK alone, the outputs are written.
+ *   IS_CLOSED    exactly where no world is open
+ *   OUTSIDE      exactly where the place or box leaves the world
+ *   NO_VERSION   where the version is above the newest one
+ *   FORGOTTEN    where it is forgotten */
+
+/* The number of the newest version, which is the number of records: 0 to 65,535. */
+static inline voxdag_status voxdag_newest(voxdag_world *w, uint32_t *version)
+{
+    if (!w || !version) return VOXDAG_NULL;
+    return voxdag_c_newest(w, version);
+}
+
+/* The size of a model. NO_MODEL exactly where there is none of this number, counted from 0. */
+static inline voxdag_status voxdag_model_size(voxdag_world *w, uint32_t model, voxdag_place *size)
+{
+    if (!w || !size) return VOXDAG_NULL;
+    return voxdag_c_model_size(w, model > UINT16_MAX ? UINT16_MAX : (uint16_t)model, size);
+}
+
+/* Whether the cell is set. */
+static inline voxdag_status voxdag_get(voxdag_world *w, uint32_t version, const voxdag_place *at, bool *set)
+{
+    if (!w || !at || !set) return VOXDAG_NULL;
+    return voxdag_c_get(w, version, at, set);
+}
+
+/* How many cells of the box are set. */
+static inline voxdag_status voxdag_count(voxdag_world *w, uint32_t version, const voxdag_box *part, uint64_t *cells)
+{
+    if (!w || !part || !cells) return VOXDAG_NULL;
+    return voxdag_c_count(w, version, part, cells);
+}
+
+/* How many pairs there are of a set cell of the box and one of its six neighbours that isn't set; a
+ * neighbour outside the world isn't. */
+static inline voxdag_status voxdag_faces(voxdag_world *w, uint32_t version, const voxdag_box *part, uint64_t *faces)
+{
+    if (!w || !part || !faces) return VOXDAG_NULL;
+    return voxdag_c_faces(w, version, part, faces);
+}
+
+/* The least box that has all set cells. *some: whether there are any; where not, *least stays. */
+static inline voxdag_status voxdag_bounds(voxdag_world *w, uint32_t version, bool *some, voxdag_box *least)
+{
+    if (!w || !some || !least) return VOXDAG_NULL;
+    return voxdag_c_bounds(w, version, some, least);
+}
+
+/* Whether two versions have the same cells. */
+static inline voxdag_status voxdag_same(voxdag_world *w, uint32_t a, uint32_t b, bool *same)
+{
+    if (!w || !same) return VOXDAG_NULL;
+    return voxdag_c_same(w, a, b, same);
+}
+
+/* ---- Bytes
+ *
+ * Written at the front of `out` where `size` is enough. *needed is how many bytes there are, with OK
+ * and with TOO_SMALL, so that a first call may come with null and size 0.
+ *   TOO_SMALL   exactly where size is less than that; out stays
+ *   NO_MEMORY   out and *needed stay */
+
+/* The VOX file of a box of a version, with one model of the box's size, at most 256 on each axis
+ * (OUTSIDE where it is more). */
+static inline voxdag_status voxdag_save(voxdag_world *w, uint32_t version, const voxdag_box *part, uint8_t *out, size_t size,
+                                        size_t *needed)
+{
+    uint8_t none = 0;
+    if (!w || !part || !needed || (!out && size)) return VOXDAG_NULL;
+    return voxdag_c_save(w, version, part, out ? out : &none, size, needed);
+}
+
+/* The text of the journal: all records and marks. All are of session 0, and each has as its line its
+ * own number among the changes and forgotten versions that were accepted, from 1. */
+static inline voxdag_status voxdag_journal(voxdag_world *w, uint8_t *out, size_t size, size_t *needed)
+{
+    uint8_t none = 0;
+    if (!w || !needed || (!out && size)) return VOXDAG_NULL;
+    return voxdag_c_journal(w, out ? out : &none, size, needed);
+}
+
+#ifdef __cplusplus
+}
+#endif
+#endif
