@@ -1,3 +1,4 @@
 pub mod BoxLaws
 pub mod BallLaws
 pub mod PartlyLaws
+pub mod ClipLaws

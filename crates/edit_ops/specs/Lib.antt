@@ -1,3 +1,4 @@
 pub mod Boxes
 pub mod Balls
 pub mod Partly
+pub mod Clips

@@ -16,10 +16,10 @@ use vw_cell::{Ball, Block, Cell};
 /// other widths than they are read in, and the processor would wait.
 #[derive(Clone, Copy)]
 pub struct BallTask<'b> {
-    pub(crate) old: Option<Name>,
-    pub(crate) ball: &'b Ball,
-    pub(crate) at: Cell,
-    pub(crate) set: bool,
+    pub old: Option<Name>,
+    pub ball: &'b Ball,
+    pub at: Cell,
+    pub set: bool,
 }
 
 impl<'b> Task for BallTask<'b> {
@@ -117,7 +117,7 @@ fn place_of(level: u8, at: Cell) -> usize
 
 // Whether the nearest place of the cube from `at` on lies outside the ball.
 #[tactic(auto, using(crate::proofs::BallLaws::outside))]
-fn is_outside(ball: Ball, at: Cell, side: u32) -> bool
+pub(crate) fn is_outside(ball: Ball, at: Cell, side: u32) -> bool
     requires side { (1 ≤ side) × (side ≤ 4096) }
     ensures { IsTrue result → (x y z : ℕ) → x < side → y < side → z < side
         → is_in_ball ball (cell_at (at.x + x) (at.y + y) (at.z + z)) ≡ false }
@@ -130,7 +130,7 @@ fn is_outside(ball: Ball, at: Cell, side: u32) -> bool
 
 // Whether the farthest place of the cube from `at` on lies in the ball.
 #[tactic(auto, using(crate::proofs::BallLaws::inside))]
-fn is_inside(ball: Ball, at: Cell, side: u32) -> bool
+pub(crate) fn is_inside(ball: Ball, at: Cell, side: u32) -> bool
     requires side { (1 ≤ side) × (side ≤ 4096) }
     ensures { IsTrue result → (x y z : ℕ) → x < side → y < side → z < side
         → is_in_ball ball (cell_at (at.x + x) (at.y + y) (at.z + z)) ≡ true }

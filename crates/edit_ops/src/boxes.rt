@@ -10,9 +10,9 @@ use vw_cell::{Block, Boxed, Cell};
 /// Sets or clears the cells of a box in one block. The box is told by its places in the block.
 #[derive(Clone, Copy, Debug, PartialEq, Eq)]
 pub struct BoxTask {
-    pub(crate) old: Option<Name>,
-    pub(crate) part: Boxed,
-    pub(crate) set: bool,
+    pub old: Option<Name>,
+    pub part: Boxed,
+    pub set: bool,
 }
 
 const ORIGIN: Cell = Cell { x: 0, y: 0, z: 0 };

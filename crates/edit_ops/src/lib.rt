@@ -3,10 +3,13 @@
 
 mod balls;
 mod boxes;
+mod clips;
 mod laws;
 mod rebuild;
 
 pub use balls::BallTask;
 pub use boxes::BoxTask;
 pub use laws::{mixed_blocks_are_the_worlds, tests_tell_what_is_partly_met};
-pub use rebuild::{box_may_repeat, rebuild_ball, rebuild_ball_with, rebuild_box, rebuild_box_with};
+pub use rebuild::{
+    box_may_repeat, rebuild_ball, rebuild_ball_in, rebuild_ball_with, rebuild_box, rebuild_box_with,
+};

@@ -8,10 +8,12 @@ ghost use Rattle.edit_cells.specs.Worlds.{ForEdited, Rebuilt, world_shape};
 ghost use Rattle.edit_walk.specs.Memos.{RecallsHeld};
 ghost use Rattle.edit_ops.specs.Boxes.{MakesBox, box_act};
 ghost use Rattle.edit_ops.specs.Balls.{ball_act, makes_ball};
+ghost use Rattle.edit_ops.specs.Clips.{clipped};
 ghost use Rattle.edit_ops.specs.Partly.{world_partly};
 
 use crate::balls::BallTask;
 use crate::boxes::BoxTask;
+use crate::clips::ClipTask;
 use block_walk::name_of;
 use edit_cells::is_large;
 use edit_walk::{Latest, Memo, NoMemo, rebuild_world};
@@ -186,6 +188,50 @@ pub fn rebuild_ball_with<'b, M: Memo<BallTask<'b>>, N: NodeStore, L: Ledger>(
     let _held = store.held();
     let _level = side.root_level();
     match rebuild_world(store, side, &task, memo, steps) {
+        Ok(share) => Ok(share),
+        Err(e) => Err(e),
+    }
+}
+
+/// A share of the root of the world with the cells of the ball that lie in the box set or cleared,
+/// where a cell is set then. A store that met a full bucket holds what it held.
+#[tactic(auto, using(edit_walk::proofs::MemoLaws::recalls_none))]
+pub fn rebuild_ball_in<N: NodeStore, L: Ledger>(
+    store: &mut N,
+    old: Option<&Share>,
+    side: Side,
+    ball: Ball,
+    within: Boxed,
+    set: bool,
+    steps: &mut Steps<L>,
+) -> Result<Option<Share>, Full>
+    requires side { side ≡ (N.seen store.old).plan.side }
+    requires inside { IsInWorld (2 ^ side) ball.centre }
+    requires within { FitsAt within.at within.size (2 ^ side) }
+    requires old { HoldsRoot (N.seen store.old).held side (option_copied old) }
+    requires room { number_of_trees (N.seen store.old).held ≤ 3910 }
+    ensures ok { IfOk result (λ r.
+        ForEdited (N.seen store.old) side (option_copied old.entry) (clipped set ball within)
+        (λ world. Rebuilt (side - 2) world r (N.seen store.old) (N.seen store.new))) }
+    ensures grows { OnOk result (
+        ForEdited (N.seen store.old) side (option_copied old.entry) (clipped set ball within)
+        (λ world. Grows (world_shape (side - 2) world) (N.seen store.old) (N.seen store.new))) }
+    ensures full { IfErr result (λ e.
+        ForEdited (N.seen store.old) side (option_copied old.entry) (clipped set ball within)
+        (λ world. Fails (world_shape (side - 2) world) e.level e.bucket (N.seen store.old)
+        (N.seen store.new))) }
+    ensures rests { N.rests store.old store.new }
+{
+    let task = ClipTask {
+        old: name_of(old),
+        ball: &ball,
+        within: &within,
+        at: Cell { x: 0, y: 0, z: 0 },
+        set,
+    };
+    let _held = store.held();
+    let _level = side.root_level();
+    match rebuild_world(store, side, &task, &mut NoMemo, steps) {
         Ok(share) => Ok(share),
         Err(e) => Err(e),
     }

@@ -1,6 +1,6 @@
 -- Stamps of blocks, and the bits of a leaf out of those of eight leaves of the model.
 use Rattle.std.proofs.Common.{◌≡◌, ℕ, zero, suc, ◌+◌, ◌-◌, ◌*◌, ◌/◌, ◌%◌, ◌<◌, ◌≤◌, ◌==◌, Bool, true, false, Some, Option, List, refl, sym, ◌∙◌, ap, subst, arith, min, inl, inr, set, length, get_or-set_same, get_or-set_other}
-use Rattle.std.specs.Prelude.{if◌then◌else◌, ◌&&◌, ◌||◌, slice_index, bit_and}
+use Rattle.std.specs.Prelude.{if◌then◌else◌, ◌&&◌, ◌||◌, not, slice_index, bit_and}
 use Rattle.std.specs.Int.{bit_at}
 use Rattle.std.proofs.lemmas.Nat.Bits.{bit_at_and, bit_at-lt}
 use Rattle.std.proofs.lemmas.Bool.{cases_eq}
@@ -24,7 +24,7 @@ use Rattle.std.specs.List.{slice_get}
 use Rattle.history_model.specs.Worlds.{box_at, less, is_in_stamp, edited}
 use Rattle.history_model.specs.declared.acts.Act.TheVariants.{Stamp}
 use Rattle.edit_stamp.specs.Drawings.{first_leaf, last_leaf, AllWords, AllDrawn, Drawn, drawn_cells, IsWord, Draws, leaves_of}
-use Rattle.edit_stamp.specs.Stamps.{is_stamped, MakesStamp, stamped}
+use Rattle.edit_stamp.specs.Stamps.{is_stamped, MakesStamp, stamped, unstamped, inked}
 
 both_when : (a v w : Bool) → (a ≡ true → v ≡ w) → (a && v) ≡ (a && w)
 both_when true v w h = h refl
@@ -98,13 +98,13 @@ stamp_bits drawn place block leaves u v w across inside bits eu ev ew small word
         ∙ same_cell (drawn_cells drawn) _ _ _ qx qy qz (omega (arith, ax.rest, ax.back)) (omega (arith, ay.rest, ay.back)) (omega (arith, az.rest, az.back))
 
 -- the task of an octant
-pub stamp_octant : (base : List Tree) (level : ℕ) (old child : Option Name) (drawn : Drawn) (place at : Cell) (cells : Cells) (k : ℕ) → 1 ≤ level → k < 8 → (m : MakesStamp old drawn place at base level cells) → child ≡ root_of (child_of m.paints.tree k)
-    → MakesStamp child drawn place (octant_of (record { level = level; at = at }) k).at base (level - 1) (octant_cells (level - 1) cells k)
-stamp_octant base level old child drawn place at cells k one lt m e = record {
+pub stamp_octant : (base : List Tree) (level : ℕ) (old child : Option Name) (drawn : Drawn) (place at : Cell) (set : Bool) (cells : Cells) (k : ℕ) → 1 ≤ level → k < 8 → (m : MakesStamp old drawn place at set base level cells) → child ≡ root_of (child_of m.paints.tree k)
+    → MakesStamp child drawn place (octant_of (record { level = level; at = at }) k).at set base (level - 1) (octant_cells (level - 1) cells k)
+stamp_octant base level old child drawn place at set cells k one lt m e = record {
   small = omega (arith, m.small);
   inside = octant_lies level at k one lt m.inside;
   stands = m.stands;
-  paints = paints_octant base level old child true _ _ cells k one lt m.paints e (placed_octant (level - 1) at (is_stamped drawn place) k);
+  paints = paints_octant base level old child set _ _ cells k one lt m.paints e (placed_octant (level - 1) at (is_stamped drawn place) k);
 }
 
 and_false : (a b : Bool) → (a ≡ true → ⊥) → (a && b) ≡ false
@@ -125,17 +125,33 @@ draws_stamp model drawn at p d =
     both_when (is_in_box (box_at at model.size) p) _ _ (λ e. let b = is_in_box_tells (box_at at model.size) p e in sym (d.each (less p at) (record { x = omega (arith, b.x); y = omega (arith, b.y); z = omega (arith, b.z) })))
     ∙ ap (λ (s : Cell). is_in_box (box_at at s) p && drawn_cells drawn (less p at)) (sym d.size)
 
-or_if : (a b : Bool) → (a || b) ≡ (if a then true else b)
+or_if : (a b : Bool) → (if a then true else b) ≡ (a || b)
 or_if true b = refl
 or_if false b = refl
 
-pub stamp_world : (side level : ℕ) (held : List Tree) (old : Option Name) (drawn : Drawn) (at : Cell) (before : Cell → Bool) → level ≤ 10 → (at.x ≤ 4096) × (at.y ≤ 4096) × (at.z ≤ 4096) → AreTrees side held → AreCanonical held → ShowsWorld held level old before
-    → MakesStamp old drawn at (cell_at 0 0 0) held level (world_cells (stamped drawn at before))
-stamp_world side level held old drawn at before small stands a c w = record {
+and_if : (a b : Bool) → (if a then false else b) ≡ (b && not a)
+and_if true true = refl
+and_if true false = refl
+and_if false true = refl
+and_if false false = refl
+
+-- the two ways to say what a stamp and its opposite make
+one_world : (v w : Cell → Bool) → ((c : Cell) → v c ≡ w c) → v ≡ w
+one_world v w same = λ i c. same c i
+
+pub inked_set : (drawn : Drawn) (at : Cell) (before : Cell → Bool) → inked true drawn at before ≡ stamped drawn at before
+inked_set drawn at before = one_world _ _ (λ p. or_if (is_stamped drawn at p) (before p))
+
+pub inked_clear : (drawn : Drawn) (at : Cell) (before : Cell → Bool) → inked false drawn at before ≡ unstamped drawn at before
+inked_clear drawn at before = one_world _ _ (λ p. and_if (is_stamped drawn at p) (before p))
+
+pub stamp_world : (side level : ℕ) (held : List Tree) (old : Option Name) (drawn : Drawn) (at : Cell) (set : Bool) (before : Cell → Bool) → level ≤ 10 → (at.x ≤ 4096) × (at.y ≤ 4096) × (at.z ≤ 4096) → AreTrees side held → AreCanonical held → ShowsWorld held level old before
+    → MakesStamp old drawn at (cell_at 0 0 0) set held level (world_cells (inked set drawn at before))
+stamp_world side level held old drawn at set before small stands a c w = record {
   small = small;
   inside = world_lies level small;
   stands = stands;
-  paints = world_paints side level held old before _ true (is_stamped drawn at) _ a c w (λ p. or_if (is_stamped drawn at p) (before p)) (from_nowhere level (is_stamped drawn at));
+  paints = world_paints side level held old before _ set (is_stamped drawn at) _ a c w (λ p. refl) (from_nowhere level (is_stamped drawn at));
 }
 
 -- a stencil's stamp is the act's

@@ -1,10 +1,11 @@
 -- How a stencil keeps a model's cells: 64 bits for each leaf of 4 x 4 x 4 places.
-use Rattle.std.specs.Prelude.{◌≡◌, ℕ, ◌+◌, ◌-◌, ◌*◌, ◌/◌, ◌%◌, ◌<◌, ◌≤◌, ◌==◌, Bool, true, List, length, slice_index, min}
+use Rattle.std.specs.Prelude.{◌≡◌, ℕ, ◌+◌, ◌-◌, ◌*◌, ◌/◌, ◌%◌, ◌<◌, ◌≤◌, ◌==◌, Bool, true, List, length, map, slice_index, min}
 use Rattle.std.specs.Int.{bit_at}
 use Rattle.vw_cell.specs.declared.cells.Cell.{Cell}
 use Rattle.vw_cell.specs.Counts.{cell_at, IsBelow}
 use Rattle.vw_cell.specs.Places.{is_in_box}
-use Rattle.vox_read.specs.Contents.{Content, IsSize, is_cell}
+use Rattle.vox_read.specs.declared.voxels.Voxel.{Voxel}
+use Rattle.vox_read.specs.Contents.{Content, IsSize, is_cell, colour_at}
 use Rattle.node_shapes.specs.Shape.{bit_number}
 use Rattle.history_model.specs.Worlds.{box_at, less}
 
@@ -48,6 +49,19 @@ pub record IsWord (drawn : Drawn) (x y z word : ℕ) : Type 0 where
 pub record Draws (model : Content) (drawn : Drawn) : Type 0 where
   pub size : drawn.size ≡ model.size
   pub each : (q : Cell) → IsBelow model.size q → drawn_cells drawn q ≡ is_cell model.voxels q
+
+-- the places where this bit of the model's colour is 1 are drawn
+pub record DrawsBit (model : Content) (bit : ℕ) (drawn : Drawn) : Type 0 where
+  pub size : drawn.size ≡ model.size
+  pub each : (q : Cell) → IsBelow model.size q
+      → drawn_cells drawn q ≡ (bit_at (colour_at model.voxels q) bit == 1)
+
+-- the voxel with one bit of its colour as its colour, and the model with such voxels
+abbrev pub with_bit : ℕ → Voxel → Voxel
+with_bit bit v = record { x = v.x; y = v.y; z = v.z; colour = bit_at v.colour bit }
+
+abbrev pub bit_model : ℕ → Content → Content
+bit_model bit model = record { size = model.size; voxels = map (with_bit bit) model.voxels }
 
 -- of a model from `low` on, of this size on one axis: the leaves that `side` places from `at` on
 -- touch

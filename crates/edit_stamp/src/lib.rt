@@ -2,6 +2,7 @@
 #![tactic(auto)]
 
 mod laws;
+mod planes;
 mod rebuild;
 mod scans;
 mod stamps;
@@ -9,5 +10,5 @@ mod stencils;
 mod tiers;
 
 pub use laws::stencils_stamp_their_models;
-pub use rebuild::rebuild_stamp;
+pub use rebuild::{rebuild_stamp, rebuild_unstamp};
 pub use stencils::Stencil;

@@ -4,7 +4,7 @@ ghost use Rattle.node_shapes.specs.Weights.{number_of_trees};
 ghost use Rattle.node_words.specs.Gathering.{Grows, Fails};
 ghost use Rattle.block_walk.specs.Roots.{HoldsRoot};
 ghost use Rattle.edit_cells.specs.Worlds.{ForEdited, Rebuilt, world_shape};
-ghost use Rattle.edit_stamp.specs.Stamps.{stamped};
+ghost use Rattle.edit_stamp.specs.Stamps.{stamped, unstamped, inked};
 
 use crate::stamps::StampTask;
 use crate::stencils::Stencil;
@@ -16,7 +16,6 @@ use vw_cell::{Cell, Side};
 
 /// A share of the root of the world with the cells of a model set, whose least corner is at this
 /// place, where a cell is set then. A store that met a full bucket holds what it held.
-#[tactic(auto, using(edit_walk::proofs::MemoLaws::recalls_none))]
 pub fn rebuild_stamp<N: NodeStore, L: Ledger>(
     store: &mut N,
     old: Option<&Share>,
@@ -41,11 +40,77 @@ pub fn rebuild_stamp<N: NodeStore, L: Ledger>(
         (N.seen store.new))) }
     ensures rests { N.rests store.old store.new }
 {
+    match ink(store, old, side, stencil, at, true, steps) {
+        Ok(share) => Ok(share),
+        Err(e) => Err(e),
+    }
+}
+
+/// A share of the root of the world with the cells of a model cleared, whose least corner is at this
+/// place, where a cell is set then. A store that met a full bucket holds what it held.
+pub fn rebuild_unstamp<N: NodeStore, L: Ledger>(
+    store: &mut N,
+    old: Option<&Share>,
+    side: Side,
+    stencil: &Stencil,
+    at: Cell,
+    steps: &mut Steps<L>,
+) -> Result<Option<Share>, Full>
+    requires side { side ≡ (N.seen store.old).plan.side }
+    requires inside { FitsAt at stencil.now.size (2 ^ side) }
+    requires old { HoldsRoot (N.seen store.old).held side (option_copied old) }
+    requires room { number_of_trees (N.seen store.old).held ≤ 3910 }
+    ensures ok { IfOk result (λ r.
+        ForEdited (N.seen store.old) side (option_copied old.entry) (unstamped stencil.now at)
+        (λ world. Rebuilt (side - 2) world r (N.seen store.old) (N.seen store.new))) }
+    ensures grows { OnOk result (
+        ForEdited (N.seen store.old) side (option_copied old.entry) (unstamped stencil.now at)
+        (λ world. Grows (world_shape (side - 2) world) (N.seen store.old) (N.seen store.new))) }
+    ensures full { IfErr result (λ e.
+        ForEdited (N.seen store.old) side (option_copied old.entry) (unstamped stencil.now at)
+        (λ world. Fails (world_shape (side - 2) world) e.level e.bucket (N.seen store.old)
+        (N.seen store.new))) }
+    ensures rests { N.rests store.old store.new }
+{
+    match ink(store, old, side, stencil, at, false, steps) {
+        Ok(share) => Ok(share),
+        Err(e) => Err(e),
+    }
+}
+
+// A share of the root of the world with the cells of a model set or cleared.
+#[tactic(auto, using(edit_walk::proofs::MemoLaws::recalls_none))]
+fn ink<N: NodeStore, L: Ledger>(
+    store: &mut N,
+    old: Option<&Share>,
+    side: Side,
+    stencil: &Stencil,
+    at: Cell,
+    set: bool,
+    steps: &mut Steps<L>,
+) -> Result<Option<Share>, Full>
+    requires side { side ≡ (N.seen store.old).plan.side }
+    requires inside { FitsAt at stencil.now.size (2 ^ side) }
+    requires old { HoldsRoot (N.seen store.old).held side (option_copied old) }
+    requires room { number_of_trees (N.seen store.old).held ≤ 3910 }
+    ensures ok { IfOk result (λ r.
+        ForEdited (N.seen store.old) side (option_copied old.entry) (inked set stencil.now at)
+        (λ world. Rebuilt (side - 2) world r (N.seen store.old) (N.seen store.new))) }
+    ensures grows { OnOk result (
+        ForEdited (N.seen store.old) side (option_copied old.entry) (inked set stencil.now at)
+        (λ world. Grows (world_shape (side - 2) world) (N.seen store.old) (N.seen store.new))) }
+    ensures full { IfErr result (λ e.
+        ForEdited (N.seen store.old) side (option_copied old.entry) (inked set stencil.now at)
+        (λ world. Fails (world_shape (side - 2) world) e.level e.bucket (N.seen store.old)
+        (N.seen store.new))) }
+    ensures rests { N.rests store.old store.new }
+{
     let task = StampTask {
         old: name_of(old),
         stencil,
         place: &at,
         at: Cell { x: 0, y: 0, z: 0 },
+        set,
     };
     let _held = store.held();
     let _cells = side.cells();

@@ -2,20 +2,21 @@ ghost use Rattle.std.specs.Prelude.{◌≡◌, ◌+◌, ◌-◌, ◌*◌, ◌^�
 
 use crate::stencils::Stencil;
 use block_walk::{leaf_bits, octant_name};
-use edit_cells::{Task, Whole, old_whole, paint};
+use edit_cells::{Task, Whole, clears_nothing, filled, old_whole, paint};
 use node_shapes::Name;
 use node_words::Blocks;
 use vw_cell::{Block, Boxed, Cell};
 
-/// Sets the cells of a model, whose least corner is at `place`, in the block at `at`. What all
-/// blocks have in common is borrowed, and stands between what differs: side by side, places would
-/// be written in other widths than they are read in, and the processor would wait.
+/// Sets or clears the cells of a model, whose least corner is at `place`, in the block at `at`. What
+/// all blocks have in common is borrowed, and stands between what differs: side by side, places
+/// would be written in other widths than they are read in, and the processor would wait.
 #[derive(Clone, Copy)]
 pub struct StampTask<'s> {
     pub(crate) old: Option<Name>,
     pub(crate) stencil: &'s Stencil,
     pub(crate) place: &'s Cell,
     pub(crate) at: Cell,
+    pub(crate) set: bool,
 }
 
 impl<'s> Task for StampTask<'s> {
@@ -23,9 +24,9 @@ impl<'s> Task for StampTask<'s> {
     ghost use Rattle.edit_cells.specs.Tasks.{blocks_in};
     ghost use Rattle.edit_stamp.specs.Stamps.{MakesStamp, stamp_lasts};
 
-    ghost makes = { λ t. MakesStamp t.old t.stencil.now t.place.now t.at };
+    ghost makes = { λ t. MakesStamp t.old t.stencil.now t.place.now t.at t.set };
 
-    ghost lasts = { λ t. stamp_lasts t.old t.stencil.now t.place.now t.at };
+    ghost lasts = { λ t. stamp_lasts t.old t.stencil.now t.place.now t.at t.set };
 
     ghost mixed = { λ level t. blocks_in level };
 
@@ -40,6 +41,7 @@ impl<'s> Task for StampTask<'s> {
             stencil: self.stencil,
             place: self.place,
             at: part.at,
+            set: self.set,
         }
     }
 
@@ -55,11 +57,14 @@ impl<'s> Task for StampTask<'s> {
         if self.stencil.is_all(*self.place, self.at, level, false) {
             return old_whole(self.old);
         }
+        if clears_nothing(self.set, self.old) {
+            return Whole::Nothing;
+        }
         if !place.holds_block(block) {
             return Whole::Mixed;
         }
         if self.stencil.is_all(*self.place, self.at, level, true) {
-            return Whole::All;
+            return filled(self.set);
         }
         Whole::Mixed
     }
@@ -71,6 +76,6 @@ impl<'s> Task for StampTask<'s> {
             at: self.at,
         };
         let inside = self.stencil.leaf_bits(*self.place, block);
-        paint(true, old, inside)
+        paint(self.set, old, inside)
     }
 }

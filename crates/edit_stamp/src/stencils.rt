@@ -1,4 +1,4 @@
-ghost use Rattle.std.specs.Prelude.{IsTrue};
+ghost use Rattle.std.specs.Prelude.{IsTrue, All};
 ghost use Rattle.std.specs.Prelude.{◌≡◌, ◌+◌, ◌-◌, ◌*◌, ◌/◌, ◌%◌, ◌^◌, ◌<◌, ◌≤◌, ◌≢◌, ℕ, slice_index, bit_and};
 ghost use Rattle.std.specs.Prelude.{IfOk, ◌==◌, ◌&&◌, ◌||◌};
 ghost use Rattle.std.specs.Int.{bit_at};
@@ -7,10 +7,11 @@ ghost use Rattle.vox_read.specs.Contents.{IsModel, IsSize, StandsInside};
 ghost use Rattle.vw_cell.specs.declared.blocks.Block.{Block};
 ghost use Rattle.node_kernels.specs.Leaves.{LeafShows};
 ghost use Rattle.vw_cell.specs.Places.{block_side};
-ghost use Rattle.edit_stamp.specs.Drawings.{IsWord, Draws, AllDrawn, AllWords, HasLeaves, leaves_of, leaf_number};
+ghost use Rattle.edit_stamp.specs.Drawings.{IsWord, Draws, DrawsBit, AllDrawn, AllWords, HasLeaves, leaves_of, leaf_number};
 ghost use Rattle.edit_stamp.specs.Tiers.{TellsTier};
 ghost use Rattle.edit_stamp.specs.Stamps.{is_stamped};
 
+use crate::planes::bit_model;
 use crate::scans::{Leaves, are_all, touched};
 use crate::tiers::{Tier, cubes_over, leaf_count, word_at};
 use edit_cells::side_of;
@@ -61,6 +62,17 @@ impl Stencil {
             words[leaf] = with_cell(word, *voxel);
         }
         with_tiers(alloc, size, words)
+    }
+
+    /// Draws the places where this bit of the model's colour is 1.
+    pub fn of_bit(alloc: Global, model: &Model, bit: u8) -> Result<Stencil, Memory>
+        requires model { IsModel model.now }
+        requires bit { bit < 8 }
+        ensures draws { IfOk result (λ s. DrawsBit model.now bit s) }
+        ensures small { IfOk result (λ s. All (λ v. v.colour < 2 ^ 8) model.now.voxels) }
+    {
+        let plane = bit_model(alloc, model, bit)?;
+        Stencil::new(alloc, &plane)
     }
 
     /// The model's size.

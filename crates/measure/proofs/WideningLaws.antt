@@ -306,11 +306,15 @@ root_extent side level cells (Some b) e p =
       least = λ d all. p.least d tt (λ c m. (let i = m.inside in all.each c (record { x = omega (arith, e, i.x.1); y = omega (arith, e, i.y.1); z = omega (arith, e, i.z.1) }) m.set));
     }
 
-pub world_extent : (held : List Tree) (level side : ℕ) (root name : Option Name) (new : Option Boxed) → level ≡ side - 2 → 2 ≤ side → name ≡ root → WidensBy held name (record { level = level; at = cell_at 0 0 0 }) None new → ForWorld held side root (λ cells. IsExtent (2 ^ side) cells new)
-world_extent held level side root name new e h n widens t o =
+pub block_extent : (held : List Tree) (level : ℕ) (name : Option Name) (new : Option Boxed) → WidensBy held name (record { level = level; at = cell_at 0 0 0 }) None new → ForBlock held level name (λ s. IsExtent (block_side level) (cells_of level s) new)
+block_extent held level name new widens t o =
+    root_extent (block_side level) level (cells_of level (shape_of t)) new refl (widens (cells_of level (shape_of t)) t o (shown_root level (shape_of t)))
+
+pub world_extent : (held : List Tree) (level side : ℕ) (root name : Option Name) (new : Option Boxed) → level ≡ side - 2 → 2 ≤ side → name ≡ root → ForBlock held level name (λ s. IsExtent (block_side level) (cells_of level s) new) → ForWorld held side root (λ cells. IsExtent (2 ^ side) cells new)
+world_extent held level side root name new e h n extent t o =
     let there = subst (λ (m : Option Name). IsBlockOf held level m t) (sym n) (subst (λ (l : ℕ). IsBlockOf held l root t) (sym e) o) in
-    let all = widens (cells_of level (shape_of t)) t there (shown_root level (shape_of t)) in
-    subst (λ (l : ℕ). IsExtent (2 ^ side) (cells_of l (shape_of t)) new) e (root_extent (2 ^ side) level (cells_of level (shape_of t)) new (root_side level side e h) all)
+    let all = subst (λ (s : ℕ). IsExtent s (cells_of level (shape_of t)) new) (sym (root_side level side e h)) (extent t there) in
+    subst (λ (l : ℕ). IsExtent (2 ^ side) (cells_of l (shape_of t)) new) e all
 
 pub root_lies : (level : ℕ) → level ≤ 10 → LiesIn 4096 (record { level = level; at = cell_at 0 0 0 })
 root_lies level h = let side = small_side level h in record { x = omega (arith, side); y = omega (arith, side); z = omega (arith, side) }

@@ -1,9 +1,9 @@
 ghost use Rattle.std.specs.Prelude.{◌≡◌, ◌^◌, ◌<◌, ◌≤◌, ◌-◌, ◌+◌, ℕ, IsTrue, Bool, Some, option_copied};
 ghost use Rattle.vw_cell.specs.declared.cells.Cell.{Cell};
-ghost use Rattle.vw_cell.specs.Places.{IsInBlock, IsInWorld, LiesIn, octant_of};
+ghost use Rattle.vw_cell.specs.Places.{IsInBlock, IsInWorld, LiesIn, block_side, octant_of};
 ghost use Rattle.node_kernels.specs.Leaves.{LeafShows};
 ghost use Rattle.world_questions.specs.Extents.{IsExtent};
-ghost use Rattle.block_walk.specs.Roots.{HasBlock, HoldsRoot, ForWorld};
+ghost use Rattle.block_walk.specs.Roots.{HasBlock, HoldsRoot, ForBlock, ForWorld, cells_of};
 ghost use Rattle.block_walk.specs.Answers.{AreRight};
 ghost use Rattle.block_walk.specs.Parts.{EndsBy};
 ghost use Rattle.measure.specs.Pruning.{tells_within};
@@ -23,12 +23,24 @@ pub fn bounds<B: Blocks>(store: &mut B, root: Option<&Share>, side: Side) -> Opt
     ensures seen { B.seen store.new ≡ B.seen store.old }
     ensures rests { B.rests store.old store.new }
 {
+    bounds_in(store, side.root_level(), name_of(root))
+}
+
+/// The least box of all set cells of a block, told from the block's corner. `None` exactly where no
+/// cell is set.
+pub fn bounds_in<B: Blocks>(store: &mut B, level: u8, block: Option<Name>) -> Option<Boxed>
+    requires level { level ≤ 10 }
+    requires block { HasBlock (B.seen store.old).held level block }
+    ensures extent { ForBlock (B.seen store.old).held level block
+        (λ s. IsExtent (block_side level) (cells_of level s) result) }
+    ensures seen { B.seen store.new ≡ B.seen store.old }
+    ensures rests { B.rests store.old store.new }
+{
     let mut answers = Answers::new();
-    let level = side.root_level();
     let at = Cell { x: 0, y: 0, z: 0 };
     let place = Block { level, at };
     let mut found = None;
-    widen(store, &mut answers, name_of(root), place, 0, &mut found);
+    widen(store, &mut answers, block, place, 0, &mut found);
     found
 }
 

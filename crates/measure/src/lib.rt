@@ -15,4 +15,4 @@ mod wholes;
 
 pub use bare_sides::faces;
 pub use counts::{count, get};
-pub use extents::bounds;
+pub use extents::{bounds, bounds_in};

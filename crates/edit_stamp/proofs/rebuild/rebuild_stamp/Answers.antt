@@ -1,32 +1,15 @@
-use Rattle.std.proofs.Common.{sym, subst, arith, ◌-◌, Option}
-use Rattle.node_shapes.specs.declared.names.Name.{Name}
-use Rattle.edit_cells.specs.Worlds.{ShowsWorld}
-use Rattle.edit_cells.proofs.WorldLaws.{root_shown}
-use Rattle.edit_stamp.specs.Stamps.{stamped}
-use Rattle.edit_stamp.proofs.StampLaws.{stamp_world}
+use Rattle.edit_stamp.proofs.StampLaws.{inked_set}
+use Rattle.edit_stamp.proofs.WorldsMade.{rebuilt_as, grows_as, fails_as}
 use Rattle.edit_stamp.proofs.rebuild.rebuild_stamp.Goals as goal
-
-pub rebuild_world-requires-clause-task : goal.rebuild_world-requires-clause-task
-rebuild_world-requires-clause-task g c =
-    let (before, w) = root_shown _ c.args.side _ c.requires.old in
-    let held = (g.N.Blocks.seen c.args.store.now).held in
-    let v = subst (λ (o : Option Name). ShowsWorld held (c.args.side - 2) o before) (sym c.name_of.ensures) w in
-    (stamped c.args.stencil.now c.args.at before, stamp_world _ _ held _ c.args.stencil.now c.args.at before (omega arith) (omega arith, omega arith, omega arith) c.held-held.ensures.trees c.held-held.ensures.canonical v)
 
 pub returns-in-Ok-clause-ok : goal.returns-in-Ok-clause-ok
 returns-in-Ok-clause-ok g c before w =
-    let held = (g.N.Blocks.seen c.args.store.now).held in
-    let v = subst (λ (o : Option Name). ShowsWorld held (c.args.side - 2) o before) (sym c.name_of.ensures) w in
-    c.in-Ok.ensures.ok (stamped c.args.stencil.now c.args.at before) (stamp_world _ _ held _ c.args.stencil.now c.args.at before (omega arith) (omega arith, omega arith, omega arith) c.held-held.ensures.trees c.held-held.ensures.canonical v)
+    rebuilt_as _ _ _ _ _ (inked_set c.args.stencil.now c.args.at before) _ (c.in-Ok.ensures.ok before w)
 
 pub returns-in-Ok-clause-grows : goal.returns-in-Ok-clause-grows
 returns-in-Ok-clause-grows g c before w =
-    let held = (g.N.Blocks.seen c.args.store.now).held in
-    let v = subst (λ (o : Option Name). ShowsWorld held (c.args.side - 2) o before) (sym c.name_of.ensures) w in
-    c.in-Ok.ensures.grows (stamped c.args.stencil.now c.args.at before) (stamp_world _ _ held _ c.args.stencil.now c.args.at before (omega arith) (omega arith, omega arith, omega arith) c.held-held.ensures.trees c.held-held.ensures.canonical v)
+    grows_as _ _ _ _ _ (inked_set c.args.stencil.now c.args.at before) (c.in-Ok.ensures.grows before w)
 
 pub returns-in-Err-clause-full : goal.returns-in-Err-clause-full
 returns-in-Err-clause-full g c before w =
-    let held = (g.N.Blocks.seen c.args.store.now).held in
-    let v = subst (λ (o : Option Name). ShowsWorld held (c.args.side - 2) o before) (sym c.name_of.ensures) w in
-    c.in-Err.ensures.full (stamped c.args.stencil.now c.args.at before) (stamp_world _ _ held _ c.args.stencil.now c.args.at before (omega arith) (omega arith, omega arith, omega arith) c.held-held.ensures.trees c.held-held.ensures.canonical v)
+    fails_as _ _ _ _ _ (inked_set c.args.stencil.now c.args.at before) _ _ (c.in-Err.ensures.full before w)

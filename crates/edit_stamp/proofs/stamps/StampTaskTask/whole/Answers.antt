@@ -1,10 +1,10 @@
-use Rattle.std.proofs.Common.{refl, sym, subst, true}
+use Rattle.std.proofs.Common.{refl, sym, subst, ◌∙◌}
 use Rattle.std.proofs.lemmas.Bool.{false≢true}
 use Rattle.vw_cell.specs.declared.cells.Cell.{Cell}
 use Rattle.vw_cell.specs.Places.{Meets, HoldsBlock}
 use Rattle.edit_cells.specs.declared.tasks.Whole.{Whole}
 use Rattle.edit_cells.specs.Tasks.{IsWhole}
-use Rattle.edit_cells.proofs.PaintLaws.{paints_missed, paints_held}
+use Rattle.edit_cells.proofs.PaintLaws.{paints_missed, paints_held, paints_nothing, filled_not_mixed}
 use Rattle.edit_cells.proofs.WorldLaws.{blocks_some}
 use Rattle.edit_stamp.proofs.StampLaws.{stamp_missed, stamp_empty, stamp_full}
 use Rattle.edit_stamp.proofs.stamps.StampTaskTask.whole.Goals as goal
@@ -29,12 +29,21 @@ returns-then-is_all-clause-whole c base cells m =
 
 pub returns-then-is_all-2-clause-whole : goal.returns-then-is_all-2-clause-whole
 returns-then-is_all-2-clause-whole c base cells m =
-    paints_held base c.args.level _ true _ cells
+    subst (λ (w : Whole). IsWhole base c.args.level cells w) (sym c.filled.ensures)
+    (paints_held base c.args.level _ c.args.self.now.set _ cells
     (stamp_full c.args.self.now.stencil.now c.args.self.now.place.now c.args.self.now.at c.args.level _ refl (c.if-is_all-2.ensures refl)
-    (subst (λ (s : Cell). HoldsBlock (record { at = c.args.self.now.place.now; size = s }) (record { level = c.args.level; at = c.args.self.now.at })) c.size.ensures.value (c.if-not-holds_block.ensures.0 refl))) m.paints
+    (subst (λ (s : Cell). HoldsBlock (record { at = c.args.self.now.place.now; size = s }) (record { level = c.args.level; at = c.args.self.now.at })) c.size.ensures.value (c.if-not-holds_block.ensures.0 refl))) m.paints)
 
 pub returns-clause-mixed : goal.returns-clause-mixed
 returns-clause-mixed c e h = blocks_some c.args.level h
 
 pub returns-then-not-holds_block-clause-mixed : goal.returns-then-not-holds_block-clause-mixed
 returns-then-not-holds_block-clause-mixed c e h = blocks_some c.args.level h
+
+pub returns-then-clears_nothing-clause-whole : goal.returns-then-clears_nothing-clause-whole
+returns-then-clears_nothing-clause-whole c base cells m =
+    let e = c.if-clears_nothing.ensures refl in
+    paints_nothing base c.args.level c.args.self.now.old c.args.self.now.set _ cells e.1 e.0 m.paints
+
+pub returns-then-is_all-2-clause-mixed : goal.returns-then-is_all-2-clause-mixed
+returns-then-is_all-2-clause-mixed c e h = absurd (filled_not_mixed c.args.self.now.set (sym c.filled.ensures ∙ e))
