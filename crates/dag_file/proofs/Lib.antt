@@ -19,3 +19,4 @@ pub mod LayerLaws
 pub mod MadeLaws
 pub mod WrittenLaws
 pub mod CanonicalLaws
+pub mod Decided

@@ -19,8 +19,9 @@ mod writing;
 
 pub use faults::DagFault;
 pub use laws::{
-    a_list_has_one_file, faults_are_of_broken_files, files_of_one_list_are_one,
-    held_roots_show_canonical_shapes, right_files_are_of_their_lists, right_files_keep_shapes,
+    a_file_is_right_or_has_a_fault, a_list_has_one_file, faults_are_of_broken_files,
+    files_of_one_list_are_one, held_roots_show_canonical_shapes, right_files_are_of_their_lists,
+    right_files_keep_shapes,
 };
 pub use views::DagView;
 pub use writing::write_dag;

@@ -12,7 +12,7 @@ use Rattle.std.proofs.lemmas.List.Elements.{Contains-append_left, Contains-push,
 use Rattle.sums.specs.Sums.{sum_below, sum_below-change}
 use Rattle.vw_cell.specs.declared.cells.Cell.{Cell}
 use Rattle.flood.specs.Ways.{IsJoined, IsWay}
-use Rattle.flood.specs.Words.{bit_at_place, place_at_bit, IsSet, IsClearAt, IsTowards, IsClosedAt, Spreads, AreJoined, IsRegionOf, room, IsBeyond, ReachesWord, Spills, Visits, Settles}
+use Rattle.flood.specs.Words.{bit_at_place, place_at_bit, IsSet, IsClearAt, IsTowards, IsClosedAt, Spreads, AreJoined, IsRegionOf, room, IsBeyond, ReachesWord, ReachesBeyond, Spills, Visits, Settles}
 use Rattle.flood.proofs.SpreadLaws.{left_bit, right_bit, both_bits, and_bits, either_bit, grows_more, bit_at_up, up_bit_at}
 use Rattle.flood.proofs.WayLaws.{joined_on, way_first, bit_of_place, clear_place, beside_towards, towards_beside, run_up, run_down}
 
@@ -267,17 +267,13 @@ reaches_pushed clear words stack after v bits pushed lt other fits =
     subst (λ (items : List ℕ). ReachesWord clear v bits words (set words v (bit_or (slice_index words v) (bit_and bits (slice_index clear v)))) stack items) (sym pushed)
     (reaches_some clear words stack v bits lt other fits (length-append stack (v ∷ [])))
 
--- the next step of a visit, from what the calls gave
-pub spills_next : (clear old now new before mid after : List ℕ) (w k mine word bits : ℕ) → w < length old → Spreads (slice_index clear w) (slice_index old w) mine → IsBeyond (length clear) k w mine word bits → Spills clear w k (set old w mine) now before mid → ReachesWord clear word bits now new mid after → Spills clear w (k + 1) (set old w mine) new before after
-spills_next clear old now new before mid after w k mine word bits lt spreads there so_far step =
+-- the next way of a visit, from what the calls gave
+pub spills_next : (clear old now new before mid after : List ℕ) (w k mine : ℕ) → w < length old → Spreads (slice_index clear w) (slice_index old w) mine → Spills clear w k (set old w mine) now before mid → ReachesBeyond clear w k mine now new mid after → Spills clear w (k + 1) (set old w mine) new before after
+spills_next clear old now new before mid after w k mine lt spreads so_far step =
     let is : slice_index (set old w mine) w ≡ mine = get_or-set_same old w mine 0 lt in
-    spills_one clear (set old w mine) now new before mid after w k (slice_index old w) word bits
+    spills_one clear (set old w mine) now new before mid after w k (slice_index old w) step.word step.there
     (subst (λ (x : ℕ). Spreads (slice_index clear w) (slice_index old w) x) (sym is) spreads)
-    (subst (λ (x : ℕ). IsBeyond (length clear) k w x word bits) (sym is) there) so_far step
-
-pub visits_all : (clear old new before after : List ℕ) (w k word : ℕ) → k ≡ 6 → w < length old → Spreads (slice_index clear w) (slice_index old w) word → Spills clear w k (set old w word) new before after → Visits clear w old new before after
-visits_all clear old new before after w k word all lt spreads spills =
-    visits clear old new before after w word lt spreads (subst (λ (n : ℕ). Spills clear w n (set old w word) new before after) all spills)
+    (subst (λ (x : ℕ). IsBeyond (length clear) k w x step.word step.there) (sym is) step.beyond) so_far step.reached
 
 -- nothing waits
 pub settles : (clear old now before stack : List ℕ) → length stack ≡ 0 → length now ≡ length old → ((i : ℕ) → IsSet old i → IsSet now i) → ((start : ℕ) → AreJoined clear start old → AreJoined clear start now) → ((u : ℕ) → IsClosedAt clear old u ⊎ Contains before u → IsClosedAt clear now u ⊎ Contains stack u) → Settles clear old now before

@@ -121,6 +121,14 @@ pub record ReachesWord (clear_words : List ℕ) (v bits : ℕ) (old new before a
   pub inside : (u : ℕ) → Contains after u → Contains before u ⊎ (u ≡ v)
   pub falls : 2 * room new + length after ≤ 2 * room old + length before
 
+-- what is open beside bits of word w, in the k-th way, was reached
+pub record ReachesBeyond (clear_words : List ℕ) (w k bits : ℕ) (old new before after : List ℕ)
+    : Type 0 where
+  pub word : ℕ
+  pub there : ℕ
+  pub beyond : IsBeyond (length clear_words) k w bits word there
+  pub reached : ReachesWord clear_words word there old new before after
+
 -- what is beside the bits of word w was reached, in the first k ways
 pub record Spills (clear_words : List ℕ) (w k : ℕ) (old new before after : List ℕ)
     : Type 0 where

@@ -1,6 +1,6 @@
 ghost use Rattle.std.specs.Prelude.{◌≡◌, ◌≤◌, ◌<◌, ◌+◌, ◌*◌, ℕ, length, IfOk, OnOk, vec_len};
 ghost use Rattle.std.specs.List.{Contains};
-ghost use Rattle.flood.specs.Words.{IsRegionOf, IsBeyond, ReachesWord, Visits, Settles, room};
+ghost use Rattle.flood.specs.Words.{IsRegionOf, IsBeyond, ReachesWord, ReachesBeyond, Visits, Settles, room};
 
 use crate::spreading::spread;
 use std::alloc::Global;
@@ -38,7 +38,8 @@ fn settle(clear: &[u64], reached: &mut [u64], stack: &mut Vec<u32>) -> Result<()
     Ok(())
 }
 
-// ReachesWord what is beside the bits of a word.
+// Reaches what is beside the bits of a word. The six ways are written out, so that each is compiled
+// for itself.
 fn visit(clear: &[u64], reached: &mut [u64], stack: &mut Vec<u32>, w: usize) -> Result<(), Memory>
     requires size { length clear.now ≤ 262144 }
     requires same { length reached.old ≡ length clear.now }
@@ -48,11 +49,34 @@ fn visit(clear: &[u64], reached: &mut [u64], stack: &mut Vec<u32>, w: usize) -> 
 {
     let bits = spread(reached[w], clear[w]);
     reached[w] = bits;
-    for k in 0..6u8 {
-        let there = beyond(clear.len(), w, k, bits);
-        reach(clear, reached, stack, there)?;
-    }
+    reach_beyond(clear, reached, stack, w, 0, bits)?;
+    reach_beyond(clear, reached, stack, w, 1, bits)?;
+    reach_beyond(clear, reached, stack, w, 2, bits)?;
+    reach_beyond(clear, reached, stack, w, 3, bits)?;
+    reach_beyond(clear, reached, stack, w, 4, bits)?;
+    reach_beyond(clear, reached, stack, w, 5, bits)?;
     Ok(())
+}
+
+// Reaches what is beside bits of a word in the k-th of six ways.
+#[inline(always)]
+fn reach_beyond(
+    clear: &[u64],
+    reached: &mut [u64],
+    stack: &mut Vec<u32>,
+    w: usize,
+    k: u8,
+    bits: u64,
+) -> Result<(), Memory>
+    requires size { length clear.now ≤ 262144 }
+    requires same { length reached.old ≡ length clear.now }
+    requires w { w < length clear.now }
+    requires k { k < 6 }
+    ensures reached { OnOk result
+        (ReachesBeyond clear.now w k bits reached.old reached.new stack.old.items stack.new.items) }
+{
+    let there = beyond(clear.len(), w, k, bits);
+    reach(clear, reached, stack, there)
 }
 
 // Bits of a word.
@@ -64,6 +88,7 @@ struct Bits {
 
 // The bits that are beside bits of a word, in the k-th of six ways, but for those of the word
 // itself.
+#[inline(always)]
 fn beyond(size: usize, w: usize, k: u8, bits: u64) -> Bits
     requires size { size ≤ 262144 }
     requires w { w < size }
@@ -94,6 +119,7 @@ fn beyond(size: usize, w: usize, k: u8, bits: u64) -> Bits
 }
 
 // Puts bits where they are clear. The word waits if that changed it.
+#[inline(always)]
 fn reach(
     clear: &[u64],
     reached: &mut [u64],

@@ -5,13 +5,13 @@ ghost use Rattle.flood.specs.Words.{Spreads, GrowsAlong, AreRuns};
 pub(crate) fn spread(seeds: u64, clear: u64) -> u64
     ensures { Spreads clear seeds result }
 {
-    let mut word = sink(climb(seeds, clear), clear);
+    let mut word = seeds;
     loop {
         let next = word | (word << 1 | word >> 1) & clear;
         if next == word {
             return word;
         }
-        word = next;
+        word = sink(climb(next, clear), clear);
     }
 }
 

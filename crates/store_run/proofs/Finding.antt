@@ -31,6 +31,10 @@ marked_at v version mark are le some = (
 )
 
 -- a mark that was read at its place
+pub mark_read : (marks : List (Option Mark)) (version : ℕ) (read : Option Mark) → version < length marks
+    → read ≡ get_or marks version read → mark_in marks version ≡ read
+mark_read marks version read lt here = sym (get_or_default marks version read None lt) ∙ sym here
+
 pub read_mark : (marks : List (Option Mark)) (version : ℕ) (read : Option Mark) (mark : Mark) → version < length marks
     → read ≡ get_or marks version read → read ≡ Some mark → mark_in marks version ≡ Some mark
-read_mark marks version read mark lt here is = sym (get_or_default marks version read None lt) ∙ sym here ∙ is
+read_mark marks version read mark lt here is = mark_read marks version read lt here ∙ is

@@ -16,3 +16,5 @@ pub mod Changing
 pub mod OwnModels
 pub mod Taking
 pub mod Filling
+pub mod Followed
+pub mod Taken

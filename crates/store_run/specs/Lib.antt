@@ -8,3 +8,5 @@ pub mod Worlds
 pub mod Stamps
 pub mod Changing
 pub mod Replaying
+pub mod Marked
+pub mod Taken

@@ -3,7 +3,9 @@
 
 mod desks;
 mod endings;
+mod held_roots;
 mod lines;
+mod marked;
 mod models;
 mod open_runs;
 mod open_worlds;
@@ -13,6 +15,8 @@ mod replays;
 mod runs;
 mod versions;
 
+pub use held_roots::HeldRoots;
+pub use marked::MarkedReplay;
 pub use open_runs::{OpenRun, StoreRan};
 pub use open_worlds::OpenWorld;
 pub use replaying::{Replay, ReplayRefused};

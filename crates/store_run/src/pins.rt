@@ -229,7 +229,7 @@ impl Pinned {
 }
 
 // The share of a root, kept as its name.
-fn put_away(root: Option<Share>) -> Option<Name>
+pub(crate) fn put_away(root: Option<Share>) -> Option<Name>
     ensures { result ≡ root }
 {
     match root {

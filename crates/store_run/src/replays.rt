@@ -1,7 +1,8 @@
 //! How the records of a history are replayed.
-ghost use Rattle.std.specs.Prelude.{◌≡◌, ◌<◌, ◌≤◌, ◌^◌, true, false, None, [], IfErr, OnOk};
+ghost use Rattle.std.specs.Prelude.{◌≡◌, ◌+◌, ◌<◌, ◌≤◌, ◌^◌, true, false, None, [], IfErr, OnOk};
 ghost use Rattle.history_model.specs.Worlds.{is_edit};
-ghost use Rattle.history_model.specs.Logs.{FitsWorld};
+ghost use Rattle.history_model.specs.Logs.{FitsWorld, MayFollow};
+ghost use Rattle.history_model.specs.Positions.{position_after};
 ghost use Rattle.node_shapes.specs.Weights.{number_of_trees};
 ghost use Rattle.conformance.specs.Answers.{target_at};
 ghost use Rattle.store_run.specs.Kept.{moment_of, log_of, AreVersions, HoldsSame, HasRoom};
@@ -67,5 +68,28 @@ impl Versions {
         let _number = self.store.number();
         self.append(next, root);
         true
+    }
+
+    /// An undo or a redo becomes the next record, which can follow those before it.
+    #[tactic(auto, using(crate::proofs::Targets::may_go_to, crate::proofs::Taking::way_taken, crate::proofs::Followed::followed_kept, crate::proofs::Followed::target_there, crate::proofs::Answering::went_same, crate::proofs::Holding::same_held, crate::proofs::Rebuilding::shared_tree))]
+    pub(crate) fn follow_way(&mut self, next: Record)
+        requires are { AreVersions self.old }
+        requires few { number_of_trees self.old.store.told.held ≤ 2048 }
+        requires room { HasRoom self.old }
+        requires early { moment_of self.old < 65535 }
+        requires other { is_edit next.act ≡ false }
+        requires follows { MayFollow (log_of self.old).marks (moment_of self.old + 1) next.act
+            (position_after self.old.records.items) }
+        ensures are { AreVersions self.new }
+        ensures same { HoldsSame self.old.store self.new.store }
+        ensures takes { TakesWay self.old next self.new }
+    {
+        let to = match self.target(next.act) {
+            Some(to) => to,
+            None => unreachable!(),
+        };
+        let root = self.share(to);
+        let _number = self.store.number();
+        self.append(next, root);
     }
 }

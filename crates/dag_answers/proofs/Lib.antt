@@ -1,0 +1,10 @@
+pub mod PlaceLaws
+pub mod LookLaws
+pub mod JudgeLaws
+pub mod LegalLaws
+pub mod EndLaws
+pub mod FileLaws
+pub mod ReplayLaws
+pub mod MadeLaws
+pub mod SortLaws
+pub mod ToldLaws

@@ -1,0 +1,43 @@
+-- The marks of a history that a journal tells are legal.
+use Rattle.std.proofs.Common.{◌≡◌, ℕ, zero, suc, ◌+◌, ◌<◌, ◌≤◌, List, [], ◌∷◌, length, get_or, refl, arith}
+use Rattle.std.specs.Prelude.{All}
+use Rattle.std.specs.List.{AllPairs}
+use Rattle.std.proofs.lemmas.List.Elements.{All-nil, All-cons, All-weaker}
+use Rattle.std.proofs.lemmas.List.Kept.{AllPairs-cons}
+use Rattle.history_model.specs.declared.histories.Mark.{Mark}
+use Rattle.history_model.specs.Entries.{AreMarks, IsTold}
+use Rattle.history_model.specs.Logs.{Log}
+use Rattle.dag_answers.specs.Replays.{AreLegalMarks}
+
+abbrev Over : ℕ → Mark → Type 0
+Over least m = least ≤ m.version
+
+abbrev Fits : ℕ → Mark → Type 0
+Fits count m = (m.version < m.at) × (m.at ≤ count)
+
+over : (count least : ℕ) (ms : List Mark) → AreMarks count least ms → All (Over least) ms
+over count least [] are = All-nil (Over least)
+over count least (m ∷ ms) are =
+    All-cons (Over least) m ms are.0
+    (All-weaker (Over (m.version + 1)) (Over least)
+    (λ x up. let low = are.0 in omega (arith, up, low)) ms (over count (m.version + 1) ms are.2))
+
+rise : (count least : ℕ) (ms : List Mark) → AreMarks count least ms
+    → AllPairs (λ (a b : Mark). a.version < b.version) ms
+rise count least [] are = λ i j d lt within. absurd (omega (arith, within))
+rise count least (m ∷ ms) are =
+    AllPairs-cons (λ (a b : Mark). a.version < b.version) m ms
+    (All-weaker (Over (m.version + 1)) (λ (x : Mark). m.version < x.version)
+    (λ x up. omega (arith, up)) ms (over count (m.version + 1) ms are.2))
+    (rise count (m.version + 1) ms are.2)
+
+fit : (count least : ℕ) (ms : List Mark) → AreMarks count least ms → All (Fits count) ms
+fit count least [] are = All-nil (Fits count)
+fit count least (m ∷ ms) are =
+    All-cons (Fits count) m ms (are.1.0, are.1.1) (fit count (m.version + 1) ms are.2)
+
+pub told_marks : (log : Log) → IsTold log → AreLegalMarks log
+told_marks log told = record {
+  rising = rise (length log.records) 0 log.marks told.marks;
+  marked = fit (length log.records) 0 log.marks told.marks;
+}

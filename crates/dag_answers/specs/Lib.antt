@@ -1,0 +1,5 @@
+pub mod Questions
+pub mod Looks
+pub mod Legality
+pub mod Histories
+pub mod Replays

@@ -1,0 +1,47 @@
+-- A history that is replayed record by record over a store, and whose versions are forgotten at
+-- their marks.
+use Rattle.std.specs.Prelude.{◌≡◌, ◌↔◌, ℕ, ◌<◌, ◌-◌, Option, Some, None, List}
+use Rattle.std.specs.List.{AllPairs, Contains}
+use Rattle.vox_read.specs.Contents.{Content}
+use Rattle.history_model.specs.Logs.{Log}
+use Rattle.history_model.specs.Moments.{world_has}
+use Rattle.node_shapes.specs.declared.names.Name.{Name}
+use Rattle.node_shapes.specs.Tree.{Tree}
+use Rattle.edit_cells.specs.Worlds.{ShowsWorld}
+use Rattle.block_walk.specs.Roots.{HoldsRoot}
+use Rattle.block_contents.specs.Versions.{IsKept}
+use Rattle.store_run.specs.Replaying.{ReplayState}
+use Rattle.store_run.specs.Worlds.{WorldState}
+
+-- what was replayed, without the marks
+abbrev pub replayed : WorldState → ReplayState
+replayed w = record {
+  plan = w.plan;
+  models = w.models;
+  records = w.log.records;
+  noted = w.noted;
+}
+
+-- ---- the roots of all versions that are kept, in the end
+
+-- a version's number, and its root
+abbrev pub Rooted : Type 0
+Rooted = ℕ × Option Name
+
+-- the versions of some roots are just those of the history that are kept, by rising number
+pub record AreOfKept (log : Log) (roots : List Rooted) : Type 0 where
+  pub rising : AllPairs (λ a b. a.0 < b.0) roots
+  pub listed : (x : Rooted) → Contains roots x → IsKept log x.0
+  pub all : (v : ℕ) → IsKept log v → (root : Option Name) × Contains roots (v, root)
+
+-- the root is held, and shows the cells of its version
+pub record ShowsVersion (side : ℕ) (models : List Content) (log : Log) (held : List Tree)
+    (x : Rooted) : Type 0 where
+  pub holds : HoldsRoot held side x.1
+  pub shows : ShowsWorld held (side - 2) x.1 (world_has models log.records x.0)
+
+-- so it is with each of them
+pub record HoldsKept (side : ℕ) (models : List Content) (log : Log) (held : List Tree)
+    (roots : List Rooted) : Type 0 where
+  pub versions : AreOfKept log roots
+  pub each : (x : Rooted) → Contains roots x → ShowsVersion side models log held x
