@@ -10,17 +10,20 @@
  * one again, which every call but voxdag_open refuses.
  *
  * ARGUMENTS. Every number is tested, whatever it is, and a status says what was wrong with it; so
- * is every pointer for null. What can't be tested: a pointer that isn't null points to one value of
- * its type (a buffer: to `size` bytes), which nothing else reads or writes during the call, and an
- * output doesn't overlap another argument.
+ * is every pointer for null, by the functions of this header: what the library exports takes no
+ * null. What can't be tested: a pointer that isn't null points to one value of its type (a buffer:
+ * to `size` bytes), which nothing else reads or writes during the call; an output doesn't overlap
+ * another argument; a voxdag_world is one that these functions left, or VOXDAG_CLOSED.
  *
- * OUTPUTS are written where a comment says so, and else stay what they were. A call that answers
- * anything but VOXDAG_OK changed no version, forgot none, and made none.
+ * OUTPUTS are written where a comment says so, and else stay what they were. They need not be
+ * initialized. A call that answers anything but VOXDAG_OK changed no version, forgot none, and made
+ * none.
  *
  * MEMORY. A world takes all memory of its store when it is opened (docs/LIBRARY.md says how much).
- * Any call may answer VOXDAG_NO_MEMORY, and then nothing changed. No call ends the program, waits
- * or prints. malloc, realloc and free are those of the program: of one allocator, and aligned as C
- * asks.
+ * Opening, any change, saving and the journal may answer VOXDAG_NO_MEMORY at any time, and then
+ * nothing changed: that memory is there is nothing a library can promise. Closing, forgetting and
+ * questions never do. No call ends the program, waits or prints. malloc, realloc and free are those
+ * of the program: of one allocator, and aligned as C asks.
  *
  * THREADS. One call at a time on each world: keep it on one thread, or put a lock of your own round
  * each call; then a world may go from thread to thread. Different worlds have nothing in common.
@@ -56,7 +59,8 @@ enum {
     VOXDAG_IS_OPEN = 13,        /* a world is open here, and stays open */
     VOXDAG_NO_MODEL = 14,       /* there is no model of this number */
     VOXDAG_BAD_FILE = 15,       /* no VOX file whose models can be read, or over 2^28 bytes */
-    VOXDAG_NULL = 16            /* an argument is null */
+    VOXDAG_BAD_WAY = 16,        /* a ray's step isn't from -1,024 to 1,024, or all of them are 0 */
+    VOXDAG_NULL = 17            /* an argument is null */
 };
 
 /* All bytes 0: no world is open. */
@@ -77,7 +81,8 @@ typedef struct voxdag_place { uint32_t x, y, z; } voxdag_place;
 /* A box: its least corner and its size, which is at least 1 on each axis. */
 typedef struct voxdag_box { voxdag_place at, size; } voxdag_box;
 
-/* What the library exports. These test all but null: call the functions below. */
+/* What the library exports. These test all but null, and a bool that they are given is 0 or 1: call
+ * the functions below. */
 voxdag_status voxdag_c_open(voxdag_world *w, uint32_t side, uint16_t cap, const uint8_t *file, size_t size);
 voxdag_status voxdag_c_close(voxdag_world *w);
 voxdag_status voxdag_c_fill(voxdag_world *w, const voxdag_box *part);
@@ -95,6 +100,8 @@ voxdag_status voxdag_c_get(voxdag_world *w, uint32_t version, const voxdag_place
 voxdag_status voxdag_c_count(voxdag_world *w, uint32_t version, const voxdag_box *part, uint64_t *cells);
 voxdag_status voxdag_c_faces(voxdag_world *w, uint32_t version, const voxdag_box *part, uint64_t *faces);
 voxdag_status voxdag_c_bounds(voxdag_world *w, uint32_t version, bool *some, voxdag_box *least);
+voxdag_status voxdag_c_ray(voxdag_world *w, uint32_t version, const voxdag_place *from, int16_t dx, int16_t dy, int16_t dz,
+                           bool *some, voxdag_place *hit);
 voxdag_status voxdag_c_same(voxdag_world *w, uint32_t a, uint32_t b, bool *same);
 voxdag_status voxdag_c_save(voxdag_world *w, uint32_t version, const voxdag_box *part, uint8_t *out, size_t size, size_t *needed);
 voxdag_status voxdag_c_journal(voxdag_world *w, uint8_t *out, size_t size, size_t *needed);
@@ -104,10 +111,10 @@ voxdag_status voxdag_c_journal(voxdag_world *w, uint8_t *out, size_t size, size_
 /* Opens an empty world. side: 4, 8, 16, .., 4096. cap: how many nodes a bucket of the store has
  * room for, 1 to 256, and 0 for the usual 128. file: the bytes of a VOX file whose models can be
  * stamped, which are read here and not kept; null with size 0 for no models.
- *   IS_OPEN    w has a world already
- *   BAD_PLAN   no world has this side, or no bucket this cap
- *   BAD_FILE   a rule of VOX files is broken, or size is over 2^28
- *   NO_MEMORY  */
+ *   IS_OPEN     exactly where w has a world already
+ *   BAD_PLAN    exactly where no world has this side, or no bucket this cap
+ *   BAD_FILE    a rule of VOX files is broken, or size is over 2^28
+ *   NO_MEMORY   at any other time */
 static inline voxdag_status voxdag_open_with(voxdag_world *w, uint32_t side, uint32_t cap, const uint8_t *file, size_t size)
 {
     static const uint8_t none = 0;
@@ -134,12 +141,14 @@ static inline voxdag_status voxdag_close(voxdag_world *w)
  *
  * With OK there is one version more, whose number is the newest one's and one: it has the cells of
  * the newest version but for what the change says, and every earlier version has what it had.
- * With anything else no version came. Where several of these could be answered, the first is:
+ * With anything else no version came:
  *   IS_CLOSED      exactly where no world is open
- *   OUTSIDE        exactly where the change leaves the world (NO_MODEL: where there is no such model)
- *   NO_MEMORY      at any change
- *   STORE_FULL     a bucket has no room for what the change needs; the world can still be asked
- *   HISTORY_FULL   exactly where there are 65,535 records already */
+ *   NO_MODEL       exactly where the model isn't there
+ *   OUTSIDE        exactly where a change whose model is there leaves the world
+ *   NO_MEMORY      at any other change: nothing promises that it doesn't come
+ *   STORE_FULL     a bucket has no room for what the change needs; the world can still be asked.
+ *                  Never at an undo or a redo
+ *   HISTORY_FULL   only where there are 65,535 records already, and there OK never comes */
 
 /* Sets, or clears, the cells of a box that lies in the world. */
 static inline voxdag_status voxdag_fill(voxdag_world *w, const voxdag_box *part)
@@ -168,8 +177,8 @@ static inline voxdag_status voxdag_carve(voxdag_world *w, const voxdag_place *ce
     return voxdag_c_carve(w, centre, radius);
 }
 
-/* Puts the cells of a box, set and clear ones, where its least corner goes to `to`. Both boxes lie in
- * the world, and may overlap: what is put is what the box had before. */
+/* Puts the cells of a box, set and clear ones, where its least corner goes to `to`. Both boxes lie
+ * in the world, and may overlap: what is put is what the box had before. */
 static inline voxdag_status voxdag_copy(voxdag_world *w, const voxdag_box *part, const voxdag_place *to)
 {
     if (!w || !part || !to) return VOXDAG_NULL;
@@ -186,8 +195,9 @@ static inline voxdag_status voxdag_stamp(voxdag_world *w, uint32_t model, const 
 
 /* The next version has the cells of the one before the last change that isn't undone; redo takes the
  * last undo back, until a change that is no undo and no redo.
- *   NOTHING_TO_UNDO, NOTHING_TO_REDO   exactly where there is no version to go to
- *   FORGOTTEN                          exactly where that version is forgotten */
+ *   NOTHING_TO_UNDO, NOTHING_TO_REDO   where there is no version to go to
+ *   FORGOTTEN                          where that version is forgotten
+ * In both cases OK never comes; elsewhere neither of them does. */
 static inline voxdag_status voxdag_undo(voxdag_world *w)
 {
     if (!w) return VOXDAG_NULL;
@@ -212,11 +222,13 @@ static inline voxdag_status voxdag_forget(voxdag_world *w, uint32_t version)
 
 /* ---- Questions of a version
  *
- * They change nothing. With OK, and with OK alone, the outputs are written.
- *   IS_CLOSED    exactly where no world is open
- *   OUTSIDE      exactly where the place or box leaves the world
- *   NO_VERSION   where the version is above the newest one
- *   FORGOTTEN    where it is forgotten */
+ * They change nothing. With OK, and with OK alone, the outputs are written. Which status comes is
+ * told by the arguments and the world: the first of these whose cause is there, and else OK.
+ *   IS_CLOSED    no world is open
+ *   OUTSIDE      the place or box leaves the world
+ *   BAD_WAY      the steps of a ray are none
+ *   NO_VERSION   the version is above the newest one (of two: the first one's status comes first)
+ *   FORGOTTEN    it is forgotten */
 
 /* The number of the newest version, which is the number of records: 0 to 65,535. */
 static inline voxdag_status voxdag_newest(voxdag_world *w, uint32_t *version)
@@ -235,8 +247,12 @@ static inline voxdag_status voxdag_model_size(voxdag_world *w, uint32_t model, v
 /* Whether the cell is set. */
 static inline voxdag_status voxdag_get(voxdag_world *w, uint32_t version, const voxdag_place *at, bool *set)
 {
+    bool is = false;
+    voxdag_status status;
     if (!w || !at || !set) return VOXDAG_NULL;
-    return voxdag_c_get(w, version, at, set);
+    status = voxdag_c_get(w, version, at, &is);
+    if (!status) *set = is;
+    return status;
 }
 
 /* How many cells of the box are set. */
@@ -257,26 +273,55 @@ static inline voxdag_status voxdag_faces(voxdag_world *w, uint32_t version, cons
 /* The least box that has all set cells. *some: whether there are any; where not, *least stays. */
 static inline voxdag_status voxdag_bounds(voxdag_world *w, uint32_t version, bool *some, voxdag_box *least)
 {
+    bool are = false;
+    voxdag_status status;
     if (!w || !some || !least) return VOXDAG_NULL;
-    return voxdag_c_bounds(w, version, some, least);
+    status = voxdag_c_bounds(w, version, &are, least);
+    if (!status) *some = are;
+    return status;
+}
+
+/* A ray's step as 16 bits; one that is out of range stays so. */
+static inline int16_t voxdag_step(int32_t d)
+{
+    return (int16_t)(d < -1025 ? -1025 : d > 1025 ? 1025 : d);
+}
+
+/* The first set cell on the ray from the centre of the cell `from`, which may be that cell itself.
+ * The steps are each from -1,024 to 1,024, and not all 0. *some: whether there is one; where not,
+ * *hit stays. */
+static inline voxdag_status voxdag_ray(voxdag_world *w, uint32_t version, const voxdag_place *from, int32_t dx, int32_t dy, int32_t dz,
+                                       bool *some, voxdag_place *hit)
+{
+    bool is = false;
+    voxdag_status status;
+    if (!w || !from || !some || !hit) return VOXDAG_NULL;
+    status = voxdag_c_ray(w, version, from, voxdag_step(dx), voxdag_step(dy), voxdag_step(dz), &is, hit);
+    if (!status) *some = is;
+    return status;
 }
 
 /* Whether two versions have the same cells. */
 static inline voxdag_status voxdag_same(voxdag_world *w, uint32_t a, uint32_t b, bool *same)
 {
+    bool is = false;
+    voxdag_status status;
     if (!w || !same) return VOXDAG_NULL;
-    return voxdag_c_same(w, a, b, same);
+    status = voxdag_c_same(w, a, b, &is);
+    if (!status) *same = is;
+    return status;
 }
 
 /* ---- Bytes
  *
- * Written at the front of `out` where `size` is enough. *needed is how many bytes there are, with OK
- * and with TOO_SMALL, so that a first call may come with null and size 0.
- *   TOO_SMALL   exactly where size is less than that; out stays
- *   NO_MEMORY   out and *needed stay */
+ * Written at the front of `out` where `size` is enough; the bytes behind them stay. *needed is how
+ * many bytes there are, with OK and with TOO_SMALL, so that a first call may come with null and size
+ * 0; else it stays.
+ *   TOO_SMALL   where size is less than that, and never else; out stays
+ *   NO_MEMORY   at any time; out and *needed stay */
 
 /* The VOX file of a box of a version, with one model of the box's size, at most 256 on each axis
- * (OUTSIDE where it is more). */
+ * (OUTSIDE where it is more). IS_CLOSED, OUTSIDE, NO_VERSION and FORGOTTEN as of questions. */
 static inline voxdag_status voxdag_save(voxdag_world *w, uint32_t version, const voxdag_box *part, uint8_t *out, size_t size,
                                         size_t *needed)
 {

@@ -1,5 +1,5 @@
 /* Runs a script's lines through the library, and prints the transcript that `voxdag run` writes for it.
- * Usage: replay SIDE [MODELS.vox] < SCRIPT. It knows all commands but `try`, `ray` and `save`, one line each, with no comments:
+ * Usage: replay SIDE [MODELS.vox] < SCRIPT. It knows all commands but `try` and `save`, one line each, with no comments:
  * it is what the library is compared with the program by. */
 #include "voxdag.h"
 #include <inttypes.h>
@@ -58,6 +58,7 @@ int main(int argc, char **argv)
         voxdag_place a = {(uint32_t)n[0], (uint32_t)n[1], (uint32_t)n[2]}, b = {(uint32_t)n[3], (uint32_t)n[4], (uint32_t)n[5]};
         voxdag_place c = {(uint32_t)n[6], (uint32_t)n[7], (uint32_t)n[8]}, model_at = {(uint32_t)n[1], (uint32_t)n[2], (uint32_t)n[3]};
         voxdag_box box = {a, b}, least;
+        voxdag_place hit;
         uint64_t cells = 0;
         voxdag_status r = 99;
         number++;
@@ -89,6 +90,10 @@ int main(int argc, char **argv)
             r = voxdag_bounds(&w, at, &some, &least);
             if (!r && some) snprintf(text, sizeof text, "bounds %u %u %u %u %u %u", least.at.x, least.at.y, least.at.z, least.size.x, least.size.y, least.size.z);
             if (!r && !some) snprintf(text, sizeof text, "bounds none");
+        } else if (!strcmp(name, "ray")) {
+            r = voxdag_ray(&w, at, &a, (int32_t)n[3], (int32_t)n[4], (int32_t)n[5], &some, &hit);
+            if (!r && some) snprintf(text, sizeof text, "hit %u %u %u", hit.x, hit.y, hit.z);
+            if (!r && !some) snprintf(text, sizeof text, "miss");
         } else if (!strcmp(name, "same")) {
             r = voxdag_same(&w, a.x, a.y, &is);
             at = r ? unread(&w, a.x, a.y) : at;

@@ -7,7 +7,7 @@ import os
 
 NAMES = (
     "ok", "closed", "no memory", "outside", "no version", "forgotten", "nothing to undo", "nothing to redo", "history full",
-    "store full", "is newest", "too small", "bad plan", "is open", "no model", "bad file", "null",
+    "store full", "is newest", "too small", "bad plan", "is open", "no model", "bad file", "bad way", "null",
 )
 
 
@@ -50,6 +50,7 @@ SIGNATURES = {
     "count": [c.c_uint32, P(Box), P(c.c_uint64)],
     "faces": [c.c_uint32, P(Box), P(c.c_uint64)],
     "bounds": [c.c_uint32, P(c.c_bool), P(Box)],
+    "ray": [c.c_uint32, P(Place), c.c_int16, c.c_int16, c.c_int16, P(c.c_bool), P(Place)],
     "same": [c.c_uint32, c.c_uint32, P(c.c_bool)],
     "save": [c.c_uint32, P(Box), c.c_char_p, c.c_size_t, P(c.c_size_t)],
     "journal": [c.c_char_p, c.c_size_t, P(c.c_size_t)],

@@ -11,13 +11,13 @@ use Rattle.transcript.specs.declared.answers.Answer.{Answer}
 use Rattle.transcript.specs.declared.answers.Answer.TheVariants as answers
 use Rattle.conformance.specs.Answers.{mark_of}
 use Rattle.conformance.specs.Kinds.{answer_at}
-use Rattle.conformance.specs.Telling.{Tells, is, count, faces, extent}
+use Rattle.conformance.specs.Telling.{Tells, is, count, faces, extent, hit}
 use Rattle.history_model.specs.Worlds as worlds
 use Rattle.script_runs.specs.Sessions.{GoesOnWith}
 use Rattle.store_run.specs.Answering.{nothing_to_go_to}
 use Rattle.store_run.specs.Changing.{Changes, Forgets, MakesVersion}
 use Rattle.held_world.specs.declared.worlds.World.{World}
-use Rattle.held_world.specs.Calls.{WorldChanges, WorldForgets, WorldAsks, Answered, IsAnswered, record_of, side_of, status_of, is_in, cells_in, faces_in, extent_in}
+use Rattle.held_world.specs.Calls.{WorldChanges, WorldForgets, WorldAsks, Answered, CantBeAsked, IsAnswered, CountsLine, record_of, side_of, status_of, is_in, cells_in, faces_in, extent_in, hit_in}
 
 nothing_not_done : (act : Act) → nothing_to_go_to act ≡ answers.Done → ⊥
 nothing_not_done Undo e = cc
@@ -39,13 +39,13 @@ done_or_not old new r _ (Changes.forgotten _ to goes gone eq) = inr ((λ e. cc),
 done_or_not old new r _ (Changes.nothing _ other none eq) = inr (nothing_not_done r.act, eq)
 
 module _ (w v : World) (act : Act) (answer : Answer) (status : ℕ) (fits : FitsWorld (side_of w) w.open.models act)
-    (eq : status ≡ status_of answer) (plan : v.open.plan ≡ w.open.plan) (models : v.open.models ≡ w.open.models)
+    (eq : status ≡ status_of answer) (plan : v.open.plan ≡ w.open.plan) (models : v.open.models ≡ w.open.models) (line : CountsLine answer w.line v.line)
     (logs : Changes w.open.log (record_of w act) answer v.open.log)
     (makes : answer ≡ answers.Done → MakesVersion w.open.models w.open.log act v.open.log)
     (goes_on : (once : Bool) → GoesOnWith w.open.plan w.open.models 0 (record { line = w.line; command = Edit act once }) w.open.log v.open.log w.open.noted v.open.noted
     (answer_at (record { line = w.line; command = Edit act once }) (length v.open.log.records) answer)) where
   answered : IsAnswered w act answer v
-  answered = record { logs = logs; goes_on = λ once. record { plan = plan; models = models; goes_on = goes_on once } }
+  answered = record { logs = logs; goes_on = λ once. record { plan = plan; models = models; line = line; goes_on = goes_on once } }
 
   pub changes : WorldChanges w act status v
   changes = go (done_or_not w.open.log v.open.log (record_of w act) answer logs)
@@ -61,14 +61,14 @@ pub lacks_memory : (w v : World) (act : Act) → FitsWorld (side_of w) w.open.mo
 lacks_memory w v act fits same = subst (λ (u : World). WorldChanges w act 2 u) (sym same) (WorldChanges.memory fits)
 
 pub forgets : (w v : World) (version : ℕ) (answer : Answer) (status : ℕ)
-    → status ≡ status_of answer → v.open.plan ≡ w.open.plan → v.open.models ≡ w.open.models
+    → status ≡ status_of answer → v.open.plan ≡ w.open.plan → v.open.models ≡ w.open.models → CountsLine answer w.line v.line
     → Forgets w.open.log (mark_of version (length w.open.log.records) 0 w.line) answer v.open.log
     → GoesOnWith w.open.plan w.open.models 0 (record { line = w.line; command = Forget version }) w.open.log v.open.log w.open.noted v.open.noted
     (answer_at (record { line = w.line; command = Forget version }) (length v.open.log.records) answer)
     → WorldForgets w version status v
-forgets w v version answer status eq plan models logs goes_on =
+forgets w v version answer status eq plan models line logs goes_on =
     subst (λ (n : ℕ). WorldForgets w version n v) (sym eq)
-    (WorldForgets.answered v answer logs (record { plan = plan; models = models; goes_on = goes_on }))
+    (WorldForgets.answered v answer logs (record { plan = plan; models = models; line = line; goes_on = goes_on }))
 
 -- ---- the answers to questions have the form that these ask for
 
@@ -85,9 +85,16 @@ module _ (side : ℕ) (world : worlds.World) where
   pub tells_extent : (answer : Answer) → Tells side world questions.Bounds answer → answer ≡ answers.Extent (extent_in answer)
   tells_extent _ (extent least e) = refl
 
+  pub tells_hit : (from : _) (way : _) (answer : Answer) → Tells side world (questions.Ray from way) answer → answer ≡ answers.Hit (hit_in answer)
+  tells_hit _ _ _ (hit from way found e) = refl
+
 -- ---- what a question comes to
 
-pub asked : (w : World) (version : ℕ) (q question : Question) (answer : Answer) (Written : Answer → Type 0) (Untouched : Type 0) → q ≡ question
-    → Answered w version q answer → Written answer → WorldAsks w version question Written Untouched 0
-asked w version q question answer Written Untouched same answered written =
-    subst (λ (k : Question). WorldAsks w version k Written Untouched 0) same (WorldAsks.told answer answered.kept answered.tells written)
+module _ (w : World) (version : ℕ) (q question : Question) (Written : Answer → Type 0) (Untouched : Type 0) (same : q ≡ question) where
+  pub asked : (answer : Answer) → Answered w version q answer → Written answer → WorldAsks w version question Written Untouched 0
+  asked answer answered written =
+      subst (λ (k : Question). WorldAsks w version k Written Untouched 0) same (WorldAsks.told answer answered written)
+
+  pub not_asked : (status : ℕ) → CantBeAsked w version q status → Untouched → WorldAsks w version question Written Untouched status
+  not_asked status cant untouched =
+      subst (λ (k : Question). WorldAsks w version k Written Untouched status) same (WorldAsks.gone status cant untouched)

@@ -1,6 +1,9 @@
 -- Numbers of a world need 16 bits at most.
-use Rattle.std.proofs.Common.{◌≡◌, true, false, ◌↔◌, ℕ, ◌≤◌, ◌^◌, Option, Some, None, List, refl, sym, subst, arith}
+use Rattle.std.proofs.Common.{◌≡◌, ◌≢◌, true, false, ◌↔◌, ℕ, ◌≤◌, ◌^◌, Option, Some, None, List, refl, sym, ◌∙◌, ap, subst, arith}
+use Rattle.std.proofs.Common.{ℤ, SFits, w16, to_z, of_z}
+use Rattle.std.proofs.lemmas.Int.{to_z-of_z}
 use Rattle.std.specs.Prelude.{IsSome}
+use Rattle.history_model.specs.Ways.{heading_of}
 use Rattle.std.proofs.lemmas.Bool.{false≢true}
 use Rattle.std.specs.List.{slice_get}
 use Rattle.std.proofs.lemmas.Option.{none-some, same_Some}
@@ -54,6 +57,14 @@ module _ (side own : ℕ) (eq : side ≡ own) where
   pub cell_leaves : (p : Place) → (IsSome {T = Cell} None ↔ IsInWorld (2 ^ side) (cell_of p)) → ¬ IsInWorld (2 ^ own) (cell_of p)
   cell_leaves p exactly fits = false≢true (exactly.1 (subst (λ (n : ℕ). IsInWorld (2 ^ n) (cell_of p)) (sym eq) fits))
 
+  pub cell_lies : (p : Place) (c : Cell) → (IsSome (Some c) ↔ IsInWorld (2 ^ side) (cell_of p)) → IsInWorld (2 ^ own) (cell_of p)
+  cell_lies p c exactly = subst (λ (n : ℕ). IsInWorld (2 ^ n) (cell_of p)) eq (exactly.0 refl)
+
+-- a step of 16 bits is what its bits stand for
+pub same_steps : (dx dy dz : ℤ) → SFits w16 dx → SFits w16 dy → SFits w16 dz
+    → heading_of (to_z w16 (of_z w16 dx)) (to_z w16 (of_z w16 dy)) (to_z w16 (of_z w16 dz)) ≡ heading_of dx dy dz
+same_steps dx dy dz x y z = λ i. heading_of (to_z-of_z w16 dx x i) (to_z-of_z w16 dy y i) (to_z-of_z w16 dz z i)
+
 -- a model of this size fits where a box of its size does
 pub model_fits : (models : List Content) (m side : ℕ) (size at : Cell) → Some size ≡ size_of (slice_get models m) → FitsAt at size side
     → FitsModel side (slice_get models m) at
@@ -77,6 +88,9 @@ no_size models m is = go (slice_get models m) is
     go : (o : Option Content) → None ≡ size_of o → o ≡ None
     go None e = refl
     go (Some model) e = absurd (none-some model.size e)
+
+pub has_size : (models : List Content) (m : ℕ) (size : Cell) → Some size ≡ size_of (slice_get models m) → slice_get models m ≢ None
+has_size models m size is none = none-some size (sym (is ∙ ap size_of none))
 
 -- ---- files
 

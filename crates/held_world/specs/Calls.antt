@@ -1,9 +1,9 @@
 -- What a call from C does: which status it ends with, what is held then, and what was written.
-use Rattle.std.specs.Prelude.{◌≡◌, ◌≢◌, ◌↔◌, ℕ, ◌^◌, ◌<◌, ◌≤◌, Bool, false, IsTrue, List, [], Option, Some, None, Ok, Err, length, take}
+use Rattle.std.specs.Prelude.{◌≡◌, ◌≢◌, ◌↔◌, ℕ, ◌+◌, ◌^◌, ◌<◌, ◌≤◌, Bool, true, false, IsTrue, List, [], ◌++◌, Option, Some, None, Ok, Err, length, drop, ⊤}
 use Rattle.std.specs.List.{slice_get}
 use Rattle.vw_cell.specs.declared.cells.Cell.{Cell}
 use Rattle.vw_cell.specs.declared.boxes.Boxed.{Boxed}
-use Rattle.vw_cell.specs.Places.{FitsAt}
+use Rattle.vw_cell.specs.Places.{FitsAt, IsInWorld}
 use Rattle.vw_cell.specs.Sides.{is_side}
 use Rattle.vox_chunk.specs.declared.faults.VoxFault.{VoxFault}
 use Rattle.vox_chunk.specs.declared.faults.VoxFault.TheVariants.{Memory}
@@ -13,6 +13,7 @@ use Rattle.history_model.specs.declared.acts.Act.{Act}
 use Rattle.history_model.specs.declared.acts.Act.TheVariants.{Stamp}
 use Rattle.history_model.specs.declared.histories.Record.{Record}
 use Rattle.history_model.specs.declared.questions.Question.{Question}
+use Rattle.history_model.specs.declared.questions.Question.TheVariants.{Get, Count, Bounds, Faces, Ray}
 use Rattle.history_model.specs.Journal.{journal_of}
 use Rattle.history_model.specs.Logs.{Log, FitsWorld}
 use Rattle.history_model.specs.Moments.{world_has}
@@ -41,11 +42,12 @@ side_of w = 2 ^ w.open.plan.side
 abbrev pub cells_at : World → ℕ → Cell → Bool
 cells_at w version = world_has w.open.models w.open.log.records version
 
--- a call through a handle that may hold no world
-pub data ByHandle (Does : World → ℕ → World → Type 0) : Option World → ℕ → Option World
-    → Type 0 where
-  closed : ByHandle Does None 1 None
-  does : (w v : World) (status : ℕ) → Does w status v → ByHandle Does (Some w) status (Some v)
+-- a call through a handle that may hold no world; where it holds none, no output is touched
+pub data ByHandle (Untouched : Type 0) (Does : World → ℕ → World → Type 0)
+    : Option World → ℕ → Option World → Type 0 where
+  closed : Untouched → ByHandle Untouched Does None 1 None
+  does : (w v : World) (status : ℕ) → Does w status v
+      → ByHandle Untouched Does (Some w) status (Some v)
 
 -- ---- changes
 
@@ -64,10 +66,22 @@ status_of other = 0
 abbrev pub record_of : World → Act → Record
 record_of w act = record { session = 0; line = w.line; act = act }
 
+-- a change, or a forgotten version, was accepted
+abbrev pub is_accepted : Answer → Bool
+is_accepted answers.Done = true
+is_accepted (answers.Forgot version) = true
+is_accepted other = false
+
+-- what is accepted is numbered line by line. The numbers reach further than any history
+pub record CountsLine (answer : Answer) (old new : ℕ) : Type 0 where
+  pub next : is_accepted answer ≡ true → old < 4294967295 → new ≡ old + 1
+  pub same : is_accepted answer ≡ false → new ≡ old
+
 -- plan and models stay, and the command goes on from whatever was done before, as a script's line
 pub record GoesOn (w : World) (command : Command) (answer : Answer) (v : World) : Type 0 where
   pub plan : v.open.plan ≡ w.open.plan
   pub models : v.open.models ≡ w.open.models
+  pub line : CountsLine answer w.line v.line
   pub goes_on : GoesOnWith w.open.plan w.open.models 0
       (record { line = w.line; command = command }) w.open.log v.open.log w.open.noted v.open.noted
       (answer_at (record { line = w.line; command = command }) (length v.open.log.records) answer)
@@ -77,12 +91,18 @@ pub record IsAnswered (w : World) (act : Act) (answer : Answer) (v : World) : Ty
   pub logs : Changes w.open.log (record_of w act) answer v.open.log
   pub goes_on : (once : Bool) → GoesOn w (Edit act once) answer v
 
--- a change of the world: it leaves the world, or memory lacks, and nothing changed; or it was made;
--- or the answer says why not, and the history is what it was
+-- the model that is stamped is there
+abbrev pub HasItsModel : List Content → Act → Type 0
+HasItsModel models (Stamp number at) = slice_get models number ≢ None
+HasItsModel models other = ⊤
+
+-- a change of the world: its model isn't there, it leaves the world, or memory lacks, and nothing
+-- changed; or it was made; or the answer says why not, and the history is what it was. Memory may
+-- lack at any change: nothing here says that it doesn't
 pub data WorldChanges (w : World) (act : Act) : ℕ → World → Type 0 where
-  outside : ¬ FitsWorld (side_of w) w.open.models act → WorldChanges w act 3 w
-  no_model : (number : ℕ) (at : Cell) → act ≡ Stamp number at
-      → slice_get w.open.models number ≡ None → WorldChanges w act 14 w
+  no_model : ¬ HasItsModel w.open.models act → WorldChanges w act 14 w
+  outside : HasItsModel w.open.models act → ¬ FitsWorld (side_of w) w.open.models act
+      → WorldChanges w act 3 w
   memory : FitsWorld (side_of w) w.open.models act → WorldChanges w act 2 w
   made : (v : World) → FitsWorld (side_of w) w.open.models act
       → IsAnswered w act answers.Done v
@@ -104,23 +124,39 @@ pub data IsGone (log : Log) (version : ℕ) : ℕ → Type 0 where
   no_version : length log.records < version → IsGone log version 4
   forgotten : version ≤ length log.records → ¬ IsKept log version → IsGone log version 5
 
--- a question of a version: the answer that tells what is asked was written, or nothing was
-pub data WorldAsks (w : World) (version : ℕ) (question : Question) (Written : Answer → Type 0)
-    (Untouched : Type 0) : ℕ → Type 0 where
-  told : (answer : Answer) → IsKept w.open.log version
-      → Tells (side_of w) (cells_at w version) question answer → Written answer
-      → WorldAsks w version question Written Untouched 0
-  outside : ¬ QuestionFits (side_of w) question → Untouched
-      → WorldAsks w version question Written Untouched 3
-  gone : (status : ℕ) → IsGone w.open.log version status → Untouched
-      → WorldAsks w version question Written Untouched status
+-- the place or the box that is asked about lies in the world
+abbrev pub LiesIn : ℕ → Question → Type 0
+LiesIn side (Get c) = IsInWorld side c
+LiesIn side (Count b) = FitsAt b.at b.size side
+LiesIn side Bounds = ⊤
+LiesIn side (Faces b) = FitsAt b.at b.size side
+LiesIn side (Ray from way) = IsInWorld side from
 
 -- the answer tells what is asked of the version, which can be read
 pub record Answered (w : World) (version : ℕ) (question : Question) (answer : Answer) : Type 0 where
   pub kept : IsKept w.open.log version
+  pub fits : QuestionFits (side_of w) question
   pub tells : Tells (side_of w) (cells_at w version) question answer
 
--- what an answer says: of a cell, of a number of cells or faces, of a least box
+-- nothing is wrong with what is asked, and the version can't be read
+pub record CantBeAsked (w : World) (version : ℕ) (question : Question) (status : ℕ)
+    : Type 0 where
+  pub fits : QuestionFits (side_of w) question
+  pub gone : IsGone w.open.log version status
+
+-- a question of a version: the answer that tells what is asked was written, or nothing was
+pub data WorldAsks (w : World) (version : ℕ) (question : Question) (Written : Answer → Type 0)
+    (Untouched : Type 0) : ℕ → Type 0 where
+  told : (answer : Answer) → Answered w version question answer → Written answer
+      → WorldAsks w version question Written Untouched 0
+  outside : ¬ LiesIn (side_of w) question → Untouched
+      → WorldAsks w version question Written Untouched 3
+  no_way : LiesIn (side_of w) question → ¬ QuestionFits (side_of w) question → Untouched
+      → WorldAsks w version question Written Untouched 16
+  gone : (status : ℕ) → CantBeAsked w version question status → Untouched
+      → WorldAsks w version question Written Untouched status
+
+-- what an answer says: of a cell, of a number of cells or faces, of a least box, of a hit
 abbrev pub is_in : Answer → Bool
 is_in (answers.Is set) = set
 is_in other = false
@@ -136,6 +172,10 @@ faces_in other = 0
 abbrev pub extent_in : Answer → Option Boxed
 extent_in (answers.Extent least) = least
 extent_in other = None
+
+abbrev pub hit_in : Answer → Option Cell
+hit_in (answers.Hit hit) = hit
+hit_in other = None
 
 -- whether two versions have the same cells
 pub data WorldCompares (w : World) (a b : ℕ) (old new : Bool) : ℕ → Type 0 where
@@ -161,7 +201,8 @@ pub data TellsSize (w : World) (number : ℕ) (old new : Place) : ℕ → Type 0
 
 -- the bytes stand at the front, where there is room for them, and else nothing was written
 pub data PutsBytes (bytes old new : List ℕ) : ℕ → Type 0 where
-  put : length bytes ≤ length old → take (length bytes) new ≡ bytes → PutsBytes bytes old new 0
+  put : length bytes ≤ length old → new ≡ bytes ++ drop (length bytes) old
+      → PutsBytes bytes old new 0
   too_small : length old < length bytes → new ≡ old → PutsBytes bytes old new 11
 
 -- the same, and how many bytes there are
@@ -189,8 +230,8 @@ pub data WorldSaves (w : World) (version : ℕ) (part : Boxed) (old new : List �
       → IsUntouched old new before needed → WorldSaves w version part old new before needed 2
   outside : ¬ FitsFile (side_of w) part → IsUntouched old new before needed
       → WorldSaves w version part old new before needed 3
-  gone : (status : ℕ) → IsGone w.open.log version status → IsUntouched old new before needed
-      → WorldSaves w version part old new before needed status
+  gone : (status : ℕ) → FitsFile (side_of w) part → IsGone w.open.log version status
+      → IsUntouched old new before needed → WorldSaves w version part old new before needed status
 
 -- the text of the journal
 pub data WorldJournals (w : World) (old new : List ℕ) (before needed : ℕ) : ℕ → Type 0 where
@@ -217,17 +258,21 @@ pub record IsBegun (side cap : ℕ) (bytes : List ℕ) (w : World) : Type 0 wher
   pub slots : AreSlots cap w.open.plan.cap
   pub models : HasModels bytes w.open.models
   pub nothing : w.open.log ≡ record { side = w.open.plan.side; records = []; marks = [] }
+  pub noted : w.open.noted ≡ record { made = []; met = [] }
+  pub line : w.line ≡ 1
 
--- no world has this side, or no bucket so many slots
-abbrev pub IsNoPlan : ℕ → ℕ → Type 0
-IsNoPlan side cap = IsTrue (is_side side) → (cap ≢ 0) × ¬ IsTrue (is_cap cap)
+-- a world can have this side, and its buckets so many slots
+pub record IsPlan (side cap : ℕ) : Type 0 where
+  pub is_a_side : IsTrue (is_side side)
+  pub is_a_cap : cap ≢ 0 → IsTrue (is_cap cap)
 
 -- why no world is opened
 pub data Refuses (side cap : ℕ) (bytes : List ℕ) : ℕ → Type 0 where
-  bad_plan : IsNoPlan side cap → Refuses side cap bytes 12
-  too_long : 2 ^ 28 < length bytes → Refuses side cap bytes 15
-  bad_file : (fault : VoxFault) → ReadsModels bytes (Err fault) → Refuses side cap bytes 15
-  memory : Refuses side cap bytes 2
+  bad_plan : ¬ IsPlan side cap → Refuses side cap bytes 12
+  too_long : IsPlan side cap → 2 ^ 28 < length bytes → Refuses side cap bytes 15
+  bad_file : IsPlan side cap → 0 < length bytes → (fault : VoxFault)
+      → ReadsModels bytes (Err fault) → Refuses side cap bytes 15
+  memory : IsPlan side cap → Refuses side cap bytes 2
 
 -- the number that C gets for a file's fault
 abbrev pub status_of_file : VoxFault → ℕ
@@ -239,3 +284,8 @@ pub data Opens (side cap : ℕ) (bytes : List ℕ) : Option World → ℕ → Op
   is_open : (w : World) → Opens side cap bytes (Some w) 13 (Some w)
   refused : (status : ℕ) → Refuses side cap bytes status → Opens side cap bytes None status None
   begun : (w : World) → IsBegun side cap bytes w → Opens side cap bytes None 0 (Some w)
+
+-- a world is closed, where one is held
+pub data Closes : Option World → ℕ → Option World → Type 0 where
+  closed : Closes None 1 None
+  given_back : (w : World) → Closes (Some w) 0 None

@@ -21,7 +21,11 @@ pub record IsSmall (c : Cell) : Type 0 where
   pub y : c.y ≤ 65535
   pub z : c.z ≤ 65535
 
--- a box, where there is one
+-- a box, or a place, where there is one
 abbrev pub extent_of : Bool → Stretch → Option Boxed
 extent_of false s = None
 extent_of true s = Some (box_of s)
+
+abbrev pub hit_of : Bool → Place → Option Cell
+hit_of false p = None
+hit_of true p = Some (cell_of p)

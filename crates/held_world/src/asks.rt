@@ -1,19 +1,20 @@
 //! The questions of a version, and what a world writes out.
-ghost use Rattle.std.specs.Prelude.{◌≡◌, ◌↔◌, ◌≤◌, ◌^◌, IfOk, IfErr, IsTrue, length};
+ghost use Rattle.std.specs.Prelude.{◌≡◌, ◌↔◌, ◌≤◌, ◌^◌, false, IfOk, IfErr, IsTrue, length};
+ghost use Rattle.history_model.specs.Ways.{heading_of};
 ghost use Rattle.history_model.specs.declared.questions.Question.TheVariants as questions;
 ghost use Rattle.script.specs.Fitting.{QuestionFits};
 ghost use Rattle.transcript.specs.declared.answers.Answer.TheVariants as answers;
-ghost use Rattle.held_world.specs.Places.{cell_of, box_of, extent_of};
-ghost use Rattle.held_world.specs.Calls.{WorldAsks, WorldCompares, WorldSaves, WorldJournals, IsGone, Answered, is_in, cells_in, faces_in, extent_in};
+ghost use Rattle.held_world.specs.Places.{cell_of, box_of, extent_of, hit_of};
+ghost use Rattle.held_world.specs.Calls.{WorldAsks, WorldCompares, WorldSaves, WorldJournals, Answered, CantBeAsked, is_in, cells_in, faces_in, extent_in, hit_in};
 
 use crate::outputs::put_bytes;
 use crate::places::{Place, Stretch};
 use crate::statuses as status;
 use crate::worlds::World;
-use history_model::Question;
+use history_model::{Question, Way};
 use std::alloc::Global;
 use transcript::Answer;
-use vw_cell::Boxed;
+use vw_cell::{Boxed, Cell};
 
 impl World {
     /// Whether a cell of a version is set.
@@ -73,13 +74,50 @@ impl World {
     /// The least box that has all set cells of a version, where some are set.
     pub fn bounds(&mut self, version: u32, some: &mut bool, least: &mut Stretch) -> u32
         ensures asks { WorldAsks self.old version questions.Bounds
-            (λ a. a ≡ answers.Extent (extent_of some.new least.new))
+            (λ a. (a ≡ answers.Extent (extent_of some.new least.new))
+            × (some.new ≡ false → least.new ≡ least.old))
             ((some.new ≡ some.old) × (least.new ≡ least.old)) result }
         ensures same { self.new ≡ self.old }
     {
         match self.ask(version, Question::Bounds) {
             Ok(answer) => {
                 put_extent(extent_in(answer), some, least);
+                status::DONE
+            }
+            Err(status) => status,
+        }
+    }
+
+    /// The first set cell of a version on a ray from the centre of a cell, where one is hit. Its
+    /// steps are each from -1,024 to 1,024, and not all 0.
+    pub fn ray(
+        &mut self,
+        version: u32,
+        from: Place,
+        dx: i16,
+        dy: i16,
+        dz: i16,
+        some: &mut bool,
+        hit: &mut Place,
+    ) -> u32
+        ensures asks { WorldAsks self.old version
+            (questions.Ray (cell_of from) (heading_of dx dy dz))
+            (λ a. (a ≡ answers.Hit (hit_of some.new hit.new))
+            × (some.new ≡ false → hit.new ≡ hit.old))
+            ((some.new ≡ some.old) × (hit.new ≡ hit.old)) result }
+        ensures same { self.new ≡ self.old }
+    {
+        let from = match from.cell_in(self.open.side()) {
+            Some(from) => from,
+            None => return status::OUTSIDE,
+        };
+        let way = match Way::new(dx, dy, dz) {
+            Some(way) => way,
+            None => return status::BAD_WAY,
+        };
+        match self.ask(version, Question::Ray(from, way)) {
+            Ok(answer) => {
+                put_hit(hit_in(answer), some, hit);
                 status::DONE
             }
             Err(status) => status,
@@ -146,7 +184,7 @@ impl World {
     fn ask(&mut self, version: u32, question: Question) -> Result<Answer, u32>
         requires { QuestionFits (2 ^ self.old.open.plan.side) question }
         ensures told { IfOk result (λ a. Answered self.old version question a) }
-        ensures gone { IfErr result (λ status. IsGone self.old.open.log version status) }
+        ensures gone { IfErr result (λ status. CantBeAsked self.old version question status) }
         ensures same { self.new ≡ self.old }
     {
         if !self.open.is_kept(version) {
@@ -164,12 +202,26 @@ fn is_small(b: Boxed) -> bool
 }
 
 fn put_extent(found: Option<Boxed>, some: &mut bool, least: &mut Stretch)
-    ensures { extent_of some.new least.new ≡ found }
+    ensures found { extent_of some.new least.new ≡ found }
+    ensures none { some.new ≡ false → least.new ≡ least.old }
 {
     match found {
         Some(b) => {
             *some = true;
             *least = Stretch::of(b);
+        }
+        None => *some = false,
+    }
+}
+
+fn put_hit(found: Option<Cell>, some: &mut bool, hit: &mut Place)
+    ensures found { hit_of some.new hit.new ≡ found }
+    ensures none { some.new ≡ false → hit.new ≡ hit.old }
+{
+    match found {
+        Some(c) => {
+            *some = true;
+            *hit = Place::of(c);
         }
         None => *some = false,
     }
@@ -207,6 +259,15 @@ fn extent_in(answer: Answer) -> Option<Boxed>
 {
     match answer {
         Answer::Extent(least) => least,
+        _ => None,
+    }
+}
+
+fn hit_in(answer: Answer) -> Option<Cell>
+    ensures { result ≡ hit_in answer }
+{
+    match answer {
+        Answer::Hit(hit) => hit,
         _ => None,
     }
 }

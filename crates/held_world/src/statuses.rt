@@ -32,3 +32,5 @@ pub const IS_OPEN: u32 = 13;
 pub const NO_MODEL: u32 = 14;
 /// The bytes are no VOX file whose models can be read.
 pub const BAD_FILE: u32 = 15;
+/// A step of a ray isn't from -1,024 to 1,024, or all of them are 0.
+pub const BAD_WAY: u32 = 16;

@@ -1,4 +1,4 @@
-ghost use Rattle.std.specs.Prelude.{◌≡◌, ◌^◌, ℕ, [], Some, None, IfOk, IfErr, IfSome};
+ghost use Rattle.std.specs.Prelude.{◌≡◌, ◌↔◌, ◌^◌, ℕ, [], None, IfOk, IfErr, IfSome, IsSome};
 ghost use Rattle.node_words.specs.Plans.{usual_buckets};
 ghost use Rattle.vox_read.specs.Contents.{AreModels};
 ghost use Rattle.history_model.specs.Logs.{FitsWorld};
@@ -6,7 +6,7 @@ ghost use Rattle.history_model.specs.declared.acts.Act.TheVariants.{Fill, Erase,
 ghost use Rattle.history_model.specs.declared.acts.Act.TheVariants as acts;
 ghost use Rattle.block_contents.specs.Versions.{IsKept};
 ghost use Rattle.held_world.specs.Places.{cell_of, box_of, ball_of};
-ghost use Rattle.held_world.specs.Calls.{WorldChanges, WorldForgets, IsGone, TellsNewest, TellsSize, IsBegun, Refuses, IsNoPlan, AreSlots, HasModels, status_of, status_of_file};
+ghost use Rattle.held_world.specs.Calls.{WorldChanges, WorldForgets, IsGone, TellsNewest, TellsSize, IsBegun, Refuses, IsPlan, AreSlots, HasModels, CountsLine, status_of, status_of_file};
 
 use crate::places::{Place, Stretch};
 use crate::statuses as status;
@@ -216,9 +216,9 @@ impl World {
 
 // The plan, where there is one.
 fn plan_of(side: u32, cap: u16) -> Option<Plan>
+    ensures exactly { IsSome result ↔ IsPlan side cap }
     ensures plan { IfSome result (λ p. (2 ^ p.side ≡ side) × (p.buckets ≡ usual_buckets)) }
     ensures cap { IfSome result (λ p. AreSlots cap p.cap) }
-    ensures none { result ≡ None → IsNoPlan side cap }
 {
     let side = match Side::new(side) {
         Some(side) => side,
@@ -235,7 +235,8 @@ fn plan_of(side: u32, cap: u16) -> Option<Plan>
 fn read_file(alloc: Global, file: &[u8]) -> Result<Models, u32>
     ensures models { IfOk result AreModels }
     ensures are { IfOk result (λ models. HasModels file.now models) }
-    ensures refused { IfErr result (λ status. (side cap : ℕ) → Refuses side cap file.now status) }
+    ensures refused { IfErr result (λ status. (side cap : ℕ) → IsPlan side cap
+        → Refuses side cap file.now status) }
 {
     if file.is_empty() {
         return Ok(Models {
@@ -270,8 +271,10 @@ fn boxed(alloc: Global, world: World) -> Result<Box<World, Global>, u32>
     }
 }
 
-// A change that was made has a number of its own.
-fn next_line(line: u32, answer: Answer) -> u32 {
+// The number of the change that comes next.
+fn next_line(line: u32, answer: Answer) -> u32
+    ensures { CountsLine answer line result }
+{
     match answer {
         Answer::Done | Answer::Forgot(_) => line.saturating_add(1),
         _ => line,

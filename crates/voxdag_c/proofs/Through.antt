@@ -1,27 +1,41 @@
 -- What a call does through a handle, from what it does to the world that is held.
 use Rattle.std.proofs.Common.{◌≡◌, ℕ, Option, Some, None, List, sym, ◌∙◌, ap, subst}
+use Rattle.std.proofs.Common.{ℤ, SFits, w16, to_z, of_z}
+use Rattle.vw_cell.specs.declared.cells.Cell.{Cell}
+use Rattle.history_model.specs.Ways.{Heading, heading_of}
+use Rattle.history_model.specs.declared.questions.Question.TheVariants as questions
+use Rattle.transcript.specs.declared.answers.Answer.{Answer}
 use Rattle.held_world.specs.declared.worlds.World.{World}
-use Rattle.held_world.specs.Calls.{ByHandle, Opens, IsBegun, Refuses}
+use Rattle.held_world.specs.Calls.{ByHandle, Opens, Closes, IsBegun, Refuses, WorldAsks}
+use Rattle.held_world.proofs.Fitting.{same_steps}
 
-module _ (Does : World → ℕ → World → Type 0) where
-  pub through_closed : (old new : Option World) → old ≡ None → new ≡ None → ByHandle Does old 1 new
-  through_closed old new was now =
-      subst (λ (o : Option World). ByHandle Does o 1 new) (sym was)
-      (subst (λ (n : Option World). ByHandle Does None 1 n) (sym now) ByHandle.closed)
+module _ (Untouched : Type 0) (Does : World → ℕ → World → Type 0) where
+  pub through_closed : (old new : Option World) → old ≡ None → new ≡ None → Untouched → ByHandle Untouched Does old 1 new
+  through_closed old new was now same =
+      subst (λ (o : Option World). ByHandle Untouched Does o 1 new) (sym was)
+      (subst (λ (n : Option World). ByHandle Untouched Does None 1 n) (sym now) (ByHandle.closed same))
 
   pub through_open : (old new : Option World) (w v : World) (status : ℕ) → Some w ≡ old → new ≡ Some v → Does w status v
-      → ByHandle Does old status new
+      → ByHandle Untouched Does old status new
   through_open old new w v status was now does =
-      subst (λ (o : Option World). ByHandle Does o status new) was
-      (subst (λ (n : Option World). ByHandle Does (Some w) status n) (sym now) (ByHandle.does w v status does))
+      subst (λ (o : Option World). ByHandle Untouched Does o status new) was
+      (subst (λ (n : Option World). ByHandle Untouched Does (Some w) status n) (sym now) (ByHandle.does w v status does))
 
 -- a call that changes nothing
-pub through_asks : (Asks : World → ℕ → Type 0) (old new : Option World) (w u v : World) (status : ℕ) → Some w ≡ old → u ≡ w → new ≡ Some v → v ≡ u
-    → Asks u status → ByHandle (λ x n y. (y ≡ x) × Asks x n) old status new
-through_asks Asks old new w u v status was is now same asks =
-    through_open (λ x n y. (y ≡ x) × Asks x n) old new u v status (ap (λ (x : World). Some x) is ∙ was) now (same, asks)
+pub through_asks : (Untouched : Type 0) (Asks : World → ℕ → Type 0) (old new : Option World) (w u v : World) (status : ℕ) → Some w ≡ old → u ≡ w → new ≡ Some v
+    → v ≡ u → Asks u status → ByHandle Untouched (λ x n y. (y ≡ x) × Asks x n) old status new
+through_asks Untouched Asks old new w u v status was is now same asks =
+    through_open Untouched (λ x n y. (y ≡ x) × Asks x n) old new u v status (ap (λ (x : World). Some x) is ∙ was) now (same, asks)
 
--- ---- opening
+-- a ray by steps of 16 bits
+pub by_steps : {w : World} {version : ℕ} {from : Cell} {Written : Answer → Type 0} {Untouched : Type 0} {status : ℕ} (dx dy dz : ℤ)
+    → SFits w16 dx → SFits w16 dy → SFits w16 dz
+    → WorldAsks w version (questions.Ray from (heading_of (to_z w16 (of_z w16 dx)) (to_z w16 (of_z w16 dy)) (to_z w16 (of_z w16 dz)))) Written Untouched status
+    → WorldAsks w version (questions.Ray from (heading_of dx dy dz)) Written Untouched status
+by_steps {w} {version} {from} {Written} {Untouched} {status} dx dy dz x y z asks =
+    subst (λ (h : Heading). WorldAsks w version (questions.Ray from h) Written Untouched status) (same_steps dx dy dz x y z) asks
+
+-- ---- opening and closing
 
 module _ (side cap : ℕ) (bytes : List ℕ) where
   pub opens_again : (old new : Option World) (w : World) → Some w ≡ old → new ≡ Some w → Opens side cap bytes old 13 new
@@ -38,3 +52,11 @@ module _ (side cap : ℕ) (bytes : List ℕ) where
   opens_not old new status was now why =
       subst (λ (o : Option World). Opens side cap bytes o status new) (sym was)
       (subst (λ (n : Option World). Opens side cap bytes None status n) (sym now) (Opens.refused status why))
+
+pub closes_none : (old new : Option World) → old ≡ None → new ≡ None → Closes old 1 new
+closes_none old new was now =
+    subst (λ (o : Option World). Closes o 1 new) (sym was) (subst (λ (n : Option World). Closes None 1 n) (sym now) Closes.closed)
+
+pub closes_some : (old new : Option World) (w : World) → Some w ≡ old → new ≡ None → Closes old 0 new
+closes_some old new w was now =
+    subst (λ (o : Option World). Closes o 0 new) was (subst (λ (n : Option World). Closes (Some w) 0 n) (sym now) (Closes.given_back w))

@@ -4,14 +4,15 @@
 //! carried out, and else says why not. `include/voxdag.h` has all of this in the words of C.
 #![tactic(auto)]
 
-ghost use Rattle.std.specs.Prelude.{◌≡◌, ◌↔◌, None};
+ghost use Rattle.std.specs.Prelude.{◌≡◌, false, ⊤};
+ghost use Rattle.history_model.specs.Ways.{heading_of};
 ghost use Rattle.history_model.specs.declared.acts.Act.TheVariants.{Fill, Erase, Carve, Copy, Stamp, Undo, Redo};
 ghost use Rattle.history_model.specs.declared.acts.Act.TheVariants as acts;
 ghost use Rattle.history_model.specs.declared.questions.Question.TheVariants as questions;
 ghost use Rattle.transcript.specs.declared.answers.Answer.TheVariants as answers;
-ghost use Rattle.held_world.specs.Places.{cell_of, box_of, ball_of, extent_of};
+ghost use Rattle.held_world.specs.Places.{cell_of, box_of, ball_of, extent_of, hit_of};
 ghost use Rattle.held_world.specs.Calls.{ByHandle, WorldChanges, WorldForgets, WorldAsks, WorldCompares, WorldSaves, WorldJournals, Opens};
-ghost use Rattle.held_world.specs.Calls.{TellsNewest, TellsSize};
+ghost use Rattle.held_world.specs.Calls.{TellsNewest, TellsSize, IsUntouched, Closes};
 
 use held_world::{Handle, Place, Stretch, World, statuses as status};
 use std::alloc::Global;
@@ -20,7 +21,7 @@ use std::alloc::Global;
 #[tactic(auto, using(crate::proofs::Through::through_closed, crate::proofs::Through::through_open))]
 #[unsafe(no_mangle)]
 pub extern "C" fn voxdag_c_fill(alloc: Global, handle: &mut Handle, part: &Stretch) -> u32
-    ensures { ByHandle (λ w status v. WorldChanges w (Fill (box_of part.now)) status v)
+    ensures { ByHandle ⊤ (λ w status v. WorldChanges w (Fill (box_of part.now)) status v)
         handle.old.kept.value result handle.new.kept.value }
 {
     match handle.take(alloc) {
@@ -37,7 +38,7 @@ pub extern "C" fn voxdag_c_fill(alloc: Global, handle: &mut Handle, part: &Stret
 #[tactic(auto, using(crate::proofs::Through::through_closed, crate::proofs::Through::through_open))]
 #[unsafe(no_mangle)]
 pub extern "C" fn voxdag_c_erase(alloc: Global, handle: &mut Handle, part: &Stretch) -> u32
-    ensures { ByHandle (λ w status v. WorldChanges w (Erase (box_of part.now)) status v)
+    ensures { ByHandle ⊤ (λ w status v. WorldChanges w (Erase (box_of part.now)) status v)
         handle.old.kept.value result handle.new.kept.value }
 {
     match handle.take(alloc) {
@@ -59,7 +60,7 @@ pub extern "C" fn voxdag_c_ball(
     centre: &Place,
     radius: u32,
 ) -> u32
-    ensures { ByHandle
+    ensures { ByHandle ⊤
         (λ w status v. WorldChanges w (acts.Ball (ball_of centre.now radius)) status v)
         handle.old.kept.value result handle.new.kept.value }
 {
@@ -82,7 +83,7 @@ pub extern "C" fn voxdag_c_carve(
     centre: &Place,
     radius: u32,
 ) -> u32
-    ensures { ByHandle (λ w status v. WorldChanges w (Carve (ball_of centre.now radius)) status v)
+    ensures { ByHandle ⊤ (λ w status v. WorldChanges w (Carve (ball_of centre.now radius)) status v)
         handle.old.kept.value result handle.new.kept.value }
 {
     match handle.take(alloc) {
@@ -104,7 +105,7 @@ pub extern "C" fn voxdag_c_copy(
     part: &Stretch,
     to: &Place,
 ) -> u32
-    ensures { ByHandle
+    ensures { ByHandle ⊤
         (λ w status v. WorldChanges w (Copy (box_of part.now) (cell_of to.now)) status v)
         handle.old.kept.value result handle.new.kept.value }
 {
@@ -122,7 +123,7 @@ pub extern "C" fn voxdag_c_copy(
 #[tactic(auto, using(crate::proofs::Through::through_closed, crate::proofs::Through::through_open))]
 #[unsafe(no_mangle)]
 pub extern "C" fn voxdag_c_stamp(alloc: Global, handle: &mut Handle, number: u16, at: &Place) -> u32
-    ensures { ByHandle (λ w status v. WorldChanges w (Stamp number (cell_of at.now)) status v)
+    ensures { ByHandle ⊤ (λ w status v. WorldChanges w (Stamp number (cell_of at.now)) status v)
         handle.old.kept.value result handle.new.kept.value }
 {
     match handle.take(alloc) {
@@ -139,7 +140,7 @@ pub extern "C" fn voxdag_c_stamp(alloc: Global, handle: &mut Handle, number: u16
 #[tactic(auto, using(crate::proofs::Through::through_closed, crate::proofs::Through::through_open))]
 #[unsafe(no_mangle)]
 pub extern "C" fn voxdag_c_undo(alloc: Global, handle: &mut Handle) -> u32
-    ensures { ByHandle (λ w status v. WorldChanges w Undo status v)
+    ensures { ByHandle ⊤ (λ w status v. WorldChanges w Undo status v)
         handle.old.kept.value result handle.new.kept.value }
 {
     match handle.take(alloc) {
@@ -156,7 +157,7 @@ pub extern "C" fn voxdag_c_undo(alloc: Global, handle: &mut Handle) -> u32
 #[tactic(auto, using(crate::proofs::Through::through_closed, crate::proofs::Through::through_open))]
 #[unsafe(no_mangle)]
 pub extern "C" fn voxdag_c_redo(alloc: Global, handle: &mut Handle) -> u32
-    ensures { ByHandle (λ w status v. WorldChanges w Redo status v)
+    ensures { ByHandle ⊤ (λ w status v. WorldChanges w Redo status v)
         handle.old.kept.value result handle.new.kept.value }
 {
     match handle.take(alloc) {
@@ -173,7 +174,7 @@ pub extern "C" fn voxdag_c_redo(alloc: Global, handle: &mut Handle) -> u32
 #[tactic(auto, using(crate::proofs::Through::through_closed, crate::proofs::Through::through_open))]
 #[unsafe(no_mangle)]
 pub extern "C" fn voxdag_c_forget(alloc: Global, handle: &mut Handle, version: u32) -> u32
-    ensures { ByHandle (λ w status v. WorldForgets w version status v)
+    ensures { ByHandle ⊤ (λ w status v. WorldForgets w version status v)
         handle.old.kept.value result handle.new.kept.value }
 {
     match handle.take(alloc) {
@@ -190,7 +191,8 @@ pub extern "C" fn voxdag_c_forget(alloc: Global, handle: &mut Handle, version: u
 #[tactic(auto, using(crate::proofs::Through::through_closed, crate::proofs::Through::through_open))]
 #[unsafe(no_mangle)]
 pub extern "C" fn voxdag_c_newest(alloc: Global, handle: &mut Handle, version: &mut u32) -> u32
-    ensures { ByHandle (λ w status v. (v ≡ w) × TellsNewest w status version.new)
+    ensures { ByHandle (version.new ≡ version.old)
+        (λ w status v. (v ≡ w) × TellsNewest w status version.new)
         handle.old.kept.value result handle.new.kept.value }
 {
     match handle.take(alloc) {
@@ -212,7 +214,8 @@ pub extern "C" fn voxdag_c_model_size(
     number: u16,
     size: &mut Place,
 ) -> u32
-    ensures { ByHandle (λ w status v. (v ≡ w) × TellsSize w number size.old size.new status)
+    ensures { ByHandle (size.new ≡ size.old)
+        (λ w status v. (v ≡ w) × TellsSize w number size.old size.new status)
         handle.old.kept.value result handle.new.kept.value }
 {
     match handle.take(alloc) {
@@ -235,7 +238,7 @@ pub extern "C" fn voxdag_c_get(
     place: &Place,
     set: &mut bool,
 ) -> u32
-    ensures { ByHandle
+    ensures { ByHandle (set.new ≡ set.old)
         (λ w status v. (v ≡ w) × WorldAsks w version (questions.Get (cell_of place.now))
         (λ a. a ≡ answers.Is set.new) (set.new ≡ set.old) status)
         handle.old.kept.value result handle.new.kept.value }
@@ -260,7 +263,7 @@ pub extern "C" fn voxdag_c_count(
     part: &Stretch,
     cells: &mut u64,
 ) -> u32
-    ensures { ByHandle
+    ensures { ByHandle (cells.new ≡ cells.old)
         (λ w status v. (v ≡ w) × WorldAsks w version (questions.Count (box_of part.now))
         (λ a. a ≡ answers.Count cells.new) (cells.new ≡ cells.old) status)
         handle.old.kept.value result handle.new.kept.value }
@@ -285,7 +288,7 @@ pub extern "C" fn voxdag_c_faces(
     part: &Stretch,
     faces: &mut u64,
 ) -> u32
-    ensures { ByHandle
+    ensures { ByHandle (faces.new ≡ faces.old)
         (λ w status v. (v ≡ w) × WorldAsks w version (questions.Faces (box_of part.now))
         (λ a. a ≡ answers.Faces faces.new) (faces.new ≡ faces.old) status)
         handle.old.kept.value result handle.new.kept.value }
@@ -310,8 +313,10 @@ pub extern "C" fn voxdag_c_bounds(
     some: &mut bool,
     least: &mut Stretch,
 ) -> u32
-    ensures { ByHandle (λ w status v. (v ≡ w) × WorldAsks w version (questions.Bounds)
-        (λ a. a ≡ answers.Extent (extent_of some.new least.new))
+    ensures { ByHandle ((some.new ≡ some.old) × (least.new ≡ least.old))
+        (λ w status v. (v ≡ w) × WorldAsks w version (questions.Bounds)
+        (λ a. (a ≡ answers.Extent (extent_of some.new least.new))
+        × (some.new ≡ false → least.new ≡ least.old))
         ((some.new ≡ some.old) × (least.new ≡ least.old)) status)
         handle.old.kept.value result handle.new.kept.value }
 {
@@ -319,6 +324,38 @@ pub extern "C" fn voxdag_c_bounds(
         None => status::CLOSED,
         Some(mut world) => {
             let status = world.bounds(version, some, least);
+            handle.put(world);
+            status
+        }
+    }
+}
+
+/// The first set cell of a version on a ray from the centre of a cell, where one is hit.
+#[tactic(auto, using(crate::proofs::Through::through_closed, crate::proofs::Through::through_open))]
+#[unsafe(no_mangle)]
+pub extern "C" fn voxdag_c_ray(
+    alloc: Global,
+    handle: &mut Handle,
+    version: u32,
+    from: &Place,
+    dx: i16,
+    dy: i16,
+    dz: i16,
+    some: &mut bool,
+    hit: &mut Place,
+) -> u32
+    ensures { ByHandle ((some.new ≡ some.old) × (hit.new ≡ hit.old))
+        (λ w status v. (v ≡ w) × WorldAsks w version
+        (questions.Ray (cell_of from.now) (heading_of dx dy dz))
+        (λ a. (a ≡ answers.Hit (hit_of some.new hit.new))
+        × (some.new ≡ false → hit.new ≡ hit.old))
+        ((some.new ≡ some.old) × (hit.new ≡ hit.old)) status)
+        handle.old.kept.value result handle.new.kept.value }
+{
+    match handle.take(alloc) {
+        None => status::CLOSED,
+        Some(mut world) => {
+            let status = world.ray(version, *from, dx, dy, dz, some, hit);
             handle.put(world);
             status
         }
@@ -335,7 +372,8 @@ pub extern "C" fn voxdag_c_same(
     b: u32,
     same: &mut bool,
 ) -> u32
-    ensures { ByHandle (λ w status v. (v ≡ w) × WorldCompares w a b same.old same.new status)
+    ensures { ByHandle (same.new ≡ same.old)
+        (λ w status v. (v ≡ w) × WorldCompares w a b same.old same.new status)
         handle.old.kept.value result handle.new.kept.value }
 {
     match handle.take(alloc) {
@@ -359,7 +397,8 @@ pub extern "C" fn voxdag_c_save(
     out: &mut [u8],
     needed: &mut usize,
 ) -> u32
-    ensures { ByHandle (λ w status v. (v ≡ w) × WorldSaves w version (box_of part.now)
+    ensures { ByHandle (IsUntouched out.old out.new needed.old needed.new)
+        (λ w status v. (v ≡ w) × WorldSaves w version (box_of part.now)
         out.old out.new needed.old needed.new status)
         handle.old.kept.value result handle.new.kept.value }
 {
@@ -382,7 +421,7 @@ pub extern "C" fn voxdag_c_journal(
     out: &mut [u8],
     needed: &mut usize,
 ) -> u32
-    ensures { ByHandle
+    ensures { ByHandle (IsUntouched out.old out.new needed.old needed.new)
         (λ w status v. (v ≡ w) × WorldJournals w out.old out.new needed.old needed.new status)
         handle.old.kept.value result handle.new.kept.value }
 {
@@ -425,8 +464,7 @@ pub extern "C" fn voxdag_c_open(
 /// Closes the world, and gives its memory back.
 #[unsafe(no_mangle)]
 pub extern "C" fn voxdag_c_close(alloc: Global, handle: &mut Handle) -> u32
-    ensures closed { handle.new.kept.value ≡ None }
-    ensures was { result ≡ 1 ↔ handle.old.kept.value ≡ None }
+    ensures { Closes handle.old.kept.value result handle.new.kept.value }
 {
     match handle.take(alloc) {
         None => status::CLOSED,

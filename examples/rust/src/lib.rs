@@ -20,6 +20,7 @@ pub enum Refusal {
     BadPlan,
     NoModel,
     BadFile,
+    BadWay,
     Other(u32),
 }
 
@@ -38,6 +39,7 @@ impl From<u32> for Refusal {
             12 => Refusal::BadPlan,
             14 => Refusal::NoModel,
             15 => Refusal::BadFile,
+            16 => Refusal::BadWay,
             other => Refusal::Other(other),
         }
     }
@@ -90,6 +92,16 @@ extern "C" {
     fn voxdag_c_count(w: *mut Handle, version: u32, part: *const Boxed, cells: *mut u64) -> u32;
     fn voxdag_c_faces(w: *mut Handle, version: u32, part: *const Boxed, faces: *mut u64) -> u32;
     fn voxdag_c_bounds(w: *mut Handle, version: u32, some: *mut bool, least: *mut Boxed) -> u32;
+    fn voxdag_c_ray(
+        w: *mut Handle,
+        version: u32,
+        from: *const Place,
+        dx: i16,
+        dy: i16,
+        dz: i16,
+        some: *mut bool,
+        hit: *mut Place,
+    ) -> u32;
     fn voxdag_c_same(w: *mut Handle, a: u32, b: u32, same: *mut bool) -> u32;
     fn voxdag_c_save(w: *mut Handle, version: u32, part: *const Boxed, out: *mut u8, size: usize, needed: *mut usize) -> u32;
     fn voxdag_c_journal(w: *mut Handle, out: *mut u8, size: usize, needed: *mut usize) -> u32;
@@ -190,6 +202,14 @@ impl World {
         let (mut some, mut least) = (false, Boxed::default());
         told(unsafe { voxdag_c_bounds(&mut self.0, version, &mut some, &mut least) })?;
         Ok(some.then_some(least))
+    }
+
+    /// The first set cell on the ray with these steps on the three axes, where there is one.
+    pub fn ray(&mut self, version: u32, from: Place, steps: [i16; 3]) -> Answer<Option<Place>> {
+        let (mut some, mut hit) = (false, Place::default());
+        let [dx, dy, dz] = steps;
+        told(unsafe { voxdag_c_ray(&mut self.0, version, &from, dx, dy, dz, &mut some, &mut hit) })?;
+        Ok(some.then_some(hit))
     }
 
     pub fn same(&mut self, a: u32, b: u32) -> Answer<bool> {

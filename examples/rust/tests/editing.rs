@@ -18,6 +18,9 @@ fn a_world_is_edited_asked_undone_saved_and_shared() -> Result<(), Refusal> {
     assert_eq!(world.faces(1, all)?, 384);
     assert_eq!(world.bounds(2)?, Some(boxed(place(0, 0, 4), place(8, 8, 4))));
     assert_eq!(world.bounds(0)?, None);
+    assert_eq!(world.ray(1, place(63, 0, 0), [-1, 0, 0])?, Some(place(7, 0, 0)));
+    assert_eq!(world.ray(0, place(63, 0, 0), [-1, 0, 0])?, None);
+    assert_eq!(world.ray(0, place(63, 0, 0), [0, 0, 0]), Err(Refusal::BadWay));
     world.undo()?;
     assert_eq!(world.newest()?, 3);
     assert!(world.same(1, 3)?);

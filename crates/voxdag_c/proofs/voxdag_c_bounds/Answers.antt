@@ -3,5 +3,5 @@ use Rattle.voxdag_c.proofs.voxdag_c_bounds.Goals as goal
 
 pub returns-in-Some : goal.returns-in-Some
 returns-in-Some c =
-    through_asks _ _ _ _ c.deref_mut.result.now _ _ c.in-Some.ensures.taken c.deref_mut.ensures.value c.put.ensures c.bounds-status.ensures.same
+    through_asks _ _ _ _ _ c.deref_mut.result.now _ _ c.in-Some.ensures.taken c.deref_mut.ensures.value c.put.ensures c.bounds-status.ensures.same
     c.bounds-status.ensures.asks

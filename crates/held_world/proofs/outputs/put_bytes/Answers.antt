@@ -1,5 +1,4 @@
-use Rattle.std.proofs.Common.{◌≡◌, ◌++◌, List, ℕ, take, length, refl, sym, ◌∙◌, ap, subst, arith}
-use Rattle.std.proofs.Math.Seq.{take-append_seam}
+use Rattle.std.proofs.Common.{◌++◌, List, ℕ, refl, ◌∙◌, ap, arith}
 use Rattle.held_world.specs.Calls.{PutsBytes}
 use Rattle.held_world.proofs.outputs.put_bytes.Goals as goal
 
@@ -10,7 +9,7 @@ pub returns-clause-writes : goal.returns-clause-writes
 returns-clause-writes c = record {
   puts =
       PutsBytes.put (omega (arith, c.if-bytes-out.false))
-      (subst (λ (front : List ℕ). take (length c.args.bytes.now) (front ++ c.split_at_mut-front.result.1.now) ≡ c.args.bytes.now)
-      (sym c.copy_from_slice.ensures.after) (take-append_seam c.args.bytes.now c.split_at_mut-front.result.1.now));
+      (ap (λ (front : List ℕ). front ++ c.split_at_mut-front.result.1.now) c.copy_from_slice.ensures.after
+      ∙ ap (λ (behind : List ℕ). c.args.bytes.now ++ behind) c.split_at_mut-front.ensures.back);
   number = refl;
 }

@@ -8,9 +8,11 @@ use Rattle.held_world.proofs.worlds.World.bounds.Goals as goal
 
 pub returns-in-Ok-clause-asks : goal.returns-in-Ok-clause-asks
 returns-in-Ok-clause-asks c =
-    asked c.args.self.now c.args.version questions.Bounds questions.Bounds c.in-Ok.answer _ _ refl c.in-Ok.ensures.told
-    (tells_extent (side_of c.args.self.now) (cells_at c.args.self.now c.args.version) c.in-Ok.answer c.in-Ok.ensures.told.tells
-    ∙ ap (λ (o : Option Boxed). answers.Extent o) (sym c.extent_in.ensures ∙ sym c.put_extent.ensures))
+    asked c.args.self.now c.args.version questions.Bounds questions.Bounds _ _ refl c.in-Ok.answer c.in-Ok.ensures.told (
+      tells_extent (side_of c.args.self.now) (cells_at c.args.self.now c.args.version) c.in-Ok.answer c.in-Ok.ensures.told.tells
+          ∙ ap (λ (o : Option Boxed). answers.Extent o) (sym c.extent_in.ensures ∙ sym c.put_extent.ensures.found),
+      c.put_extent.ensures.none,
+    )
 
 pub returns-in-Err-clause-asks : goal.returns-in-Err-clause-asks
 returns-in-Err-clause-asks c = WorldAsks.gone c.in-Err.status c.in-Err.ensures.gone (refl, refl)

@@ -12,4 +12,4 @@ pub returns-in-Some : goal.returns-in-Some
 returns-in-Some c = subst (λ (b : balls.Ball). WorldChanges c.args.self.now (Carve b) c.change.result c.change.new.self) c.in-Some.ensures.value c.change.ensures
 
 pub returns-in-None : goal.returns-in-None
-returns-in-None c = WorldChanges.outside (ball_leaves c.side.result _ c.side.ensures c.args.centre c.args.radius c.in-None.ensures.exactly)
+returns-in-None c = WorldChanges.outside tt (ball_leaves c.side.result _ c.side.ensures c.args.centre c.args.radius c.in-None.ensures.exactly)

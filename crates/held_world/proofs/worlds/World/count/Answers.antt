@@ -4,19 +4,21 @@ use Rattle.history_model.specs.declared.questions.Question.TheVariants as questi
 use Rattle.transcript.specs.declared.answers.Answer.TheVariants as answers
 use Rattle.held_world.specs.Calls.{WorldAsks, side_of, cells_at}
 use Rattle.held_world.specs.Places.{box_of}
-use Rattle.held_world.proofs.Changing.{asked, tells_count}
+use Rattle.held_world.proofs.Changing.{asked, not_asked, tells_count}
 use Rattle.held_world.proofs.Fitting.{box_leaves}
 use Rattle.held_world.proofs.worlds.World.count.Goals as goal
 
 pub returns-in-Ok-clause-asks : goal.returns-in-Ok-clause-asks
 returns-in-Ok-clause-asks c =
-    asked c.args.self.now c.args.version (questions.Count c.in-Some.b) (questions.Count (box_of c.args.part)) c.in-Ok.answer _ _
-    (ap (λ (x : Boxed). questions.Count x) c.in-Some.ensures.value) c.in-Ok.ensures.told
+    asked c.args.self.now c.args.version (questions.Count c.in-Some.b) (questions.Count (box_of c.args.part)) _ _
+    (ap (λ (x : Boxed). questions.Count x) c.in-Some.ensures.value) c.in-Ok.answer c.in-Ok.ensures.told
     (tells_count (side_of c.args.self.now) (cells_at c.args.self.now c.args.version) c.in-Some.b c.in-Ok.answer c.in-Ok.ensures.told.tells
     ∙ ap (λ (x : ℕ). answers.Count x) (sym c.cells_in.ensures))
 
 pub returns-in-Err-clause-asks : goal.returns-in-Err-clause-asks
-returns-in-Err-clause-asks c = WorldAsks.gone c.in-Err.status c.in-Err.ensures.gone refl
+returns-in-Err-clause-asks c =
+    not_asked c.args.self.now c.args.version (questions.Count c.in-Some.b) (questions.Count (box_of c.args.part)) _ _
+    (ap (λ (x : Boxed). questions.Count x) c.in-Some.ensures.value) c.in-Err.status c.in-Err.ensures.gone refl
 
 pub returns-in-None-clause-asks : goal.returns-in-None-clause-asks
 returns-in-None-clause-asks c = WorldAsks.outside (box_leaves c.side.result _ c.side.ensures c.args.part c.in-None.ensures.exactly) refl

@@ -12,4 +12,4 @@ pub returns-in-Some : goal.returns-in-Some
 returns-in-Some c = subst (λ (b : Boxed). WorldChanges c.args.self.now (Erase b) c.change.result c.change.new.self) c.in-Some.ensures.value c.change.ensures
 
 pub returns-in-None : goal.returns-in-None
-returns-in-None c = WorldChanges.outside (box_leaves c.side.result _ c.side.ensures c.args.part c.in-None.ensures.exactly)
+returns-in-None c = WorldChanges.outside tt (box_leaves c.side.result _ c.side.ensures c.args.part c.in-None.ensures.exactly)

@@ -1,13 +1,15 @@
 use Rattle.std.proofs.Common.{refl}
+use Rattle.std.proofs.lemmas.Bool.{false≢true}
 use Rattle.held_world.specs.Calls.{Refuses}
 use Rattle.held_world.proofs.Opening.{not_boxed}
 use Rattle.held_world.proofs.worlds.World.from_bytes.Goals as goal
 
 pub returns-in-None-clause-refused : goal.returns-in-None-clause-refused
-returns-in-None-clause-refused c = Refuses.bad_plan (c.in-None.ensures.none refl)
+returns-in-None-clause-refused c = Refuses.bad_plan (λ is. false≢true (c.in-None.ensures.exactly.1 is))
 
 pub returns-in-Ok-clause-refused : goal.returns-in-Ok-clause-refused
-returns-in-Ok-clause-refused c = not_boxed c.args.side c.args.cap c.args.file.now c.boxed.result c.boxed.ensures.refused
+returns-in-Ok-clause-refused c =
+    not_boxed c.args.side c.args.cap c.args.file.now (c.in-Some.ensures.exactly.0 refl) c.boxed.result c.boxed.ensures.refused
 
 pub returns-in-Err-clause-refused : goal.returns-in-Err-clause-refused
-returns-in-Err-clause-refused c = Refuses.memory
+returns-in-Err-clause-refused c = Refuses.memory (c.in-Some.ensures.exactly.0 refl)

@@ -14,7 +14,10 @@ returns-then-not-is_small-clause-saves c =
     WorldSaves.outside (file_large _ c.args.part c.in-Some.b c.in-Some.ensures.value c.if-not-is_small.ensures) (record { bytes = refl; number = refl })
 
 pub returns-then-not-is_kept-clause-saves : goal.returns-then-not-is_kept-clause-saves
-returns-then-not-is_kept-clause-saves c = WorldSaves.gone c.why_gone.result c.why_gone.ensures (record { bytes = refl; number = refl })
+returns-then-not-is_kept-clause-saves c = WorldSaves.gone c.why_gone.result
+    (file_fits _ c.args.part c.in-Some.b c.in-Some.ensures.value (box_fits c.side.result _ c.side.ensures c.args.part c.in-Some.b c.in-Some.ensures.value c.in-Some.ensures.exactly)
+    (c.if-not-is_small.ensures.0 refl))
+    c.why_gone.ensures (record { bytes = refl; number = refl })
 
 pub returns-in-Ok-clause-saves : goal.returns-in-Ok-clause-saves
 returns-in-Ok-clause-saves c =
