@@ -37,7 +37,7 @@ use Rattle.script_files.specs.declared.refusals.CommandRefused.TheVariants.{Text
 use Rattle.script_files.specs.declared.refusals.OutputName.{OutputName}
 use Rattle.script_files.specs.declared.refusals.OutputRefused.{OutputRefused}
 use Rattle.script_files.specs.declared.refusals.TextRefused.{TextRefused}
-use Rattle.script_files.specs.declared.refusals.TextRefused.TheVariants.{Vox, Script, Collides, NoScene, NoPlace, StoreFull}
+use Rattle.script_files.specs.declared.refusals.TextRefused.TheVariants.{Vox, Script, Collides, NoScene, NoPlace, StoreFull, NoDag, Journal, Transcript}
 use Rattle.script_files.specs.declared.refusals.TextRefused.TheVariants as texts_refused
 use Rattle.script_files.specs.declared.requests.Request.{Request}
 use Rattle.script_files.specs.declared.requests.Request.TheVariants.{Count, Run}
@@ -59,7 +59,7 @@ file_within files input inputs [] taken = absurd taken
 file_within files input inputs (text ∷ texts) taken = taken.0.within
 
 -- nothing written is the shelf as it was
-unwritten : (files : Option Files) → AreWritten [] files files
+pub unwritten : (files : Option Files) → AreWritten [] files files
 unwritten None = refl
 unwritten (Some files) = record { each = λ name. refl }
 
@@ -104,6 +104,12 @@ not_accepted (NoScene fault) a texts old new taken says files faults =
 not_accepted NoPlace a texts old new taken says files faults =
     (record { texts = texts; taken = taken; says = says }, same_state old new files faults)
 not_accepted (StoreFull full) a texts old new taken says files faults =
+    (record { texts = texts; taken = taken; says = says }, same_state old new files faults)
+not_accepted (Journal line) a texts old new taken says files faults =
+    (record { texts = texts; taken = taken; says = says }, same_state old new files faults)
+not_accepted (Transcript at) a texts old new taken says files faults =
+    (record { texts = texts; taken = taken; says = says }, same_state old new files faults)
+not_accepted (NoDag place) a texts old new taken says files faults =
     (record { texts = texts; taken = taken; says = says }, same_state old new files faults)
 not_accepted texts_refused.Memory a texts old new taken says files faults =
     (tt, same_state old new files faults)

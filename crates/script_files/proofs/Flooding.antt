@@ -1,37 +1,31 @@
 -- What a flood gives, as an outcome of the whole command.
-use Rattle.std.proofs.Common.{◌≡◌, ℕ, ◌+◌, ◌<◌, ◌≤◌, ◌⊎◌, inl, inr, Bool, true, false, List, [], ◌∷◌, length, get_or, Option, Some, None, Ok, Err, refl, sym, ap, subst, ◌∙◌, arith}
-use Rattle.std.specs.Prelude.{IsTrue, All, ⊤}
+use Rattle.std.proofs.Common.{◌≡◌, ℕ, inl, inr, Bool, true, false, List, [], ◌∷◌, Option, Some, None, Ok, Err, refl, sym, ap, subst, ◌∙◌, arith}
 use Rattle.std.specs.List.{slice_get}
 use Rattle.std.proofs.lemmas.Option.{slice_get_within, get_or_from_slice_get}
 use Rattle.vw_io.specs.Outside.{ShelfState}
 use Rattle.vw_io.specs.Inputs.{AreTaken}
 use Rattle.vw_io.specs.Outputs.{Named, AreWritten, StopsWith}
 use Rattle.vw_io.specs.declared.shelves.WriteRefused.{WriteRefused}
-use Rattle.vw_cell.specs.declared.cells.Cell.{Cell}
-use Rattle.vw_cell.specs.Counts.{cell_at}
 use Rattle.vw_cell.specs.Places.{IsInBox, is_in_box}
 use Rattle.vw_cell.specs.Tests.{is_in_box_tells}
 use Rattle.vox_chunk.specs.declared.faults.VoxFault.{VoxFault}
-use Rattle.vox_chunk.specs.declared.faults.VoxFault.TheVariants as faults
 use Rattle.vox_read.specs.Contents.{Content, AreModels, IsModel}
 use Rattle.vox_read.specs.Files.{ReadsModels, RefusesFile}
-use Rattle.node_words.specs.declared.shares.Full.{Full}
 use Rattle.flood.specs.declared.models.FloodRefused.{FloodRefused}
 use Rattle.flood.specs.declared.models.FloodRefused.TheVariants as floods
-use Rattle.flood.specs.Models.{whole_box, has_place, has_start, FloodsModel, MayFillStore, RefusesFlood}
+use Rattle.flood.specs.Models.{whole_box, has_start, RefusesFlood}
 use Rattle.script_files.specs.declared.tallies.Done.TheVariants.{Counted}
 use Rattle.script_files.specs.declared.refusals.CommandRefused.TheVariants.{Output}
 use Rattle.script_files.specs.declared.refusals.OutputRefused.{OutputRefused}
 use Rattle.script_files.specs.declared.refusals.TextRefused.{TextRefused}
-use Rattle.script_files.specs.declared.refusals.TextRefused.TheVariants.{Vox, Script, Collides, NoScene, NoPlace, StoreFull, Memory}
+use Rattle.script_files.specs.declared.refusals.TextRefused.TheVariants.{Vox, Script, Collides, NoScene, NoPlace, StoreFull, NoDag, Journal, Transcript, Memory}
 use Rattle.script_files.specs.declared.requests.Request.TheVariants.{Flood}
 use Rattle.script_files.specs.Orders.{FloodAsked}
-use Rattle.script_files.specs.Floods.{start_of, has_start_place, IsFar, FloodsText, RegionFlooded, RefusesFlooding, RefusesStart}
+use Rattle.script_files.specs.Floods.{start_of, has_start_place, IsFar, FloodsText, RefusesFlooding, RefusesStart}
 use Rattle.script_files.specs.Meanings.{file_in, RefusesTexts}
 use Rattle.script_files.specs.Outcomes.{Outcome}
 use Rattle.script_files.specs.Refusals.{output_name, of_vox, of_flood}
 use Rattle.script_files.specs.Requests.{inputs_of}
-use Rattle.script_files.proofs.Ending.{same_state}
 use Rattle.script_files.proofs.Refusing.{vox_refused}
 
 -- ---- places
@@ -82,6 +76,9 @@ models_refused asked bytes models NoPlace gives says =
     record { models = models; gives = gives; lacks = says }
 models_refused asked bytes models (StoreFull full) gives says =
     record { models = models; gives = gives; fills = says }
+models_refused asked bytes models (Journal line) gives says = absurd says
+models_refused asked bytes models (Transcript at) gives says = absurd says
+models_refused asked bytes models (NoDag place) gives says = absurd says
 models_refused asked bytes models Memory gives says = tt
 
 texts_of : (r : TextRefused) (asked : FloodAsked) (bytes : List ℕ)
@@ -92,6 +89,9 @@ texts_of Collides asked bytes says = absurd says
 texts_of (NoScene fault) asked bytes says = absurd says
 texts_of NoPlace asked bytes says = says
 texts_of (StoreFull full) asked bytes says = says
+texts_of (NoDag place) asked bytes says = absurd says
+texts_of (Journal line) asked bytes says = absurd says
+texts_of (Transcript at) asked bytes says = absurd says
 texts_of Memory asked bytes says = tt
 
 pub file_refused : (fault : VoxFault) (asked : FloodAsked) (bytes : List ℕ)
@@ -107,6 +107,9 @@ text_refused Collides asked texts says = absurd says
 text_refused (NoScene fault) asked texts says = absurd says
 text_refused NoPlace asked texts says = says
 text_refused (StoreFull full) asked texts says = says
+text_refused (NoDag place) asked texts says = absurd says
+text_refused (Journal line) asked texts says = absurd says
+text_refused (Transcript at) asked texts says = absurd says
 text_refused Memory asked texts says = tt
 
 -- ---- outcomes

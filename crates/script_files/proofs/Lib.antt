@@ -6,3 +6,7 @@ pub mod Loading
 pub mod Counting
 pub mod Flooding
 pub mod Placing
+pub mod Auditing
+pub mod RunsAudited
+pub mod Dagging
+pub mod Looking

@@ -1,6 +1,5 @@
 -- What a scene gives, as an outcome of the whole command.
 use Rattle.std.proofs.Common.{◌≡◌, ℕ, ◌+◌, ◌^◌, ◌≤◌, List, [], ◌∷◌, None, Ok, Err, refl, sym, ap, subst, ◌∙◌}
-use Rattle.std.specs.Prelude.{⊤}
 use Rattle.vw_io.specs.Outside.{ShelfState}
 use Rattle.vw_io.specs.Inputs.{AreTaken}
 use Rattle.vw_io.specs.Outputs.{Named, AreWritten, StopsWith}
@@ -19,7 +18,7 @@ use Rattle.script_files.specs.declared.tallies.SceneTally.{SceneTally}
 use Rattle.script_files.specs.declared.refusals.CommandRefused.TheVariants.{Output}
 use Rattle.script_files.specs.declared.refusals.OutputRefused.{OutputRefused}
 use Rattle.script_files.specs.declared.refusals.TextRefused.{TextRefused}
-use Rattle.script_files.specs.declared.refusals.TextRefused.TheVariants.{Vox, Script, Collides, NoScene, NoPlace, StoreFull, Memory}
+use Rattle.script_files.specs.declared.refusals.TextRefused.TheVariants.{Vox, Script, Collides, NoScene, NoPlace, StoreFull, NoDag, Journal, Transcript, Memory}
 use Rattle.script_files.specs.declared.requests.Request.TheVariants.{Scene}
 use Rattle.script_files.specs.Orders.{SceneAsked}
 use Rattle.script_files.specs.Scenes.{TellsScene, PlacesText, RefusesPlacing}
@@ -39,6 +38,9 @@ texts_of Collides asked bytes says = absurd says
 texts_of (NoScene fault) asked bytes says = says
 texts_of NoPlace asked bytes says = absurd says
 texts_of (StoreFull full) asked bytes says = absurd says
+texts_of (NoDag place) asked bytes says = absurd says
+texts_of (Journal line) asked bytes says = absurd says
+texts_of (Transcript at) asked bytes says = absurd says
 texts_of Memory asked bytes says = tt
 
 no_names : SceneAsked
@@ -81,6 +83,9 @@ placing_refused Collides asked texts says = absurd says
 placing_refused (NoScene fault) asked texts says = says
 placing_refused NoPlace asked texts says = absurd says
 placing_refused (StoreFull full) asked texts says = absurd says
+placing_refused (NoDag place) asked texts says = absurd says
+placing_refused (Journal line) asked texts says = absurd says
+placing_refused (Transcript at) asked texts says = absurd says
 placing_refused Memory asked texts says = tt
 
 -- ---- the scene of a text

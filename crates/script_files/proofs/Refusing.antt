@@ -14,7 +14,7 @@ use Rattle.script.specs.Scripts as scripts
 use Rattle.script_files.specs.declared.refusals.TextRefused.{TextRefused}
 use Rattle.script_files.specs.declared.refusals.TextRefused.TheVariants as texts
 use Rattle.script_files.specs.declared.requests.Request.{Request}
-use Rattle.script_files.specs.declared.requests.Request.TheVariants.{Count, Run, Demo, Flood, Scene}
+use Rattle.script_files.specs.declared.requests.Request.TheVariants.{Count, Run, Demo, Flood, Scene, Dag, Look, Audit}
 use Rattle.script_files.specs.Orders.{Asked}
 use Rattle.script_files.specs.Meanings.{file_in, scripts_in, RefusesVox, RefusesTexts}
 use Rattle.script_files.specs.Refusals.{of_vox, of_kind, of_fault, RefusesScripts}
@@ -27,6 +27,9 @@ ReadsVox (Run asked) = ⊤
 ReadsVox (Demo n) = ⊥
 ReadsVox (Flood asked) = ⊤
 ReadsVox (Scene asked) = ⊤
+ReadsVox (Dag asked) = ⊤
+ReadsVox (Look asked) = ⊥
+ReadsVox (Audit asked) = ⊤
 
 file_refused : (fault : VoxFault) (a : Request) (texts : List (List ℕ)) → ReadsVox a → ReadsModels (file_in texts) (Err fault) → RefusesVox a texts fault
 file_refused fault (Count file) texts reads says = says
@@ -34,6 +37,9 @@ file_refused fault (Run asked) texts reads says = says
 file_refused fault (Demo n) texts reads says = absurd reads
 file_refused fault (Flood asked) texts reads says = says
 file_refused fault (Scene asked) texts reads says = says
+file_refused fault (Dag asked) texts reads says = says
+file_refused fault (Look asked) texts reads says = absurd reads
+file_refused fault (Audit asked) texts reads says = says
 
 pub vox_refused : (fault : VoxFault) (a : Request) (texts : List (List ℕ)) → ReadsVox a → files.RefusesFile fault (file_in texts) → RefusesTexts (of_vox fault) a texts
 vox_refused faults.NotVox a texts reads refuses = file_refused faults.NotVox a texts reads refuses
@@ -74,6 +80,9 @@ scripts_refused texts.Collides asked models texts gives refuses = absurd refuses
 scripts_refused (texts.NoScene fault) asked models texts gives refuses = absurd refuses
 scripts_refused texts.NoPlace asked models texts gives refuses = absurd refuses
 scripts_refused (texts.StoreFull full) asked models texts gives refuses = absurd refuses
+scripts_refused (texts.NoDag place) asked models texts gives refuses = absurd refuses
+scripts_refused (texts.Journal line) asked models texts gives refuses = absurd refuses
+scripts_refused (texts.Transcript at) asked models texts gives refuses = absurd refuses
 
 -- a fault of the first text is the VOX file's
 pub first_refused : (fault : VoxFault) (asked : Asked) (texts : List (List ℕ)) (file : List ℕ) → file_in texts ≡ file → files.RefusesFile fault file → RefusesTexts (of_vox fault) (Run asked) texts

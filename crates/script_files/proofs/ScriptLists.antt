@@ -1,6 +1,6 @@
 -- Scripts that are read one after the other.
 use Rattle.std.specs.Prelude.{All}
-use Rattle.std.proofs.Common.{◌≡◌, ℕ, ◌+◌, ◌^◌, ◌<◌, ◌≤◌, List, [], ◌∷◌, ◌++◌, length, map, take, drop, get_or, Result, Ok, Err, refl, sym, ap, subst, ◌∙◌, arith, append_assoc, append-nil}
+use Rattle.std.proofs.Common.{◌≡◌, ℕ, ◌+◌, ◌^◌, ◌<◌, ◌≤◌, List, [], ◌∷◌, ◌++◌, length, take, drop, get_or, Result, Ok, Err, refl, sym, ap, subst, ◌∙◌, arith, append_assoc, append-nil}
 use Rattle.std.proofs.lemmas.List.{take_more, drop_more, drop_all, length-append}
 use Rattle.std.proofs.lemmas.List.Elements.{All-nil, All-append}
 use Rattle.plain_text.specs.Steps.{◌>>=◌}
@@ -11,7 +11,7 @@ use Rattle.script.specs.Fitting.{CommandFits, RisesFrom}
 use Rattle.script.specs.Scripts.{commands_of}
 use Rattle.script_files.specs.declared.refusals.NumberedFault.{NumberedFault}
 use Rattle.script_files.specs.declared.refusals.TextRefused.{TextRefused}
-use Rattle.script_files.specs.declared.refusals.TextRefused.TheVariants.{Vox, Script, Collides, NoScene, NoPlace, StoreFull, Memory}
+use Rattle.script_files.specs.declared.refusals.TextRefused.TheVariants.{Vox, Script, Collides, NoScene, NoPlace, StoreFull, NoDag, Journal, Transcript, Memory}
 use Rattle.script_files.specs.Refusals.{RefusesScripts}
 use Rattle.script_files.specs.Scripts.{in_script, texts_from, scripts_of, AreFitScripts}
 use Rattle.script_files.specs.Requests.{name_saved, names_saved_in}
@@ -86,6 +86,9 @@ next_refused Collides side models texts text k old within is so_far refuses = ab
 next_refused (NoScene fault) side models texts text k old within is so_far refuses = absurd refuses
 next_refused NoPlace side models texts text k old within is so_far refuses = absurd refuses
 next_refused (StoreFull full) side models texts text k old within is so_far refuses = absurd refuses
+next_refused (NoDag place) side models texts text k old within is so_far refuses = absurd refuses
+next_refused (Journal line) side models texts text k old within is so_far refuses = absurd refuses
+next_refused (Transcript at) side models texts text k old within is so_far refuses = absurd refuses
 
 -- ---- names under which scripts save
 

@@ -5,10 +5,16 @@ pub mod Reports
 pub mod Demos
 pub mod Floods
 pub mod Scenes
+pub mod Dags
+pub mod Looks
+pub mod Audits
 pub mod Meanings
 pub mod Outcomes
 pub mod Refusals
 pub mod Stages
+pub mod Auditing
+pub mod Unread
 pub mod Verdicts
 pub mod Judging
+pub mod RunsAudited
 pub mod Commands

@@ -17,14 +17,17 @@ use Rattle.node_table.specs.declared.closed.Closed.{Closed}
 use Rattle.world_run.specs.Ends.{IsEndOf}
 use Rattle.reporting.specs.Numbers.{IsTotal}
 use Rattle.script_files.specs.declared.tallies.Done.{Done}
-use Rattle.script_files.specs.declared.tallies.Done.TheVariants.{Counted, Ran, Shown, Placed}
+use Rattle.script_files.specs.declared.tallies.Done.TheVariants.{Written, Counted, Ran, Shown, Placed, Looked, Answered}
 use Rattle.script_files.specs.declared.tallies.Tally.{Tally}
 use Rattle.script_files.specs.declared.refusals.NumberedFault.{NumberedFault}
 use Rattle.script_files.specs.declared.refusals.TextRefused.{TextRefused}
-use Rattle.script_files.specs.declared.refusals.TextRefused.TheVariants.{Vox, Script, Collides, NoScene, NoPlace, StoreFull, Memory}
+use Rattle.script_files.specs.declared.refusals.TextRefused.TheVariants.{Vox, Script, Collides, NoScene, NoPlace, StoreFull, NoDag, Journal, Transcript, Memory}
 use Rattle.script_files.specs.declared.requests.Request.{Request}
-use Rattle.script_files.specs.declared.requests.Request.TheVariants.{Count, Run, Demo, Flood, Scene}
-use Rattle.script_files.specs.Orders.{Asked}
+use Rattle.script_files.specs.declared.requests.Request.TheVariants.{Count, Run, Demo, Flood, Scene, Dag, Look, Audit}
+use Rattle.script_files.specs.declared.refusals.TranscriptLine.{TranscriptLine}
+use Rattle.script_files.specs.Dags.{DagWritten, FillsReplay, LacksHistory, journal_in}
+use Rattle.script_files.specs.Orders.{Asked, AuditAsked}
+use Rattle.script_files.specs.Audits.{AuditTexts, audit_texts, Audited, LacksJournal, LacksScript, LacksTranscript, FillsAudit}
 use Rattle.script_files.specs.Requests.{inputs_of, output_names, given_seen, given_by, texts_written}
 use Rattle.script_files.specs.Reports.{ReportIs, BeginsFirst, BeginsTexts}
 use Rattle.script_files.specs.Scripts.{scripts_of}
@@ -33,6 +36,8 @@ use Rattle.node_words.specs.declared.shares.Full.{Full}
 use Rattle.script_files.specs.Floods.{RegionFlooded, RegionBegun, LacksPlace, FillsStore}
 use Rattle.vox_scene.specs.declared.faults.SceneFault.{SceneFault}
 use Rattle.script_files.specs.Scenes.{ScenePlaced, SceneBegun, LacksScene}
+use Rattle.dag_file.specs.Rules.{FirstFault}
+use Rattle.script_files.specs.Looks.{LookAnswered, LacksVersion}
 
 -- the text of the VOX file is the first, and those of the scripts come behind it
 abbrev pub file_in : List (List ℕ) → List ℕ
@@ -42,6 +47,10 @@ file_in (file ∷ others) = file
 abbrev pub scripts_in : List (List ℕ) → List (List ℕ)
 scripts_in [] = []
 scripts_in (file ∷ scripts) = scripts
+
+-- those of an audit, behind that of the VOX file
+abbrev pub texts_audited : AuditAsked → List (List ℕ) → AuditTexts
+texts_audited asked texts = audit_texts (length asked.scripts) texts
 
 -- `count`: the file gives models, and the number is that of their cells. Nothing is written
 pub record CellsCounted (texts : List (List ℕ)) (number : ℕ) (outputs : List Named) : Type 0 where
@@ -121,9 +130,15 @@ GivesOutputs (Flood asked) texts (Counted number) None outputs =
     RegionFlooded asked (file_in texts) number outputs
 GivesOutputs (Scene asked) texts (Placed told) None outputs =
     ScenePlaced asked (file_in texts) told outputs
+GivesOutputs (Dag asked) texts Written None outputs =
+    DagWritten asked (file_in texts) (journal_in texts) outputs
+GivesOutputs (Audit asked) texts (Answered answer) None outputs =
+    Audited asked.buckets (file_in texts) (texts_audited asked texts) answer outputs
+GivesOutputs (Look asked) texts (Looked answer) None outputs =
+    LookAnswered asked (file_in texts) answer outputs
 GivesOutputs _ texts _ _ outputs = ⊥
 
--- the first outputs of a command; `count` has none
+-- the first outputs of a command; `count`, `look` and `audit` have none
 abbrev pub BeginsOutputs : Request → List (List ℕ) → List Named → Type 0
 BeginsOutputs (Count file) texts outputs = ⊥
 BeginsOutputs (Run asked) texts outputs =
@@ -131,6 +146,10 @@ BeginsOutputs (Run asked) texts outputs =
 BeginsOutputs (Demo n) texts outputs = LoadSessionsBegan n outputs ⊎ LoadBegan n outputs
 BeginsOutputs (Flood asked) texts outputs = RegionBegun asked (file_in texts) outputs
 BeginsOutputs (Scene asked) texts outputs = SceneBegun asked (file_in texts) outputs
+BeginsOutputs (Dag asked) texts outputs =
+    DagWritten asked (file_in texts) (journal_in texts) outputs
+BeginsOutputs (Look asked) texts outputs = ⊥
+BeginsOutputs (Audit asked) texts outputs = ⊥
 
 -- the VOX file gives models, and this is the first fault of the first script that has one
 pub record HasScriptFault (asked : Asked) (texts : List (List ℕ))
@@ -145,7 +164,10 @@ RefusesScript (Count file) texts at = ⊥
 RefusesScript (Demo n) texts at = ⊥
 RefusesScript (Flood asked) texts at = ⊥
 RefusesScript (Scene asked) texts at = ⊥
+RefusesScript (Dag asked) texts at = ⊥
+RefusesScript (Look asked) texts at = ⊥
 RefusesScript (Run asked) texts at = HasScriptFault asked texts at
+RefusesScript (Audit asked) texts at = LacksScript (file_in texts) (texts_audited asked texts) at
 
 -- the VOX file gives models and no script has a fault, and a name of an output is taken
 pub record HasTakenName (asked : Asked) (texts : List (List ℕ)) : Type 0 where
@@ -160,6 +182,9 @@ RefusesNames (Count file) texts = ⊥
 RefusesNames (Demo n) texts = ⊥
 RefusesNames (Flood asked) texts = ⊥
 RefusesNames (Scene asked) texts = ⊥
+RefusesNames (Dag asked) texts = ⊥
+RefusesNames (Look asked) texts = ⊥
+RefusesNames (Audit asked) texts = ⊥
 RefusesNames (Run asked) texts = HasTakenName asked texts
 
 -- the VOX file has this as its first fault
@@ -169,21 +194,47 @@ RefusesVox (Run asked) texts fault = ReadsModels (file_in texts) (Err fault)
 RefusesVox (Demo n) texts fault = ⊥
 RefusesVox (Flood asked) texts fault = ReadsModels (file_in texts) (Err fault)
 RefusesVox (Scene asked) texts fault = ReadsModels (file_in texts) (Err fault)
+RefusesVox (Dag asked) texts fault = ReadsModels (file_in texts) (Err fault)
+RefusesVox (Look asked) texts fault = ⊥
+RefusesVox (Audit asked) texts fault = ReadsModels (file_in texts) (Err fault)
 
 -- the VOX file is accepted, and its scene has this as its first fault
 abbrev pub RefusesPlaces : Request → List (List ℕ) → SceneFault → Type 0
 RefusesPlaces (Scene asked) texts fault = LacksScene (file_in texts) fault
 RefusesPlaces _ texts fault = ⊥
 
--- the VOX file has no such model, or the model no such place
+-- the VOX file has no such model, or the model no such place; or the file of many versions has no
+-- such version, or its worlds no such place
 abbrev pub RefusesPlace : Request → List (List ℕ) → Type 0
 RefusesPlace (Flood asked) texts = LacksPlace asked (file_in texts)
+RefusesPlace (Look asked) texts = LacksVersion asked (file_in texts)
 RefusesPlace _ texts = ⊥
 
--- what the command stamps can fill this bucket
+-- what the command stamps or replays can fill this bucket
 abbrev pub RefusesFull : Request → List (List ℕ) → Full → Type 0
 RefusesFull (Flood asked) texts full = FillsStore asked (file_in texts) full
+RefusesFull (Audit asked) texts full = FillsAudit (file_in texts) (texts_audited asked texts) full
+RefusesFull (Dag asked) texts full = FillsReplay (file_in texts) (journal_in texts) full
 RefusesFull _ texts full = ⊥
+
+-- the VOX file is accepted, and this is the journal's first line that doesn't fit, or that of the first
+-- record that breaks a rule where the history is to be replayed
+abbrev pub RefusesHistory : Request → List (List ℕ) → ℕ → Type 0
+RefusesHistory (Audit asked) texts line =
+    LacksJournal (file_in texts) (texts_audited asked texts) line
+RefusesHistory (Dag asked) texts line = LacksHistory (file_in texts) (journal_in texts) line
+RefusesHistory _ texts line = ⊥
+
+-- no script has a fault, and this is the first line of the first transcript that doesn't fit
+abbrev pub RefusesAnswers : Request → List (List ℕ) → TranscriptLine → Type 0
+RefusesAnswers (Audit asked) texts at =
+    LacksTranscript (file_in texts) (texts_audited asked texts) at
+RefusesAnswers _ texts at = ⊥
+
+-- this is the first place where the file of many versions breaks a rule
+abbrev pub RefusesDag : Request → List (List ℕ) → ℕ → Type 0
+RefusesDag (Look asked) texts place = FirstFault (file_in texts) place
+RefusesDag _ texts place = ⊥
 
 -- why the texts, or the names of outputs, are refused
 abbrev pub RefusesTexts : TextRefused → Request → List (List ℕ) → Type 0
@@ -193,4 +244,7 @@ RefusesTexts Collides a texts = RefusesNames a texts
 RefusesTexts (NoScene fault) a texts = RefusesPlaces a texts fault
 RefusesTexts NoPlace a texts = RefusesPlace a texts
 RefusesTexts (StoreFull full) a texts = RefusesFull a texts full
+RefusesTexts (Journal line) a texts = RefusesHistory a texts line
+RefusesTexts (Transcript at) a texts = RefusesAnswers a texts at
+RefusesTexts (NoDag place) a texts = RefusesDag a texts place
 RefusesTexts Memory a texts = ⊤

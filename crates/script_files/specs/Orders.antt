@@ -1,6 +1,7 @@
 -- What a run is asked for.
-use Rattle.std.specs.Prelude.{ℕ, List, Option}
-use Rattle.node_words.specs.Plans.{Layout}
+use Rattle.std.specs.Prelude.{ℕ, if◌then◌else◌, List, Option, Some, None}
+use Rattle.node_words.specs.Plans.{Layout, is_number_of_buckets}
+use Rattle.history_model.specs.declared.questions.Question.{Question}
 
 -- how the world's store is laid out, the names of the journal and of the report where they are
 -- wanted, and those of the VOX file and of the scripts, of which the first is that of session 0
@@ -27,3 +28,29 @@ pub record SceneAsked : Type 0 where
   pub file : List ℕ
   pub out : List ℕ
   pub script : List ℕ
+
+-- what an audit is asked for: the number of buckets of each level by which a full one is judged,
+-- where it isn't the usual one, and the names of the VOX file, of the journal and of the scripts, of
+-- which the first is that of session 0
+pub record AuditAsked : Type 0 where
+  pub buckets : Option ℕ
+  pub file : List ℕ
+  pub journal : List ℕ
+  pub scripts : List (List ℕ)
+
+-- a number of buckets in its range
+abbrev pub number_of_buckets : ℕ → Option ℕ
+number_of_buckets n = if is_number_of_buckets n then Some n else None
+
+-- what is asked for the file of the versions of a journal: the names of the VOX file, of the journal
+-- and of that file
+pub record DagAsked : Type 0 where
+  pub file : List ℕ
+  pub journal : List ℕ
+  pub out : List ℕ
+
+-- what is asked of a file of many versions: its name, the number of a version, and a question
+pub record LookAsked : Type 0 where
+  pub dag : List ℕ
+  pub version : ℕ
+  pub question : Question

@@ -11,7 +11,7 @@ use Rattle.script_files.specs.declared.tallies.Done.{Done}
 use Rattle.script_files.specs.declared.refusals.CommandRefused.{CommandRefused}
 use Rattle.script_files.specs.declared.refusals.CommandRefused.TheVariants.{Input, Text, Output}
 use Rattle.script_files.specs.declared.refusals.TextRefused.{TextRefused}
-use Rattle.script_files.specs.declared.refusals.TextRefused.TheVariants.{Vox, Script, Collides, NoScene, NoPlace, StoreFull, Memory}
+use Rattle.script_files.specs.declared.refusals.TextRefused.TheVariants.{Vox, Script, Collides, NoScene, NoPlace, StoreFull, NoDag, Journal, Transcript, Memory}
 use Rattle.script_files.specs.declared.requests.Request.{Request}
 use Rattle.script_files.specs.Requests.{inputs_of}
 use Rattle.script_files.specs.Meanings.{GivesOutputs, BeginsOutputs, RefusesTexts}
@@ -59,6 +59,9 @@ RefusesFiles Collides a files = TextsRefused Collides a files
 RefusesFiles (NoScene fault) a files = TextsRefused (NoScene fault) a files
 RefusesFiles NoPlace a files = TextsRefused NoPlace a files
 RefusesFiles (StoreFull full) a files = TextsRefused (StoreFull full) a files
+RefusesFiles (Journal line) a files = TextsRefused (Journal line) a files
+RefusesFiles (Transcript at) a files = TextsRefused (Transcript at) a files
+RefusesFiles (NoDag place) a files = TextsRefused (NoDag place) a files
 RefusesFiles Memory a files = ⊤
 
 -- why it did not come to its end

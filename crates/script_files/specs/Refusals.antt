@@ -9,15 +9,21 @@ use Rattle.script.specs.Fitting.{IsOfText}
 use Rattle.script.specs.Placing.{is_save_name}
 use Rattle.flood.specs.declared.models.FloodRefused.{FloodRefused}
 use Rattle.flood.specs.declared.models.FloodRefused.TheVariants as floods
+use Rattle.dag_answers.specs.declared.asking.LookRefused.{LookRefused}
+use Rattle.dag_answers.specs.declared.asking.LookRefused.TheVariants as looks
 use Rattle.vox_scene.specs.declared.faults.SceneFault.{SceneFault}
 use Rattle.vox_scene.specs.declared.faults.SceneFault.TheVariants as scenes
+use Rattle.history_model.specs.declared.reading.JournalFault.{JournalFault}
+use Rattle.history_model.specs.declared.reading.JournalFault.TheVariants as journals
+use Rattle.audit.specs.declared.audits.AuditRefused.{AuditRefused}
+use Rattle.audit.specs.declared.audits.AuditRefused.TheVariants as audits
 use Rattle.script_files.specs.declared.refusals.CommandRefused.{CommandRefused}
 use Rattle.script_files.specs.declared.refusals.CommandRefused.TheVariants.{Output}
 use Rattle.script_files.specs.declared.refusals.NumberedFault.{NumberedFault}
 use Rattle.script_files.specs.declared.refusals.OutputName.{OutputName}
 use Rattle.script_files.specs.declared.refusals.OutputName.TheVariants.{Given, Saved}
 use Rattle.script_files.specs.declared.refusals.TextRefused.{TextRefused}
-use Rattle.script_files.specs.declared.refusals.TextRefused.TheVariants.{Vox, Script, NoScene, StoreFull, Memory}
+use Rattle.script_files.specs.declared.refusals.TextRefused.TheVariants.{Vox, Script, NoScene, NoPlace, StoreFull, NoDag, Journal, Memory}
 
 -- the bytes of an output's name
 abbrev pub output_name : OutputName → List ℕ
@@ -52,6 +58,19 @@ of_scene fault = NoScene fault
 abbrev pub of_flood : FloodRefused → TextRefused
 of_flood (floods.StoreFull full) = StoreFull full
 of_flood floods.Memory = Memory
+
+abbrev pub of_journal : JournalFault → TextRefused
+of_journal (journals.Line line) = Journal line
+of_journal journals.Memory = Memory
+
+abbrev pub of_audit : AuditRefused → TextRefused
+of_audit (audits.Full full) = StoreFull full
+of_audit audits.Memory = Memory
+
+abbrev pub of_look : LookRefused → TextRefused
+of_look (looks.Dag place) = NoDag place
+of_look looks.NoPlace = NoPlace
+of_look looks.Memory = Memory
 
 -- what a refusal says of what scripts say: a fault is their first one, and want of memory says
 -- nothing

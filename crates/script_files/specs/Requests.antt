@@ -6,7 +6,7 @@ use Rattle.history_model.specs.Journal.{journal_of}
 use Rattle.history_model.specs.Logs.{Log}
 use Rattle.script_files.specs.Orders.{Asked}
 use Rattle.script_files.specs.declared.requests.Request.{Request}
-use Rattle.script_files.specs.declared.requests.Request.TheVariants.{Count, Run, Demo, Flood, Scene}
+use Rattle.script_files.specs.declared.requests.Request.TheVariants.{Count, Run, Demo, Flood, Scene, Dag, Look, Audit}
 use Rattle.transcript.specs.declared.answers.LineAnswer.{LineAnswer}
 use Rattle.transcript.specs.Lines.{transcript_of}
 use Rattle.script.specs.declared.commands.Command.{Command}
@@ -18,7 +18,7 @@ use Rattle.session_runs.specs.Kept.{KeptSave, kept_of, kept_by}
 use Rattle.session_runs.specs.Seen.{SessionSeen}
 use Rattle.world_run.specs.Open.{saved_file}
 
--- the most bytes of a VOX file and of a script
+-- the most bytes of a VOX file or a file of many versions, and of any other input
 abbrev pub vox_limit : ℕ
 vox_limit = 2 ^ 28
 
@@ -28,7 +28,14 @@ script_limit = 2 ^ 23
 abbrev pub script_input : List ℕ → WantedInput
 script_input name = record { name = name; limit = script_limit }
 
--- what is read, in order: a VOX file first, and then the scripts. A load is made, and not read
+-- a transcript's name is its script's with `.out` behind it
+abbrev pub transcript_name : List ℕ → List ℕ
+transcript_name script = script ++ codes ".out"
+
+-- what is read, in order: a VOX file first, and then the scripts; or a file of many versions alone.
+-- A load is made, and not read. An
+-- audit has the journal between them, and the transcripts behind the scripts; a file of versions is
+-- made of a VOX file and a journal
 abbrev pub inputs_of : Request → List WantedInput
 inputs_of (Count file) = record { name = file; limit = vox_limit } ∷ []
 inputs_of (Run asked) =
@@ -36,10 +43,12 @@ inputs_of (Run asked) =
 inputs_of (Demo n) = []
 inputs_of (Flood asked) = record { name = asked.file; limit = vox_limit } ∷ []
 inputs_of (Scene asked) = record { name = asked.file; limit = vox_limit } ∷ []
-
--- a transcript's name is its script's with `.out` behind it
-abbrev pub transcript_name : List ℕ → List ℕ
-transcript_name script = script ++ codes ".out"
+inputs_of (Dag asked) =
+    record { name = asked.file; limit = vox_limit } ∷ script_input asked.journal ∷ []
+inputs_of (Look asked) = record { name = asked.dag; limit = vox_limit } ∷ []
+inputs_of (Audit asked) =
+    record { name = asked.file; limit = vox_limit } ∷ script_input asked.journal
+    ∷ (map script_input asked.scripts ++ map script_input (map transcript_name asked.scripts))
 
 -- the name of what is wanted
 abbrev pub wanted_name : Option (List ℕ) → List (List ℕ)

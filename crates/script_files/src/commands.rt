@@ -4,9 +4,12 @@ ghost use Rattle.script_files.specs.Outcomes.{Outcome};
 ghost use Rattle.script_files.specs.Refusals.{IsNamed};
 ghost use Rattle.script_files.specs.Requests.{transcript_name};
 
+use crate::audits::{audit_files, names_read};
 use crate::counts::count_file;
+use crate::dags::dag_file;
 use crate::demos::{demo_order, run_demo};
 use crate::floods::flood_file;
+use crate::looks::look_file;
 use crate::refusals::CommandRefused;
 use crate::requests::{FileName, Request};
 use crate::runs::{run_files, transcript_names};
@@ -42,18 +45,26 @@ pub fn carry_out<'w, S: Shelf, R: Threads + Wait + Sync, G: Gate + Sync>(
         Request::Demo(n) => run_demo(rt, gate, alloc, *n, transcripts, shelf),
         Request::Flood(order) => flood_file(alloc, order, shelf),
         Request::Scene(order) => scene_file(alloc, order, shelf),
+        Request::Dag(order) => dag_file(alloc, order, shelf),
+        Request::Look(order) => look_file(alloc, order, shelf),
+        Request::Audit(order) => audit_files(alloc, order, transcripts, shelf),
     }
 }
 
-/// The names of the transcripts that a command writes: none but those of a run's scripts, or of a
-/// load's.
+/// The names of the transcripts that a command writes or reads: none but those of a run's scripts, of
+/// a load's, or of an audit's.
 pub fn names_written(alloc: Global, asked: &Request<'_>) -> Result<Vec<String>, Memory>
     ensures { IfOk result (λ names. map string_bytes names.items
         ≡ map transcript_name (scripts_asked asked.now)) }
 {
     match asked {
-        Request::Count(_) | Request::Flood(_) | Request::Scene(_) => Ok(Vec::new(alloc)),
+        Request::Count(_)
+        | Request::Flood(_)
+        | Request::Scene(_)
+        | Request::Dag(_)
+        | Request::Look(_) => Ok(Vec::new(alloc)),
         Request::Run(order) => transcript_names(alloc, order.scripts),
         Request::Demo(_) => transcript_names(alloc, demo_order().scripts),
+        Request::Audit(order) => names_read(alloc, order.scripts),
     }
 }

@@ -1,14 +1,19 @@
 //! The commands of the program from files to files, over any shelf: the cells of a file are
-//! counted, scripts are run, also those of a load.
+//! counted, scripts are run, also those of a load, the versions of a journal are written as one
+//! file, a version of many is asked, and what a run left is audited.
 //!
 //! Where an input, a text or a name is refused, nothing on the shelf has changed, and
 //! `specs/Outcomes.antt` says what each answer means.
 #![tactic(auto)]
 
+mod audits;
 mod commands;
 mod counts;
+mod dags;
 mod demos;
 mod floods;
+mod laws;
+mod looks;
 mod outputs;
 mod refusals;
 mod requests;
@@ -20,6 +25,11 @@ mod texts;
 
 pub use commands::{carry_out, names_written};
 pub use demos::demo_order;
-pub use refusals::{CommandRefused, NumberedFault, OutputName, OutputRefused, TextRefused};
-pub use requests::{FileName, FloodOrder, Order, Request, SceneOrder};
+pub use laws::runs_are_answered_yes;
+pub use refusals::{
+    CommandRefused, NumberedFault, OutputName, OutputRefused, TextRefused, TranscriptLine,
+};
+pub use requests::{
+    AuditOrder, Buckets, DagOrder, FileName, FloodOrder, LookOrder, Order, Request, SceneOrder,
+};
 pub use tallies::{Completed, Done, LoadTally, RunWritten, SceneTally, Tally};

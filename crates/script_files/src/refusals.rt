@@ -1,4 +1,7 @@
+use audit::AuditRefused;
+use dag_answers::LookRefused;
 use flood::FloodRefused;
+use history_model::JournalFault;
 use node_words::Full;
 use script::{SaveName, ScriptFault, ScriptKind};
 use vox_read::VoxFault;
@@ -41,6 +44,14 @@ pub struct NumberedFault {
     pub fault: ScriptFault,
 }
 
+/// The number of a script, counted from 0, and the first line of its transcript that doesn't fit,
+/// counted from 1.
+#[derive(Clone, Copy, Debug, PartialEq, Eq)]
+pub struct TranscriptLine {
+    pub script: u16,
+    pub line: u64,
+}
+
 /// Why the texts of a command's inputs, or the names of its outputs, are refused.
 #[derive(Clone, Copy, Debug, PartialEq, Eq)]
 pub enum TextRefused {
@@ -52,10 +63,17 @@ pub enum TextRefused {
     Collides,
     /// The file's scene has this fault, which isn't want of memory.
     NoScene(SceneFault),
-    /// There is no such model, or it has no such place.
+    /// There is no such model or version, or it has no such place.
     NoPlace,
     /// This bucket of the store has no room for one more node.
     StoreFull(Full),
+    /// The file of many versions breaks its first rule at this place.
+    NoDag(u64),
+    /// This line of the journal, counted from 1, is the first that doesn't fit, or that of the first
+    /// record that breaks a rule of a legal history.
+    Journal(u32),
+    /// The first transcript that has a line that doesn't fit.
+    Transcript(TranscriptLine),
     /// Want of memory.
     Memory,
 }
@@ -112,6 +130,49 @@ impl From<FloodRefused> for TextRefused {
         match refused {
             FloodRefused::StoreFull(full) => TextRefused::StoreFull(full),
             FloodRefused::Memory => TextRefused::Memory,
+        }
+    }
+}
+
+impl From<JournalFault> for TextRefused {
+    ghost use Rattle.std.specs.Prelude.{◌≡◌};
+    ghost use Rattle.script_files.specs.Refusals.{of_journal};
+
+    ghost from_gives = { λ fault refused. refused ≡ of_journal fault };
+
+    fn from(fault: JournalFault) -> Self {
+        match fault {
+            JournalFault::Line(line) => TextRefused::Journal(line),
+            JournalFault::Memory => TextRefused::Memory,
+        }
+    }
+}
+
+impl From<AuditRefused> for TextRefused {
+    ghost use Rattle.std.specs.Prelude.{◌≡◌};
+    ghost use Rattle.script_files.specs.Refusals.{of_audit};
+
+    ghost from_gives = { λ refused text. text ≡ of_audit refused };
+
+    fn from(refused: AuditRefused) -> Self {
+        match refused {
+            AuditRefused::Full(full) => TextRefused::StoreFull(full),
+            AuditRefused::Memory => TextRefused::Memory,
+        }
+    }
+}
+
+impl From<LookRefused> for TextRefused {
+    ghost use Rattle.std.specs.Prelude.{◌≡◌};
+    ghost use Rattle.script_files.specs.Refusals.{of_look};
+
+    ghost from_gives = { λ fault refused. refused ≡ of_look fault };
+
+    fn from(refused: LookRefused) -> Self {
+        match refused {
+            LookRefused::Dag(place) => TextRefused::NoDag(place),
+            LookRefused::NoPlace => TextRefused::NoPlace,
+            LookRefused::Memory => TextRefused::Memory,
         }
     }
 }

@@ -1,7 +1,8 @@
+use dag_answers::SpelledQuestion;
 use node_words::Plan;
 use std::marker::Model;
 
-/// The most bytes that a VOX file may have: 256 MiB.
+/// The most bytes that a VOX file or a file of many versions may have: 256 MiB.
 pub(crate) const VOX_LIMIT: u64 = 268_435_456;
 
 /// The most bytes that a script may have: 8 MiB.
@@ -20,6 +21,12 @@ pub enum Request<'w> {
     Flood(FloodOrder<'w>),
     /// To place the models of a scene.
     Scene(SceneOrder<'w>),
+    /// To write the versions of a journal as one file.
+    Dag(DagOrder<'w>),
+    /// To ask a version of a file of many.
+    Look(LookOrder<'w>),
+    /// To audit a run.
+    Audit(AuditOrder<'w>),
 }
 
 /// The name of a file. Contracts see its bytes.
@@ -110,4 +117,133 @@ impl<'w> Model for SceneOrder<'w> {
       out = order.out.now;
       script = order.script.now;
     } };
+}
+
+/// What is asked for the file of the versions of a journal: the names of the VOX file, of the journal
+/// and of that file.
+#[derive(Drop)]
+pub struct DagOrder<'w> {
+    pub file: &'w str,
+    pub journal: &'w str,
+    pub out: &'w str,
+}
+
+impl<'w> Model for DagOrder<'w> {
+    ghost use Rattle.script_files.specs.Orders.{DagAsked};
+
+    ghost Value = { DagAsked };
+
+    ghost view = { λ order. record {
+      file = order.file.now;
+      journal = order.journal.now;
+      out = order.out.now;
+    } };
+}
+
+/// A number of buckets on each level, from 1 to 4,096. Contracts see the number.
+#[derive(Clone, Copy, Debug, PartialEq, Eq)]
+pub struct Buckets {
+    number: u16,
+}
+
+impl Model for Buckets {
+    ghost use Rattle.std.specs.Prelude.{ℕ, IsTrue};
+    ghost use Rattle.node_words.specs.Plans.{is_number_of_buckets};
+
+    ghost Value = { ℕ };
+
+    ghost view = { λ b. b.number };
+
+    ghost invariant = { λ b. IsTrue (is_number_of_buckets b.number) };
+
+    ghost inverse = { λ n. record { number = n } };
+}
+
+impl Buckets {
+    ghost use Rattle.std.specs.Prelude.{◌≡◌, IsTrue};
+    ghost use Rattle.node_words.specs.Plans.{is_number_of_buckets};
+    ghost use Rattle.script_files.specs.Orders.{number_of_buckets};
+
+    /// So many buckets. `None` where that isn't 1 to 4,096.
+    pub fn new(number: u32) -> Option<Buckets>
+        ensures { result ≡ number_of_buckets number }
+    {
+        if number < 1 || number > 4096 {
+            return None;
+        }
+        Some(Buckets {
+            number: number as u16,
+        })
+    }
+
+    /// The number.
+    pub fn number(self) -> u16
+        ensures is { result ≡ self }
+        ensures known { IsTrue (is_number_of_buckets result) }
+    {
+        self.number
+    }
+}
+
+/// What an audit is asked for: the number of buckets by which a full one is judged, where it isn't
+/// the usual one of each level, and the names of the VOX file, the journal and the scripts, of which
+/// the first is that of session 0.
+#[derive(Drop)]
+pub struct AuditOrder<'w> {
+    pub buckets: Option<Buckets>,
+    pub file: &'w str,
+    pub journal: &'w str,
+    pub scripts: &'w [String],
+}
+
+impl<'w> Model for AuditOrder<'w> {
+    ghost use Rattle.std.specs.Prelude.{map, string_bytes};
+    ghost use Rattle.script_files.specs.Orders.{AuditAsked};
+
+    ghost Value = { AuditAsked };
+
+    ghost view = { λ order. record {
+      buckets = order.buckets;
+      file = order.file.now;
+      journal = order.journal.now;
+      scripts = map string_bytes order.scripts.now;
+    } };
+}
+
+/// What is asked of a file of many versions: its name, the number of a version, and a question.
+#[derive(Drop)]
+pub struct LookOrder<'w> {
+    pub dag: &'w str,
+    pub version: u32,
+    pub question: SpelledQuestion,
+}
+
+impl<'w> Model for LookOrder<'w> {
+    ghost use Rattle.dag_answers.specs.Questions.{question_spelled};
+    ghost use Rattle.script_files.specs.Orders.{LookAsked};
+
+    ghost Value = { LookAsked };
+
+    ghost view = { λ order. record {
+      dag = order.dag.now;
+      version = order.version;
+      question = question_spelled order.question;
+    } };
+}
+
+impl<'w> AuditOrder<'w> {
+    ghost use Rattle.std.specs.Prelude.{◌≡◌, length};
+
+    // How many scripts there are.
+    pub(crate) fn number(&self) -> usize
+        ensures { result ≡ length self.now.scripts }
+    {
+        self.scripts.len()
+    }
+
+    pub(crate) fn buckets(&self) -> Option<Buckets>
+        ensures { result ≡ self.now.buckets }
+    {
+        self.buckets
+    }
 }

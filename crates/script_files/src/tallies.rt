@@ -1,4 +1,5 @@
 use session::Ended;
+use transcript::Answer;
 
 /// How a command came to its end: what its line tells, and the closed world where it ran scripts.
 #[derive(Drop)]
@@ -25,6 +26,12 @@ pub enum Done {
     Shown(LoadTally),
     /// The numbers of a scene.
     Placed(SceneTally),
+    /// The answer of a version of a file.
+    Looked(Answer),
+    /// Nothing: the command puts no line.
+    Written,
+    /// Whether the texts of an audit are those of one run.
+    Answered(bool),
 }
 
 /// How many scripts there were, how many records and marks their history has, and how many nodes

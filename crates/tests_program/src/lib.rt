@@ -3,7 +3,11 @@
 #![tactic(auto)]
 
 #[cfg(test)]
+mod audit_tests;
+#[cfg(test)]
 mod count_tests;
+#[cfg(test)]
+mod dag_tests;
 #[cfg(test)]
 mod demo_tests;
 #[cfg(test)]
@@ -12,6 +16,8 @@ mod file_tests;
 mod flood_tests;
 #[cfg(test)]
 mod guide_tests;
+#[cfg(test)]
+mod look_tests;
 #[cfg(test)]
 mod scene_tests;
 #[cfg(test)]

@@ -7,10 +7,10 @@ use Rattle.vw_io.specs.declared.shelves.WriteRefused.{WriteRefused}
 use Rattle.vw_io.specs.declared.shelves.WriteRefused.TheVariants as writes
 use Rattle.node_table.specs.declared.closed.Closed.{Closed}
 use Rattle.script_files.specs.declared.refusals.CommandRefused.TheVariants.{Input, Text, Output}
-use Rattle.script_files.specs.declared.refusals.TextRefused.TheVariants.{Vox, Script, Collides, NoScene, NoPlace, StoreFull, Memory}
+use Rattle.script_files.specs.declared.refusals.TextRefused.TheVariants.{Vox, Script, Collides, NoScene, NoPlace, StoreFull, NoDag, Journal, Transcript, Memory}
 use Rattle.node_words.specs.declared.shares.Full.{Full}
 use Rattle.script_files.specs.declared.requests.Request.{Request}
-use Rattle.script_files.specs.declared.requests.Request.TheVariants.{Count, Run, Demo, Flood, Scene}
+use Rattle.script_files.specs.declared.requests.Request.TheVariants.{Count, Run, Demo, Flood, Scene, Dag, Look, Audit}
 use Rattle.script_files.specs.Verdicts.{Verdict, Fine, FollowsRead, FollowsWrite, Follows}
 use Rattle.script_files.specs.Judging.{outcome_follows}
 use Rattle.voxdag_top.specs.declared.endings.Ending.{Ending}
@@ -54,7 +54,10 @@ filled_has_store (Some (Count file)) full old new ends = absurd ends.0.says
 filled_has_store (Some (Run asked)) full old new ends = absurd ends.0.says
 filled_has_store (Some (Demo n)) full old new ends = absurd ends.0.says
 filled_has_store (Some (Scene asked)) full old new ends = absurd ends.0.says
+filled_has_store (Some (Look asked)) full old new ends = absurd ends.0.says
 filled_has_store (Some (Flood asked)) full old new ends = tt
+filled_has_store (Some (Dag asked)) full old new ends = tt
+filled_has_store (Some (Audit asked)) full old new ends = tt
 
 filled_or : (a : Option Request) (v : Verdict) (result : ℕ) → HasStore a → v ≡ Fine
     → IsOr 13 result → MayCome a v (status_for v) result
@@ -81,6 +84,12 @@ status_follows a v (Refused (Text NoPlace)) result old new ends follows is =
     inl (by_status (status_for v) 10 result (ap status_for (sym follows)) is)
 status_follows a v (Refused (Text (StoreFull full))) result old new ends follows is =
     filled_or a v result (filled_has_store a full old new ends) follows is
+status_follows a v (Refused (Text (NoDag place))) result old new ends follows is =
+    inl (by_status (status_for v) 14 result (ap status_for (sym follows)) is)
+status_follows a v (Refused (Text (Journal line))) result old new ends follows is =
+    inl (by_status (status_for v) 12 result (ap status_for (sym follows)) is)
+status_follows a v (Refused (Text (Transcript at))) result old new ends follows is =
+    inl (by_status (status_for v) 15 result (ap status_for (sym follows)) is)
 status_follows a v (Refused (Output r)) result old new ends follows is =
     inl (write_status v r.why result follows is)
 status_follows a v (Refused (Text Memory)) result old new ends follows is =

@@ -4,3 +4,4 @@ pub mod ComingLaws
 pub mod VerdictLaws
 pub mod Rooms
 pub mod Lacking
+pub mod ShortWords

@@ -9,9 +9,9 @@ use Rattle.vw_io.specs.declared.shelves.WriteRefused.{WriteRefused}
 use Rattle.vw_io.specs.declared.shelves.WriteRefused.TheVariants as writes
 use Rattle.script_files.specs.declared.refusals.CommandRefused.{CommandRefused}
 use Rattle.script_files.specs.declared.refusals.CommandRefused.TheVariants.{Input, Text, Output}
-use Rattle.script_files.specs.declared.requests.Request.TheVariants.{Count, Run, Demo, Flood, Scene}
+use Rattle.script_files.specs.declared.requests.Request.TheVariants.{Count, Run, Demo, Flood, Scene, Dag, Look, Audit}
 use Rattle.script_files.specs.declared.requests.Request.{Request}
-use Rattle.script_files.specs.Orders.{Asked, FloodAsked, SceneAsked}
+use Rattle.script_files.specs.Orders.{Asked, FloodAsked, SceneAsked, DagAsked, LookAsked}
 use Rattle.vox_read.specs.Contents.{Content}
 use Rattle.history_model.specs.Journal.{journal_of}
 use Rattle.history_model.specs.Logs.{Log}
@@ -183,6 +183,26 @@ scene_write writes.Failed name asked old new room breaks fit fits =
     (All-cons (NameFits room) script [] fits (All-nil (NameFits room))))) at.parts)
 scene_write writes.Memory name asked old new room breaks fit fits = tt
 
+-- ---- `dag`
+
+dag_write : (why : WriteRefused) (name : List ℕ) (asked : DagAsked) (old new : ShelfState)
+    (room : ℕ) → BreaksOff why name (Dag asked) old new → FitsIn room asked.out
+    → WriteHasRoom why name room
+dag_write writes.Failed name asked old new room breaks fit =
+    let at = breaks.stops.0 in
+    let is = breaks.begins.begins.are in
+    subst (λ (n : List ℕ). FitsIn room n) (sym at.named)
+    (one_fits breaks.outputs at.first at.others at.output room
+    (subst (All (NameFits room)) (sym is)
+    (All-cons (NameFits room) _ [] fit (All-nil (NameFits room)))) at.parts)
+dag_write writes.Memory name asked old new room breaks fit = tt
+
+-- ---- `look` writes nothing
+
+look_write : (why : WriteRefused) (name : List ℕ) (asked : LookAsked) (old new : ShelfState)
+    → BreaksOff why name (Look asked) old new → ⊥
+look_write why name asked old new breaks = breaks.begins.begins
+
 -- ---- whichever command it is
 
 command_write : (why : WriteRefused) (name : List ℕ) (a : Request) (old new : ShelfState)
@@ -197,6 +217,11 @@ command_write why name (Flood asked) old new room breaks fit =
     flood_write why name asked old new room breaks fit
 command_write why name (Scene asked) old new room breaks fit =
     scene_write why name asked old new room breaks fit.0 fit.1
+command_write why name (Dag asked) old new room breaks fit =
+    dag_write why name asked old new room breaks fit
+command_write why name (Look asked) old new room breaks fit =
+    absurd (look_write why name asked old new breaks)
+command_write why name (Audit asked) old new room breaks fit = absurd (breaks.begins.begins)
 
 command_refusal : (r : CommandRefused) (a : Request) (old new : ShelfState) (room : ℕ) → IsNamed r
     → Outcome (Err r) a old new → OutputsFit a room → RefusalHasRoom r room

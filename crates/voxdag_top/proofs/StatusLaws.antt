@@ -10,7 +10,7 @@ use Rattle.vw_io.specs.declared.shelves.ReadRefused.TheVariants as reads
 use Rattle.vw_io.specs.declared.shelves.WriteRefused.{WriteRefused}
 use Rattle.vw_io.specs.declared.shelves.WriteRefused.TheVariants as writes
 use Rattle.script_files.specs.declared.refusals.CommandRefused.TheVariants.{Input, Text, Output}
-use Rattle.script_files.specs.declared.refusals.TextRefused.TheVariants.{Vox, Script, Collides, NoScene, NoPlace, StoreFull, Memory}
+use Rattle.script_files.specs.declared.refusals.TextRefused.TheVariants.{Vox, Script, Collides, NoScene, NoPlace, StoreFull, NoDag, Journal, Transcript, Memory}
 use Rattle.script_files.specs.declared.requests.Request.{Request}
 use Rattle.script_files.specs.Requests.{inputs_of}
 use Rattle.node_table.specs.declared.closed.Closed.{Closed}
@@ -21,7 +21,7 @@ use Rattle.voxdag_top.specs.declared.endings.Ending.TheVariants.{Completed, Usag
 use Rattle.voxdag_top.specs.Lines.{Puts, PutsBeginning, memory_line, input_line, output_line}
 use Rattle.voxdag_top.specs.Endings.{EndsAs, EndsUnread, ended_with, ending_line, status_of, input_status, output_status, MayLackLine, WriteMayLackLine}
 use Rattle.voxdag_top.specs.Finishing.{Finishes, Runs, put, failed, lacking}
-use Rattle.voxdag_top.specs.Statuses.{IsOr, is_status, Finished, Unusable, Missed, Faulted, VoxRefused, ScriptRefused, WriteFailed, OutFailed, LacksMemory, Exceeded, NoPlaceThere, SceneRefused, StoreFilled}
+use Rattle.voxdag_top.specs.Statuses.{IsOr, is_status, Finished, Unusable, Missed, Faulted, VoxRefused, ScriptRefused, WriteFailed, OutFailed, LacksMemory, Exceeded, NoPlaceThere, SceneRefused, JournalRefused, TranscriptRefused, StoreFilled, DagRefused}
 
 abbrev pub IsEither : ℕ → Type 0
 IsEither n = (n ≡ 1) ⊎ (n ≡ 8)
@@ -53,7 +53,10 @@ unread_status (Refused (Text (Script at))) ends = absurd ends
 unread_status (Refused (Text Collides)) ends = absurd ends
 unread_status (Refused (Text (NoScene fault))) ends = absurd ends
 unread_status (Refused (Text NoPlace)) ends = absurd ends
+unread_status (Refused (Text (Journal line))) ends = absurd ends
+unread_status (Refused (Text (Transcript at))) ends = absurd ends
 unread_status (Refused (Text (StoreFull full))) ends = absurd ends
+unread_status (Refused (Text (NoDag place))) ends = absurd ends
 unread_status (Refused (Input r)) ends = absurd ends
 unread_status (Refused (Output r)) ends = absurd ends
 unread_status (Completed done) ends = absurd ends
@@ -113,7 +116,10 @@ done_at (Some a) (Refused (Text (Script at))) old new left gives ends is puts = 
 done_at (Some a) (Refused (Text Collides)) old new left gives ends is puts = absurd (omega arith)
 done_at (Some a) (Refused (Text (NoScene fault))) old new left gives ends is puts = absurd (omega arith)
 done_at (Some a) (Refused (Text NoPlace)) old new left gives ends is puts = absurd (omega arith)
+done_at (Some a) (Refused (Text (Journal line))) old new left gives ends is puts = absurd (omega arith)
+done_at (Some a) (Refused (Text (Transcript at))) old new left gives ends is puts = absurd (omega arith)
 done_at (Some a) (Refused (Text (StoreFull full))) old new left gives ends is puts = absurd (omega arith)
+done_at (Some a) (Refused (Text (NoDag place))) old new left gives ends is puts = absurd (omega arith)
 done_at (Some a) (Refused (Output r)) old new left gives ends is puts = absurd (not_output r.why 0 is refl)
 done_at (Some a) (Refused (Text Memory)) old new left gives ends is puts = absurd (omega arith)
 
@@ -126,7 +132,10 @@ usage_at None (Refused (Text (Script at))) old new ends is puts = absurd ends.0
 usage_at None (Refused (Text Collides)) old new ends is puts = absurd ends.0
 usage_at None (Refused (Text (NoScene fault))) old new ends is puts = absurd ends.0
 usage_at None (Refused (Text NoPlace)) old new ends is puts = absurd ends.0
+usage_at None (Refused (Text (Journal line))) old new ends is puts = absurd ends.0
+usage_at None (Refused (Text (Transcript at))) old new ends is puts = absurd ends.0
 usage_at None (Refused (Text (StoreFull full))) old new ends is puts = absurd ends.0
+usage_at None (Refused (Text (NoDag place))) old new ends is puts = absurd ends.0
 usage_at None (Refused (Input r)) old new ends is puts = absurd ends.0
 usage_at None (Refused (Output r)) old new ends is puts = absurd ends.0
 usage_at None (Completed done) old new ends is puts = absurd ends.0
@@ -138,7 +147,10 @@ usage_at (Some a) (Refused (Text (Script at))) old new ends is puts = absurd (om
 usage_at (Some a) (Refused (Text Collides)) old new ends is puts = record { cause = ends.0; unchanged = ends.1; line = puts }
 usage_at (Some a) (Refused (Text (NoScene fault))) old new ends is puts = absurd (omega arith)
 usage_at (Some a) (Refused (Text NoPlace)) old new ends is puts = absurd (omega arith)
+usage_at (Some a) (Refused (Text (Journal line))) old new ends is puts = absurd (omega arith)
+usage_at (Some a) (Refused (Text (Transcript at))) old new ends is puts = absurd (omega arith)
 usage_at (Some a) (Refused (Text (StoreFull full))) old new ends is puts = absurd (omega arith)
+usage_at (Some a) (Refused (Text (NoDag place))) old new ends is puts = absurd (omega arith)
 usage_at (Some a) (Refused (Output r)) old new ends is puts = absurd (not_output r.why 1 is refl)
 usage_at (Some a) (Refused (Text Memory)) old new ends is puts = absurd (omega arith)
 
@@ -160,7 +172,10 @@ missing_at (Some a) (Refused (Text (Script at))) old new ends is puts = absurd (
 missing_at (Some a) (Refused (Text Collides)) old new ends is puts = absurd (omega arith)
 missing_at (Some a) (Refused (Text (NoScene fault))) old new ends is puts = absurd (omega arith)
 missing_at (Some a) (Refused (Text NoPlace)) old new ends is puts = absurd (omega arith)
+missing_at (Some a) (Refused (Text (Journal line))) old new ends is puts = absurd (omega arith)
+missing_at (Some a) (Refused (Text (Transcript at))) old new ends is puts = absurd (omega arith)
 missing_at (Some a) (Refused (Text (StoreFull full))) old new ends is puts = absurd (omega arith)
+missing_at (Some a) (Refused (Text (NoDag place))) old new ends is puts = absurd (omega arith)
 missing_at (Some a) (Refused (Output r)) old new ends is puts = absurd (not_output r.why 2 is refl)
 missing_at (Some a) (Refused (Text Memory)) old new ends is puts = absurd (omega arith)
 
@@ -182,7 +197,10 @@ read_fault_at (Some a) (Refused (Text (Script at))) old new ends is puts = absur
 read_fault_at (Some a) (Refused (Text Collides)) old new ends is puts = absurd (omega arith)
 read_fault_at (Some a) (Refused (Text (NoScene fault))) old new ends is puts = absurd (omega arith)
 read_fault_at (Some a) (Refused (Text NoPlace)) old new ends is puts = absurd (omega arith)
+read_fault_at (Some a) (Refused (Text (Journal line))) old new ends is puts = absurd (omega arith)
+read_fault_at (Some a) (Refused (Text (Transcript at))) old new ends is puts = absurd (omega arith)
 read_fault_at (Some a) (Refused (Text (StoreFull full))) old new ends is puts = absurd (omega arith)
+read_fault_at (Some a) (Refused (Text (NoDag place))) old new ends is puts = absurd (omega arith)
 read_fault_at (Some a) (Refused (Output r)) old new ends is puts = absurd (not_output r.why 3 is refl)
 read_fault_at (Some a) (Refused (Text Memory)) old new ends is puts = absurd (omega arith)
 
@@ -204,7 +222,10 @@ too_long_at (Some a) (Refused (Text (Script at))) old new ends is puts = absurd 
 too_long_at (Some a) (Refused (Text Collides)) old new ends is puts = absurd (omega arith)
 too_long_at (Some a) (Refused (Text (NoScene fault))) old new ends is puts = absurd (omega arith)
 too_long_at (Some a) (Refused (Text NoPlace)) old new ends is puts = absurd (omega arith)
+too_long_at (Some a) (Refused (Text (Journal line))) old new ends is puts = absurd (omega arith)
+too_long_at (Some a) (Refused (Text (Transcript at))) old new ends is puts = absurd (omega arith)
 too_long_at (Some a) (Refused (Text (StoreFull full))) old new ends is puts = absurd (omega arith)
+too_long_at (Some a) (Refused (Text (NoDag place))) old new ends is puts = absurd (omega arith)
 too_long_at (Some a) (Refused (Output r)) old new ends is puts = absurd (not_output r.why 9 is refl)
 too_long_at (Some a) (Refused (Text Memory)) old new ends is puts = absurd (omega arith)
 
@@ -219,7 +240,10 @@ no_place_at (Some a) (Refused (Text (Script at))) old new ends is puts = absurd 
 no_place_at (Some a) (Refused (Text Collides)) old new ends is puts = absurd (omega arith)
 no_place_at (Some a) (Refused (Text (NoScene fault))) old new ends is puts = absurd (omega arith)
 no_place_at (Some a) (Refused (Text NoPlace)) old new ends is puts = record { refuses = ends.0; unchanged = ends.1; line = puts }
+no_place_at (Some a) (Refused (Text (Journal line))) old new ends is puts = absurd (omega arith)
+no_place_at (Some a) (Refused (Text (Transcript at))) old new ends is puts = absurd (omega arith)
 no_place_at (Some a) (Refused (Text (StoreFull full))) old new ends is puts = absurd (omega arith)
+no_place_at (Some a) (Refused (Text (NoDag place))) old new ends is puts = absurd (omega arith)
 no_place_at (Some a) (Refused (Output r)) old new ends is puts = absurd (not_output r.why 10 is refl)
 no_place_at (Some a) (Refused (Text Memory)) old new ends is puts = absurd (omega arith)
 
@@ -234,9 +258,30 @@ scene_refused_at (Some a) (Refused (Text (Script at))) old new ends is puts = ab
 scene_refused_at (Some a) (Refused (Text Collides)) old new ends is puts = absurd (omega arith)
 scene_refused_at (Some a) (Refused (Text (NoScene fault))) old new ends is puts = record { fault = fault; refuses = ends.0; unchanged = ends.1; line = puts }
 scene_refused_at (Some a) (Refused (Text NoPlace)) old new ends is puts = absurd (omega arith)
+scene_refused_at (Some a) (Refused (Text (Journal line))) old new ends is puts = absurd (omega arith)
+scene_refused_at (Some a) (Refused (Text (Transcript at))) old new ends is puts = absurd (omega arith)
 scene_refused_at (Some a) (Refused (Text (StoreFull full))) old new ends is puts = absurd (omega arith)
+scene_refused_at (Some a) (Refused (Text (NoDag place))) old new ends is puts = absurd (omega arith)
 scene_refused_at (Some a) (Refused (Output r)) old new ends is puts = absurd (not_output r.why 11 is refl)
 scene_refused_at (Some a) (Refused (Text Memory)) old new ends is puts = absurd (omega arith)
+
+-- status 12
+journal_refused_at : (a : Option Request) (e : Ending) (old new : Outside) → EndsAs a e old.shelf new.shelf → status_of e ≡ 12 → Puts old.out.told new.out.told (ending_line e) → JournalRefused a old new
+journal_refused_at None e old new ends is puts = absurd (no_unread e 12 ends.0 is (λ s. omega arith) (λ s. omega arith))
+journal_refused_at (Some a) (Completed done) old new ends is puts = absurd (omega arith)
+journal_refused_at (Some a) Usage old new ends is puts = absurd ends
+journal_refused_at (Some a) (Refused (Input r)) old new ends is puts = absurd (not_input r.why 12 is refl)
+journal_refused_at (Some a) (Refused (Text (Vox fault))) old new ends is puts = absurd (omega arith)
+journal_refused_at (Some a) (Refused (Text (Script at))) old new ends is puts = absurd (omega arith)
+journal_refused_at (Some a) (Refused (Text Collides)) old new ends is puts = absurd (omega arith)
+journal_refused_at (Some a) (Refused (Text (NoScene fault))) old new ends is puts = absurd (omega arith)
+journal_refused_at (Some a) (Refused (Text NoPlace)) old new ends is puts = absurd (omega arith)
+journal_refused_at (Some a) (Refused (Text (Journal line))) old new ends is puts = record { at = line; refuses = ends.0; unchanged = ends.1; line = puts }
+journal_refused_at (Some a) (Refused (Text (Transcript at))) old new ends is puts = absurd (omega arith)
+journal_refused_at (Some a) (Refused (Text (StoreFull full))) old new ends is puts = absurd (omega arith)
+journal_refused_at (Some a) (Refused (Text (NoDag place))) old new ends is puts = absurd (omega arith)
+journal_refused_at (Some a) (Refused (Output r)) old new ends is puts = absurd (not_output r.why 12 is refl)
+journal_refused_at (Some a) (Refused (Text Memory)) old new ends is puts = absurd (omega arith)
 
 -- status 13
 full_at : (a : Option Request) (e : Ending) (old new : Outside) → EndsAs a e old.shelf new.shelf → status_of e ≡ 13 → Puts old.out.told new.out.told (ending_line e) → StoreFilled a old new
@@ -249,9 +294,30 @@ full_at (Some a) (Refused (Text (Script at))) old new ends is puts = absurd (ome
 full_at (Some a) (Refused (Text Collides)) old new ends is puts = absurd (omega arith)
 full_at (Some a) (Refused (Text (NoScene fault))) old new ends is puts = absurd (omega arith)
 full_at (Some a) (Refused (Text NoPlace)) old new ends is puts = absurd (omega arith)
+full_at (Some a) (Refused (Text (Journal line))) old new ends is puts = absurd (omega arith)
+full_at (Some a) (Refused (Text (Transcript at))) old new ends is puts = absurd (omega arith)
 full_at (Some a) (Refused (Text (StoreFull full))) old new ends is puts = record { full = full; refuses = ends.0; unchanged = ends.1; line = puts }
+full_at (Some a) (Refused (Text (NoDag place))) old new ends is puts = absurd (omega arith)
 full_at (Some a) (Refused (Output r)) old new ends is puts = absurd (not_output r.why 13 is refl)
 full_at (Some a) (Refused (Text Memory)) old new ends is puts = absurd (omega arith)
+
+-- status 14
+dag_refused_at : (a : Option Request) (e : Ending) (old new : Outside) → EndsAs a e old.shelf new.shelf → status_of e ≡ 14 → Puts old.out.told new.out.told (ending_line e) → DagRefused a old new
+dag_refused_at None e old new ends is puts = absurd (no_unread e 14 ends.0 is (λ s. omega arith) (λ s. omega arith))
+dag_refused_at (Some a) (Completed done) old new ends is puts = absurd (omega arith)
+dag_refused_at (Some a) Usage old new ends is puts = absurd ends
+dag_refused_at (Some a) (Refused (Input r)) old new ends is puts = absurd (not_input r.why 14 is refl)
+dag_refused_at (Some a) (Refused (Text (Vox fault))) old new ends is puts = absurd (omega arith)
+dag_refused_at (Some a) (Refused (Text (Script at))) old new ends is puts = absurd (omega arith)
+dag_refused_at (Some a) (Refused (Text Collides)) old new ends is puts = absurd (omega arith)
+dag_refused_at (Some a) (Refused (Text (NoScene fault))) old new ends is puts = absurd (omega arith)
+dag_refused_at (Some a) (Refused (Text NoPlace)) old new ends is puts = absurd (omega arith)
+dag_refused_at (Some a) (Refused (Text (Journal line))) old new ends is puts = absurd (omega arith)
+dag_refused_at (Some a) (Refused (Text (Transcript at))) old new ends is puts = absurd (omega arith)
+dag_refused_at (Some a) (Refused (Text (StoreFull full))) old new ends is puts = absurd (omega arith)
+dag_refused_at (Some a) (Refused (Text (NoDag place))) old new ends is puts = record { place = place; refuses = ends.0; unchanged = ends.1; line = puts }
+dag_refused_at (Some a) (Refused (Output r)) old new ends is puts = absurd (not_output r.why 14 is refl)
+dag_refused_at (Some a) (Refused (Text Memory)) old new ends is puts = absurd (omega arith)
 
 -- status 4
 vox_refused_at : (a : Option Request) (e : Ending) (old new : Outside) → EndsAs a e old.shelf new.shelf → status_of e ≡ 4 → Puts old.out.told new.out.told (ending_line e) → VoxRefused a old new
@@ -264,7 +330,10 @@ vox_refused_at (Some a) (Refused (Text (Script at))) old new ends is puts = absu
 vox_refused_at (Some a) (Refused (Text Collides)) old new ends is puts = absurd (omega arith)
 vox_refused_at (Some a) (Refused (Text (NoScene fault))) old new ends is puts = absurd (omega arith)
 vox_refused_at (Some a) (Refused (Text NoPlace)) old new ends is puts = absurd (omega arith)
+vox_refused_at (Some a) (Refused (Text (Journal line))) old new ends is puts = absurd (omega arith)
+vox_refused_at (Some a) (Refused (Text (Transcript at))) old new ends is puts = absurd (omega arith)
 vox_refused_at (Some a) (Refused (Text (StoreFull full))) old new ends is puts = absurd (omega arith)
+vox_refused_at (Some a) (Refused (Text (NoDag place))) old new ends is puts = absurd (omega arith)
 vox_refused_at (Some a) (Refused (Output r)) old new ends is puts = absurd (not_output r.why 4 is refl)
 vox_refused_at (Some a) (Refused (Text Memory)) old new ends is puts = absurd (omega arith)
 
@@ -279,9 +348,30 @@ script_refused_at (Some a) (Refused (Text (Script at))) old new ends is puts = r
 script_refused_at (Some a) (Refused (Text Collides)) old new ends is puts = absurd (omega arith)
 script_refused_at (Some a) (Refused (Text (NoScene fault))) old new ends is puts = absurd (omega arith)
 script_refused_at (Some a) (Refused (Text NoPlace)) old new ends is puts = absurd (omega arith)
+script_refused_at (Some a) (Refused (Text (Journal line))) old new ends is puts = absurd (omega arith)
+script_refused_at (Some a) (Refused (Text (Transcript at))) old new ends is puts = absurd (omega arith)
 script_refused_at (Some a) (Refused (Text (StoreFull full))) old new ends is puts = absurd (omega arith)
+script_refused_at (Some a) (Refused (Text (NoDag place))) old new ends is puts = absurd (omega arith)
 script_refused_at (Some a) (Refused (Output r)) old new ends is puts = absurd (not_output r.why 5 is refl)
 script_refused_at (Some a) (Refused (Text Memory)) old new ends is puts = absurd (omega arith)
+
+-- status 15
+transcript_refused_at : (a : Option Request) (e : Ending) (old new : Outside) → EndsAs a e old.shelf new.shelf → status_of e ≡ 15 → Puts old.out.told new.out.told (ending_line e) → TranscriptRefused a old new
+transcript_refused_at None e old new ends is puts = absurd (no_unread e 15 ends.0 is (λ s. omega arith) (λ s. omega arith))
+transcript_refused_at (Some a) (Completed done) old new ends is puts = absurd (omega arith)
+transcript_refused_at (Some a) Usage old new ends is puts = absurd ends
+transcript_refused_at (Some a) (Refused (Input r)) old new ends is puts = absurd (not_input r.why 15 is refl)
+transcript_refused_at (Some a) (Refused (Text (Vox fault))) old new ends is puts = absurd (omega arith)
+transcript_refused_at (Some a) (Refused (Text (Script at))) old new ends is puts = absurd (omega arith)
+transcript_refused_at (Some a) (Refused (Text Collides)) old new ends is puts = absurd (omega arith)
+transcript_refused_at (Some a) (Refused (Text (NoScene fault))) old new ends is puts = absurd (omega arith)
+transcript_refused_at (Some a) (Refused (Text NoPlace)) old new ends is puts = absurd (omega arith)
+transcript_refused_at (Some a) (Refused (Text (Journal line))) old new ends is puts = absurd (omega arith)
+transcript_refused_at (Some a) (Refused (Text (Transcript at))) old new ends is puts = record { at = at; refuses = ends.0; unchanged = ends.1; line = puts }
+transcript_refused_at (Some a) (Refused (Text (StoreFull full))) old new ends is puts = absurd (omega arith)
+transcript_refused_at (Some a) (Refused (Text (NoDag place))) old new ends is puts = absurd (omega arith)
+transcript_refused_at (Some a) (Refused (Output r)) old new ends is puts = absurd (not_output r.why 15 is refl)
+transcript_refused_at (Some a) (Refused (Text Memory)) old new ends is puts = absurd (omega arith)
 
 -- status 6
 write_fault_at : (a : Option Request) (e : Ending) (old new : Outside) → EndsAs a e old.shelf new.shelf → status_of e ≡ 6 → Puts old.out.told new.out.told (ending_line e) → WriteFailed a old new
@@ -294,7 +384,10 @@ write_fault_at (Some a) (Refused (Text (Script at))) old new ends is puts = absu
 write_fault_at (Some a) (Refused (Text Collides)) old new ends is puts = absurd (omega arith)
 write_fault_at (Some a) (Refused (Text (NoScene fault))) old new ends is puts = absurd (omega arith)
 write_fault_at (Some a) (Refused (Text NoPlace)) old new ends is puts = absurd (omega arith)
+write_fault_at (Some a) (Refused (Text (Journal line))) old new ends is puts = absurd (omega arith)
+write_fault_at (Some a) (Refused (Text (Transcript at))) old new ends is puts = absurd (omega arith)
 write_fault_at (Some a) (Refused (Text (StoreFull full))) old new ends is puts = absurd (omega arith)
+write_fault_at (Some a) (Refused (Text (NoDag place))) old new ends is puts = absurd (omega arith)
 write_fault_at (Some a) (Refused (Output r)) old new ends is puts =
     let which : r.why ≡ writes.Failed = is_write_fault r.why is in
     record {
@@ -315,7 +408,10 @@ not_seven (Refused (Text (Script at))) is = omega arith
 not_seven (Refused (Text Collides)) is = omega arith
 not_seven (Refused (Text (NoScene fault))) is = omega arith
 not_seven (Refused (Text NoPlace)) is = omega arith
+not_seven (Refused (Text (Journal line))) is = absurd (omega arith)
+not_seven (Refused (Text (Transcript at))) is = absurd (omega arith)
 not_seven (Refused (Text (StoreFull full))) is = omega arith
+not_seven (Refused (Text (NoDag place))) is = omega arith
 not_seven (Refused (Text Memory)) is = omega arith
 
 input_lacks : (why : ReadRefused) (name : List ℕ) → input_status why ≡ 8 → input_line why name ≡ memory_line
@@ -339,7 +435,10 @@ memory_line_of (Refused (Text (Script at))) is = absurd (omega arith)
 memory_line_of (Refused (Text Collides)) is = absurd (omega arith)
 memory_line_of (Refused (Text (NoScene fault))) is = absurd (omega arith)
 memory_line_of (Refused (Text NoPlace)) is = absurd (omega arith)
+memory_line_of (Refused (Text (Journal line))) is = absurd (omega arith)
+memory_line_of (Refused (Text (Transcript at))) is = absurd (omega arith)
 memory_line_of (Refused (Text (StoreFull full))) is = absurd (omega arith)
+memory_line_of (Refused (Text (NoDag place))) is = absurd (omega arith)
 
 out_fault_by : (e : Ending) {result : ℕ} {old new : SinkState} → Finishes e old new result → result ≡ 7 → Rose old.faults new.faults × (PutsBeginning old.told new.told (ending_line e) ⊎ (MayLackLine e × PutsBeginning old.told new.told memory_line))
 out_fault_by e (inl (put is line)) same = absurd (not_seven e (sym is ∙ same))
@@ -379,7 +478,10 @@ known_ending (Refused (Text (Script at))) = refl
 known_ending (Refused (Text Collides)) = refl
 known_ending (Refused (Text (NoScene fault))) = refl
 known_ending (Refused (Text NoPlace)) = refl
+known_ending (Refused (Text (Journal line))) = refl
+known_ending (Refused (Text (Transcript at))) = refl
 known_ending (Refused (Text (StoreFull full))) = refl
+known_ending (Refused (Text (NoDag place))) = refl
 known_ending (Refused (Text Memory)) = refl
 
 known_by : (e : Ending) {result : ℕ} {old new : SinkState} → IsTrue (is_status (status_of e)) → Finishes e old new result → IsTrue (is_status result)
@@ -441,5 +543,14 @@ no_place_says a old new result left run is = let p = ended run.ending (λ s. ome
 pub full_says : (a : Option Request) (old new : Outside) (result : ℕ) (left : Option Closed) → Runs a old new result left → result ≡ 13 → StoreFilled a old new
 full_says a old new result left run is = let p = ended run.ending (λ s. omega arith) (λ s. omega arith) run.finish is in full_at a run.ending old new run.ends p.0 p.1
 
+pub dag_refused_says : (a : Option Request) (old new : Outside) (result : ℕ) (left : Option Closed) → Runs a old new result left → result ≡ 14 → DagRefused a old new
+dag_refused_says a old new result left run is = let p = ended run.ending (λ s. omega arith) (λ s. omega arith) run.finish is in dag_refused_at a run.ending old new run.ends p.0 p.1
+
 pub scene_refused_says : (a : Option Request) (old new : Outside) (result : ℕ) (left : Option Closed) → Runs a old new result left → result ≡ 11 → SceneRefused a old new
 scene_refused_says a old new result left run is = let p = ended run.ending (λ s. omega arith) (λ s. omega arith) run.finish is in scene_refused_at a run.ending old new run.ends p.0 p.1
+
+pub journal_refused_says : (a : Option Request) (old new : Outside) (result : ℕ) (left : Option Closed) → Runs a old new result left → result ≡ 12 → JournalRefused a old new
+journal_refused_says a old new result left run is = let p = ended run.ending (λ s. omega arith) (λ s. omega arith) run.finish is in journal_refused_at a run.ending old new run.ends p.0 p.1
+
+pub transcript_refused_says : (a : Option Request) (old new : Outside) (result : ℕ) (left : Option Closed) → Runs a old new result left → result ≡ 15 → TranscriptRefused a old new
+transcript_refused_says a old new result left run is = let p = ended run.ending (λ s. omega arith) (λ s. omega arith) run.finish is in transcript_refused_at a run.ending old new run.ends p.0 p.1

@@ -11,7 +11,7 @@ use Rattle.script.specs.Faults.{number_of_kind}
 use Rattle.script_files.specs.declared.refusals.CommandRefused.{CommandRefused}
 use Rattle.script_files.specs.declared.refusals.CommandRefused.TheVariants.{Input, Text, Output}
 use Rattle.script_files.specs.declared.refusals.TextRefused.{TextRefused}
-use Rattle.script_files.specs.declared.refusals.TextRefused.TheVariants.{Vox, Script, Collides, NoScene, NoPlace, StoreFull, Memory}
+use Rattle.script_files.specs.declared.refusals.TextRefused.TheVariants.{Vox, Script, Collides, NoScene, NoPlace, StoreFull, NoDag, Journal, Transcript, Memory}
 use Rattle.script_files.specs.declared.requests.Request.{Request}
 use Rattle.script_files.specs.Outcomes.{Outcome}
 use Rattle.script_files.specs.Refusals.{output_name}
@@ -19,7 +19,7 @@ use Rattle.std.proofs.Common.{zero}
 use Rattle.node_table.specs.declared.closed.Closed.{Closed}
 use Rattle.voxdag_top.specs.declared.endings.Ending.{Ending}
 use Rattle.voxdag_top.specs.declared.endings.Ending.TheVariants.{Completed, Usage, Refused}
-use Rattle.voxdag_top.specs.Lines.{done_line, usage_line, scene_line, no_place_line, full_line, vox_line, script_line, input_line, output_line, memory_line}
+use Rattle.voxdag_top.specs.Lines.{done_line, usage_line, scene_line, no_place_line, full_line, dag_line, journal_line, transcript_line, vox_line, script_line, input_line, output_line, memory_line}
 
 -- an ending of a command
 abbrev pub CommandEnds : Ending → Request → ShelfState → ShelfState → Type 0
@@ -55,6 +55,9 @@ text_status Collides = 1
 text_status NoPlace = 10
 text_status (NoScene fault) = 11
 text_status (StoreFull full) = 13
+text_status (Journal line) = 12
+text_status (Transcript at) = 15
+text_status (NoDag place) = 14
 text_status Memory = 8
 
 abbrev pub refused_status : CommandRefused → ℕ
@@ -74,6 +77,9 @@ text_line Collides = usage_line
 text_line (NoScene fault) = scene_line (scene_kind_of fault) (place_of_fault fault)
 text_line NoPlace = no_place_line
 text_line (StoreFull full) = full_line full.level full.bucket
+text_line (Journal line) = journal_line line
+text_line (Transcript at) = transcript_line at.script at.line
+text_line (NoDag place) = dag_line place
 text_line Memory = memory_line
 
 abbrev pub refused_line : CommandRefused → List ℕ

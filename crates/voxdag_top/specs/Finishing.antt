@@ -7,7 +7,7 @@ use Rattle.node_table.specs.declared.closed.Closed.{Closed}
 use Rattle.script_files.specs.declared.refusals.CommandRefused.{CommandRefused}
 use Rattle.script_files.specs.declared.refusals.CommandRefused.TheVariants.{Input, Text, Output}
 use Rattle.script_files.specs.declared.requests.Request.{Request}
-use Rattle.script_files.specs.declared.requests.Request.TheVariants.{Count, Run, Demo, Flood, Scene}
+use Rattle.script_files.specs.declared.requests.Request.TheVariants.{Count, Run, Demo, Flood, Scene, Dag, Look, Audit}
 use Rattle.script_files.specs.Demos.{demo_asked}
 use Rattle.script_files.specs.Orders.{Asked}
 use Rattle.script_files.specs.Refusals.{output_name, IsOutputName, IsNamed}
@@ -59,6 +59,9 @@ OutputsFit (Run asked) room = NamesFit asked room
 OutputsFit (Demo n) room = NamesFit demo_asked room
 OutputsFit (Flood asked) room = FitsIn room asked.out
 OutputsFit (Scene asked) room = FitsIn room asked.out × FitsIn room asked.script
+OutputsFit (Dag asked) room = FitsIn room asked.out
+OutputsFit (Look asked) room = ⊤
+OutputsFit (Audit asked) room = ⊤
 
 -- room of so many bytes is enough for the ending's line, where that line must be made
 abbrev pub WriteHasRoom : WriteRefused → List ℕ → ℕ → Type 0

@@ -1,3 +1,4 @@
+pub mod Questions
 pub mod Words
 pub mod Lines
 pub mod Endings

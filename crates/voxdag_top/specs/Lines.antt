@@ -1,5 +1,5 @@
 -- The line that each ending puts on the output.
-use Rattle.std.specs.Prelude.{◌≡◌, ℕ, ◌+◌, List, [], ◌∷◌, ◌++◌, Option, Some, None, codes}
+use Rattle.std.specs.Prelude.{◌≡◌, ℕ, ◌+◌, List, [], ◌∷◌, ◌++◌, Bool, if◌then◌else◌, Option, Some, None, codes}
 use Rattle.std.specs.Fmt.{decimal}
 use Rattle.vw_io.specs.Put.{AppendsPrefix}
 use Rattle.vw_io.specs.declared.shelves.ReadRefused.{ReadRefused}
@@ -7,7 +7,9 @@ use Rattle.vw_io.specs.declared.shelves.ReadRefused.TheVariants as reads
 use Rattle.vw_io.specs.declared.shelves.WriteRefused.{WriteRefused}
 use Rattle.vw_io.specs.declared.shelves.WriteRefused.TheVariants as writes
 use Rattle.script_files.specs.declared.tallies.Done.{Done}
-use Rattle.script_files.specs.declared.tallies.Done.TheVariants.{Counted, Ran, Shown, Placed}
+use Rattle.script_files.specs.declared.tallies.Done.TheVariants.{Written, Counted, Ran, Shown, Placed, Looked, Answered}
+use Rattle.transcript.specs.declared.answers.Answer.{Answer}
+use Rattle.transcript.specs.Lines.{answer_text}
 use Rattle.script_files.specs.declared.tallies.Tally.{Tally}
 use Rattle.script_files.specs.declared.tallies.LoadTally.{LoadTally}
 use Rattle.script_files.specs.declared.tallies.SceneTally.{SceneTally}
@@ -53,6 +55,18 @@ abbrev pub full_line : ℕ → ℕ → List ℕ
 full_line level bucket =
     codes "voxdag: full " ++ (decimal level ++ (codes " " ++ (decimal bucket ++ codes "\n")))
 
+abbrev pub journal_line : ℕ → List ℕ
+journal_line line = codes "voxdag: journal " ++ (decimal line ++ codes "\n")
+
+-- transcripts are counted from 0, as their scripts
+abbrev pub transcript_line : ℕ → ℕ → List ℕ
+transcript_line script line =
+    codes "voxdag: transcript " ++ (decimal script ++ (codes " " ++ (decimal line ++ codes "\n")))
+
+-- a place of a file of many versions
+abbrev pub dag_line : ℕ → List ℕ
+dag_line at = codes "voxdag: dag " ++ (decimal at ++ codes "\n")
+
 abbrev pub write_fault_line : List ℕ → List ℕ
 write_fault_line name = codes "voxdag: write fault " ++ (name ++ codes "\n")
 
@@ -90,12 +104,22 @@ placed_line t =
     codes "side " ++ (decimal t.side ++ (codes " placements " ++ (decimal t.placements
     ++ codes "\n")))
 
--- the line of a command that came to its end, or its lines
+abbrev pub answer_line : Bool → List ℕ
+answer_line answer = if answer then codes "yes\n" else codes "no\n"
+
+-- the words of an answer, as a transcript has them
+abbrev pub looked_line : Answer → List ℕ
+looked_line answer = answer_text answer ++ codes "\n"
+
+-- the line of a command that came to its end, or its lines, or none
 abbrev pub done_line : Done → List ℕ
 done_line (Counted number) = count_line number
 done_line (Ran tally) = run_line tally
 done_line (Shown told) = demo_lines told
 done_line (Placed told) = placed_line told
+done_line (Looked answer) = looked_line answer
+done_line Written = []
+done_line (Answered answer) = answer_line answer
 
 -- the line was appended to what was put before, where the output tells that
 abbrev pub Puts : Option (List ℕ) → Option (List ℕ) → List ℕ → Type 0

@@ -12,24 +12,25 @@ use Rattle.vox_scene.specs.declared.faults.SceneFault.{SceneFault}
 use Rattle.vox_scene.specs.Faults.{scene_kind_of, place_of_fault}
 use Rattle.script.specs.Faults.{number_of_kind}
 use Rattle.script_files.specs.declared.refusals.NumberedFault.{NumberedFault}
+use Rattle.script_files.specs.declared.refusals.TranscriptLine.{TranscriptLine}
 use Rattle.script_files.specs.declared.refusals.TextRefused.{TextRefused}
 use Rattle.script_files.specs.declared.refusals.TextRefused.TheVariants as texts
 use Rattle.node_table.specs.declared.closed.Closed.{Closed}
 use Rattle.script_files.specs.declared.tallies.Done.{Done}
 use Rattle.node_words.specs.declared.shares.Full.{Full}
 use Rattle.script_files.specs.declared.requests.Request.{Request}
-use Rattle.script_files.specs.declared.requests.Request.TheVariants.{Flood}
+use Rattle.script_files.specs.declared.requests.Request.TheVariants.{Flood, Dag, Audit}
 use Rattle.script_files.specs.Verdicts.{Verdict, Fine}
 use Rattle.script_files.specs.Requests.{inputs_of}
 use Rattle.script_files.specs.Outcomes as outcomes
-use Rattle.voxdag_top.specs.Lines.{usage_line, input_line, vox_line, script_line, scene_line, no_place_line, full_line, write_fault_line, memory_line, done_line, Puts, PutsBeginning}
+use Rattle.voxdag_top.specs.Lines.{usage_line, input_line, vox_line, script_line, scene_line, no_place_line, full_line, dag_line, journal_line, transcript_line, write_fault_line, memory_line, done_line, Puts, PutsBeginning}
 use Rattle.voxdag_top.specs.declared.endings.Ending.{Ending}
 use Rattle.voxdag_top.specs.Endings.{EndsAs, ending_line, MayLackLine}
 
 abbrev pub is_status : ℕ → Bool
 is_status n =
     list_any (λ status. status == n) (0 ∷ 1 ∷ 2 ∷ 3 ∷ 4 ∷ 5 ∷ 6 ∷ 7 ∷ 8 ∷ 9 ∷ 10
-    ∷ 11 ∷ 13 ∷ [])
+    ∷ 11 ∷ 12 ∷ 13 ∷ 14 ∷ 15 ∷ [])
 
 -- this status, or that of a line which could not be put, or want of memory
 abbrev pub IsOr : ℕ → ℕ → Type 0
@@ -109,7 +110,8 @@ pub record ScriptRefused (a : Option Request) (old new : Outside) : Type 0 where
   pub line : Puts old.out.told new.out.told
       (script_line at.script at.fault.line (number_of_kind at.fault.kind))
 
--- ---- status 10: the VOX file is accepted, and it has no such model, or the model no such place
+-- ---- status 10: the VOX file is accepted, and it has no such model, or the model no such place; or a
+-- file of many versions is, and it has no such version, or its worlds no such place
 
 pub record NoPlaceThere (a : Option Request) (old new : Outside) : Type 0 where
   pub refuses : RefusesText texts.NoPlace a old.shelf.files
@@ -125,8 +127,17 @@ pub record SceneRefused (a : Option Request) (old new : Outside) : Type 0 where
   pub line : Puts old.out.told new.out.told
       (scene_line (scene_kind_of fault) (place_of_fault fault))
 
--- ---- status 13: the VOX file is accepted, and what the command stamps can need as many contents of
--- this level and bucket as a bucket of its store has room for
+-- ---- status 12: the VOX file is accepted, and this is the journal's first line that doesn't fit, or,
+-- where the history is to be replayed, that of the first record that breaks a rule of a legal one
+
+pub record JournalRefused (a : Option Request) (old new : Outside) : Type 0 where
+  pub at : ℕ
+  pub refuses : RefusesText (texts.Journal at) a old.shelf.files
+  pub unchanged : new.shelf ≡ old.shelf
+  pub line : Puts old.out.told new.out.told (journal_line at)
+
+-- ---- status 13: all texts are accepted, and what the command stamps or replays can need as many
+-- contents of this level and bucket as a bucket of its store has room for
 
 pub record StoreFilled (a : Option Request) (old new : Outside) : Type 0 where
   pub full : Full
@@ -134,10 +145,29 @@ pub record StoreFilled (a : Option Request) (old new : Outside) : Type 0 where
   pub unchanged : new.shelf ≡ old.shelf
   pub line : Puts old.out.told new.out.told (full_line full.level full.bucket)
 
+-- ---- status 15: no script has a fault, and this is the first line of the first transcript that
+-- doesn't fit
+
+pub record TranscriptRefused (a : Option Request) (old new : Outside) : Type 0 where
+  pub at : TranscriptLine
+  pub refuses : RefusesText (texts.Transcript at) a old.shelf.files
+  pub unchanged : new.shelf ≡ old.shelf
+  pub line : Puts old.out.told new.out.told (transcript_line at.script at.line)
+
+-- ---- status 14: this is the first place where a file of many versions breaks a rule
+
+pub record DagRefused (a : Option Request) (old new : Outside) : Type 0 where
+  pub place : ℕ
+  pub refuses : RefusesText (texts.NoDag place) a old.shelf.files
+  pub unchanged : new.shelf ≡ old.shelf
+  pub line : Puts old.out.told new.out.told (dag_line place)
+
 -- where nothing is wrong the status is 0, or 7 or 8, and of a command with a store of its own it
 -- may be 13
 abbrev pub HasStore : Option Request → Type 0
 HasStore (Some (Flood asked)) = ⊤
+HasStore (Some (Dag asked)) = ⊤
+HasStore (Some (Audit asked)) = ⊤
 HasStore _ = ⊥
 
 abbrev pub MayCome : Option Request → Verdict → ℕ → ℕ → Type 0

@@ -1,12 +1,16 @@
 -- The words after the program's name, and what they ask for.
-use Rattle.std.specs.Prelude.{ℕ, ◌^◌, ◌==◌, ◌&&◌, not, nat_le, if◌then◌else◌, List, [], ◌∷◌, find, length, replicate, Option, Some, None, Result, Ok, Err, codes}
+use Rattle.std.specs.Prelude.{ℕ, ◌^◌, ◌==◌, ◌&&◌, not, nat_le, if◌then◌else◌, List, [], ◌∷◌, Bool, find, length, replicate, Option, Some, None, Result, Ok, Err, codes}
+use Rattle.std.specs.List.{list_all}
 use Rattle.std.specs.Str.{bytes_eq}
 use Rattle.script.specs.declared.faults.ScriptKind.{ScriptKind}
 use Rattle.script.specs.Numbers.{number_of}
 use Rattle.node_words.specs.Plans.{Layout, is_number_of_buckets, is_cap, usual_buckets}
 use Rattle.command_line.specs.Parts.{LineTexts, is_operand, parts_of, line_texts, are_of_a_run}
+use Rattle.script_files.specs.Orders.{number_of_buckets}
+use Rattle.history_model.specs.declared.questions.Question.{Question}
+use Rattle.voxdag_top.specs.Questions.{question_in}
 use Rattle.script_files.specs.declared.requests.Request.{Request}
-use Rattle.script_files.specs.declared.requests.Request.TheVariants.{Count, Run, Demo, Flood, Scene}
+use Rattle.script_files.specs.declared.requests.Request.TheVariants.{Count, Run, Demo, Flood, Scene, Dag, Look, Audit}
 
 -- `count FILE`
 abbrev pub counted : List (List ℕ) → Option Request
@@ -134,9 +138,61 @@ scene_words (file ∷ out ∷ script ∷ []) =
     then Some (Scene (record { file = file; out = out; script = script })) else None
 scene_words _ = None
 
+-- `dag FILE JOURNAL OUT`, of which the last is no name of the others
+abbrev pub dag_words : List (List ℕ) → Option Request
+dag_words (file ∷ journal ∷ out ∷ []) =
+    if is_operand file && (is_operand journal && (is_operand out && (not (bytes_eq file out)
+    && not (bytes_eq journal out))))
+    then Some (Dag (record { file = file; journal = journal; out = out })) else None
+dag_words _ = None
+
+-- `audit [--buckets b] FILE JOURNAL SCRIPT ..`, with 1 to 64 scripts
+abbrev pub is_number_of_scripts : ℕ → Bool
+is_number_of_scripts n = nat_le 1 n && nat_le n 64
+
+abbrev pub audit_of : Option ℕ → List (List ℕ) → Option Request
+audit_of buckets (file ∷ journal ∷ scripts) =
+    if list_all is_operand (file ∷ journal ∷ scripts) && is_number_of_scripts (length scripts)
+    then Some (Audit (record {
+      buckets = buckets;
+      file = file;
+      journal = journal;
+      scripts = scripts;
+    }))
+    else None
+audit_of buckets _ = None
+
+-- the number of buckets that a word tells, from 1 to 4,096
+abbrev pub buckets_of : Option ℕ → Option ℕ
+buckets_of None = None
+buckets_of (Some n) = number_of_buckets n
+
+abbrev pub audit_by : Option ℕ → List (List ℕ) → Option Request
+audit_by None words = None
+audit_by (Some buckets) words = audit_of (Some buckets) words
+
+abbrev pub audit_words : List (List ℕ) → Option Request
+audit_words (option ∷ number ∷ others) =
+    if bytes_eq option (codes "--buckets") then audit_by (buckets_of (short_number number)) others
+    else audit_of None (option ∷ number ∷ others)
+audit_words _ = None
+
+-- `look DAG v` and a question; the version has 1 to 6 digits
+abbrev pub look_with : List ℕ → Option ℕ → Option Question → Option Request
+look_with dag (Some version) (Some question) =
+    Some (Look (record { dag = dag; version = version; question = question }))
+look_with dag version question = None
+
+abbrev pub look_words : List (List ℕ) → Option Request
+look_words (dag ∷ version ∷ name ∷ numbers) =
+    if is_operand dag then look_with dag (short_number version) (question_in name numbers)
+    else None
+look_words _ = None
+
 -- what the words ask for, where they are in the grammar: `count FILE`; `demo N`;
--- `flood FILE m x y z OUT`; `scene FILE OUT SCRIPT`; or `run`, and behind it in any order
--- FILE SCRIPT .. and at most once each `--side s`, `--buckets b`, `--cap c`, `--journal J` and
+-- `flood FILE m x y z OUT`; `scene FILE OUT SCRIPT`; `dag FILE JOURNAL OUT`; `look DAG v` and a question;
+-- `audit [--buckets b] FILE JOURNAL SCRIPT ..`; or `run`, and behind it in any order FILE SCRIPT ..
+-- and at most once each `--side s`, `--buckets b`, `--cap c`, `--journal J` and
 -- `--report P`
 abbrev pub named_request : List ℕ → List (List ℕ) → Option Request
 named_request command others =
@@ -144,7 +200,10 @@ named_request command others =
     else (if bytes_eq command (codes "run") then run_asked (run_texts others)
     else (if bytes_eq command (codes "demo") then demo_words others
     else (if bytes_eq command (codes "flood") then flood_words others
-    else (if bytes_eq command (codes "scene") then scene_words others else None))))
+    else (if bytes_eq command (codes "scene") then scene_words others
+    else (if bytes_eq command (codes "dag") then dag_words others
+    else (if bytes_eq command (codes "look") then look_words others
+    else (if bytes_eq command (codes "audit") then audit_words others else None)))))))
 
 abbrev pub request_of : List (List ℕ) → Option Request
 request_of [] = None

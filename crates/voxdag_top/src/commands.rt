@@ -8,7 +8,7 @@ ghost use Rattle.voxdag_top.specs.Words.{request_of, line_of};
 ghost use Rattle.voxdag_top.specs.Endings.{CommandEnds};
 ghost use Rattle.voxdag_top.specs.Finishing.{Runs, OutputsFit, IsEndingNamed};
 ghost use Rattle.voxdag_top.specs.Verdicts.{JudgesWords, status_for};
-ghost use Rattle.voxdag_top.specs.Statuses.{IsOr, is_status, CameToEnd, Finished, Unusable, Missed, Faulted, VoxRefused, ScriptRefused, WriteFailed, OutFailed, LacksMemory, Exceeded, NoPlaceThere, SceneRefused, StoreFilled, MayCome};
+ghost use Rattle.voxdag_top.specs.Statuses.{IsOr, is_status, CameToEnd, Finished, Unusable, Missed, Faulted, VoxRefused, ScriptRefused, WriteFailed, OutFailed, LacksMemory, Exceeded, NoPlaceThere, SceneRefused, JournalRefused, StoreFilled, DagRefused, TranscriptRefused, MayCome};
 
 use crate::endings::{Ending, Gated};
 use crate::lines::{fault_room, finish};
@@ -38,14 +38,21 @@ use vw_io::{Shelf, Sink};
 /// (x, y, z) as the VOX file OUT, and puts its number of cells; numbers have 1 to 6 digits.
 /// `scene FILE OUT SCRIPT` writes the turned models of the scene of a VOX file as the VOX file OUT,
 /// and a script that stamps each where the scene places it; it puts the side of the least world that
-/// holds them, and their number.
+/// holds them, and their number. `dag FILE JOURNAL OUT` replays a journal over the models of a VOX
+/// file, and writes its versions without a mark as the one file OUT; it puts nothing. `look DAG v Q`
+/// asks version v of a file of many versions, of at most 256 MiB: Q is `get x y z`,
+/// `count x y z a b c`, `bounds`, `faces x y z a b c` or `ray x y z dx dy dz`, each number of 1 to 9
+/// digits; it puts the answer as a transcript has it. `audit FILE JOURNAL SCRIPT ..` puts `yes` where
+/// JOURNAL and the transcripts `SCRIPT.out` are those of one run of the scripts over the models of
+/// FILE, and `no` where they are not; before FILE may stand `--buckets b`, as the run had it.
 ///
 /// The answer is the status with which the process ends: 0 done, 1 words outside the grammar or
 /// names that collide, 2 an input that is not there, 3 a fault of the shelf at an input, 4 a VOX
 /// file that is refused, 5 a script that is refused, 6 a fault of the shelf at an output, 7 a fault
-/// of `out`, 8 want of memory, 9 an input over its limit, 10 no such model or no such place of it,
-/// 11 a scene that is refused, 13 a full bucket of a command's own store. Where a line cannot be put,
-/// 7 or 8 comes in place of its status.
+/// of `out`, 8 want of memory, 9 an input over its limit, 10 no such model or version, or no such
+/// place of it, 11 a scene that is refused, 12 a journal that is refused, 13 a full bucket of a
+/// command's own store, 14 a file of many versions that is refused, 15 a transcript that is refused.
+/// Where a line cannot be put, 7 or 8 comes in place of its status.
 pub fn voxdag<S: Shelf, O: Sink, R: Threads + Wait + Sync>(
     rt: &R,
     alloc: Global,
@@ -93,7 +100,16 @@ pub fn voxdag<S: Shelf, O: Sink, R: Threads + Wait + Sync>(
     ensures scene_refused { result ≡ 11 → SceneRefused (request_of (texts words.now))
         (outside (S.state shelf.old) (O.state out.old))
         (outside (S.state shelf.new) (O.state out.new)) }
+    ensures journal_refused { result ≡ 12 → JournalRefused (request_of (texts words.now))
+        (outside (S.state shelf.old) (O.state out.old))
+        (outside (S.state shelf.new) (O.state out.new)) }
     ensures full { result ≡ 13 → StoreFilled (request_of (texts words.now))
+        (outside (S.state shelf.old) (O.state out.old))
+        (outside (S.state shelf.new) (O.state out.new)) }
+    ensures dag_refused { result ≡ 14 → DagRefused (request_of (texts words.now))
+        (outside (S.state shelf.old) (O.state out.old))
+        (outside (S.state shelf.new) (O.state out.new)) }
+    ensures transcript_refused { result ≡ 15 → TranscriptRefused (request_of (texts words.now))
         (outside (S.state shelf.old) (O.state out.old))
         (outside (S.state shelf.new) (O.state out.new)) }
 
@@ -158,7 +174,16 @@ pub fn voxdag_gated<S: Shelf, O: Sink, R: Threads + Wait + Sync, G: Gate + Sync>
     ensures scene_refused { result.status ≡ 11 → SceneRefused (request_of (texts words.now))
         (outside (S.state shelf.old) (O.state out.old))
         (outside (S.state shelf.new) (O.state out.new)) }
+    ensures journal_refused { result.status ≡ 12 → JournalRefused (request_of (texts words.now))
+        (outside (S.state shelf.old) (O.state out.old))
+        (outside (S.state shelf.new) (O.state out.new)) }
     ensures full { result.status ≡ 13 → StoreFilled (request_of (texts words.now))
+        (outside (S.state shelf.old) (O.state out.old))
+        (outside (S.state shelf.new) (O.state out.new)) }
+    ensures dag_refused { result.status ≡ 14 → DagRefused (request_of (texts words.now))
+        (outside (S.state shelf.old) (O.state out.old))
+        (outside (S.state shelf.new) (O.state out.new)) }
+    ensures transcript_refused { result.status ≡ 15 → TranscriptRefused (request_of (texts words.now))
         (outside (S.state shelf.old) (O.state out.old))
         (outside (S.state shelf.new) (O.state out.new)) }
 

@@ -2,13 +2,22 @@ ghost use Rattle.std.specs.Prelude.{◌≡◌, Some, Option};
 ghost use Rattle.vw_io.specs.Outside.{Files};
 ghost use Rattle.script_files.specs.Verdicts.{Verdict};
 ghost use Rattle.script_files.specs.declared.requests.Request.{Request};
-ghost use Rattle.voxdag_top.specs.Verdicts.{JudgesWords};
+ghost use Rattle.voxdag_top.specs.Verdicts.{JudgesWords, ReadsNoJournal};
 
 use vox_read::files_have_a_reading;
 
-/// A law: what words of the grammar ask of told files has a verdict.
+/// A law: what words of the grammar ask of told files has a verdict, where no journal is read.
 pub fn words_have_a_verdict()
-    ensures { (a : Request) (files : Files) → (v : Verdict) × JudgesWords (Some a) files v }
+    ensures { (a : Request) (files : Files) → ReadsNoJournal a
+        → (v : Verdict) × JudgesWords (Some a) files v }
+{
+    files_have_a_reading();
+}
+
+/// A law: no words of the grammar can be without a verdict, also where a journal is read.
+pub fn no_words_lack_a_verdict()
+    ensures { (a : Request) (files : Files)
+        → ((v : Verdict) → JudgesWords (Some a) files v → ⊥) → ⊥ }
 {
     files_have_a_reading();
 }

@@ -1,6 +1,6 @@
 ghost use Rattle.std.specs.Prelude.{◌≡◌, ◌≤◌, ◌<◌, ◌^◌, ◌+◌, ◌∷◌, ◌++◌, [], OnOk, All, length, map, codes, IfOk, IsOkAnd, IfSome, OnErr, string_bytes, string_capacity};
 ghost use Rattle.script.specs.Faults.{number_of_kind};
-ghost use Rattle.voxdag_top.specs.Lines.{done_line, run_line, demo_lines, placed_line, region_lines, script_line, input_line, output_line, write_fault_line};
+ghost use Rattle.voxdag_top.specs.Lines.{done_line, run_line, demo_lines, placed_line, looked_line, answer_line, region_lines, script_line, input_line, output_line, write_fault_line};
 ghost use Rattle.voxdag_top.specs.Endings.{ended_with, ending_line, refused_line, text_line, status_of, refused_status, MayLackLine, RefusalMayLackLine, WriteMayLackLine};
 ghost use Rattle.script_files.specs.Refusals.{output_name, IsOutputName};
 ghost use Rattle.script_files.specs.Requests.{transcript_name};
@@ -14,6 +14,7 @@ use script_files::{
 };
 use session::Ended;
 use std::alloc::{AllocError, Global};
+use transcript::Answer;
 use vw_io::{InputRefused, PutRefused, ReadRefused, Sink, WriteRefused};
 
 // Puts the ending's line, and gives the status and the closed world. The room is for a line that
@@ -87,7 +88,10 @@ fn refused_status(refused: &CommandRefused<'_>) -> u8
             TextRefused::Collides => 1,
             TextRefused::NoPlace => 10,
             TextRefused::NoScene(_) => 11,
+            TextRefused::Journal(_) => 12,
             TextRefused::StoreFull(_) => 13,
+            TextRefused::NoDag(_) => 14,
+            TextRefused::Transcript(_) => 15,
             TextRefused::Vox(_) => 4,
             TextRefused::Script(_) => 5,
             TextRefused::Memory => 8,
@@ -120,6 +124,9 @@ fn done_line(alloc: Global, done: Done) -> Result<String, AllocError>
         Done::Ran(tally) => run_line(alloc, tally),
         Done::Shown(told) => demo_lines(alloc, told),
         Done::Placed(told) => placed_line(alloc, told),
+        Done::Looked(answer) => looked_line(alloc, answer),
+        Done::Written => Ok(String::new(alloc)),
+        Done::Answered(answer) => answer_line(alloc, answer),
     }
 }
 
@@ -139,6 +146,12 @@ fn placed_line(alloc: Global, told: SceneTally) -> Result<String, AllocError>
     let side = told.side;
     let placements = told.placements;
     format!(in alloc; "side {side} placements {placements}\n")
+}
+
+fn looked_line(alloc: Global, answer: Answer) -> Result<String, AllocError>
+    ensures { IfOk result (λ text. string_bytes text ≡ looked_line answer) }
+{
+    format!(in alloc; "{answer}\n")
 }
 
 fn demo_lines(alloc: Global, told: LoadTally) -> Result<String, AllocError>
@@ -170,6 +183,16 @@ fn put_region(region: u32, cells: u64, text: &mut String) -> Result<(), AllocErr
         ≡ string_bytes text.old ++ region_lines region (cells ∷ [])) }
 {
     write!(text, "region {region} count {cells}\n")
+}
+
+fn answer_line(alloc: Global, answer: bool) -> Result<String, AllocError>
+    ensures { IfOk result (λ text. string_bytes text ≡ answer_line answer) }
+{
+    if answer {
+        format!(in alloc; "yes\n")
+    } else {
+        format!(in alloc; "no\n")
+    }
 }
 
 fn refused_line(
@@ -224,6 +247,13 @@ fn text_line(alloc: Global, text: &TextRefused) -> Result<String, AllocError>
             let bucket = full.bucket;
             format!(in alloc; "voxdag: full {level} {bucket}\n")
         }
+        TextRefused::Journal(line) => format!(in alloc; "voxdag: journal {line}\n"),
+        TextRefused::Transcript(at) => {
+            let script = at.script;
+            let line = at.line;
+            format!(in alloc; "voxdag: transcript {script} {line}\n")
+        }
+        TextRefused::NoDag(place) => format!(in alloc; "voxdag: dag {place}\n"),
         TextRefused::Memory => format!(in alloc; "voxdag: memory\n"),
     }
 }
@@ -294,6 +324,9 @@ pub(crate) fn fault_room(asked: &Request<'_>, transcripts: &[String]) -> usize
         Request::Demo(_) => write_fault_room(&demo_order(), transcripts),
         Request::Flood(order) => order.out.len() + 21,
         Request::Scene(order) => order.out.len().max(order.script.len()) + 21,
+        Request::Dag(order) => order.out.len() + 21,
+        Request::Look(_) => 0,
+        Request::Audit(_) => 0,
     }
 }
 

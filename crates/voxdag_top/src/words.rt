@@ -1,13 +1,18 @@
-ghost use Rattle.std.specs.Prelude.{◌≡◌, ◌≤◌, ◌∷◌, ◌^◌, None, Some, IfOk, IfSome, length, MatchOption};
+ghost use Rattle.std.specs.Prelude.{◌≡◌, ◌≤◌, ◌∷◌, ◌^◌, true, None, Some, IfOk, IfSome, length, MatchOption};
+ghost use Rattle.std.specs.List.{list_all};
 ghost use Rattle.std.specs.Option.{option_map};
 ghost use Rattle.command_line.specs.Texts.{texts};
+ghost use Rattle.command_line.specs.Parts.{is_operand};
 ghost use Rattle.script_files.specs.Commands.{scripts_asked};
-ghost use Rattle.voxdag_top.specs.Words.{request_of, run_texts, line_of, named_request, counted, run_asked, run_planned, demo_of, flood_words, scene_words, demo_words, exponent_of, short_number, plan_for, side_of, side_told, cap_told, plan_with, plan_by, plan_told, plan_in};
+ghost use Rattle.voxdag_top.specs.Words.{request_of, run_texts, line_of, named_request, counted, run_asked, run_planned, demo_of, flood_words, scene_words, dag_words, look_words, audit_words, audit_of, audit_by, buckets_of, is_number_of_scripts, demo_words, exponent_of, short_number, plan_for, side_of, side_told, cap_told, plan_with, plan_by, plan_told, plan_in};
 
+use crate::questions::question_in;
 use command_line::{Line, are_of_a_run, is_operand, split};
 use node_words::Plan;
 use script::number;
-use script_files::{FileName, FloodOrder, Order, Request, SceneOrder};
+use script_files::{
+    AuditOrder, Buckets, DagOrder, FileName, FloodOrder, LookOrder, Order, Request, SceneOrder,
+};
 use std::alloc::{AllocError, Global};
 use vw_cell::Side;
 
@@ -74,6 +79,15 @@ fn named_request<'w>(
     }
     if command == "scene" {
         return placed(words);
+    }
+    if command == "dag" {
+        return kept(words);
+    }
+    if command == "look" {
+        return looked(words);
+    }
+    if command == "audit" {
+        return audited(words);
     }
     None
 }
@@ -186,6 +200,118 @@ fn placed(words: &[String]) -> Option<Request<'_>>
         return None;
     }
     Some(Request::Scene(SceneOrder { file, out, script }))
+}
+
+// `FILE JOURNAL OUT`, the words of `dag`.
+fn kept(words: &[String]) -> Option<Request<'_>>
+    ensures asked { result ≡ dag_words (texts words.now) }
+    ensures few { IfSome result (λ a. length (scripts_asked a) ≤ 64) }
+{
+    let [file, journal, out] = words else {
+        return None;
+    };
+    let file = file.as_str();
+    let journal = journal.as_str();
+    let out = out.as_str();
+    let are_operands = is_operand(file) && is_operand(journal) && is_operand(out);
+    if !(are_operands && file != out && journal != out) {
+        return None;
+    }
+    Some(Request::Dag(DagOrder { file, journal, out }))
+}
+
+// `[--buckets b] FILE JOURNAL SCRIPT ..`, the words of `audit`.
+fn audited(words: &[String]) -> Option<Request<'_>>
+    ensures asked { result ≡ audit_words (texts words.now) }
+    ensures few { IfSome result (λ a. length (scripts_asked a) ≤ 64) }
+{
+    match words {
+        [option, number, others @ ..] if option.as_str() == "--buckets" => {
+            audited_by(buckets_of(short_number(number.as_str())), others)
+        }
+        _ => audited_of(None, words),
+    }
+}
+
+fn audited_by<'w>(buckets: Option<Buckets>, words: &'w [String]) -> Option<Request<'w>>
+    ensures asked { result ≡ audit_by buckets (texts words.now) }
+    ensures few { IfSome result (λ a. length (scripts_asked a) ≤ 64) }
+{
+    match buckets {
+        None => None,
+        Some(buckets) => audited_of(Some(buckets), words),
+    }
+}
+
+fn audited_of<'w>(buckets: Option<Buckets>, words: &'w [String]) -> Option<Request<'w>>
+    ensures asked { result ≡ audit_of buckets (texts words.now) }
+    ensures few { IfSome result (λ a. length (scripts_asked a) ≤ 64) }
+{
+    let [file, journal, scripts @ ..] = words else {
+        return None;
+    };
+    if !(are_operands(words) && is_number_of_scripts(number_of(scripts))) {
+        return None;
+    }
+    Some(Request::Audit(AuditOrder {
+        buckets,
+        file: file.as_str(),
+        journal: journal.as_str(),
+        scripts,
+    }))
+}
+
+fn number_of(words: &[String]) -> usize
+    ensures { result ≡ length (texts words.now) }
+{
+    words.len()
+}
+
+fn is_number_of_scripts(number: usize) -> bool
+    ensures is { result ≡ is_number_of_scripts number }
+    ensures few { result ≡ true → number ≤ 64 }
+{
+    number >= 1 && number <= 64
+}
+
+fn are_operands(words: &[String]) -> bool
+    ensures { result ≡ list_all is_operand (texts words.now) }
+{
+    match words {
+        [] => true,
+        [word, others @ ..] => is_operand(word.as_str()) && are_operands(others),
+    }
+}
+
+// The number of buckets that a word tells.
+fn buckets_of(number: Option<u32>) -> Option<Buckets>
+    ensures { result ≡ buckets_of number }
+{
+    match number {
+        None => None,
+        Some(number) => Buckets::new(number),
+    }
+}
+
+// `DAG v` and a question, the words of `look`.
+fn looked(words: &[String]) -> Option<Request<'_>>
+    ensures asked { result ≡ look_words (texts words.now) }
+    ensures few { IfSome result (λ a. length (scripts_asked a) ≤ 64) }
+{
+    let [dag, version, name, numbers @ ..] = words else {
+        return None;
+    };
+    let dag = dag.as_str();
+    if !is_operand(dag) {
+        return None;
+    }
+    let version = short_number(version.as_str())?;
+    let question = question_in(name.as_str(), numbers)?;
+    Some(Request::Look(LookOrder {
+        dag,
+        version,
+        question,
+    }))
 }
 
 // The plan that the options of a run tell, where their numbers are in their ranges.

@@ -1,4 +1,4 @@
-use Rattle.voxdag_top.proofs.StatusLaws.{known_says, done_says, usage_says, missing_says, read_fault_says, vox_refused_says, script_refused_says, write_fault_says, out_fault_says, memory_says, too_long_says, no_place_says, scene_refused_says, full_says, no_world_says}
+use Rattle.voxdag_top.proofs.StatusLaws.{known_says, done_says, usage_says, missing_says, read_fault_says, vox_refused_says, script_refused_says, write_fault_says, out_fault_says, memory_says, too_long_says, no_place_says, scene_refused_says, full_says, dag_refused_says, journal_refused_says, transcript_refused_says, no_world_says}
 use Rattle.voxdag_top.proofs.ComingLaws.{usage_by, comes_by}
 use Rattle.voxdag_top.proofs.commands.voxdag_gated.Goals as goal
 
@@ -44,6 +44,9 @@ returns-clause-scene_refused g c = scene_refused_says _ _ _ _ _ c.answer.ensures
 pub returns-clause-full : goal.returns-clause-full
 returns-clause-full g c = full_says _ _ _ _ _ c.answer.ensures
 
+pub returns-clause-dag_refused : goal.returns-clause-dag_refused
+returns-clause-dag_refused g c = dag_refused_says _ _ _ _ _ c.answer.ensures
+
 pub returns-clause-usage_comes : goal.returns-clause-usage_comes
 returns-clause-usage_comes g c = usage_by _ _ _ _ _ c.answer.ensures
 
@@ -52,3 +55,9 @@ returns-clause-comes g c files v told calm = comes_by _ _ _ _ _ c.answer.ensures
 
 pub returns-clause-no_world : goal.returns-clause-no_world
 returns-clause-no_world g c = no_world_says _ _ _ _ _ c.answer.ensures
+
+pub returns-clause-journal_refused : goal.returns-clause-journal_refused
+returns-clause-journal_refused g c = journal_refused_says _ _ _ _ _ c.answer.ensures
+
+pub returns-clause-transcript_refused : goal.returns-clause-transcript_refused
+returns-clause-transcript_refused g c = transcript_refused_says _ _ _ _ _ c.answer.ensures

@@ -1,0 +1,70 @@
+-- What a run left is audited yes.
+use Rattle.std.proofs.Common.{◌≡◌, ℕ, List, Option, Some, None, Result, Ok, refl, sym, ap, subst, ◌∙◌}
+use Rattle.vox_chunk.specs.declared.faults.VoxFault.{VoxFault}
+use Rattle.vox_read.specs.Contents.{Content}
+use Rattle.vox_read.specs.Once.{one_reading}
+use Rattle.vox_scene.proofs.Ends.{same_exponent}
+use Rattle.history_model.specs.Logs.{Log}
+use Rattle.history_model.proofs.OnceLaws.{journals_once}
+use Rattle.script.specs.declared.commands.ScriptLine.{ScriptLine}
+use Rattle.transcript.specs.declared.answers.LineAnswer.{LineAnswer}
+use Rattle.audit.specs.Audits.{IsAudited, judged_by}
+use Rattle.audit.proofs.Running.{runs_are_audited}
+use Rattle.script_files.specs.declared.refusals.NumberedFault.{NumberedFault}
+use Rattle.script_files.specs.Meanings.{file_in, scripts_in}
+use Rattle.script_files.specs.RunsAudited.{RunsAreAnsweredYes}
+use Rattle.script_files.specs.Scripts.{scripts_of}
+use Rattle.script_files.specs.Unread.{said_once}
+
+abbrev Reading : Type 0
+Reading = Result (List Content) VoxFault
+
+models_once : (a b : List Content) (x y : Reading) → x ≡ Ok a → y ≡ Ok b → x ≡ y → a ≡ b
+models_once a b x y of_x of_y same = cc
+
+abbrev LinesRead : Type 0
+LinesRead = Result (List (List ScriptLine)) NumberedFault
+
+lines_once : (a b : List (List ScriptLine)) (x y : LinesRead) → x ≡ Ok a → y ≡ Ok b → x ≡ y → a ≡ b
+lines_once a b x y of_x of_y same = cc
+
+judged_side : (side : ℕ) (buckets : Option ℕ) → (judged_by side buckets).side ≡ side
+judged_side side None = refl
+judged_side side (Some b) = refl
+
+pub answered_yes : RunsAreAnsweredYes
+answered_yes asked texts log transcripts buckets answer accepted told answers same_buckets audit =
+    let begun = audit.all.scripts.begun in
+    let logs : log ≡ begun.log =
+    journals_once log begun.log told begun.journal.told begun.journal.is in
+    let models : accepted.models ≡ begun.models =
+    models_once accepted.models begun.models (Ok accepted.models) (Ok begun.models) refl refl
+    (one_reading (file_in texts) (Ok accepted.models) (Ok begun.models) accepted.gives begun.gives)
+    in
+    let side : log.side ≡ asked.plan.side =
+    same_exponent log.side asked.plan.side accepted.run.legal.same_side in
+    let reads : scripts_of asked.plan.side accepted.models (scripts_in texts)
+    ≡ scripts_of begun.log.side begun.models (scripts_in texts) =
+    ap (λ (s : ℕ). scripts_of s accepted.models (scripts_in texts)) (sym side)
+    ∙ ap (λ (l : Log). scripts_of l.side accepted.models (scripts_in texts)) logs
+    ∙ ap (λ (ms : List Content). scripts_of begun.log.side ms (scripts_in texts)) models in
+    let lines : accepted.lines ≡ audit.all.scripts.lines =
+    lines_once accepted.lines audit.all.scripts.lines
+    (scripts_of asked.plan.side accepted.models (scripts_in texts))
+    (scripts_of begun.log.side begun.models (scripts_in texts)) accepted.read
+    audit.all.scripts.read reads in
+    let said : transcripts ≡ audit.all.said =
+    said_once transcripts audit.all.said answers audit.all.transcripts.answers
+    audit.all.transcripts.are in
+    let run : IsAudited (judged_by log.side buckets) accepted.models log accepted.lines transcripts =
+    runs_are_audited asked.plan (judged_by log.side buckets) accepted.models accepted.lines
+    transcripts log (judged_side log.side buckets ∙ side) same_buckets accepted.run in
+    audit.is.1
+    (subst (λ (l : Log). IsAudited (judged_by l.side buckets) begun.models l
+    audit.all.scripts.lines audit.all.said) logs
+    (subst (λ (ms : List Content). IsAudited (judged_by log.side buckets) ms log
+    audit.all.scripts.lines audit.all.said) models
+    (subst (λ (ls : List (List ScriptLine)). IsAudited (judged_by log.side buckets) accepted.models
+    log ls audit.all.said) lines
+    (subst (λ (ts : List (List LineAnswer)). IsAudited (judged_by log.side buckets)
+    accepted.models log accepted.lines ts) said run))))

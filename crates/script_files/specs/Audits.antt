@@ -1,0 +1,132 @@
+-- What the command `audit` answers, or is refused for.
+use Rattle.std.specs.Prelude.{◌≡◌, ℕ, ◌↔◌, List, [], ◌∷◌, Bool, IsTrue, All, Option, map, get_or, take, drop, Ok, Err, ⊤}
+use Rattle.vw_io.specs.Outputs.{Named}
+use Rattle.vox_read.specs.Contents.{Content}
+use Rattle.vox_read.specs.Files.{ReadsModels}
+use Rattle.history_model.specs.Logs.{Log}
+use Rattle.history_model.specs.Entries.{IsTold}
+use Rattle.history_model.specs.Journal.{journal_of}
+use Rattle.history_model.specs.Refusals.{RefusesJournal}
+use Rattle.history_model.specs.declared.reading.JournalFault.TheVariants as journals
+use Rattle.node_words.specs.declared.shares.Full.{Full}
+use Rattle.script.specs.declared.commands.ScriptLine.{ScriptLine}
+use Rattle.script.specs.Fitting.{IsOfText}
+use Rattle.transcript.specs.Bounds.{IsLineAnswer}
+use Rattle.transcript.specs.Lines.{transcript_of}
+use Rattle.transcript.specs.Refusals.{RefusesTranscript}
+use Rattle.transcript.specs.declared.answers.LineAnswer.{LineAnswer}
+use Rattle.transcript.specs.declared.reading.TranscriptFault.TheVariants as transcripts
+use Rattle.audit.specs.Audits.{IsAudited, RefusesAudit, judged_by}
+use Rattle.audit.specs.declared.audits.AuditRefused.TheVariants as audits
+use Rattle.script_files.specs.declared.refusals.NumberedFault.{NumberedFault}
+use Rattle.script_files.specs.declared.refusals.TranscriptLine.{TranscriptLine}
+use Rattle.script_files.specs.declared.refusals.TextRefused.{TextRefused}
+use Rattle.script_files.specs.declared.refusals.TextRefused.TheVariants.{Vox, Journal, Script, Transcript, StoreFull, Memory}
+use Rattle.script_files.specs.Scripts.{scripts_of}
+
+-- the texts behind that of the VOX file: the journal's, those of the scripts, and those of their
+-- transcripts
+pub record AuditTexts : Type 0 where
+  pub journal : List ℕ
+  pub scripts : List (List ℕ)
+  pub transcripts : List (List ℕ)
+
+-- of so many scripts
+abbrev pub audit_texts : ℕ → List (List ℕ) → AuditTexts
+audit_texts n texts = record {
+  journal = get_or texts 1 [];
+  scripts = take n (drop 2 texts);
+  transcripts = drop n (drop 2 texts);
+}
+
+-- ---- what they say
+
+-- the text is that of a history
+pub record IsJournalOf (text : List ℕ) (log : Log) : Type 0 where
+  pub told : IsTold log
+  pub is : text ≡ journal_of log
+
+-- the texts are those of these answers
+pub record AreTranscriptsOf (texts : List (List ℕ)) (said : List (List LineAnswer)) : Type 0 where
+  pub answers : All (All IsLineAnswer) said
+  pub are : texts ≡ map transcript_of said
+
+-- the transcripts before that of a number are read, and this is its first line that doesn't fit
+pub record IsFirstUnread (texts : List (List ℕ)) (at : TranscriptLine) : Type 0 where
+  pub before : List (List LineAnswer)
+  pub read : AreTranscriptsOf (take at.script texts) before
+  pub text : List ℕ
+  pub others : List (List ℕ)
+  pub next : drop at.script texts ≡ text ∷ others
+  pub unfit : RefusesTranscript (transcripts.Line at.line) text
+
+-- ---- how far they are read
+
+-- the file gives models, and the journal a history
+pub record JournalRead (file : List ℕ) (t : AuditTexts) : Type 0 where
+  pub models : List Content
+  pub gives : ReadsModels file (Ok models)
+  pub log : Log
+  pub journal : IsJournalOf t.journal log
+
+-- and no script has a fault in a world of the journal's side
+pub record ScriptsRead (file : List ℕ) (t : AuditTexts) : Type 0 where
+  pub begun : JournalRead file t
+  pub lines : List (List ScriptLine)
+  pub read : scripts_of begun.log.side begun.models t.scripts ≡ Ok lines
+
+-- and the transcripts are read
+pub record AllRead (file : List ℕ) (t : AuditTexts) : Type 0 where
+  pub scripts : ScriptsRead file t
+  pub said : List (List LineAnswer)
+  pub transcripts : AreTranscriptsOf t.transcripts said
+
+-- ---- what is answered
+
+-- yes exactly where these are the history and the transcripts of one run of the scripts
+pub record AnswersAudit (buckets : Option ℕ) (file : List ℕ) (t : AuditTexts) (answer : Bool)
+    : Type 0 where
+  pub all : AllRead file t
+  pub is : IsTrue answer
+      ↔ IsAudited (judged_by all.scripts.begun.log.side buckets) all.scripts.begun.models
+      all.scripts.begun.log all.scripts.lines all.said
+
+-- and nothing is written
+pub record Audited (buckets : Option ℕ) (file : List ℕ) (t : AuditTexts) (answer : Bool)
+    (outputs : List Named) : Type 0 where
+  pub answers : AnswersAudit buckets file t answer
+  pub none : outputs ≡ []
+
+-- ---- what is refused
+
+-- the file gives models, and this is the journal's first line that doesn't fit
+pub record LacksJournal (file : List ℕ) (t : AuditTexts) (line : ℕ) : Type 0 where
+  pub models : List Content
+  pub gives : ReadsModels file (Ok models)
+  pub first : RefusesJournal (journals.Line line) t.journal
+
+-- the journal gives a history, and this is the first fault of the first script that has one
+pub record LacksScript (file : List ℕ) (t : AuditTexts) (at : NumberedFault) : Type 0 where
+  pub begun : JournalRead file t
+  pub is_of_text : IsOfText at.fault.kind
+  pub first : scripts_of begun.log.side begun.models t.scripts ≡ Err at
+
+-- no script has a fault, and this is the first line of the first transcript that doesn't fit
+pub record LacksTranscript (file : List ℕ) (t : AuditTexts) (at : TranscriptLine) : Type 0 where
+  pub scripts : ScriptsRead file t
+  pub first : IsFirstUnread t.transcripts at
+
+-- all is read, and the records up to one of them can fill this bucket
+pub record FillsAudit (file : List ℕ) (t : AuditTexts) (full : Full) : Type 0 where
+  pub all : AllRead file t
+  pub fills : RefusesAudit all.scripts.begun.models all.scripts.begun.log (audits.Full full)
+
+-- want of memory says nothing
+abbrev pub RefusesAuditing : List ℕ → AuditTexts → TextRefused → Type 0
+RefusesAuditing file t (Vox fault) = ReadsModels file (Err fault)
+RefusesAuditing file t (Journal line) = LacksJournal file t line
+RefusesAuditing file t (Script at) = LacksScript file t at
+RefusesAuditing file t (Transcript at) = LacksTranscript file t at
+RefusesAuditing file t (StoreFull full) = FillsAudit file t full
+RefusesAuditing file t Memory = ⊤
+RefusesAuditing file t _ = ⊥

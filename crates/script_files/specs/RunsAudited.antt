@@ -1,0 +1,29 @@
+-- What an audit of what a run left answers.
+use Rattle.std.specs.Prelude.{◌≡◌, ℕ, List, Bool, Option, All, IsTrue, map}
+use Rattle.history_model.specs.Entries.{IsTold}
+use Rattle.history_model.specs.Journal.{journal_of}
+use Rattle.history_model.specs.Logs.{Log}
+use Rattle.transcript.specs.Bounds.{IsLineAnswer}
+use Rattle.transcript.specs.Lines.{transcript_of}
+use Rattle.transcript.specs.declared.answers.LineAnswer.{LineAnswer}
+use Rattle.audit.specs.Audits.{judged_by}
+use Rattle.script_files.specs.Audits.{AuditTexts, AnswersAudit}
+use Rattle.script_files.specs.Meanings.{file_in, scripts_in, IsAccepted}
+use Rattle.script_files.specs.Orders.{Asked}
+
+-- the journal of a history, the scripts of a run, and its transcripts
+abbrev pub texts_left : List (List ℕ) → Log → List (List LineAnswer) → AuditTexts
+texts_left texts log transcripts = record {
+  journal = journal_of log;
+  scripts = scripts_in texts;
+  transcripts = map transcript_of transcripts;
+}
+
+-- what a run left is never answered no, by its own buckets, where its texts can be read back
+abbrev pub RunsAreAnsweredYes : Type 0
+RunsAreAnsweredYes = (asked : Asked) (texts : List (List ℕ)) (log : Log)
+    (transcripts : List (List LineAnswer)) (buckets : Option ℕ) (answer : Bool)
+    → IsAccepted asked texts log transcripts → IsTold log → All (All IsLineAnswer) transcripts
+    → (judged_by log.side buckets).buckets ≡ asked.plan.buckets
+    → AnswersAudit buckets (file_in texts) (texts_left texts log transcripts) answer
+    → IsTrue answer

@@ -1,0 +1,99 @@
+ghost use Rattle.std.specs.Prelude.{◌≡◌, ◌+◌, ◌≤◌, ◌^◌, length, IfOk, IfErr};
+ghost use Rattle.script_files.specs.Dags.{MakesDag, RefusesDagging, journal_in};
+ghost use Rattle.script_files.specs.declared.requests.Request.TheVariants as requests;
+ghost use Rattle.script_files.specs.Meanings.{file_in};
+ghost use Rattle.script_files.specs.Outcomes.{Outcome};
+ghost use Rattle.script_files.specs.Refusals.{IsNamed};
+
+use crate::refusals::{CommandRefused, OutputRefused, TextRefused};
+use crate::requests::{DagOrder, SCRIPT_LIMIT, VOX_LIMIT};
+use crate::tallies::{Completed, Done};
+use dag_answers::{HistoryRefused, file_of_history};
+use history_model::read_journal;
+use std::alloc::Global;
+use vox_read::read_models;
+use vw_io::{Input, Output, Shelf, Text, read_all, write_all};
+
+/// Replays a journal of at most 8 MiB over the models of a VOX file of at most 256 MiB, and writes
+/// the versions without a mark as one file.
+#[tactic(auto, using(crate::proofs::Ending::file_within, crate::proofs::Ending::not_accepted, crate::proofs::Dagging::dagging_refused, crate::proofs::Dagging::dag_written, crate::proofs::Dagging::dag_stopped))]
+pub fn dag_file<'w, S: Shelf>(
+    alloc: Global,
+    order: &DagOrder<'w>,
+    shelf: &mut S,
+) -> Result<Completed, CommandRefused<'w>>
+    ensures outcome { Outcome result (requests.Dag order.now) (S.state shelf.old)
+        (S.state shelf.new) }
+    ensures named { IfErr result IsNamed }
+{
+    let inputs = [
+        Input {
+            name: order.file,
+            limit: VOX_LIMIT,
+        },
+        Input {
+            name: order.journal,
+            limit: SCRIPT_LIMIT,
+        },
+    ];
+    let texts = match read_all(alloc, &inputs, shelf) {
+        Ok(texts) => texts,
+        Err(refused) => return Err(CommandRefused::Input(refused)),
+    };
+    let dag = match dag_of_texts(alloc, texts) {
+        Ok(dag) => dag,
+        Err(refused) => return Err(CommandRefused::Text(refused)),
+    };
+    let outputs = [Output {
+        name: order.out,
+        bytes: dag.as_slice(),
+    }];
+    match write_all(&outputs, shelf) {
+        Ok(()) => Ok(Completed {
+            done: Done::Written,
+            ended: None,
+        }),
+        Err(refused) => Err(CommandRefused::Output(OutputRefused::from(refused))),
+    }
+}
+
+// The file by the two texts.
+fn dag_of_texts(alloc: Global, texts: Vec<Text>) -> Result<Vec<u8>, TextRefused>
+    requires two { length texts.items ≡ 2 }
+    requires within { length (file_in texts.items) ≤ 2 ^ 28 }
+    ensures makes { IfOk result
+        (λ dag. MakesDag (file_in texts.items) (journal_in texts.items) dag.items) }
+    ensures refused { IfErr result
+        (RefusesDagging (file_in texts.items) (journal_in texts.items)) }
+{
+    let mut texts = texts;
+    let file = texts.remove(0);
+    let journal = texts.remove(0);
+    dag_of(alloc, file, journal)
+}
+
+// The file by a VOX file and a journal. Each text is given back once it is read.
+#[tactic(auto, using(dag_answers::proofs::ToldLaws::told_marks, dag_answers::proofs::LegalLaws::legal_whole, crate::proofs::Dagging::line_refused, crate::proofs::Dagging::file_refused, crate::proofs::Dagging::illegal_refused, crate::proofs::Dagging::full_refused, crate::proofs::Dagging::makes_dag))]
+fn dag_of(alloc: Global, file: Text, journal: Text) -> Result<Vec<u8>, TextRefused>
+    requires within { length file ≤ 2 ^ 28 }
+    ensures makes { IfOk result (λ dag. MakesDag file journal dag.items) }
+    ensures refused { IfErr result (RefusesDagging file journal) }
+{
+    let models = match read_models(alloc, file.as_slice()) {
+        Ok(models) => models,
+        Err(fault) => return Err(TextRefused::from(fault)),
+    };
+    drop(file);
+    let history = match read_journal(alloc, journal.as_slice()) {
+        Ok(history) => history,
+        Err(fault) => return Err(TextRefused::from(fault)),
+    };
+    drop(journal);
+    match file_of_history(alloc, &history, models) {
+        Ok(dag) => Ok(dag),
+        // a record's line comes behind the two first ones
+        Err(HistoryRefused::Illegal(number)) => Err(TextRefused::Journal(number + 2)),
+        Err(HistoryRefused::Full(full)) => Err(TextRefused::StoreFull(full)),
+        Err(HistoryRefused::Memory) => Err(TextRefused::Memory),
+    }
+}

@@ -1,0 +1,12 @@
+//! Tests of audits: of texts written by hand, of such with a piece changed, and of runs of the
+//! store for one thread.
+#![tactic(auto)]
+
+#[cfg(test)]
+mod changes;
+#[cfg(test)]
+mod meetings;
+#[cfg(test)]
+mod runs;
+#[cfg(test)]
+mod texts;

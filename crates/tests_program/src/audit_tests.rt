@@ -1,0 +1,156 @@
+//! Audits of what runs left, and of such texts with a piece changed.
+
+use std::alloc::Global;
+use std::test::Fail;
+use test_calls::{ends, has, shelf_with};
+use vw_io::{MemoryShelf, Shelf};
+
+const SCRIPT: &str =
+    "undo\nfill 0 0 0 1 1 1\nundo\nfill 1 0 0 1 1 1\nredo\nundo\ncount 0 0 0 4 1 1\n";
+
+const JOURNAL: &str = "voxdag journal 1\nside 8\n1 0 2 fill 0 0 0 1 1 1\n2 0 3 undo\n\
+                       3 0 4 fill 1 0 0 1 1 1\n4 0 6 undo\nend\n";
+
+const ANSWERS: &str = "1 @0 nothing to undo\n2 @1 ok\n3 @2 ok\n4 @3 ok\n5 @3 nothing to redo\n\
+                       6 @4 ok\n7 @4 count 0\n";
+
+// A shelf with these texts of a script, a journal and a transcript.
+fn shelf(
+    alloc: Global,
+    script: &str,
+    journal: &str,
+    transcript: &str,
+) -> Result<MemoryShelf, Fail> {
+    let mut shelf = shelf_with(alloc, script.as_bytes())?;
+    shelf.write("j", journal.as_bytes())?;
+    shelf.write("s.out", transcript.as_bytes())?;
+    Ok(shelf)
+}
+
+// The line of a run, what it prints, its script and transcript, and the line of its audit.
+const RUNS: &[(&str, &str, &str, &str, &str)] = &[
+    (
+        "run --side 8 --journal j one.vox s",
+        "scripts 1 records 4 marks 0 nodes 4\n",
+        SCRIPT,
+        ANSWERS,
+        "audit one.vox j s",
+    ),
+    (
+        "run --side 4 --buckets 1 --cap 1 --journal j one.vox s",
+        "scripts 1 records 1 marks 0 nodes 1\n",
+        "fill 0 0 0 1 1 1\nfill 1 0 0 1 1 1\nat 1 count 0 0 0 4 4 4\n",
+        "1 @1 ok\n2 @1 full 0 0\n3 @1 count 1\n",
+        "audit --buckets 1 one.vox j s",
+    ),
+];
+
+#[test]
+fn a_run_is_audited_yes(rt: HostRuntime) -> Result<(), Fail> {
+    for &(run, printed, script, transcript, audit) in RUNS {
+        let mut shelf = shelf_with(rt.alloc(), script.as_bytes())?;
+        assert!(rt;
+            ends(&rt, rt.alloc(), run, &mut shelf, 0, printed)?,
+            "at {run}"
+        );
+        assert!(rt; has(&shelf, "s.out", Some(transcript)), "at {run}");
+        assert!(rt;
+            ends(&rt, rt.alloc(), audit, &mut shelf, 0, "yes\n")?,
+            "at {audit}"
+        );
+        assert!(rt; has(&shelf, "s.out", Some(transcript)), "at {audit}");
+    }
+    Ok(())
+}
+
+// A journal, a transcript, the status of their audit, and what it prints.
+const CHANGED: &[(&str, &str, u8, &str)] = &[
+    (JOURNAL, ANSWERS, 0, "yes\n"),
+    (
+        JOURNAL,
+        "1 @0 nothing to undo\n2 @1 ok\n3 @2 ok\n4 @3 ok\n5 @3 nothing to redo\n6 @4 ok\n7 @4 count 1\n",
+        0,
+        "no\n",
+    ),
+    (
+        "voxdag journal 1\nside 8\n1 0 2 fill 0 0 0 1 1 1\n2 0 3 undo\n3 0 4 fill 1 0 0 1 1 1\nend\n",
+        ANSWERS,
+        0,
+        "no\n",
+    ),
+    (
+        "voxdag journal 1\nside 8\n1 0 1 undo\nend\n",
+        ANSWERS,
+        0,
+        "no\n",
+    ),
+    (
+        JOURNAL,
+        "1 @0 nothing to undo\n2 @1 fine\n",
+        15,
+        "voxdag: transcript 0 2\n",
+    ),
+    (JOURNAL, "1 @0 head", 15, "voxdag: transcript 0 1\n"),
+    (
+        "voxdag journal 1\nside 8\n1 0 2 fill 0 0 0 1 1 0\nend\n",
+        "fine\n",
+        12,
+        "voxdag: journal 3\n",
+    ),
+    (
+        "voxdag journal 1\nside 8\n1 0 1 undo\n",
+        ANSWERS,
+        12,
+        "voxdag: journal 4\n",
+    ),
+    ("voxdag journal 2\n", "fine\n", 12, "voxdag: journal 1\n"),
+];
+
+#[test]
+fn a_changed_text_is_seen(rt: HostRuntime) -> Result<(), Fail> {
+    for &(journal, transcript, status, printed) in CHANGED {
+        let mut shelf = shelf(rt.alloc(), SCRIPT, journal, transcript)?;
+        let line = "audit one.vox j s";
+        let ended = ends(&rt, rt.alloc(), line, &mut shelf, status, printed)?;
+        let whole = has(&shelf, "j", Some(journal)) && has(&shelf, "s.out", Some(transcript));
+        assert!(rt; ended && whole, "at {transcript}");
+    }
+    Ok(())
+}
+
+// A line over a script with a fault and a transcript with one, and how it ends.
+const REFUSED: &[(&str, u8, &str)] = &[
+    ("audit one.vox j s", 5, "voxdag: script 0 2 1\n"),
+    ("audit s j s", 4, "voxdag: vox 1 0\n"),
+    ("audit one.vox s s", 12, "voxdag: journal 1\n"),
+    ("audit one.vox no s", 2, "voxdag: missing no\n"),
+    ("audit one.vox j s no", 2, "voxdag: missing no\n"),
+    (
+        "audit one.vox j one.vox",
+        2,
+        "voxdag: missing one.vox.out\n",
+    ),
+    ("audit one.vox j", 1, "voxdag: usage\n"),
+    ("audit --buckets 0 one.vox j s", 1, "voxdag: usage\n"),
+    ("audit --buckets 4097 one.vox j s", 1, "voxdag: usage\n"),
+    ("audit --buckets=16 one.vox j s", 1, "voxdag: usage\n"),
+    ("audit --keep 2 one.vox j s", 1, "voxdag: usage\n"),
+    ("audit one.vox j s --buckets 1", 1, "voxdag: usage\n"),
+    (
+        "audit --buckets 1 --buckets 1 one.vox j s",
+        1,
+        "voxdag: usage\n",
+    ),
+];
+
+#[test]
+fn the_first_fault_decides(rt: HostRuntime) -> Result<(), Fail> {
+    let mut shelf = shelf(rt.alloc(), "head\nhed\n", JOURNAL, "fine\n")?;
+    for &(line, status, printed) in REFUSED {
+        assert!(rt;
+            ends(&rt, rt.alloc(), line, &mut shelf, status, printed)?,
+            "at {line}"
+        );
+    }
+    Ok(())
+}
