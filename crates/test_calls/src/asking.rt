@@ -1,11 +1,11 @@
 //! What tests ask the program, and a file to ask it about.
 
-use crate::meetings::{Meeting, Rule};
 use gate_run::{Gate, NoGate};
 use std::alloc::{AllocError, Global};
 use std::sync::Wait;
 use std::test::Fail;
 use std::thread::Threads;
+use test_gates::{Meeting, Rule};
 use voxdag_top::voxdag_gated;
 use vw_io::{MemoryShelf, MemorySink, Shelf};
 

@@ -3,10 +3,9 @@
 #![tactic(auto)]
 
 mod asking;
-mod meetings;
 
 pub use asking::{
     ANSWERS, GOOD, JOURNAL, ONE, REPORT, TWO, ask, ask_gated, ends, ends_by, has, holds,
     holds_last, is_refused, one_fault, repeated, shelf_with, words_of,
 };
-pub use meetings::{Meeting, Moment, Place, Rule};
+pub use voxdag_top::{Gated, voxdag, voxdag_gated};

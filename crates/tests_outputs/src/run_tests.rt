@@ -3,10 +3,10 @@ use std::sync::Wait;
 use std::test::Fail;
 use std::thread::Threads;
 use test_calls::{
-    ANSWERS, GOOD, JOURNAL, ONE, Place, Rule, TWO, ask, ends, ends_by, has, holds, holds_last,
-    is_refused, one_fault, repeated, shelf_with, words_of,
+    ANSWERS, GOOD, JOURNAL, ONE, TWO, ask, ends, ends_by, has, holds, holds_last, is_refused,
+    one_fault, repeated, shelf_with, voxdag, words_of,
 };
-use voxdag_top::voxdag;
+use test_gates::{Place, Rule};
 use vw_io::{FaultyShelf, FaultySink, MemoryShelf, Shelf};
 
 // Of a script with these changes in the lines 4 and 5.

@@ -15,10 +15,10 @@ use std::alloc::{AllocError, Global};
 use std::sync::Wait;
 use std::test::Fail;
 use std::thread::Threads;
-use test_calls::{Meeting, Place};
+use test_calls::voxdag_gated;
+use test_gates::{Meeting, Place};
 use transcript::{LineAnswer, read_transcript, transcript_text};
 use vox_read::{Models, read_models};
-use voxdag_top::voxdag_gated;
 use vw_io::{MemoryShelf, MemorySink, Shelf};
 
 // Two models: five cells of a box of 3 x 2 x 2, of which a sixth was cleared again, and a cell.

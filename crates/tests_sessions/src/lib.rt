@@ -14,6 +14,4 @@ mod players;
 #[cfg(test)]
 mod rows;
 #[cfg(test)]
-mod turns;
-#[cfg(test)]
 mod worlds;

@@ -2,7 +2,6 @@
 use crate::calls::Call::{Act, Count, FillOnce};
 use crate::calls::{Row, Told};
 use crate::players::both_answered;
-use crate::turns::Turns;
 use crate::worlds::{FIRST, SECOND, WHOLE, world_begun};
 use history_model::Act::{Erase, Fill};
 use session_runs::{ActAnswer, OnceAnswer};
@@ -10,6 +9,7 @@ use std::alloc::{AllocError, Global};
 use std::sync::Wait;
 use std::test::Fail;
 use std::thread::Threads;
+use test_gates::Turns;
 use vox_read::Models;
 
 // How many calls of two sessions of a world of side 8 are right, and whether one waited in vain.

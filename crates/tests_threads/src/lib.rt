@@ -7,5 +7,3 @@ mod meeting_tests;
 mod order_tests;
 #[cfg(test)]
 mod run_tests;
-#[cfg(test)]
-mod turns;

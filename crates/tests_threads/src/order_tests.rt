@@ -1,14 +1,12 @@
 //! Scripts that run beside each other as they may.
 
 use gate_run::NoGate;
-use session::Ended;
 use std::alloc::{AllocError, Global};
 use std::sync::Wait;
 use std::test::Fail;
 use std::thread::Threads;
-use test_calls::{ask, ends, repeated, shelf_with, words_of};
+use test_calls::{Gated, ask, ends, repeated, shelf_with, voxdag_gated, words_of};
 use transcript::{Answer, LineAnswer, read_transcript};
-use voxdag_top::voxdag_gated;
 use vw_io::{MemorySink, Shelf};
 
 // Whether the first line is accepted, and the second counts one cell, no earlier.
@@ -142,10 +140,14 @@ fn nodes_are_freed_beside_edits(rt: HostRuntime) -> Result<(), Fail> {
     Ok(())
 }
 
-// Whether a closed world of one cell was left: one record, and a node on each of two levels.
-fn is_of_one_cell(ended: &Ended) -> bool {
+// Whether the closed world has one cell, so one record and a node on each of two levels. `None`
+// where no world was left.
+fn leaves_one_cell(gated: &Gated) -> Option<bool> {
+    let Some(ended) = &gated.ended else {
+        return None;
+    };
     let closed = ended.closed();
-    closed.history.records.len() == 1 && closed.live == [1, 1, 0, 0, 0, 0, 0, 0, 0, 0, 0]
+    Some(closed.history.records.len() == 1 && closed.live == [1, 1, 0, 0, 0, 0, 0, 0, 0, 0, 0])
 }
 
 fn leaves_its_world<R: Threads + Wait + Sync>(
@@ -157,10 +159,7 @@ fn leaves_its_world<R: Threads + Wait + Sync>(
     let words = words_of(alloc, line)?;
     let mut out = MemorySink::new(alloc);
     let gated = voxdag_gated(rt, &NoGate, alloc, words.as_slice(), &mut shelf, &mut out);
-    match gated.ended {
-        Some(ended) => Ok(Some(is_of_one_cell(&ended))),
-        None => Ok(None),
-    }
+    Ok(leaves_one_cell(&gated))
 }
 
 #[test]

@@ -1,4 +1,3 @@
-use crate::turns::InTurn;
 use conformance::Transcript;
 use gate_run::Gate;
 use node_words::Plan;
@@ -7,6 +6,8 @@ use std::alloc::Global;
 use std::sync::Wait;
 use std::test::Fail;
 use std::thread::Threads;
+use test_gates::Meeting;
+use test_gates::Place::{After, Before};
 use transcript::{Answer, LineAnswer};
 use vox_read::Models;
 use vw_cell::Side;
@@ -71,7 +72,7 @@ const ONE: [u8; 64] =
 // The second session sees what the first one did, and the saved version is that of its moment.
 #[test]
 fn a_session_sees_what_the_other_did(rt: HostRuntime) -> Result<(), Fail> {
-    let gate = InTurn::behind(2);
+    let gate = Meeting::new(&[((1, 1, Before), (0, 2, After))]);
     let first = b"fill 3 3 3 1 1 1\nsave a.vox 3 3 3 1 1 1";
     let second = b"count 0 0 0 8 8 8\nerase 3 3 3 1 1 1\nat 1 count 0 0 0 8 8 8\nhead";
     let gave = run(&rt, &gate, rt.alloc(), first, second)?;
