@@ -13,30 +13,53 @@ run_in_plain_words() {
         { printf '%s' "$line"; } 2>/dev/null || status=7
     fi
     case $status in
-        [1-9] | 1[013]) plain_words "$status" "${line%$'\n'}" "$@" >&2 ;;
+        [1-9] | 1[0-5]) plain_words "$status" "${line%$'\n'}" "$@" >&2 ;;
     esac
     exit "$status"
 }
 
 # plain_words STATUS LINE WORD ..
 plain_words() {
-    local status=$1 line=$2 name
+    local status=$1 line=$2 name before=1
     shift 2
     name=${line#voxdag: * }
+    # the scripts stand behind FILE, and of an audit behind JOURNAL too
+    [ "$1" = audit ] && before=2
     case $status in
         1) plain_usage ;;
         2) printf '%s: there is no such file\n' "$name" ;;
         3) printf '%s: can'\''t be read: it may be a folder, or a file without leave to read it\n' "${line#voxdag: read fault }" ;;
         4) plain_vox "$(operand 0 "${@:2}")" $name ;;
-        5) plain_script "$(operand $((${name%% *} + 1)) "${@:2}")" $name ;;
+        5) plain_script "$(operand $((${name%% *} + before)) "${@:2}")" $name ;;
         6) printf '%s: can'\''t be written; what was to be written after it is not there\n' "${line#voxdag: write fault }" ;;
         7) printf 'standard output took no line, or a part of it; all files are written\n' ;;
         8) printf 'there was not enough memory\n' ;;
-        9) printf '%s: too long: a VOX file has at most 256 MiB, a script 8 MiB\n' "${line#voxdag: too long }" ;;
-        10) printf '%s: it has no model of this number, or the model no cell at this place\n' "$(operand 0 "${@:2}")" ;;
+        9) printf '%s: too long: a VOX file or a file of versions has at most 256 MiB, any other 8 MiB\n' "${line#voxdag: too long }" ;;
+        10) plain_place "$1" "$(operand 0 "${@:2}")" ;;
         11) plain_scene "$(operand 0 "${@:2}")" $name ;;
+        12) plain_journal "$1" "$(operand 1 "${@:2}")" "$name" ;;
         13) printf 'a bucket of the store has no room for one more node; nothing was written\n' ;;
+        14) printf '%s, byte %s: what stands there breaks a rule of files of versions\n' "$(operand 0 "${@:2}")" "$name" ;;
+        15)
+            printf '%s.out, line %s: no line of a transcript is so\n' \
+                "$(operand $((${name%% *} + before)) "${@:2}")" "${name#* }"
+            ;;
     esac
+}
+
+# plain_place COMMAND FILE
+plain_place() {
+    case $1 in
+        look) printf '%s: it has no version of this number, or its worlds have no such place, box or way\n' "$2" ;;
+        *) printf '%s: it has no model of this number, or the model no cell at this place\n' "$2" ;;
+    esac
+}
+
+# plain_journal COMMAND JOURNAL LINE
+plain_journal() {
+    local meaning='no line of a journal goes on so'
+    [ "$1" = dag ] && meaning='no line of a journal goes on so, or its record breaks a rule of a legal history'
+    printf '%s, line %s: %s\n' "$2" "$3" "$meaning"
 }
 
 plain_usage() {
@@ -46,12 +69,16 @@ plain_usage() {
         '    voxdag demo N' \
         '    voxdag flood FILE m x y z OUT' \
         '    voxdag scene FILE OUT SCRIPT' \
+        '    voxdag dag FILE JOURNAL OUT' \
+        '    voxdag look DAG v QUESTION' \
+        '    voxdag audit [--buckets b] FILE JOURNAL SCRIPT ..' \
         '    voxdag run [--side s] [--buckets b] [--cap c] [--journal J] [--report P] FILE SCRIPT ..' \
         'Options stand anywhere behind run, each at most once, as --side s or --side=s. s is 4, 8, 16 and so on up to 4096,' \
         'b is 1 to 4096, c is 1 to 256. There are 1 to 64 scripts. No name is empty, and none begins with - but behind =.' \
         'Each SCRIPT.out, J and P are written, so none may be the name of FILE, of a SCRIPT or of another.' \
-        'N, m, x, y and z have 1 to 6 digits; demo writes demo.0.out to demo.3.out and demo.journal.' \
-        'FILE, OUT and the SCRIPT of scene are different names.'
+        'N, m, x, y, z and v have 1 to 6 digits; demo writes demo.0.out to demo.3.out and demo.journal.' \
+        'FILE, OUT and the SCRIPT of scene are different names, and OUT is none that is read.' \
+        'QUESTION is get, count, bounds, faces or ray with its numbers, as in a script.'
 }
 
 # operand NUMBER WORD ..: the operand of this number, counted from 0, among the words behind a command. They are in the
