@@ -8,7 +8,7 @@ use Rattle.node_words.specs.Held.{Seen}
 use Rattle.history_model.specs.Logs.{FitsModel}
 use Rattle.history_model.specs.Worlds.{edited}
 use Rattle.history_model.specs.declared.acts.Act.TheVariants.{Stamp}
-use Rattle.edit_cells.specs.Worlds.{ForEdited}
+use Rattle.edit_stamp.specs.Worlds.{ForEdited}
 use Rattle.edit_stamp.specs.Drawings.{Drawn, Draws}
 use Rattle.edit_stamp.specs.Stamps.{stamped}
 use Rattle.edit_stamp.proofs.StampLaws.{stamps_model}

@@ -7,7 +7,7 @@ use Rattle.node_words.specs.Held.{Seen}
 use Rattle.node_words.specs.Gathering.{Grows, Fails}
 use Rattle.history_model.specs.declared.acts.Act.{Act}
 use Rattle.history_model.specs.Worlds.{edited}
-use Rattle.edit_cells.specs.Worlds.{ForEdited, Rebuilt, world_shape}
+use Rattle.edit_stamp.specs.Worlds.{ForEdited, Rebuilt, world_shape}
 
 -- a share came of the root of what the act makes of each world that the root shows
 abbrev pub RebuildsAct : Seen → ℕ → Option Name → List Content → Act → Result (Option Name) Full

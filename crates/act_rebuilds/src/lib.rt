@@ -8,4 +8,7 @@ mod drawn;
 mod rebuild;
 
 pub use drawn::{DrawnModel, draw_models};
+pub use edit_copy::{CopyTask, copy_may_repeat, rebuild_copy_with};
+pub use edit_ops::{BallTask, BoxTask, box_may_repeat, rebuild_ball_with, rebuild_box_with};
+pub use edit_stamp::{Stencil, rebuild_stamp};
 pub use rebuild::rebuild_act;

@@ -6,7 +6,7 @@ ghost use Rattle.node_shapes.specs.Weights.{number_of_trees};
 ghost use Rattle.history_model.specs.Worlds.{is_edit};
 ghost use Rattle.history_model.specs.Logs.{FitsWorld};
 ghost use Rattle.history_model.specs.declared.acts.Act.TheVariants.{Stamp};
-ghost use Rattle.block_walk.specs.Roots.{HoldsRoot};
+ghost use Rattle.edit_stamp.specs.Roots.{HoldsRoot};
 ghost use Rattle.act_rebuilds.specs.Acts.{RebuildsAct, GrowsByAct, RefusesAct};
 
 use crate::drawn::DrawnModel;

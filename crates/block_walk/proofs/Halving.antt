@@ -1,6 +1,6 @@
 -- A sum over a box is the sum over its parts in the eight octants.
 use Rattle.std.proofs.Common.{◌≡◌, ℕ, zero, suc, ◌+◌, ◌*◌, ◌<◌, ◌≤◌, refl, ap, ◌∙◌, arith}
-use Rattle.sums.specs.Sums.{sum_below, sum_below-same, sum_below-add}
+use Rattle.vw_cell.specs.Sums.{sum_below, sum_below-same, sum_below-add}
 use Rattle.block_walk.specs.Parts.{half_at, half_size}
 
 -- a sum of sums

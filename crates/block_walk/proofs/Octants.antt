@@ -3,7 +3,7 @@ use Rattle.std.proofs.Common.{◌≡◌, ℕ, suc, ◌+◌, ◌-◌, ◌*◌, �
 use Rattle.vw_cell.specs.declared.cells.Cell.{Cell}
 use Rattle.vw_cell.specs.declared.boxes.Boxed.{Boxed}
 use Rattle.vw_cell.specs.Places.{block_side, half_x, half_y, half_z}
-use Rattle.sums.specs.Sums.{sum_below, sum_below-same, one_if}
+use Rattle.vw_cell.specs.Sums.{sum_below, sum_below-same, one_if}
 use Rattle.vw_cell.specs.Counts.{cell_at, number_in}
 use Rattle.node_shapes.specs.Shape.{Shape, octant_shape}
 use Rattle.node_shapes.proofs.ShapeLaws.{has-in_octant, block_side-suc}

@@ -1,7 +1,7 @@
 ghost use Rattle.std.specs.Prelude.{◌≡◌, ℕ, ◌-◌, ◌≤◌};
 ghost use Rattle.vw_cell.specs.declared.boxes.Boxed.{Boxed};
 ghost use Rattle.vw_cell.specs.Places.{block_side};
-ghost use Rattle.sums.specs.Sums.{sum_below};
+ghost use Rattle.vw_cell.specs.Sums.{sum_below};
 ghost use Rattle.vw_cell.specs.Counts.{number_in};
 ghost use Rattle.node_shapes.specs.Shape.{Shape};
 ghost use Rattle.block_walk.specs.Parts.{part_in, EndsBy, HasCellsOf};

@@ -1,15 +1,45 @@
-ghost use Rattle.std.specs.Prelude.{◌≡◌, ◌≢◌, ◌+◌, ◌^◌, ◌<◌, ◌≤◌, ◌↔◌, Some, None, length};
-ghost use Rattle.std.specs.Prelude.{IfOk, IfErr, OnErr, IsTrue, MatchOption, replicate};
+ghost use Rattle.std.specs.Prelude.{
+  ◌≡◌,
+  ◌≢◌,
+  ◌+◌,
+  ◌^◌,
+  ◌<◌,
+  ◌≤◌,
+  ◌↔◌,
+  Some,
+  None,
+  length,
+  IfOk,
+  IfErr,
+  OnErr,
+  IsTrue,
+  MatchOption,
+  replicate,
+};
 ghost use Rattle.std.specs.Option.{option_copied};
-ghost use Rattle.bucket_core.specs.Slots.{book_of_slot, entry_in, key_of_slot, with_book, with_entry};
-ghost use Rattle.bucket_core.specs.Slots.{AreInUse, HasKey, HasNone, IsCountedBucket, IsCounted};
-ghost use Rattle.bucket_core.specs.Slots.{IsFirstFree, IsFirstWith, IsTaken, LowersHere, LowersBook};
+ghost use Rattle.bucket_core.specs.Slots.{
+  book_of_slot,
+  entry_in,
+  key_of_slot,
+  with_book,
+  with_entry,
+  AreInUse,
+  HasKey,
+  HasNone,
+  IsCountedBucket,
+  IsCounted,
+  IsFirstFree,
+  IsFirstWith,
+  IsTaken,
+  LowersHere,
+  LowersBook,
+};
 
 use crate::entries::{BucketFull, Entry, Lowered};
 use crate::keys::ExactKey;
+use node_words::Memory;
 use std::alloc::Global;
 use std::marker::Model;
-use vw_cell::Memory;
 
 /// The slots of one bucket. Contracts see the list of what stands in them.
 #[derive(Drop)]

@@ -4,7 +4,7 @@ use Rattle.std.specs.Int.{bit_at}
 use Rattle.std.proofs.lemmas.Bool.{cases_lt}
 use Rattle.std.proofs.lemmas.Nat.Bits.{bit_at_cat_low, bit_at_cat_high}
 use Rattle.std.proofs.lemmas.Grind.{pow_more}
-use Rattle.sums.specs.Sums.{one_if}
+use Rattle.node_shapes.specs.Sums.{one_if}
 use Rattle.node_shapes.specs.Shape.{Clear, Leaf, bits_of, bit_number, has, IsCanonical}
 use Rattle.cell_shapes.specs.CellShapes.{Cells, bits_below, bits_with, leaf_shape}
 

@@ -3,3 +3,5 @@ pub mod SameCells
 pub mod OctantShapes
 pub mod CellShapeLaws
 pub mod FullShapes
+pub use Rattle.node_shapes.proofs.ShapeLaws
+pub use Rattle.node_shapes.proofs.BucketLaws

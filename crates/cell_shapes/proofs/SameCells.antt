@@ -1,7 +1,7 @@
 -- What holds of the cells of each octant holds of the block's, and the other way.
 use Rattle.std.proofs.Common.{◌≡◌, ℕ, suc, ◌+◌, ◌-◌, ◌*◌, ◌<◌, refl, sym, ◌∙◌, ap, arith, inl, inr}
 use Rattle.std.proofs.lemmas.Bool.{cases_lt}
-use Rattle.vw_cell.specs.Places.{block_side, half_x, half_y, half_z}
+use Rattle.node_shapes.specs.Places.{block_side, half_x, half_y, half_z}
 use Rattle.node_shapes.specs.Shape.{Shape, octant_shape, has}
 use Rattle.node_shapes.proofs.ShapeLaws.{block_side-suc, block_side_some, has-in_octant, halves, half_in}
 use Rattle.cell_shapes.specs.CellShapes.{Cells, octant_cells, SameIn}

@@ -2,8 +2,8 @@
 -- cells alone.
 use Rattle.std.specs.Prelude.{◌≡◌, ℕ, ◌+◌, ◌-◌, ◌*◌, ◌/◌, ◌%◌, ◌^◌, ◌<◌, Bool, true, false, ◌&&◌, if◌then◌else◌}
 use Rattle.std.proofs.Common.{zero, suc}
-use Rattle.sums.specs.Sums.{one_if}
-use Rattle.vw_cell.specs.Places.{block_side, half_x, half_y, half_z}
+use Rattle.node_shapes.specs.Sums.{one_if}
+use Rattle.node_shapes.specs.Places.{block_side, half_x, half_y, half_z}
 use Rattle.node_shapes.specs.Shape.{Shape, Clear, Leaf, branch_of}
 
 -- which cells of a block are set, by their place in the block

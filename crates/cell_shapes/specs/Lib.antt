@@ -1,1 +1,3 @@
 pub mod CellShapes
+pub use Rattle.node_shapes.specs.Shape
+pub use Rattle.node_shapes.specs.Buckets

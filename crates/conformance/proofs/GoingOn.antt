@@ -14,7 +14,7 @@ use Rattle.history_model.specs.Logs.{Log}
 use Rattle.history_model.specs.Moments.{world_has}
 use Rattle.history_model.specs.Laws.{version_stays}
 use Rattle.node_words.specs.Plans.{Layout}
-use Rattle.block_contents.specs.Versions.{SameWorld}
+use Rattle.possible.specs.Versions.{SameWorld}
 use Rattle.script.specs.declared.commands.Command.{Command}
 use Rattle.script.specs.declared.commands.Command.TheVariants.{Edit, Forget, Ask, Save, Same, Head}
 use Rattle.transcript.specs.declared.answers.Answer.{Answer}

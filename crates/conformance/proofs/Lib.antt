@@ -8,3 +8,4 @@ pub mod Seeing
 pub mod Moments
 pub mod Samples
 pub mod Rows
+pub use Rattle.possible.proofs.ContentBuckets

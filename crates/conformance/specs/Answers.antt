@@ -11,8 +11,8 @@ use Rattle.history_model.specs.Positions.{position_after, first_of}
 use Rattle.history_model.specs.Logs.{Log}
 use Rattle.history_model.specs.Moments.{world_has}
 use Rattle.node_words.specs.Plans.{Layout}
-use Rattle.block_contents.specs.Aligned.{top}
-use Rattle.block_contents.specs.Versions.{SameWorld}
+use Rattle.possible.specs.Aligned.{top}
+use Rattle.possible.specs.Versions.{SameWorld}
 use Rattle.script.specs.declared.commands.Command.{Command}
 use Rattle.script.specs.declared.commands.Command.TheVariants.{Edit, Forget, Ask, Save, Same, Head}
 use Rattle.history_model.specs.declared.questions.Question.{Question}

@@ -9,3 +9,5 @@ pub mod Saves
 pub mod Passes
 pub mod Statements
 pub mod Runs
+pub use Rattle.possible.specs.Needed
+pub use Rattle.script.specs.Fitting

@@ -10,7 +10,7 @@ use Rattle.history_model.specs.Worlds.{is_edit}
 use Rattle.history_model.specs.Positions.{position_after, first_of}
 use Rattle.history_model.specs.Logs.{Log, IsLegal}
 use Rattle.node_words.specs.Plans.{Layout}
-use Rattle.block_contents.specs.Versions.{IsKept}
+use Rattle.possible.specs.Versions.{IsKept}
 use Rattle.possible.specs.Needed.{IsPossible}
 use Rattle.script.specs.declared.commands.Command.{Command}
 use Rattle.script.specs.declared.commands.Command.TheVariants.{Edit, Forget}

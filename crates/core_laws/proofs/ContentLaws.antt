@@ -9,14 +9,14 @@ use Rattle.vw_cell.specs.declared.cells.Cell.{Cell}
 use Rattle.vw_cell.specs.declared.blocks.Block.{Block}
 use Rattle.vw_cell.specs.Counts.{cell_at}
 use Rattle.vw_cell.specs.Places.{block_side, IsInBlock, IsInWorld}
-use Rattle.history_model.specs.Contents.{Content}
+use Rattle.block_contents.specs.HistoryModelContents.{Content}
 use Rattle.node_shapes.specs.declared.names.Name.{Name}
 use Rattle.node_shapes.specs.Shape.{Shape, Clear, ShowsCells, HasCell, IsCanonical, has}
 use Rattle.node_shapes.proofs.ShapeLaws.{some_cell, same_shape}
 use Rattle.node_words.specs.Plans.{Layout}
-use Rattle.history_model.specs.Worlds.{World}
+use Rattle.block_contents.specs.Worlds.{World}
 use Rattle.node_places.specs.Spots.{levels}
-use Rattle.history_model.specs.Moments as history
+use Rattle.block_contents.specs.Moments as history
 use Rattle.core_laws.specs.Soundness.{Sound}
 use Rattle.block_contents.specs.Versions.{IsKept}
 use Rattle.core_laws.proofs.LiveNumbers.{live_numbers}
@@ -26,8 +26,7 @@ use Rattle.block_contents.proofs.WorldBlocks.{aligned_in_world}
 use Rattle.core_laws.specs.States.{State}
 use Rattle.block_contents.specs.Aligned.{world_block}
 use Rattle.core_laws.specs.Blocks.{IsSite, ShowsSomeBlock, Lists, HasBlocks, live_number, IsIdle}
-use Rattle.block_contents.specs.Contents.{HasCellIn}
-use Rattle.block_contents.specs.Contents.{Site, SameContent, IsFilled, HasContents}
+use Rattle.block_contents.specs.Contents.{HasCellIn, Site, SameContent, IsFilled, HasContents}
 
 has_same : (level : ℕ) (s : Shape) (x y z x' y' z' : ℕ) → x ≡ x' → y ≡ y' → z ≡ z'
     → has level s x y z ≡ has level s x' y' z'

@@ -19,3 +19,5 @@ pub mod SeenNodes
 pub mod Bounds
 pub mod Targets
 pub mod ContentLaws
+pub use Rattle.node_places.proofs.SpotTests
+pub use Rattle.node_places.proofs.Apart

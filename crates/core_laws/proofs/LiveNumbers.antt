@@ -13,7 +13,7 @@ use Rattle.node_shapes.specs.Shape.{Shape, Clear, IsCanonical}
 use Rattle.node_shapes.specs.Tree.{shape_of}
 use Rattle.node_words.specs.Plans.{Layout}
 use Rattle.node_places.specs.Spots.{levels, buckets_at}
-use Rattle.history_model.specs.Worlds.{World}
+use Rattle.block_contents.specs.Worlds.{World}
 use Rattle.core_laws.specs.States.{State, shape_in, tree_at}
 use Rattle.node_places.specs.Names.{named}
 use Rattle.core_laws.specs.Counting.{if_live}

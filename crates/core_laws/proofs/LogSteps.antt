@@ -6,28 +6,27 @@ use Rattle.std.proofs.lemmas.Bool.{cases_lt, cases_eq}
 use Rattle.std.proofs.lemmas.Option.{none-some}
 use Rattle.vw_cell.specs.declared.cells.Cell.{Cell}
 use Rattle.vw_cell.specs.Places.{IsInBlock}
-use Rattle.history_model.specs.Contents.{Content}
+use Rattle.block_contents.specs.HistoryModelContents.{Content}
 use Rattle.node_shapes.specs.declared.names.Name.{Name}
 use Rattle.node_shapes.specs.Shape.{ShowsCells}
 use Rattle.node_shapes.specs.Tree.{Tree, shape_of}
 use Rattle.node_words.specs.Plans.{Layout}
 use Rattle.node_places.specs.Spots.{versions}
-use Rattle.history_model.specs.declared.histories.Record.{Record}
-use Rattle.history_model.specs.declared.histories.Mark.{Mark}
-use Rattle.history_model.specs.Logs.{Log, FitsWorld, IsLegal, MayFollowFrom}
-use Rattle.history_model.specs.Positions.{beginning}
-use Rattle.history_model.specs.Moments.{world_has}
-use Rattle.history_model.specs.Laws.{has_stays}
-use Rattle.history_model.specs.LegalLaws.{legal_next}
+use Rattle.block_contents.specs.Record.{Record}
+use Rattle.block_contents.specs.Mark.{Mark}
+use Rattle.block_contents.specs.Logs.{Log, FitsWorld, IsLegal, MayFollowFrom}
+use Rattle.block_contents.specs.Positions.{beginning}
+use Rattle.block_contents.specs.Moments.{world_has}
+use Rattle.block_contents.specs.Laws.{has_stays}
+use Rattle.block_contents.specs.LegalLaws.{legal_next}
 use Rattle.core_laws.specs.States.{State, tree_at}
 use Rattle.block_contents.specs.Aligned.{top, world_block}
 use Rattle.core_laws.specs.Soundness.{SoundEntries, SoundVersions, Sound}
 use Rattle.block_contents.specs.Versions.{IsUnmarked, IsKept}
-use Rattle.core_laws.specs.Events.{RootsStay, no_weight, at_most_one}
+use Rattle.core_laws.specs.Events.{RootsStay, no_weight, at_most_one, KeysStay}
 use Rattle.core_laws.specs.LogEvents.{Appends, Forgets}
 use Rattle.core_laws.proofs.Sums.{weight_there}
 use Rattle.core_laws.proofs.Lives.{root_lives}
-use Rattle.core_laws.specs.Events.{KeysStay}
 use Rattle.core_laws.proofs.Trees.{tree_stays}
 use Rattle.core_laws.proofs.EntrySteps.{keys_stay, given_lives, put_root_entries, take_root_entries}
 use Rattle.core_laws.proofs.MadeCells.{made_cells}

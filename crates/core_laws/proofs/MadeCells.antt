@@ -1,12 +1,12 @@
 -- The cells of the version that a record makes.
 use Rattle.std.proofs.Common.{ℕ, ◌+◌, sym, ◌∙◌, ap, inl, inr, List, [], ◌∷◌, ◌++◌, length}
 use Rattle.std.proofs.lemmas.Bool.{cases_Bool}
-use Rattle.history_model.specs.Contents.{Content}
-use Rattle.history_model.specs.declared.histories.Record.{Record}
-use Rattle.history_model.specs.Worlds.{World, is_edit}
-use Rattle.history_model.specs.Positions.{Position}
-use Rattle.history_model.specs.Moments.{world_has}
-use Rattle.history_model.specs.Laws.{has_of_edit, has_of_other, position_of_next}
+use Rattle.block_contents.specs.HistoryModelContents.{Content}
+use Rattle.block_contents.specs.Record.{Record}
+use Rattle.block_contents.specs.Worlds.{World, is_edit}
+use Rattle.block_contents.specs.Positions.{Position}
+use Rattle.block_contents.specs.Moments.{world_has}
+use Rattle.block_contents.specs.Laws.{has_of_edit, has_of_other, position_of_next}
 use Rattle.block_contents.specs.Versions.{SameWorld}
 use Rattle.core_laws.specs.Making.{Makes}
 

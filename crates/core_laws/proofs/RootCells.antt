@@ -4,23 +4,22 @@ use Rattle.std.proofs.lemmas.Option.{none-some}
 use Rattle.sums.specs.Sums.{sum_below-le}
 use Rattle.vw_cell.specs.declared.cells.Cell.{Cell}
 use Rattle.vw_cell.specs.Places.{IsInWorld}
-use Rattle.history_model.specs.Contents.{Content}
+use Rattle.block_contents.specs.HistoryModelContents.{Content}
 use Rattle.node_shapes.specs.declared.names.Name.{Name}
 use Rattle.node_shapes.specs.Shape.{Shape, Clear, ShowsCells}
 use Rattle.node_shapes.specs.Tree.{shape_of}
 use Rattle.node_shapes.proofs.ShowLaws.{clear_shows, clear_shown, shown_once}
 use Rattle.node_words.specs.Plans.{Layout}
 use Rattle.node_places.specs.Spots.{versions}
-use Rattle.history_model.specs.Logs.{Log, IsLegal}
-use Rattle.history_model.specs.LegalLaws.{legal_empty}
-use Rattle.history_model.specs.Moments.{world_has}
-use Rattle.history_model.specs.Laws.{has_at_0}
+use Rattle.block_contents.specs.Logs.{Log, IsLegal}
+use Rattle.block_contents.specs.LegalLaws.{legal_empty}
+use Rattle.block_contents.specs.Moments.{world_has}
+use Rattle.block_contents.specs.Laws.{has_at_0}
 use Rattle.core_laws.specs.States.{State, IsLive, tree_at}
 use Rattle.block_contents.specs.Aligned.{top, world_block}
 use Rattle.core_laws.specs.Counting.{weight, children_weight, if_live, booked, parented, rooted}
 use Rattle.core_laws.specs.Soundness.{Sound, IsUntouched}
-use Rattle.block_contents.specs.Versions.{IsKept}
-use Rattle.block_contents.specs.Versions.{SameWorld}
+use Rattle.block_contents.specs.Versions.{IsKept, SameWorld}
 use Rattle.core_laws.proofs.Sums.{sum_names-none}
 use Rattle.block_contents.proofs.WorldBlocks.{in_world, in_block}
 use Rattle.core_laws.proofs.LiveShapes.{AreLive, shape_once, canonical_at, clear_at}

@@ -6,7 +6,7 @@ use Rattle.std.proofs.lemmas.Option.{none-some}
 use Rattle.vw_cell.specs.declared.cells.Cell.{Cell}
 use Rattle.vw_cell.specs.declared.blocks.Block.{Block}
 use Rattle.vw_cell.specs.Places.{octant_of}
-use Rattle.history_model.specs.Contents.{Content}
+use Rattle.block_contents.specs.HistoryModelContents.{Content}
 use Rattle.node_shapes.specs.declared.names.Name.{Name}
 use Rattle.node_shapes.specs.Shape.{Shape, ShowsCells, octant_shape}
 use Rattle.node_shapes.specs.Tree.{shape_of}
@@ -15,14 +15,13 @@ use Rattle.node_shapes.proofs.ShapeLaws.{octant_shape-clear}
 use Rattle.node_words.specs.declared.keys.Key.{Key}
 use Rattle.node_words.specs.Plans.{Layout}
 use Rattle.node_places.specs.Spots.{versions}
-use Rattle.history_model.specs.Worlds.{World}
-use Rattle.history_model.specs.Moments.{world_has}
+use Rattle.block_contents.specs.Worlds.{World}
+use Rattle.block_contents.specs.Moments.{world_has}
 use Rattle.core_laws.specs.States.{State, IsLive, tree_at, shape_in, IsUnder, itself, below}
 use Rattle.node_places.specs.Names.{key_child}
-use Rattle.block_contents.specs.Aligned.{top, world_block}
+use Rattle.block_contents.specs.Aligned.{top, world_block, IsAligned, octant}
 use Rattle.core_laws.specs.Counting.{weight, children_weight, entry_weight, booked, parented, rooted}
 use Rattle.core_laws.specs.Soundness.{SoundEntries, SoundVersions}
-use Rattle.block_contents.specs.Aligned.{IsAligned, octant}
 use Rattle.core_laws.specs.Blocks.{RootsShow, ShowsSomeBlock, IsIdle}
 use Rattle.block_contents.specs.Contents.{HasCellIn}
 use Rattle.block_contents.specs.Aligned as blocks

@@ -2,23 +2,36 @@
 use Rattle.std.proofs.Common.{◌≡◌, ◌≢◌, ℕ, zero, suc, ◌+◌, ◌<◌, ◌≤◌, refl, sym, ◌∙◌, ap, subst, arith, Some, None, Option, List, [], ◌∷◌, length, set}
 use Rattle.std.specs.List.{slice_get}
 use Rattle.std.proofs.lemmas.Option.{same_Some}
-use Rattle.history_model.specs.Contents.{Content}
+use Rattle.block_contents.specs.HistoryModelContents.{Content}
 use Rattle.node_shapes.specs.declared.names.Name.{Name}
 use Rattle.node_shapes.proofs.TreeEqual.{Name-discrete}
 use Rattle.node_words.specs.Plans.{Layout}
 use Rattle.vw_cell.specs.declared.cells.Cell.{Cell}
-use Rattle.history_model.specs.declared.histories.Record.{Record}
-use Rattle.history_model.specs.Logs.{Log}
-use Rattle.history_model.specs.Moments.{world_has}
-use Rattle.history_model.specs.Laws.{has_stays}
+use Rattle.block_contents.specs.Record.{Record}
+use Rattle.block_contents.specs.Logs.{Log}
+use Rattle.block_contents.specs.Moments.{world_has}
+use Rattle.block_contents.specs.Laws.{has_stays}
 use Rattle.core_laws.specs.StepStatements.{IsSpared}
 use Rattle.core_laws.specs.States.{State, IsLive, tree_of, IsUnder, Holds}
 use Rattle.core_laws.specs.Soundness.{SoundEntries, Sound}
-use Rattle.core_laws.specs.Events.{Trades, EntriesStay, RootsStay, Frees, StoreStep, rests, raises, adds, lowers, frees, puts_root, takes_root}
+use Rattle.core_laws.specs.Events.{
+  Trades,
+  EntriesStay,
+  RootsStay,
+  Frees,
+  StoreStep,
+  rests,
+  raises,
+  adds,
+  lowers,
+  frees,
+  puts_root,
+  takes_root,
+  KeysStay,
+}
 use Rattle.core_laws.specs.LogEvents.{Pins, Reseats, Step, stores, pins, appends, forgets}
 use Rattle.core_laws.proofs.Counts.{rooted-same}
 use Rattle.core_laws.proofs.Lives.{held_lives, under_lives}
-use Rattle.core_laws.specs.Events.{KeysStay}
 use Rattle.core_laws.proofs.Trees.{tree_stays, under_stays}
 use Rattle.core_laws.proofs.EntrySteps.{entries_stay_sound, keys_stay, step_entries, step_keys}
 use Rattle.core_laws.proofs.LogSteps.{versions_stay, append_sound, forget_sound}

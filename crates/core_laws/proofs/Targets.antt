@@ -1,16 +1,16 @@
 -- The version that an undo or a redo goes to is kept, and its root may be appended again.
 use Rattle.std.proofs.Common.{◌≡◌, ℕ, ◌+◌, ◌<◌, ◌≤◌, ◌^◌, refl, arith, false, List, [], ◌∷◌, length}
 use Rattle.std.specs.Prelude.{All}
-use Rattle.history_model.specs.Contents.{Content}
+use Rattle.block_contents.specs.HistoryModelContents.{Content}
 use Rattle.node_words.specs.Plans.{Layout}
-use Rattle.history_model.specs.declared.acts.Act.{Act}
-use Rattle.history_model.specs.declared.acts.Act.TheVariants.{Fill, Erase, Ball, Carve, Copy, Stamp, Undo, Redo}
-use Rattle.history_model.specs.declared.histories.Record.{Record}
-use Rattle.history_model.specs.Worlds.{is_edit}
-use Rattle.history_model.specs.Positions.{Position, undone, redone, position_after}
-use Rattle.history_model.specs.PositionLaws.{names_below}
-use Rattle.history_model.specs.Logs.{Log, FitsWorld, HasTarget, MayFollow, IsVersionHeld}
-use Rattle.history_model.specs.Moments.{world_has}
+use Rattle.block_contents.specs.Act.{Act}
+use Rattle.block_contents.specs.TheVariants.{Fill, Erase, Ball, Carve, Copy, Stamp, Undo, Redo}
+use Rattle.block_contents.specs.Record.{Record}
+use Rattle.block_contents.specs.Worlds.{is_edit}
+use Rattle.block_contents.specs.Positions.{Position, undone, redone, position_after}
+use Rattle.block_contents.specs.PositionLaws.{names_below}
+use Rattle.block_contents.specs.Logs.{Log, FitsWorld, HasTarget, MayFollow, IsVersionHeld}
+use Rattle.block_contents.specs.Moments.{world_has}
 use Rattle.core_laws.specs.States.{State}
 use Rattle.core_laws.specs.Soundness.{Sound}
 use Rattle.block_contents.specs.Versions.{IsKept}

@@ -4,7 +4,7 @@ use Rattle.std.specs.List.{AllPairs, Contains}
 use Rattle.sums.specs.Sums.{sum_below}
 use Rattle.vw_cell.specs.declared.cells.Cell.{Cell}
 use Rattle.vw_cell.specs.declared.blocks.Block.{Block}
-use Rattle.history_model.specs.Worlds.{World}
+use Rattle.block_contents.specs.Worlds.{World}
 use Rattle.node_shapes.specs.declared.names.Name.{Name}
 use Rattle.node_shapes.specs.Shape.{Shape, Clear, ShowsCells, IsCanonical}
 use Rattle.node_shapes.specs.Tree.{shape_of}

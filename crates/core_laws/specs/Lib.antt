@@ -14,3 +14,13 @@ pub mod SeenStatements
 pub mod ReturnStatements
 pub mod VersionStatements
 pub mod NumberStatements
+pub use Rattle.block_contents.specs.Aligned
+pub use Rattle.block_contents.specs.Versions
+pub use Rattle.block_contents.specs.Logs
+pub use Rattle.node_places.specs.Spots
+pub use Rattle.node_places.specs.Names
+pub use Rattle.node_places.specs.KeyWords
+pub use Rattle.node_words.specs.declared.keys.Key
+pub use Rattle.node_words.specs.Keys
+pub use Rattle.node_words.specs.Plans
+pub use Rattle.node_words.specs.declared.keys.Key.TheVariants

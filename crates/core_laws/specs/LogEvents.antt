@@ -1,15 +1,15 @@
 -- What may happen to the log, and all that may happen to a state.
 use Rattle.std.specs.Prelude.{◌≡◌, ℕ, ◌+◌, ◌^◌, ◌<◌, Option, Some, None, List, [], ◌∷◌, ◌++◌, length}
-use Rattle.history_model.specs.Contents.{Content}
+use Rattle.block_contents.specs.HistoryModelContents.{Content}
 use Rattle.node_shapes.specs.declared.names.Name.{Name}
 use Rattle.node_shapes.specs.Shape.{ShowsCells}
 use Rattle.node_shapes.specs.Tree.{shape_of}
 use Rattle.node_words.specs.Plans.{Layout}
-use Rattle.history_model.specs.declared.histories.Record.{Record}
-use Rattle.history_model.specs.declared.histories.Mark.{Mark}
-use Rattle.history_model.specs.Worlds.{World}
-use Rattle.history_model.specs.Positions.{position_after}
-use Rattle.history_model.specs.Logs.{FitsWorld, MayFollow}
+use Rattle.block_contents.specs.Record.{Record}
+use Rattle.block_contents.specs.Mark.{Mark}
+use Rattle.block_contents.specs.Worlds.{World}
+use Rattle.block_contents.specs.Positions.{position_after}
+use Rattle.block_contents.specs.Logs.{FitsWorld, MayFollow}
 use Rattle.block_contents.specs.Aligned.{top, world_block}
 use Rattle.block_contents.specs.Versions.{IsKept, MarkComes}
 use Rattle.core_laws.specs.States.{State, tree_at}

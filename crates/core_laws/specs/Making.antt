@@ -1,12 +1,12 @@
 -- Which cells the next record may make.
 use Rattle.std.specs.Prelude.{◌≡◌, ℕ, ◌+◌, true, false, List, length}
-use Rattle.history_model.specs.Contents.{Content}
-use Rattle.history_model.specs.declared.acts.Act.{Act}
-use Rattle.history_model.specs.declared.histories.Record.{Record}
-use Rattle.history_model.specs.Making.{MayMake}
-use Rattle.history_model.specs.Moments.{world_has}
-use Rattle.history_model.specs.Positions.{next_position, position_after}
-use Rattle.history_model.specs.Worlds.{World, is_edit}
+use Rattle.block_contents.specs.HistoryModelContents.{Content}
+use Rattle.block_contents.specs.Act.{Act}
+use Rattle.block_contents.specs.Record.{Record}
+use Rattle.block_contents.specs.Making.{MayMake}
+use Rattle.block_contents.specs.Moments.{world_has}
+use Rattle.block_contents.specs.Positions.{next_position, position_after}
+use Rattle.block_contents.specs.Worlds.{World, is_edit}
 use Rattle.block_contents.specs.Versions.{SameWorld}
 
 -- the version whose cells an undo or a redo after these records gives

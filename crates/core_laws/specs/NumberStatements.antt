@@ -3,11 +3,11 @@ use Rattle.std.specs.Prelude.{◌≡◌, ℕ, ◌+◌, ◌<◌, ◌≤◌, List}
 use Rattle.vw_cell.specs.Counts.{cell_at}
 use Rattle.vw_cell.specs.Places.{block_side}
 use Rattle.vw_cell.specs.declared.blocks.Block.{Block}
-use Rattle.history_model.specs.Contents.{Content}
+use Rattle.block_contents.specs.HistoryModelContents.{Content}
 use Rattle.node_shapes.specs.Shape.{Shape, ShowsCells, has}
 use Rattle.node_words.specs.Plans.{Layout}
 use Rattle.node_places.specs.Spots.{levels}
-use Rattle.history_model.specs.Worlds.{World}
+use Rattle.block_contents.specs.Worlds.{World}
 use Rattle.block_contents.specs.Aligned.{world_block}
 use Rattle.block_contents.specs.Contents.{HasContents}
 use Rattle.block_contents.specs.Versions.{IsKept}

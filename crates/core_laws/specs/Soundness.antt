@@ -1,7 +1,7 @@
 -- When a state is sound.
 use Rattle.std.specs.Prelude.{◌≡◌, ◌≢◌, ℕ, zero, suc, ◌+◌, ◌^◌, ◌<◌, Some, None, List, [], length, All}
 use Rattle.std.specs.List.{AllPairs, Contains}
-use Rattle.history_model.specs.Contents.{Content}
+use Rattle.block_contents.specs.HistoryModelContents.{Content}
 use Rattle.node_shapes.specs.declared.names.Name.{Name}
 use Rattle.node_shapes.specs.Shape.{Shape, Clear, ShowsCells, IsCanonical}
 use Rattle.node_shapes.specs.Buckets.{bucket_of_shape}
@@ -13,8 +13,8 @@ use Rattle.node_words.specs.Keys.{bucket_of_key}
 use Rattle.node_words.specs.Plans.{Layout}
 use Rattle.node_places.specs.Names.{IsName, named}
 use Rattle.node_places.specs.Spots.{levels, buckets_at}
-use Rattle.history_model.specs.Logs.{IsLegal}
-use Rattle.history_model.specs.Moments.{world_has}
+use Rattle.block_contents.specs.Logs.{IsLegal}
+use Rattle.block_contents.specs.Moments.{world_has}
 use Rattle.block_contents.specs.Aligned.{top, world_block}
 use Rattle.block_contents.specs.Versions.{IsKept}
 use Rattle.core_laws.specs.States.{State, IsLive, tree_at}

@@ -8,7 +8,7 @@ use Rattle.node_shapes.specs.Tree.{Tree, Gone, LeafAt, node_at, shape_of}
 use Rattle.node_words.specs.declared.keys.Key.{Key}
 use Rattle.node_words.specs.Plans.{Layout}
 use Rattle.node_places.specs.Names.{IsName, key_bits, key_child}
-use Rattle.history_model.specs.Logs.{Log}
+use Rattle.block_contents.specs.Logs.{Log}
 
 -- the book and the key of each name, the root that is kept for each version, the log, and the names
 -- that each holder holds, a holder being a place in that list. No root is kept of a version that

@@ -2,13 +2,13 @@
 use Rattle.std.specs.Prelude.{◌≡◌, ℕ, ◌+◌, ◌^◌, ◌<◌, ◌≤◌, None, false, List, length}
 use Rattle.vw_cell.specs.declared.cells.Cell.{Cell}
 use Rattle.vw_cell.specs.Places.{IsInWorld}
-use Rattle.history_model.specs.Contents.{Content}
+use Rattle.block_contents.specs.HistoryModelContents.{Content}
 use Rattle.node_words.specs.Plans.{Layout}
-use Rattle.history_model.specs.declared.histories.Record.{Record}
-use Rattle.history_model.specs.Logs.{MayFollow}
-use Rattle.history_model.specs.Moments.{world_has}
-use Rattle.history_model.specs.Positions.{position_after}
-use Rattle.history_model.specs.Worlds.{World, is_edit}
+use Rattle.block_contents.specs.Record.{Record}
+use Rattle.block_contents.specs.Logs.{MayFollow}
+use Rattle.block_contents.specs.Moments.{world_has}
+use Rattle.block_contents.specs.Positions.{position_after}
+use Rattle.block_contents.specs.Worlds.{World, is_edit}
 use Rattle.block_contents.specs.Versions.{IsKept, SameWorld}
 use Rattle.core_laws.specs.States.{State}
 use Rattle.core_laws.specs.Soundness.{Sound, IsUntouched}

@@ -1,3 +1,11 @@
 pub mod Readings
 pub mod Rows
 pub mod SlotLaws
+pub use Rattle.core_laws.proofs.Lives
+pub use Rattle.core_laws.proofs.EntrySteps
+pub use Rattle.core_laws.proofs.StepLaws
+pub use Rattle.core_laws.proofs.LiveShapes
+pub use Rattle.core_laws.proofs.SeenNodes
+pub use Rattle.core_laws.proofs.Standings
+pub use Rattle.core_laws.proofs.LogSteps
+pub use Rattle.core_laws.proofs.RootCells

@@ -9,14 +9,14 @@ use Rattle.std.specs.Option.{option_map}
 use Rattle.node_shapes.specs.Tree.{Tree}
 use Rattle.node_shapes.specs.declared.names.Name.{Name}
 use Rattle.node_shapes.proofs.TreeEqual.{same_name}
-use Rattle.node_words.specs.declared.keys.Key as keys
-use Rattle.node_words.specs.Keys.{bucket_of_key}
-use Rattle.node_words.specs.Plans.{Layout}
-use Rattle.node_places.specs.Names.{IsName}
-use Rattle.node_places.specs.Spots.{Spot, LogLength, Version, Key, buckets_at, versions}
-use Rattle.node_places.specs.KeyWords.{child_of_word, key_of_words}
-use Rattle.history_model.specs.Logs.{Log}
-use Rattle.block_contents.specs.Aligned.{top}
+use Rattle.core_laws.specs.Key as keys
+use Rattle.core_laws.specs.Keys.{bucket_of_key}
+use Rattle.core_laws.specs.Plans.{Layout}
+use Rattle.core_laws.specs.Names.{IsName}
+use Rattle.core_laws.specs.Spots.{Spot, LogLength, Version, Key, buckets_at, versions}
+use Rattle.core_laws.specs.KeyWords.{child_of_word, key_of_words}
+use Rattle.core_laws.specs.Logs.{Log}
+use Rattle.core_laws.specs.Aligned.{top}
 use Rattle.core_laws.specs.Soundness.{FitsLevel}
 use Rattle.core_laws.specs.Events.{Trades, EntriesStay, OthersStay, RootsStay, IsMissing, Raises, Adds, Lowers, Frees, PutsRoot, TakesRoot, no_weight, one_name, at_most_one, children_named}
 use Rattle.core_reading.specs.Reading.{names_of, kept_root, root_word, read, Wrote, book_of}

@@ -1,10 +1,10 @@
 -- A word of the row that is written is one word of the table.
 use Rattle.std.proofs.Common.{◌≡◌, ℕ, ◌∙◌, arith, List, length, set, get_or}
 use Rattle.std.proofs.lemmas.List.{get_or-set_same, get_or-set_other}
-use Rattle.node_words.specs.Plans.{Layout}
-use Rattle.node_places.specs.Spots.{Spot, IsSpot, place, width}
-use Rattle.node_places.proofs.SpotTests.{spot_dec}
-use Rattle.node_places.proofs.Apart.{place_low, place_one}
+use Rattle.core_laws.specs.Plans.{Layout}
+use Rattle.core_laws.specs.Spots.{Spot, IsSpot, place, width}
+use Rattle.core_laws.proofs.SpotTests.{spot_dec}
+use Rattle.core_laws.proofs.Apart.{place_low, place_one}
 use Rattle.core_reading.specs.Reading.{Wrote, where_there, word_at}
 
 there : {A : Type 0} (d : Dec A) (n : ℕ) → A → where_there d n ≡ n

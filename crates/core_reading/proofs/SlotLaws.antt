@@ -4,12 +4,12 @@ use Rattle.std.proofs.lemmas.Bool.{cases_eq}
 use Rattle.std.proofs.lemmas.List.{get_or-set_same, get_or-set_other, length-set}
 use Rattle.node_shapes.specs.declared.names.Name.{Name}
 use Rattle.node_shapes.proofs.TreeEqual.{same_name}
-use Rattle.node_words.specs.declared.keys.Key.{Key}
-use Rattle.node_words.specs.Keys.{bucket_of_key}
-use Rattle.node_words.specs.Plans.{Layout}
-use Rattle.node_places.specs.Spots.{levels, buckets_at}
-use Rattle.history_model.specs.Logs.{Log}
-use Rattle.node_places.specs.Names.{IsName}
+use Rattle.core_laws.specs.Key.{Key}
+use Rattle.core_laws.specs.Keys.{bucket_of_key}
+use Rattle.core_laws.specs.Plans.{Layout}
+use Rattle.core_laws.specs.Spots.{levels, buckets_at}
+use Rattle.core_laws.specs.Logs.{Log}
+use Rattle.core_laws.specs.Names.{IsName}
 use Rattle.core_laws.specs.States.{IsLive}
 use Rattle.core_laws.specs.Soundness.{FitsLevel}
 use Rattle.core_laws.specs.Events.{Trades, OthersStay, Raises, Adds, Lowers, Frees, no_weight, one_name, children_named}

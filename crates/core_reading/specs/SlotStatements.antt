@@ -1,13 +1,13 @@
 -- What the laws say of slots whose contents change.
 use Rattle.std.specs.Prelude.{◌≡◌, ◌≢◌, ℕ, ◌+◌, ◌<◌, Option, Some, None, List}
 use Rattle.node_shapes.specs.declared.names.Name.{Name}
-use Rattle.node_words.specs.declared.keys.Key.{Key}
-use Rattle.node_words.specs.Keys.{bucket_of_key}
-use Rattle.node_words.specs.Plans.{Layout}
-use Rattle.node_places.specs.Names.{IsName}
-use Rattle.node_places.specs.Spots.{buckets_at}
+use Rattle.core_laws.specs.Key.{Key}
+use Rattle.core_laws.specs.Keys.{bucket_of_key}
+use Rattle.core_laws.specs.Plans.{Layout}
+use Rattle.core_laws.specs.Names.{IsName}
+use Rattle.core_laws.specs.Spots.{buckets_at}
 use Rattle.bucket_core.specs.declared.entries.Entry.{Entry}
-use Rattle.history_model.specs.Logs.{Log}
+use Rattle.core_laws.specs.Logs.{Log}
 use Rattle.core_laws.specs.Soundness.{FitsLevel}
 use Rattle.core_laws.specs.Events.{Trades, IsMissing, Raises, Adds, Lowers, Frees, no_weight, one_name, children_named}
 use Rattle.core_reading.specs.Slots.{Level, entry_at, put_at, IsLaidOut, read_lists}

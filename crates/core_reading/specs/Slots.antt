@@ -1,13 +1,13 @@
 -- The core's state as nested lists show it: for each level its buckets, for each bucket its slots.
 use Rattle.std.specs.Prelude.{◌≡◌, ℕ, ◌<◌, Option, Some, None, List, [], length, slice_index_or, slice_set}
 use Rattle.node_shapes.specs.declared.names.Name.{Name}
-use Rattle.node_words.specs.declared.keys.Key.{Key}
-use Rattle.node_words.specs.declared.keys.Key.TheVariants.{Leaf}
-use Rattle.node_words.specs.Plans.{Layout}
-use Rattle.node_places.specs.Spots.{levels, buckets_at}
+use Rattle.core_laws.specs.Key.{Key}
+use Rattle.core_laws.specs.TheVariants.{Leaf}
+use Rattle.core_laws.specs.Plans.{Layout}
+use Rattle.core_laws.specs.Spots.{levels, buckets_at}
 use Rattle.bucket_core.specs.declared.entries.Entry.{Entry}
 use Rattle.bucket_core.specs.Slots.{book_of_slot}
-use Rattle.history_model.specs.Logs.{Log}
+use Rattle.core_laws.specs.Logs.{Log}
 use Rattle.core_laws.specs.States.{State}
 
 abbrev pub Bucket : Type 0

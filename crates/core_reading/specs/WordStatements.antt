@@ -3,12 +3,12 @@ use Rattle.std.specs.Prelude.{◌≡◌, ℕ, suc, ◌+◌, ◌<◌, ◌≤◌, 
 use Rattle.std.specs.List.{slice_get}
 use Rattle.node_shapes.specs.Tree.{Tree}
 use Rattle.node_shapes.specs.declared.names.Name.{Name}
-use Rattle.node_words.specs.Keys.{bucket_of_key}
-use Rattle.node_words.specs.Plans.{Layout}
-use Rattle.node_places.specs.Names.{IsName}
-use Rattle.node_places.specs.Spots.{Spot, LogLength, Version, Key, IsSpot, buckets_at, versions, place, width}
-use Rattle.node_words.specs.declared.keys.Key as keys
-use Rattle.history_model.specs.Logs.{Log}
+use Rattle.core_laws.specs.Keys.{bucket_of_key}
+use Rattle.core_laws.specs.Plans.{Layout}
+use Rattle.core_laws.specs.Names.{IsName}
+use Rattle.core_laws.specs.Spots.{Spot, LogLength, Version, Key, IsSpot, buckets_at, versions, place, width}
+use Rattle.core_laws.specs.Key as keys
+use Rattle.core_laws.specs.Logs.{Log}
 use Rattle.core_laws.specs.Soundness.{FitsLevel}
 use Rattle.core_laws.specs.Events.{Trades, EntriesStay, IsMissing, Raises, Adds, Lowers, Frees, PutsRoot, TakesRoot, no_weight, one_name, at_most_one, children_named}
 use Rattle.core_reading.specs.Reading.{names_of, read, Wrote, book_of, root_word, word_at}

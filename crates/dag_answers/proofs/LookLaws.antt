@@ -8,7 +8,7 @@ use Rattle.history_model.specs.declared.questions.Question.{Question}
 use Rattle.script.specs.declared.faults.ScriptKind.{ScriptKind}
 use Rattle.script.specs.Placing.{question_placed}
 use Rattle.transcript.specs.declared.answers.Answer.{Answer}
-use Rattle.world_answers.specs.TellsRoots.{TellsRoot}
+use Rattle.store_run.specs.TellsRoots.{TellsRoot}
 use Rattle.dag_file.specs.declared.faults.DagFault.{DagFault}
 use Rattle.dag_file.specs.declared.faults.DagFault.TheVariants as faults
 use Rattle.dag_file.specs.Rules.{IsDagFile}

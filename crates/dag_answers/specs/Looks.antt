@@ -5,7 +5,7 @@ use Rattle.history_model.specs.Worlds.{World}
 use Rattle.history_model.specs.declared.questions.Question.{Question}
 use Rattle.transcript.specs.declared.answers.Answer.{Answer}
 use Rattle.script.specs.Placing.{question_placed}
-use Rattle.conformance.specs.Telling.{Tells}
+use Rattle.store_run.specs.Telling.{Tells}
 use Rattle.dag_file.specs.declared.faults.DagFault.{DagFault}
 use Rattle.dag_file.specs.declared.faults.DagFault.TheVariants as faults
 use Rattle.dag_file.specs.Rules.{IsDagFile, FirstFault}

@@ -12,8 +12,8 @@ use dag_file::{DagFault, DagView};
 use history_model::Question;
 use node_words::Share;
 use std::alloc::Global;
+use store_run::tell;
 use transcript::Answer;
-use world_answers::tell;
 
 /// Why a question of a file is not answered.
 #[derive(Clone, Copy, Debug, PartialEq, Eq)]

@@ -2,7 +2,7 @@
 ghost use Rattle.std.specs.Prelude.{◌≡◌, ◌+◌, ◌^◌, ◌-◌, ◌<◌, ◌≤◌, [], All, IfOk, IfErr, OnOk, drop, length};
 ghost use Rattle.std.specs.List.{AllPairs};
 ghost use Rattle.vox_read.specs.Contents.{AreModels};
-ghost use Rattle.one_store.specs.Known.{known_seen};
+ghost use Rattle.store_run.specs.Known.{known_seen};
 ghost use Rattle.store_run.specs.Marked.{HoldsKept};
 ghost use Rattle.dag_answers.specs.Legality.{AreLegalRecords};
 ghost use Rattle.dag_answers.specs.Histories.{IsFileOfHistory, RefusesHistory, of_replay, replay_plan};

@@ -1,3 +1,4 @@
 pub mod Tasks
 pub mod Paints
 pub mod Worlds
+pub use Rattle.block_walk.specs.Roots

@@ -6,6 +6,7 @@ mod paints;
 mod sides;
 mod tasks;
 
+pub use block_walk::{leaf_bits, name_of, octant_name};
 pub use paints::{clears_nothing, filled, old_whole, paint};
 pub use sides::{is_large, side_of};
 pub use tasks::{Task, Whole};

@@ -16,7 +16,7 @@ use Rattle.node_words.specs.Held.{name_in, AreTrees, AreCanonical}
 use Rattle.cell_shapes.specs.CellShapes.{SameIn}
 use Rattle.edit_cells.specs.Paints.{IsOld}
 use Rattle.edit_cells.specs.Worlds.{world_cells, ShowsWorld, IsRoot}
-use Rattle.edit_blocks.proofs.JoinLaws.{nones}
+use Rattle.edit_walk.proofs.JoinLaws.{nones}
 use Rattle.edit_cells.proofs.WorldLaws.{root_old, world_places}
 use Rattle.history_model.specs.Worlds.{edited, box_at}
 use Rattle.history_model.specs.declared.acts.Act.TheVariants.{Copy}

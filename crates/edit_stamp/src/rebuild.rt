@@ -2,13 +2,13 @@ ghost use Rattle.std.specs.Prelude.{◌≡◌, ◌-◌, ◌≤◌, ◌^◌, IfOk
 ghost use Rattle.vw_cell.specs.Places.{FitsAt};
 ghost use Rattle.node_shapes.specs.Weights.{number_of_trees};
 ghost use Rattle.node_words.specs.Gathering.{Grows, Fails};
-ghost use Rattle.block_walk.specs.Roots.{HoldsRoot};
+ghost use Rattle.edit_cells.specs.Roots.{HoldsRoot};
 ghost use Rattle.edit_cells.specs.Worlds.{ForEdited, Rebuilt, world_shape};
 ghost use Rattle.edit_stamp.specs.Stamps.{stamped, unstamped, inked};
 
 use crate::stamps::StampTask;
 use crate::stencils::Stencil;
-use block_walk::name_of;
+use edit_cells::name_of;
 use edit_walk::{NoMemo, rebuild_world};
 use node_words::{Full, NodeStore, Share, Steps};
 use std::sync::ledger::Ledger;

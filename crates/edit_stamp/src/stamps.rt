@@ -1,8 +1,7 @@
 ghost use Rattle.std.specs.Prelude.{◌≡◌, ◌+◌, ◌-◌, ◌*◌, ◌^◌, ◌<◌, ◌≤◌, ℕ, IsTrue};
 
 use crate::stencils::Stencil;
-use block_walk::{leaf_bits, octant_name};
-use edit_cells::{Task, Whole, clears_nothing, filled, old_whole, paint};
+use edit_cells::{Task, Whole, clears_nothing, filled, leaf_bits, octant_name, old_whole, paint};
 use node_shapes::Name;
 use node_words::Blocks;
 use vw_cell::{Block, Boxed, Cell};

@@ -7,7 +7,7 @@ use Rattle.history_model.specs.Worlds.{edited}
 use Rattle.node_shapes.specs.declared.names.Name.{Name}
 use Rattle.node_words.specs.Held.{Seen}
 use Rattle.edit_cells.specs.Worlds.{ForEdited}
-use Rattle.edit_ops.specs.Balls.{ball_act}
+use Rattle.act_rebuilds.specs.Balls.{ball_act}
 use Rattle.std.specs.Prelude.{List, []}
 
 pub for_ball : (models : List Content) (set : Bool) (b : Ball) (seen : Seen) (side : ℕ)

@@ -1,6 +1,6 @@
 -- What a session is between the calls of a world.
 use Rattle.std.specs.Prelude.{◌≡◌, None}
-use Rattle.node_table.specs.Seen.{TableSeen, PassSeen, BelongsTo, SamePass}
+use Rattle.release.specs.Seen.{TableSeen, PassSeen, BelongsTo, SamePass}
 
 -- it is one of the table's, and has no bucket's turn
 pub record IsLendable (t : TableSeen) (s : PassSeen) : Type 0 where

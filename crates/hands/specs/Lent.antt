@@ -3,8 +3,8 @@ use Rattle.std.specs.Prelude.{◌≡◌}
 use Rattle.std.specs.Borrow.{MutBor}
 use Rattle.std.proofs.Common.{refl, ◌∙◌}
 use Rattle.node_words.specs.Held.{Seen}
-use Rattle.table_rule.specs.Views.{seen_of}
-use Rattle.node_table.specs.Seen.{TableSeen, PassSeen, SamePass}
+use Rattle.intern.specs.Views.{seen_of}
+use Rattle.release.specs.Seen.{TableSeen, PassSeen, SamePass}
 use Rattle.hands.specs.declared.hand.Hand.{Hand}
 
 -- the hand has a session of this table, which stands where the lender's stands

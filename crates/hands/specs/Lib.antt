@@ -1,3 +1,6 @@
 pub mod Lent
 pub mod Lendable
 pub mod Recalling
+pub use Rattle.act_rebuilds.specs.Acts
+pub use Rattle.act_rebuilds.specs.Balls
+pub use Rattle.act_rebuilds.specs.Boxes

@@ -1,11 +1,10 @@
 ghost use Rattle.std.specs.Prelude.{◌≡◌, List};
 ghost use Rattle.node_shapes.specs.Tree.{Tree};
-ghost use Rattle.edit_ops.specs.Balls.{ball_act, makes_ball};
+ghost use Rattle.act_rebuilds.specs.Balls.{ball_act, makes_ball};
 ghost use Rattle.edit_walk.specs.Memos.{IsKeptIn, RecallsHeld};
 
 use crate::makers::ActMaker;
-use act_rebuilds::DrawnModel;
-use edit_ops::{BallTask, rebuild_ball_with};
+use act_rebuilds::{BallTask, DrawnModel, rebuild_ball_with};
 use edit_walk::Upper;
 use history_model::Act;
 use node_words::{Full, NodeStore, Share, Steps};
@@ -42,7 +41,7 @@ impl<'w, 'm, 'b> BallAct<'w, 'm, 'b> {
 }
 
 impl<'w, 'm, 'b> ActMaker for BallAct<'w, 'm, 'b> {
-    ghost use Rattle.edit_ops.specs.Balls.{ball_act, makes_ball};
+    ghost use Rattle.act_rebuilds.specs.Balls.{ball_act, makes_ball};
     ghost use Rattle.edit_walk.specs.Memos.{IsKeptIn, RecallsHeld};
     ghost use Rattle.hands.specs.Recalling.{recalls_more};
 

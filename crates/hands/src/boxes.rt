@@ -1,11 +1,10 @@
 ghost use Rattle.std.specs.Prelude.{◌≡◌, List};
 ghost use Rattle.node_shapes.specs.Tree.{Tree};
-ghost use Rattle.edit_ops.specs.Boxes.{MakesBox, box_act};
+ghost use Rattle.act_rebuilds.specs.Boxes.{MakesBox, box_act};
 ghost use Rattle.edit_walk.specs.Memos.{IsKeptIn, RecallsHeld};
 
 use crate::makers::ActMaker;
-use act_rebuilds::DrawnModel;
-use edit_ops::{BoxTask, rebuild_box_with};
+use act_rebuilds::{BoxTask, DrawnModel, rebuild_box_with};
 use edit_walk::Latest;
 use history_model::Act;
 use node_words::{Full, NodeStore, Share, Steps};
@@ -42,7 +41,7 @@ impl<'w, 'm> BoxAct<'w, 'm> {
 }
 
 impl<'w, 'm> ActMaker for BoxAct<'w, 'm> {
-    ghost use Rattle.edit_ops.specs.Boxes.{MakesBox, box_act};
+    ghost use Rattle.act_rebuilds.specs.Boxes.{MakesBox, box_act};
     ghost use Rattle.edit_walk.specs.Memos.{IsKeptIn, RecallsHeld};
     ghost use Rattle.hands.specs.Recalling.{recalls_more};
 

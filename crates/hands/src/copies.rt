@@ -1,12 +1,11 @@
 ghost use Rattle.std.specs.Prelude.{◌≡◌, List};
 ghost use Rattle.node_shapes.specs.Tree.{Tree};
 ghost use Rattle.history_model.specs.declared.acts.Act.TheVariants.{Copy};
-ghost use Rattle.edit_copy.specs.Copies.{MakesCopy};
+ghost use Rattle.act_rebuilds.specs.Copies.{MakesCopy};
 ghost use Rattle.edit_walk.specs.Memos.{IsKeptIn, RecallsHeld};
 
 use crate::makers::ActMaker;
-use act_rebuilds::DrawnModel;
-use edit_copy::{CopyTask, rebuild_copy_with};
+use act_rebuilds::{CopyTask, DrawnModel, rebuild_copy_with};
 use edit_walk::Latest;
 use history_model::Act;
 use node_words::{Full, NodeStore, Share, Steps};
@@ -44,7 +43,7 @@ impl<'w, 'm> CopyAct<'w, 'm> {
 
 impl<'w, 'm> ActMaker for CopyAct<'w, 'm> {
     ghost use Rattle.history_model.specs.declared.acts.Act.TheVariants.{Copy};
-    ghost use Rattle.edit_copy.specs.Copies.{MakesCopy};
+    ghost use Rattle.act_rebuilds.specs.Copies.{MakesCopy};
     ghost use Rattle.edit_walk.specs.Memos.{IsKeptIn, RecallsHeld};
     ghost use Rattle.hands.specs.Recalling.{recalls_more};
 

@@ -3,13 +3,13 @@ ghost use Rattle.std.specs.Prelude.{◌≤◌};
 ghost use Rattle.node_shapes.specs.Weights.{number_of_trees};
 ghost use Rattle.node_words.specs.Held.{OnlyHeldChanges};
 ghost use Rattle.edit_blocks.specs.Blocks.{GoesBack, MayGoBack};
-ghost use Rattle.table_rule.specs.Views.{seen_of};
+ghost use Rattle.intern.specs.Views.{seen_of};
 ghost use Rattle.hands.specs.Lendable.{IsLendable, StaysLendable};
 
 use crate::hand::Hand;
 use edit_blocks::back_if;
-use node_table::{NodeTable, Pass};
 use node_words::{Share, Steps};
+use release::{NodeTable, Pass};
 use std::sync::Wait;
 use std::sync::ledger::Ledger;
 

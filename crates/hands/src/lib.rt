@@ -12,6 +12,7 @@ mod making;
 mod taking;
 mod traits;
 
+pub use act_rebuilds::{DrawnModel, box_may_repeat, copy_may_repeat, draw_models};
 pub use balls::BallAct;
 pub use boxes::BoxAct;
 pub use copies::CopyAct;

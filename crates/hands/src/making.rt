@@ -5,13 +5,13 @@ ghost use Rattle.history_model.specs.Logs.{FitsWorld};
 ghost use Rattle.history_model.specs.Worlds.{is_edit};
 ghost use Rattle.block_walk.specs.Roots.{HoldsRoot};
 ghost use Rattle.act_rebuilds.specs.Acts.{RebuildsAct, GrowsByAct, RefusesAct};
-ghost use Rattle.table_rule.specs.Views.{seen_of};
+ghost use Rattle.intern.specs.Views.{seen_of};
 ghost use Rattle.hands.specs.Lendable.{IsLendable, StaysLendable};
 
 use crate::hand::Hand;
 use crate::makers::ActMaker;
-use node_table::{NodeTable, Pass};
 use node_words::{Full, Share, Steps};
+use release::{NodeTable, Pass};
 use std::sync::Wait;
 use std::sync::ledger::Ledger;
 

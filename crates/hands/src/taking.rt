@@ -4,7 +4,7 @@ ghost use Rattle.hands.specs.Lent.{IsHandOf};
 ghost use Rattle.hands.specs.Lendable.{IsLendable};
 
 use crate::hand::Hand;
-use node_table::{NodeTable, Pass};
+use release::{NodeTable, Pass};
 
 impl<'a, R> Hand<'a, R> {
     /// The session as a store of nodes, for as long as the hand lives.

@@ -29,4 +29,5 @@ pub use questions::Question;
 pub use reading::{JournalFault, read_journal};
 pub use spelling::{Spelled, Three, read_act, read_box, three_numbers};
 pub use stacks::Position;
+pub use vox_read::Models;
 pub use ways::Way;

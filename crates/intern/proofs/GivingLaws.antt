@@ -8,7 +8,7 @@ use Rattle.node_shapes.proofs.TreeLaws.{shape_of-child, shape_of-some}
 use Rattle.node_shapes.proofs.WeightLaws.{weight_of-there, weight_below-part}
 use Rattle.node_words.specs.Gathering.{Loses, LosesAll, MayHold}
 use Rattle.node_words.specs.Held.{AreHeld, HoldsName, IsHeld, name_in}
-use Rattle.table_rule.specs.Views.{SeatView}
+use Rattle.node_table.specs.Views.{SeatView}
 use Rattle.node_table.specs.Acts.{FreesUnderTurn, LowersUnderTurn}
 use Rattle.intern.specs.Nodes.{IsHeldOver, IsKeptBelow}
 

@@ -1,26 +1,24 @@
-use Rattle.node_table.specs.Seen.{bucket_named}
+use Rattle.node_table.specs.Seen.{bucket_named, PassSeen}
 use Rattle.std.specs.Prelude.{slice_index}
-use Rattle.table_rule.proofs.PartA.{same_bucket}
+use Rattle.node_table.proofs.PartA.{same_bucket}
 use Rattle.node_shapes.proofs.TreeEqual.{same_name}
-use Rattle.node_table.specs.Acts.{AreChildrenOf}
+use Rattle.node_table.specs.Acts.{AreChildrenOf, RaisesUnderTurn, PublishesUnderTurn, MayAdd}
 -- What comes of asking for a leaf follows from what the view tells.
 use Rattle.node_table.specs.Names.{named}
-use Rattle.table_rule.specs.Views.{SeatView, BucketAt, bucket_of}
-use Rattle.table_rule.specs.Rules.{SameSession}
-use Rattle.table_rule.specs.Telling.{ViewTells, tree_word}
-use Rattle.table_steps.specs.Changes.{turned, wanted, children_of_key, HasKeyWords, PassesEntry, PassesBelow}
+use Rattle.node_table.specs.Views.{SeatView, BucketAt, bucket_of}
+use Rattle.node_table.specs.Rules.{SameSession}
+use Rattle.node_table.specs.Telling.{ViewTells, tree_word}
+use Rattle.node_table.specs.Changes.{turned, wanted, children_of_key, HasKeyWords, PassesEntry, PassesBelow}
 use Rattle.node_words.specs.Plans.{Layout}
-use Rattle.node_table.specs.Seen.{PassSeen}
 use Rattle.node_table.specs.Learning.{IsLowestKnownFree}
 use Rattle.node_table.proofs.Answering.{Keeps, answers_keep}
 use Rattle.node_table.specs.Finding.{FindsPlace}
-use Rattle.node_table.specs.Acts.{RaisesUnderTurn, PublishesUnderTurn, MayAdd}
 use Rattle.std.proofs.Common.{◌≡◌, ℕ, zero, suc, ◌^◌, ◌<◌, ◌≤◌, Some, None, Option, List, [], ◌∷◌, refl, sym, ap, ◌∙◌, subst, inl, inr, arith}
 use Rattle.node_shapes.specs.declared.names.Name.{Name}
 use Rattle.node_shapes.specs.Shape as shape
 use Rattle.node_shapes.specs.Shape.{Shape}
 use Rattle.node_shapes.specs.Tree.{Tree, Gone, LeafAt, root_of, bits_in, shape_of, IsTreeAt}
-use Rattle.node_shapes.specs.Weights.{weigh, weight_below}
+use Rattle.node_shapes.specs.Weights.{weigh, weight_below, number_of_trees}
 use Rattle.node_shapes.specs.Buckets.{bucket_of_shape, leaf_bucket}
 use Rattle.node_shapes.proofs.TreeLaws.{leaf_from_root, shape_of-leaf}
 use Rattle.node_shapes.proofs.WeightLaws.{weigh-cons, weight_of-gone}
@@ -31,8 +29,7 @@ use Rattle.node_words.specs.declared.shares.Full.{Full}
 use Rattle.node_words.specs.Held.{IsSought, name_in, IsHeld, IsReached, HoldsChildren, Wanted, Gains, AreHeld}
 use Rattle.node_words.proofs.HeldLaws.{gains_keeps, gains_held, reached_more, held_reached, reached_levels}
 use Rattle.node_table.specs.Spots.{key_words, buckets_at}
-use Rattle.node_shapes.specs.Weights.{number_of_trees}
-use Rattle.core_laws.specs.Soundness.{FitsLevel}
+use Rattle.node_table.specs.Soundness.{FitsLevel}
 use Rattle.node_table.specs.declared.places.Place.{Place}
 use Rattle.intern.specs.Leaves.{LeafCame, LeafRefused}
 

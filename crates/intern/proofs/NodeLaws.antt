@@ -25,11 +25,11 @@ use Rattle.node_places.specs.Names.{IsName, named}
 use Rattle.node_places.specs.Spots.{Spot, key_words}
 use Rattle.node_places.specs.Words.{IsChildAt, word_of_child}
 use Rattle.node_places.proofs.Children.{one_child}
-use Rattle.table_rule.proofs.PartA.{same_bucket}
-use Rattle.table_rule.specs.Rules.{SameSession}
-use Rattle.table_rule.specs.Telling.{ViewTells, tree_word, pair_of_children}
-use Rattle.table_rule.specs.Views.{BucketAt, SeatView, bucket_of}
-use Rattle.table_steps.specs.Changes.{HasKeyWords, PassesBelow, PassesEntry, turned, wanted}
+use Rattle.node_table.proofs.PartA.{same_bucket}
+use Rattle.node_table.specs.Rules.{SameSession}
+use Rattle.node_table.specs.Telling.{ViewTells, tree_word, pair_of_children}
+use Rattle.node_table.specs.Views.{BucketAt, SeatView, bucket_of}
+use Rattle.node_table.specs.Changes.{HasKeyWords, PassesBelow, PassesEntry, turned, wanted}
 use Rattle.node_table.proofs.Answering.{Keeps}
 use Rattle.node_table.proofs.OnlyShares.{session_on}
 use Rattle.node_table.proofs.ReadLaws.{child_fits, child_small, node_word}

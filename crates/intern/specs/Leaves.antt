@@ -1,6 +1,6 @@
 -- What comes of asking for a leaf.
-use Rattle.table_rule.specs.Views.{SeatView, seen_of}
-use Rattle.table_rule.specs.Rules.{SameSession}
+use Rattle.node_table.specs.Views.{SeatView, seen_of}
+use Rattle.node_table.specs.Rules.{SameSession}
 use Rattle.std.specs.Prelude.{◌≡◌, ℕ, None}
 use Rattle.node_shapes.specs.declared.names.Name.{Name}
 use Rattle.node_shapes.specs.Shape.{Leaf}

@@ -6,8 +6,8 @@ use Rattle.node_shapes.specs.Tree.{Tree, root_of, child_of, node_at, shape_of}
 use Rattle.node_shapes.specs.Weights.{weigh, weight_of, weight_below}
 use Rattle.node_words.specs.Held.{AreHeld, IsReached, Joins, Grants, OnlyMeets}
 use Rattle.node_words.specs.declared.shares.Full.{Full}
-use Rattle.table_rule.specs.Rules.{SameSession}
-use Rattle.table_rule.specs.Views.{SeatView, seen_of}
+use Rattle.node_table.specs.Rules.{SameSession}
+use Rattle.node_table.specs.Views.{SeatView, seen_of}
 
 -- the shares of the row went into a node over it, of which a share came. Where such a node was
 -- held, or stood below a held one, it is that node, and no entry was added

@@ -1,5 +1,33 @@
 -- The bits of a ball, row by row.
-use Rattle.std.proofs.Common.{◌≡◌, ℕ, zero, suc, ◌+◌, ◌-◌, ◌*◌, ◌%◌, ◌^◌, ◌<◌, ◌≤◌, true, false, List, ◌∷◌, [], ◌==◌, refl, ap, ◌∙◌, arith, max}
+use Rattle.std.proofs.Common.{
+  ◌≡◌,
+  ℕ,
+  zero,
+  suc,
+  ◌+◌,
+  ◌-◌,
+  ◌*◌,
+  ◌%◌,
+  ◌^◌,
+  ◌<◌,
+  ◌≤◌,
+  true,
+  false,
+  List,
+  ◌∷◌,
+  [],
+  ◌==◌,
+  refl,
+  ap,
+  ◌∙◌,
+  arith,
+  max,
+  map,
+  cond,
+  get_or,
+  Bool,
+  length,
+}
 use Rattle.std.specs.Prelude.{bit_or, nat_le, slice_index}
 use Rattle.std.specs.Int.{bit_at, abs_diff}
 use Rattle.std.proofs.lemmas.Bool.Decides.{nat_tests}
@@ -8,12 +36,11 @@ use Rattle.std.proofs.lemmas.Nat.Bits.{bit_at-zero, bit_at_ones, bit_at_cat_low,
 use Rattle.std.proofs.Math.Nat.{mul-le-mul}
 use Rattle.std.proofs.lemmas.Simd.{bit_mask_l, mask_l-lt}
 use Rattle.std.proofs.lemmas.List.{get_or-map, length-map}
-use Rattle.std.proofs.Common.{map, cond, get_or, Bool, length}
 use lib.Lanes.{mask_l}
 use lib.Dec.{leb}
-use Rattle.vw_cell.specs.declared.balls.Ball.{Ball}
-use Rattle.vw_cell.specs.declared.blocks.Block.{Block}
-use Rattle.vw_cell.specs.Places.{is_in_ball, square}
+use Rattle.node_shapes.specs.Ball.{Ball}
+use Rattle.node_shapes.specs.Block.{Block}
+use Rattle.node_shapes.specs.Places.{is_in_ball, square}
 use Rattle.node_shapes.specs.Shape.{bit_number}
 use Rattle.node_kernels.specs.Leaves.{LeafShows}
 use Rattle.node_kernels.specs.Parts.{AreSmall, SquaresFrom, SumsShow, LayerShows, RowShows, one_of, FourBeside, Beside}

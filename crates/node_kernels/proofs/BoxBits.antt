@@ -6,9 +6,9 @@ use Rattle.std.proofs.lemmas.Bool.Decides.{nat_tests}
 use Rattle.std.proofs.lemmas.Nat.{one_shl, pow_pos}
 use Rattle.std.proofs.lemmas.Nat.Bits.{bit_at-zero}
 use lib.Pow.{pow_mono}
-use Rattle.vw_cell.specs.declared.boxes.Boxed.{Boxed}
-use Rattle.vw_cell.specs.declared.blocks.Block.{Block}
-use Rattle.vw_cell.specs.Places.{is_within, is_in_box}
+use Rattle.node_shapes.specs.Boxed.{Boxed}
+use Rattle.node_shapes.specs.Block.{Block}
+use Rattle.node_shapes.specs.Places.{is_within, is_in_box}
 use Rattle.node_shapes.specs.Shape.{bit_number}
 use Rattle.node_kernels.specs.Leaves.{LeafShows}
 use Rattle.node_kernels.specs.Parts.{AxisShows, is_from_below, x_of, y_of, z_of}

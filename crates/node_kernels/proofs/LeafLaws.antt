@@ -2,10 +2,10 @@
 use Rattle.std.proofs.Common.{◌≡◌, ℕ, ◌+◌, ◌-◌, ◌%◌, ◌<◌, Bool, List, ◌==◌, refl, ap, sym, ◌∙◌, arith}
 use Rattle.std.specs.Prelude.{slice_index}
 use Rattle.std.specs.Int.{bit_at}
-use Rattle.vw_cell.specs.declared.cells.Cell.{Cell}
-use Rattle.vw_cell.specs.declared.blocks.Block.{Block}
-use Rattle.vw_cell.specs.Counts.{cell_at}
-use Rattle.vw_cell.specs.Places.{block_side, IsInBlock}
+use Rattle.node_shapes.specs.Cell.{Cell}
+use Rattle.node_shapes.specs.Block.{Block}
+use Rattle.node_shapes.specs.Counts.{cell_at}
+use Rattle.node_shapes.specs.Places.{block_side, IsInBlock}
 use Rattle.node_shapes.specs.Shape.{Shape, Leaf, bits_of, bit_number, octant_number, branch_of, has, ShowsCells}
 use Rattle.node_shapes.proofs.ShapeLaws.{octant_shape-branch_of}
 use Rattle.node_kernels.specs.Leaves.{LeafShows, LiesAcross}

@@ -2,9 +2,9 @@
 -- block.
 use Rattle.std.specs.Prelude.{◌≡◌, ℕ, ◌+◌, ◌%◌, ◌<◌, Bool, List, ◌==◌, slice_index}
 use Rattle.std.specs.Int.{bit_at}
-use Rattle.vw_cell.specs.Counts.{cell_at}
-use Rattle.vw_cell.specs.declared.cells.Cell.{Cell}
-use Rattle.vw_cell.specs.declared.blocks.Block.{Block}
+use Rattle.node_shapes.specs.Counts.{cell_at}
+use Rattle.node_shapes.specs.Cell.{Cell}
+use Rattle.node_shapes.specs.Block.{Block}
 use Rattle.node_shapes.specs.Shape.{bit_number, octant_number}
 
 -- the bits set are those of the cells of the leaf's block that pass the test

@@ -3,7 +3,7 @@
 use Rattle.std.specs.Prelude.{◌≡◌, ℕ, ◌+◌, ◌-◌, ◌*◌, ◌/◌, ◌%◌, ◌<◌, ◌≤◌, Bool, true, false, List, ◌==◌, ◌&&◌, nat_le, nat_lt, slice_index, length}
 use Rattle.std.proofs.Common.{zero, suc}
 use Rattle.std.specs.Int.{bit_at, abs_diff}
-use Rattle.vw_cell.specs.Places.{square}
+use Rattle.node_shapes.specs.Places.{square}
 use Rattle.node_shapes.specs.Shape.{bit_number}
 
 -- p is one of the numbers from `from` on and below `to`

@@ -1,11 +1,11 @@
 ghost use Rattle.std.specs.Prelude.{◌≡◌, ℕ, ◌+◌, ◌*◌, ◌^◌, ◌<◌, ◌≤◌, ◌==◌};
 ghost use Rattle.std.specs.Int.{bit_at, abs_diff};
-ghost use Rattle.vw_cell.specs.Places.{is_in_ball, square};
+ghost use Rattle.node_shapes.specs.Places.{is_in_ball, square};
 ghost use Rattle.node_kernels.specs.Leaves.{LeafShows};
 ghost use Rattle.node_kernels.specs.Parts.{AreSmall, SquaresFrom, SumsShow, LayerShows, RowShows, FourBeside, Beside};
 
+use node_shapes::{Ball, Block};
 use std::simd::prelude::*;
-use vw_cell::{Ball, Block};
 
 /// Which cells of the leaf's block are in the ball: bit x + 4y + 16z for the cell at (x, y, z).
 #[tactic(auto, using(crate::proofs::BallBits::ball_shows, crate::proofs::BallBits::all_inside, crate::proofs::BallBits::all_outside))]

@@ -1,9 +1,9 @@
 ghost use Rattle.std.specs.Prelude.{◌≡◌, ℕ, ◌+◌, ◌^◌, ◌<◌, ◌≤◌};
-ghost use Rattle.vw_cell.specs.Places.{is_in_box, is_within};
+ghost use Rattle.node_shapes.specs.Places.{is_in_box, is_within};
 ghost use Rattle.node_kernels.specs.Leaves.{LeafShows};
 ghost use Rattle.node_kernels.specs.Parts.{AxisShows, is_from_below, x_of, y_of, z_of};
 
-use vw_cell::{Block, Boxed};
+use node_shapes::{Block, Boxed};
 
 /// Which cells of the leaf's block are in the box: bit x + 4y + 16z for the cell at (x, y, z).
 #[tactic(auto, using(crate::proofs::BoxBits::box_shows))]

@@ -1,6 +1,6 @@
 ghost use Rattle.std.specs.Prelude.{◌≡◌, ℕ, Bool, List, slice_index, ◌+◌, ◌<◌};
-ghost use Rattle.vw_cell.specs.declared.cells.Cell.{Cell};
-ghost use Rattle.vw_cell.specs.declared.blocks.Block.{Block};
+ghost use Rattle.node_shapes.specs.Cell.{Cell};
+ghost use Rattle.node_shapes.specs.Block.{Block};
 ghost use Rattle.node_shapes.specs.Shape.{Leaf, ShowsCells, has, branch_of};
 ghost use Rattle.node_kernels.specs.Leaves.{LeafShows, LiesAcross};
 

@@ -2,7 +2,7 @@
 use Rattle.std.proofs.Common.{◌≡◌, ℕ, zero, suc, ◌+◌, ◌-◌, ◌*◌, ◌<◌, ◌≤◌, inl, inr, refl, ap, sym, subst, ◌∙◌, arith}
 use Rattle.std.proofs.lemmas.Bool.{cases_order}
 use Rattle.std.proofs.lemmas.Nat.{mul-add-lt, same_from_place}
-use Rattle.sums.specs.Sums.{sum_below, sum_below-suc}
+use Rattle.node_words.specs.Sums.{sum_below, sum_below-suc}
 use Rattle.node_words.specs.Plans.{Layout}
 use Rattle.node_places.specs.Spots.{Spot, Sessions, LogTurn, LogLength, Version, Turn, Key, Book, place, width, IsSpot, IsSlot, levels, buckets_at, bucket_words, level_words, entry_words, key_words, first_turn, first_entry, lane_place, version_words, versions}
 

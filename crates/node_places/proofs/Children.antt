@@ -1,7 +1,7 @@
 -- The words of children.
 use Rattle.std.proofs.Common.{◌≡◌, ℕ, ◌+◌, ◌-◌, ◌*◌, ◌/◌, ◌%◌, ◌≤◌, Option, Some, None, refl, ap, sym, ◌∙◌, arith}
 use Rattle.std.proofs.lemmas.Nat.{div-mul-add, mod-mul-add, same_from_place}
-use Rattle.node_shapes.specs.declared.names.Name.{Name}
+use Rattle.node_words.specs.Name.{Name}
 use Rattle.node_places.specs.Words.{word_of_child, IsChildAt}
 
 -- a child is read from its word

@@ -3,7 +3,7 @@ use Rattle.std.proofs.Common.{◌≡◌, ℕ, zero, suc, ◌+◌, ◌*◌, ◌<�
 use Rattle.std.proofs.lemmas.List.{get_or-set_same, get_or-set_other, length-set}
 use Rattle.std.proofs.lemmas.Nat.{mul-le}
 use Rattle.std.proofs.lemmas.Bool.{cases_order}
-use Rattle.sums.specs.Sums.{sum_below, sum_below-zero, sum_below-suc, sum_below-le}
+use Rattle.node_words.specs.Sums.{sum_below, sum_below-zero, sum_below-suc, sum_below-le}
 use Rattle.node_places.specs.Spots.{entry_words}
 
 -- up to the first n terms

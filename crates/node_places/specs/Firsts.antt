@@ -1,6 +1,6 @@
 -- Where the words of each level begin and end, found once for a plan.
 use Rattle.std.specs.Prelude.{◌≡◌, ℕ, ◌+◌, ◌^◌, ◌<◌, ◌≤◌, List, slice_index}
-use Rattle.sums.specs.Sums.{sum_below}
+use Rattle.node_words.specs.Sums.{sum_below}
 use Rattle.node_words.specs.Plans.{Layout, IsPlan}
 use Rattle.node_places.specs.Spots.{buckets_at, level_words, first_turn, first_entry}
 

@@ -3,4 +3,4 @@ pub mod Words
 pub mod Firsts
 pub mod Names
 pub mod KeyWords
-pub use Rattle.sums.specs.Sums
+pub use Rattle.node_words.specs.Sums

@@ -1,6 +1,6 @@
 -- Where each word of a store and of its log stands in one table.
 use Rattle.std.specs.Prelude.{ℕ, zero, suc, ◌+◌, ◌-◌, ◌*◌, ◌<◌}
-use Rattle.sums.specs.Sums.{sum_below}
+use Rattle.node_words.specs.Sums.{sum_below}
 use Rattle.node_words.specs.Plans.{Layout}
 pub use Rattle.node_words.specs.Plans.{buckets_at}
 

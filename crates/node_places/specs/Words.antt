@@ -1,6 +1,6 @@
 -- What stands for a child in a key's words.
 use Rattle.std.specs.Prelude.{◌≡◌, ℕ, ◌+◌, ◌*◌, ◌<◌, Option, Some, None}
-use Rattle.node_shapes.specs.declared.names.Name.{Name}
+use Rattle.node_words.specs.Name.{Name}
 
 -- 0 where there is no child, else 1 + 256 * bucket + slot; the child's level is that of the node
 -- less 1

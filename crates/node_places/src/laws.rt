@@ -1,6 +1,6 @@
-ghost use Rattle.std.specs.Prelude.{◌≡◌, ◌<◌};
+ghost use Rattle.std.specs.Prelude.{◌≡◌, ◌<◌, ℕ, Option};
 ghost use Rattle.node_words.specs.Plans.{Layout};
-ghost use Rattle.node_places.specs.Spots.{Spot, place, width, IsSpot};
+ghost use Rattle.node_places.specs.Spots.{Spot, place, width, IsSpot, key_words};
 
 /// Two words stand at two places.
 pub fn places_are_apart()
@@ -17,11 +17,9 @@ pub fn places_are_in_the_table()
     ensures { (p : Layout) (s : Spot) → IsSpot p s → place p s < width p }
 {}
 
-ghost use Rattle.std.specs.Prelude.{ℕ, Option};
 ghost use Rattle.node_words.specs.declared.keys.Key.{Key};
-ghost use Rattle.node_places.specs.Spots.{key_words};
 ghost use Rattle.node_places.specs.KeyWords.{key_of_words, key_word, IsKeyAt};
-ghost use Rattle.node_shapes.specs.declared.names.Name.{Name};
+ghost use Rattle.node_words.specs.Name.{Name};
 ghost use Rattle.node_places.specs.Words.{word_of_child, IsChildAt};
 
 /// Children of one level with one word are one child.

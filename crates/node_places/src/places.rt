@@ -1,5 +1,5 @@
 ghost use Rattle.std.specs.Prelude.{◌≡◌, ℕ, ◌+◌, ◌-◌, ◌*◌, ◌^◌, ◌<◌, ◌≤◌, slice_index};
-ghost use Rattle.sums.specs.Sums.{sum_below};
+ghost use Rattle.node_words.specs.Sums.{sum_below};
 ghost use Rattle.node_places.specs.Spots.{place, width, key_words, entry_words, bucket_words, lane_place, first_turn, Sessions, LogTurn, LogLength, Version, Turn, Key, Book, IsSpot};
 
 use node_words::Plan;

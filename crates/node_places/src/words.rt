@@ -1,9 +1,9 @@
 ghost use Rattle.std.specs.Prelude.{◌≡◌, ◌+◌, ◌*◌, ◌^◌, ◌<◌, ◌≤◌, ◌/◌, ◌%◌, Option};
-ghost use Rattle.node_shapes.specs.declared.names.Name.{Name};
+ghost use Rattle.node_words.specs.Name.{Name};
 ghost use Rattle.node_places.specs.Words.{word_of_child};
 ghost use Rattle.node_places.specs.KeyWords.{half, child_of_word};
 
-use node_shapes::Name;
+use node_words::Name;
 
 /// What stands for a child in a node's key.
 pub fn child_word(child: Option<Name>) -> u32

@@ -4,3 +4,10 @@ pub mod Buckets
 pub mod Tree
 pub mod TreeCode
 pub mod Weights
+pub use Rattle.vw_cell.specs.declared.cells.Cell
+pub use Rattle.vw_cell.specs.Places
+pub use Rattle.vw_cell.specs.declared.blocks.Block
+pub use Rattle.vw_cell.specs.declared.balls.Ball
+pub use Rattle.vw_cell.specs.Counts
+pub use Rattle.vw_cell.specs.declared.boxes.Boxed
+pub use Rattle.vw_cell.specs.Sums

@@ -20,6 +20,7 @@ mod places;
 
 pub use names::Name;
 pub use places::{is_set, octant_with};
+pub use vw_cell::{Ball, Block, Boxed, Cell, Memory, Side};
 
 /// A canonical shape follows from its cells.
 pub fn shapes_are_canonical()

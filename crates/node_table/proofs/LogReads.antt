@@ -14,7 +14,7 @@ use Rattle.block_contents.specs.Aligned.{top}
 use Rattle.block_contents.specs.Versions.{IsUnmarked}
 use Rattle.history_model.specs.Packing.{log_words}
 use Rattle.table_rule.specs.LogTelling.{number_seen, LogTells, RootsTell, IsShownUnmarked}
-use Rattle.version_answers.specs.Listing.{Found}
+use Rattle.table_rule.specs.Listing.{Found}
 use Rattle.table_rule.specs.LogWords.{mark_of_words}
 use Rattle.table_rule.specs.Views.{SeatView, known_at, spot_same}
 use Rattle.table_rule.proofs.KnownWords.{known_now, known_else}

@@ -4,7 +4,7 @@ use Rattle.std.specs.List.{AllPairs, Contains, slice_get, sum_by}
 use Rattle.history_model.specs.Logs.{Log}
 use Rattle.history_model.specs.declared.histories.Mark.{Mark}
 use Rattle.table_rule.specs.LogKnowing.{IsPrefix, WasFound, numbered_from}
-use Rattle.version_answers.specs.Listing.{Accepted, Found}
+use Rattle.table_rule.specs.Listing.{Accepted, Found}
 use Rattle.node_words.specs.Enough.{HasEnough}
 use Rattle.node_words.specs.Held.{Wanted}
 use Rattle.node_words.specs.Plans.{Layout}

@@ -4,3 +4,6 @@ pub mod Keys
 pub mod Gathering
 pub mod Walks
 pub mod Enough
+pub use Rattle.node_kernels.specs.Leaves
+pub use Rattle.node_kernels.specs.Name
+pub use Rattle.node_kernels.specs.Sums

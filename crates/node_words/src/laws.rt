@@ -1,14 +1,26 @@
-ghost use Rattle.std.specs.Prelude.{◌≡◌, ◌+◌, ◌≤◌, ℕ, List, Some, slice_index};
-ghost use Rattle.node_shapes.specs.declared.names.Name.{Name};
-ghost use Rattle.node_shapes.specs.Shape.{Shape, IsCanonical};
-ghost use Rattle.node_shapes.specs.Buckets.{bucket_of_shape};
-ghost use Rattle.node_shapes.specs.Tree.{Tree, root_of, child_of, shape_of};
+ghost use Rattle.std.specs.Prelude.{◌≡◌, ◌+◌, ◌≤◌, ℕ, List, Some, slice_index, Option};
+ghost use Rattle.node_kernels.specs.Name.{Name};
+ghost use Rattle.node_kernels.specs.Shape.{Shape, IsCanonical, branch_of, octant_shape};
+ghost use Rattle.node_kernels.specs.Buckets.{bucket_of_shape};
+ghost use Rattle.node_kernels.specs.Tree.{Tree, root_of, child_of, shape_of};
 ghost use Rattle.node_words.specs.declared.keys.Key.{Key};
 ghost use Rattle.node_words.specs.Keys.{bucket_of_key, IsKeyOf};
 ghost use Rattle.node_words.specs.Plans.{Layout, IsPlan, buckets_at};
 ghost use Rattle.node_words.specs.Enough.{HasEnough};
 ghost use Rattle.std.specs.List.{Contains};
-ghost use Rattle.node_words.specs.Held.{IsReached, HoldsName, ReachesName, AreTrees, AreCanonical, AreHeld, AreBelow, HasChild};
+ghost use Rattle.node_words.specs.Held.{
+  IsReached,
+  HoldsName,
+  ReachesName,
+  AreTrees,
+  AreCanonical,
+  AreHeld,
+  AreBelow,
+  HasChild,
+  Seen,
+  Joins,
+  OnlyHeldChanges,
+};
 
 /// A key's bucket is that of the shape of its node, where its children stand in the buckets of
 /// theirs.
@@ -48,9 +60,6 @@ pub fn held_children_make_canonical_shapes()
         → AreHeld held children row → IsCanonical level (branch_of (λ k. shape_of (row k))) }
 {}
 
-ghost use Rattle.std.specs.Prelude.{Option};
-ghost use Rattle.node_shapes.specs.Shape.{branch_of, octant_shape};
-ghost use Rattle.node_words.specs.Held.{Seen, Joins, OnlyHeldChanges};
 ghost use Rattle.node_words.specs.Gathering.{Comes, Gathered, LosesAll, Grows, Fails};
 ghost use Rattle.std.proofs.Common.{suc};
 

@@ -1,7 +1,7 @@
 ghost use Rattle.std.specs.Prelude.{◌≡◌, ◌↔◌, ℕ, ◌≤◌, IsSome, IfSome, IsTrue, replicate, length};
 
+use node_kernels::Side;
 use std::marker::Model;
-use vw_cell::Side;
 
 /// How a store is laid out: the side of its world, the number of buckets on each of the levels 0 to
 /// 10, and how many nodes a bucket has room for.

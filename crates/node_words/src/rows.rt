@@ -3,7 +3,7 @@ ghost use Rattle.std.specs.Prelude.{◌≡◌, ◌<◌, ℕ, None, length, slice
 ghost use Rattle.node_words.specs.Held.{name_in};
 
 use crate::shares::Share;
-use node_shapes::Name;
+use node_kernels::Name;
 
 /// The name of each share of a row.
 #[inline(always)]

@@ -4,7 +4,7 @@ use Rattle.sums.specs.Sums.{sum_below, sum_below-suc, sum_below-zero}
 use Rattle.node_shapes.specs.Tree.{Tree}
 use Rattle.node_shapes.specs.Weights.{weigh, number_of_trees}
 use Rattle.node_shapes.proofs.WeightLaws.{weigh-nil, weigh-cons}
-use Rattle.history_model.specs.Worlds.{World}
+use Rattle.block_contents.specs.Worlds.{World}
 use Rattle.node_places.specs.Spots.{levels}
 use Rattle.core_laws.specs.Blocks.{RootsShow, HasBlocks, live_number}
 use Rattle.core_laws.specs.Counting.{if_live}

@@ -12,17 +12,29 @@ ghost use Rattle.node_words.specs.Enough.{HasEnough};
 ghost use Rattle.core_laws.specs.Soundness.{FitsLevel};
 ghost use Rattle.core_laws.specs.Blocks.{RootsShow, HasBlocks, live_in, live_number};
 ghost use Rattle.core_laws.specs.Events.{IsMissing, PutsRoot, TakesRoot};
-ghost use Rattle.history_model.specs.Worlds.{World};
+ghost use Rattle.block_contents.specs.Worlds.{World};
 ghost use Rattle.block_contents.specs.Aligned.{top};
 ghost use Rattle.entry_words.specs.Slots.{IsBucket};
 ghost use Rattle.entry_words.specs.Words.{book_in, key_in, HasEntry};
 ghost use Rattle.store_notes.specs.Told.{nothing_told};
 ghost use Rattle.store_notes.specs.Changes.{HoldsRow};
 ghost use Rattle.one_store.specs.Known.{Known, IsStore, core_of, known_seen, tree_in, trees_below, stored_root};
-ghost use Rattle.one_store.specs.Steps.{RaisesShare, LowersShare, FreesNode, Releases, ReleasesRow, HoldsChild};
-ghost use Rattle.one_store.specs.Steps.{KeepsRoot, GivesRoot, GainsRoot};
+ghost use Rattle.one_store.specs.Steps.{
+  RaisesShare,
+  LowersShare,
+  FreesNode,
+  Releases,
+  ReleasesRow,
+  HoldsChild,
+  KeepsRoot,
+  GivesRoot,
+  GainsRoot,
+  IsSoughtKey,
+  AddsNode,
+  MeetsFull,
+  sought_key,
+};
 ghost use Rattle.one_store.specs.Calls.{GivesBack};
-ghost use Rattle.one_store.specs.Steps.{IsSoughtKey, AddsNode, MeetsFull, sought_key};
 
 use crate::sought::SoughtKey;
 use crate::telling::{tell_entry, tell_freeing, tell_full, tell_gain, tell_loss};

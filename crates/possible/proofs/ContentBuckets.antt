@@ -5,10 +5,10 @@ use Rattle.vw_cell.specs.declared.cells.Cell.{Cell}
 use Rattle.sums.specs.Sums.{one_if}
 use Rattle.vw_cell.specs.Counts.{cell_at, number_below-same, number_below-none, number_below-at}
 use Rattle.vw_cell.specs.Places.{block_side}
-use Rattle.node_shapes.specs.Shape.{Shape, Clear, Leaf, Branch, octant_shape, bits_of, has, HasCell, IsCanonical}
-use Rattle.node_shapes.specs.Buckets.{leaf_bucket, octant_term, bucket_of_shape}
-use Rattle.node_shapes.proofs.ShapeLaws.{has-clear, some_cell, octant_canonical}
-use Rattle.node_shapes.proofs.BucketLaws.{node_bucket-same}
+use Rattle.cell_shapes.specs.Shape.{Shape, Clear, Leaf, Branch, octant_shape, bits_of, has, HasCell, IsCanonical}
+use Rattle.cell_shapes.specs.Buckets.{leaf_bucket, octant_term, bucket_of_shape}
+use Rattle.cell_shapes.proofs.ShapeLaws.{has-clear, some_cell, octant_canonical}
+use Rattle.cell_shapes.proofs.BucketLaws.{node_bucket-same}
 use Rattle.cell_shapes.specs.CellShapes.{Cells, octant_cells, SameIn, bits_with, shape_with}
 use Rattle.possible.specs.Needed.{number_of_cells, content_term, bucket_of_cells}
 use Rattle.cell_shapes.proofs.LeafBits.{leaf_shape-bits}

@@ -5,12 +5,12 @@ use Rattle.std.proofs.Common.{zero, suc}
 use Rattle.vw_cell.specs.declared.blocks.Block.{Block}
 use Rattle.vw_cell.specs.Counts.{cell_at, number_below}
 use Rattle.vw_cell.specs.Places.{block_side}
-use Rattle.history_model.specs.Contents.{Content}
-use Rattle.history_model.specs.declared.acts.Act.{Act}
-use Rattle.history_model.specs.declared.histories.Record.{Record}
-use Rattle.history_model.specs.Worlds.{World, edited, is_edit}
-use Rattle.history_model.specs.Moments.{world_has}
-use Rattle.node_shapes.specs.Buckets.{leaf_bucket, node_bucket}
+use Rattle.block_contents.specs.HistoryModelContents.{Content}
+use Rattle.block_contents.specs.Act.{Act}
+use Rattle.block_contents.specs.Record.{Record}
+use Rattle.block_contents.specs.Worlds.{World, edited, is_edit}
+use Rattle.block_contents.specs.Moments.{world_has}
+use Rattle.cell_shapes.specs.Buckets.{leaf_bucket, node_bucket}
 use Rattle.node_words.specs.Plans.{Layout}
 use Rattle.block_contents.specs.Aligned.{world_block, IsAligned}
 use Rattle.block_contents.specs.Contents.{HasCellIn}

@@ -4,8 +4,8 @@
 #![tactic(auto)]
 
 ghost use Rattle.std.specs.Prelude.{◌≡◌, ℕ, List};
-ghost use Rattle.node_shapes.specs.Shape.{Shape, has, IsCanonical};
-ghost use Rattle.node_shapes.specs.Buckets.{bucket_of_shape};
+ghost use Rattle.cell_shapes.specs.Shape.{Shape, has, IsCanonical};
+ghost use Rattle.cell_shapes.specs.Buckets.{bucket_of_shape};
 ghost use Rattle.cell_shapes.specs.CellShapes.{Cells, SameIn};
 ghost use Rattle.possible.specs.Needed.{bucket_of_cells};
 

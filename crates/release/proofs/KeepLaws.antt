@@ -6,9 +6,9 @@ use Rattle.node_shapes.specs.Weights.{weigh}
 use Rattle.node_shapes.proofs.WeightLaws.{weigh-cons}
 use Rattle.node_words.specs.Held.{Gains, IsReached}
 use Rattle.node_words.proofs.HeldLaws.{gains_held, gains_keeps, held_reached, reached_more}
-use Rattle.table_rule.specs.Telling.{ViewTells}
-use Rattle.table_rule.specs.Views.{SeatView, BucketAt}
-use Rattle.table_steps.specs.Changes.{turned}
+use Rattle.node_table.specs.Telling.{ViewTells}
+use Rattle.node_table.specs.Views.{SeatView, BucketAt}
+use Rattle.node_table.specs.Changes.{turned}
 use Rattle.node_table.proofs.OnlyShares.{only_held}
 use Rattle.node_table.specs.Acts.{OnlySharesChange, RaisesUnderTurn, left_with}
 

@@ -11,7 +11,7 @@ use Rattle.node_shapes.specs.Weights.{weigh, weight_below}
 use Rattle.node_shapes.proofs.TreeLaws.{shape_of-child, shape_of-some, child_of-gone}
 use Rattle.node_shapes.proofs.WeightLaws.{weigh-append, weight_of-gone}
 use Rattle.node_words.specs.Held.{IsHeld}
-use Rattle.table_steps.proofs.Shares.{take_one, held_append, row_list, row_list-weighs, row_held, InRow}
+use Rattle.node_table.proofs.Shares.{take_one, held_append, row_list, row_list-weighs, row_held, InRow}
 use Rattle.release.specs.Returns.{IsPartHeld, IsLost, AreLost}
 
 pairs_head : {X : Type 0} (R : X → X → Type 0) (x : X) (xs : List X) → AllPairs R (x ∷ xs)

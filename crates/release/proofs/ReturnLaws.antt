@@ -11,8 +11,8 @@ use Rattle.node_words.specs.Gathering.{Loses, LosesAll, MayHold}
 use Rattle.node_words.specs.Held.{AreBelow, AreHeld, Gains, HoldsName, IsHeld, IsUnheldBranch, ReturnsWithin, name_in}
 use Rattle.node_words.proofs.GatherLaws.{may_next}
 use Rattle.node_words.proofs.HeldLaws.{child_level, held_reached, reached_levels}
-use Rattle.table_rule.specs.Telling.{ViewTells}
-use Rattle.table_rule.specs.Views.{SeatView}
+use Rattle.node_table.specs.Telling.{ViewTells}
+use Rattle.node_table.specs.Views.{SeatView}
 use Rattle.node_table.proofs.OnlyShares.{only_held, only_itself, only_on}
 use Rattle.node_table.proofs.ReadLaws.{has_no_child}
 use Rattle.node_table.specs.Acts.{FreesUnderTurn, LowersUnderTurn}

@@ -1,1 +1,2 @@
 pub mod Returns
+pub use Rattle.node_table.specs.Seen

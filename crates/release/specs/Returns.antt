@@ -5,7 +5,7 @@ use Rattle.node_shapes.specs.Tree.{Tree, shape_of}
 use Rattle.node_shapes.specs.Weights.{weight_of, weight_below}
 use Rattle.node_words.specs.Held.{IsHeld}
 use Rattle.node_words.specs.Gathering.{Loses, LosesAll}
-use Rattle.table_rule.specs.Views.{SeatView}
+use Rattle.node_table.specs.Views.{SeatView}
 use Rattle.node_table.specs.Acts.{OnlySharesChange}
 
 -- p is part of a shape that is held

@@ -6,14 +6,24 @@ ghost use Rattle.node_shapes.specs.Tree.{Tree, root_of, shape_of};
 ghost use Rattle.node_shapes.specs.Weights.{number_of_trees};
 ghost use Rattle.node_shapes.specs.declared.names.Name.{Name};
 ghost use Rattle.node_words.specs.Gathering.{MayHold};
-ghost use Rattle.node_words.specs.Held.{AreBelow, ForChildren, ForHeld, ForReached, Gains};
-ghost use Rattle.node_words.specs.Held.{HoldsChildren, HoldsName, ReachesName, ReturnsWithin};
+ghost use Rattle.node_words.specs.Held.{
+  AreBelow,
+  ForChildren,
+  ForHeld,
+  ForReached,
+  Gains,
+  HoldsChildren,
+  HoldsName,
+  ReachesName,
+  ReturnsWithin,
+};
 ghost use Rattle.node_table.specs.Acts.{OnlySharesChange};
 ghost use Rattle.node_table.specs.Seen.{BelongsTo};
 ghost use Rattle.release.specs.Returns.{GaveBack, GaveRowBack};
 
 use node_shapes::Name;
 use node_table::{Lowering, NodeTable, Pass};
+pub use node_table::{NodeTable, Pass};
 use node_words::{Share, Steps, end_all, take_at};
 use std::sync::Wait;
 use std::sync::ledger::Ledger;

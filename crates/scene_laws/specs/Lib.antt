@@ -1,1 +1,2 @@
 pub mod Building
+pub use Rattle.load_laws.specs.ReadLaws

@@ -3,7 +3,7 @@ use Rattle.std.specs.Prelude.{ℕ, ◌&&◌, ◌||◌, Bool, false, ◌==◌, na
 use Rattle.std.specs.List.{list_all, slice_get}
 use Rattle.vw_cell.specs.declared.cells.Cell.{Cell}
 use Rattle.vw_cell.specs.declared.boxes.Boxed.{Boxed}
-use Rattle.vox_read.specs.Contents.{Content}
+use Rattle.history_model.specs.Contents.{Content}
 use Rattle.plain_text.specs.declared.faults.WordFault.{WordFault}
 use Rattle.plain_text.specs.Steps.{◌>>=◌}
 use Rattle.history_model.specs.declared.acts.Act.{Act}

@@ -1,20 +1,18 @@
 ghost use Rattle.std.specs.Prelude.{◌≡◌, ◌^◌, ◌<◌, true, false, IfOk, OnOk, MatchOption, MatchResult};
 ghost use Rattle.std.specs.List.{list_all, slice_get};
-ghost use Rattle.vox_read.specs.Contents.{AreModels};
+ghost use Rattle.history_model.specs.Contents.{AreModels};
 ghost use Rattle.history_model.specs.Spelled.{act_of};
 ghost use Rattle.history_model.specs.Worlds.{box_at};
 ghost use Rattle.script.specs.declared.faults.ScriptKind.TheVariants.{Range};
-ghost use Rattle.script.specs.Numbers.{IsLong, box_in, cell_in, ball_in, way_in};
+ghost use Rattle.script.specs.Numbers.{IsLong, box_in, cell_in, ball_in, way_in, is_digit};
 ghost use Rattle.script.specs.Placing.{model_size, corner_in, stamp_placed, copy_placed, act_placed, ray_placed, question_placed, is_letter, is_name_byte, begins_name, is_save_name, save_placed, command_placed};
-ghost use Rattle.script.specs.Numbers.{is_digit};
 ghost use Rattle.script.specs.Said.{step_said, way_said, question_said, name_said, command_said};
 ghost use Rattle.history_model.specs.Spelling.{IsLarge};
 
 use crate::commands::{Command, SaveName};
 use crate::faults::ScriptKind;
 use crate::said::{Asked, NameWord, Said, Step, Steps};
-use history_model::{Act, Question, Spelled, Three, Way};
-use vox_read::Models;
+use history_model::{Act, Models, Question, Spelled, Three, Way};
 use vw_cell::{Ball, Boxed, Cell, Side};
 
 /// The command that was spelled, where what it names is there.

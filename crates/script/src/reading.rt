@@ -1,5 +1,5 @@
 ghost use Rattle.std.specs.Prelude.{◌≡◌, ◌≤◌, ◌^◌, All, IfOk, IfErr};
-ghost use Rattle.vox_read.specs.Contents.{AreModels};
+ghost use Rattle.history_model.specs.Contents.{AreModels};
 ghost use Rattle.script.specs.Fitting.{CommandFits, RisesFrom};
 ghost use Rattle.script.specs.Placing.{command_read};
 ghost use Rattle.script.specs.Scripts.{command_in, line_command, within_saves, saves_after, commands_of, RefusesWords};
@@ -10,8 +10,8 @@ use crate::lines::{is_plain_text, split_line, trim_return};
 use crate::placing::place_command;
 use crate::spelling::spell_command;
 use crate::words::{Words, begins_comment};
+use history_model::Models;
 use std::alloc::Global;
-use vox_read::Models;
 use vw_cell::Side;
 
 /// The most lines that a script may have.

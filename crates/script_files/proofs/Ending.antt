@@ -12,9 +12,9 @@ use Rattle.vox_read.specs.Contents.{Content}
 use Rattle.transcript.specs.Lines.{transcript_of}
 use Rattle.conformance.specs.Runs.{AllRan}
 use Rattle.conformance.specs.declared.saves.SavedBox.{SavedBox}
-use Rattle.extract.specs.Saved.{file_of_box}
+use Rattle.flood.specs.Saved.{file_of_box}
 use Rattle.history_model.specs.Worlds.{World}
-use Rattle.node_table.specs.declared.closed.Closed.{Closed}
+use Rattle.world_run.specs.Closed.{Closed}
 use Rattle.node_words.specs.Plans.{Layout}
 use Rattle.script.specs.Commands.{name_bytes}
 use Rattle.script.specs.declared.commands.ScriptLine.{ScriptLine}

@@ -10,3 +10,4 @@ pub mod Auditing
 pub mod RunsAudited
 pub mod Dagging
 pub mod Looking
+pub use Rattle.dag_answers.proofs.JudgeLaws

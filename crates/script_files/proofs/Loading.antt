@@ -13,7 +13,7 @@ use Rattle.conformance.specs.Runs.{AllRan}
 use Rattle.conformance.specs.Agreeing.{Agrees}
 use Rattle.gen_load.specs.Draws.{state_after}
 use Rattle.gen_load.specs.Loads.{load_model, load_scripts, line_state, scripts_from}
-use Rattle.load_laws.specs.ReadLaws.{scripts_are_read}
+use Rattle.scene_laws.specs.ReadLaws.{scripts_are_read}
 use Rattle.region_laws.specs.LastCounts.{region_counts}
 use Rattle.region_laws.specs.Statements.{load_lines, own_counts, LoadsAreCounted}
 use Rattle.script_files.specs.declared.refusals.NumberedFault.{NumberedFault}
@@ -22,7 +22,7 @@ use Rattle.script_files.specs.declared.tallies.LoadTally.{LoadTally}
 use Rattle.script_files.specs.declared.refusals.CommandRefused.TheVariants.{Output}
 use Rattle.script_files.specs.declared.requests.Request.TheVariants.{Demo}
 use Rattle.script_files.specs.Scripts.{scripts_of}
-use Rattle.node_table.specs.declared.closed.Closed.{Closed}
+use Rattle.world_run.specs.Closed.{Closed}
 use Rattle.session_runs.specs.Kept.{kept_of}
 use Rattle.session_runs.specs.Ran.{SessionsRan}
 use Rattle.vw_io.specs.Outputs.{Named}

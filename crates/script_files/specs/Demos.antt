@@ -8,7 +8,7 @@ use Rattle.script.specs.declared.commands.ScriptLine.{ScriptLine}
 use Rattle.conformance.specs.Runs.{AllRan}
 use Rattle.session_runs.specs.Ran.{SessionsRan}
 use Rattle.session_runs.specs.Seen.{SessionSeen}
-use Rattle.node_table.specs.declared.closed.Closed.{Closed}
+use Rattle.world_run.specs.Closed.{Closed}
 use Rattle.world_run.specs.Ends.{IsEndOf}
 use Rattle.gen_load.specs.Loads.{load_model, load_scripts}
 use Rattle.region_laws.specs.LastCounts.{region_counts}

@@ -13,7 +13,7 @@ use Rattle.vox_chunk.specs.declared.faults.VoxFault.{VoxFault}
 use Rattle.vox_read.specs.Contents.{Content}
 use Rattle.vox_read.specs.Files.{ReadsModels}
 use Rattle.vox_read.specs.Once.{one_reading}
-use Rattle.node_table.specs.declared.closed.Closed.{Closed}
+use Rattle.world_run.specs.Closed.{Closed}
 use Rattle.script_files.specs.declared.tallies.Completed.{Completed}
 use Rattle.script_files.specs.declared.tallies.Done.{Done}
 use Rattle.script_files.specs.declared.tallies.Done.TheVariants.{Counted, Ran, Shown, Placed, Looked, Written, Answered}

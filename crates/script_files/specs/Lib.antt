@@ -18,3 +18,6 @@ pub mod Verdicts
 pub mod Judging
 pub mod RunsAudited
 pub mod Commands
+pub use Rattle.dag_answers.specs.Questions
+pub use Rattle.session_runs.specs.Kept
+pub use Rattle.world_run.specs.Closed

@@ -13,7 +13,7 @@ use Rattle.script.specs.Fitting.{IsOfText}
 use Rattle.conformance.specs.Runs.{AllRan}
 use Rattle.session_runs.specs.Ran.{SessionsRan}
 use Rattle.session_runs.specs.Seen.{SessionSeen}
-use Rattle.node_table.specs.declared.closed.Closed.{Closed}
+use Rattle.world_run.specs.Closed.{Closed}
 use Rattle.world_run.specs.Ends.{IsEndOf}
 use Rattle.reporting.specs.Numbers.{IsTotal}
 use Rattle.script_files.specs.declared.tallies.Done.{Done}

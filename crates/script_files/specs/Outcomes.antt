@@ -5,7 +5,7 @@ use Rattle.vw_io.specs.Outside.{Files, ShelfState}
 use Rattle.vw_io.specs.Inputs.{AreTaken, StopsAt}
 use Rattle.vw_io.specs.Outputs.{Named, AreWritten, StopsWith}
 use Rattle.vw_io.specs.declared.shelves.WriteRefused.{WriteRefused}
-use Rattle.node_table.specs.declared.closed.Closed.{Closed}
+use Rattle.world_run.specs.Closed.{Closed}
 use Rattle.script_files.specs.declared.tallies.Completed.{Completed}
 use Rattle.script_files.specs.declared.tallies.Done.{Done}
 use Rattle.script_files.specs.declared.refusals.CommandRefused.{CommandRefused}

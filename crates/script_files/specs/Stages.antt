@@ -10,7 +10,7 @@ use Rattle.script.specs.declared.commands.ScriptLine.{ScriptLine}
 use Rattle.script.specs.Scripts.{commands_of}
 use Rattle.gen_load.specs.Loads.{load_model, load_scripts}
 use Rattle.session_runs.specs.Ran.{ClosesWorld}
-use Rattle.node_table.specs.declared.closed.Closed.{Closed}
+use Rattle.world_run.specs.Closed.{Closed}
 use Rattle.world_run.specs.Ends.{IsEndOf}
 use Rattle.world_run.specs.Open.{RunState}
 use Rattle.reporting.specs.Numbers.{AreNumbers}

@@ -24,6 +24,7 @@ mod tallies;
 mod texts;
 
 pub use commands::{carry_out, names_written};
+pub use dag_answers::{SpelledQuestion, SpelledStep, SpelledWay};
 pub use demos::demo_order;
 pub use laws::runs_are_answered_yes;
 pub use refusals::{
@@ -33,3 +34,4 @@ pub use requests::{
     AuditOrder, Buckets, DagOrder, FileName, FloodOrder, LookOrder, Order, Request, SceneOrder,
 };
 pub use tallies::{Completed, Done, LoadTally, RunWritten, SceneTally, Tally};
+pub use world_run::Ended;

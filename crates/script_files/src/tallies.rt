@@ -1,5 +1,5 @@
-use session::Ended;
 use transcript::Answer;
+use world_run::Ended;
 
 /// How a command came to its end: what its line tells, and the closed world where it ran scripts.
 #[derive(Drop)]

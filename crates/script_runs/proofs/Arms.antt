@@ -12,7 +12,7 @@ use Rattle.node_words.specs.Held.{Seen, Wanted, IsSought}
 use Rattle.node_words.specs.Gathering.{Grew, Fails}
 use Rattle.node_words.specs.Plans.{Layout}
 use Rattle.block_contents.specs.Aligned.{top, world_block}
-use Rattle.possible.specs.Needed.{made_of}
+use Rattle.conformance.specs.Needed.{made_of}
 use Rattle.script.specs.declared.commands.Command.TheVariants.{Edit, Forget}
 use Rattle.script.specs.declared.commands.ScriptLine.{ScriptLine}
 use Rattle.transcript.specs.declared.answers.Answer.{Answer}

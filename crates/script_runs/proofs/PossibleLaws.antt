@@ -20,10 +20,10 @@ use Rattle.node_words.specs.Enough.{HasEnough}
 use Rattle.core_laws.proofs.ContentLaws.{content_shown}
 use Rattle.core_laws.proofs.Roots.{ShownIn}
 use Rattle.cell_shapes.specs.CellShapes.{SameIn}
-use Rattle.possible.specs.Needed.{content_of, made_of, IsNeeded, NeedsSome, Span, Need, IsNeed, SameNeed, IsPossible}
+use Rattle.conformance.specs.Needed.{content_of, made_of, IsNeeded, NeedsSome, Span, Need, IsNeed, SameNeed, IsPossible}
 use Rattle.script_runs.specs.Keeping.{IsMadeFor, IsMetBy}
 use Rattle.cell_shapes.proofs.SameCells.{same_back, same_on}
-use Rattle.possible.proofs.ContentBuckets.{bucket_of_content}
+use Rattle.conformance.proofs.ContentBuckets.{bucket_of_content}
 use Rattle.script_runs.proofs.PartsShown.{part_of_world}
 
 -- the shape that shows a block has the block's content

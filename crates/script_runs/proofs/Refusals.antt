@@ -12,7 +12,7 @@ use Rattle.node_shapes.specs.Shape.{Shape}
 use Rattle.node_words.specs.Held.{Wanted}
 use Rattle.node_words.specs.Plans.{Layout}
 use Rattle.node_words.specs.Enough.{HasEnough}
-use Rattle.possible.specs.Needed.{Span, made_of}
+use Rattle.conformance.specs.Needed.{Span, made_of}
 use Rattle.script_runs.specs.Keeping.{IsPartOfWorld, IsMadeFor, IsMadeInRun, MadeAndMet, WasMet, KeepsMade, HaveEnough, MakesFor, LineMakes, last_moment}
 use Rattle.script_runs.proofs.PossibleLaws.{met_needed, enough_possible}
 use Rattle.script.specs.declared.commands.Command.{Command}

@@ -6,7 +6,7 @@ use Rattle.std.proofs.lemmas.List.Elements.{All-nil, All-cons}
 use Rattle.vox_read.specs.Contents.{Content}
 use Rattle.history_model.specs.Logs.{Log}
 use Rattle.node_words.specs.Plans.{Layout}
-use Rattle.possible.specs.Needed.{Span}
+use Rattle.conformance.specs.Needed.{Span}
 use Rattle.script.specs.declared.commands.ScriptLine.{ScriptLine}
 use Rattle.script.specs.Fitting.{CommandFits, RisesFrom}
 use Rattle.transcript.specs.declared.answers.LineAnswer.{LineAnswer}

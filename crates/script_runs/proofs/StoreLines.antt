@@ -10,7 +10,7 @@ use Rattle.node_shapes.specs.Shape.{Shape, IsPart}
 use Rattle.node_words.specs.Held.{Seen, Wanted, IsSought}
 use Rattle.node_words.specs.Gathering.{Grew, unchanged, one, Fails}
 use Rattle.node_words.specs.Plans.{Layout}
-use Rattle.possible.specs.Needed.{made_of}
+use Rattle.conformance.specs.Needed.{made_of}
 use Rattle.script_runs.specs.Keeping.{MadeAndMet, made_and_met, IsPartOfWorld, IsTarget, MakesPart, MakesFor, WasMet, LineMakes}
 use Rattle.script.specs.declared.commands.Command.TheVariants.{Edit}
 use Rattle.script.specs.declared.commands.ScriptLine.{ScriptLine}

@@ -12,7 +12,7 @@ use Rattle.node_words.specs.Enough.{HasEnough}
 use Rattle.node_words.specs.Held.{Wanted, Seen}
 use Rattle.node_words.specs.Plans.{Layout}
 use Rattle.block_contents.specs.Aligned.{top, world_block}
-use Rattle.possible.specs.Needed.{Span, made_of}
+use Rattle.conformance.specs.Needed.{Span, made_of}
 use Rattle.script.specs.declared.commands.Command.{Command}
 use Rattle.script.specs.declared.commands.Command.TheVariants.{Edit}
 use Rattle.script.specs.declared.commands.ScriptLine.{ScriptLine}

@@ -18,7 +18,7 @@ use Rattle.version_answers.specs.Listing.{Found}
 use Rattle.table_rule.specs.LogTelling.{IsShownUnmarked, number_seen, seen_has}
 use Rattle.table_rule.specs.LogViews.{LogView}
 use Rattle.table_rule.specs.Views.{SeatView}
-use Rattle.table_steps.specs.LogChanges.{HasOpenTarget}
+use Rattle.node_table.specs.LogChanges.{HasOpenTarget}
 use Rattle.node_places.specs.Spots.{Version}
 use Rattle.node_table.specs.LogTurns.{FoundMark, FoundOpen, LearnsLog, LooksForMark}
 use Rattle.node_table.specs.Seen.{TableSeen, PassSeen}

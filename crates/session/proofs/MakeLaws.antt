@@ -19,10 +19,10 @@ use Rattle.cell_shapes.proofs.CellShapeLaws.{shape_with-canonical}
 use Rattle.block_walk.specs.Roots as walks
 use Rattle.edit_cells.specs.Worlds.{Rebuilt, ShowsWorld, world_cells, world_shape}
 use Rattle.edit_cells.proofs.WorldLaws.{shape_shows}
-use Rattle.act_rebuilds.specs.Acts.{GrowsByAct, RebuildsAct, RefusesAct}
+use Rattle.hands.specs.Acts.{GrowsByAct, RebuildsAct, RefusesAct}
 use Rattle.block_contents.specs.Aligned.{top, world_block}
-use Rattle.possible.specs.Needed.{made_of}
-use Rattle.script_runs.specs.Keeping.{IsPartOfWorld, MakesPart}
+use Rattle.conformance.specs.Needed.{made_of}
+use Rattle.session_runs.specs.Keeping.{IsPartOfWorld, MakesPart}
 use Rattle.table_rule.specs.LogTelling.{number_seen, seen_has}
 use Rattle.table_rule.specs.LogViews.{LogView}
 use Rattle.table_rule.specs.Views.{seen_of}

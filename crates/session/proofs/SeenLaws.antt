@@ -8,7 +8,7 @@ use Rattle.node_shapes.specs.Shape.{Shape}
 use Rattle.node_words.specs.Held.{Wanted}
 use Rattle.node_words.specs.Plans.{Layout}
 use Rattle.conformance.specs.Answers.{GoesOn}
-use Rattle.script_runs.specs.Keeping.{MadeAndMet}
+use Rattle.session_runs.specs.Keeping.{MadeAndMet}
 use Rattle.table_rule.specs.LogKnowing.{OwnsIn, if_among}
 use Rattle.table_rule.specs.LogTelling.{number_seen}
 use Rattle.table_rule.specs.Telling.{ViewTells}

@@ -9,8 +9,8 @@ use Rattle.node_shapes.specs.Shape.{Shape}
 use Rattle.node_words.specs.Plans.{Layout}
 use Rattle.conformance.specs.Answers.{GoesOn}
 use Rattle.conformance.specs.Shown.{Accepted}
-use Rattle.script_runs.specs.Keeping.{MadeAndMet, MakesPart}
-use Rattle.script_runs.proofs.Refusals.{part_stays}
+use Rattle.session_runs.specs.Keeping.{MadeAndMet, MakesPart}
+use Rattle.session_runs.proofs.Refusals.{part_stays}
 use Rattle.table_rule.specs.LogKnowing.{IsPrefix}
 use Rattle.table_rule.specs.LogViews.{LogView}
 use Rattle.table_rule.specs.Rules.{SameSession}

@@ -5,3 +5,7 @@ pub mod Closes
 pub mod Saves
 pub mod Desks
 pub mod Scripts
+pub use Rattle.hands.specs.Lendable
+pub use Rattle.version_log.specs.declared.pinned.Pinned
+pub use Rattle.version_log.specs.Seeing
+pub use Rattle.extract.specs.Saved

@@ -1,7 +1,7 @@
 //! Changes of a world: edits, undos and redos, and one attempt at an edit.
 ghost use Rattle.std.specs.Prelude.{◌≡◌, ◌≤◌, ◌∷◌, ◌^◌, [], ℕ, true};
-ghost use Rattle.edit_ops.specs.Balls.{ball_act};
-ghost use Rattle.edit_ops.specs.Boxes.{box_act};
+ghost use Rattle.hands.specs.Balls.{ball_act};
+ghost use Rattle.hands.specs.Boxes.{box_act};
 ghost use Rattle.history_model.specs.declared.acts.Act.TheVariants.{Copy};
 ghost use Rattle.history_model.specs.Logs.{FitsWorld};
 ghost use Rattle.history_model.specs.Worlds.{is_edit};
@@ -15,10 +15,8 @@ ghost use Rattle.session.specs.Seen.{KnowsItself, of_world, session_seen};
 
 use crate::attempts::{EditAnswer, Late};
 use crate::world::{Session, World};
-use edit_copy::copy_may_repeat;
-use edit_ops::box_may_repeat;
 use gate_run::Gate;
-use hands::{ActMaker, BallAct, BoxAct, CopyAct, PlainAct};
+use hands::{ActMaker, BallAct, BoxAct, CopyAct, PlainAct, box_may_repeat, copy_may_repeat};
 use history_model::Act;
 use node_words::{Share, Steps};
 use session_runs::{ActAnswer, OnceAnswer};

@@ -5,7 +5,7 @@ ghost use Rattle.node_table.specs.Begins.{AreNewPasses, terms_of};
 ghost use Rattle.session.specs.Resting.{IsAtRest};
 
 use crate::world::{Session, World};
-use act_rebuilds::draw_models;
+use hands::draw_models;
 use node_table::NodeTable;
 use node_words::Plan;
 use std::alloc::Global;

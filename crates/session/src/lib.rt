@@ -24,4 +24,5 @@ pub use closes::CloseRefused;
 pub use ended::Ended;
 pub use saves::PinnedSave;
 pub use scripts::run_script;
+pub use version_log::Pinned;
 pub use world::{Session, World};

@@ -3,7 +3,7 @@ ghost use Rattle.std.specs.Prelude.{◌≡◌, ◌≤◌, ◌^◌, IfOk, IfErr};
 ghost use Rattle.history_model.specs.Logs.{FitsWorld};
 ghost use Rattle.node_shapes.specs.Weights.{number_of_trees};
 ghost use Rattle.table_rule.specs.LogTelling.{number_seen, seen_has};
-ghost use Rattle.table_steps.specs.LogChanges.{HasOpenTarget};
+ghost use Rattle.node_table.specs.LogChanges.{HasOpenTarget};
 ghost use Rattle.node_table.specs.Seen.{SamePass};
 ghost use Rattle.version_log.specs.Commits.{AppendsNext};
 ghost use Rattle.version_log.specs.Finishing.{RefusesFinish};

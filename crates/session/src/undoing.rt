@@ -4,7 +4,7 @@ ghost use Rattle.history_model.specs.Worlds.{is_edit};
 ghost use Rattle.node_shapes.specs.Weights.{number_of_trees};
 ghost use Rattle.node_words.specs.Held.{SameHeld};
 ghost use Rattle.node_table.specs.Seen.{SamePass};
-ghost use Rattle.table_steps.specs.LogChanges.{HasOpenTarget};
+ghost use Rattle.node_table.specs.LogChanges.{HasOpenTarget};
 ghost use Rattle.version_log.specs.Roots.{GetsRoot};
 ghost use Rattle.version_log.specs.Seeing.{LooksOn};
 ghost use Rattle.version_log.specs.Targets.{IsMadeNow, KnowsNext};

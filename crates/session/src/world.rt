@@ -3,8 +3,7 @@ ghost use Rattle.history_model.specs.Logs.{FitsWorld};
 ghost use Rattle.hands.specs.Lendable.{IsLendable};
 ghost use Rattle.hands.specs.Lent.{IsHandOf};
 
-use act_rebuilds::DrawnModel;
-use hands::Hand;
+use hands::{DrawnModel, Hand};
 use history_model::Act;
 use node_table::{NodeTable, Pass};
 use node_words::Plan;

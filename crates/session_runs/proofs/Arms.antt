@@ -10,7 +10,7 @@ use Rattle.history_model.specs.declared.histories.Mark.{Mark}
 use Rattle.history_model.specs.Worlds.{is_edit}
 use Rattle.node_words.specs.Held.{Wanted}
 use Rattle.node_words.specs.Plans.{Layout}
-use Rattle.possible.specs.Needed.{made_of}
+use Rattle.conformance.specs.Needed.{made_of}
 use Rattle.script.specs.declared.commands.Command.TheVariants.{Edit, Forget}
 use Rattle.script.specs.declared.commands.ScriptLine.{ScriptLine}
 use Rattle.transcript.specs.declared.answers.Answer.{Answer}

@@ -9,7 +9,7 @@ use Rattle.node_shapes.specs.Shape.{Shape}
 use Rattle.node_words.specs.Held.{Wanted, IsSought}
 use Rattle.node_words.specs.Plans.{Layout}
 use Rattle.block_contents.specs.Versions.{IsUnmarked}
-use Rattle.possible.specs.Needed.{made_of}
+use Rattle.conformance.specs.Needed.{made_of}
 use Rattle.conformance.specs.Answers.{IsRecordOf, GoesOn, mark_of}
 use Rattle.conformance.specs.Shown.{Accepted}
 use Rattle.script_runs.specs.Keeping.{IsPartOfWorld, MakesPart}

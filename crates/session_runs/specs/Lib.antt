@@ -8,3 +8,4 @@ pub mod Lines
 pub mod Calls
 pub mod Told
 pub mod Statements
+pub use Rattle.script_runs.specs.Keeping

@@ -11,8 +11,7 @@ ghost use Rattle.block_walk.specs.Roots.{HoldsRoot};
 ghost use Rattle.act_rebuilds.specs.Acts.{RebuildsAct, GrowsByAct, RefusesAct};
 ghost use Rattle.store_run.specs.Stamps.{stamp_in};
 
-use act_rebuilds::{DrawnModel, rebuild_act};
-use edit_stamp::{Stencil, rebuild_stamp};
+use act_rebuilds::{DrawnModel, Stencil, rebuild_act, rebuild_stamp};
 use history_model::Act;
 use node_words::{Full, NodeStore, Share, Steps};
 use std::alloc::Global;
@@ -30,7 +29,7 @@ pub(crate) struct OwnModel {
 
 impl std::marker::Model for OwnModel {
     ghost use Rattle.vox_read.specs.Contents.{Content};
-    ghost use Rattle.edit_stamp.specs.Drawings.{Draws};
+    ghost use Rattle.act_rebuilds.specs.Drawings.{Draws};
 
     ghost Value = { Content };
 

@@ -8,12 +8,12 @@ use Rattle.vw_cell.specs.declared.boxes.Boxed.{Boxed}
 use Rattle.vw_cell.specs.declared.balls.Ball as balls
 use Rattle.vw_cell.specs.Places.{FitsAt, IsInWorld, IsCell}
 use Rattle.vox_read.specs.Contents.{Content}
-use Rattle.history_model.specs.declared.acts.Act.{Act}
-use Rattle.history_model.specs.declared.acts.Act.TheVariants.{Fill, Erase, Ball, Carve, Copy, Stamp, Undo, Redo}
-use Rattle.history_model.specs.declared.histories.Record.{Record}
-use Rattle.history_model.specs.Logs.{FitsWorld, FitsModel}
-use Rattle.history_model.specs.Packing.{cell_word, packed, log_words, last_edit}
-use Rattle.history_model.specs.Positions.{position_after}
+use Rattle.version_answers.specs.Act.{Act}
+use Rattle.version_answers.specs.TheVariants.{Fill, Erase, Ball, Carve, Copy, Stamp, Undo, Redo}
+use Rattle.version_answers.specs.Record.{Record}
+use Rattle.version_answers.specs.Logs.{FitsWorld, FitsModel}
+use Rattle.version_answers.specs.Packing.{cell_word, packed, log_words, last_edit}
+use Rattle.version_answers.specs.Positions.{position_after}
 use Rattle.table_rule.specs.LogWords.{HasNumbers, FitsFields, cell_of_word, box_of_words, ball_of_words, act_of_words, record_of_words}
 
 low_part : (word a b n : ℕ) → word ≡ b * n + a → a < n → word % n ≡ a

@@ -3,7 +3,7 @@ use Rattle.std.proofs.Common.{◌≡◌, ℕ, true, Some, List, [], set, refl, s
 use Rattle.std.specs.List.{slice_get, Contains}
 use Rattle.node_words.specs.Plans.{Layout}
 use Rattle.node_places.specs.Spots.{Spot, Sessions, LogTurn, LogLength, Version}
-use Rattle.history_model.specs.Logs.{Log}
+use Rattle.version_answers.specs.Logs.{Log}
 use Rattle.table_rule.specs.LogKnowing.{IsPrefix, ListsOwn, OwnsIn, WasFound, KnowsLog}
 use Rattle.table_rule.specs.LogTurning.{IsOfLog, KeepsLogTurn}
 use Rattle.table_rule.specs.LogViews.{LogView}

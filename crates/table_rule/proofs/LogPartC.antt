@@ -5,9 +5,9 @@ use Rattle.std.specs.List.{slice_get, Contains}
 use Rattle.std.proofs.lemmas.Bool.{cases_eq}
 use Rattle.std.proofs.lemmas.List.Sums.{sum_by-cons}
 use Rattle.std.proofs.lemmas.Option.{none-some, same_Some}
-use Rattle.history_model.specs.Logs.{Log}
-use Rattle.history_model.specs.declared.histories.Mark.{Mark}
-use Rattle.history_model.specs.declared.histories.Record.{Record}
+use Rattle.version_answers.specs.Logs.{Log}
+use Rattle.version_answers.specs.Mark.{Mark}
+use Rattle.version_answers.specs.Record.{Record}
 use Rattle.table_rule.specs.LogKnowing.{IsPrefix, ListsOwn, OwnsIn, WasFound, AreOfSessions, KnowsLog, if_among, numbered_from}
 use Rattle.table_rule.specs.LogViews.{LogView}
 use Rattle.version_answers.specs.Listing.{Accepted, Found}

@@ -5,11 +5,11 @@ use Rattle.std.specs.List.{slice_get, Contains}
 use Rattle.std.proofs.lemmas.Bool.{cases_eq}
 use Rattle.std.proofs.lemmas.List.{take-append-le, take_all}
 use Rattle.std.proofs.lemmas.List.Elements.{Contains-append_left, Contains-append_right, Contains-append_cases}
-use Rattle.block_contents.specs.Versions.{IsUnmarked}
+use Rattle.core_reading.specs.Versions.{IsUnmarked}
 use Rattle.node_words.specs.Plans.{Layout}
 use Rattle.node_places.specs.Spots.{Spot, LogTurn, LogLength, Version, versions}
-use Rattle.history_model.specs.declared.histories.Mark.{Mark}
-use Rattle.history_model.specs.Packing.{log_words}
+use Rattle.version_answers.specs.Mark.{Mark}
+use Rattle.version_answers.specs.Packing.{log_words}
 use Rattle.table_rule.specs.LogWords.{record_of_words, word_in, mark_of_words, records_in, if_marked, marks_in, log_in, act_of_words, IsLogWritten}
 
 -- the words of the log are as before

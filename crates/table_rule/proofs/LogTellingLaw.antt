@@ -14,17 +14,17 @@ use Rattle.node_words.specs.Held.{IsReached}
 use Rattle.node_words.specs.Plans.{Layout}
 use Rattle.node_places.specs.KeyWords.{child_of_word}
 use Rattle.node_places.specs.Spots.{Spot, LogLength, Version, versions}
-use Rattle.history_model.specs.Laws.{has_stays}
-use Rattle.history_model.specs.Logs.{Log}
-use Rattle.history_model.specs.Moments.{world_has}
-use Rattle.history_model.specs.Packing.{log_words}
-use Rattle.history_model.specs.declared.histories.Record.{Record}
-use Rattle.block_contents.specs.Aligned.{top, world_block}
-use Rattle.block_contents.specs.Versions.{IsKept, SameWorld}
-use Rattle.core_laws.proofs.Lives.{root_lives}
-use Rattle.core_laws.proofs.LogSteps.{root_in_range}
-use Rattle.core_laws.proofs.RootCells.{same_cells, same_root, no_root_no_cell}
-use Rattle.core_laws.specs.States.{State, IsLive, tree_at, tree_of}
+use Rattle.version_answers.specs.Laws.{has_stays}
+use Rattle.version_answers.specs.Logs.{Log}
+use Rattle.version_answers.specs.Moments.{world_has}
+use Rattle.version_answers.specs.Packing.{log_words}
+use Rattle.version_answers.specs.Record.{Record}
+use Rattle.core_reading.specs.Aligned.{top, world_block}
+use Rattle.core_reading.specs.Versions.{IsKept, SameWorld}
+use Rattle.core_reading.proofs.Lives.{root_lives}
+use Rattle.core_reading.proofs.LogSteps.{root_in_range}
+use Rattle.core_reading.proofs.RootCells.{same_cells, same_root, no_root_no_cell}
+use Rattle.core_reading.specs.States.{State, IsLive, tree_at, tree_of}
 use Rattle.core_reading.specs.Reading.{kept_root, book_of}
 use Rattle.table_rule.specs.LogKnowing.{IsPrefix}
 use Rattle.table_rule.specs.LogTelling.{number_seen, seen_has, IsShownUnmarked, IsShownRoot, LogTells, RootsTell}

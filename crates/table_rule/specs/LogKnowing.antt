@@ -1,9 +1,9 @@
 -- Part C of the rule for the log: what the seats know of it.
 use Rattle.std.specs.Prelude.{◌≡◌, ℕ, suc, eqb, ◌<◌, ◌≤◌, if◌then◌else◌, List, [], ◌∷◌, ◌++◌, length, sum_by, All}
 use Rattle.std.specs.List.{Contains}
-use Rattle.history_model.specs.declared.histories.Record.{Record}
-use Rattle.history_model.specs.declared.histories.Mark.{Mark}
-use Rattle.history_model.specs.Logs.{Log, IsVersionHeld}
+use Rattle.version_answers.specs.Record.{Record}
+use Rattle.version_answers.specs.Mark.{Mark}
+use Rattle.version_answers.specs.Logs.{Log, IsVersionHeld}
 use Rattle.version_answers.specs.Listing.{Accepted, Found}
 use Rattle.table_rule.specs.Views.{SeatView, Each}
 

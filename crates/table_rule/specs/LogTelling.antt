@@ -10,12 +10,12 @@ use Rattle.node_words.specs.Held.{IsReached}
 use Rattle.node_places.specs.KeyWords.{child_of_word}
 use Rattle.node_places.specs.Names.{IsName}
 use Rattle.node_places.specs.Spots.{LogLength, Version}
-use Rattle.history_model.specs.declared.histories.Record.{Record}
-use Rattle.history_model.specs.Moments.{world_has}
-use Rattle.history_model.specs.Packing.{log_words}
-use Rattle.history_model.specs.Worlds.{World}
-use Rattle.block_contents.specs.Aligned.{top, world_block}
-use Rattle.block_contents.specs.Versions.{SameWorld}
+use Rattle.version_answers.specs.Record.{Record}
+use Rattle.version_answers.specs.Moments.{world_has}
+use Rattle.version_answers.specs.Packing.{log_words}
+use Rattle.version_answers.specs.Worlds.{World}
+use Rattle.core_reading.specs.Aligned.{top, world_block}
+use Rattle.core_reading.specs.Versions.{SameWorld}
 use Rattle.core_reading.specs.Reading.{book_of}
 use Rattle.table_rule.specs.LogKnowing.{OwnsIn}
 use Rattle.table_rule.specs.Views.{SeatView, bucket_of, known_at}

@@ -1,9 +1,9 @@
 -- What a seat of the table knows of the log.
 use Rattle.std.specs.Prelude.{ℕ, Bool, false, List, []}
 use Rattle.node_places.specs.Spots.{Spot}
-use Rattle.history_model.specs.declared.histories.Record.{Record}
-use Rattle.history_model.specs.declared.histories.Mark.{Mark}
-use Rattle.history_model.specs.Logs.{Log}
+use Rattle.version_answers.specs.Record.{Record}
+use Rattle.version_answers.specs.Mark.{Mark}
+use Rattle.version_answers.specs.Logs.{Log}
 use Rattle.version_answers.specs.Listing.{Accepted, Found}
 
 -- what one seat knows of the log: whether it has the log's turn, the words that it has loaded or

@@ -5,12 +5,12 @@ use Rattle.vw_cell.specs.declared.boxes.Boxed.{Boxed}
 use Rattle.vw_cell.specs.declared.balls.Ball as balls
 use Rattle.node_words.specs.Plans.{Layout}
 use Rattle.node_places.specs.Spots.{Spot, LogLength, Version, versions}
-use Rattle.history_model.specs.declared.acts.Act.{Act}
-use Rattle.history_model.specs.declared.acts.Act.TheVariants.{Fill, Erase, Ball, Carve, Copy, Stamp, Undo, Redo}
-use Rattle.history_model.specs.declared.histories.Record.{Record}
-use Rattle.history_model.specs.declared.histories.Mark.{Mark}
-use Rattle.history_model.specs.Logs.{Log}
-use Rattle.history_model.specs.Packing.{log_words}
+use Rattle.version_answers.specs.Act.{Act}
+use Rattle.version_answers.specs.TheVariants.{Fill, Erase, Ball, Carve, Copy, Stamp, Undo, Redo}
+use Rattle.version_answers.specs.Record.{Record}
+use Rattle.version_answers.specs.Mark.{Mark}
+use Rattle.version_answers.specs.Logs.{Log}
+use Rattle.version_answers.specs.Packing.{log_words}
 
 -- the cell, the box and the ball of words, whatever words they are
 abbrev pub cell_of_word : ℕ → Cell

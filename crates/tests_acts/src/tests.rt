@@ -2,7 +2,6 @@ ghost use Rattle.std.specs.Prelude.{◌≡◌, ◌<◌, ◌≤◌, IfOk};
 ghost use Rattle.vox_read.specs.Contents.{AreModels, IsModel};
 ghost use Rattle.history_model.specs.Worlds.{is_edit};
 
-use act_rebuilds::{draw_models, rebuild_act};
 use history_model::Act;
 use node_words::{NodeStore, Plan, Steps};
 use one_store::OneStore;
@@ -10,6 +9,7 @@ use std::alloc::Global;
 use std::marker::Brand;
 use std::sync::ledger::{Blank, Ledger};
 use std::test::Fail;
+use store_run::{draw_models, rebuild_act};
 use vox_read::{Model, Models, Voxel};
 use vw_cell::{Ball, Boxed, Cell, Side};
 

@@ -1,13 +1,12 @@
 //! Runs of the store for one thread, each of which is one.
 
 use crate::texts::{answer_of, no_models, script_of};
-use audit::audit;
+use audit::{ScriptsRun, audit, run_scripts};
 use conformance::Transcript;
 use history_model::History;
 use node_words::Plan;
 use std::alloc::Global;
 use std::test::Fail;
-use store_run::{ScriptsRun, run_scripts};
 use vw_cell::Side;
 
 // Whether an audit says that what two scripts give is a run of them.

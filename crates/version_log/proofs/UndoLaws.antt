@@ -10,7 +10,7 @@ use Rattle.history_model.specs.Moments.{world_has}
 use Rattle.history_model.specs.Positions.{position_after}
 use Rattle.history_model.specs.Worlds.{is_edit}
 use Rattle.node_shapes.specs.declared.names.Name.{Name}
-use Rattle.core_laws.specs.Making.{version_gone_to}
+use Rattle.node_table.specs.Making.{version_gone_to}
 use Rattle.table_rule.specs.LogTelling.{IsShownUnmarked, seen_has}
 use Rattle.table_rule.specs.Views.{SeatView}
 use Rattle.table_steps.specs.LogChanges.{HasOpenTarget, IsOpenTarget}

@@ -7,7 +7,7 @@ use Rattle.history_model.specs.Packing.{last_edit}
 use Rattle.history_model.specs.Positions.{position_after}
 use Rattle.history_model.specs.Worlds.{World}
 use Rattle.node_shapes.specs.declared.names.Name.{Name}
-use Rattle.core_laws.specs.Making.{Makes}
+use Rattle.node_table.specs.Making.{Makes}
 use Rattle.table_rule.specs.Views.{SeatView}
 use Rattle.undo.specs.declared.standing.Standing.{Standing}
 use Rattle.undo.specs.Targets.{past_top, future_top}

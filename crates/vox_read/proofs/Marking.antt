@@ -1,13 +1,39 @@
 -- One more voxel changes one place.
-use Rattle.std.proofs.Common.{◌≡◌, ◌≢◌, ℕ, ◌+◌, ◌*◌, ◌^◌, ◌<◌, ◌≤◌, List, [], ◌∷◌, ◌++◌, Bool, length, take, get_or, All, refl, ap, sym, ◌∙◌, arith, reverse}
+use Rattle.std.proofs.Common.{
+  ◌≡◌,
+  ◌≢◌,
+  ℕ,
+  ◌+◌,
+  ◌*◌,
+  ◌^◌,
+  ◌<◌,
+  ◌≤◌,
+  List,
+  [],
+  ◌∷◌,
+  ◌++◌,
+  Bool,
+  length,
+  take,
+  get_or,
+  All,
+  refl,
+  ap,
+  sym,
+  ◌∙◌,
+  arith,
+  reverse,
+  eq-eqb,
+  inl,
+  inr,
+}
 use Rattle.std.specs.Prelude.{not, ◌==◌, cond, find, Some, true, false}
 use Rattle.std.proofs.lemmas.List.{reverse-append, take_more}
 use Rattle.std.proofs.lemmas.Bool.{cases_eq}
 use Rattle.std.proofs.lemmas.Bool.Decides.{nat_tests}
-use Rattle.std.proofs.Common.{eq-eqb, inl, inr}
 use Rattle.bit_set.specs.Bits.{is_set}
 use Rattle.vw_cell.specs.declared.cells.Cell.{Cell}
-use Rattle.sums.specs.Sums.{one_if}
+use Rattle.vw_cell.specs.Sums.{one_if}
 use Rattle.vw_cell.specs.Counts.{IsBelow, number_below, number_below-change, number_below-at, number_below-none}
 use Rattle.vox_read.specs.declared.voxels.Voxel.{Voxel}
 use Rattle.vox_read.specs.Contents.{is_cell, stands_at, colour_of, StandsInside, IsSize}

@@ -7,4 +7,4 @@ pub mod Children
 pub mod Files
 pub mod Refusals
 pub mod Once
-pub use Rattle.sums.specs.Sums
+pub use Rattle.vw_cell.specs.Sums

@@ -1,5 +1,5 @@
 ghost use Rattle.std.specs.Prelude.{◌≡◌, ◌+◌, ◌*◌, ◌^◌, ◌<◌, ◌≤◌, IfOk};
-ghost use Rattle.sums.specs.Sums.{one_if};
+ghost use Rattle.vw_cell.specs.Sums.{one_if};
 ghost use Rattle.vox_read.specs.Contents.{IsModel, IsSize, StandsInside, cells_in_size};
 ghost use Rattle.vox_read.specs.Marks.{Marks};
 ghost use Rattle.vox_read.specs.Places.{index_of, voxel_place, volume_of};

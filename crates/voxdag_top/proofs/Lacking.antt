@@ -1,7 +1,7 @@
 -- Want of memory before all words are read.
 use Rattle.std.proofs.Common.{◌≡◌, ℕ, Option, Some, None, refl}
 use Rattle.vw_io.specs.Outside.{ShelfState, SinkState, outside}
-use Rattle.node_table.specs.declared.closed.Closed.{Closed}
+use Rattle.script_files.specs.Closed.{Closed}
 use Rattle.script_files.specs.declared.refusals.CommandRefused.TheVariants.{Text}
 use Rattle.script_files.specs.declared.refusals.TextRefused.TheVariants.{Memory}
 use Rattle.script_files.specs.declared.requests.Request.{Request}

@@ -18,7 +18,7 @@ use Rattle.history_model.specs.Logs.{Log}
 use Rattle.transcript.specs.Lines.{transcript_of}
 use Rattle.script.specs.declared.commands.SaveName.{SaveName}
 use Rattle.script.specs.Commands.{name_bytes}
-use Rattle.session_runs.specs.Kept.{KeptSave}
+use Rattle.script_files.specs.Kept.{KeptSave}
 use Rattle.script_files.specs.Refusals.{output_name, IsNamed}
 use Rattle.script_files.specs.Reports.{BeginsFirst, BeginsTexts}
 use Rattle.script_files.specs.Requests.{Given, transcript_name, named_texts, wanted_output, saved_output, written_first, written_last, texts_written}

@@ -13,7 +13,7 @@ use Rattle.script_files.specs.declared.refusals.CommandRefused.TheVariants.{Inpu
 use Rattle.script_files.specs.declared.refusals.TextRefused.TheVariants.{Vox, Script, Collides, NoScene, NoPlace, StoreFull, NoDag, Journal, Transcript, Memory}
 use Rattle.script_files.specs.declared.requests.Request.{Request}
 use Rattle.script_files.specs.Requests.{inputs_of}
-use Rattle.node_table.specs.declared.closed.Closed.{Closed}
+use Rattle.script_files.specs.Closed.{Closed}
 use Rattle.script_files.specs.Outcomes.{BreaksOff, Completes}
 use Rattle.script_files.specs.Refusals.{output_name}
 use Rattle.voxdag_top.specs.declared.endings.Ending.{Ending}

@@ -7,7 +7,7 @@ use Rattle.vox_read.specs.Files.{ReadsModels}
 use Rattle.history_model.specs.Logs.{Log}
 use Rattle.transcript.specs.declared.answers.LineAnswer.{LineAnswer}
 use Rattle.vox_scene.proofs.Judging.{judged}
-use Rattle.dag_answers.proofs.JudgeLaws as look_laws
+use Rattle.script_files.proofs.JudgeLaws as look_laws
 use Rattle.script_files.specs.declared.requests.Request.{Request}
 use Rattle.script_files.specs.declared.requests.Request.TheVariants.{Count, Run, Demo, Flood, Scene, Dag, Look, Audit}
 use Rattle.script_files.specs.Requests.{inputs_of}

@@ -16,7 +16,7 @@ use Rattle.script_files.specs.declared.requests.Request.{Request}
 use Rattle.script_files.specs.Outcomes.{Outcome}
 use Rattle.script_files.specs.Refusals.{output_name}
 use Rattle.std.proofs.Common.{zero}
-use Rattle.node_table.specs.declared.closed.Closed.{Closed}
+use Rattle.script_files.specs.Closed.{Closed}
 use Rattle.voxdag_top.specs.declared.endings.Ending.{Ending}
 use Rattle.voxdag_top.specs.declared.endings.Ending.TheVariants.{Completed, Usage, Refused}
 use Rattle.voxdag_top.specs.Lines.{done_line, usage_line, scene_line, no_place_line, full_line, dag_line, journal_line, transcript_line, vox_line, script_line, input_line, output_line, memory_line}

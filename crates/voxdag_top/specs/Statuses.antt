@@ -15,7 +15,7 @@ use Rattle.script_files.specs.declared.refusals.NumberedFault.{NumberedFault}
 use Rattle.script_files.specs.declared.refusals.TranscriptLine.{TranscriptLine}
 use Rattle.script_files.specs.declared.refusals.TextRefused.{TextRefused}
 use Rattle.script_files.specs.declared.refusals.TextRefused.TheVariants as texts
-use Rattle.node_table.specs.declared.closed.Closed.{Closed}
+use Rattle.script_files.specs.Closed.{Closed}
 use Rattle.script_files.specs.declared.tallies.Done.{Done}
 use Rattle.node_words.specs.declared.shares.Full.{Full}
 use Rattle.script_files.specs.declared.requests.Request.{Request}

@@ -1,5 +1,4 @@
-use script_files::{CommandRefused, Completed};
-use session::Ended;
+use script_files::{CommandRefused, Completed, Ended};
 
 /// How the program ends, before the line that says it is put. The clauses of [`crate::voxdag`]
 /// speak of it where the line could not be put; no call gives one.

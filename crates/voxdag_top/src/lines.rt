@@ -9,10 +9,9 @@ ghost use Rattle.voxdag_top.specs.Finishing.{PutEnds, Finishes, NamesFit, Output
 
 use crate::endings::{Ending, Gated};
 use script_files::{
-    CommandRefused, Done, LoadTally, NumberedFault, Order, OutputName, OutputRefused, Request,
-    SceneTally, Tally, TextRefused, demo_order,
+    CommandRefused, Done, Ended, LoadTally, NumberedFault, Order, OutputName, OutputRefused,
+    Request, SceneTally, Tally, TextRefused, demo_order,
 };
-use session::Ended;
 use std::alloc::{AllocError, Global};
 use transcript::Answer;
 use vw_io::{InputRefused, PutRefused, ReadRefused, Sink, WriteRefused};

@@ -4,12 +4,12 @@ ghost use Rattle.std.specs.Option.{option_map};
 ghost use Rattle.command_line.specs.Texts.{texts};
 ghost use Rattle.history_model.specs.Worlds.{box_at};
 ghost use Rattle.script.specs.Numbers.{loose};
-ghost use Rattle.dag_answers.specs.Questions.{question_spelled, step_spelled, way_spelled};
+ghost use Rattle.script_files.specs.Questions.{question_spelled, step_spelled, way_spelled};
 ghost use Rattle.voxdag_top.specs.Questions.{place_in, box_in, sized, step_in, way_in, get_in, bounds_in, ray_in, question_in};
 
-use dag_answers::{SpelledQuestion, SpelledStep, SpelledWay};
 use history_model::Three;
 use script::number;
+use script_files::{SpelledQuestion, SpelledStep, SpelledWay};
 
 /// The question of this name with the words behind it.
 pub(crate) fn question_in(name: &str, words: &[String]) -> Option<SpelledQuestion>

@@ -2,3 +2,4 @@ pub mod Places
 pub mod Sides
 pub mod Counts
 pub mod Tests
+pub use Rattle.sums.specs.Sums

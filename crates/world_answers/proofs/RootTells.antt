@@ -17,7 +17,7 @@ use Rattle.history_model.specs.Rays.{Hits}
 use Rattle.history_model.specs.Ways.{Heading}
 use Rattle.history_model.specs.Worlds.{World}
 use Rattle.history_model.specs.declared.questions.Question.TheVariants.{Get, Count, Bounds, Faces, Ray}
-use Rattle.block_contents.specs.Versions.{SameWorld}
+use Rattle.one_store.specs.Versions.{SameWorld}
 use Rattle.transcript.specs.declared.answers.Answer.TheVariants as answers
 use Rattle.conformance.specs.Telling.{is, count, faces, extent, hit}
 use Rattle.world_answers.specs.TellsRoots.{TellsRoot}

@@ -13,7 +13,7 @@ use Rattle.world_questions.specs.Extents.{IsExtent}
 use Rattle.history_model.specs.Rays.{ClearBefore, Hits}
 use Rattle.history_model.specs.Ways.{Heading}
 use Rattle.history_model.specs.Worlds.{World}
-use Rattle.block_contents.specs.Versions.{SameWorld}
+use Rattle.one_store.specs.Versions.{SameWorld}
 
 -- what counts only where a test passes
 where_passed : (test x y : Bool) → (test ≡ true → x ≡ y) → (test && x) ≡ (test && y)

@@ -4,7 +4,7 @@
 
 ghost use Rattle.std.specs.Prelude.{◌≡◌, ◌^◌, option_copied};
 ghost use Rattle.block_walk.specs.Roots.{HoldsRoot};
-ghost use Rattle.script.specs.Fitting.{QuestionFits};
+ghost use Rattle.conformance.specs.Fitting.{QuestionFits};
 ghost use Rattle.world_answers.specs.TellsRoots.{TellsRoot};
 
 use history_model::Question;

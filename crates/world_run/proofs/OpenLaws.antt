@@ -8,20 +8,20 @@ use Rattle.std.proofs.lemmas.List.{length-map}
 use Rattle.std.proofs.lemmas.Option.{get_or_from_slice_get, same_Some, slice_get-get_or, slice_get-map, slice_get_cases}
 use Rattle.vox_read.specs.Contents.{Content}
 use Rattle.script.specs.Placing.{is_save_name}
-use Rattle.extract.specs.Saved.{file_of_box}
+use Rattle.session.specs.Saved.{file_of_box}
 use Rattle.history_model.specs.Moments.{world_has}
 use Rattle.node_words.specs.Held.{Seen}
 use Rattle.node_table.specs.Seen.{TableSeen, PassSeen}
-use Rattle.table_rule.specs.LogViews.{LogView}
-use Rattle.table_rule.specs.Views.{SeatView, seen_of}
-use Rattle.version_log.specs.Seeing.{IsDated}
-use Rattle.version_log.specs.declared.pinned.Pinned.{Pinned}
+use Rattle.node_table.specs.LogViews.{LogView}
+use Rattle.node_table.specs.Views.{SeatView, seen_of}
+use Rattle.session.specs.Seeing.{IsDated}
+use Rattle.session.specs.Pinned.{Pinned}
 use Rattle.script.specs.Fitting.{SaveFits}
 use Rattle.conformance.specs.declared.saves.SavedBox.{SavedBox}
 use Rattle.session_runs.specs.Kept.{KeptSave, kept_at}
 use Rattle.session_runs.specs.Saves.{versions_of}
 use Rattle.session_runs.specs.Seen.{SessionSeen}
-use Rattle.hands.specs.Lendable.{StaysLendable}
+use Rattle.session.specs.Lendable.{StaysLendable}
 use Rattle.session.specs.Resting.{IsAtRest}
 use Rattle.session.specs.Saves.{HoldsSaves, pinned_versions}
 use Rattle.session.specs.Seen.{session_seen}

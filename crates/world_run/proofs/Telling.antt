@@ -11,7 +11,7 @@ use Rattle.node_shapes.specs.declared.names.Name.{Name}
 use Rattle.node_places.specs.Spots.{levels}
 use Rattle.block_contents.specs.Aligned.{top}
 use Rattle.block_contents.specs.Versions.{IsKept}
-use Rattle.core_laws.specs.States.{State}
+use Rattle.node_table.specs.States.{State}
 use Rattle.reporting.specs.Numbers.{AreNumbers}
 use Rattle.reporting.specs.Roots.{RootsTellWorlds}
 use Rattle.reporting.proofs.NumberLaws.{numbers_told}

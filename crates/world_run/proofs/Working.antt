@@ -14,13 +14,13 @@ use Rattle.node_words.specs.Plans.{Layout}
 use Rattle.script.specs.Fitting.{CommandFits, RisesFrom, SaveFits}
 use Rattle.script.specs.declared.commands.ScriptLine.{ScriptLine}
 use Rattle.transcript.specs.declared.answers.LineAnswer.{LineAnswer}
-use Rattle.script_runs.specs.Keeping.{MadeAndMet}
+use Rattle.session_runs.specs.Keeping.{MadeAndMet}
 use Rattle.conformance.specs.declared.saves.SavedBox.{SavedBox}
 use Rattle.conformance.specs.Saves.{saved_in}
-use Rattle.version_log.specs.declared.pinned.Pinned.{Pinned}
+use Rattle.session.specs.Pinned.{Pinned}
 use Rattle.node_table.specs.Begins.{AreNewPasses, IsNewPass, terms_of}
 use Rattle.node_table.specs.Seen.{TableSeen, TermsSeen, PassSeen}
-use Rattle.table_rule.specs.LogViews.{LogView}
+use Rattle.node_table.specs.LogViews.{LogView}
 use Rattle.session_runs.specs.Kept.{KeptSave, kept_at, kept_of}
 use Rattle.session_runs.specs.Ran.{IsAnswered, SessionRan, SessionsRan}
 use Rattle.session_runs.specs.Saves.{saves_asked_in, versions_of}

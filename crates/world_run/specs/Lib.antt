@@ -3,3 +3,4 @@ pub mod Open
 pub mod Works
 pub mod Starts
 pub mod Told
+pub use Rattle.node_table.specs.declared.closed.Closed

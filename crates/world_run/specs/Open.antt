@@ -5,7 +5,7 @@ use Rattle.vox_read.specs.Contents.{Content}
 use Rattle.history_model.specs.Logs.{Log}
 use Rattle.history_model.specs.Moments.{world_has}
 use Rattle.node_words.specs.Plans.{Layout}
-use Rattle.extract.specs.Saved.{file_of_box}
+use Rattle.session.specs.Saved.{file_of_box}
 use Rattle.script.specs.Fitting.{SaveFits}
 use Rattle.conformance.specs.declared.saves.SavedBox.{SavedBox}
 use Rattle.node_table.specs.Seen.{TableSeen}

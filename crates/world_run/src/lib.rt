@@ -11,3 +11,4 @@ mod works;
 pub use endings::WorldRan;
 pub use open_runs::OpenRun;
 pub use runs::{ScriptsRun, run_scripts};
+pub use session::Ended;

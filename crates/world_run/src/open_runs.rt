@@ -13,11 +13,10 @@ ghost use Rattle.world_run.specs.Open.{HasSave, IsSaved, SavesAt, kept_in, saved
 
 use crate::endings::{WorldRan, close_over, give_up_over};
 use conformance::SavedBox;
-use session::{Session, World};
+use session::{Pinned, Session, World};
 use std::alloc::Global;
 use std::marker::Model;
 use std::sync::Wait;
-use version_log::Pinned;
 use vw_cell::Memory;
 
 /// A session that ran its script, its accepted saves, and the pin of each.

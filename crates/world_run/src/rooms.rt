@@ -7,9 +7,9 @@ ghost use Rattle.world_run.specs.Works.{IsEmptyRoom, IsRoomFor};
 use crate::accepted::number_of_saves;
 use conformance::SavedBox;
 use script::Script;
+use session::Pinned;
 use std::alloc::Global;
 use transcript::LineAnswer;
-use version_log::Pinned;
 use vw_cell::Memory;
 
 /// More saves than a script has that was read: those have at most 16.

@@ -10,9 +10,9 @@ use Rattle.node_words.specs.declared.shares.Full.{Full}
 use Rattle.node_words.specs.Plans.{Layout}
 use Rattle.node_table.specs.Names.{named}
 use Rattle.node_table.specs.Spots.{Spot, buckets_at}
-use Rattle.table_rule.specs.Telling.{ViewTells}
-use Rattle.table_rule.specs.Views.{SeatView}
-use Rattle.table_steps.specs.Changes.{HasKeyWords, PassesBelow}
+use Rattle.node_table.specs.Telling.{ViewTells}
+use Rattle.node_table.specs.Views.{SeatView}
+use Rattle.node_table.specs.Changes.{HasKeyWords, PassesBelow}
 use Rattle.node_table.specs.declared.places.Place.TheVariants.{NoRoom}
 use Rattle.node_table.specs.Acts.{MayAdd}
 use Rattle.node_table.specs.Seen.{TableSeen, bucket_named}

@@ -4,7 +4,7 @@ use Rattle.node_shapes.specs.Tree.{Tree, child_of}
 use Rattle.node_shapes.specs.Weights.{number_of_trees}
 use Rattle.node_words.specs.Held.{AreBelow, AreHeld, HoldsChildren, HoldsName, name_in}
 use Rattle.node_words.proofs.GatherLaws.{may_next}
-use Rattle.table_rule.specs.Views.{SeatView}
+use Rattle.node_table.specs.Views.{SeatView}
 use Rattle.node_table.proofs.OnlyShares.{only_on}
 use Rattle.node_table.proofs.Taking.{one_emptied}
 use Rattle.release.proofs.ReturnLaws.{gave_left, gave_freed, gave_none, row_goes_on, children_held, children_below, children_room, next_held, row_room, may_is_held}

@@ -2,7 +2,7 @@ use Rattle.std.proofs.Common.{◌^◌, sym, subst}
 use Rattle.std.specs.Prelude.{option_copied}
 use Rattle.history_model.specs.declared.questions.Question.{Question}
 use Rattle.transcript.specs.declared.answers.Answer.TheVariants as answers
-use Rattle.script.specs.Fitting.{QuestionFits}
+use Rattle.conformance.specs.Fitting.{QuestionFits}
 use Rattle.world_answers.specs.TellsRoots.{TellsRoot}
 use Rattle.world_answers.proofs.RootTells.{get_told, count_told, bounds_told, faces_told, ray_told}
 use Rattle.world_answers.proofs.tell.Goals as goal

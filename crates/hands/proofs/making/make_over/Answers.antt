@@ -1,8 +1,8 @@
 use Rattle.std.proofs.Common.{rules, ap, Ok, Err}
 use Rattle.std.specs.Prelude.{option_copied}
 use Rattle.act_rebuilds.specs.Acts.{RebuildsAct, GrowsByAct, RefusesAct}
-use Rattle.table_rule.specs.Views.{seen_of}
-use Rattle.node_table.specs.Seen.{PassSeen}
+use Rattle.intern.specs.Views.{seen_of}
+use Rattle.release.specs.Seen.{PassSeen}
 use Rattle.hands.proofs.LentLaws.{lent}
 use Rattle.hands.proofs.making.make_over.Goals as goal
 

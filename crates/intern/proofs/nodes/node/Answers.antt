@@ -7,8 +7,8 @@ use Rattle.node_words.specs.Keys.{bucket_of_key}
 use Rattle.node_words.specs.Plans.{buckets_at}
 use Rattle.node_places.specs.Names.{named}
 use Rattle.node_places.specs.Spots.{Spot}
-use Rattle.table_rule.specs.Views.{SeatView}
-use Rattle.table_steps.specs.Changes.{HasKeyWords, PassesBelow}
+use Rattle.node_table.specs.Views.{SeatView}
+use Rattle.node_table.specs.Changes.{HasKeyWords, PassesBelow}
 use Rattle.node_table.proofs.Answering.{answers_keep, learns_keep}
 use Rattle.node_table.specs.Seen.{bucket_named}
 use Rattle.node_table.specs.declared.places.Place.TheVariants.{NoRoom}

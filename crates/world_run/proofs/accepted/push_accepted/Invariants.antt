@@ -1,5 +1,5 @@
 use Rattle.std.proofs.Common.{◌≡◌, ◌+◌, ◌≤◌, take, vec_capacity, vec_len}
-use Rattle.script_runs.proofs.Saving.{SavedByLines}
+use Rattle.session_runs.proofs.Saving.{SavedByLines}
 use Rattle.session_runs.specs.Saves.{saves_asked_in}
 use Rattle.world_run.proofs.accepted.push_accepted.Given as goal
 
