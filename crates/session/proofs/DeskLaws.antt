@@ -27,7 +27,7 @@ use Rattle.version_answers.specs.declared.refusals.ForgetRefused.TheVariants as 
 use Rattle.version_answers.specs.declared.comparing.SameAt.{SameAt}
 use Rattle.version_answers.specs.declared.comparing.SameRefused.{SameRefused}
 use Rattle.version_answers.specs.declared.comparing.SameRefused.TheVariants as sames
-use Rattle.session_runs.specs.Calls.{SeesMore}
+use Rattle.session_runs.specs.Calls.{FollowsHistory}
 use Rattle.conformance.specs.Answers.{asked_version}
 use Rattle.script.specs.declared.commands.ScriptLine.{ScriptLine}
 use Rattle.transcript.specs.declared.answers.LineAnswer.{LineAnswer}
@@ -37,7 +37,7 @@ use Rattle.session_runs.specs.Seen.{SessionOf, SessionSeen}
 use Rattle.session_runs.specs.Told.{ActTold, AskTold, ForgetTold, HeadTold, OnceTold, PinIsRefused, SameTold, SaveTold}
 
 module _ (of : SessionOf) (old new : SessionSeen) where
-  pub act_sees : (line : ℕ) (act : Act) (answer : ActAnswer) → ActTold of line act old new answer → SeesMore old new
+  pub act_sees : (line : ℕ) (act : Act) (answer : ActAnswer) → ActTold of line act old new answer → FollowsHistory old new
   act_sees line act (acts.Done n) told = told.appends.sees
   act_sees line act (acts.Full at full) told = told.nothing.sees
   act_sees line act acts.LogFull told = told.nothing.sees
@@ -45,36 +45,36 @@ module _ (of : SessionOf) (old new : SessionSeen) where
   act_sees line act (acts.NothingToRedo at) told = told.nothing.sees
   act_sees line act (acts.Forgotten at mark) told = told.nothing.sees
 
-  pub once_sees : (line : ℕ) (act : Act) (answer : OnceAnswer) → OnceTold of line act old new answer → SeesMore old new
+  pub once_sees : (line : ℕ) (act : Act) (answer : OnceAnswer) → OnceTold of line act old new answer → FollowsHistory old new
   once_sees line act (onces.Done n) told = told.appends.sees
   once_sees line act (onces.Full at full) told = told.nothing.sees
   once_sees line act onces.LogFull told = told.nothing.sees
   once_sees line act (onces.Stale at base) told = told.nothing.sees
 
-  refused_sees : (version : Option ℕ) (refused : PinRefused) → PinIsRefused version old new refused → SeesMore old new
+  refused_sees : (version : Option ℕ) (refused : PinRefused) → PinIsRefused version old new refused → FollowsHistory old new
   refused_sees version (pins.NoVersion at) told = told.only.nothing.sees
   refused_sees version (pins.Forgotten at mark) told = told.only.nothing.sees
 
-  pub ask_sees : (version : Option ℕ) (question : Question) (answer : Result AskedAt PinRefused) → AskTold of version question old new answer → SeesMore old new
+  pub ask_sees : (version : Option ℕ) (question : Question) (answer : Result AskedAt PinRefused) → AskTold of version question old new answer → FollowsHistory old new
   ask_sees version question (Ok a) told = told.only.nothing.sees
   ask_sees version question (Err refused) told = refused_sees version refused told
 
-  pub save_sees : (version : Option ℕ) (part : Boxed) (answer : Result SavedAt PinRefused) → SaveTold of version part old new answer → SeesMore old new
+  pub save_sees : (version : Option ℕ) (part : Boxed) (answer : Result SavedAt PinRefused) → SaveTold of version part old new answer → FollowsHistory old new
   save_sees version part (Ok a) told = told.only.nothing.sees
   save_sees version part (Err refused) told = refused_sees version refused told
 
-  pub forget_sees : (line version : ℕ) (answer : Result ℕ ForgetRefused) → ForgetTold of line version old new answer → SeesMore old new
+  pub forget_sees : (line version : ℕ) (answer : Result ℕ ForgetRefused) → ForgetTold of line version old new answer → FollowsHistory old new
   forget_sees line version (Ok at) told = told.forgets.sees
   forget_sees line version (Err (forgets.NoVersion at)) told = told.only.nothing.sees
   forget_sees line version (Err (forgets.IsHead at)) told = told.only.nothing.sees
   forget_sees line version (Err (forgets.Forgotten at mark)) told = told.only.nothing.sees
 
-  pub same_sees : (v w : ℕ) (answer : Result SameAt SameRefused) → SameTold of v w old new answer → SeesMore old new
+  pub same_sees : (v w : ℕ) (answer : Result SameAt SameRefused) → SameTold of v w old new answer → FollowsHistory old new
   same_sees v w (Ok a) told = told.only.nothing.sees
   same_sees v w (Err (sames.NoVersion at version)) told = told.only.nothing.sees
   same_sees v w (Err (sames.Forgotten at mark)) told = told.only.nothing.sees
 
-  pub head_sees : (at : ℕ) → HeadTold old new at → SeesMore old new
+  pub head_sees : (at : ℕ) → HeadTold old new at → FollowsHistory old new
   head_sees at told = told.only.nothing.sees
 
 -- ---- what holds of the desk between two lines
@@ -91,7 +91,7 @@ module _ (w : TableSeen) (number most : ℕ) (s : PassSeen) (saves : List Pinned
   same_number : (z : PassSeen) → SamePass s z → z.view.numbers ≡ number ∷ []
   same_number z same = same.session.numbers ∙ d.mine
 
-  pub desk_goes_on : (z : PassSeen) → IsAtRest w z → SamePass s z → SameHeld s.view.held z.view.held → SeesMore (session_seen s.view) (session_seen z.view)
+  pub desk_goes_on : (z : PassSeen) → IsAtRest w z → SamePass s z → SameHeld s.view.held z.view.held → FollowsHistory (session_seen s.view) (session_seen z.view)
       → DeskStands w number most z saves capacity
   desk_goes_on z rest same held sees = record {
     rest = rest;
@@ -103,7 +103,7 @@ module _ (w : TableSeen) (number most : ℕ) (s : PassSeen) (saves : List Pinned
   }
 
   pub desk_saves : (z : PassSeen) (p : Pinned) (more : List Pinned) → 1 ≤ most - length saves → IsAtRest w z → SamePass s z → AddsPin w (session_seen z.view) s.view.held z.view.held p
-      → SeesMore (session_seen s.view) (session_seen z.view) → more ≡ saves ++ p ∷ [] → (wide : ℕ) → wide ≡ capacity → DeskStands w number most z more wide
+      → FollowsHistory (session_seen s.view) (session_seen z.view) → more ≡ saves ++ p ∷ [] → (wide : ℕ) → wide ≡ capacity → DeskStands w number most z more wide
   desk_saves z p more room rest same adds sees is wide as_wide = record {
     rest = rest;
     mine = same_number z same;

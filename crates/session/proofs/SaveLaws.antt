@@ -31,7 +31,7 @@ use Rattle.version_log.specs.Seeing.{LooksOn}
 use Rattle.version_log.specs.declared.pinned.Pinned.{Pinned}
 use Rattle.session_runs.proofs.Closing.{seen_stays}
 use Rattle.session_runs.specs.Seen.{SessionSeen}
-use Rattle.session_runs.specs.Calls.{FindsVersion, SeesMore}
+use Rattle.session_runs.specs.Calls.{FindsVersion, FollowsHistory}
 use Rattle.session_runs.specs.Told.{Saved}
 use Rattle.session.proofs.AskLaws.{asked_as, held_or_gone}
 use Rattle.session.proofs.SameLaws.{finds}
@@ -159,7 +159,7 @@ module _ (of : TableSeen) (s : SessionSeen) where
       }
 
 -- a session that has seen more keeps its pins
-pub pins_later : (of : TableSeen) (s z : SessionSeen) (pins : List Pinned) (trees : List Tree) → SeesMore s z → AllZip (IsSavedRoot of s) pins trees → AllZip (IsSavedRoot of z) pins trees
+pub pins_later : (of : TableSeen) (s z : SessionSeen) (pins : List Pinned) (trees : List Tree) → FollowsHistory s z → AllZip (IsSavedRoot of s) pins trees → AllZip (IsSavedRoot of z) pins trees
 pins_later of s z [] [] more are = tt
 pins_later of s z [] (u ∷ trees) more are = absurd are
 pins_later of s z (p ∷ pins) [] more are = absurd are
@@ -190,14 +190,14 @@ no_pins of s held pins none no_pin =
 pub few_held : (of : TableSeen) (s : SessionSeen) (held : List Tree) (pins : List Pinned) → HoldsSaves of s held pins → number_of_trees held ≤ length pins
 few_held of s held pins h = (let few = pins_few of s pins h.trees h.are in let w = h.weighs (λ _. 1) in omega arith)
 
-pub still_held : (of : TableSeen) (s z : SessionSeen) (held more : List Tree) (pins : List Pinned) → HoldsSaves of s held pins → SameHeld held more → SeesMore s z → HoldsSaves of z more pins
+pub still_held : (of : TableSeen) (s z : SessionSeen) (held more : List Tree) (pins : List Pinned) → HoldsSaves of s held pins → SameHeld held more → FollowsHistory s z → HoldsSaves of z more pins
 still_held of s z held more pins h same sees = record {
   trees = h.trees;
   are = pins_later of s z pins h.trees sees h.are;
   weighs = λ f. same.weighs f ∙ h.weighs f;
 }
 
-pub one_more : (of : TableSeen) (s z : SessionSeen) (held more : List Tree) (pins now : List Pinned) (p : Pinned) → HoldsSaves of s held pins → SeesMore s z → AddsPin of z held more p → now ≡ pins ++ p ∷ []
+pub one_more : (of : TableSeen) (s z : SessionSeen) (held more : List Tree) (pins now : List Pinned) (p : Pinned) → HoldsSaves of s held pins → FollowsHistory s z → AddsPin of z held more p → now ≡ pins ++ p ∷ []
     → HoldsSaves of z more now
 one_more of s z held more pins now p h sees adds is = subst (λ (ps : List Pinned). HoldsSaves of z more ps) (sym is) (record {
   trees = h.trees ++ adds.tree ∷ [];

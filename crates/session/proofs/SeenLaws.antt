@@ -17,7 +17,7 @@ use Rattle.node_table.specs.LogTurns.{HasNoTurn}
 use Rattle.node_table.specs.Seen.{TableSeen, PassSeen, BelongsTo}
 use Rattle.version_log.specs.Seeing.{IsDated, KnowsMore, LooksOn}
 use Rattle.session_runs.proofs.Gathered.{ListsOwn, marks_own}
-use Rattle.session_runs.specs.Calls.{SeesMore, OnlySees}
+use Rattle.session_runs.specs.Calls.{FollowsHistory, OnlySees}
 use Rattle.session_runs.specs.Told.{HeadTold}
 use Rattle.session.specs.Resting.{IsAtRest}
 use Rattle.session.specs.Seen.{KnowsItself, session_seen}
@@ -34,7 +34,7 @@ goes_on v w k =
       marks = all_kept (Contains w.log.seen.marks) v.log.seen.marks k.seen.marks;
     }
 
-pub sees_more : (v w : SeatView) → KnowsMore v w → SeesMore (session_seen v) (session_seen w)
+pub sees_more : (v w : SeatView) → KnowsMore v w → FollowsHistory (session_seen v) (session_seen w)
 sees_more v w k =
     record {
       goes_on = goes_on v w k;

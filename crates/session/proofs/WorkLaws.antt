@@ -20,7 +20,7 @@ use Rattle.version_log.proofs.LookLaws.{begins_itself, begins_on}
 use Rattle.version_log.specs.Seeing.{FoundStays, IsDated, KnowsMore, LooksOn}
 use Rattle.session_runs.specs.declared.calls.ActAnswer.{ActAnswer}
 use Rattle.session_runs.specs.declared.calls.ActAnswer.TheVariants as acts
-use Rattle.session_runs.specs.Calls.{AcceptsNothing, AppendsOwn, MeetsFullBucket, NotesFor, SeesMore}
+use Rattle.session_runs.specs.Calls.{AcceptsNothing, AppendsOwn, MeetsFullBucket, NotesFor, FollowsHistory}
 use Rattle.session_runs.specs.Seen.{SessionSeen}
 use Rattle.session_runs.specs.Told.{ActTold}
 use Rattle.session.specs.Attempts.{AnswersAct, WorksOn}
@@ -50,7 +50,7 @@ longer a b g =
 
 module _ (p : Layout) (models : List Content) (act : Act) (a b c : SessionSeen)
     (nothing : AcceptsNothing a b) (notes : NotesFor p models act a b) where
-  sees_on : SeesMore b c → SeesMore a c
+  sees_on : FollowsHistory b c → FollowsHistory a c
   sees_on m =
       record {
         goes_on = goes_through a.log b.log c.log nothing.sees.goes_on m.goes_on;

@@ -37,7 +37,7 @@ use Rattle.version_answers.specs.declared.refusals.ForgetRefused.TheVariants as 
 use Rattle.version_answers.specs.declared.comparing.SameAt.{SameAt}
 use Rattle.version_answers.specs.declared.comparing.SameRefused.{SameRefused}
 use Rattle.version_answers.specs.declared.comparing.SameRefused.TheVariants as sames
-use Rattle.session_runs.specs.Calls.{KnowsOwn, AcceptsNothing, OnlySees, FindsVersion, SeesMark}
+use Rattle.session_runs.specs.Calls.{KnowsOwn, AcceptsNothing, OnlySees, FindsVersion, SeesForgotten}
 use Rattle.session_runs.specs.Lines.{AreEarlier, AnswersLine}
 use Rattle.session_runs.specs.Saves.{version_saved, versions_of}
 use Rattle.session_runs.specs.Seen.{SessionOf, SessionSeen}
@@ -66,7 +66,7 @@ module _ (of : SessionOf) (old new : SessionSeen) (knows : KnowsOwn of.number ne
   readable : (line v : ℕ) → FindsVersion new v → IsReadable (IsLooked new.found new.marks line (length new.log.records)) (length new.log.records) v
   readable line v finds = found_readable of.number line new v knows finds
 
-  seen_marked : (mark : Mark) → Contains new.log.marks mark → SeesMark new mark.version
+  seen_marked : (mark : Mark) → Contains new.log.marks mark → SeesForgotten new mark.version
   seen_marked mark listed = record { mark = mark; listed = listed; same = refl }
 
   pub act_takes : (line : ℕ) (act : Act) (once : Bool) (answer : ActAnswer) → AreEarlier old line → ActTold of line act old new answer
@@ -117,7 +117,7 @@ module _ (of : SessionOf) (old new : SessionSeen) (knows : KnowsOwn of.number ne
       (fits told.named told.is (omega arith))))
 
   marked_named : (line : ℕ) (command : Command) (version : Option ℕ) (at : ℕ) (mark : Mark) → AreEarlier old line → refused_by command (length new.log.records) (answers.Forgotten mark.version) ≡ []
-      → (SeesMark new mark.version → version ≡ Some mark.version
+      → (SeesForgotten new mark.version → version ≡ Some mark.version
       → Answers of.plan of.models new.log (IsLooked new.found new.marks line (length new.log.records)) of.number line (length new.log.records) command (answers.Forgotten mark.version))
       → NamesMarked version old new at mark
       → AnswersLine of (record { line = line; command = command }) old new (answered line at (answers.Forgotten mark.version))
@@ -125,7 +125,7 @@ module _ (of : SessionOf) (old new : SessionSeen) (knows : KnowsOwn of.number ne
       at_moment (record { line = line; command = command }) at (answers.Forgotten mark.version) told.at_is
       (resting_arm of.plan of.models of.number (record { line = line; command = command }) (answers.Forgotten mark.version) old new told.only refl none (fits (seen_marked mark told.listed) told.is))
 
-  marked_is : (line v : ℕ) → OnlySees old new → AreEarlier old line → SeesMark new v → IsForgotten new.log.marks of.number line (length new.log.records) v
+  marked_is : (line v : ℕ) → OnlySees old new → AreEarlier old line → SeesForgotten new v → IsForgotten new.log.marks of.number line (length new.log.records) v
   marked_is line v only earlier sees = marked_forgotten of.number line new v knows (still_earlier line only.nothing earlier) sees
 
   ask_ok : (line : ℕ) (version : Option ℕ) (question : Question) (at : ℕ) (answer : Answer) → IsSeenLength new at → OnlySees old new → FindsVersion new (asked_version version at)

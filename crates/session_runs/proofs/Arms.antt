@@ -27,7 +27,7 @@ use Rattle.script_runs.proofs.Arms.{sought_low}
 use Rattle.session_runs.specs.Seen.{of_session, SessionSeen}
 use Rattle.session_runs.specs.Notes.{LineNotes}
 use Rattle.session_runs.specs.Lines.{AreEarlier, AnswersLine}
-use Rattle.session_runs.specs.Calls.{KnowsOwn, AcceptsNothing, OnlySees, AppendsOwn, ForgetsOwn, NotesFor, MeetsFullBucket, FindsVersion, SeesMark}
+use Rattle.session_runs.specs.Calls.{KnowsOwn, AcceptsNothing, OnlySees, AppendsOwn, ForgetsOwn, NotesFor, MeetsFullBucket, FindsVersion, SeesForgotten}
 
 -- ---- what was noted
 
@@ -196,7 +196,7 @@ found_readable session line s version knows finds = record {
   };
 }
 
-pub marked_forgotten : (session line : ℕ) (s : SessionSeen) (version : ℕ) → KnowsOwn session s → AreEarlier s line → SeesMark s version → IsForgotten s.log.marks session line (length s.log.records) version
+pub marked_forgotten : (session line : ℕ) (s : SessionSeen) (version : ℕ) → KnowsOwn session s → AreEarlier s line → SeesForgotten s version → IsForgotten s.log.marks session line (length s.log.records) version
 marked_forgotten session line s version knows earlier sees = record {
   mark = sees.mark;
   listed = sees.listed;

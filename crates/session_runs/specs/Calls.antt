@@ -23,13 +23,13 @@ pub record KnowsOwn (session : ℕ) (s : SessionSeen) : Type 0 where
   pub dated : All (λ m. (m.version < m.at) × (m.at ≤ length s.log.records)) s.log.marks
 
 -- it has seen the history go on, and found no fewer versions
-pub record SeesMore (old new : SessionSeen) : Type 0 where
+pub record FollowsHistory (old new : SessionSeen) : Type 0 where
   pub goes_on : GoesOn old.log new.log
   pub found : All (Contains new.found) old.found
 
 -- and nothing of its own was accepted
 pub record AcceptsNothing (old new : SessionSeen) : Type 0 where
-  pub sees : SeesMore old new
+  pub sees : FollowsHistory old new
   pub records : new.records ≡ old.records
   pub marks : new.marks ≡ old.marks
 
@@ -44,7 +44,7 @@ numbered_change n session line act = record
 
 -- its change became the newest record
 pub record AppendsOwn (session line : ℕ) (act : Act) (old new : SessionSeen) : Type 0 where
-  pub sees : SeesMore old new
+  pub sees : FollowsHistory old new
   pub longer : length old.log.records < length new.log.records
   pub last : IsRecordOf new.log.records (length new.log.records) session line act
   pub records : new.records ≡ numbered_change (length new.log.records) session line act
@@ -53,7 +53,7 @@ pub record AppendsOwn (session line : ℕ) (act : Act) (old new : SessionSeen) :
 
 -- it forgot a version, at the length that it has seen
 pub record ForgetsOwn (session line version : ℕ) (old new : SessionSeen) : Type 0 where
-  pub sees : SeesMore old new
+  pub sees : FollowsHistory old new
   pub records : new.records ≡ old.records
   pub marks : new.marks ≡ mark_of version (length new.log.records) session line ∷ old.marks
   pub listed : Contains new.log.marks (mark_of version (length new.log.records) session line)
@@ -91,7 +91,7 @@ pub record FindsVersion (s : SessionSeen) (version : ℕ) : Type 0 where
   pub listed : Contains s.found (record { version = version; at = length s.log.records })
 
 -- a mark of the version was seen
-pub record SeesMark (s : SessionSeen) (version : ℕ) : Type 0 where
+pub record SeesForgotten (s : SessionSeen) (version : ℕ) : Type 0 where
   pub mark : Mark
   pub listed : Contains s.log.marks mark
   pub same : mark.version ≡ version

@@ -20,7 +20,7 @@ use Rattle.script_runs.specs.Keeping.{MadeAndMet}
 use Rattle.session_runs.specs.Seen.{SessionOf, SessionSeen, DidNothing}
 use Rattle.session_runs.specs.Ran.{SessionRan, SessionsRan, ClosesWorld}
 use Rattle.session_runs.specs.Lines.{AreEarlier, AnswersLine, SessionSoFar}
-use Rattle.session_runs.specs.Calls.{KnowsOwn, AcceptsNothing, OnlySees, AppendsOwn, ForgetsOwn, NotesFor, MeetsFullBucket, FindsVersion, SeesMark}
+use Rattle.session_runs.specs.Calls.{KnowsOwn, AcceptsNothing, OnlySees, AppendsOwn, ForgetsOwn, NotesFor, MeetsFullBucket, FindsVersion, SeesForgotten}
 
 -- sessions that ran beside each other in a world that was closed are a run of their scripts
 abbrev pub SessionsAreARun : Type 0
@@ -130,7 +130,7 @@ FoundVersionsAreReadable = (session line : ℕ) (s : SessionSeen) (version : ℕ
 -- and one with a mark is forgotten for the line
 abbrev pub SeenMarksForget : Type 0
 SeenMarksForget = (session line : ℕ) (s : SessionSeen) (version : ℕ)
-    → KnowsOwn session s → AreEarlier s line → SeesMark s version
+    → KnowsOwn session s → AreEarlier s line → SeesForgotten s version
     → IsForgotten s.log.marks session line (length s.log.records) version
 
 -- an edit has its way, and so has an undo or a redo whose target was found without a mark

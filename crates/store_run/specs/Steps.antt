@@ -19,8 +19,8 @@ use Rattle.one_store.specs.Steps.{SparesRoots}
 use Rattle.possible.specs.Needed.{made_of}
 use Rattle.conformance.specs.Running.{GrowsBy, ForgetsBy}
 use Rattle.store_run.specs.declared.versions.Versions.{Versions}
-use Rattle.store_run.specs.declared.versions.Found.{Found}
-use Rattle.store_run.specs.declared.versions.Found.TheVariants.{Kept, NotThere, Marked}
+use Rattle.store_run.specs.declared.versions.VersionFound.{VersionFound}
+use Rattle.store_run.specs.declared.versions.VersionFound.TheVariants.{Kept, NotThere, Marked}
 use Rattle.store_run.specs.Kept.{plan_of, log_of, moment_of, GainsTree, LosesTree}
 
 -- whether a version can be read
@@ -29,10 +29,10 @@ pub record HasMark (v : Versions) (version : ℕ) : Type 0 where
   pub listed : Contains (log_of v).marks mark
   pub same : mark.version ≡ version
 
-abbrev pub IsFound : Versions → ℕ → Found → Type 0
-IsFound v version Kept = IsKept (log_of v) version
-IsFound v version NotThere = moment_of v < version
-IsFound v version Marked = (version ≤ moment_of v) × HasMark v version
+abbrev pub IsVersionFound : Versions → ℕ → VersionFound → Type 0
+IsVersionFound v version Kept = IsKept (log_of v) version
+IsVersionFound v version NotThere = moment_of v < version
+IsVersionFound v version Marked = (version ≤ moment_of v) × HasMark v version
 
 -- models, records and marks stay, and so do the roots in their places
 pub record StayVersions (old new : Versions) : Type 0 where

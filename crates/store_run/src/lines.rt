@@ -10,7 +10,7 @@ ghost use Rattle.store_run.specs.Kept.{log_of, moment_of, AreVersions, HoldsSame
 ghost use Rattle.store_run.specs.Answering.{GoesOnBy, nothing_to_go_to};
 ghost use Rattle.store_run.specs.Changing.{Changes, Forgets};
 
-use crate::versions::{Found, RECORDS, Versions};
+use crate::versions::{RECORDS, VersionFound, Versions};
 use history_model::{Act, Mark, Question, Record};
 use node_words::Steps;
 use std::sync::ledger::Ledger;
@@ -75,9 +75,9 @@ impl Versions {
             None => return nothing_to_go_to(act),
         };
         match self.find(to) {
-            Found::Kept => {}
-            Found::Marked => return Answer::Forgotten(to),
-            Found::NotThere => return nothing_to_go_to(act),
+            VersionFound::Kept => {}
+            VersionFound::Marked => return Answer::Forgotten(to),
+            VersionFound::NotThere => return nothing_to_go_to(act),
         }
         if self.moment() == RECORDS {
             return Answer::LogFull;
@@ -119,9 +119,9 @@ impl Versions {
         ensures same { HoldsSame self.old.store self.new.store }
     {
         match self.find(version) {
-            Found::NotThere => Answer::NoVersion(version),
-            Found::Marked => Answer::Forgotten(version),
-            Found::Kept => {
+            VersionFound::NotThere => Answer::NoVersion(version),
+            VersionFound::Marked => Answer::Forgotten(version),
+            VersionFound::Kept => {
                 let at = self.moment();
                 if version == at {
                     return Answer::IsHead;
@@ -169,9 +169,9 @@ impl Versions {
         let _ = (session, line);
         let asked = self.asked(version);
         match self.find(asked) {
-            Found::NotThere => Answer::NoVersion(asked),
-            Found::Marked => Answer::Forgotten(asked),
-            Found::Kept => self.ask(asked, question, steps),
+            VersionFound::NotThere => Answer::NoVersion(asked),
+            VersionFound::Marked => Answer::Forgotten(asked),
+            VersionFound::Kept => self.ask(asked, question, steps),
         }
     }
 
@@ -184,14 +184,14 @@ impl Versions {
         let _ = (session, line);
         let _number = self.store.number();
         match self.find(v) {
-            Found::Kept => {}
-            Found::NotThere => return Answer::NoVersion(v),
-            Found::Marked => return Answer::Forgotten(v),
+            VersionFound::Kept => {}
+            VersionFound::NotThere => return Answer::NoVersion(v),
+            VersionFound::Marked => return Answer::Forgotten(v),
         }
         match self.find(w) {
-            Found::Kept => {}
-            Found::NotThere => return Answer::NoVersion(w),
-            Found::Marked => return Answer::Forgotten(w),
+            VersionFound::Kept => {}
+            VersionFound::NotThere => return Answer::NoVersion(w),
+            VersionFound::Marked => return Answer::Forgotten(w),
         }
         Answer::Same(self.has_same_roots(v, w))
     }

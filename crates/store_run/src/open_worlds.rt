@@ -23,7 +23,7 @@ ghost use Rattle.store_run.specs.Steps.{LeavesAll, StaysSeen};
 ghost use Rattle.store_run.specs.Worlds.{IsAtRest, size_of};
 
 use crate::lines::is_edit;
-use crate::versions::{Found, Versions};
+use crate::versions::{VersionFound, Versions};
 use extract::box_file;
 use history_model::{Act, Question, journal_text};
 use node_words::{Plan, Share, Steps};
@@ -107,8 +107,8 @@ impl OpenWorld {
         ensures { IsTrue result ↔ IsKept self.now.log version }
     {
         match self.versions.find(version) {
-            Found::Kept => true,
-            Found::NotThere | Found::Marked => false,
+            VersionFound::Kept => true,
+            VersionFound::NotThere | VersionFound::Marked => false,
         }
     }
 

@@ -16,7 +16,7 @@ ghost use Rattle.store_run.specs.Answering.{GoesOnBy, saved_as};
 ghost use Rattle.store_run.specs.Pins.{ArePinned, HasPinRoom, saves_of};
 
 use crate::lines::is_edit;
-use crate::versions::{Found, Versions};
+use crate::versions::{VersionFound, Versions};
 use conformance::SavedBox;
 use extract::box_file;
 use history_model::Question;
@@ -152,9 +152,9 @@ impl Pinned {
         let _ = (session, line);
         let asked = self.versions.asked(version);
         match self.versions.find(asked) {
-            Found::NotThere => Answer::NoVersion(asked),
-            Found::Marked => Answer::Forgotten(asked),
-            Found::Kept => saved(self.pin(SavedBox {
+            VersionFound::NotThere => Answer::NoVersion(asked),
+            VersionFound::Marked => Answer::Forgotten(asked),
+            VersionFound::Kept => saved(self.pin(SavedBox {
                 name,
                 version: asked,
                 part,

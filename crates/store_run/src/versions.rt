@@ -33,7 +33,7 @@ pub(crate) struct Versions {
 
 /// Whether a version can be read.
 #[derive(Clone, Copy)]
-pub(crate) enum Found {
+pub(crate) enum VersionFound {
     Kept,
     NotThere,
     Marked,
@@ -50,7 +50,7 @@ ghost use Rattle.one_store.specs.Known.{known_seen, stored_root};
 ghost use Rattle.script.specs.Fitting.{QuestionFits};
 ghost use Rattle.conformance.specs.Telling.{Tells};
 ghost use Rattle.store_run.specs.Kept.{plan_of, log_of, moment_of, world_of, core_with, noted_of, AreVersions, HoldsNothing, HoldsTree, GainsTree, LosesTree, HoldsSame, HasRoom};
-ghost use Rattle.store_run.specs.Steps.{IsFound, StaysSeen, IsOverStore, MakesBeside, target_of, PutsDown, LeavesAll, SharesRoot, MakesRoot, MeetsBucket, AppendsRecord, MarksVersion};
+ghost use Rattle.store_run.specs.Steps.{IsVersionFound, StaysSeen, IsOverStore, MakesBeside, target_of, PutsDown, LeavesAll, SharesRoot, MakesRoot, MeetsBucket, AppendsRecord, MarksVersion};
 
 impl Versions {
     /// Version 0 alone, with room for so many records.
@@ -91,16 +91,16 @@ impl Versions {
 
     /// Whether the version can be read.
     #[tactic(auto, using(crate::proofs::Finding::in_places, crate::proofs::Finding::kept_at, crate::proofs::Finding::marked_at))]
-    pub(crate) fn find(&self, version: u32) -> Found
+    pub(crate) fn find(&self, version: u32) -> VersionFound
         requires { AreVersions self.now }
-        ensures { IsFound self.now version result }
+        ensures { IsVersionFound self.now version result }
     {
         if version > self.moment() {
-            return Found::NotThere;
+            return VersionFound::NotThere;
         }
         match self.marks[version as usize] {
-            None => Found::Kept,
-            Some(_) => Found::Marked,
+            None => VersionFound::Kept,
+            Some(_) => VersionFound::Marked,
         }
     }
 
