@@ -5,5 +5,3 @@ pub mod PartLaws
 mod Halving
 pub mod Octants
 mod AnswerLaws
-pub use Rattle.node_words.proofs.HeldLaws
-pub use Rattle.node_words.proofs.GatherLaws

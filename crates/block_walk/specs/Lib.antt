@@ -4,6 +4,3 @@ pub mod Looks
 pub mod Answers
 pub mod Landings
 pub use Rattle.vw_cell.specs.Sums
-pub use Rattle.node_words.specs.Leaves
-pub use Rattle.node_words.specs.Held
-pub use Rattle.node_words.specs.Gathering

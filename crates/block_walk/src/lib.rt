@@ -16,6 +16,5 @@ pub use blocks::{half_side, leaf_bits, name_of, octant_name};
 pub use landings::{Landing, descend};
 pub use laws::{octants_count_their_cells, parts_have_the_cells_of_their_box};
 pub use looks::{leaf_has, look, whole_block};
-pub use node_words::Blocks;
 pub use parts::{is_empty, part_of};
 pub use sameness::{same_boxes, same_cells, same_names};

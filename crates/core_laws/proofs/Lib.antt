@@ -19,5 +19,4 @@ pub mod SeenNodes
 pub mod Bounds
 pub mod Targets
 pub mod ContentLaws
-pub use Rattle.node_places.proofs.SpotTests
 pub use Rattle.node_places.proofs.Apart

@@ -3,7 +3,7 @@ use Rattle.std.proofs.Common.{◌≡◌, ℕ, ◌∙◌, arith, List, length, se
 use Rattle.std.proofs.lemmas.List.{get_or-set_same, get_or-set_other}
 use Rattle.core_laws.specs.Plans.{Layout}
 use Rattle.core_laws.specs.Spots.{Spot, IsSpot, place, width}
-use Rattle.core_laws.proofs.SpotTests.{spot_dec}
+use Rattle.node_places.proofs.SpotTests.{spot_dec}
 use Rattle.core_laws.proofs.Apart.{place_low, place_one}
 use Rattle.core_reading.specs.Reading.{Wrote, where_there, word_at}
 

@@ -3,7 +3,7 @@ use Rattle.std.specs.Prelude.{◌≡◌, ◌≢◌, ℕ, zero, suc, Bool, true, 
 use Rattle.node_shapes.specs.declared.names.Name.{Name}
 use Rattle.node_shapes.specs.Tree.{Tree, root_of}
 use Rattle.core_laws.specs.Plans.{Layout}
-use Rattle.core_laws.proofs.SpotTests.{spot_dec}
+use Rattle.node_places.proofs.SpotTests.{spot_dec}
 use Rattle.core_laws.specs.Names.{named}
 use Rattle.core_laws.specs.Spots.{Spot, LogLength, Version, Key, Book, place}
 use Rattle.core_laws.specs.KeyWords.{child_of_word, key_of_words}

@@ -8,9 +8,9 @@ use Rattle.node_shapes.specs.Shape.{bits_of, Shape, Leaf, octant_shape, bit_numb
 use Rattle.node_shapes.specs.Tree.{Tree, root_of, child_of, shape_of}
 use Rattle.node_shapes.proofs.ShapeLaws.{has-in_octant, has-clear, octant_canonical}
 use Rattle.node_shapes.proofs.TreeLaws.{shape_of-child, shape_of-gone, gone_from_root, level_of}
-use Rattle.block_walk.specs.Gathering.{IsTreeOf}
-use Rattle.block_walk.proofs.GatherLaws.{tree_of-child}
-use Rattle.block_walk.proofs.HeldLaws.{Keeps, reached_more}
+use Rattle.node_words.specs.Gathering.{IsTreeOf}
+use Rattle.node_words.proofs.GatherLaws.{tree_of-child}
+use Rattle.node_words.proofs.HeldLaws.{Keeps, reached_more}
 use Rattle.block_walk.specs.Roots.{IsBlockOf, HasBlock}
 use Rattle.edit_cells.specs.declared.tasks.Whole.TheVariants.{Nothing, Mixed}
 use Rattle.cell_shapes.specs.CellShapes.{no_cells, all_cells, Cells, SameIn, octant_cells}

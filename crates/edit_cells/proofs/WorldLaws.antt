@@ -11,10 +11,10 @@ use Rattle.node_shapes.specs.Shape.{Shape, Clear, Leaf, has, IsCanonical, ShowsC
 use Rattle.node_shapes.specs.Tree.{Tree, Gone, LeafAt, NodeAt, root_of, shape_of, IsTreeAt}
 use Rattle.node_shapes.proofs.ShapeLaws.{has-clear, clear_canonical, block_side-suc, halves}
 use Rattle.node_shapes.proofs.TreeLaws.{gone_at, shape_of-gone, gone_from_root}
-use Rattle.block_walk.specs.Leaves.{LeafShows}
-use Rattle.block_walk.specs.Held.{Seen, AreTrees, AreCanonical}
-use Rattle.block_walk.specs.Gathering.{Comes}
-use Rattle.block_walk.proofs.HeldLaws.{held_reached, reached_levels}
+use Rattle.node_words.specs.Leaves.{LeafShows}
+use Rattle.node_words.specs.Held.{Seen, AreTrees, AreCanonical}
+use Rattle.node_words.specs.Gathering.{Comes}
+use Rattle.node_words.proofs.HeldLaws.{held_reached, reached_levels}
 use Rattle.cell_shapes.specs.CellShapes.{Cells, SameIn, octant_cells}
 use Rattle.block_walk.specs.Roots.{HoldsRoot}
 use Rattle.edit_cells.specs.Paints.{IsOld}

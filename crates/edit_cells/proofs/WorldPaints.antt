@@ -5,7 +5,7 @@ use Rattle.vw_cell.specs.declared.cells.Cell.{Cell}
 use Rattle.vw_cell.specs.Counts.{cell_at}
 use Rattle.node_shapes.specs.declared.names.Name.{Name}
 use Rattle.node_shapes.specs.Tree.{Tree}
-use Rattle.block_walk.specs.Held.{AreTrees, AreCanonical}
+use Rattle.node_words.specs.Held.{AreTrees, AreCanonical}
 use Rattle.cell_shapes.specs.CellShapes.{Cells, SameIn}
 use Rattle.edit_cells.specs.Paints.{Paints}
 use Rattle.edit_cells.specs.Worlds.{world_cells, ShowsWorld}

@@ -4,9 +4,9 @@ use Rattle.std.specs.Int.{bit_not, w64}
 use Rattle.node_shapes.specs.declared.names.Name.{Name}
 use Rattle.node_shapes.specs.Shape.{has, IsCanonical}
 use Rattle.node_shapes.specs.Tree.{Tree, root_of, shape_of}
-use Rattle.block_walk.specs.Held.{IsReached}
-use Rattle.block_walk.specs.Gathering.{IsTreeOf}
-use Rattle.block_walk.proofs.HeldLaws.{Keeps, reached_more}
+use Rattle.node_words.specs.Held.{IsReached}
+use Rattle.node_words.specs.Gathering.{IsTreeOf}
+use Rattle.node_words.proofs.HeldLaws.{Keeps, reached_more}
 use Rattle.edit_cells.specs.Tasks.{OneEach}
 use Rattle.edit_cells.specs.declared.tasks.Whole.{Whole}
 use Rattle.edit_cells.specs.declared.tasks.Whole.TheVariants.{Nothing, All, Old}

@@ -2,9 +2,9 @@
 use Rattle.std.specs.Prelude.{◌≡◌, ℕ, ◌+◌, ◌*◌, Some, List}
 use Rattle.std.proofs.Common.{zero, suc}
 use Rattle.node_shapes.specs.Tree.{Tree, root_of, shape_of}
-use Rattle.block_walk.specs.Gathering.{IsTreeOf}
-use Rattle.block_walk.specs.Held.{IsReached}
-use Rattle.block_walk.proofs.HeldLaws.{Keeps}
+use Rattle.node_words.specs.Gathering.{IsTreeOf}
+use Rattle.node_words.specs.Held.{IsReached}
+use Rattle.node_words.proofs.HeldLaws.{Keeps}
 use Rattle.edit_cells.specs.declared.tasks.Whole.{Whole}
 use Rattle.edit_cells.specs.declared.tasks.Whole.TheVariants.{Nothing, All, Old, Mixed}
 use Rattle.cell_shapes.specs.CellShapes.{Cells, SameIn, no_cells, all_cells, shape_with}

@@ -8,7 +8,7 @@ use Rattle.node_shapes.specs.declared.names.Name.{Name}
 use Rattle.node_shapes.specs.Shape.{Shape, IsCanonical, ShowsCells}
 use Rattle.node_shapes.specs.Tree.{Tree, root_of, shape_of, IsTreeAt}
 use Rattle.node_shapes.specs.Weights.{weigh, weight_of}
-use Rattle.block_walk.specs.Held.{Seen, IsHeld}
+use Rattle.node_words.specs.Held.{Seen, IsHeld}
 use Rattle.cell_shapes.specs.CellShapes.{Cells, shape_with}
 
 -- the block of this level at the origin, which is the whole world where the level is the root's

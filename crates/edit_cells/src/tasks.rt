@@ -5,8 +5,8 @@ ghost use Rattle.node_shapes.specs.Tree.{Tree};
 ghost use Rattle.cell_shapes.specs.CellShapes.{Cells, SameIn, octant_cells};
 ghost use Rattle.edit_cells.specs.Tasks.{Making, Lasts, MakesSome, MakesCells, ForCells, IsWhole};
 
-use block_walk::Blocks;
 use node_shapes::Name;
+use node_words::Blocks;
 
 /// What a block becomes, where that is known of it as a whole.
 #[derive(Clone, Copy, Debug, PartialEq, Eq)]

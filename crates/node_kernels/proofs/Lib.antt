@@ -3,8 +3,3 @@ pub mod BoxBits
 pub mod BallBits
 pub mod WindowBits
 pub mod LeafLaws
-pub use Rattle.node_shapes.proofs.TreeLaws
-pub use Rattle.node_shapes.proofs.WeightLaws
-pub use Rattle.node_shapes.proofs.BucketLaws
-pub use Rattle.node_shapes.proofs.ShapeLaws
-pub use Rattle.node_shapes.proofs.ShowLaws

@@ -1,11 +1,2 @@
 pub mod Leaves
 pub mod Parts
-pub use Rattle.node_shapes.specs.Shape
-pub use Rattle.node_shapes.specs.Tree
-pub use Rattle.node_shapes.specs.Weights
-pub use Rattle.node_shapes.specs.declared.names.Name
-pub use Rattle.node_shapes.specs.Buckets
-pub use Rattle.node_shapes.specs.Cell
-pub use Rattle.node_shapes.specs.Places
-pub use Rattle.node_shapes.specs.Block
-pub use Rattle.node_shapes.specs.Sums

@@ -13,5 +13,4 @@ mod windows;
 pub use balls::ball_bits;
 pub use boxes::box_bits;
 pub use laws::{leaves_lie_across_eight, leaves_show_their_cells};
-pub use node_shapes::{Block, Cell, Memory, Name, Side, is_set, octant_with};
 pub use windows::window_bits;

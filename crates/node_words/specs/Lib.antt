@@ -5,5 +5,5 @@ pub mod Gathering
 pub mod Walks
 pub mod Enough
 pub use Rattle.node_kernels.specs.Leaves
-pub use Rattle.node_kernels.specs.Name
-pub use Rattle.node_kernels.specs.Sums
+pub use Rattle.node_shapes.specs.declared.names.Name
+pub use Rattle.node_shapes.specs.Sums

@@ -19,7 +19,8 @@ pub use laws::{
     children_are_reached, gathered_octants_join_or_go_back, held_children_make_canonical_shapes,
     keys_follow_shapes, longer_lists_have_enough, plans_have_buckets,
 };
-pub use node_kernels::{Memory, Name, ball_bits, box_bits, window_bits};
+pub use node_kernels::{ball_bits, box_bits, window_bits};
+pub use node_shapes::{Memory, Name};
 pub use plans::Plan;
 pub use rows::{end, end_all, names_of, shares_of, spend_all, take_at};
 pub use shares::{Full, NodeRefused, Share};

@@ -3,7 +3,7 @@ ghost use Rattle.std.specs.Prelude.{◌≡◌, ◌<◌, ℕ, None, length, slice
 ghost use Rattle.node_words.specs.Held.{name_in};
 
 use crate::shares::Share;
-use node_kernels::Name;
+use node_shapes::Name;
 
 /// The name of each share of a row.
 #[inline(always)]
