@@ -22,7 +22,7 @@ ghost use Rattle.node_table.specs.Seen.{BelongsTo};
 ghost use Rattle.release.specs.Returns.{GaveBack, GaveRowBack};
 
 use node_shapes::Name;
-use node_table::{Lowering, NodeTable, Pass};
+use node_table::Lowering;
 pub use node_table::{NodeTable, Pass};
 use node_words::{Share, Steps, end_all, take_at};
 use std::sync::Wait;
