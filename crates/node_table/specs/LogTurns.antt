@@ -191,6 +191,15 @@ pub record AppendsUnderTurn (v : SeatView) (r : Record) (root : Tree) (w : SeatV
     };
   }
 
+-- the turn went back, and nothing else changed
+abbrev pub log_left : SeatView → SeatView
+log_left v = with_log v (record v.log { turn = false; words = [] })
+
+-- the same, but the turn is kept: once it goes back, all is as an append that gives it back leaves
+-- it
+abbrev pub AppendsInTurn : SeatView → Record → Tree → SeatView → Type 0
+AppendsInTurn v r root w = AppendsUnderTurn v r root (log_left w)
+
 -- the mark came to the log, to what is seen and to the pass's own, and the share of the root came,
 -- whose tree has just the version's cells; no turn is had
 pub record ForgetsUnderTurn (v : SeatView) (m : Mark) (root : Option Name)
@@ -216,7 +225,3 @@ pub record ForgetsUnderTurn (v : SeatView) (m : Mark) (root : Option Name)
 abbrev pub next_mark : SeatView → ℕ → ℕ → ℕ → Mark
 next_mark v u number line =
     record { version = u; at = number_seen v; session = number; line = line }
-
--- the turn went back, and nothing else changed
-abbrev pub log_left : SeatView → SeatView
-log_left v = with_log v (record v.log { turn = false; words = [] })

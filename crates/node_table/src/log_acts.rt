@@ -12,8 +12,8 @@ ghost use Rattle.node_table.specs.LogTurns.{AreWordsOf, HasLogTurn, HasNoTurn, I
 ghost use Rattle.node_table.specs.LogTurns.{FoundOpen, IsMarkKnown, IsWordOf, LearnsLog};
 ghost use Rattle.node_table.specs.LogTurns.{LooksForMark, SeesMark, SeesMore};
 ghost use Rattle.node_table.specs.Lending.{LeavesBusy};
-ghost use Rattle.node_table.specs.LogTurns.{AppendsUnderTurn, ForAppended, MayAppendWords};
-ghost use Rattle.node_table.specs.LogTurns.{ForgetsUnderTurn, StoresNext, log_left, next_mark};
+ghost use Rattle.node_table.specs.LogTurns.{AppendsInTurn, AppendsUnderTurn, ForAppended};
+ghost use Rattle.node_table.specs.LogTurns.{ForgetsUnderTurn, MayAppendWords, StoresNext, log_left, next_mark};
 ghost use Rattle.node_table.specs.LogTurns.{TakesLog, TurnsLog};
 ghost use Rattle.node_table.specs.Seen.{BelongsTo, SamePass};
 
@@ -293,6 +293,29 @@ fn shares_of_root(root: Option<Name>) -> u32
     }
 }
 
+// A record is appended, and the turn is kept.
+pub(crate) fn append_on(
+    table: &NodeTable,
+    pass: &mut Pass,
+    words: &[u64; 5],
+    root: Option<Name>,
+) -> u32
+    requires turn { HasLogTurn table.now pass.old }
+    requires may { MayAppendWords table.now.plan pass.old.view words.now root }
+    ensures turn { HasLogTurn table.now pass.new }
+    ensures number { result ≡ number_seen pass.old.view + 1 }
+    ensures appended { ForAppended table.now.plan pass.old.view words.now root
+        (λ r t. AppendsInTurn pass.old.view r t pass.new.view) }
+{
+    let next = pass.seen() + 1;
+    let given = shares_of_root(root);
+    put_words(table, &mut pass.seat, next, words, root);
+    put_length(table, &mut pass.seat, next, words, root);
+    pass.seen = next;
+    pass.held -= given;
+    next
+}
+
 // A record is appended, and the turn is given back.
 pub(crate) fn append(
     table: &NodeTable,
@@ -307,13 +330,8 @@ pub(crate) fn append(
     ensures appended { ForAppended table.now.plan pass.old.view words.now root
         (λ r t. AppendsUnderTurn pass.old.view r t pass.new.view) }
 {
-    let next = pass.seen() + 1;
-    let given = shares_of_root(root);
-    put_words(table, &mut pass.seat, next, words, root);
-    put_length(table, &mut pass.seat, next, words, root);
-    pass.seen = next;
-    pass.held -= given;
-    give_log_back(table, &mut pass.seat);
+    let next = append_on(table, pass, words, root);
+    leave(table, pass);
     next
 }
 

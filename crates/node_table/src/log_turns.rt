@@ -3,7 +3,7 @@ ghost use Rattle.std.specs.Prelude.{◌≡◌, ◌<◌, ◌≤◌, ◌+◌, ◌-
 ghost use Rattle.std.specs.Borrow.{sem};
 ghost use Rattle.node_shapes.specs.Weights.{number_of_trees};
 ghost use Rattle.table_rule.specs.LogTelling.{IsShownRoot, IsShownUnmarked, number_seen};
-ghost use Rattle.node_table.specs.LogTurns.{AppendsUnderTurn, AreWordsOf, ForAppended};
+ghost use Rattle.node_table.specs.LogTurns.{AppendsInTurn, AppendsUnderTurn, AreWordsOf, ForAppended};
 ghost use Rattle.node_table.specs.Lending.{LendsPass, TriesLog};
 ghost use Rattle.node_table.specs.LogTurns.{ForgetsUnderTurn, HasLogTurn, HasNoTurn};
 ghost use Rattle.node_table.specs.LogTurns.{IsWordOf, LearnsLog, LooksForMark, MayAppendWords};
@@ -169,6 +169,20 @@ impl<'a> LogTurn<'a> {
     {
         let LogTurn { table, pass } = self;
         log_acts::append(table, pass, &words, spent(root))
+    }
+
+    /// As `append`, and the turn is kept: a `forget` or `leave` follows.
+    pub fn append_on(&mut self, words: [u64; 5], root: Option<Share>) -> u32
+        requires turn { HasLogTurn self.old.table.now self.old.pass.now }
+        requires may { MayAppendWords self.old.table.now.plan self.old.pass.now.view words root }
+        ensures pass { self.new.pass.ghost_name ≡ self.old.pass.ghost_name }
+        ensures same { self.new.table.now ≡ self.old.table.now }
+        ensures turn { HasLogTurn self.new.table.now self.new.pass.now }
+        ensures number { result ≡ number_seen self.old.pass.now.view + 1 }
+        ensures appended { ForAppended self.old.table.now.plan self.old.pass.now.view words root
+            (λ r t. AppendsInTurn self.old.pass.now.view r t self.new.pass.now.view) }
+    {
+        log_acts::append_on(self.table, self.pass, &words, spent(root))
     }
 
     /// Forgets version v at this length, for this line; the share of its root comes. The turn is

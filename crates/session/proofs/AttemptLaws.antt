@@ -101,6 +101,10 @@ module _ (t : TableSeen) (line : ℕ) (act : Act) (models : List Content) (base 
     pub head_made : HasPinnedHead w.view base
     head_made = head_stays t v w base root head stays makes.gains
 
+    pub made_room : number_of_trees v.view.held ≤ 3901 → number_of_trees w.view.held ≤ 4095
+    made_room few =
+        let more = few_gained v.view.held w.view.held root makes.gains in omega arith
+
     pub done_comes : (x : SeatView) (n : ℕ) → AppendsNext w.view line act root n x
         → SameHeld v.view.held x.held × AnswersAct t line act (acts.Done n) v.view x
     done_comes x n a = (

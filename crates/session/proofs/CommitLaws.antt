@@ -26,6 +26,8 @@ use Rattle.table_rule.specs.Views.{SeatView}
 use Rattle.node_table.specs.Seen.{TableSeen, PassSeen}
 use Rattle.version_log.proofs.LookLaws.{dated_longer}
 use Rattle.version_log.specs.Commits.{AppendsNext, IsMadeOver, IsOwnRecord, with_own}
+use Rattle.version_log.specs.Falling.{CommitsAlone}
+use Rattle.version_log.specs.declared.committed.Committed.{Committed}
 use Rattle.version_log.specs.Pins.{PinsVersion}
 use Rattle.version_log.specs.Roots.{GetsRoot, HoldsRootOf}
 use Rattle.version_log.specs.Seeing.{KnowsMore}
@@ -232,6 +234,12 @@ done_answers t line act root n v w a number one =
     (session_seen x) (acts.Done n)) (sym a.is)
     (done_here t number line act v a.by w.held w.log.busy n a.number
     (own_record v line number act a.by one a.own))
+
+-- where no version fell out, only the record came
+pub alone_appends : (v w : SeatView) (line : ℕ) (act : Act) (root : Option Name) (c : Committed)
+    (n : ℕ) → n ≡ c.n → CommitsAlone v line act root c w → AppendsNext v line act root n w
+alone_appends v w line act root c n same a =
+    subst (λ (k : ℕ). AppendsNext v line act root k w) (sym same) a.appends
 
 -- ---- a history without room
 

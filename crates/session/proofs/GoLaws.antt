@@ -288,6 +288,9 @@ module _ (v a b : SeatView) (root : Option Name) (took : a.held ≡ v.held)
   came_here : GetsRoot v.held root b.held
   came_here = gets_from v.held a.held b.held root took gains
 
+  pub way_few : number_of_trees v.held ≤ 3900 → number_of_trees b.held ≤ 4095
+  way_few few = let more = few_gained v.held b.held root came_here in omega arith
+
   pub gone_held : (line : ℕ) (act : Act) (n : ℕ) (x : SeatView) → AppendsNext b line act root n x
       → SameHeld v.held x.held
   gone_held line act n x appends =

@@ -47,6 +47,9 @@ module _ (t : TableSeen) (line : ℕ) (act : Act) (v w : SeatView) (full : Full)
 -- a share of the root came
 module _ (t : TableSeen) (line : ℕ) (act : Act) (root : Option Name) (v w : SeatView)
     (makes : MakesNextRoot t act root v w) where
+  pub made_few : number_of_trees v.held ≤ 3910 → number_of_trees w.held ≤ 4095
+  made_few few = let more = few_gained v.held w.held root makes.gains in omega arith
+
   pub done_made : (x : SeatView) (n : ℕ) → AppendsNext w line act root n x
       → AnswersAct t line act (acts.Done n) v x
   done_made x n a =

@@ -12,6 +12,7 @@ ghost use Rattle.hands.specs.Lendable.{IsLendable, StaysLendable};
 ghost use Rattle.session.specs.Attempts.{Attempts, FailsToMake, HasPinnedHead, IsMaker, MakesNextRoot};
 ghost use Rattle.session.specs.Resting.{IsAtRest};
 
+use crate::turns::number_alone;
 use crate::world::{Session, World};
 use gate_run::Gate;
 use hands::{ActMaker, make_over};
@@ -70,7 +71,7 @@ impl<'m> World<'m> {
         }
     }
 
-    // Commits what was made of the version that is pinned.
+    // Commits what was made of the version that is pinned. All versions are kept.
     fn commit_root<R: Wait>(
         &self,
         rt: &R,
@@ -81,6 +82,7 @@ impl<'m> World<'m> {
         root: Option<Share>,
     ) -> Result<u32, CommitRefused>
         requires rest { IsAtRest self.now s.old }
+        requires room { number_of_trees s.old.view.held ≤ 4095 }
         requires base { HasPinnedHead s.old.view base.now }
         requires edit { is_edit act.now ≡ true }
         requires fits { FitsWorld (2 ^ self.now.plan.side) self.now.models act.now }
@@ -92,8 +94,8 @@ impl<'m> World<'m> {
         ensures looks { IfErr result (λ e. LooksOn s.old.view s.new.view) }
         ensures kept { IfErr result (λ e. s.new.view.held ≡ s.old.view.held) }
     {
-        match commit(rt, &self.table, s, base, line, act, root) {
-            Ok(n) => Ok(n),
+        match commit(rt, &self.table, s, base, line, act, root, 0) {
+            Ok(committed) => Ok(number_alone(committed)),
             Err(refused) => Err(refused),
         }
     }

@@ -1,5 +1,5 @@
 // A session takes the log's turn, and gives it back.
-ghost use Rattle.std.specs.Prelude.{◌≡◌, ◌≤◌, ◌^◌, IfOk, IfErr};
+ghost use Rattle.std.specs.Prelude.{◌≡◌, ◌≤◌, ◌^◌, None, IfOk, IfErr};
 ghost use Rattle.history_model.specs.Logs.{FitsWorld};
 ghost use Rattle.node_shapes.specs.Weights.{number_of_trees};
 ghost use Rattle.table_rule.specs.LogTelling.{number_seen, seen_has};
@@ -18,7 +18,19 @@ use history_model::Act;
 use node_words::{Share, Steps};
 use std::sync::Wait;
 use std::sync::ledger::Ledger;
-use version_log::{Ahead, SureRefused};
+use version_log::{Ahead, Committed, SureRefused};
+
+// The number of a record behind which no version fell out.
+pub(crate) fn number_alone(committed: Committed) -> u32
+    requires { committed.fallen ≡ None }
+    ensures { result ≡ committed.n }
+{
+    let Committed { n, fallen } = committed;
+    match fallen {
+        None => n,
+        Some(_) => unreachable!(),
+    }
+}
 
 impl<'m> World<'m> {
     // Waits for the log's turn: no other session commits until it goes back.
@@ -46,7 +58,7 @@ impl<'m> World<'m> {
         at
     }
 
-    // Appends the act with this root, and the turn goes back.
+    // Appends the act with this root, and the turn goes back. All versions are kept.
     pub(crate) fn finish(
         &self,
         s: &mut Session,
@@ -56,6 +68,7 @@ impl<'m> World<'m> {
         root: Option<Share>,
     ) -> Result<u32, SureRefused>
         requires turn { HasLog self.now s.old }
+        requires room { number_of_trees s.old.view.held ≤ 4095 }
         requires fits { FitsWorld (2 ^ self.now.plan.side) self.now.models act.now }
         requires target { HasOpenTarget s.old.view act.now }
         requires known { KnowsNext s.old.view.log.seen.records act.now ahead }
@@ -67,8 +80,8 @@ impl<'m> World<'m> {
         ensures seen { IfErr result (λ e. session_seen s.new.view ≡ session_seen s.old.view) }
         ensures kept { IfErr result (λ e. s.new.view.held ≡ s.old.view.held) }
     {
-        match version_log::finish(&self.table, s, ahead, line, act, root) {
-            Ok(n) => Ok(n),
+        match version_log::finish(&self.table, s, ahead, line, act, root, 0) {
+            Ok(committed) => Ok(number_alone(committed)),
             Err(refused) => Err(refused),
         }
     }

@@ -1,5 +1,5 @@
 -- What an append under the log's turn needs and leaves.
-use Rattle.std.proofs.Common.{Result, Ok, Err, IfOk, IfErr, ◌≡◌, ◌⊎◌, ◌+◌, ◌^◌, ◌<◌, ◌≤◌, ℕ, true, Option, None, List, [], ◌∷◌, ◌++◌, length, inl, inr, refl, sym, ◌∙◌, ap, subst, arith, length-append}
+use Rattle.std.proofs.Common.{Result, Ok, Err, IfErr, ◌≡◌, ◌⊎◌, ◌+◌, ◌^◌, ◌<◌, ◌≤◌, ℕ, true, Option, List, [], ◌∷◌, ◌++◌, length, inl, inr, refl, sym, ◌∙◌, ap, subst, arith, length-append}
 use Rattle.std.proofs.lemmas.List.{append-nil}
 use Rattle.std.specs.List.{Contains}
 use Rattle.history_model.specs.declared.acts.Act.{Act}
@@ -11,7 +11,7 @@ use Rattle.history_model.specs.Positions.{position_after}
 use Rattle.history_model.specs.Worlds.{is_edit}
 use Rattle.node_shapes.specs.declared.names.Name.{Name}
 use Rattle.node_shapes.specs.Tree.{Tree, Gone, LeafAt, NodeAt, root_of}
-use Rattle.node_shapes.specs.Weights.{weigh, weight_of}
+use Rattle.node_shapes.specs.Weights.{number_of_trees, weigh, weight_of}
 use Rattle.node_shapes.proofs.WeightLaws.{weight_of-there}
 use Rattle.node_words.specs.Gathering.{Loses, MayHold}
 use Rattle.node_words.specs.Held.{IsHeld}
@@ -25,6 +25,7 @@ use Rattle.node_table.specs.LogTurns.{HasNoTurn}
 use Rattle.node_table.specs.LogTurns.{AppendsUnderTurn, AreNextWords, ForAppended, LearnsLog, MayAppendWords, TakesLog}
 use Rattle.version_log.specs.declared.refusals.CommitRefused.{CommitRefused}
 use Rattle.version_log.specs.declared.refusals.CommitRefused.TheVariants.{LogFull, Stale}
+use Rattle.version_log.specs.declared.committed.Committed.{Committed}
 use Rattle.version_log.specs.declared.pinned.Pinned.{Pinned}
 use Rattle.version_log.specs.Commits.{AppendsNext, IsMadeOver, RefusesCommit, with_own}
 use Rattle.version_log.specs.Tries.{RefusesTry, TakesAtOnce, tried}
@@ -219,14 +220,21 @@ module _ (v u : SeatView) (p : Layout) (session line : ℕ) (act : Act) (root : 
         is = a.is ∙ (λ i. (let z : SeatView = with_own v r (sym held i) (sym busy i) in z));
       }
 
--- no turn is had then
-pub appends_idle : (v w : SeatView) (line : ℕ) (act : Act) (root : Option Name) (n : ℕ)
-    → v.turn ≡ None → AppendsNext v line act root n w → HasNoTurn w
-appends_idle v w line act root n idle a =
-    record {
-      bucket = ap (λ (x : SeatView). x.turn) a.is ∙ idle;
-      log = ap (λ (x : SeatView). x.log.turn) a.is;
-    }
+-- how many records are seen then
+pub appends_number : (v w : SeatView) (line : ℕ) (act : Act) (root : Option Name) (n : ℕ)
+    → AppendsNext v line act root n w → n ≡ number_seen w
+appends_number v w line act root n a =
+    let long = ap (λ (x : SeatView). number_seen x) a.is in
+    let sum = length-append v.log.seen.records (a.by ∷ []) in
+    let is = a.number in omega arith
+
+-- and no more is held
+pub appends_fewer : (v w : SeatView) (line : ℕ) (act : Act) (root : Option Name) (n : ℕ)
+    → IsMadeNow v act root → AppendsNext v line act root n w
+    → number_of_trees w.held ≤ number_of_trees v.held
+appends_fewer v w line act root n made a =
+    let gone = (a.gone made.holds.tree made.holds.name made.holds.held).weighs (λ _. 1) in
+    omega arith
 
 -- under the turn the log is as long as what was pinned, and so as what was seen
 seen_grows : (v t : SeatView) → TakesLog v t → number_seen v ≤ number_seen t
@@ -385,15 +393,7 @@ base_known v t moment takes known here =
     (sym (taken_same v t takes (omega (arith, here, known)))) ∙ here
 
 -- whichever the answer is
-pub all_before : (r : Result ℕ CommitRefused) (v t w : SeatView) (moment line : ℕ) (act : Act)
-    (root : Option Name) → TakesLog v t → moment ≤ number_seen v
-    → IfOk r (λ n. number_seen t ≡ moment) → IfOk r (λ n. AppendsNext t line act root n w)
-    → IfOk r (λ n. AppendsNext v line act root n w)
-all_before (Ok n) v t w moment line act root takes known here a =
-    commits_before v t w moment line act root n takes known here a
-all_before (Err e) v t w moment line act root takes known same a = tt
-
-pub looks_before : (r : Result ℕ CommitRefused) (v t w : SeatView) → TakesLog v t
+pub looks_before : (r : Result Committed CommitRefused) (v t w : SeatView) → TakesLog v t
     → IfErr r (λ e. LooksOn t w) → IfErr r (λ e. LooksOn v w)
 looks_before (Ok n) v t w takes looks = tt
 looks_before (Err e) v t w takes looks = looks_on v t w (takes_looks v t takes) looks

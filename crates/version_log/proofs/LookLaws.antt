@@ -227,6 +227,13 @@ left_looks v w e =
     (looks_log v _ (knows_found v _ refl refl (found_itself v.log.found)) refl refl
     (others_itself v.log.busy))
 
+-- and with the turn no less is seen than without it
+pub back_looks : (v : SeatView) → LooksOn (log_left v) v
+back_looks v =
+    looks_log (log_left v) v.log
+    (knows_found (log_left v) v.log refl refl (found_itself v.log.found)) refl refl
+    (others_itself v.log.busy)
+
 -- the turn came and the length was read
 pub begun_looks : (v w z : SeatView) → TakesLog v w → LearnsLog w z → LooksOn v z
 begun_looks v w z t l = looks_on v w z (takes_looks v w t) (learns_looks w z l)

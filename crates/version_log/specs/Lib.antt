@@ -12,3 +12,4 @@ pub mod Lending
 pub mod Keeping
 pub mod Looking
 pub mod Finishing
+pub mod Falling

@@ -2,15 +2,19 @@
 ghost use Rattle.std.specs.Prelude.{◌≡◌, ◌≤◌, ◌^◌, true, IfOk, IfErr};
 ghost use Rattle.history_model.specs.Logs.{FitsWorld};
 ghost use Rattle.history_model.specs.Worlds.{is_edit};
+ghost use Rattle.node_shapes.specs.Weights.{number_of_trees};
 ghost use Rattle.table_rule.specs.LogTelling.{number_seen};
 ghost use Rattle.node_table.specs.LogTurns.{HasLogTurn, HasNoTurn};
 ghost use Rattle.node_table.specs.Seen.{BelongsTo};
-ghost use Rattle.version_log.specs.Commits.{AppendsNext, IsMadeOver, RefusesCommit};
+ghost use Rattle.version_log.specs.Commits.{IsMadeOver, RefusesCommit};
+ghost use Rattle.version_log.specs.Falling.{CommitsAlone, CommitsNext};
 ghost use Rattle.version_log.specs.Pins.{IsPinned};
 ghost use Rattle.version_log.specs.Seeing.{LooksOn};
 
 use crate::ahead::nothing_kept;
-use crate::finishing::{append_next, length};
+use crate::committed::Committed;
+use crate::falling::append_kept;
+use crate::finishing::length;
 use crate::pinned::Pinned;
 use crate::refusals::CommitRefused;
 use crate::sures::leave;
@@ -31,8 +35,10 @@ pub(crate) fn commit_here(
     line: u32,
     act: &Act,
     root: Option<Share>,
-) -> Result<u32, CommitRefused>
+    keep: u32,
+) -> Result<Committed, CommitRefused>
     requires turn { HasLogTurn table.now pass.old }
+    requires room { number_of_trees pass.old.view.held ≤ 4095 }
     requires edit { is_edit act.now ≡ true }
     requires fits { FitsWorld (2 ^ table.now.plan.side) pass.old.view.models act.now }
     requires long { base.now.moment ≤ number_seen pass.old.view }
@@ -40,9 +46,9 @@ pub(crate) fn commit_here(
         → IsMadeOver pass.old.view base.now.moment act.now root }
     ensures of { BelongsTo table.now pass.new }
     ensures idle { HasNoTurn pass.new.view }
-    ensures number { IfOk result (λ n. number_seen pass.old.view ≡ base.now.moment) }
-    ensures appends { IfOk result
-        (λ n. AppendsNext pass.old.view line act.now root n pass.new.view) }
+    ensures number { IfOk result (λ c. number_seen pass.old.view ≡ base.now.moment) }
+    ensures commits { IfOk result
+        (λ c. CommitsNext pass.old.view keep line act.now root c pass.new.view) }
     ensures refused { IfErr result (λ e. RefusesCommit base.now root e pass.new.view) }
     ensures looks { IfErr result (λ e. LooksOn pass.old.view pass.new.view) }
     ensures kept { IfErr result (λ e. pass.new.view.held ≡ pass.old.view.held) }
@@ -57,11 +63,12 @@ pub(crate) fn commit_here(
         leave(table, pass);
         return Err(CommitRefused::Stale { now: at, root });
     }
-    Ok(append_next(table, pass, nothing_kept(), at, line, act, root))
+    Ok(append_kept(table, pass, nothing_kept(), at, line, act, root, keep))
 }
 
 /// Appends an edit that was made of the head which was pinned, where the log hasn't grown
-/// since. It may wait for the log's turn.
+/// since. Where `keep` is 1 or more and at most its number n, version n - keep is forgotten for
+/// this line, unless it has a mark; with 0 all versions are kept. It may wait for the log's turn.
 pub fn commit<R: Wait>(
     rt: &R,
     table: &NodeTable,
@@ -70,9 +77,11 @@ pub fn commit<R: Wait>(
     line: u32,
     act: &Act,
     root: Option<Share>,
-) -> Result<u32, CommitRefused>
+    keep: u32,
+) -> Result<Committed, CommitRefused>
     requires of { BelongsTo table.now pass.old }
     requires idle { HasNoTurn pass.old.view }
+    requires room { number_of_trees pass.old.view.held ≤ 4095 }
     requires base { IsPinned pass.old.view base.now }
     requires head { base.now.version ≡ base.now.moment }
     requires edit { is_edit act.now ≡ true }
@@ -80,13 +89,15 @@ pub fn commit<R: Wait>(
     requires made { IsMadeOver pass.old.view base.now.moment act.now root }
     ensures of { BelongsTo table.now pass.new }
     ensures idle { HasNoTurn pass.new.view }
-    ensures number { IfOk result (λ n. number_seen pass.old.view ≡ base.now.moment) }
-    ensures appends { IfOk result
-        (λ n. AppendsNext pass.old.view line act.now root n pass.new.view) }
+    ensures number { IfOk result (λ c. number_seen pass.old.view ≡ base.now.moment) }
+    ensures commits { IfOk result
+        (λ c. CommitsNext pass.old.view keep line act.now root c pass.new.view) }
+    ensures alone { IfOk result
+        (λ c. keep ≡ 0 → CommitsAlone pass.old.view line act.now root c pass.new.view) }
     ensures refused { IfErr result (λ e. RefusesCommit base.now root e pass.new.view) }
     ensures looks { IfErr result (λ e. LooksOn pass.old.view pass.new.view) }
     ensures kept { IfErr result (λ e. pass.new.view.held ≡ pass.old.view.held) }
 {
     take(rt, table, pass);
-    commit_here(table, pass, base, line, act, root)
+    commit_here(table, pass, base, line, act, root, keep)
 }

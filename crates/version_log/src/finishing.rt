@@ -2,17 +2,22 @@
 ghost use Rattle.std.specs.Prelude.{◌≡◌, ◌<◌, ◌≤◌, ◌+◌, ◌^◌, false, IfOk, IfErr, IfSome};
 ghost use Rattle.history_model.specs.Logs.{FitsWorld};
 ghost use Rattle.history_model.specs.Worlds.{is_edit};
+ghost use Rattle.node_shapes.specs.Weights.{number_of_trees};
 ghost use Rattle.table_rule.specs.LogTelling.{number_seen};
 ghost use Rattle.table_steps.specs.LogChanges.{HasOpenTarget};
-ghost use Rattle.node_table.specs.LogTurns.{HasLogTurn, HasNoTurn, LearnsLog, log_left};
+ghost use Rattle.node_table.specs.LogTurns.{AppendsInTurn, ForAppended, HasLogTurn, HasNoTurn};
+ghost use Rattle.node_table.specs.LogTurns.{LearnsLog, MayAppendWords, log_left};
 ghost use Rattle.node_table.specs.Seen.{BelongsTo};
 ghost use Rattle.version_log.specs.Commits.{AppendsNext};
+ghost use Rattle.version_log.specs.Falling.{CommitsAlone, CommitsNext};
 ghost use Rattle.version_log.specs.Finishing.{RefusesFinish};
 ghost use Rattle.version_log.specs.Seeing.{LooksOn};
 ghost use Rattle.version_log.specs.Targets.{IsMadeNow, KnowsNext, StandsBehind};
 
 use crate::ahead::{Ahead, nothing_kept};
 use crate::commits::MOST_RECORDS;
+use crate::committed::Committed;
+use crate::falling::append_kept;
 use crate::refusals::SureRefused;
 use crate::sures::{Sure, leave};
 use crate::words::{record_words, tell_numbers};
@@ -72,7 +77,22 @@ fn stands_next(table: &NodeTable, pass: &mut Pass, ahead: Ahead, act: &Act, at: 
     }
 }
 
-// Appends the next record, whatever its act. The turn is given back.
+// Appends the record of these words. The turn is kept.
+fn append_words(table: &NodeTable, pass: &mut Pass, words: [u64; 5], root: Option<Share>) -> u32
+    requires turn { HasLogTurn table.now pass.old }
+    requires may { MayAppendWords table.now.plan pass.old.view words root }
+    ensures turn { HasLogTurn table.now pass.new }
+    ensures number { result ≡ number_seen pass.old.view + 1 }
+    ensures appended { ForAppended table.now.plan pass.old.view words root
+        (λ r t. AppendsInTurn pass.old.view r t pass.new.view) }
+{
+    let mut turn = LogTurn::of(table, pass);
+    let n = turn.append_on(words, root);
+    turn.rest();
+    n
+}
+
+// Appends the next record, whatever its act. The turn is kept.
 pub(crate) fn append_next(
     table: &NodeTable,
     pass: &mut Pass,
@@ -89,9 +109,11 @@ pub(crate) fn append_next(
     requires target { HasOpenTarget pass.old.view act.now }
     requires known { KnowsNext pass.old.view.log.seen.records act.now ahead }
     requires made { IsMadeNow pass.old.view act.now root }
-    ensures of { BelongsTo table.now pass.new }
-    ensures idle { HasNoTurn pass.new.view }
-    ensures appends { AppendsNext pass.old.view line act.now root result pass.new.view }
+    ensures turn { HasLogTurn table.now pass.new }
+    ensures appends { AppendsNext pass.old.view line act.now root result
+        (log_left pass.new.view) }
+    ensures number { result ≡ number_seen pass.new.view }
+    ensures fewer { number_of_trees pass.new.view.held ≤ number_of_trees pass.old.view.held }
     ensures met_nobody { pass.new.view.log.busy ≡ pass.old.view.log.busy }
 {
     pass.tell();
@@ -99,8 +121,7 @@ pub(crate) fn append_next(
     let number = pass.number();
     let Standing { now, last } = stands_next(table, pass, ahead, act, at);
     let words = record_words(act, now, last, number, line);
-    let turn = LogTurn::of(table, pass);
-    turn.append(words, root)
+    append_words(table, pass, words, root)
 }
 
 /// As `Sure::finish`, by a pass that has the log's turn.
@@ -111,16 +132,20 @@ pub fn finish(
     line: u32,
     act: &Act,
     root: Option<Share>,
-) -> Result<u32, SureRefused>
+    keep: u32,
+) -> Result<Committed, SureRefused>
     requires turn { HasLogTurn table.now pass.old }
+    requires room { number_of_trees pass.old.view.held ≤ 4095 }
     requires fits { FitsWorld (2 ^ table.now.plan.side) pass.old.view.models act.now }
     requires target { HasOpenTarget pass.old.view act.now }
     requires known { KnowsNext pass.old.view.log.seen.records act.now ahead }
     requires made { IsMadeNow pass.old.view act.now root }
     ensures of { BelongsTo table.now pass.new }
     ensures idle { HasNoTurn pass.new.view }
-    ensures appends { IfOk result
-        (λ n. AppendsNext pass.old.view line act.now root n pass.new.view) }
+    ensures commits { IfOk result
+        (λ c. CommitsNext pass.old.view keep line act.now root c pass.new.view) }
+    ensures alone { IfOk result
+        (λ c. keep ≡ 0 → CommitsAlone pass.old.view line act.now root c pass.new.view) }
     ensures refused { IfErr result (λ e. RefusesFinish root e pass.new.view) }
     ensures left { IfErr result (λ e. pass.new.view ≡ log_left pass.old.view) }
     ensures looks { IfErr result (λ e. LooksOn pass.old.view pass.new.view) }
@@ -131,7 +156,7 @@ pub fn finish(
         leave(table, pass);
         return Err(SureRefused::LogFull { root });
     }
-    Ok(append_next(table, pass, ahead, at, line, act, root))
+    Ok(append_kept(table, pass, ahead, at, line, act, root, keep))
 }
 
 /// How many records the log has, by a pass that has its turn.

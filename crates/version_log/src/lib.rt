@@ -16,8 +16,8 @@
 //! | `forget` | 1 load of the mark, 1 of the root, 2 stores |
 //! | `same` | 1 load of each mark, 1 of each root |
 //!
-//! A mark that is found takes a second load. The turn is taken by 1 exchange and given back by 1
-//! store.
+//! A mark that is found takes a second load. A version that falls out behind a record takes what
+//! `forget` takes. The turn is taken by 1 exchange and given back by 1 store.
 //!
 //! `Sure` is the turn as a value. Who hands the pass on between its calls makes them on the pass:
 //! `take`, then `length`, `mark`, `target` and `keep_version`, then `finish` or `leave`.
@@ -25,6 +25,8 @@
 
 mod ahead;
 mod commits;
+mod committed;
+mod falling;
 mod finishing;
 mod forgets;
 mod forgetting;
@@ -45,6 +47,7 @@ mod words;
 
 pub use ahead::{Ahead, nothing_kept};
 pub use commits::commit;
+pub use committed::Committed;
 pub use finishing::{finish, length};
 pub use forgets::forget;
 pub use forgetting::Forgot;

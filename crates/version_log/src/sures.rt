@@ -8,7 +8,7 @@ ghost use Rattle.table_steps.specs.LogChanges.{HasOpenTarget};
 ghost use Rattle.node_table.specs.LogTurns.{HasLogTurn, HasNoTurn, LearnsLog, LooksForMark};
 ghost use Rattle.node_table.specs.LogTurns.{log_left};
 ghost use Rattle.node_table.specs.Seen.{BelongsTo};
-ghost use Rattle.version_log.specs.Commits.{AppendsNext};
+ghost use Rattle.version_log.specs.Falling.{CommitsAlone, CommitsNext};
 ghost use Rattle.version_log.specs.Finishing.{RefusesFinish};
 ghost use Rattle.version_log.specs.Keeping.{OnlyKeeps};
 ghost use Rattle.version_log.specs.Lending.{LendsItsPass};
@@ -19,6 +19,7 @@ ghost use Rattle.version_log.specs.Targets.{IsMadeNow, KnowsNext, StandsBehind, 
 ghost use Rattle.undo.specs.Standings.{version_of};
 
 use crate::ahead::Ahead;
+use crate::committed::Committed;
 use crate::finishing::finish;
 use crate::keeping::keep_version;
 use crate::refusals::SureRefused;
@@ -166,9 +167,18 @@ impl<'a> Sure<'a> {
         &mut *self.pass
     }
 
-    /// Appends a record with this root. The turn is given back.
-    pub fn finish(self, line: u32, act: &Act, root: Option<Share>) -> Result<u32, SureRefused>
+    /// Appends a record with this root. Where `keep` is 1 or more and at most its number n,
+    /// version n - keep is forgotten for this line, unless it has a mark; with 0 all versions are
+    /// kept. The turn is given back.
+    pub fn finish(
+        self,
+        line: u32,
+        act: &Act,
+        root: Option<Share>,
+        keep: u32,
+    ) -> Result<Committed, SureRefused>
         requires turn { HasLogTurn self.table.now self.pass.now }
+        requires room { number_of_trees self.pass.now.view.held ≤ 4095 }
         requires fits { FitsWorld (2 ^ self.table.now.plan.side) self.pass.now.view.models
             act.now }
         requires target { HasOpenTarget self.pass.now.view act.now }
@@ -176,8 +186,10 @@ impl<'a> Sure<'a> {
         requires made { IsMadeNow self.pass.now.view act.now root }
         ensures of { BelongsTo self.entry.table.now self.exit.1.0.now }
         ensures idle { HasNoTurn self.exit.1.0.now.view }
-        ensures appends { IfOk result (λ n. AppendsNext self.entry.pass.now.view line act.now root n
-            self.exit.1.0.now.view) }
+        ensures commits { IfOk result (λ c. CommitsNext self.entry.pass.now.view keep line act.now
+            root c self.exit.1.0.now.view) }
+        ensures alone { IfOk result (λ c. keep ≡ 0 → CommitsAlone self.entry.pass.now.view line
+            act.now root c self.exit.1.0.now.view) }
         ensures refused { IfErr result (λ e. RefusesFinish root e self.exit.1.0.now.view) }
         ensures left { IfErr result
             (λ e. self.exit.1.0.now.view ≡ log_left self.entry.pass.now.view) }
@@ -187,7 +199,7 @@ impl<'a> Sure<'a> {
             (λ e. self.exit.1.0.now.view.held ≡ self.entry.pass.now.view.held) }
     {
         let Sure { table, pass, ahead } = self;
-        finish(table, pass, ahead, line, act, root)
+        finish(table, pass, ahead, line, act, root, keep)
     }
 
     /// Nothing but the turn changes: it is given back.

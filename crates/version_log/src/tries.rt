@@ -1,15 +1,18 @@
 // Edits that are committed where the log's turn comes at once.
-ghost use Rattle.std.specs.Prelude.{◌≡◌, ◌^◌, true, false, IfOk, IfErr};
+ghost use Rattle.std.specs.Prelude.{◌≡◌, ◌≤◌, ◌^◌, true, false, IfOk, IfErr};
 ghost use Rattle.history_model.specs.Logs.{FitsWorld};
 ghost use Rattle.history_model.specs.Worlds.{is_edit};
+ghost use Rattle.node_shapes.specs.Weights.{number_of_trees};
 ghost use Rattle.table_rule.specs.LogTelling.{number_seen};
 ghost use Rattle.node_table.specs.LogTurns.{HasNoTurn, IsBusy};
 ghost use Rattle.node_table.specs.Seen.{BelongsTo};
-ghost use Rattle.version_log.specs.Commits.{AppendsNext, IsMadeOver};
+ghost use Rattle.version_log.specs.Commits.{IsMadeOver};
+ghost use Rattle.version_log.specs.Falling.{CommitsAlone, CommitsNext};
 ghost use Rattle.version_log.specs.Pins.{IsPinned};
 ghost use Rattle.version_log.specs.Tries.{RefusesTry, TakesAtOnce, tried};
 
 use crate::commits::commit_here;
+use crate::committed::Committed;
 use crate::pinned::Pinned;
 use crate::refusals::{CommitRefused, TryRefused};
 use history_model::Act;
@@ -51,9 +54,11 @@ pub fn try_commit(
     line: u32,
     act: &Act,
     root: Option<Share>,
-) -> Result<u32, TryRefused>
+    keep: u32,
+) -> Result<Committed, TryRefused>
     requires of { BelongsTo table.now pass.old }
     requires idle { HasNoTurn pass.old.view }
+    requires room { number_of_trees pass.old.view.held ≤ 4095 }
     requires base { IsPinned pass.old.view base.now }
     requires head { base.now.version ≡ base.now.moment }
     requires edit { is_edit act.now ≡ true }
@@ -61,19 +66,21 @@ pub fn try_commit(
     requires made { IsMadeOver pass.old.view base.now.moment act.now root }
     ensures of { BelongsTo table.now pass.new }
     ensures idle { HasNoTurn pass.new.view }
-    ensures number { IfOk result (λ n. number_seen pass.old.view ≡ base.now.moment) }
-    ensures appends { IfOk result
-        (λ n. AppendsNext pass.old.view line act.now root n pass.new.view) }
+    ensures number { IfOk result (λ c. number_seen pass.old.view ≡ base.now.moment) }
+    ensures commits { IfOk result
+        (λ c. CommitsNext pass.old.view keep line act.now root c pass.new.view) }
+    ensures alone { IfOk result
+        (λ c. keep ≡ 0 → CommitsAlone pass.old.view line act.now root c pass.new.view) }
     ensures refused { IfErr result
         (λ e. RefusesTry base.now root e pass.old.view pass.new.view) }
     ensures kept { IfErr result (λ e. pass.new.view.held ≡ pass.old.view.held) }
-    ensures met_nobody { IfOk result (λ n. pass.new.view.log.busy ≡ pass.old.view.log.busy) }
+    ensures met_nobody { IfOk result (λ c. pass.new.view.log.busy ≡ pass.old.view.log.busy) }
 {
     if !try_take(table, pass) {
         return Err(TryRefused::Busy { root });
     }
-    match commit_here(table, pass, base, line, act, root) {
-        Ok(n) => Ok(n),
+    match commit_here(table, pass, base, line, act, root, keep) {
+        Ok(committed) => Ok(committed),
         Err(refused) => Err(tried(refused)),
     }
 }

@@ -1,5 +1,6 @@
 use Rattle.std.proofs.Common.{◌≡◌, true, rules}
-use Rattle.version_log.proofs.AppendLaws.{commits_made, commits_before, try_refused}
+use Rattle.version_log.proofs.AppendLaws.{commits_made, try_refused}
+use Rattle.version_log.proofs.FallLaws.{commits_alone, falls_before}
 use Rattle.version_log.proofs.tries.try_commit.Goals as goal
 
 pub commit_here-requires-clause-made : goal.commit_here-requires-clause-made
@@ -9,13 +10,23 @@ commit_here-requires-clause-made c = λ here.
     c.args.act.now c.args.root (c.try_take.ensures.taken came).takes c.requires.base.moment
     c.requires.made here)
 
-pub returns-in-Ok-clause-appends : goal.returns-in-Ok-clause-appends
-returns-in-Ok-clause-appends c =
+pub returns-in-Ok-clause-commits : goal.returns-in-Ok-clause-commits
+returns-in-Ok-clause-commits c =
     let came : c.try_take.result ≡ true = search rules in
-    commits_before c.args.pass.now.view c.try_take.new.pass.view c.commit_here.new.pass.view
-    c.args.base.now.moment c.args.line c.args.act.now c.args.root c.in-Ok.n
+    falls_before c.args.pass.now.view c.try_take.new.pass.view c.commit_here.new.pass.view
+    c.args.base.now.moment c.args.keep c.args.line c.args.act.now c.args.root c.in-Ok.committed
     (c.try_take.ensures.taken came).takes c.requires.base.moment c.in-Ok.ensures.number
-    c.in-Ok.ensures.appends
+    c.in-Ok.ensures.commits
+
+pub returns-in-Ok-clause-alone : goal.returns-in-Ok-clause-alone
+returns-in-Ok-clause-alone c =
+    let came : c.try_take.result ≡ true = search rules in
+    commits_alone c.args.pass.now.view c.commit_here.new.pass.view c.args.keep c.args.line
+    c.args.act.now c.args.root c.in-Ok.committed
+    (falls_before c.args.pass.now.view c.try_take.new.pass.view c.commit_here.new.pass.view
+    c.args.base.now.moment c.args.keep c.args.line c.args.act.now c.args.root c.in-Ok.committed
+    (c.try_take.ensures.taken came).takes c.requires.base.moment c.in-Ok.ensures.number
+    c.in-Ok.ensures.commits)
 
 pub returns-in-Err-clause-refused : goal.returns-in-Err-clause-refused
 returns-in-Err-clause-refused c =

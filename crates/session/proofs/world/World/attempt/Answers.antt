@@ -1,12 +1,18 @@
 use Rattle.std.proofs.Common.{rules, ◌∙◌}
 use Rattle.version_log.specs.declared.refusals.CommitRefused.TheVariants.{LogFull, Stale}
-use Rattle.session.proofs.AttemptLaws.{appends_as, done_comes, full_comes, late_comes, late_room, refused_as, stale_comes}
+use Rattle.session.proofs.AttemptLaws.{appends_as, done_comes, full_comes, late_comes, late_room, made_room, refused_as, stale_comes}
 use Rattle.session.proofs.CommitLaws.{head_root}
 use Rattle.session.proofs.world.World.attempt.Goals as goal
 
 pub make_next-requires-clause-base : goal.make_next-requires-clause-base
 make_next-requires-clause-base g c =
     head_root c.args.s.now.view c.args.base.now _ (search rules) c.requires.base
+
+pub commit_root-requires-clause-room : goal.commit_root-requires-clause-room
+commit_root-requires-clause-room g c =
+    made_room c.args.self.now c.args.line _ _ c.args.base.now c.args.s.now c.make_next.new.s
+    c.requires.maker c.requires.base c.make_next.ensures.stays _ c.in-Ok.ensures.root
+    c.requires.room
 
 pub returns-in-Err-clause-comes : goal.returns-in-Err-clause-comes
 returns-in-Err-clause-comes g c =

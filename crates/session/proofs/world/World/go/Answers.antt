@@ -1,11 +1,16 @@
 use Rattle.version_log.proofs.UndoLaws.{other_fits}
-use Rattle.session.proofs.GoLaws.{gone_held, nothing_held, way_room, went_done, went_late, went_nowhere}
+use Rattle.session.proofs.GoLaws.{gone_held, nothing_held, way_few, way_room, went_done, went_late, went_nowhere}
 use Rattle.session.proofs.SurelyLaws.{few_behind, finish_full}
 use Rattle.session.proofs.world.World.go.Goals as goal
 
 pub find_way-requires-clause-room : goal.find_way-requires-clause-room
 find_way-requires-clause-room g c =
     few_behind c.args.s.now.view.held c.take.new.s.view.held c.take.ensures.held c.requires.room
+
+pub finish-requires-clause-room : goal.finish-requires-clause-room
+finish-requires-clause-room g c =
+    way_few c.args.s.now.view c.take.new.s.view c.find_way.new.s.view c.in-Ok.field-0.root
+    c.take.ensures.held c.in-Ok.ensures.gains c.requires.room
 
 pub finish-requires-clause-fits : goal.finish-requires-clause-fits
 finish-requires-clause-fits g c = other_fits _ _ c.args.act.now c.requires.other

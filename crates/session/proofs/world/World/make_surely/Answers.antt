@@ -1,6 +1,6 @@
 use Rattle.std.proofs.Common.{◌∙◌}
 use Rattle.session.proofs.AttemptLaws.{appends_as}
-use Rattle.session.proofs.SurelyLaws.{done_held, done_made, full_held, full_made, late_room}
+use Rattle.session.proofs.SurelyLaws.{done_held, done_made, full_held, full_made, late_room, made_few}
 use Rattle.session.proofs.TurnLaws.{log_lends, log_lent}
 use Rattle.session.proofs.world.World.make_surely.Goals as goal
 
@@ -11,6 +11,11 @@ pub finish-requires-clause-turn : goal.finish-requires-clause-turn
 finish-requires-clause-turn g c =
     log_lent c.args.self.now c.args.s.now c.make_next.new.s c.requires.turn
     c.make_next.ensures.stays
+
+pub finish-requires-clause-room : goal.finish-requires-clause-room
+finish-requires-clause-room g c =
+    made_few c.args.self.now c.args.line (g.M.ActMaker.act c.args.maker.now) _
+    c.args.s.now.view c.make_next.new.s.view c.in-Ok.ensures.root c.requires.room
 
 pub leave-at-requires : goal.leave-at-requires
 leave-at-requires g c =
