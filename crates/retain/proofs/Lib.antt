@@ -1,0 +1,3 @@
+mod Merging
+mod OneList
+mod Lasting
