@@ -15,8 +15,8 @@ pub fn all_marks_lie_within()
     ensures { AllMarksLieWithin }
 {}
 
-/// A law: a history with these marks holds its last versions alone, where each mark by hand was made
-/// before its version fell out.
+/// A law: a history with these marks holds its last versions alone, where each mark by hand was
+/// made before its version fell out.
 pub fn all_marks_keep_the_last()
     ensures { AllMarksKeepLast }
 {}
