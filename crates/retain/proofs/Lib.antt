@@ -1,3 +1,4 @@
 mod Merging
 mod OneList
 mod Lasting
+mod Growing

@@ -1,4 +1,4 @@
-ghost use Rattle.retain.specs.Statements.{AllHeldLeavesMarks, AllMarksAreOne, AllMarksLieWithin, AllMarksKeepLast};
+ghost use Rattle.retain.specs.Statements.{AllHeldLeavesMarks, AllMarksAreOne, AllMarksLieWithin, AllMarksKeepLast, OneMoreRecord, OneMoreByHand};
 
 /// A law: where all versions are held, the marks are those made by hand.
 pub fn all_held_leaves_marks_by_hand()
@@ -19,4 +19,15 @@ pub fn all_marks_lie_within()
 /// made before its version fell out.
 pub fn all_marks_keep_the_last()
     ensures { AllMarksKeepLast }
+{}
+
+/// A law: one more record brings the mark of the version that it pushes out, unless one by hand
+/// names that.
+pub fn one_more_record_pushes_one_out()
+    ensures { OneMoreRecord }
+{}
+
+/// A law: one more mark by hand is one more mark, where its version hasn't fallen out.
+pub fn one_more_by_hand_is_one_more()
+    ensures { OneMoreByHand }
 {}
