@@ -1,8 +1,10 @@
-//! Tests of where undos and redos go, over the words of a log.
+//! Tests of where undos and redos go, over the words of a log, and of which versions fall out.
 #![tactic(auto)]
 
 #[cfg(test)]
 mod logs;
+#[cfg(test)]
+mod retained;
 #[cfg(test)]
 mod tests;
 #[cfg(test)]

@@ -1,0 +1,4 @@
+mod Merging
+mod OneList
+mod Lasting
+mod Growing
