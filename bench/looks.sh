@@ -1,14 +1,16 @@
 #!/usr/bin/env bash
-# Times `voxdag look DAG 0 count` over a whole file of about 100 MB: bench/looks.sh [PROGRAM]
+# Compares `voxdag look` with `run` and with the slow reader on files by chance (dag_files/by_chance.py), and then times
+# `voxdag look DAG 0 count` over a whole file of about 100 MB: bench/looks.sh [PROGRAM] [SEED]
 #
 # PROGRAM is ./voxdag's proved program, or another, as one that bench/unproved.sh makes. It and the peer dag_files/once.c, which
 # reads the file once, run in turn. It prints the best time of each, their ratio, and the greatest peak memory of each.
 set -eu
 here=$(cd "$(dirname "$0")" && pwd)
 root=$(dirname "$here")
-program=${1:-$root/.build/voxdag}
+program=$(realpath "${1:-$root/.build/voxdag}")
 work=$here/work/looks
 mkdir -p "$work"
+"$here/dag_files/by_chance.py" "$program" "$work/small" "${2:-1}"
 cc -O2 -o "$work/once" "$here/dag_files/once.c"
 cc -O2 -o "$work/peak" "$here/peak.c"
 [ -s "$work/big.dag" ] || "$here/dag_files/big_file.py" "$work/big.dag"

@@ -81,6 +81,33 @@ def first_fault(data):
     return None
 
 
+def cells_of(data, version):
+    """The cells that a right file gives the version of this number, or None where it has none."""
+    numbers = struct.unpack_from("<2I", data, 8)
+    levels = SIDES.index(numbers[0]) + 1
+    counts = struct.unpack_from(f"<{levels}I", data, 16)
+    starts = [16 + 4 * levels]
+    for level, count in enumerate(counts):
+        starts.append(starts[-1] + (8 if level == 0 else 32) * count)
+
+    def below(level, word, x, y, z):
+        if word == 0:
+            return set()
+        if level == 0:
+            bits = struct.unpack_from("<Q", data, starts[0] + 8 * (word - 1))[0]
+            return {(x + k % 4, y + k // 4 % 4, z + k // 16) for k in range(64) if bits >> k & 1}
+        row = struct.unpack_from("<8I", data, starts[level] + 32 * (word - 1))
+        half = 2 << level
+        return set().union(*(below(level - 1, row[k], x + half * (k % 2), y + half * (k // 2 % 2), z + half * (k // 4))
+                             for k in range(8)))
+
+    for v in range(numbers[1]):
+        number, root = struct.unpack_from("<2I", data, starts[-1] + 8 * v)
+        if number == version:
+            return below(levels - 1, root, 0, 0, 0)
+    return None
+
+
 def words(*numbers):
     return struct.pack(f"<{len(numbers)}I", *numbers)
 
@@ -125,4 +152,5 @@ def main(args):
         print(name, "right" if place is None else place)
 
 
-main(sys.argv[1:])
+if __name__ == "__main__":
+    main(sys.argv[1:])

@@ -16,10 +16,10 @@ use Rattle.conformance.specs.Answers.{target_at}
 use Rattle.conformance.proofs.LineKinds.{undo_target, redo_target}
 use Rattle.node_words.specs.declared.shares.Full.{Full}
 use Rattle.node_words.specs.Plans.{Layout}
-use Rattle.store_run.specs.Replaying.{ReplayState, Replays, MayFillReplay}
+use Rattle.store_run.specs.Replaying.{ReplayState, Replays, MayFillReplay, MayFillAlong}
 use Rattle.audit.specs.declared.audits.AuditRefused.{AuditRefused}
 use Rattle.audit.specs.declared.audits.AuditRefused.TheVariants as refusals
-use Rattle.audit.specs.Audits.{MayFillAlong, RefusesAlong}
+use Rattle.audit.specs.Audits.{RefusesAlong}
 use Rattle.audit.specs.declared.replaying.Ways.{Ways}
 use Rattle.audit.specs.Marks.{TellsMarks}
 use Rattle.audit.specs.Replaying.{IsFollowing, FollowEach, AreWays, Steps, FreeBy, RefusesNext, ways_at}

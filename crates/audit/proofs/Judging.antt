@@ -15,7 +15,8 @@ use Rattle.audit.specs.Audits.{IsAudited, RefusesAlong}
 use Rattle.store_run.specs.Replaying.{ReplayState}
 use Rattle.audit.specs.declared.replaying.Ways.{Ways}
 use Rattle.audit.specs.Reruns.{IsRerun}
-use Rattle.audit.specs.Marks.{AreLegalMarks, TellsMarks}
+use Rattle.store_run.specs.Marked.{AreLegalMarks}
+use Rattle.audit.specs.Marks.{TellsMarks}
 use Rattle.audit.specs.Replaying.{FollowEach, AreWays}
 
 pub too_many : (models : List Content) (log : Log) → 65535 < length log.records

@@ -1,14 +1,13 @@
 -- What an audit of a journal, scripts and transcripts answers.
-use Rattle.std.specs.Prelude.{◌≡◌, ℕ, ◌^◌, List, ◌++◌, replicate, Option, Some, None, ⊤}
+use Rattle.std.specs.Prelude.{ℕ, ◌^◌, List, replicate, Option, Some, None, ⊤}
 use Rattle.history_model.specs.Contents.{Content}
 use Rattle.history_model.specs.declared.histories.Record.{Record}
 use Rattle.history_model.specs.Logs.{Log, IsLegal}
-use Rattle.node_words.specs.declared.shares.Full.{Full}
 use Rattle.node_words.specs.Plans.{Layout, usual_buckets}
 use Rattle.script.specs.declared.commands.ScriptLine.{ScriptLine}
 use Rattle.transcript.specs.declared.answers.LineAnswer.{LineAnswer}
 use Rattle.conformance.specs.Agreeing.{Agrees}
-use Rattle.store_run.specs.Replaying.{MayFillReplay}
+use Rattle.store_run.specs.Replaying.{MayFillAlong, replay_plan}
 use Rattle.audit.specs.declared.audits.AuditRefused.{AuditRefused}
 use Rattle.audit.specs.declared.audits.AuditRefused.TheVariants as refusals
 
@@ -25,19 +24,6 @@ abbrev pub judged_by : ℕ → Option ℕ → Layout
 judged_by side None = record { side = side; buckets = usual_buckets; cap = 128 }
 judged_by side (Some buckets) =
     record { side = side; buckets = replicate 11 buckets; cap = 128 }
-
--- the plan of the store over which a history is replayed
-abbrev pub replay_plan : ℕ → Layout
-replay_plan side = record { side = side; buckets = replicate 11 4096; cap = 256 }
-
--- the records up to one of them need as many different contents of the bucket as it has slots, or
--- more, each record on the version before it alone
-pub record MayFillAlong (p : Layout) (models : List Content) (records : List Record)
-    (full : Full) : Type 0 where
-  pub first : List Record
-  pub rest : List Record
-  pub begins : records ≡ first ++ rest
-  pub fills : MayFillReplay p models first full
 
 -- what a refusal says: want of memory says nothing
 abbrev pub RefusesAlong : Layout → List Content → List Record → AuditRefused → Type 0

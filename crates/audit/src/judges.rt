@@ -4,7 +4,8 @@ ghost use Rattle.vox_read.specs.Contents.{AreModels};
 ghost use Rattle.history_model.specs.Logs.{FitsWorld, IsLegal};
 ghost use Rattle.node_words.specs.Plans.{is_number_of_buckets};
 ghost use Rattle.script.specs.Fitting.{CommandFits, RisesFrom};
-ghost use Rattle.audit.specs.Audits.{IsAudited, RefusesAlong, RefusesAudit, judged_by, replay_plan};
+ghost use Rattle.store_run.specs.Replaying.{replay_plan};
+ghost use Rattle.audit.specs.Audits.{IsAudited, RefusesAlong, RefusesAudit, judged_by};
 ghost use Rattle.audit.specs.Reruns.{IsRerun};
 
 use crate::audits::AuditRefused;

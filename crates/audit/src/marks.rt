@@ -1,5 +1,6 @@
 ghost use Rattle.std.specs.Prelude.{◌≡◌, ◌<◌, ◌≤◌, ◌+◌, ◌↔◌, IsTrue, IfOk, MatchOption, length, slice_index_or, Some, None, List, ℕ};
-ghost use Rattle.audit.specs.Marks.{AreLegalMarks, TellsMarks, HeldBy, StandsBy, ForgottenBy};
+ghost use Rattle.store_run.specs.Marked.{AreLegalMarks};
+ghost use Rattle.audit.specs.Marks.{TellsMarks, HeldBy, StandsBy, ForgottenBy};
 
 use history_model::Mark;
 use std::alloc::Global;

@@ -1,5 +1,5 @@
 -- The file of the roots of a history's versions is the file of the history.
-use Rattle.std.proofs.Common.{◌≡◌, ℕ, suc, ◌+◌, ◌-◌, ◌^◌, ◌<◌, ◌≤◌, ◌↔◌, List, length, get_or, Option, Some, refl, sym, ap, subst, ◌∙◌, arith}
+use Rattle.std.proofs.Common.{◌≡◌, ℕ, suc, ◌-◌, ◌^◌, ◌<◌, ◌≤◌, ◌↔◌, List, length, get_or, Some, sym, ap, subst, ◌∙◌, arith}
 use Rattle.std.specs.Prelude.{slice_get}
 use Rattle.std.specs.List.{Contains}
 use Rattle.std.proofs.lemmas.Option.{get_or_from_slice_get, slice_get_within}
@@ -9,18 +9,17 @@ use Rattle.vox_read.specs.Contents.{Content}
 use Rattle.history_model.specs.declared.histories.Record.{Record}
 use Rattle.history_model.specs.Logs.{Log}
 use Rattle.history_model.specs.Moments.{world_has}
-use Rattle.node_shapes.specs.declared.names.Name.{Name}
 use Rattle.node_shapes.specs.Shape.{Shape, has}
 use Rattle.node_shapes.specs.Tree.{Tree, shape_of}
 use Rattle.node_words.proofs.HeldLaws.{held_reached}
 use Rattle.block_contents.specs.Versions.{IsKept, SameWorld}
 use Rattle.block_contents.proofs.WorldBlocks as blocks
 use Rattle.block_walk.specs.Roots.{HoldsRoot, IsBlockOf}
-use Rattle.edit_cells.specs.Worlds.{IsRoot, ShowsWorld, block_at_origin}
+use Rattle.edit_cells.specs.Worlds.{block_at_origin}
 use Rattle.store_run.specs.Marked.{Rooted, ShowsVersion, HoldsKept}
 use Rattle.dag_file.specs.Kept.{version_shape}
 use Rattle.dag_file.specs.Lists.{HoldsList, DoNumbersRise, AreNumbersSmall, IsFileOfList}
-use Rattle.dag_file.specs.Places.{versions_in, version_number}
+use Rattle.dag_file.specs.Places.{versions_in}
 use Rattle.dag_file.specs.Rules.{IsDagFile}
 use Rattle.dag_file.specs.Trees.{IsVersion, HasVersion}
 use Rattle.dag_file.proofs.ListLaws.{there}

@@ -11,7 +11,7 @@ use Rattle.dag_file.proofs.FaultLaws.{one_levels, no_fault}
 use Rattle.dag_file.proofs.OneFault.{one_fault}
 use Rattle.dag_answers.specs.declared.asking.LookRefused.{LookRefused}
 use Rattle.dag_answers.specs.declared.asking.LookRefused.TheVariants.{Dag, NoPlace, Memory}
-use Rattle.dag_answers.specs.Looks.{HasPlace, LacksPlace, JudgesLook, AnswersLook}
+use Rattle.dag_answers.specs.Looks.{HasAsked, LacksAsked, JudgesLook, AnswersLook}
 
 abbrev pub Judged : List ℕ → ℕ → Question → Type 0
 Judged bytes number asked = (found : Option LookRefused) × JudgesLook bytes number asked found
@@ -64,7 +64,7 @@ module _ (bytes : List ℕ) (number : ℕ) (asked : Question) where
   lacks_not side has q placed (inl none) = none has
   lacks_not side has q placed (inr none) = none q placed
 
-  not_both : HasPlace bytes number asked → LacksPlace bytes number asked → ⊥
+  not_both : HasAsked bytes number asked → LacksAsked bytes number asked → ⊥
   not_both h l =
       let same = one_side l.side h.side l.low h.low l.file h.file in
       lacks_not h.side h.has h.question h.placed
@@ -92,7 +92,7 @@ module _ (bytes : List ℕ) (number : ℕ) (asked : Question) where
 
 -- a look that is answered has its place
 pub answer_has_place : (bytes : List ℕ) (number : ℕ) (asked : Question) (answer : Answer)
-    → AnswersLook bytes number asked answer → HasPlace bytes number asked
+    → AnswersLook bytes number asked answer → HasAsked bytes number asked
 answer_has_place bytes number asked answer a = record {
   side = a.side;
   low = a.low;

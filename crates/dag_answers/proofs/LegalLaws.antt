@@ -1,5 +1,5 @@
 -- What breaks the rules of a legal history.
-use Rattle.std.proofs.Common.{◌≡◌, ℕ, ◌+◌, ◌^◌, ◌<◌, ◌≤◌, List, [], ◌∷◌, ◌++◌, length, take, drop, get_or, length-append, length-take-le, append_assoc, refl, sym, ap, subst, ◌∙◌, arith}
+use Rattle.std.proofs.Common.{◌≡◌, ℕ, ◌+◌, ◌^◌, ◌<◌, List, [], ◌∷◌, ◌++◌, length, take, drop, get_or, length-append, length-take-le, append_assoc, refl, sym, ap, subst, ◌∙◌, arith}
 use Rattle.std.specs.Prelude.{All}
 use Rattle.std.proofs.lemmas.List.{get_or_append_left, take-append-drop, drop_more}
 use Rattle.std.proofs.lemmas.List.Elements.{All-push, All-contains, Contains-push}
@@ -9,7 +9,7 @@ use Rattle.history_model.specs.declared.histories.Record.{Record}
 use Rattle.history_model.specs.Logs.{Log, FitsWorld, MayFollow, MayFollowFrom, IsLegal}
 use Rattle.history_model.specs.Positions.{Position, beginning, next_position, position_from, position_after}
 use Rattle.dag_answers.specs.Legality.{AreLegalRecords, IsFirstIllegal}
-use Rattle.dag_answers.specs.Replays.{AreLegalMarks}
+use Rattle.store_run.specs.Marked.{AreLegalMarks}
 
 pub all_front : {X : Type 0} (P : X → Type 0) (xs ys : List X) → All P (xs ++ ys) → All P xs
 all_front P xs ys all = λ k d lt.
@@ -43,7 +43,7 @@ pub legal_records : (models : List Content) (log : Log) → IsLegal (2 ^ log.sid
     → AreLegalRecords (2 ^ log.side) models log.marks log.records
 legal_records models log legal = record { few = legal.few; fit = legal.fit; follow = legal.follow }
 
-pub legal_whole : (models : List Content) (log : Log) → AreLegalMarks log
+pub legal_whole : (models : List Content) (log : Log) → AreLegalMarks (length log.records) log.marks
     → AreLegalRecords (2 ^ log.side) models log.marks log.records → IsLegal (2 ^ log.side) models log
 legal_whole models log marks records = record {
   same_side = refl;

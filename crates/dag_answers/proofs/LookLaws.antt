@@ -16,7 +16,7 @@ use Rattle.dag_file.specs.Places.{root_word, versions_in}
 use Rattle.dag_file.specs.Reads.{SaysFault}
 use Rattle.dag_file.specs.Trees.{Opened, opened_seen, word_name, version_tree, roots_below, HasVersion, IsRootOfVersion}
 use Rattle.dag_file.proofs.VersionLaws.{weighs_root, block_word}
-use Rattle.dag_answers.specs.Looks.{version_has, TellsVersion, AnswersLook, LacksPlace, RefusesLook, of_dag}
+use Rattle.dag_answers.specs.Looks.{version_has, TellsVersion, AnswersLook, LacksAsked, RefusesLook, of_dag}
 
 pub fault_refuses : (bytes : List ℕ) (number : ℕ) (asked : Question) (fault : DagFault)
     → SaysFault bytes fault → RefusesLook bytes number asked (of_dag fault)
@@ -92,13 +92,13 @@ looked bytes side number asked question answer low file placed tells = record {
 
 pub not_there : (bytes : List ℕ) (side number : ℕ) (asked : Question) → 2 ≤ side
     → IsDagFile bytes (side - 1) → (HasVersion bytes (side - 1) number → ⊥)
-    → LacksPlace bytes number asked
+    → LacksAsked bytes number asked
 not_there bytes side number asked low file none =
     record { side = side; low = low; file = file; lacks = inl none }
 
 pub out_of_range : (bytes : List ℕ) (side number : ℕ) (asked : Question) (kind : ScriptKind)
     → 2 ≤ side → IsDagFile bytes (side - 1) → question_placed (2 ^ side) asked ≡ Err kind
-    → LacksPlace bytes number asked
+    → LacksAsked bytes number asked
 out_of_range bytes side number asked kind low file refused = record {
   side = side;
   low = low;

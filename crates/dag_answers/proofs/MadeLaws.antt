@@ -5,17 +5,17 @@ use Rattle.vox_read.specs.Contents.{Content}
 use Rattle.history_model.specs.declared.histories.Mark.{Mark}
 use Rattle.history_model.specs.Logs.{Log}
 use Rattle.node_shapes.specs.Tree.{Tree}
-use Rattle.store_run.specs.Marked.{Rooted, HoldsKept}
+use Rattle.store_run.specs.Marked.{AreLegalMarks, Rooted, HoldsKept}
 use Rattle.store_run.specs.Worlds.{WorldState}
 use Rattle.dag_file.specs.Lists.{HoldsList, DoNumbersRise, AreNumbersSmall, IsFileOfList}
 use Rattle.dag_answers.specs.Histories.{IsFileOfHistory}
-use Rattle.dag_answers.specs.Replays.{AreLegalMarks, AreDue, HasReplayed}
+use Rattle.dag_answers.specs.Replays.{AreDue, HasReplayed}
 use Rattle.dag_answers.proofs.FileLaws.{file_of_kept, file_stays, roots_held, roots_rise, roots_small}
 use Rattle.dag_answers.proofs.ReplayLaws.{all_records, kept_back, kept_to, none_due}
 
 module _ (models : List Content) (log : Log) (due : List Mark) (begun : List Content)
     (now : WorldState) (held : List Tree) (roots : List Rooted) (of_due : AreDue log.marks due)
-    (legal : AreLegalMarks log) (same : begun ≡ models)
+    (legal : AreLegalMarks (length log.records) log.marks) (same : begun ≡ models)
     (replays : HasReplayed begun log due (length log.records) (length due) now) (low : 2 ≤ log.side)
     (kept : HoldsKept now.plan.side now.models now.log held roots) where
   has : HasReplayed models log due (length log.records) (length due) now

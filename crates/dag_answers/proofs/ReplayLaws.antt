@@ -1,10 +1,10 @@
 -- A legal history that is replayed with its marks.
-use Rattle.std.proofs.Common.{◌≡◌, ◌≢◌, ℕ, zero, suc, ◌+◌, ◌-◌, ◌^◌, ◌<◌, ◌≤◌, List, [], ◌∷◌, ◌++◌, length, take, drop, get_or, length-append, length-drop, length-take-le, take_all, take-append-drop, refl, sym, ap, subst, ◌∙◌, inl, inr, ◌⊎◌, arith}
+use Rattle.std.proofs.Common.{◌≡◌, ◌≢◌, ℕ, zero, suc, ◌+◌, ◌^◌, ◌<◌, ◌≤◌, List, [], ◌∷◌, ◌++◌, length, take, drop, get_or, length-append, length-drop, length-take-le, take_all, take-append-drop, sym, ap, subst, ◌∙◌, inl, inr, ◌⊎◌, arith}
 use Rattle.std.specs.Prelude.{All}
-use Rattle.std.specs.List.{AllPairs, Contains}
+use Rattle.std.specs.List.{Contains}
 use Rattle.std.proofs.lemmas.Bool.{cases_order}
 use Rattle.std.proofs.lemmas.List.{take_more, drop_more, get_or_default, get_or-take, get_or-drop}
-use Rattle.std.proofs.lemmas.List.Elements.{All-nil, All-cons, All-push, All-tail, All-contains, Contains-get_or, Contains-append_left, Contains-append_right, Contains-append_cases, Contains-push, Contains-push_cases}
+use Rattle.std.proofs.lemmas.List.Elements.{All-push, All-tail, All-contains, Contains-get_or, Contains-append_left, Contains-append_right, Contains-append_cases, Contains-push, Contains-push_cases}
 use Rattle.node_words.specs.Plans.{Layout}
 use Rattle.vox_read.specs.Contents.{Content}
 use Rattle.history_model.specs.declared.acts.Act.{Act}
@@ -13,16 +13,16 @@ use Rattle.history_model.specs.declared.histories.Mark.{Mark}
 use Rattle.history_model.specs.declared.histories.Record.{Record}
 use Rattle.history_model.specs.Logs.{Log, IsVersionHeld, HasTarget, MayFollow}
 use Rattle.history_model.specs.Positions.{Position, position_after}
-use Rattle.block_contents.specs.Versions.{IsKept, IsUnmarked, MarkComes}
+use Rattle.block_contents.specs.Versions.{IsKept, IsUnmarked}
 use Rattle.store_run.specs.Changing.{Marks, with_record}
-use Rattle.store_run.specs.Marked.{replayed}
+use Rattle.store_run.specs.Marked.{AreLegalMarks, replayed}
 use Rattle.store_run.specs.declared.replaying.ReplayRefused.{ReplayRefused}
 use Rattle.store_run.specs.declared.replaying.ReplayRefused.TheVariants as replays
-use Rattle.store_run.specs.Replaying.{MakesOnlyParts, MayFillReplay, RefusesRecord}
+use Rattle.store_run.specs.Replaying.{MakesOnlyParts, MayFillReplay, RefusesRecord, replay_plan}
 use Rattle.store_run.specs.Worlds.{WorldState}
-use Rattle.dag_answers.specs.Histories.{RefusesHistory, of_replay, replay_plan}
+use Rattle.dag_answers.specs.Histories.{RefusesHistory, of_replay}
 use Rattle.dag_answers.specs.Legality.{AreLegalRecords}
-use Rattle.dag_answers.specs.Replays.{AreLegalMarks, AreDue, HasReplayed}
+use Rattle.dag_answers.specs.Replays.{AreDue, HasReplayed}
 use Rattle.dag_answers.proofs.LegalLaws.{ComesNext, legal_front, legal_last}
 
 -- what stands where a list has no mark
@@ -172,7 +172,7 @@ module _ (models : List Content) (log : Log) (due : List Mark) (of_due : AreDue 
 
   -- its version is kept
   pub due_kept : (n k : ℕ) (now : WorldState) (d : Mark) → HasReplayed models log due n k now
-      → AreLegalMarks log → k < length due → (get_or due k d).at ≡ n
+      → AreLegalMarks (length log.records) log.marks → k < length due → (get_or due k d).at ≡ n
       → IsKept now.log (get_or due k d).version
   due_kept n k now d has legal lt at = record {
     there = (
@@ -193,7 +193,7 @@ module _ (models : List Content) (log : Log) (due : List Mark) (of_due : AreDue 
   }
 
   pub due_earlier : (n k : ℕ) (now : WorldState) (d : Mark) → HasReplayed models log due n k now
-      → AreLegalMarks log → k < length due → (get_or due k d).at ≡ n
+      → AreLegalMarks (length log.records) log.marks → k < length due → (get_or due k d).at ≡ n
       → (get_or due k d).version < length now.log.records
   due_earlier n k now d has legal lt at =
       let m = get_or due k d in
@@ -309,7 +309,7 @@ module _ (models : List Content) (log : Log) (due : List Mark) (of_due : AreDue 
   -- ---- all of it was replayed
 
   module _ (k : ℕ) (now : WorldState) (has : HasReplayed models log due (length log.records) k now)
-      (legal : AreLegalMarks log) (later : All (λ m. length log.records < m.at) (drop k due)) where
+      (legal : AreLegalMarks (length log.records) log.marks) (later : All (λ m. length log.records < m.at) (drop k due)) where
     -- no mark is left
     pub all_due : length due ≤ k
     all_due = go (cases_order k (length due))
@@ -350,7 +350,7 @@ module _ (models : List Content) (log : Log) (due : List Mark) (of_due : AreDue 
     }
 
 -- before the first record nothing is due
-pub begun_later : (log : Log) (due : List Mark) → AreDue log.marks due → AreLegalMarks log
+pub begun_later : (log : Log) (due : List Mark) → AreDue log.marks due → AreLegalMarks (length log.records) log.marks
     → All (λ m. 0 < m.at) (drop 0 due)
 begun_later log due of_due legal = λ i d below.
     let m = get_or (drop 0 due) i d in

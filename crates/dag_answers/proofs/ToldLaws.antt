@@ -1,5 +1,5 @@
 -- The marks of a history that a journal tells are legal.
-use Rattle.std.proofs.Common.{◌≡◌, ℕ, zero, suc, ◌+◌, ◌<◌, ◌≤◌, List, [], ◌∷◌, length, get_or, refl, arith}
+use Rattle.std.proofs.Common.{ℕ, ◌+◌, ◌<◌, ◌≤◌, List, [], ◌∷◌, length, arith}
 use Rattle.std.specs.Prelude.{All}
 use Rattle.std.specs.List.{AllPairs}
 use Rattle.std.proofs.lemmas.List.Elements.{All-nil, All-cons, All-weaker}
@@ -7,7 +7,7 @@ use Rattle.std.proofs.lemmas.List.Kept.{AllPairs-cons}
 use Rattle.history_model.specs.declared.histories.Mark.{Mark}
 use Rattle.history_model.specs.Entries.{AreMarks, IsTold}
 use Rattle.history_model.specs.Logs.{Log}
-use Rattle.dag_answers.specs.Replays.{AreLegalMarks}
+use Rattle.store_run.specs.Marked.{AreLegalMarks}
 
 abbrev Over : ℕ → Mark → Type 0
 Over least m = least ≤ m.version
@@ -36,7 +36,7 @@ fit count least [] are = All-nil (Fits count)
 fit count least (m ∷ ms) are =
     All-cons (Fits count) m ms (are.1.0, are.1.1) (fit count (m.version + 1) ms are.2)
 
-pub told_marks : (log : Log) → IsTold log → AreLegalMarks log
+pub told_marks : (log : Log) → IsTold log → AreLegalMarks (length log.records) log.marks
 told_marks log told = record {
   rising = rise (length log.records) 0 log.marks told.marks;
   marked = fit (length log.records) 0 log.marks told.marks;

@@ -1,15 +1,12 @@
 -- The file of the versions of a history that have no mark.
-use Rattle.std.specs.Prelude.{◌≡◌, ◌↔◌, ℕ, ◌-◌, ◌^◌, List, ◌++◌, replicate, ⊤}
+use Rattle.std.specs.Prelude.{◌↔◌, ℕ, ◌-◌, ◌^◌, List, ⊤}
 use Rattle.vox_read.specs.Contents.{Content}
-use Rattle.history_model.specs.declared.histories.Record.{Record}
 use Rattle.history_model.specs.Logs.{Log}
 use Rattle.history_model.specs.Moments.{world_has}
 use Rattle.block_contents.specs.Versions.{IsKept, SameWorld}
-use Rattle.node_words.specs.declared.shares.Full.{Full}
-use Rattle.node_words.specs.Plans.{Layout}
 use Rattle.store_run.specs.declared.replaying.ReplayRefused.{ReplayRefused}
 use Rattle.store_run.specs.declared.replaying.ReplayRefused.TheVariants as replays
-use Rattle.store_run.specs.Replaying.{MayFillReplay}
+use Rattle.store_run.specs.Replaying.{MayFillAlong, replay_plan}
 use Rattle.dag_file.specs.Kept.{AreBytes}
 use Rattle.dag_file.specs.Rules.{IsDagFile}
 use Rattle.dag_file.specs.Trees.{IsVersion, HasVersion}
@@ -26,24 +23,13 @@ pub record IsFileOfHistory (models : List Content) (log : Log) (file : List ℕ)
   pub cells : (v i : ℕ) → IsVersion file (log.side - 1) v i
       → SameWorld (2 ^ log.side) (version_has file log.side i) (world_has models log.records v)
 
--- the plan of the store over which a history is replayed
-abbrev pub replay_plan : ℕ → Layout
-replay_plan side = record { side = side; buckets = replicate 11 4096; cap = 256 }
-
--- the records up to one of them need as many different contents of the bucket as it has slots, or
--- more, each record on the version before it alone
-pub record MayFillBucket (models : List Content) (log : Log) (full : Full) : Type 0 where
-  pub first : List Record
-  pub rest : List Record
-  pub begins : log.records ≡ first ++ rest
-  pub fills : MayFillReplay (replay_plan log.side) models first full
-
 -- what a refusal says: a bucket is full where all records keep the rules, and want of memory says
 -- nothing
 abbrev pub RefusesHistory : List Content → Log → HistoryRefused → Type 0
 RefusesHistory models log (refusals.Illegal n) = IsFirstIllegal (2 ^ log.side) models log n
 RefusesHistory models log (refusals.Full full) =
-    AreLegalRecords (2 ^ log.side) models log.marks log.records × MayFillBucket models log full
+    AreLegalRecords (2 ^ log.side) models log.marks log.records
+    × MayFillAlong (replay_plan log.side) models log.records full
 RefusesHistory models log refusals.Memory = ⊤
 
 abbrev pub of_replay : ReplayRefused → HistoryRefused

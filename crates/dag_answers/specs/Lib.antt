@@ -3,3 +3,4 @@ pub mod Looks
 pub mod Legality
 pub mod Histories
 pub mod Replays
+pub use Rattle.store_run.specs.Replaying

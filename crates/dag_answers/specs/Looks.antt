@@ -36,7 +36,7 @@ pub record AnswersLook (bytes : List ℕ) (number : ℕ) (asked : Question) (ans
   pub tells : TellsVersion bytes side number question answer
 
 -- the file keeps all rules, and hasn't the version, or its worlds have not what is asked
-pub record LacksPlace (bytes : List ℕ) (number : ℕ) (asked : Question) : Type 0 where
+pub record LacksAsked (bytes : List ℕ) (number : ℕ) (asked : Question) : Type 0 where
   pub side : ℕ
   pub low : 2 ≤ side
   pub file : IsDagFile bytes (side - 1)
@@ -46,7 +46,7 @@ pub record LacksPlace (bytes : List ℕ) (number : ℕ) (asked : Question) : Typ
 -- what a refusal says: want of memory says nothing
 abbrev pub RefusesLook : List ℕ → ℕ → Question → LookRefused → Type 0
 RefusesLook bytes number asked (Dag place) = FirstFault bytes place
-RefusesLook bytes number asked NoPlace = LacksPlace bytes number asked
+RefusesLook bytes number asked NoPlace = LacksAsked bytes number asked
 RefusesLook bytes number asked Memory = ⊤
 
 abbrev pub of_dag : DagFault → LookRefused
@@ -56,7 +56,7 @@ of_dag faults.Memory = Memory
 -- ---- what any file says of a look
 
 -- the file keeps all rules, has the version, and its worlds have what is asked
-pub record HasPlace (bytes : List ℕ) (number : ℕ) (asked : Question) : Type 0 where
+pub record HasAsked (bytes : List ℕ) (number : ℕ) (asked : Question) : Type 0 where
   pub side : ℕ
   pub low : 2 ≤ side
   pub file : IsDagFile bytes (side - 1)
@@ -66,9 +66,9 @@ pub record HasPlace (bytes : List ℕ) (number : ℕ) (asked : Question) : Type 
 
 -- there is nothing to refuse, or this is why the look is refused
 abbrev pub JudgesLook : List ℕ → ℕ → Question → Option LookRefused → Type 0
-JudgesLook bytes number asked None = HasPlace bytes number asked
+JudgesLook bytes number asked None = HasAsked bytes number asked
 JudgesLook bytes number asked (Some (Dag place)) = FirstFault bytes place
-JudgesLook bytes number asked (Some NoPlace) = LacksPlace bytes number asked
+JudgesLook bytes number asked (Some NoPlace) = LacksAsked bytes number asked
 JudgesLook bytes number asked (Some Memory) = ⊥
 
 -- one of these always is, and one alone

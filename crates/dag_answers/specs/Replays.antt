@@ -1,18 +1,12 @@
 -- How a legal history is replayed with its marks, in the order of their moments.
-use Rattle.std.specs.Prelude.{◌≡◌, ◌≢◌, ℕ, ◌+◌, ◌^◌, ◌<◌, ◌≤◌, ◌⊎◌, List, take, drop, length, All}
+use Rattle.std.specs.Prelude.{◌≡◌, ◌≢◌, ℕ, ◌≤◌, List, take, drop, length, All}
 use Rattle.std.specs.List.{AllPairs, Contains}
 use Rattle.vox_read.specs.Contents.{Content}
 use Rattle.history_model.specs.declared.histories.Mark.{Mark}
-use Rattle.history_model.specs.declared.histories.Record.{Record}
 use Rattle.history_model.specs.Logs.{Log}
 use Rattle.store_run.specs.Replaying.{MakesOnlyParts}
 use Rattle.store_run.specs.Marked.{replayed}
 use Rattle.store_run.specs.Worlds.{WorldState}
-
--- marks of rising versions, each of an earlier version than its moment, which the history has
-pub record AreLegalMarks (log : Log) : Type 0 where
-  pub rising : AllPairs (λ a b. a.version < b.version) log.marks
-  pub marked : All (λ mark. (mark.version < mark.at) × (mark.at ≤ length log.records)) log.marks
 
 -- the same marks, by their moments
 pub record AreDue (marks due : List Mark) : Type 0 where

@@ -3,11 +3,12 @@ ghost use Rattle.std.specs.Prelude.{◌≡◌, ◌+◌, ◌^◌, ◌-◌, ◌<�
 ghost use Rattle.std.specs.List.{AllPairs};
 ghost use Rattle.vox_read.specs.Contents.{AreModels};
 ghost use Rattle.store_run.specs.Known.{known_seen};
-ghost use Rattle.store_run.specs.Marked.{HoldsKept};
+ghost use Rattle.store_run.specs.Marked.{AreLegalMarks, HoldsKept};
+ghost use Rattle.store_run.specs.Replaying.{replay_plan};
 ghost use Rattle.dag_answers.specs.Legality.{AreLegalRecords};
-ghost use Rattle.dag_answers.specs.Histories.{IsFileOfHistory, RefusesHistory, of_replay, replay_plan};
+ghost use Rattle.dag_answers.specs.Histories.{IsFileOfHistory, RefusesHistory, of_replay};
 ghost use Rattle.dag_file.specs.Lists.{HoldsList, DoNumbersRise, AreNumbersSmall, IsFileOfList};
-ghost use Rattle.dag_answers.specs.Replays.{AreLegalMarks, AreDue, HasReplayed};
+ghost use Rattle.dag_answers.specs.Replays.{AreDue, HasReplayed};
 
 use crate::legality::first_illegal;
 use dag_file::write_dag;
@@ -65,7 +66,7 @@ pub fn file_of_history(
     models: Models,
 ) -> Result<Vec<u8>, HistoryRefused>
     requires models { AreModels models }
-    requires marks { AreLegalMarks history.now }
+    requires marks { AreLegalMarks (length history.now.records) history.now.marks }
     ensures file { IfOk result (λ file. IsFileOfHistory models history.now file.items) }
     ensures refused { IfErr result (RefusesHistory models history.now) }
     ensures legal { IfOk result
@@ -91,7 +92,7 @@ fn file_over<L: Ledger>(
     blank: Blank,
 ) -> Result<Vec<u8>, HistoryRefused>
     requires models { AreModels models }
-    requires marks { AreLegalMarks history.now }
+    requires marks { AreLegalMarks (length history.now.records) history.now.marks }
     requires plan { plan.now ≡ replay_plan history.now.side }
     requires records { AreLegalRecords (2 ^ history.now.side) models history.now.marks
         history.now.records }
@@ -128,7 +129,7 @@ fn replay_all<L: Ledger>(
     history: &History,
     due: &[Mark],
 ) -> Result<(), ReplayRefused>
-    requires marks { AreLegalMarks history.now }
+    requires marks { AreLegalMarks (length history.now.records) history.now.marks }
     requires due { AreDue history.now.marks due.now }
     requires records { AreLegalRecords (2 ^ history.now.side) replay.old.models history.now.marks
         history.now.records }
@@ -159,7 +160,7 @@ fn forget_due<L: Ledger>(
     due: &[Mark],
     from: usize,
 ) -> usize
-    requires marks { AreLegalMarks history.now }
+    requires marks { AreLegalMarks (length history.now.records) history.now.marks }
     requires due { AreDue history.now.marks due.now }
     requires from { from ≤ length due.now }
     requires so_far { HasReplayed replay.old.models history.now due.now

@@ -1,5 +1,5 @@
 -- A list of bytes keeps all rules of a DAG file, or has a first fault.
-use Rattle.std.proofs.Common.{◌≡◌, ◌≢◌, ℕ, zero, suc, ◌+◌, ◌-◌, ◌*◌, ◌^◌, ◌<◌, ◌≤◌, ◌⊎◌, inl, inr, Bool, true, false, List, [], ◌∷◌, length, take, refl, ap, sym, subst, ◌∙◌, arith}
+use Rattle.std.proofs.Common.{◌≡◌, ◌≢◌, ℕ, zero, suc, ◌+◌, ◌-◌, ◌^◌, ◌<◌, ◌≤◌, ◌⊎◌, inl, inr, Bool, true, false, List, [], ◌∷◌, length, take, refl, ap, sym, subst, ◌∙◌, arith}
 use Rattle.std.specs.Prelude.{◌==◌, IsTrue, codes}
 use Rattle.std.specs.List.{list_any}
 use Rattle.std.proofs.lemmas.Bool.{cases_lt, cases_eq, or_cases, false≢true, eqb-true}
@@ -7,7 +7,7 @@ use Rattle.vw_cell.specs.Sides.{is_side}
 use Rattle.dag_file.specs.Places.{number_at, leaf_at, word_at, side_in, versions_in, count_place, count_in, entry_place, version_place, version_number, root_word, end_of}
 use Rattle.dag_file.specs.Trees.{HasVersion}
 use Rattle.dag_file.proofs.ReadLaws.{ends_within}
-use Rattle.dag_file.specs.Rules.{IsMarked, HasOne, HasSide, HasVersions, HasCount, IsLeafRight, ComesBefore, HasWord, KnowsWords, IsNodeRight, IsEntryRight, IsNumberRight, IsRootRight, IsHeaderRight, AreCountsRight, AreEntriesRight, AreLevelsRight, AreVersionsRight, IsNamedAbove, IsRooted, IsNamed, AreEntriesNamed, AreLevelsNamed, HasLevels, IsRight, IsDagFile, FirstFault, no_mark, no_one, no_side, no_versions, no_count, no_entry, no_number, no_root, unnamed, trailing}
+use Rattle.dag_file.specs.Rules.{IsMarked, HasOne, HasSide, HasVersions, HasCount, IsLeafRight, ComesBefore, HasWord, IsNodeRight, IsEntryRight, IsNumberRight, IsRootRight, IsHeaderRight, AreCountsRight, AreEntriesRight, AreLevelsRight, AreVersionsRight, IsNamedAbove, IsRooted, IsNamed, AreEntriesNamed, AreLevelsNamed, HasLevels, IsRight, IsDagFile, FirstFault, no_mark, no_one, no_side, no_versions, no_count, no_entry, no_number, no_root, unnamed, trailing}
 
 -- ---- what can be decided
 

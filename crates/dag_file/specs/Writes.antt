@@ -1,5 +1,5 @@
--- The bytes of a DAG file, of its numbers and entries; and what a writer has of a store's names: the
--- keys of each level, by which it tells them apart.
+-- The bytes of a DAG file, of its numbers and entries; and what a writer has of a store's names:
+-- the keys of each level, by which it tells them apart.
 use Rattle.std.specs.Prelude.{◌≡◌, ℕ, ◌+◌, ◌^◌, ◌<◌, ◌⊎◌, List, [], ◌∷◌, ◌++◌, length, Option, Some, None, slice_index, slice_index_or, slice_get, MatchOption, codes}
 use Rattle.std.specs.List.{Contains, flat_map}
 use Rattle.std.specs.List.Sorted.{IsStrictlyIncreasing}

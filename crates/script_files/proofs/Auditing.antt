@@ -30,7 +30,7 @@ use Rattle.script_files.specs.declared.refusals.TextRefused.TheVariants.{Vox, Sc
 use Rattle.script_files.specs.declared.requests.Request.TheVariants.{Audit}
 use Rattle.script_files.specs.Orders.{AuditAsked}
 use Rattle.script_files.specs.Audits.{AuditTexts, audit_texts, AreTranscriptsOf, JournalRead, AllRead, AnswersAudit, RefusesAuditing}
-use Rattle.script_files.specs.Auditing.{IsLeft, AddsTranscript, RefusesNext, RefusesTranscripts}
+use Rattle.script_files.specs.Auditing.{IsLeft, AddsTranscript, RefusesNextTranscript, RefusesTranscripts}
 use Rattle.script_files.specs.Meanings.{file_in, texts_audited, RefusesTexts}
 use Rattle.script_files.specs.Outcomes.{Outcome}
 use Rattle.script_files.specs.Refusals.{of_vox, of_journal, of_audit, RefusesScripts}
@@ -196,7 +196,7 @@ next_said texts text k old new within is so_far adds =
 
 pub next_unread : (r : TextRefused) (texts : List (List ℕ)) (text : List ℕ) (k : ℕ)
     (old : List (List LineAnswer)) → k < length texts → text ≡ get_or texts k text
-    → AreTranscriptsOf (take k texts) old → RefusesNext (length old) text r
+    → AreTranscriptsOf (take k texts) old → RefusesNextTranscript (length old) text r
     → RefusesTranscripts texts r
 next_unread (Transcript at) texts text k old within is so_far says =
     let number : at.script ≡ k =

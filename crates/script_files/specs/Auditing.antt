@@ -28,11 +28,11 @@ pub record AddsTranscript (text : List ℕ) (old new : List (List LineAnswer)) :
 
 -- what a refusal says of the transcript of this number, and of all of them; want of memory says
 -- nothing
-abbrev pub RefusesNext : ℕ → List ℕ → TextRefused → Type 0
-RefusesNext number text (Transcript at) =
+abbrev pub RefusesNextTranscript : ℕ → List ℕ → TextRefused → Type 0
+RefusesNextTranscript number text (Transcript at) =
     (at.script ≡ number) × RefusesTranscript (Line at.line) text
-RefusesNext number text Memory = ⊤
-RefusesNext number text _ = ⊥
+RefusesNextTranscript number text Memory = ⊤
+RefusesNextTranscript number text _ = ⊥
 
 abbrev pub RefusesTranscripts : List (List ℕ) → TextRefused → Type 0
 RefusesTranscripts texts (Transcript at) = IsFirstUnread texts at

@@ -1,5 +1,5 @@
 -- What the command `dag` writes, or is refused for.
-use Rattle.std.specs.Prelude.{◌≡◌, ◌⊎◌, ℕ, ◌+◌, ◌^◌, List, [], ◌∷◌, get_or, Ok, Err, Option, Some, None, ⊤}
+use Rattle.std.specs.Prelude.{◌≡◌, ◌⊎◌, ℕ, ◌+◌, ◌^◌, List, [], ◌∷◌, get_or, Ok, Err, ⊤}
 use Rattle.vw_io.specs.Outputs.{Named}
 use Rattle.vox_read.specs.Contents.{Content}
 use Rattle.vox_read.specs.Files.{ReadsModels}
@@ -7,7 +7,8 @@ use Rattle.history_model.specs.declared.reading.JournalFault.TheVariants as jour
 use Rattle.history_model.specs.Logs.{Log, IsLegal}
 use Rattle.history_model.specs.Refusals.{RefusesJournal}
 use Rattle.node_words.specs.declared.shares.Full.{Full}
-use Rattle.dag_answers.specs.Histories.{IsFileOfHistory, MayFillBucket}
+use Rattle.dag_answers.specs.Replaying.{MayFillAlong, replay_plan}
+use Rattle.dag_answers.specs.Histories.{IsFileOfHistory}
 use Rattle.dag_answers.specs.Legality.{IsFirstIllegal}
 use Rattle.script_files.specs.declared.refusals.TextRefused.{TextRefused}
 use Rattle.script_files.specs.declared.refusals.TextRefused.TheVariants.{Vox, Journal, StoreFull, Memory}
@@ -63,7 +64,8 @@ LacksHistory file journal line = LacksLine file journal line ⊎ HasIllegal file
 -- the history is legal, and the records up to one of them can fill this bucket
 pub record FillsReplay (file journal : List ℕ) (full : Full) : Type 0 where
   pub legal : GivesLegal file journal
-  pub fills : MayFillBucket legal.given.models legal.given.log full
+  pub fills : MayFillAlong (replay_plan legal.given.log.side) legal.given.models
+      legal.given.log.records full
 
 -- want of memory says nothing
 abbrev pub RefusesDagging : List ℕ → List ℕ → TextRefused → Type 0

@@ -305,8 +305,8 @@ judged_run : (asked : AuditAsked) (files : Files) (texts : List (List ℕ)) (v :
     × (v ≡ verdict_of_run (texts_audited asked texts) models log said)
 judged_run asked files texts v models log taken gives tells judges =
     let j : JudgesTexts (Audit asked) texts v =
-    subst (λ r. JudgesInputs (Audit asked) r v) (all_taken files (inputs_of (Audit asked)) texts taken)
-    judges in
+    subst (λ r. JudgesInputs (Audit asked) r v)
+    (all_taken files (inputs_of (Audit asked)) texts taken) judges in
     let same : j.reading ≡ Ok models =
     one_reading (file_in texts) j.reading (Ok models) j.says gives in
     let finds : FindsRun (texts_audited asked texts) j.found =
@@ -325,8 +325,8 @@ by_look : (asked : LookAsked) (files : Files) (texts : List (List ℕ)) (v : Ver
     → v ≡ verdict_of_look found
 by_look asked files texts v found taken finds judges =
     let j : JudgesTexts (Look asked) texts v =
-    subst (λ r. JudgesInputs (Look asked) r v) (all_taken files (inputs_of (Look asked)) texts taken)
-    judges in
+    subst (λ r. JudgesInputs (Look asked) r v)
+    (all_taken files (inputs_of (Look asked)) texts taken) judges in
     same_verdict (Look asked) texts v j.reading (OfLook found) j.says finds j
 
 floods_fine : (asked : FloodAsked) (models : List Content) (number : ℕ) (file : List ℕ)
@@ -357,7 +357,8 @@ gives_follow (Scene asked) files texts (Placed told) None outputs v taken gives 
     by_found (Scene asked) files texts v (Ok has.has.models) (OfScene None) taken has.has.has
     (placeable (file_in texts) gives.places.scene has) judges
 gives_follow (Flood asked) files texts (Counted number) None outputs v taken gives judges =
-    by_reading (Flood asked) files texts v (Ok gives.floods.models) taken gives.floods.gives refl judges
+    by_reading (Flood asked) files texts v (Ok gives.floods.models) taken
+    gives.floods.gives refl judges
     ∙ floods_fine asked gives.floods.models number gives.file gives.floods.floods
 gives_follow (Count file) files texts (Counted number) None outputs v taken gives judges =
     by_reading (Count file) files texts v (Ok gives.models) taken gives.gives refl judges
@@ -368,7 +369,8 @@ gives_follow (Run asked) files texts (Ran tally) (Some closed) outputs v taken g
     (Ok gives.accepted.models) taken gives.accepted.gives refl judges ∙ fine
 gives_follow (Dag asked) files texts Written None outputs v taken gives judges =
     let given = gives.makes.legal.given in
-    by_found (Dag asked) files texts v (Ok given.models) (OfLegal (Some given.log)) taken given.gives
+    by_found (Dag asked) files texts v (Ok given.models) (OfLegal (Some given.log)) taken
+    given.gives
     (given.is, gives.makes.legal.legal) judges
 gives_follow (Look asked) files texts (Looked answer) None outputs v taken gives judges =
     by_look asked files texts v None taken
@@ -470,7 +472,8 @@ full_follows (Demo n) files texts v full taken says judges = absurd says
 full_follows (Scene asked) files texts v full taken says judges = absurd says
 full_follows (Dag asked) files texts v full taken says judges =
     let given = says.legal.given in
-    by_found (Dag asked) files texts v (Ok given.models) (OfLegal (Some given.log)) taken given.gives
+    by_found (Dag asked) files texts v (Ok given.models) (OfLegal (Some given.log)) taken
+    given.gives
     (given.is, says.legal.legal) judges
 full_follows (Look asked) files texts v full taken says judges = absurd says
 full_follows (Audit asked) files texts v full taken says judges =
@@ -493,8 +496,8 @@ illegal_alone file journal line has log is legal =
     (legal_records given.models given.log
     (subst (λ (l : Log). IsLegal (2 ^ l.side) given.models l) same legal))
 
-illegal_follows : (asked : DagAsked) (files : Files) (texts : List (List ℕ)) (v : Verdict) (line : ℕ)
-    → AreTaken (Some files) (inputs_of (Dag asked)) texts
+illegal_follows : (asked : DagAsked) (files : Files) (texts : List (List ℕ)) (v : Verdict)
+    (line : ℕ) → AreTaken (Some files) (inputs_of (Dag asked)) texts
     → LacksHistory (file_in texts) (journal_in texts) line → Judges files (Dag asked) v
     → v ≡ HasJournalFault
 illegal_follows asked files texts v line taken (inl lacks) judges =

@@ -3,7 +3,7 @@ use Rattle.std.specs.Prelude.{◌≡◌, ℕ, List, [], ⊤}
 use Rattle.vw_io.specs.Outputs.{Named}
 use Rattle.transcript.specs.declared.answers.Answer.{Answer}
 use Rattle.dag_file.specs.Rules.{FirstFault}
-use Rattle.dag_answers.specs.Looks.{AnswersLook, LacksPlace}
+use Rattle.dag_answers.specs.Looks.{AnswersLook, LacksAsked}
 use Rattle.script_files.specs.declared.refusals.TextRefused.{TextRefused}
 use Rattle.script_files.specs.declared.refusals.TextRefused.TheVariants.{NoPlace, NoDag, Memory}
 use Rattle.script_files.specs.Orders.{LookAsked}
@@ -16,7 +16,7 @@ pub record LookAnswered (asked : LookAsked) (bytes : List ℕ) (answer : Answer)
 
 -- the file keeps all rules, and hasn't the version, or its worlds have not what is asked
 abbrev pub LacksVersion : LookAsked → List ℕ → Type 0
-LacksVersion asked bytes = LacksPlace bytes asked.version asked.question
+LacksVersion asked bytes = LacksAsked bytes asked.version asked.question
 
 -- what a refusal says of the file: want of memory says nothing
 abbrev pub RefusesLooking : LookAsked → List ℕ → TextRefused → Type 0

@@ -217,8 +217,8 @@ RefusesFull (Audit asked) texts full = FillsAudit (file_in texts) (texts_audited
 RefusesFull (Dag asked) texts full = FillsReplay (file_in texts) (journal_in texts) full
 RefusesFull _ texts full = ⊥
 
--- the VOX file is accepted, and this is the journal's first line that doesn't fit, or that of the first
--- record that breaks a rule where the history is to be replayed
+-- the VOX file is accepted, and this is the journal's first line that doesn't fit, or that of the
+-- first record that breaks a rule where the history is to be replayed
 abbrev pub RefusesHistory : Request → List (List ℕ) → ℕ → Type 0
 RefusesHistory (Audit asked) texts line =
     LacksJournal (file_in texts) (texts_audited asked texts) line

@@ -12,8 +12,8 @@ pub record Asked : Type 0 where
   pub file : List ℕ
   pub scripts : List (List ℕ)
 
--- what a flood is asked for: the name of the VOX file, the number of its model, the place from which
--- is flooded, and the name of the region's file
+-- what a flood is asked for: the name of the VOX file, the number of its model, the place from
+-- which is flooded, and the name of the region's file
 pub record FloodAsked : Type 0 where
   pub file : List ℕ
   pub model : ℕ
@@ -30,8 +30,8 @@ pub record SceneAsked : Type 0 where
   pub script : List ℕ
 
 -- what an audit is asked for: the number of buckets of each level by which a full one is judged,
--- where it isn't the usual one, and the names of the VOX file, of the journal and of the scripts, of
--- which the first is that of session 0
+-- where it isn't the usual one, and the names of the VOX file, of the journal and of the scripts,
+-- of which the first is that of session 0
 pub record AuditAsked : Type 0 where
   pub buckets : Option ℕ
   pub file : List ℕ
@@ -42,8 +42,8 @@ pub record AuditAsked : Type 0 where
 abbrev pub number_of_buckets : ℕ → Option ℕ
 number_of_buckets n = if is_number_of_buckets n then Some n else None
 
--- what is asked for the file of the versions of a journal: the names of the VOX file, of the journal
--- and of that file
+-- what is asked for the file of the versions of a journal: the names of the VOX file, of the
+-- journal and of that file
 pub record DagAsked : Type 0 where
   pub file : List ℕ
   pub journal : List ℕ

@@ -23,7 +23,8 @@ goes_on Kind front (line ∷ next ∷ more) unfit kind = unfit next more kind
 
 fits_not : (Kind : List (List ℕ) → Type 0) (all : List (List ℕ)) (n : ℕ) → FirstUnfit Kind all n
     → Kind all → ⊥
-fits_not Kind all n first kind = goes_on Kind first.front first.rest first.unfit (subst Kind first.whole kind)
+fits_not Kind all n first kind =
+    goes_on Kind first.front first.rest first.unfit (subst Kind first.whole kind)
 
 pub no_journal : (text : List ℕ) (n : ℕ) (log : Log) → FirstUnfit IsJournalLines (lines text) n
     → IsJournalOf text log → ⊥
@@ -62,9 +63,11 @@ pub said_once : (a b : List (List LineAnswer)) → All (All IsLineAnswer) a → 
     → map transcript_of a ≡ map transcript_of b → a ≡ b
 said_once [] [] of_a of_b same = refl
 said_once [] (t ∷ b) of_a of_b same =
-    absurd (let long : 0 ≡ length (map transcript_of (t ∷ b)) = ap length same in omega (arith, long))
+    let long : 0 ≡ length (map transcript_of (t ∷ b)) = ap length same in
+    absurd (omega (arith, long))
 said_once (s ∷ a) [] of_a of_b same =
-    absurd (let long : length (map transcript_of (s ∷ a)) ≡ 0 = ap length same in omega (arith, long))
+    let long : length (map transcript_of (s ∷ a)) ≡ 0 = ap length same in
+    absurd (omega (arith, long))
 said_once (s ∷ a) (t ∷ b) of_a of_b same =
     let first : s ≡ t =
     one_reading s t (All-head (All IsLineAnswer) s a of_a) (All-head (All IsLineAnswer) t b of_b)

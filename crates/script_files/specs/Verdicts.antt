@@ -90,10 +90,10 @@ verdict_of_run t models None said = HasJournalFault
 verdict_of_run t models (Some log) said =
     verdict_of_lines (scripts_of log.side models t.scripts) said
 
--- what is found behind an accepted VOX file: nothing is looked for; or the fault of its scene, if it
--- has one; or, with no VOX file, why a file of many versions does not answer, if it doesn't; or the
--- history that a journal tells, if it tells one, and the answers of transcripts; or the legal history
--- that a journal tells, if it tells one
+-- what is found behind an accepted VOX file: nothing is looked for; or the fault of its scene, if
+-- it has one; or, with no VOX file, why a file of many versions does not answer, if it doesn't; or
+-- the history that a journal tells, if it tells one, and the answers of transcripts; or the legal
+-- history that a journal tells, if it tells one
 pub data Finding : Type 0 where
   NoMore : Finding
   OfScene : Option SceneFault → Finding

@@ -11,7 +11,7 @@ ghost use Rattle.script_files.specs.Refusals.{IsNamed};
 ghost use Rattle.script_files.specs.Requests.{inputs_of, script_input, transcript_name};
 ghost use Rattle.script_files.specs.Scripts.{AreFitScripts};
 ghost use Rattle.script_files.specs.Audits.{AreTranscriptsOf};
-ghost use Rattle.script_files.specs.Auditing.{IsLeft, AddsTranscript, RefusesNext, RefusesTranscripts};
+ghost use Rattle.script_files.specs.Auditing.{IsLeft, AddsTranscript, RefusesNextTranscript, RefusesTranscripts};
 
 use crate::refusals::{CommandRefused, TextRefused, TranscriptLine};
 use crate::requests::{AuditOrder, Buckets, SCRIPT_LIMIT, VOX_LIMIT};
@@ -38,8 +38,8 @@ pub(crate) struct RunLeft {
 }
 
 /// Whether a journal and the transcripts under these names are those of one run of the scripts. It
-/// reads the VOX file, of at most 256 MiB, and the journal, the scripts and the transcripts, each of
-/// at most 8 MiB, and writes nothing.
+/// reads the VOX file, of at most 256 MiB, and the journal, the scripts and the transcripts, each
+/// of at most 8 MiB, and writes nothing.
 #[tactic(auto, using(crate::proofs::Ending::file_within, crate::proofs::Ending::not_accepted, crate::proofs::Auditing::audited, crate::proofs::Auditing::audit_refused))]
 pub fn audit_files<'w, S: Shelf>(
     alloc: Global,
@@ -286,7 +286,7 @@ fn read_transcripts(alloc: Global, texts: &[Text]) -> Result<Vec<Transcript>, Te
 fn read_next(alloc: Global, text: &Text, said: &mut Vec<Transcript>) -> Result<(), TextRefused>
     requires few { length said.old.items < 64 }
     ensures read { OnOk result (AddsTranscript text.now said.old.items said.new.items) }
-    ensures refused { IfErr result (RefusesNext (length said.old.items) text.now) }
+    ensures refused { IfErr result (RefusesNextTranscript (length said.old.items) text.now) }
 {
     let script = said.len() as u16;
     let lines = match read_transcript(alloc, text.as_slice()) {

@@ -51,8 +51,8 @@ pub fn carry_out<'w, S: Shelf, R: Threads + Wait + Sync, G: Gate + Sync>(
     }
 }
 
-/// The names of the transcripts that a command writes or reads: none but those of a run's scripts, of
-/// a load's, or of an audit's.
+/// The names of the transcripts that a command writes or reads: none but those of a run's scripts,
+/// of a load's, or of an audit's.
 pub fn names_written(alloc: Global, asked: &Request<'_>) -> Result<Vec<String>, Memory>
     ensures { IfOk result (λ names. map string_bytes names.items
         ≡ map transcript_name (scripts_asked asked.now)) }

@@ -69,8 +69,8 @@ pub enum TextRefused {
     StoreFull(Full),
     /// The file of many versions breaks its first rule at this place.
     NoDag(u64),
-    /// This line of the journal, counted from 1, is the first that doesn't fit, or that of the first
-    /// record that breaks a rule of a legal history.
+    /// This line of the journal, counted from 1, is the first that doesn't fit, or that of the
+    /// first record that breaks a rule of a legal history.
     Journal(u32),
     /// The first transcript that has a line that doesn't fit.
     Transcript(TranscriptLine),

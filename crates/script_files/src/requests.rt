@@ -98,8 +98,8 @@ impl<'w> Model for FloodOrder<'w> {
     } };
 }
 
-/// What is asked of a scene: the VOX file, and the names of the file of the turned models and of the
-/// script of their stamps.
+/// What is asked of a scene: the VOX file, and the names of the file of the turned models and of
+/// the script of their stamps.
 #[derive(Drop)]
 pub struct SceneOrder<'w> {
     pub file: &'w str,
@@ -119,8 +119,8 @@ impl<'w> Model for SceneOrder<'w> {
     } };
 }
 
-/// What is asked for the file of the versions of a journal: the names of the VOX file, of the journal
-/// and of that file.
+/// What is asked for the file of the versions of a journal: the names of the VOX file, of the
+/// journal and of that file.
 #[derive(Drop)]
 pub struct DagOrder<'w> {
     pub file: &'w str,
@@ -186,8 +186,8 @@ impl Buckets {
 }
 
 /// What an audit is asked for: the number of buckets by which a full one is judged, where it isn't
-/// the usual one of each level, and the names of the VOX file, the journal and the scripts, of which
-/// the first is that of session 0.
+/// the usual one of each level, and the names of the VOX file, the journal and the scripts, of
+/// which the first is that of session 0.
 #[derive(Drop)]
 pub struct AuditOrder<'w> {
     pub buckets: Option<Buckets>,

@@ -23,8 +23,9 @@ use world_run::run_scripts;
 /// file is accepted, no script has a fault and no output takes an input's name or another output's,
 /// it runs the scripts, each as the session of its place, at the same time where the system gives
 /// threads; the sessions pass the gate. Then it writes the transcripts under their names, which are
-/// those of the scripts with `.out` behind them, and the files that were saved, each made when it is
-/// its turn; it closes the world, and writes the journal and the report where they are asked for.
+/// those of the scripts with `.out` behind them, and the files that were saved, each made when it
+/// is its turn; it closes the world, and writes the journal and the report where they are asked
+/// for.
 #[tactic(auto, using(crate::proofs::Ending::file_within, crate::proofs::Ending::not_accepted, crate::proofs::Ending::run_written, crate::proofs::Ending::run_stopped))]
 pub fn run_files<'w, S: Shelf, R: Threads + Wait + Sync, G: Gate + Sync>(
     rt: &R,

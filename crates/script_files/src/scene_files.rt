@@ -23,8 +23,8 @@ struct Placement {
     script: Vec<u8>,
 }
 
-/// Reads the scene of a VOX file, of at most 256 MiB, and writes its turned models as a VOX file and
-/// the script of their stamps.
+/// Reads the scene of a VOX file, of at most 256 MiB, and writes its turned models as a VOX file
+/// and the script of their stamps.
 #[tactic(auto, using(crate::proofs::Ending::file_within, crate::proofs::Ending::not_accepted, crate::proofs::Placing::placing_refused, crate::proofs::Placing::scene_written, crate::proofs::Placing::scene_stopped))]
 pub fn scene_file<'w, S: Shelf>(
     alloc: Global,

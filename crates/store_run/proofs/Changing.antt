@@ -1,9 +1,7 @@
 -- What each answer to a change says of the history.
-use Rattle.std.proofs.Common.{◌≡◌, ◌≢◌, ℕ, ◌+◌, ◌<◌, ◌≤◌, true, false, Some, None, List, [], ◌∷◌, ◌++◌, length, length-append, refl, sym, ◌∙◌, ap, subst, arith}
+use Rattle.std.proofs.Common.{◌≡◌, ◌≢◌, ℕ, ◌+◌, ◌<◌, ◌≤◌, true, false, Some, None, List, [], ◌∷◌, ◌++◌, length, length-append, refl, sym, ◌∙◌, ap, arith}
 use Rattle.std.proofs.lemmas.Bool.{false≢true}
-use Rattle.std.specs.List.{Contains}
 use Rattle.std.proofs.lemmas.List.Elements.{All-contains}
-use Rattle.vw_cell.specs.declared.cells.Cell.{Cell}
 use Rattle.vox_read.specs.Contents.{Content}
 use Rattle.history_model.specs.declared.acts.Act.{Act}
 use Rattle.history_model.specs.declared.acts.Act.TheVariants.{Fill, Erase, Ball, Carve, Copy, Stamp, Undo, Redo}
@@ -21,13 +19,12 @@ use Rattle.node_words.specs.declared.shares.Full.{Full}
 use Rattle.transcript.specs.declared.answers.Answer.{Answer}
 use Rattle.transcript.specs.declared.answers.Answer.TheVariants as answers
 use Rattle.conformance.specs.Answers.{target_at}
-use Rattle.conformance.specs.Running.{GrowsBy}
 use Rattle.script_runs.proofs.Going.{goes_to}
 use Rattle.store_run.specs.declared.versions.Versions.{Versions}
-use Rattle.store_run.specs.Kept.{plan_of, log_of, moment_of, AreVersions}
+use Rattle.store_run.specs.Kept.{log_of, moment_of}
 use Rattle.store_run.specs.Steps.{HasMark, LeavesAll, SharesRoot, MakesRoot, MeetsBucket, AppendsRecord, MarksVersion}
 use Rattle.store_run.specs.Answering.{nothing_to_go_to}
-use Rattle.store_run.specs.Changing.{with_record, GoesToVersion, HasWay, Changes, Marks, Forgets, MakesVersion}
+use Rattle.store_run.specs.Changing.{with_record, HasWay, Changes, Forgets, MakesVersion}
 
 abbrev record_of : ℕ → ℕ → Act → Record
 record_of session line act = record { session = session; line = line; act = act }

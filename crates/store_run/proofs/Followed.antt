@@ -1,26 +1,22 @@
 -- A history that is replayed with its marks.
-use Rattle.std.proofs.Common.{◌≡◌, ℕ, ◌+◌, ◌<◌, ◌≤◌, List, [], ◌∷◌, ◌++◌, length, Some, None, Option, Bool, true, false, refl, sym, ap, subst, ◌∙◌, arith}
-use Rattle.std.specs.Prelude.{All}
-use Rattle.vox_read.specs.Contents.{Content}
+use Rattle.std.proofs.Common.{◌≡◌, ℕ, ◌+◌, ◌<◌, List, [], ◌∷◌, length, Some, None, false, sym, ap, subst, ◌∙◌, arith}
 use Rattle.history_model.specs.declared.acts.Act.{Act}
 use Rattle.history_model.specs.declared.acts.Act.TheVariants.{Fill, Erase, Ball, Carve, Copy, Stamp, Undo, Redo}
 use Rattle.history_model.specs.declared.histories.Mark.{Mark}
 use Rattle.history_model.specs.declared.histories.Record.{Record}
-use Rattle.history_model.specs.Logs.{Log, IsVersionHeld, HasTarget, MayFollow}
+use Rattle.history_model.specs.Logs.{IsVersionHeld, HasTarget, MayFollow}
 use Rattle.history_model.specs.Positions.{position_after, first_of}
 use Rattle.history_model.specs.Worlds.{is_edit}
-use Rattle.node_shapes.specs.Shape.{Shape}
 use Rattle.node_words.specs.Plans.{Layout}
-use Rattle.block_contents.specs.Versions.{IsKept, IsUnmarked}
+use Rattle.block_contents.specs.Versions.{IsKept}
 use Rattle.conformance.specs.Answers.{target_at}
 use Rattle.conformance.proofs.LineKinds.{undo_target, redo_target}
 use Rattle.script_runs.proofs.Going.{goes_to}
-use Rattle.script_runs.specs.Keeping.{IsMadeInRun}
 use Rattle.store_run.specs.declared.versions.Versions.{Versions}
 use Rattle.store_run.specs.Changing.{Marks, with_record}
-use Rattle.store_run.specs.Kept.{plan_of, log_of, moment_of, noted_of, AreVersions}
+use Rattle.store_run.specs.Kept.{log_of, moment_of, AreVersions}
 use Rattle.store_run.specs.Marked.{replayed}
-use Rattle.store_run.specs.Replaying.{ReplayState, replay_state, spans_from, MakesOnlyParts, TakesRecord}
+use Rattle.store_run.specs.Replaying.{ReplayState, replay_state, MakesOnlyParts, TakesRecord}
 use Rattle.store_run.specs.Steps.{MarksVersion}
 use Rattle.store_run.specs.Worlds.{WorldState, world_state}
 

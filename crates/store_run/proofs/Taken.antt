@@ -1,6 +1,6 @@
 -- Roots that are taken out of their places, one after the other.
-use Rattle.std.proofs.Common.{◌≡◌, ℕ, zero, suc, ◌+◌, ◌-◌, ◌<◌, ◌≤◌, List, [], ◌∷◌, ◌++◌, length, length-append, get_or, Some, None, Option, refl, sym, ap, subst, ◌∙◌, inl, inr, ◌⊎◌, arith}
-use Rattle.std.specs.List.{AllPairs, Contains}
+use Rattle.std.proofs.Common.{◌≡◌, ℕ, zero, suc, ◌+◌, ◌<◌, ◌≤◌, List, [], ◌∷◌, ◌++◌, length, length-append, get_or, Some, None, Option, refl, sym, ap, subst, ◌∙◌, inl, inr, ◌⊎◌, arith}
+use Rattle.std.specs.List.{Contains}
 use Rattle.std.proofs.lemmas.Bool.{cases_eq}
 use Rattle.std.proofs.lemmas.List.Elements.{Contains-get_or, Contains-append_left, Contains-push, Contains-push_cases}
 use Rattle.std.proofs.lemmas.List.Quantifiers.{all_pairs_push}
@@ -9,9 +9,8 @@ use Rattle.history_model.specs.Moments.{world_has}
 use Rattle.node_shapes.specs.declared.names.Name.{Name}
 use Rattle.node_shapes.specs.Shape.{ShowsCells}
 use Rattle.node_shapes.specs.Tree.{Tree, shape_of}
-use Rattle.node_shapes.specs.Weights.{weigh, weight_of, number_of_trees}
+use Rattle.node_shapes.specs.Weights.{weight_of, number_of_trees}
 use Rattle.node_shapes.proofs.WeightLaws.{weight_of-one}
-use Rattle.node_words.specs.Held.{IsHeld}
 use Rattle.block_contents.specs.Aligned.{top, world_block}
 use Rattle.block_contents.specs.Versions.{IsKept}
 use Rattle.core_laws.specs.States.{tree_at}
@@ -20,8 +19,7 @@ use Rattle.one_store.specs.Known.{Known, stored_root, root_tree}
 use Rattle.one_store.specs.Steps.{GivesRoot}
 use Rattle.store_run.specs.declared.versions.Versions.{Versions}
 use Rattle.store_run.specs.Kept.{plan_of, log_of, moment_of, mark_in, AreVersions, HoldsNothing, HoldsTree}
-use Rattle.store_run.specs.Marked.{Rooted, AreOfKept, ShowsVersion, HoldsKept}
-use Rattle.store_run.specs.Steps.{HasMark}
+use Rattle.store_run.specs.Marked.{Rooted, HoldsKept}
 use Rattle.store_run.specs.Taken.{rooted_weight, AreTaken}
 use Rattle.store_run.proofs.Changing.{marked_gone}
 use Rattle.store_run.proofs.Finding.{kept_at, marked_at}

@@ -1,8 +1,9 @@
 -- A history that is replayed record by record over a store, and whose versions are forgotten at
 -- their marks.
-use Rattle.std.specs.Prelude.{◌≡◌, ◌↔◌, ℕ, ◌<◌, ◌-◌, Option, Some, None, List}
+use Rattle.std.specs.Prelude.{ℕ, ◌<◌, ◌≤◌, ◌-◌, Option, List, All}
 use Rattle.std.specs.List.{AllPairs, Contains}
 use Rattle.vox_read.specs.Contents.{Content}
+use Rattle.history_model.specs.declared.histories.Mark.{Mark}
 use Rattle.history_model.specs.Logs.{Log}
 use Rattle.history_model.specs.Moments.{world_has}
 use Rattle.node_shapes.specs.declared.names.Name.{Name}
@@ -21,6 +22,11 @@ replayed w = record {
   records = w.log.records;
   noted = w.noted;
 }
+
+-- marks of rising versions, each of an earlier version than its moment, which is at most this one
+pub record AreLegalMarks (count : ℕ) (marks : List Mark) : Type 0 where
+  pub rising : AllPairs (λ a b. a.version < b.version) marks
+  pub marked : All (λ mark. (mark.version < mark.at) × (mark.at ≤ count)) marks
 
 -- ---- the roots of all versions that are kept, in the end
 

@@ -1,5 +1,5 @@
 -- A history that is replayed record by record over a store, and of which no version is forgotten.
-use Rattle.std.specs.Prelude.{◌≡◌, ℕ, ◌+◌, Bool, true, false, List, [], ◌∷◌, ◌++◌, length, Result, Ok, Err, All, ⊤}
+use Rattle.std.specs.Prelude.{◌≡◌, ℕ, ◌+◌, Bool, true, false, List, [], ◌∷◌, ◌++◌, length, replicate, Result, Ok, Err, All, ⊤}
 use Rattle.vox_read.specs.Contents.{Content}
 use Rattle.history_model.specs.declared.acts.Act.{Act}
 use Rattle.history_model.specs.declared.histories.Record.{Record}
@@ -50,6 +50,19 @@ spans_from n (r ∷ more) = record { act = r.act; first = n; last = n } ∷ span
 abbrev pub MayFillReplay : Layout → List Content → List Record → Full → Type 0
 MayFillReplay p models records full =
     IsPossible p models records (spans_from 0 records) full.level full.bucket p.cap
+
+-- so do the records up to one of them: what a replay that ends at a full bucket says of all that
+-- it was to replay
+pub record MayFillAlong (p : Layout) (models : List Content) (records : List Record)
+    (full : Full) : Type 0 where
+  pub first : List Record
+  pub rest : List Record
+  pub begins : records ≡ first ++ rest
+  pub fills : MayFillReplay p models first full
+
+-- the plan of a store over which a whole history is replayed, in worlds of side 2 ^ side
+abbrev pub replay_plan : ℕ → Layout
+replay_plan side = record { side = side; buckets = replicate 11 4096; cap = 256 }
 
 -- whatever the store made is a part of what a record makes of the version before it
 pub record MakesOnlyParts (s : ReplayState) : Type 0 where

@@ -110,8 +110,8 @@ pub record ScriptRefused (a : Option Request) (old new : Outside) : Type 0 where
   pub line : Puts old.out.told new.out.told
       (script_line at.script at.fault.line (number_of_kind at.fault.kind))
 
--- ---- status 10: the VOX file is accepted, and it has no such model, or the model no such place; or a
--- file of many versions is, and it has no such version, or its worlds no such place
+-- ---- status 10: the VOX file is accepted, and it has no such model, or the model no such place;
+-- or a file of many versions is, and it has no such version, or its worlds no such place
 
 pub record NoPlaceThere (a : Option Request) (old new : Outside) : Type 0 where
   pub refuses : RefusesText texts.NoPlace a old.shelf.files
@@ -127,8 +127,9 @@ pub record SceneRefused (a : Option Request) (old new : Outside) : Type 0 where
   pub line : Puts old.out.told new.out.told
       (scene_line (scene_kind_of fault) (place_of_fault fault))
 
--- ---- status 12: the VOX file is accepted, and this is the journal's first line that doesn't fit, or,
--- where the history is to be replayed, that of the first record that breaks a rule of a legal one
+-- ---- status 12: the VOX file is accepted, and this is the journal's first line that doesn't fit,
+-- or, where the history is to be replayed, that of the first record that breaks a rule of a legal
+-- one
 
 pub record JournalRefused (a : Option Request) (old new : Outside) : Type 0 where
   pub at : ℕ

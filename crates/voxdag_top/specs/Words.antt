@@ -190,10 +190,10 @@ look_words (dag ∷ version ∷ name ∷ numbers) =
 look_words _ = None
 
 -- what the words ask for, where they are in the grammar: `count FILE`; `demo N`;
--- `flood FILE m x y z OUT`; `scene FILE OUT SCRIPT`; `dag FILE JOURNAL OUT`; `look DAG v` and a question;
--- `audit [--buckets b] FILE JOURNAL SCRIPT ..`; or `run`, and behind it in any order FILE SCRIPT ..
--- and at most once each `--side s`, `--buckets b`, `--cap c`, `--journal J` and
--- `--report P`
+-- `flood FILE m x y z OUT`; `scene FILE OUT SCRIPT`; `dag FILE JOURNAL OUT`;
+-- `look DAG v` and a question; `audit [--buckets b] FILE JOURNAL SCRIPT ..`;
+-- or `run`, and behind it in any order FILE SCRIPT .. and at most once each `--side s`,
+-- `--buckets b`, `--cap c`, `--journal J` and `--report P`
 abbrev pub named_request : List ℕ → List (List ℕ) → Option Request
 named_request command others =
     if bytes_eq command (codes "count") then counted others

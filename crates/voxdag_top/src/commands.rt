@@ -37,22 +37,23 @@ use vw_io::{Shelf, Sink};
 /// `flood FILE m x y z OUT` writes the empty region of model m that is connected with the cell
 /// (x, y, z) as the VOX file OUT, and puts its number of cells; numbers have 1 to 6 digits.
 /// `scene FILE OUT SCRIPT` writes the turned models of the scene of a VOX file as the VOX file OUT,
-/// and a script that stamps each where the scene places it; it puts the side of the least world that
-/// holds them, and their number. `dag FILE JOURNAL OUT` replays a journal over the models of a VOX
-/// file, and writes its versions without a mark as the one file OUT; it puts nothing. `look DAG v Q`
-/// asks version v of a file of many versions, of at most 256 MiB: Q is `get x y z`,
-/// `count x y z a b c`, `bounds`, `faces x y z a b c` or `ray x y z dx dy dz`, each number of 1 to 9
-/// digits; it puts the answer as a transcript has it. `audit FILE JOURNAL SCRIPT ..` puts `yes` where
-/// JOURNAL and the transcripts `SCRIPT.out` are those of one run of the scripts over the models of
-/// FILE, and `no` where they are not; before FILE may stand `--buckets b`, as the run had it.
+/// and a script that stamps each where the scene places it; it puts the side of the least world
+/// that holds them, and their number. `dag FILE JOURNAL OUT` replays a journal over the models of a
+/// VOX file, and writes its versions without a mark as the one file OUT; it puts nothing.
+/// `look DAG v Q` asks version v of a file of many versions, of at most 256 MiB: Q is `get x y z`,
+/// `count x y z a b c`, `bounds`, `faces x y z a b c` or `ray x y z dx dy dz`, each number of 1 to
+/// 9 digits; it puts the answer as a transcript has it. `audit FILE JOURNAL SCRIPT ..` puts `yes`
+/// where JOURNAL and the transcripts `SCRIPT.out` are those of one run of the scripts over the
+/// models of FILE, and `no` where they are not; before FILE may stand `--buckets b`, as the run had
+/// it.
 ///
 /// The answer is the status with which the process ends: 0 done, 1 words outside the grammar or
 /// names that collide, 2 an input that is not there, 3 a fault of the shelf at an input, 4 a VOX
 /// file that is refused, 5 a script that is refused, 6 a fault of the shelf at an output, 7 a fault
 /// of `out`, 8 want of memory, 9 an input over its limit, 10 no such model or version, or no such
 /// place of it, 11 a scene that is refused, 12 a journal that is refused, 13 a full bucket of a
-/// command's own store, 14 a file of many versions that is refused, 15 a transcript that is refused.
-/// Where a line cannot be put, 7 or 8 comes in place of its status.
+/// command's own store, 14 a file of many versions that is refused, 15 a transcript that is
+/// refused. Where a line cannot be put, 7 or 8 comes in place of its status.
 pub fn voxdag<S: Shelf, O: Sink, R: Threads + Wait + Sync>(
     rt: &R,
     alloc: Global,
@@ -183,7 +184,8 @@ pub fn voxdag_gated<S: Shelf, O: Sink, R: Threads + Wait + Sync, G: Gate + Sync>
     ensures dag_refused { result.status ≡ 14 → DagRefused (request_of (texts words.now))
         (outside (S.state shelf.old) (O.state out.old))
         (outside (S.state shelf.new) (O.state out.new)) }
-    ensures transcript_refused { result.status ≡ 15 → TranscriptRefused (request_of (texts words.now))
+    ensures transcript_refused { result.status ≡ 15 → TranscriptRefused
+        (request_of (texts words.now))
         (outside (S.state shelf.old) (O.state out.old))
         (outside (S.state shelf.new) (O.state out.new)) }
 

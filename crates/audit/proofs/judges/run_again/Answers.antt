@@ -1,6 +1,7 @@
 use Rattle.std.proofs.Common.{rules, ◌≡◌, ◌^◌, ◌≤◌, List, Option, length, sym, subst}
 use Rattle.history_model.specs.declared.histories.Mark.{Mark}
-use Rattle.audit.specs.Marks.{AreLegalMarks, TellsMarks}
+use Rattle.store_run.specs.Marked.{AreLegalMarks}
+use Rattle.audit.specs.Marks.{TellsMarks}
 use Rattle.audit.specs.Replaying.{FollowEach, AreWays}
 use Rattle.audit.proofs.Judging.{legal_by, legal_rerun}
 use Rattle.audit.proofs.judges.run_again.Goals as goal

@@ -1,5 +1,4 @@
-use Rattle.std.proofs.Common.{rules, ◌≡◌, ◌+◌, ◌<◌, ◌≤◌, ◌^◌, List, [], IsTrue, length, take, take_all, subst, arith}
-use Rattle.history_model.specs.declared.histories.Mark.{Mark}
+use Rattle.std.proofs.Common.{rules, ◌≤◌, ◌^◌, List, [], IsTrue, length, take_all, subst, arith}
 use Rattle.history_model.specs.declared.histories.Record.{Record}
 use Rattle.undo_trail.specs.Trails.{trail_position}
 use Rattle.dag_answers.specs.Legality.{AreLegalRecords}

@@ -1,4 +1,4 @@
-use Rattle.std.proofs.Common.{rules, ◌≡◌, ◌+◌, ◌≤◌, ℕ, List, [], length, replicate, take, take_all, slice_index_or, sym, subst, arith}
+use Rattle.std.proofs.Common.{rules, ◌≡◌, ◌≤◌, ℕ, List, [], length, replicate, take, take_all, sym, subst, arith}
 use Rattle.std.proofs.lemmas.List.{take_more}
 use Rattle.history_model.specs.declared.histories.Mark.{Mark}
 use Rattle.dag_answers.specs.Legality.{TellsEnds}

@@ -1,4 +1,3 @@
-use Rattle.std.specs.Vec.Iter.{into_iter_items}
 use Rattle.store_run.proofs.OwnModels.{first_model, other_models, drawn_more}
 use Rattle.store_run.proofs.models.own_models.Goals as goal
 

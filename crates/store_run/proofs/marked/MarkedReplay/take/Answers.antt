@@ -1,4 +1,4 @@
-use Rattle.std.proofs.Common.{rules, ◌≡◌, sym, ◌∙◌}
+use Rattle.std.proofs.Common.{rules, sym, ◌∙◌}
 use Rattle.store_run.specs.Marked.{replayed}
 use Rattle.store_run.specs.Replaying.{TakesEdit}
 use Rattle.store_run.proofs.Filling.{edit_fills, edit_parts, way_parts}

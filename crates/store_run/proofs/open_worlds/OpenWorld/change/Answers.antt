@@ -1,5 +1,4 @@
 use Rattle.std.proofs.Common.{true}
-use Rattle.history_model.specs.declared.histories.Record.{Record}
 use Rattle.script.specs.declared.commands.Command.TheVariants.{Edit}
 use Rattle.store_run.proofs.Opening.{room_same, changed_plan, changed_models, changed_goes, changed_logs, changed_makes}
 use Rattle.store_run.proofs.open_worlds.OpenWorld.change.Goals as goal
