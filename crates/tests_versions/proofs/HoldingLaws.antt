@@ -27,12 +27,15 @@ use Rattle.node_table.specs.Closing.{IsSpare}
 use Rattle.node_table.specs.LogTurns.{HasNoTurn, TakesLog}
 use Rattle.node_table.specs.Seen.{TableSeen, PassSeen, BelongsTo}
 use Rattle.version_log.specs.declared.ahead.Ahead.{Ahead}
+use Rattle.version_log.specs.declared.committed.Committed.{Committed}
 use Rattle.version_log.specs.declared.forgetting.Forgot.{Forgot}
 use Rattle.version_log.specs.Commits.{AppendsNext, IsMadeOver}
+use Rattle.version_log.specs.Falling.{CommitsNext, falls_out}
 use Rattle.version_log.specs.Forgets.{ForgetsVersion}
 use Rattle.version_log.specs.Roots.{HoldsRootOf, GetsRoot}
 use Rattle.version_log.specs.Targets.{IsMadeNow, KnowsNext}
 use Rattle.version_log.proofs.AppendLaws.{edit_made, open_of_edit}
+use Rattle.version_log.proofs.FallLaws.{falls_gets}
 use Rattle.version_log.proofs.WordLaws.{edit_knows}
 use Rattle.tests_versions.proofs.UniformLaws.{fits_uniform, makes_uniform, shows_uniform, uniform_edit, uniform_root}
 use Rattle.tests_versions.specs.Holding.{HoldsUniform}
@@ -359,14 +362,6 @@ pub forgot_gets : (v w : SeatView) (version line : ℕ) (f : Forgot)
     → ForgetsVersion v version line f w → GetsRoot v.held f.root w.held
 forgot_gets v w version line f e = record { tree = e.tree; name = e.name; loses = e.loses }
 
--- a record took what was held: nothing is held then
-module _ (t : TableSeen) (s : PassSeen) (root : Option Name) (h : HoldsUniform t s root) where
-  pub appended_none : (w : PassSeen) (line : ℕ) (act : Act) (n : ℕ)
-      → AppendsNext s.view line act root n w.view → BelongsTo t w → HasNoTurn w.view
-      → HoldsUniform t w None
-  appended_none w line act n a of idle =
-      none_uniform t w of idle h.side (whole_gone s.view.held w.view.held root h.held a.gone)
-
 -- a root came under the log's turn, and a record took it
 pub taken_spare : (t : TableSeen) (w : PassSeen) (old mid : List Tree) (root : Option Name)
     → old ≡ [] → GetsRoot old root mid → GoesBack root mid w.view.held → BelongsTo t w
@@ -378,14 +373,6 @@ taken_spare t w old mid root none came went of idle =
 
 -- the same behind the log's turn
 module _ (t : TableSeen) (s : PassSeen) (root : Option Name) (h : HoldsUniform t s root) where
-  pub written_none : (u : SeatView) (w : PassSeen) (line : ℕ) (act : Act) (n : ℕ)
-      → u.held ≡ s.view.held → AppendsNext u line act root n w.view → BelongsTo t w
-      → HasNoTurn w.view → HoldsUniform t w None
-  written_none u w line act n same a of idle =
-      none_uniform t w of idle h.side
-      (whole_gone s.view.held w.view.held root h.held
-      (subst (λ (ts : List Tree). GoesBack root ts w.view.held) same a.gone))
-
   -- nothing but what is seen changed
   pub holds_still : (w : PassSeen) → BelongsTo t w → HasNoTurn w.view
       → SameHeld s.view.held w.view.held → HoldsUniform t w root
@@ -412,3 +399,52 @@ pub few_left : (old mid left : List Tree) (root : Option Name) → old ≡ [] �
 few_left old mid left root none came same =
     let few = gets_few old mid root came 3000 (few_held old none) in
     let is = ap (λ (ts : List Tree). number_of_trees ts) same in omega arith
+
+-- the log's turn was taken, and no more is held
+pub few_taken : (v u : SeatView) → TakesLog v u → number_of_trees v.held ≤ 1
+    → number_of_trees u.held ≤ 4095
+few_taken v u takes few =
+    let same : number_of_trees u.held ≡ number_of_trees v.held =
+    ap (λ (x : SeatView). number_of_trees x.held) takes.is in
+    omega arith
+
+-- a root went to a record, and then nothing but the share of the version that fell out is held
+module _ (u w : SeatView) (keep line : ℕ) (act : Act) (root : Option Name) (c : Committed)
+    (made : CommitsNext u keep line act root c w) (nothing : SameHeld [] made.behind.held) where
+  fell_gets : GetsRoot made.behind.held c.fallen w.held
+  fell_gets = falls_gets (falls_out c.n keep) line c.n c.fallen made.behind w made.falls
+
+  pub fell_named : (n : Name) → c.fallen ≡ Some n → HoldsName w.held n
+  fell_named = gets_named made.behind.held w.held c.fallen fell_gets
+
+  pub fell_few : number_of_trees w.held ≤ 4000
+  fell_few =
+      let e = nothing.weighs (λ _. 1) in let z = weigh-nil (λ _. 1) in
+      let few = gets_few made.behind.held w.held c.fallen fell_gets 3000 (omega arith) in
+      omega arith
+
+  pub fell_nothing : (x : List Tree) → GoesBack c.fallen w.held x → SameHeld [] x
+  fell_nothing x gone =
+      let same = gets_back made.behind.held w.held c.fallen fell_gets x gone in
+      record { weighs = λ f. (let a = nothing.weighs f in let b = same.weighs f in omega arith) }
+
+-- whoever held a whole world's root and appended it holds nothing
+module _ (t : TableSeen) (s : PassSeen) (root : Option Name) (h : HoldsUniform t s root) where
+  pub gone_whole : (u behind : SeatView) (line : ℕ) (act : Act) (n : ℕ) → u.held ≡ s.view.held
+      → AppendsNext u line act root n behind → SameHeld [] behind.held
+  gone_whole u behind line act n same a =
+      whole_gone s.view.held behind.held root h.held
+      (subst (λ (ts : List Tree). GoesBack root ts behind.held) same a.gone)
+
+  pub fallen_none : (x : PassSeen) → BelongsTo t x → HasNoTurn x.view → SameHeld [] x.view.held
+      → HoldsUniform t x None
+  fallen_none x of idle same = none_uniform t x of idle h.side same
+
+-- and so does one to whom a root came that it appended
+pub gone_taken : (u behind : SeatView) (old mid : List Tree) (line : ℕ) (act : Act)
+    (root : Option Name) (n : ℕ) → old ≡ [] → GetsRoot old root mid → u.held ≡ mid
+    → AppendsNext u line act root n behind → SameHeld [] behind.held
+gone_taken u behind old mid line act root n none came same a =
+    subst (λ (ts : List Tree). SameHeld ts behind.held) none
+    (gets_back old mid root came behind.held
+    (subst (λ (ts : List Tree). GoesBack root ts behind.held) same a.gone))

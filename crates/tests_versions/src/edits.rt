@@ -7,6 +7,7 @@ ghost use Rattle.node_table.specs.Seen.{BelongsTo};
 ghost use Rattle.tests_versions.specs.Holding.{HoldsUniform, PinsBlank};
 
 use crate::uniform::{act_behind, name_of, root_back};
+use crate::versions::fallen_back;
 use node_table::{NodeTable, Pass};
 use node_words::{Share, Steps};
 use std::sync::Wait;
@@ -90,33 +91,41 @@ pub enum Came {
 }
 
 /// An edit over what was pinned, and the root that comes back.
-pub fn commit_uniform<R: Wait>(
+pub fn commit_uniform<R: Wait, L: Ledger>(
     rt: &R,
     table: &NodeTable,
     pass: &mut Pass,
     base: &Pinned,
     line: u32,
     root: Option<Share>,
+    keep: u32,
+    steps: &mut Steps<L>,
 ) -> (Came, Option<Share>)
     requires holds { HoldsUniform table.now pass.old root }
     requires base { PinsBlank pass.old.view base.now }
     ensures { HoldsUniform table.now pass.new result.1 }
 {
     let act = act_behind(name_of(&root));
-    match commit(rt, table, pass, base, line, &act, root) {
-        Ok(n) => (Came::Done(n), None),
+    match commit(rt, table, pass, base, line, &act, root, keep) {
+        Ok(committed) => {
+            let kept = fallen_back(rt, table, pass, committed, steps);
+            (Came::Done(kept.n), None)
+        }
         Err(CommitRefused::LogFull { root }) => (Came::NoRoom, root),
         Err(CommitRefused::Stale { now, root }) => (Came::Late(now), root),
     }
 }
 
-/// The same without waiting. It also says whether another session had the log's turn.
-pub fn try_uniform(
+/// The same without waiting for the log's turn. It also says whether another session had it.
+pub fn try_uniform<R: Wait, L: Ledger>(
+    rt: &R,
     table: &NodeTable,
     pass: &mut Pass,
     base: &Pinned,
     line: u32,
     root: Option<Share>,
+    keep: u32,
+    steps: &mut Steps<L>,
 ) -> (Came, bool, Option<Share>)
     requires holds { HoldsUniform table.now pass.old root }
     requires base { PinsBlank pass.old.view base.now }
@@ -124,8 +133,11 @@ pub fn try_uniform(
     ensures base { result.1 ≡ true → PinsBlank pass.new.view base.now }
 {
     let act = act_behind(name_of(&root));
-    match try_commit(table, pass, base, line, &act, root) {
-        Ok(n) => (Came::Done(n), false, None),
+    match try_commit(table, pass, base, line, &act, root, keep) {
+        Ok(committed) => {
+            let kept = fallen_back(rt, table, pass, committed, steps);
+            (Came::Done(kept.n), false, None)
+        }
         Err(TryRefused::LogFull { root }) => (Came::NoRoom, false, root),
         Err(TryRefused::Stale { now, root }) => (Came::Late(now), false, root),
         Err(TryRefused::Busy { root }) => (Came::Busy, true, root),
@@ -133,12 +145,14 @@ pub fn try_uniform(
 }
 
 /// A second try where the first met another session's turn.
-pub fn try_again(
+pub fn try_again<R: Wait, L: Ledger>(
+    rt: &R,
     table: &NodeTable,
     pass: &mut Pass,
     base: &Pinned,
     busy: bool,
     root: Option<Share>,
+    steps: &mut Steps<L>,
 ) -> (Came, Option<Share>)
     requires holds { HoldsUniform table.now pass.old root }
     requires base { busy ≡ true → PinsBlank pass.old.view base.now }
@@ -147,6 +161,6 @@ pub fn try_again(
     if !busy {
         return (Came::Busy, root);
     }
-    let (came, _busy, root) = try_uniform(table, pass, base, 7, root);
+    let (came, _busy, root) = try_uniform(rt, table, pass, base, 7, root, 0, steps);
     (came, root)
 }

@@ -4,7 +4,9 @@ ghost use Rattle.node_table.specs.Closing.{IsSpare};
 
 use crate::edits::{Came, commit_uniform, let_go, pin_beside, try_again, try_uniform};
 use crate::uniform::{all_back, begun, ended, uniform_root};
-use crate::versions::{WasPinned, Went, edit_uniform, finish_uniform, forget_at, go, pin_at};
+use crate::versions::{
+    WasPinned, Went, edit_uniform, finish_uniform, forget_at, go, go_keeping, pin_at,
+};
 use history_model::{Act, Mark};
 use node_shapes::Name;
 use node_table::{NodeTable, Pass};
@@ -30,6 +32,29 @@ const MARK: Mark = Mark {
     session: 1,
     line: 4,
 };
+
+// The marks of the versions that fall out of the last two, each by the line of the record that
+// pushes it out.
+const FALLEN: &[Mark] = &[
+    Mark {
+        version: 0,
+        at: 2,
+        session: 0,
+        line: 2,
+    },
+    Mark {
+        version: 1,
+        at: 3,
+        session: 0,
+        line: 3,
+    },
+    Mark {
+        version: 2,
+        at: 4,
+        session: 0,
+        line: 5,
+    },
+];
 
 fn pinned(version: u32, moment: u32, root: Option<Name>) -> Result<WasPinned, PinRefused> {
     Ok(WasPinned {
@@ -86,7 +111,7 @@ fn is_late<R: Wait, L: Ledger>(
         return false;
     };
     let n = edit_uniform(rt, table, a, 1, true, steps);
-    let (came, root) = commit_uniform(rt, table, b, &base, 7, root);
+    let (came, root) = commit_uniform(rt, table, b, &base, 7, root, 0, steps);
     let_go(base);
     let again = finish_uniform(rt, table, b, 8, root, steps);
     let seen = pin_at(rt, table, a, None, steps);
@@ -111,7 +136,7 @@ fn is_done<R: Wait, L: Ledger>(
         return false;
     };
     let moment = base.moment;
-    let (came, root) = commit_uniform(rt, table, b, &base, 7, root);
+    let (came, root) = commit_uniform(rt, table, b, &base, 7, root, 0, steps);
     let_go(base);
     all_back(rt, table, b, root, steps);
     came == Came::Done(moment.saturating_add(1))
@@ -137,10 +162,10 @@ fn is_busy<R: Wait, L: Ledger>(
         return false;
     };
     let turn = sure(rt, table, a);
-    let (first, busy, root) = try_uniform(table, b, &base, 7, root);
+    let (first, busy, root) = try_uniform(rt, table, b, &base, 7, root, 0, steps);
     turn.leave();
     let n = edit_uniform(rt, table, a, 1, false, steps);
-    let (second, root) = try_again(table, b, &base, busy, root);
+    let (second, root) = try_again(rt, table, b, &base, busy, root, steps);
     let_go(base);
     all_back(rt, table, b, root, steps);
     first == Came::Busy && n == 1 && second == Came::Late(1)
@@ -188,7 +213,7 @@ fn is_full<R: Wait, L: Ledger>(
         return false;
     };
     let last = fill_up(rt, table, a, steps);
-    let (came, root) = commit_uniform(rt, table, b, &base, 7, root);
+    let (came, root) = commit_uniform(rt, table, b, &base, 7, root, 0, steps);
     let_go(base);
     let over = finish_uniform(rt, table, b, 8, root, steps);
     let undone = go(rt, table, a, 9, &Act::Undo, steps);
@@ -311,6 +336,119 @@ fn is_told<R: Wait, L: Ledger>(
     nowhere == Went::Nowhere && first && second == 2 && third && forgotten && compared && gone
 }
 
+// What comes of an edit over the head, where the last two versions alone are kept.
+fn edit_keeping<R: Wait, L: Ledger>(
+    rt: &R,
+    table: &NodeTable,
+    pass: &mut Pass,
+    line: u32,
+    full: bool,
+    steps: &mut Steps<L>,
+) -> Came
+    requires spare { IsSpare table.now pass.old }
+    requires side { table.now.plan.side ≡ 2 }
+    ensures { IsSpare table.now pass.new }
+{
+    let root = uniform_root(rt, table, pass, full, steps);
+    let Some(base) = pin_beside(rt, table, pass, &root, steps) else {
+        all_back(rt, table, pass, root, steps);
+        return Came::Busy;
+    };
+    let (came, root) = commit_uniform(rt, table, pass, &base, line, root, 2, steps);
+    let_go(base);
+    all_back(rt, table, pass, root, steps);
+    came
+}
+
+// The same by a try.
+fn try_keeping<R: Wait, L: Ledger>(
+    rt: &R,
+    table: &NodeTable,
+    pass: &mut Pass,
+    line: u32,
+    full: bool,
+    steps: &mut Steps<L>,
+) -> Came
+    requires spare { IsSpare table.now pass.old }
+    requires side { table.now.plan.side ≡ 2 }
+    ensures { IsSpare table.now pass.new }
+{
+    let root = uniform_root(rt, table, pass, full, steps);
+    let Some(base) = pin_beside(rt, table, pass, &root, steps) else {
+        all_back(rt, table, pass, root, steps);
+        return Came::Busy;
+    };
+    let (came, _busy, root) = try_uniform(rt, table, pass, &base, line, root, 2, steps);
+    let_go(base);
+    all_back(rt, table, pass, root, steps);
+    came
+}
+
+// Whether two edits, an undo and a redo are appended where the last two versions alone are kept:
+// the second undo goes to one that fell out, and the root of the full one is handed over.
+fn are_appended<R: Wait, L: Ledger>(
+    rt: &R,
+    table: &NodeTable,
+    a: &mut Pass,
+    steps: &mut Steps<L>,
+) -> bool
+    requires spare { IsSpare table.now a.old }
+    requires side { table.now.plan.side ≡ 2 }
+    ensures { IsSpare table.now a.new }
+{
+    let first = try_keeping(rt, table, a, 1, false, steps);
+    let second = edit_keeping(rt, table, a, 2, true, steps);
+    let (undone, blank) = go_keeping(rt, table, a, 3, &Act::Undo, 2, steps);
+    let (marked, none) = go_keeping(rt, table, a, 4, &Act::Undo, 2, steps);
+    let (redone, full) = go_keeping(rt, table, a, 5, &Act::Redo, 2, steps);
+    first == Came::Done(1)
+        && second == Came::Done(2)
+        && undone == Went::To(3, 1)
+        && blank == None
+        && marked == Went::Marked(FALLEN[0])
+        && none == None
+        && redone == Went::To(4, 2)
+        && full == Some(FULL)
+}
+
+// Whether each version that fell out has its mark, and the head is kept.
+fn have_fallen<R: Wait, L: Ledger>(
+    rt: &R,
+    table: &NodeTable,
+    b: &mut Pass,
+    steps: &mut Steps<L>,
+) -> bool
+    requires { IsSpare table.now b.old }
+    ensures { IsSpare table.now b.new }
+{
+    let mut right = pin_at(rt, table, b, None, steps) == pinned(4, 4, Some(FULL));
+    for row in FALLEN {
+        let mark = *row;
+        let found = pin_at(rt, table, b, Some(mark.version), steps);
+        if found != Err(PinRefused::Forgotten { at: 4, mark }) {
+            right = false;
+        }
+    }
+    right
+}
+
+// Whether the last two versions alone are kept.
+fn is_kept<R: Wait, L: Ledger>(
+    rt: &R,
+    table: &NodeTable,
+    a: &mut Pass,
+    b: &mut Pass,
+    steps: &mut Steps<L>,
+) -> bool
+    requires first { IsSpare table.now a.old }
+    requires second { IsSpare table.now b.old }
+    requires side { table.now.plan.side ≡ 2 }
+    ensures first { IsSpare table.now a.new }
+    ensures second { IsSpare table.now b.new }
+{
+    are_appended(rt, table, a, steps) && have_fallen(rt, table, b, steps)
+}
+
 // What two sessions do.
 #[derive(Clone, Copy, Debug)]
 enum Row {
@@ -319,6 +457,7 @@ enum Row {
     Busy,
     Full,
     Told,
+    Kept,
 }
 
 fn do_row<R: Wait, L: Ledger>(
@@ -345,6 +484,7 @@ fn do_row<R: Wait, L: Ledger>(
         Row::Busy => is_busy(rt, table, a, b, &mut steps),
         Row::Full => is_full(rt, table, a, b, &mut steps),
         Row::Told => is_told(rt, table, a, b, &mut steps),
+        Row::Kept => is_kept(rt, table, a, b, &mut steps),
     }
 }
 
@@ -382,7 +522,14 @@ fn all_do<R: Wait>(rt: &R, table: &NodeTable, passes: Vec<Pass>, row: Row) -> bo
 fn sessions_meet_at_the_log(rt: HostRuntime) -> Result<(), Fail> {
     let side = Side::new(4).ok_or("a side")?;
     let plan = Plan::even(side, 1, 2).ok_or("a plan")?;
-    for row in [Row::Seen, Row::Late, Row::Busy, Row::Full, Row::Told] {
+    for row in [
+        Row::Seen,
+        Row::Late,
+        Row::Busy,
+        Row::Full,
+        Row::Told,
+        Row::Kept,
+    ] {
         let (table, passes) = begun(rt.alloc(), &plan, 2)?;
         let done = all_do(&rt, &table, passes, row);
         assert!(rt; done, "{row:?}");

@@ -1,8 +1,14 @@
 //! Calls of one session in a world of side 4, each of which gives back what it held: each record
 //! sets all cells, or none.
-ghost use Rattle.std.specs.Prelude.{◌≡◌, false};
+ghost use Rattle.std.specs.Prelude.{◌≡◌, ◌≤◌, false, Some};
 ghost use Rattle.history_model.specs.Worlds.{is_edit};
+ghost use Rattle.node_shapes.specs.Weights.{number_of_trees};
+ghost use Rattle.node_shapes.specs.declared.names.Name.{Name};
+ghost use Rattle.node_words.specs.Held.{HoldsName};
+ghost use Rattle.edit_blocks.specs.Blocks.{GoesBack};
 ghost use Rattle.node_table.specs.Closing.{IsSpare};
+ghost use Rattle.node_table.specs.LogTurns.{HasNoTurn};
+ghost use Rattle.node_table.specs.Seen.{BelongsTo};
 ghost use Rattle.tests_versions.specs.Holding.{HoldsUniform};
 
 use crate::uniform::{act_behind, all_back, name_of, root_back, uniform_root};
@@ -13,8 +19,8 @@ use node_words::{Share, Steps};
 use std::sync::Wait;
 use std::sync::ledger::Ledger;
 use version_log::{
-    ForgetRefused, Forgot, Lead, PinRefused, Pinned, SureRefused, finish, forget, keep_version,
-    leave, mark, nothing_kept, pin, take, target,
+    Committed, ForgetRefused, Forgot, Lead, PinRefused, Pinned, SureRefused, finish, forget,
+    keep_version, leave, mark, nothing_kept, pin, take, target,
 };
 
 /// A version that was pinned, the length then, and its root, which went back.
@@ -56,22 +62,52 @@ pub fn pin_at<R: Wait, L: Ledger>(
     }
 }
 
+/// A record, and the root of the version that fell out behind it.
+#[derive(Clone, Copy)]
+pub struct Kept {
+    pub n: u32,
+    pub fallen: Option<Name>,
+}
+
+/// Gives back the share of the version that fell out.
+pub fn fallen_back<R: Wait, L: Ledger>(
+    rt: &R,
+    table: &NodeTable,
+    pass: &mut Pass,
+    committed: Committed,
+    steps: &mut Steps<L>,
+) -> Kept
+    requires of { BelongsTo table.now pass.old }
+    requires idle { HasNoTurn pass.old.view }
+    requires held { (n : Name) → committed.fallen ≡ Some n → HoldsName pass.old.view.held n }
+    requires room { number_of_trees pass.old.view.held ≤ 4000 }
+    ensures of { BelongsTo table.now pass.new }
+    ensures idle { HasNoTurn pass.new.view }
+    ensures gone { GoesBack committed.fallen pass.old.view.held pass.new.view.held }
+{
+    let Committed { n, fallen } = committed;
+    let name = name_of(&fallen);
+    root_back(rt, table, pass, fallen, steps);
+    Kept { n, fallen: name }
+}
+
 // Appends a record of this line under the log's turn, behind which this is the root. The answer is
 // its number, or 0 and the root where there is no room.
-fn finish_or_back<R: Wait>(
+fn finish_or_back<R: Wait, L: Ledger>(
     rt: &R,
     table: &NodeTable,
     pass: &mut Pass,
     line: u32,
     root: Option<Share>,
+    steps: &mut Steps<L>,
 ) -> (u32, Option<Share>)
     requires { HoldsUniform table.now pass.old root }
     ensures { HoldsUniform table.now pass.new result.1 }
 {
     let act = act_behind(name_of(&root));
     take(rt, table, pass);
-    match finish(table, pass, nothing_kept(), line, &act, root) {
-        Ok(n) => (n, None),
+    match finish(table, pass, nothing_kept(), line, &act, root, 0) {
+        Ok(committed) => (fallen_back(rt, table, pass, committed, steps).n, None),
         Err(SureRefused::LogFull { root }) => (0, root),
     }
 }
@@ -89,7 +125,7 @@ pub fn finish_uniform<R: Wait, L: Ledger>(
     requires { HoldsUniform table.now pass.old root }
     ensures { IsSpare table.now pass.new }
 {
-    let (n, root) = finish_or_back(rt, table, pass, line, root);
+    let (n, root) = finish_or_back(rt, table, pass, line, root, steps);
     all_back(rt, table, pass, root, steps);
     n
 }
@@ -154,22 +190,43 @@ pub fn go<R: Wait, L: Ledger>(
     requires act { is_edit act.now ≡ false }
     ensures { IsSpare table.now pass.new }
 {
+    let (went, _fallen) = go_keeping(rt, table, pass, line, act, 0, steps);
+    went
+}
+
+/// The same where the last versions alone are kept, and the root of the one that fell out.
+pub fn go_keeping<R: Wait, L: Ledger>(
+    rt: &R,
+    table: &NodeTable,
+    pass: &mut Pass,
+    line: u32,
+    act: &Act,
+    keep: u32,
+    steps: &mut Steps<L>,
+) -> (Went, Option<Name>)
+    requires spare { IsSpare table.now pass.old }
+    requires act { is_edit act.now ≡ false }
+    ensures { IsSpare table.now pass.new }
+{
     take(rt, table, pass);
     let Lead { to, ahead } = target(table, pass, act);
     let Some(to) = to else {
         leave(table, pass);
-        return Went::Nowhere;
+        return (Went::Nowhere, None);
     };
     if let Some(found) = mark(table, pass, to) {
         leave(table, pass);
-        return Went::Marked(found);
+        return (Went::Marked(found), None);
     }
     let root = keep_version(rt, table, pass, to, steps);
-    match finish(table, pass, ahead, line, act, root) {
-        Ok(n) => Went::To(n, to),
+    match finish(table, pass, ahead, line, act, root, keep) {
+        Ok(committed) => {
+            let Kept { n, fallen } = fallen_back(rt, table, pass, committed, steps);
+            (Went::To(n, to), fallen)
+        }
         Err(SureRefused::LogFull { root }) => {
             root_back(rt, table, pass, root, steps);
-            Went::NoRoom
+            (Went::NoRoom, None)
         }
     }
 }
