@@ -4,10 +4,13 @@
 # It runs scripts that edit apart, edit one place, and ask while another one edits, once by one session and once
 # by four, and prints how many times the work of one session four do in the same time. What a run with nothing to do
 # takes is taken off each time. It needs four cores with nothing else on them.
+#
+# Beside them stand what bounds two of the figures: what a plain C program takes for the memory of the opening alone, and
+# how much four processes that share nothing do of the readers' work in the time of one.
 set -eu
 here=$(cd "$(dirname "$0")" && pwd)
 . "$here/timing.sh"
-build peak
+build peak touch
 need_product
 made=$work/sessions
 mkdir -p "$made"
@@ -35,6 +38,9 @@ times() {
 echo "load at the start: $(cut -d' ' -f1-3 /proc/loadavg)"
 measure "$product" run --side 4096 one.vox nothing.txt
 echo "opening, side 4,096, usual plan: $seconds s, peak $((peak / 1000000)) MB"
+# The words of that plan's table, touched as its beginning touches them, and once.
+echo "the same memory by C, a row and its copy: $("$work/touch" 9125887 2)"
+echo "one row of it: $("$work/touch" 9125887 1)"
 best nothing.txt
 opening=$seconds
 for name in apart large together; do
@@ -47,3 +53,35 @@ best reader.0.txt
 one=$seconds
 best reader.[0-3].txt editor.txt
 times "readers, while a fifth edits" "$one" "$seconds"
+best reader.[0-3].txt
+times "readers alone" "$one" "$seconds"
+
+# apart SCRIPT..: the least time of four processes at once, each with one of these scripts in a folder of its own.
+apart() {
+    local least= round k=0 script begun
+    for script in "$@"; do
+        mkdir -p "apart$k"
+        cp one.vox "$script" "apart$k/"
+        k=$((k + 1))
+    done
+    for ((round = 1; round <= rounds; round++)); do
+        begun=$(date +%s.%N)
+        k=0
+        for script in "$@"; do
+            (cd "apart$k" && exec "$product" run --side 1024 --buckets 4096 --cap 256 one.vox "$script" > printed) &
+            k=$((k + 1))
+        done
+        wait
+        seconds=$(awk -v begun="$begun" -v ended="$(date +%s.%N)" 'BEGIN { print ended - begun }')
+        least=$(less "$least" "$seconds")
+    done
+    seconds=$least
+}
+
+alone=$opening
+apart nothing.txt nothing.txt nothing.txt nothing.txt
+opening=$seconds
+apart reader.[0-3].txt
+awk -v one="$one" -v alone="$alone" -v four="$seconds" -v opening="$opening" 'BEGIN {
+    printf "%-34s one %.3f s, four %.3f s: %.2f times\n", "readers in processes of their own", one - alone, four - opening,
+           4 * (one - alone) / (four - opening) }'
