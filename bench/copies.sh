@@ -1,5 +1,5 @@
-# What the benchmarks share that prove and build a program of their own, outside of the gate. They source it with `root` set
-# to the repository and `work` to a folder of copies.
+# What the benchmarks share that build a program of their own, outside of the gate. They source it with `root` set to the
+# repository, `here` to its bench/ and `work` to a folder of copies.
 
 # copy_crates NAME ..: copies these crates, those that are the repository's, into the folder of copies.
 copy_crates() {
@@ -39,4 +39,18 @@ below() {
             }
             for (i = 1; i <= number; i++) if (order[i] in wanted) print order[i]
         }' "$root/crates.txt"
+}
+
+# build_unproved NAME CRATE ..: builds the program bench/NAME/main.rt.in over these crates, before its proofs, as $work/NAME.
+build_unproved() {
+    local name=$1 crates
+    shift
+    crates=$(below "$@")
+    copy_crates $crates
+    mkdir -p "$work/bench" "$work/crates/bench_$name/src"
+    cp "$here/unproved.sh" "$work/bench/"
+    cp "$here/$name/main.rt.in" "$work/crates/bench_$name/src/main.rt"
+    list_crates "bench_$name: $*" $crates
+    rm -f "$work/$name"
+    CRATE=bench_$name "$work/bench/unproved.sh" "$work/$name" > /dev/null
 }

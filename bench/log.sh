@@ -9,15 +9,7 @@ here=$(cd "$(dirname "$0")" && pwd)
 root=$(dirname "$here")
 work=$here/work/log
 . "$here/copies.sh"
-above="version_log release intern node_table history_model vox_read node_words vw_cell"
-crates=$(below $above)
-copy_crates $crates
-mkdir -p "$work/bench" "$work/crates/bench_log/src"
-cp "$here/unproved.sh" "$work/bench/"
-cp "$here/log/main.rt.in" "$work/crates/bench_log/src/main.rt"
-list_crates "bench_log: $above" $crates
-rm -f "$work/log"
-CRATE=bench_log "$work/bench/unproved.sh" "$work/log" > /dev/null
+build_unproved log version_log release intern node_table history_model vox_read node_words vw_cell
 alone=
 ! chrt -f 1 true 2> /dev/null || alone="chrt -f 1"
 rounds=${ROUNDS:-15}

@@ -8,15 +8,7 @@ here=$(cd "$(dirname "$0")" && pwd)
 root=$(dirname "$here")
 work=$here/work/tints
 . "$here/copies.sh"
-above="colour tints edit_ops one_store node_words node_shapes vw_cell"
-crates=$(below $above)
-copy_crates $crates
-mkdir -p "$work/bench" "$work/crates/bench_tints/src"
-cp "$here/unproved.sh" "$work/bench/"
-cp "$here/tints/main.rt.in" "$work/crates/bench_tints/src/main.rt"
-list_crates "bench_tints: $above" $crates
-rm -f "$work/tints"
-CRATE=bench_tints "$work/bench/unproved.sh" "$work/tints" > /dev/null
+build_unproved tints colour tints edit_ops one_store node_words node_shapes vw_cell
 echo "load at the start: $(cut -d' ' -f1-3 /proc/loadavg)"
 # Lines are the box's size, the tint (0 for a plain fill), the turns of a fill and of one over it, and nanoseconds.
 "$work/tints" | awk '{
