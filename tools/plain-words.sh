@@ -71,10 +71,11 @@ plain_usage() {
         '    voxdag scene FILE OUT SCRIPT' \
         '    voxdag dag FILE JOURNAL OUT' \
         '    voxdag look DAG v QUESTION' \
-        '    voxdag audit [--buckets b] FILE JOURNAL SCRIPT ..' \
-        '    voxdag run [--side s] [--buckets b] [--cap c] [--journal J] [--report P] FILE SCRIPT ..' \
+        '    voxdag audit [--buckets b] [--keep k] FILE JOURNAL SCRIPT ..' \
+        '    voxdag run [--side s] [--buckets b] [--cap c] [--keep k] [--journal J] [--report P] FILE SCRIPT ..' \
         'Options stand anywhere behind run, each at most once, as --side s or --side=s. s is 4, 8, 16 and so on up to 4096,' \
-        'b is 1 to 4096, c is 1 to 256. There are 1 to 64 scripts. No name is empty, and none begins with - but behind =.' \
+        'b is 1 to 4096, c is 1 to 256, k is 1 to 65535. There are 1 to 64 scripts.' \
+        'No name is empty, and none begins with - but behind =.' \
         'Each SCRIPT.out, J and P are written, so none may be the name of FILE, of a SCRIPT or of another.' \
         'N, m, x, y, z and v have 1 to 6 digits; demo writes demo.0.out to demo.3.out and demo.journal.' \
         'FILE, OUT and the SCRIPT of scene are different names, and OUT is none that is read.' \

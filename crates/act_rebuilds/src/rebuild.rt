@@ -1,10 +1,10 @@
-ghost use Rattle.std.specs.Prelude.{◌≡◌, ◌≤◌, ◌^◌, ℕ, true, Some, List, option_copied};
+ghost use Rattle.std.specs.Prelude.{◌≡◌, ◌≤◌, ◌^◌, ℕ, true, false, Some, List, option_copied};
 ghost use Rattle.std.specs.List.{slice_get};
 ghost use Rattle.vw_cell.specs.Places.{FitsAt};
 ghost use Rattle.vox_read.specs.Contents.{Content};
 ghost use Rattle.node_shapes.specs.Weights.{number_of_trees};
 ghost use Rattle.history_model.specs.Worlds.{is_edit};
-ghost use Rattle.history_model.specs.Logs.{FitsWorld};
+ghost use Rattle.history_model.specs.Logs.{FitsWorld, suits_tints};
 ghost use Rattle.history_model.specs.declared.acts.Act.TheVariants.{Stamp};
 ghost use Rattle.edit_stamp.specs.Roots.{HoldsRoot};
 ghost use Rattle.act_rebuilds.specs.Acts.{RebuildsAct, GrowsByAct, RefusesAct};
@@ -30,6 +30,7 @@ pub fn rebuild_act<N: NodeStore, L: Ledger>(
 ) -> Result<Option<Share>, Full>
     requires side { side ≡ (N.seen store.old).plan.side }
     requires edit { is_edit act ≡ true }
+    requires plain { suits_tints false act ≡ true }
     requires fits { FitsWorld (2 ^ side) models.now act }
     requires old { HoldsRoot (N.seen store.old).held side (option_copied old) }
     requires room { number_of_trees (N.seen store.old).held ≤ 3910 }
@@ -48,7 +49,7 @@ pub fn rebuild_act<N: NodeStore, L: Ledger>(
         Act::Carve(ball) => rebuild_ball(store, old, side, ball, false, steps),
         Act::Copy(from, to) => rebuild_copy(store, old, side, from, to, steps),
         Act::Stamp(m, at) => stamp(store, old, side, &models[usize::from(m)], at, steps),
-        Act::Undo | Act::Redo => unreachable!(),
+        Act::Tint(_) | Act::Undo | Act::Redo => unreachable!(),
     }
 }
 

@@ -7,7 +7,7 @@ use Rattle.std.proofs.lemmas.Bool.{cases_order}
 use Rattle.std.proofs.lemmas.List.Elements.{All-push, All-nil}
 use Rattle.history_model.specs.Contents.{Content}
 use Rattle.history_model.specs.declared.acts.Act.{Act}
-use Rattle.history_model.specs.declared.acts.Act.TheVariants.{Fill, Erase, Ball, Carve, Copy, Stamp, Undo, Redo}
+use Rattle.history_model.specs.declared.acts.Act.TheVariants.{Fill, Erase, Ball, Carve, Copy, Stamp, Tint, Undo, Redo}
 use Rattle.history_model.specs.declared.histories.Mark.{Mark}
 use Rattle.history_model.specs.declared.histories.Record.{Record}
 use Rattle.history_model.specs.Logs.{FitsWorld, IsVersionHeld, HasTarget, MayFollow, MayFollowFrom}
@@ -75,6 +75,7 @@ module _ (marks : List Mark) (table : List (Option Mark)) (tells : TellsMarks ma
   may_marked records (Carve b) free may = tt
   may_marked records (Copy b c) free may = tt
   may_marked records (Stamp b c) free may = tt
+  may_marked records (Tint t) free may = tt
 
   pub may_unmarked : (records : List Record) (act : Act) → MayFollow marks n act (position_after records)
       → MayFollow [] n act (position_after records)
@@ -86,6 +87,7 @@ module _ (marks : List Mark) (table : List (Option Mark)) (tells : TellsMarks ma
   may_unmarked records (Carve b) may = tt
   may_unmarked records (Copy b c) may = tt
   may_unmarked records (Stamp b c) may = tt
+  may_unmarked records (Tint t) may = tt
 
   pub may_free : (records : List Record) (act : Act) → MayFollow marks n act (position_after records)
       → FreeBy (target_at records (length records) act) table n
@@ -99,6 +101,7 @@ module _ (marks : List Mark) (table : List (Option Mark)) (tells : TellsMarks ma
   may_free records (Carve b) may = tt
   may_free records (Copy b c) may = tt
   may_free records (Stamp b c) may = tt
+  may_free records (Tint t) may = tt
 
 -- ---- one step
 

@@ -1,15 +1,16 @@
 -- A history is legal where its marks are, and its records follow one another.
 use Rattle.std.proofs.Common.{◌≡◌, ℕ, ◌^◌, ◌<◌, ◌≤◌, List, length, Option, refl, sym, arith}
-use Rattle.std.specs.Prelude.{All}
+use Rattle.std.specs.Prelude.{All, Bool, Result, IfErr}
 use Rattle.history_model.specs.Contents.{Content}
 use Rattle.history_model.specs.declared.histories.Mark.{Mark}
 use Rattle.history_model.specs.declared.histories.Record.{Record}
-use Rattle.history_model.specs.Logs.{Log, FitsWorld, IsLegal}
+use Rattle.history_model.specs.Logs.{Log, FitsWorld, IsLegal, IsPlain}
 use Rattle.std.proofs.Common.{◌↔◌, subst}
 use Rattle.node_words.specs.Plans.{Layout}
 use Rattle.script.specs.declared.commands.ScriptLine.{ScriptLine}
 use Rattle.transcript.specs.declared.answers.LineAnswer.{LineAnswer}
-use Rattle.conformance.specs.Agreeing.{Agrees}
+use Rattle.versions.specs.Retained.{KeepsLast}
+use Rattle.conformance.specs.Agreeing.{AgreesKeeping}
 use Rattle.audit.specs.declared.audits.AuditRefused.{AuditRefused}
 use Rattle.audit.specs.Audits.{IsAudited, RefusesAlong}
 use Rattle.store_run.specs.Replaying.{ReplayState}
@@ -49,36 +50,48 @@ legal_by models log few marks follow = record {
 }
 
 pub legal_rerun : (log : Log) (replay : ReplayState) (ways : List Ways) (table : List (Option Mark))
-    → replay.records ≡ log.records → replay.plan.side ≡ log.side → length log.records ≤ 65535
-    → AreWays log.records ways → TellsMarks log.marks table → IsRerun log replay ways table
-legal_rerun log replay ways table records side few are tells =
-    record { records = records; side = side; few = few; are_ways = are; tells = tells }
+    → IsPlain log → replay.records ≡ log.records → replay.plan.side ≡ log.side
+    → length log.records ≤ 65535 → AreWays log.records ways → TellsMarks log.marks table
+    → IsRerun log replay ways table
+legal_rerun log replay ways table plain records side few are tells = record {
+  plain = plain;
+  records = records;
+  side = side;
+  few = few;
+  are_ways = are;
+  tells = tells;
+}
 
-pub never_audited : (p : Layout) (models : List Content) (log : Log) (scripts : List (List ScriptLine)) (transcripts : List (List LineAnswer))
-    → p.side ≡ log.side → (IsLegal (2 ^ log.side) models log → ⊥) → IsAudited p models log scripts transcripts → ⊥
-never_audited p models log scripts transcripts side wrong audited =
+pub never_audited : (keep : ℕ) (p : Layout) (models : List Content) (log : Log) (scripts : List (List ScriptLine)) (transcripts : List (List LineAnswer))
+    → p.side ≡ log.side → (IsLegal (2 ^ log.side) models log → ⊥) → IsAudited keep p models log scripts transcripts → ⊥
+never_audited keep p models log scripts transcripts side wrong audited =
     wrong (subst (λ (s : ℕ). IsLegal (2 ^ s) models log) side audited.legal)
 
-pub audited_by : (p : Layout) (models : List Content) (log : Log) (scripts : List (List ScriptLine)) (transcripts : List (List LineAnswer))
-    → p.side ≡ log.side → IsLegal (2 ^ log.side) models log
-    → Agrees p models log scripts transcripts ↔ IsAudited p models log scripts transcripts
-audited_by p models log scripts transcripts side legal = (
-  λ agrees. record { legal = subst (λ (s : ℕ). IsLegal (2 ^ s) models log) (sym side) legal; agrees = agrees },
+pub audited_by : (keep : ℕ) (p : Layout) (models : List Content) (log : Log) (scripts : List (List ScriptLine)) (transcripts : List (List LineAnswer))
+    → p.side ≡ log.side → IsLegal (2 ^ log.side) models log → KeepsLast keep log
+    → AgreesKeeping keep p models log scripts transcripts ↔ IsAudited keep p models log scripts transcripts
+audited_by keep p models log scripts transcripts side legal last = (
+  λ agrees. record { legal = subst (λ (s : ℕ). IsLegal (2 ^ s) models log) (sym side) legal; last = last; agrees = agrees },
   λ audited. audited.agrees,
 )
 
+pub never_kept : (keep : ℕ) (p : Layout) (models : List Content) (log : Log) (scripts : List (List ScriptLine)) (transcripts : List (List LineAnswer))
+    → (KeepsLast keep log → ⊥) → IsAudited keep p models log scripts transcripts → ⊥
+never_kept keep p models log scripts transcripts wrong audited = wrong audited.last
+
 -- ---- by the plans of the side
 
-pub audited_by_plan : (p q : Layout) (models : List Content) (log : Log) (scripts : List (List ScriptLine))
+pub audited_by_plan : (keep : ℕ) (p q : Layout) (models : List Content) (log : Log) (scripts : List (List ScriptLine))
     (transcripts : List (List LineAnswer)) (answer : Type 0) → p ≡ q
-    → answer ↔ IsAudited p models log scripts transcripts → answer ↔ IsAudited q models log scripts transcripts
-audited_by_plan p q models log scripts transcripts answer same both =
-    subst (λ (r : Layout). answer ↔ IsAudited r models log scripts transcripts) same both
+    → answer ↔ IsAudited keep p models log scripts transcripts → answer ↔ IsAudited keep q models log scripts transcripts
+audited_by_plan keep p q models log scripts transcripts answer same both =
+    subst (λ (r : Layout). answer ↔ IsAudited keep r models log scripts transcripts) same both
 
-pub refused_by_plan : (p q : Layout) (models : List Content) (records : List Record) (refused : AuditRefused)
-    → p ≡ q → RefusesAlong p models records refused → RefusesAlong q models records refused
-refused_by_plan p q models records refused same refuses =
-    subst (λ (r : Layout). RefusesAlong r models records refused) same refuses
+pub refused_all : (p q : Layout) (models : List Content) (records : List Record)
+    (result : Result Bool AuditRefused) → p ≡ q → IfErr result (RefusesAlong p models records)
+    → IfErr result (RefusesAlong q models records)
+refused_all p q models records result same refuses =
+    subst (λ (r : Layout). IfErr result (RefusesAlong r models records)) same refuses
 
 -- ---- by the state with which a replay begins
 

@@ -7,6 +7,8 @@ pub mod Recalling
 pub mod Told
 pub mod Ordering
 pub mod Counting
+pub mod Falling
+pub mod Keeping
 pub mod Showing
 pub mod Gathering
 pub mod Judging

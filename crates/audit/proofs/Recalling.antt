@@ -1,16 +1,20 @@
 -- What a replayed history is asked.
-use Rattle.std.proofs.Common.{◌≡◌, ℕ, List, Option, Some, None, ◌↔◌, refl, sym, ap, subst}
+use Rattle.std.proofs.Common.{◌≡◌, ℕ, ◌^◌, Bool, IsTrue, ◌∙◌, List, Option, Some, None, ◌↔◌, refl, sym, ap, subst}
 use Rattle.std.specs.Prelude.{slice_index_or}
 use Rattle.std.specs.List.{Contains}
 use Rattle.history_model.specs.declared.histories.Mark.{Mark}
 use Rattle.history_model.specs.declared.questions.Question.{Question}
-use Rattle.history_model.specs.Logs.{Log}
-use Rattle.history_model.specs.Worlds.{World}
+use Rattle.history_model.specs.declared.histories.Record.{Record}
+use Rattle.history_model.specs.Logs.{Log, IsPlain, kept_side, world_side}
+use Rattle.history_model.specs.Moments.{world_has, world_tint}
+use Rattle.block_contents.specs.Versions.{SameWorld}
 use Rattle.transcript.specs.declared.answers.Answer.{Answer}
 use Rattle.conformance.specs.Answers.{IsStanding, IsForgotten, mark_of}
 use Rattle.conformance.specs.Telling.{Tells}
 use Rattle.store_run.specs.Replaying.{ReplayState}
 use Rattle.audit.specs.declared.replaying.Ways.{Ways}
+use Rattle.store_run.proofs.Plainly.{tints_of_cells, cells_of_tints}
+use Rattle.audit.specs.Fitting.{TellsVersion, AreSame}
 use Rattle.audit.specs.Reruns.{IsRerun}
 use Rattle.audit.specs.Marks.{IsMarkOf, StandsBy, ForgottenBy}
 use Rattle.audit.proofs.Marking.{stands_is, forgotten_is}
@@ -42,10 +46,49 @@ pub mark_rerun : (log : Log) (replay : ReplayState) (ways : List Ways) (table : 
 mark_rerun log replay ways table version n session line is =
     mark_listed log.marks (mark_of version n session line) (slice_index_or table version None) (is.tells.each version)
 
--- a question is answered by what is told of it, and by nothing else
-pub told_same : (side : ℕ) (w : World) (question : Question) (told answer : Answer)
-    → Tells side w question told → (answer ≡ told) ↔ Tells side w question answer
-told_same side w question told answer tells = (
-  λ same. subst (λ (a : Answer). Tells side w question a) (sym same) tells,
-  λ other. one_answer side w question answer told other tells,
-)
+-- the world of a plain history has the side of its store
+plain_side : (log : Log) → IsPlain log → world_side log ≡ 2 ^ log.side
+plain_side log plain = ap (λ (b : Bool). kept_side b (2 ^ log.side)) plain.coloured
+
+module _ (log : Log) (replay : ReplayState) (ways : List Ways) (table : List (Option Mark))
+    (is : IsRerun log replay ways table) where
+  rerun_side : 2 ^ replay.plan.side ≡ world_side log
+  rerun_side = ap (λ (n : ℕ). 2 ^ n) is.side ∙ sym (plain_side log is.plain)
+
+  told_rerun : (version : ℕ) (question : Question) (told : Answer)
+      → Tells (2 ^ replay.plan.side) (world_has replay.models replay.records version)
+      (world_tint replay.models replay.records version) question told
+      → TellsVersion replay.models log version question told
+  told_rerun version question told tells =
+      subst (λ (n : ℕ). Tells n (world_has replay.models log.records version)
+      (world_tint replay.models log.records version) question told) rerun_side
+      (subst (λ (rs : List Record). Tells (2 ^ replay.plan.side) (world_has replay.models rs version)
+      (world_tint replay.models rs version) question told) is.records tells)
+
+  -- a question is answered by what is told of it, and by nothing else
+  pub told_same : (version : ℕ) (question : Question) (told answer : Answer)
+      → Tells (2 ^ replay.plan.side) (world_has replay.models replay.records version)
+      (world_tint replay.models replay.records version) question told
+      → (answer ≡ told) ↔ TellsVersion replay.models log version question answer
+  told_same version question told answer tells =
+      let here = told_rerun version question told tells in (
+        λ same. subst (λ (a : Answer). TellsVersion replay.models log version question a) (sym same) here,
+        λ other. one_answer (world_side log) (world_has replay.models log.records version)
+            (world_tint replay.models log.records version) question answer told other here,
+      )
+
+  -- versions that have the same cells have the same tints, and the other way round
+  pub same_rerun : (v w : ℕ) (same : Bool)
+      → (IsTrue same ↔ SameWorld (2 ^ replay.plan.side) (world_has replay.models replay.records v)
+      (world_has replay.models replay.records w))
+      → IsTrue same ↔ AreSame replay.models log v w
+  same_rerun v w same cells =
+      let here : IsTrue same ↔ SameWorld (world_side log) (world_has replay.models log.records v)
+      (world_has replay.models log.records w) =
+      subst (λ (n : ℕ). IsTrue same ↔ SameWorld n (world_has replay.models log.records v)
+      (world_has replay.models log.records w)) rerun_side
+      (subst (λ (rs : List Record). IsTrue same ↔ SameWorld (2 ^ replay.plan.side)
+      (world_has replay.models rs v) (world_has replay.models rs w)) is.records cells) in (
+        λ t. tints_of_cells (world_side log) replay.models log v w is.plain (here.0 t),
+        λ tints. here.1 (cells_of_tints (world_side log) replay.models log v w is.plain tints),
+      )

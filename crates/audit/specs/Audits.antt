@@ -6,17 +6,20 @@ use Rattle.history_model.specs.Logs.{Log, IsLegal}
 use Rattle.node_words.specs.Plans.{Layout, usual_buckets}
 use Rattle.script.specs.declared.commands.ScriptLine.{ScriptLine}
 use Rattle.transcript.specs.declared.answers.LineAnswer.{LineAnswer}
-use Rattle.conformance.specs.Agreeing.{Agrees}
+use Rattle.versions.specs.Retained.{KeepsLast}
+use Rattle.conformance.specs.Agreeing.{AgreesKeeping}
 use Rattle.store_run.specs.Replaying.{MayFillAlong, replay_plan}
 use Rattle.audit.specs.declared.audits.AuditRefused.{AuditRefused}
 use Rattle.audit.specs.declared.audits.AuditRefused.TheVariants as refusals
 
--- The history is legal, and agrees with the scripts and their transcripts, which show just it. A
--- run of scripts promises the same of what it gives.
-pub record IsAudited (p : Layout) (models : List Content) (log : Log)
+-- The history is legal, keeps its last `keep` versions alone, or all with 0, and agrees with the
+-- scripts and their transcripts, which show just it. A run of scripts promises the same of what it
+-- gives.
+pub record IsAudited (keep : ℕ) (p : Layout) (models : List Content) (log : Log)
     (scripts : List (List ScriptLine)) (transcripts : List (List LineAnswer)) : Type 0 where
   pub legal : IsLegal (2 ^ p.side) models log
-  pub agrees : Agrees p models log scripts transcripts
+  pub last : KeepsLast keep log
+  pub agrees : AgreesKeeping keep p models log scripts transcripts
 
 -- the plan by whose buckets a transcript's full bucket is judged: the usual ones, or so many on
 -- each level. Its cap plays no part

@@ -1,17 +1,17 @@
 -- Which answer fits a command, told by the answer.
-use Rattle.std.specs.Prelude.{◌≡◌, ℕ, ◌^◌, ◌<◌, ◌≤◌, Bool, true, List, Option, None, slice_index}
+use Rattle.std.specs.Prelude.{◌≡◌, ℕ, ◌<◌, ◌≤◌, Bool, true, List, Option, None, slice_index}
 use Rattle.std.specs.Bool.{MatchBool}
 use Rattle.std.specs.List.{Contains}
 use Rattle.history_model.specs.Contents.{Content}
 use Rattle.history_model.specs.declared.acts.Act.{Act}
 use Rattle.history_model.specs.declared.acts.Act.TheVariants.{Undo, Redo}
 use Rattle.history_model.specs.declared.questions.Question.{Question}
-use Rattle.history_model.specs.Logs.{Log}
-use Rattle.history_model.specs.Moments.{world_has}
+use Rattle.history_model.specs.Logs.{Log, world_side}
+use Rattle.history_model.specs.Moments.{world_has, world_tint}
 use Rattle.history_model.specs.Worlds.{is_edit}
 use Rattle.node_words.specs.Plans.{Layout}
 use Rattle.block_contents.specs.Aligned.{top}
-use Rattle.block_contents.specs.Versions.{SameWorld}
+use Rattle.history_model.specs.Tints.{SameTints}
 use Rattle.script.specs.declared.commands.Command.{Command}
 use Rattle.script.specs.declared.commands.Command.TheVariants.{Edit, Forget, Ask, Save, Same, Head}
 use Rattle.transcript.specs.declared.answers.Answer.{Answer}
@@ -20,6 +20,17 @@ use Rattle.vw_cell.specs.declared.boxes.Boxed.{Boxed}
 use Rattle.vw_cell.specs.Counts.{number_in}
 use Rattle.conformance.specs.Answers.{IsForgotten, IsReadable, IsRecordOf, mark_of, target_at, HasWay, asked_version, Names, LooksUp}
 use Rattle.conformance.specs.Telling.{Tells}
+
+-- the answer tells what the question asks of a version
+abbrev pub TellsVersion : List Content → Log → ℕ → Question → Answer → Type 0
+TellsVersion models log v question answer =
+    Tells (world_side log) (world_has models log.records v) (world_tint models log.records v)
+    question answer
+
+-- two versions have the same tints
+abbrev pub AreSame : List Content → Log → ℕ → ℕ → Type 0
+AreSame models log v w =
+    SameTints (world_side log) (world_tint models log.records v) (world_tint models log.records w)
 
 -- ---- the command is one of a kind, and this holds of it
 
@@ -77,8 +88,7 @@ module _ (p : Layout) (models : List Content) (log : Log) (Stands : ℕ → Type
   abbrev pub ToldFits : Command → Answer → Type 0
   ToldFits command answer = AskIs command (λ version question.
       IsReadable Stands n (asked_version version n)
-      × Tells (2 ^ log.side) (world_has models log.records (asked_version version n)) question
-      answer)
+      × TellsVersion models log (asked_version version n) question answer)
 
   abbrev pub SavedFits : Command → ℕ → Type 0
   SavedFits command cells = SaveIs command (λ version part.
@@ -88,10 +98,7 @@ module _ (p : Layout) (models : List Content) (log : Log) (Stands : ℕ → Type
   abbrev pub SameFits : Command → Bool → Type 0
   SameFits command same = SameIs command (λ v w.
       IsReadable Stands n v × IsReadable Stands n w
-      × MatchBool same
-      (SameWorld (2 ^ log.side) (world_has models log.records v) (world_has models log.records w))
-      (SameWorld (2 ^ log.side) (world_has models log.records v) (world_has models log.records w)
-      → ⊥))
+      × MatchBool same (AreSame models log v w) (AreSame models log v w → ⊥))
 
   abbrev pub HeadFits : Command → Type 0
   HeadFits command = command ≡ Head
@@ -126,6 +133,7 @@ module _ (p : Layout) (models : List Content) (log : Log) (Stands : ℕ → Type
   FitsBy command answers.Done = DoneFits command
   FitsBy command (answers.Forgot v) = ForgotFits command v
   FitsBy command (answers.Is set) = ToldFits command (answers.Is set)
+  FitsBy command (answers.Colour tint) = ToldFits command (answers.Colour tint)
   FitsBy command (answers.Count cells) = ToldFits command (answers.Count cells)
   FitsBy command (answers.Faces faces) = ToldFits command (answers.Faces faces)
   FitsBy command (answers.Extent least) = ToldFits command (answers.Extent least)

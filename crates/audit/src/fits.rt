@@ -1,5 +1,5 @@
 //! Whether a transcript's line answers a script's line.
-ghost use Rattle.std.specs.Prelude.{◌≡◌, ◌<◌, ◌≤◌, ◌^◌, ◌↔◌, ℕ, List, length, IsTrue, Bool, true, None, Some};
+ghost use Rattle.std.specs.Prelude.{◌≡◌, ◌<◌, ◌≤◌, ◌^◌, ◌↔◌, ℕ, List, length, IsTrue, Bool, true, false, None, Some};
 ghost use Rattle.vw_cell.specs.Counts.{number_in};
 ghost use Rattle.history_model.specs.Moments.{world_has};
 ghost use Rattle.history_model.specs.declared.questions.Question.TheVariants as questions;
@@ -7,12 +7,10 @@ ghost use Rattle.script.specs.Fitting.{CommandFits};
 ghost use Rattle.script.specs.declared.commands.Command.TheVariants.{Head};
 ghost use Rattle.transcript.specs.declared.answers.Answer.TheVariants as answers;
 ghost use Rattle.conformance.specs.Answers.{IsReadable, IsStanding, LineFits, asked_version};
-ghost use Rattle.conformance.specs.Telling.{Tells};
 ghost use Rattle.std.specs.Bool.{MatchBool};
 ghost use Rattle.vw_cell.specs.Places.{FitsAt};
-ghost use Rattle.block_contents.specs.Versions.{SameWorld};
 ghost use Rattle.audit.specs.Reruns.{IsRerun};
-ghost use Rattle.audit.specs.Fitting.{FitsBy, ToldFits, SavedFits, SameFits};
+ghost use Rattle.audit.specs.Fitting.{FitsBy, ToldFits, SavedFits, SameFits, AreSame};
 
 use crate::lines;
 use crate::reruns::Rerun;
@@ -35,7 +33,7 @@ impl<L: Ledger> Rerun<L> {
         a: &LineAnswer,
     ) -> bool
         requires rerun { IsRerun log.now self.old.replay self.old.ways.items self.old.table.items }
-        requires fits { CommandFits (2 ^ log.now.side) self.old.replay.models l.now.command }
+        requires fits { CommandFits false (2 ^ log.now.side) self.old.replay.models l.now.command }
         ensures fits { IsTrue result ↔ LineFits judged.now self.old.replay.models log.now session
             l.now a.now }
         ensures same { self.new ≡ self.old }
@@ -59,7 +57,7 @@ impl<L: Ledger> Rerun<L> {
     ) -> bool
         requires rerun { IsRerun log.now self.old.replay self.old.ways.items self.old.table.items }
         requires there { n ≤ length log.now.records }
-        requires fits { CommandFits (2 ^ log.now.side) self.old.replay.models command.now }
+        requires fits { CommandFits false (2 ^ log.now.side) self.old.replay.models command.now }
         ensures fits { IsTrue result ↔ FitsBy judged.now self.old.replay.models log.now
             (IsStanding log.now.marks session line n) session line n command.now answer }
         ensures same { self.new ≡ self.old }
@@ -68,6 +66,7 @@ impl<L: Ledger> Rerun<L> {
             Answer::Done => lines::done_fits(log, session, line, n, command),
             Answer::Forgot(v) => self.forgot_fits(log, session, line, n, command, v),
             Answer::Is(_) => self.told_fits(log, judged, session, line, n, command, answer),
+            Answer::Colour(_) => self.told_fits(log, judged, session, line, n, command, answer),
             Answer::Count(_) => self.told_fits(log, judged, session, line, n, command, answer),
             Answer::Faces(_) => self.told_fits(log, judged, session, line, n, command, answer),
             Answer::Extent(_) => self.told_fits(log, judged, session, line, n, command, answer),
@@ -102,7 +101,7 @@ impl<L: Ledger> Rerun<L> {
     ) -> bool
         requires rerun { IsRerun log.now self.old.replay self.old.ways.items self.old.table.items }
         requires there { n ≤ length log.now.records }
-        requires fits { CommandFits (2 ^ log.now.side) self.old.replay.models command.now }
+        requires fits { CommandFits false (2 ^ log.now.side) self.old.replay.models command.now }
         ensures fits { IsTrue result ↔ ToldFits judged.now self.old.replay.models log.now
             (IsStanding log.now.marks session line n) session line n command.now answer }
         ensures same { self.new ≡ self.old }
@@ -134,7 +133,7 @@ impl<L: Ledger> Rerun<L> {
     ) -> bool
         requires rerun { IsRerun log.now self.old.replay self.old.ways.items self.old.table.items }
         requires there { n ≤ length log.now.records }
-        requires fits { CommandFits (2 ^ log.now.side) self.old.replay.models command.now }
+        requires fits { CommandFits false (2 ^ log.now.side) self.old.replay.models command.now }
         ensures fits { IsTrue result ↔ SavedFits judged.now self.old.replay.models log.now
             (IsStanding log.now.marks session line n) session line n command.now cells }
         ensures same { self.new ≡ self.old }
@@ -199,14 +198,10 @@ impl<L: Ledger> Rerun<L> {
     fn is_same(&self, log: &History, v: u32, w: u32, same: bool) -> bool
         requires rerun { IsRerun log.now self.now.replay self.now.ways.items self.now.table.items }
         requires there { (v ≤ length log.now.records) × (w ≤ length log.now.records) }
-        ensures { IsTrue result ↔ MatchBool same (SameWorld (2 ^ log.now.side)
-            (world_has self.now.replay.models log.now.records v)
-            (world_has self.now.replay.models log.now.records w))
-            (SameWorld (2 ^ log.now.side)
-            (world_has self.now.replay.models log.now.records v)
-            (world_has self.now.replay.models log.now.records w) → ⊥) }
+        ensures { IsTrue result ↔ MatchBool same (AreSame self.now.replay.models log.now v w)
+            (AreSame self.now.replay.models log.now v w → ⊥) }
     {
-        let is = self.has_same_cells(log, v, w);
+        let is = self.are_same(log, v, w);
         if same {
             return is;
         }

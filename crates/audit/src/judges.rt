@@ -1,7 +1,7 @@
 //! Whether a history, scripts and transcripts are those of one run.
-ghost use Rattle.std.specs.Prelude.{◌≡◌, ◌+◌, ◌<◌, ◌≤◌, ◌^◌, ◌↔◌, All, IfOk, IfErr, IfSome, IsTrue, MatchOption, length};
+ghost use Rattle.std.specs.Prelude.{◌≡◌, ◌+◌, ◌<◌, ◌≤◌, ◌^◌, ◌↔◌, false, All, IfOk, IfErr, IfSome, IsTrue, MatchOption, length};
 ghost use Rattle.vox_read.specs.Contents.{AreModels};
-ghost use Rattle.history_model.specs.Logs.{FitsWorld, IsLegal};
+ghost use Rattle.history_model.specs.Logs.{FitsWorld, IsLegal, IsPlain};
 ghost use Rattle.node_words.specs.Plans.{is_number_of_buckets};
 ghost use Rattle.script.specs.Fitting.{CommandFits, RisesFrom};
 ghost use Rattle.store_run.specs.Replaying.{replay_plan};
@@ -25,11 +25,13 @@ use vw_cell::Side;
 
 /// Whether the history is legal and agrees with the scripts and their transcripts, which show just
 /// it: script k and transcript k are those of session k. A full bucket that a transcript tells is
-/// judged by the usual buckets of each level, or by so many on each.
+/// judged by the usual buckets of each level, or by so many on each. Where `keep` isn't 0, the
+/// history has to hold its last `keep` versions alone: a version that falls out has its mark by
+/// then, and is shown by the record that pushes it out, unless a line forgot it.
 ///
 /// The history is replayed once, up to its first record that can't follow those before it, and
-/// every version is kept, also one that is forgotten.
-#[tactic(auto, using(crate::proofs::Judging::audited_by_plan, crate::proofs::Judging::refused_by_plan))]
+/// every version is kept, also one that is forgotten. A coloured history isn't judged yet.
+#[tactic(auto, using(crate::proofs::Judging::audited_by_plan))]
 pub fn audit(
     alloc: Global,
     history: &History,
@@ -37,15 +39,17 @@ pub fn audit(
     scripts: &[Script],
     transcripts: &[Transcript],
     buckets: Option<u16>,
+    keep: u32,
 ) -> Result<bool, AuditRefused>
     requires models { AreModels models }
+    requires plain { IsPlain history.now }
     requires buckets { IfSome buckets (λ b. IsTrue (is_number_of_buckets b)) }
-    requires fits { All (All (λ l. CommandFits (2 ^ history.now.side) models l.command))
+    requires fits { All (All (λ l. CommandFits false (2 ^ history.now.side) models l.command))
         scripts.now }
     requires rise { All (RisesFrom 1) scripts.now }
     requires few { length scripts.now ≤ 64 }
     ensures answer { IfOk result
-        (λ answer. IsTrue answer ↔ IsAudited (judged_by history.now.side buckets) models
+        (λ answer. IsTrue answer ↔ IsAudited keep (judged_by history.now.side buckets) models
         history.now scripts.now transcripts.now) }
     ensures refused { IfErr result (RefusesAudit models history.now) }
 {
@@ -63,6 +67,7 @@ pub fn audit(
         transcripts,
         &judged,
         &replayed,
+        keep,
         blank,
     )
 }
@@ -81,7 +86,7 @@ fn judging_plan(side: Side, buckets: Option<u16>) -> Plan
     }
 }
 
-#[tactic(auto, using(crate::proofs::Judging::audited_by, crate::proofs::Judging::never_audited))]
+#[tactic(auto, using(crate::proofs::Judging::audited_by, crate::proofs::Judging::never_audited, crate::proofs::Judging::never_kept))]
 fn audit_over<L: Ledger>(
     alloc: Global,
     log: &History,
@@ -90,12 +95,14 @@ fn audit_over<L: Ledger>(
     transcripts: &[Transcript],
     judged: &Plan,
     replayed: &Plan,
+    keep: u32,
     blank: Blank,
 ) -> Result<bool, AuditRefused>
     requires models { AreModels models }
+    requires plain { IsPlain log.now }
     requires side { judged.now.side ≡ log.now.side }
     requires replayed { replayed.now.side ≡ log.now.side }
-    requires fits { All (All (λ l. CommandFits (2 ^ log.now.side) models l.command))
+    requires fits { All (All (λ l. CommandFits false (2 ^ log.now.side) models l.command))
         scripts.now }
     requires rise { All (RisesFrom 1) scripts.now }
     requires few { length scripts.now ≤ 64 }
@@ -103,13 +110,16 @@ fn audit_over<L: Ledger>(
     requires parts { blank.parts ≡ L.parts }
     requires some { 0 < L.parts }
     ensures answer { IfOk result (λ answer. IsTrue answer
-        ↔ IsAudited judged.now models log.now scripts.now transcripts.now) }
+        ↔ IsAudited keep judged.now models log.now scripts.now transcripts.now) }
     ensures refused { IfErr result (RefusesAlong replayed.now models log.now.records) }
 {
     match run_again::<L>(alloc, log, models, replayed, blank) {
         Ok(Some(rerun)) => {
             let mut rerun = rerun;
-            Ok(rerun.agrees(log, judged, scripts, transcripts))
+            if !rerun.keeps_last(log, keep) {
+                return Ok(false);
+            }
+            Ok(rerun.agrees(log, judged, scripts, transcripts, keep))
         }
         Ok(None) => Ok(false),
         Err(refused) => Err(refused),
@@ -126,6 +136,7 @@ fn run_again<L: Ledger>(
     blank: Blank,
 ) -> Result<Option<Rerun<L>>, AuditRefused>
     requires models { AreModels models }
+    requires plain { IsPlain log.now }
     requires side { replayed.now.side ≡ log.now.side }
     requires name { blank.name ≡ L.name }
     requires parts { blank.parts ≡ L.parts }

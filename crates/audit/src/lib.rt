@@ -1,5 +1,9 @@
 //! Whether a journal, scripts and transcripts are those of one run, told without the program that
 //! ran them.
+//!
+//! It reads each answer against the history, and carries the history out again over the store for
+//! one thread where cells are asked for. What its yes and its no mean is said in
+//! `specs/Audits.antt`, in the terms of `conformance`; no text occurs here.
 #![tactic(auto)]
 
 mod answering;

@@ -1,6 +1,6 @@
 ghost use Rattle.std.specs.Prelude.{◌≡◌, ◌<◌, ◌≤◌, ◌+◌, ◌↔◌, IsTrue, IfOk, MatchOption, length, slice_index_or, Some, None, List, ℕ};
 ghost use Rattle.store_run.specs.Marked.{AreLegalMarks};
-ghost use Rattle.audit.specs.Marks.{TellsMarks, HeldBy, StandsBy, ForgottenBy};
+ghost use Rattle.audit.specs.Marks.{TellsMarks, HeldBy, StandsBy, MarkedBy, ForgottenBy};
 
 use history_model::Mark;
 use std::alloc::Global;
@@ -67,6 +67,16 @@ pub(crate) fn stands(mark: Option<Mark>, session: u16, line: u32, n: u32) -> boo
     match mark {
         None => true,
         Some(mark) => n <= mark.at && (mark.session != session || line <= mark.line),
+    }
+}
+
+// Whether it was marked at n records or fewer.
+pub(crate) fn is_marked_by(mark: Option<Mark>, n: u32) -> bool
+    ensures { IsTrue result ↔ MarkedBy mark n }
+{
+    match mark {
+        None => false,
+        Some(mark) => mark.at <= n,
     }
 }
 

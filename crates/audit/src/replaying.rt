@@ -1,7 +1,7 @@
-ghost use Rattle.std.specs.Prelude.{◌≡◌, ◌+◌, ◌<◌, ◌≤◌, ◌^◌, ◌++◌, ◌∷◌, true, [], List, length, take, All, IfOk, IfErr, MatchOption, Ok, IsTrue, ◌↔◌};
+ghost use Rattle.std.specs.Prelude.{◌≡◌, ◌+◌, ◌<◌, ◌≤◌, ◌^◌, ◌++◌, ◌∷◌, true, false, [], List, length, take, All, IfOk, IfErr, MatchOption, Ok, IsTrue, ◌↔◌};
 ghost use Rattle.conformance.specs.Answers.{target_at};
 ghost use Rattle.history_model.specs.declared.histories.Mark.{Mark};
-ghost use Rattle.history_model.specs.Logs.{FitsWorld};
+ghost use Rattle.history_model.specs.Logs.{FitsWorld, suits_tints};
 ghost use Rattle.audit.specs.Marks.{TellsMarks};
 ghost use Rattle.store_run.specs.Replaying.{MakesOnlyParts};
 ghost use Rattle.audit.specs.Audits.{RefusesAlong};
@@ -30,6 +30,7 @@ pub(crate) fn replay_all<L: Ledger>(
 ) -> Result<Option<Vec<Ways>>, AuditRefused>
     requires empty { replay.old.records ≡ [] }
     requires few { length records.now ≤ 65535 }
+    requires plain { All (λ r. suits_tints false r.act ≡ true) records.now }
     requires fit { All (λ r. FitsWorld (2 ^ replay.old.plan.side) replay.old.models r.act)
         records.now }
     requires made { MakesOnlyParts replay.old }
@@ -78,6 +79,7 @@ fn step<L: Ledger>(
     table: &[Option<Mark>],
 ) -> Result<bool, AuditRefused>
     requires early { length replay.old.records < 65535 }
+    requires plain { suits_tints false next.act ≡ true }
     requires fits { FitsWorld (2 ^ replay.old.plan.side) replay.old.models next.act }
     requires made { MakesOnlyParts replay.old }
     ensures plan { replay.new.plan ≡ replay.old.plan }

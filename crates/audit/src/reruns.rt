@@ -2,12 +2,11 @@
 ghost use Rattle.std.specs.Prelude.{◌≡◌, ◌+◌, ◌<◌, ◌≤◌, ◌^◌, ◌↔◌, ℕ, List, length, IsTrue, Some, None};
 ghost use Rattle.std.specs.List.{Contains};
 ghost use Rattle.vw_cell.specs.Counts.{number_in};
-ghost use Rattle.history_model.specs.Moments.{world_has};
-ghost use Rattle.block_contents.specs.Versions.{SameWorld};
 ghost use Rattle.script.specs.Fitting.{QuestionFits};
 ghost use Rattle.vw_cell.specs.Places.{FitsAt};
 ghost use Rattle.conformance.specs.Answers.{IsStanding, IsReadable, IsForgotten, target_at, mark_of};
-ghost use Rattle.conformance.specs.Telling.{Tells};
+ghost use Rattle.versions.specs.Retained.{KeepsLast};
+ghost use Rattle.audit.specs.Fitting.{TellsVersion, AreSame};
 ghost use Rattle.audit.specs.Reruns.{IsRerun};
 
 use crate::marks;
@@ -71,6 +70,24 @@ impl<L: Ledger> Rerun<L> {
         )
     }
 
+    // Whether each version that fell out of the last `keep` had its mark by then.
+    pub(crate) fn keeps_last(&self, log: &History, keep: u32) -> bool
+        requires { IsRerun log.now self.now.replay self.now.ways.items self.now.table.items }
+        ensures { IsTrue result ↔ KeepsLast keep log.now }
+    {
+        if keep == 0 {
+            return true;
+        }
+        let fallen = (log.records.len() + 1).saturating_sub(keep as usize);
+        for version in 0..fallen {
+            let mark = marks::mark_of(self.table.as_slice(), version as u32);
+            if !marks::is_marked_by(mark, version as u32 + keep) {
+                return false;
+            }
+        }
+        true
+    }
+
     // Whether the history has this mark.
     #[tactic(auto, using(crate::proofs::Recalling::mark_rerun))]
     pub(crate) fn has_mark(
@@ -121,22 +138,19 @@ impl<L: Ledger> Rerun<L> {
         requires rerun { IsRerun log.now self.old.replay self.old.ways.items self.old.table.items }
         requires there { version ≤ length log.now.records }
         requires fits { QuestionFits (2 ^ log.now.side) question }
-        ensures tells { IsTrue result ↔ Tells (2 ^ log.now.side)
-            (world_has self.old.replay.models log.now.records version) question answer }
+        ensures tells { IsTrue result ↔ TellsVersion self.old.replay.models log.now version
+            question answer }
         ensures same { self.new ≡ self.old }
     {
         let told = self.replay.ask(version, question);
         is_told(told, answer)
     }
 
-    // Whether two versions have the same cells.
-
-    pub(crate) fn has_same_cells(&self, log: &History, v: u32, w: u32) -> bool
+    // Whether two versions have the same tints: in a plain history, where they have the same cells.
+    pub(crate) fn are_same(&self, log: &History, v: u32, w: u32) -> bool
         requires rerun { IsRerun log.now self.now.replay self.now.ways.items self.now.table.items }
         requires there { (v ≤ length log.now.records) × (w ≤ length log.now.records) }
-        ensures { IsTrue result ↔ SameWorld (2 ^ log.now.side)
-            (world_has self.now.replay.models log.now.records v)
-            (world_has self.now.replay.models log.now.records w) }
+        ensures { IsTrue result ↔ AreSame self.now.replay.models log.now v w }
     {
         self.replay.has_same_cells(v, w)
     }

@@ -1,10 +1,11 @@
 //! Whether a session's transcript answers its script.
-ghost use Rattle.std.specs.Prelude.{◌≡◌, ◌+◌, ◌<◌, ◌≤◌, ◌^◌, ◌↔◌, ℕ, length, IsTrue, All, AllPairs};
+ghost use Rattle.std.specs.Prelude.{◌≡◌, ◌+◌, ◌<◌, ◌≤◌, ◌^◌, ◌↔◌, ℕ, false, length, IsTrue, All, AllPairs};
 ghost use Rattle.std.specs.List.{AllZip};
 ghost use Rattle.script.specs.Fitting.{CommandFits, RisesFrom};
 ghost use Rattle.transcript.specs.declared.answers.Answer.TheVariants as answers;
 ghost use Rattle.conformance.specs.Answers.{LineFits};
-ghost use Rattle.conformance.specs.Agreeing.{InOrder, SessionAgrees, SessionsAgree, Agrees};
+ghost use Rattle.versions.specs.Retained.{KeepsLast};
+ghost use Rattle.conformance.specs.Agreeing.{InOrder, SessionAgrees, SessionsAgree, AgreesKeeping};
 ghost use Rattle.audit.specs.Reruns.{IsRerun};
 ghost use Rattle.audit.specs.Sessions.{IsAfter, FollowsLast};
 
@@ -29,7 +30,8 @@ impl<L: Ledger> Rerun<L> {
         transcript: &[LineAnswer],
     ) -> bool
         requires rerun { IsRerun log.now self.old.replay self.old.ways.items self.old.table.items }
-        requires fits { All (λ l. CommandFits (2 ^ log.now.side) self.old.replay.models l.command)
+        requires fits { All
+            (λ l. CommandFits false (2 ^ log.now.side) self.old.replay.models l.command)
             script.now }
         ensures fits { IsTrue result ↔ SessionAgrees judged.now self.old.replay.models log.now
             session script.now transcript.now }
@@ -54,7 +56,8 @@ impl<L: Ledger> Rerun<L> {
         transcript: &[LineAnswer],
     ) -> bool
         requires rerun { IsRerun log.now self.old.replay self.old.ways.items self.old.table.items }
-        requires fits { All (λ l. CommandFits (2 ^ log.now.side) self.old.replay.models l.command)
+        requires fits { All
+            (λ l. CommandFits false (2 ^ log.now.side) self.old.replay.models l.command)
             script.now }
         requires as_many { length script.now ≡ length transcript.now }
         ensures fits { IsTrue result ↔ AllZip (LineFits judged.now self.old.replay.models log.now
@@ -107,7 +110,8 @@ fn is_after(n: u32, a: LineAnswer) -> bool
 }
 
 impl<L: Ledger> Rerun<L> {
-    // Whether the history, the scripts and the transcripts agree.
+    // Whether the history, which keeps its last `keep` versions alone, the scripts and the
+    // transcripts agree.
     #[tactic(auto, using(crate::proofs::Gathering::agrees_by))]
     pub(crate) fn agrees(
         &mut self,
@@ -115,18 +119,21 @@ impl<L: Ledger> Rerun<L> {
         judged: &Plan,
         scripts: &[Script],
         transcripts: &[Transcript],
+        keep: u32,
     ) -> bool
         requires rerun { IsRerun log.now self.old.replay self.old.ways.items self.old.table.items }
         requires fits { All (All
-            (λ l. CommandFits (2 ^ log.now.side) self.old.replay.models l.command)) scripts.now }
+            (λ l. CommandFits false (2 ^ log.now.side) self.old.replay.models l.command))
+            scripts.now }
         requires rise { All (RisesFrom 1) scripts.now }
         requires few { length scripts.now ≤ 64 }
         requires marks { AllPairs (λ a b. a.version < b.version) log.now.marks }
-        ensures fits { IsTrue result ↔ Agrees judged.now self.old.replay.models log.now
-            scripts.now transcripts.now }
+        requires last { KeepsLast keep log.now }
+        ensures fits { IsTrue result ↔ AgreesKeeping keep judged.now self.old.replay.models
+            log.now scripts.now transcripts.now }
         ensures same { self.new ≡ self.old }
     {
-        if !show_as_many(log, transcripts) {
+        if !show_as_many(log, transcripts, keep) {
             return false;
         }
         self.sessions_fit(log, judged, scripts, transcripts)
@@ -143,7 +150,8 @@ impl<L: Ledger> Rerun<L> {
     ) -> bool
         requires rerun { IsRerun log.now self.old.replay self.old.ways.items self.old.table.items }
         requires fits { All (All
-            (λ l. CommandFits (2 ^ log.now.side) self.old.replay.models l.command)) scripts.now }
+            (λ l. CommandFits false (2 ^ log.now.side) self.old.replay.models l.command))
+            scripts.now }
         requires few { length scripts.now ≤ 64 }
         ensures fits { IsTrue result ↔ SessionsAgree judged.now self.old.replay.models log.now
             0 scripts.now transcripts.now }
@@ -165,7 +173,8 @@ impl<L: Ledger> Rerun<L> {
     ) -> bool
         requires rerun { IsRerun log.now self.old.replay self.old.ways.items self.old.table.items }
         requires fits { All (All
-            (λ l. CommandFits (2 ^ log.now.side) self.old.replay.models l.command)) scripts.now }
+            (λ l. CommandFits false (2 ^ log.now.side) self.old.replay.models l.command))
+            scripts.now }
         requires few { length scripts.now ≤ 64 }
         requires as_many { length scripts.now ≡ length transcripts.now }
         ensures fits { IsTrue result ↔ SessionsAgree judged.now self.old.replay.models log.now
@@ -190,7 +199,8 @@ impl<L: Ledger> Rerun<L> {
         transcript: &Transcript,
     ) -> bool
         requires rerun { IsRerun log.now self.old.replay self.old.ways.items self.old.table.items }
-        requires fits { All (λ l. CommandFits (2 ^ log.now.side) self.old.replay.models l.command)
+        requires fits { All
+            (λ l. CommandFits false (2 ^ log.now.side) self.old.replay.models l.command)
             script.now }
         ensures fits { IsTrue result ↔ SessionAgrees judged.now self.old.replay.models log.now
             session script.now transcript.now }

@@ -5,7 +5,7 @@ use Rattle.std.specs.List.{AllPairs}
 use Rattle.std.proofs.lemmas.List.Elements.{All-cons, All-head, All-tail}
 use Rattle.std.proofs.lemmas.List.Kept.{AllPairs-cons}
 use Rattle.history_model.specs.declared.acts.Act.{Act}
-use Rattle.history_model.specs.declared.acts.Act.TheVariants.{Fill, Erase, Ball, Carve, Copy, Stamp, Undo, Redo}
+use Rattle.history_model.specs.declared.acts.Act.TheVariants.{Fill, Erase, Ball, Carve, Copy, Stamp, Tint, Undo, Redo}
 use Rattle.history_model.specs.declared.histories.Record.{Record}
 use Rattle.history_model.specs.declared.histories.Mark.{Mark}
 use Rattle.history_model.specs.Positions.{Position, next_position}
@@ -88,6 +88,7 @@ may_follow_stays marks more n (Ball b) at held may = may
 may_follow_stays marks more n (Carve b) at held may = may
 may_follow_stays marks more n (Copy b to) at held may = may
 may_follow_stays marks more n (Stamp m to) at held may = may
+may_follow_stays marks more n (Tint t) at held may = may
 may_follow_stays marks more n Undo at held may = target_stays marks more n at.past held may
 may_follow_stays marks more n Redo at held may = target_stays marks more n at.future held may
 

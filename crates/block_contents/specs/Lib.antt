@@ -5,9 +5,12 @@ pub mod MarkLists
 pub mod Statements
 pub use Rattle.history_model.specs.Contents as HistoryModelContents
 pub use Rattle.history_model.specs.declared.acts.Act
+pub use Rattle.history_model.specs.declared.acts.TintAct
 pub use Rattle.history_model.specs.declared.histories.Record
 pub use Rattle.history_model.specs.Worlds
 pub use Rattle.history_model.specs.Moments
+pub use Rattle.history_model.specs.Stores
+pub use Rattle.history_model.specs.StoreLaws
 pub use Rattle.history_model.specs.declared.histories.Mark
 pub use Rattle.history_model.specs.Logs
 pub use Rattle.history_model.specs.Positions

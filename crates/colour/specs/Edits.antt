@@ -6,8 +6,8 @@ use Rattle.node_words.specs.Held.{Seen}
 use Rattle.node_words.specs.Gathering.{Grows, Fails}
 use Rattle.history_model.specs.Worlds.{World}
 use Rattle.edit_cells.specs.Worlds.{ForEdited, Rebuilt, world_shape}
-use Rattle.tints.specs.Planes.{plane_at}
-use Rattle.tints.specs.Parts.{in_cube}
+use Rattle.history_model.specs.Planes.{plane_at}
+use Rattle.history_model.specs.Parts.{in_cube}
 
 -- an edit that is made in one plane of a store whose side is this power of two
 abbrev pub made_at : ℕ → ℕ → (World → World) → World → World

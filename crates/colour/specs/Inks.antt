@@ -8,11 +8,12 @@ use Rattle.vox_read.specs.Contents.{Content, colour_at}
 use Rattle.cell_shapes.specs.CellShapes.{bits_below}
 use Rattle.edit_stamp.specs.Drawings.{Drawn, drawn_cells}
 use Rattle.history_model.specs.Worlds.{World}
-use Rattle.tints.specs.declared.acts.TintAct.{TintAct}
-use Rattle.tints.specs.declared.acts.TintAct.TheVariants.{Stamp}
-use Rattle.tints.specs.Tints.{Tints, TintFits, tints_from, untinted}
-use Rattle.tints.specs.Planes.{tells}
-use Rattle.tints.specs.Parts.{part}
+use Rattle.history_model.specs.declared.acts.TintAct.{TintAct}
+use Rattle.history_model.specs.declared.acts.TintAct.TheVariants.{Stamp}
+use Rattle.history_model.specs.Tints.{Tints, tints_from, untinted}
+use Rattle.history_model.specs.Logs.{TintFits}
+use Rattle.history_model.specs.Planes.{tells}
+use Rattle.history_model.specs.Parts.{part}
 
 -- a model's size, and the places of its tints that have each of eight bits
 pub record Inked : Type 0 where

@@ -6,10 +6,11 @@ ghost use Rattle.node_shapes.specs.declared.names.Name.{Name};
 ghost use Rattle.node_words.specs.Held.{Seen};
 ghost use Rattle.history_model.specs.Worlds.{World};
 ghost use Rattle.edit_cells.specs.Worlds.{ShowsWorld};
-ghost use Rattle.tints.specs.declared.acts.TintAct.{TintAct};
-ghost use Rattle.tints.specs.Tints.{Tints, TintFits, tinted, tints_from, stamp_tint};
-ghost use Rattle.tints.specs.Planes.{StoresTints};
-ghost use Rattle.tints.specs.Parts.{part_number};
+ghost use Rattle.history_model.specs.declared.acts.TintAct.{TintAct};
+ghost use Rattle.history_model.specs.Tints.{Tints, tinted, tints_from, stamp_tint};
+ghost use Rattle.history_model.specs.Logs.{TintFits};
+ghost use Rattle.history_model.specs.Planes.{StoresTints};
+ghost use Rattle.history_model.specs.Parts.{part_number};
 ghost use Rattle.colour.specs.Inks.{Inked, DrawsTints, HasInk, parts_in, tints_of};
 ghost use Rattle.colour.specs.Made.{PartsMade};
 

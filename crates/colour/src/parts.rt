@@ -1,95 +1,19 @@
 ghost use Rattle.std.specs.Prelude.{◌≡◌, ◌-◌, ◌^◌, ◌<◌, ◌≤◌, ℕ, option_copied};
-ghost use Rattle.vw_cell.specs.Places.{FitsAt, IsInWorld, is_in_box, is_in_ball};
+ghost use Rattle.vw_cell.specs.Places.{FitsAt};
 ghost use Rattle.node_shapes.specs.Weights.{number_of_trees};
 ghost use Rattle.block_walk.specs.Roots.{HoldsRoot};
 ghost use Rattle.history_model.specs.Worlds.{copied};
-ghost use Rattle.tints.specs.Parts.{put, unstamped, stamped_in};
+ghost use Rattle.history_model.specs.Parts.{unstamped, stamped_in};
 ghost use Rattle.colour.specs.Edits.{RebuildsEdit, GrowsByEdit, RefusesEdit, made_at};
 ghost use Rattle.colour.specs.Inks.{ink_at};
 
-use crate::planes::{plane_at, plus, quarter};
+use crate::planes::{plane_at, plus};
 use crate::stencils::TintStencil;
 use edit_copy::rebuild_copy;
-use edit_ops::{rebuild_ball_in, rebuild_box};
 use edit_stamp::{rebuild_stamp, rebuild_unstamp};
 use node_words::{Full, NodeStore, Share, Steps};
 use std::sync::ledger::Ledger;
-use vw_cell::{Ball, Boxed, Cell, Side};
-
-// The cells of a box set or cleared in one plane.
-pub(crate) fn box_part<N: NodeStore, L: Ledger>(
-    store: &mut N,
-    old: Option<&Share>,
-    side: Side,
-    plane: u8,
-    b: Boxed,
-    set: bool,
-    steps: &mut Steps<L>,
-) -> Result<Option<Share>, Full>
-    requires side { side ≡ (N.seen store.old).plan.side }
-    requires large { 4 ≤ side }
-    requires plane { plane < 9 }
-    requires inside { FitsAt b.at b.size (2 ^ (side - 2)) }
-    requires old { HoldsRoot (N.seen store.old).held side (option_copied old) }
-    requires room { number_of_trees (N.seen store.old).held ≤ 3910 }
-    ensures ok { RebuildsEdit (N.seen store.old) side (option_copied old.entry)
-        (made_at side plane (put set (is_in_box b)))
-        result (N.seen store.new) }
-    ensures grows { GrowsByEdit (N.seen store.old) side (option_copied old.entry)
-        (made_at side plane (put set (is_in_box b)))
-        result (N.seen store.new) }
-    ensures full { RefusesEdit (N.seen store.old) side (option_copied old.entry)
-        (made_at side plane (put set (is_in_box b)))
-        result (N.seen store.new) }
-    ensures rests { N.rests store.old store.new }
-{
-    let corner = plane_at(side, plane);
-    let moved = Boxed {
-        at: plus(corner, b.at),
-        size: b.size,
-    };
-    rebuild_box(store, old, side, moved, set, steps)
-}
-
-// The cells of a ball set or cleared in one plane.
-pub(crate) fn ball_part<N: NodeStore, L: Ledger>(
-    store: &mut N,
-    old: Option<&Share>,
-    side: Side,
-    plane: u8,
-    ball: Ball,
-    set: bool,
-    steps: &mut Steps<L>,
-) -> Result<Option<Share>, Full>
-    requires side { side ≡ (N.seen store.old).plan.side }
-    requires large { 4 ≤ side }
-    requires plane { plane < 9 }
-    requires inside { IsInWorld (2 ^ (side - 2)) ball.centre }
-    requires old { HoldsRoot (N.seen store.old).held side (option_copied old) }
-    requires room { number_of_trees (N.seen store.old).held ≤ 3910 }
-    ensures ok { RebuildsEdit (N.seen store.old) side (option_copied old.entry)
-        (made_at side plane (put set (is_in_ball ball)))
-        result (N.seen store.new) }
-    ensures grows { GrowsByEdit (N.seen store.old) side (option_copied old.entry)
-        (made_at side plane (put set (is_in_ball ball)))
-        result (N.seen store.new) }
-    ensures full { RefusesEdit (N.seen store.old) side (option_copied old.entry)
-        (made_at side plane (put set (is_in_ball ball)))
-        result (N.seen store.new) }
-    ensures rests { N.rests store.old store.new }
-{
-    let corner = plane_at(side, plane);
-    let n = quarter(side);
-    let cube = Boxed {
-        at: corner,
-        size: Cell { x: n, y: n, z: n },
-    };
-    let moved = Ball {
-        centre: plus(corner, ball.centre),
-        radius: ball.radius,
-    };
-    rebuild_ball_in(store, old, side, moved, cube, set, steps)
-}
+use vw_cell::{Boxed, Cell, Side};
 
 // The cells of a box copied within one plane.
 pub(crate) fn copy_part<N: NodeStore, L: Ledger>(

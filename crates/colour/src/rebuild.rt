@@ -4,19 +4,18 @@ ghost use Rattle.node_shapes.specs.Weights.{number_of_trees};
 ghost use Rattle.node_words.specs.Held.{Seen};
 ghost use Rattle.block_walk.specs.Roots.{HoldsRoot};
 ghost use Rattle.vw_cell.specs.Places.{FitsAt};
-ghost use Rattle.tints.specs.Parts.{part_number, stamp_part};
+ghost use Rattle.history_model.specs.Parts.{part_number, stamp_part};
 ghost use Rattle.colour.specs.Edits.{RebuildsEdit, GrowsByEdit, RefusesEdit};
 ghost use Rattle.colour.specs.Inks.{FitsInk, ink_at, parts_in};
-ghost use Rattle.colour.specs.Made.{PartsMade, PartsFail};
+ghost use Rattle.colour.specs.Made.{IsParted, PartsMade, PartsFail};
 
-use crate::idle::is_idle;
-use crate::parts::{ball_part, box_part, copy_part, stamp_part, unstamp_part};
-use crate::planes::tells;
+use crate::fills::{rebuild_ball_tint, rebuild_box_tint};
+use crate::parts::{copy_part, stamp_part, unstamp_part};
 use crate::stencils::TintStencil;
 use edit_blocks::back_if;
+use history_model::TintAct;
 use node_words::{Full, NodeStore, Share, Steps};
 use std::sync::ledger::Ledger;
-use tints::TintAct;
 use vw_cell::{Cell, Side};
 
 /// A share of the root of the store's world in which the parts of a tinted act were made one after
@@ -45,12 +44,47 @@ pub fn rebuild_tint<N: NodeStore, L: Ledger>(
         (part_number act.now) e.level e.bucket (N.seen store.new)) }
     ensures rests { N.rests store.old store.new }
 {
+    match *act {
+        TintAct::Fill(b, c) => rebuild_box_tint(store, old, side, b, c, steps),
+        TintAct::Erase(b) => rebuild_box_tint(store, old, side, b, 0, steps),
+        TintAct::Ball(ball, c) => rebuild_ball_tint(store, old, side, ball, c, steps),
+        TintAct::Carve(ball) => rebuild_ball_tint(store, old, side, ball, 0, steps),
+        TintAct::Copy(_, _) => by_parts(store, old, side, act, stencil, steps),
+        TintAct::Stamp(_, _) => by_parts(store, old, side, act, stencil, steps),
+    }
+}
+
+// The same by one part after another, for acts that put other cells in each plane.
+fn by_parts<N: NodeStore, L: Ledger>(
+    store: &mut N,
+    old: Option<&Share>,
+    side: Side,
+    act: &TintAct,
+    stencil: Option<&TintStencil>,
+    steps: &mut Steps<L>,
+) -> Result<Option<Share>, Full>
+    requires side { side ≡ (N.seen store.old).plan.side }
+    requires large { 4 ≤ side }
+    requires fits { FitsInk (2 ^ (side - 2)) act.now (option_copied stencil) }
+    requires parted { IsParted act.now }
+    requires old { HoldsRoot (N.seen store.old).held side (option_copied old) }
+    requires room { number_of_trees (N.seen store.old).held ≤ 3909 }
+    ensures made { IfOk result (λ r.
+        PartsMade (N.seen store.old) side (option_copied old.entry)
+        (parts_in (2 ^ (side - 2)) act.now (option_copied stencil.entry))
+        (part_number act.now) r (N.seen store.new)) }
+    ensures full { IfErr result (λ e.
+        PartsFail (N.seen store.old) side (option_copied old.entry)
+        (parts_in (2 ^ (side - 2)) act.now (option_copied stencil.entry))
+        (part_number act.now) e.level e.bucket (N.seen store.new)) }
+    ensures rests { N.rests store.old store.new }
+{
     let mut now = match make_part(store, old, side, act, stencil, 0, steps) {
         Ok(root) => root,
         Err(full) => return Err(full),
     };
     for k in 1..part_number(act) {
-        match step_part(store, now, side, act, stencil, k, steps) {
+        match next_part(store, now, side, act, stencil, k, steps) {
             Ok(root) => now = root,
             Err(full) => return Err(full),
         }
@@ -68,44 +102,6 @@ fn part_number(act: &TintAct) -> u8
     }
 }
 
-// One more part, over a root that goes back, or stays where the part changes nothing.
-fn step_part<N: NodeStore, L: Ledger>(
-    store: &mut N,
-    now: Option<Share>,
-    side: Side,
-    act: &TintAct,
-    stencil: Option<&TintStencil>,
-    k: u8,
-    steps: &mut Steps<L>,
-) -> Result<Option<Share>, Full>
-    requires side { side ≡ (N.seen store.old).plan.side }
-    requires large { 4 ≤ side }
-    requires fits { FitsInk (2 ^ (side - 2)) act.now (option_copied stencil) }
-    requires k { (1 ≤ k) × (k < part_number act.now) }
-    requires now { HoldsRoot (N.seen store.old).held side now }
-    requires room { number_of_trees (N.seen store.old).held ≤ 3910 }
-    ensures made { (first : Seen) (root : Option Name)
-        → PartsMade first side root
-        (parts_in (2 ^ (side - 2)) act.now (option_copied stencil.entry))
-        k now (N.seen store.old)
-        → IfOk result (λ r. PartsMade first side root
-        (parts_in (2 ^ (side - 2)) act.now (option_copied stencil.entry))
-        (suc k) r (N.seen store.new)) }
-    ensures full { (first : Seen) (root : Option Name)
-        → PartsMade first side root
-        (parts_in (2 ^ (side - 2)) act.now (option_copied stencil.entry))
-        k now (N.seen store.old)
-        → IfErr result (λ e. PartsFail first side root
-        (parts_in (2 ^ (side - 2)) act.now (option_copied stencil.entry))
-        (suc k) e.level e.bucket (N.seen store.new)) }
-    ensures rests { N.rests store.old store.new }
-{
-    if is_idle(store, now.as_ref(), side, act, k) {
-        return Ok(now);
-    }
-    next_part(store, now, side, act, stencil, k, steps)
-}
-
 // One more part, over a root that goes back.
 fn next_part<N: NodeStore, L: Ledger>(
     store: &mut N,
@@ -119,6 +115,7 @@ fn next_part<N: NodeStore, L: Ledger>(
     requires side { side ≡ (N.seen store.old).plan.side }
     requires large { 4 ≤ side }
     requires fits { FitsInk (2 ^ (side - 2)) act.now (option_copied stencil) }
+    requires parted { IsParted act.now }
     requires k { k < part_number act.now }
     requires now { HoldsRoot (N.seen store.old).held side now }
     requires room { number_of_trees (N.seen store.old).held ≤ 3910 }
@@ -156,6 +153,7 @@ fn make_part<N: NodeStore, L: Ledger>(
     requires side { side ≡ (N.seen store.old).plan.side }
     requires large { 4 ≤ side }
     requires fits { FitsInk (2 ^ (side - 2)) act.now (option_copied stencil) }
+    requires parted { IsParted act.now }
     requires k { k < part_number act.now }
     requires old { HoldsRoot (N.seen store.old).held side (option_copied old) }
     requires room { number_of_trees (N.seen store.old).held ≤ 3910 }
@@ -171,10 +169,10 @@ fn make_part<N: NodeStore, L: Ledger>(
     ensures rests { N.rests store.old store.new }
 {
     match *act {
-        TintAct::Fill(b, c) => box_part(store, old, side, k, b, tells(k, c), steps),
-        TintAct::Erase(b) => box_part(store, old, side, k, b, false, steps),
-        TintAct::Ball(ball, c) => ball_part(store, old, side, k, ball, tells(k, c), steps),
-        TintAct::Carve(ball) => ball_part(store, old, side, k, ball, false, steps),
+        TintAct::Fill(_, _) => unreachable!(),
+        TintAct::Erase(_) => unreachable!(),
+        TintAct::Ball(_, _) => unreachable!(),
+        TintAct::Carve(_) => unreachable!(),
         TintAct::Copy(b, to) => copy_part(store, old, side, k, b, to, steps),
         TintAct::Stamp(_, at) => match stencil {
             Some(drawn) => stamp_step(store, old, side, k, drawn, at, steps),

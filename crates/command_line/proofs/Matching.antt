@@ -37,7 +37,7 @@ no_defaults (a ∷ others) rows none = ap (λ rs. fold with_default rs others) (
 
 pub matched : (words : List Text) → list_all is_part (parts_of words) ≡ true → matches_of run_app words ≡ rows_by (parts_of words) []
 matched words right =
-    no_defaults rules (rows_held (fold (walked rules []) (walk_from nothing_held) words).held) (refl, (refl, (refl, (refl, (refl, (refl, tt))))))
+    no_defaults rules (rows_held (fold (walked rules []) (walk_from nothing_held) words).held) (refl, (refl, (refl, (refl, (refl, (refl, (refl, tt)))))))
     ∙ walk_rows words right false nothing_held
 
 -- each option's value, and the operands
@@ -46,6 +46,7 @@ record Fits (parts : List Part) : Type 0 where
   side : length (values_in (codes "--side") parts) ≤ 1
   buckets : length (values_in (codes "--buckets") parts) ≤ 1
   cap : length (values_in (codes "--cap") parts) ≤ 1
+  keep : length (values_in (codes "--keep") parts) ≤ 1
   journal : length (values_in (codes "--journal") parts) ≤ 1
   report : length (values_in (codes "--report") parts) ≤ 1
 
@@ -60,13 +61,15 @@ fits parts are =
     let third = and_parts _ _ second.1 in
     let fourth = and_parts _ _ third.1 in
     let fifth = and_parts _ _ fourth.1 in
+    let sixth = and_parts _ _ fifth.1 in
     record {
       parts_are = all.0;
       side = once _ given.0;
       buckets = once _ second.0;
       cap = once _ third.0;
-      journal = once _ fourth.0;
-      report = once _ fifth.0;
+      keep = once _ fourth.0;
+      journal = once _ fifth.0;
+      report = once _ sixth.0;
     }
 
 told : (parts : List Part) → KnowOptions parts → Fits parts → line_in (rows_by parts []) ≡ line_texts parts
@@ -74,10 +77,11 @@ told parts know f =
     let side = option_found (codes "--side") refl parts f.side in
     let buckets = option_found (codes "--buckets") refl parts f.buckets in
     let cap = option_found (codes "--cap") refl parts f.cap in
+    let keep = option_found (codes "--keep") refl parts f.keep in
     let journal = option_found (codes "--journal") refl parts f.journal in
     let report = option_found (codes "--report") refl parts f.report in
     let operands = operands_found parts know in
-    λ i. record { side = side i; buckets = buckets i; cap = cap i; journal = journal i; report = report i; operands = operands i }
+    λ i. record { side = side i; buckets = buckets i; cap = cap i; keep = keep i; journal = journal i; report = report i; operands = operands i }
 
 pub line_found : (words : List Text) (rows : List Row) → are_of_a_run (parts_of words) ≡ true → rows ≡ matches_of run_app words → line_in rows ≡ line_texts (parts_of words)
 line_found words rows are found =

@@ -10,7 +10,7 @@ use Rattle.std.proofs.lemmas.List.{drop_all}
 use Rattle.std.proofs.lemmas.List.Sums.{split_at_first, passes_at_first}
 use Rattle.clap.specs.Walk.{Held, Row, Text, Walk, walked}
 use Rattle.command_line.specs.Parts.{Part, Operand, Gives, NoPart, is_operand, is_option, is_part, option_with, behind_equals, word_alone, parts_of}
-use Rattle.command_line.proofs.Walking.{rules, rows_held, with_operand, with_option, at, holding, joined_held, Meets, operand_met, operand_held, side_meets, buckets_meets, cap_meets, journal_meets, report_meets}
+use Rattle.command_line.proofs.Walking.{rules, rows_held, with_operand, with_option, at, holding, joined_held, Meets, operand_met, operand_held, side_meets, buckets_meets, cap_meets, keep_meets, journal_meets, report_meets}
 
 -- what parts put into the rows
 abbrev pub rows_by : List Part → List Row → List Row
@@ -24,24 +24,25 @@ rows_then (Operand text) parts rows = refl
 rows_then (Gives option value) parts rows = refl
 rows_then NoPart parts rows = refl
 
--- ---- the five options
+-- ---- the options
 
 named : (option word : Text) → Meets option → bytes_eq option word ≡ true → Meets word
 named option word meets same = subst Meets ((bytes_eq-Decides option word).0 same) meets
 
-one_of : (word : Text) (a b c d e : Bool) → (a ≡ true → Meets word) → (b ≡ true → Meets word) → (c ≡ true → Meets word) → (d ≡ true → Meets word) → (e ≡ true → Meets word)
-    → a || (b || (c || (d || (e || false)))) ≡ true → Meets word
-one_of word true b c d e of_a of_b of_c of_d of_e is = of_a refl
-one_of word false true c d e of_a of_b of_c of_d of_e is = of_b refl
-one_of word false false true d e of_a of_b of_c of_d of_e is = of_c refl
-one_of word false false false true e of_a of_b of_c of_d of_e is = of_d refl
-one_of word false false false false true of_a of_b of_c of_d of_e is = of_e refl
-one_of word false false false false false of_a of_b of_c of_d of_e is = absurd (let bad : false ≡ true = is in cc)
+one_of : (word : Text) (a b c d e f : Bool) → (a ≡ true → Meets word) → (b ≡ true → Meets word) → (c ≡ true → Meets word) → (d ≡ true → Meets word) → (e ≡ true → Meets word) → (f ≡ true → Meets word)
+    → a || (b || (c || (d || (e || (f || false))))) ≡ true → Meets word
+one_of word true b c d e f of_a of_b of_c of_d of_e of_f is = of_a refl
+one_of word false true c d e f of_a of_b of_c of_d of_e of_f is = of_b refl
+one_of word false false true d e f of_a of_b of_c of_d of_e of_f is = of_c refl
+one_of word false false false true e f of_a of_b of_c of_d of_e of_f is = of_d refl
+one_of word false false false false true f of_a of_b of_c of_d of_e of_f is = of_e refl
+one_of word false false false false false true of_a of_b of_c of_d of_e of_f is = of_f refl
+one_of word false false false false false false of_a of_b of_c of_d of_e of_f is = absurd (let bad : false ≡ true = is in cc)
 
 pub option_meets : (word : Text) → is_option word ≡ true → Meets word
 option_meets word is =
-    one_of word (bytes_eq (codes "--side") word) (bytes_eq (codes "--buckets") word) (bytes_eq (codes "--cap") word) (bytes_eq (codes "--journal") word) (bytes_eq (codes "--report") word)
-    (named (codes "--side") word side_meets) (named (codes "--buckets") word buckets_meets) (named (codes "--cap") word cap_meets) (named (codes "--journal") word journal_meets) (named (codes "--report") word report_meets) is
+    one_of word (bytes_eq (codes "--side") word) (bytes_eq (codes "--buckets") word) (bytes_eq (codes "--cap") word) (bytes_eq (codes "--keep") word) (bytes_eq (codes "--journal") word) (bytes_eq (codes "--report") word)
+    (named (codes "--side") word side_meets) (named (codes "--buckets") word buckets_meets) (named (codes "--cap") word cap_meets) (named (codes "--keep") word keep_meets) (named (codes "--journal") word journal_meets) (named (codes "--report") word report_meets) is
 
 -- ---- a word that is cut at `=`
 

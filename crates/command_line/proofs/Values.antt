@@ -109,20 +109,20 @@ operands_found parts know = ap (λ found. unwrap_or found []) (operands_row part
 named_apart : (option word : Text) → IsApart option (codes "operands") → bytes_eq option word ≡ true → IsApart word (codes "operands")
 named_apart option word apart same = subst (λ (w : Text). IsApart w (codes "operands")) ((bytes_eq-Decides option word).0 same) apart
 
-one_apart : (word : Text) (a b c d e : Bool) → (a ≡ true → IsApart word (codes "operands")) → (b ≡ true → IsApart word (codes "operands")) → (c ≡ true → IsApart word (codes "operands"))
-    → (d ≡ true → IsApart word (codes "operands")) → (e ≡ true → IsApart word (codes "operands")) → a || (b || (c || (d || (e || false)))) ≡ true → IsApart word (codes "operands")
-one_apart word true b c d e of_a of_b of_c of_d of_e is = of_a refl
-one_apart word false true c d e of_a of_b of_c of_d of_e is = of_b refl
-one_apart word false false true d e of_a of_b of_c of_d of_e is = of_c refl
-one_apart word false false false true e of_a of_b of_c of_d of_e is = of_d refl
-one_apart word false false false false true of_a of_b of_c of_d of_e is = of_e refl
-one_apart word false false false false false of_a of_b of_c of_d of_e is = absurd (let bad : false ≡ true = is in cc)
+one_apart : (word : Text) (a b c d e f : Bool) → (a ≡ true → IsApart word (codes "operands")) → (b ≡ true → IsApart word (codes "operands")) → (c ≡ true → IsApart word (codes "operands")) → (d ≡ true → IsApart word (codes "operands")) → (e ≡ true → IsApart word (codes "operands")) → (f ≡ true → IsApart word (codes "operands"))
+    → a || (b || (c || (d || (e || (f || false))))) ≡ true → IsApart word (codes "operands")
+one_apart word true b c d e f of_a of_b of_c of_d of_e of_f is = of_a refl
+one_apart word false true c d e f of_a of_b of_c of_d of_e of_f is = of_b refl
+one_apart word false false true d e f of_a of_b of_c of_d of_e of_f is = of_c refl
+one_apart word false false false true e f of_a of_b of_c of_d of_e of_f is = of_d refl
+one_apart word false false false false true f of_a of_b of_c of_d of_e of_f is = of_e refl
+one_apart word false false false false false true of_a of_b of_c of_d of_e of_f is = of_f refl
+one_apart word false false false false false false of_a of_b of_c of_d of_e of_f is = absurd (let bad : false ≡ true = is in cc)
 
 option_apart : (word : Text) → is_option word ≡ true → IsApart word (codes "operands")
 option_apart word is =
-    one_apart word (bytes_eq (codes "--side") word) (bytes_eq (codes "--buckets") word) (bytes_eq (codes "--cap") word) (bytes_eq (codes "--journal") word) (bytes_eq (codes "--report") word)
-    (named_apart (codes "--side") word refl) (named_apart (codes "--buckets") word refl) (named_apart (codes "--cap") word refl) (named_apart (codes "--journal") word refl)
-    (named_apart (codes "--report") word refl) is
+    one_apart word (bytes_eq (codes "--side") word) (bytes_eq (codes "--buckets") word) (bytes_eq (codes "--cap") word) (bytes_eq (codes "--keep") word) (bytes_eq (codes "--journal") word) (bytes_eq (codes "--report") word)
+    (named_apart (codes "--side") word refl) (named_apart (codes "--buckets") word refl) (named_apart (codes "--cap") word refl) (named_apart (codes "--keep") word refl) (named_apart (codes "--journal") word refl) (named_apart (codes "--report") word refl) is
 
 given_knows : (b : Bool) (option value : Text) (parts : List Part) → (b ≡ true → IsApart option (codes "operands")) → KnowOptions parts → KnowOptions ((if b then Gives option value else NoPart) ∷ parts)
 given_knows true option value parts apart know = (apart refl, know)

@@ -142,6 +142,28 @@ cap_next h (first ∷ others) is = go (first == 45) refl is
 pub cap_meets : Meets (codes "--cap")
 cap_meets = record { name = cap_name; next = cap_next; behind_equals = cap_joined; held = λ h value. refl }
 
+keep_name : (behind : Bool) (h : Held) → walked rules [] (at behind h) (codes "--keep") ≡ wants (codes "--keep") h
+unfolding walked
+keep_name true h = refl
+keep_name false h = refl
+
+keep_joined : (behind : Bool) (h : Held) (value : Text) → walked rules [] (at behind h) (codes "--keep" ++ 61 ∷ value) ≡ at false (joined_held (codes "--keep") value h)
+unfolding walked
+keep_joined true h value = refl
+keep_joined false h value = refl
+
+keep_next : (h : Held) (value : Text) → is_operand value ≡ true → walked rules [] (wants (codes "--keep") h) value ≡ at false (holding (codes "--keep") value h)
+unfolding walked
+keep_next h [] is = absurd (let bad : false ≡ true = is in cc)
+keep_next h (first ∷ others) is = go (first == 45) refl is
+  where
+    go : (b : Bool) → (first == 45) ≡ b → not b ≡ true → walked rules [] (wants (codes "--keep") h) (first ∷ others) ≡ at false (holding (codes "--keep") (first ∷ others) h)
+    go true same other = absurd (let bad : false ≡ true = other in cc)
+    go false same other = rw (same, same) refl
+
+pub keep_meets : Meets (codes "--keep")
+keep_meets = record { name = keep_name; next = keep_next; behind_equals = keep_joined; held = λ h value. refl }
+
 journal_name : (behind : Bool) (h : Held) → walked rules [] (at behind h) (codes "--journal") ≡ wants (codes "--journal") h
 unfolding walked
 journal_name true h = refl

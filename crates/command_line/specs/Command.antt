@@ -19,11 +19,12 @@ bare s = record s { no_binary_name = true; disable_help_flag = true }
 
 abbrev pub run_app : App
 run_app =
-    with_rule (with_rule (with_rule (with_rule (with_rule (with_rule
+    with_rule (with_rule (with_rule (with_rule (with_rule (with_rule (with_rule
     (on_top bare (new_app (codes "run")))
     (option_rule (codes "--side") (codes "side")))
     (option_rule (codes "--buckets") (codes "buckets")))
     (option_rule (codes "--cap") (codes "cap")))
+    (option_rule (codes "--keep") (codes "keep")))
     (option_rule (codes "--journal") (codes "journal")))
     (option_rule (codes "--report") (codes "report")))
     operands_rule
@@ -34,6 +35,7 @@ line_in rows = record {
   side = first_of (codes "--side") rows;
   buckets = first_of (codes "--buckets") rows;
   cap = first_of (codes "--cap") rows;
+  keep = first_of (codes "--keep") rows;
   journal = first_of (codes "--journal") rows;
   report = first_of (codes "--report") rows;
   operands = unwrap_or (all_of (codes "operands") rows) [];

@@ -10,8 +10,8 @@ is_operand (first ∷ others) = not (first == 45)
 
 abbrev pub options : List (List ℕ)
 options =
-    codes "--side" ∷ codes "--buckets" ∷ codes "--cap" ∷ codes "--journal"
-    ∷ codes "--report" ∷ []
+    codes "--side" ∷ codes "--buckets" ∷ codes "--cap" ∷ codes "--keep"
+    ∷ codes "--journal" ∷ codes "--report" ∷ []
 
 abbrev pub is_option : List ℕ → Bool
 is_option word = list_any (λ option. bytes_eq option word) options
@@ -73,6 +73,7 @@ pub record LineTexts : Type 0 where
   pub side : Option (List ℕ)
   pub buckets : Option (List ℕ)
   pub cap : Option (List ℕ)
+  pub keep : Option (List ℕ)
   pub journal : Option (List ℕ)
   pub report : Option (List ℕ)
   pub operands : List (List ℕ)
@@ -82,6 +83,7 @@ line_texts parts = record {
   side = value_in (codes "--side") parts;
   buckets = value_in (codes "--buckets") parts;
   cap = value_in (codes "--cap") parts;
+  keep = value_in (codes "--keep") parts;
   journal = value_in (codes "--journal") parts;
   report = value_in (codes "--report") parts;
   operands = operands_in parts;

@@ -12,6 +12,7 @@ pub struct Line<'w> {
     pub side: Option<&'w str>,
     pub buckets: Option<&'w str>,
     pub cap: Option<&'w str>,
+    pub keep: Option<&'w str>,
     pub journal: Option<&'w str>,
     pub report: Option<&'w str>,
     pub operands: Vec<&'w str>,
@@ -27,6 +28,7 @@ impl<'w> Model for Line<'w> {
       side = option_map (λ t. t.now) line.side;
       buckets = option_map (λ t. t.now) line.buckets;
       cap = option_map (λ t. t.now) line.cap;
+      keep = option_map (λ t. t.now) line.keep;
       journal = option_map (λ t. t.now) line.journal;
       report = option_map (λ t. t.now) line.report;
       operands = map (λ t. t.now) line.operands.items;
@@ -43,7 +45,9 @@ pub fn are_of_a_run(words: &[String]) -> bool
         && (is_given_once(words, "--side")
             && (is_given_once(words, "--buckets")
                 && (is_given_once(words, "--cap")
-                    && (is_given_once(words, "--journal") && is_given_once(words, "--report")))))
+                    && (is_given_once(words, "--keep")
+                        && (is_given_once(words, "--journal")
+                            && is_given_once(words, "--report"))))))
         && is_number_of_operands(number_of_operands(words))
 }
 

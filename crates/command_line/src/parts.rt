@@ -117,6 +117,7 @@ fn is_option(word: &str) -> bool
     "--side" == word
         || "--buckets" == word
         || "--cap" == word
+        || "--keep" == word
         || "--journal" == word
         || "--report" == word
 }

@@ -29,6 +29,7 @@ fn run_command<'a>(alloc: Global) -> Result<Command<'a>, AllocError>
     let command = with_option(alloc, bare_command(alloc), "--side", "side")?;
     let command = with_option(alloc, command, "--buckets", "buckets")?;
     let command = with_option(alloc, command, "--cap", "cap")?;
+    let command = with_option(alloc, command, "--keep", "keep")?;
     let command = with_option(alloc, command, "--journal", "journal")?;
     let command = with_option(alloc, command, "--report", "report")?;
     with_operands(alloc, command)
@@ -68,6 +69,7 @@ fn line<'w>(alloc: Global, matches: &ArgMatches<'w>) -> Result<Line<'w>, AllocEr
         side: value(matches, "--side"),
         buckets: value(matches, "--buckets"),
         cap: value(matches, "--cap"),
+        keep: value(matches, "--keep"),
         journal: value(matches, "--journal"),
         report: value(matches, "--report"),
         operands,

@@ -1,20 +1,21 @@
 -- An answer that fits a history fits every one that goes on from it, as long as the versions stand that it rests on.
-use Rattle.std.proofs.Common.{◌≡◌, ℕ, zero, suc, ◌-◌, ◌^◌, ◌≤◌, List, [], ◌∷◌, ◌++◌, length, take, Option, Some, None, refl, ap, sym, subst, ◌∙◌, inl, inr, arith}
+use Rattle.std.proofs.Common.{◌≡◌, ℕ, zero, suc, ◌-◌, ◌^◌, ◌≤◌, List, [], ◌∷◌, ◌++◌, length, take, Option, Some, None, Bool, refl, ap, sym, subst, ◌∙◌, inl, inr, arith}
 use Rattle.std.specs.List.{slice_get, Contains}
 use Rattle.std.proofs.lemmas.List.{take-append-le}
 use Rattle.std.proofs.lemmas.List.Elements.{All-contains}
 use Rattle.history_model.specs.Contents.{Content}
 use Rattle.history_model.specs.declared.acts.Act.{Act}
-use Rattle.history_model.specs.declared.acts.Act.TheVariants.{Fill, Erase, Ball, Carve, Copy, Stamp, Undo, Redo}
+use Rattle.history_model.specs.declared.acts.Act.TheVariants.{Fill, Erase, Ball, Carve, Copy, Stamp, Tint, Undo, Redo}
 use Rattle.history_model.specs.declared.histories.Record.{Record}
 use Rattle.history_model.specs.declared.histories.Mark.{Mark}
 use Rattle.history_model.specs.Worlds.{World}
 use Rattle.history_model.specs.Positions.{position_after, first_of}
-use Rattle.history_model.specs.Logs.{Log}
-use Rattle.history_model.specs.Moments.{world_has}
+use Rattle.history_model.specs.FoldLaws.{state_stays}
+use Rattle.history_model.specs.Tints.{Tints, SameTints, untinted, tints_by}
+use Rattle.history_model.specs.Logs.{Log, kept_side, world_side}
+use Rattle.history_model.specs.Moments.{world_has, world_tint}
 use Rattle.history_model.specs.Laws.{version_stays}
 use Rattle.node_words.specs.Plans.{Layout}
-use Rattle.possible.specs.Versions.{SameWorld}
 use Rattle.script.specs.declared.commands.Command.{Command}
 use Rattle.script.specs.declared.commands.Command.TheVariants.{Edit, Forget, Ask, Save, Same, Head}
 use Rattle.transcript.specs.declared.answers.Answer.{Answer}
@@ -29,7 +30,13 @@ get_stays (y ∷ xs) ys zero x here = here
 get_stays (y ∷ xs) ys (suc i) x here = get_stays xs ys i x here
 
 module _ (old new : Log) (g : GoesOn old new) (n : ℕ) (within : n ≤ length old.records) where
-  -- the cells of each version stay, and the position
+  -- the side of the world stays, and so do the cells of each version, their tints, and the position
+  pub side_stays : world_side new ≡ world_side old
+  side_stays = ap (λ (k : ℕ). kept_side new.coloured (2 ^ k)) g.side ∙ ap (λ (c : Bool). kept_side c (2 ^ old.side)) g.coloured
+
+  pub tints_stay : (models : List Content) (v : ℕ) → v ≤ n → world_tint models new.records v ≡ world_tint models old.records v
+  tints_stay models v le = ap (λ (rs : List Record). world_tint models rs v) g.records ∙ state_stays untinted (tints_by models) old.records g.more v (omega arith)
+
   pub world_stays : (models : List Content) (v : ℕ) → v ≤ n → world_has models new.records v ≡ world_has models old.records v
   world_stays models v le = ap (λ (rs : List Record). world_has models rs v) g.records ∙ version_stays models old.records g.more v (omega arith)
 
@@ -43,6 +50,7 @@ module _ (old new : Log) (g : GoesOn old new) (n : ℕ) (within : n ≤ length o
   target_stays (Carve ball) = refl
   target_stays (Copy b to) = refl
   target_stays (Stamp m at) = refl
+  target_stays (Tint t) = refl
   target_stays Undo = ap (λ (rs : List Record). first_of (position_after rs).past) first_stay
   target_stays Redo = ap (λ (rs : List Record). first_of (position_after rs).future) first_stay
 
@@ -86,17 +94,17 @@ module _ (old new : Log) (g : GoesOn old new) (n : ℕ) (within : n ≤ length o
     looks_stay (Edit act once) v up = target_stays act ∙ up
     looks_stay Head v up = up
 
-    same_stays : (models : List Content) (v w : ℕ) → v ≤ n → w ≤ n → SameWorld (2 ^ old.side) (world_has models old.records v) (world_has models old.records w) → SameWorld (2 ^ new.side) (world_has models new.records v) (world_has models new.records w)
+    same_stays : (models : List Content) (v w : ℕ) → v ≤ n → w ≤ n → SameTints (world_side old) (world_tint models old.records v) (world_tint models old.records w) → SameTints (world_side new) (world_tint models new.records v) (world_tint models new.records w)
     same_stays models v w of_v of_w s =
-        subst (λ (k : ℕ). SameWorld (2 ^ k) (world_has models new.records v) (world_has models new.records w)) (sym g.side)
-        (subst (λ (x : World). SameWorld (2 ^ old.side) x (world_has models new.records w)) (sym (world_stays models v of_v))
-        (subst (λ (x : World). SameWorld (2 ^ old.side) (world_has models old.records v) x) (sym (world_stays models w of_w)) s))
+        subst (λ (side : ℕ). SameTints side (world_tint models new.records v) (world_tint models new.records w)) (sym side_stays)
+        (subst (λ (x : Tints). SameTints (world_side old) x (world_tint models new.records w)) (sym (tints_stay models v of_v))
+        (subst (λ (x : Tints). SameTints (world_side old) (world_tint models old.records v) x) (sym (tints_stay models w of_w)) s))
 
-    same_was : (models : List Content) (v w : ℕ) → v ≤ n → w ≤ n → SameWorld (2 ^ new.side) (world_has models new.records v) (world_has models new.records w) → SameWorld (2 ^ old.side) (world_has models old.records v) (world_has models old.records w)
+    same_was : (models : List Content) (v w : ℕ) → v ≤ n → w ≤ n → SameTints (world_side new) (world_tint models new.records v) (world_tint models new.records w) → SameTints (world_side old) (world_tint models old.records v) (world_tint models old.records w)
     same_was models v w of_v of_w s =
-        subst (λ (k : ℕ). SameWorld (2 ^ k) (world_has models old.records v) (world_has models old.records w)) g.side
-        (subst (λ (x : World). SameWorld (2 ^ new.side) x (world_has models old.records w)) (world_stays models v of_v)
-        (subst (λ (x : World). SameWorld (2 ^ new.side) (world_has models new.records v) x) (world_stays models w of_w) s))
+        subst (λ (side : ℕ). SameTints side (world_tint models old.records v) (world_tint models old.records w)) side_stays
+        (subst (λ (x : Tints). SameTints (world_side new) x (world_tint models old.records w)) (tints_stay models v of_v)
+        (subst (λ (x : Tints). SameTints (world_side new) (world_tint models new.records v) x) (tints_stay models w of_w) s))
 
     asked_there : (version : Option ℕ) → IsReadable R n (asked_version version n) → asked_version version n ≤ n
     asked_there version r = r.there
@@ -107,8 +115,9 @@ module _ (old new : Log) (g : GoesOn old new) (n : ℕ) (within : n ≤ length o
     answers_stay p models session line command answer (forgot v listed) = forgot v (mark_stays (mark_of v n session line) listed)
     answers_stay p models session line command answer (tells version question a readable tell) =
         tells version question a (readable_stays (asked_version version n) readable)
-        (subst (λ (k : ℕ). Tells (2 ^ k) (world_has models new.records (asked_version version n)) question a) (sym g.side)
-        (subst (λ (w : World). Tells (2 ^ old.side) w question a) (sym (world_stays models (asked_version version n) readable.there)) tell))
+        (subst (λ (side : ℕ). Tells side (world_has models new.records (asked_version version n)) (world_tint models new.records (asked_version version n)) question a) (sym side_stays)
+        (subst (λ (w : World). Tells (world_side old) w (world_tint models new.records (asked_version version n)) question a) (sym (world_stays models (asked_version version n) readable.there))
+        (subst (λ (t : Tints). Tells (world_side old) (world_has models old.records (asked_version version n)) t question a) (sym (tints_stay models (asked_version version n) readable.there)) tell)))
     answers_stay p models session line command answer (saves version name part cells readable e) =
         saves version name part cells (readable_stays (asked_version version n) readable) (e ∙ ap (λ (w : World). number_in part w) (sym (world_stays models (asked_version version n) readable.there)))
     answers_stay p models session line command answer (same v w of_v of_w s) = same v w (readable_stays v of_v) (readable_stays w of_w) (same_stays models v w of_v.there of_w.there s)

@@ -9,3 +9,4 @@ pub mod Moments
 pub mod Samples
 pub mod Rows
 pub use Rattle.possible.proofs.ContentBuckets
+pub mod Colours

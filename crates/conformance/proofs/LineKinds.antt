@@ -4,7 +4,7 @@ use Rattle.std.specs.Prelude.{All, sum_by}
 use Rattle.std.specs.List.{slice_get, Contains}
 use Rattle.std.proofs.lemmas.Bool.{false≢true}
 use Rattle.std.proofs.lemmas.List.{take_all}
-use Rattle.std.proofs.lemmas.List.Elements.{All-cons, All-contains, All-contains_itself, All-map, Contains-append_right}
+use Rattle.std.proofs.lemmas.List.Elements.{All-nil, All-cons, All-append, All-contains, All-contains_itself, All-map, Contains-append_right}
 use Rattle.std.proofs.lemmas.List.Sums.{sum_by-append, sum_by-cons, sum_by_push}
 use Rattle.history_model.specs.Contents.{Content}
 use Rattle.history_model.specs.declared.acts.Act.{Act}
@@ -13,10 +13,10 @@ use Rattle.history_model.specs.declared.histories.Record.{Record}
 use Rattle.history_model.specs.declared.histories.Mark.{Mark}
 use Rattle.history_model.specs.Worlds.{is_edit}
 use Rattle.history_model.specs.Positions.{position_after, first_of}
-use Rattle.history_model.specs.Logs.{Log, IsLegal}
-use Rattle.history_model.specs.Moments.{world_has}
+use Rattle.history_model.specs.Logs.{Log, IsLegal, suits_tints, kept_side, world_side}
+use Rattle.history_model.specs.Tints.{Tints, SameTints}
 use Rattle.node_words.specs.Plans.{Layout}
-use Rattle.possible.specs.Versions.{SameWorld, IsKept, MarkComes}
+use Rattle.possible.specs.Versions.{IsKept, MarkComes}
 use Rattle.script.specs.declared.commands.Command.{Command}
 use Rattle.script.specs.declared.commands.Command.TheVariants.{Edit, Forget, Ask, Save, Same, Head}
 use Rattle.script.specs.declared.commands.ScriptLine.{ScriptLine}
@@ -31,7 +31,7 @@ use Rattle.conformance.proofs.Lists.{same_nothing, same_of}
 
 -- a history goes on from itself
 pub goes_nowhere : (log : Log) → GoesOn log log
-goes_nowhere log = record { side = refl; more = []; records = sym (append-nil log.records); marks = All-contains_itself log.marks }
+goes_nowhere log = record { side = refl; coloured = refl; more = []; records = sym (append-nil log.records); marks = All-contains_itself log.marks }
 
 -- ---- lines that change nothing
 
@@ -39,6 +39,7 @@ pub resting_not_done : (answer : Answer) → is_resting answer ≡ true → is_d
 resting_not_done answers.Done rests = absurd (false≢true rests)
 resting_not_done (answers.Forgot v) rests = refl
 resting_not_done (answers.Is set) rests = refl
+resting_not_done (answers.Colour tint) rests = refl
 resting_not_done (answers.Count k) rests = refl
 resting_not_done (answers.Faces k) rests = refl
 resting_not_done (answers.Extent least) rests = refl
@@ -67,6 +68,7 @@ pub resting_forgets : (session line n : ℕ) (answer : Answer) → is_resting an
 resting_forgets session line n answers.Done rests = refl
 resting_forgets session line n (answers.Forgot v) rests = absurd (false≢true rests)
 resting_forgets session line n (answers.Is set) rests = refl
+resting_forgets session line n (answers.Colour tint) rests = refl
 resting_forgets session line n (answers.Count k) rests = refl
 resting_forgets session line n (answers.Faces k) rests = refl
 resting_forgets session line n (answers.Extent least) rests = refl
@@ -87,6 +89,7 @@ pub resting_line : (p : Layout) (models : List Content) (session : ℕ) (l : Scr
     → Answers p models log (IsStanding log.marks session l.line (length log.records)) session l.line (length log.records) l.command answer → LineStep p models session l log log (answer_at l (length log.records) answer)
 resting_line p models session l log answer legal rests fits = record {
   legal = legal;
+  suits = λ suits. suits;
   goes_on = goes_nowhere log;
   new_marks = λ i d lt. inl (All-contains_itself log.marks i d lt);
   no_earlier = omega arith;
@@ -113,19 +116,20 @@ record_of : ℕ → ℕ → Act → Record
 record_of session line act = record { session = session; line = line; act = act }
 
 with_record : Log → Record → Log
-with_record log r = record { side = log.side; records = log.records ++ r ∷ []; marks = log.marks }
+with_record log r = record { side = log.side; coloured = log.coloured; records = log.records ++ r ∷ []; marks = log.marks }
 
-done_step : (p : Layout) (models : List Content) (session line : ℕ) (act : Act) (once : Bool) (log : Log) → IsLegal (2 ^ p.side) models (with_record log (record_of session line act))
+done_step : (p : Layout) (models : List Content) (session line : ℕ) (act : Act) (once : Bool) (log : Log) → IsLegal (2 ^ p.side) models (with_record log (record_of session line act)) → suits_tints log.coloured act ≡ true
     → LineStep p models session (record { line = line; command = Edit act once }) log (with_record log (record_of session line act)) (record { line = line; at = length log.records + 1; answer = answers.Done })
 unfolding with_record record_of
-done_step p models session line act once log legal =
+done_step p models session line act once log legal suits =
     let r : Record = record { session = session; line = line; act = act } in
     let longer : length (log.records ++ r ∷ []) ≡ length log.records + 1 = length-append log.records (r ∷ []) in
     let place : length log.records ≡ length log.records + 1 - 1 = omega arith in
     let number : 1 + length log.records ≡ length log.records + 1 = omega arith in
     record {
       legal = legal;
-      goes_on = record { side = refl; more = r ∷ []; records = refl; marks = All-contains_itself log.marks };
+      suits = λ all. All-append (λ (s : Record). suits_tints log.coloured s.act ≡ true) log.records (r ∷ []) all (All-cons (λ (s : Record). suits_tints log.coloured s.act ≡ true) r [] suits (All-nil _));
+      goes_on = record { side = refl; coloured = refl; more = r ∷ []; records = refl; marks = All-contains_itself log.marks };
       new_marks = λ i d lt. inl (All-contains_itself log.marks i d lt);
       no_earlier = omega arith;
       later = λ _. omega arith;
@@ -139,13 +143,14 @@ done_step p models session line act once log legal =
       marks = same_nothing log.marks [] refl;
     }
 
-log_of : ℕ → List Record → List Mark → Log
-log_of side records marks = record { side = side; records = records; marks = marks }
+log_of : ℕ → Bool → List Record → List Mark → Log
+log_of side coloured records marks = record { side = side; coloured = coloured; records = records; marks = marks }
 
 grown : (p : Layout) (models : List Content) (r : Record) (old new : Log) → GrowsBy p models r old new → with_record old r ≡ new
 unfolding with_record log_of
 grown p models r old new g =
-    ap (λ (n : ℕ). log_of n (old.records ++ r ∷ []) old.marks) (sym g.side) ∙ ap (λ (rs : List Record). log_of new.side rs old.marks) (sym g.records) ∙ ap (λ (ms : List Mark). log_of new.side new.records ms) (sym g.marks)
+    ap (λ (n : ℕ). log_of n old.coloured (old.records ++ r ∷ []) old.marks) (sym g.side) ∙ ap (λ (c : Bool). log_of new.side c (old.records ++ r ∷ []) old.marks) (sym g.coloured)
+    ∙ ap (λ (rs : List Record). log_of new.side new.coloured rs old.marks) (sym g.records) ∙ ap (λ (ms : List Mark). log_of new.side new.coloured new.records ms) (sym g.marks)
 
 pub done_line : (p : Layout) (models : List Content) (session line : ℕ) (act : Act) (once : Bool) (old new : Log) → GrowsBy p models (record { session = session; line = line; act = act }) old new
     → LineStep p models session (record { line = line; command = Edit act once }) old new (record { line = line; at = length old.records + 1; answer = answers.Done })
@@ -153,7 +158,7 @@ unfolding record_of
 done_line p models session line act once old new g =
     let same = grown p models (record_of session line act) old new g in
     subst (λ (log : Log). LineStep p models session (record { line = line; command = Edit act once }) old log (record { line = line; at = length old.records + 1; answer = answers.Done })) same
-    (done_step p models session line act once old (subst (λ (log : Log). IsLegal (2 ^ p.side) models log) (sym same) g.legal))
+    (done_step p models session line act once old (subst (λ (log : Log). IsLegal (2 ^ p.side) models log) (sym same) g.legal) g.suits)
 
 -- ---- a version is forgotten
 
@@ -198,7 +203,8 @@ forgot_line p models mark old new e =
     let same_mark : mark ≡ mark_of mark.version n mark.session mark.line = ap (λ (k : ℕ). mark_of mark.version k mark.session mark.line) e.now in
     record {
       legal = e.legal;
-      goes_on = record { side = e.side; more = []; records = e.records ∙ sym (append-nil old.records); marks = old_listed old.marks mark new.marks e.marks };
+      suits = λ all. subst (λ (c : Bool). All (λ (r : Record). suits_tints c r.act ≡ true) new.records) (sym e.coloured) (subst (λ (rs : List Record). All (λ (r : Record). suits_tints old.coloured r.act ≡ true) rs) (sym e.records) all);
+      goes_on = record { side = e.side; coloured = e.coloured; more = []; records = e.records ∙ sym (append-nil old.records); marks = old_listed old.marks mark new.marks e.marks };
       new_marks = old_or_new old.marks n mark new.marks e.marks (sym e.now);
       no_earlier = omega arith;
       later = λ same. absurd (let no : ⊥ = cc in no);
@@ -257,6 +263,6 @@ pub full_way : (log : Log) (session line : ℕ) (act : Act) → ((is_edit act �
 full_way log session line act (inl edit) other = absurd (other edit)
 full_way log session line act (inr way) other = (way.0, way.1, kept_readable log session line way.0 way.2)
 
--- two kept versions with one root have the same cells, and with two they have not
-pub same_side : (p : Layout) (models : List Content) (log : Log) (v w : ℕ) → IsLegal (2 ^ p.side) models log → SameWorld (2 ^ p.side) (world_has models log.records v) (world_has models log.records w) → SameWorld (2 ^ log.side) (world_has models log.records v) (world_has models log.records w)
-same_side p models log v w legal same = subst (λ (side : ℕ). SameWorld side (world_has models log.records v) (world_has models log.records w)) (sym legal.same_side) same
+-- what is told of a world of a plan's side is told of one of the history's
+pub same_side : (p : Layout) (models : List Content) (log : Log) (t u : Tints) → IsLegal (2 ^ p.side) models log → SameTints (kept_side log.coloured (2 ^ p.side)) t u → SameTints (world_side log) t u
+same_side p models log t u legal same = subst (λ (side : ℕ). SameTints (kept_side log.coloured side) t u) (sym legal.same_side) same

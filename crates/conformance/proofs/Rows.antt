@@ -2,7 +2,6 @@
 use Rattle.std.proofs.Common.{◌≡◌, ℕ, ◌<◌, ◌≤◌, true, false, List, [], ◌∷◌, refl, sym, arith}
 use Rattle.std.specs.Prelude.{None, Some}
 use Rattle.std.specs.List.{AllZip}
-use Rattle.std.proofs.lemmas.Bool.{false≢true}
 use Rattle.std.proofs.lemmas.List.Elements.{All-nil, All-cons}
 use Rattle.vw_cell.specs.declared.boxes.Boxed.{Boxed}
 use Rattle.sums.specs.Sums.{sum_below}
@@ -39,7 +38,7 @@ abbrev entry : ℕ → Act → Record
 entry n act = record { session = 0; line = n; act = act }
 
 abbrev log_of : List Record → List Mark → Log
-log_of records marks = record { side = 3; records = records; marks = marks }
+log_of records marks = record { side = 3; coloured = false; records = records; marks = marks }
 
 -- where nothing is forgotten, all versions stand
 all_stand : (n at v : ℕ) → v ≤ n → IsReadable (IsStanding [] 0 at n) n v
@@ -126,7 +125,7 @@ module _ (p : Layout) where
         within = omega arith;
         answers =
             different 0 2 (other_stands 0 (omega arith) (λ e. omega arith)) (other_stands 2 (omega arith) (λ e. omega arith))
-            (λ same. false≢true (same.each (cell_at 0 0 0) (record { x = omega arith; y = omega arith; z = omega arith })));
+            (λ same. (let bad : 0 ≡ 1 = same.each (cell_at 0 0 0) (record { x = omega arith; y = omega arith; z = omega arith }) in omega arith));
       })
       tt))))))))
 
@@ -136,7 +135,7 @@ abbrev small_plan : Layout
 small_plan = record { side = 2; buckets = 1 ∷ []; cap = 1 }
 
 abbrev filled : Log
-filled = record { side = 2; records = entry 1 (Fill (one 0)) ∷ []; marks = [] }
+filled = record { side = 2; coloured = false; records = entry 1 (Fill (one 0)) ∷ []; marks = [] }
 
 full_fits : LineFits small_plan [] filled 0 (line 2 (Edit (Fill (one 1)) false)) (answered 2 1 (answers.Full 0 0))
 full_fits = record { same_line = refl; within = omega arith; answers = full (Fill (one 1)) false 0 0 refl (omega arith) (omega arith) }

@@ -1,5 +1,5 @@
 -- One more line of a run of scripts, and the next script.
-use Rattle.std.proofs.Common.{◌≡◌, ◌≢◌, ℕ, ◌+◌, ◌^◌, ◌<◌, ◌≤◌, ◌⊎◌, List, [], ◌∷◌, ◌++◌, length, get_or, refl, ap, sym, subst, ◌∙◌, inl, inr, arith, length-append}
+use Rattle.std.proofs.Common.{◌≡◌, ◌≢◌, ℕ, ◌+◌, ◌^◌, ◌<◌, ◌≤◌, ◌⊎◌, List, [], ◌∷◌, ◌++◌, length, get_or, refl, ap, sym, subst, ◌∙◌, inl, inr, arith, length-append, Bool}
 use Rattle.std.specs.Prelude.{All, sum_by}
 use Rattle.std.specs.List.{AllZip, Contains}
 use Rattle.std.proofs.lemmas.List.{length_push}
@@ -7,7 +7,7 @@ use Rattle.std.proofs.lemmas.List.Elements.{All-nil, All-cons, All-contains, All
 use Rattle.std.proofs.lemmas.List.Sums.{sum_by-append}
 use Rattle.history_model.specs.Contents.{Content}
 use Rattle.history_model.specs.declared.histories.Mark.{Mark}
-use Rattle.history_model.specs.Logs.{Log, IsLegal}
+use Rattle.history_model.specs.Logs.{Log, IsLegal, SuitsTints}
 use Rattle.history_model.specs.LegalLaws.{legal_empty}
 use Rattle.node_words.specs.Plans.{Layout}
 use Rattle.script.specs.declared.commands.ScriptLine.{ScriptLine}
@@ -150,6 +150,7 @@ next_line p models scripts transcripts script transcript l old new a s rising st
     let within = moments_within p models old session script transcript s.lines in
     record {
       legal = step.legal;
+      suits = step.suits s.suits;
       before = sessions_stay p models session l old new a step 0 scripts transcripts (omega arith) s.before;
       lines =
           zip_push (LineFits p models new session) script transcript l a
@@ -186,6 +187,7 @@ next_script p models scripts transcripts script transcript log s =
     let longer : length (scripts ++ script ∷ []) ≡ length scripts + 1 = length_push scripts script in
     record {
       legal = s.legal;
+      suits = s.suits;
       before = sessions_push p models log 0 scripts transcripts script transcript s.before (length scripts) (omega arith) (record { lines = s.lines; moments = s.moments });
       lines = tt;
       moments = pairs_nil InOrder;
@@ -195,9 +197,13 @@ next_script p models scripts transcripts script transcript log s =
     }
 
 -- before the first line, and after the last
-pub no_lines : (p : Layout) (models : List Content) → IsSoFar p models [] [] [] [] (record { side = p.side; records = []; marks = [] })
-no_lines p models = record {
-  legal = legal_empty (2 ^ p.side) models p.side refl;
+legal_none : (p : Layout) (models : List Content) (coloured : Bool) → IsLegal (2 ^ p.side) models (record { side = p.side; coloured = coloured; records = []; marks = [] })
+legal_none p models coloured = (let l = legal_empty (2 ^ p.side) models p.side refl in record { same_side = refl; few = l.few; fit = l.fit; follow = l.follow; rising = l.rising; marked = l.marked })
+
+pub no_lines : (p : Layout) (models : List Content) (coloured : Bool) → IsSoFar p models [] [] [] [] (record { side = p.side; coloured = coloured; records = []; marks = [] })
+no_lines p models coloured = record {
+  legal = legal_none p models coloured;
+  suits = All-nil _;
   before = tt;
   lines = tt;
   moments = pairs_nil InOrder;
@@ -206,9 +212,10 @@ no_lines p models = record {
   by = All-nil (IsBy 0 []);
 }
 
-pub all_lines : (p : Layout) (models : List Content) (scripts : List (List ScriptLine)) (transcripts : List (List LineAnswer)) (log : Log) → IsSoFar p models scripts transcripts [] [] log → IsLegal (2 ^ p.side) models log × Agrees p models log scripts transcripts
+pub all_lines : (p : Layout) (models : List Content) (scripts : List (List ScriptLine)) (transcripts : List (List LineAnswer)) (log : Log) → IsSoFar p models scripts transcripts [] [] log → IsLegal (2 ^ p.side) models log × SuitsTints log × Agrees p models log scripts transcripts
 all_lines p models scripts transcripts log s = (
   s.legal,
+  s.suits,
   record {
     sessions = s.before;
     shown = record {

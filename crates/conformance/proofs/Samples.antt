@@ -1,5 +1,5 @@
 -- Worked cases of the definitions: two scripts with a mark, and answers that don't fit.
-use Rattle.std.proofs.Common.{◌≡◌, ℕ, ◌<◌, ◌≤◌, false, List, [], ◌∷◌, refl, sym, ap, subst, Option, arith}
+use Rattle.std.proofs.Common.{◌≡◌, ℕ, ◌^◌, ◌<◌, ◌≤◌, true, false, List, [], ◌∷◌, refl, sym, ap, subst, Option, arith}
 use Rattle.std.specs.Prelude.{None, Some, All}
 use Rattle.std.specs.List.{AllZip}
 use Rattle.std.proofs.lemmas.Bool.{false≢true}
@@ -14,7 +14,7 @@ use Rattle.history_model.specs.Worlds.{box_at}
 use Rattle.history_model.specs.Logs.{Log}
 use Rattle.history_model.specs.Moments.{world_has}
 use Rattle.node_words.specs.Plans.{Layout}
-use Rattle.possible.specs.Needed.{NeedsSome}
+use Rattle.possible.specs.Needed.{NeedsSome, made_of}
 use Rattle.script.specs.declared.commands.Command.{Command}
 use Rattle.script.specs.declared.commands.Command.TheVariants.{Edit, Forget, Ask}
 use Rattle.history_model.specs.declared.questions.Question.TheVariants as questions
@@ -59,7 +59,7 @@ abbrev mark : Mark
 mark = record { version = 0; at = 1; session = 0; line = 2 }
 
 abbrev history : Log
-history = record { side = 3; records = record { session = 0; line = 1; act = Fill bar } ∷ []; marks = mark ∷ [] }
+history = record { side = 3; coloured = false; records = record { session = 0; line = 1; act = Fill bar } ∷ []; marks = mark ∷ [] }
 
 two_cells : number_in whole (world_has [] history.records 1) ≡ 2
 unfolding sum_below
@@ -128,7 +128,11 @@ shown = record {
 
 -- an erasing that makes nothing needs no bucket, so it can't be refused for a full one
 nothing_needed : (p : Layout) (level bucket : ℕ) → NeedsSome p [] [] (Erase whole) 0 level bucket → ⊥
-nothing_needed p level bucket n = false≢true (n.needed.some.set)
+nothing_needed p level bucket n =
+    let some = n.needed.some_part in
+    let few = n.needed.few_parts in
+    let one : n.parts ≡ 1 = omega arith in
+    false≢true (subst (λ (parts : ℕ). made_of (2 ^ p.side) [] [] (Erase whole) 0 parts n.needed.some.at ≡ true) one n.needed.some.set)
 
-never_full : (p : Layout) → FullOnlyWherePossible p [] (record { side = 3; records = []; marks = [] }) ((line 1 (Edit (Erase whole) false) ∷ []) ∷ []) ((answered 1 0 (answers.Full 0 0) ∷ []) ∷ []) → ⊥
+never_full : (p : Layout) → FullOnlyWherePossible p [] (record { side = 3; coloured = false; records = []; marks = [] }) ((line 1 (Edit (Erase whole) false) ∷ []) ∷ []) ((answered 1 0 (answers.Full 0 0) ∷ []) ∷ []) → ⊥
 never_full p full = nothing_needed p 0 0 (full.each 0 (record { act = Erase whole; at = 0; level = 0; bucket = 0 }) (omega arith)).needed

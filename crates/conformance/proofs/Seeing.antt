@@ -10,13 +10,13 @@ use Rattle.node_words.specs.Plans.{Layout}
 use Rattle.script.specs.declared.commands.ScriptLine.{ScriptLine}
 use Rattle.transcript.specs.declared.answers.LineAnswer.{LineAnswer}
 use Rattle.conformance.specs.Answers.{IsStanding, LineFits, GoesOn}
-use Rattle.conformance.specs.Shown.{Accepted, accepted_by, forgotten_by, accepted_in, forgotten_in}
+use Rattle.conformance.specs.Shown.{Accepted, accepted_by, accepted_in}
 use Rattle.conformance.specs.Agreeing.{InOrder, SessionAgrees}
 use Rattle.conformance.specs.Passes.{Found, IsLooked, LineSeen, PassSoFar, PassStep, Closes}
 use Rattle.conformance.specs.Kinds.{IsAfter}
 use Rattle.conformance.proofs.GoingOn.{answers_stay}
 use Rattle.conformance.proofs.Lists.{zip_push, zip_map, pairs_push}
-use Rattle.conformance.proofs.Running.{accepted_push, forgotten_push}
+use Rattle.conformance.proofs.Running.{accepted_push}
 
 pub longer : (old new : Log) → GoesOn old new → length old.records ≤ length new.records
 longer old new g = (let more : length new.records ≡ length (old.records ++ g.more) = ap length g.records in let both = length-append old.records g.more in omega arith)
@@ -44,7 +44,6 @@ pass_line p models session script transcript l old new found more records now ow
           let low = step.no_earlier in
           record { no_earlier = omega arith; later = λ e. (let so = step.later e in omega arith); unseen = λ base e. (let so = step.unseen base e in omega arith) })) transcript within);
       accepted = record { weighs = λ f. step.accepted.weighs f ∙ joined f records (accepted_by session l.line l.command a.at a.answer) (accepted_in session script transcript) (accepted_in session (script ++ l ∷ []) (transcript ++ a ∷ [])) (s.accepted.weighs f) (accepted_push (LineSeen p models old found own session) f session script transcript l a s.lines) };
-      marks = record { weighs = λ f. step.marks.weighs f ∙ joined f own (forgotten_by session l.line a.at a.answer) (forgotten_in session script transcript) (forgotten_in session (script ++ l ∷ []) (transcript ++ a ∷ [])) (s.marks.weighs f) (forgotten_push (LineSeen p models old found own session) f session script transcript l a s.lines) };
     }
   where
     joined : {X : Type 0} (f : X → ℕ) (xs ys zs all : List X) → sum_by f xs ≡ sum_by f zs → sum_by f all ≡ sum_by f zs + sum_by f ys → sum_by f (xs ++ ys) ≡ sum_by f all

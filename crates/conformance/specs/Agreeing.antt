@@ -8,7 +8,7 @@ use Rattle.script.specs.declared.commands.ScriptLine.{ScriptLine}
 use Rattle.transcript.specs.declared.answers.Answer.TheVariants as answers
 use Rattle.transcript.specs.declared.answers.LineAnswer.{LineAnswer}
 use Rattle.conformance.specs.Answers.{LineFits}
-use Rattle.conformance.specs.Shown.{IsShown}
+use Rattle.conformance.specs.Shown.{IsShownKeeping}
 
 -- moments never fall, an accepted change is later than all before it, and what made a change stale
 -- had been seen by none
@@ -33,8 +33,13 @@ SessionsAgree p models log session (script ∷ scripts) (transcript ∷ transcri
     SessionAgrees p models log session script transcript
     × SessionsAgree p models log (session + 1) scripts transcripts
 
--- the history, the scripts and the transcripts agree
-pub record Agrees (p : Layout) (models : List Content) (log : Log)
+-- the history, the scripts and the transcripts agree, where the last `keep` versions alone are held
+pub record AgreesKeeping (keep : ℕ) (p : Layout) (models : List Content) (log : Log)
     (scripts : List (List ScriptLine)) (transcripts : List (List LineAnswer)) : Type 0 where
   pub sessions : SessionsAgree p models log 0 scripts transcripts
-  pub shown : IsShown scripts transcripts log
+  pub shown : IsShownKeeping keep scripts transcripts log
+
+-- and where all are
+abbrev pub Agrees : Layout → List Content → Log → List (List ScriptLine) → List (List LineAnswer)
+    → Type 0
+Agrees p models log scripts transcripts = AgreesKeeping 0 p models log scripts transcripts

@@ -1,5 +1,5 @@
 -- Which answer fits a command at a moment. A moment is a number of records.
-use Rattle.std.specs.Prelude.{◌≡◌, ◌≢◌, ℕ, ◌-◌, ◌^◌, ◌<◌, ◌≤◌, ◌⊎◌, Bool, true, false, List, [], ◌∷◌, ◌++◌, take, length, Option, Some, None, All, slice_index}
+use Rattle.std.specs.Prelude.{◌≡◌, ◌≢◌, ℕ, ◌-◌, ◌<◌, ◌≤◌, ◌⊎◌, Bool, true, false, List, ◌++◌, take, length, Option, Some, None, All, slice_index}
 use Rattle.std.specs.List.{slice_get, Contains}
 use Rattle.history_model.specs.Contents.{Content}
 use Rattle.history_model.specs.declared.acts.Act.{Act}
@@ -8,11 +8,11 @@ use Rattle.history_model.specs.declared.histories.Record.{Record}
 use Rattle.history_model.specs.declared.histories.Mark.{Mark}
 use Rattle.history_model.specs.Worlds.{is_edit}
 use Rattle.history_model.specs.Positions.{position_after, first_of}
-use Rattle.history_model.specs.Logs.{Log}
-use Rattle.history_model.specs.Moments.{world_has}
+use Rattle.history_model.specs.Logs.{Log, world_side}
+use Rattle.history_model.specs.Moments.{world_has, world_tint}
+use Rattle.history_model.specs.Tints.{SameTints}
 use Rattle.node_words.specs.Plans.{Layout}
 use Rattle.possible.specs.Aligned.{top}
-use Rattle.possible.specs.Versions.{SameWorld}
 use Rattle.script.specs.declared.commands.Command.{Command}
 use Rattle.script.specs.declared.commands.Command.TheVariants.{Edit, Forget, Ask, Save, Same, Head}
 use Rattle.history_model.specs.declared.questions.Question.{Question}
@@ -101,18 +101,20 @@ pub data Answers (p : Layout) (models : List Content) (log : Log) (Stands : ℕ 
       → Answers p models log Stands session line n (Forget v) (answers.Forgot v)
   tells : (version : Option ℕ) (question : Question) (answer : Answer)
       → IsReadable Stands n (asked_version version n)
-      → Tells (2 ^ log.side)
-      (world_has models log.records (asked_version version n)) question answer
+      → Tells (world_side log) (world_has models log.records (asked_version version n))
+      (world_tint models log.records (asked_version version n)) question answer
       → Answers p models log Stands session line n (Ask version question) answer
   saves : (version : Option ℕ) (name : SaveName) (part : Boxed) (cells : ℕ)
       → IsReadable Stands n (asked_version version n)
       → cells ≡ number_in part (world_has models log.records (asked_version version n))
       → Answers p models log Stands session line n (Save version name part) (answers.Saved cells)
   same : (v w : ℕ) → IsReadable Stands n v → IsReadable Stands n w
-      → SameWorld (2 ^ log.side) (world_has models log.records v) (world_has models log.records w)
+      → SameTints (world_side log) (world_tint models log.records v)
+      (world_tint models log.records w)
       → Answers p models log Stands session line n (Same v w) (answers.Same true)
   different : (v w : ℕ) → IsReadable Stands n v → IsReadable Stands n w
-      → ¬ SameWorld (2 ^ log.side) (world_has models log.records v) (world_has models log.records w)
+      → ¬ SameTints (world_side log) (world_tint models log.records v)
+      (world_tint models log.records w)
       → Answers p models log Stands session line n (Same v w) (answers.Same false)
   head : Answers p models log Stands session line n Head answers.Head
   no_version : (command : Command) (v : ℕ) → Names Stands n command v → n < v
@@ -144,6 +146,7 @@ pub record LineFits (p : Layout) (models : List Content) (log : Log) (session : 
 -- the newer history has the records of the older one first, and all its marks
 pub record GoesOn (old new : Log) : Type 0 where
   pub side : new.side ≡ old.side
+  pub coloured : new.coloured ≡ old.coloured
   pub more : List Record
   pub records : new.records ≡ old.records ++ more
   pub marks : All (Contains new.marks) old.marks

@@ -6,12 +6,12 @@ use Rattle.history_model.specs.Contents.{Content}
 use Rattle.history_model.specs.declared.histories.Mark.{Mark}
 use Rattle.history_model.specs.Logs.{Log}
 use Rattle.node_words.specs.Plans.{Layout}
-pub use Rattle.version_answers.specs.Listing.{Found}
+pub use Rattle.versions.specs.Listing.{Found}
 use Rattle.script.specs.declared.commands.ScriptLine.{ScriptLine}
 use Rattle.transcript.specs.declared.answers.Answer.TheVariants as answers
 use Rattle.transcript.specs.declared.answers.LineAnswer.{LineAnswer}
 use Rattle.conformance.specs.Answers.{Answers, GoesOn}
-use Rattle.conformance.specs.Shown.{Accepted, SameItems, accepted_by, forgotten_by, accepted_in, forgotten_in}
+use Rattle.conformance.specs.Shown.{Accepted, SameItems, accepted_by, accepted_in}
 use Rattle.conformance.specs.Agreeing.{InOrder}
 
 -- the session looked at the version at moment n and found no mark, or it is the newest one then;
@@ -29,14 +29,14 @@ pub record LineSeen (p : Layout) (models : List Content) (seen : Log) (found : L
   pub answers : Answers p models seen (IsLooked found own l.line a.at) session l.line a.at
       l.command a.answer
 
--- a session's lines so far, with its own records and marks
+-- a session's lines so far, with its own records and marks. Which marks are its own is told with
+-- what else it keeps
 pub record PassSoFar (p : Layout) (models : List Content) (session : ℕ) (script : List ScriptLine)
     (transcript : List LineAnswer) (seen : Log) (found : List Found) (records : List Accepted)
     (own : List Mark) : Type 0 where
   pub lines : AllZip (LineSeen p models seen found own session) script transcript
   pub moments : AllPairs InOrder transcript
   pub accepted : SameItems records (accepted_in session script transcript)
-  pub marks : SameItems own (forgotten_in session script transcript)
 
 -- what one line makes of what the session has seen and done
 pub record PassStep (p : Layout) (models : List Content) (session : ℕ) (l : ScriptLine)
@@ -50,7 +50,6 @@ pub record PassStep (p : Layout) (models : List Content) (session : ℕ) (l : Sc
   pub unseen : (base : ℕ) → a.answer ≡ answers.Stale base → length old.records ≤ base
   pub fits : LineSeen p models new more mine session l a
   pub accepted : SameItems now (records ++ accepted_by session l.line l.command a.at a.answer)
-  pub marks : SameItems mine (own ++ forgotten_by session l.line a.at a.answer)
 
 -- the whole history goes on from what the session saw, forgets no version before the session found
 -- it, and has no mark of the session but its own

@@ -1,11 +1,11 @@
 -- What a run of scripts one after another keeps, and what one more line makes of it.
-use Rattle.std.specs.Prelude.{◌≡◌, ℕ, ◌^◌, ◌<◌, ◌≤◌, ◌⊎◌, List, [], ◌∷◌, ◌++◌, length, map, All, AllPairs}
+use Rattle.std.specs.Prelude.{◌≡◌, ℕ, true, ◌^◌, ◌<◌, ◌≤◌, ◌⊎◌, List, [], ◌∷◌, ◌++◌, length, map, All, AllPairs}
 use Rattle.std.specs.List.{AllZip, Contains}
 use Rattle.history_model.specs.Contents.{Content}
 use Rattle.history_model.specs.declared.histories.Record.{Record}
 use Rattle.history_model.specs.declared.histories.Mark.{Mark}
 use Rattle.possible.specs.Versions.{MarkComes}
-use Rattle.history_model.specs.Logs.{Log, IsLegal}
+use Rattle.history_model.specs.Logs.{Log, IsLegal, SuitsTints, suits_tints}
 use Rattle.node_words.specs.Plans.{Layout}
 use Rattle.script.specs.declared.commands.ScriptLine.{ScriptLine}
 use Rattle.transcript.specs.declared.answers.Answer.TheVariants as answers
@@ -22,11 +22,13 @@ abbrev pub IsBy : ℕ → List ScriptLine → Mark → Type 0
 IsBy session script mark = (mark.session < session)
     ⊎ ((mark.session ≡ session) × Contains (line_numbers script) mark.line)
 
--- some scripts were run, and of the next one these lines
+-- some scripts were run, and of the next one these lines; acts are tinted exactly where the history
+-- is coloured
 pub record IsSoFar (p : Layout) (models : List Content) (scripts : List (List ScriptLine))
     (transcripts : List (List LineAnswer)) (script : List ScriptLine)
     (transcript : List LineAnswer) (log : Log) : Type 0 where
   pub legal : IsLegal (2 ^ p.side) models log
+  pub suits : SuitsTints log
   pub before : SessionsAgree p models log 0 scripts transcripts
   pub lines : AllZip (LineFits p models log (length scripts)) script transcript
   pub moments : AllPairs InOrder transcript
@@ -45,6 +47,7 @@ IsOldOrNew old n session line mark = Contains old mark
 pub record LineStep (p : Layout) (models : List Content) (session : ℕ) (l : ScriptLine)
     (old new : Log) (a : LineAnswer) : Type 0 where
   pub legal : IsLegal (2 ^ p.side) models new
+  pub suits : SuitsTints old → SuitsTints new
   pub goes_on : GoesOn old new
   pub new_marks : All (IsOldOrNew old.marks (length old.records) session l.line) new.marks
   pub no_earlier : length old.records ≤ a.at
@@ -55,10 +58,12 @@ pub record LineStep (p : Layout) (models : List Content) (session : ℕ) (l : Sc
       (numbered 1 old.records ++ accepted_by session l.line l.command a.at a.answer)
   pub marks : SameItems new.marks (old.marks ++ forgotten_by session l.line a.at a.answer)
 
--- the history with one more record, legal as it was
+-- the history with one more record, legal as it was, and as much coloured
 pub record GrowsBy (p : Layout) (models : List Content) (r : Record) (old new : Log) : Type 0 where
   pub legal : IsLegal (2 ^ p.side) models new
   pub side : new.side ≡ old.side
+  pub coloured : new.coloured ≡ old.coloured
+  pub suits : suits_tints old.coloured r.act ≡ true
   pub records : new.records ≡ old.records ++ r ∷ []
   pub marks : new.marks ≡ old.marks
 
@@ -67,6 +72,7 @@ pub record ForgetsBy (p : Layout) (models : List Content) (mark : Mark)
     (old new : Log) : Type 0 where
   pub legal : IsLegal (2 ^ p.side) models new
   pub side : new.side ≡ old.side
+  pub coloured : new.coloured ≡ old.coloured
   pub records : new.records ≡ old.records
   pub now : mark.at ≡ length old.records
   pub marks : MarkComes old.marks mark new.marks

@@ -4,13 +4,14 @@ use Rattle.std.specs.List.{AllPairs}
 use Rattle.history_model.specs.declared.histories.Record.{Record}
 use Rattle.history_model.specs.declared.histories.Mark.{Mark}
 use Rattle.history_model.specs.Logs.{Log}
-pub use Rattle.version_answers.specs.Listing.{Accepted, numbered}
+pub use Rattle.versions.specs.Listing.{Accepted, numbered}
 use Rattle.script.specs.declared.commands.Command.{Command}
 use Rattle.script.specs.declared.commands.Command.TheVariants.{Edit}
 use Rattle.script.specs.declared.commands.ScriptLine.{ScriptLine}
 use Rattle.transcript.specs.declared.answers.Answer.{Answer}
 use Rattle.transcript.specs.declared.answers.Answer.TheVariants as answers
 use Rattle.transcript.specs.declared.answers.LineAnswer.{LineAnswer}
+use Rattle.versions.specs.Retained.{with_fallen}
 use Rattle.conformance.specs.Answers.{mark_of}
 
 -- two lists have the same items, each as often: they weigh the same by every weight
@@ -62,13 +63,18 @@ abbrev pub forgotten_of : ℕ → List (List ScriptLine) → List (List LineAnsw
 forgotten_of session scripts transcripts = of_sessions forgotten_in session scripts transcripts
 
 -- the history has as its records, by their numbers, just the accepted changes by their moments, and
--- as its marks, by
--- rising version, just the forgettings, each once
-pub record IsShown (scripts : List (List ScriptLine)) (transcripts : List (List LineAnswer))
-    (log : Log) : Type 0 where
+-- as its marks, by rising version, just the forgettings, and those of the versions that fell out of
+-- the last `keep`, each once
+pub record IsShownKeeping (keep : ℕ) (scripts : List (List ScriptLine))
+    (transcripts : List (List LineAnswer)) (log : Log) : Type 0 where
   pub records : SameItems (numbered 1 log.records) (accepted_of 0 scripts transcripts)
-  pub marks : SameItems log.marks (forgotten_of 0 scripts transcripts)
+  pub marks : SameItems log.marks
+      (with_fallen keep log.records (forgotten_of 0 scripts transcripts))
   pub rising : AllPairs (λ a b. a.version < b.version) log.marks
+
+-- with 0 all versions are held, and the marks are just the forgettings
+abbrev pub IsShown : List (List ScriptLine) → List (List LineAnswer) → Log → Type 0
+IsShown scripts transcripts log = IsShownKeeping 0 scripts transcripts log
 
 -- how much the changes accepted at moment n weigh, by a weight of records
 abbrev pub weight_at : (Record → ℕ) → ℕ → Accepted → ℕ

@@ -8,7 +8,7 @@ use Rattle.history_model.specs.declared.histories.Record.{Record}
 use Rattle.history_model.specs.declared.histories.Mark.{Mark}
 use Rattle.history_model.specs.Worlds.{is_edit}
 use Rattle.history_model.specs.Positions.{position_after, first_of}
-use Rattle.history_model.specs.Logs.{Log, IsLegal}
+use Rattle.history_model.specs.Logs.{Log, IsLegal, SuitsTints}
 use Rattle.node_words.specs.Plans.{Layout}
 use Rattle.possible.specs.Versions.{IsKept}
 use Rattle.possible.specs.Needed.{IsPossible}
@@ -40,8 +40,9 @@ AnswersGoOn = (old new : Log) → GoesOn old new → (n : ℕ) → n ≤ length 
 -- ---- scripts one after another
 
 abbrev pub RunsBegin : Type 0
-RunsBegin = (p : Layout) (models : List Content)
-    → IsSoFar p models [] [] [] [] (record { side = p.side; records = []; marks = [] })
+RunsBegin = (p : Layout) (models : List Content) (coloured : Bool)
+    → IsSoFar p models [] [] [] []
+    (record { side = p.side; coloured = coloured; records = []; marks = [] })
 
 abbrev pub RunsGoOnByLines : Type 0
 RunsGoOnByLines = (p : Layout) (models : List Content) (scripts : List (List ScriptLine))
@@ -62,7 +63,7 @@ abbrev pub RunsAgree : Type 0
 RunsAgree = (p : Layout) (models : List Content) (scripts : List (List ScriptLine))
     (transcripts : List (List LineAnswer)) (log : Log)
     → IsSoFar p models scripts transcripts [] [] log
-    → IsLegal (2 ^ p.side) models log × Agrees p models log scripts transcripts
+    → IsLegal (2 ^ p.side) models log × SuitsTints log × Agrees p models log scripts transcripts
 
 -- ---- what each kind of answer makes of a history
 

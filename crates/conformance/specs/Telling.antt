@@ -1,4 +1,4 @@
--- Which answer tells what is asked of a world.
+-- Which answer tells what is asked of a world with tints.
 use Rattle.std.specs.Prelude.{◌≡◌, ℕ, Bool, Option}
 use Rattle.vw_cell.specs.declared.cells.Cell.{Cell}
 use Rattle.vw_cell.specs.declared.boxes.Boxed.{Boxed}
@@ -8,20 +8,23 @@ use Rattle.world_questions.specs.Extents.{IsExtent}
 use Rattle.history_model.specs.Ways.{Heading}
 use Rattle.history_model.specs.Rays.{Hits}
 use Rattle.history_model.specs.Worlds.{World}
+use Rattle.history_model.specs.Tints.{Tints}
 use Rattle.history_model.specs.declared.questions.Question.{Question}
-use Rattle.history_model.specs.declared.questions.Question.TheVariants.{Get, Count, Bounds, Faces, Ray}
+use Rattle.history_model.specs.declared.questions.Question.TheVariants.{Get, Colour, Count, Bounds, Faces, Ray}
 use Rattle.transcript.specs.declared.answers.Answer.{Answer}
 use Rattle.transcript.specs.declared.answers.Answer.TheVariants as answers
 
--- the answer tells what the question asks of a world of this side; a new question adds its row here
--- alone
-pub data Tells (side : ℕ) (w : World) : Question → Answer → Type 0 where
-  is : (c : Cell) (set : Bool) → w c ≡ set → Tells side w (Get c) (answers.Is set)
+-- the answer tells what the question asks of a world of this side, whose cells have these tints; a
+-- new question adds its row here alone
+pub data Tells (side : ℕ) (w : World) (tints : Tints) : Question → Answer → Type 0 where
+  is : (c : Cell) (set : Bool) → w c ≡ set → Tells side w tints (Get c) (answers.Is set)
+  colour : (c : Cell) (tint : ℕ) → tints c ≡ tint
+      → Tells side w tints (Colour c) (answers.Colour tint)
   count : (b : Boxed) (cells : ℕ) → cells ≡ number_in b w
-      → Tells side w (Count b) (answers.Count cells)
+      → Tells side w tints (Count b) (answers.Count cells)
   faces : (b : Boxed) (number : ℕ) → number ≡ faces_in side w b
-      → Tells side w (Faces b) (answers.Faces number)
+      → Tells side w tints (Faces b) (answers.Faces number)
   extent : (least : Option Boxed) → IsExtent side w least
-      → Tells side w Bounds (answers.Extent least)
+      → Tells side w tints Bounds (answers.Extent least)
   hit : (from : Cell) (h : Heading) (found : Option Cell) → Hits from h side w found
-      → Tells side w (Ray from h) (answers.Hit found)
+      → Tells side w tints (Ray from h) (answers.Hit found)

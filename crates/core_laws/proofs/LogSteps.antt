@@ -16,8 +16,8 @@ use Rattle.block_contents.specs.Record.{Record}
 use Rattle.block_contents.specs.Mark.{Mark}
 use Rattle.block_contents.specs.Logs.{Log, FitsWorld, IsLegal, MayFollowFrom}
 use Rattle.block_contents.specs.Positions.{beginning}
-use Rattle.block_contents.specs.Moments.{world_has}
-use Rattle.block_contents.specs.Laws.{has_stays}
+use Rattle.block_contents.specs.Stores.{stored_in}
+use Rattle.block_contents.specs.StoreLaws.{stored_stays}
 use Rattle.block_contents.specs.LegalLaws.{legal_next}
 use Rattle.core_laws.specs.States.{State, tree_at}
 use Rattle.block_contents.specs.Aligned.{top, world_block}
@@ -72,7 +72,7 @@ versions_stay p models old new s t keys roots log v = record {
       shows_same p _ _ _ (root_stays p models old new s v t keys w (roots w))
       (v.shown w (subst (λ (l : Log). IsKept l w) log kept)) in
       subst (λ (l : Log). ShowsCells (world_block p.side)
-      (shape_of (tree_at new.key (top p.side) (new.root w))) (world_has models l.records w))
+      (shape_of (tree_at new.key (top p.side) (new.root w))) (stored_in (2 ^ p.side) models l.records w))
       (sym log) shown);
 }
 
@@ -118,11 +118,11 @@ module _ (p : Layout) (models : List Content) (holder : ℕ) (r : Record) (root 
       })
 
   new_cells : (q : Cell) → IsInBlock (world_block p.side) q
-      → e.may.cells q ≡ world_has models new.log.records (length old.log.records + 1) q
+      → e.may.cells q ≡ stored_in (2 ^ p.side) models new.log.records (length old.log.records + 1) q
   new_cells q inside =
       sym ((made_cells (2 ^ p.side) models old.log.records r e.may.cells e.may.makes).each q
       (in_world p.side q low inside))
-      ∙ ap (λ (l : Log). world_has models l.records (length old.log.records + 1) q) (sym e.log)
+      ∙ ap (λ (l : Log). stored_in (2 ^ p.side) models l.records (length old.log.records + 1) q) (sym e.log)
 
   new_or_old : (v : ℕ) → v ≤ length new.log.records
       → (v ≡ length old.log.records + 1) ⊎ (v ≤ length old.log.records)
@@ -175,11 +175,11 @@ module _ (p : Layout) (models : List Content) (holder : ℕ) (r : Record) (root 
             shows_same p _ _ _ new_tree e.may.shows in
             let all : ShowsCells (world_block p.side)
             (shape_of (tree_at new.key (top p.side) (new.root (length old.log.records + 1))))
-            (world_has models new.log.records (length old.log.records + 1)) =
+            (stored_in (2 ^ p.side) models new.log.records (length old.log.records + 1)) =
             record { each = λ q inside. shown.each q inside ∙ new_cells q inside } in
             subst (λ (w : ℕ). ShowsCells (world_block p.side)
             (shape_of (tree_at new.key (top p.side) (new.root w)))
-            (world_has models new.log.records w)) (sym latest) all)
+            (stored_in (2 ^ p.side) models new.log.records w)) (sym latest) all)
         | inr earlier ↦
             (let shown =
             shows_same p _ _ _
@@ -192,8 +192,8 @@ module _ (p : Layout) (models : List Content) (holder : ℕ) (r : Record) (root 
             })) in
             record {
               each = λ q inside. shown.each q inside
-                  ∙ sym (has_stays models old.log.records (r ∷ []) v q earlier)
-                  ∙ ap (λ (l : Log). world_has models l.records v q) (sym e.log);
+                  ∙ sym (stored_stays (2 ^ p.side) models old.log.records (r ∷ []) v q earlier)
+                  ∙ ap (λ (l : Log). stored_in (2 ^ p.side) models l.records v q) (sym e.log);
             })
       ];
     };
@@ -275,7 +275,7 @@ module _ (p : Layout) (models : List Content) (holder : ℕ) (mark : Mark) (old 
           })) in
           record {
             each = λ q inside. shown.each q inside
-                ∙ ap (λ (rs : List Record). world_has models rs v q) (sym e.records);
+                ∙ ap (λ (rs : List Record). stored_in (2 ^ p.side) models rs v q) (sym e.records);
           });
     };
   }

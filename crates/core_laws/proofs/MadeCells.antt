@@ -5,25 +5,26 @@ use Rattle.block_contents.specs.HistoryModelContents.{Content}
 use Rattle.block_contents.specs.Record.{Record}
 use Rattle.block_contents.specs.Worlds.{World, is_edit}
 use Rattle.block_contents.specs.Positions.{Position}
-use Rattle.block_contents.specs.Moments.{world_has}
-use Rattle.block_contents.specs.Laws.{has_of_edit, has_of_other, position_of_next}
+use Rattle.block_contents.specs.Stores.{stored_in}
+use Rattle.block_contents.specs.StoreLaws.{stored_of_edit, stored_of_other}
+use Rattle.block_contents.specs.Laws.{position_of_next}
 use Rattle.block_contents.specs.Versions.{SameWorld}
 use Rattle.core_laws.specs.Making.{Makes}
 
 -- the version of the next record has the cells that its act makes
 pub made_cells : (side : ℕ) (models : List Content) (records : List Record) (r : Record)
     (cells : World) → Makes side models records r.act cells
-    → SameWorld side (world_has models (records ++ r ∷ []) (length records + 1)) cells
+    → SameWorld side (stored_in side models (records ++ r ∷ []) (length records + 1)) cells
 made_cells side models records r cells makes = elim (cases_Bool (is_edit r.act)) [
   | inl edit ↦
       record {
-        each = λ q in_world. has_of_edit models records r q edit
+        each = λ q in_world. stored_of_edit side models records r q edit
             ∙ sym ((makes.edit edit).each q in_world);
       }
   | inr other ↦ record {
     each = λ q in_world.
-        has_of_other models records r q other
-        ∙ ap (λ (at : Position). world_has models records at.now q) (position_of_next records r)
+        stored_of_other side models records r q other
+        ∙ ap (λ (at : Position). stored_in side models records at.now q) (position_of_next records r)
         ∙ sym ((makes.other other).each q in_world);
   }
 ]

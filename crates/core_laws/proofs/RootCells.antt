@@ -13,8 +13,8 @@ use Rattle.node_words.specs.Plans.{Layout}
 use Rattle.node_places.specs.Spots.{versions}
 use Rattle.block_contents.specs.Logs.{Log, IsLegal}
 use Rattle.block_contents.specs.LegalLaws.{legal_empty}
-use Rattle.block_contents.specs.Moments.{world_has}
-use Rattle.block_contents.specs.Laws.{has_at_0}
+use Rattle.block_contents.specs.Stores.{stored_in}
+use Rattle.block_contents.specs.StoreLaws.{stored_at_0}
 use Rattle.core_laws.specs.States.{State, IsLive, tree_at}
 use Rattle.block_contents.specs.Aligned.{top, world_block}
 use Rattle.core_laws.specs.Counting.{weight, children_weight, if_live, booked, parented, rooted}
@@ -69,11 +69,11 @@ empty_sound p models state e = record {
         let clear : shape_of (tree_at state.key (top p.side) (state.root v)) ≡ Clear =
         ap (λ (o : Option Name). shape_of (tree_at state.key (top p.side) o)) (e.root v)
         ∙ clear_at state.key (top p.side) in
-        subst (λ (s : Shape). ShowsCells (world_block p.side) s (world_has models state.log.records v))
+        subst (λ (s : Shape). ShowsCells (world_block p.side) s (stored_in (2 ^ p.side) models state.log.records v))
         (sym clear)
-        (clear_shows (world_block p.side) (world_has models state.log.records v)
-        (λ q _. ap (λ (w : ℕ). world_has models state.log.records w q) first
-        ∙ has_at_0 models state.log.records q)));
+        (clear_shows (world_block p.side) (stored_in (2 ^ p.side) models state.log.records v)
+        (λ q _. ap (λ (w : ℕ). stored_in (2 ^ p.side) models state.log.records w q) first
+        ∙ stored_at_0 (2 ^ p.side) models state.log.records q)));
   };
 }
   where
@@ -93,60 +93,60 @@ module _ (p : Layout) (models : List Content) (state : State) (low : 2 ≤ p.sid
   -- versions with one root have the same cells
   pub same_cells : (v w : ℕ) → IsKept state.log v → IsKept state.log w
       → state.root v ≡ state.root w
-      → SameWorld (2 ^ p.side) (world_has models state.log.records v) (world_has models state.log.records w)
+      → SameWorld (2 ^ p.side) (stored_in (2 ^ p.side) models state.log.records v) (stored_in (2 ^ p.side) models state.log.records w)
   same_cells v w of_v of_w same = record {
     each = λ q inside. (
         let shows_v =
         subst (λ (o : Option Name). ShowsCells (world_block p.side)
         (shape_of (tree_at state.key (top p.side) o))
-        (world_has models state.log.records v)) same (s.versions.shown v of_v) in
+        (stored_in (2 ^ p.side) models state.log.records v)) same (s.versions.shown v of_v) in
         let in_b = in_block p.side q low inside in
         sym (shows_v.each q in_b) ∙ (s.versions.shown w of_w).each q in_b);
   }
 
   -- versions with the same cells have one root
   pub same_root : (v w : ℕ) → IsKept state.log v → IsKept state.log w
-      → SameWorld (2 ^ p.side) (world_has models state.log.records v) (world_has models state.log.records w)
+      → SameWorld (2 ^ p.side) (stored_in (2 ^ p.side) models state.log.records v) (stored_in (2 ^ p.side) models state.log.records w)
       → state.root v ≡ state.root w
   same_root v w of_v of_w same =
       let shows_v = s.versions.shown v of_v in
       let shows_w : ShowsCells (world_block p.side)
       (shape_of (tree_at state.key (top p.side) (state.root w)))
-      (world_has models state.log.records v) =
+      (stored_in (2 ^ p.side) models state.log.records v) =
       record {
         each = λ q in_b. (s.versions.shown w of_w).each q in_b
             ∙ sym (same.each q (in_world p.side q low in_b));
       } in
       shape_once p state s.entries (top p.side) (state.root v) (state.root w) (root_live v)
       (root_live w)
-      (shown_once (world_block p.side) _ _ (world_has models state.log.records v)
+      (shown_once (world_block p.side) _ _ (stored_in (2 ^ p.side) models state.log.records v)
       (canonical_at p state s.entries (top p.side) (state.root v) (root_live v))
       (canonical_at p state s.entries (top p.side) (state.root w)
       (root_live w)) shows_v shows_w)
 
   -- a version has no root just where it has no set cell
   pub no_root_no_cell : (v : ℕ) → IsKept state.log v → state.root v ≡ None → (q : Cell)
-      → IsInWorld (2 ^ p.side) q → world_has models state.log.records v q ≡ false
+      → IsInWorld (2 ^ p.side) q → stored_in (2 ^ p.side) models state.log.records v q ≡ false
   no_root_no_cell v of_v none q inside =
-      clear_shown (world_block p.side) (world_has models state.log.records v) q
-      (subst (λ (t : Shape). ShowsCells (world_block p.side) t (world_has models state.log.records v))
+      clear_shown (world_block p.side) (stored_in (2 ^ p.side) models state.log.records v) q
+      (subst (λ (t : Shape). ShowsCells (world_block p.side) t (stored_in (2 ^ p.side) models state.log.records v))
       (ap (λ (o : Option Name). shape_of (tree_at state.key (top p.side) o)) none
       ∙ clear_at state.key (top p.side)) (s.versions.shown v of_v))
       (in_block p.side q low inside)
 
   pub no_cell_no_root : (v : ℕ) → IsKept state.log v
-      → ((q : Cell) → IsInWorld (2 ^ p.side) q → world_has models state.log.records v q ≡ false)
+      → ((q : Cell) → IsInWorld (2 ^ p.side) q → stored_in (2 ^ p.side) models state.log.records v q ≡ false)
       → state.root v ≡ None
   no_cell_no_root v of_v clear =
       let shows : ShowsCells (world_block p.side) (shape_of (tree_at state.key (top p.side) None))
-      (world_has models state.log.records v) =
-      subst (λ (t : Shape). ShowsCells (world_block p.side) t (world_has models state.log.records v))
+      (stored_in (2 ^ p.side) models state.log.records v) =
+      subst (λ (t : Shape). ShowsCells (world_block p.side) t (stored_in (2 ^ p.side) models state.log.records v))
       (sym (clear_at state.key (top p.side)))
-      (clear_shows (world_block p.side) (world_has models state.log.records v)
+      (clear_shows (world_block p.side) (stored_in (2 ^ p.side) models state.log.records v)
       (λ q in_b. clear q (in_world p.side q low in_b))) in
       shape_once p state s.entries (top p.side) (state.root v) None (root_live v)
       (λ n e. absurd (none-some n e))
-      (shown_once (world_block p.side) _ _ (world_has models state.log.records v)
+      (shown_once (world_block p.side) _ _ (stored_in (2 ^ p.side) models state.log.records v)
       (canonical_at p state s.entries (top p.side) (state.root v) (root_live v))
       (canonical_at p state s.entries (top p.side) None (λ n e. absurd (none-some n e)))
       (s.versions.shown v of_v) shows)

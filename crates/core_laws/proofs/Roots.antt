@@ -1,6 +1,6 @@
 -- Where nobody holds a share, each live entry stands below a root, and shows an aligned block of
 -- its version.
-use Rattle.std.proofs.Common.{Bool, ◌≡◌, ◌≢◌, ◌⊎◌, ℕ, zero, suc, ◌+◌, ◌-◌, ◌<◌, ◌≤◌, refl, sym, ◌∙◌, ap, subst, arith, inl, inr, Some, None, Option, List, ◌*◌}
+use Rattle.std.proofs.Common.{Bool, ◌≡◌, ◌≢◌, ◌⊎◌, ℕ, zero, suc, ◌+◌, ◌-◌, ◌<◌, ◌≤◌, refl, sym, ◌∙◌, ap, subst, arith, inl, inr, Some, None, Option, List, ◌*◌, ◌^◌}
 use Rattle.std.proofs.lemmas.Bool.{cases_lt, false≢true}
 use Rattle.std.proofs.lemmas.Option.{none-some}
 use Rattle.vw_cell.specs.declared.cells.Cell.{Cell}
@@ -16,7 +16,7 @@ use Rattle.node_words.specs.declared.keys.Key.{Key}
 use Rattle.node_words.specs.Plans.{Layout}
 use Rattle.node_places.specs.Spots.{versions}
 use Rattle.block_contents.specs.Worlds.{World}
-use Rattle.block_contents.specs.Moments.{world_has}
+use Rattle.block_contents.specs.Stores.{stored_in}
 use Rattle.core_laws.specs.States.{State, IsLive, tree_at, shape_in, IsUnder, itself, below}
 use Rattle.node_places.specs.Names.{key_child}
 use Rattle.block_contents.specs.Aligned.{top, world_block, IsAligned, octant}
@@ -265,13 +265,13 @@ root_shows p cells state v r (Some n) e some = r.shown v n e
 
 -- the roots of a sound state show the cells of its versions
 pub sound_roots : (p : Layout) (models : List Content) (state : State)
-    → SoundVersions p models state → RootsShow p (λ v. world_has models state.log.records v) state
+    → SoundVersions p models state → RootsShow p (λ v. stored_in (2 ^ p.side) models state.log.records v) state
 sound_roots p models state s = record {
   in_range = λ v n e. root_in_range p models state v n s e;
   level = s.level;
   shown = λ v n e.
       (let kept = s.kept v n e in
       subst (λ (o : Option Name). ShowsCells (world_block p.side)
-      (shape_of (tree_at state.key (top p.side) o)) (world_has models state.log.records v)) e
+      (shape_of (tree_at state.key (top p.side) o)) (stored_in (2 ^ p.side) models state.log.records v)) e
       (s.shown v kept));
 }

@@ -1,5 +1,5 @@
 -- The law of steps.
-use Rattle.std.proofs.Common.{◌≡◌, ◌≢◌, ℕ, zero, suc, ◌+◌, ◌<◌, ◌≤◌, refl, sym, ◌∙◌, ap, subst, arith, Some, None, Option, List, [], ◌∷◌, length, set}
+use Rattle.std.proofs.Common.{◌≡◌, ◌≢◌, ℕ, zero, suc, ◌+◌, ◌<◌, ◌≤◌, refl, sym, ◌∙◌, ap, subst, arith, Some, None, Option, List, [], ◌∷◌, length, set, ◌^◌}
 use Rattle.std.specs.List.{slice_get}
 use Rattle.std.proofs.lemmas.Option.{same_Some}
 use Rattle.block_contents.specs.HistoryModelContents.{Content}
@@ -9,8 +9,8 @@ use Rattle.node_words.specs.Plans.{Layout}
 use Rattle.vw_cell.specs.declared.cells.Cell.{Cell}
 use Rattle.block_contents.specs.Record.{Record}
 use Rattle.block_contents.specs.Logs.{Log}
-use Rattle.block_contents.specs.Moments.{world_has}
-use Rattle.block_contents.specs.Laws.{has_stays}
+use Rattle.block_contents.specs.Stores.{stored_in}
+use Rattle.block_contents.specs.StoreLaws.{stored_stays}
 use Rattle.core_laws.specs.StepStatements.{IsSpared}
 use Rattle.core_laws.specs.States.{State, IsLive, tree_of, IsUnder, Holds}
 use Rattle.core_laws.specs.Soundness.{SoundEntries, Sound}
@@ -208,13 +208,13 @@ leaves p holder m old new (takes_root place e) live none =
 -- no step changes a cell of a version
 pub step_cells : (p : Layout) (models : List Content) (holder : ℕ) (old new : State) (v : ℕ)
     (q : Cell) → Step p models holder old new → v ≤ length old.log.records
-    → world_has models new.log.records v q ≡ world_has models old.log.records v q
+    → stored_in (2 ^ p.side) models new.log.records v q ≡ stored_in (2 ^ p.side) models old.log.records v q
 step_cells p models holder old new v q (stores e roots log) le =
-    ap (λ (l : Log). world_has models l.records v q) log
+    ap (λ (l : Log). stored_in (2 ^ p.side) models l.records v q) log
 step_cells p models holder old new v q (pins w e log) le =
-    ap (λ (l : Log). world_has models l.records v q) log
+    ap (λ (l : Log). stored_in (2 ^ p.side) models l.records v q) log
 step_cells p models holder old new v q (appends r root e) le =
-    ap (λ (l : Log). world_has models l.records v q) e.log
-    ∙ has_stays models old.log.records (r ∷ []) v q le
+    ap (λ (l : Log). stored_in (2 ^ p.side) models l.records v q) e.log
+    ∙ stored_stays (2 ^ p.side) models old.log.records (r ∷ []) v q le
 step_cells p models holder old new v q (forgets mark e) le =
-    ap (λ (rs : List Record). world_has models rs v q) e.records
+    ap (λ (rs : List Record). stored_in (2 ^ p.side) models rs v q) e.records

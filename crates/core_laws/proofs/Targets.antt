@@ -4,13 +4,13 @@ use Rattle.std.specs.Prelude.{All}
 use Rattle.block_contents.specs.HistoryModelContents.{Content}
 use Rattle.node_words.specs.Plans.{Layout}
 use Rattle.block_contents.specs.Act.{Act}
-use Rattle.block_contents.specs.TheVariants.{Fill, Erase, Ball, Carve, Copy, Stamp, Undo, Redo}
+use Rattle.block_contents.specs.TheVariants.{Fill, Erase, Ball, Carve, Copy, Stamp, Tint, Undo, Redo}
 use Rattle.block_contents.specs.Record.{Record}
 use Rattle.block_contents.specs.Worlds.{is_edit}
 use Rattle.block_contents.specs.Positions.{Position, undone, redone, position_after}
 use Rattle.block_contents.specs.PositionLaws.{names_below}
 use Rattle.block_contents.specs.Logs.{Log, FitsWorld, HasTarget, MayFollow, IsVersionHeld}
-use Rattle.block_contents.specs.Moments.{world_has}
+use Rattle.block_contents.specs.Stores.{stored_in}
 use Rattle.core_laws.specs.States.{State}
 use Rattle.core_laws.specs.Soundness.{Sound}
 use Rattle.block_contents.specs.Versions.{IsKept}
@@ -35,16 +35,16 @@ held_kept log to dated below held =
 undo_kept : (log : Log) (past : List ℕ) (now : ℕ) (future : List ℕ) → AreDated log
     → All (λ v. v < length log.records + 1) past
     → HasTarget log.marks (length log.records + 1) past → IsKept log (undone past now future).now
-undo_kept log [] now future dated below world_has = absurd world_has
-undo_kept log (to ∷ past) now future dated below world_has =
-    held_kept log to dated (below 0 0 (omega arith)) world_has
+undo_kept log [] now future dated below has = absurd has
+undo_kept log (to ∷ past) now future dated below has =
+    held_kept log to dated (below 0 0 (omega arith)) has
 
 redo_kept : (log : Log) (past : List ℕ) (now : ℕ) (future : List ℕ) → AreDated log
     → All (λ v. v < length log.records + 1) future
     → HasTarget log.marks (length log.records + 1) future → IsKept log (redone past now future).now
-redo_kept log past now [] dated below world_has = absurd world_has
-redo_kept log past now (to ∷ future) dated below world_has =
-    held_kept log to dated (below 0 0 (omega arith)) world_has
+redo_kept log past now [] dated below has = absurd has
+redo_kept log past now (to ∷ future) dated below has =
+    held_kept log to dated (below 0 0 (omega arith)) has
 
 pub target_kept : (log : Log) (act : Act) → AreDated log → is_edit act ≡ false
     → MayFollow log.marks (length log.records + 1) act (position_after log.records)
@@ -55,6 +55,7 @@ target_kept log (Ball b) dated other may = absurd (let no : ⊥ = cc in no)
 target_kept log (Carve b) dated other may = absurd (let no : ⊥ = cc in no)
 target_kept log (Copy b to) dated other may = absurd (let no : ⊥ = cc in no)
 target_kept log (Stamp m at) dated other may = absurd (let no : ⊥ = cc in no)
+target_kept log (Tint t) dated other may = absurd (let no : ⊥ = cc in no)
 target_kept log Undo dated other may = let at : Position = position_after log.records in
     undo_kept log at.past at.now at.future dated (names_below log.records).past may
 target_kept log Redo dated other may = let at : Position = position_after log.records in
@@ -68,6 +69,7 @@ other_fits side models (Ball b) other = absurd (let no : ⊥ = cc in no)
 other_fits side models (Carve b) other = absurd (let no : ⊥ = cc in no)
 other_fits side models (Copy b to) other = absurd (let no : ⊥ = cc in no)
 other_fits side models (Stamp m at) other = absurd (let no : ⊥ = cc in no)
+other_fits side models (Tint t) other = absurd (let no : ⊥ = cc in no)
 other_fits side models Undo other = tt
 other_fits side models Redo other = tt
 
@@ -85,7 +87,7 @@ may_go p models r state s room other may =
       fits = other_fits (2 ^ p.side) models r.act other;
       follows = may;
       level = s.versions.level to;
-      cells = world_has models state.log.records to;
+      cells = stored_in (2 ^ p.side) models state.log.records to;
       shows = s.versions.shown to kept;
       makes = record {
         edit =

@@ -34,7 +34,12 @@ pub record Appends (p : Layout) (models : List Content) (holder : ℕ) (r : Reco
     (root : Option Name) (old new : State) : Type 0 where
   pub may : MayAppend p models r root old
   pub log : new.log
-      ≡ record { side = old.log.side; records = old.log.records ++ r ∷ []; marks = old.log.marks }
+      ≡ record {
+        side = old.log.side;
+        coloured = old.log.coloured;
+        records = old.log.records ++ r ∷ [];
+        marks = old.log.marks;
+      }
   pub puts : PutsRoot p holder (length old.log.records + 1) root old new
 
 -- an earlier version is marked at the log's length, and its root leaves
@@ -42,6 +47,7 @@ pub record Forgets (p : Layout) (holder : ℕ) (mark : Mark) (old new : State) :
   pub earlier : mark.version < length old.log.records
   pub now : mark.at ≡ length old.log.records
   pub side : new.log.side ≡ old.log.side
+  pub coloured : new.log.coloured ≡ old.log.coloured
   pub records : new.log.records ≡ old.log.records
   pub marks : MarkComes old.log.marks mark new.log.marks
   pub takes : TakesRoot p holder mark.version old new

@@ -4,7 +4,7 @@ use Rattle.block_contents.specs.HistoryModelContents.{Content}
 use Rattle.block_contents.specs.Act.{Act}
 use Rattle.block_contents.specs.Record.{Record}
 use Rattle.block_contents.specs.Making.{MayMake}
-use Rattle.block_contents.specs.Moments.{world_has}
+use Rattle.block_contents.specs.Stores.{stored_in}
 use Rattle.block_contents.specs.Positions.{next_position, position_after}
 use Rattle.block_contents.specs.Worlds.{World, is_edit}
 use Rattle.block_contents.specs.Versions.{SameWorld}
@@ -18,6 +18,6 @@ version_gone_to records act = (next_position (length records + 1) act (position_
 pub record Makes (side : ℕ) (models : List Content) (records : List Record) (act : Act)
     (cells : World) : Type 0 where
   pub edit : is_edit act ≡ true
-      → MayMake side models act (world_has models records (length records)) cells
+      → MayMake side models act (stored_in side models records (length records)) cells
   pub other : is_edit act ≡ false
-      → SameWorld side cells (world_has models records (version_gone_to records act))
+      → SameWorld side cells (stored_in side models records (version_gone_to records act))

@@ -34,7 +34,7 @@ LiveEntriesAreBlocks = (p : Layout) (cells : ℕ → World) (state : State) (lev
 -- the roots of a sound state show the cells of their versions
 abbrev pub SoundRootsShow : Type 0
 SoundRootsShow = (p : Layout) (models : List Content) (state : State) → SoundVersions p models state
-    → RootsShow p (cells_at models state) state
+    → RootsShow p (cells_at p models state) state
 
 -- where nobody holds a share, the live entries of a level are as many as the different contents
 -- with a set cell that the aligned blocks of the versions have which are kept
@@ -42,5 +42,5 @@ abbrev pub LiveEntriesAreContents : Type 0
 LiveEntriesAreContents = (p : Layout) (models : List Content) (state : State) (level : ℕ)
     → 2 ≤ p.side
     → Sound p models state → IsIdle state → level < levels p
-    → HasContents (world_block p.side) (cells_at models state)
+    → HasContents (world_block p.side) (cells_at p models state)
     (IsKept state.log) level (live_number p state level)

@@ -1,5 +1,5 @@
 -- When a state is sound.
-use Rattle.std.specs.Prelude.{◌≡◌, ◌≢◌, ℕ, zero, suc, ◌+◌, ◌^◌, ◌<◌, Some, None, List, [], length, All}
+use Rattle.std.specs.Prelude.{◌≡◌, ◌≢◌, ℕ, zero, suc, ◌+◌, ◌^◌, ◌<◌, Some, None, List, [], length, All, false}
 use Rattle.std.specs.List.{AllPairs, Contains}
 use Rattle.block_contents.specs.HistoryModelContents.{Content}
 use Rattle.node_shapes.specs.declared.names.Name.{Name}
@@ -14,7 +14,7 @@ use Rattle.node_words.specs.Plans.{Layout}
 use Rattle.node_places.specs.Names.{IsName, named}
 use Rattle.node_places.specs.Spots.{levels, buckets_at}
 use Rattle.block_contents.specs.Logs.{IsLegal}
-use Rattle.block_contents.specs.Moments.{world_has}
+use Rattle.block_contents.specs.Stores.{stored_in}
 use Rattle.block_contents.specs.Aligned.{top, world_block}
 use Rattle.block_contents.specs.Versions.{IsKept}
 use Rattle.core_laws.specs.States.{State, IsLive, tree_at}
@@ -50,7 +50,7 @@ pub record SoundVersions (p : Layout) (models : List Content) (state : State) : 
   pub level : (v : ℕ) (n : Name) → state.root v ≡ Some n → n.level ≡ top p.side
   pub shown : (v : ℕ) → IsKept state.log v
       → ShowsCells (world_block p.side) (shape_of (tree_at state.key (top p.side) (state.root v)))
-      (world_has models state.log.records v)
+      (stored_in (2 ^ p.side) models state.log.records v)
 
 pub record Sound (p : Layout) (models : List Content) (state : State) : Type 0 where
   pub entries : SoundEntries p state
@@ -67,5 +67,6 @@ pub record IsFull (p : Layout) (state : State) (level bucket : ℕ) : Type 0 whe
 pub record IsUntouched (p : Layout) (state : State) : Type 0 where
   pub book : (n : Name) → IsName p n → state.book n ≡ 0
   pub root : (v : ℕ) → state.root v ≡ None
-  pub log : state.log ≡ record { side = p.side; records = []; marks = [] }
+  pub log : state.log
+      ≡ record { side = p.side; coloured = false; records = []; marks = [] }
   pub held : (f : Name → ℕ) → holdings f state.held ≡ 0

@@ -1,10 +1,10 @@
 -- What the laws say of steps.
-use Rattle.std.specs.Prelude.{◌≡◌, ◌≢◌, ℕ, ◌≤◌, List, length}
+use Rattle.std.specs.Prelude.{◌≡◌, ◌≢◌, ℕ, ◌≤◌, List, length, ◌^◌}
 use Rattle.vw_cell.specs.declared.cells.Cell.{Cell}
 use Rattle.block_contents.specs.HistoryModelContents.{Content}
 use Rattle.node_shapes.specs.declared.names.Name.{Name}
 use Rattle.node_words.specs.Plans.{Layout}
-use Rattle.block_contents.specs.Moments.{world_has}
+use Rattle.block_contents.specs.Stores.{stored_in}
 use Rattle.core_laws.specs.States.{State, IsLive, tree_of, IsUnder, Holds}
 use Rattle.core_laws.specs.Soundness.{SoundEntries, Sound}
 use Rattle.core_laws.specs.Events.{KeysStay, StoreStep, Frees}
@@ -66,4 +66,5 @@ abbrev pub StepsKeepCells : Type 0
 StepsKeepCells =
     (p : Layout) (models : List Content) (holder : ℕ) (old new : State) (v : ℕ) (q : Cell)
     → Step p models holder old new → v ≤ length old.log.records
-    → world_has models new.log.records v q ≡ world_has models old.log.records v q
+    → stored_in (2 ^ p.side) models new.log.records v q
+    ≡ stored_in (2 ^ p.side) models old.log.records v q

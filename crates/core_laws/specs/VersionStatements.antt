@@ -6,7 +6,7 @@ use Rattle.block_contents.specs.HistoryModelContents.{Content}
 use Rattle.node_words.specs.Plans.{Layout}
 use Rattle.block_contents.specs.Record.{Record}
 use Rattle.block_contents.specs.Logs.{MayFollow}
-use Rattle.block_contents.specs.Moments.{world_has}
+use Rattle.block_contents.specs.Stores.{stored_in}
 use Rattle.block_contents.specs.Positions.{position_after}
 use Rattle.block_contents.specs.Worlds.{World, is_edit}
 use Rattle.block_contents.specs.Versions.{IsKept, SameWorld}
@@ -20,23 +20,23 @@ abbrev pub UntouchedStatesAreSound : Type 0
 UntouchedStatesAreSound = (p : Layout) (models : List Content) (state : State)
     → IsUntouched p state → Sound p models state
 
--- the cells of a version of the state
-abbrev pub cells_at : List Content → State → ℕ → World
-cells_at models state v = world_has models state.log.records v
+-- the cells of the store at a version of the state
+abbrev pub cells_at : Layout → List Content → State → ℕ → World
+cells_at p models state v = stored_in (2 ^ p.side) models state.log.records v
 
 -- two versions that are kept and have one root have the same cells
 abbrev pub OneRootOneWorld : Type 0
 OneRootOneWorld = (p : Layout) (models : List Content) (state : State) (v w : ℕ) → 2 ≤ p.side
     → Sound p models state
     → IsKept state.log v → IsKept state.log w → state.root v ≡ state.root w
-    → SameWorld (2 ^ p.side) (cells_at models state v) (cells_at models state w)
+    → SameWorld (2 ^ p.side) (cells_at p models state v) (cells_at p models state w)
 
 -- two versions that are kept and have the same cells have one root
 abbrev pub OneWorldOneRoot : Type 0
 OneWorldOneRoot = (p : Layout) (models : List Content) (state : State) (v w : ℕ) → 2 ≤ p.side
     → Sound p models state
     → IsKept state.log v → IsKept state.log w
-    → SameWorld (2 ^ p.side) (cells_at models state v) (cells_at models state w)
+    → SameWorld (2 ^ p.side) (cells_at p models state v) (cells_at p models state w)
     → state.root v ≡ state.root w
 
 -- a version with no root has no set cell
@@ -44,14 +44,14 @@ abbrev pub NoRootNoCell : Type 0
 NoRootNoCell = (p : Layout) (models : List Content) (state : State) (v : ℕ) (q : Cell) → 2 ≤ p.side
     → Sound p models state
     → IsKept state.log v → state.root v ≡ None → IsInWorld (2 ^ p.side) q
-    → cells_at models state v q ≡ false
+    → cells_at p models state v q ≡ false
 
 -- a version with no set cell has no root
 abbrev pub NoCellNoRoot : Type 0
 NoCellNoRoot = (p : Layout) (models : List Content) (state : State) (v : ℕ) → 2 ≤ p.side
     → Sound p models state
     → IsKept state.log v
-    → ((q : Cell) → IsInWorld (2 ^ p.side) q → cells_at models state v q ≡ false)
+    → ((q : Cell) → IsInWorld (2 ^ p.side) q → cells_at p models state v q ≡ false)
     → state.root v ≡ None
 
 -- the version that an undo or a redo goes to is kept

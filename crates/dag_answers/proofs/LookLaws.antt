@@ -16,7 +16,7 @@ use Rattle.dag_file.specs.Places.{root_word, versions_in}
 use Rattle.dag_file.specs.Reads.{SaysFault}
 use Rattle.dag_file.specs.Trees.{Opened, opened_seen, word_name, version_tree, roots_below, HasVersion, IsRootOfVersion}
 use Rattle.dag_file.proofs.VersionLaws.{weighs_root, block_word}
-use Rattle.dag_answers.specs.Looks.{version_has, TellsVersion, AnswersLook, LacksAsked, RefusesLook, of_dag}
+use Rattle.dag_answers.specs.Looks.{version_has, version_tints, TellsVersion, AnswersLook, LacksAsked, RefusesLook, of_dag}
 
 pub fault_refuses : (bytes : List ℕ) (number : ℕ) (asked : Question) (fault : DagFault)
     → SaysFault bytes fault → RefusesLook bytes number asked (of_dag fault)
@@ -71,8 +71,8 @@ pub version_told : (o : Opened) (number : ℕ) (root : Option Name) (question : 
 version_told o number root question answer low has is tells = record {
   v = has.0;
   is = has.1;
-  tells = tells (version_has o.bytes o.side has.0)
-      (shows o.bytes o.side has.0 root has.1.below low (is has.0 has.1));
+  tells = tells (version_has o.bytes o.side has.0) (version_tints o.bytes o.side has.0)
+      (shows o.bytes o.side has.0 root has.1.below low (is has.0 has.1)) (λ c inside. refl);
 }
 
 -- ---- the whole look

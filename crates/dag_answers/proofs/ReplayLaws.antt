@@ -1,5 +1,5 @@
 -- A legal history that is replayed with its marks.
-use Rattle.std.proofs.Common.{◌≡◌, ◌≢◌, ℕ, zero, suc, ◌+◌, ◌^◌, ◌<◌, ◌≤◌, List, [], ◌∷◌, ◌++◌, length, take, drop, get_or, length-append, length-drop, length-take-le, take_all, take-append-drop, sym, ap, subst, ◌∙◌, inl, inr, ◌⊎◌, arith}
+use Rattle.std.proofs.Common.{◌≡◌, ◌≢◌, ℕ, zero, suc, ◌+◌, ◌^◌, ◌<◌, ◌≤◌, List, [], ◌∷◌, ◌++◌, length, take, drop, get_or, length-append, length-drop, length-take-le, take_all, take-append-drop, sym, ap, subst, ◌∙◌, inl, inr, ◌⊎◌, arith, false}
 use Rattle.std.specs.Prelude.{All}
 use Rattle.std.specs.List.{Contains}
 use Rattle.std.proofs.lemmas.Bool.{cases_order}
@@ -8,7 +8,7 @@ use Rattle.std.proofs.lemmas.List.Elements.{All-push, All-tail, All-contains, Co
 use Rattle.node_words.specs.Plans.{Layout}
 use Rattle.vox_read.specs.Contents.{Content}
 use Rattle.history_model.specs.declared.acts.Act.{Act}
-use Rattle.history_model.specs.declared.acts.Act.TheVariants.{Fill, Erase, Ball, Carve, Copy, Stamp, Undo, Redo}
+use Rattle.history_model.specs.declared.acts.Act.TheVariants.{Fill, Erase, Ball, Carve, Copy, Stamp, Tint, Undo, Redo}
 use Rattle.history_model.specs.declared.histories.Mark.{Mark}
 use Rattle.history_model.specs.declared.histories.Record.{Record}
 use Rattle.history_model.specs.Logs.{Log, IsVersionHeld, HasTarget, MayFollow}
@@ -50,6 +50,7 @@ module _ (some all : List Mark) (within : (m : Mark) → Contains some m → Con
   may_within n (Carve b) at may = tt
   may_within n (Copy b c) at may = tt
   may_within n (Stamp b c) at may = tt
+  may_within n (Tint t) at may = tt
 
   unmarked_within : (v : ℕ) → IsUnmarked all v → IsUnmarked some v
   unmarked_within v unmarked = λ k d lt.
@@ -78,7 +79,7 @@ in_take xs k x has =
 module _ (models : List Content) (log : Log) (due : List Mark) (of_due : AreDue log.marks due) where
   -- nothing was replayed
   pub has_begun : (now : WorldState) → now.plan.side ≡ log.side → now.models ≡ models
-      → now.log ≡ record { side = now.plan.side; records = []; marks = [] }
+      → now.log ≡ record { side = now.plan.side; coloured = false; records = []; marks = [] }
       → MakesOnlyParts (replayed now) → HasReplayed models log due 0 0 now
   has_begun now side same is made = record {
     side = side;

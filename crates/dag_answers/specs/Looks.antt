@@ -1,7 +1,9 @@
 -- What a file of many versions answers to a question of one of them.
 use Rattle.std.specs.Prelude.{◌≡◌, ℕ, ◌-◌, ◌^◌, ◌≤◌, ◌⊎◌, List, Option, Some, None, Ok, ⊤}
+use Rattle.sums.specs.Sums.{one_if}
 use Rattle.block_walk.specs.Roots.{cells_of}
 use Rattle.history_model.specs.Worlds.{World}
+use Rattle.history_model.specs.Tints.{Tints}
 use Rattle.history_model.specs.declared.questions.Question.{Question}
 use Rattle.transcript.specs.declared.answers.Answer.{Answer}
 use Rattle.script.specs.Placing.{question_placed}
@@ -18,12 +20,17 @@ use Rattle.dag_answers.specs.declared.asking.LookRefused.TheVariants.{Dag, NoPla
 abbrev pub version_has : List ℕ → ℕ → ℕ → World
 version_has bytes side v = cells_of (side - 2) (version_shape bytes (side - 1) v)
 
+-- their tints: each set cell has tint 1
+abbrev pub version_tints : List ℕ → ℕ → ℕ → Tints
+version_tints bytes side v c = one_if (version_has bytes side v c)
+
 -- the file has a version of this number, and the answer tells what the question asks of its cells
 pub record TellsVersion (bytes : List ℕ) (side number : ℕ) (question : Question)
     (answer : Answer) : Type 0 where
   pub v : ℕ
   pub is : IsVersion bytes (side - 1) number v
-  pub tells : Tells (2 ^ side) (version_has bytes side v) question answer
+  pub tells : Tells (2 ^ side) (version_has bytes side v) (version_tints bytes side v) question
+      answer
 
 -- the file keeps all rules, what is asked lies in its worlds, and is answered of the version
 pub record AnswersLook (bytes : List ℕ) (number : ℕ) (asked : Question) (answer : Answer)

@@ -1,14 +1,14 @@
 //! Whether the records of a history keep the rules of a legal one.
-ghost use Rattle.std.specs.Prelude.{◌≡◌, ◌↔◌, ◌++◌, ◌∷◌, [], ◌^◌, ◌<◌, ◌≤◌, List, length, replicate, slice_index, IfOk, IfSome, IsTrue};
+ghost use Rattle.std.specs.Prelude.{◌≡◌, ◌↔◌, ◌++◌, ◌∷◌, [], ◌^◌, ◌<◌, ◌≤◌, List, length, replicate, slice_index, IfOk, IfSome, IsTrue, Bool};
 ghost use Rattle.history_model.specs.declared.histories.Mark.{Mark};
 ghost use Rattle.history_model.specs.Logs.{MayFollow};
 ghost use Rattle.history_model.specs.PositionLaws.{NamesBelow};
-ghost use Rattle.undo_trail.specs.Trails.{trail_position};
+ghost use Rattle.undo.specs.Trails.{trail_position};
 ghost use Rattle.dag_answers.specs.Legality.{FindsIllegal, CanCome, TellsEnds, IsOpen};
 
 use history_model::{Act, History, Mark, Record};
 use std::alloc::{AllocError, Global};
-use undo_trail::Trail;
+use undo::Trail;
 use vox_read::Models;
 use vw_cell::{Memory, Side};
 
@@ -49,9 +49,9 @@ fn find_illegal(
     models: &Models,
 ) -> Result<Option<u32>, Memory>
     requires long { length ends.now ≡ 65536 }
-    ensures { (marks : List Mark) → TellsEnds marks ends.now → IfOk result
+    ensures { (coloured : Bool) (marks : List Mark) → TellsEnds marks ends.now → IfOk result
         (FindsIllegal (2 ^ side) models.now
-        (record { side = side; records = records.now; marks = marks })) }
+        (record { side = side; coloured = coloured; records = records.now; marks = marks })) }
 {
     let mut trail = Trail::begin(alloc, records.len().min(VERSIONS))?;
     let mut number: u32 = 0;

@@ -1,5 +1,8 @@
 //! The questions of scripts, asked of one version of a file of many versions, and the file of the
 //! versions of a history.
+//!
+//! It takes bytes and spelled questions, and touches no shelf. What a look answers is said in
+//! `specs/Looks.antt`, and which history has a file, and which, in `specs/Histories.antt`.
 #![tactic(auto)]
 
 mod asking;

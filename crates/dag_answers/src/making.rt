@@ -2,6 +2,7 @@
 ghost use Rattle.std.specs.Prelude.{◌≡◌, ◌+◌, ◌^◌, ◌-◌, ◌<◌, ◌≤◌, [], All, IfOk, IfErr, OnOk, drop, length};
 ghost use Rattle.std.specs.List.{AllPairs};
 ghost use Rattle.vox_read.specs.Contents.{AreModels};
+ghost use Rattle.history_model.specs.Logs.{IsPlain};
 ghost use Rattle.store_run.specs.Known.{known_seen};
 ghost use Rattle.store_run.specs.Marked.{AreLegalMarks, HoldsKept};
 ghost use Rattle.store_run.specs.Replaying.{replay_plan};
@@ -59,13 +60,14 @@ impl From<Memory> for HistoryRefused {
 }
 
 /// The file of the versions of a history that have no mark, in a world of its side. The history is
-/// replayed once, and each version is given back at its mark.
+/// replayed once, and each version is given back at its mark. A coloured history has no file yet.
 pub fn file_of_history(
     alloc: Global,
     history: &History,
     models: Models,
 ) -> Result<Vec<u8>, HistoryRefused>
     requires models { AreModels models }
+    requires plain { IsPlain history.now }
     requires marks { AreLegalMarks (length history.now.records) history.now.marks }
     ensures file { IfOk result (λ file. IsFileOfHistory models history.now file.items) }
     ensures refused { IfErr result (RefusesHistory models history.now) }
@@ -92,6 +94,7 @@ fn file_over<L: Ledger>(
     blank: Blank,
 ) -> Result<Vec<u8>, HistoryRefused>
     requires models { AreModels models }
+    requires plain { IsPlain history.now }
     requires marks { AreLegalMarks (length history.now.records) history.now.marks }
     requires plan { plan.now ≡ replay_plan history.now.side }
     requires records { AreLegalRecords (2 ^ history.now.side) models history.now.marks
@@ -129,6 +132,7 @@ fn replay_all<L: Ledger>(
     history: &History,
     due: &[Mark],
 ) -> Result<(), ReplayRefused>
+    requires plain { IsPlain history.now }
     requires marks { AreLegalMarks (length history.now.records) history.now.marks }
     requires due { AreDue history.now.marks due.now }
     requires records { AreLegalRecords (2 ^ history.now.side) replay.old.models history.now.marks

@@ -253,13 +253,17 @@ may_fill models number from m full side there inside least met = record {
       (λ s part. record {
         span = the_stamp number;
         listed = (0, omega arith, refl);
-        edit = refl;
         version = 0;
         low = omega arith;
         high = omega arith;
-        part =
-            subst (λ (o : Option Content). IsPartOfWorld (flood_plan side)
-            (λ p. is_in_stamp o (cell_at 0 0 0) p || false) s) (sym there) part;
+        wanted = record {
+          edit = refl;
+          parts = 1;
+          some_part = omega arith;
+          few_parts = omega arith;
+          part = subst (λ (o : Option Content). IsPartOfWorld (flood_plan side)
+              (λ p. is_in_stamp o (cell_at 0 0 0) p || false) s) (sym there) part;
+        };
       }) met.parts)
       met.enough;
 }

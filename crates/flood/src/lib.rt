@@ -1,4 +1,8 @@
 //! The empty region of a box that is connected with a cell, over any store that can be read.
+//!
+//! It goes by rows of bits and whole blocks, and makes of a model the file of its region. What is
+//! connected is said in `specs/Ways.antt` and what a region is in `specs/Regions.antt`, in cells
+//! alone.
 #![tactic(auto)]
 
 mod bit_regions;

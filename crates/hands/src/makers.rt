@@ -1,10 +1,10 @@
-ghost use Rattle.std.specs.Prelude.{◌≡◌, ◌≤◌, ◌^◌, true, OnOk, List, option_copied};
+ghost use Rattle.std.specs.Prelude.{◌≡◌, ◌≤◌, ◌^◌, true, false, OnOk, List, option_copied};
 ghost use Rattle.vox_read.specs.Contents.{Content};
 ghost use Rattle.node_shapes.specs.Tree.{Tree};
 ghost use Rattle.node_shapes.specs.Weights.{number_of_trees};
 ghost use Rattle.node_words.proofs.HeldLaws.{Keeps};
 ghost use Rattle.history_model.specs.declared.acts.Act.{Act};
-ghost use Rattle.history_model.specs.Logs.{FitsWorld};
+ghost use Rattle.history_model.specs.Logs.{FitsWorld, suits_tints};
 ghost use Rattle.history_model.specs.Worlds.{is_edit};
 ghost use Rattle.block_walk.specs.Roots.{HoldsRoot};
 ghost use Rattle.act_rebuilds.specs.Acts.{RebuildsAct, GrowsByAct, RefusesAct};
@@ -43,6 +43,7 @@ pub trait ActMaker {
     ) -> Result<Option<Share>, Full>
         requires side { side ≡ (N.seen store.old).plan.side }
         requires edit { is_edit (act self.old) ≡ true }
+        requires plain { suits_tints false (act self.old) ≡ true }
         requires fits { FitsWorld (2 ^ side) (models self.old) (act self.old) }
         requires old { HoldsRoot (N.seen store.old).held side (option_copied old) }
         requires room { number_of_trees (N.seen store.old).held ≤ 3910 }

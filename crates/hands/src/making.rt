@@ -1,7 +1,7 @@
 // Edits over borrowed sessions.
-ghost use Rattle.std.specs.Prelude.{◌≡◌, ◌≤◌, ◌^◌, true, OnOk, option_copied};
+ghost use Rattle.std.specs.Prelude.{◌≡◌, ◌≤◌, ◌^◌, true, false, OnOk, option_copied};
 ghost use Rattle.node_shapes.specs.Weights.{number_of_trees};
-ghost use Rattle.history_model.specs.Logs.{FitsWorld};
+ghost use Rattle.history_model.specs.Logs.{FitsWorld, suits_tints};
 ghost use Rattle.history_model.specs.Worlds.{is_edit};
 ghost use Rattle.block_walk.specs.Roots.{HoldsRoot};
 ghost use Rattle.act_rebuilds.specs.Acts.{RebuildsAct, GrowsByAct, RefusesAct};
@@ -27,6 +27,7 @@ pub fn make_over<M: ActMaker, R: Wait, L: Ledger>(
 ) -> Result<Option<Share>, Full>
     requires ready { IsLendable table.now session.old }
     requires edit { is_edit (M.act maker.old) ≡ true }
+    requires plain { suits_tints false (M.act maker.old) ≡ true }
     requires fits { FitsWorld (2 ^ table.now.plan.side) (M.models maker.old) (M.act maker.old) }
     requires old { HoldsRoot session.old.view.held table.now.plan.side (option_copied old) }
     requires room { number_of_trees session.old.view.held ≤ 3910 }

@@ -1,11 +1,12 @@
 -- What a change and a question come to, case by case.
 use Rattle.std.proofs.Common.{◌≡◌, ◌≢◌, ℕ, ◌⊎◌, Bool, length, refl, sym, ◌∙◌, ap, subst, inl, inr}
 use Rattle.history_model.specs.declared.acts.Act.{Act}
-use Rattle.history_model.specs.declared.acts.Act.TheVariants.{Fill, Erase, Ball, Carve, Copy, Stamp, Undo, Redo}
+use Rattle.history_model.specs.declared.acts.Act.TheVariants.{Fill, Erase, Ball, Carve, Copy, Stamp, Tint, Undo, Redo}
 use Rattle.history_model.specs.declared.histories.Record.{Record}
 use Rattle.history_model.specs.declared.questions.Question.{Question}
 use Rattle.history_model.specs.declared.questions.Question.TheVariants as questions
 use Rattle.history_model.specs.Logs.{Log, FitsWorld}
+use Rattle.history_model.specs.Tints.{Tints}
 use Rattle.script.specs.declared.commands.Command.TheVariants.{Edit, Forget}
 use Rattle.transcript.specs.declared.answers.Answer.{Answer}
 use Rattle.transcript.specs.declared.answers.Answer.TheVariants as answers
@@ -28,6 +29,7 @@ nothing_not_done (Ball b) e = cc
 nothing_not_done (Carve b) e = cc
 nothing_not_done (Copy b to) e = cc
 nothing_not_done (Stamp m at) e = cc
+nothing_not_done (Tint t) e = cc
 
 -- a change is done, or the history stays
 done_or_not : (old new : Log) (r : Record) (answer : Answer) → Changes old r answer new
@@ -72,20 +74,20 @@ forgets w v version answer status eq plan models line logs goes_on =
 
 -- ---- the answers to questions have the form that these ask for
 
-module _ (side : ℕ) (world : worlds.World) where
-  pub tells_is : (c : _) (answer : Answer) → Tells side world (questions.Get c) answer → answer ≡ answers.Is (is_in answer)
+module _ (side : ℕ) (world : worlds.World) (tints : Tints) where
+  pub tells_is : (c : _) (answer : Answer) → Tells side world tints (questions.Get c) answer → answer ≡ answers.Is (is_in answer)
   tells_is _ _ (is c set e) = refl
 
-  pub tells_count : (b : _) (answer : Answer) → Tells side world (questions.Count b) answer → answer ≡ answers.Count (cells_in answer)
+  pub tells_count : (b : _) (answer : Answer) → Tells side world tints (questions.Count b) answer → answer ≡ answers.Count (cells_in answer)
   tells_count _ _ (count b cells e) = refl
 
-  pub tells_faces : (b : _) (answer : Answer) → Tells side world (questions.Faces b) answer → answer ≡ answers.Faces (faces_in answer)
+  pub tells_faces : (b : _) (answer : Answer) → Tells side world tints (questions.Faces b) answer → answer ≡ answers.Faces (faces_in answer)
   tells_faces _ _ (faces b number e) = refl
 
-  pub tells_extent : (answer : Answer) → Tells side world questions.Bounds answer → answer ≡ answers.Extent (extent_in answer)
+  pub tells_extent : (answer : Answer) → Tells side world tints questions.Bounds answer → answer ≡ answers.Extent (extent_in answer)
   tells_extent _ (extent least e) = refl
 
-  pub tells_hit : (from : _) (way : _) (answer : Answer) → Tells side world (questions.Ray from way) answer → answer ≡ answers.Hit (hit_in answer)
+  pub tells_hit : (from : _) (way : _) (answer : Answer) → Tells side world tints (questions.Ray from way) answer → answer ≡ answers.Hit (hit_in answer)
   tells_hit _ _ _ (hit from way found e) = refl
 
 -- ---- what a question comes to

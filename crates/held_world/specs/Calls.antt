@@ -13,10 +13,10 @@ use Rattle.history_model.specs.declared.acts.Act.{Act}
 use Rattle.history_model.specs.declared.acts.Act.TheVariants.{Stamp}
 use Rattle.history_model.specs.declared.histories.Record.{Record}
 use Rattle.history_model.specs.declared.questions.Question.{Question}
-use Rattle.history_model.specs.declared.questions.Question.TheVariants.{Get, Count, Bounds, Faces, Ray}
+use Rattle.history_model.specs.declared.questions.Question.TheVariants.{Get, Colour, Count, Bounds, Faces, Ray}
 use Rattle.history_model.specs.Journal.{journal_of}
 use Rattle.history_model.specs.Logs.{Log, FitsWorld}
-use Rattle.history_model.specs.Moments.{world_has}
+use Rattle.history_model.specs.Moments.{world_has, world_tint}
 use Rattle.block_contents.specs.Versions.{IsKept, SameWorld}
 use Rattle.extract.specs.Saved.{file_of_box}
 use Rattle.node_words.specs.Plans.{usual_buckets, is_cap}
@@ -35,12 +35,15 @@ use Rattle.held_world.specs.declared.places.Place.{Place}
 use Rattle.held_world.specs.declared.worlds.World.{World}
 use Rattle.held_world.specs.Places.{cell_of}
 
--- the world's side in cells, and which cells a version has
+-- the world's side in cells, which cells a version has, and their tints
 abbrev pub side_of : World → ℕ
 side_of w = 2 ^ w.open.plan.side
 
 abbrev pub cells_at : World → ℕ → Cell → Bool
 cells_at w version = world_has w.open.models w.open.log.records version
+
+abbrev pub tints_at : World → ℕ → Cell → ℕ
+tints_at w version = world_tint w.open.models w.open.log.records version
 
 -- a call through a handle that may hold no world; where it holds none, no output is touched
 pub data ByHandle (Untouched : Type 0) (Does : World → ℕ → World → Type 0)
@@ -127,6 +130,7 @@ pub data IsGone (log : Log) (version : ℕ) : ℕ → Type 0 where
 -- the place or the box that is asked about lies in the world
 abbrev pub LiesIn : ℕ → Question → Type 0
 LiesIn side (Get c) = IsInWorld side c
+LiesIn side (Colour c) = IsInWorld side c
 LiesIn side (Count b) = FitsAt b.at b.size side
 LiesIn side Bounds = ⊤
 LiesIn side (Faces b) = FitsAt b.at b.size side
@@ -136,7 +140,7 @@ LiesIn side (Ray from way) = IsInWorld side from
 pub record Answered (w : World) (version : ℕ) (question : Question) (answer : Answer) : Type 0 where
   pub kept : IsKept w.open.log version
   pub fits : QuestionFits (side_of w) question
-  pub tells : Tells (side_of w) (cells_at w version) question answer
+  pub tells : Tells (side_of w) (cells_at w version) (tints_at w version) question answer
 
 -- nothing is wrong with what is asked, and the version can't be read
 pub record CantBeAsked (w : World) (version : ℕ) (question : Question) (status : ℕ)
@@ -257,7 +261,8 @@ pub record IsBegun (side cap : ℕ) (bytes : List ℕ) (w : World) : Type 0 wher
   pub buckets : w.open.plan.buckets ≡ usual_buckets
   pub slots : AreSlots cap w.open.plan.cap
   pub models : HasModels bytes w.open.models
-  pub nothing : w.open.log ≡ record { side = w.open.plan.side; records = []; marks = [] }
+  pub nothing : w.open.log
+      ≡ record { side = w.open.plan.side; coloured = false; records = []; marks = [] }
   pub noted : w.open.noted ≡ record { made = []; met = [] }
   pub line : w.line ≡ 1
 

@@ -1,7 +1,7 @@
-ghost use Rattle.std.specs.Prelude.{◌≡◌, ◌↔◌, ◌^◌, ℕ, [], None, IfOk, IfErr, IfSome, IsSome};
+ghost use Rattle.std.specs.Prelude.{◌≡◌, ◌↔◌, ◌^◌, ℕ, [], None, IfOk, IfErr, IfSome, IsSome, true, false};
 ghost use Rattle.node_words.specs.Plans.{usual_buckets};
 ghost use Rattle.vox_read.specs.Contents.{AreModels};
-ghost use Rattle.history_model.specs.Logs.{FitsWorld};
+ghost use Rattle.history_model.specs.Logs.{FitsWorld, suits_tints};
 ghost use Rattle.history_model.specs.declared.acts.Act.TheVariants.{Fill, Erase, Carve, Copy, Stamp, Undo, Redo};
 ghost use Rattle.history_model.specs.declared.acts.Act.TheVariants as acts;
 ghost use Rattle.block_contents.specs.Versions.{IsKept};
@@ -36,7 +36,7 @@ impl World {
         ensures empty { IfOk result (λ w. w.open ≡ record {
           plan = plan.now;
           models = models;
-          log = record { side = plan.now.side; records = []; marks = [] };
+          log = record { side = plan.now.side; coloured = false; records = []; marks = [] };
           noted = record { made = []; met = [] };
         }) }
         ensures first { IfOk result (λ w. w.line ≡ 1) }
@@ -189,7 +189,8 @@ impl World {
 
     // Makes the change where it lies in the world.
     fn change(&mut self, act: Act) -> u32
-        requires { FitsWorld (2 ^ self.old.open.plan.side) self.old.open.models act }
+        requires fits { FitsWorld (2 ^ self.old.open.plan.side) self.old.open.models act }
+        requires plain { suits_tints false act ≡ true }
         ensures { WorldChanges self.old act result self.new }
     {
         match self.open.change(0, self.line, act) {

@@ -4,6 +4,7 @@ pub mod Unpacking
 pub mod Standing
 pub mod SpellingLaws
 pub mod EntryLaws
+pub mod TintPlacing
 pub mod MarkLaws
 pub mod JournalLaws
 pub mod GoingOn
@@ -11,3 +12,6 @@ pub mod TakingLaws
 pub mod ReadLaws
 pub mod OnceLaws
 pub mod MakingLaws
+pub mod PartLaws
+pub mod Agreeing
+pub mod Relating

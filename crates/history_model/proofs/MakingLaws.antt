@@ -5,7 +5,8 @@ use Rattle.std.proofs.lemmas.Bool.{cases_eq}
 use Rattle.vw_cell.specs.Counts.{cell_at}
 use Rattle.vox_read.specs.Contents.{Content}
 use Rattle.history_model.specs.declared.acts.Act.{Act}
-use Rattle.history_model.specs.Worlds.{World, edited}
+use Rattle.history_model.specs.Worlds.{World}
+use Rattle.history_model.specs.Stores.{edited_in}
 use Rattle.history_model.specs.Making.{MayMake, RowIsMade, LayerIsMade, LayersAreMade}
 
 -- what holds below a number and at it holds below the next
@@ -22,20 +23,20 @@ same_answers false true e = sym e
 same_answers false false e = refl
 
 module _ (side : ℕ) (models : List Content) (act : Act) (v w : World) where
-  pub row_more : (y z x : ℕ) → RowIsMade models act v w y z x
-      → w (cell_at x y z) ≡ edited models act v (cell_at x y z)
-      → RowIsMade models act v w y z (x + 1)
+  pub row_more : (y z x : ℕ) → RowIsMade side models act v w y z x
+      → w (cell_at x y z) ≡ edited_in side models act v (cell_at x y z)
+      → RowIsMade side models act v w y z (x + 1)
   row_more y z x row here =
       record {
         each =
             below_more
-            (λ k. w (cell_at k y z) ≡ edited models act v (cell_at k y z)) x row.each here;
+            (λ k. w (cell_at k y z) ≡ edited_in side models act v (cell_at k y z)) x row.each here;
       }
 
   pub layer_more : (z y : ℕ) → LayerIsMade side models act v w z y
-      → RowIsMade models act v w y z side → LayerIsMade side models act v w z (y + 1)
+      → RowIsMade side models act v w y z side → LayerIsMade side models act v w z (y + 1)
   layer_more z y layer row =
-      record { each = below_more (λ k. RowIsMade models act v w k z side) y layer.each row }
+      record { each = below_more (λ k. RowIsMade side models act v w k z side) y layer.each row }
 
   pub layers_more : (z : ℕ) → LayersAreMade side models act v w z
       → LayerIsMade side models act v w z side → LayersAreMade side models act v w (z + 1)

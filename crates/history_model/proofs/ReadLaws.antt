@@ -1,5 +1,5 @@
 -- What the loop over a journal's lines leaves.
-use Rattle.std.specs.Prelude.{◌≡◌, ℕ, ◌+◌, ◌<◌, true, false, List, [], ◌∷◌, ◌++◌, length, Result, Ok, Err, IfOk, IfErr, MatchResult, codes, refl}
+use Rattle.std.specs.Prelude.{◌≡◌, ℕ, ◌+◌, ◌<◌, Bool, true, false, List, [], ◌∷◌, ◌++◌, length, Result, Ok, Err, IfOk, IfErr, MatchResult, codes, refl}
 use Rattle.std.proofs.Common.{eqb, ap, sym, subst, ◌∙◌, arith}
 use Rattle.std.specs.Str.{bytes_eq}
 use Rattle.std.proofs.lemmas.Bool.{eqb-true}
@@ -45,10 +45,10 @@ entry_unfit (Line n) log all rest line after told whole split other refuses =
     (λ same. (let is : bytes_eq line (codes "end") ≡ true = (bytes_eq-Decides line (codes "end")).1 same in let wrong : true ≡ false = sym is ∙ other in cc)) refuses.1
 entry_unfit Memory log all rest line after told whole split other refuses = tt
 
-pub all_told : (text : List ℕ) (side : ℕ) (entries : List ℕ) (read : Result Log JournalFault) → lines text ≡ begun side ++ lines entries → IfOk read (λ h. IsTold h × (begun side ++ lines entries ≡ front_lines h ++ last_lines))
+pub all_told : (text : List ℕ) (coloured : Bool) (side : ℕ) (entries : List ℕ) (read : Result Log JournalFault) → lines text ≡ begun coloured side ++ lines entries → IfOk read (λ h. IsTold h × (begun coloured side ++ lines entries ≡ front_lines h ++ last_lines))
     → IfOk read (λ h. IsTold h × (text ≡ journal_of h))
-all_told text side entries (Ok h) whole is = (is.0, journal_read text h (whole ∙ is.1))
-all_told text side entries (Err fault) whole is = tt
+all_told text coloured side entries (Ok h) whole is = (is.0, journal_read text h (whole ∙ is.1))
+all_told text coloured side entries (Err fault) whole is = tt
 
 -- the text of a history is refused for want of memory alone
 pub told_read : (text : List ℕ) (log : Log) (fault : JournalFault) → IsTold log → text ≡ journal_of log → RefusesJournal fault text → fault ≡ Memory

@@ -15,9 +15,12 @@ use Rattle.plain_text.specs.Steps.{◌>>=◌, three_words, nothing_more, number_
 use Rattle.plain_text.specs.Numbers.{exact}
 use Rattle.plain_text.specs.NumberLaws.{exact_again, exact_takes}
 use Rattle.history_model.specs.declared.acts.Act.{Act}
-use Rattle.history_model.specs.declared.acts.Act.TheVariants.{Fill, Erase, Ball, Carve, Copy, Stamp, Undo, Redo}
+use Rattle.history_model.specs.declared.acts.Act.TheVariants.{Fill, Erase, Ball, Carve, Copy, Stamp, Tint, Undo, Redo}
+use Rattle.history_model.specs.declared.acts.TintAct.{TintAct}
+use Rattle.history_model.specs.declared.acts.TintAct.TheVariants as tints
 use Rattle.history_model.specs.Worlds.{box_at}
-use Rattle.history_model.specs.Spelling.{three_numbers, box_spelled, ball_spelled, copy_spelled, stamp_spelled, act_spelled, cell_list, box_list, ball_list, act_list, IsSmallCell, IsSmallBox, IsSmall}
+use Rattle.history_model.specs.Spelling.{three_numbers, box_spelled, ball_spelled, copy_spelled, stamp_spelled, act_spelled, tint_fill_spelled, tint_ball_spelled, tint_spelled, spelled_by, painted, cell_list, box_list, ball_list, tint_list, act_list, IsSmallCell, IsSmallBox, IsSmallTint, IsSmall}
+use Rattle.history_model.specs.Logs.{suits_tints}
 
 -- ---- again
 
@@ -61,21 +64,56 @@ stamp_again m at small_m small_at =
     let place = numbers_again at small_at in
     rw (model, place) refl
 
--- the act of these words, of which the first is its name
-abbrev pub act_in : List (List ℕ) → Result Act WordFault
-act_in [] = Err Missing
-act_in (name ∷ words) = act_spelled (exact (2 ^ 32)) name words
+tint_fill_again : (b : Boxed) (c : ℕ) → IsSmallBox b → c < 2 ^ 32 → tint_fill_spelled (exact (2 ^ 32)) (box_list b (decimal c ∷ [])) ≡ Ok (Tint (tints.Fill b c))
+unfolding tint_fill_spelled three_words
+tint_fill_again b c small small_tint =
+    let at = numbers_again b.at small.0 in
+    let size = numbers_again b.size small.1 in
+    let tint = exact_again (2 ^ 32) c (lit≤ tt) small_tint in
+    rw (at, size, tint) refl
 
-pub act_again : (act : Act) → IsSmall act → act_in (act_list act) ≡ Ok act
-unfolding act_spelled
-act_again (Fill b) small = let again = box_again b small in rw again refl
-act_again (Erase b) small = let again = box_again b small in rw again refl
-act_again (Ball ball) small = let again = ball_again ball small.0 small.1 in rw again refl
-act_again (Carve ball) small = let again = ball_again ball small.0 small.1 in rw again refl
-act_again (Copy b to) small = copy_again b to small.0 small.1
-act_again (Stamp m at) small = stamp_again m at small.0 small.1
-act_again Undo small = refl
-act_again Redo small = refl
+tint_ball_again : (ball : balls.Ball) (c : ℕ) → IsSmallCell ball.centre → ball.radius < 2 ^ 32 → c < 2 ^ 32 → tint_ball_spelled (exact (2 ^ 32)) (cell_list ball.centre (decimal ball.radius ∷ decimal c ∷ [])) ≡ Ok (Tint (tints.Ball ball c))
+unfolding tint_ball_spelled three_words
+tint_ball_again ball c small_centre small_radius small_tint =
+    let centre = numbers_again ball.centre small_centre in
+    let radius = exact_again (2 ^ 32) ball.radius (lit≤ tt) small_radius in
+    let tint = exact_again (2 ^ 32) c (lit≤ tt) small_tint in
+    rw (centre, radius, tint) refl
+
+-- the act of these words, of which the first is its name, in a history that is coloured or not
+abbrev pub act_in : Bool → List (List ℕ) → Result Act WordFault
+act_in coloured [] = Err Missing
+act_in coloured (name ∷ words) = spelled_by coloured (exact (2 ^ 32)) name words
+
+tint_again : (t : TintAct) → IsSmallTint t → act_in true (tint_list t) ≡ Ok (Tint t)
+unfolding act_spelled tint_spelled
+tint_again (tints.Fill b c) small = tint_fill_again b c small.0 small.1
+tint_again (tints.Erase b) small = let again = box_again b small in rw again refl
+tint_again (tints.Ball ball c) small = tint_ball_again ball c small.0 small.1 small.2
+tint_again (tints.Carve ball) small = let again = ball_again ball small.0 small.1 in rw again refl
+tint_again (tints.Copy b to) small = let again = copy_again b to small.0 small.1 in rw again refl
+tint_again (tints.Stamp m at) small = let again = stamp_again m at small.0 small.1 in rw again refl
+
+pub act_again : (coloured : Bool) (act : Act) → suits_tints coloured act ≡ true → IsSmall act → act_in coloured (act_list act) ≡ Ok act
+unfolding act_spelled tint_spelled
+act_again false (Fill b) suit small = let again = box_again b small in rw again refl
+act_again false (Erase b) suit small = let again = box_again b small in rw again refl
+act_again false (Ball ball) suit small = let again = ball_again ball small.0 small.1 in rw again refl
+act_again false (Carve ball) suit small = let again = ball_again ball small.0 small.1 in rw again refl
+act_again false (Copy b to) suit small = copy_again b to small.0 small.1
+act_again false (Stamp m at) suit small = stamp_again m at small.0 small.1
+act_again false (Tint t) suit small = absurd (let no : ⊥ = cc in no)
+act_again false Undo suit small = refl
+act_again false Redo suit small = refl
+act_again true (Fill b) suit small = absurd (let no : ⊥ = cc in no)
+act_again true (Erase b) suit small = absurd (let no : ⊥ = cc in no)
+act_again true (Ball ball) suit small = absurd (let no : ⊥ = cc in no)
+act_again true (Carve ball) suit small = absurd (let no : ⊥ = cc in no)
+act_again true (Copy b to) suit small = absurd (let no : ⊥ = cc in no)
+act_again true (Stamp m at) suit small = absurd (let no : ⊥ = cc in no)
+act_again true (Tint t) suit small = tint_again t small
+act_again true Undo suit small = refl
+act_again true Redo suit small = refl
 
 -- ---- and only so
 
@@ -236,9 +274,9 @@ alone_takes act fixed name [] read listed small named same =
     subst (λ (a : Act). IsActOf a name []) e (listed ∙ ap (λ (first : List ℕ). first ∷ []) (sym named), small)
 alone_takes act fixed name (w ∷ ws) read listed small named same = absurd cc
 
-pub act_takes : (name : List ℕ) (ws : List (List ℕ)) (act : Act) → act_spelled (exact (2 ^ 32)) name ws ≡ Ok act → IsActOf act name ws
+plain_takes : (name : List ℕ) (ws : List (List ℕ)) (act : Act) → act_spelled (exact (2 ^ 32)) name ws ≡ Ok act → IsActOf act name ws
 unfolding act_spelled
-act_takes name ws act =
+plain_takes name ws act =
     let P : Type 0 = IsActOf act name ws in
     row name (codes "fill") _ _ act P (of_box Fill (codes "fill") name ws act (λ b small. (refl, small)))
     (row name (codes "erase") _ _ act P (of_box Erase (codes "erase") name ws act (λ b small. (refl, small)))
@@ -249,3 +287,90 @@ act_takes name ws act =
     (row name (codes "undo") _ _ act P (alone_takes Undo (codes "undo") name ws act refl tt)
     (row name (codes "redo") _ _ act P (alone_takes Redo (codes "redo") name ws act refl tt)
     (λ same. absurd cc))))))))
+
+-- ---- tinted acts
+
+tint_fill_parts : (at size : Result Cell WordFault) (tint : Result ℕ WordFault) (act : Act) → (at >>= λ corner. (size >>= λ extent. (tint >>= λ colour. Ok (Tint (tints.Fill (box_at corner extent) colour))))) ≡ Ok act
+    → (corner : Cell) × (extent : Cell) × (colour : ℕ) × (at ≡ Ok corner) × (size ≡ Ok extent) × (tint ≡ Ok colour) × (Tint (tints.Fill (box_at corner extent) colour) ≡ act)
+tint_fill_parts (Ok corner) (Ok extent) (Ok colour) act same = (corner, extent, colour, refl, refl, refl, cc)
+tint_fill_parts (Ok corner) (Ok extent) (Err fault) act same = absurd cc
+tint_fill_parts (Ok corner) (Err fault) tint act same = absurd cc
+tint_fill_parts (Err fault) size tint act same = absurd cc
+
+tint_fill_takes : (ws : List (List ℕ)) (act : Act) → tint_fill_spelled (exact (2 ^ 32)) ws ≡ Ok act → IsActOf act (codes "fill") ws
+unfolding tint_fill_spelled three_words
+tint_fill_takes (x ∷ y ∷ z ∷ u ∷ v ∷ w ∷ k ∷ []) act same =
+    let parts = tint_fill_parts (three_numbers (exact (2 ^ 32)) (x, y, z)) (three_numbers (exact (2 ^ 32)) (u, v, w)) (number_by (exact (2 ^ 32)) k) act same in
+    let at = numbers_take x y z parts.0 parts.3 in
+    let size = numbers_take u v w parts.1 parts.4 in
+    let tint = number_takes k parts.2 parts.5 in
+    let end : decimal parts.2 ∷ [] ≡ k ∷ [] = ap (λ (word : List ℕ). word ∷ []) tint.0 in
+    subst (λ (a : Act). IsActOf a (codes "fill") (x ∷ y ∷ z ∷ u ∷ v ∷ w ∷ k ∷ [])) parts.6 (
+      ap (λ (more : List (List ℕ)). codes "fill" ∷ more) (list_of x y z parts.0 _ _ at (list_of u v w parts.1 _ _ size end)),
+      ((small_of x y z parts.0 at, small_of u v w parts.1 size), tint.1),
+    )
+tint_fill_takes _ act same = absurd cc
+
+tint_ball_parts : (at : Result Cell WordFault) (size tint : Result ℕ WordFault) (act : Act) → (at >>= λ centre. (size >>= λ radius. (tint >>= λ colour. Ok (Tint (tints.Ball (record { centre = centre; radius = radius }) colour))))) ≡ Ok act
+    → (centre : Cell) × (radius : ℕ) × (colour : ℕ) × (at ≡ Ok centre) × (size ≡ Ok radius) × (tint ≡ Ok colour) × (Tint (tints.Ball (record { centre = centre; radius = radius }) colour) ≡ act)
+tint_ball_parts (Ok centre) (Ok radius) (Ok colour) act same = (centre, radius, colour, refl, refl, refl, cc)
+tint_ball_parts (Ok centre) (Ok radius) (Err fault) act same = absurd cc
+tint_ball_parts (Ok centre) (Err fault) tint act same = absurd cc
+tint_ball_parts (Err fault) size tint act same = absurd cc
+
+tint_ball_takes : (ws : List (List ℕ)) (act : Act) → tint_ball_spelled (exact (2 ^ 32)) ws ≡ Ok act → IsActOf act (codes "ball") ws
+unfolding tint_ball_spelled three_words
+tint_ball_takes (x ∷ y ∷ z ∷ r ∷ k ∷ []) act same =
+    let parts = tint_ball_parts (three_numbers (exact (2 ^ 32)) (x, y, z)) (number_by (exact (2 ^ 32)) r) (number_by (exact (2 ^ 32)) k) act same in
+    let at = numbers_take x y z parts.0 parts.3 in
+    let radius = number_takes r parts.1 parts.4 in
+    let tint = number_takes k parts.2 parts.5 in
+    let end : decimal parts.1 ∷ decimal parts.2 ∷ [] ≡ r ∷ k ∷ [] =
+    ap (λ (word : List ℕ). word ∷ decimal parts.2 ∷ []) radius.0 ∙ ap (λ (word : List ℕ). r ∷ word ∷ []) tint.0 in
+    subst (λ (a : Act). IsActOf a (codes "ball") (x ∷ y ∷ z ∷ r ∷ k ∷ [])) parts.6 (
+      ap (λ (more : List (List ℕ)). codes "ball" ∷ more) (list_of x y z parts.0 _ _ at end),
+      (small_of x y z parts.0 at, radius.1, tint.1),
+    )
+tint_ball_takes _ act same = absurd cc
+
+-- a row of this name, and the rows after it, which have another
+row_or : (name fixed : List ℕ) (here others : Result Act WordFault) (act : Act) (P : Type 0) → (name ≡ fixed → here ≡ Ok act → P) → ((name ≡ fixed → ⊥) → others ≡ Ok act → P) → cond (bytes_eq name fixed) here others ≡ Ok act → P
+row_or name fixed here others act P one later same =
+    cond_both (bytes_eq name fixed) here others (λ (read : Result Act WordFault). read ≡ Ok act → P) (λ is. one (same_bytes name fixed is))
+    (λ isnt. later (λ e. (let is : bytes_eq name fixed ≡ true = (bytes_eq-Decides name fixed).1 e in let wrong : true ≡ false = sym is ∙ isnt in absurd (let no : ⊥ = cc in no)))) same
+
+first_word : (a b : List ℕ) (x y : List (List ℕ)) → a ∷ x ≡ b ∷ y → b ≡ a
+first_word a b x y same = cc
+
+-- the words of a plain act that is no fill and no ball are those of the tinted one
+tinted_so : (act : Act) (name : List ℕ) (ws : List (List ℕ)) → (name ≡ codes "fill" → ⊥) → (name ≡ codes "ball" → ⊥) → IsActOf act name ws → IsActOf (painted 1 act) name ws
+tinted_so (Fill b) name ws fill ball is = absurd (fill (first_word _ _ _ _ is.0))
+tinted_so (Erase b) name ws fill ball is = is
+tinted_so (Ball b) name ws fill ball is = absurd (ball (first_word _ _ _ _ is.0))
+tinted_so (Carve b) name ws fill ball is = is
+tinted_so (Copy b to) name ws fill ball is = is
+tinted_so (Stamp m at) name ws fill ball is = is
+tinted_so (Tint t) name ws fill ball is = is
+tinted_so Undo name ws fill ball is = is
+tinted_so Redo name ws fill ball is = is
+
+tinted_parts : (read : Result Act WordFault) (act : Act) → (read >>= λ a. Ok (painted 1 a)) ≡ Ok act → (a : Act) × (read ≡ Ok a) × (painted 1 a ≡ act)
+tinted_parts (Ok a) act same = (a, refl, cc)
+tinted_parts (Err fault) act same = absurd cc
+
+others_take : (name : List ℕ) (ws : List (List ℕ)) (act : Act) → (name ≡ codes "fill" → ⊥) → (name ≡ codes "ball" → ⊥) → (act_spelled (exact (2 ^ 32)) name ws >>= λ a. Ok (painted 1 a)) ≡ Ok act → IsActOf act name ws
+others_take name ws act fill ball same =
+    let parts = tinted_parts (act_spelled (exact (2 ^ 32)) name ws) act same in
+    subst (λ (a : Act). IsActOf a name ws) parts.2 (tinted_so parts.0 name ws fill ball (plain_takes name ws parts.0 parts.1))
+
+tint_takes : (name : List ℕ) (ws : List (List ℕ)) (act : Act) → tint_spelled (exact (2 ^ 32)) name ws ≡ Ok act → IsActOf act name ws
+unfolding tint_spelled
+tint_takes name ws act =
+    let P : Type 0 = IsActOf act name ws in
+    row_or name (codes "fill") _ _ act P (λ named same. named_so (codes "fill") name ws act named (tint_fill_takes ws act same))
+    (λ fill. row_or name (codes "ball") _ _ act P (λ named same. named_so (codes "ball") name ws act named (tint_ball_takes ws act same))
+    (λ ball same. others_take name ws act fill ball same))
+
+pub act_takes : (coloured : Bool) (name : List ℕ) (ws : List (List ℕ)) (act : Act) → spelled_by coloured (exact (2 ^ 32)) name ws ≡ Ok act → IsActOf act name ws
+act_takes false name ws act same = plain_takes name ws act same
+act_takes true name ws act same = tint_takes name ws act same

@@ -1,5 +1,5 @@
 -- A history with one more line of its journal.
-use Rattle.std.specs.Prelude.{◌≡◌, ℕ, suc, Some, None, ◌+◌, ◌-◌, ◌<◌, ◌≤◌, List, [], ◌∷◌, ◌++◌, length, codes, refl}
+use Rattle.std.specs.Prelude.{◌≡◌, ℕ, suc, Some, None, ◌+◌, ◌-◌, ◌<◌, ◌≤◌, Bool, true, false, List, [], ◌∷◌, ◌++◌, length, codes, refl}
 use Rattle.std.proofs.Common.{inl, inr, ap, sym, ◌∙◌, subst, arith, append_assoc, length-append}
 use Rattle.std.proofs.lemmas.List.{append-nil}
 use Rattle.std.specs.List.{AllByRecursion, join_with_byte, slice_get}
@@ -8,11 +8,11 @@ use Rattle.plain_text.specs.PartLaws.{parts_joined, lines_some}
 use Rattle.history_model.specs.declared.histories.Record.{Record}
 use Rattle.history_model.specs.declared.histories.Mark.{Mark}
 use Rattle.history_model.specs.Logs.{Log}
-use Rattle.history_model.specs.Journal.{journal_of}
-use Rattle.history_model.specs.Entries.{IsRecord, IsNextMark, IsSide, AreMarks, IsTold, record_list, mark_list, side_list, header, record_texts, mark_texts, front_lines, last_lines, next_version}
+use Rattle.history_model.specs.Journal.{header, journal_of}
+use Rattle.history_model.specs.Entries.{IsRecord, IsNextMark, IsSide, AreMarks, IsTold, record_list, mark_list, side_list, record_texts, mark_texts, front_lines, last_lines, next_version}
 use Rattle.history_model.proofs.MarkLaws.{side_small}
 use Rattle.history_model.proofs.JournalLaws.{record_words, mark_words, side_words, end_words, journal_joined}
-use Rattle.history_model.proofs.GoingOn.{goes_on}
+use Rattle.history_model.proofs.GoingOn.{goes_on, headers_once, side_told}
 use Rattle.history_model.specs.Following.{IsJournalLines, Goes, RecordIn, NoRecordIn}
 
 -- ---- numbers
@@ -45,10 +45,10 @@ line_after log told =
 -- ---- one more record, one more mark
 
 abbrev pub with_record : Log → Record → Log
-with_record log r = record { side = log.side; records = log.records ++ r ∷ []; marks = log.marks }
+with_record log r = record { side = log.side; coloured = log.coloured; records = log.records ++ r ∷ []; marks = log.marks }
 
 abbrev pub with_mark : Log → Mark → Log
-with_mark log m = record { side = log.side; records = log.records; marks = log.marks ++ m ∷ [] }
+with_mark log m = record { side = log.side; coloured = log.coloured; records = log.records; marks = log.marks ++ m ∷ [] }
 
 record_texts_more : (n k : ℕ) (records : List Record) (r : Record) → k ≡ n + length records → record_texts n (records ++ r ∷ []) ≡ record_texts n records ++ line_of (record_list k r) ∷ []
 record_texts_more n k [] r at = let e : n ≡ k = omega arith in ap (λ (j : ℕ). line_of (record_list j r) ∷ []) e
@@ -79,8 +79,8 @@ takes_record log line r told here =
     let none : mark_texts log.marks ≡ [] = ap mark_texts here.unmarked in
     let entries : record_texts 1 (log.records ++ r ∷ []) ++ mark_texts log.marks ≡ (record_texts 1 log.records ++ mark_texts log.marks) ++ line ∷ [] =
     rw none (append-nil (record_texts 1 (log.records ++ r ∷ [])) ∙ texts ∙ ap (λ (ls : List (List ℕ)). ls ++ line ∷ []) (sym (append-nil (record_texts 1 log.records)))) in (
-      record { side = told.side; few = omega (arith, count, here.few); records = all_more (IsRecord log.side) log.records r told.records here.fits; marks = marks },
-      ap (λ (ls : List (List ℕ)). header ∷ line_of (side_list log.side) ∷ ls) entries,
+      record { side = told.side; quarter = told.quarter; few = omega (arith, count, here.few); records = all_more (IsRecord log.coloured log.side) log.records r told.records here.fits; marks = marks },
+      ap (λ (ls : List (List ℕ)). header log.coloured ∷ line_of (side_list log.coloured log.side) ∷ ls) entries,
     )
 
 pub takes_mark : (log : Log) (line : List ℕ) (m : Mark) → IsTold log → IsNextMark (length log.records) (next_version 0 log.marks) m → mark_list m ≡ words line
@@ -89,8 +89,8 @@ takes_mark log line m told fits is =
     let texts : mark_texts (log.marks ++ m ∷ []) ≡ mark_texts log.marks ++ line ∷ [] = mark_texts_more log.marks m ∙ ap (λ (l : List ℕ). mark_texts log.marks ++ l ∷ []) (line_by line _ is) in
     let entries : record_texts 1 log.records ++ mark_texts (log.marks ++ m ∷ []) ≡ (record_texts 1 log.records ++ mark_texts log.marks) ++ line ∷ [] =
     ap (λ (ls : List (List ℕ)). record_texts 1 log.records ++ ls) texts ∙ sym (append_assoc (record_texts 1 log.records) (mark_texts log.marks) (line ∷ [])) in (
-      record { side = told.side; few = told.few; records = told.records; marks = marks_more (length log.records) 0 log.marks m told.marks fits },
-      ap (λ (ls : List (List ℕ)). header ∷ line_of (side_list log.side) ∷ ls) entries,
+      record { side = told.side; quarter = told.quarter; few = told.few; records = told.records; marks = marks_more (length log.records) 0 log.marks m told.marks fits },
+      ap (λ (ls : List (List ℕ)). header log.coloured ∷ line_of (side_list log.coloured log.side) ∷ ls) entries,
     )
 
 abbrev pub NoMarkIn : Log → List ℕ → Type 0
@@ -107,7 +107,7 @@ pub no_entry_in : (log : Log) (line : List ℕ) → IsTold log → NoRecordIn lo
 no_entry_in log line told no_record no_mark more (inl last) = first_of_lines _ _ _ _ last
 no_entry_in log line told no_record no_mark more (inr (inl g)) =
     let e : line ≡ line_of (record_list (length log.records + 1) g.r) = first_of_lines _ _ _ _ g.is in
-    let ws : record_list (length log.records + 1) g.r ≡ words line = sym (ap words e ∙ record_words log.side (length log.records + 1) g.r (side_small log.side told.side.1) (omega (arith, told.few)) g.fits) in
+    let ws : record_list (length log.records + 1) g.r ≡ words line = sym (ap words e ∙ record_words log.coloured log.side (length log.records + 1) g.r (side_small log.side told.side.1) (omega (arith, told.few)) g.fits) in
     absurd (no_record g.r (record { unmarked = g.unmarked; few = g.few; fits = g.fits; is = ws }))
 no_entry_in log line told no_record no_mark more (inr (inr g)) =
     let e : line ≡ line_of (mark_list g.m) = first_of_lines _ _ _ _ g.is in
@@ -138,8 +138,8 @@ none_next (s ∷ t ∷ more) same =
 -- ---- refusals
 
 -- a history with no records
-pub begins_told : (side : ℕ) → IsSide side → IsTold (record { side = side; records = []; marks = [] })
-begins_told side is = record { side = is; few = omega arith; records = tt; marks = tt }
+pub begins_told : (coloured : Bool) (side : ℕ) → IsSide coloured side → IsTold (record { side = side; coloured = coloured; records = []; marks = [] })
+begins_told coloured side is = record { side = (is.0, is.1); quarter = is.2; few = omega arith; records = tt; marks = tt }
 
 abbrev Kind : List (List ℕ) → Type 0
 Kind = IsJournalLines
@@ -176,7 +176,7 @@ end_goes : (log : Log) (rest : List (List ℕ)) → IsTold log → Goes log (cod
 end_goes log rest told (inl last) = ap tail_of last
 end_goes log rest told (inr (inl g)) =
     let e : codes "end" ≡ line_of (record_list (length log.records + 1) g.r) = first_of_lines _ _ _ _ g.is in
-    let ws : codes "end" ∷ [] ≡ record_list (length log.records + 1) g.r = sym end_words ∙ ap words e ∙ record_words log.side (length log.records + 1) g.r (side_small log.side told.side.1) (omega (arith, told.few)) g.fits in
+    let ws : codes "end" ∷ [] ≡ record_list (length log.records + 1) g.r = sym end_words ∙ ap words e ∙ record_words log.coloured log.side (length log.records + 1) g.r (side_small log.side told.side.1) (omega (arith, told.few)) g.fits in
     absurd (let none : [] ≡ tail_of (record_list (length log.records + 1) g.r) = ap tail_of ws in cc)
 end_goes log rest told (inr (inr g)) =
     let e : codes "end" ≡ line_of (mark_list g.m) = first_of_lines _ _ _ _ g.is in
@@ -209,15 +209,15 @@ end_unfit log all after n told whole number some =
 
 -- ---- the first two lines
 
-starting : Log
-starting = record { side = 2; records = []; marks = [] }
+abbrev starting : Bool → Log
+starting coloured = record { side = 4; coloured = coloured; records = []; marks = [] }
 
-starting_told : IsTold (record { side = 2; records = []; marks = [] })
-starting_told = begins_told 2 (omega arith, omega arith)
+starting_told : (coloured : Bool) → IsTold (starting coloured)
+starting_told coloured = begins_told coloured 4 (omega arith, omega arith, λ _. omega arith)
 
 -- some journal begins so
-begun_once : (front : List (List ℕ)) (more : List (List ℕ)) → front ++ more ≡ front_lines (record { side = 2; records = []; marks = [] }) ++ last_lines → (rest : List (List ℕ)) × Kind (front ++ rest)
-begun_once front more same = (more, (record { side = 2; records = []; marks = [] }, starting_told, same))
+begun_once : (coloured : Bool) (front : List (List ℕ)) (more : List (List ℕ)) → front ++ more ≡ front_lines (starting coloured) ++ last_lines → (rest : List (List ℕ)) × Kind (front ++ rest)
+begun_once coloured front more same = (more, (starting coloured, starting_told coloured, same))
 
 kind_long : (ls : List (List ℕ)) → Kind ls → 4 ≤ length ls
 kind_long ls journal =
@@ -228,45 +228,70 @@ kind_long ls journal =
 
 pub head_tail : (all : List (List ℕ)) (tail : List ℕ) → all ≡ tail ∷ [] → FirstUnfit Kind all 1
 head_tail all tail whole =
-    record { front = []; rest = tail ∷ []; whole = whole; number = refl; begun = begun_once [] _ refl; unfit = λ journal. (let long = kind_long (tail ∷ []) journal in omega (arith, long)) }
+    record { front = []; rest = tail ∷ []; whole = whole; number = refl; begun = begun_once false [] _ refl; unfit = λ journal. (let long = kind_long (tail ∷ []) journal in omega (arith, long)) }
 
-pub head_line : (all after : List (List ℕ)) (line : List ℕ) → all ≡ line ∷ after → (line ≡ header → ⊥) → FirstUnfit Kind all 1
-head_line all after line whole other =
-    record { front = []; rest = line ∷ after; whole = whole; number = refl; begun = begun_once [] _ refl; unfit = unfit_by [] line after (λ more journal. other (first_of_lines _ _ _ _ (journal.2))) }
+other_header : (line : List ℕ) (coloured : Bool) → (line ≡ header false → ⊥) → (line ≡ header true → ⊥) → line ≡ header coloured → ⊥
+other_header line false one two same = one same
+other_header line true one two same = two same
 
-pub side_tail : (all : List (List ℕ)) (tail : List ℕ) → all ≡ header ∷ tail ∷ [] → FirstUnfit Kind all 2
-side_tail all tail whole =
-    record { front = header ∷ []; rest = tail ∷ []; whole = whole; number = refl; begun = begun_once (header ∷ []) _ refl; unfit = λ journal. (let long = kind_long (header ∷ tail ∷ []) journal in omega (arith, long)) }
-
-pub side_line : (all after : List (List ℕ)) (line : List ℕ) → all ≡ header ∷ line ∷ after → ((exponent : ℕ) → IsSide exponent → side_list exponent ≡ words line → ⊥) → FirstUnfit Kind all 2
-side_line all after line whole none =
+pub head_line : (all after : List (List ℕ)) (line : List ℕ) → all ≡ line ∷ after → (line ≡ header false → ⊥) → (line ≡ header true → ⊥) → FirstUnfit Kind all 1
+head_line all after line whole one two =
     record {
-      front = header ∷ [];
+      front = [];
       rest = line ∷ after;
       whole = whole;
       number = refl;
-      begun = begun_once (header ∷ []) _ refl;
-      unfit = unfit_by (header ∷ []) line after
-          (λ more journal. none journal.0.side journal.1.side (sym (side_words journal.0.side journal.1.side.1) ∙ ap words (sym (first_of_lines _ _ _ _ (ap tail_of journal.2)))));
+      begun = begun_once false [] _ refl;
+      unfit = unfit_by [] line after (λ more journal. other_header line journal.0.coloured one two (first_of_lines _ _ _ _ (journal.2)));
     }
 
-pub side_begun : (all after : List (List ℕ)) (line : List ℕ) (exponent : ℕ) → all ≡ header ∷ line ∷ after → side_list exponent ≡ words line → all ≡ header ∷ line_of (side_list exponent) ∷ after
-side_begun all after line exponent whole is = whole ∙ ap (λ (l : List ℕ). header ∷ l ∷ after) (sym (line_by line _ is))
+pub side_tail : (coloured : Bool) (all : List (List ℕ)) (tail : List ℕ) → all ≡ header coloured ∷ tail ∷ [] → FirstUnfit Kind all 2
+side_tail coloured all tail whole =
+    record {
+      front = header coloured ∷ [];
+      rest = tail ∷ [];
+      whole = whole;
+      number = refl;
+      begun = begun_once coloured (header coloured ∷ []) _ refl;
+      unfit = λ journal. (let long = kind_long (header coloured ∷ tail ∷ []) journal in omega (arith, long));
+    }
+
+no_second : (coloured : Bool) (line : List ℕ) (after : List (List ℕ)) → ((exponent : ℕ) → IsSide coloured exponent → side_list coloured exponent ≡ words line → ⊥) → Kind (header coloured ∷ line ∷ after) → ⊥
+no_second coloured line after none journal =
+    let other : Log = journal.0 in
+    let alike : coloured ≡ other.coloured = headers_once coloured other.coloured (first_of_lines _ _ _ _ journal.2) in
+    let second : line ≡ line_of (side_list other.coloured other.side) = first_of_lines _ _ _ _ (ap tail_of journal.2) in
+    let ws : side_list coloured other.side ≡ words line = ap (λ (c : Bool). side_list c other.side) alike ∙ sym (side_words other.coloured other.side journal.1.side.1) ∙ ap words (sym second) in
+    none other.side (subst (λ (c : Bool). IsSide c other.side) (sym alike) (side_told other journal.1)) ws
+
+pub side_line : (coloured : Bool) (all after : List (List ℕ)) (line : List ℕ) → all ≡ header coloured ∷ line ∷ after → ((exponent : ℕ) → IsSide coloured exponent → side_list coloured exponent ≡ words line → ⊥) → FirstUnfit Kind all 2
+side_line coloured all after line whole none =
+    record {
+      front = header coloured ∷ [];
+      rest = line ∷ after;
+      whole = whole;
+      number = refl;
+      begun = begun_once coloured (header coloured ∷ []) _ refl;
+      unfit = unfit_by (header coloured ∷ []) line after (λ more journal. no_second coloured line more none journal);
+    }
+
+pub side_begun : (coloured : Bool) (all after : List (List ℕ)) (line : List ℕ) (exponent : ℕ) → all ≡ header coloured ∷ line ∷ after → side_list coloured exponent ≡ words line → all ≡ header coloured ∷ line_of (side_list coloured exponent) ∷ after
+side_begun coloured all after line exponent whole is = whole ∙ ap (λ (l : List ℕ). header coloured ∷ l ∷ after) (sym (line_by line _ is))
 
 -- ---- as the functions use it
 
 -- the history that stands so in its three parts
-pub takes_record_as : (log : Log) (line : List ℕ) (r : Record) (side : ℕ) (records : List Record) (marks : List Mark) → side ≡ log.side → records ≡ log.records ++ r ∷ [] → marks ≡ log.marks → IsTold log → RecordIn log line r
-    → IsTold (record { side = side; records = records; marks = marks }) × (front_lines (record { side = side; records = records; marks = marks }) ≡ front_lines log ++ line ∷ [])
-takes_record_as log line r side records marks same_side more same_marks told here =
-    let e : with_record log r ≡ record { side = side; records = records; marks = marks } = cc in
+pub takes_record_as : (log : Log) (line : List ℕ) (r : Record) (side : ℕ) (coloured : Bool) (records : List Record) (marks : List Mark) → side ≡ log.side → coloured ≡ log.coloured → records ≡ log.records ++ r ∷ [] → marks ≡ log.marks → IsTold log → RecordIn log line r
+    → IsTold (record { side = side; coloured = coloured; records = records; marks = marks }) × (front_lines (record { side = side; coloured = coloured; records = records; marks = marks }) ≡ front_lines log ++ line ∷ [])
+takes_record_as log line r side coloured records marks same_side alike more same_marks told here =
+    let e : with_record log r ≡ record { side = side; coloured = coloured; records = records; marks = marks } = cc in
     subst (λ (h : Log). IsTold h × (front_lines h ≡ front_lines log ++ line ∷ [])) e (takes_record log line r told here)
 
-pub takes_mark_as : (log : Log) (line : List ℕ) (m : Mark) (side : ℕ) (records : List Record) (marks : List Mark) → side ≡ log.side → records ≡ log.records → marks ≡ log.marks ++ m ∷ [] → IsTold log
+pub takes_mark_as : (log : Log) (line : List ℕ) (m : Mark) (side : ℕ) (coloured : Bool) (records : List Record) (marks : List Mark) → side ≡ log.side → coloured ≡ log.coloured → records ≡ log.records → marks ≡ log.marks ++ m ∷ [] → IsTold log
     → IsNextMark (length log.records) (next_version 0 log.marks) m → mark_list m ≡ words line
-    → IsTold (record { side = side; records = records; marks = marks }) × (front_lines (record { side = side; records = records; marks = marks }) ≡ front_lines log ++ line ∷ [])
-takes_mark_as log line m side records marks same_side same_records more told fits is =
-    let e : with_mark log m ≡ record { side = side; records = records; marks = marks } = cc in
+    → IsTold (record { side = side; coloured = coloured; records = records; marks = marks }) × (front_lines (record { side = side; coloured = coloured; records = records; marks = marks }) ≡ front_lines log ++ line ∷ [])
+takes_mark_as log line m side coloured records marks same_side alike same_records more told fits is =
+    let e : with_mark log m ≡ record { side = side; coloured = coloured; records = records; marks = marks } = cc in
     subst (λ (h : Log). IsTold h × (front_lines h ≡ front_lines log ++ line ∷ [])) e (takes_mark log line m told fits is)
 
 -- the text of the lines

@@ -1,5 +1,5 @@
 -- The lines of a journal as words, and the bounds of what they say.
-use Rattle.std.specs.Prelude.{◌≡◌, ℕ, ◌+◌, ◌^◌, ◌<◌, ◌≤◌, List, [], ◌∷◌, ◌++◌, length, Result, Ok, ⊤, codes}
+use Rattle.std.specs.Prelude.{◌≡◌, ℕ, ◌+◌, ◌^◌, ◌<◌, ◌≤◌, Bool, true, List, [], ◌∷◌, ◌++◌, length, Result, Ok, ⊤, codes}
 use Rattle.std.specs.List.{AllByRecursion, join_with_byte}
 use Rattle.std.specs.Fmt.{decimal}
 use Rattle.vw_cell.specs.declared.cells.Cell.{Cell}
@@ -10,17 +10,19 @@ use Rattle.plain_text.specs.Numbers.{exact}
 use Rattle.history_model.specs.declared.acts.Act.{Act}
 use Rattle.history_model.specs.declared.histories.Record.{Record}
 use Rattle.history_model.specs.declared.histories.Mark.{Mark}
-use Rattle.history_model.specs.Logs.{Log}
+use Rattle.history_model.specs.Logs.{Log, suits_tints}
 use Rattle.history_model.specs.Reach.{ActLiesIn}
-use Rattle.history_model.specs.Journal.{journal_of}
-use Rattle.history_model.specs.Spelling.{three_numbers, act_spelled, cell_list, act_list}
+use Rattle.history_model.specs.Journal.{journal_of, header, kept_side}
+use Rattle.history_model.specs.Spelling.{three_numbers, spelled_by, cell_list, act_list}
 use Rattle.plain_text.specs.Parts.{line_of}
 
 -- ---- bounds
 
--- what a record keeps to, in a world whose side has this exponent
-abbrev pub IsRecord : ℕ → Record → Type 0
-IsRecord side r = (r.session < 64) × (r.line < 2 ^ 32) × ActLiesIn (2 ^ side) r.act
+-- what a record keeps to, in a history that is coloured or not and whose side has this exponent
+abbrev pub IsRecord : Bool → ℕ → Record → Type 0
+IsRecord coloured side r =
+    (r.session < 64) × (r.line < 2 ^ 32) × ActLiesIn (2 ^ side) r.act
+    × (suits_tints coloured r.act ≡ true)
 
 -- what a mark keeps to, behind so many records
 abbrev pub IsMark : ℕ → Mark → Type 0
@@ -35,8 +37,9 @@ AreMarks count least (m ∷ more) =
 -- a history that a journal can tell
 pub record IsTold (log : Log) : Type 0 where
   pub side : (2 ≤ log.side) × (log.side ≤ 12)
+  pub quarter : log.coloured ≡ true → 4 ≤ log.side
   pub few : length log.records ≤ 65535
-  pub records : AllByRecursion (IsRecord log.side) log.records
+  pub records : AllByRecursion (IsRecord log.coloured log.side) log.records
   pub marks : AreMarks (length log.records) 0 log.marks
 
 -- the text of such a history
@@ -45,8 +48,8 @@ IsJournal text = (log : Log) × IsTold log × (text ≡ journal_of log)
 
 -- ---- words
 
-abbrev pub side_list : ℕ → List (List ℕ)
-side_list exponent = codes "side" ∷ decimal (2 ^ exponent) ∷ []
+abbrev pub side_list : Bool → ℕ → List (List ℕ)
+side_list coloured exponent = codes "side" ∷ decimal (kept_side coloured exponent) ∷ []
 
 abbrev pub record_list : ℕ → Record → List (List ℕ)
 record_list n r = cell_list (cell_at n r.session r.line) (act_list r.act)
@@ -56,11 +59,11 @@ mark_list m =
     codes "mark" ∷ decimal m.version ∷ decimal m.at ∷ decimal m.session ∷ decimal m.line ∷ []
 
 -- the three numbers of a record's line, and its act
-unfoldable pub entry_spelled : List (List ℕ) → Result (Cell × Act) WordFault
-entry_spelled words = do
+unfoldable pub entry_spelled : Bool → List (List ℕ) → Result (Cell × Act) WordFault
+entry_spelled coloured words = do
   numbers ← three_words words
   name ← next_word numbers.1
-  act ← act_spelled (exact (2 ^ 32)) name.0 name.1
+  act ← spelled_by coloured (exact (2 ^ 32)) name.0 name.1
   head ← three_numbers (exact (2 ^ 32)) numbers.0
   Ok (head, act)
 
@@ -89,13 +92,12 @@ side_spelled words = do
 abbrev pub IsNextMark : ℕ → ℕ → Mark → Type 0
 IsNextMark count least m = (least ≤ m.version) × IsMark count m
 
-abbrev pub IsSide : ℕ → Type 0
-IsSide exponent = (2 ≤ exponent) × (exponent ≤ 12)
+-- the exponent of a store's side; a store of tints has four cells of the world along it at least
+abbrev pub IsSide : Bool → ℕ → Type 0
+IsSide coloured exponent =
+    (2 ≤ exponent) × (exponent ≤ 12) × (coloured ≡ true → 4 ≤ exponent)
 
 -- ---- lines
-
-abbrev pub header : List ℕ
-header = codes "voxdag journal 1"
 
 -- the lines of records, of which the first is number n
 abbrev pub record_texts : ℕ → List Record → List (List ℕ)
@@ -109,7 +111,8 @@ mark_texts (m ∷ more) = line_of (mark_list m) ∷ mark_texts more
 -- the lines of a history before the last one
 abbrev pub front_lines : Log → List (List ℕ)
 front_lines log =
-    header ∷ line_of (side_list log.side) ∷ (record_texts 1 log.records ++ mark_texts log.marks)
+    header log.coloured ∷ line_of (side_list log.coloured log.side) ∷
+    (record_texts 1 log.records ++ mark_texts log.marks)
 
 -- the last line, and what stands behind its end
 abbrev pub last_lines : List (List ℕ)
@@ -121,5 +124,5 @@ next_version least [] = least
 next_version least (m ∷ more) = next_version (m.version + 1) more
 
 -- the first two lines
-abbrev pub begun : ℕ → List (List ℕ)
-begun side = header ∷ line_of (side_list side) ∷ []
+abbrev pub begun : Bool → ℕ → List (List ℕ)
+begun coloured side = header coloured ∷ line_of (side_list coloured side) ∷ []

@@ -16,7 +16,7 @@ pub record GoesRecord (log : Log) (rest : List (List ℕ)) : Type 0 where
   pub r : Record
   pub more : List (List ℕ)
   pub unmarked : log.marks ≡ []
-  pub fits : IsRecord log.side r
+  pub fits : IsRecord log.coloured log.side r
   pub few : length log.records < 65535
   pub is : rest ≡ line_of (record_list (length log.records + 1) r) ∷ more
   pub some : 0 < length more
@@ -36,7 +36,7 @@ Goes log rest = (rest ≡ last_lines) ⊎ (GoesRecord log rest ⊎ GoesMark log 
 pub record RecordIn (log : Log) (line : List ℕ) (r : Record) : Type 0 where
   pub unmarked : log.marks ≡ []
   pub few : length log.records < 65535
-  pub fits : IsRecord log.side r
+  pub fits : IsRecord log.coloured log.side r
   pub is : record_list (length log.records + 1) r ≡ words line
 
 -- no record is in the line

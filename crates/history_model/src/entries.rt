@@ -1,42 +1,54 @@
-ghost use Rattle.std.specs.Prelude.{◌≡◌, ◌<◌, ◌≤◌, ◌^◌, MatchOption};
+ghost use Rattle.std.specs.Prelude.{◌≡◌, ◌<◌, ◌≤◌, ◌^◌, MatchOption, ℕ, true};
 ghost use Rattle.plain_text.specs.Parts.{words};
 ghost use Rattle.plain_text.specs.Steps.{Gives};
 ghost use Rattle.history_model.specs.Packing.{Reads};
 ghost use Rattle.vw_cell.specs.Counts.{cell_at};
 ghost use Rattle.history_model.specs.Reach.{ActLiesIn};
-ghost use Rattle.history_model.specs.Spelled.{act_of};
+ghost use Rattle.history_model.specs.Journal.{kept_side};
+ghost use Rattle.history_model.specs.Spelled.{act_told};
 ghost use Rattle.history_model.specs.Entries.{IsRecord, IsNextMark, IsSide, record_list, mark_list, side_list, entry_spelled, mark_spelled, side_spelled};
 
 use crate::histories::{Mark, Record};
-use crate::placing::place;
-use crate::spelling::{Spelled, Three, read_act, three_numbers};
+use crate::placing::place_told;
+use crate::spelling::{SpelledTint, Three, read_told, three_numbers};
 use plain_text::{ExactWords, WordFault, must_be, number_by, take_end, take_three, take_word};
 use vw_cell::Side;
 
-// The record of this number, where the line is that of one in a world of this side.
+// The record of this number, where the line is that of one in a history of this side, coloured or
+// not.
 #[tactic(auto, using(crate::proofs::EntryLaws::no_entry, crate::proofs::EntryLaws::other_entry, crate::proofs::EntryLaws::this_entry))]
-pub(crate) fn read_record(line: &[u8], number: u32, side: Side) -> Option<Record>
-    ensures { Reads (IsRecord side) (record_list number) (words line.now) result }
+pub(crate) fn read_record(line: &[u8], number: u32, side: Side, coloured: bool) -> Option<Record>
+    requires { coloured ≡ true → 4 ≤ side }
+    ensures { Reads (IsRecord coloured side) (record_list number) (words line.now) result }
 {
     let _cells = side.cells();
-    match read_entry(line) {
-        Ok((head, spelled)) => record_of(head, &spelled, number, side),
+    match read_entry(line, coloured) {
+        Ok((head, spelled)) => record_of(head, &spelled, number, side, coloured),
         Err(_) => None,
     }
 }
 
 // The record with these numbers and this act.
-fn record_of(head: Three, spelled: &Spelled, number: u32, side: Side) -> Option<Record>
+#[tactic(auto, using(crate::proofs::EntryLaws::told_suits))]
+fn record_of(
+    head: Three,
+    spelled: &SpelledTint,
+    number: u32,
+    side: Side,
+    coloured: bool,
+) -> Option<Record>
+    requires { coloured ≡ true → 4 ≤ side }
     ensures { MatchOption result
-        (head.x ≡ number → head.y < 64 → ActLiesIn (2 ^ side) (act_of spelled.now) → ⊥)
-        (λ r. IsRecord side r
+        (head.x ≡ number → head.y < 64
+        → ActLiesIn (2 ^ side) (act_told coloured spelled.now) → ⊥)
+        (λ r. IsRecord coloured side r
         × (head ≡ cell_at number r.session r.line)
-        × (r.act ≡ act_of spelled.now)) }
+        × (r.act ≡ act_told coloured spelled.now)) }
 {
     if head.x != number || head.y > 63 {
         return None;
     }
-    let act = place(spelled, side)?;
+    let act = place_told(spelled, side, coloured)?;
     Some(Record {
         session: head.y as u16,
         line: head.z,
@@ -46,13 +58,16 @@ fn record_of(head: Three, spelled: &Spelled, number: u32, side: Side) -> Option<
 
 // The three numbers of a record's line, and its act.
 #[tactic(auto, unfolding(crate::specs::Entries::entry_spelled))]
-fn read_entry(line: &[u8]) -> Result<(Three, Spelled), WordFault>
-    ensures { Gives (λ e. (e.0, act_of e.1)) result (entry_spelled (words line.now)) }
+fn read_entry(line: &[u8], coloured: bool) -> Result<(Three, SpelledTint), WordFault>
+    ensures { Gives
+        (λ e. (e.0, act_told coloured e.1))
+        result
+        (entry_spelled coloured (words line.now)) }
 {
     let mut words = ExactWords::new(line);
     let head = take_three(&mut words)?;
     let name = take_word(&mut words)?;
-    let act = read_act(name, &mut words)?;
+    let act = read_told(coloured, name, &mut words)?;
     let head = three_numbers::<ExactWords>(&head)?;
     Ok((head, act))
 }
@@ -103,14 +118,45 @@ fn read_numbers(line: &[u8]) -> Result<(Three, u32), WordFault>
     Ok((head, line))
 }
 
-// The side that the line gives.
+// The store's side, where the line gives the world's.
 #[tactic(auto, using(crate::proofs::MarkLaws::no_side, crate::proofs::MarkLaws::other_side, crate::proofs::MarkLaws::this_side))]
-pub(crate) fn read_side(line: &[u8]) -> Option<Side>
-    ensures { Reads IsSide side_list (words line.now) result }
+pub(crate) fn read_side(line: &[u8], coloured: bool) -> Option<Side>
+    ensures { Reads (IsSide coloured) (side_list coloured) (words line.now) result }
 {
     match read_cells(line) {
-        Ok(cells) => Side::new(cells),
+        Ok(cells) => side_of(cells, coloured),
         Err(_) => None,
+    }
+}
+
+// The side of the store that keeps a world with so many cells along its side.
+#[tactic(auto, using(crate::proofs::MarkLaws::no_world_side))]
+fn side_of(cells: u32, coloured: bool) -> Option<Side>
+    ensures { MatchOption result
+        ((exponent : ℕ) → IsSide coloured exponent → kept_side coloured exponent ≡ cells → ⊥)
+        (λ s. IsSide coloured s × (kept_side coloured s ≡ cells)) }
+{
+    let side = Side::new(cells)?;
+    if coloured {
+        return store_side(side);
+    }
+    Some(side)
+}
+
+// Four times the side.
+#[tactic(auto, using(crate::proofs::MarkLaws::no_store_side, crate::proofs::MarkLaws::store_side_is))]
+fn store_side(world: Side) -> Option<Side>
+    ensures { MatchOption result
+        ((exponent : ℕ) → IsSide true exponent → kept_side true exponent ≡ 2 ^ world → ⊥)
+        (λ s. IsSide true s × (kept_side true s ≡ 2 ^ world)) }
+{
+    let _world = world.exponent();
+    match Side::new(4 * world.cells()) {
+        Some(side) => {
+            let _exponent = side.exponent();
+            Some(side)
+        }
+        None => None,
     }
 }
 

@@ -1,7 +1,7 @@
 //! Acts on a world, the history of all accepted ones, and the plain meaning of both.
 //!
 //! What the cells of each version are is said in `specs/Moments.antt`, cell by cell and with no
-//! tree.
+//! tree, and what those of the store that keeps them are in `specs/Stores.antt`.
 #![tactic(auto)]
 
 mod acts;
@@ -11,6 +11,7 @@ mod histories;
 mod journal;
 mod making;
 mod packing;
+mod parts;
 mod placing;
 mod positions;
 mod questions;
@@ -19,7 +20,7 @@ mod spelling;
 mod stacks;
 mod ways;
 
-pub use acts::Act;
+pub use acts::{Act, TintAct};
 pub use histories::{History, Mark, Record};
 pub use journal::journal_text;
 pub use making::may_make;
@@ -27,7 +28,7 @@ pub use packing::{pack, unpack};
 pub use positions::position;
 pub use questions::Question;
 pub use reading::{JournalFault, read_journal};
-pub use spelling::{Spelled, Three, read_act, read_box, three_numbers};
+pub use spelling::{Spelled, SpelledTint, Three, read_act, read_box, three_numbers};
 pub use stacks::Position;
 pub use vox_read::Models;
 pub use ways::Way;

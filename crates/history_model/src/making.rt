@@ -1,20 +1,23 @@
-ghost use Rattle.std.specs.Prelude.{◌≡◌, ◌≤◌, ◌<◌, ◌↔◌, ◌^◌, IsTrue, true};
+ghost use Rattle.std.specs.Prelude.{◌≡◌, ◌/◌, ◌≤◌, ◌<◌, ◌↔◌, ◌^◌, IsTrue, true};
 ghost use Rattle.std.specs.List.{slice_get};
 ghost use Rattle.vw_cell.specs.Counts.{cell_at};
 ghost use Rattle.vw_cell.specs.Places.{IsInBox, IsInWorld};
 ghost use Rattle.vox_read.specs.Contents.{is_cell};
-ghost use Rattle.history_model.specs.Logs.{FitsWorld};
+ghost use Rattle.history_model.specs.Logs.{FitsWorld, TintFits};
 ghost use Rattle.history_model.specs.Making.{LayerIsMade, LayersAreMade, MayMake, RowIsMade, TellsWorld};
-ghost use Rattle.history_model.specs.Worlds.{World, edited, is_edit, is_in_stamp, less, plus};
+ghost use Rattle.history_model.specs.Parts.{made_in};
+ghost use Rattle.history_model.specs.Stores.{edited_in};
+ghost use Rattle.history_model.specs.Worlds.{World, is_edit, is_in_stamp, less, plus};
 
-use crate::acts::Act;
+use crate::acts::{Act, TintAct};
+use crate::parts::{Made, part, part_number};
 use vox_read::{Models, Voxel};
 use vw_cell::{Boxed, Cell, Side};
 
-/// Whether the cells after are just those that the edit makes of the cells before, in the world of
+/// Whether the cells after are just those that the edit makes of the cells before, in the store of
 /// this side.
 ///
-/// It asks for each cell of the world.
+/// It asks for each cell of the store.
 pub fn may_make<F: Fn(Cell) -> bool, G: Fn(Cell) -> bool>(
     side: Side,
     models: &Models,
@@ -74,7 +77,7 @@ fn is_row_made<F: Fn(Cell) -> bool, G: Fn(Cell) -> bool>(
     requires before { F.IsAlwaysCallable before.now }
     requires after { G.IsAlwaysCallable after.now }
     ensures { (v w : World) → TellsWorld (F.post before.now) v → TellsWorld (G.post after.now) w
-        → IsTrue result ↔ RowIsMade models.now act.now v w y z (2 ^ side) }
+        → IsTrue result ↔ RowIsMade (2 ^ side) models.now act.now v w y z (2 ^ side) }
 {
     let cells = side.cells() as u16;
     for x in 0..cells {
@@ -88,13 +91,14 @@ fn is_row_made<F: Fn(Cell) -> bool, G: Fn(Cell) -> bool>(
 }
 
 // Whether the edit sets the cell.
+#[tactic(auto, using(crate::proofs::PartLaws::fits_quarter, crate::proofs::PartLaws::made_quarter))]
 fn is_set<F: Fn(Cell) -> bool>(side: Side, models: &Models, act: &Act, before: &F, q: Cell) -> bool
     requires fits { FitsWorld (2 ^ side) models.now act.now }
     requires before { F.IsAlwaysCallable before.now }
     ensures { (w : World) → TellsWorld (F.post before.now) w
-        → result ≡ edited models.now act.now w q }
+        → result ≡ edited_in (2 ^ side) models.now act.now w q }
 {
-    let _cells = side.cells();
+    let n = (side.cells() / 4) as u16;
     let was = before(q);
     match act {
         Act::Fill(b) => b.has(q) || was,
@@ -107,24 +111,44 @@ fn is_set<F: Fn(Cell) -> bool>(side: Side, models: &Models, act: &Act, before: &
                 size: b.size,
             };
             if there.has(q) {
-                before(moved(side, *b, *to, q))
+                before(moved(*b, *to, q))
             } else {
                 was
             }
         }
         Act::Stamp(m, at) => is_in_stamp(models, *m, *at, q) || was,
+        Act::Tint(act) => is_made(n, models, act, before, q),
         Act::Undo => was,
         Act::Redo => was,
     }
 }
 
+// Whether the parts of a tinted act set the cell, told from the last part back to the cells before
+// the first.
+fn is_made<F: Fn(Cell) -> bool>(n: u16, models: &Models, act: &TintAct, first: &F, q: Cell) -> bool
+    requires n { n ≤ 1024 }
+    requires fits { TintFits n models.now act.now }
+    requires first { F.IsAlwaysCallable first.now }
+    ensures { (w : World) → TellsWorld (F.post first.now) w
+        → result ≡ made_in n models.now act.now w q }
+{
+    let parts = part_number(act);
+    let mut at = q;
+    for done in 0..parts {
+        match part(n, models, act, parts - 1 - done, at) {
+            Made::Fixed(set) => return set,
+            Made::Read(p) => at = p,
+        }
+    }
+    first(at)
+}
+
 // The place in the box that lies from its corner as the cell does from the other one.
-fn moved(side: Side, b: Boxed, to: Cell, q: Cell) -> Cell
+pub(crate) fn moved(b: Boxed, to: Cell, q: Cell) -> Cell
     requires inside { IsInBox (record { at = to; size = b.size }) q }
-    requires fits { FitsAt b.at b.size (2 ^ side) }
+    requires fits { FitsAt b.at b.size 4096 }
     ensures { result ≡ plus b.at (less q to) }
 {
-    let _cells = side.cells();
     Cell {
         x: b.at.x + (q.x - to.x),
         y: b.at.y + (q.y - to.y),
@@ -151,7 +175,7 @@ fn is_in_stamp(models: &Models, m: u16, at: Cell, q: Cell) -> bool
 }
 
 // Where the place lies from a corner that it isn't before.
-fn from_corner(q: Cell, at: Cell) -> Cell
+pub(crate) fn from_corner(q: Cell, at: Cell) -> Cell
     ensures { result ≡ less q at }
 {
     Cell {

@@ -1,13 +1,14 @@
-ghost use Rattle.std.specs.Prelude.{◌≡◌, ◌^◌, ◌<◌, ◌≤◌, MatchOption};
+ghost use Rattle.std.specs.Prelude.{◌≡◌, ◌/◌, ◌^◌, ◌<◌, ◌≤◌, ◌↔◌, IsTrue, MatchOption, true};
 ghost use Rattle.history_model.specs.declared.spelling.Spelled.TheVariants.{Copy, Stamp};
 ghost use Rattle.vw_cell.specs.Places.{FitsAt, IsInWorld};
 ghost use Rattle.history_model.specs.Worlds.{box_at};
-ghost use Rattle.history_model.specs.Reach.{GivesWhere, ActLiesIn};
-ghost use Rattle.history_model.specs.Spelled.{act_of};
-ghost use Rattle.history_model.specs.Spelling.{IsLarge};
+ghost use Rattle.history_model.specs.Tints.{IsTint};
+ghost use Rattle.history_model.specs.Reach.{GivesWhere, ActLiesIn, TakesTint};
+ghost use Rattle.history_model.specs.Spelled.{act_of, act_told};
+ghost use Rattle.history_model.specs.Spelling.{IsLarge, painted};
 
-use crate::acts::Act;
-use crate::spelling::{Spelled, Three};
+use crate::acts::{Act, TintAct};
+use crate::spelling::{Spelled, SpelledTint, Three};
 use vw_cell::{Ball, Boxed, Cell, Side};
 
 /// The act that was spelled, where it lies in the world of this side.
@@ -24,6 +25,70 @@ pub(crate) fn place(spelled: &Spelled, side: Side) -> Option<Act>
         Spelled::Undo => Some(Act::Undo),
         Spelled::Redo => Some(Act::Redo),
     }
+}
+
+/// The act that was spelled, with its tint in a coloured history, where it lies in a store of this
+/// side.
+pub(crate) fn place_told(spelled: &SpelledTint, side: Side, coloured: bool) -> Option<Act>
+    requires { coloured ≡ true → 4 ≤ side }
+    ensures { GivesWhere
+        (ActLiesIn (2 ^ side) (act_told coloured spelled.now))
+        (act_told coloured spelled.now)
+        result }
+{
+    if coloured {
+        return place_tinted(spelled, side);
+    }
+    place(&spelled.act, side)
+}
+
+// The same in a coloured history.
+#[tactic(auto, using(crate::proofs::TintPlacing::placed_none, crate::proofs::TintPlacing::placed_some))]
+fn place_tinted(spelled: &SpelledTint, side: Side) -> Option<Act>
+    requires { 4 ≤ side }
+    ensures { GivesWhere
+        (ActLiesIn (2 ^ side) (act_told true spelled.now))
+        (act_told true spelled.now)
+        result }
+{
+    let act = place(&spelled.act, quarter(side))?;
+    tint(act, spelled.tint)
+}
+
+// The side of the world that a store of this side keeps.
+#[tactic(auto, using(crate::proofs::MarkLaws::quarter_is_side))]
+fn quarter(side: Side) -> Side
+    requires { 4 ≤ side }
+    ensures { 2 ^ result ≡ 2 ^ side / 4 }
+{
+    let _exponent = side.exponent();
+    match Side::new(side.cells() / 4) {
+        Some(world) => world,
+        None => unreachable!(),
+    }
+}
+
+// A plain act with this tint, where it can have it.
+fn tint(act: Act, tint: u32) -> Option<Act>
+    ensures { GivesWhere (TakesTint tint act) (painted tint act) result }
+{
+    match act {
+        Act::Fill(b) if is_tint(tint) => Some(Act::Tint(TintAct::Fill(b, tint as u8))),
+        Act::Fill(_) => None,
+        Act::Ball(b) if is_tint(tint) => Some(Act::Tint(TintAct::Ball(b, tint as u8))),
+        Act::Ball(_) => None,
+        Act::Erase(b) => Some(Act::Tint(TintAct::Erase(b))),
+        Act::Carve(b) => Some(Act::Tint(TintAct::Carve(b))),
+        Act::Copy(b, to) => Some(Act::Tint(TintAct::Copy(b, to))),
+        Act::Stamp(m, at) => Some(Act::Tint(TintAct::Stamp(m, at))),
+        other => Some(other),
+    }
+}
+
+fn is_tint(tint: u32) -> bool
+    ensures { IsTrue result ↔ IsTint tint }
+{
+    1 <= tint && tint <= 255
 }
 
 fn place_box(at: Three, size: Three, side: Side) -> Option<Boxed>

@@ -6,6 +6,8 @@ use vw_cell::{Boxed, Cell};
 pub enum Question {
     /// Whether the cell is set.
     Get(Cell),
+    /// The tint of the cell, 0 where it isn't set.
+    Colour(Cell),
     /// The number of set cells of the box.
     Count(Boxed),
     /// The least box that has all set cells.

@@ -2,9 +2,9 @@ ghost use Rattle.std.specs.Prelude.{◌≡◌, ◌+◌, ◌<◌, ◌≤◌, ◌+
 ghost use Rattle.plain_text.specs.Parts.{lines, words, line_of};
 ghost use Rattle.history_model.specs.declared.reading.JournalFault.TheVariants.{Memory};
 ghost use Rattle.history_model.specs.Logs.{Log};
-ghost use Rattle.history_model.specs.Journal.{journal_of};
+ghost use Rattle.history_model.specs.Journal.{journal_of, header};
 ghost use Rattle.history_model.specs.Packing.{Reads};
-ghost use Rattle.history_model.specs.Entries.{IsTold, IsSide, IsRecord, IsNextMark, header, side_list, record_list, mark_list, begun, front_lines, last_lines, next_version};
+ghost use Rattle.history_model.specs.Entries.{IsTold, IsSide, IsRecord, IsNextMark, side_list, record_list, mark_list, begun, front_lines, last_lines, next_version};
 ghost use Rattle.history_model.specs.Following.{NoRecordIn, RecordIn};
 ghost use Rattle.history_model.specs.Refusals.{RefusesJournal, RefusesEntry, RefusesLines};
 
@@ -41,6 +41,8 @@ impl<T: Drop> From<AllocFailed<T>> for JournalFault {
 
 const HEADER: &[u8] = b"voxdag journal 1";
 
+const COLOURED: &[u8] = b"voxdag journal 2";
+
 const END: &[u8] = b"end";
 
 /// The most records of a history.
@@ -55,20 +57,27 @@ pub fn read_journal(alloc: Global, bytes: &[u8]) -> Result<History, JournalFault
         → MatchResult result (λ h. h ≡ log) (λ fault. fault ≡ Memory) }
 {
     match read_head(bytes) {
-        Ok(head) => read_entries(alloc, head.0, head.1),
+        Ok(head) => read_entries(alloc, head.0, head.1, head.2),
         Err(fault) => Err(fault),
     }
 }
 
-// The history of this side with these lines behind the first two.
-fn read_entries(alloc: Global, side: Side, entries: &[u8]) -> Result<History, JournalFault>
-    requires { IsSide side }
+// The history of this side, coloured or not, with these lines behind the first two.
+fn read_entries(
+    alloc: Global,
+    side: Side,
+    coloured: bool,
+    entries: &[u8],
+) -> Result<History, JournalFault>
+    requires { IsSide coloured side }
     ensures read { IfOk result (λ h. IsTold h
-        × (begun side ++ lines entries.now ≡ front_lines h ++ last_lines)) }
-    ensures refused { IfErr result (λ fault. RefusesLines fault (begun side ++ lines entries.now)) }
+        × (begun coloured side ++ lines entries.now ≡ front_lines h ++ last_lines)) }
+    ensures refused { IfErr result
+        (λ fault. RefusesLines fault (begun coloured side ++ lines entries.now)) }
 {
     let mut history = History {
         side,
+        coloured,
         records: Vec::new(alloc),
         marks: Vec::new(alloc),
     };
@@ -88,33 +97,38 @@ fn read_entries(alloc: Global, side: Side, entries: &[u8]) -> Result<History, Jo
     }
 }
 
-// The side, from the first two lines, and the bytes behind them.
+// The side, whether the history is coloured, and the bytes behind the first two lines.
 #[tactic(auto, using(crate::proofs::TakingLaws::head_tail, crate::proofs::TakingLaws::head_line))]
-fn read_head(bytes: &[u8]) -> Result<(Side, &[u8]), JournalFault>
-    ensures read { IfOk result (λ h. IsSide h.0 × (lines bytes.now ≡ begun h.0 ++ lines h.1.now)) }
+fn read_head(bytes: &[u8]) -> Result<(Side, bool, &[u8]), JournalFault>
+    ensures read { IfOk result (λ h. IsSide h.1 h.0
+        × (lines bytes.now ≡ begun h.1 h.0 ++ lines h.2.now)) }
     ensures refused { IfErr result (λ fault. RefusesJournal fault bytes.now) }
 {
     let Some((first, rest)) = split_line(bytes) else {
         return Err(JournalFault::Line(1));
     };
-    if first != HEADER {
-        return Err(JournalFault::Line(1));
+    if first == HEADER {
+        return read_second(rest, false);
     }
-    read_second(rest)
+    if first == COLOURED {
+        return read_second(rest, true);
+    }
+    Err(JournalFault::Line(1))
 }
 
 // The side, from the line behind the header, and the bytes behind it.
 #[tactic(auto, using(crate::proofs::TakingLaws::side_tail, crate::proofs::TakingLaws::side_line, crate::proofs::TakingLaws::side_begun))]
-fn read_second(bytes: &[u8]) -> Result<(Side, &[u8]), JournalFault>
-    ensures read { IfOk result (λ h. IsSide h.0
-        × (header ∷ lines bytes.now ≡ begun h.0 ++ lines h.1.now)) }
-    ensures refused { IfErr result (λ fault. RefusesLines fault (header ∷ lines bytes.now)) }
+fn read_second(bytes: &[u8], coloured: bool) -> Result<(Side, bool, &[u8]), JournalFault>
+    ensures read { IfOk result (λ h. IsSide h.1 h.0
+        × (header coloured ∷ lines bytes.now ≡ begun h.1 h.0 ++ lines h.2.now)) }
+    ensures refused { IfErr result
+        (λ fault. RefusesLines fault (header coloured ∷ lines bytes.now)) }
 {
     let Some((second, rest)) = split_line(bytes) else {
         return Err(JournalFault::Line(2));
     };
-    match read_side(second) {
-        Some(side) => Ok((side, rest)),
+    match read_side(second, coloured) {
+        Some(side) => Ok((side, coloured, rest)),
         None => Err(JournalFault::Line(2)),
     }
 }
@@ -149,7 +163,7 @@ fn next_record(history: &History, line: &[u8]) -> Option<Record>
     if !history.marks.is_empty() || count >= RECORDS {
         return None;
     }
-    read_record(line, count as u32 + 1, history.side)
+    read_record(line, count as u32 + 1, history.side, history.coloured)
 }
 
 // The mark of the line, where one can follow.

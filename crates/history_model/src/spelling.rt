@@ -1,7 +1,8 @@
 ghost use Rattle.plain_text.specs.Steps.{Gives};
 ghost use Rattle.history_model.specs.Worlds.{box_at};
-ghost use Rattle.history_model.specs.Spelling.{three_numbers, box_spelled, ball_spelled, fill_spelled, erase_spelled, full_ball_spelled, carve_spelled, alone_spelled, copy_spelled, places_spelled, stamp_spelled, act_spelled};
-ghost use Rattle.history_model.specs.Spelled.{act_of};
+ghost use Rattle.history_model.specs.Spelling.{three_numbers, box_spelled, ball_spelled, fill_spelled, erase_spelled, full_ball_spelled, carve_spelled, alone_spelled, copy_spelled, places_spelled, stamp_spelled, act_spelled, spelled_by, tint_spelled, tint_fill_spelled, tint_ball_spelled};
+ghost use Rattle.std.specs.Prelude.{true};
+ghost use Rattle.history_model.specs.Spelled.{act_of, act_told};
 
 use plain_text::{
     ThreeWords, WordFault, WordSource, must_be, number_by, take_end, take_three, take_word,
@@ -38,6 +39,13 @@ pub enum Spelled {
     Stamp(u32, Three),
     Undo,
     Redo,
+}
+
+/// A spelled act and its tint, which is 1 where the words have none.
+#[derive(Clone, Copy)]
+pub struct SpelledTint {
+    pub act: Spelled,
+    pub tint: u32,
 }
 
 const FILL: &[u8] = b"fill";
@@ -87,6 +95,69 @@ pub fn read_act<'l, W: WordSource<'l>>(name: &[u8], words: &mut W) -> Result<Spe
         return read_alone(Spelled::Redo, words);
     }
     Err(WordFault::Word)
+}
+
+/// The same in a history that is coloured or not. In a coloured one a fill and a ball have their
+/// tint as a last number.
+pub fn read_told<'l, W: WordSource<'l>>(
+    coloured: bool,
+    name: &[u8],
+    words: &mut W,
+) -> Result<SpelledTint, WordFault>
+    ensures { Gives
+        (act_told coloured)
+        result
+        (spelled_by coloured W.spells name.now (W.words words.old)) }
+{
+    if coloured {
+        return read_tinted(name, words);
+    }
+    let act = read_act(name, words)?;
+    Ok(SpelledTint { act, tint: 1 })
+}
+
+#[tactic(auto, unfolding(crate::specs::Spelling::tint_spelled))]
+fn read_tinted<'l, W: WordSource<'l>>(name: &[u8], words: &mut W) -> Result<SpelledTint, WordFault>
+    ensures { Gives (act_told true) result (tint_spelled W.spells name.now (W.words words.old)) }
+{
+    if name == FILL {
+        return read_tint_fill(words);
+    }
+    if name == BALL {
+        return read_tint_ball(words);
+    }
+    let act = read_act(name, words)?;
+    Ok(SpelledTint { act, tint: 1 })
+}
+
+#[tactic(auto, unfolding(crate::specs::Spelling::tint_fill_spelled))]
+fn read_tint_fill<'l, W: WordSource<'l>>(words: &mut W) -> Result<SpelledTint, WordFault>
+    ensures { Gives (act_told true) result (tint_fill_spelled W.spells (W.words words.old)) }
+{
+    let at = take_three(words)?;
+    let size = take_three(words)?;
+    let tint = take_word(words)?;
+    take_end(words)?;
+    let at = three_numbers::<W>(&at)?;
+    let size = three_numbers::<W>(&size)?;
+    let tint = number_by::<W>(tint)?;
+    let act = Spelled::Fill(at, size);
+    Ok(SpelledTint { act, tint })
+}
+
+#[tactic(auto, unfolding(crate::specs::Spelling::tint_ball_spelled))]
+fn read_tint_ball<'l, W: WordSource<'l>>(words: &mut W) -> Result<SpelledTint, WordFault>
+    ensures { Gives (act_told true) result (tint_ball_spelled W.spells (W.words words.old)) }
+{
+    let centre = take_three(words)?;
+    let radius = take_word(words)?;
+    let tint = take_word(words)?;
+    take_end(words)?;
+    let centre = three_numbers::<W>(&centre)?;
+    let radius = number_by::<W>(radius)?;
+    let tint = number_by::<W>(tint)?;
+    let act = Spelled::Ball(centre, radius);
+    Ok(SpelledTint { act, tint })
 }
 
 fn read_fill<'l, W: WordSource<'l>>(words: &mut W) -> Result<Spelled, WordFault>

@@ -1,12 +1,12 @@
 -- What holds of every run, and how a run goes on.
-use Rattle.std.proofs.Common.{◌≡◌, ◌≢◌, ℕ, zero, suc, ◌+◌, ◌<◌, ◌≤◌, Bool, cond, leb, refl, sym, ◌∙◌, ap, subst, arith, inl, inr, List, [], ◌∷◌, ◌++◌, length, get_or, take}
+use Rattle.std.proofs.Common.{◌≡◌, ◌≢◌, ℕ, zero, suc, ◌+◌, ◌<◌, ◌≤◌, Bool, cond, leb, refl, sym, ◌∙◌, ap, subst, arith, inl, inr, List, [], ◌∷◌, ◌++◌, length, get_or, take, ◌^◌}
 use Rattle.std.proofs.lemmas.Bool.{cases_lt, le-leb, lt-leb}
 use Rattle.std.proofs.lemmas.List.{length-append, get_or_append_left, get_or_push}
 use Rattle.vw_cell.specs.declared.cells.Cell.{Cell}
 use Rattle.vox_read.specs.Contents.{Content}
 use Rattle.node_shapes.specs.declared.names.Name.{Name}
 use Rattle.node_words.specs.Plans.{Layout}
-use Rattle.history_model.specs.Moments.{world_has}
+use Rattle.history_model.specs.Stores.{stored_in}
 use Rattle.core_laws.specs.States.{State, Holds, IsLive, IsUnder, tree_of}
 use Rattle.core_laws.specs.Soundness.{Sound}
 use Rattle.core_laws.specs.StepStatements.{IsSpared}
@@ -46,8 +46,8 @@ module _ (p : Layout) (models : List Content) (sessions : ℕ) (events : List Ev
       (same_cells p models (states k) low s v w of_v of_w, same_root p models (states k) low s v w of_v of_w)
 
   moves_cells : (session : ℕ) (old new : State) (v : ℕ) (q : Cell) → Moves p models session old new
-      → v ≤ length old.log.records → world_has models new.log.records v q ≡ world_has models old.log.records v q
-  moves_cells session old new v q (inl same) le = ap (λ (x : State). world_has models x.log.records v q) same
+      → v ≤ length old.log.records → stored_in (2 ^ p.side) models new.log.records v q ≡ stored_in (2 ^ p.side) models old.log.records v q
+  moves_cells session old new v q (inl same) le = ap (λ (x : State). stored_in (2 ^ p.side) models x.log.records v q) same
   moves_cells session old new v q (inr step) le = step_cells p models session old new v q step le
 
   pub cells_at : VersionsKeepCells p models sessions events

@@ -4,7 +4,7 @@ use Rattle.vw_cell.specs.declared.cells.Cell.{Cell}
 use Rattle.vox_read.specs.Contents.{Content}
 use Rattle.node_shapes.specs.declared.names.Name.{Name}
 use Rattle.node_words.specs.Plans.{Layout}
-use Rattle.history_model.specs.Moments.{world_has}
+use Rattle.history_model.specs.Stores.{stored_in}
 use Rattle.block_contents.specs.Versions.{IsKept, SameWorld}
 use Rattle.core_laws.specs.Events.{Frees}
 use Rattle.core_laws.specs.Soundness.{Sound}
@@ -48,8 +48,8 @@ HaveOneRoot state v w = state.root v ≡ state.root w
 -- versions have the same cells
 abbrev pub HaveSameCells : Layout → List Content → State → ℕ → ℕ → Type 0
 HaveSameCells p models state v w =
-    SameWorld (2 ^ p.side) (world_has models state.log.records v)
-    (world_has models state.log.records w)
+    SameWorld (2 ^ p.side) (stored_in (2 ^ p.side) models state.log.records v)
+    (stored_in (2 ^ p.side) models state.log.records w)
 
 -- two versions that are kept have one root just where their cells agree
 abbrev pub RootsTellCells : Layout → List Content → ℕ → List Event → Type 0
@@ -62,7 +62,8 @@ RootsTellCells p models sessions events = ForStates p models sessions events
 abbrev pub VersionsKeepCells : Layout → List Content → ℕ → List Event → Type 0
 VersionsKeepCells p models sessions events = ForSteps p models sessions events
     (λ event old new. (v : ℕ) (q : Cell) → v ≤ length old.log.records
-    → world_has models new.log.records v q ≡ world_has models old.log.records v q)
+    → stored_in (2 ^ p.side) models new.log.records v q
+    ≡ stored_in (2 ^ p.side) models old.log.records v q)
 
 -- what a session holds before and after an event keeps its tree, and so its shape
 abbrev pub HeldShapesStay : Layout → List Content → ℕ → List Event → Type 0

@@ -1,7 +1,7 @@
 ghost use Rattle.std.specs.Prelude.{◌≡◌, ℕ, List};
 ghost use Rattle.history_model.specs.Contents.{Content, AreModels};
 ghost use Rattle.history_model.specs.Journal.{journal_of};
-ghost use Rattle.history_model.specs.Logs.{Log, IsLegal};
+ghost use Rattle.history_model.specs.Logs.{Log, IsLegal, SuitsTints};
 ghost use Rattle.history_model.specs.Entries.{IsSide, IsTold};
 ghost use Rattle.journal_laws.specs.Signing.{AreSigned};
 
@@ -9,9 +9,12 @@ ghost use Rattle.journal_laws.specs.Signing.{AreSigned};
 ///
 /// Whether a history is legal doesn't rest on who did what, so that is asked for besides: a run has
 /// sessions below 64, and lines of 32 bits.
+///
+/// Nor does it rest on whether the history is coloured, which all of its acts have to suit.
 pub fn legal_histories_can_be_told()
-    ensures { (side : ℕ) (models : List Content) (log : Log) → IsSide log.side
-        → AreModels models → IsLegal side models log → AreSigned log → IsTold log }
+    ensures { (side : ℕ) (models : List Content) (log : Log) → IsSide log.coloured log.side
+        → AreModels models → IsLegal side models log → AreSigned log → SuitsTints log
+        → IsTold log }
 {}
 
 /// A law: a text is the journal of one history at most.

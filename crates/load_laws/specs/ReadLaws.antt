@@ -16,7 +16,7 @@ use Rattle.history_model.specs.Contents.{Content}
 use Rattle.plain_text.specs.Parts.{line_of}
 use Rattle.plain_text.specs.Steps.{three_words}
 use Rattle.history_model.specs.declared.acts.Act.{Act}
-use Rattle.history_model.specs.declared.acts.Act.TheVariants.{Fill, Erase, Ball, Carve, Copy, Stamp, Undo, Redo}
+use Rattle.history_model.specs.declared.acts.Act.TheVariants.{Fill, Erase, Ball, Carve, Copy, Stamp, Tint, Undo, Redo}
 use Rattle.history_model.specs.declared.questions.Question.TheVariants.{Count}
 use Rattle.history_model.specs.Journal.{act_words}
 use Rattle.history_model.specs.Spelling.{three_numbers, box_spelled, ball_spelled, stamp_spelled, act_spelled, cell_list, box_list, ball_list, act_list}
@@ -141,11 +141,12 @@ text_read read number name ws command rest others few all plain is fits none mor
 
 -- how the load's scripts are read: all commands that are built, side 256, the load's model
 abbrev reads_with : Content → Reader
-reads_with model = command_read 256 (model ∷ [])
+reads_with model = command_read false 256 (model ∷ [])
 
 command_by : (model : Content) (name : List ℕ) (ws : List (List ℕ)) (command placed : Command)
-    → command_spelled name ws ≡ Ok command
-    → command_placed 256 (model ∷ []) command ≡ Ok placed → reads_with model name ws ≡ Ok placed
+    → command_spelled false name ws ≡ Ok command
+    → command_placed false 256 (model ∷ []) command ≡ Ok placed
+    → reads_with model name ws ≡ Ok placed
 unfolding command_read
 command_by model name ws command placed said is = rw said is
 
@@ -176,28 +177,28 @@ centre_short x b lies =
     record { x = omega (arith, cx); y = omega (arith, cy); z = omega (arith, cz) }
 
 fill_said : (b : Boxed) → IsShort b.at → IsShort b.size
-    → command_spelled (codes "fill") (box_list b []) ≡ Ok (Edit (Fill b) false)
+    → command_spelled false (codes "fill") (box_list b []) ≡ Ok (Edit (Fill b) false)
 unfolding act_spelled
 fill_said b at size = let read = box_read b at size in rw read refl
 
 erase_said : (b : Boxed) → IsShort b.at → IsShort b.size
-    → command_spelled (codes "erase") (box_list b []) ≡ Ok (Edit (Erase b) false)
+    → command_spelled false (codes "erase") (box_list b []) ≡ Ok (Edit (Erase b) false)
 unfolding act_spelled
 erase_said b at size = let read = box_read b at size in rw read refl
 
 ball_said : (b : ball.Ball) → IsShort b.centre → b.radius ≤ 256
-    → command_spelled (codes "ball") (ball_list b) ≡ Ok (Edit (Ball b) false)
+    → command_spelled false (codes "ball") (ball_list b) ≡ Ok (Edit (Ball b) false)
 unfolding act_spelled
 ball_said b centre radius = let read = ball_read b centre radius in rw read refl
 
 stamp_said : (at : Cell) → IsShort at
-    → command_spelled (codes "stamp") (decimal 0 ∷ cell_list at []) ≡ Ok
+    → command_spelled false (codes "stamp") (decimal 0 ∷ cell_list at []) ≡ Ok
     (Edit (Stamp 0 at) false)
 unfolding act_spelled
 stamp_said at short = let read = stamp_read at short in rw read refl
 
 count_said : (b : Boxed) → IsShort b.at → IsShort b.size
-    → command_spelled (codes "count") (box_list b []) ≡ Ok (Ask None (Count b))
+    → command_spelled false (codes "count") (box_list b []) ≡ Ok (Ask None (Count b))
 unfolding question_rows
 count_said b at size = let read = box_read b at size in rw read refl
 
@@ -288,6 +289,7 @@ edit_read model x number (Stamp m at) rest others size few (zero_is, lies) more 
     (sym zero_is) whole
 edit_read model x number (Carve b) rest others size few lies more = absurd lies
 edit_read model x number (Copy b to) rest others size few lies more = absurd lies
+edit_read model x number (Tint t) rest others size few lies more = absurd lies
 edit_read model x number Undo rest others size few lies more = absurd lies
 edit_read model x number Redo rest others size few lies more = absurd lies
 
@@ -379,7 +381,7 @@ edits_number g x (suc k) =
 abbrev pub ScriptsAreRead : Type 0
 ScriptsAreRead =
     (g x : ℕ) (model : Content) → model.size ≡ record { x = 32; y = 32; z = 32 } → x ≤ 192
-    → commands_of 8 (model ∷ []) (script_from g x) ≡ Ok (commands_drawn g x)
+    → commands_of false 8 (model ∷ []) (script_from g x) ≡ Ok (commands_drawn g x)
 
 pub scripts_are_read : ScriptsAreRead
 unfolding commands_of

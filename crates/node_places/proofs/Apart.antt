@@ -4,7 +4,7 @@ use Rattle.std.proofs.lemmas.Bool.{cases_order}
 use Rattle.std.proofs.lemmas.Nat.{mul-add-lt, same_from_place}
 use Rattle.node_words.specs.Sums.{sum_below, sum_below-suc}
 use Rattle.node_words.specs.Plans.{Layout}
-use Rattle.node_places.specs.Spots.{Spot, Sessions, LogTurn, LogLength, Version, Turn, Key, Book, place, width, IsSpot, IsSlot, levels, buckets_at, bucket_words, level_words, entry_words, key_words, first_turn, first_entry, lane_place, version_words, versions}
+use Rattle.node_places.specs.Spots.{Spot, Sessions, LogTurn, LogLength, Version, Turn, Used, Key, Book, place, width, IsSpot, IsSlot, levels, buckets_at, bucket_words, level_words, entry_words, key_words, first_turn, first_entry, lane_place, version_words, versions}
 
 -- a longer sum is no less
 sum_grows : (f : ℕ → ℕ) (l d : ℕ) → sum_below l f ≤ sum_below (l + d) f
@@ -48,7 +48,7 @@ in_level p l b s k slot lane = mul-add-lt b (bucket_words p l) (k * p.cap + s) (
 version_low : (v k : ℕ) → v < versions → k < version_words → 3 + (v * version_words + k) < first_turn
 version_low v k of_v of_k = let inside = mul-add-lt v version_words k versions of_v of_k in omega (arith, inside)
 
-turn_low : (p : Layout) (l b : ℕ) → l < levels p → b < buckets_at p l → first_turn + (sum_below l (buckets_at p) + b) < first_entry p
+turn_low : (p : Layout) (l b : ℕ) → l < levels p → b < buckets_at p l → first_turn + (2 * (sum_below l (buckets_at p) + b) + 1) < first_entry p
 turn_low p l b of_l of_b = let ends = part_ends (buckets_at p) l (levels p) b of_l of_b in omega (arith, ends)
 
 entry_low : (p : Layout) (l b s k : ℕ) → IsSlot p l b s → k < entry_words l → lane_place p l b k s < width p
@@ -68,6 +68,7 @@ place_low p LogTurn is = omega arith
 place_low p LogLength is = omega arith
 place_low p (Version v k) is = let low = version_low v k is.0 is.1 in omega (arith, low)
 place_low p (Turn l b) is = let low = turn_low p l b is.0 is.1 in omega (arith, low)
+place_low p (Used l b) is = let low = turn_low p l b is.0 is.1 in omega (arith, low)
 place_low p (Key l b s k) is = entry_low p l b s (k + 1) is.0 (key_in l k is.1)
 place_low p (Book l b s) is = entry_low p l b s 0 is (book_in l)
 
@@ -97,6 +98,7 @@ place_one p Sessions LogTurn of_s of_t e = absurd (omega (arith, e))
 place_one p Sessions LogLength of_s of_t e = absurd (omega (arith, e))
 place_one p Sessions (Version v' k') of_s of_t e = let low0 = version_low v' k' of_t.0 of_t.1 in absurd (omega (arith, e, low0))
 place_one p Sessions (Turn l' b') of_s of_t e = let low0 = turn_low p l' b' of_t.0 of_t.1 in absurd (omega (arith, e, low0))
+place_one p Sessions (Used l' b') of_s of_t e = let low0 = turn_low p l' b' of_t.0 of_t.1 in absurd (omega (arith, e, low0))
 place_one p Sessions (Key l' b' s' k') of_s of_t e = absurd (omega (arith, e))
 place_one p Sessions (Book l' b' s') of_s of_t e = absurd (omega (arith, e))
 place_one p LogTurn Sessions of_s of_t e = absurd (omega (arith, e))
@@ -104,6 +106,7 @@ place_one p LogTurn LogTurn of_s of_t e = refl
 place_one p LogTurn LogLength of_s of_t e = absurd (omega (arith, e))
 place_one p LogTurn (Version v' k') of_s of_t e = let low0 = version_low v' k' of_t.0 of_t.1 in absurd (omega (arith, e, low0))
 place_one p LogTurn (Turn l' b') of_s of_t e = let low0 = turn_low p l' b' of_t.0 of_t.1 in absurd (omega (arith, e, low0))
+place_one p LogTurn (Used l' b') of_s of_t e = let low0 = turn_low p l' b' of_t.0 of_t.1 in absurd (omega (arith, e, low0))
 place_one p LogTurn (Key l' b' s' k') of_s of_t e = absurd (omega (arith, e))
 place_one p LogTurn (Book l' b' s') of_s of_t e = absurd (omega (arith, e))
 place_one p LogLength Sessions of_s of_t e = absurd (omega (arith, e))
@@ -111,6 +114,7 @@ place_one p LogLength LogTurn of_s of_t e = absurd (omega (arith, e))
 place_one p LogLength LogLength of_s of_t e = refl
 place_one p LogLength (Version v' k') of_s of_t e = let low0 = version_low v' k' of_t.0 of_t.1 in absurd (omega (arith, e, low0))
 place_one p LogLength (Turn l' b') of_s of_t e = let low0 = turn_low p l' b' of_t.0 of_t.1 in absurd (omega (arith, e, low0))
+place_one p LogLength (Used l' b') of_s of_t e = let low0 = turn_low p l' b' of_t.0 of_t.1 in absurd (omega (arith, e, low0))
 place_one p LogLength (Key l' b' s' k') of_s of_t e = absurd (omega (arith, e))
 place_one p LogLength (Book l' b' s') of_s of_t e = absurd (omega (arith, e))
 place_one p (Version v k) Sessions of_s of_t e = let low0 = version_low v k of_s.0 of_s.1 in absurd (omega (arith, e, low0))
@@ -118,6 +122,7 @@ place_one p (Version v k) LogTurn of_s of_t e = let low0 = version_low v k of_s.
 place_one p (Version v k) LogLength of_s of_t e = let low0 = version_low v k of_s.0 of_s.1 in absurd (omega (arith, e, low0))
 place_one p (Version v k) (Version v' k') of_s of_t e = let same = same_from_place v k v' k' version_words of_s.1 of_t.1 (omega (arith, e)) in rw (same.0, same.1) refl
 place_one p (Version v k) (Turn l' b') of_s of_t e = let low0 = version_low v k of_s.0 of_s.1 in let low1 = turn_low p l' b' of_t.0 of_t.1 in absurd (omega (arith, e, low0, low1))
+place_one p (Version v k) (Used l' b') of_s of_t e = let low0 = version_low v k of_s.0 of_s.1 in let low1 = turn_low p l' b' of_t.0 of_t.1 in absurd (omega (arith, e, low0, low1))
 place_one p (Version v k) (Key l' b' s' k') of_s of_t e = let low0 = version_low v k of_s.0 of_s.1 in absurd (omega (arith, e, low0))
 place_one p (Version v k) (Book l' b' s') of_s of_t e = let low0 = version_low v k of_s.0 of_s.1 in absurd (omega (arith, e, low0))
 place_one p (Turn l b) Sessions of_s of_t e = let low0 = turn_low p l b of_s.0 of_s.1 in absurd (omega (arith, e, low0))
@@ -125,13 +130,23 @@ place_one p (Turn l b) LogTurn of_s of_t e = let low0 = turn_low p l b of_s.0 of
 place_one p (Turn l b) LogLength of_s of_t e = let low0 = turn_low p l b of_s.0 of_s.1 in absurd (omega (arith, e, low0))
 place_one p (Turn l b) (Version v' k') of_s of_t e = let low0 = turn_low p l b of_s.0 of_s.1 in let low1 = version_low v' k' of_t.0 of_t.1 in absurd (omega (arith, e, low0, low1))
 place_one p (Turn l b) (Turn l' b') of_s of_t e = let same = parts (buckets_at p) l l' b b' of_s.1 of_t.1 (omega (arith, e)) in rw (same.0, same.1) refl
+place_one p (Turn l b) (Used l' b') of_s of_t e = absurd (omega (arith, e))
 place_one p (Turn l b) (Key l' b' s' k') of_s of_t e = let low0 = turn_low p l b of_s.0 of_s.1 in absurd (omega (arith, e, low0))
 place_one p (Turn l b) (Book l' b' s') of_s of_t e = let low0 = turn_low p l b of_s.0 of_s.1 in absurd (omega (arith, e, low0))
+place_one p (Used l b) Sessions of_s of_t e = let low0 = turn_low p l b of_s.0 of_s.1 in absurd (omega (arith, e, low0))
+place_one p (Used l b) LogTurn of_s of_t e = let low0 = turn_low p l b of_s.0 of_s.1 in absurd (omega (arith, e, low0))
+place_one p (Used l b) LogLength of_s of_t e = let low0 = turn_low p l b of_s.0 of_s.1 in absurd (omega (arith, e, low0))
+place_one p (Used l b) (Version v' k') of_s of_t e = let low0 = turn_low p l b of_s.0 of_s.1 in let low1 = version_low v' k' of_t.0 of_t.1 in absurd (omega (arith, e, low0, low1))
+place_one p (Used l b) (Turn l' b') of_s of_t e = absurd (omega (arith, e))
+place_one p (Used l b) (Used l' b') of_s of_t e = let same = parts (buckets_at p) l l' b b' of_s.1 of_t.1 (omega (arith, e)) in rw (same.0, same.1) refl
+place_one p (Used l b) (Key l' b' s' k') of_s of_t e = let low0 = turn_low p l b of_s.0 of_s.1 in absurd (omega (arith, e, low0))
+place_one p (Used l b) (Book l' b' s') of_s of_t e = let low0 = turn_low p l b of_s.0 of_s.1 in absurd (omega (arith, e, low0))
 place_one p (Key l b s k) Sessions of_s of_t e = absurd (omega (arith, e))
 place_one p (Key l b s k) LogTurn of_s of_t e = absurd (omega (arith, e))
 place_one p (Key l b s k) LogLength of_s of_t e = absurd (omega (arith, e))
 place_one p (Key l b s k) (Version v' k') of_s of_t e = let low0 = version_low v' k' of_t.0 of_t.1 in absurd (omega (arith, e, low0))
 place_one p (Key l b s k) (Turn l' b') of_s of_t e = let low0 = turn_low p l' b' of_t.0 of_t.1 in absurd (omega (arith, e, low0))
+place_one p (Key l b s k) (Used l' b') of_s of_t e = let low0 = turn_low p l' b' of_t.0 of_t.1 in absurd (omega (arith, e, low0))
 place_one p (Key l b s k) (Key l' b' s' k') of_s of_t e = let same = same_entry p l b s (k + 1) l' b' s' (k' + 1) of_s.0 (key_in l k of_s.1) of_t.0 (key_in l' k' of_t.1) e in let word : k ≡ k' = omega (arith, same.word) in rw (same.level, same.bucket, same.slot, word) refl
 place_one p (Key l b s k) (Book l' b' s') of_s of_t e = let same = same_entry p l b s (k + 1) l' b' s' 0 of_s.0 (key_in l k of_s.1) of_t (book_in l') e in absurd (omega (arith, same.word))
 place_one p (Book l b s) Sessions of_s of_t e = absurd (omega (arith, e))
@@ -139,5 +154,6 @@ place_one p (Book l b s) LogTurn of_s of_t e = absurd (omega (arith, e))
 place_one p (Book l b s) LogLength of_s of_t e = absurd (omega (arith, e))
 place_one p (Book l b s) (Version v' k') of_s of_t e = let low0 = version_low v' k' of_t.0 of_t.1 in absurd (omega (arith, e, low0))
 place_one p (Book l b s) (Turn l' b') of_s of_t e = let low0 = turn_low p l' b' of_t.0 of_t.1 in absurd (omega (arith, e, low0))
+place_one p (Book l b s) (Used l' b') of_s of_t e = let low0 = turn_low p l' b' of_t.0 of_t.1 in absurd (omega (arith, e, low0))
 place_one p (Book l b s) (Key l' b' s' k') of_s of_t e = let same = same_entry p l b s 0 l' b' s' (k' + 1) of_s (book_in l) of_t.0 (key_in l' k' of_t.1) e in absurd (omega (arith, same.word))
 place_one p (Book l b s) (Book l' b' s') of_s of_t e = let same = same_entry p l b s 0 l' b' s' 0 of_s (book_in l) of_t (book_in l') e in rw (same.level, same.bucket, same.slot) refl

@@ -2,7 +2,7 @@
 use Rattle.std.proofs.Common.{ℕ, ◌<◌, arith, inl, inr}
 use Rattle.std.proofs.lemmas.Bool.{cases_lt}
 use Rattle.node_words.specs.Plans.{Layout, buckets_at}
-use Rattle.node_places.specs.Spots.{Spot, Sessions, LogTurn, LogLength, Version, Turn, Key, Book, IsSpot, IsSlot, levels, key_words, versions, version_words}
+use Rattle.node_places.specs.Spots.{Spot, Sessions, LogTurn, LogLength, Version, Turn, Used, Key, Book, IsSpot, IsSlot, levels, key_words, versions, version_words}
 
 lt_dec : (a b : ℕ) → Dec (a < b)
 lt_dec a b = elim (cases_lt a b) [ inl h ↦ yes h | inr h ↦ no (λ e. omega arith) ]
@@ -27,5 +27,6 @@ spot_dec p LogTurn = yes tt
 spot_dec p LogLength = yes tt
 spot_dec p (Version version word) = both_dec (lt_dec version versions) (lt_dec word version_words)
 spot_dec p (Turn level bucket) = both_dec (lt_dec level (levels p)) (lt_dec bucket (buckets_at p level))
+spot_dec p (Used level bucket) = both_dec (lt_dec level (levels p)) (lt_dec bucket (buckets_at p level))
 spot_dec p (Key level bucket slot word) = both_dec (slot_dec p level bucket slot) (lt_dec word (key_words level))
 spot_dec p (Book level bucket slot) = slot_dec p level bucket slot

@@ -1,6 +1,6 @@
 ghost use Rattle.std.specs.Prelude.{◌≡◌, ℕ, ◌+◌, ◌-◌, ◌*◌, ◌^◌, ◌<◌, ◌≤◌, slice_index};
 ghost use Rattle.node_words.specs.Sums.{sum_below};
-ghost use Rattle.node_places.specs.Spots.{place, width, key_words, entry_words, bucket_words, lane_place, first_turn, Sessions, LogTurn, LogLength, Version, Turn, Key, Book, IsSpot};
+ghost use Rattle.node_places.specs.Spots.{place, width, key_words, entry_words, bucket_words, lane_place, Sessions, LogTurn, LogLength, Version, Turn, Used, Key, Book, IsSpot};
 
 use node_words::Plan;
 use std::marker::Model;
@@ -16,7 +16,7 @@ const FIRST_TURN: usize = 524_291;
 #[derive(Drop)]
 pub struct Places {
     plan: Plan,
-    turns: [usize; 12],
+    buckets: [usize; 12],
     entries: [usize; 12],
 }
 
@@ -28,7 +28,7 @@ impl Model for Places {
 
     ghost view = { λ p. p.plan };
 
-    ghost invariant = { λ p. AreFirsts p.plan p.turns p.entries };
+    ghost invariant = { λ p. AreFirsts p.plan p.buckets p.entries };
 }
 
 impl Places {
@@ -36,13 +36,13 @@ impl Places {
     pub fn new(plan: &Plan) -> Places
         ensures { result ≡ plan.now }
     {
-        let buckets = plan.buckets();
-        let turns = turns_of(&buckets);
-        let first = turns[levels_of(plan)];
-        let entries = entries_of(first, &buckets, plan.cap());
+        let of_levels = plan.buckets();
+        let buckets = buckets_of(&of_levels);
+        let first = FIRST_TURN + 2 * buckets[levels_of(plan)];
+        let entries = entries_of(first, &of_levels, plan.cap());
         Places {
             plan: *plan,
-            turns,
+            buckets,
             entries,
         }
     }
@@ -88,7 +88,16 @@ impl Places {
         requires { IsSpot self.now (Turn level bucket) }
         ensures { result ≡ place self.now (Turn level bucket) }
     {
-        self.turns[usize::from(level)] + usize::from(bucket)
+        FIRST_TURN + 2 * (self.buckets[usize::from(level)] + usize::from(bucket))
+    }
+
+    /// The place of the word that says how many slots of a bucket were ever used. It stands behind
+    /// the bucket's turn.
+    pub fn used(&self, level: u8, bucket: u16) -> usize
+        requires { IsSpot self.now (Used level bucket) }
+        ensures { result ≡ place self.now (Used level bucket) }
+    {
+        FIRST_TURN + (2 * (self.buckets[usize::from(level)] + usize::from(bucket)) + 1)
     }
 
     /// The place of a word of the key in this slot; a leaf's key has one, a node's four.
@@ -136,14 +145,13 @@ fn key_words(level: u8) -> usize
     if level == 0 { 1 } else { 4 }
 }
 
-// Where the turns of the first levels end, for each number of levels.
-fn turns_of(buckets: &[u16; 11]) -> [usize; 12]
+// How many buckets the first levels have, for each number of levels.
+fn buckets_of(buckets: &[u16; 11]) -> [usize; 12]
     ensures ends { (levels : ℕ) → levels ≤ 11
-        → slice_index result levels ≡ first_turn + sum_below levels
-        (λ level. slice_index buckets.now level) }
-    ensures small { (levels : ℕ) → levels ≤ 11 → slice_index result levels < 2 ^ 21 }
+        → slice_index result levels ≡ sum_below levels (λ level. slice_index buckets.now level) }
+    ensures small { (levels : ℕ) → levels ≤ 11 → slice_index result levels < 2 ^ 20 }
 {
-    let mut ends = [FIRST_TURN; 12];
+    let mut ends = [0; 12];
     for level in 0..11 {
         ends[level + 1] = ends[level] + usize::from(buckets[level]);
     }
@@ -152,7 +160,7 @@ fn turns_of(buckets: &[u16; 11]) -> [usize; 12]
 
 // Where the entries of the first levels end, for each number of levels.
 fn entries_of(first: usize, buckets: &[u16; 11], cap: u16) -> [usize; 12]
-    requires { first < 2 ^ 21 }
+    requires { first < 2 ^ 22 }
     ensures ends { (levels : ℕ) → levels ≤ 11
         → slice_index result levels ≡ first + sum_below levels
         (λ level. cap * entry_words level * slice_index buckets.now level) }

@@ -20,7 +20,8 @@ use Rattle.core_laws.proofs.Lives.{root_lives}
 use Rattle.core_laws.proofs.LogSteps.{root_in_range}
 use Rattle.core_laws.specs.Soundness.{Sound}
 use Rattle.core_laws.specs.States.{State}
-use Rattle.table_rule.specs.LogWords.{mark_of_words, marks_in, records_in, if_marked}
+use Rattle.history_model.specs.declared.acts.Act.TheVariants.{Tint}
+use Rattle.table_rule.specs.LogWords.{act_of_words, tint_of_words, mark_of_words, marks_in, records_in, if_marked}
 use Rattle.table_rule.specs.Rules.{table_state}
 use Rattle.table_rule.proofs.LogReading.{length_records, mark_stands, marks_suc, no_mark}
 use Rattle.table_rule.proofs.LogTellingLaw.{root_there}
@@ -28,6 +29,14 @@ use Rattle.node_table.specs.Closing.{AreRoots}
 use Rattle.node_table.specs.Roots.{IsLogSmall, if_kept, roots_in}
 use Rattle.node_table.specs.declared.closed.Root.{Root}
 use Rattle.node_table.proofs.LogLists.{roots_suc, no_roots}
+
+-- kinds of 8 and more are those of tinted acts
+pub tint_kinds : (kind place size to : ℕ) → 8 ≤ kind
+    → act_of_words kind place size to ≡ Tint (tint_of_words (kind - 8) place size to)
+tint_kinds (suc (suc (suc (suc (suc (suc (suc (suc kind)))))))) place size to low =
+    let less : suc (suc (suc (suc (suc (suc (suc (suc kind))))))) - 8 ≡ kind = omega arith in
+    ap (λ (k : ℕ). Tint (tint_of_words k place size to)) (sym less)
+tint_kinds kind place size to low = absurd (omega arith)
 
 module _ {A : Type 0} where
   all_one : (P : A → Type 0) (x : A) → P x → All P (x ∷ [])

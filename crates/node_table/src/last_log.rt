@@ -5,13 +5,13 @@ ghost use Rattle.node_places.specs.KeyWords.{child_of_word};
 ghost use Rattle.node_places.specs.Spots.{LogLength, Version, width};
 ghost use Rattle.block_contents.specs.Aligned.{top};
 ghost use Rattle.core_reading.specs.Reading.{word_at};
-ghost use Rattle.table_rule.specs.LogWords.{act_of_words, ball_of_words, box_of_words, cell_of_word, mark_of_words, marks_in};
+ghost use Rattle.table_rule.specs.LogWords.{act_of_words, ball_of_words, box_of_words, cell_of_word, mark_of_words, marks_in, tint_of_words};
 ghost use Rattle.table_rule.specs.LogWords.{record_of_words, records_in, word_in};
 ghost use Rattle.node_table.specs.Roots.{IsLogSmall, roots_in};
 
 use crate::closed::Root;
 use atomic_table::Closed;
-use history_model::{Act, Mark, Record};
+use history_model::{Act, Mark, Record, TintAct};
 use node_places::{Places, child_in};
 use node_shapes::Name;
 use node_words::Plan;
@@ -48,6 +48,7 @@ fn ball_in(place: u64, radius: u64) -> Ball
 }
 
 // The act of a kind with these words.
+#[tactic(auto, using(crate::proofs::LogEnds::tint_kinds))]
 fn act_in(kind: u64, place: u64, size: u64, to: u64) -> Act
     ensures { result ≡ act_of_words kind place size to }
 {
@@ -59,7 +60,22 @@ fn act_in(kind: u64, place: u64, size: u64, to: u64) -> Act
         4 => Act::Copy(box_in(place, size), cell_in(to)),
         5 => Act::Stamp((size % (1 << 16)) as u16, cell_in(place)),
         6 => Act::Undo,
-        _ => Act::Redo,
+        7 => Act::Redo,
+        _ => Act::Tint(tint_in(kind - 8, place, size, to)),
+    }
+}
+
+// The tinted act of these words, whose kind is this more than the first one's.
+fn tint_in(kind: u64, place: u64, size: u64, to: u64) -> TintAct
+    ensures { result ≡ tint_of_words kind place size to }
+{
+    match kind {
+        0 => TintAct::Fill(box_in(place, size), (to % (1 << 8)) as u8),
+        1 => TintAct::Erase(box_in(place, size)),
+        2 => TintAct::Ball(ball_in(place, size), (to % (1 << 8)) as u8),
+        3 => TintAct::Carve(ball_in(place, size)),
+        4 => TintAct::Copy(box_in(place, size), cell_in(to)),
+        _ => TintAct::Stamp((size % (1 << 16)) as u16, cell_in(place)),
     }
 }
 

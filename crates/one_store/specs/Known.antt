@@ -1,6 +1,6 @@
 -- What a store for one thread is: words for its entries, roots in places, and what it noted. It is
 -- sound where the state of a core that these are read as is.
-use Rattle.std.specs.Prelude.{◌≡◌, ℕ, Option, Some, None, List, [], ◌∷◌, All, length, slice_index_or}
+use Rattle.std.specs.Prelude.{◌≡◌, ℕ, Option, Some, None, List, [], ◌∷◌, All, length, slice_index_or, false}
 use Rattle.std.specs.List.{Contains}
 use Rattle.node_shapes.specs.declared.names.Name.{Name}
 use Rattle.node_shapes.specs.Tree.{Tree, root_of}
@@ -47,7 +47,7 @@ core_of v = record {
   book = book_in v.words;
   key = key_in v.words;
   root = stored_root v.roots;
-  log = record { side = v.words.plan.side; records = []; marks = [] };
+  log = record { side = v.words.plan.side; coloured = false; records = []; marks = [] };
   held = root_names v.told.held ∷ [];
 }
 

@@ -5,29 +5,20 @@ use Rattle.std.specs.List.{AllPairs}
 use Rattle.std.proofs.Math.Seq.{get_or-append_seam}
 use Rattle.std.proofs.lemmas.Bool.{cases_lt}
 use Rattle.std.proofs.lemmas.List.{get_or_append_left, take_all, take_more, take-append-le, take-append-drop, length-take-le, length-drop, get_or-take, get_or-drop}
-use Rattle.std.proofs.lemmas.List.Elements.{All-push}
-use Rattle.vw_cell.specs.declared.cells.Cell.{Cell}
-use Rattle.vw_cell.specs.Counts.{cell_at}
-use Rattle.vw_cell.specs.Places.{block_side}
+use Rattle.std.proofs.lemmas.List.Elements.{All-nil, All-push}
 use Rattle.vox_read.specs.Contents.{Content}
 use Rattle.history_model.specs.declared.acts.Act.{Act}
-use Rattle.history_model.specs.declared.acts.Act.TheVariants.{Fill, Erase, Ball, Carve, Copy, Stamp, Undo, Redo}
+use Rattle.history_model.specs.declared.acts.Act.TheVariants.{Fill, Erase, Ball, Carve, Copy, Stamp, Tint, Undo, Redo}
 use Rattle.history_model.specs.declared.histories.Mark.{Mark}
 use Rattle.history_model.specs.declared.histories.Record.{Record}
 use Rattle.history_model.specs.Laws.{position_of_next}
 use Rattle.history_model.specs.LegalLaws.{edit_follows, legal_next, legal_empty}
-use Rattle.history_model.specs.Logs.{Log, FitsWorld, MayFollow, IsLegal}
+use Rattle.history_model.specs.Logs.{Log, FitsWorld, MayFollow, IsLegal, suits_tints}
 use Rattle.history_model.specs.Positions.{Position, beginning, position_after, next_position, first_of}
-use Rattle.history_model.specs.Worlds.{World, is_edit}
-use Rattle.node_shapes.specs.Shape.{Shape}
-use Rattle.node_words.specs.Gathering.{unchanged}
+use Rattle.history_model.specs.Worlds.{is_edit}
 use Rattle.node_words.specs.Plans.{Layout}
-use Rattle.cell_shapes.specs.CellShapes.{Cells, shape_with}
-use Rattle.cell_shapes.proofs.CellShapeLaws.{shape_with-has, shape_with-canonical}
-use Rattle.block_contents.specs.Aligned.{top}
 use Rattle.block_contents.specs.Versions.{IsKept, IsUnmarked, MarkComes}
 use Rattle.block_contents.proofs.MarkLaws.{each_mark, marks_rise, marks_follow}
-use Rattle.possible.specs.Needed.{made_of}
 use Rattle.script.specs.declared.commands.Command.TheVariants.{Edit, Forget}
 use Rattle.script.specs.declared.commands.ScriptLine.{ScriptLine}
 use Rattle.transcript.specs.declared.answers.Answer.TheVariants as answers
@@ -35,10 +26,10 @@ use Rattle.conformance.specs.Answers.{target_at, nothing_to_undo, nothing_to_red
 use Rattle.conformance.specs.Kinds.{answer_at}
 use Rattle.conformance.specs.Running.{GrowsBy, ForgetsBy}
 use Rattle.conformance.proofs.LineKinds.{undo_target, redo_target, full_way}
-use Rattle.script_runs.specs.Keeping.{IsTarget, last_moment}
+use Rattle.script_runs.specs.Keeping.{last_moment}
 use Rattle.script_runs.specs.Sessions.{TakesLine}
 use Rattle.script_runs.proofs.Going.{goes_to}
-use Rattle.script_runs.proofs.Arms.{rebuilt_arm, undone_arm, forgot_arm, before_within}
+use Rattle.script_runs.proofs.Arms.{undone_arm, forgot_arm}
 use Rattle.plain_run.specs.declared.histories.PlainHistory.{PlainHistory}
 use Rattle.plain_run.specs.Histories.{ArePlain, AreNows, HasMarkOf, plain_log, plain_marks, plain_moment}
 use Rattle.plain_run.specs.Plain.{RunsOn, nothing_noted, nowhere_to_go}
@@ -49,9 +40,10 @@ use Rattle.plain_run.proofs.Lines.{rests, forgotten_now}
 pub begun : (h : PlainHistory) → h.records.items ≡ [] → h.marks.items ≡ [] → h.nows.items ≡ 0 ∷ [] → ArePlain h
 begun h records marks nows = record {
   legal =
-      subst (λ (rs : List Record). IsLegal (2 ^ h.plan.side) h.models.now (record { side = h.plan.side; records = rs; marks = h.marks.items })) (sym records)
-      (subst (λ (ms : List Mark). IsLegal (2 ^ h.plan.side) h.models.now (record { side = h.plan.side; records = []; marks = ms })) (sym marks)
+      subst (λ (rs : List Record). IsLegal (2 ^ h.plan.side) h.models.now (record { side = h.plan.side; coloured = false; records = rs; marks = h.marks.items })) (sym records)
+      (subst (λ (ms : List Mark). IsLegal (2 ^ h.plan.side) h.models.now (record { side = h.plan.side; coloured = false; records = []; marks = ms })) (sym marks)
       (legal_empty (2 ^ h.plan.side) h.models.now h.plan.side refl));
+  plain = subst (λ (rs : List Record). All (λ r. suits_tints false r.act ≡ true) rs) (sym records) (All-nil _);
   nows =
       subst (λ (rs : List Record). AreNows rs h.nows.items) (sym records)
       (subst (λ (ns : List ℕ). AreNows [] ns) (sym nows) none_yet);
@@ -66,7 +58,7 @@ begun h records marks nows = record {
 -- ---- one more record
 
 abbrev longer : Log → Record → Log
-longer log r = record { side = log.side; records = log.records ++ r ∷ []; marks = log.marks }
+longer log r = record { side = log.side; coloured = log.coloured; records = log.records ++ r ∷ []; marks = log.marks }
 
 nows_longer : (records : List Record) (nows : List ℕ) (r : Record) (now : ℕ) → AreNows records nows
     → now ≡ (next_position (length records + 1) r.act (position_after records)).now → AreNows (records ++ r ∷ []) (nows ++ now ∷ [])
@@ -92,12 +84,12 @@ nows_longer records nows r now are is =
     }
 
 module _ (h g : PlainHistory) (r : Record) (now : ℕ) (are : ArePlain h)
-    (fits : FitsWorld (2 ^ h.plan.side) h.models.now r.act) (follows : MayFollow (plain_marks h) (plain_moment h + 1) r.act (position_after h.records.items))
+    (fits : FitsWorld (2 ^ h.plan.side) h.models.now r.act) (suits : suits_tints false r.act ≡ true) (follows : MayFollow (plain_marks h) (plain_moment h + 1) r.act (position_after h.records.items))
     (room : plain_moment h < 65535) (is : now ≡ (next_position (plain_moment h + 1) r.act (position_after h.records.items)).now)
     (plan : g.plan ≡ h.plan) (models : g.models.now ≡ h.models.now) (records : g.records.items ≡ h.records.items ++ r ∷ [])
     (marks : g.marks.items ≡ h.marks.items) (nows : g.nows.items ≡ h.nows.items ++ now ∷ []) where
   log_grown : plain_log g ≡ longer (plain_log h) r
-  log_grown = λ i. record { side = (plan i).side; records = records i; marks = marks i }
+  log_grown = λ i. record { side = (plan i).side; coloured = false; records = records i; marks = marks i }
 
   longer_legal : IsLegal (2 ^ h.plan.side) h.models.now (longer (plain_log h) r)
   longer_legal = legal_next (2 ^ h.plan.side) h.models.now (plain_log h) r are.legal room fits follows
@@ -108,6 +100,7 @@ module _ (h g : PlainHistory) (r : Record) (now : ℕ) (are : ArePlain h)
         subst (λ (l : Log). IsLegal (2 ^ g.plan.side) g.models.now l) (sym log_grown)
         (subst (λ (ms : List Content). IsLegal (2 ^ g.plan.side) ms (longer (plain_log h) r)) (sym models)
         (subst (λ (p : Layout). IsLegal (2 ^ p.side) h.models.now (longer (plain_log h) r)) (sym plan) longer_legal));
+    plain = subst (λ (rs : List Record). All (λ s. suits_tints false s.act ≡ true) rs) (sym records) (All-push (λ s. suits_tints false s.act ≡ true) h.records.items r are.plain suits);
     nows =
         subst (λ (rs : List Record). AreNows rs g.nows.items) (sym records)
         (subst (λ (ns : List ℕ). AreNows (h.records.items ++ r ∷ []) ns) (sym nows) (nows_longer h.records.items h.nows.items r now are.nows is));
@@ -115,7 +108,7 @@ module _ (h g : PlainHistory) (r : Record) (now : ℕ) (are : ArePlain h)
 
   pub appended_grows : GrowsBy h.plan h.models.now r (plain_log h) (plain_log g)
   appended_grows = subst (λ (l : Log). GrowsBy h.plan h.models.now r (plain_log h) l) (sym log_grown)
-      (record { legal = longer_legal; side = refl; records = refl; marks = refl })
+      (record { legal = longer_legal; side = refl; coloured = refl; suits = suits; records = refl; marks = refl })
 
 pub edit_may_follow : (h : PlainHistory) (act : Act) → is_edit act ≡ true → MayFollow (plain_marks h) (plain_moment h + 1) act (position_after h.records.items)
 edit_may_follow h act edit = edit_follows (plain_marks h) (plain_moment h + 1) act (position_after h.records.items) edit
@@ -127,6 +120,7 @@ edit_now n (Ball b) at e = refl
 edit_now n (Carve b) at e = refl
 edit_now n (Copy b to) at e = refl
 edit_now n (Stamp m to) at e = refl
+edit_now n (Tint t) at e = refl
 edit_now n Undo at e = absurd (let no : ⊥ = cc in no)
 edit_now n Redo at e = absurd (let no : ⊥ = cc in no)
 
@@ -147,35 +141,6 @@ module _ (h : PlainHistory) (act : Act) (to : ℕ) (other : is_edit act ≡ fals
 
 -- ---- lines that change
 
-from_origin : (c : Cell) → cell_at (c.x - 0) (c.y - 0) (c.z - 0) ≡ c
-from_origin c =
-    let x : c.x - 0 ≡ c.x = omega arith in
-    let y : c.y - 0 ≡ c.y = omega arith in
-    let z : c.z - 0 ≡ c.z = omega arith in
-    λ i. record { x = x i; y = y i; z = z i }
-
-abbrev cells_of : World → Cells
-cells_of w = λ x y z. w (cell_at x y z)
-
-abbrev target_of : PlainHistory → Act → Shape
-target_of h act = shape_with (top h.plan.side) (cells_of (made_of h.models.now h.records.items act (plain_moment h)))
-
-is_target : (h : PlainHistory) (act : Act) → is_edit act ≡ true → IsTarget h.plan h.models.now h.records.items act (plain_moment h) (target_of h act)
-is_target h act edit =
-    let w : World = made_of h.models.now h.records.items act (plain_moment h) in
-    let level : ℕ = top h.plan.side in
-    record {
-      edit = edit;
-      canonical = shape_with-canonical level (cells_of w);
-      shows = record {
-        each = λ c i.
-            let x : c.x - 0 < block_side level = omega (arith, i.x.1) in
-            let y : c.y - 0 < block_side level = omega (arith, i.y.1) in
-            let z : c.z - 0 < block_side level = omega (arith, i.z.1) in
-            (shape_with-has level (cells_of w)).each (c.x - 0) (c.y - 0) (c.z - 0) x y z ∙ ap w (from_origin c);
-      };
-    }
-
 module _ (h g : PlainHistory) (session line : ℕ) (act : Act) (once : Bool)
     (plan : g.plan ≡ h.plan) (models : g.models.now ≡ h.models.now)
     (grows : GrowsBy h.plan h.models.now (record { session = session; line = line; act = act }) (plain_log h) (plain_log g)) where
@@ -185,19 +150,8 @@ module _ (h g : PlainHistory) (session line : ℕ) (act : Act) (once : Bool)
   abbrev the_line : ScriptLine
   the_line = record { line = line; command = Edit act once }
 
-  pub edit_done : is_edit act ≡ true → RunsOn h session (record { line = line; command = Edit act once }) answers.Done g
-  edit_done edit = record {
-    plan = plan;
-    models = models;
-    goes_on = λ scripts transcripts script transcript running number later.
-        let low = before_within h.plan h.models.now scripts transcripts script transcript (plain_log h) nothing_noted running in
-        subst (λ (n : ℕ). TakesLine h.plan h.models.now session (last_moment 0 transcript) (record { line = line; command = Edit act once }) (plain_log h) (plain_log g) nothing_noted nothing_noted (answer_at (record { line = line; command = Edit act once }) n answers.Done)) (sym after)
-        (rebuilt_arm h.plan h.models.now session (last_moment 0 transcript) line act once (plain_log h) (plain_log g) (target_of h act) nothing_noted nothing_noted
-        grows (is_target h act edit) low unchanged refl);
-  }
-
-  pub go_done : RunsOn h session (record { line = line; command = Edit act once }) answers.Done g
-  go_done = record {
+  pub change_done : RunsOn h session (record { line = line; command = Edit act once }) answers.Done g
+  change_done = record {
     plan = plan;
     models = models;
     goes_on = λ scripts transcripts script transcript running number later.
@@ -233,6 +187,7 @@ module _ (h : PlainHistory) (session line : ℕ) (act : Act) (once : Bool) (are 
       go (Carve b) o n = absurd (let no : ⊥ = cc in no)
       go (Copy b c) o n = absurd (let no : ⊥ = cc in no)
       go (Stamp b c) o n = absurd (let no : ⊥ = cc in no)
+      go (Tint t) o n = absurd (let no : ⊥ = cc in no)
 
 -- ---- marks
 
@@ -270,10 +225,10 @@ module _ (h g : PlainHistory) (mark : Mark) (are : ArePlain h) (earlier : mark.v
     (plan : g.plan ≡ h.plan) (models : g.models.now ≡ h.models.now) (records : g.records.items ≡ h.records.items)
     (nows : g.nows.items ≡ h.nows.items) (comes : MarkComes (plain_marks h) mark (plain_marks g)) where
   abbrev marked : Log
-  marked = record { side = h.plan.side; records = h.records.items; marks = g.marks.items }
+  marked = record { side = h.plan.side; coloured = false; records = h.records.items; marks = g.marks.items }
 
   log_marked : plain_log g ≡ marked
-  log_marked = λ i. record { side = (plan i).side; records = records i; marks = g.marks.items }
+  log_marked = λ i. record { side = (plan i).side; coloured = false; records = records i; marks = g.marks.items }
 
   marked_legal : IsLegal (2 ^ h.plan.side) h.models.now marked
   marked_legal = record {
@@ -292,6 +247,7 @@ module _ (h g : PlainHistory) (mark : Mark) (are : ArePlain h) (earlier : mark.v
         subst (λ (l : Log). IsLegal (2 ^ g.plan.side) g.models.now l) (sym log_marked)
         (subst (λ (ms : List Content). IsLegal (2 ^ g.plan.side) ms marked) (sym models)
         (subst (λ (p : Layout). IsLegal (2 ^ p.side) h.models.now marked) (sym plan) marked_legal));
+    plain = subst (λ (rs : List Record). All (λ r. suits_tints false r.act ≡ true) rs) (sym records) are.plain;
     nows =
         subst (λ (rs : List Record). AreNows rs g.nows.items) (sym records)
         (subst (λ (ns : List ℕ). AreNows h.records.items ns) (sym nows) are.nows);
@@ -301,7 +257,7 @@ module _ (h g : PlainHistory) (mark : Mark) (are : ArePlain h) (earlier : mark.v
   forgot =
       let forgets : ForgetsBy h.plan h.models.now mark (plain_log h) (plain_log g) =
       subst (λ (l : Log). ForgetsBy h.plan h.models.now mark (plain_log h) l) (sym log_marked)
-      (record { legal = marked_legal; side = refl; records = refl; now = now; marks = comes }) in
+      (record { legal = marked_legal; side = refl; coloured = refl; records = refl; now = now; marks = comes }) in
       record {
         plan = plan;
         models = models;
@@ -327,6 +283,7 @@ first_past records at act to other back is e = go act other back
     go (Carve b) o n = absurd (let no : ⊥ = cc in no)
     go (Copy b c) o n = absurd (let no : ⊥ = cc in no)
     go (Stamp b c) o n = absurd (let no : ⊥ = cc in no)
+    go (Tint t) o n = absurd (let no : ⊥ = cc in no)
 
 pub first_future : (records : List Record) (at : Position) (to : Option ℕ) → at ≡ position_after records → to ≡ first_of at.future
     → to ≡ target_at records (length records) Redo

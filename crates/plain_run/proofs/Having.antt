@@ -5,7 +5,7 @@ use Rattle.std.proofs.lemmas.List.{take_more, length-take-le, take-append-drop, 
 use Rattle.vw_cell.specs.declared.cells.Cell.{Cell}
 use Rattle.vox_read.specs.Contents.{Content}
 use Rattle.history_model.specs.declared.acts.Act.{Act}
-use Rattle.history_model.specs.declared.acts.Act.TheVariants.{Fill, Erase, Ball, Carve, Copy, Stamp, Undo, Redo}
+use Rattle.history_model.specs.declared.acts.Act.TheVariants.{Fill, Erase, Ball, Carve, Copy, Stamp, Tint, Undo, Redo}
 use Rattle.history_model.specs.declared.histories.Record.{Record}
 use Rattle.history_model.specs.Laws.{has_at_0, has_of_edit, has_of_other, has_stays, position_of_next}
 use Rattle.history_model.specs.Logs.{FitsWorld}
@@ -78,6 +78,7 @@ module _ (models : List Content) (records : List Record) (k : ℕ) (r : Record) 
       go (Carve b) o past now future = absurd (let no : ⊥ = cc in no)
       go (Copy b c) o past now future = absurd (let no : ⊥ = cc in no)
       go (Stamp b c) o past now future = absurd (let no : ⊥ = cc in no)
+      go (Tint t) o past now future = absurd (let no : ⊥ = cc in no)
 
   goes_low : is_edit r.act ≡ false → (position_after (take (k + 1) records)).now ≤ k
   goes_low other =

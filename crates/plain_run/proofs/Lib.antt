@@ -5,3 +5,4 @@ mod LeastBoxes
 mod RayLaws
 mod Lines
 mod Changing
+mod Falling

@@ -1,4 +1,5 @@
 pub mod Traces
 pub mod Histories
+pub mod Falling
 pub mod Counting
 pub mod Plain

@@ -19,7 +19,7 @@ impl<'m> PlainHistory<'m> {
     #[tactic(auto, using(crate::proofs::Lines::tells_head))]
     pub(crate) fn answer_line(&mut self, session: u16, l: ScriptLine) -> Result<Answer, Memory>
         requires are { ArePlain self.old }
-        requires fits { CommandFits (2 ^ self.old.plan.side) self.old.models.now l.command }
+        requires fits { CommandFits false (2 ^ self.old.plan.side) self.old.models.now l.command }
         ensures are { ArePlain self.new }
         ensures plan { self.new.plan ≡ self.old.plan }
         ensures models { self.new.models.now ≡ self.old.models.now }

@@ -1,13 +1,14 @@
 ghost use Rattle.std.specs.Prelude.{◌≡◌, ◌+◌, ◌++◌, ◌∷◌, [], ◌<◌, ◌≤◌, ◌^◌, Bool, true, false, List, OnOk, IfOk, All, length, take};
 ghost use Rattle.std.proofs.Common.{get_or};
 ghost use Rattle.history_model.specs.declared.histories.Mark.{Mark};
-ghost use Rattle.history_model.specs.Logs.{FitsWorld, MayFollow};
+ghost use Rattle.history_model.specs.Logs.{FitsWorld, MayFollow, suits_tints};
 ghost use Rattle.history_model.specs.Positions.{next_position, position_after};
 ghost use Rattle.history_model.specs.Worlds.{is_edit};
 ghost use Rattle.script.specs.declared.commands.Command.TheVariants.{Edit, Forget};
 ghost use Rattle.block_contents.specs.Versions.{MarkComes, IsUnmarked};
 ghost use Rattle.conformance.specs.Answers.{target_at};
 ghost use Rattle.conformance.specs.Running.{GrowsBy};
+ghost use Rattle.plain_run.specs.Falling.{LetsFall};
 ghost use Rattle.plain_run.specs.Histories.{ArePlain, plain_log, plain_marks, plain_moment};
 ghost use Rattle.plain_run.specs.Plain.{RunsOn, nowhere_to_go};
 
@@ -24,6 +25,7 @@ impl<'m> PlainHistory<'m> {
     pub(crate) fn change(&mut self, next: Record) -> Result<Answer, Memory>
         requires are { ArePlain self.old }
         requires fits { FitsWorld (2 ^ self.old.plan.side) self.old.models.now next.act }
+        requires plain { suits_tints false next.act ≡ true }
         ensures are { ArePlain self.new }
         ensures plan { self.new.plan ≡ self.old.plan }
         ensures models { self.new.models.now ≡ self.old.models.now }
@@ -37,11 +39,12 @@ impl<'m> PlainHistory<'m> {
         }
     }
 
-    #[tactic(auto, using(crate::proofs::Changing::edit_may_follow, crate::proofs::Changing::edit_goes_on, crate::proofs::Changing::edit_done, crate::proofs::Changing::edit_late))]
+    #[tactic(auto, using(crate::proofs::Changing::edit_may_follow, crate::proofs::Changing::edit_goes_on, crate::proofs::Changing::change_done, crate::proofs::Changing::edit_late))]
     fn edit(&mut self, next: Record) -> Result<Answer, Memory>
         requires are { ArePlain self.old }
         requires edit { is_edit next.act ≡ true }
         requires fits { FitsWorld (2 ^ self.old.plan.side) self.old.models.now next.act }
+        requires plain { suits_tints false next.act ≡ true }
         ensures are { ArePlain self.new }
         ensures plan { self.new.plan ≡ self.old.plan }
         ensures models { self.new.models.now ≡ self.old.models.now }
@@ -56,11 +59,12 @@ impl<'m> PlainHistory<'m> {
         Ok(Answer::Done)
     }
 
-    #[tactic(auto, using(crate::proofs::Changing::goes_there, crate::proofs::Changing::goes_now, crate::proofs::Changing::may_go_to, crate::proofs::Changing::go_done, crate::proofs::Changing::go_late, crate::proofs::Changing::go_forgotten, crate::proofs::Changing::go_nowhere))]
+    #[tactic(auto, using(crate::proofs::Changing::goes_there, crate::proofs::Changing::goes_now, crate::proofs::Changing::may_go_to, crate::proofs::Changing::change_done, crate::proofs::Changing::go_late, crate::proofs::Changing::go_forgotten, crate::proofs::Changing::go_nowhere))]
     fn go(&mut self, next: Record) -> Result<Answer, Memory>
         requires are { ArePlain self.old }
         requires other { is_edit next.act ≡ false }
         requires fits { FitsWorld (2 ^ self.old.plan.side) self.old.models.now next.act }
+        requires plain { suits_tints false next.act ≡ true }
         ensures are { ArePlain self.new }
         ensures plan { self.new.plan ≡ self.old.plan }
         ensures models { self.new.models.now ≡ self.old.models.now }
@@ -102,6 +106,7 @@ impl<'m> PlainHistory<'m> {
     fn append(&mut self, next: Record, now: u32) -> Result<(), Memory>
         requires are { ArePlain self.old }
         requires fits { FitsWorld (2 ^ self.old.plan.side) self.old.models.now next.act }
+        requires plain { suits_tints false next.act ≡ true }
         requires follows { MayFollow (plain_marks self.old) (plain_moment self.old + 1) next.act
             (position_after self.old.records.items) }
         requires room { plain_moment self.old < 65535 }
@@ -144,6 +149,35 @@ impl<'m> PlainHistory<'m> {
         };
         self.marks = self.marks_with(mark)?;
         Ok(Answer::Forgot(version))
+    }
+
+    /// What the newest record pushes out of the last `keep` versions is forgotten by it, unless it
+    /// was before. With 0 none falls out.
+    #[tactic(auto, using(crate::proofs::Falling::none_asked, crate::proofs::Falling::none_falls, crate::proofs::Falling::has_fallen))]
+    pub(crate) fn let_fall(&mut self, keep: u32) -> Result<(), Memory>
+        requires are { ArePlain self.old }
+        ensures are { ArePlain self.new }
+        ensures plan { self.new.plan ≡ self.old.plan }
+        ensures models { self.new.models.now ≡ self.old.models.now }
+        ensures records { self.new.records ≡ self.old.records }
+        ensures falls { OnOk result (LetsFall keep (plain_log self.old) (plain_marks self.new)) }
+    {
+        let at = self.moment();
+        if keep == 0 || keep > at {
+            return Ok(());
+        }
+        let by = self.records[at as usize - 1];
+        let mark = Mark {
+            version: at - keep,
+            at,
+            session: by.session,
+            line: by.line,
+        };
+        if self.is_marked(mark.version) {
+            return Ok(());
+        }
+        self.marks = self.marks_with(mark)?;
+        Ok(())
     }
 
     // The marks with one more, by rising version.

@@ -1,10 +1,10 @@
-ghost use Rattle.std.specs.Prelude.{◌≡◌, ◌≢◌, ◌≤◌, ◌++◌, ◌^◌, [], All, length, IfOk, OnOk, true};
+ghost use Rattle.std.specs.Prelude.{◌≡◌, ◌≢◌, ◌≤◌, ◌++◌, ◌^◌, [], All, length, IfOk, OnOk, true, false};
 ghost use Rattle.vox_read.specs.Contents.{AreModels};
 ghost use Rattle.history_model.specs.Logs.{FitsWorld};
 ghost use Rattle.history_model.specs.Moments.{world_has};
-ghost use Rattle.history_model.specs.Worlds.{is_edit};
+ghost use Rattle.history_model.specs.Worlds.{edited, is_edit};
 ghost use Rattle.conformance.specs.Saves.{saved_by};
-ghost use Rattle.possible.specs.Needed.{made_of};
+ghost use Rattle.plain_run.specs.Falling.{LetsFall};
 ghost use Rattle.plain_run.specs.Plain.{nothing_noted};
 
 use crate::histories::PlainHistory;
@@ -47,7 +47,8 @@ impl<'m> PlainRun<'m> {
         ensures plan { IfOk result (λ r. r.plan ≡ plan.now) }
         ensures models { IfOk result (λ r. r.models ≡ models.now) }
         ensures log { IfOk result
-            (λ r. r.log ≡ record { side = plan.now.side; records = []; marks = [] }) }
+            (λ r. r.log
+            ≡ record { side = plan.now.side; coloured = false; records = []; marks = [] }) }
         ensures saved { IfOk result (λ r. r.saved ≡ []) }
     {
         let history = PlainHistory {
@@ -83,8 +84,8 @@ impl<'m> PlainRun<'m> {
     pub fn makes(&self, act: Act, c: Cell) -> bool
         requires edit { is_edit act ≡ true }
         requires fits { FitsWorld (2 ^ self.now.plan.side) self.now.models act }
-        ensures { result ≡ made_of self.now.models self.now.log.records act
-            (length self.now.log.records) c }
+        ensures { result ≡ edited self.now.models act (world_has self.now.models
+            self.now.log.records (length self.now.log.records)) c }
     {
         let newest = self.history.moment();
         match trace(self.history.plan.side(), self.history.models, act, c) {
@@ -100,6 +101,18 @@ impl<'m> PlainRun<'m> {
         ensures free { result ≡ true → All (λ m. m.version ≢ version) self.now.log.marks }
     {
         version <= self.history.moment() && !self.history.is_marked(version)
+    }
+
+    /// What the newest record pushes out of the last `keep` versions is forgotten by it, unless it
+    /// was before. With 0 none falls out.
+    pub fn let_fall(&mut self, keep: u32) -> Result<(), Memory>
+        ensures plan { self.new.plan ≡ self.old.plan }
+        ensures models { self.new.models ≡ self.old.models }
+        ensures coloured { self.new.log.coloured ≡ self.old.log.coloured }
+        ensures records { self.new.log.records ≡ self.old.log.records }
+        ensures falls { OnOk result (LetsFall keep self.old.log self.new.log.marks) }
+    {
+        self.history.let_fall(keep)
     }
 
     /// How many marks there are.
@@ -128,6 +141,7 @@ impl<'m> PlainRun<'m> {
         } = self.history;
         History {
             side: plan.side(),
+            coloured: false,
             records,
             marks,
         }

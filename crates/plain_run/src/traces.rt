@@ -1,12 +1,13 @@
-ghost use Rattle.std.specs.Prelude.{◌≡◌, ◌^◌};
+ghost use Rattle.std.specs.Prelude.{◌≡◌, ◌/◌, ◌^◌};
 ghost use Rattle.std.specs.List.{slice_get};
 ghost use Rattle.vw_cell.specs.Places.{FitsAt, IsInBox};
 ghost use Rattle.vox_read.specs.Contents.{is_cell};
-ghost use Rattle.history_model.specs.Logs.{FitsWorld};
+ghost use Rattle.history_model.specs.declared.acts.Act.TheVariants.{Tint};
+ghost use Rattle.history_model.specs.Logs.{FitsWorld, TintFits};
 ghost use Rattle.history_model.specs.Worlds.{is_in_stamp, less, plus};
 ghost use Rattle.plain_run.specs.Traces.{Traces, goes_to, copied_from};
 
-use history_model::Act;
+use history_model::{Act, TintAct};
 use vox_read::{Models, Voxel};
 use vw_cell::{Boxed, Cell, Side};
 
@@ -33,8 +34,24 @@ pub(crate) fn trace(side: Side, models: &Models, act: Act, c: Cell) -> Traced
         Act::Carve(ball) => goes_to(ball.has(c), false, c),
         Act::Copy(b, to) => Traced::As(copied_from(side, b, to, c)),
         Act::Stamp(m, at) => goes_to(is_in_stamp(models, m, at, c), true, c),
+        Act::Tint(act) => trace_tinted(side, models, act, c),
         Act::Undo => Traced::Gone,
         Act::Redo => Traced::Gone,
+    }
+}
+
+// The same of a tinted act, which sets the cells that it would without its tint.
+fn trace_tinted(side: Side, models: &Models, act: TintAct, c: Cell) -> Traced
+    requires { TintFits (2 ^ side / 4) models.now act }
+    ensures { Traces models.now (Tint act) c result }
+{
+    match act {
+        TintAct::Fill(b, _) => goes_to(b.has(c), true, c),
+        TintAct::Erase(b) => goes_to(b.has(c), false, c),
+        TintAct::Ball(ball, _) => goes_to(ball.has(c), true, c),
+        TintAct::Carve(ball) => goes_to(ball.has(c), false, c),
+        TintAct::Copy(b, to) => Traced::As(copied_from(side, b, to, c)),
+        TintAct::Stamp(m, at) => goes_to(is_in_stamp(models, m, at, c), true, c),
     }
 }
 

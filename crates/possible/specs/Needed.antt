@@ -1,5 +1,5 @@
 -- Which contents an act needs, and how many different ones a run can have needed.
-use Rattle.std.specs.Prelude.{◌≡◌, ℕ, ◌+◌, ◌≤◌, true, List, length, slice_index, All}
+use Rattle.std.specs.Prelude.{◌≡◌, ℕ, ◌+◌, ◌^◌, ◌≤◌, true, List, length, slice_index, All}
 use Rattle.std.specs.List.{AllPairs, Contains}
 use Rattle.std.proofs.Common.{zero, suc}
 use Rattle.vw_cell.specs.declared.blocks.Block.{Block}
@@ -8,8 +8,8 @@ use Rattle.vw_cell.specs.Places.{block_side}
 use Rattle.block_contents.specs.HistoryModelContents.{Content}
 use Rattle.block_contents.specs.Act.{Act}
 use Rattle.block_contents.specs.Record.{Record}
-use Rattle.block_contents.specs.Worlds.{World, edited, is_edit}
-use Rattle.block_contents.specs.Moments.{world_has}
+use Rattle.block_contents.specs.Worlds.{World, is_edit}
+use Rattle.block_contents.specs.Stores.{stored_in, edit_part_number, made_by_parts}
 use Rattle.cell_shapes.specs.Buckets.{leaf_bucket, node_bucket}
 use Rattle.node_words.specs.Plans.{Layout}
 use Rattle.block_contents.specs.Aligned.{world_block, IsAligned}
@@ -41,20 +41,23 @@ bucket_of_cells buckets (suc level) cells =
     (bucket_of_cells buckets level (octant_cells level cells k)))
     (slice_index buckets (suc level))
 
--- the world that an edit makes of a version
-abbrev pub made_of : List Content → List Record → Act → ℕ → World
-made_of models records act version = edited models act (world_has models records version)
+-- the cells of the store after so many parts of what an edit makes of a version
+abbrev pub made_of : ℕ → List Content → List Record → Act → ℕ → ℕ → World
+made_of side models records act version parts =
+    made_by_parts side models act parts (stored_in side models records version)
 
--- the edit makes of the version a world that has this block of this level, with a set cell and a
--- content of this bucket
+-- after so many parts that the edit makes of the version, the store has this block of this level,
+-- with a set cell and a content of this bucket
 pub record IsNeeded (p : Layout) (models : List Content) (records : List Record) (act : Act)
-    (version level bucket : ℕ) (b : Block) : Type 0 where
+    (version parts level bucket : ℕ) (b : Block) : Type 0 where
   pub edit : is_edit act ≡ true
+  pub some_part : 1 ≤ parts
+  pub few_parts : parts ≤ edit_part_number act
   pub aligned : IsAligned (world_block p.side) b
   pub same_level : b.level ≡ level
-  pub some : HasCellIn b (made_of models records act version)
+  pub some : HasCellIn b (made_of (2 ^ p.side) models records act version parts)
   pub of_bucket : bucket_of_cells p.buckets level
-      (content_of (made_of models records act version) b) ≡ bucket
+      (content_of (made_of (2 ^ p.side) models records act version parts) b) ≡ bucket
 
 -- a script's act, and the moments between which it was answered
 pub record Span : Type 0 where
@@ -62,10 +65,11 @@ pub record Span : Type 0 where
   pub first : ℕ
   pub last : ℕ
 
--- a block of what an act makes of a version
+-- a block of what so many parts of an act make of a version
 pub record Need : Type 0 where
   pub act : Act
   pub version : ℕ
+  pub parts : ℕ
   pub block : Block
 
 -- the block is needed by an act of the run, of a version of its moments
@@ -76,23 +80,24 @@ pub record IsNeed (p : Layout) (models : List Content) (records : List Record) (
   pub same_act : need.act ≡ span.act
   pub low : span.first ≤ need.version
   pub high : need.version ≤ span.last
-  pub needed : IsNeeded p models records need.act need.version level bucket need.block
+  pub needed : IsNeeded p models records need.act need.version need.parts level bucket need.block
 
 -- the content that is needed
-abbrev pub content_needed : List Content → List Record → Need → Cells
-content_needed models records need = content_of (made_of models records need.act need.version)
-    need.block
+abbrev pub content_needed : ℕ → List Content → List Record → Need → Cells
+content_needed side models records need =
+    content_of (made_of side models records need.act need.version need.parts) need.block
 
 -- the two blocks have the same content
-abbrev pub SameNeed : List Content → List Record → ℕ → Need → Need → Type 0
-SameNeed models records level s t =
-    SameIn level (content_needed models records s) (content_needed models records t)
+abbrev pub SameNeed : ℕ → List Content → List Record → ℕ → Need → Need → Type 0
+SameNeed side models records level s t =
+    SameIn level (content_needed side models records s) (content_needed side models records t)
 
 -- some block of this level and bucket is needed
 pub record NeedsSome (p : Layout) (models : List Content) (records : List Record) (act : Act)
     (version level bucket : ℕ) : Type 0 where
+  pub parts : ℕ
   pub block : Block
-  pub needed : IsNeeded p models records act version level bucket block
+  pub needed : IsNeeded p models records act version parts level bucket block
 
 -- the acts of the run need so many different contents of this level and bucket, or more
 pub record IsPossible (p : Layout) (models : List Content) (records : List Record)
@@ -100,4 +105,4 @@ pub record IsPossible (p : Layout) (models : List Content) (records : List Recor
   pub needs : List Need
   pub as_many : number ≤ length needs
   pub each : All (IsNeed p models records spans level bucket) needs
-  pub different : AllPairs (λ s t. ¬ SameNeed models records level s t) needs
+  pub different : AllPairs (λ s t. ¬ SameNeed (2 ^ p.side) models records level s t) needs

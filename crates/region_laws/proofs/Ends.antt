@@ -13,6 +13,7 @@ use Rattle.history_model.specs.declared.questions.Question.TheVariants.{Count}
 use Rattle.history_model.specs.Logs.{Log}
 use Rattle.history_model.specs.Worlds.{World}
 use Rattle.history_model.specs.Moments.{world_has}
+use Rattle.history_model.specs.Tints.{Tints}
 use Rattle.script.specs.declared.commands.Command.{Command}
 use Rattle.script.specs.declared.commands.Command.TheVariants.{Ask}
 use Rattle.script.specs.declared.commands.ScriptLine.{ScriptLine}
@@ -36,16 +37,16 @@ abbrev pub box_asked : Boxed → Question → Boxed
 box_asked d (Count b) = b
 box_asked d _ = d
 
-told_is : (side : ℕ) (w : World) (b : Boxed) (q : Question) (a : Answer) → q ≡ Count b → Tells side w q a → count_told a ≡ number_in b w
-told_is side w b q a e (count of cells is) = is ∙ ap (λ c. number_in c w) (ap (box_asked b) e)
-told_is side w b q a e other = absurd (let bad : ⊥ = cc in bad)
+told_is : (side : ℕ) (w : World) (t : Tints) (b : Boxed) (q : Question) (a : Answer) → q ≡ Count b → Tells side w t q a → count_told a ≡ number_in b w
+told_is side w t b q a e (count of cells is) = is ∙ ap (λ c. number_in c w) (ap (box_asked b) e)
+told_is side w t b q a e other = absurd (let bad : ⊥ = cc in bad)
 
 pub count_is : (p : Layout) (models : List Content) (log : Log) (R : ℕ → Type 0) (session line n : ℕ) (b : Boxed) (c : Command) (a : Answer) → c ≡ Ask None (Count b)
     → Answers p models log R session line n c a → count_told a ≡ number_in b (world_has models log.records n)
 count_is p models log R session line n b c a e (tells version question answer readable tell) =
     let at : version ≡ None = ap version_asked e in
     let of : question ≡ Count b = ap (question_asked question) e in
-    told_is _ (world_has models log.records (asked_version version n)) b question answer of tell
+    told_is _ (world_has models log.records (asked_version version n)) _ b question answer of tell
     ∙ ap (λ v. number_in b (world_has models log.records (asked_version v n))) at
 count_is p models log R session line n b c a e (no_version command v names over) = absurd (subst (λ (k : Command). Names R n k v) e names)
 count_is p models log R session line n b c a e (forgotten command v up was) = absurd (subst (λ (k : Command). LooksUp R log.records n k v) e up)

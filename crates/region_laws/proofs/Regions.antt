@@ -11,7 +11,7 @@ use Rattle.vw_cell.specs.Places.{is_in_box, is_in_ball, IsInBall}
 use Rattle.vw_cell.specs.Tests.{is_in_box_tells}
 use Rattle.history_model.specs.Contents.{Content}
 use Rattle.history_model.specs.declared.acts.Act.{Act}
-use Rattle.history_model.specs.declared.acts.Act.TheVariants.{Fill, Erase, Ball, Carve, Copy, Stamp, Undo, Redo}
+use Rattle.history_model.specs.declared.acts.Act.TheVariants.{Fill, Erase, Ball, Carve, Copy, Stamp, Tint, Undo, Redo}
 use Rattle.history_model.specs.declared.histories.Record.{Record}
 use Rattle.history_model.specs.Worlds.{World, edited, is_edit, box_at}
 use Rattle.history_model.specs.Moments.{world_has}
@@ -32,6 +32,7 @@ region_local x (Ball b) lies = refl
 region_local x (Carve b) lies = refl
 region_local x (Stamp m at) lies = refl
 region_local x (Copy b to) lies = absurd lies
+region_local x (Tint t) lies = absurd lies
 region_local x Undo lies = absurd lies
 region_local x Redo lies = absurd lies
 
@@ -51,6 +52,7 @@ region_left model x p (Stamp m at) size lies apart =
     rw (lies.0, size, out) refl
 region_left model x p (Carve b) size lies apart = absurd lies
 region_left model x p (Copy b to) size lies apart = absurd lies
+region_left model x p (Tint t) size lies apart = absurd lies
 region_left model x p Undo size lies apart = absurd lies
 region_left model x p Redo size lies apart = absurd lies
 
@@ -63,6 +65,7 @@ local_edit models (Ball b) w p is = refl
 local_edit models (Carve b) w p is = refl
 local_edit models (Stamp m at) w p is = refl
 local_edit models (Copy b to) w p is = absurd (let bad : false ≡ true = is in cc)
+local_edit models (Tint t) w p is = absurd (let bad : false ≡ true = is in cc)
 local_edit models Undo w p is = absurd (let bad : false ≡ true = is in cc)
 local_edit models Redo w p is = absurd (let bad : false ≡ true = is in cc)
 
@@ -73,6 +76,7 @@ local_is_edit (Ball b) is = refl
 local_is_edit (Carve b) is = refl
 local_is_edit (Stamp m at) is = refl
 local_is_edit (Copy b to) is = refl
+local_is_edit (Tint t) is = absurd (let bad : false ≡ true = is in cc)
 local_is_edit Undo is = absurd (let bad : false ≡ true = is in cc)
 local_is_edit Redo is = absurd (let bad : false ≡ true = is in cc)
 

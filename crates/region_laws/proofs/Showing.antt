@@ -103,6 +103,7 @@ done_is : (a : Answer) → is_done a ≡ true → a ≡ answers.Done
 done_is answers.Done is = refl
 done_is (answers.Forgot v) is = absurd (let no : false ≡ true = is in cc)
 done_is (answers.Is set) is = absurd (let no : false ≡ true = is in cc)
+done_is (answers.Colour tint) is = absurd (let no : false ≡ true = is in cc)
 done_is (answers.Count cells) is = absurd (let no : false ≡ true = is in cc)
 done_is (answers.Faces cells) is = absurd (let no : false ≡ true = is in cc)
 done_is (answers.Extent found) is = absurd (let no : false ≡ true = is in cc)

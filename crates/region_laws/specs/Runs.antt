@@ -4,7 +4,7 @@ use Rattle.std.specs.List.{fold}
 use Rattle.vw_cell.specs.declared.cells.Cell.{Cell}
 use Rattle.history_model.specs.Contents.{Content}
 use Rattle.history_model.specs.declared.acts.Act.{Act}
-use Rattle.history_model.specs.declared.acts.Act.TheVariants.{Copy, Undo, Redo}
+use Rattle.history_model.specs.declared.acts.Act.TheVariants.{Copy, Tint, Undo, Redo}
 use Rattle.history_model.specs.Worlds.{World, nothing, edited}
 use Rattle.conformance.specs.Shown.{Accepted}
 
@@ -18,9 +18,10 @@ set_by models p before [] = before
 set_by models p before (c ∷ more) =
     set_by models p (set_behind models p before c.entry.act) more
 
--- what the change makes of a cell hangs on that cell alone
+-- what the change makes of a cell hangs on that cell alone; loads have no tinted change
 abbrev pub is_local : Act → Bool
 is_local (Copy b to) = false
+is_local (Tint t) = false
 is_local Undo = false
 is_local Redo = false
 is_local _ = true

@@ -1,4 +1,8 @@
 //! Laws of the run of a load: what its regions count.
+//!
+//! Nothing is called here: each law is a clause of a function with an empty body. They speak of the
+//! load's scripts (`gen_load`, `load_laws`) and of any run that agrees with them; what they say
+//! stands in `specs/Statements.antt`.
 #![tactic(auto)]
 
 ghost use Rattle.region_laws.specs.Statements.{RegionsAreCounted, LoadsAreCounted};

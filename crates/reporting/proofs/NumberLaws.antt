@@ -1,5 +1,5 @@
 -- There is one number of different contents.
-use Rattle.std.proofs.Common.{◌≡◌, ℕ, zero, suc, ◌+◌, ◌<◌, ◌≤◌, Bool, true, false, List, [], ◌∷◌, length, get_or, refl, sym, ◌∙◌, ap, subst, arith, eqb}
+use Rattle.std.proofs.Common.{◌≡◌, ℕ, zero, suc, ◌+◌, ◌<◌, ◌≤◌, Bool, true, false, List, [], ◌∷◌, length, get_or, refl, sym, ◌∙◌, ap, subst, arith, eqb, ◌^◌}
 use Rattle.std.specs.Prelude.{All, slice_index}
 use Rattle.std.specs.List.{AllPairs, list_any}
 use Rattle.std.proofs.lemmas.Bool.{eqb-true}
@@ -16,7 +16,7 @@ use Rattle.block_contents.specs.Aligned.{top, world_block}
 use Rattle.block_contents.specs.Versions.{IsKept}
 use Rattle.core_laws.specs.States.{State}
 use Rattle.core_laws.specs.Soundness.{Sound}
-use Rattle.core_laws.specs.VersionStatements.{cells_at}
+use Rattle.history_model.specs.Stores.{stored_in}
 use Rattle.core_laws.specs.Blocks.{IsIdle, live_number}
 use Rattle.core_laws.proofs.ContentLaws.{live_contents}
 use Rattle.reporting.specs.Numbers.{HasNumber, AreNumbers}
@@ -98,6 +98,6 @@ numbers_told p models state numbers low s idle as_many told =
       each = λ level le.
           let here : level ≤ top p.side = subst (λ (n : ℕ). level ≤ top n) side le in
           subst (λ (n : ℕ). HasNumber models state.log level n) (sym (told level here))
-          (subst (λ (n : ℕ). HasContents (world_block n) (cells_at models state) (IsKept state.log) level (live_number p state level)) (sym side)
+          (subst (λ (n : ℕ). HasContents (world_block n) (λ v. stored_in (2 ^ n) models state.log.records v) (IsKept state.log) level (live_number p state level)) (sym side)
           (live_contents p models state level low s idle (omega arith)));
     }

@@ -7,7 +7,7 @@ use Rattle.std.proofs.lemmas.List.{ext_get_or, get_or-map, length-map}
 use Rattle.std.proofs.lemmas.List.Elements.{All-head, All-tail}
 use Rattle.history_model.specs.Contents.{Content}
 use Rattle.history_model.specs.Logs.{Log}
-use Rattle.history_model.specs.Moments.{world_has}
+use Rattle.history_model.specs.Stores.{store_has}
 use Rattle.block_contents.specs.Aligned.{world_block}
 use Rattle.block_contents.specs.Versions.{IsKept}
 use Rattle.reporting.specs.declared.rows.ReportRow.{ReportRow}
@@ -100,5 +100,5 @@ one_report models log a b f g =
     let versions = same_rising (map (λ (r : ReportRow). r.version) f.rows) (map (λ (r : ReportRow). r.version) g.rows) (rises f.rows f.held.rising) (rises g.rows g.held.rising) (λ z c. g.held.all z (held_kept log f.rows z f.held c)) (λ z c. f.held.all z (held_kept log g.rows z g.held c)) in
     let rows : f.rows ≡ g.rows = one_list models log f.rows g.rows versions f.fit g.fit in
     let many = f.are.as_many in
-    let numbers : f.numbers ≡ g.numbers = ext_get_or 0 f.numbers g.numbers (f.are.as_many ∙ sym g.are.as_many) (λ i lt. one_number (world_block log.side) (λ v. world_has models log.records v) (IsKept log) i _ _ (f.are.each i (omega arith)) (g.are.each i (omega arith))) in
+    let numbers : f.numbers ≡ g.numbers = ext_get_or 0 f.numbers g.numbers (f.are.as_many ∙ sym g.are.as_many) (λ i lt. one_number (world_block log.side) (λ v. store_has models log v) (IsKept log) i _ _ (f.are.each i (omega arith)) (g.are.each i (omega arith))) in
     f.is ∙ ap (λ (rs : List ReportRow). report_of log rs f.numbers) rows ∙ ap (λ (ns : List ℕ). report_of log g.rows ns) numbers ∙ sym g.is

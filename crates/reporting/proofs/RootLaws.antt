@@ -5,7 +5,7 @@ use Rattle.std.proofs.lemmas.Bool.{cases_lt}
 use Rattle.std.proofs.Math.Pow.{pow-lt}
 use Rattle.history_model.specs.Contents.{Content}
 use Rattle.history_model.specs.Logs.{Log, IsLegal}
-use Rattle.history_model.specs.Moments.{world_has}
+use Rattle.history_model.specs.Stores.{stored_in}
 use Rattle.node_shapes.specs.declared.names.Name.{Name}
 use Rattle.node_words.specs.Plans.{Layout}
 use Rattle.block_contents.specs.Versions.{IsKept, SameWorld}
@@ -39,10 +39,10 @@ module _ (p : Layout) (models : List Content) (state : State) (low : 2 ≤ p.sid
 
   pub roots_told : RootsTellWorlds models state.log state.root
   roots_told = record {
-    no_cell = λ v kept none. at_log (λ n. HasNoCell n (world_has models state.log.records v)) (record { each = no_root_no_cell p models state low s v kept none });
-    no_root = λ v kept clear. no_cell_no_root p models state low s v kept (at_plan (λ n. HasNoCell n (world_has models state.log.records v)) clear).each;
-    same_cells = λ v w of_v of_w same. at_log (λ n. SameWorld n (world_has models state.log.records v) (world_has models state.log.records w)) (same_cells p models state low s v w of_v of_w same);
-    same_root = λ v w of_v of_w same. same_root p models state low s v w of_v of_w (at_plan (λ n. SameWorld n (world_has models state.log.records v) (world_has models state.log.records w)) same);
+    no_cell = λ v kept none. at_log (λ n. HasNoCell n (stored_in n models state.log.records v)) (record { each = no_root_no_cell p models state low s v kept none });
+    no_root = λ v kept clear. no_cell_no_root p models state low s v kept (at_plan (λ n. HasNoCell n (stored_in n models state.log.records v)) clear).each;
+    same_cells = λ v w of_v of_w same. at_log (λ n. SameWorld n (stored_in n models state.log.records v) (stored_in n models state.log.records w)) (same_cells p models state low s v w of_v of_w same);
+    same_root = λ v w of_v of_w same. same_root p models state low s v w of_v of_w (at_plan (λ n. SameWorld n (stored_in n models state.log.records v) (stored_in n models state.log.records w)) same);
   }
 
 pub sound_roots : (p : Layout) (models : List Content) (state : State) → 2 ≤ p.side → Sound p models state → RootsTellWorlds models state.log state.root

@@ -3,7 +3,7 @@ use Rattle.std.specs.Prelude.{◌≡◌, ℕ, ◌+◌, ◌≤◌, List, length, 
 use Rattle.std.specs.List.{sum}
 use Rattle.history_model.specs.Contents.{Content}
 use Rattle.history_model.specs.Logs.{Log}
-use Rattle.history_model.specs.Moments.{world_has}
+use Rattle.history_model.specs.Stores.{store_has}
 use Rattle.block_contents.specs.Aligned.{top, world_block}
 use Rattle.block_contents.specs.Contents.{HasContents}
 use Rattle.block_contents.specs.Versions.{IsKept}
@@ -11,7 +11,7 @@ use Rattle.block_contents.specs.Versions.{IsKept}
 -- the kept versions' aligned blocks of this level have so many different contents with a set cell
 abbrev pub HasNumber : List Content → Log → ℕ → ℕ → Type 0
 HasNumber models log level number =
-    HasContents (world_block log.side) (λ v. world_has models log.records v) (IsKept log) level
+    HasContents (world_block log.side) (λ v. store_has models log v) (IsKept log) level
     number
 
 -- one number for each level, from level 0 to that of the whole world

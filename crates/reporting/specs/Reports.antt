@@ -8,7 +8,7 @@ use Rattle.vw_cell.specs.Places.{IsInWorld}
 use Rattle.history_model.specs.Contents.{Content}
 use Rattle.history_model.specs.Worlds.{World}
 use Rattle.history_model.specs.Logs.{Log}
-use Rattle.history_model.specs.Moments.{world_has}
+use Rattle.history_model.specs.Stores.{store_has}
 use Rattle.block_contents.specs.Versions.{IsKept, SameWorld}
 use Rattle.reporting.specs.declared.rows.ReportRow.{ReportRow}
 use Rattle.reporting.specs.Numbers.{AreNumbers}
@@ -21,17 +21,17 @@ pub record HasNoCell (side : ℕ) (w : World) : Type 0 where
 pub record IsFirstLike (models : List Content) (log : Log) (v w : ℕ) : Type 0 where
   pub kept : IsKept log w
   pub low : w ≤ v
-  pub same : SameWorld (2 ^ log.side) (world_has models log.records w)
-      (world_has models log.records v)
+  pub same : SameWorld (2 ^ log.side) (store_has models log w)
+      (store_has models log v)
   pub least : (u : ℕ) → u < w → IsKept log u
-      → ¬ SameWorld (2 ^ log.side) (world_has models log.records u)
-      (world_has models log.records v)
+      → ¬ SameWorld (2 ^ log.side) (store_has models log u)
+      (store_has models log v)
 
 -- a version has no set cell, or w is the first one with its cells
 abbrev pub FirstFits : List Content → Log → ℕ → Option ℕ → Type 0
-FirstFits models log v None = HasNoCell (2 ^ log.side) (world_has models log.records v)
+FirstFits models log v None = HasNoCell (2 ^ log.side) (store_has models log v)
 FirstFits models log v (Some w) =
-    (¬ HasNoCell (2 ^ log.side) (world_has models log.records v)) × IsFirstLike models log v w
+    (¬ HasNoCell (2 ^ log.side) (store_has models log v)) × IsFirstLike models log v w
 
 -- the rows are those of the kept versions, one for each, by rising version
 pub record AreKeptRows (log : Log) (rows : List ReportRow) : Type 0 where

@@ -4,7 +4,7 @@ use Rattle.std.specs.List.{Contains}
 use Rattle.history_model.specs.Contents.{Content}
 use Rattle.history_model.specs.declared.histories.Mark.{Mark}
 use Rattle.history_model.specs.Logs.{Log}
-use Rattle.history_model.specs.Moments.{world_has}
+use Rattle.history_model.specs.Stores.{store_has}
 use Rattle.node_shapes.specs.declared.names.Name.{Name}
 use Rattle.block_contents.specs.Versions.{IsKept, IsUnmarked, SameWorld}
 use Rattle.reporting.specs.declared.rows.ReportRow.{ReportRow}
@@ -15,13 +15,13 @@ use Rattle.reporting.specs.Reports.{HasNoCell}
 pub record RootsTellWorlds (models : List Content) (log : Log) (root : ℕ → Option Name) : Type 0
   where
     pub no_cell : (v : ℕ) → IsKept log v → root v ≡ None
-        → HasNoCell (2 ^ log.side) (world_has models log.records v)
+        → HasNoCell (2 ^ log.side) (store_has models log v)
     pub no_root : (v : ℕ) → IsKept log v
-        → HasNoCell (2 ^ log.side) (world_has models log.records v) → root v ≡ None
+        → HasNoCell (2 ^ log.side) (store_has models log v) → root v ≡ None
     pub same_cells : (v w : ℕ) → IsKept log v → IsKept log w → root v ≡ root w
-        → SameWorld (2 ^ log.side) (world_has models log.records v) (world_has models log.records w)
+        → SameWorld (2 ^ log.side) (store_has models log v) (store_has models log w)
     pub same_root : (v w : ℕ) → IsKept log v → IsKept log w
-        → SameWorld (2 ^ log.side) (world_has models log.records v) (world_has models log.records w)
+        → SameWorld (2 ^ log.side) (store_has models log v) (store_has models log w)
         → root v ≡ root w
 
 -- the root of each version, by a list of them

@@ -28,6 +28,7 @@ fn forgetful(alloc: Global) -> Result<History, Fail>
     })?;
     Ok(History {
         side,
+        coloured: false,
         records,
         marks,
     })

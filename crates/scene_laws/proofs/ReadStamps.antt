@@ -112,7 +112,7 @@ stamp_read i at low short =
     rw (model, place) refl
 
 stamp_said : (i : ℕ) (at : Cell) → i ≤ 4096 → IsShort at
-    → command_spelled (codes "stamp") (stamp_words i at) ≡ Ok (Edit (Stamp i at) false)
+    → command_spelled false (codes "stamp") (stamp_words i at) ≡ Ok (Edit (Stamp i at) false)
 unfolding act_spelled
 stamp_said i at low short = let read = stamp_read i at low short in rw read refl
 
@@ -165,11 +165,11 @@ text_read read number name ws command rest others few all plain is fits none mor
     rw (parted, here, fits, none, more) refl
 
 abbrev reads_with : ℕ → List Content → Reader
-reads_with side models = command_read side models
+reads_with side models = command_read false side models
 
 command_by : (side : ℕ) (models : List Content) (name : List ℕ) (ws : List (List ℕ))
-    (command placed : Command) → command_spelled name ws ≡ Ok command
-    → command_placed side models command ≡ Ok placed
+    (command placed : Command) → command_spelled false name ws ≡ Ok command
+    → command_placed false side models command ≡ Ok placed
     → reads_with side models name ws ≡ Ok placed
 unfolding command_read
 command_by side models name ws command placed said is = rw said is

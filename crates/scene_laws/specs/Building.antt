@@ -1,5 +1,5 @@
 -- What a run makes of the outputs of a scene.
-use Rattle.std.specs.Prelude.{◌≡◌, ◌↔◌, ℕ, ◌+◌, ◌^◌, ◌≤◌, true, pos, ◌+ℤ◌, List, [], ◌∷◌, length, Ok}
+use Rattle.std.specs.Prelude.{◌≡◌, ◌↔◌, ℕ, ◌+◌, ◌^◌, ◌≤◌, true, false, pos, ◌+ℤ◌, List, [], ◌∷◌, length, Ok}
 use Rattle.std.specs.List.{AllZip, Contains}
 use Rattle.vw_cell.specs.declared.cells.Cell.{Cell}
 use Rattle.vw_cell.specs.Counts.{IsBelow}
@@ -31,7 +31,7 @@ abbrev pub StampsAreRead : Type 0
 StampsAreRead =
     (side : ℕ) (models : List Content) (places : List Cell) → side ≤ 12 → length models ≤ 1024
     → AllFitAt (2 ^ side) models places
-    → commands_of side models (stamp_lines 0 places)
+    → commands_of false side models (stamp_lines 0 places)
     ≡ Ok (edit_lines 1 (stamps_from 0 places))
 
 -- ---- the cells
@@ -68,7 +68,7 @@ pub record BuildsScene (bytes : List ℕ) (side : ℕ) (models script : List ℕ
   pub given : List Content
   pub gives : ReadsModels models (Ok given)
   pub stamps : List Act
-  pub read : commands_of side given script ≡ Ok (edit_lines 1 stamps)
+  pub read : commands_of false side given script ≡ Ok (edit_lines 1 stamps)
   pub shows : ShowsScene bytes (edited_by given stamps nothing)
 
 -- what is written of a scene builds it

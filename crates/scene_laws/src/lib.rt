@@ -1,4 +1,7 @@
 //! Laws of the outputs of a scene: a run takes them, and builds the scene.
+//!
+//! Nothing is called here: each law is a clause of a function with an empty body. What it is to
+//! build a scene is said in `specs/Building.antt`.
 #![tactic(auto)]
 
 ghost use Rattle.scene_laws.specs.Building.{StampsAreRead, ScenesAreBuilt};

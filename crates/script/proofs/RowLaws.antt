@@ -53,104 +53,110 @@ rows_passed (r ∷ first) rest other name words is =
     (is_row first name) refl is (rows_passed first rest other name words)
 
 -- the row of a change reads it by its name
-change_by : (once : Bool) (known : List ℕ) (rest : Result Command WordFault) (name : List ℕ)
+change_by : (tint once : Bool) (known : List ℕ) (rest : Result Command WordFault) (name : List ℕ)
     (words : List (List ℕ)) (test : Bool) → bytes_eq name known ≡ test
-    → (test ≡ false → rest ≡ (change_row once name).read words)
-    → cond test ((change_row once known).read words) rest ≡ (change_row once name).read words
-change_by once known rest name words true is later =
-    ap (λ (n : List ℕ). (change_row once n).read words) (sym (same_bytes name known is))
-change_by once known rest name words false is later = later refl
+    → (test ≡ false → rest ≡ (change_row tint once name).read words)
+    → cond test ((change_row tint once known).read words) rest
+    ≡ (change_row tint once name).read words
+change_by tint once known rest name words true is later =
+    ap (λ (n : List ℕ). (change_row tint once n).read words) (sym (same_bytes name known is))
+change_by tint once known rest name words false is later = later refl
 
-changes_found : (once : Bool) (names : List (List ℕ)) (rest : List CommandRow)
+changes_found : (tint once : Bool) (names : List (List ℕ)) (rest : List CommandRow)
     (other : Result Command WordFault) (name : List ℕ) (words : List (List ℕ))
     → is_among names name ≡ true
-    → command_read_by (map (change_row once) names ++ rest) other name words
-    ≡ (change_row once name).read words
-changes_found once [] rest other name words is = absurd cc
-changes_found once (known ∷ names) rest other name words is =
-    change_by once known
-    (command_read_by (map (change_row once) names ++ rest) other name words) name words
+    → command_read_by (map (change_row tint once) names ++ rest) other name words
+    ≡ (change_row tint once name).read words
+changes_found tint once [] rest other name words is = absurd cc
+changes_found tint once (known ∷ names) rest other name words is =
+    change_by tint once known
+    (command_read_by (map (change_row tint once) names ++ rest) other name words) name words
     (bytes_eq name known) refl
-    (λ no. changes_found once names rest other name words
+    (λ no. changes_found tint once names rest other name words
     (sym (ap (λ (b : Bool). b || is_among names name) no) ∙ is))
 
-changes_passed : (once : Bool) (names : List (List ℕ)) (rest : List CommandRow)
+changes_passed : (tint once : Bool) (names : List (List ℕ)) (rest : List CommandRow)
     (other : Result Command WordFault) (name : List ℕ) (words : List (List ℕ))
     → is_among names name ≡ false
-    → command_read_by (map (change_row once) names ++ rest) other name words
+    → command_read_by (map (change_row tint once) names ++ rest) other name words
     ≡ command_read_by rest other name words
-changes_passed once [] rest other name words is = refl
-changes_passed once (known ∷ names) rest other name words is =
-    other_than (change_row once known)
-    (command_read_by (map (change_row once) names ++ rest) other name words)
+changes_passed tint once [] rest other name words is = refl
+changes_passed tint once (known ∷ names) rest other name words is =
+    other_than (change_row tint once known)
+    (command_read_by (map (change_row tint once) names ++ rest) other name words)
     (command_read_by rest other name words) name words (bytes_eq name known)
     (is_among names name) refl is
-    (changes_passed once names rest other name words)
+    (changes_passed tint once names rest other name words)
 
 -- ---- all rows
 
-abbrev asked : List ℕ → List (List ℕ) → Result Command WordFault
-asked name words = command_read_by question_rows (Err Word) name words
+abbrev asked : Bool → List ℕ → List (List ℕ) → Result Command WordFault
+asked tint name words = command_read_by (question_rows tint) (Err Word) name words
 
-abbrev others : List ℕ → List (List ℕ) → Result Command WordFault
-others name words = command_read_by other_rows (Err Word) name words
+abbrev others : Bool → List ℕ → List (List ℕ) → Result Command WordFault
+others tint name words = command_read_by (other_rows tint) (Err Word) name words
 
 -- what was said, where two readings are one
-said_so : (read : Result Said WordFault) (one two : Result Command WordFault) → one ≡ two
-    → Gives command_said read one → Gives command_said read two
-said_so read one two same gives =
-    subst (λ (r : Result Command WordFault). Gives command_said read r) same gives
+said_so : (tint : Bool) (read : Result Said WordFault) (one two : Result Command WordFault)
+    → one ≡ two → Gives (command_said tint) read one → Gives (command_said tint) read two
+said_so tint read one two same gives =
+    subst (λ (r : Result Command WordFault). Gives (command_said tint) read r) same gives
 
-pub change_found : (name : List ℕ) (words : List (List ℕ)) (read : Result Said WordFault)
-    → is_among all_change_names name ≡ true
-    → Gives command_said read ((change_row false name).read words)
-    → Gives command_said read (command_spelled name words)
-change_found name words read is gives =
-    said_so read ((change_row false name).read words) (command_spelled name words)
-    (sym (changes_found false all_change_names (question_rows ++ other_rows)
+pub change_found : (tint : Bool) (name : List ℕ) (words : List (List ℕ))
+    (read : Result Said WordFault) → is_among all_change_names name ≡ true
+    → Gives (command_said tint) read ((change_row tint false name).read words)
+    → Gives (command_said tint) read (command_spelled tint name words)
+change_found tint name words read is gives =
+    said_so tint read ((change_row tint false name).read words) (command_spelled tint name words)
+    (sym (changes_found tint false all_change_names (question_rows tint ++ other_rows tint)
     (Err Word) name words is)) gives
 
-pub question_found : (name : List ℕ) (words : List (List ℕ)) (read : Result Said WordFault)
-    → is_among all_change_names name ≡ false → is_row question_rows name ≡ true
-    → Gives command_said read (command_read_by question_rows (Err Word) name words)
-    → Gives command_said read (command_spelled name words)
-question_found name words read change is gives =
-    said_so read (asked name words) (command_spelled name words)
-    (sym (changes_passed false all_change_names (question_rows ++ other_rows)
+pub question_found : (tint : Bool) (name : List ℕ) (words : List (List ℕ))
+    (read : Result Said WordFault) → is_among all_change_names name ≡ false
+    → is_row (question_rows tint) name ≡ true
+    → Gives (command_said tint) read (command_read_by (question_rows tint) (Err Word) name words)
+    → Gives (command_said tint) read (command_spelled tint name words)
+question_found tint name words read change is gives =
+    said_so tint read (asked tint name words) (command_spelled tint name words)
+    (sym (changes_passed tint false all_change_names (question_rows tint ++ other_rows tint)
     (Err Word) name words change
-    ∙ rows_found question_rows other_rows (Err Word) name words is)) gives
+    ∙ rows_found (question_rows tint) (other_rows tint) (Err Word) name words is)) gives
 
-pub other_found : (name : List ℕ) (words : List (List ℕ)) (read : Result Said WordFault)
-    → is_among all_change_names name ≡ false → is_row question_rows name ≡ false
-    → Gives command_said read (command_read_by other_rows (Err Word) name words)
-    → Gives command_said read (command_spelled name words)
-other_found name words read change question gives =
-    said_so read (others name words) (command_spelled name words)
-    (sym (changes_passed false all_change_names (question_rows ++ other_rows)
+pub other_found : (tint : Bool) (name : List ℕ) (words : List (List ℕ))
+    (read : Result Said WordFault) → is_among all_change_names name ≡ false
+    → is_row (question_rows tint) name ≡ false
+    → Gives (command_said tint) read (command_read_by (other_rows tint) (Err Word) name words)
+    → Gives (command_said tint) read (command_spelled tint name words)
+other_found tint name words read change question gives =
+    said_so tint read (others tint name words) (command_spelled tint name words)
+    (sym (changes_passed tint false all_change_names (question_rows tint ++ other_rows tint)
     (Err Word) name words change
-    ∙ rows_passed question_rows other_rows (Err Word) name words question)) gives
+    ∙ rows_passed (question_rows tint) (other_rows tint) (Err Word) name words question)) gives
 
 -- ---- behind `try`
 
-pub tried_found : (name : List ℕ) (words : List (List ℕ)) (read : Result Said WordFault)
-    → is_among change_names name ≡ true
-    → Gives command_said read ((change_row true name).read words)
-    → Gives command_said read (command_read_by tried_rows (Err Word) name words)
+pub tried_found : (tint : Bool) (name : List ℕ) (words : List (List ℕ))
+    (read : Result Said WordFault) → is_among change_names name ≡ true
+    → Gives (command_said tint) read ((change_row tint true name).read words)
+    → Gives (command_said tint) read (command_read_by (tried_rows tint) (Err Word) name words)
 unfolding tried_rows
-tried_found name words read is gives =
-    said_so read ((change_row true name).read words)
-    (command_read_by tried_rows (Err Word) name words)
-    (sym (changes_found true change_names [] (Err Word) name words is)) gives
+tried_found tint name words read is gives =
+    said_so tint read ((change_row tint true name).read words)
+    (command_read_by (tried_rows tint) (Err Word) name words)
+    (sym (changes_found tint true change_names [] (Err Word) name words is)) gives
 
-pub tried_unknown : (name : List ℕ) (words : List (List ℕ)) → is_among change_names name ≡ false
-    → command_read_by tried_rows (Err Word) name words ≡ Err Word
+pub tried_unknown : (tint : Bool) (name : List ℕ) (words : List (List ℕ))
+    → is_among change_names name ≡ false
+    → command_read_by (tried_rows tint) (Err Word) name words ≡ Err Word
 unfolding tried_rows
-tried_unknown name words is = changes_passed true change_names [] (Err Word) name words is
+tried_unknown tint name words is = changes_passed tint true change_names [] (Err Word) name words is
 
 -- the row of saves reads them
-pub save_found : (name : List ℕ) (words : List (List ℕ)) → bytes_eq name (codes "save") ≡ true
-    → command_read_by question_rows (Err Word) name words ≡ save_spelled words
+pub save_found : (tint : Bool) (name : List ℕ) (words : List (List ℕ))
+    → bytes_eq name (codes "save") ≡ true
+    → command_read_by (question_rows tint) (Err Word) name words ≡ save_spelled words
 unfolding question_rows
-save_found name words is =
-    subst (λ (n : List ℕ). command_read_by question_rows (Err Word) n words ≡ save_spelled words)
+save_found tint name words is =
+    subst
+    (λ (n : List ℕ). command_read_by (question_rows tint) (Err Word) n words ≡ save_spelled words)
     (sym (same_bytes name (codes "save") is)) refl

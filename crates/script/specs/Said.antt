@@ -1,8 +1,8 @@
 -- The command that some words spelled.
-use Rattle.std.specs.Prelude.{ℤ, None}
+use Rattle.std.specs.Prelude.{ℤ, Bool, None}
 use Rattle.history_model.specs.Worlds.{box_at}
 use Rattle.history_model.specs.Ways.{heading_of, Heading}
-use Rattle.history_model.specs.Spelled.{act_of}
+use Rattle.history_model.specs.Spelled.{act_told}
 use Rattle.history_model.specs.declared.questions.Question.{Question}
 use Rattle.history_model.specs.declared.questions.Question.TheVariants as questions
 use Rattle.script.specs.Numbers.{signed}
@@ -13,7 +13,7 @@ use Rattle.script.specs.declared.said.NameWord.{NameWord}
 use Rattle.script.specs.declared.said.Query.{Query}
 use Rattle.script.specs.declared.said.Query.TheVariants as queries
 use Rattle.script.specs.declared.said.Asked.{Asked}
-use Rattle.script.specs.declared.said.Asked.TheVariants.{Get, Count, Bounds, Faces, Ray}
+use Rattle.script.specs.declared.said.Asked.TheVariants.{Get, Colour, Count, Bounds, Faces, Ray}
 use Rattle.script.specs.declared.said.Said.{Said}
 use Rattle.script.specs.declared.said.Said.TheVariants.{Edit, Forget, Ask, Save, Same, Head}
 use Rattle.script.specs.declared.said.Step.{Step}
@@ -27,6 +27,7 @@ way_said s = heading_of (step_said s.x) (step_said s.y) (step_said s.z)
 
 abbrev pub question_said : Asked → Question
 question_said (Get c) = questions.Get c
+question_said (Colour c) = questions.Colour c
 question_said (Count at size) = questions.Count (box_at at size)
 question_said Bounds = questions.Bounds
 question_said (Faces at size) = questions.Faces (box_at at size)
@@ -44,11 +45,12 @@ abbrev pub query_command : Query → Command
 query_command (queries.Question asked) = asked_command asked
 query_command (queries.Save name at size) = commands.Save None (name_said name) (box_at at size)
 
-abbrev pub command_said : Said → Command
-command_said (Edit act once) = commands.Edit (act_of act) once
-command_said (Forget v) = commands.Forget v
-command_said (Ask version question) = commands.Ask version (question_said question)
-command_said (Save version name at size) =
+-- what was said in a world with tints or without
+abbrev pub command_said : Bool → Said → Command
+command_said tint (Edit act once) = commands.Edit (act_told tint act) once
+command_said tint (Forget v) = commands.Forget v
+command_said tint (Ask version question) = commands.Ask version (question_said question)
+command_said tint (Save version name at size) =
     commands.Save version (name_said name) (box_at at size)
-command_said (Same v w) = commands.Same v w
-command_said Head = commands.Head
+command_said tint (Same v w) = commands.Same v w
+command_said tint Head = commands.Head

@@ -22,8 +22,8 @@ pub(crate) fn is_edit(name: &[u8]) -> bool
 
 // Whether the name is that of a question.
 #[tactic(auto, unfolding(crate::specs::Commands::question_rows))]
-pub(crate) fn is_question(name: &[u8]) -> bool
-    ensures { result ≡ is_row question_rows name.now }
+pub(crate) fn is_question(tint: bool, name: &[u8]) -> bool
+    ensures { result ≡ is_row (question_rows tint) name.now }
 {
     name == b"get".as_slice()
         || name == b"count".as_slice()
@@ -31,4 +31,5 @@ pub(crate) fn is_question(name: &[u8]) -> bool
         || name == b"bounds".as_slice()
         || name == b"ray".as_slice()
         || name == b"save".as_slice()
+        || (tint && name == b"colour".as_slice())
 }

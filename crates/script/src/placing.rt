@@ -1,28 +1,33 @@
 ghost use Rattle.std.specs.Prelude.{◌≡◌, ◌^◌, ◌<◌, true, false, IfOk, OnOk, MatchOption, MatchResult};
 ghost use Rattle.std.specs.List.{list_all, slice_get};
 ghost use Rattle.history_model.specs.Contents.{AreModels};
-ghost use Rattle.history_model.specs.Spelled.{act_of};
+ghost use Rattle.history_model.specs.Spelled.{act_of, act_told};
 ghost use Rattle.history_model.specs.Worlds.{box_at};
 ghost use Rattle.script.specs.declared.faults.ScriptKind.TheVariants.{Range};
 ghost use Rattle.script.specs.Numbers.{IsLong, box_in, cell_in, ball_in, way_in, is_digit};
-ghost use Rattle.script.specs.Placing.{model_size, corner_in, stamp_placed, copy_placed, act_placed, ray_placed, question_placed, is_letter, is_name_byte, begins_name, is_save_name, save_placed, command_placed};
+ghost use Rattle.script.specs.Placing.{model_size, corner_in, stamp_placed, copy_placed, tint_placed, tint_fill_placed, tint_ball_placed, tint_copy_placed, tint_stamp_placed, plain_placed, tint_act_placed, act_placed, ray_placed, question_placed, is_letter, is_name_byte, begins_name, is_save_name, save_placed, command_placed};
 ghost use Rattle.script.specs.Said.{step_said, way_said, question_said, name_said, command_said};
 ghost use Rattle.history_model.specs.Spelling.{IsLarge};
 
 use crate::commands::{Command, SaveName};
 use crate::faults::ScriptKind;
 use crate::said::{Asked, NameWord, Said, Step, Steps};
-use history_model::{Act, Models, Question, Spelled, Three, Way};
+use history_model::{Act, Models, Question, Spelled, SpelledTint, Three, TintAct, Way};
 use vw_cell::{Ball, Boxed, Cell, Side};
 
-/// The command that was spelled, where what it names is there.
-pub(crate) fn place_command(said: &Said, side: Side, models: &Models) -> Result<Command, ScriptKind>
+/// The command that was spelled in a world with tints or without, where what it names is there.
+pub(crate) fn place_command(
+    tint: bool,
+    said: &Said,
+    side: Side,
+    models: &Models,
+) -> Result<Command, ScriptKind>
     requires { AreModels models.now }
-    ensures { result ≡ command_placed (2 ^ side) models.now (command_said said.now) }
+    ensures { result ≡ command_placed tint (2 ^ side) models.now (command_said tint said.now) }
 {
     match *said {
         Said::Edit(act, once) => {
-            let act = place_act(&act, side, models)?;
+            let act = place_act(tint, &act, side, models)?;
             Ok(Command::Edit { act, once })
         }
         Said::Forget(v) => Ok(Command::Forget(v)),
@@ -112,9 +117,93 @@ fn is_name_byte(b: u8) -> bool
     is_letter(b) || is_digit(b) || b == b'.' || b == b'_' || b == b'-'
 }
 
-fn place_act(spelled: &Spelled, side: Side, models: &Models) -> Result<Act, ScriptKind>
+fn place_act(tint: bool, told: &SpelledTint, side: Side, models: &Models) -> Result<Act, ScriptKind>
     requires { AreModels models.now }
-    ensures { result ≡ act_placed (2 ^ side) models.now (act_of spelled.now) }
+    ensures { result ≡ act_placed tint (2 ^ side) models.now (act_told tint told.now) }
+{
+    if tint {
+        return place_tinted(told, side, models);
+    }
+    place_plain(&told.act, side, models)
+}
+
+fn place_tinted(told: &SpelledTint, side: Side, models: &Models) -> Result<Act, ScriptKind>
+    requires { AreModels models.now }
+    ensures { result ≡ tint_act_placed (2 ^ side) models.now (act_told true told.now) }
+{
+    let SpelledTint { act, tint } = *told;
+    match act {
+        Spelled::Fill(at, size) => Ok(Act::Tint(place_tint_fill(at, size, tint, side)?)),
+        Spelled::Erase(at, size) => Ok(Act::Tint(TintAct::Erase(make_box(at, size, side)?))),
+        Spelled::Ball(centre, radius) => {
+            Ok(Act::Tint(place_tint_ball(centre, radius, tint, side)?))
+        }
+        Spelled::Carve(centre, radius) => {
+            Ok(Act::Tint(TintAct::Carve(make_ball(centre, radius, side)?)))
+        }
+        Spelled::Copy(at, size, to) => Ok(Act::Tint(place_tint_copy(at, size, to, side)?)),
+        Spelled::Stamp(model, at) => Ok(Act::Tint(place_tint_stamp(model, at, side, models)?)),
+        Spelled::Undo => Ok(Act::Undo),
+        Spelled::Redo => Ok(Act::Redo),
+    }
+}
+
+#[tactic(auto, unfolding(crate::specs::Placing::tint_fill_placed))]
+fn place_tint_fill(at: Three, size: Three, tint: u32, side: Side) -> Result<TintAct, ScriptKind>
+    ensures { result ≡ tint_fill_placed (2 ^ side) (box_at at size) tint }
+{
+    let b = make_box(at, size, side)?;
+    let tint = make_tint(tint)?;
+    Ok(TintAct::Fill(b, tint))
+}
+
+#[tactic(auto, unfolding(crate::specs::Placing::tint_ball_placed))]
+fn place_tint_ball(centre: Three, radius: u32, tint: u32, side: Side) -> Result<TintAct, ScriptKind>
+    ensures { result ≡ tint_ball_placed (2 ^ side) (record { centre = centre; radius = radius })
+        tint }
+{
+    let ball = make_ball(centre, radius, side)?;
+    let tint = make_tint(tint)?;
+    Ok(TintAct::Ball(ball, tint))
+}
+
+// A tint from 1 to 255.
+fn make_tint(tint: u32) -> Result<u8, ScriptKind>
+    ensures { result ≡ tint_placed tint }
+{
+    if 1 <= tint && tint <= 255 {
+        return Ok(tint as u8);
+    }
+    Err(ScriptKind::Range)
+}
+
+#[tactic(auto, unfolding(crate::specs::Placing::tint_copy_placed))]
+fn place_tint_copy(at: Three, size: Three, to: Three, side: Side) -> Result<TintAct, ScriptKind>
+    ensures { result ≡ tint_copy_placed (2 ^ side) (box_at at size) to }
+{
+    let from = make_box(at, size, side)?;
+    let to = make_box(to, size, side)?;
+    Ok(TintAct::Copy(from, to.at))
+}
+
+#[tactic(auto, unfolding(crate::specs::Placing::tint_stamp_placed))]
+fn place_tint_stamp(
+    model: u32,
+    at: Three,
+    side: Side,
+    models: &Models,
+) -> Result<TintAct, ScriptKind>
+    requires { AreModels models.now }
+    ensures { result ≡ tint_stamp_placed (2 ^ side) models.now model at }
+{
+    let size = size_of(models, model)?;
+    let at = make_corner(at, size, side)?;
+    Ok(TintAct::Stamp(model as u16, at))
+}
+
+fn place_plain(spelled: &Spelled, side: Side, models: &Models) -> Result<Act, ScriptKind>
+    requires { AreModels models.now }
+    ensures { result ≡ plain_placed (2 ^ side) models.now (act_of spelled.now) }
 {
     match *spelled {
         Spelled::Fill(at, size) => Ok(Act::Fill(make_box(at, size, side)?)),
@@ -152,6 +241,7 @@ fn place_question(asked: &Asked, side: Side) -> Result<Question, ScriptKind>
 {
     match *asked {
         Asked::Get(c) => Ok(Question::Get(make_cell(c, side)?)),
+        Asked::Colour(c) => Ok(Question::Colour(make_cell(c, side)?)),
         Asked::Count(at, size) => Ok(Question::Count(make_box(at, size, side)?)),
         Asked::Bounds => Ok(Question::Bounds),
         Asked::Faces(at, size) => Ok(Question::Faces(make_box(at, size, side)?)),

@@ -1,5 +1,6 @@
 ghost use Rattle.std.specs.Prelude.{◌≡◌, ◌≤◌, ◌^◌, All, IfOk, IfErr};
 ghost use Rattle.history_model.specs.Contents.{AreModels};
+ghost use Rattle.history_model.specs.Logs.{store_exponent};
 ghost use Rattle.script.specs.Fitting.{CommandFits, RisesFrom};
 ghost use Rattle.script.specs.Placing.{command_read};
 ghost use Rattle.script.specs.Scripts.{command_in, line_command, within_saves, saves_after, commands_of, RefusesWords};
@@ -20,9 +21,9 @@ const LINES: u32 = 100_000;
 /// The most saves that a script may have.
 const SAVES: u32 = 16;
 
-/// Reads the commands of a script for a world of this side and for these models, or its first
-/// fault: that of the first line which has one, and there the one that comes first in the order of
-/// the faults.
+/// Reads the commands of a script for a world of this side, whose cells have tints where `tint` is
+/// set, and for these models, or its first fault: that of the first line which has one, and there
+/// the one that comes first in the order of the faults.
 ///
 /// Where memory runs out the answer is [`ScriptKind::Memory`] at line 0, whatever the text says.
 #[tactic(auto, using(crate::proofs::Steps::begins))]
@@ -31,16 +32,18 @@ pub fn read_script(
     bytes: &[u8],
     side: Side,
     models: &Models,
+    tint: bool,
 ) -> Result<Script, ScriptFault>
     requires { AreModels models.now }
     ensures read { IfOk result
-        (λ script. commands_of side models.now bytes.now ≡ Ok script) }
+        (λ script. commands_of tint side models.now bytes.now ≡ Ok script) }
     ensures refused { IfErr result
-        (λ fault. RefusesWords fault (commands_of side models.now bytes.now)) }
+        (λ fault. RefusesWords fault (commands_of tint side models.now bytes.now)) }
 
     // what follows from the language for every script
     ensures fits { IfOk result
-        (λ script. All (λ l. CommandFits (2 ^ side) models.now l.command) script) }
+        (λ script. All (λ l. CommandFits tint (2 ^ store_exponent tint side) models.now l.command)
+        script) }
     ensures rises { IfOk result (λ script. RisesFrom 1 script) }
 {
     let mut lines = Vec::new(alloc);
@@ -49,7 +52,7 @@ pub fn read_script(
     let mut saves: u32 = 0;
     while !rest.is_empty() {
         let (line, after) = split_line(rest);
-        let command = match read_within(saves, number, line, side, models) {
+        let command = match read_within(saves, number, line, side, models, tint) {
             Ok(command) => command,
             Err(kind) => return Err(ScriptFault { line: number, kind }),
         };
@@ -68,14 +71,15 @@ fn read_within(
     line: &[u8],
     side: Side,
     models: &Models,
+    tint: bool,
 ) -> Result<Option<Command>, ScriptKind>
     requires { AreModels models.now }
     ensures says { result ≡ within_saves saves
-        (line_command (command_read (2 ^ side) models.now) number line.now) }
+        (line_command (command_read tint (2 ^ side) models.now) number line.now) }
     ensures few { IfOk result (λ _. number ≤ 100000) }
     ensures within { saves ≤ 16 → IfOk result (λ here. saves_after saves here ≤ 16) }
 {
-    match read_line(number, line, side, models)? {
+    match read_line(number, line, side, models, tint)? {
         Some(Command::Save { .. }) if saves >= SAVES => Err(ScriptKind::TooManySaves),
         command => Ok(command),
     }
@@ -98,10 +102,11 @@ fn read_line(
     line: &[u8],
     side: Side,
     models: &Models,
+    tint: bool,
 ) -> Result<Option<Command>, ScriptKind>
     requires { AreModels models.now }
     ensures says { result ≡ line_command
-        (command_read (2 ^ side) models.now) number line.now }
+        (command_read tint (2 ^ side) models.now) number line.now }
     ensures few { IfOk result (λ _. number ≤ 100000) }
 {
     if number > LINES {
@@ -111,13 +116,18 @@ fn read_line(
     if !is_plain_text(text) {
         return Err(ScriptKind::NotAscii);
     }
-    read_words(&mut Words::new(text), side, models)
+    read_words(&mut Words::new(text), side, models, tint)
 }
 
 #[tactic(auto, unfolding(crate::specs::Scripts::command_in))]
-fn read_words(words: &mut Words, side: Side, models: &Models) -> Result<Option<Command>, ScriptKind>
+fn read_words(
+    words: &mut Words,
+    side: Side,
+    models: &Models,
+    tint: bool,
+) -> Result<Option<Command>, ScriptKind>
     requires { AreModels models.now }
-    ensures { result ≡ command_in (command_read (2 ^ side) models.now) words.old }
+    ensures { result ≡ command_in (command_read tint (2 ^ side) models.now) words.old }
 {
     let Some(first) = words.next_word() else {
         return Ok(None);
@@ -125,7 +135,7 @@ fn read_words(words: &mut Words, side: Side, models: &Models) -> Result<Option<C
     if begins_comment(first) {
         return Ok(None);
     }
-    Ok(Some(read_command(first, words, side, models)?))
+    Ok(Some(read_command(first, words, side, models, tint)?))
 }
 
 // The command of this name with the words that follow it.
@@ -135,12 +145,13 @@ fn read_command(
     words: &mut Words,
     side: Side,
     models: &Models,
+    tint: bool,
 ) -> Result<Command, ScriptKind>
     requires { AreModels models.now }
-    ensures { result ≡ command_read (2 ^ side) models.now name.now words.old }
+    ensures { result ≡ command_read tint (2 ^ side) models.now name.now words.old }
 {
-    match spell_command(name, words) {
-        Ok(said) => place_command(&said, side, models),
+    match spell_command(tint, name, words) {
+        Ok(said) => place_command(tint, &said, side, models),
         Err(fault) => Err(ScriptKind::from(fault)),
     }
 }

@@ -1,4 +1,4 @@
-use history_model::{Spelled, Three};
+use history_model::{SpelledTint, Three};
 
 /// A step as it is spelled: its size, to lower places where `low` is set.
 #[derive(Clone, Copy)]
@@ -19,6 +19,7 @@ pub(crate) struct Steps {
 #[derive(Clone, Copy)]
 pub(crate) enum Asked {
     Get(Three),
+    Colour(Three),
     Count(Three, Three),
     Bounds,
     Faces(Three, Three),
@@ -42,7 +43,7 @@ pub(crate) enum Query {
 /// The same of a command.
 #[derive(Clone, Copy)]
 pub(crate) enum Said {
-    Edit(Spelled, bool),
+    Edit(SpelledTint, bool),
     Forget(u32),
     Ask(Option<u32>, Asked),
     Save(Option<u32>, NameWord, Three, Three),

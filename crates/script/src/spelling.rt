@@ -1,20 +1,27 @@
-ghost use Rattle.std.specs.Prelude.{◌≡◌, ◌≤◌, ◌++◌, false, true, Err, None, codes, length, take, drop};
+ghost use Rattle.std.specs.Prelude.{◌≡◌, ◌≤◌, ◌++◌, Bool, false, true, Err, None, codes, length, option_copied, take, drop};
 ghost use Rattle.std.specs.Str.{bytes_eq};
 ghost use Rattle.script.specs.declared.commands.Command.TheVariants.{Ask, Head};
 ghost use Rattle.history_model.specs.declared.questions.Question.TheVariants.{Bounds};
 ghost use Rattle.plain_text.specs.declared.faults.WordFault.TheVariants.{Word};
 ghost use Rattle.plain_text.specs.Steps.{Gives};
-ghost use Rattle.script.specs.Commands.{change_row, tried_rows, question_rows, other_rows, command_read_by, at_words, try_words, get_spelled, count_spelled, faces_spelled, command_alone, way_spelled, sized, step_by, ray_spelled, save_name, save_spelled, of_version, forget_spelled, same_spelled, command_spelled};
+ghost use Rattle.script.specs.Commands.{last_word, tint_of_word, fill_scripted, ball_scripted, tint_scripted, scripted, change_row, tried_rows, question_rows, other_rows, command_read_by, at_words, try_words, tint_rows, get_spelled, colour_spelled, count_spelled, faces_spelled, command_alone, way_spelled, sized, step_by, ray_spelled, save_name, save_spelled, of_version, forget_spelled, same_spelled, command_spelled};
+ghost use Rattle.history_model.specs.Spelled.{act_told};
 ghost use Rattle.script.specs.Said.{step_said, way_said, asked_command, name_said, query_command, command_said};
 
 use crate::names::{is_change, is_edit, is_question};
 use crate::numbers::number;
 use crate::said::{Asked, NameWord, Query, Said, Step, Steps};
 use crate::words::Words;
-use history_model::{read_act, read_box, three_numbers};
+use history_model::{Spelled, SpelledTint, read_act, read_box, three_numbers};
 use plain_text::{ThreeWords, WordFault, number_by, take_end, take_three, take_word};
 
+const FILL: &[u8] = b"fill";
+
+const BALL: &[u8] = b"ball";
+
 const GET: &[u8] = b"get";
+
+const COLOUR: &[u8] = b"colour";
 
 const COUNT: &[u8] = b"count";
 
@@ -36,38 +43,112 @@ const TRY: &[u8] = b"try";
 
 const SAVE: &[u8] = b"save";
 
-/// The command of this name with the words that follow it, wherever it may lie.
-#[tactic(auto, using(crate::proofs::RowLaws::change_found, crate::proofs::RowLaws::question_found, crate::proofs::RowLaws::other_found))]
-pub(crate) fn spell_command(name: &[u8], words: &mut Words) -> Result<Said, WordFault>
-    ensures { Gives command_said result (command_spelled name.now words.old) }
+/// The command of this name with the words that follow it, wherever it may lie, in a world with
+/// tints or without.
+#[tactic(auto, using(crate::proofs::RowLaws::change_found))]
+pub(crate) fn spell_command(tint: bool, name: &[u8], words: &mut Words) -> Result<Said, WordFault>
+    ensures { Gives (command_said tint) result (command_spelled tint name.now words.old) }
 {
     if is_change(name) {
-        return spell_change(false, name, words);
+        return spell_change(tint, false, name, words);
     }
-    if is_question(name) {
-        return spell_ask(name, words);
+    if is_question(tint, name) {
+        return spell_ask(tint, name, words);
     }
-    spell_other(name, words)
+    spell_other(tint, name, words)
 }
 
 // The change of this name, in one attempt where `once` is set.
-fn spell_change(once: bool, name: &[u8], words: &mut Words) -> Result<Said, WordFault>
-    ensures { Gives command_said result ((change_row once name.now).read words.old) }
+fn spell_change(tint: bool, once: bool, name: &[u8], words: &mut Words) -> Result<Said, WordFault>
+    ensures { Gives (command_said tint) result ((change_row tint once name.now).read words.old) }
 {
-    let act = read_act(name, words)?;
+    let act = read_change(tint, name, words)?;
     Ok(Said::Edit(act, once))
 }
 
-fn spell_ask(name: &[u8], words: &mut Words) -> Result<Said, WordFault>
-    ensures { Gives command_said result
-        (command_read_by question_rows (Err Word) name.now words.old) }
+fn read_change(tint: bool, name: &[u8], words: &mut Words) -> Result<SpelledTint, WordFault>
+    ensures { Gives (act_told tint) result (scripted tint name.now words.old) }
 {
-    let query = spell_query(name, words)?;
+    if tint {
+        return read_tinted(name, words);
+    }
+    let act = read_act(name, words)?;
+    Ok(SpelledTint { act, tint: 1 })
+}
+
+#[tactic(auto, unfolding(crate::specs::Commands::tint_scripted))]
+fn read_tinted(name: &[u8], words: &mut Words) -> Result<SpelledTint, WordFault>
+    ensures { Gives (act_told true) result (tint_scripted name.now words.old) }
+{
+    if name == FILL {
+        return read_fill(words);
+    }
+    if name == BALL {
+        return read_ball(words);
+    }
+    let act = read_act(name, words)?;
+    Ok(SpelledTint { act, tint: 1 })
+}
+
+#[tactic(auto, unfolding(crate::specs::Commands::fill_scripted))]
+fn read_fill(words: &mut Words) -> Result<SpelledTint, WordFault>
+    ensures { Gives (act_told true) result (fill_scripted words.old) }
+{
+    let at = take_three(words)?;
+    let size = take_three(words)?;
+    let tint = take_last(words)?;
+    let at = three_numbers::<Words>(&at)?;
+    let size = three_numbers::<Words>(&size)?;
+    let tint = read_tint(tint)?;
+    let act = Spelled::Fill(at, size);
+    Ok(SpelledTint { act, tint })
+}
+
+#[tactic(auto, unfolding(crate::specs::Commands::ball_scripted))]
+fn read_ball(words: &mut Words) -> Result<SpelledTint, WordFault>
+    ensures { Gives (act_told true) result (ball_scripted words.old) }
+{
+    let centre = take_three(words)?;
+    let radius = take_word(words)?;
+    let tint = take_last(words)?;
+    let centre = three_numbers::<Words>(&centre)?;
+    let radius = number_by::<Words>(radius)?;
+    let tint = read_tint(tint)?;
+    let act = Spelled::Ball(centre, radius);
+    Ok(SpelledTint { act, tint })
+}
+
+// The last word, where there is one.
+fn take_last<'l>(words: &mut Words<'l>) -> Result<Option<&'l [u8]>, WordFault>
+    ensures { Gives (λ word. option_copied word) result (last_word words.old) }
+{
+    let Some(word) = words.next_word() else {
+        return Ok(None);
+    };
+    take_end(words)?;
+    Ok(Some(word))
+}
+
+// The tint of a word, and 1 where there is none.
+fn read_tint(word: Option<&[u8]>) -> Result<u32, WordFault>
+    ensures { result ≡ tint_of_word (option_copied word.entry) }
+{
+    match word {
+        Some(word) => number_by::<Words>(word),
+        None => Ok(1),
+    }
+}
+
+fn spell_ask(tint: bool, name: &[u8], words: &mut Words) -> Result<Said, WordFault>
+    ensures { Gives (command_said tint) result
+        (command_read_by (question_rows tint) (Err Word) name.now words.old) }
+{
+    let query = spell_query(tint, name, words)?;
     Ok(of_newest(query))
 }
 
 fn of_newest(query: Query) -> Said
-    ensures { command_said result ≡ query_command query }
+    ensures { (tint : Bool) → command_said tint result ≡ query_command query }
 {
     match query {
         Query::Question(asked) => Said::Ask(None, asked),
@@ -76,7 +157,7 @@ fn of_newest(query: Query) -> Said
 }
 
 fn of_version(version: u32, query: Query) -> Said
-    ensures { command_said result ≡ of_version version (query_command query) }
+    ensures { (tint : Bool) → command_said tint result ≡ of_version version (query_command query) }
 {
     match query {
         Query::Question(asked) => Said::Ask(Some(version), asked),
@@ -86,23 +167,23 @@ fn of_version(version: u32, query: Query) -> Said
 
 // What is asked by this name with the words that follow it.
 #[tactic(auto, using(crate::proofs::RowLaws::save_found))]
-fn spell_query(name: &[u8], words: &mut Words) -> Result<Query, WordFault>
+fn spell_query(tint: bool, name: &[u8], words: &mut Words) -> Result<Query, WordFault>
     ensures { Gives query_command result
-        (command_read_by question_rows (Err Word) name.now words.old) }
+        (command_read_by (question_rows tint) (Err Word) name.now words.old) }
 {
     if name == SAVE {
         return spell_save(words);
     }
-    let asked = spell_question(name, words)?;
+    let asked = spell_question(tint, name, words)?;
     Ok(Query::Question(asked))
 }
 
 // The question of this name with the words that follow it.
 #[tactic(auto, unfolding(crate::specs::Commands::question_rows))]
-fn spell_question(name: &[u8], words: &mut Words) -> Result<Asked, WordFault>
+fn spell_question(tint: bool, name: &[u8], words: &mut Words) -> Result<Asked, WordFault>
     requires { bytes_eq name.now (codes "save") ≡ false }
     ensures { Gives asked_command result
-        (command_read_by question_rows (Err Word) name.now words.old) }
+        (command_read_by (question_rows tint) (Err Word) name.now words.old) }
 {
     if name == GET {
         return spell_get(words);
@@ -119,6 +200,19 @@ fn spell_question(name: &[u8], words: &mut Words) -> Result<Asked, WordFault>
     if name == RAY {
         return spell_ray(words);
     }
+    if tint {
+        return spell_tint_question(name, words);
+    }
+    Err(WordFault::Word)
+}
+
+fn spell_tint_question(name: &[u8], words: &mut Words) -> Result<Asked, WordFault>
+    ensures { Gives asked_command result
+        (command_read_by (tint_rows true) (Err Word) name.now words.old) }
+{
+    if name == COLOUR {
+        return spell_colour(words);
+    }
     Err(WordFault::Word)
 }
 
@@ -130,6 +224,16 @@ fn spell_get(words: &mut Words) -> Result<Asked, WordFault>
     take_end(words)?;
     let at = three_numbers::<Words>(&at)?;
     Ok(Asked::Get(at))
+}
+
+#[tactic(auto, unfolding(crate::specs::Commands::colour_spelled))]
+fn spell_colour(words: &mut Words) -> Result<Asked, WordFault>
+    ensures { Gives asked_command result (colour_spelled words.old) }
+{
+    let at = take_three(words)?;
+    take_end(words)?;
+    let at = three_numbers::<Words>(&at)?;
+    Ok(Asked::Colour(at))
 }
 
 fn spell_count(words: &mut Words) -> Result<Asked, WordFault>
@@ -240,31 +344,31 @@ fn read_size(digits: &[u8], low: bool) -> Result<Step, WordFault>
 
 // A command that is no change and no question.
 #[tactic(auto, unfolding(crate::specs::Commands::other_rows))]
-fn spell_other(name: &[u8], words: &mut Words) -> Result<Said, WordFault>
-    ensures { Gives command_said result
-        (command_read_by other_rows (Err Word) name.now words.old) }
+fn spell_other(tint: bool, name: &[u8], words: &mut Words) -> Result<Said, WordFault>
+    ensures { Gives (command_said tint) result
+        (command_read_by (other_rows tint) (Err Word) name.now words.old) }
 {
     if name == FORGET {
-        return spell_forget(words);
+        return spell_forget(tint, words);
     }
     if name == SAME {
-        return spell_same(words);
+        return spell_same(tint, words);
     }
     if name == HEAD {
-        return spell_head(words);
+        return spell_head(tint, words);
     }
     if name == AT {
-        return spell_at(words);
+        return spell_at(tint, words);
     }
     if name == TRY {
-        return spell_try(words);
+        return spell_try(tint, words);
     }
     Err(WordFault::Word)
 }
 
 #[tactic(auto, unfolding(crate::specs::Commands::forget_spelled))]
-fn spell_forget(words: &mut Words) -> Result<Said, WordFault>
-    ensures { Gives command_said result (forget_spelled words.old) }
+fn spell_forget(tint: bool, words: &mut Words) -> Result<Said, WordFault>
+    ensures { Gives (command_said tint) result (forget_spelled words.old) }
 {
     let version = take_word(words)?;
     take_end(words)?;
@@ -273,8 +377,8 @@ fn spell_forget(words: &mut Words) -> Result<Said, WordFault>
 }
 
 #[tactic(auto, unfolding(crate::specs::Commands::same_spelled))]
-fn spell_same(words: &mut Words) -> Result<Said, WordFault>
-    ensures { Gives command_said result (same_spelled words.old) }
+fn spell_same(tint: bool, words: &mut Words) -> Result<Said, WordFault>
+    ensures { Gives (command_said tint) result (same_spelled words.old) }
 {
     let first = take_word(words)?;
     let second = take_word(words)?;
@@ -284,8 +388,8 @@ fn spell_same(words: &mut Words) -> Result<Said, WordFault>
     Ok(Said::Same(v, w))
 }
 
-fn spell_head(words: &mut Words) -> Result<Said, WordFault>
-    ensures { Gives command_said result (command_alone Head words.old) }
+fn spell_head(tint: bool, words: &mut Words) -> Result<Said, WordFault>
+    ensures { Gives (command_said tint) result (command_alone Head words.old) }
 {
     take_end(words)?;
     Ok(Said::Head)
@@ -293,32 +397,32 @@ fn spell_head(words: &mut Words) -> Result<Said, WordFault>
 
 // A question of the version that stands before it.
 #[tactic(auto, unfolding(crate::specs::Commands::at_words))]
-fn spell_at(words: &mut Words) -> Result<Said, WordFault>
-    ensures { Gives command_said result (at_words words.old) }
+fn spell_at(tint: bool, words: &mut Words) -> Result<Said, WordFault>
+    ensures { Gives (command_said tint) result (at_words tint words.old) }
 {
     let version = take_word(words)?;
     let name = take_word(words)?;
-    let query = spell_query(name, words)?;
+    let query = spell_query(tint, name, words)?;
     let v = number_by::<Words>(version)?;
     Ok(of_version(v, query))
 }
 
 // One of the edits, in one attempt.
 #[tactic(auto, unfolding(crate::specs::Commands::try_words))]
-fn spell_try(words: &mut Words) -> Result<Said, WordFault>
-    ensures { Gives command_said result (try_words words.old) }
+fn spell_try(tint: bool, words: &mut Words) -> Result<Said, WordFault>
+    ensures { Gives (command_said tint) result (try_words tint words.old) }
 {
     let name = take_word(words)?;
-    spell_tried(name, words)
+    spell_tried(tint, name, words)
 }
 
-#[tactic(auto, using(crate::proofs::RowLaws::tried_found, crate::proofs::RowLaws::tried_unknown))]
-fn spell_tried(name: &[u8], words: &mut Words) -> Result<Said, WordFault>
-    ensures { Gives command_said result
-        (command_read_by tried_rows (Err Word) name.now words.old) }
+#[tactic(auto, using(crate::proofs::RowLaws::tried_unknown))]
+fn spell_tried(tint: bool, name: &[u8], words: &mut Words) -> Result<Said, WordFault>
+    ensures { Gives (command_said tint) result
+        (command_read_by (tried_rows tint) (Err Word) name.now words.old) }
 {
     if !is_edit(name) {
         return Err(WordFault::Word);
     }
-    spell_change(true, name, words)
+    spell_change(tint, true, name, words)
 }

@@ -11,9 +11,6 @@ use Rattle.vox_chunk.specs.declared.faults.VoxFault.TheVariants as faults
 use Rattle.vox_read.specs.Contents.{Content}
 use Rattle.vox_read.specs.Files.{ReadsModels, RefusesFile}
 use Rattle.history_model.specs.Logs.{Log}
-use Rattle.history_model.specs.Entries.{IsTold}
-use Rattle.history_model.specs.Journal.{journal_of}
-use Rattle.history_model.specs.Refusals.{RefusesJournal}
 use Rattle.history_model.specs.declared.reading.JournalFault.{JournalFault}
 use Rattle.history_model.specs.declared.reading.JournalFault.TheVariants as journals
 use Rattle.script.specs.declared.commands.ScriptLine.{ScriptLine}
@@ -29,7 +26,7 @@ use Rattle.script_files.specs.declared.refusals.TextRefused.{TextRefused}
 use Rattle.script_files.specs.declared.refusals.TextRefused.TheVariants.{Vox, Script, Collides, NoScene, NoPlace, StoreFull, NoDag, Journal, Transcript, Memory}
 use Rattle.script_files.specs.declared.requests.Request.TheVariants.{Audit}
 use Rattle.script_files.specs.Orders.{AuditAsked}
-use Rattle.script_files.specs.Audits.{AuditTexts, audit_texts, AreTranscriptsOf, JournalRead, AllRead, AnswersAudit, RefusesAuditing}
+use Rattle.script_files.specs.Audits.{AuditTexts, IsJournalOf, RefusesPlain, audit_texts, AreTranscriptsOf, JournalRead, AllRead, AnswersAudit, RefusesAuditing}
 use Rattle.script_files.specs.Auditing.{IsLeft, AddsTranscript, RefusesNextTranscript, RefusesTranscripts}
 use Rattle.script_files.specs.Meanings.{file_in, texts_audited, RefusesTexts}
 use Rattle.script_files.specs.Outcomes.{Outcome}
@@ -83,21 +80,21 @@ vox_refused_at (faults.TooManyModels at) file t says = says
 vox_refused_at faults.Memory file t says = tt
 
 pub journal_refused : (fault : JournalFault) (file : List ℕ) (t : AuditTexts)
-    (models : List Content) → ReadsModels file (Ok models) → RefusesJournal fault t.journal
+    (models : List Content) → ReadsModels file (Ok models) → RefusesPlain fault t.journal
     → RefusesAuditing file t (of_journal fault)
 journal_refused (journals.Line line) file t models gives says =
     record { models = models; gives = gives; first = says }
 journal_refused journals.Memory file t models gives says = tt
 
 module _ (file : List ℕ) (t : AuditTexts) (models : List Content) (log : Log)
-    (gives : ReadsModels file (Ok models)) (told : IsTold log) (is : t.journal ≡ journal_of log)
+    (gives : ReadsModels file (Ok models)) (of : IsJournalOf t.journal log)
   where
     abbrev journal_read : JournalRead file t
     journal_read = record {
       models = models;
       gives = gives;
       log = log;
-      journal = record { told = told; is = is };
+      journal = of;
     }
 
     pub scripts_refused_at : (r : TextRefused)
@@ -150,12 +147,13 @@ all_read file t left is = record {
   transcripts = is.transcripts;
 }
 
-pub left_answered : (buckets : Option ℕ) (file : List ℕ) (t : AuditTexts) (left : RunLeft)
+pub left_answered : (buckets : Option ℕ) (keep : ℕ) (file : List ℕ) (t : AuditTexts)
+    (left : RunLeft)
     (answer : Bool) → IsLeft file t left
-    → IsTrue answer ↔ IsAudited (judged_by left.history.side buckets) left.models left.history
+    → IsTrue answer ↔ IsAudited keep (judged_by left.history.side buckets) left.models left.history
     left.scripts.items left.transcripts.items
-    → AnswersAudit buckets file t answer
-left_answered buckets file t left answer is answers =
+    → AnswersAudit buckets keep file t answer
+left_answered buckets keep file t left answer is answers =
     record { all = all_read file t left is; is = answers }
 
 left_refused : (file : List ℕ) (t : AuditTexts) (left : RunLeft) (refused : AuditRefused)
@@ -224,19 +222,21 @@ next_unread (Journal line) texts text k old within is so_far says = absurd says
 
 -- ---- the parts of all texts
 
-pub parted_answer : (b buckets : Option ℕ) (m n : ℕ) (texts rest : List (List ℕ))
-    (file journal : List ℕ) (answer : Bool) → b ≡ buckets → m ≡ n → texts ≡ file ∷ journal ∷ rest
-    → AnswersAudit b file (record {
+pub parted_answer : (b buckets : Option ℕ) (k keep m n : ℕ) (texts rest : List (List ℕ))
+    (file journal : List ℕ) (answer : Bool) → b ≡ buckets → k ≡ keep → m ≡ n
+    → texts ≡ file ∷ journal ∷ rest
+    → AnswersAudit b k file (record {
       journal = journal;
       scripts = take m rest;
       transcripts = drop m rest;
     }) answer
-    → AnswersAudit buckets (file_in texts) (audit_texts n texts) answer
-parted_answer b buckets m n texts rest file journal answer same number parts says =
-    subst (λ (o : Option ℕ). AnswersAudit o (file_in texts) (audit_texts n texts) answer) same
-    (subst (λ (k : ℕ). AnswersAudit b (file_in texts) (audit_texts k texts) answer) number
-    (subst (λ (ts : List (List ℕ)). AnswersAudit b (file_in ts) (audit_texts m ts) answer)
-    (sym parts) says))
+    → AnswersAudit buckets keep (file_in texts) (audit_texts n texts) answer
+parted_answer b buckets k keep m n texts rest file journal answer same as_many number parts says =
+    subst (λ (o : Option ℕ). AnswersAudit o keep (file_in texts) (audit_texts n texts) answer) same
+    (subst (λ (h : ℕ). AnswersAudit b h (file_in texts) (audit_texts n texts) answer) as_many
+    (subst (λ (i : ℕ). AnswersAudit b k (file_in texts) (audit_texts i texts) answer) number
+    (subst (λ (ts : List (List ℕ)). AnswersAudit b k (file_in ts) (audit_texts m ts) answer)
+    (sym parts) says)))
 
 pub parted_refusal : (r : TextRefused) (m n : ℕ) (texts rest : List (List ℕ))
     (file journal : List ℕ) → m ≡ n → texts ≡ file ∷ journal ∷ rest
@@ -255,7 +255,7 @@ parted_refusal r m n texts rest file journal number parts says =
 
 pub audited : (asked : AuditAsked) (texts : List (List ℕ)) (answer : Bool) (old new : ShelfState)
     → AreTaken old.files (inputs_of (Audit asked)) texts
-    → AnswersAudit asked.buckets (file_in texts) (texts_audited asked texts) answer
+    → AnswersAudit asked.buckets asked.keep (file_in texts) (texts_audited asked texts) answer
     → new.files ≡ old.files → new.faults ≡ old.faults
     → Outcome (Ok (record { done = Answered answer; ended = None })) (Audit asked) old new
 audited asked texts answer old new taken answers files faults = record {

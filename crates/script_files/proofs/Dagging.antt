@@ -10,10 +10,8 @@ use Rattle.vox_read.specs.Contents.{Content}
 use Rattle.vox_read.specs.Files.{ReadsModels, RefusesFile}
 use Rattle.history_model.specs.declared.reading.JournalFault.{JournalFault}
 use Rattle.history_model.specs.declared.reading.JournalFault.TheVariants as journals
-use Rattle.history_model.specs.Entries.{IsTold}
-use Rattle.history_model.specs.Journal.{journal_of}
 use Rattle.history_model.specs.Logs.{Log}
-use Rattle.history_model.specs.Refusals.{RefusesJournal}
+use Rattle.script_files.specs.Audits.{IsJournalOf, RefusesPlain}
 use Rattle.node_words.specs.declared.shares.Full.{Full}
 use Rattle.script_files.specs.declared.refusals.CommandRefused.TheVariants.{Output}
 use Rattle.script_files.specs.declared.refusals.OutputRefused.{OutputRefused}
@@ -49,7 +47,7 @@ dagging_refused (Transcript at) asked texts says = absurd says
 dagging_refused Memory asked texts says = tt
 
 pub line_refused : (fault : JournalFault) (file journal : List ℕ) (models : List Content)
-    → ReadsModels file (Ok models) → RefusesJournal fault journal
+    → ReadsModels file (Ok models) → RefusesPlain fault journal
     → RefusesDagging file journal (of_journal fault)
 line_refused (journals.Line line) file journal models gives says =
     inl (record { models = models; gives = gives; first = says })
@@ -70,9 +68,9 @@ file_refused (faults.TooManyModels at) file journal says = says
 file_refused faults.Memory file journal says = tt
 
 module _ (file journal : List ℕ) (models : List Content) (log : Log)
-    (gives : ReadsModels file (Ok models)) (told : IsTold log) (is : journal ≡ journal_of log) where
+    (gives : ReadsModels file (Ok models)) (of : IsJournalOf journal log) where
   abbrev given : GivesHistory file journal
-  given = record { models = models; gives = gives; log = log; is = record { told = told; is = is } }
+  given = record { models = models; gives = gives; log = log; is = of }
 
   pub illegal_refused : (number : ℕ) → IsFirstIllegal (2 ^ log.side) models log number
       → LacksHistory file journal (number + 2)
@@ -83,14 +81,22 @@ module _ (file journal : List ℕ) (models : List Content) (log : Log)
   pub full_refused : (full : Full) → RefusesHistory models log (histories.Full full)
       → FillsReplay file journal full
   full_refused full says = record {
-    legal = record { given = given; legal = legal_whole models log (told_marks log told) says.0 };
+    legal = record {
+      given = given;
+      legal = legal_whole models log
+          (told_marks log of.told) says.0;
+    };
     fills = says.1;
   }
 
   pub makes_dag : (dag : List ℕ) → AreLegalRecords (2 ^ log.side) models log.marks log.records
       → IsFileOfHistory models log dag → MakesDag file journal dag
   makes_dag dag records made = record {
-    legal = record { given = given; legal = legal_whole models log (told_marks log told) records };
+    legal = record {
+      given = given;
+      legal = legal_whole models log
+          (told_marks log of.told) records;
+    };
     is = made;
   }
 
@@ -99,7 +105,8 @@ module _ (file journal : List ℕ) (models : List Content) (log : Log)
 abbrev dag_output : DagAsked → List ℕ → List Named
 dag_output asked dag = record { name = asked.out; bytes = dag } ∷ []
 
-pub dag_written : (asked : DagAsked) (texts : List (List ℕ)) (dag : List ℕ) (old mid new : ShelfState)
+pub dag_written : (asked : DagAsked) (texts : List (List ℕ)) (dag : List ℕ)
+    (old mid new : ShelfState)
     → AreTaken old.files (inputs_of (Dag asked)) texts
     → MakesDag (file_in texts) (journal_in texts) dag → mid ≡ old
     → AreWritten (dag_output asked dag) mid.files new.files → new.faults ≡ mid.faults
@@ -111,7 +118,8 @@ dag_written asked texts dag old mid new taken makes same whole calm = record {
     taken = taken;
     gives = record { dag = dag; makes = makes; are = refl };
   };
-  whole = subst (λ (s : ShelfState). AreWritten (dag_output asked dag) s.files new.files) same whole;
+  whole = subst
+      (λ (s : ShelfState). AreWritten (dag_output asked dag) s.files new.files) same whole;
   no_fault = calm ∙ ap (λ (s : ShelfState). s.faults) same;
 }
 
@@ -130,7 +138,10 @@ dag_stopped asked texts dag why name r old mid new taken makes same is_why is_na
     begins = record { dag = dag; makes = makes; are = refl };
   };
   stops =
-      subst (λ (s : ShelfState). StopsWith r.why (output_name r.name) (dag_output asked dag) s.files new.files s.faults new.faults) same
-      (subst (λ (w : WriteRefused). StopsWith w (output_name r.name) (dag_output asked dag) mid.files new.files mid.faults new.faults) (sym is_why)
-      (subst (λ (n : List ℕ). StopsWith why n (dag_output asked dag) mid.files new.files mid.faults new.faults) (sym is_name) stops));
+      subst (λ (s : ShelfState). StopsWith r.why (output_name r.name)
+      (dag_output asked dag) s.files new.files s.faults new.faults) same
+      (subst (λ (w : WriteRefused). StopsWith w (output_name r.name)
+      (dag_output asked dag) mid.files new.files mid.faults new.faults) (sym is_why)
+      (subst (λ (n : List ℕ). StopsWith why n
+      (dag_output asked dag) mid.files new.files mid.faults new.faults) (sym is_name) stops));
 }

@@ -10,7 +10,7 @@ use Rattle.vw_io.specs.Outputs.{Named, AreWritten, StopsWith}
 use Rattle.history_model.specs.Journal.{journal_of}
 use Rattle.vox_read.specs.Contents.{Content}
 use Rattle.transcript.specs.Lines.{transcript_of}
-use Rattle.conformance.specs.Runs.{AllRan}
+use Rattle.conformance.specs.Runs.{AllRanKeeping}
 use Rattle.conformance.specs.declared.saves.SavedBox.{SavedBox}
 use Rattle.flood.specs.Saved.{file_of_box}
 use Rattle.history_model.specs.Worlds.{World}
@@ -20,12 +20,13 @@ use Rattle.script.specs.Commands.{name_bytes}
 use Rattle.script.specs.declared.commands.ScriptLine.{ScriptLine}
 use Rattle.transcript.specs.declared.answers.LineAnswer.{LineAnswer}
 use Rattle.session_runs.specs.Kept.{kept_of, kept_by}
-use Rattle.session_runs.specs.Ran.{SessionsRan, ClosesWorld}
+use Rattle.session_runs.specs.Ran.{SessionsRanKeeping, ClosesWorld}
 use Rattle.session_runs.specs.Seen.{SessionSeen}
 use Rattle.session_runs.proofs.Closing.{are_a_run}
 use Rattle.session_runs.proofs.KeptWorlds.{saved_stay}
+use Rattle.session_runs.proofs.PlainLaws.{history_plain}
 use Rattle.world_run.specs.Ends.{IsEndOf}
-use Rattle.world_run.specs.Open.{RunState}
+use Rattle.world_run.specs.Open.{RunState, saved_file}
 use Rattle.script_files.specs.declared.tallies.RunWritten.{RunWritten}
 use Rattle.reporting.specs.Numbers.{AreNumbers}
 use Rattle.reporting.specs.Roots.{RootsTellWorlds, listed_root}
@@ -45,7 +46,7 @@ use Rattle.script_files.specs.declared.scripts.Read.{Read}
 use Rattle.script_files.specs.Orders.{Asked}
 use Rattle.script_files.specs.Refusals.{output_name}
 use Rattle.script_files.specs.Reports.{ReportIs, BeginsFirst, BeginsTexts}
-use Rattle.script_files.specs.Requests.{Given, given_seen, given_by, inputs_of, named_texts, transcript_name, saved_output, wanted_output, written_first, written_last, texts_written}
+use Rattle.script_files.specs.Requests.{Given, given_seen, given_by, inputs_of, named_texts, transcript_name, save_file, saved_output, wanted_output, written_first, written_last, texts_written}
 use Rattle.script_files.specs.Meanings.{file_in, IsAccepted, TalliesRun, RefusesTexts, SessionsBegan, ScriptsBegan}
 use Rattle.script_files.specs.Outcomes.{Outcome}
 use Rattle.script_files.specs.Stages.{CountsFile, JournalIs, IsRead, given_of, ClosesRun, TellsRun, HistoryTexts, AreTexts, WroteHistory, StopsOpen, StopsClosed, WritesClosed, WritesHistory, WroteRun, BeginsClosed, StopsRun, WritesRun}
@@ -236,7 +237,7 @@ module _ (asked : Asked) (run : ScriptsRun) (old : ShelfState) where
       (map transcript_of given.transcripts)
 
   abbrev files_saved : List Named
-  files_saved = map (saved_output given.models) given.kept
+  files_saved = map (saved_output given.file) given.kept
 
   -- some first ones of these
   began_first : (r : OutputRefused) (new : ShelfState)
@@ -332,28 +333,31 @@ module _ (asked : Asked) (run : ScriptsRun) (old : ShelfState) where
 abbrev pub box_output : SavedBox → World → Named
 box_output save w = record { name = name_bytes save.name; bytes = file_of_box save.part w }
 
-pub saved_same : (p : Layout) (models : List Content) (lines : List (List ScriptLine))
+pub saved_same : (keep : ℕ) (p : Layout) (models : List Content) (lines : List (List ScriptLine))
     (transcripts : List (List LineAnswer)) (sessions : List SessionSeen) (log : Log)
-    → SessionsRan p models 0 lines transcripts sessions → ClosesWorld p models sessions log
-    → map (saved_output models) (kept_of lines transcripts sessions)
-    ≡ map (saved_output models) (kept_by lines transcripts log)
-saved_same p models lines transcripts sessions log ran closes =
-    saved_stay box_output p models log 0 lines transcripts sessions ran closes.seen
+    → SessionsRanKeeping keep p models 0 lines transcripts sessions
+    → ClosesWorld p models sessions log
+    → map (saved_output (saved_file models)) (kept_of lines transcripts sessions)
+    ≡ map (saved_output (save_file models)) (kept_by lines transcripts log)
+saved_same keep p models lines transcripts sessions log ran closes =
+    saved_stay box_output keep p models log 0 lines transcripts sessions ran
+    (history_plain keep p models lines transcripts sessions log ran closes) closes.seen
 
 -- so what was written first is what the one history gives
 pub first_same : (asked : Asked) (models : List Content) (lines : List (List ScriptLine))
     (transcripts : List (List LineAnswer)) (sessions : List SessionSeen) (log : Log)
-    → SessionsRan asked.plan models 0 lines transcripts sessions
+    → SessionsRanKeeping asked.keep asked.plan models 0 lines transcripts sessions
     → ClosesWorld asked.plan models sessions log
     → written_first asked (given_seen models lines transcripts sessions)
     ≡ written_first asked (given_by models lines log transcripts)
 first_same asked models lines transcripts sessions log ran closes =
     ap (λ (os : List Named).
     named_texts (map transcript_name asked.scripts) (map transcript_of transcripts) ++ os)
-    (saved_same asked.plan models lines transcripts sessions log ran closes)
+    (saved_same asked.keep asked.plan models lines transcripts sessions log ran closes)
 
 module _ (asked : Asked) (models : List Content) (lines : List (List ScriptLine)) (run : ScriptsRun)
-    (ran : SessionsRan asked.plan models 0 lines run.transcripts.items run.run.sessions)
+    (ran : SessionsRanKeeping asked.keep asked.plan models 0 lines run.transcripts.items
+    run.run.sessions)
     (plan_is : run.run.plan ≡ asked.plan) (models_are : run.run.models ≡ models)
     (kept : run.run.kept ≡ kept_of lines run.transcripts.items run.run.sessions) where
   pub given_same : given_of run
@@ -362,6 +366,7 @@ module _ (asked : Asked) (models : List Content) (lines : List (List ScriptLine)
     models = models_are i;
     transcripts = run.transcripts.items;
     kept = kept i;
+    file = saved_file (models_are i);
   }
 
   module _ (closed : Closed) (closes : ClosesRun run.run closed) where
@@ -375,10 +380,11 @@ module _ (asked : Asked) (models : List Content) (lines : List (List ScriptLine)
     ends_world =
         subst (λ (ms : List Content). IsEndOf ms closed.history closed) models_are closes.is_end
 
-    pub is_run : AllRan asked.plan models lines run.transcripts.items closed.history
+    pub is_run : AllRanKeeping asked.keep asked.plan models lines run.transcripts.items
+        closed.history
     is_run =
-        are_a_run asked.plan models lines run.transcripts.items run.run.sessions closed.history ran
-        closes_world
+        are_a_run asked.keep asked.plan models lines run.transcripts.items run.run.sessions
+        closed.history ran closes_world
 
     pub written_same : written_first asked (given_of run)
         ≡ written_first asked (given_by models lines closed.history run.transcripts.items)
@@ -410,7 +416,8 @@ module _ (asked : Asked) (models : List Content) (lines : List (List ScriptLine)
 module _ (asked : Asked) (texts : List (List ℕ)) (r : Read) (run : ScriptsRun)
     (old mid new : ShelfState) (taken : AreTaken old.files (inputs_of (Run asked)) texts)
     (read : IsRead asked texts r)
-    (ran : SessionsRan asked.plan r.models 0 r.scripts.items run.transcripts.items run.run.sessions)
+    (ran : SessionsRanKeeping asked.keep asked.plan r.models 0 r.scripts.items run.transcripts.items
+    run.run.sessions)
     (plan_is : run.run.plan ≡ asked.plan) (models_are : run.run.models ≡ r.models)
     (kept : run.run.kept ≡ kept_of r.scripts.items run.transcripts.items run.run.sessions)
     (same : mid ≡ old) where

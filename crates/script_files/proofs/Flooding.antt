@@ -50,7 +50,8 @@ far_of asked m model far = not_true (is_in_box (whole_box m.size) (start_of aske
 pub far_place : (asked : FloodAsked) (models : List Content) → AreModels models → IsFar asked
     → has_start_place asked models ≡ false
 far_place asked models are far = by (slice_get models asked.model) refl where
-  by : (o : Option Content) → slice_get models asked.model ≡ o → has_start o (start_of asked) ≡ false
+  by : (o : Option Content) → slice_get models asked.model ≡ o
+      → has_start o (start_of asked) ≡ false
   by None is = refl
   by (Some m) is =
       far_of asked m

@@ -43,8 +43,12 @@ eight_of_256 s e = elim (cases_order s 8) [
   | inl same ↦ same
   | inr other ↦
       elim other [
-        | inl less ↦ (let low : 2 ^ s ≤ 2 ^ 7 = pow-le-pow_right {n = 2} (omega arith) {i = s} {j = 7} (omega (arith, less)) in absurd (omega (arith, low, e)))
-        | inr more ↦ (let high : 2 ^ 9 ≤ 2 ^ s = pow-le-pow_right {n = 2} (omega arith) {i = 9} {j = s} (omega (arith, more)) in absurd (omega (arith, high, e)))
+        | inl less ↦
+            (let low : 2 ^ s ≤ 2 ^ 7 = pow-le-pow_right {n = 2} (omega arith) {i = s} {j = 7}
+            (omega (arith, less)) in absurd (omega (arith, low, e)))
+        | inr more ↦
+            (let high : 2 ^ 9 ≤ 2 ^ s = pow-le-pow_right {n = 2} (omega arith) {i = 9} {j = s}
+            (omega (arith, more)) in absurd (omega (arith, high, e)))
       ]
 ]
 
@@ -75,8 +79,10 @@ four_scripts : (n : ℕ) → length (load_scripts n) ≡ 4
 unfolding scripts_from
 four_scripts n = refl
 
-pub few_texts : (n : ℕ) (texts : List (Vec ℕ Global)) → map (λ (t : Vec ℕ Global). t.items) texts ≡ load_scripts n → length texts ≤ 64
-few_texts n texts e = omega (arith, ap length e, length-map texts (λ (t : Vec ℕ Global). t.items), four_scripts n)
+pub few_texts : (n : ℕ) (texts : List (Vec ℕ Global))
+    → map (λ (t : Vec ℕ Global). t.items) texts ≡ load_scripts n → length texts ≤ 64
+few_texts n texts e =
+    omega (arith, ap length e, length-map texts (λ (t : Vec ℕ Global). t.items), four_scripts n)
 
 -- the commands of the load's scripts
 load_is_read : (n : ℕ) → scripts_of 8 (load_model n ∷ []) (load_scripts n) ≡ Ok (load_lines n)

@@ -123,7 +123,8 @@ scene_written asked texts told models script old mid new taken places same whole
     taken = taken;
     gives = record { models = models; script = script; places = places; are = refl };
   };
-  whole = subst (λ (s : ShelfState). AreWritten (scene_outputs asked models script) s.files new.files)
+  whole = subst
+      (λ (s : ShelfState). AreWritten (scene_outputs asked models script) s.files new.files)
       same whole;
   no_fault = calm ∙ ap (λ (s : ShelfState). s.faults) same;
 }
@@ -149,7 +150,8 @@ scene_stopped asked texts told models script why name r old mid new taken places
       };
       stops =
           subst (λ (w : WriteRefused). StopsWith w (output_name r.name)
-          (scene_outputs asked models script) old.files new.files old.faults new.faults) (sym is_why)
+          (scene_outputs asked models script) old.files new.files old.faults new.faults)
+          (sym is_why)
           (subst (λ (n : List ℕ). StopsWith why n (scene_outputs asked models script) old.files
           new.files old.faults new.faults) (sym is_name)
           (subst (λ (s : ShelfState). StopsWith why name (scene_outputs asked models script) s.files

@@ -31,7 +31,8 @@ ReadsVox (Dag asked) = ⊤
 ReadsVox (Look asked) = ⊥
 ReadsVox (Audit asked) = ⊤
 
-file_refused : (fault : VoxFault) (a : Request) (texts : List (List ℕ)) → ReadsVox a → ReadsModels (file_in texts) (Err fault) → RefusesVox a texts fault
+file_refused : (fault : VoxFault) (a : Request) (texts : List (List ℕ)) → ReadsVox a
+    → ReadsModels (file_in texts) (Err fault) → RefusesVox a texts fault
 file_refused fault (Count file) texts reads says = says
 file_refused fault (Run asked) texts reads says = says
 file_refused fault (Demo n) texts reads says = absurd reads
@@ -41,22 +42,34 @@ file_refused fault (Dag asked) texts reads says = says
 file_refused fault (Look asked) texts reads says = absurd reads
 file_refused fault (Audit asked) texts reads says = says
 
-pub vox_refused : (fault : VoxFault) (a : Request) (texts : List (List ℕ)) → ReadsVox a → files.RefusesFile fault (file_in texts) → RefusesTexts (of_vox fault) a texts
+pub vox_refused : (fault : VoxFault) (a : Request) (texts : List (List ℕ)) → ReadsVox a
+    → files.RefusesFile fault (file_in texts) → RefusesTexts (of_vox fault) a texts
 vox_refused faults.NotVox a texts reads refuses = file_refused faults.NotVox a texts reads refuses
-vox_refused (faults.Version version) a texts reads refuses = file_refused (faults.Version version) a texts reads refuses
+vox_refused (faults.Version version) a texts reads refuses =
+    file_refused (faults.Version version) a texts reads refuses
 vox_refused faults.NoMain a texts reads refuses = file_refused faults.NoMain a texts reads refuses
-vox_refused (faults.Truncated at) a texts reads refuses = file_refused (faults.Truncated at) a texts reads refuses
-vox_refused (faults.ShortSize at) a texts reads refuses = file_refused (faults.ShortSize at) a texts reads refuses
-vox_refused (faults.SizeRange at) a texts reads refuses = file_refused (faults.SizeRange at) a texts reads refuses
-vox_refused (faults.XyziWithoutSize at) a texts reads refuses = file_refused (faults.XyziWithoutSize at) a texts reads refuses
-vox_refused (faults.ShortXyzi at) a texts reads refuses = file_refused (faults.ShortXyzi at) a texts reads refuses
-vox_refused (faults.VoxelOutside at) a texts reads refuses = file_refused (faults.VoxelOutside at) a texts reads refuses
-vox_refused (faults.TooManyModels at) a texts reads refuses = file_refused (faults.TooManyModels at) a texts reads refuses
+vox_refused (faults.Truncated at) a texts reads refuses =
+    file_refused (faults.Truncated at) a texts reads refuses
+vox_refused (faults.ShortSize at) a texts reads refuses =
+    file_refused (faults.ShortSize at) a texts reads refuses
+vox_refused (faults.SizeRange at) a texts reads refuses =
+    file_refused (faults.SizeRange at) a texts reads refuses
+vox_refused (faults.XyziWithoutSize at) a texts reads refuses =
+    file_refused (faults.XyziWithoutSize at) a texts reads refuses
+vox_refused (faults.ShortXyzi at) a texts reads refuses =
+    file_refused (faults.ShortXyzi at) a texts reads refuses
+vox_refused (faults.VoxelOutside at) a texts reads refuses =
+    file_refused (faults.VoxelOutside at) a texts reads refuses
+vox_refused (faults.TooManyModels at) a texts reads refuses =
+    file_refused (faults.TooManyModels at) a texts reads refuses
 vox_refused faults.Memory a texts reads refuses = tt
 
 -- one script's fault
-refused_at : (kind : ScriptKind) (number : ℕ) (fault : ScriptFault) (read : Result (List ScriptLine) ScriptFault) → fault.kind ≡ kind → scripts.RefusesAs kind fault read
-    → RefusesScripts (of_kind kind (record { script = number; fault = fault })) (in_script number read)
+refused_at : (kind : ScriptKind) (number : ℕ) (fault : ScriptFault)
+    (read : Result (List ScriptLine) ScriptFault) → fault.kind ≡ kind
+    → scripts.RefusesAs kind fault read
+    → RefusesScripts (of_kind kind (record { script = number; fault = fault }))
+    (in_script number read)
 refused_at Memory number fault read is refuses = tt
 refused_at Word number fault read is refuses = (rw is tt, ap (in_script number) refuses)
 refused_at Number number fault read is refuses = (rw is tt, ap (in_script number) refuses)
@@ -68,12 +81,18 @@ refused_at TooManyLines number fault read is refuses = (rw is tt, ap (in_script 
 refused_at TooManySaves number fault read is refuses = (rw is tt, ap (in_script number) refuses)
 refused_at NotAscii number fault read is refuses = (rw is tt, ap (in_script number) refuses)
 
-pub script_refused : (number : ℕ) (fault : ScriptFault) (read : Result (List ScriptLine) ScriptFault) → scripts.RefusesWords fault read → RefusesScripts (of_fault (record { script = number; fault = fault })) (in_script number read)
+pub script_refused : (number : ℕ) (fault : ScriptFault)
+    (read : Result (List ScriptLine) ScriptFault) → scripts.RefusesWords fault read
+    → RefusesScripts (of_fault (record { script = number; fault = fault })) (in_script number read)
 script_refused number fault read refuses = refused_at fault.kind number fault read refl refuses
 
 -- what the scripts' texts are refused for, the run is refused for
-pub scripts_refused : (r : TextRefused) (asked : Asked) (models : List Content) (texts : List (List ℕ)) → ReadsModels (file_in texts) (Ok models) → RefusesScripts r (scripts_of asked.plan.side models (scripts_in texts)) → RefusesTexts r (Run asked) texts
-scripts_refused (texts.Script at) asked models texts gives refuses = record { models = models; gives = gives; is_of_text = refuses.0; first = refuses.1 }
+pub scripts_refused : (r : TextRefused) (asked : Asked) (models : List Content)
+    (texts : List (List ℕ)) → ReadsModels (file_in texts) (Ok models)
+    → RefusesScripts r (scripts_of asked.plan.side models (scripts_in texts))
+    → RefusesTexts r (Run asked) texts
+scripts_refused (texts.Script at) asked models texts gives refuses =
+    record { models = models; gives = gives; is_of_text = refuses.0; first = refuses.1 }
 scripts_refused texts.Memory asked models texts gives refuses = tt
 scripts_refused (texts.Vox fault) asked models texts gives refuses = absurd refuses
 scripts_refused texts.Collides asked models texts gives refuses = absurd refuses
@@ -85,9 +104,13 @@ scripts_refused (texts.Journal line) asked models texts gives refuses = absurd r
 scripts_refused (texts.Transcript at) asked models texts gives refuses = absurd refuses
 
 -- a fault of the first text is the VOX file's
-pub first_refused : (fault : VoxFault) (asked : Asked) (texts : List (List ℕ)) (file : List ℕ) → file_in texts ≡ file → files.RefusesFile fault file → RefusesTexts (of_vox fault) (Run asked) texts
-first_refused fault asked texts file is refuses = vox_refused fault (Run asked) texts tt (subst (files.RefusesFile fault) (sym is) refuses)
+pub first_refused : (fault : VoxFault) (asked : Asked) (texts : List (List ℕ)) (file : List ℕ)
+    → file_in texts ≡ file → files.RefusesFile fault file
+    → RefusesTexts (of_vox fault) (Run asked) texts
+first_refused fault asked texts file is refuses =
+    vox_refused fault (Run asked) texts tt (subst (files.RefusesFile fault) (sym is) refuses)
 
-pub first_text : (texts : List (List ℕ)) (d : List ℕ) → 0 < length texts → file_in texts ≡ get_or texts 0 d
+pub first_text : (texts : List (List ℕ)) (d : List ℕ) → 0 < length texts
+    → file_in texts ≡ get_or texts 0 d
 first_text [] d some = absurd (omega (arith, some))
 first_text (file ∷ others) d some = refl

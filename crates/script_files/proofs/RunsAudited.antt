@@ -56,15 +56,17 @@ answered_yes asked texts log transcripts buckets answer accepted told answers sa
     let said : transcripts ≡ audit.all.said =
     said_once transcripts audit.all.said answers audit.all.transcripts.answers
     audit.all.transcripts.are in
-    let run : IsAudited (judged_by log.side buckets) accepted.models log accepted.lines transcripts =
-    runs_are_audited asked.plan (judged_by log.side buckets) accepted.models accepted.lines
+    let run : IsAudited asked.keep (judged_by log.side buckets) accepted.models log accepted.lines transcripts =
+    runs_are_audited asked.keep asked.plan
+    (judged_by log.side buckets) accepted.models accepted.lines
     transcripts log (judged_side log.side buckets ∙ side) same_buckets accepted.run in
     audit.is.1
-    (subst (λ (l : Log). IsAudited (judged_by l.side buckets) begun.models l
+    (subst (λ (l : Log). IsAudited asked.keep (judged_by l.side buckets) begun.models l
     audit.all.scripts.lines audit.all.said) logs
-    (subst (λ (ms : List Content). IsAudited (judged_by log.side buckets) ms log
+    (subst (λ (ms : List Content). IsAudited asked.keep (judged_by log.side buckets) ms log
     audit.all.scripts.lines audit.all.said) models
-    (subst (λ (ls : List (List ScriptLine)). IsAudited (judged_by log.side buckets) accepted.models
+    (subst (λ (ls : List (List ScriptLine)). IsAudited asked.keep
+    (judged_by log.side buckets) accepted.models
     log ls audit.all.said) lines
-    (subst (λ (ts : List (List LineAnswer)). IsAudited (judged_by log.side buckets)
+    (subst (λ (ts : List (List LineAnswer)). IsAudited asked.keep (judged_by log.side buckets)
     accepted.models log accepted.lines ts) said run))))

@@ -1,6 +1,6 @@
 -- Scripts that are read one after the other.
 use Rattle.std.specs.Prelude.{All}
-use Rattle.std.proofs.Common.{◌≡◌, ℕ, ◌+◌, ◌^◌, ◌<◌, ◌≤◌, List, [], ◌∷◌, ◌++◌, length, take, drop, get_or, Result, Ok, Err, refl, sym, ap, subst, ◌∙◌, arith, append_assoc, append-nil}
+use Rattle.std.proofs.Common.{false, ◌≡◌, ℕ, ◌+◌, ◌^◌, ◌<◌, ◌≤◌, List, [], ◌∷◌, ◌++◌, length, take, drop, get_or, Result, Ok, Err, refl, sym, ap, subst, ◌∙◌, arith, append_assoc, append-nil}
 use Rattle.std.proofs.lemmas.List.{take_more, drop_more, drop_all, length-append}
 use Rattle.std.proofs.lemmas.List.Elements.{All-nil, All-append}
 use Rattle.plain_text.specs.Steps.{◌>>=◌}
@@ -23,7 +23,8 @@ behind before (Ok others) = Ok (before ++ others)
 behind before (Err e) = Err e
 
 -- of the texts the first k are read
-pub record IsReadTo (side : ℕ) (models : List Content) (texts : List (List ℕ)) (k : ℕ) (scripts : List (List ScriptLine)) : Type 0 where
+pub record IsReadTo (side : ℕ) (models : List Content) (texts : List (List ℕ)) (k : ℕ)
+    (scripts : List (List ScriptLine)) : Type 0 where
   pub number : length scripts ≡ k
   pub read : scripts_of side models texts ≡ behind scripts (texts_from side models k (drop k texts))
   pub fit : AreFitScripts side models scripts
@@ -32,54 +33,83 @@ none_behind : {X E : Type 0} (r : Result (List X) E) → r ≡ behind [] r
 none_behind (Ok xs) = refl
 none_behind (Err e) = refl
 
-pub none_read : (side : ℕ) (models : List Content) (texts : List (List ℕ)) → IsReadTo side models texts 0 []
+pub none_read : (side : ℕ) (models : List Content) (texts : List (List ℕ))
+    → IsReadTo side models texts 0 []
 none_read side models texts = record {
   number = refl;
   read = none_behind (scripts_of side models texts);
   fit = record { fit = All-nil _; rise = All-nil _ };
 }
 
-one_behind : {X E : Type 0} (before : List X) (x : X) (r : Result (List X) E) → behind before (r >>= λ others. Ok (x ∷ others)) ≡ behind (before ++ x ∷ []) r
+one_behind : {X E : Type 0} (before : List X) (x : X) (r : Result (List X) E)
+    → behind before (r >>= λ others. Ok (x ∷ others)) ≡ behind (before ++ x ∷ []) r
 one_behind before x (Ok others) = ap Ok (sym (append_assoc before (x ∷ []) others))
 one_behind before x (Err e) = refl
 
 -- what the texts say, of which one has these commands
-first_read : (side : ℕ) (models : List Content) (number : ℕ) (text : List ℕ) (others : List (List ℕ)) (read : Result (List ScriptLine) ScriptFault) (lines : List ScriptLine) → read ≡ Ok lines
-    → (in_script number read >>= λ lines. texts_from side models (number + 1) others >>= λ more. Ok (lines ∷ more)) ≡ (texts_from side models (number + 1) others >>= λ more. Ok (lines ∷ more))
+first_read : (side : ℕ) (models : List Content) (number : ℕ) (text : List ℕ)
+    (others : List (List ℕ)) (read : Result (List ScriptLine) ScriptFault) (lines : List ScriptLine)
+    → read ≡ Ok lines
+    → (in_script number read >>= λ lines. texts_from side models (number + 1) others >>= λ more. Ok
+    (lines ∷ more)) ≡ (texts_from side models (number + 1) others >>= λ more. Ok (lines ∷ more))
 first_read side models number text others read lines is = rw is refl
 
-pub next_read : (side : ℕ) (models : List Content) (texts : List (List ℕ)) (text : List ℕ) (k : ℕ) (old new : List (List ScriptLine)) → k < length texts → text ≡ get_or texts k text
-    → IsReadTo side models texts k old → ReadsScript side models text old new → IsReadTo side models texts (k + 1) new
+pub next_read : (side : ℕ) (models : List Content) (texts : List (List ℕ)) (text : List ℕ) (k : ℕ)
+    (old new : List (List ScriptLine)) → k < length texts → text ≡ get_or texts k text
+    → IsReadTo side models texts k old → ReadsScript side models text old new
+    → IsReadTo side models texts (k + 1) new
 next_read side models texts text k old new within at so_far reads =
-    let more : drop k texts ≡ text ∷ drop (k + 1) texts = drop_more texts k text within ∙ ap (λ t. t ∷ drop (k + 1) texts) (sym at) in
+    let more : drop k texts ≡ text ∷ drop (k + 1) texts =
+    drop_more texts k text within ∙ ap (λ t. t ∷ drop (k + 1) texts) (sym at) in
     let rest = drop (k + 1) texts in
     let here : texts_from side models k (text ∷ rest) ≡ (texts_from side models (k + 1) rest >>= λ others. Ok (reads.lines ∷ others)) =
-    first_read side models k text rest (commands_of side models text) reads.lines reads.read in
+    first_read side models k text rest
+    (commands_of false side models text) reads.lines reads.read in
     record {
-      number = ap length reads.kept ∙ length-append old (reads.lines ∷ []) ∙ (let n = so_far.number in omega (arith, n));
-      read = so_far.read ∙ ap (λ ts. behind old (texts_from side models k ts)) more ∙ ap (behind old) here ∙ one_behind old reads.lines (texts_from side models (k + 1) rest)
+      number = ap length reads.kept ∙ length-append old (reads.lines ∷ [])
+          ∙ (let n = so_far.number in omega (arith, n));
+      read = so_far.read ∙ ap (λ ts. behind old (texts_from side models k ts)) more
+          ∙ ap (behind old) here ∙ one_behind old reads.lines (texts_from side models (k + 1) rest)
           ∙ ap (λ ss. behind ss (texts_from side models (k + 1) rest)) (sym reads.kept);
       fit = subst (AreFitScripts side models) (sym reads.kept) (record {
-        fit = All-append (All (λ l. CommandFits (2 ^ side) models l.command)) old (reads.lines ∷ []) so_far.fit.fit reads.fit.fit;
+        fit = All-append (All (λ l. CommandFits false (2 ^ side) models l.command)) old
+            (reads.lines ∷ []) so_far.fit.fit reads.fit.fit;
         rise = All-append (RisesFrom 1) old (reads.lines ∷ []) so_far.fit.rise reads.fit.rise;
       });
     }
 
-pub all_read : (side : ℕ) (models : List Content) (texts : List (List ℕ)) (k : ℕ) (scripts : List (List ScriptLine)) → length texts ≤ k → IsReadTo side models texts k scripts → scripts_of side models texts ≡ Ok scripts
+pub all_read : (side : ℕ) (models : List Content) (texts : List (List ℕ)) (k : ℕ)
+    (scripts : List (List ScriptLine)) → length texts ≤ k → IsReadTo side models texts k scripts
+    → scripts_of side models texts ≡ Ok scripts
 all_read side models texts k scripts past so_far =
-    so_far.read ∙ ap (λ ts. behind scripts (texts_from side models k ts)) (drop_all k texts past) ∙ ap Ok (append-nil scripts)
+    so_far.read ∙ ap (λ ts. behind scripts (texts_from side models k ts)) (drop_all k texts past)
+    ∙ ap Ok (append-nil scripts)
 
 -- a fault of the next text is the first of all
-fault_at : (side : ℕ) (models : List Content) (number : ℕ) (others : List (List ℕ)) (old : List (List ScriptLine)) (here : Result (List ScriptLine) NumberedFault) (at : NumberedFault) → here ≡ Err at
-    → behind old (here >>= λ lines. texts_from side models (number + 1) others >>= λ more. Ok (lines ∷ more)) ≡ Err at
+fault_at : (side : ℕ) (models : List Content) (number : ℕ) (others : List (List ℕ))
+    (old : List (List ScriptLine)) (here : Result (List ScriptLine) NumberedFault)
+    (at : NumberedFault) → here ≡ Err at
+    → behind old
+    (here >>= λ lines. texts_from side models (number + 1) others >>= λ more. Ok
+    (lines ∷ more)) ≡ Err at
 fault_at side models number others old here at is = rw is refl
 
-pub next_refused : (r : TextRefused) (side : ℕ) (models : List Content) (texts : List (List ℕ)) (text : List ℕ) (k : ℕ) (old : List (List ScriptLine)) → k < length texts → text ≡ get_or texts k text
-    → IsReadTo side models texts k old → RefusesScripts r (in_script (length old) (commands_of side models text)) → RefusesScripts r (scripts_of side models texts)
+pub next_refused : (r : TextRefused) (side : ℕ) (models : List Content) (texts : List (List ℕ))
+    (text : List ℕ) (k : ℕ) (old : List (List ScriptLine)) → k < length texts
+    → text ≡ get_or texts k text
+    → IsReadTo side models texts k old
+    → RefusesScripts r (in_script (length old) (commands_of false side models text))
+    → RefusesScripts r (scripts_of side models texts)
 next_refused (Script at) side models texts text k old within is so_far refuses =
-    let more : drop k texts ≡ text ∷ drop (k + 1) texts = drop_more texts k text within ∙ ap (λ t. t ∷ drop (k + 1) texts) (sym is) in
-    let here : in_script k (commands_of side models text) ≡ Err at = subst (λ (n : ℕ). in_script n (commands_of side models text) ≡ Err at) so_far.number refuses.1 in
-    (refuses.0, so_far.read ∙ ap (λ ts. behind old (texts_from side models k ts)) more ∙ fault_at side models k (drop (k + 1) texts) old _ at here)
+    let more : drop k texts ≡ text ∷ drop (k + 1) texts =
+    drop_more texts k text within ∙ ap (λ t. t ∷ drop (k + 1) texts) (sym is) in
+    let here : in_script k (commands_of false side models text) ≡ Err at =
+    subst (λ (n : ℕ). in_script n (commands_of false side models text)
+    ≡ Err at) so_far.number refuses.1 in (
+      refuses.0,
+      so_far.read ∙ ap (λ ts. behind old (texts_from side models k ts)) more
+          ∙ fault_at side models k (drop (k + 1) texts) old _ at here,
+    )
 next_refused Memory side models texts text k old within is so_far refuses = tt
 next_refused (Vox fault) side models texts text k old within is so_far refuses = absurd refuses
 next_refused Collides side models texts text k old within is so_far refuses = absurd refuses

@@ -163,7 +163,8 @@ all_outputs outputs k old new past so_far = (
 one_output : {X : Type 0} (f : X → Named) (xs : List X) (k : ℕ) (x : X) → slice_get xs k ≡ Some x
     → take 1 (drop k (map f xs)) ≡ f x ∷ []
 one_output f [] k x is = absurd (none-some x is)
-one_output {X = X} f (y ∷ xs) zero x is = ap (λ (z : X). f z ∷ []) (get_or_from_slice_get (y ∷ xs) 0 x y is)
+one_output {X =
+    X} f (y ∷ xs) zero x is = ap (λ (z : X). f z ∷ []) (get_or_from_slice_get (y ∷ xs) 0 x y is)
 one_output f (y ∷ xs) (suc k) x is = one_output f xs k x is
 
 pub output_written : {X : Type 0} (f : X → Named) (xs : List X) (k : ℕ) (x : X) (bytes : List ℕ)

@@ -1,5 +1,5 @@
 -- What the command `audit` answers, or is refused for.
-use Rattle.std.specs.Prelude.{◌≡◌, ℕ, ◌↔◌, List, [], ◌∷◌, Bool, IsTrue, All, Option, map, get_or, take, drop, Ok, Err, ⊤}
+use Rattle.std.specs.Prelude.{◌≡◌, ◌⊎◌, ℕ, ◌↔◌, List, [], ◌∷◌, Bool, true, false, IsTrue, All, Option, map, get_or, take, drop, Ok, Err, ⊤}
 use Rattle.vw_io.specs.Outputs.{Named}
 use Rattle.vox_read.specs.Contents.{Content}
 use Rattle.vox_read.specs.Files.{ReadsModels}
@@ -7,6 +7,7 @@ use Rattle.history_model.specs.Logs.{Log}
 use Rattle.history_model.specs.Entries.{IsTold}
 use Rattle.history_model.specs.Journal.{journal_of}
 use Rattle.history_model.specs.Refusals.{RefusesJournal}
+use Rattle.history_model.specs.declared.reading.JournalFault.{JournalFault}
 use Rattle.history_model.specs.declared.reading.JournalFault.TheVariants as journals
 use Rattle.node_words.specs.declared.shares.Full.{Full}
 use Rattle.script.specs.declared.commands.ScriptLine.{ScriptLine}
@@ -41,10 +42,25 @@ audit_texts n texts = record {
 
 -- ---- what they say
 
--- the text is that of a history
+-- the text is that of a history whose cells have no tints
 pub record IsJournalOf (text : List ℕ) (log : Log) : Type 0 where
   pub told : IsTold log
   pub is : text ≡ journal_of log
+  pub plain : log.coloured ≡ false
+
+-- the text is that of a history whose cells have tints
+pub record TellsColours (text : List ℕ) : Type 0 where
+  pub log : Log
+  pub told : IsTold log
+  pub is : text ≡ journal_of log
+  pub coloured : log.coloured ≡ true
+
+-- what a refused journal says of its text: this is its first line that doesn't fit, or the first
+-- line of a history whose cells have tints, which is not taken; want of memory says nothing
+abbrev pub RefusesPlain : JournalFault → List ℕ → Type 0
+RefusesPlain (journals.Line line) text =
+    RefusesJournal (journals.Line line) text ⊎ ((line ≡ 1) × TellsColours text)
+RefusesPlain journals.Memory text = ⊤
 
 -- the texts are those of these answers
 pub record AreTranscriptsOf (texts : List (List ℕ)) (said : List (List LineAnswer)) : Type 0 where
@@ -83,27 +99,28 @@ pub record AllRead (file : List ℕ) (t : AuditTexts) : Type 0 where
 
 -- ---- what is answered
 
--- yes exactly where these are the history and the transcripts of one run of the scripts
-pub record AnswersAudit (buckets : Option ℕ) (file : List ℕ) (t : AuditTexts) (answer : Bool)
-    : Type 0 where
+-- yes exactly where these are the history and the transcripts of one run of the scripts, which held
+-- so many last versions alone
+pub record AnswersAudit (buckets : Option ℕ) (keep : ℕ) (file : List ℕ) (t : AuditTexts)
+    (answer : Bool) : Type 0 where
   pub all : AllRead file t
   pub is : IsTrue answer
-      ↔ IsAudited (judged_by all.scripts.begun.log.side buckets) all.scripts.begun.models
+      ↔ IsAudited keep (judged_by all.scripts.begun.log.side buckets) all.scripts.begun.models
       all.scripts.begun.log all.scripts.lines all.said
 
 -- and nothing is written
-pub record Audited (buckets : Option ℕ) (file : List ℕ) (t : AuditTexts) (answer : Bool)
-    (outputs : List Named) : Type 0 where
-  pub answers : AnswersAudit buckets file t answer
+pub record Audited (buckets : Option ℕ) (keep : ℕ) (file : List ℕ) (t : AuditTexts)
+    (answer : Bool) (outputs : List Named) : Type 0 where
+  pub answers : AnswersAudit buckets keep file t answer
   pub none : outputs ≡ []
 
 -- ---- what is refused
 
--- the file gives models, and this is the journal's first line that doesn't fit
+-- the file gives models, and this line of the journal is refused
 pub record LacksJournal (file : List ℕ) (t : AuditTexts) (line : ℕ) : Type 0 where
   pub models : List Content
   pub gives : ReadsModels file (Ok models)
-  pub first : RefusesJournal (journals.Line line) t.journal
+  pub first : RefusesPlain (journals.Line line) t.journal
 
 -- the journal gives a history, and this is the first fault of the first script that has one
 pub record LacksScript (file : List ℕ) (t : AuditTexts) (at : NumberedFault) : Type 0 where

@@ -5,14 +5,13 @@ use Rattle.vox_read.specs.Contents.{Content}
 use Rattle.vox_read.specs.Files.{ReadsModels}
 use Rattle.history_model.specs.declared.reading.JournalFault.TheVariants as journals
 use Rattle.history_model.specs.Logs.{Log, IsLegal}
-use Rattle.history_model.specs.Refusals.{RefusesJournal}
 use Rattle.node_words.specs.declared.shares.Full.{Full}
 use Rattle.dag_answers.specs.Replaying.{MayFillAlong, replay_plan}
 use Rattle.dag_answers.specs.Histories.{IsFileOfHistory}
 use Rattle.dag_answers.specs.Legality.{IsFirstIllegal}
 use Rattle.script_files.specs.declared.refusals.TextRefused.{TextRefused}
 use Rattle.script_files.specs.declared.refusals.TextRefused.TheVariants.{Vox, Journal, StoreFull, Memory}
-use Rattle.script_files.specs.Audits.{IsJournalOf}
+use Rattle.script_files.specs.Audits.{IsJournalOf, RefusesPlain}
 use Rattle.script_files.specs.Orders.{DagAsked}
 
 -- the journal's text comes behind that of the VOX file
@@ -45,11 +44,11 @@ pub record DagWritten (asked : DagAsked) (file journal : List ℕ)
 
 -- ---- what is refused
 
--- the file gives models, and this is the journal's first line that doesn't fit
+-- the file gives models, and this line of the journal is refused
 pub record LacksLine (file journal : List ℕ) (line : ℕ) : Type 0 where
   pub models : List Content
   pub gives : ReadsModels file (Ok models)
-  pub first : RefusesJournal (journals.Line line) journal
+  pub first : RefusesPlain (journals.Line line) journal
 
 -- or it is the line of the first record that breaks a rule of a legal history
 pub record HasIllegal (file journal : List ℕ) (line : ℕ) : Type 0 where

@@ -23,10 +23,12 @@ use Rattle.script_files.specs.Scripts.{scripts_of}
 abbrev pub demo_plan : Layout
 demo_plan = record { side = 8; buckets = usual_buckets; cap = 128 }
 
--- the outputs' names are those of scripts `demo.0` to `demo.3`, and `demo.journal`
+-- all versions are held, and the outputs' names are those of scripts `demo.0` to `demo.3`, and
+-- `demo.journal`
 abbrev pub demo_asked : Asked
 demo_asked = record {
   plan = demo_plan;
+  keep = 0;
   journal = Some (codes "demo.journal");
   report = None;
   file = [];

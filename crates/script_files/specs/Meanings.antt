@@ -10,8 +10,8 @@ use Rattle.history_model.specs.Logs.{Log}
 use Rattle.transcript.specs.declared.answers.LineAnswer.{LineAnswer}
 use Rattle.script.specs.declared.commands.ScriptLine.{ScriptLine}
 use Rattle.script.specs.Fitting.{IsOfText}
-use Rattle.conformance.specs.Runs.{AllRan}
-use Rattle.session_runs.specs.Ran.{SessionsRan}
+use Rattle.conformance.specs.Runs.{AllRanKeeping}
+use Rattle.session_runs.specs.Ran.{SessionsRanKeeping}
 use Rattle.session_runs.specs.Seen.{SessionSeen}
 use Rattle.world_run.specs.Closed.{Closed}
 use Rattle.world_run.specs.Ends.{IsEndOf}
@@ -64,7 +64,8 @@ abbrev pub AreApart : Asked → List (List ScriptLine) → Type 0
 AreApart asked lines = collide (output_names asked lines) (inputs_of (Run asked)) ≡ false
 
 -- `run`: the file gives models, no script has a fault, no names collide, and these are the history
--- and the transcripts of the run of all scripts
+-- and the transcripts of the run of all scripts, in which as many last versions alone are held as
+-- is asked for
 pub record IsAccepted (asked : Asked) (texts : List (List ℕ)) (log : Log)
     (transcripts : List (List LineAnswer)) : Type 0 where
   pub models : List Content
@@ -72,7 +73,7 @@ pub record IsAccepted (asked : Asked) (texts : List (List ℕ)) (log : Log)
   pub lines : List (List ScriptLine)
   pub read : scripts_of asked.plan.side models (scripts_in texts) ≡ Ok lines
   pub apart : AreApart asked lines
-  pub run : AllRan asked.plan models lines transcripts log
+  pub run : AllRanKeeping asked.keep asked.plan models lines transcripts log
 
 -- the numbers of a run: its scripts, the records and marks of its history, and, over all levels,
 -- the different contents of the blocks of the versions that are kept
@@ -117,7 +118,7 @@ pub record SessionsBegan (asked : Asked) (texts : List (List ℕ)) (outputs : Li
     pub apart : AreApart asked lines
     pub transcripts : List (List LineAnswer)
     pub sessions : List SessionSeen
-    pub ran : SessionsRan asked.plan models 0 lines transcripts sessions
+    pub ran : SessionsRanKeeping asked.keep asked.plan models 0 lines transcripts sessions
     pub begins : BeginsFirst asked (given_seen models lines transcripts sessions) outputs
 
 -- what a command gives where nothing is refused, and the closed world where it ran scripts
@@ -133,7 +134,7 @@ GivesOutputs (Scene asked) texts (Placed told) None outputs =
 GivesOutputs (Dag asked) texts Written None outputs =
     DagWritten asked (file_in texts) (journal_in texts) outputs
 GivesOutputs (Audit asked) texts (Answered answer) None outputs =
-    Audited asked.buckets (file_in texts) (texts_audited asked texts) answer outputs
+    Audited asked.buckets asked.keep (file_in texts) (texts_audited asked texts) answer outputs
 GivesOutputs (Look asked) texts (Looked answer) None outputs =
     LookAnswered asked (file_in texts) answer outputs
 GivesOutputs _ texts _ _ outputs = ⊥

@@ -3,10 +3,12 @@ use Rattle.std.specs.Prelude.{ℕ, if◌then◌else◌, List, Option, Some, None
 use Rattle.node_words.specs.Plans.{Layout, is_number_of_buckets}
 use Rattle.history_model.specs.declared.questions.Question.{Question}
 
--- how the world's store is laid out, the names of the journal and of the report where they are
--- wanted, and those of the VOX file and of the scripts, of which the first is that of session 0
+-- how the world's store is laid out, how many last versions alone are held, or 0 for all, the names
+-- of the journal and of the report where they are wanted, and those of the VOX file and of the
+-- scripts, of which the first is that of session 0
 pub record Asked : Type 0 where
   pub plan : Layout
+  pub keep : ℕ
   pub journal : Option (List ℕ)
   pub report : Option (List ℕ)
   pub file : List ℕ
@@ -30,10 +32,11 @@ pub record SceneAsked : Type 0 where
   pub script : List ℕ
 
 -- what an audit is asked for: the number of buckets of each level by which a full one is judged,
--- where it isn't the usual one, and the names of the VOX file, of the journal and of the scripts,
--- of which the first is that of session 0
+-- where it isn't the usual one, how many last versions alone were held, or 0 for all, and the names
+-- of the VOX file, of the journal and of the scripts, of which the first is that of session 0
 pub record AuditAsked : Type 0 where
   pub buckets : Option ℕ
+  pub keep : ℕ
   pub file : List ℕ
   pub journal : List ℕ
   pub scripts : List (List ℕ)

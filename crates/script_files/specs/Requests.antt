@@ -17,6 +17,8 @@ use Rattle.vox_read.specs.Contents.{Content}
 use Rattle.session_runs.specs.Kept.{KeptSave, kept_of, kept_by}
 use Rattle.session_runs.specs.Seen.{SessionSeen}
 use Rattle.world_run.specs.Open.{saved_file}
+use Rattle.history_model.specs.Moments.{world_has}
+use Rattle.flood.specs.Saved.{file_of_box}
 
 -- the most bytes of a VOX file or a file of many versions, and of any other input
 abbrev pub vox_limit : ℕ
@@ -86,19 +88,31 @@ abbrev pub wanted_output : Option (List ℕ) → List ℕ → List Named
 wanted_output None text = []
 wanted_output (Some name) text = record { name = name; bytes = text } ∷ []
 
--- what sessions have come to: the models, their transcripts, and what they saved
+-- the file of an accepted save: that of its box at its version
+abbrev pub save_file : List Content → KeptSave → List ℕ
+save_file models k =
+    file_of_box k.save.part (world_has models k.seen.records k.save.version)
+
+-- the file of a save, under its name
+abbrev pub saved_output : (KeptSave → List ℕ) → KeptSave → Named
+saved_output file k = record { name = name_bytes k.save.name; bytes = file k }
+
+-- what sessions have come to: the models, their transcripts, what they saved, and the file of each
+-- save
 pub record Given : Type 0 where
   pub models : List Content
   pub transcripts : List (List LineAnswer)
   pub kept : List KeptSave
+  pub file : KeptSave → List ℕ
 
--- by what each session saw, and by the one history of all
+-- by the cells of the store that each session saw, and by the one history of all
 abbrev pub given_seen : List Content → List (List ScriptLine) → List (List LineAnswer)
     → List SessionSeen → Given
 given_seen models lines transcripts sessions = record {
   models = models;
   transcripts = transcripts;
   kept = kept_of lines transcripts sessions;
+  file = saved_file models;
 }
 
 abbrev pub given_by : List Content → List (List ScriptLine) → Log → List (List LineAnswer) → Given
@@ -106,19 +120,15 @@ given_by models lines log transcripts = record {
   models = models;
   transcripts = transcripts;
   kept = kept_by lines transcripts log;
+  file = save_file models;
 }
-
--- the file of an accepted save, under its name
-abbrev pub saved_output : List Content → KeptSave → Named
-saved_output models k =
-    record { name = name_bytes k.save.name; bytes = saved_file models k }
 
 -- what a run writes first: the texts of its transcripts, and then its saved files, by script and
 -- line
 abbrev pub written_first : Asked → Given → List Named
 written_first asked given =
     named_texts (map transcript_name asked.scripts) (map transcript_of given.transcripts)
-    ++ map (saved_output given.models) given.kept
+    ++ map (saved_output given.file) given.kept
 
 -- and then, once the world is closed: its journal and this report, where they are wanted
 abbrev pub written_last : Asked → Log → List ℕ → List Named

@@ -19,11 +19,12 @@ texts_left texts log transcripts = record {
   transcripts = map transcript_of transcripts;
 }
 
--- what a run left is never answered no, by its own buckets, where its texts can be read back
+-- what a run left is never answered no, by its own buckets and with as many versions kept, where
+-- its texts can be read back
 abbrev pub RunsAreAnsweredYes : Type 0
 RunsAreAnsweredYes = (asked : Asked) (texts : List (List ℕ)) (log : Log)
     (transcripts : List (List LineAnswer)) (buckets : Option ℕ) (answer : Bool)
     → IsAccepted asked texts log transcripts → IsTold log → All (All IsLineAnswer) transcripts
     → (judged_by log.side buckets).buckets ≡ asked.plan.buckets
-    → AnswersAudit buckets (file_in texts) (texts_left texts log transcripts) answer
+    → AnswersAudit buckets asked.keep (file_in texts) (texts_left texts log transcripts) answer
     → IsTrue answer

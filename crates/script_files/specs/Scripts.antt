@@ -1,5 +1,5 @@
 -- What the texts of scripts say, one after the other.
-use Rattle.std.specs.Prelude.{◌≡◌, ℕ, ◌+◌, ◌^◌, true, List, [], ◌∷◌, All, Result, Ok, Err, ⊤}
+use Rattle.std.specs.Prelude.{◌≡◌, ℕ, ◌+◌, ◌^◌, true, false, List, [], ◌∷◌, All, Result, Ok, Err, ⊤}
 use Rattle.plain_text.specs.Steps.{◌>>=◌}
 use Rattle.vox_read.specs.Contents.{Content}
 use Rattle.script.specs.declared.commands.ScriptLine.{ScriptLine}
@@ -23,7 +23,7 @@ abbrev pub texts_from : ℕ → List Content → ℕ → List (List ℕ)
     → Result (List (List ScriptLine)) NumberedFault
 texts_from side models number [] = Ok []
 texts_from side models number (text ∷ texts) =
-    in_script number (commands_of side models text) >>= λ lines.
+    in_script number (commands_of false side models text) >>= λ lines.
     texts_from side models (number + 1) texts >>= λ others. Ok (lines ∷ others)
 
 -- scripts are counted from 0
@@ -43,5 +43,5 @@ HasFileName l = FileNameIsOf l.command
 -- world and the models, and lines rise
 pub record AreFitScripts (side : ℕ) (models : List Content)
     (scripts : List (List ScriptLine)) : Type 0 where
-  pub fit : All (All (λ l. CommandFits (2 ^ side) models l.command)) scripts
+  pub fit : All (All (λ l. CommandFits false (2 ^ side) models l.command)) scripts
   pub rise : All (RisesFrom 1) scripts

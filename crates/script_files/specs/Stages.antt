@@ -1,5 +1,5 @@
 -- What the stages of a command give.
-use Rattle.std.specs.Prelude.{◌≡◌, ◌⊎◌, ℕ, List, [], ◌∷◌, ◌++◌, Option, Some, None, Result, Ok, Err, ⊤}
+use Rattle.std.specs.Prelude.{◌≡◌, ◌⊎◌, ℕ, false, List, [], ◌∷◌, ◌++◌, Option, Some, None, Result, Ok, Err, ⊤}
 use Rattle.vw_io.specs.Outside.{ShelfState}
 use Rattle.vw_io.specs.Outputs.{Named, AreWritten, StopsWith}
 use Rattle.vox_read.specs.Contents.{Content, cells_of_all}
@@ -26,6 +26,7 @@ use Rattle.script_files.specs.declared.scripts.Read.{Read}
 use Rattle.script_files.specs.Meanings.{file_in, scripts_in, AreApart, TalliesRun}
 use Rattle.script_files.specs.Refusals.{output_name}
 use Rattle.script_files.specs.Reports.{ReportIs, BeginsFirst, BeginsTexts}
+use Rattle.world_run.specs.Open.{saved_file}
 use Rattle.script_files.specs.Requests.{Given, written_last, texts_written}
 
 -- the bytes give these models, and the number is that of their cells
@@ -51,6 +52,7 @@ given_of r = record {
   models = r.run.models;
   transcripts = r.transcripts.items;
   kept = r.run.kept;
+  file = saved_file r.run.models;
 }
 
 -- its world was closed with this history, and left this
@@ -75,7 +77,7 @@ pub record AreTexts (asked : Asked) (models : List Content) (log : Log)
 pub record ReadsScript (side : ℕ) (models : List Content) (text : List ℕ)
     (old new : List (List ScriptLine)) : Type 0 where
   pub lines : List ScriptLine
-  pub read : commands_of side models text ≡ Ok lines
+  pub read : commands_of false side models text ≡ Ok lines
   pub kept : new ≡ old ++ lines ∷ []
   pub fit : AreFitScripts side models (lines ∷ [])
 

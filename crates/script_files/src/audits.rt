@@ -3,6 +3,7 @@ ghost use Rattle.std.specs.Prelude.{◌≡◌, ◌≤◌, ◌+◌, ◌^◌, ◌<
 ghost use Rattle.node_words.specs.Plans.{is_number_of_buckets};
 ghost use Rattle.audit.specs.Audits.{IsAudited, RefusesAudit, judged_by};
 ghost use Rattle.vox_read.specs.Contents.{AreModels};
+ghost use Rattle.history_model.specs.Logs.{IsPlain};
 ghost use Rattle.script_files.specs.declared.requests.Request.TheVariants.{Audit};
 ghost use Rattle.script_files.specs.Audits.{AnswersAudit, RefusesAuditing};
 ghost use Rattle.script_files.specs.Meanings.{file_in, texts_audited};
@@ -13,13 +14,14 @@ ghost use Rattle.script_files.specs.Scripts.{AreFitScripts};
 ghost use Rattle.script_files.specs.Audits.{AreTranscriptsOf};
 ghost use Rattle.script_files.specs.Auditing.{IsLeft, AddsTranscript, RefusesNextTranscript, RefusesTranscripts};
 
+use crate::journals::read_plain;
 use crate::refusals::{CommandRefused, TextRefused, TranscriptLine};
 use crate::requests::{AuditOrder, Buckets, SCRIPT_LIMIT, VOX_LIMIT};
 use crate::scripts::read_scripts;
 use crate::tallies::{Completed, Done};
 use audit::{AuditRefused, audit};
 use conformance::Transcript;
-use history_model::{History, read_journal};
+use history_model::History;
 use script::Script;
 use std::alloc::Global;
 use transcript::{TranscriptFault, read_transcript};
@@ -129,23 +131,25 @@ fn answer_of_texts(
         ≡ 2 + (length order.now.scripts + length order.now.scripts) }
     requires few { length order.now.scripts ≤ 64 }
     requires within { length (file_in texts.items) ≤ 2 ^ 28 }
-    ensures answers { IfOk result (AnswersAudit order.now.buckets (file_in texts.items)
-        (texts_audited order.now texts.items)) }
+    ensures answers { IfOk result (AnswersAudit order.now.buckets order.now.keep
+        (file_in texts.items) (texts_audited order.now texts.items)) }
     ensures refused { IfErr result
         (RefusesAuditing (file_in texts.items) (texts_audited order.now texts.items)) }
 {
     let number = order.number();
     let buckets = order.buckets();
+    let keep = order.keep();
     let mut texts = texts;
     let file = texts.remove(0);
     let journal = texts.remove(0);
-    answer_of(alloc, buckets, number, file, journal, texts)
+    answer_of(alloc, buckets, keep, number, file, journal, texts)
 }
 
 // The answer by a VOX file, a journal, and the texts of so many scripts and of their transcripts.
 fn answer_of(
     alloc: Global,
     buckets: Option<Buckets>,
+    keep: u32,
     number: usize,
     file: Text,
     journal: Text,
@@ -154,7 +158,7 @@ fn answer_of(
     requires some { length texts.items ≡ number + number }
     requires few { number ≤ 64 }
     requires within { length file ≤ 2 ^ 28 }
-    ensures answers { IfOk result (AnswersAudit buckets file (record {
+    ensures answers { IfOk result (AnswersAudit buckets keep file (record {
       journal = journal;
       scripts = take number texts.items;
       transcripts = drop number texts.items;
@@ -169,19 +173,25 @@ fn answer_of(
         Ok(left) => left,
         Err(refused) => return Err(refused),
     };
-    match answer_by(alloc, buckets, left) {
+    match answer_by(alloc, buckets, keep, left) {
         Ok(answer) => Ok(answer),
         Err(refused) => Err(TextRefused::from(refused)),
     }
 }
 
 // The answer by what a run left.
-fn answer_by(alloc: Global, buckets: Option<Buckets>, left: RunLeft) -> Result<bool, AuditRefused>
+fn answer_by(
+    alloc: Global,
+    buckets: Option<Buckets>,
+    keep: u32,
+    left: RunLeft,
+) -> Result<bool, AuditRefused>
     requires models { AreModels left.models }
+    requires plain { IsPlain left.history }
     requires fit { AreFitScripts left.history.side left.models left.scripts.items }
     requires number { length left.scripts.items ≤ 64 }
     ensures answer { IfOk result (λ answer. IsTrue answer
-        ↔ IsAudited (judged_by left.history.side buckets) left.models left.history
+        ↔ IsAudited keep (judged_by left.history.side buckets) left.models left.history
         left.scripts.items left.transcripts.items) }
     ensures refused { IfErr result (RefusesAudit left.models left.history) }
 {
@@ -199,6 +209,7 @@ fn answer_by(alloc: Global, buckets: Option<Buckets>, left: RunLeft) -> Result<b
         scripts.as_slice(),
         transcripts.as_slice(),
         buckets,
+        keep,
     )
 }
 
@@ -231,6 +242,7 @@ fn read_left(
       transcripts = drop number texts.items;
     })) }
     ensures models { IfOk result (λ left. AreModels left.models) }
+    ensures plain { IfOk result (λ left. IsPlain left.history) }
     ensures fit { IfOk result
         (λ left. AreFitScripts left.history.side left.models left.scripts.items) }
     ensures number { IfOk result (λ left. length left.scripts.items ≤ 64) }
@@ -245,7 +257,7 @@ fn read_left(
         Err(fault) => return Err(TextRefused::from(fault)),
     };
     drop(file);
-    let history = match read_journal(alloc, journal.as_slice()) {
+    let history = match read_plain(alloc, journal.as_slice()) {
         Ok(history) => history,
         Err(fault) => return Err(TextRefused::from(fault)),
     };

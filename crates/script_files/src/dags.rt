@@ -5,11 +5,11 @@ ghost use Rattle.script_files.specs.Meanings.{file_in};
 ghost use Rattle.script_files.specs.Outcomes.{Outcome};
 ghost use Rattle.script_files.specs.Refusals.{IsNamed};
 
+use crate::journals::read_plain;
 use crate::refusals::{CommandRefused, OutputRefused, TextRefused};
 use crate::requests::{DagOrder, SCRIPT_LIMIT, VOX_LIMIT};
 use crate::tallies::{Completed, Done};
 use dag_answers::{HistoryRefused, file_of_history};
-use history_model::read_journal;
 use std::alloc::Global;
 use vox_read::read_models;
 use vw_io::{Input, Output, Shelf, Text, read_all, write_all};
@@ -84,7 +84,7 @@ fn dag_of(alloc: Global, file: Text, journal: Text) -> Result<Vec<u8>, TextRefus
         Err(fault) => return Err(TextRefused::from(fault)),
     };
     drop(file);
-    let history = match read_journal(alloc, journal.as_slice()) {
+    let history = match read_plain(alloc, journal.as_slice()) {
         Ok(history) => history,
         Err(fault) => return Err(TextRefused::from(fault)),
     };

@@ -30,12 +30,14 @@ use world_run::run_scripts;
 
 static SCRIPTS: [&str; 4] = ["demo.0", "demo.1", "demo.2", "demo.3"];
 
-/// How the store of a load's run is laid out, and what its outputs are named after.
+/// How the store of a load's run is laid out, that all versions are held, and what the outputs are
+/// named after.
 pub fn demo_order<'w>() -> Order<'w>
     ensures { result ≡ demo_asked }
 {
     Order {
         plan: Plan::usual(side()),
+        keep: 0,
         journal: Some("demo.journal"),
         report: None,
         file: "",
@@ -81,6 +83,7 @@ pub fn run_demo<'w, S: Shelf, R: Threads + Wait + Sync, G: Gate + Sync>(
         &order.plan,
         &read.models,
         read.scripts.as_slice(),
+        order.keep,
     ) else {
         return Err(CommandRefused::Text(TextRefused::Memory));
     };

@@ -12,6 +12,7 @@ mod counts;
 mod dags;
 mod demos;
 mod floods;
+mod journals;
 mod laws;
 mod looks;
 mod outputs;

@@ -43,12 +43,13 @@ impl<'w> Model for FileName<'w> {
     ghost view = { λ name. name.text.now };
 }
 
-/// What a run is asked for: how the world's store is laid out, the names of the journal and of the
-/// report where they are wanted, and those of the VOX file and of the scripts, of which the first
-/// is that of session 0.
+/// What a run is asked for: how the world's store is laid out, how many last versions alone are
+/// held, or 0 for all, the names of the journal and of the report where they are wanted, and those
+/// of the VOX file and of the scripts, of which the first is that of session 0.
 #[derive(Drop)]
 pub struct Order<'w> {
     pub plan: Plan,
+    pub keep: u32,
     pub journal: Option<&'w str>,
     pub report: Option<&'w str>,
     pub file: &'w str,
@@ -64,6 +65,7 @@ impl<'w> Model for Order<'w> {
 
     ghost view = { λ order. record {
       plan = order.plan;
+      keep = order.keep;
       journal = option_map (λ name. name.now) order.journal;
       report = option_map (λ name. name.now) order.report;
       file = order.file.now;
@@ -186,11 +188,12 @@ impl Buckets {
 }
 
 /// What an audit is asked for: the number of buckets by which a full one is judged, where it isn't
-/// the usual one of each level, and the names of the VOX file, the journal and the scripts, of
-/// which the first is that of session 0.
+/// the usual one of each level, how many last versions alone were held, or 0 for all, and the names
+/// of the VOX file, the journal and the scripts, of which the first is that of session 0.
 #[derive(Drop)]
 pub struct AuditOrder<'w> {
     pub buckets: Option<Buckets>,
+    pub keep: u32,
     pub file: &'w str,
     pub journal: &'w str,
     pub scripts: &'w [String],
@@ -204,6 +207,7 @@ impl<'w> Model for AuditOrder<'w> {
 
     ghost view = { λ order. record {
       buckets = order.buckets;
+      keep = order.keep;
       file = order.file.now;
       journal = order.journal.now;
       scripts = map string_bytes order.scripts.now;
@@ -245,5 +249,11 @@ impl<'w> AuditOrder<'w> {
         ensures { result ≡ self.now.buckets }
     {
         self.buckets
+    }
+
+    pub(crate) fn keep(&self) -> u32
+        ensures { result ≡ self.now.keep }
+    {
+        self.keep
     }
 }

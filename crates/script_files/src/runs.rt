@@ -22,10 +22,10 @@ use world_run::run_scripts;
 /// It reads the VOX file, of at most 256 MiB, and the scripts, each of at most 8 MiB. Where the VOX
 /// file is accepted, no script has a fault and no output takes an input's name or another output's,
 /// it runs the scripts, each as the session of its place, at the same time where the system gives
-/// threads; the sessions pass the gate. Then it writes the transcripts under their names, which are
-/// those of the scripts with `.out` behind them, and the files that were saved, each made when it
-/// is its turn; it closes the world, and writes the journal and the report where they are asked
-/// for.
+/// threads; the sessions pass the gate. Where the last versions alone are held, each is forgotten
+/// as it falls out. Then it writes the transcripts under their names, which are those of the
+/// scripts with `.out` behind them, and the files that were saved, each made when it is its turn;
+/// it closes the world, and writes the journal and the report where they are asked for.
 #[tactic(auto, using(crate::proofs::Ending::file_within, crate::proofs::Ending::not_accepted, crate::proofs::Ending::run_written, crate::proofs::Ending::run_stopped))]
 pub fn run_files<'w, S: Shelf, R: Threads + Wait + Sync, G: Gate + Sync>(
     rt: &R,
@@ -58,6 +58,7 @@ pub fn run_files<'w, S: Shelf, R: Threads + Wait + Sync, G: Gate + Sync>(
         &order.plan,
         &read.models,
         read.scripts.as_slice(),
+        order.keep,
     ) else {
         return Err(CommandRefused::Text(TextRefused::Memory));
     };

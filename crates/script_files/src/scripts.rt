@@ -1,4 +1,4 @@
-ghost use Rattle.std.specs.Prelude.{◌≡◌, ◌≤◌, ◌^◌, ◌+◌, ◌<◌, ◌++◌, Ok, All, length, map, string_bytes, IfOk, IfErr, OnOk};
+ghost use Rattle.std.specs.Prelude.{◌≡◌, ◌≤◌, ◌^◌, ◌+◌, ◌<◌, ◌++◌, false, Ok, All, length, map, string_bytes, IfOk, IfErr, OnOk};
 ghost use Rattle.std.specs.Option.{option_map};
 ghost use Rattle.vw_io.specs.Names.{collide};
 ghost use Rattle.vox_read.specs.Contents.{AreModels};
@@ -187,10 +187,10 @@ fn read_next(
     ensures read { OnOk result (ReadsScript side models.now text.now
         scripts.old.items scripts.new.items) }
     ensures refused { IfErr result (λ refused. RefusesScripts refused (in_script
-        (length scripts.old.items) (commands_of side models.now text.now))) }
+        (length scripts.old.items) (commands_of false side models.now text.now))) }
 {
     let number = scripts.len() as u16;
-    let script = match read_script(alloc, text, side, models) {
+    let script = match read_script(alloc, text, side, models, false) {
         Ok(script) => script,
         Err(fault) => {
             return Err(TextRefused::from(NumberedFault {

@@ -1,15 +1,14 @@
 -- What each arm of a desk has to show, by what it did.
-use Rattle.std.proofs.Common.{◌≡◌, ℕ, ◌+◌, ◌^◌, ◌≤◌, Bool, true, List, [], ◌∷◌, length, refl, sym, subst, arith}
+use Rattle.std.proofs.Common.{◌≡◌, ℕ, ◌+◌, ◌^◌, ◌≤◌, Bool, true, List, [], ◌∷◌, length, refl, subst, arith}
 use Rattle.std.specs.Prelude.{All}
 use Rattle.std.proofs.lemmas.List.Elements.{All-head, All-tail}
 use Rattle.vox_read.specs.Contents.{Content}
 use Rattle.history_model.specs.declared.acts.Act.{Act}
 use Rattle.history_model.specs.declared.histories.Mark.{Mark}
-use Rattle.history_model.specs.Worlds.{World}
+use Rattle.history_model.specs.Worlds.{World, is_edit}
 use Rattle.history_model.specs.Logs.{Log, IsLegal}
-use Rattle.node_shapes.specs.Shape.{Shape, ShowsCells, IsPart}
 use Rattle.node_words.specs.Held.{Seen, Wanted, IsSought}
-use Rattle.node_words.specs.Gathering.{Grew, Fails}
+use Rattle.node_words.specs.Gathering.{Grew, unchanged, one}
 use Rattle.node_words.specs.Plans.{Layout}
 use Rattle.block_contents.specs.Aligned.{top, world_block}
 use Rattle.conformance.specs.Needed.{made_of}
@@ -18,36 +17,33 @@ use Rattle.script.specs.declared.commands.ScriptLine.{ScriptLine}
 use Rattle.transcript.specs.declared.answers.Answer.{Answer}
 use Rattle.transcript.specs.declared.answers.Answer.TheVariants as answers
 use Rattle.transcript.specs.declared.answers.LineAnswer.{LineAnswer}
-use Rattle.conformance.specs.Answers.{IsStanding, Answers, full, log_full, GoesOn}
+use Rattle.conformance.specs.Answers.{IsStanding, Answers, full, log_full}
 use Rattle.conformance.specs.Kinds.{is_resting, answer_at}
 use Rattle.conformance.specs.Refusing.{refused_by}
 use Rattle.conformance.specs.Running.{GrowsBy, ForgetsBy}
 use Rattle.conformance.proofs.LineKinds.{done_line, forgot_line, resting_line}
 use Rattle.conformance.proofs.Running.{moments_within}
-use Rattle.script_runs.specs.Keeping.{MadeAndMet, made_and_met, IsPartOfWorld, IsTarget, last_moment}
+use Rattle.script_runs.specs.Keeping.{MadeAndMet, made_and_met, IsPartOfWorld, IsWanted, MeetsFull, last_moment}
 use Rattle.script_runs.specs.Sessions.{IsRunning, TakesLine}
 use Rattle.script_runs.proofs.PartsShown.{aligned_low, part_of_world}
-use Rattle.script_runs.proofs.Refusals.{made_stays}
+use Rattle.script_runs.proofs.Refusals.{wanted_stays}
 use Rattle.script_runs.proofs.StoreLines.{grows_line, fails_line, idle_line}
 
--- what an act makes of a version stays what it makes
-target_stays : (p : Layout) (models : List Content) (old new : Log) (act : Act) (v : ℕ) (target : Shape) → GoesOn old new → v ≤ length old.records → IsTarget p models old.records act v target → IsTarget p models new.records act v target
-target_stays p models old new act v target g le of = record {
-  edit = of.edit;
-  canonical = of.canonical;
-  shows = subst (λ (w : World). ShowsCells (world_block p.side) target w) (sym (made_stays p models old new g act v le)) of.shows;
-}
+-- what an act wants of a version stays what it wants
+grew_as : {A : Type 0} (P Q : A → Type 0) (old new : List A) → ((a : A) → P a → Q a) → Grew P old new → Grew Q old new
+grew_as P Q old _ each unchanged = unchanged
+grew_as P Q old _ each (one {a} {new = before} p rest) = one (each a p) (grew_as P Q old before each rest)
 
-pub rebuilt_arm : (p : Layout) (models : List Content) (session first line : ℕ) (act : Act) (once : Bool) (log new : Log) (target : Shape) (made now : MadeAndMet)
-    → GrowsBy p models (record { session = session; line = line; act = act }) log new → IsTarget p models log.records act (length log.records) target → first ≤ length log.records → Grew (λ s. IsPart s target) made.made now.made → now.met ≡ made.met
+pub rebuilt_arm : (p : Layout) (models : List Content) (session first line : ℕ) (act : Act) (once : Bool) (log new : Log) (made now : MadeAndMet)
+    → GrowsBy p models (record { session = session; line = line; act = act }) log new → first ≤ length log.records → Grew (IsWanted p models log.records act (length log.records)) made.made now.made → now.met ≡ made.met
     → TakesLine p models session first (record { line = line; command = Edit act once }) log new made now (record { line = line; at = length log.records + 1; answer = answers.Done })
-rebuilt_arm p models session first line act once log new target made now grows of low grew same =
+rebuilt_arm p models session first line act once log new made now grows low grew same =
     let step = done_line p models session line act once log new grows in
     record {
       line = step;
       makes =
-          grows_line p models new.records act (length log.records) target (target_stays p models log new act (length log.records) target step.goes_on (omega arith) of)
-          first line (length log.records + 1) once answers.Done made now low (omega arith) refl grew same;
+          grows_line p models new.records act (length log.records) first line (length log.records + 1) once answers.Done made now low (omega arith) refl
+          (grew_as (IsWanted p models log.records act (length log.records)) (IsWanted p models new.records act (length log.records)) made.made now.made (λ s wanted. wanted_stays p models log new step.goes_on act (length log.records) s (omega arith) wanted) grew) same;
     }
 
 pub undone_arm : (p : Layout) (models : List Content) (session first line : ℕ) (act : Act) (once : Bool) (log new : Log) (noted : MadeAndMet) → GrowsBy p models (record { session = session; line = line; act = act }) log new
@@ -65,35 +61,34 @@ forgot_arm p models first mark log new noted forgets = record {
 }
 
 -- what a store wants is of a level of the world
-pub sought_low : (p : Layout) (w : World) (target : Shape) (wanted : Wanted) → IsPartOfWorld p w wanted.shape → IsSought p wanted → wanted.level ≤ top p.side
-sought_low p w target wanted part sought =
+pub sought_low : (p : Layout) (w : World) (wanted : Wanted) → IsPartOfWorld p w wanted.shape → IsSought p wanted → wanted.level ≤ top p.side
+sought_low p w wanted part sought =
     let f = part_of_world p w wanted.level wanted.shape part sought.canonical sought.some in
     let same = f.same_level in
     let low = aligned_low (world_block p.side) f.block f.aligned in
     omega arith
 
-pub full_arm : (p : Layout) (models : List Content) (session first line : ℕ) (act : Act) (once : Bool) (level bucket : ℕ) (log : Log) (target : Shape) (old new : Seen) → IsLegal (2 ^ p.side) models log → old.plan ≡ p
-    → IsTarget p models log.records act (length log.records) target → first ≤ length log.records → Fails target level bucket old new
+pub full_arm : (p : Layout) (models : List Content) (session first line : ℕ) (act : Act) (once : Bool) (level bucket : ℕ) (log : Log) (old new : Seen) → IsLegal (2 ^ p.side) models log → old.plan ≡ p
+    → first ≤ length log.records → MeetsFull (IsWanted p models log.records act (length log.records)) level bucket old new
     → TakesLine p models session first (record { line = line; command = Edit act once }) log log (made_and_met old) (made_and_met new) (record { line = line; at = length log.records; answer = answers.Full level bucket })
-full_arm p models session first line act once level bucket log target old new legal same of low fails =
+full_arm p models session first line act once level bucket log old new legal same low fails =
     let w : Wanted = record { level = level; bucket = bucket; shape = fails.wanted } in
     let sought : IsSought p w = subst (λ (q : Layout). IsSought q w) same fails.sought in
-    let part : IsPartOfWorld p (made_of models log.records act (length log.records)) fails.wanted = record { all = target; canonical = of.canonical; shows = of.shows; part = fails.is_part } in
     record {
       line =
           resting_line p models session (record { line = line; command = Edit act once }) log (answers.Full level bucket) legal refl
-          (full act once level bucket of.edit (sought_low p (made_of models log.records act (length log.records)) target w part sought) sought.bucket_in);
-      makes = fails_line p models log.records act (length log.records) target of first line once level bucket old new low (omega arith) same fails;
+          (full act once level bucket fails.wants.edit (sought_low p (made_of (2 ^ p.side) models log.records act (length log.records) fails.wants.parts) w fails.wants.part sought) sought.bucket_in);
+      makes = fails_line p models log.records act (length log.records) first line once level bucket old new low (omega arith) same fails;
     }
 
-pub late_arm : (p : Layout) (models : List Content) (session first line : ℕ) (act : Act) (once : Bool) (log : Log) (target : Shape) (made now : MadeAndMet) → IsLegal (2 ^ p.side) models log → length log.records ≡ 65535
-    → IsTarget p models log.records act (length log.records) target → first ≤ length log.records → Grew (λ s. IsPart s target) made.made now.made → now.met ≡ made.met
+pub late_arm : (p : Layout) (models : List Content) (session first line : ℕ) (act : Act) (once : Bool) (log : Log) (made now : MadeAndMet) → IsLegal (2 ^ p.side) models log → length log.records ≡ 65535
+    → is_edit act ≡ true → first ≤ length log.records → Grew (IsWanted p models log.records act (length log.records)) made.made now.made → now.met ≡ made.met
     → TakesLine p models session first (record { line = line; command = Edit act once }) log log made now (record { line = line; at = length log.records; answer = answers.LogFull })
-late_arm p models session first line act once log target made now legal all of low grew same = record {
+late_arm p models session first line act once log made now legal all edit low grew same = record {
   line =
       resting_line p models session (record { line = line; command = Edit act once }) log answers.LogFull legal refl
-      (log_full act once all (λ other. absurd (other of.edit)));
-  makes = grows_line p models log.records act (length log.records) target of first line (length log.records) once answers.LogFull made now low (omega arith) refl grew same;
+      (log_full act once all (λ other. absurd (other edit)));
+  makes = grows_line p models log.records act (length log.records) first line (length log.records) once answers.LogFull made now low (omega arith) refl grew same;
 }
 
 pub resting_arm : (p : Layout) (models : List Content) (session first : ℕ) (l : ScriptLine) (log : Log) (answer : Answer) (noted : MadeAndMet) → IsLegal (2 ^ p.side) models log → is_resting answer ≡ true → refused_by l.command (length log.records) answer ≡ []

@@ -3,7 +3,7 @@ use Rattle.std.proofs.Common.{◌≡◌, ℕ, ◌+◌, ◌<◌, ◌≤◌, false
 use Rattle.std.specs.Prelude.{All}
 use Rattle.std.proofs.lemmas.Option.{none-some, same_Some}
 use Rattle.history_model.specs.declared.acts.Act.{Act}
-use Rattle.history_model.specs.declared.acts.Act.TheVariants.{Fill, Erase, Ball, Carve, Copy, Stamp, Undo, Redo}
+use Rattle.history_model.specs.declared.acts.Act.TheVariants.{Fill, Erase, Ball, Carve, Copy, Stamp, Tint, Undo, Redo}
 use Rattle.history_model.specs.declared.histories.Mark.{Mark}
 use Rattle.history_model.specs.Logs.{Log, MayFollow, HasTarget}
 use Rattle.history_model.specs.PositionLaws.{names_below}
@@ -69,3 +69,4 @@ goes_to log (Ball b) to other e = absurd (let no : ⊥ = cc in no)
 goes_to log (Carve b) to other e = absurd (let no : ⊥ = cc in no)
 goes_to log (Copy b c) to other e = absurd (let no : ⊥ = cc in no)
 goes_to log (Stamp b c) to other e = absurd (let no : ⊥ = cc in no)
+goes_to log (Tint t) to other e = absurd (let no : ⊥ = cc in no)

@@ -1,5 +1,5 @@
 -- A line that asks for the newest version of an empty history.
-use Rattle.std.proofs.Common.{◌≡◌, ℕ, [], refl, sym, subst}
+use Rattle.std.proofs.Common.{◌≡◌, ℕ, [], refl, sym, subst, false}
 use Rattle.history_model.specs.Logs.{Log}
 use Rattle.node_words.specs.Plans.{Layout}
 use Rattle.script.specs.declared.commands.Command.{Command}
@@ -13,12 +13,12 @@ use Rattle.script_runs.specs.Sessions.{GoesOnWith}
 use Rattle.script_runs.proofs.Arms.{resting_arm}
 
 abbrev empty_log : ℕ → Log
-empty_log side = record { side = side; records = []; marks = [] }
+empty_log side = record { side = side; coloured = false; records = []; marks = [] }
 
 abbrev nothing : MadeAndMet
 nothing = record { made = []; met = [] }
 
-pub head_goes_on : (p : Layout) (session : ℕ) (l : ScriptLine) → l.command ≡ commands.Head → GoesOnWith p [] session l (record { side = p.side; records = []; marks = [] }) (record { side = p.side; records = []; marks = [] }) (record { made = []; met = [] }) (record { made = []; met = [] }) (record { line = l.line; at = 0; answer = answers.Head })
+pub head_goes_on : (p : Layout) (session : ℕ) (l : ScriptLine) → l.command ≡ commands.Head → GoesOnWith p [] session l (record { side = p.side; coloured = false; records = []; marks = [] }) (record { side = p.side; coloured = false; records = []; marks = [] }) (record { made = []; met = [] }) (record { made = []; met = [] }) (record { line = l.line; at = 0; answer = answers.Head })
 head_goes_on p session l is scripts transcripts script transcript r number after =
     resting_arm p [] session (last_moment 0 transcript) l (empty_log p.side) answers.Head nothing r.so_far.legal refl
     (subst (λ (c : Command). refused_by c 0 answers.Head ≡ []) (sym is) refl)

@@ -1,6 +1,7 @@
 pub mod PartsShown
 pub mod PossibleLaws
 pub mod Refusals
+pub mod PlainTargets
 pub mod StoreLines
 pub mod RunSteps
 pub mod Saving

@@ -1,5 +1,5 @@
 -- A full bucket was needed, and enough contents were possible.
-use Rattle.std.proofs.Common.{◌≡◌, ◌≢◌, ℕ, suc, ◌+◌, refl, sym, ◌∙◌, ap, arith, List, [], ◌∷◌, length, get_or}
+use Rattle.std.proofs.Common.{◌≡◌, ◌≢◌, ℕ, suc, ◌+◌, ◌^◌, refl, sym, ◌∙◌, ap, arith, List, [], ◌∷◌, length, get_or}
 use Rattle.std.specs.Prelude.{All}
 use Rattle.std.specs.List.{AllPairs}
 use Rattle.std.proofs.lemmas.List.Elements.{All-nil, All-cons, All-head, All-tail, All-contains}
@@ -42,22 +42,25 @@ shown_cell level b s w same shows canonical some =
     }
 
 -- what stands for a shape that an edit made or met: the block of the shape
-part_needed : (p : Layout) (models : List Content) (records : List Record) (act : Act) (version level bucket : ℕ) (s : Shape) → IsMetBy p models records act version level bucket s
-    → (f : ShownIn p level s (made_of models records act version)) → IsNeeded p models records act version level bucket f.block
+part_needed : (p : Layout) (models : List Content) (records : List Record) (act : Act) (version level bucket : ℕ) (s : Shape) (met : IsMetBy p models records act version level bucket s)
+    → (f : ShownIn p level s (made_of (2 ^ p.side) models records act version met.wanted.parts)) → IsNeeded p models records act version met.wanted.parts level bucket f.block
 part_needed p models records act version level bucket s met f = record {
-  edit = met.edit;
+  edit = met.wanted.edit;
+  some_part = met.wanted.some_part;
+  few_parts = met.wanted.few_parts;
   aligned = f.aligned;
   same_level = f.same_level;
-  some = shown_cell level f.block s (made_of models records act version) f.same_level f.shows met.canonical met.some;
+  some = shown_cell level f.block s (made_of (2 ^ p.side) models records act version met.wanted.parts) f.same_level f.shows met.canonical met.some;
   of_bucket =
-      bucket_of_content p.buckets level s (content_of (made_of models records act version) f.block) met.canonical (shown_content level f.block s (made_of models records act version) f.same_level f.shows)
+      bucket_of_content p.buckets level s (content_of (made_of (2 ^ p.side) models records act version met.wanted.parts) f.block) met.canonical
+      (shown_content level f.block s (made_of (2 ^ p.side) models records act version met.wanted.parts) f.same_level f.shows)
       ∙ met.of_bucket;
 }
 
 pub met_needed : (p : Layout) (models : List Content) (records : List Record) (act : Act) (version level bucket : ℕ) (s : Shape) → IsMetBy p models records act version level bucket s → NeedsSome p models records act version level bucket
 met_needed p models records act version level bucket s met =
-    let f = part_of_world p (made_of models records act version) level s met.part met.canonical met.some in
-    record { block = f.block; needed = part_needed p models records act version level bucket s met f }
+    let f = part_of_world p (made_of (2 ^ p.side) models records act version met.wanted.parts) level s met.wanted.part met.canonical met.some in
+    record { parts = met.wanted.parts; block = f.block; needed = part_needed p models records act version level bucket s met f }
 
 module _ (p : Layout) (models : List Content) (records : List Record) (spans : List Span) (level bucket : ℕ) where
   -- a made shape of this level and bucket
@@ -67,14 +70,19 @@ module _ (p : Layout) (models : List Content) (records : List Record) (spans : L
     some : s ≢ Clear
     of_bucket : bucket_of_shape p.buckets level s ≡ bucket
 
-  block_of : (s : Shape) (c : Counts s) → ShownIn p level s (made_of models records c.made.span.act c.made.version)
-  block_of s c = part_of_world p (made_of models records c.made.span.act c.made.version) level s c.made.part c.canonical c.some
+  -- the cells of which the shape was made
+  world_of : (s : Shape) → Counts s → World
+  world_of s c = made_of (2 ^ p.side) models records c.made.span.act c.made.version c.made.wanted.parts
+
+  block_of : (s : Shape) (c : Counts s) → ShownIn p level s (world_of s c)
+  unfolding world_of
+  block_of s c = part_of_world p (world_of s c) level s c.made.wanted.part c.canonical c.some
 
   need_of : (s : Shape) → Counts s → Need
-  need_of s c = record { act = c.made.span.act; version = c.made.version; block = (block_of s c).block }
+  need_of s c = record { act = c.made.span.act; version = c.made.version; parts = c.made.wanted.parts; block = (block_of s c).block }
 
   is_need : (s : Shape) (c : Counts s) → IsNeed p models records spans level bucket (need_of s c)
-  unfolding need_of
+  unfolding need_of world_of
   is_need s c = record {
     span = c.made.span;
     listed = c.made.listed;
@@ -83,18 +91,18 @@ module _ (p : Layout) (models : List Content) (records : List Record) (spans : L
     high = c.made.high;
     needed =
         part_needed p models records c.made.span.act c.made.version level bucket s
-        (record { edit = c.made.edit; part = c.made.part; canonical = c.canonical; some = c.some; of_bucket = c.of_bucket }) (block_of s c);
+        (record { wanted = c.made.wanted; canonical = c.canonical; some = c.some; of_bucket = c.of_bucket }) (block_of s c);
   }
 
   -- different shapes are different contents
-  apart : (s t : Shape) (c : Counts s) (d : Counts t) → s ≢ t → ¬ SameNeed models records level (need_of s c) (need_of t d)
-  unfolding need_of
+  apart : (s t : Shape) (c : Counts s) (d : Counts t) → s ≢ t → ¬ SameNeed (2 ^ p.side) models records level (need_of s c) (need_of t d)
+  unfolding need_of world_of
   apart s t c d other same =
       let f = block_of s c in
       let g = block_of t d in
       let all : SameIn level (has level s) (has level t) =
-      same_on level _ _ _ (shown_content level f.block s (made_of models records c.made.span.act c.made.version) f.same_level f.shows)
-      (same_on level _ _ _ same (same_back level _ _ (shown_content level g.block t (made_of models records d.made.span.act d.made.version) g.same_level g.shows))) in
+      same_on level _ _ _ (shown_content level f.block s (world_of s c) f.same_level f.shows)
+      (same_on level _ _ _ same (same_back level _ _ (shown_content level g.block t (world_of t d) g.same_level g.shows))) in
       other (same_shape level s t c.canonical d.canonical (record { each = all.each }))
 
   needs_of : (shapes : List Shape) → All Counts shapes → List Need
@@ -112,12 +120,12 @@ module _ (p : Layout) (models : List Content) (records : List Record) (spans : L
   each_need P Q [] all right f = All-nil P
   each_need P Q (s ∷ more) all right f = All-cons P _ _ (f s (All-head Counts s more all) (All-head Q s more right)) (each_need P Q more (All-tail Counts s more all) (All-tail Q s more right) f)
 
-  needs_apart : (shapes : List Shape) (all : All Counts shapes) → AllPairs (λ s t. s ≢ t) shapes → AllPairs (λ s t. ¬ SameNeed models records level s t) (needs_of shapes all)
+  needs_apart : (shapes : List Shape) (all : All Counts shapes) → AllPairs (λ s t. s ≢ t) shapes → AllPairs (λ s t. ¬ SameNeed (2 ^ p.side) models records level s t) (needs_of shapes all)
   unfolding needs_of
   needs_apart [] all pairs = λ i j d low high. absurd (omega arith)
   needs_apart (s ∷ more) all pairs =
-      AllPairs-cons (λ s t. ¬ SameNeed models records level s t) _ _
-      (each_need (λ n. ¬ SameNeed models records level (need_of s (All-head Counts s more all)) n) (λ t. s ≢ t) more (All-tail Counts s more all)
+      AllPairs-cons (λ s t. ¬ SameNeed (2 ^ p.side) models records level s t) _ _
+      (each_need (λ n. ¬ SameNeed (2 ^ p.side) models records level (need_of s (All-head Counts s more all)) n) (λ t. s ≢ t) more (All-tail Counts s more all)
       (λ k d lt. pairs 0 (suc k) d (omega arith) (omega arith)) (λ t c other. apart s t (All-head Counts s more all) c other))
       (needs_apart more (All-tail Counts s more all) (λ i j d low high. pairs (suc i) (suc j) d (omega arith) (omega arith)))
 

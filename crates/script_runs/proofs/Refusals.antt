@@ -1,19 +1,21 @@
 -- What a run made and met goes on to hold, and what it comes to.
-use Rattle.std.proofs.Common.{◌≡◌, ℕ, ◌≤◌, List, [], ◌∷◌, ◌++◌, length, refl, ap, sym, subst, ◌∙◌, arith, length-append, append-nil}
+use Rattle.std.proofs.Common.{◌≡◌, ℕ, ◌^◌, ◌≤◌, List, [], ◌∷◌, ◌++◌, length, refl, ap, sym, subst, ◌∙◌, arith, length-append, append-nil}
 use Rattle.std.specs.Prelude.{All}
 use Rattle.std.specs.List.{AllZip}
 use Rattle.std.proofs.lemmas.List.Elements.{All-append, All-weaker, All-contains, Contains-append_left, Contains-append_right}
 use Rattle.vox_read.specs.Contents.{Content}
 use Rattle.history_model.specs.declared.acts.Act.{Act}
 use Rattle.history_model.specs.declared.histories.Record.{Record}
-use Rattle.history_model.specs.Worlds.{World, edited}
+use Rattle.history_model.specs.Worlds.{World, nothing}
+use Rattle.history_model.specs.FoldLaws.{state_stays}
+use Rattle.history_model.specs.Stores.{edited_in, stored_in, made_by_parts}
 use Rattle.history_model.specs.Logs.{Log}
 use Rattle.node_shapes.specs.Shape.{Shape}
 use Rattle.node_words.specs.Held.{Wanted}
 use Rattle.node_words.specs.Plans.{Layout}
 use Rattle.node_words.specs.Enough.{HasEnough}
 use Rattle.conformance.specs.Needed.{Span, made_of}
-use Rattle.script_runs.specs.Keeping.{IsPartOfWorld, IsMadeFor, IsMadeInRun, MadeAndMet, WasMet, KeepsMade, HaveEnough, MakesFor, LineMakes, last_moment}
+use Rattle.script_runs.specs.Keeping.{IsPartOfWorld, IsWanted, IsMadeFor, IsMadeInRun, MadeAndMet, WasMet, KeepsMade, HaveEnough, MakesFor, LineMakes, last_moment}
 use Rattle.script_runs.proofs.PossibleLaws.{met_needed, enough_possible}
 use Rattle.script.specs.declared.commands.Command.{Command}
 use Rattle.script.specs.declared.commands.Command.TheVariants.{Edit, Forget, Ask, Save, Same, Head}
@@ -21,14 +23,22 @@ use Rattle.script.specs.declared.commands.ScriptLine.{ScriptLine}
 use Rattle.transcript.specs.declared.answers.LineAnswer.{LineAnswer}
 use Rattle.conformance.specs.Answers.{GoesOn}
 use Rattle.conformance.specs.Refusing.{span_by, spans_in, spans_of, Refusal, refused_by, refused_in, refused_of, WasPossible, FullOnlyWherePossible}
-use Rattle.conformance.proofs.GoingOn.{world_stays}
 
 module _ (p : Layout) (models : List Content) (old new : Log) (g : GoesOn old new) where
-  pub made_stays : (act : Act) (v : ℕ) → v ≤ length old.records → made_of models new.records act v ≡ made_of models old.records act v
-  made_stays act v le = ap (λ (w : World). edited models act w) (world_stays old new g (length old.records) (omega arith) models v le)
+  stored_stay : (side v : ℕ) → v ≤ length old.records → stored_in side models new.records v ≡ stored_in side models old.records v
+  stored_stay side v le = ap (λ (rs : List Record). stored_in side models rs v) g.records ∙ state_stays nothing (edited_in side models) old.records g.more v le
 
-  pub part_stays : (act : Act) (v : ℕ) (s : Shape) → v ≤ length old.records → IsPartOfWorld p (made_of models old.records act v) s → IsPartOfWorld p (made_of models new.records act v) s
-  part_stays act v s le part = subst (λ (w : World). IsPartOfWorld p w s) (sym (made_stays act v le)) part
+  pub made_stays : (side : ℕ) (act : Act) (v parts : ℕ) → v ≤ length old.records → made_of side models new.records act v parts ≡ made_of side models old.records act v parts
+  made_stays side act v parts le = ap (λ (w : World). made_by_parts side models act parts w) (stored_stay side v le)
+
+  pub wanted_stays : (act : Act) (v : ℕ) (s : Shape) → v ≤ length old.records → IsWanted p models old.records act v s → IsWanted p models new.records act v s
+  wanted_stays act v s le wanted = record {
+    edit = wanted.edit;
+    parts = wanted.parts;
+    some_part = wanted.some_part;
+    few_parts = wanted.few_parts;
+    part = subst (λ (w : World). IsPartOfWorld p w s) (sym (made_stays (2 ^ p.side) act v wanted.parts le)) wanted.part;
+  }
 
   longer : length old.records ≤ length new.records
   longer = (let more : length new.records ≡ length (old.records ++ g.more) = ap length g.records in let both = length-append old.records g.more in omega arith)
@@ -38,11 +48,10 @@ module _ (p : Layout) (models : List Content) (old new : Log) (g : GoesOn old ne
     made = record {
       span = m.made.span;
       listed = Contains-append_left spans more m.made.span m.made.listed;
-      edit = m.made.edit;
       version = m.made.version;
       low = m.made.low;
       high = m.made.high;
-      part = part_stays m.made.span.act m.made.version s m.there m.made.part;
+      wanted = wanted_stays m.made.span.act m.made.version s m.there m.made.wanted;
     };
     there = (let le = m.there in let long = longer in omega arith);
   }
@@ -50,7 +59,7 @@ module _ (p : Layout) (models : List Content) (old new : Log) (g : GoesOn old ne
   pub was_met_stays : (noted more : List Wanted) (r : Refusal) → WasMet p models old.records noted r → WasMet p models new.records (more ++ noted) r
   was_met_stays noted more r m = record {
     shape = m.shape;
-    is_met = record { edit = m.is_met.edit; part = part_stays r.act r.at m.shape m.there m.is_met.part; canonical = m.is_met.canonical; some = m.is_met.some; of_bucket = m.is_met.of_bucket };
+    is_met = record { wanted = wanted_stays r.act r.at m.shape m.there m.is_met.wanted; canonical = m.is_met.canonical; some = m.is_met.some; of_bucket = m.is_met.of_bucket };
     listed = Contains-append_right more noted (record { level = r.level; bucket = r.bucket; shape = m.shape }) m.listed;
     there = (let le = m.there in let long = longer in omega arith);
   }
@@ -64,11 +73,10 @@ made_by p models records spans (Edit act once) first last s within m =
       made = record {
         span = record { act = act; first = first; last = last };
         listed = Contains-append_right spans (record { act = act; first = first; last = last } ∷ []) (record { act = act; first = first; last = last }) (0, omega arith, refl);
-        edit = m.edit;
         version = m.version;
         low = m.low;
         high = m.high;
-        part = m.part;
+        wanted = m.wanted;
       };
       there = omega arith;
     }

@@ -1,5 +1,5 @@
 -- A run goes on line by line, and script by script.
-use Rattle.std.proofs.Common.{◌≡◌, ℕ, zero, suc, ◌+◌, ◌^◌, ◌<◌, ◌≤◌, List, [], ◌∷◌, ◌++◌, length, take, get_or, refl, ap, sym, subst, ◌∙◌, arith, append-nil}
+use Rattle.std.proofs.Common.{◌≡◌, ℕ, zero, suc, ◌+◌, ◌^◌, ◌<◌, ◌≤◌, Bool, List, [], ◌∷◌, ◌++◌, length, take, get_or, refl, ap, sym, subst, ◌∙◌, arith, append-nil}
 use Rattle.std.specs.Prelude.{All}
 use Rattle.std.proofs.lemmas.List.{length_push, take_more, take_all}
 use Rattle.std.proofs.lemmas.List.Elements.{All-nil, All-cons}
@@ -10,6 +10,7 @@ use Rattle.conformance.specs.Needed.{Span}
 use Rattle.script.specs.declared.commands.ScriptLine.{ScriptLine}
 use Rattle.script.specs.Fitting.{CommandFits, RisesFrom}
 use Rattle.transcript.specs.declared.answers.LineAnswer.{LineAnswer}
+use Rattle.versions.proofs.Lasting.{keeps_all}
 use Rattle.conformance.specs.Answers.{LineFits}
 use Rattle.conformance.specs.Agreeing.{SessionsAgree}
 use Rattle.conformance.specs.Running.{IsSoFar}
@@ -92,7 +93,7 @@ pub record RanSoFar (p : Layout) (models : List Content) (scripts : List (List S
 pub no_scripts : (p : Layout) (models : List Content) (log : Log) (made : MadeAndMet) → IsAtStart p.side log made → RanSoFar p models [] [] log made
 no_scripts p models log made s = record {
   running = record {
-    so_far = subst (λ (g : Log). IsSoFar p models [] [] [] [] g) (sym s.empty) (no_lines p models);
+    so_far = subst (λ (g : Log). IsSoFar p models [] [] [] [] g) (sym s.empty) (no_lines p models log.coloured);
     keeps = subst (λ (ss : MadeAndMet). KeepsMade p models log.records [] [] ss) (sym s.nothing) (record { made_in = All-nil _; was_met = All-nil _ });
   };
   as_many = refl;
@@ -125,28 +126,32 @@ all_scripts p models scripts transcripts log made i past enough ran =
     let end = all_lines p models scripts transcripts log r.so_far in
     record {
       legal = end.0;
-      agrees = end.1;
+      suits = end.1;
+      last = keeps_all log;
+      agrees = end.2;
       full =
           full_only_where_possible p models log scripts transcripts made
           (subst (λ (ss : List Span). KeepsMade p models log.records ss (refused_of scripts transcripts) made) (append-nil _)
           (subst (λ (rs : List Refusal). KeepsMade p models log.records (spans_of scripts transcripts ++ []) rs made) (append-nil _) r.keeps)) enough;
     }
 
--- a loop keeps the desk's plan and models
-pub record Stays (p q : Layout) (models others : List Content) : Type 0 where
+-- a loop keeps the desk's plan and models, and whether its history is coloured
+pub record Stays (p q : Layout) (models others : List Content) (coloured tint : Bool) : Type 0 where
   pub plan : q ≡ p
   pub models_stay : others ≡ models
+  pub coloured_stays : tint ≡ coloured
 
-pub goes_on_same : (p q : Layout) (models others : List Content) (session : ℕ) (l : ScriptLine) (old new : Log) (made now : MadeAndMet) (a : LineAnswer) → Stays p q models others → GoesOnWith q others session l old new made now a → GoesOnWith p models session l old new made now a
-goes_on_same p q models others session l old new made now a s g =
+pub goes_on_same : (p q : Layout) (models others : List Content) (coloured tint : Bool) (session : ℕ) (l : ScriptLine) (old new : Log) (made now : MadeAndMet) (a : LineAnswer) → Stays p q models others coloured tint → GoesOnWith q others session l old new made now a → GoesOnWith p models session l old new made now a
+goes_on_same p q models others coloured tint session l old new made now a s g =
     subst (λ (m : Layout). GoesOnWith m models session l old new made now a) s.plan (subst (λ (ms : List Content). GoesOnWith q ms session l old new made now a) s.models_stay g)
 
-pub ran_same : (p q : Layout) (models others : List Content) (session : ℕ) (lines : List ScriptLine) (answers : List LineAnswer) (old new : Log) (made now : MadeAndMet) → Stays p q models others → RanSession q others session lines answers old new made now → RanSession p models session lines answers old new made now
-ran_same p q models others session lines answers old new made now s g =
+pub ran_same : (p q : Layout) (models others : List Content) (coloured tint : Bool) (session : ℕ) (lines : List ScriptLine) (answers : List LineAnswer) (old new : Log) (made now : MadeAndMet) → Stays p q models others coloured tint → RanSession q others session lines answers old new made now → RanSession p models session lines answers old new made now
+ran_same p q models others coloured tint session lines answers old new made now s g =
     subst (λ (m : Layout). RanSession m models session lines answers old new made now) s.plan (subst (λ (ms : List Content). RanSession q ms session lines answers old new made now) s.models_stay g)
 
--- what fits the desk's plan and models fits them as they stand in a loop
-pub fits_now : (p q : Layout) (models others : List Content) (lines : List ScriptLine) → Stays p q models others → All (λ l. CommandFits (2 ^ p.side) models l.command) lines → All (λ l. CommandFits (2 ^ q.side) others l.command) lines
-fits_now p q models others lines s fit =
-    subst (λ (ms : List Content). All (λ l. CommandFits (2 ^ q.side) ms l.command) lines) (sym s.models_stay)
-    (subst (λ (n : Layout). All (λ l. CommandFits (2 ^ n.side) models l.command) lines) (sym s.plan) fit)
+-- what fits the desk's plan, models and history fits them as they stand in a loop
+pub fits_now : (p q : Layout) (models others : List Content) (coloured tint : Bool) (lines : List ScriptLine) → Stays p q models others coloured tint → All (λ l. CommandFits coloured (2 ^ p.side) models l.command) lines → All (λ l. CommandFits tint (2 ^ q.side) others l.command) lines
+fits_now p q models others coloured tint lines s fit =
+    subst (λ (c : Bool). All (λ l. CommandFits c (2 ^ q.side) others l.command) lines) (sym s.coloured_stays)
+    (subst (λ (ms : List Content). All (λ l. CommandFits coloured (2 ^ q.side) ms l.command) lines) (sym s.models_stay)
+    (subst (λ (n : Layout). All (λ l. CommandFits coloured (2 ^ n.side) models l.command) lines) (sym s.plan) fit))

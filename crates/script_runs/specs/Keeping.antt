@@ -1,15 +1,18 @@
 -- What a run keeps of the shapes that a store made and met, and how that tells where a bucket may
 -- be full. The headline's definitions don't rest on this: it is how a run comes to them.
-use Rattle.std.specs.Prelude.{◌≡◌, ◌≢◌, ℕ, ◌≤◌, true, List, [], ◌∷◌, ◌++◌, length, All}
+use Rattle.std.specs.Prelude.{◌≡◌, ◌≢◌, ℕ, ◌^◌, ◌≤◌, true, false, List, [], ◌∷◌, ◌++◌, length, All}
 use Rattle.std.specs.List.{Contains}
 use Rattle.vox_read.specs.Contents.{Content}
 use Rattle.history_model.specs.declared.acts.Act.{Act}
 use Rattle.history_model.specs.declared.histories.Record.{Record}
-use Rattle.history_model.specs.Worlds.{World, is_edit}
+use Rattle.history_model.specs.Logs.{suits_tints}
+use Rattle.history_model.specs.Worlds.{World, edited, is_edit}
+use Rattle.history_model.specs.Stores.{edit_part_number, stored_in}
 use Rattle.node_shapes.specs.Shape.{Shape, Clear, ShowsCells, IsCanonical, IsPart}
 use Rattle.node_shapes.specs.Buckets.{bucket_of_shape}
 use Rattle.node_words.specs.Enough.{HasEnough}
-use Rattle.node_words.specs.Held.{Wanted, Seen}
+use Rattle.node_words.specs.Gathering.{Grew}
+use Rattle.node_words.specs.Held.{Wanted, Seen, IsSought}
 use Rattle.node_words.specs.Plans.{Layout}
 use Rattle.block_contents.specs.Aligned.{top, world_block}
 use Rattle.conformance.specs.Needed.{Span, made_of}
@@ -38,24 +41,44 @@ pub record IsPartOfWorld (p : Layout) (w : World) (s : Shape) : Type 0 where
   pub shows : ShowsCells (world_block p.side) all w
   pub part : IsPart s all
 
--- the canonical shape of what an edit makes of a version
-pub record IsTarget (p : Layout) (models : List Content) (records : List Record) (act : Act)
+-- an edit wants the shape: it is a part of the canonical shape of what so many parts of the edit
+-- make of a version
+pub record IsWanted (p : Layout) (models : List Content) (records : List Record) (act : Act)
+    (version : ℕ) (s : Shape) : Type 0 where
+  pub edit : is_edit act ≡ true
+  pub parts : ℕ
+  pub some_part : 1 ≤ parts
+  pub few_parts : parts ≤ edit_part_number act
+  pub part : IsPartOfWorld p (made_of (2 ^ p.side) models records act version parts) s
+
+-- the canonical shape of what an edit without a tint makes of a version at once
+pub record IsPlainTarget (p : Layout) (models : List Content) (records : List Record) (act : Act)
     (version : ℕ) (target : Shape) : Type 0 where
   pub edit : is_edit act ≡ true
+  pub plain : suits_tints false act ≡ true
   pub canonical : IsCanonical (top p.side) target
-  pub shows : ShowsCells (world_block p.side) target (made_of models records act version)
+  pub shows : ShowsCells (world_block p.side) target
+      (edited models act (stored_in (2 ^ p.side) models records version))
+
+-- such shapes may have been made, and one met this full bucket, which is its own
+pub record MeetsFull (Wants : Shape → Type 0) (level bucket : ℕ) (old new : Seen) : Type 0 where
+  pub plan : new.plan ≡ old.plan
+  pub made : Grew Wants old.made new.made
+  pub wanted : Shape
+  pub wants : Wants wanted
+  pub sought : IsSought old.plan (record { level = level; bucket = bucket; shape = wanted })
+  pub met : new.met ≡ record { level = level; bucket = bucket; shape = wanted } ∷ old.met
 
 -- ---- what one line makes
 
 -- the line before was answered at moment `first`, and this one at moment `last`: its edit made the
--- shape, which is a part of what the act makes of a version of these moments
+-- shape, which it wants of a version of these moments
 pub record MakesPart (p : Layout) (models : List Content) (records : List Record) (act : Act)
     (first last : ℕ) (s : Shape) : Type 0 where
-  pub edit : is_edit act ≡ true
   pub version : ℕ
   pub low : first ≤ version
   pub high : version ≤ last
-  pub part : IsPartOfWorld p (made_of models records act version) s
+  pub wanted : IsWanted p models records act version s
 
 -- by the line's command
 abbrev pub MakesFor : Layout → List Content → List Record → Command → ℕ → ℕ → Shape → Type 0
@@ -63,12 +86,10 @@ MakesFor p models records (Edit act once) first last s =
     MakesPart p models records act first last s
 MakesFor p models records _ first last s = ⊥
 
--- an edit met a full bucket at this version, which is its moment: the shape that it wanted is a
--- part of what it makes
+-- an edit met a full bucket at this version, which is its moment, for this shape
 pub record IsMetBy (p : Layout) (models : List Content) (records : List Record) (act : Act)
     (version level bucket : ℕ) (s : Shape) : Type 0 where
-  pub edit : is_edit act ≡ true
-  pub part : IsPartOfWorld p (made_of models records act version) s
+  pub wanted : IsWanted p models records act version s
   pub canonical : IsCanonical level s
   pub some : s ≢ Clear
   pub of_bucket : bucket_of_shape p.buckets level s ≡ bucket
@@ -93,17 +114,15 @@ pub record LineMakes (p : Layout) (models : List Content) (first : ℕ) (l : Scr
 
 -- ---- what all lines made
 
--- a store added the shape for an edit of the run: it is a part of what the edit makes of a version
--- of its moments
+-- a store added the shape for an edit of the run, which wants it of a version of its moments
 pub record IsMadeFor (p : Layout) (models : List Content) (records : List Record)
     (spans : List Span) (s : Shape) : Type 0 where
   pub span : Span
   pub listed : Contains spans span
-  pub edit : is_edit span.act ≡ true
   pub version : ℕ
   pub low : span.first ≤ version
   pub high : version ≤ span.last
-  pub part : IsPartOfWorld p (made_of models records span.act version) s
+  pub wanted : IsWanted p models records span.act version s
 
 -- and that version is there
 pub record IsMadeInRun (p : Layout) (models : List Content) (records : List Record)

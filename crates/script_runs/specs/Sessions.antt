@@ -46,5 +46,5 @@ RanSession p models session lines answers old new made now =
 
 -- nothing was done yet
 pub record IsAtStart (side : ℕ) (log : Log) (noted : MadeAndMet) : Type 0 where
-  pub empty : log ≡ record { side = side; records = []; marks = [] }
+  pub empty : log ≡ record { side = side; coloured = log.coloured; records = []; marks = [] }
   pub nothing : noted ≡ record { made = []; met = [] }

@@ -4,7 +4,9 @@ use Rattle.std.specs.Prelude.{◌≡◌, ℕ, ◌+◌, ◌^◌, ◌≤◌, Bool,
 use Rattle.vox_read.specs.Contents.{Content}
 use Rattle.history_model.specs.declared.acts.Act.{Act}
 use Rattle.history_model.specs.declared.histories.Mark.{Mark}
+use Rattle.history_model.specs.declared.histories.Record.{Record}
 use Rattle.history_model.specs.Logs.{Log, IsLegal}
+use Rattle.history_model.specs.Worlds.{is_edit}
 use Rattle.node_shapes.specs.Shape.{Shape, IsPart}
 use Rattle.node_words.specs.Gathering.{Grew, Fails}
 use Rattle.node_words.specs.Held.{Seen}
@@ -18,16 +20,17 @@ use Rattle.conformance.specs.Answers.{IsStanding, Answers}
 use Rattle.conformance.specs.Kinds.{is_resting, answer_at}
 use Rattle.conformance.specs.Refusing.{refused_by}
 use Rattle.conformance.specs.Running.{GrowsBy, ForgetsBy}
-use Rattle.script_runs.specs.Keeping.{MadeAndMet, made_and_met, IsTarget, last_moment}
+use Rattle.script_runs.specs.Keeping.{MadeAndMet, made_and_met, IsWanted, IsPlainTarget, MeetsFull, last_moment}
 use Rattle.script_runs.specs.Sessions.{IsRunning, TakesLine}
 
 -- an edit of the newest version was rebuilt in the store, and became a record
 abbrev pub RebuiltEditsTakeLines : Type 0
 RebuiltEditsTakeLines = (p : Layout) (models : List Content) (session first line : ℕ) (act : Act)
-    (once : Bool) (log new : Log) (target : Shape) (made now : MadeAndMet)
+    (once : Bool) (log new : Log) (made now : MadeAndMet)
     → GrowsBy p models (record { session = session; line = line; act = act }) log new
-    → IsTarget p models log.records act (length log.records) target → first ≤ length log.records
-    → Grew (λ s. IsPart s target) made.made now.made → now.met ≡ made.met
+    → first ≤ length log.records
+    → Grew (IsWanted p models log.records act (length log.records)) made.made now.made
+    → now.met ≡ made.met
     → TakesLine p models session first (record { line = line; command = Edit act once }) log new
     made now (record { line = line; at = length log.records + 1; answer = answers.Done })
 
@@ -51,10 +54,9 @@ ForgettingsTakeLines = (p : Layout) (models : List Content) (first : ℕ) (mark 
 -- an edit of the newest version met a full bucket
 abbrev pub FullBucketsTakeLines : Type 0
 FullBucketsTakeLines = (p : Layout) (models : List Content) (session first line : ℕ) (act : Act)
-    (once : Bool) (level bucket : ℕ) (log : Log) (target : Shape) (old new : Seen)
-    → IsLegal (2 ^ p.side) models log → old.plan ≡ p
-    → IsTarget p models log.records act (length log.records) target → first ≤ length log.records
-    → Fails target level bucket old new
+    (once : Bool) (level bucket : ℕ) (log : Log) (old new : Seen)
+    → IsLegal (2 ^ p.side) models log → old.plan ≡ p → first ≤ length log.records
+    → MeetsFull (IsWanted p models log.records act (length log.records)) level bucket old new
     → TakesLine p models session first (record { line = line; command = Edit act once }) log log
     (made_and_met old) (made_and_met new)
     (record { line = line; at = length log.records; answer = answers.Full level bucket })
@@ -63,10 +65,11 @@ FullBucketsTakeLines = (p : Layout) (models : List Content) (session first line 
 -- can have
 abbrev pub LateEditsTakeLines : Type 0
 LateEditsTakeLines = (p : Layout) (models : List Content) (session first line : ℕ) (act : Act)
-    (once : Bool) (log : Log) (target : Shape) (made now : MadeAndMet)
+    (once : Bool) (log : Log) (made now : MadeAndMet)
     → IsLegal (2 ^ p.side) models log → length log.records ≡ 65535
-    → IsTarget p models log.records act (length log.records) target → first ≤ length log.records
-    → Grew (λ s. IsPart s target) made.made now.made → now.met ≡ made.met
+    → is_edit act ≡ true → first ≤ length log.records
+    → Grew (IsWanted p models log.records act (length log.records)) made.made now.made
+    → now.met ≡ made.met
     → TakesLine p models session first (record { line = line; command = Edit act once }) log log
     made now (record { line = line; at = length log.records; answer = answers.LogFull })
 
@@ -88,3 +91,17 @@ MomentsAreInHistory = (p : Layout) (models : List Content) (scripts : List (List
     (log : Log) (noted : MadeAndMet)
     → IsRunning p models scripts transcripts script transcript log noted
     → last_moment 0 transcript ≤ length log.records
+
+-- an edit without a tint wants the parts of its target
+abbrev pub PlainTargetsAreWanted : Type 0
+PlainTargetsAreWanted = (p : Layout) (models : List Content) (records : List Record) (act : Act)
+    (version : ℕ) (target s : Shape)
+    → IsPlainTarget p models records act version target → IsPart s target
+    → IsWanted p models records act version s
+
+-- and a part of its target that met a full bucket is one that it wants
+abbrev pub PlainFailuresMeetFull : Type 0
+PlainFailuresMeetFull = (p : Layout) (models : List Content) (records : List Record) (act : Act)
+    (version : ℕ) (target : Shape) (level bucket : ℕ) (old new : Seen)
+    → IsPlainTarget p models records act version target → Fails target level bucket old new
+    → MeetsFull (IsWanted p models records act version) level bucket old new

@@ -29,9 +29,11 @@ pub trait Desk {
 
     /// Does what the session's line asks for, and answers it.
     fn answer(&mut self, session: u16, l: ScriptLine) -> Result<LineAnswer, Memory>
-        requires fits { CommandFits (2 ^ (plan self.old).side) (models self.old) l.command }
+        requires fits { CommandFits (log self.old).coloured (2 ^ (plan self.old).side)
+            (models self.old) l.command }
         ensures plan { plan self.new ≡ plan self.old }
         ensures models { models self.new ≡ models self.old }
+        ensures coloured { (log self.new).coloured ≡ (log self.old).coloured }
         ensures goes_on { IfOk result (λ a. GoesOnWith (plan self.old) (models self.old) session l
             (log self.old) (log self.new) (noted self.old) (noted self.new) a) }
         ensures saved { IfOk result (λ a. saved self.new

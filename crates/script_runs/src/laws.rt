@@ -2,6 +2,7 @@ ghost use Rattle.script_runs.specs.Statements.{RebuiltEditsTakeLines, UndosTakeL
 ghost use Rattle.script_runs.specs.Statements.{LateEditsTakeLines};
 ghost use Rattle.script_runs.specs.Statements.{ForgettingsTakeLines, FullBucketsTakeLines};
 ghost use Rattle.script_runs.specs.Statements.{RestingAnswersTakeLines, MomentsAreInHistory};
+ghost use Rattle.script_runs.specs.Statements.{PlainTargetsAreWanted, PlainFailuresMeetFull};
 
 /// What each arm of a desk has to show to go on with a line, by what it did.
 pub fn arms_take_lines()
@@ -12,4 +13,10 @@ pub fn arms_take_lines()
     ensures late { LateEditsTakeLines }
     ensures rests { RestingAnswersTakeLines }
     ensures before { MomentsAreInHistory }
+{}
+
+/// What a store made and met for an edit without a tint, which is made at once, is what it wants.
+pub fn plain_edits_want_their_parts()
+    ensures wanted { PlainTargetsAreWanted }
+    ensures full { PlainFailuresMeetFull }
 {}

@@ -21,11 +21,12 @@ pub fn run_scripts<D: Desk>(
 ) -> Result<Vec<Transcript>, Memory>
     requires few { length scripts.now ≤ 64 }
     requires rise { All (RisesFrom 1) scripts.now }
-    requires fit { All (All (λ l. CommandFits (2 ^ (D.plan desk.old).side) (D.models desk.old)
-        l.command)) scripts.now }
+    requires fit { All (All (λ l. CommandFits (D.log desk.old).coloured
+        (2 ^ (D.plan desk.old).side) (D.models desk.old) l.command)) scripts.now }
     requires start { IsAtStart (D.plan desk.old).side (D.log desk.old) (D.noted desk.old) }
     ensures plan { D.plan desk.new ≡ D.plan desk.old }
     ensures models { D.models desk.new ≡ D.models desk.old }
+    ensures coloured { (D.log desk.new).coloured ≡ (D.log desk.old).coloured }
     ensures ran { IfOk result (λ transcripts. AllRan (D.plan desk.old) (D.models desk.old)
         scripts.now transcripts.items (D.log desk.new)) }
     ensures saved { IfOk result (λ transcripts. D.saved desk.new
@@ -76,10 +77,11 @@ pub fn run_script<D: Desk>(
 ) -> Result<Vec<LineAnswer>, Memory>
     requires empty { room.items ≡ [] }
     requires rises { RisesFrom 1 lines.now }
-    requires fit { All (λ l. CommandFits (2 ^ (D.plan desk.old).side) (D.models desk.old)
-        l.command) lines.now }
+    requires fit { All (λ l. CommandFits (D.log desk.old).coloured
+        (2 ^ (D.plan desk.old).side) (D.models desk.old) l.command) lines.now }
     ensures plan { D.plan desk.new ≡ D.plan desk.old }
     ensures models { D.models desk.new ≡ D.models desk.old }
+    ensures coloured { (D.log desk.new).coloured ≡ (D.log desk.old).coloured }
     ensures ran { IfOk result (λ answers. RanSession (D.plan desk.old) (D.models desk.old)
         session lines.now answers.items (D.log desk.old) (D.log desk.new)
         (D.noted desk.old) (D.noted desk.new)) }

@@ -15,13 +15,13 @@ struct HeadDesk {
 }
 
 impl Desk for HeadDesk {
-    ghost use Rattle.std.specs.Prelude.{[]};
+    ghost use Rattle.std.specs.Prelude.{[], false};
 
     ghost plan = { λ d. d.plan };
 
     ghost models = { λ d. [] };
 
-    ghost log = { λ d. record { side = d.plan.side; records = []; marks = [] } };
+    ghost log = { λ d. record { side = d.plan.side; coloured = false; records = []; marks = [] } };
 
     ghost noted = { λ d. record { made = []; met = [] } };
 
@@ -57,8 +57,8 @@ fn run(alloc: Global, first: &[u8], second: &[u8]) -> Result<Vec<Transcript>, Fa
     let models = Models {
         list: Vec::new(alloc),
     };
-    let first = read_script(alloc, first, side, &models).map_err(|_| "a script")?;
-    let second = read_script(alloc, second, side, &models).map_err(|_| "a script")?;
+    let first = read_script(alloc, first, side, &models, false).map_err(|_| "a script")?;
+    let second = read_script(alloc, second, side, &models, false).map_err(|_| "a script")?;
     let mut desk = HeadDesk {
         plan: Plan::usual(side),
     };

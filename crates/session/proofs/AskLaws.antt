@@ -1,7 +1,7 @@
 -- What is asked of a version that is pinned.
 use Rattle.std.proofs.Common.{◌≡◌, ◌⊎◌, ◌-◌, ◌^◌, ◌≤◌, ℕ, Option, Some, None, List, inl, inr, refl, sym, ◌∙◌, ap, subst, arith}
 use Rattle.vox_read.specs.Contents.{Content}
-use Rattle.history_model.specs.Moments.{world_has}
+use Rattle.history_model.specs.Stores.{stored_in}
 use Rattle.history_model.specs.Worlds.{World}
 use Rattle.history_model.specs.declared.questions.Question.{Question}
 use Rattle.transcript.specs.declared.answers.Answer.{Answer}
@@ -23,18 +23,18 @@ use Rattle.version_log.specs.Roots.{GetsRoot, HoldsRootOf}
 use Rattle.version_log.specs.Seeing.{IsDated, LooksOn}
 use Rattle.version_log.specs.Pins.{RefusesPin}
 use Rattle.version_log.specs.declared.pinned.Pinned.{Pinned}
-use Rattle.version_answers.specs.declared.refusals.PinRefused.{PinRefused}
-use Rattle.version_answers.specs.declared.refusals.PinRefused.TheVariants.{NoVersion, Forgotten}
+use Rattle.versions.specs.declared.refusals.PinRefused.{PinRefused}
+use Rattle.versions.specs.declared.refusals.PinRefused.TheVariants.{NoVersion, Forgotten}
 use Rattle.session_runs.specs.Calls.{FindsVersion}
 use Rattle.session_runs.specs.Seen.{SessionSeen}
-use Rattle.session_runs.specs.Told.{WasAsked, PinIsRefused}
+use Rattle.session_runs.specs.Told.{WasAsked, PinIsRefused, plainly_tinted}
 use Rattle.hands.specs.Lendable.{StaysLendable}
 use Rattle.node_words.specs.Plans.{Layout}
 use Rattle.table_rule.specs.LogViews.{LogView}
 use Rattle.table_rule.specs.Telling.{ViewTells}
 use Rattle.node_table.specs.Seen.{TableSeen, PassSeen}
 use Rattle.session.specs.Resting.{IsAtRest}
-use Rattle.session.specs.Seen.{KnowsItself, of_world, session_seen}
+use Rattle.session.specs.Seen.{KnowsItself, WorldSeen, of_world, session_seen}
 use Rattle.session.proofs.ForgetLaws.{same_seen}
 use Rattle.session.proofs.SameLaws.{finds}
 use Rattle.session.proofs.SeenLaws.{knows_itself, models_stay, only_sees}
@@ -112,22 +112,32 @@ few_pinned v w x root gains same few =
     let held = ap (λ (s : Seen). number_of_trees s.held) same in
     omega arith
 
-module _ (t : TableSeen) (number : ℕ) (asked : Option ℕ) (question : Question) (v w : PassSeen)
-    (p : Pinned) (answer : Answer) (r : IsAtRest t v) (looks : LooksOn v.view w.view)
+module _ (t : WorldSeen) (number : ℕ) (asked : Option ℕ) (question : Question) (v w : PassSeen)
+    (p : Pinned) (answer : Answer) (r : IsAtRest t.table v) (looks : LooksOn v.view w.view)
     (is : PinsVersion v.view asked p w.view) (root : Option Name) (same : root ≡ p.root)
-    (tells : TellsRoot w.view.held t.plan.side root question answer) where
+    (tells : TellsRoot w.view.held t.table.plan.side root question answer) where
   version_is : p.version ≡ asked_version asked p.moment
   version_is = is.version ∙ asked_as asked p.moment
 
-  plan_side : w.view.plan.side ≡ t.plan.side
+  plan_side : w.view.plan.side ≡ t.table.plan.side
   plan_side = ap (λ (l : Layout). l.side) (looks.session.plan ∙ r.of.plan)
 
-  tells_version : Tells (2 ^ t.plan.side) (seen_has w.view p.version) question answer
+  tells_version : Tells (2 ^ t.table.plan.side) (seen_has w.view p.version)
+      (plainly_tinted (seen_has w.view p.version)) question answer
   tells_version =
-      subst (λ (x : Option Name). TellsRoot w.view.held t.plan.side x question answer) same tells
-      (seen_has w.view p.version)
+      subst (λ (x : Option Name). TellsRoot w.view.held t.table.plan.side x question answer) same tells
+      (seen_has w.view p.version) (plainly_tinted (seen_has w.view p.version))
       (subst (λ (n : ℕ). ShowsWorld w.view.held (n - 2) p.root (seen_has w.view p.version)) plan_side
-      (shows_world w.view p.root (seen_has w.view p.version) is.pinned.root))
+      (shows_world w.view p.root (seen_has w.view p.version) is.pinned.root)) (λ c inside. refl)
+
+  -- the answer tells of these cells, in a world of this side
+  abbrev tells_so : ℕ → World → Type 0
+  tells_so side cells = Tells (2 ^ side) cells (plainly_tinted cells) question answer
+
+  -- the cells of the version that was asked, in a store of this side, by these models
+  abbrev cells_by : ℕ → List Content → World
+  cells_by side models =
+      stored_in (2 ^ side) models w.view.log.seen.records (asked_version asked p.moment)
 
   asked_here : WasAsked (of_world t number) asked question (session_seen v.view) (session_seen w.view)
       (record { at = p.moment; answer = answer })
@@ -140,17 +150,17 @@ module _ (t : TableSeen) (number : ℕ) (asked : Option ℕ) (question : Questio
           unmarked = is.unmarked;
           found = is.pinned.found;
         }));
-    tells = subst (λ (n : ℕ). Tells (2 ^ n) (world_has t.models w.view.log.seen.records
-        (asked_version asked p.moment)) question answer) (sym (looks.sees.side ∙ r.side))
-        (subst (λ (ms : List Content). Tells (2 ^ t.plan.side) (world_has ms
-        w.view.log.seen.records (asked_version asked p.moment)) question answer)
-        (models_stay t v w r looks)
-        (subst (λ (u : ℕ). Tells (2 ^ t.plan.side) (seen_has w.view u) question answer)
-        version_is tells_version));
+    tells = subst (λ (n : ℕ). tells_so n (cells_by n t.table.models))
+        (sym (looks.sees.side ∙ r.side))
+        (subst (λ (ms : List Content). tells_so t.table.plan.side
+        (cells_by t.table.plan.side ms)) (models_stay t.table v w r looks)
+        (subst (λ (n : ℕ). tells_so t.table.plan.side (cells_by n w.view.models)) plan_side
+        (subst (λ (u : ℕ). tells_so t.table.plan.side (seen_has w.view u)) version_is
+        tells_version)));
   }
 
-  pub asked_told : (x z : PassSeen) → StaysLendable t w x → seen_of x.view ≡ seen_of w.view
-      → StaysLendable t x z → OnlyHeldChanges (seen_of x.view) (seen_of z.view)
+  pub asked_told : (x z : PassSeen) → StaysLendable t.table w x → seen_of x.view ≡ seen_of w.view
+      → StaysLendable t.table x z → OnlyHeldChanges (seen_of x.view) (seen_of z.view)
       → WasAsked (of_world t number) asked question (session_seen v.view) (session_seen z.view)
       (record { at = p.moment; answer = answer })
   asked_told x z read seen back only =
@@ -160,7 +170,7 @@ module _ (t : TableSeen) (number : ℕ) (asked : Option ℕ) (question : Questio
       (only.made ∙ ap (λ (s : Seen). s.made) seen) (only.met ∙ ap (λ (s : Seen). s.met) seen)))
       asked_here
 
-  pub knows_asked : (x z : PassSeen) → StaysLendable t w x → StaysLendable t x z → ViewTells z.view
+  pub knows_asked : (x z : PassSeen) → StaysLendable t.table w x → StaysLendable t.table x z → ViewTells z.view
       → KnowsItself z.view
   knows_asked x z read back view_tells =
       knows_itself z.view view_tells

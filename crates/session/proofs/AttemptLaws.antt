@@ -12,7 +12,9 @@ use Rattle.table_rule.specs.LogViews.{LogView}
 use Rattle.table_rule.specs.Views.{SeatView}
 use Rattle.node_table.specs.LogTurns.{HasNoTurn}
 use Rattle.node_table.specs.Seen.{TableSeen, PassSeen, BelongsTo, SamePass}
-use Rattle.version_log.specs.Commits.{AppendsNext, RefusesCommit}
+use Rattle.version_log.specs.Commits.{RefusesCommit}
+use Rattle.version_log.specs.Falling.{CommitsNext}
+use Rattle.version_log.specs.declared.committed.Committed.{Committed}
 use Rattle.version_log.specs.Roots.{GetsRoot}
 use Rattle.version_log.specs.Seeing.{IsDated, LooksOn}
 use Rattle.version_log.specs.declared.refusals.CommitRefused.{CommitRefused}
@@ -22,8 +24,9 @@ use Rattle.session_runs.specs.declared.calls.ActAnswer.TheVariants as acts
 use Rattle.hands.specs.Lendable.{StaysLendable}
 use Rattle.session.specs.Attempts.{AnswersAct, FailsToMake, HasPinnedHead, IsLate, IsMaker, MakesNextRoot}
 use Rattle.session.specs.Resting.{IsAtRest}
-use Rattle.session.specs.Seen.{session_seen}
-use Rattle.session.proofs.CommitLaws.{appended_held, appends_knows, appends_session, back_same, done_answers, few_gained, full_answers, head_stays, held_by, late_answers, may_back}
+use Rattle.session.specs.Seen.{WorldSeen, session_seen}
+use Rattle.session.proofs.CommitLaws.{back_same, few_gained, full_answers, head_stays, held_by, late_answers, may_back}
+use Rattle.session.proofs.KeepLaws.{commits_knows, commits_session, fallen_room, kept_answers, pushed_held}
 use Rattle.session.proofs.SeenLaws.{rests}
 use Rattle.session.proofs.WorkLaws.{answers_after, answers_still, looks_work, works_on}
 
@@ -43,21 +46,21 @@ rests_lent t u v w same r stays =
       dated = subst (λ (l : LogView). IsDated l.seen) (sym stays.log) r.dated;
     }
 
--- and so is one whose record was appended
-pub rests_appended : (t u : TableSeen) (v w : PassSeen) (line : ℕ) (act : Act)
-    (root : Option Name) (n : ℕ) → u ≡ t → IsAtRest t v → BelongsTo u w → HasNoTurn w.view
-    → AppendsNext v.view line act root n w.view → IsAtRest t w
-rests_appended t u v w line act root n same r of idle a =
+-- and so is one whose record was accepted
+pub rests_committed : (t u : TableSeen) (v w : PassSeen) (keep line : ℕ) (act : Act)
+    (root : Option Name) (c : Committed) → u ≡ t → IsAtRest t v → BelongsTo u w → HasNoTurn w.view
+    → CommitsNext v.view keep line act root c w.view → IsAtRest t w
+rests_committed t u v w keep line act root c same r of idle made =
     rests t v w r (subst (λ (x : TableSeen). BelongsTo x w) same of) idle
-    (appends_knows v.view w.view line act root n a)
+    (commits_knows keep v.view w.view line act root c made)
 
-pub same_appended : (t u : TableSeen) (v w : PassSeen) (line : ℕ) (act : Act)
-    (root : Option Name) (n : ℕ) → u ≡ t → IsAtRest t v → BelongsTo u w
-    → AppendsNext v.view line act root n w.view → SamePass v w
-same_appended t u v w line act root n same r of a =
+pub same_committed : (t u : TableSeen) (v w : PassSeen) (keep line : ℕ) (act : Act)
+    (root : Option Name) (c : Committed) → u ≡ t → IsAtRest t v → BelongsTo u w
+    → CommitsNext v.view keep line act root c w.view → SamePass v w
+same_committed t u v w keep line act root c same r of made =
     record {
       table = of.table ∙ ap (λ (x : TableSeen). x.id) same ∙ sym r.of.table;
-      session = appends_session v.view w.view line act root n a;
+      session = commits_session keep v.view w.view line act root c made;
     }
 
 -- and one that looked at the log
@@ -74,21 +77,16 @@ same_looked t u v w same r of looks =
       session = looks.session;
     }
 
--- the same of an act and of a refusal that are equal
-pub appends_as : (v w : SeatView) (line : ℕ) (a b : Act) (root : Option Name) (n : ℕ) → a ≡ b
-    → AppendsNext v line a root n w → AppendsNext v line b root n w
-appends_as v w line a b root n same h =
-    subst (λ (x : Act). AppendsNext v line x root n w) same h
-
+-- the same of a refusal that is equal
 pub refused_as : (base : Pinned) (root : Option Name) (e d : CommitRefused) (x : SeatView)
     → e ≡ d → RefusesCommit base root e x → RefusesCommit base root d x
 refused_as base root e d x same h =
     subst (λ (y : CommitRefused). RefusesCommit base root y x) same h
 
-module _ (t : TableSeen) (line : ℕ) (act : Act) (models : List Content) (base : Pinned)
-    (v w : PassSeen) (maker : IsMaker t models act) (head : HasPinnedHead v.view base)
-    (stays : StaysLendable t v w) where
-  pub full_comes : (full : Full) → FailsToMake t act full v.view w.view
+module _ (t : WorldSeen) (line : ℕ) (act : Act) (models : List Content) (base : Pinned)
+    (v w : PassSeen) (maker : IsMaker t.table models act) (head : HasPinnedHead v.view base)
+    (stays : StaysLendable t.table v w) where
+  pub full_comes : (full : Full) → FailsToMake t.table act full v.view w.view
       → SameHeld v.view.held w.view.held
       × AnswersAct t line act (acts.Full base.moment full) v.view w.view
   full_comes full fails = (
@@ -97,21 +95,28 @@ module _ (t : TableSeen) (line : ℕ) (act : Act) (models : List Content) (base 
         (head.now ∙ sym (ap (λ (l : LogView). length l.seen.records) stays.log)) fails,
   )
 
-  module _ (root : Option Name) (makes : MakesNextRoot t act root v.view w.view) where
+  module _ (root : Option Name) (makes : MakesNextRoot t.table act root v.view w.view) where
     pub head_made : HasPinnedHead w.view base
-    head_made = head_stays t v w base root head stays makes.gains
+    head_made = head_stays t.table v w base root head stays makes.gains
 
     pub made_room : number_of_trees v.view.held ≤ 3901 → number_of_trees w.view.held ≤ 4095
     made_room few =
         let more = few_gained v.view.held w.view.held root makes.gains in omega arith
 
-    pub done_comes : (x : SeatView) (n : ℕ) → AppendsNext w.view line act root n x
-        → SameHeld v.view.held x.held × AnswersAct t line act (acts.Done n) v.view x
-    done_comes x n a = (
-      appended_held v.view.held w.view.held x.held root makes.gains a.gone,
-      answers_after t line act (acts.Done n) v.view w.view x makes.works
-          (done_answers t line act root n w.view x a),
+    pub done_comes : (x y : SeatView) (c : Committed)
+        → CommitsNext w.view t.keep line act root c x → session_seen y ≡ session_seen x
+        → GoesBack c.fallen x.held y.held
+        → SameHeld v.view.held y.held × AnswersAct t line act (acts.Done c.n) v.view y
+    done_comes x y c made seen back = (
+      pushed_held t.keep line act root c v.view.held w.view x y.held makes.gains made back,
+      answers_after t line act (acts.Done c.n) v.view w.view y makes.works
+          (kept_answers t line act root c w.view x y made seen),
     )
+
+    pub done_room : (x : SeatView) (c : Committed) → CommitsNext w.view t.keep line act root c x
+        → number_of_trees v.view.held ≤ 3901 → number_of_trees x.held ≤ 4008
+    done_room x c made few =
+        fallen_room t.keep line act root c v.view.held w.view x makes.gains made (omega arith)
 
     pub late_back : (x : SeatView) (back : Option Name) → LooksOn w.view x
         → x.held ≡ w.view.held → RefusesCommit base root (LogFull back) x
@@ -140,16 +145,16 @@ module _ (t : TableSeen) (line : ℕ) (act : Act) (models : List Content) (base 
           (subst (λ (r : Option Name). GoesBack r x.held y.held) refused.0 gone),
       answers_still t line act acts.LogFull v.view x y seen
           (late_answers t line act v.view x maker.edit
-          (works_on t act v.view w.view x makes.works (looks_work t act w.view x looks))
+          (works_on t.table act v.view w.view x makes.works (looks_work t.table act w.view x looks))
           refused.1),
     )
 
     pub stale_comes : (x : SeatView) (now : ℕ) (back : Option Name) → LooksOn w.view x
         → x.held ≡ w.view.held → RefusesCommit base root (Stale now back) x
-        → IsLate t act base (record { at = now; root = back }) v.view x
+        → IsLate t.table act base (record { at = now; root = back }) v.view x
     stale_comes x now back looks kept refused =
         record {
-          works = works_on t act v.view w.view x makes.works (looks_work t act w.view x looks);
+          works = works_on t.table act v.view w.view x makes.works (looks_work t.table act w.view x looks);
           gains = subst (λ (r : Option Name). GetsRoot v.view.held r x.held) (sym refused.0)
               (subst (λ (ts : List Tree). GetsRoot v.view.held root ts) (sym kept) makes.gains);
           at_is = refused.1;

@@ -1,16 +1,23 @@
 -- What a closed table tells of its passes is what a closed world tells of its sessions.
-use Rattle.std.proofs.Common.{◌≡◌, ℕ, suc, ◌+◌, ◌<◌, ◌^◌, Some, List, [], ◌∷◌, ◌++◌, length, get_or, refl, sym, ◌∙◌, ap, subst, arith}
+use Rattle.std.proofs.Common.{◌≡◌, ℕ, suc, ◌+◌, ◌<◌, ◌^◌, Bool, false, Some, List, [], ◌∷◌, ◌++◌, length, get_or, refl, sym, ◌∙◌, ap, subst, arith}
 use Rattle.std.specs.Prelude.{All, map, sum_by}
 use Rattle.std.specs.List.{Contains, slice_get}
 use Rattle.std.proofs.lemmas.List.Elements.{All-append, All-contains_itself, All-map, All-nil, All-weaker}
 use Rattle.history_model.specs.declared.histories.Mark.{Mark}
 use Rattle.history_model.specs.declared.histories.Record.{Record}
 use Rattle.history_model.specs.Logs.{Log, IsLegal}
+use Rattle.vox_read.specs.Contents.{Content}
+use Rattle.node_shapes.specs.declared.names.Name.{Name}
 use Rattle.node_shapes.specs.Shape.{Shape}
 use Rattle.node_words.specs.Enough.{HasEnough}
 use Rattle.node_words.specs.Held.{Wanted}
+use Rattle.node_words.specs.Plans.{Layout}
+use Rattle.block_contents.specs.Versions.{IsKept}
+use Rattle.core_laws.specs.Counting.{booked, parented, rooted}
+use Rattle.core_laws.specs.Soundness.{SoundEntries, SoundVersions}
+use Rattle.core_laws.specs.States.{State, IsLive}
 use Rattle.conformance.specs.Answers.{GoesOn}
-use Rattle.version_answers.specs.Listing.{Accepted, Found, numbered}
+use Rattle.versions.specs.Listing.{Accepted, Found, numbered}
 use Rattle.reporting.proofs.RootLaws.{log_side}
 use Rattle.table_rule.specs.Knowing as knowing
 use Rattle.table_rule.specs.LogKnowing.{WasFound, numbered_from}
@@ -18,12 +25,13 @@ use Rattle.node_table.specs.Closing as closing
 use Rattle.node_table.specs.Closing.{EndsTable, HadEnough, IsSpare, TellsAll, views_of}
 use Rattle.node_table.specs.Seen.{TableSeen, PassSeen}
 use Rattle.node_table.specs.declared.closed.Closed.{Closed}
+use Rattle.node_table.specs.declared.closed.Root.{Root}
 use Rattle.session_runs.specs.Ran.{ClosesWorld, StillFound, records_of_all, marks_of_all, made_of_all, met_of_all}
 use Rattle.session_runs.specs.Seen.{SessionSeen}
 use Rattle.session.proofs.BeginLaws.{get_there}
-use Rattle.session.specs.Closes.{sessions_seen}
+use Rattle.session.specs.Closes.{coloured_as, sessions_seen}
 use Rattle.session.specs.Resting.{IsAtRest}
-use Rattle.session.specs.Seen.{session_seen}
+use Rattle.session.specs.Seen.{log_seen, session_seen}
 
 -- sessions at rest that hold nothing may be handed to their table
 pub all_spare : (w : TableSeen) (passes : List PassSeen) → All (IsAtRest w) passes
@@ -71,35 +79,131 @@ met_of P (s ∷ passes) each =
     (all_there P s.view.met (each 0 s refl))
     (met_of P passes (λ k t is. each (suc k) t is))
 
+-- ---- a history as coloured as the world
+
+-- the log of the same records and marks
+abbrev log_as : Bool → Log → Log
+log_as coloured log = record {
+  side = log.side;
+  coloured = coloured;
+  records = log.records;
+  marks = log.marks;
+}
+
+kept_as : (coloured : Bool) (log : Log) (v : ℕ) → IsKept log v → IsKept (log_as coloured log) v
+kept_as coloured log v k = record { there = k.there; unmarked = k.unmarked }
+
+kept_back : (coloured : Bool) (log : Log) (v : ℕ) → IsKept (log_as coloured log) v → IsKept log v
+kept_back coloured log v k = record { there = k.there; unmarked = k.unmarked }
+
+legal_as : (coloured : Bool) (side : ℕ) (models : List Content) (log : Log)
+    → IsLegal side models log → IsLegal side models (log_as coloured log)
+legal_as coloured side models log l = record {
+  same_side = l.same_side;
+  few = l.few;
+  fit = l.fit;
+  follow = l.follow;
+  rising = l.rising;
+  marked = l.marked;
+}
+
+abbrev state_as : Bool → State → State
+state_as coloured state = record {
+  book = state.book;
+  key = state.key;
+  root = state.root;
+  log = log_as coloured state.log;
+  held = state.held;
+}
+
+live_back : (coloured : Bool) (p : Layout) (state : State) (n : Name)
+    → IsLive p (state_as coloured state) n → IsLive p state n
+live_back coloured p state n l = record { name = l.name; book = l.book }
+
+entries_as : (coloured : Bool) (p : Layout) (state : State) → SoundEntries p state
+    → SoundEntries p (state_as coloured state)
+unfolding booked parented rooted
+entries_as coloured p state e = record {
+  fits = λ n live. e.fits n (live_back coloured p state n live);
+  placed = λ n live. e.placed n (live_back coloured p state n live);
+  once = λ m n a b. e.once m n (live_back coloured p state m a) (live_back coloured p state n b);
+  counted = e.counted;
+}
+
+versions_as : (coloured : Bool) (p : Layout) (models : List Content) (state : State)
+    → SoundVersions p models state → SoundVersions p models (state_as coloured state)
+versions_as coloured p models state s = record {
+  legal = legal_as coloured (2 ^ p.side) models state.log s.legal;
+  kept = λ v n is. kept_as coloured state.log v (s.kept v n is);
+  level = s.level;
+  shown = λ v k. s.shown v (kept_back coloured state.log v k);
+}
+
+-- the table ended so, whatever its world's cells have
+pub ends_as : (coloured : Bool) (t : TableSeen) (closed : Closed) → EndsTable t closed
+    → EndsTable t (coloured_as coloured closed)
+ends_as coloured t closed ends =
+    let log : Log = ends.state.log in
+    record {
+      state = state_as coloured ends.state;
+      sound = record {
+        entries = entries_as coloured t.plan ends.state ends.sound.entries;
+        versions = versions_as coloured t.plan t.models ends.state ends.sound.versions;
+      };
+      idle = record { weighs = ends.idle.weighs };
+      history = ap (log_as coloured) ends.history;
+      roots = record {
+        rising = ends.roots.rising;
+        kept = All-weaker (λ (r : Root). IsKept log r.version)
+            (λ (r : Root). IsKept (log_as coloured log) r.version)
+            (λ r k. kept_as coloured log r.version k) closed.roots.items ends.roots.kept;
+        named = ends.roots.named;
+        all = λ v k. ends.roots.all v (kept_back coloured log v k);
+      };
+      live = record {
+        as_many = ends.live.as_many;
+        each = ends.live.each;
+        above = ends.live.above;
+      };
+    }
+
 -- ---- the world
 
 module _ (w : TableSeen) (passes : List PassSeen) (closed : Closed) (rest : All (IsAtRest w) passes)
     (ends : EndsTable w closed) (tells : TellsAll closed.history passes) (had : HadEnough w.plan passes) where
-  legal : IsLegal (2 ^ w.plan.side) w.models closed.history
-  legal = subst (λ (log : Log). IsLegal (2 ^ w.plan.side) w.models log) (sym ends.history) ends.sound.versions.legal
+  -- the history that the world leaves
+  abbrev history : Log
+  history = (coloured_as false closed).history
 
-  goes_on_to : (k : ℕ) (d : PassSeen) → k < length passes → GoesOn (get_or passes k d).view.log.seen closed.history
+  legal : IsLegal (2 ^ w.plan.side) w.models history
+  legal =
+      let e = ends_as false w closed ends in
+      subst (λ (log : Log). IsLegal (2 ^ w.plan.side) w.models log) (sym e.history) e.sound.versions.legal
+
+  goes_on_to : (k : ℕ) (d : PassSeen) → k < length passes → GoesOn (log_seen (get_or passes k d).view.log) history
   goes_on_to k d lt =
       let s = get_or passes k d in
       let b = tells.seen k s (get_there passes k d lt) in
       record {
-        side = log_side w.plan w.models closed.history legal ∙ sym (rest k d lt).side;
+        side = log_side w.plan w.models history legal ∙ sym (rest k d lt).side;
+        coloured = refl;
         more = b.more;
         records = b.records;
         marks = all_there (Contains closed.history.marks) s.view.log.seen.marks b.marks;
       }
 
-  was_found : (f : Found) → WasFound closed.history f → StillFound closed.history f
+  was_found : (f : Found) → WasFound closed.history f → StillFound history f
   was_found f was = record { there = was.at; still = was.held }
 
-  found_of : (k : ℕ) (s : PassSeen) → slice_get passes k ≡ Some s → All (StillFound closed.history) s.view.log.found
-  found_of k s is = all_there (StillFound closed.history) s.view.log.found (λ f there. was_found f (tells.found k s is f there))
+  found_of : (k : ℕ) (s : PassSeen) → slice_get passes k ≡ Some s → All (StillFound history) s.view.log.found
+  found_of k s is = all_there (StillFound history) s.view.log.found (λ f there. was_found f (tells.found k s is f there))
 
-  pub closes_world : ClosesWorld w.plan w.models (sessions_seen passes) closed.history
+  pub closes_world : ClosesWorld w.plan w.models (sessions_seen passes) history
   closes_world = record {
     legal = legal;
-    seen = All-map (λ (s : SessionSeen). GoesOn s.log closed.history) (λ (s : PassSeen). session_seen s.view) passes goes_on_to;
-    found = all_mapped (λ (s : SessionSeen). All (StillFound closed.history) s.found) (λ (s : PassSeen). session_seen s.view) passes found_of;
+    coloured = refl;
+    seen = All-map (λ (s : SessionSeen). GoesOn s.log history) (λ (s : PassSeen). session_seen s.view) passes goes_on_to;
+    found = all_mapped (λ (s : SessionSeen). All (StillFound history) s.found) (λ (s : PassSeen). session_seen s.view) passes found_of;
     records = record {
       weighs = λ f.
           ap (sum_by f) (sym (numbered_same 1 closed.history.records)) ∙ sym (tells.records f)

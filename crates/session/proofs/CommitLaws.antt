@@ -5,7 +5,7 @@ use Rattle.vox_read.specs.Contents.{Content}
 use Rattle.history_model.specs.declared.acts.Act.{Act}
 use Rattle.history_model.specs.declared.histories.Record.{Record}
 use Rattle.history_model.specs.Logs.{FitsWorld}
-use Rattle.history_model.specs.Moments.{world_has}
+use Rattle.history_model.specs.Stores.{stored_in}
 use Rattle.history_model.specs.Worlds.{World, is_edit}
 use Rattle.node_shapes.proofs.WeightLaws.{weight_of-one}
 use Rattle.node_shapes.specs.declared.names.Name.{Name}
@@ -18,7 +18,7 @@ use Rattle.node_words.specs.Plans.{Layout}
 use Rattle.block_contents.specs.Aligned.{top, world_block}
 use Rattle.node_words.specs.declared.shares.Full.{Full}
 use Rattle.edit_blocks.specs.Blocks.{GoesBack, MayGoBack}
-use Rattle.version_answers.specs.Listing.{Accepted}
+use Rattle.versions.specs.Listing.{Accepted}
 use Rattle.table_rule.specs.LogTelling.{number_seen, seen_has}
 use Rattle.table_rule.specs.LogViews.{LogView}
 use Rattle.table_rule.specs.Rules.{SameSession}
@@ -26,18 +26,17 @@ use Rattle.table_rule.specs.Views.{SeatView}
 use Rattle.node_table.specs.Seen.{TableSeen, PassSeen}
 use Rattle.version_log.proofs.LookLaws.{dated_longer}
 use Rattle.version_log.specs.Commits.{AppendsNext, IsMadeOver, IsOwnRecord, with_own}
-use Rattle.version_log.specs.Falling.{CommitsAlone}
-use Rattle.version_log.specs.declared.committed.Committed.{Committed}
 use Rattle.version_log.specs.Pins.{PinsVersion}
 use Rattle.version_log.specs.Roots.{GetsRoot, HoldsRootOf}
 use Rattle.version_log.specs.Seeing.{KnowsMore}
 use Rattle.version_log.specs.declared.pinned.Pinned.{Pinned}
 use Rattle.session_runs.specs.declared.calls.ActAnswer.TheVariants as acts
-use Rattle.session_runs.specs.Told.{ActTold}
+use Rattle.session_runs.specs.Seen.{of_session}
+use Rattle.session_runs.specs.Told.{ActDone}
 use Rattle.hands.specs.Lendable.{StaysLendable}
 use Rattle.session.specs.Attempts.{AnswersAct, FailsToMake, HasPinnedHead, WorksOn}
 use Rattle.session.specs.Resting.{IsAtRest}
-use Rattle.session.specs.Seen.{of_world, session_seen}
+use Rattle.session.specs.Seen.{WorldSeen, session_seen}
 use Rattle.session.proofs.ForgetLaws.{head_is}
 use Rattle.session.proofs.SeenLaws.{sees_more}
 use Rattle.session.proofs.WorkLaws.{notes_none}
@@ -106,7 +105,7 @@ pub holds_stays : (v w : SeatView) (root : Option Name) (n : ℕ) → w.plan ≡
     → HoldsRootOf w root (seen_has w n)
 holds_stays v w root n plan models log h held =
     let cells : seen_has w n ≡ seen_has v n =
-    (λ i. world_has (models i) ((log i).seen.records) n)
+    (λ i. stored_in (2 ^ (plan i).side) (models i) ((log i).seen.records) n)
     in
     record {
       tree = h.tree;
@@ -199,8 +198,8 @@ appends_session v w line act root n a =
 done_here : (t : TableSeen) (number line : ℕ) (act : Act) (v : SeatView) (r : Record)
     (held : List Tree) (busy : List ℕ) (n : ℕ) → n ≡ number_seen v + 1
     → r ≡ record { session = number; line = line; act = act }
-    → ActTold (of_world t number) line act (session_seen v)
-    (session_seen (with_own v r held busy)) (acts.Done n)
+    → ActDone (of_session t.plan t.models number) line act (session_seen v)
+    (session_seen (with_own v r held busy)) n
 unfolding numbered_at
 done_here t number line act v r held busy n at same =
     let x : SeatView = with_own v r held busy in
@@ -227,31 +226,28 @@ done_here t number line act v r held busy n at same =
       notes = notes_none t.plan t.models act (session_seen v) (session_seen x) refl;
     }
 
-pub done_answers : (t : TableSeen) (line : ℕ) (act : Act) (root : Option Name) (n : ℕ)
-    (v w : SeatView) → AppendsNext v line act root n w → AnswersAct t line act (acts.Done n) v w
-done_answers t line act root n v w a number one =
-    subst (λ (x : SeatView). ActTold (of_world t number) line act (session_seen v)
-    (session_seen x) (acts.Done n)) (sym a.is)
-    (done_here t number line act v a.by w.held w.log.busy n a.number
+-- where all versions are held
+pub done_alone : (t : WorldSeen) (line : ℕ) (act : Act) (root : Option Name) (n : ℕ)
+    (v w : SeatView) → AppendsNext v line act root n w → (number : ℕ) → v.numbers ≡ number ∷ []
+    → ActDone (of_session t.table.plan t.table.models number) line act (session_seen v)
+    (session_seen w) n
+done_alone t line act root n v w a number one =
+    subst (λ (x : SeatView). ActDone (of_session t.table.plan t.table.models number) line act
+    (session_seen v) (session_seen x) n) (sym a.is)
+    (done_here t.table number line act v a.by w.held w.log.busy n a.number
     (own_record v line number act a.by one a.own))
-
--- where no version fell out, only the record came
-pub alone_appends : (v w : SeatView) (line : ℕ) (act : Act) (root : Option Name) (c : Committed)
-    (n : ℕ) → n ≡ c.n → CommitsAlone v line act root c w → AppendsNext v line act root n w
-alone_appends v w line act root c n same a =
-    subst (λ (k : ℕ). AppendsNext v line act root k w) (sym same) a.appends
 
 -- ---- a history without room
 
-pub late_answers : (t : TableSeen) (line : ℕ) (act : Act) (v w : SeatView) → is_edit act ≡ true
-    → WorksOn t act v w → number_seen w ≡ 65535 → AnswersAct t line act acts.LogFull v w
+pub late_answers : (t : WorldSeen) (line : ℕ) (act : Act) (v w : SeatView) → is_edit act ≡ true
+    → WorksOn t.table act v w → number_seen w ≡ 65535 → AnswersAct t line act acts.LogFull v w
 late_answers t line act v w edit works all number one =
     record { all = all; nothing = works.nothing; notes = works.notes; way = inl edit }
 
 -- ---- a bucket without room
 
-pub full_answers : (t : TableSeen) (line : ℕ) (act : Act) (at : ℕ) (full : Full) (v w : SeatView)
-    → at ≡ number_seen w → FailsToMake t act full v w
+pub full_answers : (t : WorldSeen) (line : ℕ) (act : Act) (at : ℕ) (full : Full) (v w : SeatView)
+    → at ≡ number_seen w → FailsToMake t.table act full v w
     → AnswersAct t line act (acts.Full at full) v w
 full_answers t line act at full v w here fails number one =
     record { at_is = here; nothing = fails.works.nothing; meets = fails.meets }

@@ -9,7 +9,7 @@ use Rattle.version_log.specs.declared.pinned.Pinned.{Pinned}
 use Rattle.session.specs.Desks.{DeskStands}
 use Rattle.session.specs.Resting.{IsAtRest}
 use Rattle.session.specs.Saves.{AddsPin, HoldsSaves, pinned_versions}
-use Rattle.session.specs.Seen.{of_world, session_seen}
+use Rattle.session.specs.Seen.{WorldSeen, of_world, session_seen}
 use Rattle.session.proofs.SaveLaws.{few_held, no_pins, one_more, still_held}
 use Rattle.history_model.specs.declared.acts.Act.{Act}
 use Rattle.history_model.specs.declared.questions.Question.{Question}
@@ -20,13 +20,13 @@ use Rattle.session_runs.specs.declared.calls.OnceAnswer.{OnceAnswer}
 use Rattle.session_runs.specs.declared.calls.OnceAnswer.TheVariants as onces
 use Rattle.session_runs.specs.declared.calls.AskedAt.{AskedAt}
 use Rattle.session_runs.specs.declared.calls.SavedAt.{SavedAt}
-use Rattle.version_answers.specs.declared.refusals.PinRefused.{PinRefused}
-use Rattle.version_answers.specs.declared.refusals.PinRefused.TheVariants as pins
-use Rattle.version_answers.specs.declared.refusals.ForgetRefused.{ForgetRefused}
-use Rattle.version_answers.specs.declared.refusals.ForgetRefused.TheVariants as forgets
-use Rattle.version_answers.specs.declared.comparing.SameAt.{SameAt}
-use Rattle.version_answers.specs.declared.comparing.SameRefused.{SameRefused}
-use Rattle.version_answers.specs.declared.comparing.SameRefused.TheVariants as sames
+use Rattle.versions.specs.declared.refusals.PinRefused.{PinRefused}
+use Rattle.versions.specs.declared.refusals.PinRefused.TheVariants as pins
+use Rattle.versions.specs.declared.refusals.ForgetRefused.{ForgetRefused}
+use Rattle.versions.specs.declared.refusals.ForgetRefused.TheVariants as forgets
+use Rattle.versions.specs.declared.comparing.SameAt.{SameAt}
+use Rattle.versions.specs.declared.comparing.SameRefused.{SameRefused}
+use Rattle.versions.specs.declared.comparing.SameRefused.TheVariants as sames
 use Rattle.session_runs.specs.Calls.{FollowsHistory}
 use Rattle.conformance.specs.Answers.{asked_version}
 use Rattle.script.specs.declared.commands.ScriptLine.{ScriptLine}
@@ -140,7 +140,7 @@ pub one_number : (ns : List ℕ) (m n : ℕ) → ns ≡ m ∷ [] → ns ≡ n �
 one_number ns m n first second = cc
 
 -- what the lines made of the session, as the lender of session and list sees it
-pub script_ran : (w : TableSeen) (mine : ℕ) (script lines : List ScriptLine) (before after : List LineAnswer) (old : PassSeen) (new last : SessionSeen) (were are saved : List Pinned) → lines ≡ script → were ≡ [] → last ≡ new → saved ≡ are
+pub script_ran : (w : WorldSeen) (mine : ℕ) (script lines : List ScriptLine) (before after : List LineAnswer) (old : PassSeen) (new last : SessionSeen) (were are saved : List Pinned) → lines ≡ script → were ≡ [] → last ≡ new → saved ≡ are
     → old.view.numbers ≡ mine ∷ [] → RunsScript (of_world w mine) lines before after (session_seen old.view) new (pinned_versions were) (pinned_versions are)
     → (number : ℕ) → old.view.numbers ≡ number ∷ [] → RunsScript (of_world w number) script before after (session_seen old.view) last [] (pinned_versions saved)
 script_ran w mine script lines before after old new last were are saved of none session list one ran number other =

@@ -8,7 +8,6 @@ use Rattle.node_words.specs.Held.{SameHeld}
 use Rattle.edit_blocks.specs.Blocks.{GoesBack, MayGoBack}
 use Rattle.table_rule.specs.LogTelling.{number_seen}
 use Rattle.table_rule.specs.Views.{SeatView}
-use Rattle.node_table.specs.Seen.{TableSeen}
 use Rattle.version_log.specs.Roots.{GetsRoot}
 use Rattle.version_log.specs.Seeing.{LooksOn}
 use Rattle.version_log.specs.declared.pinned.Pinned.{Pinned}
@@ -21,7 +20,7 @@ use Rattle.session_runs.specs.Told.{ActTold, OnceTold}
 use Rattle.session.specs.declared.attempts.EditAnswer.{EditAnswer}
 use Rattle.session.specs.declared.attempts.EditAnswer.TheVariants as edits
 use Rattle.session.specs.Attempts.{AnswersAct, IsLate, act_answer, once_answer}
-use Rattle.session.specs.Seen.{of_world, session_seen}
+use Rattle.session.specs.Seen.{WorldSeen, of_world, session_seen}
 use Rattle.session.proofs.CommitLaws.{back_same, few_gained, may_back, same_number_held}
 use Rattle.session.proofs.WorkLaws.{answers_after, answers_still, looks_work, works_on}
 
@@ -50,27 +49,27 @@ module _ (v w : SeatView) (root : Option Name) (gains : GetsRoot v.held root w.h
       (subst (λ (r : Option Name). GoesBack r x.held y.held) same gone)
 
 -- what was answered behind the pin was answered from before it
-pub pinned_answers : (t : TableSeen) (line : ℕ) (act : Act) (answer : ActAnswer)
+pub pinned_answers : (t : WorldSeen) (line : ℕ) (act : Act) (answer : ActAnswer)
     (v w x y : SeatView) → LooksOn v w → AnswersAct t line act answer w x
     → session_seen y ≡ session_seen x → AnswersAct t line act answer v y
 pinned_answers t line act answer v w x y looks told seen =
     answers_still t line act answer v x y seen
-    (answers_after t line act answer v w x (looks_work t act v w looks) told)
+    (answers_after t line act answer v w x (looks_work t.table act v w looks) told)
 
 -- and so was what was answered by the second attempt
-pub again_answers : (t : TableSeen) (line : ℕ) (act same : Act) (answer : ActAnswer)
+pub again_answers : (t : WorldSeen) (line : ℕ) (act same : Act) (answer : ActAnswer)
     (base : Pinned) (late : Late) (v w x y a b : SeatView) → LooksOn v w
-    → IsLate t act base late w x → same ≡ act → AnswersAct t line same answer x y
+    → IsLate t.table act base late w x → same ≡ act → AnswersAct t line same answer x y
     → session_seen a ≡ session_seen y → session_seen b ≡ session_seen a
     → AnswersAct t line act answer v b
 again_answers t line act same answer base late v w x y a b looks is e told first second =
     answers_still t line act answer v y b (second ∙ first)
     (answers_after t line act answer v x y
-    (works_on t act v w x (looks_work t act v w looks) is.works)
+    (works_on t.table act v w x (looks_work t.table act v w looks) is.works)
     (subst (λ (z : Act). AnswersAct t line z answer x y) e told))
 
 -- an edit's answer as one of an act
-pub act_told : (t : TableSeen) (line : ℕ) (act : Act) (a : EditAnswer) (x : ActAnswer)
+pub act_told : (t : WorldSeen) (line : ℕ) (act : Act) (a : EditAnswer) (x : ActAnswer)
     (v w : SeatView) → x ≡ act_answer a → AnswersAct t line act (act_answer a) v w
     → AnswersAct t line act x v w
 act_told t line act a x v w same told =
@@ -94,7 +93,7 @@ two_room a b c d q r f g same few =
 
 -- ---- one attempt
 
-pub once_told : (t : TableSeen) (line : ℕ) (act : Act) (a : EditAnswer) (x : OnceAnswer)
+pub once_told : (t : WorldSeen) (line : ℕ) (act : Act) (a : EditAnswer) (x : OnceAnswer)
     (v w : SeatView) → x ≡ once_answer a → AnswersAct t line act (act_answer a) v w
     → (number : ℕ) → v.numbers ≡ number ∷ []
     → OnceTold (of_world t number) line act (session_seen v) (session_seen w) x
@@ -109,16 +108,16 @@ once_told t line act a x v w same told number one =
     by (edits.Full at full) h = h
     by edits.LogFull h = h
 
-pub stale_told : (t : TableSeen) (line : ℕ) (act : Act) (base : Pinned) (late : Late)
+pub stale_told : (t : WorldSeen) (line : ℕ) (act : Act) (base : Pinned) (late : Late)
     (v w x y z : SeatView) → LooksOn v w → base.moment ≡ number_seen w
-    → IsLate t act base late w x → session_seen y ≡ session_seen x
+    → IsLate t.table act base late w x → session_seen y ≡ session_seen x
     → session_seen z ≡ session_seen y → (number : ℕ) → v.numbers ≡ number ∷ []
     → OnceTold (of_world t number) line act (session_seen v) (session_seen z)
     (once.Stale late.at base.moment)
 stale_told t line act base late v w x y z looks now is first second number one =
     subst (λ (s : SessionSeen). OnceTold (of_world t number) line act (session_seen v) s
     (once.Stale late.at base.moment)) (sym (second ∙ first))
-    (let works = works_on t act v w x (looks_work t act v w looks) is.works in
+    (let works = works_on t.table act v w x (looks_work t.table act v w looks) is.works in
     let long = looks.sees.seen.records in
     let more : number_seen w ≡ length (v.log.seen.records ++ looks.sees.seen.more) =
     ap length long

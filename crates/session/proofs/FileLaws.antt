@@ -11,7 +11,7 @@ use Rattle.vw_cell.specs.Counts.{cell_at}
 use Rattle.vw_cell.specs.Places.{IsInBlock, FitsAt, block_side}
 use Rattle.vox_read.specs.declared.voxels.Voxel.{Voxel}
 use Rattle.vox_write.specs.Written.{model_file}
-use Rattle.history_model.specs.Moments.{world_has}
+use Rattle.history_model.specs.Stores.{store_has}
 use Rattle.history_model.specs.Worlds.{World}
 use Rattle.node_shapes.specs.declared.names.Name.{Name}
 use Rattle.node_shapes.specs.Shape.{Shape, ShowsCells, has}
@@ -131,16 +131,16 @@ module _ (of : TableSeen) (s : SessionSeen) (held : List Tree) (pins : List Pinn
 
   pub pin_file : {E Z : Type 0} (part : Boxed) (result : Result (Vec ℕ Z) E) (side : ℕ) (root : Option Name) → FitsAt part.at part.size (2 ^ of.plan.side)
       → side ≡ of.plan.side → root ≡ p.root → IfOk result (λ file. ForWorld held side root (λ cells. file.items ≡ file_of_box part cells))
-      → IfOk result (λ file. (q : Pinned) → slice_get pins k ≡ Some q → file.items ≡ file_of_box part (world_has of.models s.log.records q.version))
+      → IfOk result (λ file. (q : Pinned) → slice_get pins k ≡ Some q → file.items ≡ file_of_box part (store_has of.models s.log q.version))
   pin_file {E} {Z} part result side root fits of_side is told =
       go result (subst (λ (r : Option Name). IfOk result (λ file. ForWorld held of.plan.side r (λ cells. file.items ≡ file_of_box part cells))) is
       (subst (λ (n : ℕ). IfOk result (λ file. ForWorld held n root (λ cells. file.items ≡ file_of_box part cells))) of_side told))
     where
       go : (r : Result (Vec ℕ Z) E) → IfOk r (λ file. ForWorld held of.plan.side p.root (λ cells. file.items ≡ file_of_box part cells))
-          → IfOk r (λ file. (q : Pinned) → slice_get pins k ≡ Some q → file.items ≡ file_of_box part (world_has of.models s.log.records q.version))
+          → IfOk r (λ file. (q : Pinned) → slice_get pins k ≡ Some q → file.items ≡ file_of_box part (store_has of.models s.log q.version))
       go (Err e) told = tt
       go (Ok file) told = λ q at.
           told h.tree block
-          ∙ same_file part (cells_of (of.plan.side - 2) (shape_of h.tree)) (world_has of.models s.log.records p.version)
-          (shown_in of.plan.side part (shape_of h.tree) (world_has of.models s.log.records p.version) h.is.shows fits)
-          ∙ ap (λ (r : Pinned). file_of_box part (world_has of.models s.log.records r.version)) (same_Some p q (sym here ∙ at))
+          ∙ same_file part (cells_of (of.plan.side - 2) (shape_of h.tree)) (store_has of.models s.log p.version)
+          (shown_in of.plan.side part (shape_of h.tree) (store_has of.models s.log p.version) h.is.shows fits)
+          ∙ ap (λ (r : Pinned). file_of_box part (store_has of.models s.log r.version)) (same_Some p q (sym here ∙ at))

@@ -18,13 +18,13 @@ use Rattle.node_table.specs.Seen.{TableSeen, PassSeen}
 use Rattle.version_log.specs.Forgets.{ForgetsVersion, IsOwnMark, RefusesForget}
 use Rattle.version_log.specs.Seeing.{IsDated, LooksOn}
 use Rattle.version_log.specs.declared.forgetting.Forgot.{Forgot}
-use Rattle.version_answers.specs.declared.refusals.ForgetRefused.{ForgetRefused}
-use Rattle.version_answers.specs.declared.refusals.ForgetRefused.TheVariants.{NoVersion, IsHead, Forgotten}
+use Rattle.versions.specs.declared.refusals.ForgetRefused.{ForgetRefused}
+use Rattle.versions.specs.declared.refusals.ForgetRefused.TheVariants.{NoVersion, IsHead, Forgotten}
 use Rattle.session_runs.specs.Seen.{SessionSeen}
 use Rattle.session_runs.specs.Told.{ForgetTold}
 use Rattle.hands.specs.Lendable.{StaysLendable}
 use Rattle.session.specs.Resting.{IsAtRest}
-use Rattle.session.specs.Seen.{KnowsItself, of_world, session_seen}
+use Rattle.session.specs.Seen.{KnowsItself, WorldSeen, log_seen, of_world, session_seen}
 use Rattle.session.proofs.SeenLaws.{knows_itself, only_sees, same_noted, sees_more}
 
 made_mark : ℕ → ℕ → ℕ → ℕ → Mark
@@ -38,7 +38,7 @@ head_is m n e = ap (λ (ns : List ℕ). first_of ns) e
     first_of [] = 0
     first_of (k ∷ ks) = k
 
-own_mark : (v : SeatView) (version at line number : ℕ) (m : Mark) → v.numbers ≡ number ∷ []
+pub own_mark : (v : SeatView) (version at line number : ℕ) (m : Mark) → v.numbers ≡ number ∷ []
     → IsOwnMark v version at line m → m ≡ mark_of version at number line
 unfolding made_mark
 own_mark v version at line number m one own =
@@ -78,7 +78,7 @@ same_held v w z version line f is back =
 
 seen_as : LogView → List Shape → List Wanted → SessionSeen
 seen_as l made met = record {
-  log = l.seen;
+  log = log_seen l;
   records = l.records;
   marks = l.marks;
   found = l.found;
@@ -92,7 +92,7 @@ same_seen w z log made met =
     ap (λ (l : LogView). seen_as l z.made z.met) log ∙ ap (λ ms. seen_as w.log ms z.met) made
     ∙ ap (λ ws. seen_as w.log w.made ws) met
 
-module _ (t : TableSeen) (number line version : ℕ) where
+module _ (t : WorldSeen) (number line version : ℕ) where
   forgets_here : (v w : SeatView) (f : Forgot) → v.numbers ≡ number ∷ []
       → ForgetsVersion v version line f w
       → ForgetTold (of_world t number) line version (session_seen v) (session_seen w) (Ok f.at)
@@ -113,7 +113,7 @@ module _ (t : TableSeen) (number line version : ℕ) where
       }
 
   pub forgot_told : (v : SeatView) (w z : PassSeen) (f : Forgot) → v.numbers ≡ number ∷ []
-      → ForgetsVersion v version line f w.view → StaysLendable t w z
+      → ForgetsVersion v version line f w.view → StaysLendable t.table w z
       → OnlyHeldChanges (seen_of w.view) (seen_of z.view)
       → ForgetTold (of_world t number) line version (session_seen v) (session_seen z.view) (Ok f.at)
   forgot_told v w z f one is stays only =

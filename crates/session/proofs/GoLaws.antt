@@ -2,7 +2,7 @@
 use Rattle.std.proofs.Common.{◌≡◌, ◌≤◌, ℕ, false, Option, Some, None, List, [], ◌∷◌, length, slice_get, refl, sym, ◌∙◌, ap, subst, arith, inr}
 use Rattle.std.specs.List.{Contains}
 use Rattle.history_model.specs.declared.acts.Act.{Act}
-use Rattle.history_model.specs.declared.acts.Act.TheVariants.{Fill, Erase, Ball, Carve, Copy, Stamp, Undo, Redo}
+use Rattle.history_model.specs.declared.acts.Act.TheVariants.{Fill, Erase, Ball, Carve, Copy, Stamp, Tint, Undo, Redo}
 use Rattle.history_model.specs.declared.histories.Mark.{Mark}
 use Rattle.history_model.specs.declared.histories.Record.{Record}
 use Rattle.history_model.specs.Positions.{first_of, position_after}
@@ -14,18 +14,20 @@ use Rattle.node_words.specs.Held.{SameHeld}
 use Rattle.block_contents.specs.Versions.{IsUnmarked}
 use Rattle.conformance.specs.Answers.{target_at}
 use Rattle.conformance.proofs.LineKinds.{redo_target, undo_target}
-use Rattle.version_answers.specs.Listing.{Found}
+use Rattle.versions.specs.Listing.{Found}
 use Rattle.table_rule.specs.LogTelling.{IsShownUnmarked, number_seen, seen_has}
 use Rattle.table_rule.specs.LogViews.{LogView}
 use Rattle.table_rule.specs.Views.{SeatView}
 use Rattle.node_table.specs.LogChanges.{HasOpenTarget}
 use Rattle.node_places.specs.Spots.{Version}
 use Rattle.node_table.specs.LogTurns.{FoundMark, FoundOpen, LearnsLog, LooksForMark}
-use Rattle.node_table.specs.Seen.{TableSeen, PassSeen}
+use Rattle.node_table.specs.Seen.{PassSeen}
 use Rattle.version_log.proofs.LookLaws.{found_looks, learns_looks, looks_on}
 use Rattle.version_log.proofs.UndoLaws.{target_made, target_open}
 use Rattle.version_log.specs.declared.ahead.Ahead.{Ahead}
-use Rattle.version_log.specs.Commits.{AppendsNext}
+use Rattle.edit_blocks.specs.Blocks.{GoesBack}
+use Rattle.version_log.specs.Falling.{CommitsNext}
+use Rattle.version_log.specs.declared.committed.Committed.{Committed}
 use Rattle.version_log.specs.Keeping.{OnlyKeeps}
 use Rattle.version_log.specs.Roots.{GetsRoot, HoldsRootOf}
 use Rattle.version_log.specs.Seeing.{LooksOn}
@@ -34,8 +36,9 @@ use Rattle.session_runs.specs.declared.calls.ActAnswer.{ActAnswer}
 use Rattle.session_runs.specs.declared.calls.ActAnswer.TheVariants as acts
 use Rattle.session_runs.specs.Told.{ActTold, HasFoundWay}
 use Rattle.session.specs.Attempts.{AnswersAct, nothing_to}
-use Rattle.session.specs.Seen.{of_world, session_seen}
-use Rattle.session.proofs.CommitLaws.{appended_held, done_answers, few_gained, held_by}
+use Rattle.session.specs.Seen.{WorldSeen, of_world, session_seen}
+use Rattle.session.proofs.CommitLaws.{few_gained, held_by}
+use Rattle.session.proofs.KeepLaws.{fallen_room, kept_answers, pushed_held}
 use Rattle.session.proofs.SurelyLaws.{gets_from, same_number_seen}
 use Rattle.session.proofs.TurnLaws.{keeps_looks, kept_root, looked_held}
 use Rattle.session.proofs.WorkLaws.{answers_after, answers_still, looks_work}
@@ -53,13 +56,14 @@ target_is records (Ball b) other = absurd (let no : ⊥ = cc in no)
 target_is records (Carve b) other = absurd (let no : ⊥ = cc in no)
 target_is records (Copy b to) other = absurd (let no : ⊥ = cc in no)
 target_is records (Stamp m at) other = absurd (let no : ⊥ = cc in no)
+target_is records (Tint t) other = absurd (let no : ⊥ = cc in no)
 target_is records Undo other =
     undo_target records ∙ first_is (position_after records).past
 target_is records Redo other =
     redo_target records ∙ first_is (position_after records).future
 
 -- the view looked on, and this is where the act goes by the records that are seen
-module _ (t : TableSeen) (line : ℕ) (act : Act) (other : is_edit act ≡ false) (v z : SeatView)
+module _ (t : WorldSeen) (line : ℕ) (act : Act) (other : is_edit act ≡ false) (v z : SeatView)
     (looks : LooksOn v z) where
   nowhere_of : (a : Act) (at : ℕ) → act ≡ a → is_edit a ≡ false → at ≡ number_seen z
       → act_target z.log.seen.records act ≡ None → (number : ℕ)
@@ -70,8 +74,9 @@ module _ (t : TableSeen) (line : ℕ) (act : Act) (other : is_edit act ≡ false
   nowhere_of (Carve b) at e edit here none number = absurd (let bad : ⊥ = cc in bad)
   nowhere_of (Copy b to) at e edit here none number = absurd (let bad : ⊥ = cc in bad)
   nowhere_of (Stamp m p) at e edit here none number = absurd (let bad : ⊥ = cc in bad)
+  nowhere_of (Tint a) at e edit here none number = absurd (let bad : ⊥ = cc in bad)
   nowhere_of Undo at e edit here none number =
-      let works = looks_work t act v z looks in
+      let works = looks_work t.table act v z looks in
       record {
         at_is = here;
         is = e;
@@ -81,7 +86,7 @@ module _ (t : TableSeen) (line : ℕ) (act : Act) (other : is_edit act ≡ false
             (target_is z.log.seen.records act other ∙ none);
       }
   nowhere_of Redo at e edit here none number =
-      let works = looks_work t act v z looks in
+      let works = looks_work t.table act v z looks in
       record {
         at_is = here;
         is = e;
@@ -99,7 +104,7 @@ module _ (t : TableSeen) (line : ℕ) (act : Act) (other : is_edit act ≡ false
       → act_target z.log.seen.records act ≡ Some to → m.version ≡ to
       → Contains z.log.seen.marks m → AnswersAct t line act (acts.Forgotten at m) v z
   forgotten_answers at to m here goes version listed number one =
-      let works = looks_work t act v z looks in
+      let works = looks_work t.table act v z looks in
       record {
         at_is = here;
         nothing = works.nothing;
@@ -111,11 +116,11 @@ module _ (t : TableSeen) (line : ℕ) (act : Act) (other : is_edit act ≡ false
   pub late_way : number_seen z ≡ 65535 → HasFoundWay (session_seen z) act
       → AnswersAct t line act acts.LogFull v z
   late_way all way number one =
-      let works = looks_work t act v z looks in
+      let works = looks_work t.table act v z looks in
       record { all = all; nothing = works.nothing; notes = works.notes; way = way }
 
 -- the length was asked of s, which stayed as it was, and then where the act goes
-module _ (t : TableSeen) (act : Act) (other : is_edit act ≡ false) (s a b : PassSeen) (at : ℕ)
+module _ (t : WorldSeen) (act : Act) (other : is_edit act ≡ false) (s a b : PassSeen) (at : ℕ)
     (to : Option ℕ) (same : a ≡ s) (here : at ≡ number_seen s.view)
     (target : to ≡ act_target a.view.log.seen.records act) (learns : LearnsLog a.view b.view)
   where
@@ -258,22 +263,23 @@ module _ (t : TableSeen) (act : Act) (other : is_edit act ≡ false) (s a b : Pa
 
 -- ---- what it comes to: the turn came, the way was found, and the turn went back
 
-module _ (t : TableSeen) (line : ℕ) (act : Act) (v a b : SeatView) (took : LooksOn v a)
+module _ (t : WorldSeen) (line : ℕ) (act : Act) (v a b : SeatView) (took : LooksOn v a)
     (looks : LooksOn a b) where
   went_looks : LooksOn v b
   went_looks = looks_on v a b took looks
 
-  pub went_done : (root : Option Name) (n : ℕ) (x : SeatView) → AppendsNext b line act root n x
-      → AnswersAct t line act (acts.Done n) v x
-  went_done root n x appends =
-      answers_after t line act (acts.Done n) v b x (looks_work t act v b went_looks)
-      (done_answers t line act root n b x appends)
+  pub went_done : (root : Option Name) (c : Committed) (x y : SeatView)
+      → CommitsNext b t.keep line act root c x → session_seen y ≡ session_seen x
+      → AnswersAct t line act (acts.Done c.n) v y
+  went_done root c x y made seen =
+      answers_after t line act (acts.Done c.n) v b y (looks_work t.table act v b went_looks)
+      (kept_answers t line act root c b x y made seen)
 
   pub went_nowhere : (answer : ActAnswer) (x : SeatView) → AnswersAct t line act answer a b
       → session_seen x ≡ session_seen b → AnswersAct t line act answer v x
   went_nowhere answer x told seen =
       answers_still t line act answer v b x seen
-      (answers_after t line act answer v a b (looks_work t act v a took) told)
+      (answers_after t line act answer v a b (looks_work t.table act v a took) told)
 
   pub went_late : is_edit act ≡ false → (x y : SeatView) → number_seen x ≡ 65535
       → HasFoundWay (session_seen b) act → session_seen x ≡ session_seen b
@@ -291,10 +297,17 @@ module _ (v a b : SeatView) (root : Option Name) (took : a.held ≡ v.held)
   pub way_few : number_of_trees v.held ≤ 3900 → number_of_trees b.held ≤ 4095
   way_few few = let more = few_gained v.held b.held root came_here in omega arith
 
-  pub gone_held : (line : ℕ) (act : Act) (n : ℕ) (x : SeatView) → AppendsNext b line act root n x
-      → SameHeld v.held x.held
-  gone_held line act n x appends =
-      appended_held v.held b.held x.held root came_here appends.gone
+  pub gone_held : (keep line : ℕ) (act : Act) (c : Committed) (x y : SeatView)
+      → CommitsNext b keep line act root c x → GoesBack c.fallen x.held y.held
+      → SameHeld v.held y.held
+  gone_held keep line act c x y made back =
+      pushed_held keep line act root c v.held b x y.held came_here made back
+
+  pub gone_room : (keep line : ℕ) (act : Act) (c : Committed) (x : SeatView)
+      → CommitsNext b keep line act root c x → number_of_trees v.held ≤ 3900
+      → number_of_trees x.held ≤ 4008
+  gone_room keep line act c x made few =
+      fallen_room keep line act root c v.held b x came_here made (omega arith)
 
   pub way_room : (x : SeatView) → x.held ≡ b.held → number_of_trees v.held ≤ 3900
       → number_of_trees x.held ≤ 4008

@@ -3,6 +3,7 @@ mod AttemptLaws
 mod BeginLaws
 mod CellLaws
 mod CommitLaws
+mod KeepLaws
 mod EditLaws
 mod ForgetLaws
 mod GoLaws

@@ -5,7 +5,7 @@ use Rattle.std.proofs.lemmas.List.Elements.{All-nil, All-cons, All-weaker}
 use Rattle.vox_read.specs.Contents.{Content}
 use Rattle.history_model.specs.declared.acts.Act.{Act}
 use Rattle.history_model.specs.Logs.{FitsWorld}
-use Rattle.history_model.specs.Moments.{world_has}
+use Rattle.history_model.specs.Stores.{edited_in, stored_in}
 use Rattle.history_model.specs.Worlds.{World, edited}
 use Rattle.node_shapes.specs.declared.names.Name.{Name}
 use Rattle.node_shapes.specs.Shape.{Shape, IsPart, ShowsCells}
@@ -21,14 +21,15 @@ use Rattle.edit_cells.specs.Worlds.{Rebuilt, ShowsWorld, world_cells, world_shap
 use Rattle.edit_cells.proofs.WorldLaws.{shape_shows}
 use Rattle.hands.specs.Acts.{GrowsByAct, RebuildsAct, RefusesAct}
 use Rattle.block_contents.specs.Aligned.{top, world_block}
-use Rattle.conformance.specs.Needed.{made_of}
-use Rattle.session_runs.specs.Keeping.{IsPartOfWorld, MakesPart}
+use Rattle.session_runs.specs.Keeping.{IsPlainTarget, IsWanted, MakesPart}
+use Rattle.session_runs.proofs.PlainTargets.{plain_target_wanted}
 use Rattle.table_rule.specs.LogTelling.{number_seen, seen_has}
 use Rattle.table_rule.specs.LogViews.{LogView}
 use Rattle.table_rule.specs.Views.{seen_of}
 use Rattle.node_table.specs.Seen.{TableSeen, PassSeen}
 use Rattle.version_log.specs.Roots.{HoldsRootOf}
 use Rattle.session_runs.specs.Calls.{AcceptsNothing, NotesFor}
+use Rattle.tints.proofs.VersionLaws.{plainly}
 use Rattle.hands.specs.Lendable.{IsLendable, StaysLendable}
 use Rattle.session.specs.Attempts.{FailsToMake, IsMaker, MakesNextRoot, WorksOn}
 use Rattle.session.specs.Seen.{session_seen}
@@ -101,23 +102,28 @@ module _ (t : TableSeen) (act : Act) (models : List Content) (v w : PassSeen)
   same_number = ap (λ (l : LogView). length l.seen.records) stays.log
 
   -- by the history that is seen then, and by the act that was asked for
-  made_as : made_of t.models w.view.log.seen.records act at ≡ after
+  made_as : edited t.models act (stored_in (2 ^ t.plan.side) t.models w.view.log.seen.records at)
+      ≡ after
   made_as =
       let f : t.models ≡ models = sym maker.models_are in
       let g : t.models ≡ v.view.models = sym ready.of.models in
+      let p : t.plan ≡ v.view.plan = sym ready.of.plan in
       let l : w.view.log ≡ v.view.log = stays.log in
-      (λ i. edited (f i) act (world_has (g i) ((l i).seen.records) at))
+      (λ i. edited (f i) act (stored_in (2 ^ (p i).side) (g i) ((l i).seen.records) at))
 
-  part_of : (s : Shape) → IsPart s (world_shape level after)
-      → IsPartOfWorld t.plan (made_of t.models w.view.log.seen.records act at) s
-  part_of s part =
-      subst (λ (x : World). IsPartOfWorld t.plan x s) (sym made_as)
-      (record {
-        all = world_shape level after;
-        canonical = shape_with-canonical level (world_cells after);
-        shows = shape_shows level (world_shape level after) after refl;
-        part = part;
-      })
+  target : IsPlainTarget t.plan t.models w.view.log.seen.records act at (world_shape level after)
+  target = record {
+    edit = maker.edit;
+    plain = maker.plain;
+    canonical = shape_with-canonical level (world_cells after);
+    shows = subst (λ (x : World). ShowsCells (world_block t.plan.side) (world_shape level after) x)
+        (sym made_as) (shape_shows level (world_shape level after) after refl);
+  }
+
+  wanted_by : (s : Shape) → IsPart s (world_shape level after)
+      → IsWanted t.plan t.models w.view.log.seen.records act at s
+  wanted_by s part = plain_target_wanted t.plan t.models w.view.log.seen.records act at
+      (world_shape level after) target s part
 
   makes_part : (s : Shape) → IsPart s (world_shape level after)
       → MakesPart t.plan t.models w.view.log.seen.records act (number_seen v.view)
@@ -125,11 +131,10 @@ module _ (t : TableSeen) (act : Act) (models : List Content) (v w : PassSeen)
   makes_part s part =
       let same = same_number in
       record {
-        edit = maker.edit;
         version = at;
         low = omega arith;
         high = omega arith;
-        part = part_of s part;
+        wanted = wanted_by s part;
       }
 
   nothing_came : AcceptsNothing (session_seen v.view) (session_seen w.view)
@@ -201,13 +206,16 @@ module _ (t : TableSeen) (act : Act) (models : List Content) (v w : PassSeen)
             b.shows;
       }
 
-  after_as : edited w.view.models act (seen_has w.view (number_seen w.view)) ≡ after
+  after_as : edited_in (2 ^ w.view.plan.side) w.view.models act
+      (seen_has w.view (number_seen w.view)) ≡ after
   after_as =
+      let p : w.view.plan ≡ v.view.plan = stays.same.session.plan in
       let g : w.view.models ≡ v.view.models = stays.same.session.models in
       let f : w.view.models ≡ models = g ∙ ready.of.models ∙ sym maker.models_are in
       let l : w.view.log ≡ v.view.log = stays.log in
-      (λ i. edited (f i) act (world_has (g i) ((l i).seen.records)
-      (length ((l i).seen.records))))
+      (λ i. edited_in (2 ^ (p i).side) (f i) act (stored_in (2 ^ (p i).side) (g i)
+      ((l i).seen.records) (length ((l i).seen.records))))
+      ∙ ap (λ (e : World → World). e before) (plainly (2 ^ v.view.plan.side) models act maker.plain)
 
   makes_root : (r : Option Name)
       → RebuildsAct (seen_of v.view) t.plan.side base models act (Ok r) (seen_of w.view)
@@ -240,14 +248,12 @@ module _ (t : TableSeen) (act : Act) (models : List Content) (v w : PassSeen)
       record {
         works = works_by (failed_notes full g);
         meets = record {
-          edit = maker.edit;
           notes = failed_notes full g;
           shape = g.wanted;
           listed = (0, omega arith, refl);
           sought = subst (λ (p : Layout). IsSought p x) ready.of.plan g.sought;
-          part = subst (λ (n : ℕ). IsPartOfWorld t.plan
-              (made_of t.models w.view.log.seen.records act n) g.wanted) (sym same_number)
-              (part_of g.wanted g.is_part);
+          wanted = subst (λ (n : ℕ). IsWanted t.plan t.models w.view.log.seen.records act n g.wanted)
+              (sym same_number) (wanted_by g.wanted g.is_part);
         };
         held = record { weighs = g.held };
       }

@@ -1,5 +1,5 @@
 -- Versions that are pinned: their roots are walked, and they stay pinned.
-use Rattle.std.proofs.Common.{◌≡◌, ◌-◌, ◌^◌, ◌≤◌, ℕ, Option, length, sym, ap, subst, arith}
+use Rattle.std.proofs.Common.{◌≡◌, ◌-◌, ◌^◌, ◌≤◌, ℕ, Option, length, refl, sym, ap, subst, arith}
 use Rattle.std.specs.List.{Contains}
 use Rattle.history_model.specs.declared.questions.Question.{Question}
 use Rattle.transcript.specs.declared.answers.Answer.{Answer}
@@ -19,6 +19,7 @@ use Rattle.node_table.specs.Seen.{TableSeen, PassSeen}
 use Rattle.version_log.specs.declared.pinned.Pinned.{Pinned}
 use Rattle.version_log.specs.Pins.{IsPinned}
 use Rattle.hands.specs.Lendable.{StaysLendable}
+use Rattle.session_runs.specs.Told.{plainly_tinted}
 use Rattle.session.specs.Resting.{IsAtRest}
 use Rattle.session.proofs.AskLaws.{may_walk, shows_world}
 use Rattle.session.proofs.CommitLaws.{holds_stays}
@@ -36,12 +37,13 @@ module _ (t : TableSeen) (v : PassSeen) (p : Pinned) (root : Option Name) (same 
 
   pub pinned_tells : (question : Question) (answer : Answer)
       → TellsRoot v.view.held t.plan.side root question answer
-      → Tells (2 ^ t.plan.side) (seen_has v.view p.version) question answer
+      → Tells (2 ^ t.plan.side) (seen_has v.view p.version)
+      (plainly_tinted (seen_has v.view p.version)) question answer
   pinned_tells question answer tells =
       subst (λ (x : Option Name). TellsRoot v.view.held t.plan.side x question answer) same tells
-      (seen_has v.view p.version)
+      (seen_has v.view p.version) (plainly_tinted (seen_has v.view p.version))
       (subst (λ (n : ℕ). ShowsWorld v.view.held (n - 2) p.root (seen_has v.view p.version)) side_is
-      (shows_world v.view p.root (seen_has v.view p.version) is.root))
+      (shows_world v.view p.root (seen_has v.view p.version) is.root)) (λ c inside. refl)
 
 -- what is pinned stays so while nothing is seen and the same is held
 pub pinned_stays : (t : TableSeen) (v w : PassSeen) (p : Pinned) → StaysLendable t v w

@@ -2,19 +2,18 @@
 use Rattle.std.proofs.Common.{◌≡◌, ◌^◌, ◌<◌, ◌↔◌, List, ℕ, Bool, true, false, Ok, Err, refl, sym, subst, inl, inr}
 use Rattle.std.specs.Prelude.{IfOk, IfErr, IsTrue, Result}
 use Rattle.vox_read.specs.Contents.{Content}
-use Rattle.history_model.specs.Moments.{world_has}
+use Rattle.history_model.specs.Stores.{stored_in}
 use Rattle.block_contents.specs.Versions.{SameWorld}
-use Rattle.table_rule.specs.LogTelling.{number_seen, seen_has}
+use Rattle.table_rule.specs.LogTelling.{number_seen}
 use Rattle.table_rule.specs.Views.{SeatView}
-use Rattle.node_table.specs.Seen.{TableSeen}
 use Rattle.version_log.specs.Sames.{IsFoundOpen, RefusesLook, RefusesSame, TellsSame, length_told}
 use Rattle.version_log.specs.Seeing.{LooksOn}
-use Rattle.version_answers.specs.declared.comparing.SameAt.{SameAt}
-use Rattle.version_answers.specs.declared.comparing.SameRefused.{SameRefused}
-use Rattle.version_answers.specs.declared.comparing.SameRefused.TheVariants.{NoVersion, Forgotten}
+use Rattle.versions.specs.declared.comparing.SameAt.{SameAt}
+use Rattle.versions.specs.declared.comparing.SameRefused.{SameRefused}
+use Rattle.versions.specs.declared.comparing.SameRefused.TheVariants.{NoVersion, Forgotten}
 use Rattle.session_runs.specs.Calls.{FindsVersion}
 use Rattle.session_runs.specs.Told.{IsEqual, NamesVersion, SameTold}
-use Rattle.session.specs.Seen.{of_world, session_seen}
+use Rattle.session.specs.Seen.{WorldSeen, of_world, session_seen}
 use Rattle.session.proofs.SeenLaws.{only_sees}
 
 -- a version that was found at the length that is seen
@@ -33,8 +32,8 @@ equal_told true P Q h to from = to (h.0 refl)
 equal_told false P Q h to from =
     λ q. absurd (let bad : false ≡ true = h.1 (from q) in cc)
 
-module _ (t : TableSeen) (number v w : ℕ) (a b : SeatView) (looks : LooksOn a b)
-    (models : b.models ≡ t.models) (side : b.log.seen.side ≡ b.plan.side) where
+module _ (t : WorldSeen) (number v w : ℕ) (a b : SeatView) (looks : LooksOn a b)
+    (models : b.models ≡ t.table.models) (side : b.log.seen.side ≡ b.plan.side) where
   tells_same : (s : SameAt) → TellsSame v w s b
       → SameTold (of_world t number) v w (session_seen a) (session_seen b) (Ok s)
   tells_same s is =
@@ -44,8 +43,11 @@ module _ (t : TableSeen) (number v w : ℕ) (a b : SeatView) (looks : LooksOn a 
         first = finds b v s.at is.at is.first;
         second = finds b w s.at is.at is.second;
         equal = subst (λ (ms : List Content). IsEqual s.equal (SameWorld (2 ^ b.log.seen.side)
-            (world_has ms b.log.seen.records v) (world_has ms b.log.seen.records w))) models
-            (subst (λ (n : ℕ). IsEqual s.equal (SameWorld (2 ^ n) (seen_has b v) (seen_has b w)))
+            (stored_in (2 ^ b.log.seen.side) ms b.log.seen.records v)
+            (stored_in (2 ^ b.log.seen.side) ms b.log.seen.records w))) models
+            (subst (λ (n : ℕ). IsEqual s.equal (SameWorld (2 ^ n)
+            (stored_in (2 ^ n) b.models b.log.seen.records v)
+            (stored_in (2 ^ n) b.models b.log.seen.records w)))
             (sym side)
             (equal_told s.equal _ _ is.equal (λ same. same) (λ same. same)));
       }

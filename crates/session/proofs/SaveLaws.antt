@@ -6,7 +6,8 @@ use Rattle.std.proofs.lemmas.List.Sums.{sum_by-append, sum_by-cons}
 use Rattle.vw_cell.specs.declared.boxes.Boxed.{Boxed}
 use Rattle.vw_cell.specs.Counts.{number_in}
 use Rattle.vox_read.specs.Contents.{Content}
-use Rattle.history_model.specs.Moments.{world_has}
+use Rattle.history_model.specs.Stores.{store_has, stored_in}
+use Rattle.history_model.specs.Tints.{Tints}
 use Rattle.history_model.specs.Worlds.{World}
 use Rattle.history_model.specs.declared.questions.Question.TheVariants.{Count}
 use Rattle.transcript.specs.declared.answers.Answer.{Answer}
@@ -29,35 +30,39 @@ use Rattle.node_table.specs.Seen.{TableSeen, PassSeen, SamePass}
 use Rattle.version_log.specs.Pins.{PinsVersion}
 use Rattle.version_log.specs.Seeing.{LooksOn}
 use Rattle.version_log.specs.declared.pinned.Pinned.{Pinned}
-use Rattle.session_runs.proofs.Closing.{seen_stays}
+use Rattle.session_runs.proofs.PlainLaws.{store_stays}
 use Rattle.session_runs.specs.Seen.{SessionSeen}
 use Rattle.session_runs.specs.Calls.{FindsVersion, FollowsHistory}
-use Rattle.session_runs.specs.Told.{Saved}
+use Rattle.session_runs.specs.Told.{Saved, plainly_tinted}
 use Rattle.session.proofs.AskLaws.{asked_as, held_or_gone}
 use Rattle.session.proofs.SameLaws.{finds}
 use Rattle.session.proofs.SeenLaws.{models_stay, only_sees}
 use Rattle.session.specs.Resting.{IsAtRest}
 use Rattle.session.specs.Saves.{AddsPin, HoldsSaves, IsSavedRoot, cells_counted}
-use Rattle.session.specs.Seen.{of_world, session_seen}
+use Rattle.session.specs.Seen.{WorldSeen, of_world, session_seen}
 
 -- ---- a save is a count of its box
 
-counted_is : (side : ℕ) (w : World) (b : Boxed) (answer : Answer) → Tells side w (Count b) answer → cells_counted answer ≡ number_in b w
-counted_is side w part answer (count b cells e) = e
+counted_is : (side : ℕ) (w : World) (tints : Tints) (b : Boxed) (answer : Answer) → Tells side w tints (Count b) answer → cells_counted answer ≡ number_in b w
+counted_is side w tints part answer (count b cells e) = e
 
-module _ (t : TableSeen) (asked : Option ℕ) (v w : PassSeen) (p : Pinned) (r : IsAtRest t v) (looks : LooksOn v.view w.view) (is : PinsVersion v.view asked p w.view) where
-  plan_is : w.view.plan ≡ t.plan
+module _ (t : WorldSeen) (asked : Option ℕ) (v w : PassSeen) (p : Pinned) (r : IsAtRest t.table v) (looks : LooksOn v.view w.view) (is : PinsVersion v.view asked p w.view) where
+  plan_is : w.view.plan ≡ t.table.plan
   plan_is = looks.session.plan ∙ r.of.plan
 
-  models_is : w.view.models ≡ t.models
-  models_is = models_stay t v w r looks
+  models_is : w.view.models ≡ t.table.models
+  models_is = models_stay t.table v w r looks
+
+  -- the log that is seen is of a store of the world's side
+  side_is : w.view.plan.side ≡ w.view.log.seen.side
+  side_is = ap (λ (q : Layout). q.side) plan_is ∙ sym (looks.sees.side ∙ r.side)
 
   pub version_is : p.version ≡ asked_version asked p.moment
   version_is = is.version ∙ asked_as asked p.moment
 
   -- the version that was saved was found, and its cells were counted
   pub save_told : (number : ℕ) (x : PassSeen) (part : Boxed) (answer : Answer) (cells : ℕ) → session_seen x.view ≡ session_seen w.view
-      → Tells (2 ^ t.plan.side) (seen_has w.view p.version) (Count part) answer → cells ≡ cells_counted answer
+      → Tells (2 ^ t.table.plan.side) (seen_has w.view p.version) (plainly_tinted (seen_has w.view p.version)) (Count part) answer → cells ≡ cells_counted answer
       → Saved (of_world t number) asked part (session_seen v.view) (session_seen x.view) (record { at = p.moment; cells = cells })
   save_told number x part answer cells same tells counted =
       subst (λ (s : SessionSeen). Saved (of_world t number) asked part (session_seen v.view) s (record { at = p.moment; cells = cells })) (sym same)
@@ -67,9 +72,10 @@ module _ (t : TableSeen) (asked : Option ℕ) (v w : PassSeen) (p : Pinned) (r :
         finds = subst (λ (u : ℕ). FindsVersion (session_seen w.view) u) version_is
             (finds w.view p.version p.moment is.moment (record { there = is.pinned.version; unmarked = is.unmarked; found = is.pinned.found }));
         cells =
-            counted ∙ counted_is (2 ^ t.plan.side) (seen_has w.view p.version) part answer tells
-            ∙ ap (λ (ms : List Content). number_in part (world_has ms w.view.log.seen.records p.version)) models_is
-            ∙ ap (λ (u : ℕ). number_in part (world_has t.models w.view.log.seen.records u)) version_is;
+            counted ∙ counted_is (2 ^ t.table.plan.side) (seen_has w.view p.version) (plainly_tinted (seen_has w.view p.version)) part answer tells
+            ∙ ap (λ (ms : List Content). number_in part (stored_in (2 ^ w.view.plan.side) ms w.view.log.seen.records p.version)) models_is
+            ∙ ap (λ (n : ℕ). number_in part (stored_in (2 ^ n) t.table.models w.view.log.seen.records p.version)) side_is
+            ∙ ap (λ (u : ℕ). number_in part (store_has t.table.models w.view.log.seen u)) version_is;
       })
 
   may_have : MayHold w.view.held is.gains.tree
@@ -81,13 +87,14 @@ module _ (t : TableSeen) (asked : Option ℕ) (v w : PassSeen) (p : Pinned) (r :
         one_tree w.view is.pinned.root.tree is.gains.tree tells (held_or_gone w.view.held is.pinned.root.tree is.pinned.root.held)
         (held_or_gone w.view.held is.gains.tree may_have) (is.pinned.root.name ∙ sym is.gains.name)
 
-    shows_here : ShowsCells (world_block t.plan.side) (shape_of is.gains.tree) (world_has t.models w.view.log.seen.records p.version)
+    shows_here : ShowsCells (world_block t.table.plan.side) (shape_of is.gains.tree) (store_has t.table.models w.view.log.seen p.version)
     shows_here =
-        subst (λ (q : Layout). ShowsCells (world_block q.side) (shape_of is.gains.tree) (world_has t.models w.view.log.seen.records p.version)) plan_is
-        (subst (λ (ms : List Content). ShowsCells (world_block w.view.plan.side) (shape_of is.gains.tree) (world_has ms w.view.log.seen.records p.version)) models_is
-        (subst (λ (u : Tree). ShowsCells (world_block w.view.plan.side) (shape_of u) (seen_has w.view p.version)) tree_is is.pinned.root.shows))
+        subst (λ (q : Layout). ShowsCells (world_block q.side) (shape_of is.gains.tree) (store_has t.table.models w.view.log.seen p.version)) plan_is
+        (subst (λ (n : ℕ). ShowsCells (world_block w.view.plan.side) (shape_of is.gains.tree) (stored_in (2 ^ n) t.table.models w.view.log.seen.records p.version)) side_is
+        (subst (λ (ms : List Content). ShowsCells (world_block w.view.plan.side) (shape_of is.gains.tree) (stored_in (2 ^ w.view.plan.side) ms w.view.log.seen.records p.version)) models_is
+        (subst (λ (u : Tree). ShowsCells (world_block w.view.plan.side) (shape_of u) (seen_has w.view p.version)) tree_is is.pinned.root.shows)))
 
-    pin_here : IsSavedRoot t (session_seen w.view) p is.gains.tree
+    pin_here : IsSavedRoot t.table (session_seen w.view) p is.gains.tree
     pin_here = record {
       version = is.pinned.version;
       moment = is.pinned.moment;
@@ -97,10 +104,10 @@ module _ (t : TableSeen) (asked : Option ℕ) (v w : PassSeen) (p : Pinned) (r :
       shows = shows_here;
     }
 
-    pub adds_pin : (x : PassSeen) → session_seen x.view ≡ session_seen w.view → x.view.held ≡ w.view.held → AddsPin t (session_seen x.view) v.view.held x.view.held p
+    pub adds_pin : (x : PassSeen) → session_seen x.view ≡ session_seen w.view → x.view.held ≡ w.view.held → AddsPin t.table (session_seen x.view) v.view.held x.view.held p
     adds_pin x same held = record {
       tree = is.gains.tree;
-      is = subst (λ (s : SessionSeen). IsSavedRoot t s p is.gains.tree) (sym same) pin_here;
+      is = subst (λ (s : SessionSeen). IsSavedRoot t.table s p is.gains.tree) (sym same) pin_here;
       gains = subst (λ (ts : List Tree). Loses ts is.gains.tree v.view.held) (sym held) is.gains.loses;
     }
 
@@ -171,7 +178,7 @@ pins_later of s z (p ∷ pins) (u ∷ trees) more are = (
     name = are.0.name;
     level = are.0.level;
     shows = subst (λ (w : World). ShowsCells (world_block of.plan.side) (shape_of u) w)
-        (sym (seen_stays of.models s z.log p.version more.goes_on (let v = are.0.version in let m = are.0.moment in omega arith))) are.0.shows;
+        (sym (store_stays of.models s.log z.log p.version more.goes_on (let v = are.0.version in let m = are.0.moment in omega arith))) are.0.shows;
   },
   pins_later of s z pins trees more are.1,
 )

@@ -1,5 +1,5 @@
 -- What a call of the log leaves of a pass, as what the session has seen and done.
-use Rattle.std.proofs.Common.{◌≡◌, ℕ, ◌<◌, ◌≤◌, List, [], ◌∷◌, sym, ◌∙◌, ap, subst}
+use Rattle.std.proofs.Common.{◌≡◌, ℕ, ◌<◌, ◌≤◌, List, [], ◌∷◌, refl, sym, ◌∙◌, ap, subst}
 use Rattle.std.specs.Prelude.{All, sum_by}
 use Rattle.std.specs.List.{Contains}
 use Rattle.std.proofs.lemmas.List.Elements.{All-contains_itself, All-weaker}
@@ -20,15 +20,16 @@ use Rattle.session_runs.proofs.Gathered.{ListsOwn, marks_own}
 use Rattle.session_runs.specs.Calls.{FollowsHistory, OnlySees}
 use Rattle.session_runs.specs.Told.{HeadTold}
 use Rattle.session.specs.Resting.{IsAtRest}
-use Rattle.session.specs.Seen.{KnowsItself, session_seen}
+use Rattle.session.specs.Seen.{KnowsItself, log_seen, session_seen}
 
 all_kept : {X : Type 0} (P : X → Type 0) (xs : List X) → ((x : X) → Contains xs x → P x) → All P xs
 all_kept P xs each = All-weaker (Contains xs) P each xs (All-contains_itself xs)
 
-pub goes_on : (v w : SeatView) → KnowsMore v w → GoesOn v.log.seen w.log.seen
+pub goes_on : (v w : SeatView) → KnowsMore v w → GoesOn (log_seen v.log) (log_seen w.log)
 goes_on v w k =
     record {
       side = k.side;
+      coloured = refl;
       more = k.seen.more;
       records = k.seen.records;
       marks = all_kept (Contains w.log.seen.marks) v.log.seen.marks k.seen.marks;

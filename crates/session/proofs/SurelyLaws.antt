@@ -9,8 +9,9 @@ use Rattle.node_words.specs.declared.shares.Full.{Full}
 use Rattle.node_words.specs.Held.{SameHeld}
 use Rattle.table_rule.specs.LogTelling.{number_seen}
 use Rattle.table_rule.specs.Views.{SeatView}
-use Rattle.node_table.specs.Seen.{TableSeen}
-use Rattle.version_log.specs.Commits.{AppendsNext}
+use Rattle.edit_blocks.specs.Blocks.{GoesBack}
+use Rattle.version_log.specs.Falling.{CommitsNext}
+use Rattle.version_log.specs.declared.committed.Committed.{Committed}
 use Rattle.version_log.specs.Finishing.{RefusesFinish}
 use Rattle.version_log.specs.Roots.{GetsRoot}
 use Rattle.version_log.specs.declared.refusals.SureRefused.{SureRefused}
@@ -18,8 +19,9 @@ use Rattle.version_log.specs.declared.refusals.SureRefused.TheVariants.{LogFull}
 use Rattle.session_runs.specs.declared.calls.ActAnswer.TheVariants as acts
 use Rattle.session_runs.specs.Seen.{SessionSeen}
 use Rattle.session.specs.Attempts.{AnswersAct, FailsToMake, MakesNextRoot}
-use Rattle.session.specs.Seen.{session_seen}
-use Rattle.session.proofs.CommitLaws.{appended_held, done_answers, few_gained, full_answers, held_by, held_on, same_number_held}
+use Rattle.session.specs.Seen.{WorldSeen, session_seen}
+use Rattle.session.proofs.CommitLaws.{few_gained, full_answers, held_by, held_on, same_number_held}
+use Rattle.session.proofs.KeepLaws.{fallen_room, kept_answers, pushed_held}
 use Rattle.session.proofs.WorkLaws.{answers_after, answers_still}
 
 -- nothing was finished: there was no room
@@ -33,8 +35,8 @@ pub same_number_seen : (w x : SeatView) → session_seen x ≡ session_seen w
 same_number_seen w x seen = sym (ap (λ (s : SessionSeen). length s.log.records) seen)
 
 -- a bucket was full, and the turn went back
-module _ (t : TableSeen) (line : ℕ) (act : Act) (v w : SeatView) (full : Full)
-    (fails : FailsToMake t act full v w) (x : SeatView) where
+module _ (t : WorldSeen) (line : ℕ) (act : Act) (v w : SeatView) (full : Full)
+    (fails : FailsToMake t.table act full v w) (x : SeatView) where
   pub full_made : (at : ℕ) → at ≡ number_seen x → session_seen x ≡ session_seen w
       → AnswersAct t line act (acts.Full at full) v x
   full_made at here seen =
@@ -45,20 +47,24 @@ module _ (t : TableSeen) (line : ℕ) (act : Act) (v w : SeatView) (full : Full)
   full_held same = held_on v.held w.held x.held fails.held (held_by w.held x.held same)
 
 -- a share of the root came
-module _ (t : TableSeen) (line : ℕ) (act : Act) (root : Option Name) (v w : SeatView)
-    (makes : MakesNextRoot t act root v w) where
+module _ (t : WorldSeen) (line : ℕ) (act : Act) (root : Option Name) (v w : SeatView)
+    (makes : MakesNextRoot t.table act root v w) where
   pub made_few : number_of_trees v.held ≤ 3910 → number_of_trees w.held ≤ 4095
   made_few few = let more = few_gained v.held w.held root makes.gains in omega arith
 
-  pub done_made : (x : SeatView) (n : ℕ) → AppendsNext w line act root n x
-      → AnswersAct t line act (acts.Done n) v x
-  done_made x n a =
-      answers_after t line act (acts.Done n) v w x makes.works
-      (done_answers t line act root n w x a)
+  pub done_made : (x y : SeatView) (c : Committed) → CommitsNext w t.keep line act root c x
+      → session_seen y ≡ session_seen x → AnswersAct t line act (acts.Done c.n) v y
+  done_made x y c made seen =
+      answers_after t line act (acts.Done c.n) v w y makes.works
+      (kept_answers t line act root c w x y made seen)
 
-  pub done_held : (x : SeatView) (n : ℕ) → AppendsNext w line act root n x
-      → SameHeld v.held x.held
-  done_held x n a = appended_held v.held w.held x.held root makes.gains a.gone
+  pub done_held : (x y : SeatView) (c : Committed) → CommitsNext w t.keep line act root c x
+      → GoesBack c.fallen x.held y.held → SameHeld v.held y.held
+  done_held x y c made back = pushed_held t.keep line act root c v.held w x y.held makes.gains made back
+
+  pub done_room : (x : SeatView) (c : Committed) → CommitsNext w t.keep line act root c x
+      → number_of_trees v.held ≤ 3910 → number_of_trees x.held ≤ 4008
+  done_room x c made few = fallen_room t.keep line act root c v.held w x makes.gains made (omega arith)
 
   pub late_room : (x : SeatView) → x.held ≡ w.held → number_of_trees v.held ≤ 3910
       → number_of_trees x.held ≤ 4008

@@ -1,9 +1,9 @@
 -- What a session leaves that takes the log's turn, has it, and gives it back.
-use Rattle.std.proofs.Common.{◌≡◌, ◌≤◌, ℕ, Option, Some, None, List, [], length, sym, ◌∙◌, ap, subst, arith}
+use Rattle.std.proofs.Common.{◌≡◌, ◌≤◌, ◌^◌, ℕ, Option, Some, None, List, [], length, sym, ◌∙◌, ap, subst, arith}
 use Rattle.history_model.specs.declared.acts.Act.{Act}
 use Rattle.history_model.specs.declared.histories.Mark.{Mark}
 use Rattle.history_model.specs.declared.histories.Record.{Record}
-use Rattle.history_model.specs.Moments.{world_has}
+use Rattle.history_model.specs.Stores.{stored_in}
 use Rattle.history_model.specs.Worlds.{World}
 use Rattle.node_shapes.specs.declared.names.Name.{Name}
 use Rattle.node_shapes.specs.Tree.{Tree}
@@ -17,14 +17,15 @@ use Rattle.table_rule.specs.Views.{SeatView, known_at}
 use Rattle.node_table.specs.LogTurns.{HasLogTurn, HasNoTurn, LooksForMark, TakesLog, log_left}
 use Rattle.node_table.specs.Seen.{TableSeen, PassSeen, BelongsTo, SamePass}
 use Rattle.version_log.proofs.LookLaws.{begins_itself, found_looks, left_looks, looks_on}
-use Rattle.version_log.specs.Commits.{AppendsNext}
+use Rattle.version_log.specs.Falling.{CommitsNext}
+use Rattle.version_log.specs.declared.committed.Committed.{Committed}
 use Rattle.version_log.specs.Keeping.{OnlyKeeps}
 use Rattle.version_log.specs.Roots.{GetsRoot, HoldsRootOf}
 use Rattle.version_log.specs.Seeing.{FoundStays, IsDated, KnowsMore, LooksOn}
 use Rattle.hands.specs.Lendable.{IsLendable, StaysLendable}
 use Rattle.session.specs.Resting.{HasLog, IsAtRest}
 use Rattle.session.specs.Seen.{session_seen}
-use Rattle.session.proofs.CommitLaws.{appends_knows, appends_session}
+use Rattle.session.proofs.KeepLaws.{commits_knows, commits_session}
 
 -- ---- the turn comes and stays; the table is the world's
 
@@ -139,18 +140,18 @@ module _ (t u : TableSeen) (v a w : PassSeen) (table : u ≡ t) (same : a ≡ v)
   pub leave_at : (at : ℕ) → at ≡ number_seen v.view → at ≡ number_seen w.view
   leave_at at is = is ∙ sym (ap (λ (x : SeatView). number_seen x) here)
 
--- the record was appended
-pub added_rests : (t u : TableSeen) (v w : PassSeen) (line : ℕ) (act : Act) (root : Option Name)
-    (n : ℕ) → u ≡ t → HasLog t v → BelongsTo u w → HasNoTurn w.view
-    → AppendsNext v.view line act root n w.view → IsAtRest t w
-added_rests t u v w line act root n same h of idle a =
-    log_rests t u v w same h of idle (appends_knows v.view w.view line act root n a)
+-- the record was accepted
+pub added_rests : (t u : TableSeen) (v w : PassSeen) (keep line : ℕ) (act : Act)
+    (root : Option Name) (c : Committed) → u ≡ t → HasLog t v → BelongsTo u w → HasNoTurn w.view
+    → CommitsNext v.view keep line act root c w.view → IsAtRest t w
+added_rests t u v w keep line act root c same h of idle made =
+    log_rests t u v w same h of idle (commits_knows keep v.view w.view line act root c made)
 
-pub added_same : (t u : TableSeen) (v w : PassSeen) (line : ℕ) (act : Act) (root : Option Name)
-    (n : ℕ) → u ≡ t → HasLog t v → BelongsTo u w → AppendsNext v.view line act root n w.view
-    → SamePass v w
-added_same t u v w line act root n same h of a =
-    log_same t u v w same h of (appends_session v.view w.view line act root n a)
+pub added_same : (t u : TableSeen) (v w : PassSeen) (keep line : ℕ) (act : Act)
+    (root : Option Name) (c : Committed) → u ≡ t → HasLog t v → BelongsTo u w
+    → CommitsNext v.view keep line act root c w.view → SamePass v w
+added_same t u v w keep line act root c same h of made =
+    log_same t u v w same h of (commits_session keep v.view w.view line act root c made)
 
 -- ---- a version is looked at, and a share of its root is taken
 
@@ -191,9 +192,10 @@ keeps_looks v w k =
 -- a version's cells are the same behind that
 pub kept_has : (v w : SeatView) (n : ℕ) → OnlyKeeps v w → seen_has w n ≡ seen_has v n
 kept_has v w n k =
+    let plan = k.session.plan in
     let models = k.session.models in
     let log = k.log in
-    (λ i. world_has (models i) ((log i).seen.records) n)
+    (λ i. stored_in (2 ^ (plan i).side) (models i) ((log i).seen.records) n)
 
 pub kept_root : (v w : SeatView) (root : Option Name) (n : ℕ) → OnlyKeeps v w
     → HoldsRootOf w root (seen_has v n) → HoldsRootOf w root (seen_has w n)

@@ -4,13 +4,14 @@ use Rattle.std.specs.List.{Contains}
 use Rattle.std.proofs.lemmas.List.Elements.{All-nil, All-append, All-contains, All-weaker, Contains-append_left}
 use Rattle.vox_read.specs.Contents.{Content}
 use Rattle.history_model.specs.declared.acts.Act.{Act}
+use Rattle.history_model.specs.declared.histories.Mark.{Mark}
 use Rattle.history_model.specs.Logs.{Log}
 use Rattle.node_shapes.specs.Shape.{Shape}
 use Rattle.node_words.specs.Plans.{Layout}
 use Rattle.conformance.specs.Answers.{GoesOn}
 use Rattle.conformance.specs.Shown.{Accepted}
 use Rattle.session_runs.specs.Keeping.{MadeAndMet, MakesPart}
-use Rattle.session_runs.proofs.Refusals.{part_stays}
+use Rattle.session_runs.proofs.Refusals.{wanted_stays}
 use Rattle.table_rule.specs.LogKnowing.{IsPrefix}
 use Rattle.table_rule.specs.LogViews.{LogView}
 use Rattle.table_rule.specs.Rules.{SameSession}
@@ -20,11 +21,13 @@ use Rattle.version_log.proofs.LookLaws.{begins_itself, begins_on}
 use Rattle.version_log.specs.Seeing.{FoundStays, IsDated, KnowsMore, LooksOn}
 use Rattle.session_runs.specs.declared.calls.ActAnswer.{ActAnswer}
 use Rattle.session_runs.specs.declared.calls.ActAnswer.TheVariants as acts
-use Rattle.session_runs.specs.Calls.{AcceptsNothing, AppendsOwn, MeetsFullBucket, NotesFor, FollowsHistory}
+use Rattle.versions.specs.Retained.{falls_out}
+use Rattle.session_runs.specs.Calls.{AcceptsNothing, AppendsOwn, MeetsFullBucket, NotesFor, FollowsHistory, numbered_change}
+use Rattle.session_runs.specs.Fallen.{PushesOut}
 use Rattle.session_runs.specs.Seen.{SessionSeen}
 use Rattle.session_runs.specs.Told.{ActTold}
 use Rattle.session.specs.Attempts.{AnswersAct, WorksOn}
-use Rattle.session.specs.Seen.{of_world, session_seen}
+use Rattle.session.specs.Seen.{WorldSeen, of_world, session_seen}
 use Rattle.session.proofs.SeenLaws.{only_sees}
 
 -- ---- histories that go on
@@ -33,6 +36,7 @@ goes_through : (a b c : Log) → GoesOn a b → GoesOn b c → GoesOn a c
 goes_through a b c f g =
     record {
       side = g.side ∙ f.side;
+      coloured = g.coloured ∙ f.coloured;
       more = f.more ++ g.more;
       records = g.records ∙ ap (λ rs. rs ++ g.more) f.records
           ∙ append_assoc a.records f.more g.more;
@@ -49,7 +53,7 @@ longer a b g =
 -- ---- two parts of what a session saw and did
 
 module _ (p : Layout) (models : List Content) (act : Act) (a b c : SessionSeen)
-    (nothing : AcceptsNothing a b) (notes : NotesFor p models act a b) where
+    (nothing : AcceptsNothing a b) where
   sees_on : FollowsHistory b c → FollowsHistory a c
   sees_on m =
       record {
@@ -73,7 +77,7 @@ module _ (p : Layout) (models : List Content) (act : Act) (a b c : SessionSeen)
   part_from s m =
       let low = m.low in
       let more = longer a.log b.log nothing.sees.goes_on in
-      record { edit = m.edit; version = m.version; low = omega arith; high = m.high; part = m.part }
+      record { version = m.version; low = omega arith; high = m.high; wanted = m.wanted }
 
   pub part_to : GoesOn b.log c.log → (s : Shape)
       → MakesPart p models b.log.records act (length a.log.records) (length b.log.records) s
@@ -82,15 +86,15 @@ module _ (p : Layout) (models : List Content) (act : Act) (a b c : SessionSeen)
       let high = m.high in
       let more = longer b.log c.log g in
       record {
-        edit = m.edit;
         version = m.version;
         low = m.low;
         high = omega arith;
-        part = part_stays p models b.log c.log g act m.version s m.high m.part;
+        wanted = wanted_stays p models b.log c.log g act m.version s m.high m.wanted;
       }
 
-  abbrev pub notes_on : GoesOn b.log c.log → NotesFor p models act b c → NotesFor p models act a c
-  notes_on g n =
+  abbrev pub notes_on : GoesOn b.log c.log → NotesFor p models act a b → NotesFor p models act b c
+      → NotesFor p models act a c
+  notes_on g notes n =
       record {
         more = n.more ++ notes.more;
         made = n.made ∙ ap (λ ms. n.more ++ ms) notes.made
@@ -125,22 +129,22 @@ module _ (p : Layout) (models : List Content) (act : Act) (a b c : SessionSeen)
             notes.wanted);
       }
 
-  meets_on : (level bucket : ℕ) → GoesOn b.log c.log → MeetsFullBucket p models act level bucket b c
+  meets_on : (level bucket : ℕ) → GoesOn b.log c.log → NotesFor p models act a b
+      → MeetsFullBucket p models act level bucket b c
       → MeetsFullBucket p models act level bucket a c
-  meets_on level bucket g m =
+  meets_on level bucket g notes m =
       record {
-        edit = m.edit;
-        notes = notes_on g m.notes;
+        notes = notes_on g notes m.notes;
         shape = m.shape;
         listed = Contains-append_left m.notes.further notes.further
             (record { level = level; bucket = bucket; shape = m.shape }) m.listed;
         sought = m.sought;
-        part = m.part;
+        wanted = m.wanted;
       }
 
-  appends_on : (session line : ℕ) → AppendsOwn session line act b c
-      → AppendsOwn session line act a c
-  appends_on session line x =
+  appends_on : (keep session line : ℕ) → AppendsOwn keep session line act b c
+      → AppendsOwn keep session line act a c
+  appends_on keep session line x =
       let first = longer a.log b.log nothing.sees.goes_on in
       let last = x.longer in
       record {
@@ -156,56 +160,63 @@ module _ (p : Layout) (models : List Content) (act : Act) (a b c : SessionSeen)
                 act = act;
               };
             } ∷ rs) nothing.records;
-        marks = x.marks ∙ nothing.marks;
+        marks = subst (λ (ms : List Mark). PushesOut (falls_out (length c.log.records) keep)
+            (numbered_change (length c.log.records) session line act) ms c) nothing.marks x.marks;
       }
 
 -- ---- an answer after some work
 
-module _ (t : TableSeen) (number line : ℕ) (act : Act) (a b c : SessionSeen)
-    (nothing : AcceptsNothing a b) (notes : NotesFor t.plan t.models act a b) where
+module _ (t : WorldSeen) (number line : ℕ) (act : Act) (a b c : SessionSeen)
+    (nothing : AcceptsNothing a b)
+    (notes : NotesFor t.table.plan t.table.models act a b) where
   told_after : (answer : ActAnswer) → ActTold (of_world t number) line act b c answer
       → ActTold (of_world t number) line act a c answer
   told_after (acts.Done n) x =
       record {
         at_is = x.at_is;
-        appends = appends_on t.plan t.models act a b c nothing notes number line x.appends;
-        notes = notes_on t.plan t.models act a b c nothing notes x.appends.sees.goes_on x.notes;
+        appends = appends_on t.table.plan t.table.models act a b c nothing t.keep number line x.appends;
+        notes = notes_on t.table.plan t.table.models act a b c nothing x.appends.sees.goes_on
+            notes x.notes;
       }
   told_after (acts.Full at full) x =
       record {
         at_is = x.at_is;
-        nothing = nothing_on t.plan t.models act a b c nothing notes x.nothing;
-        meets = meets_on t.plan t.models act a b c nothing notes full.level full.bucket
-            x.nothing.sees.goes_on x.meets;
+        nothing = nothing_on t.table.plan t.table.models act a b c nothing x.nothing;
+        meets = meets_on t.table.plan t.table.models act a b c nothing full.level full.bucket
+            x.nothing.sees.goes_on notes x.meets;
       }
   told_after acts.LogFull x =
       record {
         all = x.all;
-        nothing = nothing_on t.plan t.models act a b c nothing notes x.nothing;
-        notes = notes_on t.plan t.models act a b c nothing notes x.nothing.sees.goes_on x.notes;
+        nothing = nothing_on t.table.plan t.table.models act a b c nothing x.nothing;
+        notes = notes_on t.table.plan t.table.models act a b c nothing x.nothing.sees.goes_on
+            notes x.notes;
         way = x.way;
       }
   told_after (acts.NothingToUndo at) x =
       record {
         at_is = x.at_is;
         is = x.is;
-        nothing = nothing_on t.plan t.models act a b c nothing notes x.nothing;
-        notes = notes_on t.plan t.models act a b c nothing notes x.nothing.sees.goes_on x.notes;
+        nothing = nothing_on t.table.plan t.table.models act a b c nothing x.nothing;
+        notes = notes_on t.table.plan t.table.models act a b c nothing x.nothing.sees.goes_on
+            notes x.notes;
         none = x.none;
       }
   told_after (acts.NothingToRedo at) x =
       record {
         at_is = x.at_is;
         is = x.is;
-        nothing = nothing_on t.plan t.models act a b c nothing notes x.nothing;
-        notes = notes_on t.plan t.models act a b c nothing notes x.nothing.sees.goes_on x.notes;
+        nothing = nothing_on t.table.plan t.table.models act a b c nothing x.nothing;
+        notes = notes_on t.table.plan t.table.models act a b c nothing x.nothing.sees.goes_on
+            notes x.notes;
         none = x.none;
       }
   told_after (acts.Forgotten at mark) x =
       record {
         at_is = x.at_is;
-        nothing = nothing_on t.plan t.models act a b c nothing notes x.nothing;
-        notes = notes_on t.plan t.models act a b c nothing notes x.nothing.sees.goes_on x.notes;
+        nothing = nothing_on t.table.plan t.table.models act a b c nothing x.nothing;
+        notes = notes_on t.table.plan t.table.models act a b c nothing x.nothing.sees.goes_on
+            notes x.notes;
         target = x.target;
         listed = x.listed;
       }
@@ -250,9 +261,9 @@ works_on t act u v w f g =
       session = session_on u v w f.session g.session;
       sees = knows_on u v w f.sees g.sees;
       nothing = nothing_on t.plan t.models act (session_seen u) (session_seen v) (session_seen w)
-          f.nothing f.notes g.nothing;
+          f.nothing g.nothing;
       notes = notes_on t.plan t.models act (session_seen u) (session_seen v) (session_seen w)
-          f.nothing f.notes g.nothing.sees.goes_on g.notes;
+          f.nothing g.nothing.sees.goes_on f.notes g.notes;
     }
 
 -- nothing was made or met
@@ -281,14 +292,14 @@ looks_work t act v w l =
     }
 
 -- what was answered after some work is the answer from before it
-pub answers_after : (t : TableSeen) (line : ℕ) (act : Act) (answer : ActAnswer) (u v w : SeatView)
-    → WorksOn t act u v → AnswersAct t line act answer v w → AnswersAct t line act answer u w
+pub answers_after : (t : WorldSeen) (line : ℕ) (act : Act) (answer : ActAnswer) (u v w : SeatView)
+    → WorksOn t.table act u v → AnswersAct t line act answer v w → AnswersAct t line act answer u w
 answers_after t line act answer u v w f g number one =
     told_after t number line act (session_seen u) (session_seen v) (session_seen w) f.nothing
     f.notes answer (g number (f.session.numbers ∙ one))
 
 -- and it stays so while the session sees and does nothing more
-pub answers_still : (t : TableSeen) (line : ℕ) (act : Act) (answer : ActAnswer)
+pub answers_still : (t : WorldSeen) (line : ℕ) (act : Act) (answer : ActAnswer)
     (v w x : SeatView) → session_seen x ≡ session_seen w → AnswersAct t line act answer v w
     → AnswersAct t line act answer v x
 answers_still t line act answer v w x same g number one =

@@ -1,9 +1,9 @@
 -- What the attempts at an edit leave of a session.
-use Rattle.std.specs.Prelude.{◌≡◌, ℕ, ◌^◌, ◌<◌, true, Option, List, [], ◌∷◌, Result, Ok, Err}
+use Rattle.std.specs.Prelude.{◌≡◌, ℕ, ◌^◌, ◌<◌, true, false, Option, List, [], ◌∷◌, Result, Ok, Err}
 use Rattle.vox_read.specs.Contents.{Content}
 use Rattle.history_model.specs.declared.acts.Act.{Act}
 use Rattle.history_model.specs.declared.acts.Act.TheVariants.{Undo}
-use Rattle.history_model.specs.Logs.{FitsWorld}
+use Rattle.history_model.specs.Logs.{FitsWorld, suits_tints}
 use Rattle.history_model.specs.Worlds.{is_edit}
 use Rattle.node_shapes.specs.declared.names.Name.{Name}
 use Rattle.node_words.specs.declared.shares.Full.{Full}
@@ -26,16 +26,17 @@ use Rattle.session_runs.specs.Told.{ActTold}
 use Rattle.session.specs.declared.attempts.EditAnswer.{EditAnswer}
 use Rattle.session.specs.declared.attempts.EditAnswer.TheVariants as edits
 use Rattle.session.specs.declared.attempts.Late.{Late}
-use Rattle.session.specs.Seen.{of_world, session_seen}
+use Rattle.session.specs.Seen.{WorldSeen, of_world, session_seen}
 
--- the act is an edit that fits the world, by the world's models
+-- the act is an edit without a tint that fits the world, by the world's models
 pub record IsMaker (t : TableSeen) (models : List Content) (act : Act) : Type 0 where
   pub models_are : models ≡ t.models
   pub edit : is_edit act ≡ true
+  pub plain : suits_tints false act ≡ true
   pub fits : FitsWorld (2 ^ t.plan.side) t.models act
 
--- the session saw the history go on, and nothing of its own was accepted; what it made and met are
--- parts of what the act makes of versions that it saw
+-- the session saw the history go on, and nothing of its own was accepted; what it made and met is
+-- wanted by the act of versions that it saw
 pub record WorksOn (t : TableSeen) (act : Act) (v w : SeatView) : Type 0 where
   pub session : SameSession v w
   pub sees : KnowsMore v w
@@ -63,7 +64,7 @@ pub record HasPinnedHead (v : SeatView) (base : Pinned) : Type 0 where
   pub now : base.moment ≡ number_seen v
 
 -- the session of this world was answered so, whatever its number is
-abbrev pub AnswersAct : TableSeen → ℕ → Act → ActAnswer → SeatView → SeatView → Type 0
+abbrev pub AnswersAct : WorldSeen → ℕ → Act → ActAnswer → SeatView → SeatView → Type 0
 AnswersAct t line act answer v w = (number : ℕ) → v.numbers ≡ number ∷ []
     → ActTold (of_world t number) line act (session_seen v) (session_seen w) answer
 
@@ -83,11 +84,11 @@ pub record IsLate (t : TableSeen) (act : Act) (base : Pinned) (late : Late) (v w
   pub room : late.at < 65535
 
 -- it came to an answer, and the same is held; or it was too late
-abbrev pub Attempts : TableSeen → ℕ → Act → Pinned → Result EditAnswer Late → SeatView → SeatView
+abbrev pub Attempts : WorldSeen → ℕ → Act → Pinned → Result EditAnswer Late → SeatView → SeatView
     → Type 0
 Attempts t line act base (Ok answer) v w =
     SameHeld v.held w.held × AnswersAct t line act (act_answer answer) v w
-Attempts t line act base (Err late) v w = IsLate t act base late v w
+Attempts t line act base (Err late) v w = IsLate t.table act base late v w
 
 -- why an undo or a redo goes nowhere
 abbrev pub nothing_to : Act → ℕ → ActAnswer

@@ -1,10 +1,24 @@
 -- What a world is closed over, and why it isn't closed.
-use Rattle.std.specs.Prelude.{◌≡◌, ◌≢◌, List, length, map}
-use Rattle.node_table.specs.Seen.{TableSeen, PassSeen}
+use Rattle.std.specs.Prelude.{◌≡◌, ◌≢◌, Bool, List, length, map}
+use Rattle.node_table.specs.Seen.{PassSeen}
+use Rattle.node_table.specs.declared.closed.Closed.{Closed}
 use Rattle.session_runs.specs.Seen.{SessionSeen}
-use Rattle.session.specs.Seen.{session_seen}
+use Rattle.session.specs.Seen.{WorldSeen, session_seen}
 use Rattle.session.specs.declared.closes.CloseRefused.{CloseRefused}
 use Rattle.session.specs.declared.closes.CloseRefused.TheVariants.{Count, Memory}
+
+-- what a closed table left, with a history that is as coloured as this: the table keeps cells alone
+abbrev pub coloured_as : Bool → Closed → Closed
+coloured_as coloured closed = record {
+  history = record {
+    side = closed.history.side;
+    coloured = coloured;
+    records = closed.history.records;
+    marks = closed.history.marks;
+  };
+  roots = closed.roots;
+  live = closed.live;
+}
 
 -- what each session saw and did
 abbrev pub sessions_seen : List PassSeen → List SessionSeen
@@ -12,8 +26,8 @@ sessions_seen sessions = map (λ s. session_seen s.view) sessions
 
 -- its sessions are not as many as were made, or they are, and there was no memory. The world and
 -- all sessions come back as they were
-abbrev pub RefusesWorld : TableSeen → List PassSeen → CloseRefused → Type 0
+abbrev pub RefusesWorld : WorldSeen → List PassSeen → CloseRefused → Type 0
 RefusesWorld w sessions (Count world back made) =
-    (length sessions ≢ w.made) × (made ≡ w.made) × (world ≡ w) × (back.items ≡ sessions)
+    (length sessions ≢ w.table.made) × (made ≡ w.table.made) × (world ≡ w) × (back.items ≡ sessions)
 RefusesWorld w sessions (Memory world back) =
-    (length sessions ≡ w.made) × (world ≡ w) × (back.items ≡ sessions)
+    (length sessions ≡ w.table.made) × (world ≡ w) × (back.items ≡ sessions)

@@ -5,8 +5,8 @@ use Rattle.std.proofs.Common.{refl, ◌∙◌}
 use Rattle.node_table.specs.Seen.{TableSeen, PassSeen, SamePass}
 use Rattle.version_log.specs.declared.pinned.Pinned.{Pinned}
 use Rattle.session.specs.Resting.{IsAtRest}
-use Rattle.session.specs.Saves.{HoldsSaves}
-use Rattle.session.specs.Seen.{session_seen}
+use Rattle.session.specs.Saves.{HoldsPins}
+use Rattle.session.specs.Seen.{WorldSeen}
 
 -- the session of this number is at rest, holds the roots of what it saved and nothing else, and
 -- there is room for as many saves as there may be
@@ -14,21 +14,21 @@ pub record DeskStands (w : TableSeen) (number most : ℕ) (s : PassSeen) (saves 
     (capacity : ℕ) : Type 0 where
   pub rest : IsAtRest w s
   pub mine : s.view.numbers ≡ number ∷ []
-  pub holds : HoldsSaves w (session_seen s.view) s.view.held saves
+  pub holds : HoldsPins w s.view saves
   pub few : length saves ≤ most
   pub fewer : most ≤ 3900
   pub room : most ≤ capacity
 
--- it is one of the same world, over the same session, and what it has lent stands where the lender's
--- stands
-pub record StaysAtDesk {V : Type 0} (w x : TableSeen) (s t : MutBor PassSeen) (p q : MutBor V)
+-- it is one of the same world, over the same session, and what it has lent stands where the
+-- lender's stands
+pub record StaysAtDesk {V : Type 0} (w x : WorldSeen) (s t : MutBor PassSeen) (p q : MutBor V)
     : Type 0 where
   pub world : x ≡ w
   pub session : t.ghost_name ≡ s.ghost_name
   pub saves : q.ghost_name ≡ p.ghost_name
   pub same : SamePass s.now t.now
 
-pub desk_itself : {V : Type 0} (w : TableSeen) (s : MutBor PassSeen) (p : MutBor V)
+pub desk_itself : {V : Type 0} (w : WorldSeen) (s : MutBor PassSeen) (p : MutBor V)
     → StaysAtDesk w w s s p p
 desk_itself w s p = record {
   world = refl;
@@ -40,7 +40,7 @@ desk_itself w s p = record {
   };
 }
 
-pub desk_on : {V : Type 0} (w x y : TableSeen) (s t u : MutBor PassSeen) (p q r : MutBor V)
+pub desk_on : {V : Type 0} (w x y : WorldSeen) (s t u : MutBor PassSeen) (p q r : MutBor V)
     → StaysAtDesk w x s t p q → StaysAtDesk x y t u q r → StaysAtDesk w y s u p r
 desk_on w x y s t u p q r f g =
     let v = f.same.session in

@@ -1,7 +1,7 @@
 -- A session that holds the roots of what it saved.
 use Rattle.std.specs.Prelude.{◌≡◌, ℕ, ◌≤◌, Some, List, length, map, Result, Ok, Err}
 use Rattle.std.specs.List.{AllZip, Contains, sum_by}
-use Rattle.history_model.specs.Moments.{world_has}
+use Rattle.history_model.specs.Stores.{store_has}
 use Rattle.node_shapes.specs.declared.names.Name.{Name}
 use Rattle.node_shapes.specs.Shape.{ShowsCells}
 use Rattle.node_shapes.specs.Tree.{Tree, root_of, shape_of}
@@ -10,15 +10,17 @@ use Rattle.node_words.specs.Gathering.{Loses}
 use Rattle.block_contents.specs.Aligned.{top, world_block}
 use Rattle.transcript.specs.declared.answers.Answer.{Answer}
 use Rattle.transcript.specs.declared.answers.Answer.TheVariants as answers
+use Rattle.table_rule.specs.Views.{SeatView}
 use Rattle.node_table.specs.Seen.{TableSeen}
 use Rattle.version_log.specs.declared.pinned.Pinned.{Pinned}
-use Rattle.version_answers.specs.declared.refusals.PinRefused.{PinRefused}
+use Rattle.versions.specs.declared.refusals.PinRefused.{PinRefused}
 use Rattle.session_runs.specs.declared.calls.SavedAt.{SavedAt}
 use Rattle.session_runs.specs.Seen.{SessionSeen}
+use Rattle.session.specs.Seen.{session_seen}
 use Rattle.session.specs.declared.saves.PinnedSave.{PinnedSave}
 
 -- the session found the version without a mark at the pin's moment, which it has seen, and the tree
--- has the pin's root, which is of the top level, and shows just the version's cells
+-- has the pin's root, which is of the top level, and shows just the version's cells in the store
 pub record IsSavedRoot (w : TableSeen) (s : SessionSeen) (p : Pinned) (t : Tree) : Type 0 where
   pub version : p.version ≤ p.moment
   pub moment : p.moment ≤ length s.log.records
@@ -26,7 +28,7 @@ pub record IsSavedRoot (w : TableSeen) (s : SessionSeen) (p : Pinned) (t : Tree)
   pub name : root_of t ≡ p.root
   pub level : (n : Name) → p.root ≡ Some n → n.level ≡ top w.plan.side
   pub shows : ShowsCells (world_block w.plan.side) (shape_of t)
-      (world_has w.models s.log.records p.version)
+      (store_has w.models s.log p.version)
 
 -- what is held is one share of the root of each pin, where there is one
 pub record HoldsSaves (w : TableSeen) (s : SessionSeen) (held : List Tree) (pins : List Pinned)
@@ -34,6 +36,10 @@ pub record HoldsSaves (w : TableSeen) (s : SessionSeen) (held : List Tree) (pins
   pub trees : List Tree
   pub are : AllZip (IsSavedRoot w s) pins trees
   pub weighs : (f : Tree → ℕ) → weigh f held ≡ sum_by (weight_of f) trees
+
+-- what a session holds is that
+abbrev pub HoldsPins : TableSeen → SeatView → List Pinned → Type 0
+HoldsPins w v pins = HoldsSaves w (session_seen v) v.held pins
 
 abbrev pub pinned_versions : List Pinned → List ℕ
 pinned_versions pins = map (λ p. p.version) pins

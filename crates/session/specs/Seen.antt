@@ -1,22 +1,50 @@
 -- A session's pass as what the session has seen and done.
-use Rattle.std.specs.Prelude.{◌≡◌, ℕ, [], ◌∷◌}
+use Rattle.std.specs.Prelude.{◌≡◌, ℕ, ◌^◌, List, [], ◌∷◌, All, false}
+use Rattle.history_model.specs.declared.acts.Act.{Act}
+use Rattle.history_model.specs.Logs.{Log}
+use Rattle.table_rule.specs.LogViews.{LogView}
 use Rattle.table_rule.specs.Views.{SeatView}
 use Rattle.node_table.specs.Seen.{TableSeen}
+use Rattle.script.specs.declared.commands.ScriptLine.{ScriptLine}
+use Rattle.script.specs.Fitting.{CommandFits, EditFits}
 use Rattle.session_runs.specs.Calls.{KnowsOwn}
-use Rattle.session_runs.specs.Seen.{SessionOf, SessionSeen, of_session}
+use Rattle.session_runs.specs.Seen.{SessionOf, SessionSeen, session_keeping}
+
+-- the log that was seen, as a history of a world whose cells have no tints
+abbrev pub log_seen : LogView → Log
+log_seen view = record {
+  side = view.seen.side;
+  coloured = false;
+  records = view.seen.records;
+  marks = view.seen.marks;
+}
 
 abbrev pub session_seen : SeatView → SessionSeen
 session_seen v = record {
-  log = v.log.seen;
+  log = log_seen v.log;
   records = v.log.records;
   marks = v.log.marks;
   found = v.log.found;
   noted = record { made = v.made; met = v.met };
 }
 
+-- a world as contracts see it: its table, and how many last versions alone it holds, or 0 for all
+pub record WorldSeen : Type 0 where
+  pub table : TableSeen
+  pub keep : ℕ
+
+-- the act lies in the world, its model is one of the world's, and it has no tint
+abbrev pub IsActOf : WorldSeen → Act → Type 0
+IsActOf w act = EditFits false (2 ^ w.table.plan.side) w.table.models act
+
+-- what these lines ask for lies in the world, and so does each model
+abbrev pub AreLinesOf : WorldSeen → List ScriptLine → Type 0
+AreLinesOf w lines =
+    All (λ l. CommandFits false (2 ^ w.table.plan.side) w.table.models l.command) lines
+
 -- the session of this number in this world
-abbrev pub of_world : TableSeen → ℕ → SessionOf
-of_world w number = of_session w.plan w.models number
+abbrev pub of_world : WorldSeen → ℕ → SessionOf
+of_world w number = session_keeping w.keep w.table.plan w.table.models number
 
 -- of the marks that it has seen, its own are those that it lists
 abbrev pub KnowsItself : SeatView → Type 0

@@ -1,9 +1,8 @@
 //! Changes of a world: edits, undos and redos, and one attempt at an edit.
-ghost use Rattle.std.specs.Prelude.{◌≡◌, ◌≤◌, ◌∷◌, ◌^◌, [], ℕ, true};
+ghost use Rattle.std.specs.Prelude.{◌≡◌, ◌≤◌, ◌∷◌, [], ℕ, true};
 ghost use Rattle.hands.specs.Balls.{ball_act};
 ghost use Rattle.hands.specs.Boxes.{box_act};
 ghost use Rattle.history_model.specs.declared.acts.Act.TheVariants.{Copy};
-ghost use Rattle.history_model.specs.Logs.{FitsWorld};
 ghost use Rattle.history_model.specs.Worlds.{is_edit};
 ghost use Rattle.node_shapes.specs.Weights.{number_of_trees};
 ghost use Rattle.node_words.specs.Held.{SameHeld};
@@ -11,7 +10,7 @@ ghost use Rattle.node_table.specs.Seen.{SamePass};
 ghost use Rattle.session_runs.specs.Told.{ActTold, OnceTold};
 ghost use Rattle.session.specs.Attempts.{AnswersAct, IsMaker, act_answer, once_answer};
 ghost use Rattle.session.specs.Resting.{IsAtRest};
-ghost use Rattle.session.specs.Seen.{KnowsItself, of_world, session_seen};
+ghost use Rattle.session.specs.Seen.{IsActOf, KnowsItself, of_world, session_seen};
 
 use crate::attempts::{EditAnswer, Late};
 use crate::world::{Session, World};
@@ -74,10 +73,10 @@ impl<'m> World<'m> {
         gate: &G,
         steps: &mut Steps<L>,
     ) -> ActAnswer
-        requires rest { IsAtRest self.now s.old }
-        requires fits { FitsWorld (2 ^ self.now.plan.side) self.now.models act.now }
+        requires rest { IsAtRest self.now.table s.old }
+        requires fits { IsActOf self.now act.now }
         requires room { number_of_trees s.old.view.held ≤ 3900 }
-        ensures rest { IsAtRest self.now s.new }
+        ensures rest { IsAtRest self.now.table s.new }
         ensures same { SamePass s.old s.new }
         ensures held { SameHeld s.old.view.held s.new.view.held }
         ensures told { (number : ℕ) → s.old.view.numbers ≡ number ∷ [] → ActTold
@@ -99,10 +98,10 @@ impl<'m> World<'m> {
         gate: &G,
         steps: &mut Steps<L>,
     ) -> ActAnswer
-        requires rest { IsAtRest self.now s.old }
-        requires fits { FitsWorld (2 ^ self.now.plan.side) self.now.models act.now }
+        requires rest { IsAtRest self.now.table s.old }
+        requires fits { IsActOf self.now act.now }
         requires room { number_of_trees s.old.view.held ≤ 3900 }
-        ensures rest { IsAtRest self.now s.new }
+        ensures rest { IsAtRest self.now.table s.new }
         ensures same { SamePass s.old s.new }
         ensures held { SameHeld s.old.view.held s.new.view.held }
         ensures told { AnswersAct self.now line act.now result s.old.view s.new.view }
@@ -115,6 +114,7 @@ impl<'m> World<'m> {
             Act::Carve(ball) => self.edit_ball(rt, s, line, act, ball, false, gate, steps),
             Act::Copy(from, to) => self.edit_copy(rt, s, line, act, *from, *to, gate, steps),
             Act::Stamp(_, _) => self.edit_plainly(rt, s, line, act, gate, steps),
+            Act::Tint(_) => unreachable!(),
         }
     }
 
@@ -127,11 +127,11 @@ impl<'m> World<'m> {
         gate: &G,
         steps: &mut Steps<L>,
     ) -> ActAnswer
-        requires rest { IsAtRest self.now s.old }
+        requires rest { IsAtRest self.now.table s.old }
         requires edit { is_edit act.now ≡ true }
-        requires fits { FitsWorld (2 ^ self.now.plan.side) self.now.models act.now }
+        requires fits { IsActOf self.now act.now }
         requires room { number_of_trees s.old.view.held ≤ 3900 }
-        ensures rest { IsAtRest self.now s.new }
+        ensures rest { IsAtRest self.now.table s.new }
         ensures same { SamePass s.old s.new }
         ensures held { SameHeld s.old.view.held s.new.view.held }
         ensures told { AnswersAct self.now line act.now result s.old.view s.new.view }
@@ -155,12 +155,12 @@ impl<'m> World<'m> {
         gate: &G,
         steps: &mut Steps<L>,
     ) -> ActAnswer
-        requires rest { IsAtRest self.now s.old }
+        requires rest { IsAtRest self.now.table s.old }
         requires act { act.now ≡ box_act set b }
         requires edit { is_edit act.now ≡ true }
-        requires fits { FitsWorld (2 ^ self.now.plan.side) self.now.models act.now }
+        requires fits { IsActOf self.now act.now }
         requires room { number_of_trees s.old.view.held ≤ 3900 }
-        ensures rest { IsAtRest self.now s.new }
+        ensures rest { IsAtRest self.now.table s.new }
         ensures same { SamePass s.old s.new }
         ensures held { SameHeld s.old.view.held s.new.view.held }
         ensures told { AnswersAct self.now line act.now result s.old.view s.new.view }
@@ -184,12 +184,12 @@ impl<'m> World<'m> {
         gate: &G,
         steps: &mut Steps<L>,
     ) -> ActAnswer
-        requires rest { IsAtRest self.now s.old }
+        requires rest { IsAtRest self.now.table s.old }
         requires act { act.now ≡ ball_act set ball.now }
         requires edit { is_edit act.now ≡ true }
-        requires fits { FitsWorld (2 ^ self.now.plan.side) self.now.models act.now }
+        requires fits { IsActOf self.now act.now }
         requires room { number_of_trees s.old.view.held ≤ 3900 }
-        ensures rest { IsAtRest self.now s.new }
+        ensures rest { IsAtRest self.now.table s.new }
         ensures same { SamePass s.old s.new }
         ensures held { SameHeld s.old.view.held s.new.view.held }
         ensures told { AnswersAct self.now line act.now result s.old.view s.new.view }
@@ -213,12 +213,12 @@ impl<'m> World<'m> {
         gate: &G,
         steps: &mut Steps<L>,
     ) -> ActAnswer
-        requires rest { IsAtRest self.now s.old }
+        requires rest { IsAtRest self.now.table s.old }
         requires act { act.now ≡ Copy from to }
         requires edit { is_edit act.now ≡ true }
-        requires fits { FitsWorld (2 ^ self.now.plan.side) self.now.models act.now }
+        requires fits { IsActOf self.now act.now }
         requires room { number_of_trees s.old.view.held ≤ 3900 }
-        ensures rest { IsAtRest self.now s.new }
+        ensures rest { IsAtRest self.now.table s.new }
         ensures same { SamePass s.old s.new }
         ensures held { SameHeld s.old.view.held s.new.view.held }
         ensures told { AnswersAct self.now line act.now result s.old.view s.new.view }
@@ -240,11 +240,11 @@ impl<'m> World<'m> {
         gate: &G,
         steps: &mut Steps<L>,
     ) -> EditAnswer
-        requires rest { IsAtRest self.now s.old }
-        requires maker { IsMaker self.now (M.models maker.old) (M.act maker.old) }
+        requires rest { IsAtRest self.now.table s.old }
+        requires maker { IsMaker self.now.table (M.models maker.old) (M.act maker.old) }
         requires room { number_of_trees s.old.view.held ≤ 3900 }
         requires recalls { M.recalls maker.old s.old.view.held }
-        ensures rest { IsAtRest self.now s.new }
+        ensures rest { IsAtRest self.now.table s.new }
         ensures same { SamePass s.old s.new }
         ensures held { SameHeld s.old.view.held s.new.view.held }
         ensures told { AnswersAct self.now line (M.act maker.old) (act_answer result) s.old.view
@@ -275,11 +275,11 @@ impl<'m> World<'m> {
         gate: &G,
         steps: &mut Steps<L>,
     ) -> OnceAnswer
-        requires rest { IsAtRest self.now s.old }
+        requires rest { IsAtRest self.now.table s.old }
         requires edit { is_edit act.now ≡ true }
-        requires fits { FitsWorld (2 ^ self.now.plan.side) self.now.models act.now }
+        requires fits { IsActOf self.now act.now }
         requires room { number_of_trees s.old.view.held ≤ 3900 }
-        ensures rest { IsAtRest self.now s.new }
+        ensures rest { IsAtRest self.now.table s.new }
         ensures same { SamePass s.old s.new }
         ensures held { SameHeld s.old.view.held s.new.view.held }
         ensures told { (number : ℕ) → s.old.view.numbers ≡ number ∷ [] → OnceTold

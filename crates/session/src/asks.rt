@@ -11,7 +11,7 @@ ghost use Rattle.conformance.specs.Telling.{Tells};
 ghost use Rattle.table_rule.specs.LogTelling.{seen_has};
 ghost use Rattle.version_log.specs.declared.pinned.Pinned.{Pinned};
 ghost use Rattle.version_log.specs.Pins.{IsPinned};
-ghost use Rattle.session_runs.specs.Told.{AskTold};
+ghost use Rattle.session_runs.specs.Told.{AskTold, plainly_tinted};
 ghost use Rattle.world_answers.specs.TellsRoots.{TellsRoot};
 ghost use Rattle.session.specs.Resting.{IsAtRest};
 ghost use Rattle.session.specs.Seen.{KnowsItself, of_world, session_seen};
@@ -33,12 +33,12 @@ impl<'m> World<'m> {
         root: Option<&Share>,
         question: Question,
     ) -> Answer
-        requires ready { IsLendable self.now s.old }
-        requires root { HoldsRoot s.old.view.held self.now.plan.side (option_copied root) }
-        requires fits { QuestionFits (2 ^ self.now.plan.side) question }
-        ensures stays { StaysLendable self.now s.old s.new }
-        ensures tells { TellsRoot s.old.view.held self.now.plan.side (option_copied root.entry)
-            question result }
+        requires ready { IsLendable self.now.table s.old }
+        requires root { HoldsRoot s.old.view.held self.now.table.plan.side (option_copied root) }
+        requires fits { QuestionFits (2 ^ self.now.table.plan.side) question }
+        ensures stays { StaysLendable self.now.table s.old s.new }
+        ensures tells { TellsRoot s.old.view.held self.now.table.plan.side
+            (option_copied root.entry) question result }
         ensures seen { seen_of s.new.view ≡ seen_of s.old.view }
     {
         let side = self.table.plan().side();
@@ -46,18 +46,18 @@ impl<'m> World<'m> {
         world_answers::tell(&mut hand, root, side, question)
     }
 
-    /// The answer to a question about a version that is pinned. It takes no turn, and waits for
-    /// nobody.
+    /// The answer to a question about a version that is pinned, of which each set cell has tint 1.
+    /// It takes no turn, and waits for nobody.
     pub fn ask(&self, s: &mut Session, p: &Pinned, question: &Question) -> Answer
-        requires rest { IsAtRest self.now s.old }
+        requires rest { IsAtRest self.now.table s.old }
         requires pinned { IsPinned s.old.view p.now }
-        requires fits { QuestionFits (2 ^ self.now.plan.side) question.now }
-        ensures rest { IsAtRest self.now s.new }
+        requires fits { QuestionFits (2 ^ self.now.table.plan.side) question.now }
+        ensures rest { IsAtRest self.now.table s.new }
         ensures same { SamePass s.old s.new }
         ensures held { s.new.view.held ≡ s.old.view.held }
         ensures seen { session_seen s.new.view ≡ session_seen s.old.view }
-        ensures tells { Tells (2 ^ self.now.plan.side) (seen_has s.old.view p.now.version)
-            question.now result }
+        ensures tells { Tells (2 ^ self.now.table.plan.side) (seen_has s.old.view p.now.version)
+            (plainly_tinted (seen_has s.old.view p.now.version)) question.now result }
         ensures pinned { (q : Pinned) → IsPinned s.old.view q → IsPinned s.new.view q }
         ensures knows { KnowsItself s.new.view }
     {
@@ -76,10 +76,10 @@ impl<'m> World<'m> {
         question: Question,
         steps: &mut Steps<L>,
     ) -> Result<AskedAt, PinRefused>
-        requires rest { IsAtRest self.now s.old }
-        requires fits { QuestionFits (2 ^ self.now.plan.side) question }
+        requires rest { IsAtRest self.now.table s.old }
+        requires fits { QuestionFits (2 ^ self.now.table.plan.side) question }
         requires room { number_of_trees s.old.view.held ≤ 3900 }
-        ensures rest { IsAtRest self.now s.new }
+        ensures rest { IsAtRest self.now.table s.new }
         ensures same { SamePass s.old s.new }
         ensures held { SameHeld s.old.view.held s.new.view.held }
         ensures told { (number : ℕ) → AskTold (of_world self.now number) version question

@@ -5,14 +5,14 @@ ghost use Rattle.history_model.specs.Worlds.{is_edit};
 ghost use Rattle.node_shapes.specs.Weights.{number_of_trees};
 ghost use Rattle.table_rule.specs.LogTelling.{number_seen, seen_has};
 ghost use Rattle.node_table.specs.Seen.{SamePass};
-ghost use Rattle.version_log.specs.Commits.{AppendsNext, IsMadeOver, RefusesCommit};
+ghost use Rattle.version_log.specs.Commits.{IsMadeOver, RefusesCommit};
+ghost use Rattle.version_log.specs.Falling.{CommitsNext};
 ghost use Rattle.version_log.specs.Roots.{HoldsRootOf};
 ghost use Rattle.version_log.specs.Seeing.{LooksOn};
 ghost use Rattle.hands.specs.Lendable.{IsLendable, StaysLendable};
 ghost use Rattle.session.specs.Attempts.{Attempts, FailsToMake, HasPinnedHead, IsMaker, MakesNextRoot};
 ghost use Rattle.session.specs.Resting.{IsAtRest};
 
-use crate::turns::number_alone;
 use crate::world::{Session, World};
 use gate_run::Gate;
 use hands::{ActMaker, make_over};
@@ -20,7 +20,7 @@ use history_model::Act;
 use node_words::{Full, Share, Steps};
 use std::sync::Wait;
 use std::sync::ledger::Ledger;
-use version_log::{CommitRefused, Pinned, commit};
+use version_log::{CommitRefused, Committed, Pinned, commit};
 
 /// What an edit came to.
 #[derive(Clone, Copy, Debug, PartialEq, Eq)]
@@ -50,19 +50,19 @@ impl<'m> World<'m> {
         maker: &mut M,
         steps: &mut Steps<L>,
     ) -> Result<Option<Share>, Full>
-        requires ready { IsLendable self.now s.old }
-        requires maker { IsMaker self.now (M.models maker.old) (M.act maker.old) }
+        requires ready { IsLendable self.now.table s.old }
+        requires maker { IsMaker self.now.table (M.models maker.old) (M.act maker.old) }
         requires base { HoldsRootOf s.old.view (option_copied base)
             (seen_has s.old.view (number_seen s.old.view)) }
         requires room { number_of_trees s.old.view.held ≤ 3910 }
         requires recalls { M.recalls maker.old s.old.view.held }
-        ensures stays { StaysLendable self.now s.old s.new }
+        ensures stays { StaysLendable self.now.table s.old s.new }
         ensures models { M.models maker.new ≡ M.models maker.old }
         ensures act { M.act maker.new ≡ M.act maker.old }
         ensures root { IfOk result
-            (λ r. MakesNextRoot self.now (M.act maker.old) r s.old.view s.new.view) }
+            (λ r. MakesNextRoot self.now.table (M.act maker.old) r s.old.view s.new.view) }
         ensures full { IfErr result
-            (λ e. FailsToMake self.now (M.act maker.old) e s.old.view s.new.view) }
+            (λ e. FailsToMake self.now.table (M.act maker.old) e s.old.view s.new.view) }
         ensures recalls { OnOk result (M.recalls maker.new s.new.view.held) }
     {
         match make_over(rt, &self.table, s, base, maker, steps) {
@@ -71,7 +71,8 @@ impl<'m> World<'m> {
         }
     }
 
-    // Commits what was made of the version that is pinned. All versions are kept.
+    // Commits what was made of the version that is pinned. The share of the root of the version
+    // that fell out then is handed over.
     fn commit_root<R: Wait>(
         &self,
         rt: &R,
@@ -80,22 +81,23 @@ impl<'m> World<'m> {
         line: u32,
         act: &Act,
         root: Option<Share>,
-    ) -> Result<u32, CommitRefused>
-        requires rest { IsAtRest self.now s.old }
+    ) -> Result<Committed, CommitRefused>
+        requires rest { IsAtRest self.now.table s.old }
         requires room { number_of_trees s.old.view.held ≤ 4095 }
         requires base { HasPinnedHead s.old.view base.now }
         requires edit { is_edit act.now ≡ true }
-        requires fits { FitsWorld (2 ^ self.now.plan.side) self.now.models act.now }
+        requires fits { FitsWorld (2 ^ self.now.table.plan.side) self.now.table.models act.now }
         requires made { IsMadeOver s.old.view (number_seen s.old.view) act.now root }
-        ensures rest { IsAtRest self.now s.new }
+        ensures rest { IsAtRest self.now.table s.new }
         ensures same { SamePass s.old s.new }
-        ensures appends { IfOk result (λ n. AppendsNext s.old.view line act.now root n s.new.view) }
+        ensures commits { IfOk result
+            (λ c. CommitsNext s.old.view self.now.keep line act.now root c s.new.view) }
         ensures refused { IfErr result (λ e. RefusesCommit base.now root e s.new.view) }
         ensures looks { IfErr result (λ e. LooksOn s.old.view s.new.view) }
         ensures kept { IfErr result (λ e. s.new.view.held ≡ s.old.view.held) }
     {
-        match commit(rt, &self.table, s, base, line, act, root, 0) {
-            Ok(committed) => Ok(number_alone(committed)),
+        match commit(rt, &self.table, s, base, line, act, root, self.keep) {
+            Ok(committed) => Ok(committed),
             Err(refused) => Err(refused),
         }
     }
@@ -111,12 +113,12 @@ impl<'m> World<'m> {
         gate: &G,
         steps: &mut Steps<L>,
     ) -> Result<EditAnswer, Late>
-        requires rest { IsAtRest self.now s.old }
-        requires maker { IsMaker self.now (M.models maker.old) (M.act maker.old) }
+        requires rest { IsAtRest self.now.table s.old }
+        requires maker { IsMaker self.now.table (M.models maker.old) (M.act maker.old) }
         requires base { HasPinnedHead s.old.view base.now }
         requires room { number_of_trees s.old.view.held ≤ 3901 }
         requires recalls { M.recalls maker.old s.old.view.held }
-        ensures rest { IsAtRest self.now s.new }
+        ensures rest { IsAtRest self.now.table s.new }
         ensures same { SamePass s.old s.new }
         ensures models { M.models maker.new ≡ M.models maker.old }
         ensures act { M.act maker.new ≡ M.act maker.old }
@@ -128,7 +130,10 @@ impl<'m> World<'m> {
             Ok(root) => {
                 gate.between(s.number(), line);
                 match self.commit_root(rt, s, base, line, &maker.act(), root) {
-                    Ok(n) => Ok(EditAnswer::Done { n }),
+                    Ok(Committed { n, fallen }) => {
+                        self.give_root(rt, s, fallen, steps);
+                        Ok(EditAnswer::Done { n })
+                    }
                     Err(CommitRefused::LogFull { root }) => {
                         self.give_root(rt, s, root, steps);
                         Ok(EditAnswer::LogFull)

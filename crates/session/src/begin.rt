@@ -13,19 +13,24 @@ use vox_read::Models;
 use vw_cell::Memory;
 
 impl<'m> World<'m> {
-    /// An empty world with these models, and its sessions, numbered from 0 up.
+    /// An empty world with these models, and its sessions, numbered from 0 up. It holds the last
+    /// `keep` versions alone, or with 0 all: as record n is appended, version n - keep is
+    /// forgotten, unless it has a mark.
     pub fn begin(
         alloc: Global,
         plan: &Plan,
         models: &'m Models,
         sessions: u16,
+        keep: u32,
     ) -> Result<(World<'m>, Vec<Session>), Memory>
         requires sessions { (1 ≤ sessions) × (sessions ≤ 64) }
         requires models { AreModels models.now }
-        ensures world { IfOk result (λ r. (r.0.plan ≡ plan.now) × (r.0.models ≡ models.now)) }
-        ensures made { IfOk result (λ r. (r.0.made ≡ sessions) × (vec_len r.1 ≡ sessions)) }
-        ensures new { IfOk result (λ r. AreNewPasses r.0.id (terms_of r.0) r.1.items) }
-        ensures rest { IfOk result (λ r. All (IsAtRest r.0) r.1.items) }
+        ensures world { IfOk result (λ r. (r.0.table.plan ≡ plan.now)
+            × (r.0.table.models ≡ models.now) × (r.0.keep ≡ keep)) }
+        ensures made { IfOk result (λ r. (r.0.table.made ≡ sessions) × (vec_len r.1 ≡ sessions)) }
+        ensures new { IfOk result (λ r. AreNewPasses r.0.table.id (terms_of r.0.table)
+            r.1.items) }
+        ensures rest { IfOk result (λ r. All (IsAtRest r.0.table) r.1.items) }
     {
         let drawn = draw_models(alloc, models)?;
         let (table, sessions) = NodeTable::begin(alloc, plan, models, sessions)?;
@@ -33,6 +38,7 @@ impl<'m> World<'m> {
             table,
             drawn,
             models,
+            keep,
         };
         Ok((world, sessions))
     }

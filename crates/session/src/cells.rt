@@ -28,13 +28,13 @@ impl<'m> World<'m> {
         part: Boxed,
         into: &mut Vec<Voxel>,
     ) -> Result<(), Memory>
-        requires ready { IsLendable self.now s.old }
-        requires root { HoldsRoot s.old.view.held self.now.plan.side (option_copied root) }
-        requires inside { FitsAt part.at part.size (2 ^ self.now.plan.side) }
+        requires ready { IsLendable self.now.table s.old }
+        requires root { HoldsRoot s.old.view.held self.now.table.plan.side (option_copied root) }
+        requires inside { FitsAt part.at part.size (2 ^ self.now.table.plan.side) }
         requires small { (part.size.x ≤ 256) × (part.size.y ≤ 256) × (part.size.z ≤ 256) }
-        ensures stays { StaysLendable self.now s.old s.new }
+        ensures stays { StaysLendable self.now.table s.old s.new }
         ensures voxels { OnOk result
-            (ForWorld s.old.view.held self.now.plan.side (option_copied root.entry)
+            (ForWorld s.old.view.held self.now.table.plan.side (option_copied root.entry)
             (λ cells. into.new.items ≡ into.old.items ++ voxels_of_box part cells)) }
         ensures memory { OnErr result (into.new.items ≡ into.old.items) }
         ensures seen { seen_of s.new.view ≡ seen_of s.old.view }
@@ -53,11 +53,11 @@ impl<'m> World<'m> {
         part: Boxed,
         into: &mut Vec<Voxel>,
     ) -> Result<(), Memory>
-        requires rest { IsAtRest self.now s.old }
+        requires rest { IsAtRest self.now.table s.old }
         requires pinned { IsPinned s.old.view p.now }
-        requires inside { FitsAt part.at part.size (2 ^ self.now.plan.side) }
+        requires inside { FitsAt part.at part.size (2 ^ self.now.table.plan.side) }
         requires small { (part.size.x ≤ 256) × (part.size.y ≤ 256) × (part.size.z ≤ 256) }
-        ensures rest { IsAtRest self.now s.new }
+        ensures rest { IsAtRest self.now.table s.new }
         ensures same { SamePass s.old s.new }
         ensures held { s.new.view.held ≡ s.old.view.held }
         ensures seen { session_seen s.new.view ≡ session_seen s.old.view }

@@ -29,11 +29,11 @@ impl<'m> World<'m> {
     /// Takes all sessions of the world, and tells what it leaves: one history of all of them, from
     /// which each saw a part. Refused, all comes back.
     pub fn close(self, alloc: Global, sessions: Vec<Session>) -> Result<Ended, CloseRefused<'m>>
-        requires rest { All (IsAtRest self) sessions.items }
+        requires rest { All (IsAtRest self.table) sessions.items }
         requires spare { All (λ s. s.view.held ≡ []) sessions.items }
-        ensures made { IfOk result (λ e. vec_len sessions ≡ self.entry.made) }
-        ensures ends { IfOk result (λ e. EndsTable self.entry e) }
-        ensures closes { IfOk result (λ e. ClosesWorld self.entry.plan self.entry.models
+        ensures made { IfOk result (λ e. vec_len sessions ≡ self.entry.table.made) }
+        ensures ends { IfOk result (λ e. EndsTable self.entry.table e) }
+        ensures closes { IfOk result (λ e. ClosesWorld self.entry.table.plan self.entry.table.models
             (sessions_seen sessions.items) e.history) }
         ensures refused { IfErr result (λ e. RefusesWorld self.entry sessions.items e) }
     {
@@ -41,9 +41,10 @@ impl<'m> World<'m> {
             table,
             drawn,
             models,
+            keep,
         } = self;
         match table.close(alloc, sessions) {
-            Ok(closed) => Ok(Ended::of(closed)),
+            Ok(closed) => Ok(Ended::of(closed, false)),
             Err(
                 TableCloseRefused::Count {
                     table,
@@ -55,6 +56,7 @@ impl<'m> World<'m> {
                     table,
                     drawn,
                     models,
+                    keep,
                 },
                 sessions: passes,
                 made,
@@ -64,6 +66,7 @@ impl<'m> World<'m> {
                     table,
                     drawn,
                     models,
+                    keep,
                 },
                 sessions: passes,
             }),

@@ -16,8 +16,8 @@ use session_runs::{
 use std::sync::Wait;
 use std::sync::ledger::Ledger;
 use transcript::LineAnswer;
-use version_answers::{ForgetRefused, PinRefused, SameAt, SameRefused};
 use version_log::Pinned;
+use versions::{ForgetRefused, PinRefused, SameAt, SameRefused};
 use vw_cell::Boxed;
 
 /// A borrowed session with its world, the pins of what it saved, and the gate that it passes.
@@ -44,8 +44,8 @@ impl<'a, 'm, R: Wait, G: Gate, L: Ledger> SessionCalls for ScriptDesk<'a, 'm, R,
 
     ghost room = { λ d. d.most - length d.saves.now.items };
 
-    ghost stands = { λ d. DeskStands d.world.now d.number d.most d.session.now d.saves.now.items
-        (vec_capacity d.saves.now) };
+    ghost stands = { λ d. DeskStands d.world.now.table d.number d.most d.session.now
+        d.saves.now.items (vec_capacity d.saves.now) };
 
     ghost rests = { λ c d. StaysAtDesk c.world.now d.world.now c.session d.session
         c.saves d.saves };
@@ -111,8 +111,8 @@ impl<'a, 'm, R: Wait, G: Gate, L: Ledger> SessionDesk for ScriptDesk<'a, 'm, R, 
 
     ghost room = { λ d. d.most - length d.saves.now.items };
 
-    ghost stands = { λ d. DeskStands d.world.now d.number d.most d.session.now d.saves.now.items
-        (vec_capacity d.saves.now) };
+    ghost stands = { λ d. DeskStands d.world.now.table d.number d.most d.session.now
+        d.saves.now.items (vec_capacity d.saves.now) };
 
     ghost rests = { λ c d. StaysAtDesk c.world.now d.world.now c.session d.session
         c.saves d.saves };

@@ -1,5 +1,6 @@
 //! What a closed world leaves.
 ghost use Rattle.std.specs.Prelude.{◌≡◌};
+ghost use Rattle.session.specs.Closes.{coloured_as};
 
 use node_table::Closed;
 use std::marker::Model;
@@ -20,10 +21,11 @@ impl Model for Ended {
 }
 
 impl Ended {
-    // What closing a world's table left.
-    pub(crate) fn of(closed: Closed) -> Ended
-        ensures { result ≡ closed }
+    // What closing a world's table left, with a history that is as coloured as this.
+    pub(crate) fn of(mut closed: Closed, coloured: bool) -> Ended
+        ensures { result ≡ coloured_as coloured closed }
     {
+        closed.history.coloured = coloured;
         Ended { closed }
     }
 

@@ -25,10 +25,10 @@ impl<'m> World<'m> {
         root: Option<Share>,
         steps: &mut Steps<L>,
     )
-        requires ready { IsLendable self.now s.old }
+        requires ready { IsLendable self.now.table s.old }
         requires held { MayGoBack s.old.view.held root }
         requires room { number_of_trees s.old.view.held ≤ 4008 }
-        ensures stays { StaysLendable self.now s.old s.new }
+        ensures stays { StaysLendable self.now.table s.old s.new }
         ensures gone { GoesBack root s.old.view.held s.new.view.held }
         ensures only { OnlyHeldChanges (seen_of s.old.view) (seen_of s.new.view) }
     {
@@ -44,9 +44,9 @@ impl<'m> World<'m> {
         version: u32,
         steps: &mut Steps<L>,
     ) -> Result<u32, ForgetRefused>
-        requires rest { IsAtRest self.now s.old }
+        requires rest { IsAtRest self.now.table s.old }
         requires room { number_of_trees s.old.view.held ≤ 3900 }
-        ensures rest { IsAtRest self.now s.new }
+        ensures rest { IsAtRest self.now.table s.new }
         ensures same { SamePass s.old s.new }
         ensures held { SameHeld s.old.view.held s.new.view.held }
         ensures told { (number : ℕ) → s.old.view.numbers ≡ number ∷ [] → ForgetTold

@@ -1,4 +1,9 @@
 //! A world that many sessions edit and read at the same time, with one history of all of them.
+//!
+//! Edits run over hands on the table of nodes, records stand in its log, and an old version is read
+//! with no turn. No file and no text occurs here. What each call tells is said in the terms of
+//! `session_runs` (`specs/Told.antt` there); what a world and a session are seen as, and what a
+//! closed world left, in `specs/Seen.antt` and `specs/Closes.antt`.
 #![tactic(auto)]
 
 mod acts;

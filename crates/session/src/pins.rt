@@ -26,9 +26,9 @@ impl<'m> World<'m> {
         version: Option<u32>,
         steps: &mut Steps<L>,
     ) -> Result<Pinned, PinRefused>
-        requires rest { IsAtRest self.now s.old }
+        requires rest { IsAtRest self.now.table s.old }
         requires room { number_of_trees s.old.view.held ≤ 3900 }
-        ensures rest { IsAtRest self.now s.new }
+        ensures rest { IsAtRest self.now.table s.new }
         ensures same { SamePass s.old s.new }
         ensures looks { LooksOn s.old.view s.new.view }
         ensures pinned { IfOk result (λ p. PinsVersion s.old.view version p s.new.view) }
@@ -49,10 +49,10 @@ impl<'m> World<'m> {
         p: Pinned,
         steps: &mut Steps<L>,
     )
-        requires rest { IsAtRest self.now s.old }
+        requires rest { IsAtRest self.now.table s.old }
         requires pinned { IsPinned s.old.view p }
         requires room { number_of_trees s.old.view.held ≤ 3901 }
-        ensures rest { IsAtRest self.now s.new }
+        ensures rest { IsAtRest self.now.table s.new }
         ensures same { SamePass s.old s.new }
         ensures seen { session_seen s.new.view ≡ session_seen s.old.view }
         ensures gone { GoesBack p.root s.old.view.held s.new.view.held }
@@ -75,10 +75,10 @@ impl<'m> World<'m> {
         root: Option<Share>,
         steps: &mut Steps<L>,
     )
-        requires rest { IsAtRest self.now s.old }
+        requires rest { IsAtRest self.now.table s.old }
         requires held { MayGoBack s.old.view.held root }
         requires room { number_of_trees s.old.view.held ≤ 4008 }
-        ensures rest { IsAtRest self.now s.new }
+        ensures rest { IsAtRest self.now.table s.new }
         ensures same { SamePass s.old s.new }
         ensures seen { session_seen s.new.view ≡ session_seen s.old.view }
         ensures gone { GoesBack root s.old.view.held s.new.view.held }
@@ -93,9 +93,9 @@ impl<'m> World<'m> {
         s: &mut Session,
         steps: &mut Steps<L>,
     ) -> Pinned
-        requires rest { IsAtRest self.now s.old }
+        requires rest { IsAtRest self.now.table s.old }
         requires room { number_of_trees s.old.view.held ≤ 3900 }
-        ensures rest { IsAtRest self.now s.new }
+        ensures rest { IsAtRest self.now.table s.new }
         ensures same { SamePass s.old s.new }
         ensures looks { LooksOn s.old.view s.new.view }
         ensures head { HasPinnedHead s.new.view result }

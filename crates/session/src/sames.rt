@@ -18,8 +18,8 @@ impl<'m> World<'m> {
         v: u32,
         w: u32,
     ) -> Result<SameAt, SameRefused>
-        requires rest { IsAtRest self.now s.old }
-        ensures rest { IsAtRest self.now s.new }
+        requires rest { IsAtRest self.now.table s.old }
+        ensures rest { IsAtRest self.now.table s.new }
         ensures same { SamePass s.old s.new }
         ensures held { s.new.view.held ≡ s.old.view.held }
         ensures told { (number : ℕ) → SameTold (of_world self.now number) v w

@@ -4,7 +4,7 @@ ghost use Rattle.std.specs.List.{slice_get};
 ghost use Rattle.vw_cell.specs.Places.{FitsAt};
 ghost use Rattle.node_shapes.specs.Weights.{number_of_trees};
 ghost use Rattle.node_words.specs.Held.{SameHeld};
-ghost use Rattle.history_model.specs.Moments.{world_has};
+ghost use Rattle.history_model.specs.Stores.{store_has};
 ghost use Rattle.conformance.specs.Answers.{asked_version};
 ghost use Rattle.extract.specs.Saved.{file_of_box};
 ghost use Rattle.table_rule.specs.Views.{seen_of};
@@ -13,7 +13,7 @@ ghost use Rattle.node_table.specs.Seen.{SamePass};
 ghost use Rattle.version_log.specs.declared.pinned.Pinned.{Pinned};
 ghost use Rattle.session_runs.specs.Told.{SaveTold};
 ghost use Rattle.session.specs.Resting.{IsAtRest};
-ghost use Rattle.session.specs.Saves.{AddsPin, HoldsSaves, cells_counted, saved_told};
+ghost use Rattle.session.specs.Saves.{AddsPin, HoldsPins, cells_counted, saved_told};
 ghost use Rattle.session.specs.Seen.{KnowsItself, of_world, session_seen};
 
 use crate::world::{Session, World};
@@ -26,8 +26,8 @@ use std::marker::Brand;
 use std::sync::Wait;
 use std::sync::ledger::{Blank, Ledger};
 use transcript::Answer;
-use version_answers::PinRefused;
 use version_log::Pinned;
+use versions::PinRefused;
 use vw_cell::{Boxed, Memory};
 
 /// What was told of a save, and the pin of its version. It must be spent.
@@ -56,14 +56,14 @@ impl<'m> World<'m> {
         part: Boxed,
         steps: &mut Steps<L>,
     ) -> Result<PinnedSave, PinRefused>
-        requires rest { IsAtRest self.now s.old }
-        requires fits { FitsAt part.at part.size (2 ^ self.now.plan.side) }
+        requires rest { IsAtRest self.now.table s.old }
+        requires fits { FitsAt part.at part.size (2 ^ self.now.table.plan.side) }
         requires room { number_of_trees s.old.view.held ≤ 3900 }
-        ensures rest { IsAtRest self.now s.new }
+        ensures rest { IsAtRest self.now.table s.new }
         ensures same { SamePass s.old s.new }
         ensures told { (number : ℕ) → SaveTold (of_world self.now number) version part
             (session_seen s.old.view) (session_seen s.new.view) (saved_told result) }
-        ensures pinned { IfOk result (λ p. AddsPin self.now (session_seen s.new.view)
+        ensures pinned { IfOk result (λ p. AddsPin self.now.table (session_seen s.new.view)
             s.old.view.held s.new.view.held p.pin) }
         ensures asked { IfOk result
             (λ p. p.pin.version ≡ asked_version version p.saved.at) }
@@ -94,16 +94,16 @@ impl<'m> World<'m> {
         k: usize,
         part: Boxed,
     ) -> Result<Vec<u8>, Memory>
-        requires ready { IsLendable self.now s.old }
-        requires holds { HoldsSaves self.now (session_seen s.old.view) s.old.view.held saves.now }
+        requires ready { IsLendable self.now.table s.old }
+        requires holds { HoldsPins self.now.table s.old.view saves.now }
         requires there { k < length saves.now }
-        requires inside { FitsAt part.at part.size (2 ^ self.now.plan.side) }
+        requires inside { FitsAt part.at part.size (2 ^ self.now.table.plan.side) }
         requires small { (part.size.x ≤ 256) × (part.size.y ≤ 256) × (part.size.z ≤ 256) }
-        ensures stays { StaysLendable self.now s.old s.new }
+        ensures stays { StaysLendable self.now.table s.old s.new }
         ensures seen { seen_of s.new.view ≡ seen_of s.old.view }
         ensures file { IfOk result (λ file. (p : Pinned) → slice_get saves.now k ≡ Some p
             → file.items ≡ file_of_box part
-            (world_has self.now.models s.old.view.log.seen.records p.version)) }
+            (store_has self.now.table.models s.old.view.log.seen p.version)) }
     {
         let side = self.table.plan().side();
         let root = saves[k].root.as_ref();
@@ -113,10 +113,10 @@ impl<'m> World<'m> {
 
     /// Gives back what is held for saves, which is all that the session holds.
     pub fn unpin_saves<R: Wait>(&self, rt: &R, s: &mut Session, saves: Vec<Pinned>)
-        requires rest { IsAtRest self.now s.old }
-        requires holds { HoldsSaves self.now (session_seen s.old.view) s.old.view.held saves.items }
+        requires rest { IsAtRest self.now.table s.old }
+        requires holds { HoldsPins self.now.table s.old.view saves.items }
         requires few { length saves.items ≤ 3900 }
-        ensures rest { IsAtRest self.now s.new }
+        ensures rest { IsAtRest self.now.table s.new }
         ensures same { SamePass s.old s.new }
         ensures seen { session_seen s.new.view ≡ session_seen s.old.view }
         ensures none { s.new.view.held ≡ [] }
@@ -132,13 +132,13 @@ fn unpin_over<R: Wait, L: Ledger>(
     mut saves: Vec<Pinned>,
     blank: Blank,
 )
-    requires rest { IsAtRest world.now s.old }
-    requires holds { HoldsSaves world.now (session_seen s.old.view) s.old.view.held saves.items }
+    requires rest { IsAtRest world.now.table s.old }
+    requires holds { HoldsPins world.now.table s.old.view saves.items }
     requires few { length saves.items ≤ 3900 }
     requires name { blank.name ≡ L.name }
     requires parts { blank.parts ≡ L.parts }
     requires some { 0 < L.parts }
-    ensures rest { IsAtRest world.now s.new }
+    ensures rest { IsAtRest world.now.table s.new }
     ensures same { SamePass s.old s.new }
     ensures seen { session_seen s.new.view ≡ session_seen s.old.view }
     ensures none { s.new.view.held ≡ [] }

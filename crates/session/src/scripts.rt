@@ -1,13 +1,13 @@
 //! A session runs its script.
-ghost use Rattle.std.specs.Prelude.{◌≡◌, ◌+◌, ◌≤◌, ◌<◌, ◌^◌, ◌∷◌, [], ℕ, All, length, vec_capacity, vec_len};
+ghost use Rattle.std.specs.Prelude.{◌≡◌, ◌+◌, ◌≤◌, ◌<◌, ◌∷◌, [], ℕ, length, vec_capacity, vec_len};
 ghost use Rattle.node_table.specs.Seen.{SamePass};
-ghost use Rattle.script.specs.Fitting.{CommandFits, RisesFrom};
+ghost use Rattle.script.specs.Fitting.{RisesFrom};
 ghost use Rattle.session_runs.specs.Runs.{RunsScript};
 ghost use Rattle.session_runs.specs.Saves.{saves_asked_in};
 ghost use Rattle.session.specs.Resting.{IsAtRest};
-ghost use Rattle.session.specs.Saves.{HoldsSaves, pinned_versions};
+ghost use Rattle.session.specs.Saves.{HoldsPins, pinned_versions};
 ghost use Rattle.session.specs.Scripts.{IsFresh};
-ghost use Rattle.session.specs.Seen.{of_world, session_seen};
+ghost use Rattle.session.specs.Seen.{AreLinesOf, of_world, session_seen};
 
 use crate::desks::ScriptDesk;
 use crate::world::{Session, World};
@@ -35,21 +35,20 @@ pub fn run_script<R: Wait, G: Gate>(
     saves: &mut Vec<Pinned>,
     gate: &G,
 )
-    requires rest { IsAtRest world.now s.old }
+    requires rest { IsAtRest world.now.table s.old }
     requires fresh { IsFresh s.old.view }
     requires rises { RisesFrom 1 script.now }
-    requires fit { All (λ l. CommandFits (2 ^ world.now.plan.side) world.now.models l.command)
-        script.now }
+    requires fit { AreLinesOf world.now script.now }
     requires room { vec_len answers.old + length script.now ≤ vec_capacity answers.old }
     requires none { saves.old.items ≡ [] }
     requires few { saves_asked_in script.now ≤ 3900 }
     requires saves { saves_asked_in script.now ≤ vec_capacity saves.old }
-    ensures rest { IsAtRest world.now s.new }
+    ensures rest { IsAtRest world.now.table s.new }
     ensures same { SamePass s.old s.new }
     ensures ran { (number : ℕ) → s.old.view.numbers ≡ number ∷ [] → RunsScript
         (of_world world.now number) script.now answers.old.items answers.new.items
         (session_seen s.old.view) (session_seen s.new.view) [] (pinned_versions saves.new.items) }
-    ensures holds { HoldsSaves world.now (session_seen s.new.view) s.new.view.held saves.new.items }
+    ensures holds { HoldsPins world.now.table s.new.view saves.new.items }
 {
     let blank = Blank::new(1);
     run_over::<R, G, Brand>(rt, world, s, script, answers, saves, gate, blank)
@@ -65,11 +64,10 @@ fn run_over<R: Wait, G: Gate, L: Ledger>(
     gate: &G,
     blank: Blank,
 )
-    requires rest { IsAtRest world.now s.old }
+    requires rest { IsAtRest world.now.table s.old }
     requires fresh { IsFresh s.old.view }
     requires rises { RisesFrom 1 script.now }
-    requires fit { All (λ l. CommandFits (2 ^ world.now.plan.side) world.now.models l.command)
-        script.now }
+    requires fit { AreLinesOf world.now script.now }
     requires room { vec_len answers.old + length script.now ≤ vec_capacity answers.old }
     requires none { saves.old.items ≡ [] }
     requires few { saves_asked_in script.now ≤ 3900 }
@@ -77,12 +75,12 @@ fn run_over<R: Wait, G: Gate, L: Ledger>(
     requires name { blank.name ≡ L.name }
     requires parts { blank.parts ≡ L.parts }
     requires some { 0 < L.parts }
-    ensures rest { IsAtRest world.now s.new }
+    ensures rest { IsAtRest world.now.table s.new }
     ensures same { SamePass s.old s.new }
     ensures ran { (number : ℕ) → s.old.view.numbers ≡ number ∷ [] → RunsScript
         (of_world world.now number) script.now answers.old.items answers.new.items
         (session_seen s.old.view) (session_seen s.new.view) [] (pinned_versions saves.new.items) }
-    ensures holds { HoldsSaves world.now (session_seen s.new.view) s.new.view.held saves.new.items }
+    ensures holds { HoldsPins world.now.table s.new.view saves.new.items }
 {
     let number = s.number();
     let most = saves.capacity().min(MOST_HELD);

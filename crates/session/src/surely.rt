@@ -14,7 +14,7 @@ use hands::ActMaker;
 use node_words::{Share, Steps};
 use std::sync::Wait;
 use std::sync::ledger::Ledger;
-use version_log::{SureRefused, nothing_kept};
+use version_log::{Committed, SureRefused, nothing_kept};
 
 impl<'m> World<'m> {
     // The edit of the newest version, whose root is held. The turn goes back.
@@ -27,13 +27,13 @@ impl<'m> World<'m> {
         maker: &mut M,
         steps: &mut Steps<L>,
     ) -> EditAnswer
-        requires turn { HasLog self.now s.old }
-        requires maker { IsMaker self.now (M.models maker.old) (M.act maker.old) }
+        requires turn { HasLog self.now.table s.old }
+        requires maker { IsMaker self.now.table (M.models maker.old) (M.act maker.old) }
         requires head { HoldsRootOf s.old.view (option_copied head)
             (seen_has s.old.view (number_seen s.old.view)) }
         requires room { number_of_trees s.old.view.held ≤ 3910 }
         requires recalls { M.recalls maker.old s.old.view.held }
-        ensures rest { IsAtRest self.now s.new }
+        ensures rest { IsAtRest self.now.table s.new }
         ensures same { SamePass s.old s.new }
         ensures held { SameHeld s.old.view.held s.new.view.held }
         ensures told { AnswersAct self.now line (M.act maker.old) (act_answer result) s.old.view
@@ -41,7 +41,10 @@ impl<'m> World<'m> {
     {
         match self.make_next(rt, s, head, maker, steps) {
             Ok(root) => match self.finish(s, nothing_kept(), line, &maker.act(), root) {
-                Ok(n) => EditAnswer::Done { n },
+                Ok(Committed { n, fallen }) => {
+                    self.give_root(rt, s, fallen, steps);
+                    EditAnswer::Done { n }
+                }
                 Err(SureRefused::LogFull { root }) => {
                     self.give_root(rt, s, root, steps);
                     EditAnswer::LogFull
@@ -63,11 +66,11 @@ impl<'m> World<'m> {
         maker: &mut M,
         steps: &mut Steps<L>,
     ) -> EditAnswer
-        requires rest { IsAtRest self.now s.old }
-        requires maker { IsMaker self.now (M.models maker.old) (M.act maker.old) }
+        requires rest { IsAtRest self.now.table s.old }
+        requires maker { IsMaker self.now.table (M.models maker.old) (M.act maker.old) }
         requires room { number_of_trees s.old.view.held ≤ 3902 }
         requires recalls { M.recalls maker.old s.old.view.held }
-        ensures rest { IsAtRest self.now s.new }
+        ensures rest { IsAtRest self.now.table s.new }
         ensures same { SamePass s.old s.new }
         ensures held { SameHeld s.old.view.held s.new.view.held }
         ensures told { AnswersAct self.now line (M.act maker.old) (act_answer result) s.old.view

@@ -1,11 +1,11 @@
 // A session takes the log's turn, and gives it back.
-ghost use Rattle.std.specs.Prelude.{◌≡◌, ◌≤◌, ◌^◌, None, IfOk, IfErr};
+ghost use Rattle.std.specs.Prelude.{◌≡◌, ◌≤◌, ◌^◌, IfOk, IfErr};
 ghost use Rattle.history_model.specs.Logs.{FitsWorld};
 ghost use Rattle.node_shapes.specs.Weights.{number_of_trees};
 ghost use Rattle.table_rule.specs.LogTelling.{number_seen, seen_has};
 ghost use Rattle.node_table.specs.LogChanges.{HasOpenTarget};
 ghost use Rattle.node_table.specs.Seen.{SamePass};
-ghost use Rattle.version_log.specs.Commits.{AppendsNext};
+ghost use Rattle.version_log.specs.Falling.{CommitsNext};
 ghost use Rattle.version_log.specs.Finishing.{RefusesFinish};
 ghost use Rattle.version_log.specs.Roots.{GetsRoot, HoldsRootOf};
 ghost use Rattle.version_log.specs.Seeing.{LooksOn};
@@ -20,23 +20,11 @@ use std::sync::Wait;
 use std::sync::ledger::Ledger;
 use version_log::{Ahead, Committed, SureRefused};
 
-// The number of a record behind which no version fell out.
-pub(crate) fn number_alone(committed: Committed) -> u32
-    requires { committed.fallen ≡ None }
-    ensures { result ≡ committed.n }
-{
-    let Committed { n, fallen } = committed;
-    match fallen {
-        None => n,
-        Some(_) => unreachable!(),
-    }
-}
-
 impl<'m> World<'m> {
     // Waits for the log's turn: no other session commits until it goes back.
     pub(crate) fn take<R: Wait>(&self, rt: &R, s: &mut Session)
-        requires rest { IsAtRest self.now s.old }
-        ensures turn { HasLog self.now s.new }
+        requires rest { IsAtRest self.now.table s.old }
+        ensures turn { HasLog self.now.table s.new }
         ensures same { SamePass s.old s.new }
         ensures looks { LooksOn s.old.view s.new.view }
         ensures held { s.new.view.held ≡ s.old.view.held }
@@ -46,8 +34,8 @@ impl<'m> World<'m> {
 
     // The turn goes back, at this length of the history.
     pub(crate) fn leave(&self, s: &mut Session) -> u32
-        requires turn { HasLog self.now s.old }
-        ensures rest { IsAtRest self.now s.new }
+        requires turn { HasLog self.now.table s.old }
+        ensures rest { IsAtRest self.now.table s.new }
         ensures same { SamePass s.old s.new }
         ensures seen { session_seen s.new.view ≡ session_seen s.old.view }
         ensures held { s.new.view.held ≡ s.old.view.held }
@@ -58,7 +46,8 @@ impl<'m> World<'m> {
         at
     }
 
-    // Appends the act with this root, and the turn goes back. All versions are kept.
+    // Appends the act with this root, and the turn goes back. The share of the root of the version
+    // that fell out then is handed over.
     pub(crate) fn finish(
         &self,
         s: &mut Session,
@@ -66,22 +55,23 @@ impl<'m> World<'m> {
         line: u32,
         act: &Act,
         root: Option<Share>,
-    ) -> Result<u32, SureRefused>
-        requires turn { HasLog self.now s.old }
+    ) -> Result<Committed, SureRefused>
+        requires turn { HasLog self.now.table s.old }
         requires room { number_of_trees s.old.view.held ≤ 4095 }
-        requires fits { FitsWorld (2 ^ self.now.plan.side) self.now.models act.now }
+        requires fits { FitsWorld (2 ^ self.now.table.plan.side) self.now.table.models act.now }
         requires target { HasOpenTarget s.old.view act.now }
         requires known { KnowsNext s.old.view.log.seen.records act.now ahead }
         requires made { IsMadeNow s.old.view act.now root }
-        ensures rest { IsAtRest self.now s.new }
+        ensures rest { IsAtRest self.now.table s.new }
         ensures same { SamePass s.old s.new }
-        ensures appends { IfOk result (λ n. AppendsNext s.old.view line act.now root n s.new.view) }
+        ensures commits { IfOk result
+            (λ c. CommitsNext s.old.view self.now.keep line act.now root c s.new.view) }
         ensures refused { IfErr result (λ e. RefusesFinish root e s.new.view) }
         ensures seen { IfErr result (λ e. session_seen s.new.view ≡ session_seen s.old.view) }
         ensures kept { IfErr result (λ e. s.new.view.held ≡ s.old.view.held) }
     {
-        match version_log::finish(&self.table, s, ahead, line, act, root, 0) {
-            Ok(committed) => Ok(number_alone(committed)),
+        match version_log::finish(&self.table, s, ahead, line, act, root, self.keep) {
+            Ok(committed) => Ok(committed),
             Err(refused) => Err(refused),
         }
     }
@@ -93,9 +83,9 @@ impl<'m> World<'m> {
         s: &mut Session,
         steps: &mut Steps<L>,
     ) -> Option<Share>
-        requires turn { HasLog self.now s.old }
+        requires turn { HasLog self.now.table s.old }
         requires room { number_of_trees s.old.view.held ≤ 4095 }
-        ensures turn { HasLog self.now s.new }
+        ensures turn { HasLog self.now.table s.new }
         ensures same { SamePass s.old s.new }
         ensures looks { LooksOn s.old.view s.new.view }
         ensures root { HoldsRootOf s.new.view result

@@ -19,7 +19,7 @@ use node_words::{Share, Steps};
 use session_runs::ActAnswer;
 use std::sync::Wait;
 use std::sync::ledger::Ledger;
-use version_log::{Ahead, SureRefused};
+use version_log::{Ahead, Committed, SureRefused};
 
 // The root of the version that an undo or a redo goes to, and what was looked up of where the
 // history stands then.
@@ -47,10 +47,10 @@ impl<'m> World<'m> {
         act: &Act,
         steps: &mut Steps<L>,
     ) -> Result<Way, ActAnswer>
-        requires turn { HasLog self.now s.old }
+        requires turn { HasLog self.now.table s.old }
         requires other { is_edit act.now ≡ false }
         requires room { number_of_trees s.old.view.held ≤ 4095 }
-        ensures turn { HasLog self.now s.new }
+        ensures turn { HasLog self.now.table s.new }
         ensures same { SamePass s.old s.new }
         ensures looks { LooksOn s.old.view s.new.view }
         ensures gains { IfOk result (λ w. GetsRoot s.old.view.held w.root s.new.view.held) }
@@ -89,10 +89,10 @@ impl<'m> World<'m> {
         act: &Act,
         steps: &mut Steps<L>,
     ) -> ActAnswer
-        requires rest { IsAtRest self.now s.old }
+        requires rest { IsAtRest self.now.table s.old }
         requires other { is_edit act.now ≡ false }
         requires room { number_of_trees s.old.view.held ≤ 3900 }
-        ensures rest { IsAtRest self.now s.new }
+        ensures rest { IsAtRest self.now.table s.new }
         ensures same { SamePass s.old s.new }
         ensures held { SameHeld s.old.view.held s.new.view.held }
         ensures told { AnswersAct self.now line act.now result s.old.view s.new.view }
@@ -100,7 +100,10 @@ impl<'m> World<'m> {
         self.take(rt, s);
         match self.find_way(rt, s, act, steps) {
             Ok(Way { root, ahead }) => match self.finish(s, ahead, line, act, root) {
-                Ok(n) => ActAnswer::Done { n },
+                Ok(Committed { n, fallen }) => {
+                    self.give_root(rt, s, fallen, steps);
+                    ActAnswer::Done { n }
+                }
                 Err(SureRefused::LogFull { root }) => {
                     self.give_root(rt, s, root, steps);
                     ActAnswer::LogFull

@@ -1,7 +1,8 @@
-ghost use Rattle.std.specs.Prelude.{◌≡◌, ◌↔◌, ◌^◌, IsTrue};
-ghost use Rattle.history_model.specs.Logs.{FitsWorld};
+ghost use Rattle.std.specs.Prelude.{◌≡◌, ◌↔◌, IsTrue, false};
+ghost use Rattle.history_model.specs.Logs.{suits_tints};
 ghost use Rattle.hands.specs.Lendable.{IsLendable};
 ghost use Rattle.hands.specs.Lent.{IsHandOf};
+ghost use Rattle.session.specs.Seen.{IsActOf};
 
 use hands::{DrawnModel, Hand};
 use history_model::Act;
@@ -15,49 +16,57 @@ pub type Session = Pass;
 
 /// A world that many sessions edit and read at the same time, and its models as stencils.
 ///
-/// Contracts see it as its table, which has its models too.
+/// Contracts see it as its table, which has its models too, and as how many last versions alone it
+/// holds, or 0 for all.
 #[derive(Drop)]
 pub struct World<'m> {
     pub(crate) table: NodeTable,
     pub(crate) drawn: Vec<DrawnModel<'m>>,
     pub(crate) models: &'m Models,
+    pub(crate) keep: u32,
 }
 
 impl<'m> Model for World<'m> {
     ghost use Rattle.std.specs.Coded.{codes};
     ghost use Rattle.std.specs.Prelude.{◌≡◌};
     ghost use Rattle.atomic_table.specs.Seated.{table_id_coded};
-    ghost use Rattle.node_table.specs.Seen.{TableSeen};
+    ghost use Rattle.session.specs.Seen.{WorldSeen};
 
-    ghost Value = { TableSeen };
+    ghost Value = { WorldSeen };
 
     ghost coded = { Prim.hlevel (codes, table_id_coded) };
 
-    ghost view = { λ w. w.table };
+    ghost view = { λ w. record { table = w.table; keep = w.keep } };
 
     ghost invariant = { λ w. (w.drawn.items ≡ w.table.models) × (w.models.now ≡ w.table.models) };
+}
+
+fn is_plain(act: &Act) -> bool
+    ensures { result ≡ suits_tints false act.now }
+{
+    !matches!(act, Act::Tint(_))
 }
 
 impl<'m> World<'m> {
     /// How the world is laid out.
     pub fn plan(&self) -> Plan
-        ensures value { result ≡ self.now.plan }
+        ensures value { result ≡ self.now.table.plan }
     {
         self.table.plan()
     }
 
-    /// Whether the act lies in this world, and its model is one of the world's.
+    /// Whether the act lies in this world, its model is one of the world's, and it has no tint.
     pub fn fits(&self, act: &Act) -> bool
-        ensures { IsTrue result ↔ FitsWorld (2 ^ self.now.plan.side) self.now.models act.now }
+        ensures { IsTrue result ↔ IsActOf self.now act.now }
     {
-        act.fits(self.table.plan().side(), self.models)
+        is_plain(act) && act.fits(self.table.plan().side(), self.models)
     }
 
-    /// The session as a store of nodes, for as long as the hand lives. With `()` to wait with it can
-    /// be read, and with a runtime that waits edited too.
+    /// The session as a store of nodes, for as long as the hand lives. With `()` to wait with it
+    /// can be read, and with a runtime that waits edited too.
     pub fn hand<'a, R>(&'a self, rt: &'a R, s: &'a mut Session) -> Hand<'a, R>
-        requires ready { IsLendable self.now s.old }
-        ensures { IsHandOf self.now s.entry result }
+        requires ready { IsLendable self.now.table s.old }
+        ensures { IsHandOf self.now.table s.entry result }
     {
         Hand::new(rt, &self.table, s)
     }

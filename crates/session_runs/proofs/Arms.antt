@@ -1,5 +1,5 @@
 -- What each call of a session makes of the line that it answers.
-use Rattle.std.proofs.Common.{◌≡◌, ℕ, ◌<◌, ◌≤◌, ◌⊎◌, Bool, true, Some, List, [], ◌++◌, length, refl, ap, sym, subst, ◌∙◌, inl, inr, arith}
+use Rattle.std.proofs.Common.{◌≡◌, ℕ, ◌<◌, ◌≤◌, ◌⊎◌, ◌^◌, Bool, true, Some, List, [], ◌++◌, length, refl, ap, sym, subst, ◌∙◌, inl, inr, arith}
 use Rattle.std.specs.Prelude.{All}
 use Rattle.std.specs.List.{Contains}
 use Rattle.std.proofs.lemmas.Bool.{false≢true}
@@ -20,11 +20,12 @@ use Rattle.conformance.specs.Answers.{Answers, IsForgotten, IsReadable, HasWay, 
 use Rattle.conformance.specs.Kinds.{is_resting, answer_at}
 use Rattle.conformance.specs.Passes.{IsLooked}
 use Rattle.conformance.specs.Refusing.{Refusal, refused_by}
-use Rattle.conformance.specs.Shown.{accepted_by, forgotten_by}
+use Rattle.conformance.specs.Shown.{Accepted, accepted_by, forgotten_by}
 use Rattle.conformance.proofs.LineKinds.{resting_not_done, resting_accepts, resting_forgets}
 use Rattle.script_runs.specs.Keeping.{MakesFor, WasMet}
 use Rattle.script_runs.proofs.Arms.{sought_low}
-use Rattle.session_runs.specs.Seen.{of_session, SessionSeen}
+use Rattle.session_runs.specs.Seen.{session_keeping, SessionSeen, SeesPlain}
+use Rattle.session_runs.specs.Fallen.{LineMarks}
 use Rattle.session_runs.specs.Notes.{LineNotes}
 use Rattle.session_runs.specs.Lines.{AreEarlier, AnswersLine}
 use Rattle.session_runs.specs.Calls.{KnowsOwn, AcceptsNothing, OnlySees, AppendsOwn, ForgetsOwn, NotesFor, MeetsFullBucket, FindsVersion, SeesForgotten}
@@ -58,7 +59,7 @@ full_notes p models act once line level bucket old new m =
           All-cons (WasMet p models new.log.records n.further) (record { act = act; at = length new.log.records; level = level; bucket = bucket }) []
           (record {
             shape = m.shape;
-            is_met = record { edit = m.edit; part = m.part; canonical = m.sought.canonical; some = m.sought.some; of_bucket = sym m.sought.bucket_is };
+            is_met = record { wanted = m.wanted; canonical = m.sought.canonical; some = m.sought.some; of_bucket = sym m.sought.bucket_is };
             listed = m.listed;
             there = omega arith;
           }) (All-nil (WasMet p models new.log.records n.further));
@@ -77,9 +78,9 @@ idle_notes p models l a old new none same = record {
 
 -- ---- lines that accept something
 
-pub accepted_arm : (p : Layout) (models : List Content) (session line : ℕ) (act : Act) (once : Bool) (old new : SessionSeen) → AppendsOwn session line act old new → NotesFor p models act old new
-    → AnswersLine (of_session p models session) (record { line = line; command = Edit act once }) old new (record { line = line; at = length new.log.records; answer = answers.Done })
-accepted_arm p models session line act once old new appends notes = record {
+pub accepted_arm : (keep : ℕ) (p : Layout) (models : List Content) (session line : ℕ) (act : Act) (once : Bool) (old new : SessionSeen) → AppendsOwn keep session line act old new → NotesFor p models act old new
+    → AnswersLine (session_keeping keep p models session) (record { line = line; command = Edit act once }) old new (record { line = line; at = length new.log.records; answer = answers.Done })
+accepted_arm keep p models session line act once old new appends notes = record {
   same_line = refl;
   newest = refl;
   goes_on = appends.sees.goes_on;
@@ -88,13 +89,13 @@ accepted_arm p models session line act once old new appends notes = record {
   found = appends.sees.found;
   records = appends.records;
   marks = appends.marks;
-  fits = done act once appends.last;
+  fits = λ plain. done act once appends.last;
   notes = act_notes p models act once line answers.Done old new refl notes;
 }
 
-pub forgot_arm : (p : Layout) (models : List Content) (session line version : ℕ) (old new : SessionSeen) → ForgetsOwn session line version old new
-    → AnswersLine (of_session p models session) (record { line = line; command = Forget version }) old new (record { line = line; at = length new.log.records; answer = answers.Forgot version })
-forgot_arm p models session line version old new forgets = record {
+pub forgot_arm : (keep : ℕ) (p : Layout) (models : List Content) (session line version : ℕ) (old new : SessionSeen) → ForgetsOwn session line version old new
+    → AnswersLine (session_keeping keep p models session) (record { line = line; command = Forget version }) old new (record { line = line; at = length new.log.records; answer = answers.Forgot version })
+forgot_arm keep p models session line version old new forgets = record {
   same_line = refl;
   newest = refl;
   goes_on = forgets.sees.goes_on;
@@ -103,7 +104,7 @@ forgot_arm p models session line version old new forgets = record {
   found = forgets.sees.found;
   records = forgets.records;
   marks = forgets.marks;
-  fits = forgot version forgets.listed;
+  fits = λ plain. forgot version forgets.listed;
   notes = idle_notes p models (record { line = line; command = Forget version }) (record { line = line; at = length new.log.records; answer = answers.Forgot version }) old new refl forgets.noted;
 }
 
@@ -113,9 +114,13 @@ forgot_arm p models session line version old new forgets = record {
 pub same_after : {X : Type 0} (none old new : List X) → none ≡ [] → new ≡ old → new ≡ none ++ old
 same_after {X} none old new e same = subst (λ (xs : List X). new ≡ xs ++ old) (sym e) same
 
-pub full_arm : (p : Layout) (models : List Content) (session line : ℕ) (act : Act) (once : Bool) (level bucket : ℕ) (old new : SessionSeen) → AcceptsNothing old new → MeetsFullBucket p models act level bucket old new
-    → AnswersLine (of_session p models session) (record { line = line; command = Edit act once }) old new (record { line = line; at = length new.log.records; answer = answers.Full level bucket })
-full_arm p models session line act once level bucket old new nothing meets = record {
+-- a line without a record pushes no version out
+no_record : (keep : ℕ) (xs : List Accepted) (were : List Mark) (new : SessionSeen) → xs ≡ [] → new.marks ≡ were → LineMarks keep xs were new
+no_record keep xs were new none same = subst (λ (cs : List Accepted). LineMarks keep cs were new) (sym none) same
+
+pub full_arm : (keep : ℕ) (p : Layout) (models : List Content) (session line : ℕ) (act : Act) (once : Bool) (level bucket : ℕ) (old new : SessionSeen) → AcceptsNothing old new → MeetsFullBucket p models act level bucket old new
+    → AnswersLine (session_keeping keep p models session) (record { line = line; command = Edit act once }) old new (record { line = line; at = length new.log.records; answer = answers.Full level bucket })
+full_arm keep p models session line act once level bucket old new nothing meets = record {
   same_line = refl;
   newest = refl;
   goes_on = nothing.sees.goes_on;
@@ -124,9 +129,9 @@ full_arm p models session line act once level bucket old new nothing meets = rec
   found = nothing.sees.found;
   records = nothing.records;
   marks = nothing.marks;
-  fits =
-      full act once level bucket meets.edit
-      (sought_low p (made_of models new.log.records act (length new.log.records)) meets.part.all (record { level = level; bucket = bucket; shape = meets.shape }) meets.part meets.sought) meets.sought.bucket_in;
+  fits = λ plain.
+      full act once level bucket meets.wanted.edit
+      (sought_low p (made_of (2 ^ p.side) models new.log.records act (length new.log.records) meets.wanted.parts) (record { level = level; bucket = bucket; shape = meets.shape }) meets.wanted.part meets.sought) meets.sought.bucket_in;
   notes = full_notes p models act once line level bucket old new meets;
 }
 
@@ -137,9 +142,9 @@ base_of _ = 0
 same_base : (b c : ℕ) → answers.Stale b ≡ answers.Stale c → b ≡ c
 same_base b c e = ap base_of e
 
-pub stale_arm : (p : Layout) (models : List Content) (session line : ℕ) (act : Act) (base : ℕ) (old new : SessionSeen) → AcceptsNothing old new → NotesFor p models act old new → length old.log.records ≤ base → base < length new.log.records → length new.log.records < 65535
-    → AnswersLine (of_session p models session) (record { line = line; command = Edit act true }) old new (record { line = line; at = length new.log.records; answer = answers.Stale base })
-stale_arm p models session line act base old new nothing notes low high room = record {
+pub stale_arm : (keep : ℕ) (p : Layout) (models : List Content) (session line : ℕ) (act : Act) (base : ℕ) (old new : SessionSeen) → AcceptsNothing old new → NotesFor p models act old new → length old.log.records ≤ base → base < length new.log.records → length new.log.records < 65535
+    → AnswersLine (session_keeping keep p models session) (record { line = line; command = Edit act true }) old new (record { line = line; at = length new.log.records; answer = answers.Stale base })
+stale_arm keep p models session line act base old new nothing notes low high room = record {
   same_line = refl;
   newest = refl;
   goes_on = nothing.sees.goes_on;
@@ -148,14 +153,14 @@ stale_arm p models session line act base old new nothing notes low high room = r
   found = nothing.sees.found;
   records = nothing.records;
   marks = nothing.marks;
-  fits = stale act base high room;
+  fits = λ plain. stale act base high room;
   notes = act_notes p models act true line (answers.Stale base) old new refl notes;
 }
 
-pub refused_arm : (p : Layout) (models : List Content) (session line : ℕ) (act : Act) (once : Bool) (answer : Answer) (old new : SessionSeen) → AcceptsNothing old new → NotesFor p models act old new → is_resting answer ≡ true → refused_by (Edit act once) (length new.log.records) answer ≡ []
-    → Answers p models new.log (IsLooked new.found new.marks line (length new.log.records)) session line (length new.log.records) (Edit act once) answer
-    → AnswersLine (of_session p models session) (record { line = line; command = Edit act once }) old new (record { line = line; at = length new.log.records; answer = answer })
-refused_arm p models session line act once answer old new nothing notes rests none fits = record {
+pub refused_arm : (keep : ℕ) (p : Layout) (models : List Content) (session line : ℕ) (act : Act) (once : Bool) (answer : Answer) (old new : SessionSeen) → AcceptsNothing old new → NotesFor p models act old new → is_resting answer ≡ true → refused_by (Edit act once) (length new.log.records) answer ≡ []
+    → (SeesPlain new → Answers p models new.log (IsLooked new.found new.marks line (length new.log.records)) session line (length new.log.records) (Edit act once) answer)
+    → AnswersLine (session_keeping keep p models session) (record { line = line; command = Edit act once }) old new (record { line = line; at = length new.log.records; answer = answer })
+refused_arm keep p models session line act once answer old new nothing notes rests none fits = record {
   same_line = refl;
   newest = refl;
   goes_on = nothing.sees.goes_on;
@@ -163,14 +168,16 @@ refused_arm p models session line act once answer old new nothing notes rests no
   unseen = λ base e. absurd (false≢true (sym (ap is_resting e) ∙ rests));
   found = nothing.sees.found;
   records = same_after (accepted_by session line (Edit act once) (length new.log.records) answer) old.records new.records (resting_accepts session line (Edit act once) (length new.log.records) answer (resting_not_done answer rests)) nothing.records;
-  marks = same_after (forgotten_by session line (length new.log.records) answer) old.marks new.marks (resting_forgets session line (length new.log.records) answer rests) nothing.marks;
+  marks =
+      no_record keep (accepted_by session line (Edit act once) (length new.log.records) answer) (forgotten_by session line (length new.log.records) answer ++ old.marks) new (resting_accepts session line (Edit act once) (length new.log.records) answer (resting_not_done answer rests))
+      (same_after (forgotten_by session line (length new.log.records) answer) old.marks new.marks (resting_forgets session line (length new.log.records) answer rests) nothing.marks);
   fits = fits;
   notes = act_notes p models act once line answer old new none notes;
 }
 
-pub resting_arm : (p : Layout) (models : List Content) (session : ℕ) (l : ScriptLine) (answer : Answer) (old new : SessionSeen) → OnlySees old new → is_resting answer ≡ true → refused_by l.command (length new.log.records) answer ≡ []
-    → Answers p models new.log (IsLooked new.found new.marks l.line (length new.log.records)) session l.line (length new.log.records) l.command answer → AnswersLine (of_session p models session) l old new (answer_at l (length new.log.records) answer)
-resting_arm p models session l answer old new only rests none fits = record {
+pub resting_arm : (keep : ℕ) (p : Layout) (models : List Content) (session : ℕ) (l : ScriptLine) (answer : Answer) (old new : SessionSeen) → OnlySees old new → is_resting answer ≡ true → refused_by l.command (length new.log.records) answer ≡ []
+    → (SeesPlain new → Answers p models new.log (IsLooked new.found new.marks l.line (length new.log.records)) session l.line (length new.log.records) l.command answer) → AnswersLine (session_keeping keep p models session) l old new (answer_at l (length new.log.records) answer)
+resting_arm keep p models session l answer old new only rests none fits = record {
   same_line = refl;
   newest = refl;
   goes_on = only.nothing.sees.goes_on;
@@ -178,7 +185,9 @@ resting_arm p models session l answer old new only rests none fits = record {
   unseen = λ base e. absurd (false≢true (sym (ap is_resting e) ∙ rests));
   found = only.nothing.sees.found;
   records = same_after (accepted_by session l.line l.command (length new.log.records) answer) old.records new.records (resting_accepts session l.line l.command (length new.log.records) answer (resting_not_done answer rests)) only.nothing.records;
-  marks = same_after (forgotten_by session l.line (length new.log.records) answer) old.marks new.marks (resting_forgets session l.line (length new.log.records) answer rests) only.nothing.marks;
+  marks =
+      no_record keep (accepted_by session l.line l.command (length new.log.records) answer) (forgotten_by session l.line (length new.log.records) answer ++ old.marks) new (resting_accepts session l.line l.command (length new.log.records) answer (resting_not_done answer rests))
+      (same_after (forgotten_by session l.line (length new.log.records) answer) old.marks new.marks (resting_forgets session l.line (length new.log.records) answer rests) only.nothing.marks);
   fits = fits;
   notes = idle_notes p models l (answer_at l (length new.log.records) answer) old new none only.noted;
 }

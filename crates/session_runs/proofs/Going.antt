@@ -1,11 +1,12 @@
 -- A session's run goes on line by line.
-use Rattle.std.proofs.Common.{◌≡◌, ℕ, ◌<◌, ◌≤◌, ◌⊎◌, List, [], ◌∷◌, ◌++◌, length, refl, sym, subst, inl, inr, arith}
-use Rattle.std.specs.Prelude.{All}
+use Rattle.std.proofs.Common.{◌≡◌, ℕ, ◌+◌, ◌<◌, ◌≤◌, ◌⊎◌, true, false, List, [], ◌∷◌, ◌++◌, length, refl, sym, subst, ◌∙◌, inl, inr, arith}
+use Rattle.std.specs.Prelude.{All, sum_by}
 use Rattle.std.specs.List.{AllZip, Contains}
+use Rattle.std.proofs.lemmas.List.Sums.{sum_by-append}
 use Rattle.std.proofs.lemmas.List.Elements.{All-nil, All-cons, All-append, All-contains, All-contains_itself, All-map, All-weaker, Contains-append_left, Contains-push}
 use Rattle.history_model.specs.Contents.{Content}
 use Rattle.history_model.specs.declared.histories.Mark.{Mark}
-use Rattle.history_model.specs.Logs.{Log}
+use Rattle.history_model.specs.Logs.{Log, suits_tints}
 use Rattle.node_words.specs.Plans.{Layout}
 use Rattle.script.specs.declared.commands.ScriptLine.{ScriptLine}
 use Rattle.transcript.specs.declared.answers.Answer.{Answer}
@@ -13,53 +14,88 @@ use Rattle.transcript.specs.declared.answers.Answer.TheVariants as answers
 use Rattle.transcript.specs.declared.answers.LineAnswer.{LineAnswer}
 use Rattle.conformance.specs.Agreeing.{InOrder}
 use Rattle.conformance.specs.Kinds.{IsAfter}
-use Rattle.conformance.specs.Passes.{LineSeen, PassStep, Closes}
+use Rattle.conformance.specs.Passes.{PassStep, Closes}
 use Rattle.conformance.specs.Running.{line_numbers}
-use Rattle.conformance.specs.Shown.{accepted_by, forgotten_by}
-use Rattle.conformance.proofs.Lists.{pairs_nil, same_of, zip_map}
-use Rattle.conformance.proofs.Running.{lines_push}
-use Rattle.conformance.proofs.Seeing.{pass_line, pass_agrees, seen_within, longer}
+use Rattle.script.specs.declared.commands.Command.{Command}
+use Rattle.script.specs.declared.commands.Command.TheVariants.{Edit}
+use Rattle.conformance.specs.Shown.{Accepted, SameItems, accepted_by, accepted_in, forgotten_by, forgotten_in}
+use Rattle.conformance.proofs.Lists.{pairs_nil, pairs_push, same_of, zip_map, zip_push}
+use Rattle.conformance.proofs.Running.{accepted_push, lines_push, forgotten_push}
+use Rattle.conformance.proofs.Seeing.{pass_line, pass_agrees, longer}
 use Rattle.script_runs.specs.Keeping.{MadeAndMet, last_moment}
 use Rattle.script_runs.proofs.Arms.{last_within}
-use Rattle.session_runs.specs.Seen.{of_session, SessionSeen, DidNothing, AllowsWhole}
+use Rattle.session_runs.specs.Seen.{session_keeping, SessionSeen, SeesPlain, DidNothing, AllowsWhole}
 use Rattle.session_runs.specs.Ran.{IsAnswered, SessionRan}
-use Rattle.session_runs.specs.Lines.{AreEarlier, AnswersLine, SessionSoFar}
+use Rattle.session_runs.specs.Lines.{AreEarlier, AnswersLine, IsPlainCommand, SessionSoFar}
+use Rattle.session_runs.specs.Fallen.{IsFallen}
+use Rattle.session_runs.proofs.Fallen.{Grown, line_grows, fallen_is_of, none_own, own_more}
 use Rattle.session_runs.proofs.Items.{own_listed, same_first}
+use Rattle.session_runs.proofs.PlainLaws.{accepted_plain, plain_before}
 use Rattle.session_runs.proofs.SavedSeen.{saves_seen}
 use Rattle.session_runs.proofs.Noting.{line_notes_from, notes_push, notes_stay}
 
-pub begins : (p : Layout) (models : List Content) (session : ℕ) (s : SessionSeen) → DidNothing s → SessionSoFar (of_session p models session) [] [] s.noted s
-begins p models session s idle = record {
-  pass = record { lines = tt; moments = pairs_nil InOrder; accepted = same_of s.records [] idle.records; marks = same_of s.marks [] idle.marks };
+pub begins : (keep : ℕ) (p : Layout) (models : List Content) (session : ℕ) (s : SessionSeen) → DidNothing s → SessionSoFar (session_keeping keep p models session) [] [] s.noted s
+begins keep p models session s idle = record {
+  lines = tt;
+  moments = pairs_nil InOrder;
+  accepted = same_of s.records [] idle.records;
+  plain = subst (λ (cs : List Accepted). All (λ c. suits_tints false c.entry.act ≡ true) cs) (sym idle.records) (All-nil _);
+  marks = none_own keep s idle.records idle.marks;
   by = subst (λ (ms : List Mark). All (λ m. Contains (line_numbers []) m.line) ms) (sym idle.marks) (All-nil _);
+  pass = λ plain. record { lines = tt; moments = pairs_nil InOrder; accepted = same_of s.records [] idle.records };
   notes = refl;
 }
 
-pub are_earlier : (p : Layout) (models : List Content) (session : ℕ) (script : List ScriptLine) (answers : List LineAnswer) (before : MadeAndMet) (s : SessionSeen) (l : ScriptLine) → SessionSoFar (of_session p models session) script answers before s → IsAfter script l → AreEarlier s l.line
-are_earlier p models session script answers before s l so_far rising =
+pub are_earlier : (keep : ℕ) (p : Layout) (models : List Content) (session : ℕ) (script : List ScriptLine) (answers : List LineAnswer) (before : MadeAndMet) (s : SessionSeen) (l : ScriptLine) → SessionSoFar (session_keeping keep p models session) script answers before s → IsAfter script l → AreEarlier s l.line
+are_earlier keep p models session script answers before s l so_far rising =
     All-weaker (λ (m : Mark). Contains (line_numbers script) m.line) (λ (m : Mark). m.line < l.line)
     (λ m here. All-contains (λ (n : ℕ). n < l.line) (line_numbers script) m.line (All-map (λ (n : ℕ). n < l.line) (λ (k : ScriptLine). k.line) script rising) here) s.marks so_far.by
 
 -- each line was answered at a moment that was seen
-seen_answered : (p : Layout) (models : List Content) (session : ℕ) (s : SessionSeen) (script : List ScriptLine) (answers : List LineAnswer) → AllZip (LineSeen p models s.log s.found s.marks session) script answers → AllZip (IsAnswered (length s.log.records)) script answers
-seen_answered p models session s script answers all =
-    zip_map (LineSeen p models s.log s.found s.marks session) (IsAnswered (length s.log.records)) (λ _. Unit {0}) script answers (λ i d lt. tt)
-    (λ k b _ fits. record { same_line = fits.same_line; within = fits.within }) all
+answered_within : (n : ℕ) (script : List ScriptLine) (answers : List LineAnswer) → AllZip (IsAnswered n) script answers → All (λ a. a.at ≤ n) answers
+answered_within n [] [] all = All-nil _
+answered_within n [] (a ∷ answers) all = absurd all
+answered_within n (l ∷ script) [] all = absurd all
+answered_within n (l ∷ script) (a ∷ answers) all = All-cons (λ b. b.at ≤ n) a answers all.0.within (answered_within n script answers all.1)
+
+answered_later : (m n : ℕ) (script : List ScriptLine) (answers : List LineAnswer) → m ≤ n → AllZip (IsAnswered m) script answers → AllZip (IsAnswered n) script answers
+answered_later m n script answers le all =
+    zip_map (IsAnswered m) (IsAnswered n) (λ _. Unit {0}) script answers (λ i d lt. tt)
+    (λ k b _ is. (let within = is.within in record { same_line = is.same_line; within = omega arith })) all
+
+both_weigh : {X : Type 0} (f : X → ℕ) (xs ys zs all : List X) → sum_by f xs ≡ sum_by f zs → sum_by f all ≡ sum_by f zs + sum_by f ys → sum_by f (xs ++ ys) ≡ sum_by f all
+both_weigh f xs ys zs all a b = (let c = sum_by-append f xs ys in omega arith)
+
+-- the records of a line are of the line
+accepted_of_line : (session line : ℕ) (command : Command) (n : ℕ) (answer : Answer) → All (λ (c : Accepted). c.entry.line ≡ line) (accepted_by session line command n answer)
+accepted_of_line session line (Edit act once) n answers.Done = All-cons (λ (c : Accepted). c.entry.line ≡ line) _ [] refl (All-nil (λ (c : Accepted). c.entry.line ≡ line))
+accepted_of_line session line (Edit act once) n _ = All-nil (λ (c : Accepted). c.entry.line ≡ line)
+accepted_of_line session line _ n answer = All-nil (λ (c : Accepted). c.entry.line ≡ line)
 
 -- a mark that the line forgot a version by is of the line
 forgotten_of_line : (session line n : ℕ) (answer : Answer) → All (λ (m : Mark). m.line ≡ line) (forgotten_by session line n answer)
 forgotten_of_line session line n (answers.Forgot v) = All-cons (λ (m : Mark). m.line ≡ line) _ [] refl (All-nil (λ (m : Mark). m.line ≡ line))
 forgotten_of_line session line n _ = All-nil (λ (m : Mark). m.line ≡ line)
 
-module _ (p : Layout) (models : List Content) (session : ℕ) (l : ScriptLine) (old new : SessionSeen) (a : LineAnswer) (step : AnswersLine (of_session p models session) l old new a) where
+module _ (keep : ℕ) (p : Layout) (models : List Content) (session : ℕ) (l : ScriptLine) (old new : SessionSeen) (a : LineAnswer) (step : AnswersLine (session_keeping keep p models session) l old new a) where
+  -- a mark of a version that fell out is of the line
+  fallen_of_line : (m : Mark) → IsFallen keep (accepted_by session l.line l.command a.at a.answer) m → m.line ≡ l.line
+  fallen_of_line m f =
+      let is = fallen_is_of keep (accepted_by session l.line l.command a.at a.answer) m f in
+      is.2 ∙ All-contains (λ (c : Accepted). c.entry.line ≡ l.line) (accepted_by session l.line l.command a.at a.answer) f.by (accepted_of_line session l.line l.command a.at a.answer) f.listed
+
   own_or_new : All (λ m. (Contains old.marks m) ⊎ (m.line ≡ l.line)) new.marks
   own_or_new =
-      subst (λ (ms : List Mark). All (λ m. (Contains old.marks m) ⊎ (m.line ≡ l.line)) ms) (sym step.marks)
+      let grown : Grown keep (accepted_by session l.line l.command a.at a.answer) (forgotten_by session l.line a.at a.answer ++ old.marks) new.marks =
+      line_grows keep (accepted_by session l.line l.command a.at a.answer) (forgotten_by session l.line a.at a.answer ++ old.marks) new step.marks in
+      subst (λ (ms : List Mark). All (λ m. (Contains old.marks m) ⊎ (m.line ≡ l.line)) ms) (sym grown.is)
+      (All-append (λ (m : Mark). (Contains old.marks m) ⊎ (m.line ≡ l.line)) grown.fallen (forgotten_by session l.line a.at a.answer ++ old.marks)
+      (All-weaker (IsFallen keep (accepted_by session l.line l.command a.at a.answer)) (λ (m : Mark). (Contains old.marks m) ⊎ (m.line ≡ l.line)) (λ m f. inr (fallen_of_line m f)) grown.fallen grown.each)
       (All-append (λ (m : Mark). (Contains old.marks m) ⊎ (m.line ≡ l.line)) (forgotten_by session l.line a.at a.answer) old.marks
-      (All-weaker (λ (m : Mark). m.line ≡ l.line) (λ (m : Mark). (Contains old.marks m) ⊎ (m.line ≡ l.line)) (λ m e. inr e) (forgotten_by session l.line a.at a.answer) (forgotten_of_line session l.line a.at a.answer)) (λ i d lt. inl (All-contains_itself old.marks i d lt)))
+      (All-weaker (λ (m : Mark). m.line ≡ l.line) (λ (m : Mark). (Contains old.marks m) ⊎ (m.line ≡ l.line)) (λ m e. inr e) (forgotten_by session l.line a.at a.answer) (forgotten_of_line session l.line a.at a.answer)) (λ i d lt. inl (All-contains_itself old.marks i d lt))))
 
-  pass_step : PassStep p models session l old.log new.log old.found new.found old.records new.records old.marks new.marks a
-  pass_step =
+  pass_step : SeesPlain new → PassStep p models session l old.log new.log old.found new.found old.records new.records old.marks new.marks a
+  pass_step plain =
       let wide = longer old.log new.log step.goes_on in
       let at = step.newest in
       record {
@@ -69,44 +105,64 @@ module _ (p : Layout) (models : List Content) (session : ℕ) (l : ScriptLine) (
         no_earlier = omega arith;
         later = step.later;
         unseen = step.unseen;
-        fits = record { same_line = step.same_line; within = omega arith; answers = step.fits };
+        fits = record { same_line = step.same_line; within = omega arith; answers = step.fits plain };
         accepted = same_first new.records (accepted_by session l.line l.command a.at a.answer) old.records step.records;
-        marks = same_first new.marks (forgotten_by session l.line a.at a.answer) old.marks step.marks;
       }
 
-pub goes_on : (p : Layout) (models : List Content) (session : ℕ) (script : List ScriptLine) (answers : List LineAnswer) (before : MadeAndMet) (old new : SessionSeen) (l : ScriptLine) (a : LineAnswer) → SessionSoFar (of_session p models session) script answers before old → IsAfter script l
-    → AnswersLine (of_session p models session) l old new a → SessionSoFar (of_session p models session) (script ++ l ∷ []) (answers ++ a ∷ []) before new
-goes_on p models session script answers before old new l a so_far rising step =
-    let within = seen_within p models old.log old.found old.marks session script answers so_far.pass.lines in
+pub goes_on : (keep : ℕ) (p : Layout) (models : List Content) (session : ℕ) (script : List ScriptLine) (answers : List LineAnswer) (before : MadeAndMet) (old new : SessionSeen) (l : ScriptLine) (a : LineAnswer) → SessionSoFar (session_keeping keep p models session) script answers before old → IsAfter script l → IsPlainCommand l.command
+    → AnswersLine (session_keeping keep p models session) l old new a → SessionSoFar (session_keeping keep p models session) (script ++ l ∷ []) (answers ++ a ∷ []) before new
+goes_on keep p models session script answers before old new l a so_far rising plainly step =
+    let within = answered_within (length old.log.records) script answers so_far.lines in
     let low = last_within (length old.log.records) 0 answers within (omega arith) in
+    let wide = longer old.log new.log step.goes_on in
+    let at = step.newest in
+    let now : SameItems new.records (old.records ++ accepted_by session l.line l.command a.at a.answer) = same_first new.records (accepted_by session l.line l.command a.at a.answer) old.records step.records in
     record {
-      pass = pass_line p models session script answers l old.log new.log old.found new.found old.records new.records old.marks new.marks a so_far.pass rising (pass_step p models session l old new a step);
+      lines =
+          zip_push (IsAnswered (length new.log.records)) script answers l a (answered_later (length old.log.records) (length new.log.records) script answers wide so_far.lines)
+          (record { same_line = step.same_line; within = omega arith });
+      moments =
+          pairs_push InOrder answers a so_far.moments
+          (All-weaker (λ b. b.at ≤ length old.log.records) (λ b. InOrder b a)
+          (λ b le. record { no_earlier = omega arith; later = λ e. (let so = step.later e in omega arith); unseen = λ base e. (let so = step.unseen base e in omega arith) }) answers within);
+      accepted = record {
+        weighs = λ f. now.weighs f
+            ∙ both_weigh f old.records (accepted_by session l.line l.command a.at a.answer) (accepted_in session script answers) (accepted_in session (script ++ l ∷ []) (answers ++ a ∷ [])) (so_far.accepted.weighs f) (accepted_push (IsAnswered (length old.log.records)) f session script answers l a so_far.lines);
+      };
+      plain =
+          subst (λ (cs : List Accepted). All (λ c. suits_tints false c.entry.act ≡ true) cs) (sym step.records)
+          (All-append (λ (c : Accepted). suits_tints false c.entry.act ≡ true) (accepted_by session l.line l.command a.at a.answer) old.records (accepted_plain session l.line l.command a.at a.answer plainly) so_far.plain);
+      marks =
+          own_more keep old new (accepted_by session l.line l.command a.at a.answer) (forgotten_in session script answers) (forgotten_by session l.line a.at a.answer) (forgotten_in session (script ++ l ∷ []) (answers ++ a ∷ [])) step.records step.goes_on.marks step.marks
+          (λ f. forgotten_push (IsAnswered (length old.log.records)) f session script answers l a so_far.lines) so_far.marks;
       by =
           subst (λ (ns : List ℕ). All (λ m. Contains ns m.line) new.marks) (sym (lines_push script l))
           (All-weaker (λ (m : Mark). (Contains old.marks m) ⊎ (m.line ≡ l.line)) (λ (m : Mark). Contains (line_numbers script ++ l.line ∷ []) m.line)
           (λ m which. elim which [
             | inl was ↦ Contains-append_left (line_numbers script) (l.line ∷ []) m.line (All-contains (λ (n : Mark). Contains (line_numbers script) n.line) old.marks m so_far.by was)
             | inr now ↦ subst (λ (n : ℕ). Contains (line_numbers script ++ l.line ∷ []) n) (sym now) (Contains-push (line_numbers script) l.line)
-          ]) new.marks (own_or_new p models session l old new a step));
+          ]) new.marks (own_or_new keep p models session l old new a step));
+      pass = λ plain. pass_line p models session script answers l old.log new.log old.found new.found old.records new.records old.marks new.marks a (so_far.pass (plain_before old.log new.log step.goes_on plain)) rising (pass_step keep p models session l old new a step plain);
       notes =
           notes_push p models new.log.records 0 script answers before old.noted new.noted l a
-          (notes_stay p models old.log new.log step.goes_on (length old.log.records) 0 script answers before old.noted (omega arith) (seen_answered p models session old script answers so_far.pass.lines) so_far.notes)
+          (notes_stay p models old.log new.log step.goes_on (length old.log.records) 0 script answers before old.noted (omega arith) so_far.lines so_far.notes)
           (line_notes_from p models new.log.records (last_moment 0 answers) (length old.log.records) l a old.noted new.noted low step.notes);
     }
 
 -- at the end each answer fits over every whole history that the session's view allows
-pub ends : (p : Layout) (models : List Content) (session : ℕ) (script : List ScriptLine) (answers : List LineAnswer) (before : MadeAndMet) (s : SessionSeen) → SessionSoFar (of_session p models session) script answers before s → SessionRan (of_session p models session) script answers before s
-ends p models session script answers before s so_far = record {
-  lines = seen_answered p models session s script answers so_far.pass.lines;
-  moments = so_far.pass.moments;
-  fit = λ whole is. (pass_agrees p models session script answers s.log whole s.found s.records s.marks so_far.pass (closes whole is)).lines;
-  records = so_far.pass.accepted;
-  marks = so_far.pass.marks;
+pub ends : (keep : ℕ) (p : Layout) (models : List Content) (session : ℕ) (script : List ScriptLine) (answers : List LineAnswer) (before : MadeAndMet) (s : SessionSeen) → SessionSoFar (session_keeping keep p models session) script answers before s → SessionRan (session_keeping keep p models session) script answers before s
+ends keep p models session script answers before s so_far = record {
+  lines = so_far.lines;
+  moments = so_far.moments;
+  fit = λ whole is. (pass_agrees p models session script answers s.log whole s.found s.records s.marks (so_far.pass (plain_before s.log whole is.goes_on is.plain)) (closes whole is)).lines;
+  records = so_far.accepted;
+  plain = so_far.plain;
+  marks = so_far.marks;
   notes = so_far.notes;
-  saves = saves_seen p models session s script answers so_far.pass.lines;
+  saves = λ plain. saves_seen p models session s script answers (so_far.pass plain).lines;
 }
   where
-    closes : (whole : Log) → AllowsWhole (of_session p models session) s whole → Closes s.log s.found session s.marks whole
+    closes : (whole : Log) → AllowsWhole (session_keeping keep p models session) s whole → Closes s.log s.found session s.marks whole
     closes whole is = record {
       goes_on = is.goes_on;
       excluded = is.found;

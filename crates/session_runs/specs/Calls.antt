@@ -1,19 +1,19 @@
 -- What the calls of a session tell of what it has seen and done.
-use Rattle.std.specs.Prelude.{◌≡◌, ℕ, ◌<◌, ◌≤◌, true, List, ◌∷◌, ◌++◌, length, All}
+use Rattle.std.specs.Prelude.{◌≡◌, ℕ, ◌<◌, ◌≤◌, List, ◌∷◌, ◌++◌, length, All}
 use Rattle.std.specs.List.{Contains}
 use Rattle.history_model.specs.Contents.{Content}
 use Rattle.history_model.specs.declared.acts.Act.{Act}
 use Rattle.history_model.specs.declared.histories.Mark.{Mark}
-use Rattle.history_model.specs.Worlds.{is_edit}
 use Rattle.node_shapes.specs.Shape.{Shape}
 use Rattle.node_words.specs.Held.{Wanted, IsSought}
 use Rattle.node_words.specs.Plans.{Layout}
 use Rattle.block_contents.specs.Versions.{IsUnmarked}
-use Rattle.conformance.specs.Needed.{made_of}
 use Rattle.conformance.specs.Answers.{IsRecordOf, GoesOn, mark_of}
 use Rattle.conformance.specs.Shown.{Accepted}
-use Rattle.script_runs.specs.Keeping.{IsPartOfWorld, MakesPart}
+use Rattle.script_runs.specs.Keeping.{IsWanted, MakesPart}
+use Rattle.versions.specs.Retained.{falls_out}
 use Rattle.session_runs.specs.Seen.{SessionSeen}
+use Rattle.session_runs.specs.Fallen.{PushesOut}
 
 -- of the marks that the session of this number has seen, its own are those that it lists, and each
 -- was made at a length that it has seen
@@ -42,14 +42,16 @@ abbrev pub numbered_change : ℕ → ℕ → ℕ → Act → Accepted
 numbered_change n session line act = record
     { at = n; entry = record { session = session; line = line; act = act } }
 
--- its change became the newest record
-pub record AppendsOwn (session line : ℕ) (act : Act) (old new : SessionSeen) : Type 0 where
+-- its change became the newest record, and the version that falls out of the last `keep` then has
+-- a mark
+pub record AppendsOwn (keep session line : ℕ) (act : Act) (old new : SessionSeen) : Type 0 where
   pub sees : FollowsHistory old new
   pub longer : length old.log.records < length new.log.records
   pub last : IsRecordOf new.log.records (length new.log.records) session line act
   pub records : new.records ≡ numbered_change (length new.log.records) session line act
       ∷ old.records
-  pub marks : new.marks ≡ old.marks
+  pub marks : PushesOut (falls_out (length new.log.records) keep)
+      (numbered_change (length new.log.records) session line act) old.marks new
 
 -- it forgot a version, at the length that it has seen
 pub record ForgetsOwn (session line version : ℕ) (old new : SessionSeen) : Type 0 where
@@ -59,9 +61,8 @@ pub record ForgetsOwn (session line version : ℕ) (old new : SessionSeen) : Typ
   pub listed : Contains new.log.marks (mark_of version (length new.log.records) session line)
   pub noted : new.noted ≡ old.noted
 
--- each shape that was made or wanted of a full bucket for the act is a part of what the act makes
--- of a version between the lengths that were seen before and after; so for an undo or a redo there
--- is none
+-- each shape that was made or wanted of a full bucket is one that the act wants of a version
+-- between the lengths that were seen before and after; so for an undo or a redo there is none
 pub record NotesFor (p : Layout) (models : List Content) (act : Act)
     (old new : SessionSeen) : Type 0 where
   pub more : List Shape
@@ -73,16 +74,15 @@ pub record NotesFor (p : Layout) (models : List Content) (act : Act)
   pub wanted : All (λ w. MakesPart p models new.log.records act (length old.log.records)
       (length new.log.records) w.shape) further
 
--- and one that was wanted of this full bucket is a part of what the act makes of the newest version
+-- and one that was wanted of this full bucket is one that the act wants of the newest version
 pub record MeetsFullBucket (p : Layout) (models : List Content) (act : Act) (level bucket : ℕ)
     (old new : SessionSeen) : Type 0 where
-  pub edit : is_edit act ≡ true
   pub notes : NotesFor p models act old new
   pub shape : Shape
   pub listed : Contains notes.further
       (record { level = level; bucket = bucket; shape = shape })
   pub sought : IsSought p (record { level = level; bucket = bucket; shape = shape })
-  pub part : IsPartOfWorld p (made_of models new.log.records act (length new.log.records)) shape
+  pub wanted : IsWanted p models new.log.records act (length new.log.records) shape
 
 -- the version is there, and was found without a mark at the length that was seen
 pub record FindsVersion (s : SessionSeen) (version : ℕ) : Type 0 where

@@ -1,5 +1,6 @@
 pub mod Seen
 pub mod Notes
+pub mod Fallen
 pub mod Ran
 pub mod Runs
 pub mod Kept

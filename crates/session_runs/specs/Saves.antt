@@ -6,7 +6,7 @@ use Rattle.script.specs.declared.commands.ScriptLine.{ScriptLine}
 use Rattle.conformance.specs.declared.saves.SavedBox.{SavedBox}
 use Rattle.conformance.specs.Answers.{asked_version}
 use Rattle.session_runs.specs.declared.calls.SavedAt.{SavedAt}
-use Rattle.version_answers.specs.declared.refusals.PinRefused.{PinRefused}
+use Rattle.versions.specs.declared.refusals.PinRefused.{PinRefused}
 
 -- 1 where the command is a save
 abbrev pub saves_asked : Command → ℕ

@@ -15,19 +15,21 @@ use Rattle.conformance.specs.Answers.{Answers, GoesOn, IsForgotten, IsReadable, 
 use Rattle.conformance.specs.Kinds.{IsAfter, is_resting, answer_at}
 use Rattle.conformance.specs.Passes.{IsLooked}
 use Rattle.conformance.specs.Refusing.{refused_by}
-use Rattle.conformance.specs.Runs.{AllRan}
+use Rattle.conformance.specs.Runs.{AllRanKeeping}
 use Rattle.script_runs.specs.Keeping.{MadeAndMet}
-use Rattle.session_runs.specs.Seen.{SessionOf, SessionSeen, DidNothing}
-use Rattle.session_runs.specs.Ran.{SessionRan, SessionsRan, ClosesWorld}
-use Rattle.session_runs.specs.Lines.{AreEarlier, AnswersLine, SessionSoFar}
+use Rattle.session_runs.specs.Seen.{SessionOf, SessionSeen, SeesPlain, DidNothing}
+use Rattle.session_runs.specs.Ran.{SessionRan, SessionsRanKeeping, ClosesWorld}
+use Rattle.session_runs.specs.Lines.{AreEarlier, AnswersLine, IsPlainCommand, SessionSoFar}
 use Rattle.session_runs.specs.Calls.{KnowsOwn, AcceptsNothing, OnlySees, AppendsOwn, ForgetsOwn, NotesFor, MeetsFullBucket, FindsVersion, SeesForgotten}
 
--- sessions that ran beside each other in a world that was closed are a run of their scripts
+-- sessions that ran beside each other in a world that was closed are a run of their scripts, which
+-- holds as many last versions as they did
 abbrev pub SessionsAreARun : Type 0
-SessionsAreARun = (p : Layout) (models : List Content) (scripts : List (List ScriptLine))
-    (transcripts : List (List LineAnswer)) (sessions : List SessionSeen) (log : Log)
-    → SessionsRan p models 0 scripts transcripts sessions → ClosesWorld p models sessions log
-    → AllRan p models scripts transcripts log
+SessionsAreARun = (keep : ℕ) (p : Layout) (models : List Content)
+    (scripts : List (List ScriptLine)) (transcripts : List (List LineAnswer))
+    (sessions : List SessionSeen) (log : Log)
+    → SessionsRanKeeping keep p models 0 scripts transcripts sessions
+    → ClosesWorld p models sessions log → AllRanKeeping keep p models scripts transcripts log
 
 -- what a session saw of a version is what the history has
 abbrev pub SeenWorldsStay : Type 0
@@ -51,7 +53,7 @@ abbrev pub SessionsGoOn : Type 0
 SessionsGoOn = (of : SessionOf) (script : List ScriptLine)
     (answers : List LineAnswer) (before : MadeAndMet) (old new : SessionSeen) (l : ScriptLine)
     (a : LineAnswer)
-    → SessionSoFar of script answers before old → IsAfter script l
+    → SessionSoFar of script answers before old → IsAfter script l → IsPlainCommand l.command
     → AnswersLine of l old new a
     → SessionSoFar of (script ++ l ∷ []) (answers ++ a ∷ []) before new
 
@@ -67,7 +69,8 @@ SessionsEnd = (of : SessionOf) (script : List ScriptLine)
 abbrev pub AcceptedActsTakeLines : Type 0
 AcceptedActsTakeLines = (of : SessionOf) (line : ℕ) (act : Act)
     (once : Bool) (old new : SessionSeen)
-    → AppendsOwn of.number line act old new → NotesFor of.plan of.models act old new
+    → AppendsOwn of.keep of.number line act old new
+    → NotesFor of.plan of.models act old new
     → AnswersLine of (record { line = line; command = Edit act once }) old new
     (record { line = line; at = length new.log.records; answer = answers.Done })
 
@@ -75,7 +78,8 @@ AcceptedActsTakeLines = (of : SessionOf) (line : ℕ) (act : Act)
 abbrev pub MetBucketsTakeLines : Type 0
 MetBucketsTakeLines = (of : SessionOf) (line : ℕ) (act : Act)
     (once : Bool) (level bucket : ℕ) (old new : SessionSeen)
-    → AcceptsNothing old new → MeetsFullBucket of.plan of.models act level bucket old new
+    → AcceptsNothing old new
+    → MeetsFullBucket of.plan of.models act level bucket old new
     → AnswersLine of (record { line = line; command = Edit act once }) old new
     (record { line = line; at = length new.log.records; answer = answers.Full level bucket })
 
@@ -96,8 +100,9 @@ RefusedActsTakeLines = (of : SessionOf) (line : ℕ) (act : Act)
     → AcceptsNothing old new → NotesFor of.plan of.models act old new
     → is_resting answer ≡ true
     → refused_by (Edit act once) (length new.log.records) answer ≡ []
-    → Answers of.plan of.models new.log (IsLooked new.found new.marks line (length new.log.records))
-    of.number line (length new.log.records) (Edit act once) answer
+    → (SeesPlain new → Answers of.plan of.models new.log
+    (IsLooked new.found new.marks line (length new.log.records))
+    of.number line (length new.log.records) (Edit act once) answer)
     → AnswersLine of (record { line = line; command = Edit act once }) old new
     (record { line = line; at = length new.log.records; answer = answer })
 
@@ -115,9 +120,9 @@ RestingLinesTakeLines = (of : SessionOf) (l : ScriptLine)
     (answer : Answer) (old new : SessionSeen)
     → OnlySees old new → is_resting answer ≡ true
     → refused_by l.command (length new.log.records) answer ≡ []
-    → Answers of.plan of.models new.log
+    → (SeesPlain new → Answers of.plan of.models new.log
     (IsLooked new.found new.marks l.line (length new.log.records))
-    of.number l.line (length new.log.records) l.command answer
+    of.number l.line (length new.log.records) l.command answer)
     → AnswersLine of l old new (answer_at l (length new.log.records) answer)
 
 -- a version that was found without a mark is readable, and so is the newest one

@@ -1,4 +1,5 @@
--- What each answer of a session's calls tells.
+-- What each answer of a session's calls tells. Of cells it tells those of the world's store, and of
+-- tints that each set one has tint 1.
 use Rattle.std.specs.Prelude.{◌≡◌, ◌⊎◌, ℕ, ◌^◌, ◌<◌, ◌≤◌, Bool, true, false, Option, Some, None, length, Result, Ok, Err}
 use Rattle.std.specs.List.{Contains}
 use Rattle.vw_cell.specs.declared.boxes.Boxed.{Boxed}
@@ -7,8 +8,10 @@ use Rattle.history_model.specs.declared.acts.Act.{Act}
 use Rattle.history_model.specs.declared.acts.Act.TheVariants.{Undo, Redo}
 use Rattle.history_model.specs.declared.histories.Mark.{Mark}
 use Rattle.history_model.specs.declared.questions.Question.{Question}
-use Rattle.history_model.specs.Moments.{world_has}
-use Rattle.history_model.specs.Worlds.{is_edit}
+use Rattle.history_model.specs.Stores.{store_has}
+use Rattle.history_model.specs.Tints.{Tints}
+use Rattle.history_model.specs.Worlds.{World, is_edit}
+use Rattle.node_shapes.specs.Sums.{one_if}
 use Rattle.block_contents.specs.Versions.{SameWorld}
 use Rattle.transcript.specs.declared.answers.Answer.{Answer}
 use Rattle.transcript.specs.declared.answers.Answer.TheVariants as answers
@@ -21,13 +24,13 @@ use Rattle.session_runs.specs.declared.calls.OnceAnswer.{OnceAnswer}
 use Rattle.session_runs.specs.declared.calls.OnceAnswer.TheVariants as onces
 use Rattle.session_runs.specs.declared.calls.AskedAt.{AskedAt}
 use Rattle.session_runs.specs.declared.calls.SavedAt.{SavedAt}
-use Rattle.version_answers.specs.declared.refusals.PinRefused.{PinRefused}
-use Rattle.version_answers.specs.declared.refusals.PinRefused.TheVariants as pins
-use Rattle.version_answers.specs.declared.refusals.ForgetRefused.{ForgetRefused}
-use Rattle.version_answers.specs.declared.refusals.ForgetRefused.TheVariants as forgets
-use Rattle.version_answers.specs.declared.comparing.SameAt.{SameAt}
-use Rattle.version_answers.specs.declared.comparing.SameRefused.{SameRefused}
-use Rattle.version_answers.specs.declared.comparing.SameRefused.TheVariants as sames
+use Rattle.versions.specs.declared.refusals.PinRefused.{PinRefused}
+use Rattle.versions.specs.declared.refusals.PinRefused.TheVariants as pins
+use Rattle.versions.specs.declared.refusals.ForgetRefused.{ForgetRefused}
+use Rattle.versions.specs.declared.refusals.ForgetRefused.TheVariants as forgets
+use Rattle.versions.specs.declared.comparing.SameAt.{SameAt}
+use Rattle.versions.specs.declared.comparing.SameRefused.{SameRefused}
+use Rattle.versions.specs.declared.comparing.SameRefused.TheVariants as sames
 use Rattle.session_runs.specs.Calls.{AcceptsNothing, OnlySees, AppendsOwn, ForgetsOwn, NotesFor, MeetsFullBucket, FindsVersion}
 use Rattle.session_runs.specs.Seen.{SessionOf, SessionSeen}
 
@@ -40,7 +43,7 @@ IsSeenLength s at = at ≡ length s.log.records
 pub record ActDone (of : SessionOf) (line : ℕ) (act : Act) (old new : SessionSeen) (n : ℕ) : Type 0
   where
     pub at_is : IsSeenLength new n
-    pub appends : AppendsOwn of.number line act old new
+    pub appends : AppendsOwn of.keep of.number line act old new
     pub notes : NotesFor of.plan of.models act old new
 
 pub record ActFull (of : SessionOf) (act : Act) (old new : SessionSeen) (at level bucket : ℕ)
@@ -124,14 +127,19 @@ abbrev pub PinIsRefused : Option ℕ → SessionSeen → SessionSeen → PinRefu
 PinIsRefused version old new (pins.NoVersion at) = NamesNone version old new at
 PinIsRefused version old new (pins.Forgotten at mark) = NamesMarked version old new at mark
 
--- it was found, and the answer is that of its cells
+-- the tints of a world whose set cells have tint 1
+abbrev pub plainly_tinted : World → Tints
+plainly_tinted w c = one_if (w c)
+
+-- it was found, and the answer is that of its cells, of which each set one has tint 1
 pub record WasAsked (of : SessionOf) (version : Option ℕ) (question : Question)
     (old new : SessionSeen) (a : AskedAt) : Type 0 where
   pub at_is : IsSeenLength new a.at
   pub only : OnlySees old new
   pub finds : FindsVersion new (asked_version version a.at)
   pub tells : Tells (2 ^ new.log.side)
-      (world_has of.models new.log.records (asked_version version a.at)) question a.answer
+      (store_has of.models new.log (asked_version version a.at))
+      (plainly_tinted (store_has of.models new.log (asked_version version a.at))) question a.answer
 
 abbrev pub AskTold : SessionOf → Option ℕ → Question → SessionSeen → SessionSeen
     → Result AskedAt PinRefused → Type 0
@@ -144,7 +152,7 @@ pub record Saved (of : SessionOf) (version : Option ℕ) (part : Boxed) (old new
   pub only : OnlySees old new
   pub finds : FindsVersion new (asked_version version a.at)
   pub cells : a.cells ≡ number_in part
-      (world_has of.models new.log.records (asked_version version a.at))
+      (store_has of.models new.log (asked_version version a.at))
 
 abbrev pub SaveTold : SessionOf → Option ℕ → Boxed → SessionSeen → SessionSeen
     → Result SavedAt PinRefused → Type 0
@@ -153,10 +161,10 @@ SaveTold of version part old new (Err refused) = PinIsRefused version old new re
 
 -- ---- a version that is forgotten
 
-pub record WasForgotten (of : SessionOf) (line version : ℕ) (old new : SessionSeen) (at : ℕ) : Type 0
-  where
-    pub at_is : IsSeenLength new at
-    pub forgets : ForgetsOwn of.number line version old new
+pub record WasForgotten (of : SessionOf) (line version : ℕ) (old new : SessionSeen) (at : ℕ)
+    : Type 0 where
+  pub at_is : IsSeenLength new at
+  pub forgets : ForgetsOwn of.number line version old new
 
 pub record IsNewest (version : ℕ) (old new : SessionSeen) (at : ℕ) : Type 0 where
   pub at_is : IsSeenLength new at
@@ -184,7 +192,7 @@ pub record Compared (of : SessionOf) (v w : ℕ) (old new : SessionSeen) (a : Sa
   pub first : FindsVersion new v
   pub second : FindsVersion new w
   pub equal : IsEqual a.equal (SameWorld (2 ^ new.log.side)
-      (world_has of.models new.log.records v) (world_has of.models new.log.records w))
+      (store_has of.models new.log v) (store_has of.models new.log w))
 
 -- it is the first version, or the second one, and the first was found
 abbrev pub NamesVersion : ℕ → ℕ → SessionSeen → ℕ → Type 0

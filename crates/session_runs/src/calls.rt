@@ -1,7 +1,6 @@
-ghost use Rattle.std.specs.Prelude.{◌≡◌, ◌+◌, ◌++◌, ◌^◌, ◌≤◌, [], true, ℕ, List};
-ghost use Rattle.history_model.specs.Logs.{FitsWorld};
+ghost use Rattle.std.specs.Prelude.{◌≡◌, ◌+◌, ◌++◌, ◌^◌, ◌≤◌, [], true, false, ℕ, List};
 ghost use Rattle.history_model.specs.Worlds.{is_edit};
-ghost use Rattle.script.specs.Fitting.{QuestionFits, SaveFits};
+ghost use Rattle.script.specs.Fitting.{EditFits, QuestionFits, SaveFits};
 ghost use Rattle.session_runs.specs.Calls.{KnowsOwn};
 ghost use Rattle.session_runs.specs.Saves.{version_saved};
 ghost use Rattle.session_runs.specs.Seen.{SessionOf, SessionSeen};
@@ -11,7 +10,7 @@ use history_model::{Act, Mark, Question};
 use node_words::Full;
 use script::SaveName;
 use transcript::Answer;
-use version_answers::{ForgetRefused, PinRefused, SameAt, SameRefused};
+use versions::{ForgetRefused, PinRefused, SameAt, SameRefused};
 use vw_cell::Boxed;
 
 /// What a change was answered with. `at` is the length of the history that the session has seen.
@@ -79,7 +78,7 @@ pub trait SessionCalls {
 
     /// Carries out the act of this line, as the newest record.
     fn act(&mut self, line: u32, act: Act) -> ActAnswer
-        requires fits { FitsWorld (2 ^ (of self.old).plan.side) (of self.old).models act }
+        requires fits { EditFits false (2 ^ (of self.old).plan.side) (of self.old).models act }
         requires stands { stands self.old }
         ensures stands { stands self.new }
         ensures of { of self.new ≡ of self.old }
@@ -91,7 +90,7 @@ pub trait SessionCalls {
 
     /// Carries out the edit of this line in one attempt, where the history doesn't go on meanwhile.
     fn act_once(&mut self, line: u32, act: Act) -> OnceAnswer
-        requires fits { FitsWorld (2 ^ (of self.old).plan.side) (of self.old).models act }
+        requires fits { EditFits false (2 ^ (of self.old).plan.side) (of self.old).models act }
         requires edit { is_edit act ≡ true }
         requires stands { stands self.old }
         ensures stands { stands self.new }

@@ -7,18 +7,19 @@ use Rattle.vw_cell.specs.declared.boxes.Boxed.{Boxed}
 use Rattle.vw_cell.specs.Counts.{number_in}
 use Rattle.vox_read.specs.Contents.{Content}
 use Rattle.history_model.specs.declared.acts.Act.{Act}
-use Rattle.history_model.specs.declared.acts.Act.TheVariants.{Fill, Erase, Ball, Carve, Copy, Stamp, Undo, Redo}
+use Rattle.history_model.specs.declared.acts.Act.TheVariants.{Fill, Erase, Ball, Carve, Copy, Stamp, Tint, Undo, Redo}
 use Rattle.history_model.specs.declared.histories.Mark.{Mark}
 use Rattle.history_model.specs.declared.histories.Record.{Record}
 use Rattle.history_model.specs.declared.questions.Question.{Question}
 use Rattle.history_model.specs.declared.questions.Question.TheVariants as questions
-use Rattle.history_model.specs.Logs.{Log}
+use Rattle.history_model.specs.Logs.{Log, suits_tints}
+use Rattle.history_model.specs.Tints.{Tints, SameTints}
 use Rattle.history_model.specs.Worlds.{World, is_edit}
-use Rattle.node_shapes.specs.Shape.{Shape, IsPart}
+use Rattle.node_shapes.specs.Shape.{Shape}
 use Rattle.node_words.specs.declared.shares.Full.{Full}
 use Rattle.node_words.specs.Gathering.{Grew}
 use Rattle.node_words.specs.Plans.{Layout}
-use Rattle.block_contents.specs.Versions.{IsKept, SameWorld}
+use Rattle.block_contents.specs.Versions.{IsKept}
 use Rattle.core_laws.proofs.RootCells.{same_cells, same_root}
 use Rattle.script.specs.declared.commands.Command.TheVariants.{Edit, Forget, Ask, Save, Same, Head}
 use Rattle.script.specs.declared.commands.SaveName.{SaveName}
@@ -30,20 +31,21 @@ use Rattle.conformance.specs.Answers.{IsStanding, IsReadable, IsForgotten, Answe
 use Rattle.conformance.specs.Kinds.{is_resting, answer_at, IsAfter}
 use Rattle.conformance.specs.Refusing.{refused_by}
 use Rattle.conformance.specs.Running.{IsSoFar, GrowsBy}
-use Rattle.conformance.specs.Telling.{Tells, count}
+use Rattle.conformance.specs.Telling.{Tells, colour, count}
 use Rattle.conformance.proofs.LineKinds.{kept_readable, marked_forgotten}
 use Rattle.script_runs.specs.Keeping.{MadeAndMet, last_moment}
 use Rattle.script_runs.specs.Sessions.{TakesLine}
 use Rattle.script_runs.proofs.Arms.{rebuilt_arm, undone_arm, forgot_arm, full_arm, late_arm, resting_arm, before_within}
 use Rattle.one_store.specs.Known.{IsStore, known_seen, stored_root}
-use Rattle.store_run.specs.declared.versions.Versions.{Versions}
-use Rattle.store_run.specs.Kept.{plan_of, log_of, moment_of, world_of, noted_of, AreVersions, LosesTree, HoldsSame}
-use Rattle.store_run.specs.Steps.{HasMark, LeavesAll, SharesRoot, MakesRoot, MeetsBucket, AppendsRecord, MarksVersion, target_of}
+use Rattle.store_run.specs.declared.stored_versions.Versions.{Versions}
+use Rattle.store_run.specs.Kept.{plan_of, log_of, moment_of, world_of, tints_of, noted_of, AreVersions, LosesTree, HoldsSame}
+use Rattle.store_run.specs.Steps.{TellsVersion, HasMark, LeavesAll, SharesRoot, MakesRoot, MeetsBucket, AppendsRecord, MarksVersion}
 use Rattle.store_run.specs.Answering.{GoesOnBy, nothing_to_go_to, saved_as}
 use Rattle.store_run.proofs.Holding.{same_again}
+use Rattle.store_run.proofs.Plainly.{same_in_world, same_in_store, plain_log, tints_of_cells, cells_of_tints}
 use Rattle.store_run.proofs.Sparing.{versions_sound, gave_nothing}
 use Rattle.script_runs.proofs.Going.{goes_to}
-use Rattle.store_run.proofs.Targets.{is_target}
+use Rattle.store_run.proofs.Targets.{Wants, grew_wanted, meets_full}
 
 moment_as : (old new : Versions) → log_of new ≡ log_of old → moment_of new ≡ moment_of old
 moment_as old new log = ap (λ (l : Log). length l.records) log
@@ -103,7 +105,8 @@ readable_now v session line version kept = kept_readable (log_of v) session line
 
 -- ---- edits
 
-module _ (v w : Versions) (session line : ℕ) (act : Act) (once : Bool) (are : AreVersions v) (edit : is_edit act ≡ true) where
+module _ (v w : Versions) (session line : ℕ) (act : Act) (once : Bool) (are : AreVersions v) (edit : is_edit act ≡ true)
+    (plain : suits_tints false act ≡ true) where
   p : Layout
   p = plan_of v
 
@@ -121,8 +124,8 @@ module _ (v w : Versions) (session line : ℕ) (act : Act) (once : Bool) (are : 
         let first = last_moment 0 transcript in
         let low = before_within (plan_of v) v.models.items scripts transcripts script transcript (log_of v) (noted_of v) running in
         let l : ScriptLine = record { line = line; command = Edit act once } in
-        let done = full_arm (plan_of v) v.models.items session first line act once full.level full.bucket (log_of v) (target_of v act) (known_seen v.store) (known_seen w.store)
-        are.sound.legal refl (is_target v act are edit) low meets.fails in
+        let done = full_arm (plan_of v) v.models.items session first line act once full.level full.bucket (log_of v) (known_seen v.store) (known_seen w.store)
+        are.sound.legal refl low (meets_full v act are edit plain full.level full.bucket (known_seen v.store) (known_seen w.store) meets.fails) in
         subst (λ (new : Log). TakesLine (plan_of v) v.models.items session first l (log_of v) new (noted_of v) (noted_of w) (answer_at l (length new.records) (answers.Full full.level full.bucket)))
         (sym meets.stay.log) done);
   }
@@ -145,10 +148,11 @@ module _ (v w : Versions) (session line : ℕ) (act : Act) (once : Bool) (are : 
         subst (λ (q : Layout). GrowsBy q v.models.items r (log_of v) (log_of w)) makes.stay.spares.plan
         (subst (λ (models : List Content). GrowsBy (plan_of u) models r (log_of v) (log_of w)) makes.stay.models
         (subst (λ (log : Log). GrowsBy (plan_of u) u.models.items r log (log_of w)) makes.stay.log appends.grows)) in
-        let grew : Grew (λ s. IsPart s (target_of v act)) v.store.told.made w.store.told.made =
-        subst (λ (list : List Shape). Grew (λ s. IsPart s (target_of v act)) v.store.told.made list) (sym appends.only.only.made) makes.grows.made in
-        let done = rebuilt_arm (plan_of v) v.models.items session first line act once (log_of v) (log_of w) (target_of v act) (noted_of v) (noted_of w)
-        grows (is_target v act are edit) low grew (appends.only.only.met ∙ makes.grows.met) in
+        let grew : Grew (Wants v act) v.store.told.made w.store.told.made =
+        subst (λ (list : List Shape). Grew (Wants v act) v.store.told.made list) (sym appends.only.only.made)
+        (grew_wanted v act are edit plain v.store.told.made u.store.told.made makes.grows.made) in
+        let done = rebuilt_arm (plan_of v) v.models.items session first line act once (log_of v) (log_of w) (noted_of v) (noted_of w)
+        grows low grew (appends.only.only.met ∙ makes.grows.met) in
         let longer : moment_of w ≡ moment_of v + 1 = ap (λ (rs : List Record). length rs) grows.records ∙ length-append v.records.items (r ∷ []) in
         subst (λ (n : ℕ). TakesLine (plan_of v) v.models.items session first l (log_of v) (log_of w) (noted_of v) (noted_of w) (answer_at l n answers.Done)) (sym longer) done);
   }
@@ -165,10 +169,11 @@ module _ (v w : Versions) (session line : ℕ) (act : Act) (once : Bool) (are : 
         let first = last_moment 0 transcript in
         let low = before_within (plan_of v) v.models.items scripts transcripts script transcript (log_of v) (noted_of v) running in
         let l : ScriptLine = record { line = line; command = Edit act once } in
-        let grew : Grew (λ s. IsPart s (target_of v act)) v.store.told.made w.store.told.made =
-        subst (λ (list : List Shape). Grew (λ s. IsPart s (target_of v act)) v.store.told.made list) (sym leaves.only.made) makes.grows.made in
-        let done = late_arm (plan_of v) v.models.items session first line act once (log_of v) (target_of v act) (noted_of v) (noted_of w)
-        are.sound.legal (sym (moment_as v u makes.stay.log) ∙ all) (is_target v act are edit) low grew (leaves.only.met ∙ makes.grows.met) in
+        let grew : Grew (Wants v act) v.store.told.made w.store.told.made =
+        subst (λ (list : List Shape). Grew (Wants v act) v.store.told.made list) (sym leaves.only.made)
+        (grew_wanted v act are edit plain v.store.told.made u.store.told.made makes.grows.made) in
+        let done = late_arm (plan_of v) v.models.items session first line act once (log_of v) (noted_of v) (noted_of w)
+        are.sound.legal (sym (moment_as v u makes.stay.log) ∙ all) edit low grew (leaves.only.met ∙ makes.grows.met) in
         subst (λ (new : Log). TakesLine (plan_of v) v.models.items session first l (log_of v) new (noted_of v) (noted_of w) (answer_at l (length new.records) answers.LogFull))
         (sym (leaves.stay.log ∙ makes.stay.log)) done);
   }
@@ -221,6 +226,7 @@ module _ (v : Versions) (session line : ℕ) (act : Act) (once : Bool) (are : Ar
       go (Carve b) o n = absurd (let no : ⊥ = cc in no)
       go (Copy b c) o n = absurd (let no : ⊥ = cc in no)
       go (Stamp b c) o n = absurd (let no : ⊥ = cc in no)
+      go (Tint t) o n = absurd (let no : ⊥ = cc in no)
 
   nothing_rests : is_resting (nothing_to_go_to act) ≡ true
   nothing_rests = go act
@@ -234,6 +240,7 @@ module _ (v : Versions) (session line : ℕ) (act : Act) (once : Bool) (are : Ar
       go (Carve b) = refl
       go (Copy b c) = refl
       go (Stamp b c) = refl
+      go (Tint t) = refl
 
   nothing_refused : refused_by (Edit act once) (moment_of v) (nothing_to_go_to act) ≡ []
   nothing_refused = go act
@@ -247,6 +254,7 @@ module _ (v : Versions) (session line : ℕ) (act : Act) (once : Bool) (are : Ar
       go (Carve b) = refl
       go (Copy b c) = refl
       go (Stamp b c) = refl
+      go (Tint t) = refl
 
   pub go_nowhere : target_at v.records.items (moment_of v) act ≡ None → GoesOnBy v session (record { line = line; command = Edit act once }) (nothing_to_go_to act) v
   go_nowhere none = rests v v session (record { line = line; command = Edit act once }) (nothing_to_go_to act) are (gave_nothing v) nothing_rests nothing_refused (nothing_fits none)
@@ -418,21 +426,26 @@ module _ (v : Versions) (session line : ℕ) (are : AreVersions v) where
           → Answers (plan_of v) v.models.items (log_of v) (IsStanding (log_of v).marks session line (moment_of v)) session line (moment_of v) (Same a b) (answers.Same r)
       told true e =
           same a b (readable_now v session line a of_a) (readable_now v session line b of_b)
-          (subst (λ (l : ℕ). SameWorld (2 ^ l) (world_of v a) (world_of v b)) side
-          (same_cells (plan_of v) v.models.items _ st.plan.side_low (versions_sound v number are st) a b of_a of_b (e.0 refl)))
+          (subst (λ (l : ℕ). SameTints (2 ^ l) (tints_of v a) (tints_of v b)) side
+          (tints_of_cells (2 ^ (plan_of v).side) v.models.items (log_of v) a b (plain_log v are)
+          (same_in_world v a b are
+          (same_cells (plan_of v) v.models.items _ st.plan.side_low (versions_sound v number are st) a b of_a of_b (e.0 refl)))))
       told false e =
           different a b (readable_now v session line a of_a) (readable_now v session line b of_b)
-          (λ cells. false≢true (e.1 (same_root (plan_of v) v.models.items _ st.plan.side_low (versions_sound v number are st) a b of_a of_b
-          (subst (λ (l : ℕ). SameWorld (2 ^ l) (world_of v a) (world_of v b)) (sym side) cells))))
+          (λ tints. false≢true (e.1 (same_root (plan_of v) v.models.items _ st.plan.side_low (versions_sound v number are st) a b of_a of_b
+          (same_in_store v a b are
+          (cells_of_tints (2 ^ (plan_of v).side) v.models.items (log_of v) a b (plain_log v are)
+          (subst (λ (l : ℕ). SameTints (2 ^ l) (tints_of v a) (tints_of v b)) (sym side) tints))))))
 
 -- a question that is answered
-telling_rests : (side : ℕ) (world : World) (question : Question) (answer : Answer) → Tells side world question answer
+telling_rests : (side : ℕ) (world : World) (tints : Tints) (question : Question) (answer : Answer)
+    → Tells side world tints question answer
     → (is_resting answer ≡ true) × ((n : ℕ) (version : Option ℕ) → refused_by (Ask version question) n answer ≡ [])
-telling_rests side world (questions.Get c) (answers.Is set) t = (refl, λ n version. refl)
-telling_rests side world question answer t = go question answer t
+telling_rests side world tints question answer t = go question answer t
   where
-    go : (q : Question) (a : Answer) → Tells side world q a → (is_resting a ≡ true) × ((n : ℕ) (version : Option ℕ) → refused_by (Ask version q) n a ≡ [])
+    go : (q : Question) (a : Answer) → Tells side world tints q a → (is_resting a ≡ true) × ((n : ℕ) (version : Option ℕ) → refused_by (Ask version q) n a ≡ [])
     go _ _ (Rattle.conformance.specs.Telling.is c set e) = (refl, λ n version. refl)
+    go _ _ (colour c tint e) = (refl, λ n version. refl)
     go _ _ (count b cells e) = (refl, λ n version. refl)
     go _ _ (Rattle.conformance.specs.Telling.faces b number e) = (refl, λ n version. refl)
     go _ _ (Rattle.conformance.specs.Telling.extent least e) = (refl, λ n version. refl)
@@ -440,23 +453,23 @@ telling_rests side world question answer t = go question answer t
 
 pub asks : (v w : Versions) (session line : ℕ) (version : Option ℕ) (question : Question) (asked : ℕ) (answer : Answer)
     → AreVersions v → asked ≡ asked_version version (moment_of v) → IsKept (log_of v) asked → LeavesAll v w
-    → Tells (2 ^ v.side) (world_of v asked) question answer
+    → TellsVersion v asked question answer
     → GoesOnBy v session (record { line = line; command = Ask version question }) answer w
 asks v w session line version question asked answer are is kept leaves told =
-    let r = telling_rests (2 ^ v.side) (world_of v asked) question answer told in
+    let r = telling_rests (2 ^ v.side) (world_of v asked) (tints_of v asked) question answer told in
     rests v w session (record { line = line; command = Ask version question }) answer are leaves r.0 (r.1 (moment_of v) version)
     (λ scripts transcripts script transcript so_far number after. tells version question answer
     (subst (λ (n : ℕ). IsReadable (IsStanding (log_of v).marks session line (moment_of v)) (moment_of v) n) is (readable_now v session line asked kept))
-    (subst (λ (n : ℕ). Tells (2 ^ v.side) (world_of v n) question answer) is told))
+    (subst (λ (n : ℕ). TellsVersion v n question answer) is told))
 
 -- a save whose cells were counted
 pub saves_count : (v w : Versions) (session line : ℕ) (version : Option ℕ) (name : SaveName) (part : Boxed) (asked : ℕ) (answer : Answer)
     → AreVersions v → asked ≡ asked_version version (moment_of v) → IsKept (log_of v) asked → LeavesAll v w
-    → Tells (2 ^ v.side) (world_of v asked) (questions.Count part) answer
+    → TellsVersion v asked (questions.Count part) answer
     → GoesOnBy v session (record { line = line; command = Save version name part }) (saved_as answer) w
 saves_count v w session line version name part asked answer are is kept leaves told = go answer told
   where
-    go : (a : Answer) → Tells (2 ^ v.side) (world_of v asked) (questions.Count part) a
+    go : (a : Answer) → TellsVersion v asked (questions.Count part) a
         → GoesOnBy v session (record { line = line; command = Save version name part }) (saved_as a) w
     go _ (count _ cells e) =
         rests v w session (record { line = line; command = Save version name part }) (answers.Saved cells) are leaves refl refl

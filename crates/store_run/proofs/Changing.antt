@@ -4,7 +4,7 @@ use Rattle.std.proofs.lemmas.Bool.{false≢true}
 use Rattle.std.proofs.lemmas.List.Elements.{All-contains}
 use Rattle.vox_read.specs.Contents.{Content}
 use Rattle.history_model.specs.declared.acts.Act.{Act}
-use Rattle.history_model.specs.declared.acts.Act.TheVariants.{Fill, Erase, Ball, Carve, Copy, Stamp, Undo, Redo}
+use Rattle.history_model.specs.declared.acts.Act.TheVariants.{Fill, Erase, Ball, Carve, Copy, Stamp, Tint, Undo, Redo}
 use Rattle.history_model.specs.declared.histories.Mark.{Mark}
 use Rattle.history_model.specs.declared.histories.Record.{Record}
 use Rattle.history_model.specs.Laws.{has_stays, has_of_edit, has_of_other, position_of_next}
@@ -20,7 +20,7 @@ use Rattle.transcript.specs.declared.answers.Answer.{Answer}
 use Rattle.transcript.specs.declared.answers.Answer.TheVariants as answers
 use Rattle.conformance.specs.Answers.{target_at}
 use Rattle.script_runs.proofs.Going.{goes_to}
-use Rattle.store_run.specs.declared.versions.Versions.{Versions}
+use Rattle.store_run.specs.declared.stored_versions.Versions.{Versions}
 use Rattle.store_run.specs.Kept.{log_of, moment_of}
 use Rattle.store_run.specs.Steps.{HasMark, LeavesAll, SharesRoot, MakesRoot, MeetsBucket, AppendsRecord, MarksVersion}
 use Rattle.store_run.specs.Answering.{nothing_to_go_to}
@@ -32,12 +32,12 @@ record_of session line act = record { session = session; line = line; act = act 
 same_moment : (v u : Versions) → log_of u ≡ log_of v → moment_of u ≡ moment_of v
 same_moment v u same = ap (λ (l : Log). length l.records) same
 
-grown : (old new : Log) (r : Record) → new.side ≡ old.side → new.records ≡ old.records ++ r ∷ [] → new.marks ≡ old.marks → new ≡ with_record old r
-grown old new r side records marks = λ i. record { side = side i; records = records i; marks = marks i }
+grown : (old new : Log) (r : Record) → new.side ≡ old.side → new.coloured ≡ old.coloured → new.records ≡ old.records ++ r ∷ [] → new.marks ≡ old.marks → new ≡ with_record old r
+grown old new r side coloured records marks = λ i. record { side = side i; coloured = coloured i; records = records i; marks = marks i }
 
 appended : (v u w : Versions) (r : Record) → log_of u ≡ log_of v → AppendsRecord u r w → log_of w ≡ with_record (log_of v) r
 appended v u w r same appends =
-    grown (log_of u) (log_of w) r appends.grows.side appends.grows.records appends.grows.marks ∙ ap (λ (l : Log). with_record l r) same
+    grown (log_of u) (log_of w) r appends.grows.side refl appends.grows.records appends.grows.marks ∙ ap (λ (l : Log). with_record l r) same
 
 edit_way : (log : Log) (act : Act) → is_edit act ≡ true → HasWay log act
 edit_way log act edit = record { other = λ no. absurd (false≢true (sym no ∙ edit)) }
@@ -107,7 +107,7 @@ module _ (v : Versions) (mark : Mark) where
   pub forgot_logs : (w : Versions) → IsKept (log_of v) mark.version → mark.version < moment_of v → MarksVersion v mark w
       → Forgets (log_of v) mark (answers.Forgot mark.version) (log_of w)
   forgot_logs w kept earlier marks =
-      Forgets.forgot (log_of w) (record { kept = kept; earlier = earlier; side = marks.forgets.side; records = marks.forgets.records; marks = marks.forgets.marks })
+      Forgets.forgot (log_of w) (record { kept = kept; earlier = earlier; side = marks.forgets.side; coloured = refl; records = marks.forgets.records; marks = marks.forgets.marks })
 
 -- ---- the cells of the version that is made
 
@@ -134,6 +134,7 @@ nothing_not_done (Ball b) e = cc
 nothing_not_done (Carve b) e = cc
 nothing_not_done (Copy b to) e = cc
 nothing_not_done (Stamp m at) e = cc
+nothing_not_done (Tint t) e = cc
 
 pub made_version : (models : List Content) (old new : Log) (r : Record) (answer : Answer) → Changes old r answer new → answer ≡ answers.Done
     → MakesVersion models old r.act new

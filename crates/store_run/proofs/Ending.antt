@@ -1,5 +1,5 @@
 -- What the store tells when all scripts were run.
-use Rattle.std.proofs.Common.{◌≡◌, ℕ, ◌+◌, ◌-◌, ◌<◌, ◌≤◌, Option, List, length, sym, ◌∙◌, ap, subst, arith}
+use Rattle.std.proofs.Common.{◌≡◌, ℕ, ◌+◌, ◌-◌, ◌<◌, ◌≤◌, Option, List, length, sym, ◌∙◌, ap, subst, arith, false}
 use Rattle.history_model.specs.declared.histories.Mark.{Mark}
 use Rattle.history_model.specs.Logs.{Log}
 use Rattle.block_contents.specs.MarkLists.{marks_below}
@@ -12,7 +12,7 @@ use Rattle.reporting.proofs.RootLaws.{sound_roots}
 use Rattle.reporting.proofs.NumberLaws.{numbers_told}
 use Rattle.one_store.specs.Known.{Known, IsStore, core_of}
 use Rattle.one_store.proofs.StateLaws.{root_weight, holdings-one}
-use Rattle.store_run.specs.declared.versions.Versions.{Versions}
+use Rattle.store_run.specs.declared.stored_versions.Versions.{Versions}
 use Rattle.store_run.specs.Kept.{plan_of, log_of, moment_of, mark_in, core_with, AreVersions, HoldsNothing}
 use Rattle.store_run.proofs.Sparing.{versions_sound}
 
@@ -46,9 +46,10 @@ has_place v number version are st le = let few = are.sound.legal.few in let long
 
 -- the marks in the places of all versions
 pub history_is : (v : Versions) → AreVersions v → (marks : List Mark) → marks ≡ marks_below (mark_in v.marks.items) (length v.marks.items)
-    → record { side = v.side; records = v.records.items; marks = marks } ≡ log_of v
+    → record { side = v.side; coloured = false; records = v.records.items; marks = marks } ≡ log_of v
 history_is v are marks is = λ i. record {
   side = v.side;
+  coloured = false;
   records = v.records.items;
   marks = (is ∙ ap (marks_below (mark_in v.marks.items)) are.places) i;
 }

@@ -24,7 +24,7 @@ use Rattle.extract.specs.Saved.{file_of_box}
 use Rattle.script.specs.Placing.{is_save_name}
 use Rattle.conformance.specs.declared.saves.SavedBox.{SavedBox}
 use Rattle.store_run.specs.declared.pins.Pin.{Pin}
-use Rattle.store_run.specs.declared.versions.Versions.{Versions}
+use Rattle.store_run.specs.declared.stored_versions.Versions.{Versions}
 use Rattle.store_run.specs.Kept.{world_of}
 use Rattle.store_run.specs.Pins.{ArePinned, saves_of}
 use Rattle.store_run.proofs.Pinning.{HasTree, pin_here}

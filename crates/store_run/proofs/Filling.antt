@@ -5,9 +5,9 @@ use Rattle.std.proofs.lemmas.List.Elements.{All-nil, All-cons, All-head, All-wea
 use Rattle.vox_read.specs.Contents.{Content}
 use Rattle.history_model.specs.declared.acts.Act.{Act}
 use Rattle.history_model.specs.declared.histories.Record.{Record}
-use Rattle.history_model.specs.Logs.{Log}
+use Rattle.history_model.specs.Logs.{Log, suits_tints}
 use Rattle.history_model.specs.Worlds.{is_edit}
-use Rattle.node_shapes.specs.Shape.{Shape, IsPart}
+use Rattle.node_shapes.specs.Shape.{Shape}
 use Rattle.node_words.specs.declared.shares.Full.{Full}
 use Rattle.node_words.specs.Enough.{HasEnough}
 use Rattle.node_words.specs.Gathering.{Grew, unchanged, one}
@@ -15,14 +15,14 @@ use Rattle.node_words.specs.Held.{Wanted}
 use Rattle.node_words.specs.Plans.{Layout}
 use Rattle.possible.specs.Needed.{Span}
 use Rattle.conformance.specs.Answers.{GoesOn}
-use Rattle.script_runs.specs.Keeping.{MadeAndMet, IsMadeFor, IsMadeInRun, IsTarget}
+use Rattle.script_runs.specs.Keeping.{MadeAndMet, IsMadeFor, IsMadeInRun, IsWanted}
 use Rattle.script_runs.proofs.PossibleLaws.{enough_possible}
-use Rattle.script_runs.proofs.Refusals.{made_in_stays, part_stays}
-use Rattle.store_run.specs.declared.versions.Versions.{Versions}
+use Rattle.script_runs.proofs.Refusals.{made_in_stays, wanted_stays}
+use Rattle.store_run.specs.declared.stored_versions.Versions.{Versions}
 use Rattle.store_run.specs.Kept.{plan_of, log_of, noted_of, AreVersions}
-use Rattle.store_run.specs.Steps.{MeetsBucket, target_of}
+use Rattle.store_run.specs.Steps.{MeetsBucket}
 use Rattle.store_run.specs.Replaying.{ReplayState, replay_state, spans_from, MayFillReplay, MakesOnlyParts, TakesEdit, TakesWay, FillsBucket}
-use Rattle.store_run.proofs.Targets.{is_target}
+use Rattle.store_run.proofs.Targets.{grew_wanted}
 
 -- a record on the version before it, which has this number
 abbrev span_of : ℕ → Record → Span
@@ -37,11 +37,11 @@ spans_push n m (q ∷ more) r is =
 
 -- a history goes on with more records behind it
 abbrev log_with : List Record → Log
-log_with records = record { side = 0; records = records; marks = [] }
+log_with records = record { side = 0; coloured = false; records = records; marks = [] }
 
 goes_behind : (records more : List Record) → GoesOn (log_with records) (log_with (records ++ more))
 goes_behind records more =
-    record { side = refl; more = more; records = refl; marks = All-nil _ }
+    record { side = refl; coloured = refl; more = more; records = refl; marks = All-nil _ }
 
 module _ (p : Layout) (models : List Content) (records : List Record) (r : Record) where
   -- the spans of one record more
@@ -59,42 +59,39 @@ module _ (p : Layout) (models : List Content) (records : List Record) (r : Recor
       (λ s m. made_in_stays p models (log_with records) (log_with (records ++ r ∷ []))
       (goes_behind records (r ∷ [])) (spans_from 0 records) (span_of (length records) r ∷ []) s m) made all)
 
-  -- and so is each part of what the record makes
-  part_made : (target s : Shape) → IsTarget p models records r.act (length records) target → IsPart s target → Made s
-  part_made target s of part =
+  -- and so is each shape that the record wants
+  wanted_made : (s : Shape) → IsWanted p models records r.act (length records) s → Made s
+  wanted_made s wanted =
       let both = length-append records (r ∷ []) in
       subst (λ (ss : List Span). IsMadeInRun p models (records ++ r ∷ []) ss s) (sym pushed) (record {
         made = record {
           span = span_of (length records) r;
           listed = Contains-append_right (spans_from 0 records) (span_of (length records) r ∷ [])
               (span_of (length records) r) (0, omega arith, refl);
-          edit = of.edit;
           version = length records;
           low = omega arith;
           high = omega arith;
-          part = part_stays p models (log_with records) (log_with (records ++ r ∷ []))
-              (goes_behind records (r ∷ [])) r.act (length records) s (omega arith)
-              (record { all = target; canonical = of.canonical; shows = of.shows; part = part });
+          wanted = wanted_stays p models (log_with records) (log_with (records ++ r ∷ []))
+              (goes_behind records (r ∷ [])) r.act (length records) s (omega arith) wanted;
         };
         there = omega arith;
       })
 
-  grown_parts : (target : Shape) (old new : List Shape) → IsTarget p models records r.act (length records) target
-      → Grew (λ s. IsPart s target) old new → All (IsMadeInRun p models records (spans_from 0 records)) old
-      → All Made new
-  grown_parts target old _ of unchanged all = stays old all
-  grown_parts target old _ of (one {a} {new = before} part rest) all =
-      All-cons Made a before (part_made target a of part) (grown_parts target old before of rest all)
+  grown_parts : (old new : List Shape) → Grew (IsWanted p models records r.act (length records)) old new
+      → All (IsMadeInRun p models records (spans_from 0 records)) old → All Made new
+  grown_parts old _ unchanged all = stays old all
+  grown_parts old _ (one {a} {new = before} wanted rest) all =
+      All-cons Made a before (wanted_made a wanted) (grown_parts old before rest all)
 
   -- enough of it fills a bucket
-  may_fill : (target : Shape) (old new : List Shape) (full : Full)
-      → IsTarget p models records r.act (length records) target → Grew (λ s. IsPart s target) old new
+  may_fill : (old new : List Shape) (full : Full)
+      → Grew (IsWanted p models records r.act (length records)) old new
       → All (IsMadeInRun p models records (spans_from 0 records)) old
       → HasEnough p new full.level full.bucket → MayFillReplay p models (records ++ r ∷ []) full
-  may_fill target old new full of grew all enough =
+  may_fill old new full grew all enough =
       enough_possible p models (records ++ r ∷ []) (spans_from 0 (records ++ r ∷ [])) full.level full.bucket new
       (All-weaker Made (IsMadeFor p models (records ++ r ∷ []) (spans_from 0 (records ++ r ∷ []))) (λ s m. m.made)
-      new (grown_parts target old new of grew all)) enough
+      new (grown_parts old new grew all)) enough
 
 -- ---- versions
 
@@ -132,14 +129,15 @@ parts_as p q models others records more made plan same list all =
     (subst (λ (x : List Record). All (IsMadeInRun p models x (spans_from 0 x)) made) (sym list) all))
 
 pub edit_parts : (s : ReplayState) (u w : Versions) (r : Record) → replay_state u ≡ s → AreVersions u
-    → is_edit r.act ≡ true → MakesOnlyParts s → TakesEdit u r w → MakesOnlyParts (replay_state w)
-edit_parts s u w r is are edit only takes =
+    → is_edit r.act ≡ true → suits_tints false r.act ≡ true → MakesOnlyParts s → TakesEdit u r w
+    → MakesOnlyParts (replay_state w)
+edit_parts s u w r is are edit plain only takes =
     let here : MakesOnlyParts (replay_state u) = subst (λ (t : ReplayState). MakesOnlyParts t) (sym is) only in
     record {
       parts = parts_as (plan_of u) (plan_of w) u.models.items w.models.items (u.records.items ++ r ∷ [])
           w.records.items w.store.told.made takes.takes.plan takes.takes.models takes.takes.records
-          (grown_parts (plan_of u) u.models.items u.records.items r (target_of u r.act) u.store.told.made
-          w.store.told.made (is_target u r.act are edit) takes.made here.parts);
+          (grown_parts (plan_of u) u.models.items u.records.items r u.store.told.made w.store.told.made
+          (grew_wanted u r.act are edit plain u.store.told.made w.store.told.made takes.made) here.parts);
     }
 
 pub way_parts : (s : ReplayState) (u w : Versions) (r : Record) → replay_state u ≡ s → MakesOnlyParts s
@@ -156,13 +154,13 @@ way_parts s u w r is only takes =
     }
 
 pub edit_fills : (s : ReplayState) (u w : Versions) (r : Record) (full : Full) → replay_state u ≡ s → AreVersions u
-    → is_edit r.act ≡ true → MakesOnlyParts s → FillsBucket u r.act full w
-    → MayFillReplay s.plan s.models (s.records ++ r ∷ []) full
-edit_fills s u w r full is are edit only fills =
+    → is_edit r.act ≡ true → suits_tints false r.act ≡ true → MakesOnlyParts s
+    → FillsBucket u r.act full w → MayFillReplay s.plan s.models (s.records ++ r ∷ []) full
+edit_fills s u w r full is are edit plain only fills =
     let here : MakesOnlyParts (replay_state u) = subst (λ (t : ReplayState). MakesOnlyParts t) (sym is) only in
     subst (λ (t : ReplayState). MayFillReplay t.plan t.models (t.records ++ r ∷ []) full) is
-    (may_fill (plan_of u) u.models.items u.records.items r (target_of u r.act) u.store.told.made
-    w.store.told.made full (is_target u r.act are edit) fills.made here.parts fills.enough)
+    (may_fill (plan_of u) u.models.items u.records.items r u.store.told.made w.store.told.made full
+    (grew_wanted u r.act are edit plain u.store.told.made w.store.told.made fills.made) here.parts fills.enough)
 
 -- ---- the state of versions that only got room
 

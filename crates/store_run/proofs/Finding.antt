@@ -4,7 +4,7 @@ use Rattle.std.proofs.lemmas.List.{get_or_default}
 use Rattle.history_model.specs.declared.histories.Mark.{Mark}
 use Rattle.one_store.specs.Spots.{versions}
 use Rattle.block_contents.specs.Versions.{IsKept}
-use Rattle.store_run.specs.declared.versions.Versions.{Versions}
+use Rattle.store_run.specs.declared.stored_versions.Versions.{Versions}
 use Rattle.store_run.specs.Kept.{log_of, moment_of, mark_in, AreVersions}
 use Rattle.store_run.specs.Steps.{HasMark}
 use Rattle.store_run.proofs.Marking.{unmarked_at, listed_at}

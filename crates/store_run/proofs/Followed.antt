@@ -1,7 +1,7 @@
 -- A history that is replayed with its marks.
-use Rattle.std.proofs.Common.{◌≡◌, ℕ, ◌+◌, ◌<◌, List, [], ◌∷◌, length, Some, None, false, sym, ap, subst, ◌∙◌, arith}
+use Rattle.std.proofs.Common.{◌≡◌, ℕ, ◌+◌, ◌<◌, List, [], ◌∷◌, length, Some, None, false, refl, sym, ap, subst, ◌∙◌, arith}
 use Rattle.history_model.specs.declared.acts.Act.{Act}
-use Rattle.history_model.specs.declared.acts.Act.TheVariants.{Fill, Erase, Ball, Carve, Copy, Stamp, Undo, Redo}
+use Rattle.history_model.specs.declared.acts.Act.TheVariants.{Fill, Erase, Ball, Carve, Copy, Stamp, Tint, Undo, Redo}
 use Rattle.history_model.specs.declared.histories.Mark.{Mark}
 use Rattle.history_model.specs.declared.histories.Record.{Record}
 use Rattle.history_model.specs.Logs.{IsVersionHeld, HasTarget, MayFollow}
@@ -12,7 +12,7 @@ use Rattle.block_contents.specs.Versions.{IsKept}
 use Rattle.conformance.specs.Answers.{target_at}
 use Rattle.conformance.proofs.LineKinds.{undo_target, redo_target}
 use Rattle.script_runs.proofs.Going.{goes_to}
-use Rattle.store_run.specs.declared.versions.Versions.{Versions}
+use Rattle.store_run.specs.declared.stored_versions.Versions.{Versions}
 use Rattle.store_run.specs.Changing.{Marks, with_record}
 use Rattle.store_run.specs.Kept.{log_of, moment_of, AreVersions}
 use Rattle.store_run.specs.Marked.{replayed}
@@ -41,6 +41,7 @@ follows_held marks n (Ball b) records to other is may = absurd (let no : ⊥ = c
 follows_held marks n (Carve b) records to other is may = absurd (let no : ⊥ = cc in no)
 follows_held marks n (Copy b c) records to other is may = absurd (let no : ⊥ = cc in no)
 follows_held marks n (Stamp b c) records to other is may = absurd (let no : ⊥ = cc in no)
+follows_held marks n (Tint t) records to other is may = absurd (let no : ⊥ = cc in no)
 
 -- no mark of a legal history is of a later moment, so the version has none
 pub followed_kept : (v : Versions) (r : Record) (to : ℕ) → AreVersions v → is_edit r.act ≡ false
@@ -75,6 +76,7 @@ target_there marks records n (Ball b) other is may = let no : ⊥ = cc in no
 target_there marks records n (Carve b) other is may = let no : ⊥ = cc in no
 target_there marks records n (Copy b c) other is may = let no : ⊥ = cc in no
 target_there marks records n (Stamp b c) other is may = let no : ⊥ = cc in no
+target_there marks records n (Tint t) other is may = let no : ⊥ = cc in no
 
 -- ---- what is seen of a replay
 
@@ -83,7 +85,7 @@ pub log_taken : (w : WorldState) (u v : Versions) (r : Record) → world_state u
 log_taken w u v r is of_u of_v takes =
     let side : v.side ≡ u.side =
     of_v.side ∙ ap (λ (p : Layout). p.side) takes.plan ∙ sym of_u.side in
-    (λ i. record { side = side i; records = takes.records i; marks = takes.marks i })
+    (λ i. record { side = side i; coloured = false; records = takes.records i; marks = takes.marks i })
     ∙ ap (λ (s : WorldState). with_record s.log r) is
 
 -- the same of the parts that are seen of versions that only got room
@@ -116,6 +118,7 @@ marks_come v w mark of_v of_w kept earlier marks = record {
   kept = kept;
   earlier = earlier;
   side = of_w.side ∙ ap (λ (p : Layout). p.side) marks.only.plan ∙ sym of_v.side;
+  coloured = refl;
   records = marks.forgets.records;
   marks = marks.forgets.marks;
 }

@@ -1,3 +1,4 @@
+pub mod Plainly
 pub mod Holding
 pub mod Sparing
 pub mod Rebuilding

@@ -1,11 +1,12 @@
 -- Records and marks that come to versions.
-use Rattle.std.proofs.Common.{◌≡◌, ℕ, ◌+◌, ◌<◌, ◌≤◌, Some, None, Option, List, [], ◌∷◌, ◌++◌, length, set, refl, sym, ◌∙◌, ap, subst, arith}
+use Rattle.std.proofs.Common.{◌≡◌, ℕ, ◌+◌, ◌<◌, ◌≤◌, Some, None, Option, List, [], ◌∷◌, ◌++◌, length, set, refl, sym, ◌∙◌, ap, subst, arith, All, true, false}
 use Rattle.std.specs.Vec.{with_item}
 use Rattle.std.proofs.lemmas.List.{length-set}
+use Rattle.std.proofs.lemmas.List.Elements.{All-push}
 use Rattle.vox_read.specs.Contents.{Content}
 use Rattle.history_model.specs.declared.histories.Mark.{Mark}
 use Rattle.history_model.specs.declared.histories.Record.{Record}
-use Rattle.history_model.specs.Logs.{Log}
+use Rattle.history_model.specs.Logs.{Log, suits_tints}
 use Rattle.history_model.specs.Positions.{position_after, next_position}
 use Rattle.history_model.specs.Laws.{position_of_next}
 use Rattle.node_shapes.specs.declared.names.Name.{Name}
@@ -21,10 +22,10 @@ use Rattle.core_laws.specs.Soundness.{SoundVersions, Sound}
 use Rattle.core_laws.proofs.StepLaws.{step_sound}
 use Rattle.conformance.specs.Running.{GrowsBy, ForgetsBy}
 use Rattle.entry_words.specs.Words.{Written}
-use Rattle.undo_trail.specs.Trails.{trail_position}
+use Rattle.undo.specs.Trails.{trail_position}
 use Rattle.one_store.specs.Known.{Known, IsStore, core_of, root_tree, stored_root}
 use Rattle.one_store.specs.Steps.{KeepsRoot, GivesRoot}
-use Rattle.store_run.specs.declared.versions.Versions.{Versions}
+use Rattle.store_run.specs.declared.stored_versions.Versions.{Versions}
 use Rattle.store_run.specs.Kept.{plan_of, log_of, moment_of, mark_in, core_with, AreVersions, HoldsTree, GainsTree, LosesTree, HoldsSame}
 use Rattle.store_run.specs.Steps.{LeavesAll, PutsDown, AppendsRecord, MarksVersion}
 use Rattle.store_run.proofs.Holding.{gained_tree, gained_few, same_again}
@@ -47,7 +48,7 @@ words_sound p q models old new s plan log sound =
     (subst (λ (r : Layout). SoundVersions r models (core_with old s)) (sym plan) sound)
 
 abbrev longer : Log → Record → Log
-longer log r = record { side = log.side; records = log.records ++ r ∷ []; marks = log.marks }
+longer log r = record { side = log.side; coloured = log.coloured; records = log.records ++ r ∷ []; marks = log.marks }
 
 module _ (v : Versions) (s : Known) (r : Record) (root : Option Name) (number place : ℕ) (are : AreVersions v) (st : IsStore v.store number)
     (at : place ≡ moment_of v + 1) (may : MayAppend (plan_of v) v.models.items r root (core_with (log_of v) v.store))
@@ -73,18 +74,21 @@ module _ (v : Versions) (s : Known) (r : Record) (root : Option Name) (number pl
       (records : w.records.items ≡ v.records.items ++ r ∷ []) (marks : w.marks.items ≡ v.marks.items)
       (trail : trail_position w.trail ≡ next_position place r.act (trail_position v.trail)) where
     log_grown : log_of w ≡ longer (log_of v) r
-    log_grown = λ i. record { side = side i; records = records i; marks = marks_below (mark_in (marks i)) versions }
+    log_grown = λ i. record { side = side i; coloured = false; records = records i; marks = marks_below (mark_in (marks i)) versions }
 
     plan_kept : plan_of w ≡ plan_of v
     plan_kept = ap (λ (k : Known). k.words.plan) store ∙ ap (λ (x : Written). x.plan) keeps.words
 
-    pub appended_are : AreVersions w
-    appended_are = record {
+    pub appended_are : suits_tints false r.act ≡ true → AreVersions w
+    appended_are plain = record {
       side = side ∙ are.side ∙ sym (ap (λ (p : Layout). p.side) plan_kept);
       sound =
           subst (λ (k : Known). SoundVersions (plan_of w) w.models.items (core_with (log_of w) k)) (sym store)
           (subst (λ (ms : List Content). SoundVersions (plan_of w) ms (core_with (log_of w) s)) (sym models)
           (words_sound (plan_of v) (plan_of w) v.models.items (longer (log_of v) r) (log_of w) s plan_kept (sym log_grown) longer_sound.versions));
+      plain =
+          subst (λ (rs : List Record). All (λ q. suits_tints false q.act ≡ true) rs) (sym records)
+          (All-push (λ q. suits_tints false q.act ≡ true) v.records.items r are.plain plain);
       places = ap (λ (ms : List (Option Mark)). length ms) marks ∙ are.places;
       of_versions = subst (λ (ms : List (Option Mark)). AreOfVersions (mark_in ms)) (sym marks) are.of_versions;
       position =
@@ -92,8 +96,8 @@ module _ (v : Versions) (s : Known) (r : Record) (root : Option Name) (number pl
           ∙ sym (ap position_after records ∙ position_of_next v.records.items r);
     }
 
-    pub appends_record : AppendsRecord v r w
-    appends_record = record {
+    pub appends_record : suits_tints false r.act ≡ true → AppendsRecord v r w
+    appends_record plain = record {
       only = record {
         models = models;
         plan = plan_kept;
@@ -103,7 +107,14 @@ module _ (v : Versions) (s : Known) (r : Record) (root : Option Name) (number pl
         };
       };
       grows = subst (λ (l : Log). GrowsBy (plan_of v) v.models.items r (log_of v) l) (sym log_grown)
-          (record { legal = longer_sound.versions.legal; side = refl; records = refl; marks = refl });
+          (record {
+            legal = longer_sound.versions.legal;
+            side = refl;
+            coloured = refl;
+            suits = plain;
+            records = refl;
+            marks = refl;
+          });
     }
 
 pub keeps_loses : (old new : Known) (place : ℕ) (root : Option Name) → KeepsRoot old place root new → LosesTree old root new
@@ -117,7 +128,7 @@ marked_over v s mark =
     record v { store = s; marks = with_item v.marks mark.version (Some mark) }
 
 abbrev marked_log : Versions → Mark → Log
-marked_log v mark = record { side = v.side; records = v.records.items; marks = marks_below (mark_in (set v.marks.items mark.version (Some mark))) versions }
+marked_log v mark = record { side = v.side; coloured = false; records = v.records.items; marks = marks_below (mark_in (set v.marks.items mark.version (Some mark))) versions }
 
 module _ (v : Versions) (s : Known) (mark : Mark) (root : Option Name) (number : ℕ) (are : AreVersions v) (st : IsStore v.store number)
     (kept : IsKept (log_of v) mark.version) (earlier : mark.version < moment_of v) (now : mark.at ≡ moment_of v)
@@ -148,14 +159,14 @@ module _ (v : Versions) (s : Known) (mark : Mark) (root : Option Name) (number :
   marked_sound =
       step_sound (plan_of v) v.models.items 0 (core_with (log_of v) v.store) (core_with (marked_log v mark) s) st.plan.side_low
       (versions_sound v number are st)
-      (forgets mark (record { earlier = earlier; now = now; side = refl; records = refl; marks = comes; takes = takes }))
+      (forgets mark (record { earlier = earlier; now = now; side = refl; coloured = refl; records = refl; marks = comes; takes = takes }))
 
   module _ (u : Versions) (gives : GivesRoot v.store mark.version s) (is : root ≡ stored_root v.store.roots mark.version)
       (store : u.store ≡ s) (side : u.side ≡ v.side) (models : u.models.items ≡ v.models.items)
       (records : u.records.items ≡ v.records.items) (marks : u.marks.items ≡ set v.marks.items mark.version (Some mark))
       (trail : trail_position u.trail ≡ trail_position v.trail) where
     log_marked : log_of u ≡ marked_log v mark
-    log_marked = λ i. record { side = side i; records = records i; marks = marks_below (mark_in (marks i)) versions }
+    log_marked = λ i. record { side = side i; coloured = false; records = records i; marks = marks_below (mark_in (marks i)) versions }
 
     marked_plan : plan_of u ≡ plan_of v
     marked_plan = ap (λ (k : Known). k.words.plan) store ∙ ap (λ (x : Written). x.plan) gives.words
@@ -167,6 +178,7 @@ module _ (v : Versions) (s : Known) (mark : Mark) (root : Option Name) (number :
           subst (λ (k : Known). SoundVersions (plan_of u) u.models.items (core_with (log_of u) k)) (sym store)
           (subst (λ (ms : List Content). SoundVersions (plan_of u) ms (core_with (log_of u) s)) (sym models)
           (words_sound (plan_of v) (plan_of u) v.models.items (marked_log v mark) (log_of u) s marked_plan (sym log_marked) marked_sound.versions));
+      plain = subst (λ (rs : List Record). All (λ q. suits_tints false q.act ≡ true) rs) (sym records) are.plain;
       places = ap (λ (ms : List (Option Mark)). length ms) marks ∙ length-set v.marks.items mark.version (Some mark) ∙ are.places;
       of_versions = subst (λ (ms : List (Option Mark)). AreOfVersions (mark_in ms)) (sym marks) (of_versions_still v.marks.items mark there are.of_versions);
       position = trail ∙ are.position ∙ sym (ap position_after records);
@@ -200,5 +212,12 @@ module _ (v : Versions) (s : Known) (mark : Mark) (root : Option Name) (number :
         };
       };
       forgets = subst (λ (l : Log). ForgetsBy (plan_of v) v.models.items mark (log_of v) l) (sym (leaves.stay.log ∙ log_marked))
-          (record { legal = marked_sound.versions.legal; side = refl; records = refl; now = now; marks = comes });
+          (record {
+            legal = marked_sound.versions.legal;
+            side = refl;
+            coloured = refl;
+            records = refl;
+            now = now;
+            marks = comes;
+          });
     }

@@ -19,11 +19,12 @@ use Rattle.script.specs.declared.commands.ScriptLine.{ScriptLine}
 use Rattle.transcript.specs.declared.answers.Answer.{Answer}
 use Rattle.conformance.specs.Kinds.{answer_at}
 use Rattle.script_runs.specs.Sessions.{GoesOnWith}
-use Rattle.store_run.specs.declared.versions.Versions.{Versions}
+use Rattle.store_run.specs.declared.stored_versions.Versions.{Versions}
 use Rattle.store_run.specs.Kept.{plan_of, log_of, moment_of, noted_of, world_of, AreVersions, HoldsTree}
 use Rattle.store_run.specs.Steps.{StayVersions}
 use Rattle.store_run.proofs.Rebuilding.{share_shows}
 use Rattle.store_run.proofs.Files.{same_file, shown_in}
+use Rattle.store_run.proofs.Plainly.{same_in_world, same_in_store}
 use Rattle.store_run.proofs.Sparing.{versions_sound}
 use Rattle.store_run.specs.Answering.{GoesOnBy}
 use Rattle.store_run.specs.Worlds.{WorldState, world_state}
@@ -89,6 +90,8 @@ pub same_by_roots : (v : Versions) (number a b : ℕ) (is : Bool) → AreVersion
     → (IsTrue is ↔ (stored_root v.store.roots a ≡ stored_root v.store.roots b))
     → (IsTrue is ↔ SameWorld (2 ^ (plan_of v).side) (world_of v a) (world_of v b))
 same_by_roots v number a b is are st of_a of_b roots = (
-  (λ yes. same_cells (plan_of v) v.models.items _ st.plan.side_low (versions_sound v number are st) a b of_a of_b (roots.0 yes)),
-  (λ cells. roots.1 (same_root (plan_of v) v.models.items _ st.plan.side_low (versions_sound v number are st) a b of_a of_b cells)),
+  (λ yes. same_in_world v a b are
+      (same_cells (plan_of v) v.models.items _ st.plan.side_low (versions_sound v number are st) a b of_a of_b (roots.0 yes))),
+  (λ cells. roots.1 (same_root (plan_of v) v.models.items _ st.plan.side_low (versions_sound v number are st) a b of_a of_b
+      (same_in_store v a b are cells))),
 )

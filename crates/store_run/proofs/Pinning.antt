@@ -10,6 +10,7 @@ use Rattle.history_model.specs.declared.histories.Record.{Record}
 use Rattle.history_model.specs.declared.questions.Question.TheVariants as questions
 use Rattle.history_model.specs.Laws.{version_stays}
 use Rattle.history_model.specs.Logs.{Log}
+use Rattle.history_model.specs.Tints.{Tints}
 use Rattle.history_model.specs.Worlds.{World}
 use Rattle.node_shapes.specs.declared.names.Name.{Name}
 use Rattle.node_shapes.specs.Shape.{ShowsCells}
@@ -37,12 +38,13 @@ use Rattle.one_store.specs.Known.{IsStore, root_tree, stored_root}
 use Rattle.one_store.proofs.RootLaws.{top_tree}
 use Rattle.one_store.proofs.StoreLaws.{held_is}
 use Rattle.store_run.specs.declared.pins.Pin.{Pin}
-use Rattle.store_run.specs.declared.versions.Versions.{Versions}
+use Rattle.store_run.specs.declared.stored_versions.Versions.{Versions}
 use Rattle.store_run.specs.Kept.{plan_of, log_of, moment_of, world_of, AreVersions, HoldsNothing, HoldsTree, HoldsSame}
-use Rattle.store_run.specs.Steps.{StayVersions, StaysSeen, LeavesAll, SharesRoot, PutsDown}
+use Rattle.store_run.specs.Steps.{TellsVersion, StayVersions, StaysSeen, LeavesAll, SharesRoot, PutsDown}
 use Rattle.store_run.specs.Answering.{GoesOnBy, saved_as}
 use Rattle.store_run.specs.Pins.{IsPinOf, ArePins, pinned_weight, ArePinned, saves_of}
 use Rattle.store_run.proofs.Holding.{root_is}
+use Rattle.store_run.proofs.Plainly.{shown_plainly}
 use Rattle.store_run.proofs.Sparing.{tree_same}
 use Rattle.store_run.proofs.Rebuilding.{share_level, kept_still, told_still, stays_on}
 
@@ -204,7 +206,7 @@ module _ (v u w : Versions) (pins : List Pin) (save : SavedBox) (root : Option N
         shows =
             subst (λ (l : ℕ). ShowsCells (world_block l) (shape_of (root_tree w.store root)) (world_of w save.version)) (sym are.side)
             (subst (λ (r : Option Name). ShowsCells (world_block (plan_of w).side) (shape_of (root_tree w.store r)) (world_of w save.version))
-            (sym still_there) (are.sound.shown save.version still));
+            (sym still_there) (shown_plainly w save.version are still));
       }
 
   pub one_pinned : (more : List Pin) → IsKept (log_of v) save.version → SaveFits (2 ^ v.side) save.name save.part
@@ -233,8 +235,8 @@ module _ (v u w : Versions) (pins : List Pin) (save : SavedBox) (root : Option N
     };
   }
 
-  pub pin_told : (answer : Answer) → Tells (2 ^ u.side) (world_of u save.version) (questions.Count save.part) answer
-      → Tells (2 ^ v.side) (world_of v save.version) (questions.Count save.part) answer
+  pub pin_told : (answer : Answer) → TellsVersion u save.version (questions.Count save.part) answer
+      → TellsVersion v save.version (questions.Count save.part) answer
   pin_told answer tells = told_still v u save.version (questions.Count save.part) answer shares.stay tells
 
 pub saves_added : (pins more : List Pin) (save : SavedBox) (root : Option Name)
@@ -247,13 +249,13 @@ saves_added pins more save root is =
 pub moment_left : (v w : Versions) → LeavesAll v w → moment_of v ≡ moment_of w
 moment_left v w leaves = sym (ap (λ (l : Log). length l.records) leaves.stay.log)
 
-pub save_listed : (side : ℕ) (world : World) (version : Option ℕ) (name : SaveName) (part : Boxed) (n asked : ℕ) (answer : Answer)
-    (old new : List SavedBox) → asked ≡ asked_version version n → Tells side world (questions.Count part) answer
+pub save_listed : (side : ℕ) (world : World) (tints : Tints) (version : Option ℕ) (name : SaveName) (part : Boxed) (n asked : ℕ) (answer : Answer)
+    (old new : List SavedBox) → asked ≡ asked_version version n → Tells side world tints (questions.Count part) answer
     → new ≡ old ++ record { name = name; version = asked; part = part } ∷ []
     → new ≡ old ++ saved_by (Save version name part) n (saved_as answer)
-save_listed side world version name part n asked answer old new is told added = go answer told
+save_listed side world tints version name part n asked answer old new is told added = go answer told
   where
-    go : (a : Answer) → Tells side world (questions.Count part) a → new ≡ old ++ saved_by (Save version name part) n (saved_as a)
+    go : (a : Answer) → Tells side world tints (questions.Count part) a → new ≡ old ++ saved_by (Save version name part) n (saved_as a)
     go _ (count _ cells e) =
         added ∙ ap (λ (v : ℕ). old ++ record { name = name; version = v; part = part } ∷ []) is
 

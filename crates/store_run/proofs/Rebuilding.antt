@@ -1,9 +1,10 @@
 -- What rebuilding the newest version's root leaves.
-use Rattle.std.proofs.Common.{◌≡◌, ℕ, ◌+◌, ◌-◌, ◌^◌, ◌≤◌, Some, None, Option, List, ◌∷◌, Result, Ok, Err, length, refl, sym, ◌∙◌, ap, subst, arith}
+use Rattle.std.proofs.Common.{◌≡◌, ℕ, ◌+◌, ◌-◌, ◌^◌, ◌≤◌, Some, None, Option, List, ◌∷◌, Result, Ok, Err, length, refl, sym, ◌∙◌, ap, subst, arith, false}
 use Rattle.vox_read.specs.Contents.{Content}
 use Rattle.history_model.specs.declared.acts.Act.{Act}
 use Rattle.history_model.specs.Logs.{Log, IsLegal}
-use Rattle.history_model.specs.Worlds.{World}
+use Rattle.history_model.specs.Worlds.{World, edited}
+use Rattle.history_model.specs.Moments.{world_has, world_tint}
 use Rattle.node_shapes.specs.declared.names.Name.{Name}
 use Rattle.node_shapes.specs.Shape.{Shape, ShowsCells, IsPart}
 use Rattle.node_shapes.specs.Tree.{Tree, shape_of}
@@ -13,6 +14,7 @@ use Rattle.history_model.specs.Logs.{FitsWorld}
 use Rattle.script.specs.Fitting.{QuestionFits}
 use Rattle.transcript.specs.declared.answers.Answer.{Answer}
 use Rattle.conformance.specs.Telling.{Tells}
+use Rattle.tints.proofs.VersionLaws.{versions_plainly_tinted}
 use Rattle.world_answers.specs.TellsRoots.{TellsRoot}
 use Rattle.block_walk.specs.Roots.{HoldsRoot}
 use Rattle.node_shapes.specs.Weights.{weigh, weight_of, number_of_trees}
@@ -32,10 +34,11 @@ use Rattle.one_store.specs.Known.{Known, IsStore, known_seen, root_tree, stored_
 use Rattle.one_store.specs.Steps.{SparesRoots, spares_on}
 use Rattle.one_store.proofs.RootLaws.{top_tree}
 use Rattle.one_store.proofs.StoreLaws.{held_is}
-use Rattle.store_run.specs.declared.versions.Versions.{Versions}
-use Rattle.store_run.specs.Kept.{plan_of, log_of, moment_of, world_of, AreVersions, HoldsTree, GainsTree, HoldsSame}
-use Rattle.store_run.specs.Steps.{StayVersions, StaysSeen, IsOverStore, LeavesAll, SharesRoot, PutsDown, MakesBeside, MakesRoot, MeetsBucket, edited_world, target_of}
+use Rattle.store_run.specs.declared.stored_versions.Versions.{Versions}
+use Rattle.store_run.specs.Kept.{plan_of, log_of, moment_of, world_of, tints_of, AreVersions, HoldsTree, GainsTree, HoldsSame}
+use Rattle.store_run.specs.Steps.{TellsVersion, StayVersions, StaysSeen, IsOverStore, LeavesAll, SharesRoot, PutsDown, MakesBeside, MakesRoot, MeetsBucket, edited_world, target_of}
 use Rattle.store_run.proofs.Holding.{gained_tree, gained_few, holds_root, holds_shows}
+use Rattle.store_run.proofs.Plainly.{plain_log, shown_plainly}
 use Rattle.store_run.proofs.Sparing.{with_store, tree_same}
 
 -- the newest version has no mark
@@ -50,7 +53,7 @@ stays_on a b c f g = record { models = g.models ∙ f.models; log = g.log ∙ f.
 
 pub edited_same : (old new : Versions) (act : Act) → StayVersions old new → edited_world new act ≡ edited_world old act
 edited_same old new act stay =
-    λ i. Rattle.possible.specs.Needed.made_of (stay.models i) ((stay.log i).records) act (length ((stay.log i).records))
+    λ i. edited (stay.models i) act (world_has (stay.models i) ((stay.log i).records) (length ((stay.log i).records)))
 
 pub target_same : (old new : Versions) (act : Act) → StayVersions old new → target_of new act ≡ target_of old act
 target_same old new act stay =
@@ -68,7 +71,7 @@ share_shows v version root are kept holds is =
     holds_shows v.store v.side root (world_of v version) holds (λ n e. share_level v version root n are is e)
     (subst (λ (l : ℕ). ShowsCells (world_block l) (shape_of (root_tree v.store root)) (world_of v version)) (sym are.side)
     (subst (λ (r : Option Name). ShowsCells (world_block (plan_of v).side) (shape_of (root_tree v.store r)) (world_of v version)) (sym is)
-    (are.sound.shown version kept)))
+    (shown_plainly v version are kept)))
 
 pub base_root : (v : Versions) (version : ℕ) (base : Option Name) → AreVersions v → HoldsTree v.store base
     → base ≡ stored_root v.store.roots version → HoldsRoot v.store.told.held v.side base
@@ -164,7 +167,7 @@ module _ (v u w : Versions) (base root : Option Name) (act : Act) (number : ℕ)
   plan_same = puts.leaves.stay.spares.plan ∙ over.spares.plan
 
   over_log : log_of u ≡ log_of v
-  over_log = λ i. record { side = over.side i; records = (over.records i).items; marks = Rattle.block_contents.specs.MarkLists.marks_below (Rattle.store_run.specs.Kept.mark_in ((over.marks i).items)) Rattle.one_store.specs.Spots.versions }
+  over_log = λ i. record { side = over.side i; coloured = false; records = (over.records i).items; marks = Rattle.block_contents.specs.MarkLists.marks_below (Rattle.store_run.specs.Kept.mark_in ((over.marks i).items)) Rattle.one_store.specs.Spots.versions }
 
   pub all_stay : StayVersions v w
   all_stay = record {
@@ -293,8 +296,10 @@ fits_still a v act stay fits =
 
 pub root_told : (v : Versions) (version : ℕ) (base : Option Name) (question : Question) (answer : Answer) → AreVersions v → IsKept (log_of v) version
     → HoldsTree v.store base → base ≡ stored_root v.store.roots version
-    → TellsRoot v.store.told.held v.side base question answer → Tells (2 ^ v.side) (world_of v version) question answer
-root_told v version base question answer are kept holds is tells = tells (world_of v version) (share_shows v version base are kept holds is)
+    → TellsRoot v.store.told.held v.side base question answer → TellsVersion v version question answer
+root_told v version base question answer are kept holds is tells =
+    tells (world_of v version) (tints_of v version) (share_shows v version base are kept holds is)
+    (λ c inside. versions_plainly_tinted v.models.items (log_of v) (plain_log v are) version c)
 
 pub seen_tree : (v : Versions) (s : Known) (version : ℕ) (base : Option Name) → HoldsTree v.store base → base ≡ stored_root v.store.roots version
     → SparesRoots v.store s → known_seen s ≡ known_seen v.store → HoldsTree s base
@@ -318,10 +323,12 @@ pub question_still : (a v : Versions) (question : Question) → StayVersions a v
 question_still a v question stay fits = subst (λ (l : Log). QuestionFits (2 ^ l.side) question) (sym stay.log) fits
 
 pub told_still : (a v : Versions) (version : ℕ) (question : Question) (answer : Answer) → StayVersions a v
-    → Tells (2 ^ v.side) (world_of v version) question answer → Tells (2 ^ a.side) (world_of a version) question answer
+    → TellsVersion v version question answer → TellsVersion a version question answer
 told_still a v version question answer stay told =
-    subst (λ (l : Log). Tells (2 ^ l.side) (Rattle.history_model.specs.Moments.world_has a.models.items l.records version) question answer) stay.log
-    (subst (λ (ms : List Content). Tells (2 ^ v.side) (Rattle.history_model.specs.Moments.world_has ms v.records.items version) question answer) stay.models told)
+    subst (λ (l : Log). Tells (2 ^ l.side) (world_has a.models.items l.records version)
+    (world_tint a.models.items l.records version) question answer) stay.log
+    (subst (λ (ms : List Content). Tells (2 ^ v.side) (world_has ms v.records.items version)
+    (world_tint ms v.records.items version) question answer) stay.models told)
 
 pub shared_tree : (a v : Versions) (version : ℕ) (base : Option Name) → SharesRoot a version base v → HoldsTree v.store base
 shared_tree a v version base shares = gained_tree a.store base v.store shares.gains

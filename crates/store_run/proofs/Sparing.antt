@@ -1,5 +1,5 @@
 -- Versions stay versions where the store alone changes, and spares the roots in their places.
-use Rattle.std.proofs.Common.{◌≡◌, ℕ, Some, None, Option, List, refl, sym, ◌∙◌, ap, subst, arith}
+use Rattle.std.proofs.Common.{◌≡◌, ℕ, ◌^◌, Some, None, Option, List, refl, sym, ◌∙◌, ap, subst, arith}
 use Rattle.vox_read.specs.Contents.{Content}
 use Rattle.history_model.specs.Logs.{Log}
 use Rattle.node_shapes.specs.declared.names.Name.{Name}
@@ -15,7 +15,7 @@ use Rattle.core_laws.specs.Soundness.{SoundEntries, SoundVersions, Sound}
 use Rattle.core_laws.specs.States.{IsLive}
 use Rattle.one_store.specs.Known.{Known, IsStore, known_seen, root_tree, stored_root}
 use Rattle.one_store.specs.Steps.{SparesRoots, GainsRoot, spares_itself}
-use Rattle.store_run.specs.declared.versions.Versions.{Versions}
+use Rattle.store_run.specs.declared.stored_versions.Versions.{Versions}
 use Rattle.store_run.specs.Kept.{plan_of, log_of, core_with, AreVersions, HoldsTree, HasRoom}
 use Rattle.store_run.specs.Steps.{StayVersions, LeavesAll, SharesRoot, PutsDown}
 use Rattle.store_run.proofs.Holding.{root_is, none_weighs, some_weighs}
@@ -57,7 +57,7 @@ sound_spared p models log old new spares sound plan is = record {
   shown = λ v kept.
       let side : new.words.plan.side ≡ p.side = ap (λ (q : Layout). q.side) (plan ∙ sym is) in
       let old_side : old.words.plan.side ≡ p.side = ap (λ (q : Layout). q.side) (sym is) in
-      subst (λ (t : Tree). ShowsCells (world_block p.side) (shape_of t) (Rattle.history_model.specs.Moments.world_has models log.records v))
+      subst (λ (t : Tree). ShowsCells (world_block p.side) (shape_of t) (Rattle.history_model.specs.Stores.stored_in (2 ^ p.side) models log.records v))
       (let same = ap (root_tree new) (stored_same old new v spares) ∙ spares.trees v in
       sym (ap (λ (l : ℕ). Rattle.core_laws.specs.States.tree_at (Rattle.entry_words.specs.Words.key_in new.words) (top l) (stored_root new.roots v)) (sym side) ∙ same
       ∙ ap (λ (l : ℕ). Rattle.core_laws.specs.States.tree_at (Rattle.entry_words.specs.Words.key_in old.words) (top l) (stored_root old.roots v)) old_side))
@@ -69,6 +69,7 @@ are_spared v s are spares = record {
   side = are.side ∙ sym (ap (λ (p : Layout). p.side) spares.plan);
   sound = subst (λ (p : Layout). SoundVersions p v.models.items (core_with (log_of v) s)) (sym spares.plan)
       (sound_spared (plan_of v) v.models.items (log_of v) v.store s spares are.sound spares.plan refl);
+  plain = are.plain;
   places = are.places;
   of_versions = are.of_versions;
   position = are.position;

@@ -17,13 +17,14 @@ use Rattle.core_laws.specs.States.{tree_at}
 use Rattle.entry_words.specs.Words.{Written, key_in}
 use Rattle.one_store.specs.Known.{Known, stored_root, root_tree}
 use Rattle.one_store.specs.Steps.{GivesRoot}
-use Rattle.store_run.specs.declared.versions.Versions.{Versions}
+use Rattle.store_run.specs.declared.stored_versions.Versions.{Versions}
 use Rattle.store_run.specs.Kept.{plan_of, log_of, moment_of, mark_in, AreVersions, HoldsNothing, HoldsTree}
 use Rattle.store_run.specs.Marked.{Rooted, HoldsKept}
 use Rattle.store_run.specs.Taken.{rooted_weight, AreTaken}
 use Rattle.store_run.proofs.Changing.{marked_gone}
 use Rattle.store_run.proofs.Finding.{kept_at, marked_at}
 use Rattle.store_run.proofs.Holding.{some_weighs, holds_root, holds_shows}
+use Rattle.store_run.proofs.Plainly.{shown_plainly}
 
 -- no more trees than roots
 weight_few : (s : Known) (roots : List Rooted) → rooted_weight (λ _. 1) s roots ≤ length roots
@@ -167,7 +168,7 @@ module _ (v : Versions) (s : Known) (roots : List Rooted) (of_v : AreVersions v)
   shown x has =
       subst (λ (t : Tree). ShowsCells (world_block (plan_of v).side) (shape_of t) (world_has v.models.items v.records.items x.0))
       (ap (root_tree v.store) (sym (are.roots_are x has)) ∙ sym (tree_of_words v.store s x.1 are.words))
-      (of_v.sound.shown x.0 (are.listed x has))
+      (shown_plainly v x.0 of_v (are.listed x has))
 
   pub all_taken : HoldsKept (plan_of v).side v.models.items (log_of v) s.told.held roots
   all_taken = record {

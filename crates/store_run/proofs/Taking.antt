@@ -10,7 +10,7 @@ use Rattle.node_shapes.specs.declared.names.Name.{Name}
 use Rattle.block_contents.specs.Versions.{IsKept, IsUnmarked}
 use Rattle.conformance.specs.Answers.{target_at}
 use Rattle.script_runs.proofs.Going.{goes_to}
-use Rattle.store_run.specs.declared.versions.Versions.{Versions}
+use Rattle.store_run.specs.declared.stored_versions.Versions.{Versions}
 use Rattle.node_shapes.specs.Weights.{number_of_trees}
 use Rattle.one_store.specs.Known.{Known}
 use Rattle.store_run.specs.Kept.{plan_of, log_of, moment_of, HoldsNothing, HoldsSame}
@@ -18,7 +18,7 @@ use Rattle.store_run.specs.Steps.{MakesRoot, SharesRoot, AppendsRecord, target_o
 use Rattle.node_shapes.specs.Shape.{Shape, IsPart}
 use Rattle.node_words.specs.Gathering.{Grew}
 use Rattle.history_model.specs.declared.acts.Act.{Act}
-use Rattle.history_model.specs.declared.acts.Act.TheVariants.{Fill, Erase, Ball, Carve, Copy, Stamp, Undo, Redo}
+use Rattle.history_model.specs.declared.acts.Act.TheVariants.{Fill, Erase, Ball, Carve, Copy, Stamp, Tint, Undo, Redo}
 use Rattle.history_model.specs.Logs.{HasTarget, MayFollow}
 use Rattle.history_model.specs.Positions.{position_after, first_of}
 use Rattle.block_contents.specs.Versions.{SameWorld}
@@ -27,6 +27,7 @@ use Rattle.conformance.proofs.LineKinds.{undo_target, redo_target}
 use Rattle.one_store.specs.Known.{IsStore, stored_root}
 use Rattle.store_run.specs.Kept.{world_of}
 use Rattle.store_run.specs.Replaying.{TakesEdit, TakesWay, CanFollow, Replays, IsReplay}
+use Rattle.store_run.proofs.Plainly.{same_in_world, same_in_store}
 use Rattle.store_run.proofs.Sparing.{versions_sound}
 
 pub edit_taken : (v u w : Versions) (r : Record) (root : Option Name) → MakesRoot v r.act root u
@@ -98,6 +99,7 @@ no_target records n (Ball b) other is may = absurd (let no : ⊥ = cc in no)
 no_target records n (Carve b) other is may = absurd (let no : ⊥ = cc in no)
 no_target records n (Copy b c) other is may = absurd (let no : ⊥ = cc in no)
 no_target records n (Stamp b c) other is may = absurd (let no : ⊥ = cc in no)
+no_target records n (Tint t) other is may = absurd (let no : ⊥ = cc in no)
 
 -- what comes of an undo or a redo
 pub way_replays : (old : List Record) (u w : Versions) (r : Record) (taken : Bool)
@@ -126,8 +128,10 @@ same_roots_same v number a b replay st low high is roots =
     let of_a = unmarked_kept v a replay.unmarked low in
     let of_b = unmarked_kept v b replay.unmarked high in
     let sound = versions_sound v number replay.are st in (
-      λ t. same_cells (plan_of v) v.models.items _ st.plan.side_low sound a b of_a of_b (roots.0 t),
-      λ same. roots.1 (same_root (plan_of v) v.models.items _ st.plan.side_low sound a b of_a of_b same),
+      λ t. same_in_world v a b replay.are
+          (same_cells (plan_of v) v.models.items _ st.plan.side_low sound a b of_a of_b (roots.0 t)),
+      λ same. roots.1 (same_root (plan_of v) v.models.items _ st.plan.side_low sound a b of_a of_b
+          (same_in_store v a b replay.are same)),
     )
 
 -- ---- nothing is held between two calls

@@ -8,12 +8,14 @@ use Rattle.history_model.specs.declared.acts.Act.{Act}
 use Rattle.history_model.specs.declared.acts.Act.TheVariants.{Undo, Redo}
 use Rattle.history_model.specs.declared.histories.Record.{Record}
 use Rattle.history_model.specs.LegalLaws.{edit_follows}
-use Rattle.history_model.specs.Logs.{Log, FitsWorld}
+use Rattle.history_model.specs.Logs.{Log, FitsWorld, suits_tints}
 use Rattle.history_model.specs.Positions.{position_after, first_of, undone, redone}
-use Rattle.history_model.specs.Worlds.{World, is_edit}
+use Rattle.history_model.specs.Worlds.{World, edited, is_edit}
 use Rattle.node_shapes.specs.declared.names.Name.{Name}
-use Rattle.node_shapes.specs.Shape.{ShowsCells}
+use Rattle.node_shapes.specs.Shape.{Shape, ShowsCells, IsPart}
 use Rattle.node_shapes.specs.Tree.{shape_of}
+use Rattle.node_words.specs.Gathering.{Grew, Fails}
+use Rattle.node_words.specs.Held.{Seen}
 use Rattle.node_words.specs.Plans.{Layout}
 use Rattle.cell_shapes.proofs.CellShapeLaws.{shape_with-has, shape_with-canonical}
 use Rattle.block_contents.specs.Aligned.{top, world_block}
@@ -23,13 +25,15 @@ use Rattle.core_laws.proofs.Targets.{may_go}
 use Rattle.edit_cells.specs.Worlds.{world_shape, world_cells, block_at_origin}
 use Rattle.conformance.specs.Answers.{target_at}
 use Rattle.conformance.proofs.LineKinds.{undo_target, redo_target}
-use Rattle.script_runs.specs.Keeping.{IsTarget}
+use Rattle.script_runs.specs.Keeping.{IsWanted, IsPlainTarget, MeetsFull}
 use Rattle.script_runs.proofs.Going.{goes_to}
-use Rattle.undo_trail.specs.Trails.{trail_position}
+use Rattle.script_runs.proofs.PlainTargets.{plain_growth_wanted, plain_failure_meets_full}
+use Rattle.undo.specs.Trails.{trail_position}
 use Rattle.one_store.specs.Known.{IsStore, root_tree, stored_root}
-use Rattle.store_run.specs.declared.versions.Versions.{Versions}
+use Rattle.store_run.specs.declared.stored_versions.Versions.{Versions}
 use Rattle.store_run.specs.Kept.{plan_of, log_of, moment_of, core_with, AreVersions}
 use Rattle.store_run.specs.Steps.{SharesRoot, MakesRoot, edited_world, target_of}
+use Rattle.store_run.proofs.Plainly.{edited_plainly, stored_plainly}
 use Rattle.store_run.proofs.Rebuilding.{edited_same}
 use Rattle.store_run.proofs.Sparing.{versions_sound}
 
@@ -50,19 +54,41 @@ world_shows level world = record {
 }
 
 -- the target of an edit is the shape of what it makes of the newest version
-pub is_target : (v : Versions) (act : Act) → AreVersions v → is_edit act ≡ true
-    → IsTarget (plan_of v) v.models.items v.records.items act (moment_of v) (target_of v act)
-is_target v act are edit = record {
+is_target : (v : Versions) (act : Act) → AreVersions v → is_edit act ≡ true → suits_tints false act ≡ true
+    → IsPlainTarget (plan_of v) v.models.items v.records.items act (moment_of v) (target_of v act)
+is_target v act are edit plain = record {
   edit = edit;
+  plain = plain;
   canonical = shape_with-canonical ((plan_of v).side - 2) (world_cells (edited_world v act));
-  shows = world_shows ((plan_of v).side - 2) (edited_world v act);
+  shows =
+      subst (λ (w : World). ShowsCells (world_block (plan_of v).side) (target_of v act) (edited v.models.items act w))
+      (sym (stored_plainly (plan_of v).side v.models.items v.records.items are.plain (moment_of v)))
+      (world_shows ((plan_of v).side - 2) (edited_world v act));
 }
 
+-- what an edit wants of the newest version
+abbrev pub Wants : Versions → Act → Shape → Type 0
+Wants v act s = IsWanted (plan_of v) v.models.items v.records.items act (moment_of v) s
+
+module _ (v : Versions) (act : Act) (are : AreVersions v) (edit : is_edit act ≡ true)
+    (plain : suits_tints false act ≡ true) where
+  pub grew_wanted : (old new : List Shape) → Grew (λ s. IsPart s (target_of v act)) old new
+      → Grew (Wants v act) old new
+  grew_wanted old new grew =
+      plain_growth_wanted (plan_of v) v.models.items v.records.items act (moment_of v) (target_of v act)
+      (is_target v act are edit plain) old new grew
+
+  pub meets_full : (level bucket : ℕ) (old new : Seen) → Fails (target_of v act) level bucket old new
+      → MeetsFull (Wants v act) level bucket old new
+  meets_full level bucket old new fails =
+      plain_failure_meets_full (plan_of v) v.models.items v.records.items act (moment_of v) (target_of v act)
+      (is_target v act are edit plain) level bucket old new fails
+
 -- the edit may become the next record, with the root that it made
-pub may_edit : (v u : Versions) (r : Record) (root : Option Name) → AreVersions v → MakesRoot v r.act root u
-    → is_edit r.act ≡ true → FitsWorld (2 ^ v.side) v.models.items r.act → moment_of u ≢ 65535 → moment_of u ≤ 65535
+pub may_edit : (v u : Versions) (r : Record) (root : Option Name) → AreVersions v → AreVersions u → MakesRoot v r.act root u
+    → is_edit r.act ≡ true → suits_tints false r.act ≡ true → FitsWorld (2 ^ v.side) v.models.items r.act → moment_of u ≢ 65535 → moment_of u ≤ 65535
     → MayAppend (plan_of u) u.models.items r root (core_with (log_of u) u.store)
-may_edit v u r root are makes edit fits late few =
+may_edit v u r root are now makes edit plain fits late few =
     let plan = makes.stay.spares.plan in
     let side : (plan_of u).side ≡ v.side = ap (λ (p : Layout). p.side) plan ∙ sym are.side in
     record {
@@ -77,7 +103,10 @@ may_edit v u r root are makes edit fits late few =
           subst (λ (p : Layout). ShowsCells (world_block p.side) (shape_of (root_tree u.store root)) (edited_world u r.act)) (sym plan)
           (subst (λ (x : World). ShowsCells (world_block (plan_of v).side) (shape_of (root_tree u.store root)) x) (sym (edited_same v u r.act makes.stay)) makes.shows);
       makes = record {
-        edit = λ _. record { each = λ q inside. refl };
+        edit = λ _. record {
+          each = λ q inside. ap (λ (x : World). x q)
+              (edited_plainly (plan_of u).side u.models.items u.records.items r.act now.plain plain (moment_of u));
+        };
         other = λ no. absurd (Rattle.std.proofs.lemmas.Bool.both_ways (is_edit r.act) no edit);
       };
     }

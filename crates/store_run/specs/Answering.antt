@@ -8,7 +8,7 @@ use Rattle.transcript.specs.declared.answers.Answer.{Answer}
 use Rattle.transcript.specs.declared.answers.Answer.TheVariants as answers
 use Rattle.conformance.specs.Kinds.{answer_at}
 use Rattle.script_runs.specs.Sessions.{GoesOnWith}
-use Rattle.store_run.specs.declared.versions.Versions.{Versions}
+use Rattle.store_run.specs.declared.stored_versions.Versions.{Versions}
 use Rattle.store_run.specs.Kept.{plan_of, log_of, moment_of, noted_of}
 
 -- whatever has run so far goes on with this answer to the line, which is of the newest moment then

@@ -16,7 +16,12 @@ use Rattle.store_run.specs.Answering.{nothing_to_go_to}
 
 -- the history with one more record
 abbrev pub with_record : Log → Record → Log
-with_record log r = record { side = log.side; records = log.records ++ r ∷ []; marks = log.marks }
+with_record log r = record {
+  side = log.side;
+  coloured = log.coloured;
+  records = log.records ++ r ∷ [];
+  marks = log.marks;
+}
 
 -- the act is an undo or a redo, and goes to this version
 pub record GoesToVersion (log : Log) (act : Act) (to : ℕ) : Type 0 where
@@ -47,6 +52,7 @@ pub record Marks (log : Log) (mark : Mark) (new : Log) : Type 0 where
   pub kept : IsKept log mark.version
   pub earlier : mark.version < length log.records
   pub side : new.side ≡ log.side
+  pub coloured : new.coloured ≡ log.coloured
   pub records : new.records ≡ log.records
   pub marks : MarkComes log.marks mark new.marks
 

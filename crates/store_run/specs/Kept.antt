@@ -1,11 +1,12 @@
 -- What versions over a store of nodes are: models, records and marks, and a store that has the root
 -- of each version which is kept in the place of its number.
-use Rattle.std.specs.Prelude.{◌≡◌, ℕ, ◌+◌, ◌<◌, Option, Some, None, List, length, slice_index_or, vec_len, vec_capacity}
+use Rattle.std.specs.Prelude.{◌≡◌, ℕ, ◌+◌, ◌<◌, Option, Some, None, List, All, length, slice_index_or, vec_len, vec_capacity, true, false}
 use Rattle.history_model.specs.declared.histories.Mark.{Mark}
-use Rattle.history_model.specs.Logs.{Log}
+use Rattle.history_model.specs.Logs.{Log, suits_tints}
 use Rattle.history_model.specs.Positions.{position_after}
 use Rattle.history_model.specs.Worlds.{World}
-use Rattle.history_model.specs.Moments.{world_has}
+use Rattle.history_model.specs.Moments.{world_has, world_tint}
+use Rattle.history_model.specs.Tints.{Tints}
 use Rattle.node_shapes.specs.declared.names.Name.{Name}
 use Rattle.node_shapes.specs.Tree.{Tree}
 use Rattle.node_shapes.specs.Weights.{weigh, weight_of}
@@ -15,10 +16,10 @@ use Rattle.one_store.specs.Spots.{versions}
 use Rattle.block_contents.specs.MarkLists.{marks_below, AreOfVersions}
 use Rattle.core_laws.specs.States.{State}
 use Rattle.core_laws.specs.Soundness.{SoundVersions}
-use Rattle.undo_trail.specs.Trails.{trail_position, HasSlack}
+use Rattle.undo.specs.Trails.{trail_position, HasSlack}
 use Rattle.one_store.specs.Known.{Known, core_of, root_tree}
 use Rattle.script_runs.specs.Keeping.{MadeAndMet}
-use Rattle.store_run.specs.declared.versions.Versions.{Versions}
+use Rattle.store_run.specs.declared.stored_versions.Versions.{Versions}
 
 abbrev pub plan_of : Versions → Layout
 plan_of v = v.store.words.plan
@@ -30,16 +31,20 @@ mark_in marks version = slice_index_or marks version None
 abbrev pub log_of : Versions → Log
 log_of v = record {
   side = v.side;
+  coloured = false;
   records = v.records.items;
   marks = marks_below (mark_in v.marks.items) versions;
 }
 
--- how many records there are, and the world of a version
+-- how many records there are, and the world of a version with its tints
 abbrev pub moment_of : Versions → ℕ
 moment_of v = length v.records.items
 
 abbrev pub world_of : Versions → ℕ → World
 world_of v version = world_has v.models.items v.records.items version
+
+abbrev pub tints_of : Versions → ℕ → Tints
+tints_of v version = world_tint v.models.items v.records.items version
 
 -- the state of a core that they are read as
 abbrev pub core_with : Log → Known → State
@@ -55,11 +60,12 @@ core_with log store = record {
 abbrev pub noted_of : Versions → MadeAndMet
 noted_of v = record { made = v.store.told.made; met = v.store.told.met }
 
--- the roots show the cells of their versions, each mark stands at its version, and the trail is
--- where the records lead
+-- the roots show the cells of their versions, no act has a tint, each mark stands at its version,
+-- and the trail is where the records lead
 pub record AreVersions (v : Versions) : Type 0 where
   pub side : v.side ≡ (plan_of v).side
   pub sound : SoundVersions (plan_of v) v.models.items (core_with (log_of v) v.store)
+  pub plain : All (λ r. suits_tints false r.act ≡ true) v.records.items
   pub places : length v.marks.items ≡ versions
   pub of_versions : AreOfVersions (mark_in v.marks.items)
   pub position : trail_position v.trail ≡ position_after v.records.items

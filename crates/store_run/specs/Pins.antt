@@ -12,7 +12,7 @@ use Rattle.script.specs.Fitting.{SaveFits}
 use Rattle.conformance.specs.declared.saves.SavedBox.{SavedBox}
 use Rattle.store_run.specs.declared.pins.Pin.{Pin}
 use Rattle.store_run.specs.declared.pins.Pinned.{Pinned}
-use Rattle.store_run.specs.declared.versions.Versions.{Versions}
+use Rattle.store_run.specs.declared.stored_versions.Versions.{Versions}
 use Rattle.store_run.specs.Kept.{AreVersions}
 
 -- a file can be made of the save, and this tree, which has the pin's root, shows its version

@@ -13,7 +13,7 @@ use Rattle.node_words.specs.Plans.{Layout}
 use Rattle.possible.specs.Needed.{Span, IsPossible}
 use Rattle.script_runs.specs.Keeping.{MadeAndMet, IsMadeInRun}
 use Rattle.store_notes.specs.Changes.{MakesNothing}
-use Rattle.store_run.specs.declared.versions.Versions.{Versions}
+use Rattle.store_run.specs.declared.stored_versions.Versions.{Versions}
 use Rattle.store_run.specs.declared.replaying.ReplayRefused.{ReplayRefused}
 use Rattle.store_run.specs.declared.replaying.ReplayRefused.TheVariants as refusals
 use Rattle.store_run.specs.Kept.{plan_of, log_of, noted_of, AreVersions, HoldsNothing}

@@ -1,10 +1,11 @@
 -- What the calls of versions over a store do.
-use Rattle.std.specs.Prelude.{◌≡◌, ℕ, ◌-◌, ◌<◌, ◌≤◌, Option, Some}
+use Rattle.std.specs.Prelude.{◌≡◌, ℕ, ◌-◌, ◌^◌, ◌<◌, ◌≤◌, Option, Some}
 use Rattle.std.specs.List.{Contains}
 use Rattle.history_model.specs.declared.acts.Act.{Act}
 use Rattle.history_model.specs.declared.histories.Mark.{Mark}
 use Rattle.history_model.specs.declared.histories.Record.{Record}
-use Rattle.history_model.specs.Worlds.{World}
+use Rattle.history_model.specs.declared.questions.Question.{Question}
+use Rattle.history_model.specs.Worlds.{World, edited}
 use Rattle.node_shapes.specs.declared.names.Name.{Name}
 use Rattle.node_shapes.specs.Shape.{Shape, ShowsCells}
 use Rattle.node_shapes.specs.Tree.{shape_of}
@@ -16,12 +17,13 @@ use Rattle.edit_cells.specs.Worlds.{Rebuilt, world_shape}
 use Rattle.store_notes.specs.Changes.{MakesNothing}
 use Rattle.one_store.specs.Known.{known_seen, root_tree, stored_root}
 use Rattle.one_store.specs.Steps.{SparesRoots}
-use Rattle.possible.specs.Needed.{made_of}
 use Rattle.conformance.specs.Running.{GrowsBy, ForgetsBy}
-use Rattle.store_run.specs.declared.versions.Versions.{Versions}
-use Rattle.store_run.specs.declared.versions.VersionFound.{VersionFound}
-use Rattle.store_run.specs.declared.versions.VersionFound.TheVariants.{Kept, NotThere, Marked}
-use Rattle.store_run.specs.Kept.{plan_of, log_of, moment_of, GainsTree, LosesTree}
+use Rattle.conformance.specs.Telling.{Tells}
+use Rattle.transcript.specs.declared.answers.Answer.{Answer}
+use Rattle.store_run.specs.declared.stored_versions.Versions.{Versions}
+use Rattle.store_run.specs.declared.stored_versions.VersionFound.{VersionFound}
+use Rattle.store_run.specs.declared.stored_versions.VersionFound.TheVariants.{Kept, NotThere, Marked}
+use Rattle.store_run.specs.Kept.{plan_of, log_of, moment_of, world_of, tints_of, GainsTree, LosesTree}
 
 -- whether a version can be read
 pub record HasMark (v : Versions) (version : ℕ) : Type 0 where
@@ -33,6 +35,11 @@ abbrev pub IsVersionFound : Versions → ℕ → VersionFound → Type 0
 IsVersionFound v version Kept = IsKept (log_of v) version
 IsVersionFound v version NotThere = moment_of v < version
 IsVersionFound v version Marked = (version ≤ moment_of v) × HasMark v version
+
+-- the answer tells what the question asks of a version
+abbrev pub TellsVersion : Versions → ℕ → Question → Answer → Type 0
+TellsVersion v version question answer =
+    Tells (2 ^ v.side) (world_of v version) (tints_of v version) question answer
 
 -- models, records and marks stay, and so do the roots in their places
 pub record StayVersions (old new : Versions) : Type 0 where
@@ -74,7 +81,7 @@ pub record SharesRoot (old : Versions) (version : ℕ) (root : Option Name)
 
 -- what an edit makes of the newest version, and the canonical shape of that
 abbrev pub edited_world : Versions → Act → World
-edited_world v act = made_of v.models.items v.records.items act (moment_of v)
+edited_world v act = edited v.models.items act (world_of v (moment_of v))
 
 abbrev pub target_of : Versions → Act → Shape
 target_of v act = world_shape ((plan_of v).side - 2) (edited_world v act)

@@ -6,7 +6,7 @@ use Rattle.node_shapes.specs.Weights.{weigh, weight_of}
 use Rattle.block_contents.specs.Versions.{IsKept}
 use Rattle.one_store.specs.Known.{Known, root_tree, stored_root}
 use Rattle.store_run.specs.Kept.{log_of}
-use Rattle.store_run.specs.declared.versions.Versions.{Versions}
+use Rattle.store_run.specs.declared.stored_versions.Versions.{Versions}
 use Rattle.store_run.specs.Marked.{Rooted}
 
 -- how much the trees of some roots weigh

@@ -1,4 +1,4 @@
-ghost use Rattle.std.specs.Prelude.{◌≡◌, ◌<◌, ◌^◌, [], IfOk};
+ghost use Rattle.std.specs.Prelude.{◌≡◌, ◌<◌, ◌^◌, [], IfOk, false};
 ghost use Rattle.vox_read.specs.Contents.{AreModels};
 ghost use Rattle.store_run.specs.Desks.{desk_state};
 ghost use Rattle.store_run.specs.Pins.{ArePinned};
@@ -55,7 +55,7 @@ impl<L: Ledger> StoreDesk<L> {
         ensures { IfOk result (λ d. d ≡ record {
           plan = plan.now;
           models = models;
-          log = record { side = plan.now.side; records = []; marks = [] };
+          log = record { side = plan.now.side; coloured = false; records = []; marks = [] };
           noted = record { made = []; met = [] };
           saved = [];
         }) }

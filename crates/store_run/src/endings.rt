@@ -4,7 +4,7 @@ ghost use Rattle.store_run.specs.Kept.{log_of, mark_in, AreVersions, HoldsNothin
 ghost use Rattle.reporting.specs.Numbers.{AreNumbers};
 ghost use Rattle.reporting.specs.Roots.{RootsTellWorlds, listed_root};
 
-use crate::versions::Versions;
+use crate::stored_versions::Versions;
 use history_model::{History, Mark};
 use node_shapes::Name;
 use std::alloc::Global;
@@ -54,6 +54,7 @@ impl Versions {
         let marks = marks_in(alloc, self.marks.as_slice())?;
         Ok(History {
             side: self.side,
+            coloured: false,
             records,
             marks,
         })
@@ -74,6 +75,7 @@ impl Versions {
         let marks = marks_in(alloc, marks.as_slice())?;
         Ok(History {
             side,
+            coloured: false,
             records,
             marks,
         })

@@ -7,7 +7,7 @@ ghost use Rattle.store_run.specs.Marked.{HoldsKept};
 ghost use Rattle.store_run.specs.Taken.{AreTaken};
 
 use crate::pins::put_away;
-use crate::versions::Versions;
+use crate::stored_versions::Versions;
 use history_model::Mark;
 use node_words::Share;
 use one_store::OneStore;

@@ -1,4 +1,8 @@
 //! Scripts run one after another over a store of shared nodes for one thread.
+//!
+//! The program's runs are those of `world_run`; this is the plain way, on which audits, files of
+//! versions and the library for C stand. What its versions are is said in `specs/Kept.antt`, what a
+//! replay of a history makes in `specs/Replaying.antt`. No table, thread or text occurs here.
 #![tactic(auto)]
 
 mod desks;
@@ -13,7 +17,7 @@ mod pins;
 mod replaying;
 mod replays;
 mod runs;
-mod versions;
+mod stored_versions;
 
 pub use act_rebuilds::{draw_models, rebuild_act};
 pub use held_roots::HeldRoots;

@@ -1,7 +1,7 @@
 //! How versions answer the lines of scripts.
 ghost use Rattle.std.specs.Prelude.{◌≡◌, ◌+◌, ◌<◌, ◌≤◌, ◌^◌, Bool, true, false};
 ghost use Rattle.history_model.specs.Worlds.{is_edit};
-ghost use Rattle.history_model.specs.Logs.{FitsWorld};
+ghost use Rattle.history_model.specs.Logs.{FitsWorld, suits_tints};
 ghost use Rattle.node_shapes.specs.Weights.{number_of_trees};
 ghost use Rattle.script.specs.Fitting.{QuestionFits};
 ghost use Rattle.script.specs.declared.commands.Command.TheVariants.{Edit, Forget, Ask, Same};
@@ -10,7 +10,7 @@ ghost use Rattle.store_run.specs.Kept.{log_of, moment_of, AreVersions, HoldsSame
 ghost use Rattle.store_run.specs.Answering.{GoesOnBy, nothing_to_go_to};
 ghost use Rattle.store_run.specs.Changing.{Changes, Forgets};
 
-use crate::versions::{RECORDS, VersionFound, Versions};
+use crate::stored_versions::{RECORDS, VersionFound, Versions};
 use history_model::{Act, Mark, Question, Record};
 use node_words::Steps;
 use std::sync::ledger::Ledger;
@@ -30,6 +30,7 @@ impl Versions {
         requires few { number_of_trees self.old.store.told.held ≤ 2048 }
         requires room { HasRoom self.old }
         requires edit { is_edit act ≡ true }
+        requires plain { suits_tints false act ≡ true }
         requires fits { FitsWorld (2 ^ self.old.side) self.old.models.items act }
         ensures are { AreVersions self.new }
         ensures goes_on { (once : Bool) → GoesOnBy self.old session
@@ -57,7 +58,7 @@ impl Versions {
 
     /// An undo or a redo: it has nowhere to go, its version was forgotten, the history is full, or
     /// it becomes the next record.
-    #[tactic(auto, using(crate::proofs::Targets::may_go_to, crate::proofs::Answering::go_nowhere, crate::proofs::Answering::go_forgotten, crate::proofs::Answering::go_late, crate::proofs::Answering::go_done, crate::proofs::Answering::go_past, crate::proofs::Answering::went_same, crate::proofs::Holding::same_held, crate::proofs::Rebuilding::shared_tree))]
+    #[tactic(auto, using(crate::proofs::Plainly::way_plain, crate::proofs::Targets::may_go_to, crate::proofs::Answering::go_nowhere, crate::proofs::Answering::go_forgotten, crate::proofs::Answering::go_late, crate::proofs::Answering::go_done, crate::proofs::Answering::go_past, crate::proofs::Answering::went_same, crate::proofs::Holding::same_held, crate::proofs::Rebuilding::shared_tree))]
     pub(crate) fn go(&mut self, session: u16, line: u32, act: Act) -> Answer
         requires are { AreVersions self.old }
         requires few { number_of_trees self.old.store.told.held ≤ 2048 }

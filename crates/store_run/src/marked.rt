@@ -1,6 +1,6 @@
-ghost use Rattle.std.specs.Prelude.{◌≡◌, ◌+◌, ◌<◌, ◌≤◌, ◌^◌, ◌↔◌, ◌++◌, ◌∷◌, [], IfOk, IfErr, OnOk, length};
+ghost use Rattle.std.specs.Prelude.{◌≡◌, ◌+◌, ◌<◌, ◌≤◌, ◌^◌, ◌↔◌, ◌++◌, ◌∷◌, [], IfOk, IfErr, OnOk, length, true, false};
 ghost use Rattle.vox_read.specs.Contents.{AreModels};
-ghost use Rattle.history_model.specs.Logs.{FitsWorld, MayFollow};
+ghost use Rattle.history_model.specs.Logs.{FitsWorld, MayFollow, suits_tints};
 ghost use Rattle.history_model.specs.Positions.{position_after};
 ghost use Rattle.block_contents.specs.Versions.{IsKept};
 ghost use Rattle.one_store.specs.Known.{known_seen};
@@ -11,7 +11,7 @@ ghost use Rattle.store_run.specs.Replaying.{MakesOnlyParts, RefusesRecord};
 use crate::held_roots::HeldRoots;
 use crate::lines::is_edit;
 use crate::replaying::ReplayRefused;
-use crate::versions::Versions;
+use crate::stored_versions::Versions;
 use history_model::{Mark, Record};
 use node_words::{Plan, Steps};
 use std::alloc::Global;
@@ -60,7 +60,8 @@ impl<L: Ledger> MarkedReplay<L> {
         ensures plan { IfOk result (λ r. r.plan ≡ plan.now) }
         ensures models { IfOk result (λ r. r.models ≡ models) }
         ensures log { IfOk result
-            (λ r. r.log ≡ record { side = plan.now.side; records = []; marks = [] }) }
+            (λ r. r.log
+            ≡ record { side = plan.now.side; coloured = false; records = []; marks = [] }) }
         ensures made { IfOk result (λ r. MakesOnlyParts (replayed r)) }
     {
         let versions = Versions::begin(alloc, plan, models, records)?;
@@ -73,6 +74,7 @@ impl<L: Ledger> MarkedReplay<L> {
     #[tactic(auto, using(crate::proofs::Filling::edit_parts, crate::proofs::Filling::way_parts, crate::proofs::Filling::edit_fills, crate::proofs::Followed::log_taken, crate::proofs::Taking::free_few, crate::proofs::Taking::same_free))]
     pub fn take(&mut self, next: Record) -> Result<(), ReplayRefused>
         requires early { length self.old.log.records < 65535 }
+        requires plain { suits_tints false next.act ≡ true }
         requires fits { FitsWorld (2 ^ self.old.plan.side) self.old.models next.act }
         requires follows { MayFollow self.old.log.marks (length self.old.log.records + 1) next.act
             (position_after self.old.log.records) }

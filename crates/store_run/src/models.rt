@@ -1,11 +1,11 @@
 //! The models of versions, which own them, and what an act makes of a root with them.
-ghost use Rattle.std.specs.Prelude.{◌≡◌, ◌≤◌, ◌^◌, ℕ, true, Some, List, IfOk, option_copied};
+ghost use Rattle.std.specs.Prelude.{◌≡◌, ◌≤◌, ◌^◌, ℕ, true, false, Some, List, IfOk, option_copied};
 ghost use Rattle.std.specs.List.{slice_get};
 ghost use Rattle.vw_cell.specs.Places.{FitsAt};
 ghost use Rattle.vox_read.specs.Contents.{Content, IsModel, AreModels};
 ghost use Rattle.node_shapes.specs.Weights.{number_of_trees};
 ghost use Rattle.history_model.specs.Worlds.{is_edit};
-ghost use Rattle.history_model.specs.Logs.{FitsWorld};
+ghost use Rattle.history_model.specs.Logs.{FitsWorld, suits_tints};
 ghost use Rattle.history_model.specs.declared.acts.Act.TheVariants.{Stamp};
 ghost use Rattle.block_walk.specs.Roots.{HoldsRoot};
 ghost use Rattle.act_rebuilds.specs.Acts.{RebuildsAct, GrowsByAct, RefusesAct};
@@ -80,6 +80,7 @@ pub(crate) fn rebuild_own<N: NodeStore, L: Ledger>(
 ) -> Result<Option<Share>, Full>
     requires side { side ≡ (N.seen store.old).plan.side }
     requires edit { is_edit act ≡ true }
+    requires plain { suits_tints false act ≡ true }
     requires fits { FitsWorld (2 ^ side) models.now act }
     requires old { HoldsRoot (N.seen store.old).held side (option_copied old) }
     requires room { number_of_trees (N.seen store.old).held ≤ 3910 }

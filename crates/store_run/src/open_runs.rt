@@ -1,6 +1,7 @@
 ghost use Rattle.std.specs.Prelude.{◌≡◌, ◌<◌, true, Some, IfOk, length};
 ghost use Rattle.std.specs.List.{slice_get};
 ghost use Rattle.conformance.specs.declared.saves.SavedBox.{SavedBox};
+ghost use Rattle.history_model.specs.Logs.{IsPlain};
 ghost use Rattle.reporting.specs.Numbers.{AreNumbers};
 ghost use Rattle.reporting.specs.Roots.{RootsTellWorlds, listed_root};
 ghost use Rattle.script.specs.Placing.{is_save_name};
@@ -79,6 +80,7 @@ impl OpenRun {
     /// Gives back what is held for saves; then roots and nodes are those of the versions alone.
     pub fn close(self, alloc: Global) -> Result<StoreRan, Memory>
         ensures history { IfOk result (λ r. r.history ≡ self.log) }
+        ensures plain { IfOk result (λ r. IsPlain r.history) }
         ensures places { IfOk result (λ r. length r.history.records < length r.roots.items) }
         ensures roots { IfOk result (λ r. RootsTellWorlds self.models r.history
             (listed_root r.roots.items)) }
@@ -90,12 +92,14 @@ impl OpenRun {
     }
 }
 
+#[tactic(auto, using(crate::proofs::Plainly::plain_log))]
 fn close_over<L: Ledger>(alloc: Global, pinned: Pinned, blank: Blank) -> Result<StoreRan, Memory>
     requires are { ArePinned pinned.versions pinned.pins.items }
     requires name { blank.name ≡ L.name }
     requires parts { blank.parts ≡ L.parts }
     requires some { 0 < L.parts }
     ensures history { IfOk result (λ r. r.history ≡ log_of pinned.versions) }
+    ensures plain { IfOk result (λ r. IsPlain r.history) }
     ensures places { IfOk result (λ r. length r.history.records < length r.roots.items) }
     ensures roots { IfOk result (λ r. RootsTellWorlds pinned.versions.models.items r.history
         (listed_root r.roots.items)) }

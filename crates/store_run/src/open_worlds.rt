@@ -1,11 +1,11 @@
 //! A world that stands open, and is changed and asked one call at a time.
-ghost use Rattle.std.specs.Prelude.{◌≡◌, ◌↔◌, ◌<◌, ◌≤◌, ◌^◌, Bool, [], Some, IfOk, IfSome, IsTrue, OnErr, length, option_copied};
+ghost use Rattle.std.specs.Prelude.{◌≡◌, ◌↔◌, ◌<◌, ◌≤◌, ◌^◌, Bool, [], Some, IfOk, IfSome, IsTrue, OnErr, length, option_copied, true, false};
 ghost use Rattle.std.specs.List.{slice_get};
 ghost use Rattle.vw_cell.specs.Places.{FitsAt};
 ghost use Rattle.vox_read.specs.Contents.{AreModels};
 ghost use Rattle.history_model.specs.Journal.{journal_of};
-ghost use Rattle.history_model.specs.Logs.{FitsWorld};
-ghost use Rattle.history_model.specs.Moments.{world_has};
+ghost use Rattle.history_model.specs.Logs.{FitsWorld, suits_tints};
+ghost use Rattle.history_model.specs.Moments.{world_has, world_tint};
 ghost use Rattle.block_contents.specs.Versions.{IsKept, SameWorld};
 ghost use Rattle.extract.specs.Saved.{file_of_box};
 ghost use Rattle.script.specs.Fitting.{QuestionFits};
@@ -19,11 +19,11 @@ ghost use Rattle.one_store.specs.Known.{stored_root};
 ghost use Rattle.store_run.specs.Answering.{GoesOnBy};
 ghost use Rattle.store_run.specs.Changing.{Changes, Forgets, MakesVersion};
 ghost use Rattle.store_run.specs.Kept.{log_of, moment_of, world_of, HasRoom, AreVersions, HoldsTree};
-ghost use Rattle.store_run.specs.Steps.{LeavesAll, StaysSeen};
+ghost use Rattle.store_run.specs.Steps.{LeavesAll, StaysSeen, TellsVersion};
 ghost use Rattle.store_run.specs.Worlds.{IsAtRest, size_of};
 
 use crate::lines::is_edit;
-use crate::versions::{VersionFound, Versions};
+use crate::stored_versions::{VersionFound, Versions};
 use extract::box_file;
 use history_model::{Act, Question, journal_text};
 use node_words::{Plan, Share, Steps};
@@ -69,7 +69,7 @@ impl OpenWorld {
         ensures { IfOk result (λ w. w ≡ record {
           plan = plan.now;
           models = models;
-          log = record { side = plan.now.side; records = []; marks = [] };
+          log = record { side = plan.now.side; coloured = false; records = []; marks = [] };
           noted = record { made = []; met = [] };
         }) }
     {
@@ -114,6 +114,7 @@ impl OpenWorld {
 
     /// Does what the act asks for, as this line of this session.
     pub fn change(&mut self, session: u16, line: u32, act: Act) -> Result<Answer, Memory>
+        requires plain { suits_tints false act ≡ true }
         requires fits { FitsWorld (2 ^ self.old.plan.side) self.old.models act }
         ensures plan { self.new.plan ≡ self.old.plan }
         ensures models { self.new.models ≡ self.old.models }
@@ -154,7 +155,8 @@ impl OpenWorld {
         requires kept { IsKept self.old.log version }
         requires fits { QuestionFits (2 ^ self.old.plan.side) question }
         ensures tells { Tells (2 ^ self.old.plan.side)
-            (world_has self.old.models self.old.log.records version) question result }
+            (world_has self.old.models self.old.log.records version)
+            (world_tint self.old.models self.old.log.records version) question result }
         ensures same { self.new ≡ self.old }
     {
         ask_over::<Brand>(&mut self.versions, version, question, Blank::new(1))
@@ -204,6 +206,7 @@ fn change_over<L: Ledger>(
 ) -> Answer
     requires rest { IsAtRest versions.old }
     requires room { HasRoom versions.old }
+    requires plain { suits_tints false act ≡ true }
     requires fits { FitsWorld (2 ^ versions.old.side) versions.old.models.items act }
     requires name { blank.name ≡ L.name }
     requires parts { blank.parts ≡ L.parts }
@@ -257,7 +260,7 @@ fn ask_over<L: Ledger>(
     requires some { 0 < L.parts }
     ensures rest { IsAtRest versions.new }
     ensures leaves { LeavesAll versions.old versions.new }
-    ensures tells { Tells (2 ^ versions.old.side) (world_of versions.old version) question result }
+    ensures tells { TellsVersion versions.old version question result }
 {
     let mut steps: Steps<L> = Steps::start(blank);
     versions.ask(version, question, &mut steps)

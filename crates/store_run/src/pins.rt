@@ -1,5 +1,5 @@
 //! Versions with a share held of the root of each that was saved.
-ghost use Rattle.std.specs.Prelude.{◌≡◌, ◌++◌, ◌^◌, ◌<◌, Some, [], ◌∷◌, length, IfOk, OnOk};
+ghost use Rattle.std.specs.Prelude.{◌≡◌, ◌++◌, ◌^◌, ◌<◌, Some, [], ◌∷◌, length, IfOk, OnOk, false};
 ghost use Rattle.std.specs.List.{slice_get};
 ghost use Rattle.vox_read.specs.Contents.{AreModels};
 ghost use Rattle.history_model.specs.declared.questions.Question.TheVariants.{Count};
@@ -8,15 +8,14 @@ ghost use Rattle.script.specs.declared.commands.Command.TheVariants.{Save};
 ghost use Rattle.script.specs.Fitting.{CommandFits, SaveFits};
 ghost use Rattle.conformance.specs.declared.saves.SavedBox.{SavedBox};
 ghost use Rattle.conformance.specs.Saves.{saved_by};
-ghost use Rattle.conformance.specs.Telling.{Tells};
 ghost use Rattle.extract.specs.Saved.{file_of_box};
 ghost use Rattle.store_run.specs.Kept.{plan_of, log_of, moment_of, world_of, noted_of, AreVersions, HoldsNothing, HasRoom};
-ghost use Rattle.store_run.specs.Steps.{StayVersions, StaysSeen, LeavesAll};
+ghost use Rattle.store_run.specs.Steps.{StayVersions, StaysSeen, LeavesAll, TellsVersion};
 ghost use Rattle.store_run.specs.Answering.{GoesOnBy, saved_as};
 ghost use Rattle.store_run.specs.Pins.{ArePinned, HasPinRoom, saves_of};
 
 use crate::lines::is_edit;
-use crate::versions::{VersionFound, Versions};
+use crate::stored_versions::{VersionFound, Versions};
 use conformance::SavedBox;
 use extract::box_file;
 use history_model::Question;
@@ -62,7 +61,7 @@ impl Pinned {
         ensures plan { IfOk result (λ p. plan_of p.versions ≡ plan.now) }
         ensures models { IfOk result (λ p. p.versions.models.items ≡ models) }
         ensures empty { IfOk result (λ p. log_of p.versions
-            ≡ record { side = plan.now.side; records = []; marks = [] }) }
+            ≡ record { side = plan.now.side; coloured = false; records = []; marks = [] }) }
         ensures noted { IfOk result (λ p. noted_of p.versions ≡ record { made = []; met = [] }) }
         ensures none { IfOk result (λ p. saves_of p.pins.items ≡ []) }
     {
@@ -102,8 +101,8 @@ impl Pinned {
         requires are { ArePinned self.old.versions self.old.pins.items }
         requires room { HasRoom self.old.versions }
         requires pin_room { HasPinRoom self.old }
-        requires fits { CommandFits (2 ^ self.old.versions.side) self.old.versions.models.items
-            command }
+        requires fits { CommandFits false (2 ^ self.old.versions.side)
+            self.old.versions.models.items command }
         ensures are { ArePinned self.new.versions self.new.pins.items }
         ensures goes_on { GoesOnBy self.old.versions session
             (record { line = line; command = command }) result self.new.versions }
@@ -171,8 +170,7 @@ impl Pinned {
         requires fits { SaveFits (2 ^ self.old.versions.side) save.name save.part }
         ensures are { ArePinned self.new.versions self.new.pins.items }
         ensures leaves { LeavesAll self.old.versions self.new.versions }
-        ensures tells { Tells (2 ^ self.old.versions.side)
-            (world_of self.old.versions save.version) (Count save.part) result }
+        ensures tells { TellsVersion self.old.versions save.version (Count save.part) result }
         ensures pinned { saves_of self.new.pins.items
             ≡ saves_of self.old.pins.items ++ save ∷ [] }
     {

@@ -1,8 +1,8 @@
 ghost use Rattle.std.specs.Prelude.{◌≡◌, ◌+◌, ◌<◌, ◌≤◌, ◌^◌, ◌↔◌, ◌++◌, ◌∷◌, true, false, [], IfOk, IfErr, OnOk, length, IsTrue, Ok, MatchResult};
 ghost use Rattle.vox_read.specs.Contents.{AreModels};
 ghost use Rattle.history_model.specs.Worlds.{is_edit};
-ghost use Rattle.history_model.specs.Logs.{FitsWorld};
-ghost use Rattle.history_model.specs.Moments.{world_has};
+ghost use Rattle.history_model.specs.Logs.{FitsWorld, suits_tints};
+ghost use Rattle.history_model.specs.Moments.{world_has, world_tint};
 ghost use Rattle.block_contents.specs.Versions.{SameWorld};
 ghost use Rattle.script.specs.Fitting.{QuestionFits};
 ghost use Rattle.conformance.specs.Answers.{target_at};
@@ -10,7 +10,7 @@ ghost use Rattle.conformance.specs.Telling.{Tells};
 ghost use Rattle.store_run.specs.Replaying.{ReplayState, IsReplay, MakesOnlyParts, Replays, RefusesRecord};
 
 use crate::lines::is_edit;
-use crate::versions::Versions;
+use crate::stored_versions::Versions;
 use history_model::{Act, Question, Record};
 use node_words::{Full, Plan, Steps};
 use std::alloc::Global;
@@ -80,6 +80,7 @@ impl<L: Ledger> Replay<L> {
     #[tactic(auto, using(crate::proofs::Filling::edit_parts, crate::proofs::Filling::way_parts, crate::proofs::Filling::edit_fills))]
     pub fn take(&mut self, next: Record) -> Result<bool, ReplayRefused>
         requires early { length self.old.records < 65535 }
+        requires plain { suits_tints false next.act ≡ true }
         requires fits { FitsWorld (2 ^ self.old.plan.side) self.old.models next.act }
         requires made { MakesOnlyParts self.old }
         ensures plan { self.new.plan ≡ self.old.plan }
@@ -123,7 +124,8 @@ impl<L: Ledger> Replay<L> {
         requires there { version ≤ length self.old.records }
         requires fits { QuestionFits (2 ^ self.old.plan.side) question }
         ensures tells { Tells (2 ^ self.old.plan.side)
-            (world_has self.old.models self.old.records version) question result }
+            (world_has self.old.models self.old.records version)
+            (world_tint self.old.models self.old.records version) question result }
         ensures same { self.new ≡ self.old }
     {
         let steps = &mut self.steps;

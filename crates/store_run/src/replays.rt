@@ -1,14 +1,14 @@
 //! How the records of a history are replayed.
 ghost use Rattle.std.specs.Prelude.{◌≡◌, ◌+◌, ◌<◌, ◌≤◌, ◌^◌, true, false, None, [], IfErr, OnOk};
 ghost use Rattle.history_model.specs.Worlds.{is_edit};
-ghost use Rattle.history_model.specs.Logs.{FitsWorld, MayFollow};
+ghost use Rattle.history_model.specs.Logs.{FitsWorld, MayFollow, suits_tints};
 ghost use Rattle.history_model.specs.Positions.{position_after};
 ghost use Rattle.node_shapes.specs.Weights.{number_of_trees};
 ghost use Rattle.conformance.specs.Answers.{target_at};
 ghost use Rattle.store_run.specs.Kept.{moment_of, log_of, AreVersions, HoldsSame, HasRoom};
 ghost use Rattle.store_run.specs.Replaying.{TakesEdit, TakesWay, FillsBucket, CanFollow};
 
-use crate::versions::Versions;
+use crate::stored_versions::Versions;
 use history_model::Record;
 use node_words::{Full, Steps};
 use std::sync::ledger::Ledger;
@@ -26,6 +26,7 @@ impl Versions {
         requires room { HasRoom self.old }
         requires early { moment_of self.old < 65535 }
         requires edit { is_edit next.act ≡ true }
+        requires plain { suits_tints false next.act ≡ true }
         requires fits { FitsWorld (2 ^ self.old.side) self.old.models.items next.act }
         ensures are { AreVersions self.new }
         ensures same { HoldsSame self.old.store self.new.store }
@@ -44,7 +45,7 @@ impl Versions {
     }
 
     /// An undo or a redo becomes the next record, where it has a version to go to.
-    #[tactic(auto, using(crate::proofs::Targets::may_go_to, crate::proofs::Taking::way_taken, crate::proofs::Taking::target_kept, crate::proofs::Taking::target_follows, crate::proofs::Answering::went_same, crate::proofs::Holding::same_held, crate::proofs::Rebuilding::shared_tree))]
+    #[tactic(auto, using(crate::proofs::Plainly::way_plain, crate::proofs::Targets::may_go_to, crate::proofs::Taking::way_taken, crate::proofs::Taking::target_kept, crate::proofs::Taking::target_follows, crate::proofs::Answering::went_same, crate::proofs::Holding::same_held, crate::proofs::Rebuilding::shared_tree))]
     pub(crate) fn take_way(&mut self, next: Record) -> bool
         requires are { AreVersions self.old }
         requires few { number_of_trees self.old.store.told.held ≤ 2048 }
@@ -71,7 +72,7 @@ impl Versions {
     }
 
     /// An undo or a redo becomes the next record, which can follow those before it.
-    #[tactic(auto, using(crate::proofs::Targets::may_go_to, crate::proofs::Taking::way_taken, crate::proofs::Followed::followed_kept, crate::proofs::Followed::target_there, crate::proofs::Answering::went_same, crate::proofs::Holding::same_held, crate::proofs::Rebuilding::shared_tree))]
+    #[tactic(auto, using(crate::proofs::Plainly::way_plain, crate::proofs::Targets::may_go_to, crate::proofs::Taking::way_taken, crate::proofs::Followed::followed_kept, crate::proofs::Followed::target_there, crate::proofs::Answering::went_same, crate::proofs::Holding::same_held, crate::proofs::Rebuilding::shared_tree))]
     pub(crate) fn follow_way(&mut self, next: Record)
         requires are { AreVersions self.old }
         requires few { number_of_trees self.old.store.told.held ≤ 2048 }

@@ -1,4 +1,4 @@
-ghost use Rattle.std.specs.Prelude.{◌≡◌, ◌^◌, ◌<◌, ◌≤◌, length, All, IfOk};
+ghost use Rattle.std.specs.Prelude.{◌≡◌, ◌^◌, ◌<◌, ◌≤◌, false, length, All, IfOk};
 ghost use Rattle.vox_read.specs.Contents.{AreModels};
 ghost use Rattle.script.specs.Fitting.{CommandFits, RisesFrom};
 ghost use Rattle.conformance.specs.Runs.{AllRan};
@@ -7,7 +7,7 @@ ghost use Rattle.conformance.specs.Saves.{saved_of};
 use crate::desks::StoreDesk;
 use crate::open_runs::OpenRun;
 use crate::pins::SAVES;
-use crate::versions::RECORDS;
+use crate::stored_versions::RECORDS;
 use conformance::Transcript;
 use node_words::Plan;
 use script::{Command, Script, ScriptLine};
@@ -39,7 +39,7 @@ pub fn run_scripts(
     requires few { length scripts.now ≤ 64 }
     requires rise { All (RisesFrom 1) scripts.now }
     requires fit { All
-        (All (λ l. CommandFits (2 ^ plan.now.side) models l.command)) scripts.now }
+        (All (λ l. CommandFits false (2 ^ plan.now.side) models l.command)) scripts.now }
     ensures ran { IfOk result (λ r. AllRan plan.now models scripts.now r.transcripts.items
         r.run.log) }
     ensures saved { IfOk result
@@ -61,7 +61,7 @@ fn run_over<L: Ledger>(
     requires few { length scripts.now ≤ 64 }
     requires rise { All (RisesFrom 1) scripts.now }
     requires fit { All
-        (All (λ l. CommandFits (2 ^ plan.now.side) models l.command)) scripts.now }
+        (All (λ l. CommandFits false (2 ^ plan.now.side) models l.command)) scripts.now }
     requires name { blank.name ≡ L.name }
     requires parts { blank.parts ≡ L.parts }
     requires some { 0 < L.parts }

@@ -8,13 +8,15 @@ use Rattle.vw_cell.specs.declared.boxes.Boxed.{Boxed}
 use Rattle.vw_cell.specs.declared.balls.Ball as balls
 use Rattle.vw_cell.specs.Places.{FitsAt, IsInWorld, IsCell}
 use Rattle.vox_read.specs.Contents.{Content}
-use Rattle.version_answers.specs.Act.{Act}
-use Rattle.version_answers.specs.TheVariants.{Fill, Erase, Ball, Carve, Copy, Stamp, Undo, Redo}
-use Rattle.version_answers.specs.Record.{Record}
-use Rattle.version_answers.specs.Logs.{FitsWorld, FitsModel}
-use Rattle.version_answers.specs.Packing.{cell_word, packed, log_words, last_edit}
-use Rattle.version_answers.specs.Positions.{position_after}
-use Rattle.table_rule.specs.LogWords.{HasNumbers, FitsFields, cell_of_word, box_of_words, ball_of_words, act_of_words, record_of_words}
+use Rattle.versions.specs.Act.{Act}
+use Rattle.versions.specs.TheVariants.{Fill, Erase, Ball, Carve, Copy, Stamp, Tint, Undo, Redo}
+use Rattle.versions.specs.TintAct.{TintAct}
+use Rattle.versions.specs.TintVariants as tints
+use Rattle.versions.specs.Record.{Record}
+use Rattle.versions.specs.Logs.{FitsWorld, FitsModel, TintFits}
+use Rattle.versions.specs.Packing.{cell_word, packed, tint_packed, log_words, last_edit}
+use Rattle.versions.specs.Positions.{position_after}
+use Rattle.table_rule.specs.LogWords.{HasModel, HasNumbers, FitsFields, cell_of_word, box_of_words, ball_of_words, act_of_words, record_of_words}
 
 low_part : (word a b n : ℕ) → word ≡ b * n + a → a < n → word % n ≡ a
 low_part word a b n e lt = ap (λ (w : ℕ). w % n) e ∙ mod-mul-add b n a lt
@@ -75,6 +77,41 @@ kind_back : (kind now last : ℕ) → kind < 2 ^ 8 → (kind + 2 ^ 8 * now + 2 ^
 kind_back kind now last lt =
     low_part (kind + 2 ^ 8 * now + 2 ^ 32 * last) kind (now + 2 ^ 24 * last) (2 ^ 8) (omega arith) lt
 
+-- the tint of a fill and of a ball
+tint_back : (c : ℕ) → c ≤ 255 → c % 2 ^ 8 ≡ c
+tint_back c few = low_part c c 0 (2 ^ 8) (omega arith) (omega arith)
+
+tinted_back : (side : ℕ) (models : List Content) (t : TintAct) (now last : ℕ) → side < 2 ^ 16
+    → TintFits side models t → HasModel t
+    → act_of_words ((slice_index (tint_packed t) 0 + 2 ^ 8 * now + 2 ^ 32 * last) % 2 ^ 8)
+    (slice_index (tint_packed t) 1) (slice_index (tint_packed t) 2) (slice_index (tint_packed t) 3)
+    ≡ Tint t
+tinted_back side models (tints.Fill b c) now last le is small =
+    ap (λ (k : ℕ). act_of_words k (cell_word b.at) (cell_word b.size) c) (kind_back 8 now last (omega arith))
+    ∙ (let box = box_back side b le is.0 in let tint = tint_back c is.1.1 in
+    λ i. Tint (tints.Fill (box i) (tint i)))
+tinted_back side models (tints.Erase b) now last le is small =
+    ap (λ (k : ℕ). act_of_words k (cell_word b.at) (cell_word b.size) 0) (kind_back 9 now last (omega arith))
+    ∙ (let box = box_back side b le is in λ i. Tint (tints.Erase (box i)))
+tinted_back side models (tints.Ball b c) now last le is small =
+    ap (λ (k : ℕ). act_of_words k (cell_word b.centre) b.radius c) (kind_back 10 now last (omega arith))
+    ∙ (let ball = ball_back side b le is.0 is.1 in let tint = tint_back c is.2.1 in
+    λ i. Tint (tints.Ball (ball i) (tint i)))
+tinted_back side models (tints.Carve b) now last le is small =
+    ap (λ (k : ℕ). act_of_words k (cell_word b.centre) b.radius 0) (kind_back 11 now last (omega arith))
+    ∙ (let ball = ball_back side b le is.0 is.1 in λ i. Tint (tints.Carve (ball i)))
+tinted_back side models (tints.Copy b to) now last le is small =
+    ap (λ (k : ℕ). act_of_words k (cell_word b.at) (cell_word b.size) (cell_word to))
+    (kind_back 12 now last (omega arith))
+    ∙ (let box = box_back side b le is.0 in
+    let cell = cell_back to (at_cell side to b.size le is.1).0 in
+    λ i. Tint (tints.Copy (box i) (cell i)))
+tinted_back side models (tints.Stamp m at) now last le is small =
+    ap (λ (k : ℕ). act_of_words k (cell_word at) m 0) (kind_back 13 now last (omega arith))
+    ∙ (let model : m % 2 ^ 16 ≡ m = low_part m m 0 (2 ^ 16) (omega arith) small in
+    let cell = cell_back at (model_cell side (slice_get models m) at le is) in
+    λ i. Tint (tints.Stamp (model i) (cell i)))
+
 pub act_back : (side : ℕ) (models : List Content) (act : Act) (now last : ℕ) → side < 2 ^ 16
     → FitsWorld side models act → HasNumbers act
     → act_of_words ((slice_index (packed act) 0 + 2 ^ 8 * now + 2 ^ 32 * last) % 2 ^ 8)
@@ -101,6 +138,8 @@ act_back side models (Stamp m at) now last le is small =
     ∙ (let model : m % 2 ^ 16 ≡ m = low_part m m 0 (2 ^ 16) (omega arith) small in
     let cell = cell_back at (model_cell side (slice_get models m) at le is) in
     λ i. Stamp (model i) (cell i))
+act_back side models (Tint t) now last le is small =
+    tinted_back (side / 4) models t now last (omega arith) is small
 act_back side models Undo now last le is small =
     ap (λ (k : ℕ). act_of_words k 0 0 0) (kind_back 6 now last (omega arith))
 act_back side models Redo now last le is small =

@@ -1,5 +1,5 @@
 -- The log is read from its own words alone.
-use Rattle.std.proofs.Common.{◌≡◌, ◌≢◌, ℕ, zero, suc, ◌^◌, ◌%◌, ◌/◌, ◌<◌, ◌≤◌, Some, List, [], ◌∷◌, ◌++◌, length, take, get_or, refl, sym, ap, ◌∙◌, subst, ⊎_elim, inl, inr, arith, length-append}
+use Rattle.std.proofs.Common.{◌≡◌, ◌≢◌, ℕ, zero, suc, ◌^◌, ◌%◌, ◌/◌, ◌<◌, ◌≤◌, Some, List, [], ◌∷◌, ◌++◌, length, take, get_or, refl, sym, ap, ◌∙◌, subst, ⊎_elim, inl, inr, arith, length-append, false}
 use Rattle.std.specs.Prelude.{slice_index}
 use Rattle.std.specs.List.{slice_get, Contains}
 use Rattle.std.proofs.lemmas.Bool.{cases_eq}
@@ -8,8 +8,8 @@ use Rattle.std.proofs.lemmas.List.Elements.{Contains-append_left, Contains-appen
 use Rattle.core_reading.specs.Versions.{IsUnmarked}
 use Rattle.node_words.specs.Plans.{Layout}
 use Rattle.node_places.specs.Spots.{Spot, LogTurn, LogLength, Version, versions}
-use Rattle.version_answers.specs.Mark.{Mark}
-use Rattle.version_answers.specs.Packing.{log_words}
+use Rattle.versions.specs.Mark.{Mark}
+use Rattle.versions.specs.Packing.{log_words}
 use Rattle.table_rule.specs.LogWords.{record_of_words, word_in, mark_of_words, records_in, if_marked, marks_in, log_in, act_of_words, IsLogWritten}
 
 -- the words of the log are as before
@@ -73,7 +73,7 @@ log_reads p old new long version =
     ∙ records_kept old new (old LogLength) (λ v i lt low. version (suc v) i) in
     let marks : marks_in new versions ≡ marks_in old versions =
     marks_kept old new versions (λ v lt. version v 6) (λ v lt ne. version v 7) in
-    λ j. record { side = p.side; records = records j; marks = marks j }
+    λ j. record { side = p.side; coloured = false; records = records j; marks = marks j }
 
 pub log_same : (p : Layout) (old new : Spot → ℕ) → LogStays old new → log_in p new ≡ log_in p old
 log_same p old new l = log_reads p old new l.length l.version
@@ -227,9 +227,9 @@ empty_marks mem (suc n) none =
     λ i. more i ++ if_marked n (six i) (mem (Version n 7))
 
 pub empty_log : (p : Layout) (mem : Spot → ℕ) → ((x : Spot) → mem x ≡ 0)
-    → log_in p mem ≡ record { side = p.side; records = []; marks = [] }
+    → log_in p mem ≡ record { side = p.side; coloured = false; records = []; marks = [] }
 unfolding records_in
 empty_log p mem none =
     let records : records_in mem (mem LogLength) ≡ [] = ap (records_in mem) (none LogLength) in
     let marks = empty_marks mem versions none in
-    λ i. record { side = p.side; records = records i; marks = marks i }
+    λ i. record { side = p.side; coloured = false; records = records i; marks = marks i }

@@ -14,11 +14,11 @@ use Rattle.node_words.specs.Held.{IsReached}
 use Rattle.node_words.specs.Plans.{Layout}
 use Rattle.node_places.specs.KeyWords.{child_of_word}
 use Rattle.node_places.specs.Spots.{Spot, LogLength, Version, versions}
-use Rattle.version_answers.specs.Laws.{has_stays}
-use Rattle.version_answers.specs.Logs.{Log}
-use Rattle.version_answers.specs.Moments.{world_has}
-use Rattle.version_answers.specs.Packing.{log_words}
-use Rattle.version_answers.specs.Record.{Record}
+use Rattle.versions.specs.StoreLaws.{stored_stays}
+use Rattle.versions.specs.Logs.{Log}
+use Rattle.versions.specs.Stores.{stored_in}
+use Rattle.versions.specs.Packing.{log_words}
+use Rattle.versions.specs.Record.{Record}
 use Rattle.core_reading.specs.Aligned.{top, world_block}
 use Rattle.core_reading.specs.Versions.{IsKept, SameWorld}
 use Rattle.core_reading.proofs.Lives.{root_lives}
@@ -99,11 +99,11 @@ module _ (p : Layout) (models : List Content) (mem : Spot → ℕ) (views : List
 
   -- the cells of a version are the same by what is seen
   pub same_has : (u : ℕ) → u ≤ number_seen v → (q : Cell)
-      → world_has models log.records u q ≡ world_has models v.log.seen.records u q
+      → stored_in (2 ^ p.side) models log.records u q ≡ stored_in (2 ^ p.side) models v.log.seen.records u q
   same_has u le q =
       let b = seen_begins in
-      ap (λ (rs : List Record). world_has models rs u q) b.records
-      ∙ has_stays models v.log.seen.records b.more u q le
+      ap (λ (rs : List Record). stored_in (2 ^ p.side) models rs u q) b.records
+      ∙ stored_stays (2 ^ p.side) models v.log.seen.records b.more u q le
 
   pub is_kept : (u : ℕ) → IsShownUnmarked v u → IsKept log u
   is_kept u s = record {
@@ -143,7 +143,7 @@ module _ (mem : Spot → ℕ) (views : List SeatView) (seat : ℕ) (v : SeatView
       root_is p v.models mem views seat v r at u s.word s.unmarked s.known ∙ sym s.is
 
   shown_has : (u : ℕ) → IsShownUnmarked v u → (q : Cell)
-      → world_has v.models d.log.records u q ≡ seen_has v u q
+      → stored_in (2 ^ p.side) v.models d.log.records u q ≡ seen_has v u q
   shown_has u s q = same_has p v.models mem views seat v r at u s.there q
 
   shown_level : (u : ℕ) (n : Name) → IsShownRoot v u (Some n) → n.level ≡ top p.side
@@ -160,13 +160,13 @@ module _ (mem : Spot → ℕ) (views : List SeatView) (seat : ℕ) (v : SeatView
   shown_cells u root s =
       let shown = r.sound.versions.shown u (shown_kept u s.unmarked) in
       let all = subst (λ (o : Option Name). ShowsCells (world_block p.side)
-      (shape_of (tree_at d.key (top p.side) o)) (world_has v.models d.log.records u))
+      (shape_of (tree_at d.key (top p.side) o)) (stored_in (2 ^ p.side) v.models d.log.records u))
       (shown_root u root s) shown in
       record { each = λ q inside. all.each q inside ∙ shown_has u s.unmarked q }
 
   same_worlds : (u w : ℕ) → IsShownUnmarked v u → IsShownUnmarked v w
-      → SameWorld (2 ^ p.side) (world_has v.models d.log.records u)
-      (world_has v.models d.log.records w)
+      → SameWorld (2 ^ p.side) (stored_in (2 ^ p.side) v.models d.log.records u)
+      (stored_in (2 ^ p.side) v.models d.log.records w)
       → SameWorld (2 ^ p.side) (seen_has v u) (seen_has v w)
   same_worlds u w a b same = record {
     each = λ q inside. sym (shown_has u a q) ∙ same.each q inside ∙ shown_has w b q;
@@ -174,8 +174,8 @@ module _ (mem : Spot → ℕ) (views : List SeatView) (seat : ℕ) (v : SeatView
 
   back_worlds : (u w : ℕ) → IsShownUnmarked v u → IsShownUnmarked v w
       → SameWorld (2 ^ p.side) (seen_has v u) (seen_has v w)
-      → SameWorld (2 ^ p.side) (world_has v.models d.log.records u)
-      (world_has v.models d.log.records w)
+      → SameWorld (2 ^ p.side) (stored_in (2 ^ p.side) v.models d.log.records u)
+      (stored_in (2 ^ p.side) v.models d.log.records w)
   back_worlds u w a b same = record {
     each = λ q inside. shown_has u a q ∙ same.each q inside ∙ sym (shown_has w b q);
   }

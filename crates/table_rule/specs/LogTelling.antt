@@ -10,22 +10,22 @@ use Rattle.node_words.specs.Held.{IsReached}
 use Rattle.node_places.specs.KeyWords.{child_of_word}
 use Rattle.node_places.specs.Names.{IsName}
 use Rattle.node_places.specs.Spots.{LogLength, Version}
-use Rattle.version_answers.specs.Record.{Record}
-use Rattle.version_answers.specs.Moments.{world_has}
-use Rattle.version_answers.specs.Packing.{log_words}
-use Rattle.version_answers.specs.Worlds.{World}
+use Rattle.versions.specs.Record.{Record}
+use Rattle.versions.specs.Stores.{stored_in}
+use Rattle.versions.specs.Packing.{log_words}
+use Rattle.versions.specs.Worlds.{World}
 use Rattle.core_reading.specs.Aligned.{top, world_block}
 use Rattle.core_reading.specs.Versions.{SameWorld}
 use Rattle.core_reading.specs.Reading.{book_of}
 use Rattle.table_rule.specs.LogKnowing.{OwnsIn}
 use Rattle.table_rule.specs.Views.{SeatView, bucket_of, known_at}
 
--- how many records a view has seen, and the cells of a version by them
+-- how many records a view has seen, and the cells of the store at a version by them
 abbrev pub number_seen : SeatView → ℕ
 number_seen v = length v.log.seen.records
 
 abbrev pub seen_has : SeatView → ℕ → World
-seen_has v u = world_has v.models v.log.seen.records u
+seen_has v u = stored_in (2 ^ v.plan.side) v.models v.log.seen.records u
 
 -- the log's turn has shown that this version has no mark
 pub record IsShownUnmarked (v : SeatView) (u : ℕ) : Type 0 where

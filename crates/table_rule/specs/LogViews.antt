@@ -1,10 +1,9 @@
 -- What a seat of the table knows of the log.
 use Rattle.std.specs.Prelude.{ℕ, Bool, false, List, []}
 use Rattle.node_places.specs.Spots.{Spot}
-use Rattle.version_answers.specs.Record.{Record}
-use Rattle.version_answers.specs.Mark.{Mark}
-use Rattle.version_answers.specs.Logs.{Log}
-use Rattle.version_answers.specs.Listing.{Accepted, Found}
+use Rattle.versions.specs.Mark.{Mark}
+use Rattle.versions.specs.Logs.{Log}
+use Rattle.versions.specs.Listing.{Accepted, Found}
 
 -- what one seat knows of the log: whether it has the log's turn, the words that it has loaded or
 -- stored under that turn (newest first), the longest log that it has seen, the logs that it took
@@ -22,7 +21,7 @@ pub record LogView : Type 0 where
 
 -- a log of no record, of a world of this side
 abbrev pub no_log : ℕ → Log
-no_log side = record { side = side; records = []; marks = [] }
+no_log side = record { side = side; coloured = false; records = []; marks = [] }
 
 -- nothing is known but the side
 abbrev pub log_starting : ℕ → LogView

@@ -1,16 +1,18 @@
 -- The log that the words of a table show.
-use Rattle.std.specs.Prelude.{◌≡◌, ℕ, zero, suc, ◌^◌, ◌/◌, ◌%◌, ◌<◌, List, [], ◌∷◌, ◌++◌, slice_index}
+use Rattle.std.specs.Prelude.{◌≡◌, ℕ, zero, suc, ◌^◌, ◌/◌, ◌%◌, ◌<◌, List, [], ◌∷◌, ◌++◌, slice_index, false}
 use Rattle.vw_cell.specs.declared.cells.Cell.{Cell}
 use Rattle.vw_cell.specs.declared.boxes.Boxed.{Boxed}
 use Rattle.vw_cell.specs.declared.balls.Ball as balls
 use Rattle.node_words.specs.Plans.{Layout}
 use Rattle.node_places.specs.Spots.{Spot, LogLength, Version, versions}
-use Rattle.version_answers.specs.Act.{Act}
-use Rattle.version_answers.specs.TheVariants.{Fill, Erase, Ball, Carve, Copy, Stamp, Undo, Redo}
-use Rattle.version_answers.specs.Record.{Record}
-use Rattle.version_answers.specs.Mark.{Mark}
-use Rattle.version_answers.specs.Logs.{Log}
-use Rattle.version_answers.specs.Packing.{log_words}
+use Rattle.versions.specs.Act.{Act}
+use Rattle.versions.specs.TheVariants.{Fill, Erase, Ball, Carve, Copy, Stamp, Tint, Undo, Redo}
+use Rattle.versions.specs.TintAct.{TintAct}
+use Rattle.versions.specs.TintVariants as tints
+use Rattle.versions.specs.Record.{Record}
+use Rattle.versions.specs.Mark.{Mark}
+use Rattle.versions.specs.Logs.{Log}
+use Rattle.versions.specs.Packing.{log_words}
 
 -- the cell, the box and the ball of words, whatever words they are
 abbrev pub cell_of_word : ℕ → Cell
@@ -26,6 +28,17 @@ box_of_words place size = record { at = cell_of_word place; size = cell_of_word 
 abbrev pub ball_of_words : ℕ → ℕ → balls.Ball
 ball_of_words place radius = record { centre = cell_of_word place; radius = radius % 2 ^ 16 }
 
+-- the tinted act of these words, whose kind is this more than the first one's
+abbrev pub tint_of_words : ℕ → ℕ → ℕ → ℕ → TintAct
+tint_of_words zero place size to = tints.Fill (box_of_words place size) (to % 2 ^ 8)
+tint_of_words (suc zero) place size to = tints.Erase (box_of_words place size)
+tint_of_words (suc (suc zero)) place size to = tints.Ball (ball_of_words place size) (to % 2 ^ 8)
+tint_of_words (suc (suc (suc zero))) place size to = tints.Carve (ball_of_words place size)
+tint_of_words (suc (suc (suc (suc zero)))) place size to =
+    tints.Copy (box_of_words place size) (cell_of_word to)
+tint_of_words (suc (suc (suc (suc (suc kind))))) place size to =
+    tints.Stamp (size % 2 ^ 16) (cell_of_word place)
+
 -- the act of a kind with these words
 abbrev pub act_of_words : ℕ → ℕ → ℕ → ℕ → Act
 act_of_words zero place size to = Fill (box_of_words place size)
@@ -37,11 +50,18 @@ act_of_words (suc (suc (suc (suc zero)))) place size to =
 act_of_words (suc (suc (suc (suc (suc zero))))) place size to =
     Stamp (size % 2 ^ 16) (cell_of_word place)
 act_of_words (suc (suc (suc (suc (suc (suc zero)))))) place size to = Undo
-act_of_words (suc (suc (suc (suc (suc (suc (suc kind))))))) place size to = Redo
+act_of_words (suc (suc (suc (suc (suc (suc (suc zero))))))) place size to = Redo
+act_of_words (suc (suc (suc (suc (suc (suc (suc (suc kind)))))))) place size to =
+    Tint (tint_of_words kind place size to)
 
 -- the numbers that a value of the code has: a model's is one of 16 bits, and a line's one of 32
+abbrev pub HasModel : TintAct → Type 0
+HasModel (tints.Stamp m at) = m < 2 ^ 16
+HasModel act = Unit {0}
+
 abbrev pub HasNumbers : Act → Type 0
 HasNumbers (Stamp m at) = m < 2 ^ 16
+HasNumbers (Tint t) = HasModel t
 HasNumbers act = Unit {0}
 
 pub record FitsFields (r : Record) : Type 0 where
@@ -86,6 +106,7 @@ marks_in mem (suc v) = marks_in mem v ++ if_marked v (mem (Version v 6)) (mem (V
 abbrev pub log_in : Layout → (Spot → ℕ) → Log
 log_in p mem = record {
   side = p.side;
+  coloured = false;
   records = records_in mem (mem LogLength);
   marks = marks_in mem versions;
 }

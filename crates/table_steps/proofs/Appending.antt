@@ -1,5 +1,5 @@
 -- The length becomes one more, and with it a record is appended.
-use Rattle.std.proofs.Common.{◌≡◌, ◌⊎◌, ℕ, zero, suc, ◌+◌, ◌^◌, ◌<◌, ◌≤◌, true, Some, None, Option, List, [], ◌∷◌, ◌++◌, length, set, refl, sym, ap, ◌∙◌, subst, ⊎_elim, inl, inr, arith, length-append}
+use Rattle.std.proofs.Common.{◌≡◌, ◌⊎◌, ℕ, zero, suc, ◌+◌, ◌^◌, ◌<◌, ◌≤◌, true, Some, None, Option, List, [], ◌∷◌, ◌++◌, length, set, refl, sym, ap, ◌∙◌, subst, ⊎_elim, inl, inr, arith, length-append, false}
 use Rattle.std.specs.Prelude.{map, slice_index}
 use Rattle.std.specs.List.{slice_get, Contains}
 use Rattle.std.proofs.Math.Nat.{pow-le-pow_right, mod-lt}
@@ -22,7 +22,7 @@ use Rattle.history_model.specs.Logs.{Log, HasTarget, MayFollow}
 use Rattle.history_model.specs.Packing.{log_words}
 use Rattle.history_model.specs.Positions.{position_after}
 use Rattle.history_model.specs.declared.acts.Act.{Act}
-use Rattle.history_model.specs.declared.acts.Act.TheVariants.{Fill, Erase, Ball, Carve, Copy, Stamp, Undo, Redo}
+use Rattle.history_model.specs.declared.acts.Act.TheVariants.{Fill, Erase, Ball, Carve, Copy, Stamp, Tint, Undo, Redo}
 use Rattle.history_model.specs.declared.histories.Record.{Record}
 use Rattle.block_contents.specs.Aligned.{top, world_block}
 use Rattle.core_laws.proofs.EntrySteps.{was_live}
@@ -184,6 +184,7 @@ module _ (p : Layout) (seat : ℕ) (v : SeatView) (r : Record) (root : Tree) (ol
   follows_seen (Carve b) h = h
   follows_seen (Copy b to) h = h
   follows_seen (Stamp m to) h = h
+  follows_seen (Tint t) h = h
 
   may_append : MayAppend p v.models r (root_of root) c
   may_append = record {
@@ -280,7 +281,7 @@ module _ (p : Layout) (seat : ℕ) (v : SeatView) (r : Record) (root : Tree) (ol
         let rs = ap (records_in new) wrote.here ∙ records_more in
         let ms =
         marks_kept old new versions (λ u lt. same_words u 6) (λ u lt ne. same_words u 7) in
-        λ i. record { side = p.side; records = rs i; marks = ms i }
+        λ i. record { side = p.side; coloured = false; records = rs i; marks = ms i }
 
     puts : PutsRoot p seat (length c.log.records + 1) (root_of root) c d
     puts =

@@ -28,7 +28,7 @@ use Rattle.history_model.specs.Logs.{Log}
 use Rattle.table_rule.specs.LogKnowing.{IsPrefix, OwnsIn, WasFound}
 use Rattle.table_rule.specs.LogTurning.{IsOfLog}
 use Rattle.table_rule.specs.LogViews.{no_log}
-use Rattle.version_answers.specs.Listing.{Found}
+use Rattle.versions.specs.Listing.{Found}
 use Rattle.table_rule.specs.LogWords.{log_in}
 use Rattle.table_rule.specs.Rules.{KeepsRule, KeepsLog, table_state}
 use Rattle.table_steps.specs.Seating.{handing, handed}
@@ -153,6 +153,7 @@ module _ (p : Layout) (models : List Content) (mem : Spot → ℕ) (views : List
         (λ i d. (c : BucketAt) (x : Spot) (n : ℕ) → d.turn ≡ Some c → IsOf c x
         → known_at x d.words ≡ Some n → mem x ≡ n) (r.turns.known seat v at)
         (λ j d _ e. r.turns.known j d e) (λ c x n h of l. absurd (none-some c h));
+    unused = r.turns.unused;
   }
 
   held_same : (f : Name → ℕ)

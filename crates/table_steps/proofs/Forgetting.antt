@@ -1,5 +1,5 @@
 -- The word of a version's mark is stored, and with it the version is forgotten.
-use Rattle.std.proofs.Common.{◌≡◌, ◌≢◌, ◌⊎◌, ℕ, suc, ◌+◌, ◌*◌, ◌/◌, ◌%◌, ◌^◌, ◌<◌, ◌≤◌, true, Some, None, Option, List, ◌∷◌, length, set, refl, sym, ap, ◌∙◌, subst, ⊎_elim, inl, inr, arith}
+use Rattle.std.proofs.Common.{◌≡◌, ◌≢◌, ◌⊎◌, ℕ, suc, ◌+◌, ◌*◌, ◌/◌, ◌%◌, ◌^◌, ◌<◌, ◌≤◌, true, Some, None, Option, List, ◌∷◌, length, set, refl, sym, ap, ◌∙◌, subst, ⊎_elim, inl, inr, arith, false}
 use Rattle.std.specs.Prelude.{map}
 use Rattle.std.specs.List.{slice_get, Contains}
 use Rattle.std.proofs.lemmas.List.Elements.{All-contains}
@@ -28,7 +28,7 @@ use Rattle.table_rule.specs.Reading.{Wrote}
 use Rattle.table_rule.proofs.Readings.{traded, forgets_root}
 use Rattle.table_rule.specs.LogKnowing.{IsPrefix, WasFound, KnowsLog, ListsOwn, if_among}
 use Rattle.table_rule.specs.LogTelling.{number_seen, seen_has, SeesAll, IsShownRoot}
-use Rattle.version_answers.specs.Listing.{Accepted, Found}
+use Rattle.versions.specs.Listing.{Accepted, Found}
 use Rattle.table_rule.specs.LogWords.{log_in, records_in, mark_of_words, marks_in}
 use Rattle.table_rule.specs.Rules.{KeepsRule, KeepsOn, KeepsLog, table_state, MayWrite}
 use Rattle.table_rule.specs.Turning.{turn_of}
@@ -213,6 +213,7 @@ module _ (seat : ℕ) (v : SeatView) (m : Mark) (root : Option Name) (old : Spot
       earlier = (let l = long in let a = all in omega arith);
       now = (let l = long in let a = all in omega arith);
       side = refl;
+      coloured = refl;
       records = records_stay;
       marks = comes;
       takes = takes;
@@ -225,6 +226,7 @@ module _ (seat : ℕ) (v : SeatView) (m : Mark) (root : Option Name) (old : Spot
     log_more : log_in p new ≡ more
     log_more = λ i. record {
       side = p.side;
+      coloured = false;
       records = records_stay i;
       marks = marks_in new versions;
     }

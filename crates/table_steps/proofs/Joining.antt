@@ -28,7 +28,7 @@ use Rattle.history_model.specs.Logs.{Log}
 use Rattle.table_rule.specs.LogKnowing.{IsPrefix, OwnsIn, WasFound, KnowsLog}
 use Rattle.table_rule.specs.LogTurning.{IsOfLog, KeepsLogTurn}
 use Rattle.table_rule.specs.LogViews.{no_log}
-use Rattle.version_answers.specs.Listing.{Found}
+use Rattle.versions.specs.Listing.{Found}
 use Rattle.table_rule.specs.LogWords.{log_in}
 use Rattle.table_rule.specs.Rules.{KeepsRule, table_state}
 use Rattle.table_rule.proofs.Containing.{contains_left, contains_right, contains_parts}
@@ -199,6 +199,7 @@ module _ (p : Layout) (models : List Content) (mem : Spot → ℕ) (views : List
         (λ i d. (b : BucketAt) (x : Spot) (n : ℕ) → d.turn ≡ Some b → IsOf b x
         → known_at x d.words ≡ Some n → mem x ≡ n) (r.turns.known seat v at)
         (λ b x n h of l. absurd (none-some b h)) (λ j d _ _ e. r.turns.known j d e);
+    unused = r.turns.unused;
   }
 
   held_same : map names_held all ≡ map names_held views

@@ -15,7 +15,7 @@ use Rattle.table_rule.specs.LogKnowing.{WasFound}
 use Rattle.table_rule.specs.LogTelling.{number_seen, SeesAll}
 use Rattle.table_rule.specs.LogTurning.{IsOfLog}
 use Rattle.table_rule.specs.LogViews.{LogView}
-use Rattle.version_answers.specs.Listing.{Found}
+use Rattle.versions.specs.Listing.{Found}
 use Rattle.table_rule.specs.LogWords.{log_in, records_in, record_of_words, word_in, mark_of_words, marks_in}
 use Rattle.table_rule.specs.Rules.{KeepsRule, table_state, MayWrite}
 use Rattle.table_rule.specs.Views.{SeatView, known_at}

@@ -1,5 +1,5 @@
 -- Words are stored that the log doesn't show yet.
-use Rattle.std.proofs.Common.{◌≡◌, ◌≢◌, ℕ, suc, ◌<◌, Bool, true, Some, Option, List, set, refl, sym, ap, ◌∙◌, subst, inl, inr, arith}
+use Rattle.std.proofs.Common.{◌≡◌, ◌≢◌, ℕ, suc, ◌<◌, Bool, true, Some, Option, List, set, refl, sym, ap, ◌∙◌, subst, inl, inr, arith, false}
 use Rattle.std.specs.Prelude.{nat_lt}
 use Rattle.std.specs.List.{slice_get}
 use Rattle.std.proofs.lemmas.Bool.{cases_eq, lt-ltb}
@@ -78,7 +78,7 @@ module _ (p : Layout) (models : List Content) (old new : Spot → ℕ) (views : 
       ap (records_in new) store_long ∙ records_kept old new (old LogLength) records in
       let ms = marks_kept old new versions six seven in
       let log : log_in p new ≡ log_in p old =
-      λ j. record { side = p.side; records = rs j; marks = ms j } in
+      λ j. record { side = p.side; coloured = false; records = rs j; marks = ms j } in
       quiet_log p models old new views seat v w r at
       (entries_same p models old new views seat v w r at x n wrote
       (λ m e. (let no : ⊥ = cc in no)) (λ m j e. (let no : ⊥ = cc in no)))

@@ -12,7 +12,7 @@ use Rattle.core_laws.specs.Events.{Rests}
 use Rattle.history_model.specs.Logs.{Log}
 use Rattle.table_rule.specs.LogKnowing.{IsPrefix, OwnsIn, WasFound, KnowsLog}
 use Rattle.table_rule.specs.LogTurning.{IsOfLog, KeepsLogTurn}
-use Rattle.version_answers.specs.Listing.{Found}
+use Rattle.versions.specs.Listing.{Found}
 use Rattle.table_rule.specs.LogWords.{log_in}
 use Rattle.table_rule.specs.Rules.{KeepsRule, KeepsLog, table_state}
 use Rattle.table_steps.specs.Seating.{seat_numbered}
@@ -20,7 +20,7 @@ use Rattle.table_rule.proofs.Lookups.{each, get_set_same}
 use Rattle.table_rule.proofs.LogKept.{log_word}
 use Rattle.table_rule.proofs.LogReading.{LogStays, log_same, written_same}
 use Rattle.table_rule.proofs.OwnLaws.{own_more, of_sessions}
-use Rattle.table_rule.proofs.PartA.{of_not_sessions, carried_set, remarked}
+use Rattle.table_rule.proofs.PartA.{of_not_sessions, unused_stay, carried_set, remarked}
 use Rattle.table_rule.proofs.Containing.{contains_more}
 use Rattle.table_rule.proofs.StateSteps.{quiet_log, log_roots, entries_same}
 
@@ -139,6 +139,8 @@ module _ (p : Layout) (old new : Spot → ℕ) (views : List SeatView) (a : Keep
         ∙ a.known seat v at b x n h of l)
         (λ j d _ e b x n h of l. wrote.others x (λ e. of_not_sessions b x of (sym e))
         ∙ a.known j d e b x n h of l);
+    unused = unused_stay old new
+        (λ b x of. wrote.others x (λ e. of_not_sessions b x of (sym e))) a.unused;
   }
     where
       no_mark : (word : ℕ) → IsTurnWord v word → ⊥

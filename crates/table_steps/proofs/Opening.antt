@@ -27,7 +27,7 @@ use Rattle.history_model.specs.Logs.{Log}
 use Rattle.table_rule.specs.LogKnowing.{IsPrefix, OwnsIn, WasFound, KnowsLog}
 use Rattle.table_rule.specs.LogTurning.{IsOfLog}
 use Rattle.table_rule.specs.LogViews.{no_log}
-use Rattle.version_answers.specs.Listing.{Found}
+use Rattle.versions.specs.Listing.{Found}
 use Rattle.table_rule.specs.Rules.{KeepsLog, IsRuled, table_state}
 use Rattle.table_rule.proofs.LogReading.{empty_log}
 use Rattle.table_rule.proofs.OwnLaws.{own_nothing, nothing_begins}
@@ -95,6 +95,7 @@ module _ (p : Layout) (models : List Content) (mem : Spot → ℕ) (none : (x : 
     known = only
         (λ i v. (b : BucketAt) (x : Spot) (n : ℕ) → v.turn ≡ Some b → IsOf b x
         → known_at x v.words ≡ Some n → mem x ≡ n) (λ b x n e of is. absurd (none-some b e));
+    unused = λ b slot le. none _;
   }
 
   is_empty : IsUntouched p (table_state p mem views)

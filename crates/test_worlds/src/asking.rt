@@ -37,6 +37,15 @@ pub(crate) fn answer<B: Blocks>(
                 None
             }
         }
+        // these worlds are plain: each set cell has tint 1
+        Question::Colour(c) => {
+            if c.is_in_world(side) {
+                let set = get(store, root, side, c);
+                Some(Found::Number(u64::from(set)))
+            } else {
+                None
+            }
+        }
         Question::Count(b) => match Boxed::new(b.at, b.size, side) {
             Some(b) => Some(Found::Number(count(store, root, side, b))),
             None => None,

@@ -43,7 +43,7 @@ pub(crate) fn version<N: NodeStore, L: Ledger>(
         Act::Carve(ball) => balled(store, old, side, ball, false, steps),
         Act::Copy(from, to) => copied(store, old, side, from, to, steps),
         Act::Stamp(_, at) => stamped(store, old, side, stencil, at, steps),
-        Act::Undo | Act::Redo => Err(Refusal::Unfit),
+        Act::Tint(_) | Act::Undo | Act::Redo => Err(Refusal::Unfit),
     }
 }
 

@@ -76,7 +76,7 @@ impl Grid {
                 let origin = Cell { x: 0, y: 0, z: 0 };
                 self.has(c) || model.has(moved(c, at, origin))
             }
-            Act::Undo | Act::Redo => self.has(c),
+            Act::Tint(_) | Act::Undo | Act::Redo => self.has(c),
         }
     }
 }

@@ -1,5 +1,6 @@
-ghost use Rattle.std.specs.Prelude.{◌≡◌, ◌<◌, ◌≤◌, IfOk};
+ghost use Rattle.std.specs.Prelude.{◌≡◌, ◌<◌, ◌≤◌, IfOk, IsTrue, true, false};
 ghost use Rattle.vox_read.specs.Contents.{AreModels, IsModel};
+ghost use Rattle.history_model.specs.Logs.{suits_tints};
 ghost use Rattle.history_model.specs.Worlds.{is_edit};
 
 use history_model::Act;
@@ -13,8 +14,9 @@ use store_run::{draw_models, rebuild_act};
 use vox_read::{Model, Models, Voxel};
 use vw_cell::{Ball, Boxed, Cell, Side};
 
-fn is_edit(act: &Act) -> bool
-    ensures { result ≡ is_edit act.now }
+// Whether it is an edit without a tint.
+fn is_plain_edit(act: &Act) -> bool
+    ensures { IsTrue result → (is_edit act.now ≡ true) × (suits_tints false act.now ≡ true) }
 {
     match act {
         Act::Fill(_) => true,
@@ -23,6 +25,7 @@ fn is_edit(act: &Act) -> bool
         Act::Carve(_) => true,
         Act::Copy(_, _) => true,
         Act::Stamp(_, _) => true,
+        Act::Tint(_) => false,
         Act::Undo => false,
         Act::Redo => false,
     }
@@ -45,7 +48,7 @@ fn nodes_after<L: Ledger>(
     let drawn = draw_models(alloc, models).map_err(|_| "out of memory")?;
     let mut store = OneStore::begin(alloc, &plan)?;
     let mut steps: Steps<L> = Steps::start(blank);
-    if store.held() > 0 || !is_edit(&act) || !act.fits(side, models) {
+    if store.held() > 0 || !is_plain_edit(&act) || !act.fits(side, models) {
         return Err(Fail::from("an edit that fits"));
     }
     match rebuild_act(&mut store, None, side, &drawn, act, &mut steps) {

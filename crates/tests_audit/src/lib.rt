@@ -5,6 +5,8 @@
 #[cfg(test)]
 mod changes;
 #[cfg(test)]
+mod keeping;
+#[cfg(test)]
 mod meetings;
 #[cfg(test)]
 mod runs;

@@ -48,7 +48,7 @@ const OUTCOMES: &[Outcome] = &[
 #[test]
 fn a_version_is_forgotten_beside_an_undo(rt: HostRuntime) -> Result<(), Fail> {
     for &(journal, first, second, answer) in OUTCOMES {
-        let found = are_audited(rt.alloc(), journal, (UNDOES, first), (FORGETS, second))?;
+        let found = are_audited(rt.alloc(), journal, (UNDOES, first), (FORGETS, second), 0)?;
         assert!(rt; found == answer, "at {}", second);
     }
     Ok(())
@@ -82,7 +82,7 @@ const ATTEMPTS: &[(&str, &str, bool)] = &[
 #[test]
 fn an_attempt_is_stale_beside_an_edit(rt: HostRuntime) -> Result<(), Fail> {
     for &(script, transcript, answer) in ATTEMPTS {
-        let found = are_audited(rt.alloc(), MET, EDITS, (script, transcript))?;
+        let found = are_audited(rt.alloc(), MET, EDITS, (script, transcript), 0)?;
         assert!(rt; found == answer, "at {}", transcript);
     }
     Ok(())

@@ -1,4 +1,5 @@
 //! Runs of the store for one thread, each of which is one.
+ghost use Rattle.history_model.specs.Logs.{IsPlain};
 
 use crate::texts::{answer_of, no_models, script_of};
 use audit::{ScriptsRun, audit, run_scripts};
@@ -43,13 +44,15 @@ fn is_audited_run(
     transcripts: &[Transcript],
     first: &str,
     second: &str,
-) -> Result<bool, Fail> {
+) -> Result<bool, Fail>
+    requires { IsPlain history.now }
+{
     let models = no_models(alloc);
     let scripts = [
         script_of(alloc, first, history.side, &models)?,
         script_of(alloc, second, history.side, &models)?,
     ];
-    answer_of(audit(alloc, history, models, &scripts, transcripts, Some(8)))
+    answer_of(audit(alloc, history, models, &scripts, transcripts, Some(8), 0))
 }
 
 const RUNS: &[(&str, &str)] = &[

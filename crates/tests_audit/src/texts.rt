@@ -1,5 +1,6 @@
 //! Texts that are read and audited.
-ghost use Rattle.std.specs.Prelude.{◌≡◌, ◌^◌, [], All, IfOk, IfSome, IsTrue};
+ghost use Rattle.std.specs.Prelude.{◌≡◌, ◌^◌, false, [], All, IfOk, IfSome, IsTrue};
+ghost use Rattle.history_model.specs.Logs.{IsPlain};
 ghost use Rattle.node_words.specs.Plans.{is_number_of_buckets};
 ghost use Rattle.script.specs.Fitting.{CommandFits, RisesFrom};
 
@@ -29,10 +30,10 @@ pub(crate) fn script_of(
     models: &Models,
 ) -> Result<Script, Fail>
     requires { models.now ≡ [] }
-    ensures fits { IfOk result (All (λ l. CommandFits (2 ^ side) models.now l.command)) }
+    ensures fits { IfOk result (All (λ l. CommandFits false (2 ^ side) models.now l.command)) }
     ensures rises { IfOk result (RisesFrom 1) }
 {
-    match read_script(alloc, text.as_bytes(), side, models) {
+    match read_script(alloc, text.as_bytes(), side, models, false) {
         Ok(script) => Ok(script),
         Err(_) => Err(Fail::from("a script")),
     }
@@ -45,9 +46,18 @@ pub(crate) fn answer_of(answer: Result<bool, AuditRefused>) -> Result<bool, Fail
     }
 }
 
-fn journal_of(alloc: Global, text: &str) -> Result<History, Fail> {
+// The history of a journal of version 1.
+#[tactic(auto, using(tints::proofs::VersionLaws::told_plain))]
+fn journal_of(alloc: Global, text: &str) -> Result<History, Fail>
+    ensures { IfOk result IsPlain }
+{
     match read_journal(alloc, text.as_bytes()) {
-        Ok(history) => Ok(history),
+        Ok(history) => {
+            if history.coloured {
+                return Err(Fail::from("a plain history"));
+            }
+            Ok(history)
+        }
         Err(_) => Err(Fail::from("a journal")),
     }
 }
@@ -76,11 +86,31 @@ pub(crate) fn is_audited(
 ) -> Result<bool, Fail>
     requires { IfSome buckets (λ b. IsTrue (is_number_of_buckets b)) }
 {
+    is_audited_keeping(alloc, texts, buckets, 0)
+}
+
+/// The same of a run that held its last versions alone, or all with 0.
+pub(crate) fn is_audited_keeping(
+    alloc: Global,
+    texts: Texts<'_>,
+    buckets: Option<u16>,
+    keep: u32,
+) -> Result<bool, Fail>
+    requires { IfSome buckets (λ b. IsTrue (is_number_of_buckets b)) }
+{
     let models = no_models(alloc);
     let history = journal_of(alloc, texts.journal)?;
     let script = script_of(alloc, texts.script, history.side, &models)?;
     let transcript = transcript_of(alloc, texts.transcript)?;
-    answer_of(audit(alloc, &history, models, &[script], &[transcript], buckets))
+    answer_of(audit(
+        alloc,
+        &history,
+        models,
+        &[script],
+        &[transcript],
+        buckets,
+        keep,
+    ))
 }
 
 /// The same of two sessions, each with its script and transcript.
@@ -89,6 +119,7 @@ pub(crate) fn are_audited(
     journal: &str,
     first: (&str, &str),
     second: (&str, &str),
+    keep: u32,
 ) -> Result<bool, Fail> {
     let models = no_models(alloc);
     let history = journal_of(alloc, journal)?;
@@ -100,7 +131,7 @@ pub(crate) fn are_audited(
         transcript_of(alloc, first.1)?,
         transcript_of(alloc, second.1)?,
     ];
-    answer_of(audit(alloc, &history, models, &scripts, &transcripts, None))
+    answer_of(audit(alloc, &history, models, &scripts, &transcripts, None, keep))
 }
 
 /// A text whose first such piece is another one.

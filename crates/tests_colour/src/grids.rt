@@ -1,6 +1,6 @@
+use history_model::TintAct;
 use std::alloc::Global;
 use test_worlds::Draws;
-use tints::TintAct;
 use vw_cell::{Boxed, Cell, Memory};
 
 /// The tints of a world, one by one.

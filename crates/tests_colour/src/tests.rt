@@ -5,10 +5,10 @@ use crate::asking::{Asked, Told};
 use crate::grids::{TintGrid, draw_act};
 use crate::worlds::TintWorld;
 use colour::TintStencil;
+use history_model::TintAct;
 use std::alloc::Global;
 use std::test::Fail;
 use test_worlds::Draws;
-use tints::TintAct;
 use vox_read::{Models, Voxel, read_models};
 use vw_cell::{Ball, Boxed, Cell};
 
@@ -29,6 +29,16 @@ const WHOLE: Boxed = Boxed {
 };
 
 const NEXT: Cell = Cell { x: 1, y: 0, z: 0 };
+
+/// All of a world of side 32.
+const WIDE: Boxed = Boxed {
+    at: ORIGIN,
+    size: Cell {
+        x: 32,
+        y: 32,
+        z: 32,
+    },
+};
 
 /// A model of 3 by 2 by 2 places, one of which has two voxels, and one a last voxel of colour 0.
 const DRAWN: [[u8; 4]; 6] = [
@@ -145,9 +155,43 @@ const ROWS: &[(&[TintAct], Asked, Told)] = &[
     ),
 ];
 
-// The answer after the acts, where none was refused.
-fn answer_after(alloc: Global, acts: &[TintAct], asked: &Asked) -> Result<Option<Told>, Fail> {
-    let mut world = TintWorld::empty(alloc, 8, 64, 64)?;
+/// The same on a world of side 32, whose planes have more than one block of 16.
+const LARGE_ROWS: &[(&[TintAct], Asked, Told)] = &[
+    (
+        &[TintAct::Fill(WIDE, 85)],
+        Asked::Tint(Cell { x: 31, y: 31, z: 0 }),
+        Told::Tint(85),
+    ),
+    (
+        &[TintAct::Fill(WIDE, 85), TintAct::Fill(CORNER, 170)],
+        Asked::Tint(ORIGIN),
+        Told::Tint(170),
+    ),
+    (
+        &[TintAct::Fill(WIDE, 85), TintAct::Erase(CORNER)],
+        Asked::Tint(ORIGIN),
+        Told::Tint(0),
+    ),
+    (
+        &[TintAct::Fill(WIDE, 85), TintAct::Erase(CORNER)],
+        Asked::Tint(NEXT),
+        Told::Tint(85),
+    ),
+    (
+        &[TintAct::Fill(WIDE, 85), TintAct::Erase(WIDE)],
+        Asked::Bounds,
+        Told::Extent(None),
+    ),
+];
+
+// The answer after the acts on a world of this side, where none was refused.
+fn answer_after(
+    alloc: Global,
+    side: u32,
+    acts: &[TintAct],
+    asked: &Asked,
+) -> Result<Option<Told>, Fail> {
+    let mut world = TintWorld::empty(alloc, side, 64, 64)?;
     for act in acts {
         if world.edit(act, None).is_err() {
             return Ok(None);
@@ -159,7 +203,15 @@ fn answer_after(alloc: Global, acts: &[TintAct], asked: &Asked) -> Result<Option
 #[test]
 fn tints_are_told(rt: HostRuntime) -> Result<(), Fail> {
     for &(acts, asked, told) in ROWS {
-        assert_eq!(rt; answer_after(rt.alloc(), acts, &asked)?, Some(told));
+        assert_eq!(rt; answer_after(rt.alloc(), 8, acts, &asked)?, Some(told));
+    }
+    Ok(())
+}
+
+#[test]
+fn tints_of_larger_worlds_are_told(rt: HostRuntime) -> Result<(), Fail> {
+    for &(acts, asked, told) in LARGE_ROWS {
+        assert_eq!(rt; answer_after(rt.alloc(), 32, acts, &asked)?, Some(told));
     }
     Ok(())
 }
@@ -276,6 +328,85 @@ fn done(world: &mut TintWorld, act: &TintAct, stencil: &TintStencil) -> bool {
 fn random_acts_give_each_cell_its_tint(rt: HostRuntime) -> Result<(), Fail> {
     for seed in 1..4u64 {
         assert_eq!(rt; play(rt.alloc(), seed, 24)?, (0, 0));
+    }
+    Ok(())
+}
+
+// Whether the voxel has this place and colour.
+fn is_voxel(voxel: &Voxel, place: Cell, colour: u8) -> bool {
+    u16::from(voxel.x) == place.x
+        && u16::from(voxel.y) == place.y
+        && u16::from(voxel.z) == place.z
+        && voxel.colour == colour
+}
+
+// How many voxels of a list of the box are other than the plain cells' by rising z, then y, then x.
+fn misread(plain: &TintGrid, b: Boxed, voxels: &[Voxel]) -> u32 {
+    let mut wrong: u32 = 0;
+    let mut next: usize = 0;
+    for z in 0..b.size.z {
+        for y in 0..b.size.y {
+            for x in 0..b.size.x {
+                let colour = plain.tint(Cell {
+                    x: b.at.x.saturating_add(x),
+                    y: b.at.y.saturating_add(y),
+                    z: b.at.z.saturating_add(z),
+                });
+                if colour == 0 {
+                    continue;
+                }
+                if next >= voxels.len() || !is_voxel(&voxels[next], Cell { x, y, z }, colour) {
+                    wrong = wrong.saturating_add(1);
+                }
+                next = next.saturating_add(1);
+            }
+        }
+    }
+    if next == voxels.len() {
+        wrong
+    } else {
+        wrong.saturating_add(1)
+    }
+}
+
+// How many voxels are wrong in the list of a box.
+fn mislisted(alloc: Global, world: &mut TintWorld, plain: &TintGrid, b: Boxed) -> u32 {
+    let mut voxels: Vec<Voxel> = Vec::new(alloc);
+    if world.voxels(b, &mut voxels) {
+        misread(plain, b, voxels.as_slice())
+    } else {
+        1
+    }
+}
+
+// Draws so many acts, does them to a world of side 32 and to plain cells, and counts what is wrong
+// in the list of a box after each, and what was refused.
+fn listed(alloc: Global, seed: u64, number: u32) -> Result<(u32, u32), Fail> {
+    let stencil = small_stencil(alloc)?;
+    let mut draws = Draws::new(seed);
+    let mut world = TintWorld::empty(alloc, 32, 512, 64)?;
+    let mut plain = TintGrid::empty(alloc, 32).map_err(|_| "out of memory")?;
+    let mut wrong: u32 = 0;
+    let mut refused: u32 = 0;
+    for _ in 0..number {
+        let act = draw_act(&mut draws, 32, SIZE);
+        if done(&mut world, &act, &stencil) {
+            plain = plain
+                .after(alloc, &act, &DRAWN)
+                .map_err(|_| "out of memory")?;
+        } else {
+            refused = refused.saturating_add(1);
+        }
+        let b = draws.boxed(32);
+        wrong = wrong.saturating_add(mislisted(alloc, &mut world, &plain, b));
+    }
+    Ok((wrong, refused))
+}
+
+#[test]
+fn lists_have_the_tint_of_each_cell(rt: HostRuntime) -> Result<(), Fail> {
+    for seed in 1..3u64 {
+        assert_eq!(rt; listed(rt.alloc(), seed, 12)?, (0, 0));
     }
     Ok(())
 }

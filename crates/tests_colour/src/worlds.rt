@@ -1,12 +1,13 @@
 ghost use Rattle.std.specs.Prelude.{◌≡◌, ◌<◌, ◌≤◌, ◌-◌, ◌^◌, IsTrue, IfOk, OnErr, option_copied};
 ghost use Rattle.test_worlds.specs.Roots.{HoldsOnly, HoldsTwo};
 ghost use Rattle.vw_cell.specs.Places.{FitsAt, IsInWorld};
-ghost use Rattle.tints.specs.Tints.{IsTint};
+ghost use Rattle.history_model.specs.Tints.{IsTint};
 ghost use Rattle.colour.specs.Inks.{FitsInk};
 
 use crate::asking::{Asked, Told, answer, list_tints};
 use colour::{TintStencil, rebuild_tint};
 use edit_blocks::back_if;
+use history_model::TintAct;
 use node_words::{NodeStore, Plan, Share, Steps};
 use one_store::OneStore;
 use std::alloc::Global;
@@ -14,7 +15,6 @@ use std::marker::Brand;
 use std::sync::ledger::{Blank, Ledger};
 use std::test::Fail;
 use test_worlds::Refusal;
-use tints::TintAct;
 use vox_read::Voxel;
 use vw_cell::{Ball, Boxed, Side};
 

@@ -1,10 +1,20 @@
-//! Tests of the four edits over a store: rows of what they make, and random edits against plain
-//! cells.
+//! Tests of the four edits over a store, and of what may be asked of a world: rows of what they
+//! make and answer, and random edits and questions against plain cells.
 #![tactic(auto)]
 
 #[cfg(test)]
+mod ask_tests;
+#[cfg(test)]
+mod asks;
+#[cfg(test)]
+mod edit_tests;
+#[cfg(test)]
+mod plain;
+#[cfg(test)]
 mod plays;
 #[cfg(test)]
-mod tests;
+mod rays;
+#[cfg(test)]
+mod rows;
 #[cfg(test)]
 mod turns;

@@ -1,5 +1,7 @@
 use crate::acts::{ONE, ball, boxed, cell};
-use history_model::{Act, Spelled, Three, Way, may_make, read_act, read_box, three_numbers};
+use history_model::{
+    Act, Spelled, Three, TintAct, Way, may_make, read_act, read_box, three_numbers,
+};
 use plain_text::{ExactWords, WordFault, take_three, take_word};
 use std::test::Fail;
 use vox_read::read_models;
@@ -42,6 +44,47 @@ fn a_copy_makes_what_it_may(rt: HostRuntime) -> Result<(), Fail> {
     assert!(rt; act.fits(side, &models));
     let before = |c: Cell| c.y == 0 && c.z == 0 && (c.x == 0 || c.x == 2);
     let after = |c: Cell| c.y == 0 && c.z == 0 && (c.x == 0 || c.x == 1 || c.x == 3);
+    assert!(rt; may_make(side, &models, &act, &before, &after));
+    assert!(rt; !may_make(side, &models, &act, &before, &before));
+    Ok(())
+}
+
+// A tinted act lies in the world of a quarter of the store's side, and has a tint.
+#[test]
+fn tinted_acts_fit_a_quarter(rt: HostRuntime) -> Result<(), Fail> {
+    let side = Side::new(32).ok_or("a side")?;
+    let models = read_models(rt.alloc(), &ONE)?;
+    let part = boxed(cell(4, 0, 0), cell(4, 1, 1));
+    let long = boxed(cell(4, 0, 0), cell(5, 1, 1));
+    for (act, fits) in [
+        (TintAct::Fill(part, 255), true),
+        (TintAct::Fill(part, 0), false),
+        (TintAct::Fill(long, 1), false),
+        (TintAct::Erase(long), false),
+        (TintAct::Ball(ball(cell(7, 7, 7), 4095), 1), true),
+        (TintAct::Ball(ball(cell(7, 7, 7), 4095), 0), false),
+        (TintAct::Carve(ball(cell(0, 0, 8), 0)), false),
+        (TintAct::Copy(part, cell(5, 0, 0)), false),
+        (TintAct::Stamp(0, cell(7, 7, 7)), true),
+        (TintAct::Stamp(0, cell(8, 0, 0)), false),
+    ] {
+        assert!(rt; Act::Tint(act).fits(side, &models) == fits, "{act}");
+    }
+    Ok(())
+}
+
+// Tint 5 of the cell at the origin stands in a store of side 16 in the world's cube, and in those
+// of bits 0 and 2, whose corners are (8, 0, 0) and (8, 4, 0).
+#[test]
+fn a_tinted_fill_makes_what_it_may(rt: HostRuntime) -> Result<(), Fail> {
+    let side = Side::new(16).ok_or("a side")?;
+    let models = read_models(rt.alloc(), &ONE)?;
+    let world = Side::new(4).ok_or("a side")?;
+    let part = Boxed::new(cell(0, 0, 0), cell(1, 1, 1), world).ok_or("a box")?;
+    let act = Act::Tint(TintAct::Fill(part, 5));
+    assert!(rt; act.fits(side, &models));
+    let before = |_: Cell| false;
+    let after = |c: Cell| c.z == 0 && (c.x == 8 && (c.y == 0 || c.y == 4) || c.x == 0 && c.y == 0);
     assert!(rt; may_make(side, &models, &act, &before, &after));
     assert!(rt; !may_make(side, &models, &act, &before, &before));
     Ok(())

@@ -6,6 +6,28 @@ use vw_cell::Side;
 
 const HEAD: &str = "voxdag journal 1\nside 8\n";
 
+const COLOURED: &str = "voxdag journal 2\nside 8\n";
+
+// The same of coloured histories, whose fills and balls end with their tint.
+const BROKEN_TINTS: &[(&str, u32)] = &[
+    ("1 0 2 fill 0 0 0 1 1 1\nend\n", 3),
+    ("1 0 2 fill 0 0 0 1 1 1 0\nend\n", 3),
+    ("1 0 2 fill 0 0 0 1 1 1 256\nend\n", 3),
+    ("1 0 2 fill 0 0 0 1 1 1 05\nend\n", 3),
+    ("1 0 2 fill 0 0 0 1 1 1 5 5\nend\n", 3),
+    ("1 0 2 fill 7 0 0 2 1 1 5\nend\n", 3),
+    ("1 0 2 erase 0 0 0 1 1 1 5\nend\n", 3),
+    ("1 0 2 ball 0 0 0 1\nend\n", 3),
+    ("1 0 2 ball 8 0 0 1 5\nend\n", 3),
+    ("1 0 2 carve 0 0 0 1 5\nend\n", 3),
+    ("1 0 2 copy 0 0 0 4 1 1 to 5 0 0\nend\n", 3),
+    ("1 0 2 stamp 0 8 0 0\nend\n", 3),
+    (
+        "1 0 2 fill 0 0 0 1 1 1 255\n2 0 3 fill 0 0 0 1 1 1\nend\n",
+        4,
+    ),
+];
+
 // What may stand behind the first two lines, and the number of the first line that doesn't fit.
 const BROKEN: &[(&str, u32)] = &[
     ("end\r\n", 3),
@@ -78,9 +100,21 @@ fn each_kind_of_broken_line_is_told(rt: HostRuntime) -> Result<(), Fail> {
 }
 
 #[test]
+fn each_kind_of_broken_tint_is_told(rt: HostRuntime) -> Result<(), Fail> {
+    for &(behind, line) in BROKEN_TINTS {
+        let text = joined(rt.alloc(), COLOURED, behind)?;
+        let fault = read_journal(rt.alloc(), &text).err().ok_or("a fault")?;
+        assert!(rt; fault == JournalFault::Line(line), "at {behind}");
+    }
+    Ok(())
+}
+
+#[test]
 fn a_journal_begins_with_its_head(rt: HostRuntime) -> Result<(), Fail> {
     for &(text, line) in &[
-        ("voxdag journal 2\nside 8\nend\n", 1),
+        ("voxdag journal 3\nside 8\nend\n", 1),
+        ("voxdag journal 2\nside 2\nend\n", 2),
+        ("voxdag journal 2\nside 2048\nend\n", 2),
         ("voxdag journal 1 \nside 8\nend\n", 1),
         ("side 8\nend\n", 1),
         ("voxdag journal 1\nend\n", 2),
@@ -187,6 +221,7 @@ fn generated_histories_are_read_back(rt: HostRuntime) -> Result<(), Fail> {
         let marks = drawn_marks(rt.alloc(), &mut seed, number)?;
         let history = History {
             side,
+            coloured: false,
             records,
             marks,
         };

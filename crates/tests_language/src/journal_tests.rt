@@ -1,5 +1,7 @@
 use crate::acts::{ball, boxed, cell, record};
-use history_model::{Act, History, JournalFault, Mark, journal_text, position, read_journal};
+use history_model::{
+    Act, History, JournalFault, Mark, TintAct, journal_text, position, read_journal,
+};
 use std::alloc::Global;
 use std::test::Fail;
 use vw_cell::Side;
@@ -43,6 +45,50 @@ const EVERY_ACT: &str = "voxdag journal 1\n\
     mark 4 8 0 10\n\
     end\n";
 
+const EVERY_TINT: &str = "voxdag journal 2\n\
+    side 1024\n\
+    1 0 1 fill 0 1 2 3 4 5 255\n\
+    2 1 70000 erase 10 0 0 1 1 1\n\
+    3 63 3 ball 4 5 6 4095 1\n\
+    4 0 4 carve 1000 5 6 0\n\
+    5 0 5 copy 0 0 0 4 1 2 to 1 0 3\n\
+    6 2 6 stamp 1023 1 2 3\n\
+    7 0 7 undo\n\
+    8 0 8 redo\n\
+    end\n";
+
+#[test]
+fn coloured_journals_are_exact(rt: HostRuntime) -> Result<(), Fail> {
+    let one = cell(1, 1, 1);
+    let origin = cell(0, 0, 0);
+    let wide = ball(cell(4, 5, 6), 4095);
+    let point = ball(cell(1000, 5, 6), 0);
+    let part = boxed(cell(0, 1, 2), cell(3, 4, 5));
+    let from = boxed(origin, cell(4, 1, 2));
+    let history = History {
+        side: Side::new(4096).ok_or("a side")?,
+        coloured: true,
+        records: vec![in rt.alloc();
+            record(0, 1, Act::Tint(TintAct::Fill(part, 255))),
+            record(
+                1,
+                70000,
+                Act::Tint(TintAct::Erase(boxed(cell(10, 0, 0), one)))
+            ),
+            record(63, 3, Act::Tint(TintAct::Ball(wide, 1))),
+            record(0, 4, Act::Tint(TintAct::Carve(point))),
+            record(0, 5, Act::Tint(TintAct::Copy(from, cell(1, 0, 3)))),
+            record(2, 6, Act::Tint(TintAct::Stamp(1023, cell(1, 2, 3)))),
+            record(0, 7, Act::Undo),
+            record(0, 8, Act::Redo),
+        ]?,
+        marks: Vec::new(rt.alloc()),
+    };
+    let text = journal_text(rt.alloc(), &history).map_err(|_| "out of memory")?;
+    assert!(rt; text.as_slice() == EVERY_TINT.as_bytes());
+    Ok(())
+}
+
 #[test]
 fn journals_are_exact(rt: HostRuntime) -> Result<(), Fail> {
     let one = cell(1, 1, 1);
@@ -72,6 +118,7 @@ fn journals_are_exact(rt: HostRuntime) -> Result<(), Fail> {
         let side = Side::new(side).ok_or("a side")?;
         let history = History {
             side,
+            coloured: false,
             records,
             marks,
         };
@@ -100,7 +147,13 @@ fn histories_stand_somewhere(rt: HostRuntime) -> Result<(), Fail> {
 
 #[test]
 fn journals_are_read(rt: HostRuntime) -> Result<(), Fail> {
-    for text in [UNDOES, EVERY_ACT, "voxdag journal 1\nside 4\nend\n"] {
+    for text in [
+        UNDOES,
+        EVERY_ACT,
+        EVERY_TINT,
+        "voxdag journal 1\nside 4\nend\n",
+        "voxdag journal 2\nside 4\nend\n",
+    ] {
         let history = read_journal(rt.alloc(), text.as_bytes()).map_err(|_| "a fault")?;
         let again = journal_text(rt.alloc(), &history).map_err(|_| "out of memory")?;
         assert!(rt; again.as_slice() == text.as_bytes(), "at {text}");

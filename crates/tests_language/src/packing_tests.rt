@@ -1,4 +1,4 @@
-use history_model::{Act, pack, unpack};
+use history_model::{Act, TintAct, pack, unpack};
 use vw_cell::{Ball, Boxed, Cell};
 
 const PART: Boxed = Boxed {
@@ -55,6 +55,33 @@ const PACKED: &[(Act, [u64; 4])] = &[
     ),
     (Act::Undo, [6, 0, 0, 0]),
     (Act::Redo, [7, 0, 0, 0]),
+    (Act::Tint(TintAct::Fill(PART, 255)), [8, PLACE, SIZE, 255]),
+    (Act::Tint(TintAct::Erase(PART)), [9, PLACE, SIZE, 0]),
+    (
+        Act::Tint(TintAct::Ball(
+            Ball {
+                centre: Cell { x: 1, y: 2, z: 3 },
+                radius: 4095,
+            },
+            1,
+        )),
+        [10, PLACE, 4095, 1],
+    ),
+    (
+        Act::Tint(TintAct::Carve(Ball {
+            centre: Cell { x: 1, y: 2, z: 3 },
+            radius: 0,
+        })),
+        [11, PLACE, 0, 0],
+    ),
+    (
+        Act::Tint(TintAct::Copy(PART, Cell { x: 7, y: 8, z: 9 })),
+        [12, PLACE, SIZE, 7 + (8 << 16) + (9 << 32)],
+    ),
+    (
+        Act::Tint(TintAct::Stamp(1023, Cell { x: 1, y: 2, z: 3 })),
+        [13, PLACE, 1023, 0],
+    ),
 ];
 
 #[test]
@@ -69,7 +96,7 @@ const UNIT: u64 = 1 + (1 << 16) + (1 << 32);
 
 // Words of no act of the world of side 4,096.
 const UNPACKED: &[[u64; 4]] = &[
-    [8, 0, 0, 0],
+    [14, 0, UNIT, 0],
     [256, 0, UNIT, 0],
     [0, 0, 0, 0],
     [0, 0, 1 + (1 << 16), 0],
@@ -88,6 +115,17 @@ const UNPACKED: &[[u64; 4]] = &[
     [5, 4096, 0, 0],
     [6, 1, 0, 0],
     [7, 0, 0, 1],
+    [8, 0, UNIT, 0],
+    [8, 0, UNIT, 256],
+    [8, 1024, UNIT, 1],
+    [9, 1023, 2 + (1 << 16) + (1 << 32), 0],
+    [9, 0, UNIT, 1],
+    [10, 0, 1, 0],
+    [10, 1024 << 32, 0, 1],
+    [11, 0, 4096, 0],
+    [12, 0, UNIT, 1024],
+    [13, 0, 1024, 0],
+    [13, 1024, 0, 0],
 ];
 
 #[test]

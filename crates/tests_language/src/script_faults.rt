@@ -56,6 +56,10 @@ const WORDS: &[(&str, ScriptKind)] = &[
     ("same 1 2 x", ScriptKind::Extra),
     ("forget x 2", ScriptKind::Extra),
     ("at x bounds 1", ScriptKind::Extra),
+    ("fill 0 0 0 1 1 1 5", ScriptKind::Extra),
+    ("ball 0 0 0 1 7", ScriptKind::Extra),
+    ("colour 0 0 0", ScriptKind::Word),
+    ("at 0 colour 0 0 0", ScriptKind::Word),
 ];
 
 const NUMBERS: &[(&str, ScriptKind)] = &[
@@ -110,6 +114,39 @@ const NUMBERS: &[(&str, ScriptKind)] = &[
     ),
 ];
 
+// The same for a world whose cells have tints.
+const TINTED: &[(&str, ScriptKind)] = &[
+    ("fill 0 0 0 1 1", ScriptKind::Missing),
+    ("ball 0 0 0", ScriptKind::Missing),
+    ("colour 0 0", ScriptKind::Missing),
+    ("at 0 colour", ScriptKind::Missing),
+    ("fill x 0 0 1 1 1 5 5", ScriptKind::Extra),
+    ("ball 0 0 0 1 7 7", ScriptKind::Extra),
+    ("erase 0 0 0 1 1 1 5", ScriptKind::Extra),
+    ("carve 0 0 0 1 7", ScriptKind::Extra),
+    ("copy 0 0 0 1 1 1 to 0 0 0 5", ScriptKind::Extra),
+    ("stamp 0 0 0 0 5", ScriptKind::Extra),
+    ("colour x 0 0 0", ScriptKind::Extra),
+    ("try colour 0 0 0", ScriptKind::Word),
+    ("fill 0 0 0 9 1 1 red", ScriptKind::Number),
+    ("fill 0 0 0 1 1 x 0", ScriptKind::Number),
+    ("ball 0 0 0 1 -1", ScriptKind::Number),
+    ("colour 0 0 red", ScriptKind::Number),
+    ("stamp 1 0 0 0", ScriptKind::NoModel),
+    ("stamp 0 8 0 0", ScriptKind::Range),
+    ("fill 0 0 0 9 1 1 5", ScriptKind::Range),
+    ("fill 0 0 0 1 1 1 0", ScriptKind::Range),
+    ("fill 0 0 0 1 1 1 256", ScriptKind::Range),
+    ("try fill 0 0 0 1 1 1 999999999", ScriptKind::Range),
+    ("ball 0 8 0 1 7", ScriptKind::Range),
+    ("ball 0 0 0 1 0", ScriptKind::Range),
+    ("ball 0 0 0 1 256", ScriptKind::Range),
+    ("copy 0 0 0 4 1 1 to 5 0 0", ScriptKind::Range),
+    ("colour 8 0 0", ScriptKind::Range),
+    ("at 0 colour 0 0 8", ScriptKind::Range),
+    ("save a 0 0 0 9 1 1", ScriptKind::Range),
+];
+
 fn fault(line: u32, kind: ScriptKind) -> Option<ScriptFault> {
     Some(ScriptFault { line, kind })
 }
@@ -118,9 +155,9 @@ fn fault(line: u32, kind: ScriptKind) -> Option<ScriptFault> {
 fn each_line_has_its_first_fault(rt: HostRuntime) -> Result<(), Fail> {
     let side = Side::new(8).ok_or("a side")?;
     let models = read_models(rt.alloc(), &ONE)?;
-    for rows in [WORDS, NUMBERS] {
+    for (rows, tint) in [(WORDS, false), (NUMBERS, false), (TINTED, true)] {
         for &(text, kind) in rows {
-            let read = read_script(rt.alloc(), text.as_bytes(), side, &models);
+            let read = read_script(rt.alloc(), text.as_bytes(), side, &models, tint);
             assert!(rt; read.err() == fault(1, kind), "at {text}");
         }
     }
@@ -131,12 +168,23 @@ fn each_line_has_its_first_fault(rt: HostRuntime) -> Result<(), Fail> {
 fn the_first_line_with_a_fault_decides(rt: HostRuntime) -> Result<(), Fail> {
     let side = Side::new(8).ok_or("a side")?;
     let models = read_models(rt.alloc(), &ONE)?;
-    for &(text, line, kind) in &[
-        ("head\n\nfill 0 0 0 0 1 1\njump\n", 3, ScriptKind::Range),
-        ("undo\r\n# \x01\njump", 2, ScriptKind::NotAscii),
-        ("head\nhead\nhead 1", 3, ScriptKind::Extra),
+    for &(text, tint, line, kind) in &[
+        (
+            "head\n\nfill 0 0 0 0 1 1\njump\n",
+            false,
+            3,
+            ScriptKind::Range,
+        ),
+        ("undo\r\n# \x01\njump", false, 2, ScriptKind::NotAscii),
+        ("head\nhead\nhead 1", false, 3, ScriptKind::Extra),
+        (
+            "fill 0 0 0 1 1 1 255\nfill 0 0 0 1 1 1 256\njump",
+            true,
+            2,
+            ScriptKind::Range,
+        ),
     ] {
-        let read = read_script(rt.alloc(), text.as_bytes(), side, &models);
+        let read = read_script(rt.alloc(), text.as_bytes(), side, &models, tint);
         assert!(rt; read.err() == fault(line, kind), "at {text}");
     }
     Ok(())
@@ -163,7 +211,7 @@ fn a_script_has_at_most_100000_lines(rt: HostRuntime) -> Result<(), Fail> {
         (100_000, "# \x7f", fault(100_001, ScriptKind::TooManyLines)),
     ] {
         let text = after_lines(rt.alloc(), empty, last)?;
-        let read = read_script(rt.alloc(), &text, side, &models);
+        let read = read_script(rt.alloc(), &text, side, &models, false);
         assert!(rt; read.err() == want, "{empty} lines and {last}");
     }
     Ok(())
@@ -197,7 +245,7 @@ fn saved_boxes_have_at_most_256_cells_a_side(rt: HostRuntime) -> Result<(), Fail
         ("save a 0 0 0 1 257 1", Some(ScriptKind::Range)),
         ("save a 0 0 0 1 1 257", Some(ScriptKind::Range)),
     ] {
-        let read = read_script(rt.alloc(), text.as_bytes(), side, &models);
+        let read = read_script(rt.alloc(), text.as_bytes(), side, &models, false);
         let kind = read.err().map(|fault| fault.kind);
         assert!(rt; kind == want, "at {text}");
     }

@@ -1,5 +1,5 @@
 use crate::acts::{ONE, boxed, cell};
-use history_model::{Act, Question, Way};
+use history_model::{Act, Question, TintAct, Way};
 use script::{Command, ScriptLine, number, read_script};
 use std::test::Fail;
 use vox_read::read_models;
@@ -94,6 +94,36 @@ const ATTEMPTS: &[(&str, Act)] = &[
     ("try stamp 0 4095 4095 4095", Act::Stamp(0, LAST)),
 ];
 
+// Changes of a world whose cells have tints.
+const TINTED: &[(&str, Act)] = &[
+    ("fill 0 0 0 1 1 1", Act::Tint(TintAct::Fill(UNIT, 1))),
+    ("fill 0 0 0 1 1 1 5", Act::Tint(TintAct::Fill(UNIT, 5))),
+    (
+        "fill 0 0 0 1 1 1 \t000000255 \r\n",
+        Act::Tint(TintAct::Fill(UNIT, 255)),
+    ),
+    ("erase 0 0 0 4096 4096 4096", Act::Tint(TintAct::Erase(ALL))),
+    ("ball 4 5 6 4095", Act::Tint(TintAct::Ball(WIDE, 1))),
+    ("ball 4 5 6 4095 7", Act::Tint(TintAct::Ball(WIDE, 7))),
+    ("carve 4095 0 7 0", Act::Tint(TintAct::Carve(POINT))),
+    (
+        "copy 0 0 0 4 1 1 to 1 0 0",
+        Act::Tint(TintAct::Copy(ROW, NEXT)),
+    ),
+    ("stamp 0 4095 4095 4095", Act::Tint(TintAct::Stamp(0, LAST))),
+    ("undo", Act::Undo),
+    ("redo", Act::Redo),
+];
+
+const TINTED_ATTEMPTS: &[(&str, Act)] = &[
+    ("try fill 0 0 0 1 1 1", Act::Tint(TintAct::Fill(UNIT, 1))),
+    (
+        "try ball 4 5 6 4095 255",
+        Act::Tint(TintAct::Ball(WIDE, 255)),
+    ),
+    ("try carve 4095 0 7 0", Act::Tint(TintAct::Carve(POINT))),
+];
+
 fn questions(way: Way, back: Way) -> [(&'static str, Command); 14] {
     let part = boxed(cell(1, 2, 3), cell(4, 5, 6));
     [
@@ -123,13 +153,25 @@ fn questions(way: Way, back: Way) -> [(&'static str, Command); 14] {
     ]
 }
 
+fn tint_questions() -> [(&'static str, Command); 2] {
+    [
+        ("colour 0 0 0", ask(Question::Colour(ORIGIN))),
+        ("at 0 colour 0 0 0", ask_of(0, Question::Colour(ORIGIN))),
+    ]
+}
+
 #[test]
 fn every_change_is_read(rt: HostRuntime) -> Result<(), Fail> {
     let side = Side::new(4096).ok_or("a side")?;
     let models = read_models(rt.alloc(), &ONE)?;
-    for (rows, once) in [(CHANGES, false), (ATTEMPTS, true)] {
+    for (rows, once, tint) in [
+        (CHANGES, false, false),
+        (ATTEMPTS, true, false),
+        (TINTED, false, true),
+        (TINTED_ATTEMPTS, true, true),
+    ] {
         for &(text, act) in rows {
-            let script = read_script(rt.alloc(), text.as_bytes(), side, &models)?;
+            let script = read_script(rt.alloc(), text.as_bytes(), side, &models, tint)?;
             let command = Command::Edit { act, once };
             assert!(rt; is_only(&script.lines, command), "at {text}");
         }
@@ -143,8 +185,21 @@ fn every_question_is_read(rt: HostRuntime) -> Result<(), Fail> {
     let models = read_models(rt.alloc(), &ONE)?;
     let way = Way::new(1, -1, 0).ok_or("a way")?;
     let back = Way::new(-1024, 1024, 0).ok_or("a way")?;
-    for (text, command) in questions(way, back) {
-        let script = read_script(rt.alloc(), text.as_bytes(), side, &models)?;
+    for tint in [false, true] {
+        for (text, command) in questions(way, back) {
+            let script = read_script(rt.alloc(), text.as_bytes(), side, &models, tint)?;
+            assert!(rt; is_only(&script.lines, command), "at {text}");
+        }
+    }
+    Ok(())
+}
+
+#[test]
+fn the_tint_of_a_cell_is_asked_for(rt: HostRuntime) -> Result<(), Fail> {
+    let side = Side::new(8).ok_or("a side")?;
+    let models = read_models(rt.alloc(), &ONE)?;
+    for (text, command) in tint_questions() {
+        let script = read_script(rt.alloc(), text.as_bytes(), side, &models, true)?;
         assert!(rt; is_only(&script.lines, command), "at {text}");
     }
     Ok(())
@@ -171,7 +226,7 @@ fn comments_and_empty_lines_are_no_commands(rt: HostRuntime) -> Result<(), Fail>
         ("head\n\n \t\n  #head\n#\nhead\nhead", 167),
         ("head\r\n\r\nhead\r", 13),
     ] {
-        let script = read_script(rt.alloc(), text.as_bytes(), side, &models)?;
+        let script = read_script(rt.alloc(), text.as_bytes(), side, &models, false)?;
         assert_eq!(rt; lines_of(&script.lines), lines, "at {text}");
     }
     Ok(())

@@ -28,6 +28,9 @@ const ROWS: &[(Answer, &str)] = &[
     (Answer::Forgot(4_294_967_295), "forgot 4294967295"),
     (Answer::Is(true), "set"),
     (Answer::Is(false), "clear"),
+    (Answer::Colour(0), "colour 0"),
+    (Answer::Colour(5), "colour 5"),
+    (Answer::Colour(255), "colour 255"),
     (Answer::Count(0), "count 0"),
     (Answer::Count(68_719_476_736), "count 68719476736"),
     (
@@ -137,6 +140,10 @@ const BROKEN: &[(&str, u64)] = &[
     ("1 @0 same 0 1\n", 1),
     ("1 @0 different 1\n", 1),
     ("1 @0 head 0\n", 1),
+    ("1 @0 colour\n", 1),
+    ("1 @0 colour 05\n", 1),
+    ("1 @0 colour 256\n", 1),
+    ("1 @0 colour 1 2\n", 1),
     ("1 @0 count\n", 1),
     ("1 @0 count 01\n", 1),
     ("1 @0 count 1 2\n", 1),
@@ -197,6 +204,7 @@ fn a_whole_transcript_is_told(rt: HostRuntime) -> Result<(), Fail> {
         answer_at(5, 3, Answer::NothingToRedo),
         answer_at(6, 4, Answer::Done),
         answer_at(7, 4, Answer::Count(0)),
+        answer_at(8, 4, Answer::Colour(5)),
     ];
     let want = "1 @0 nothing to undo\n\
         2 @1 ok\n\
@@ -204,7 +212,8 @@ fn a_whole_transcript_is_told(rt: HostRuntime) -> Result<(), Fail> {
         4 @3 ok\n\
         5 @3 nothing to redo\n\
         6 @4 ok\n\
-        7 @4 count 0\n";
+        7 @4 count 0\n\
+        8 @4 colour 5\n";
     let text = transcript_text(rt.alloc(), &answers).map_err(|_| "out of memory")?;
     assert!(rt; text.as_slice() == want.as_bytes());
     let read = read_transcript(rt.alloc(), want.as_bytes()).map_err(|_| "a fault")?;
@@ -244,6 +253,7 @@ fn varied(answer: Answer, seed: &mut u64) -> Answer {
     let c = cell((n % 65536) as u16, (n % 100) as u16, (n % 7) as u16);
     match answer {
         Answer::Forgot(_) => Answer::Forgot((n % 4_294_967_296) as u32),
+        Answer::Colour(_) => Answer::Colour((n % 256) as u8),
         Answer::Count(_) => Answer::Count(n.wrapping_mul(65537)),
         Answer::Faces(_) => Answer::Faces(n),
         Answer::Extent(Some(_)) => Answer::Extent(Some(boxed(c, c))),
@@ -277,6 +287,6 @@ fn generated_transcripts_are_read_back(rt: HostRuntime) -> Result<(), Fail> {
     let text = transcript_text(rt.alloc(), &answers).map_err(|_| "out of memory")?;
     let read = read_transcript(rt.alloc(), &text).map_err(|_| "a fault")?;
     assert!(rt; read.as_slice() == answers.as_slice());
-    assert_eq!(rt; read.len(), 6000);
+    assert_eq!(rt; read.len(), 6600);
     Ok(())
 }

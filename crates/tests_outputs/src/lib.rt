@@ -2,6 +2,8 @@
 #![tactic(auto)]
 
 #[cfg(test)]
+mod keep_tests;
+#[cfg(test)]
 mod run_tests;
 #[cfg(test)]
 mod save_tests;

@@ -43,7 +43,26 @@ const RUNS: &[(&str, &str, &str, &str, &str)] = &[
         "1 @1 ok\n2 @1 full 0 0\n3 @1 count 1\n",
         "audit --buckets 1 one.vox j s",
     ),
+    (
+        "run --side 8 --keep 2 --journal j one.vox s",
+        "scripts 1 records 4 marks 3 nodes 4\n",
+        FALLING,
+        FALLEN,
+        "audit --keep 2 one.vox j s",
+    ),
 ];
+
+// Of a run that holds its last two versions alone.
+const FALLING: &str =
+    "fill 0 0 0 1 1 1\nfill 1 0 0 1 1 1\nundo\nundo\nredo\nat 0 count 0 0 0 8 8 8\n\
+     count 0 0 0 8 8 8\n";
+
+const FALLEN: &str =
+    "1 @1 ok\n2 @2 ok\n3 @3 ok\n4 @3 forgotten 0\n5 @4 ok\n6 @4 forgotten 0\n7 @4 count 2\n";
+
+const FALLEN_JOURNAL: &str =
+    "voxdag journal 1\nside 8\n1 0 1 fill 0 0 0 1 1 1\n2 0 2 fill 1 0 0 1 1 1\n3 0 3 undo\n\
+     4 0 5 redo\nmark 0 2 0 2\nmark 1 3 0 3\nmark 2 4 0 5\nend\n";
 
 #[test]
 fn a_run_is_audited_yes(rt: HostRuntime) -> Result<(), Fail> {
@@ -59,6 +78,29 @@ fn a_run_is_audited_yes(rt: HostRuntime) -> Result<(), Fail> {
             "at {audit}"
         );
         assert!(rt; has(&shelf, "s.out", Some(transcript)), "at {audit}");
+    }
+    Ok(())
+}
+
+// What an audit of that run answers, by the options that it is given.
+const HELD: &[(&str, &str)] = &[
+    ("audit --keep 2 one.vox j s", "yes\n"),
+    ("audit --keep 2 --buckets 4 one.vox j s", "yes\n"),
+    ("audit --buckets 4 --keep 000002 one.vox j s", "yes\n"),
+    ("audit one.vox j s", "no\n"),
+    ("audit --keep 1 one.vox j s", "no\n"),
+    ("audit --keep 3 one.vox j s", "no\n"),
+    ("audit --keep 65535 one.vox j s", "no\n"),
+];
+
+#[test]
+fn an_audit_is_of_as_many_last_versions(rt: HostRuntime) -> Result<(), Fail> {
+    let mut shelf = shelf(rt.alloc(), FALLING, FALLEN_JOURNAL, FALLEN)?;
+    for &(line, printed) in HELD {
+        assert!(rt;
+            ends(&rt, rt.alloc(), line, &mut shelf, 0, printed)?,
+            "at {line}"
+        );
     }
     Ok(())
 }
@@ -103,7 +145,13 @@ const CHANGED: &[(&str, &str, u8, &str)] = &[
         12,
         "voxdag: journal 4\n",
     ),
-    ("voxdag journal 2\n", "fine\n", 12, "voxdag: journal 1\n"),
+    ("voxdag journal 2\n", "fine\n", 12, "voxdag: journal 2\n"),
+    (
+        "voxdag journal 2\nside 8\nend\n",
+        "fine\n",
+        12,
+        "voxdag: journal 1\n",
+    ),
 ];
 
 #[test]
@@ -134,13 +182,17 @@ const REFUSED: &[(&str, u8, &str)] = &[
     ("audit --buckets 0 one.vox j s", 1, "voxdag: usage\n"),
     ("audit --buckets 4097 one.vox j s", 1, "voxdag: usage\n"),
     ("audit --buckets=16 one.vox j s", 1, "voxdag: usage\n"),
-    ("audit --keep 2 one.vox j s", 1, "voxdag: usage\n"),
+    ("audit --keep 0 one.vox j s", 1, "voxdag: usage\n"),
+    ("audit --keep 65536 one.vox j s", 1, "voxdag: usage\n"),
+    ("audit --keep=2 one.vox j s", 1, "voxdag: usage\n"),
+    ("audit one.vox --keep 2 j s", 1, "voxdag: usage\n"),
     ("audit one.vox j s --buckets 1", 1, "voxdag: usage\n"),
     (
         "audit --buckets 1 --buckets 1 one.vox j s",
         1,
         "voxdag: usage\n",
     ),
+    ("audit --keep 1 --keep 2 one.vox j s", 1, "voxdag: usage\n"),
 ];
 
 #[test]

@@ -1,6 +1,6 @@
 //! Two scripts, run by the program and by the plain run.
 
-ghost use Rattle.std.specs.Prelude.{◌≡◌, ◌≤◌, ◌^◌, length, All, IfOk};
+ghost use Rattle.std.specs.Prelude.{◌≡◌, ◌≤◌, ◌^◌, false, length, All, IfOk};
 ghost use Rattle.script.specs.Fitting.{CommandFits};
 ghost use Rattle.vox_read.specs.Contents.{AreModels};
 
@@ -31,10 +31,11 @@ fn vox() -> &'static [u8]
     MODELS
 }
 
-/// The scripts, and the plan of a run of both.
+/// The scripts, the plan of a run of both, and how many last versions it holds, or 0 for all.
 #[derive(Clone, Copy)]
 pub(crate) struct Run<'s> {
     pub(crate) plan: &'s Plan,
+    pub(crate) keep: u32,
     pub(crate) first: &'s str,
     pub(crate) second: &'s str,
 }
@@ -81,7 +82,7 @@ fn is_same(alloc: Global, run: Run<'_>, models: &Models, ended: &Ended) -> Resul
     let first = read(alloc, run.first, run.plan, models)?;
     let second = read(alloc, run.second, run.plan, models)?;
     let mut plain = PlainRun::begin(alloc, run.plan, models)?;
-    let mut rooms = Rooms::new(alloc, run.plan);
+    let mut rooms = Rooms::new(alloc, run.plan, run.keep);
     let same = is_same_text(alloc, &mut rooms, &mut plain, 0, &first, ended)?
         && is_same_text(alloc, &mut rooms, &mut plain, 1, &second, ended)?;
     if !same || !has_saved(alloc, &plain, &ended.shelf)? {
@@ -92,9 +93,10 @@ fn is_same(alloc: Global, run: Run<'_>, models: &Models, ended: &Ended) -> Resul
 
 fn read(alloc: Global, words: &str, plan: &Plan, models: &Models) -> Result<Script, Fail>
     requires { AreModels models.now }
-    ensures { IfOk result (All (λ l. CommandFits (2 ^ plan.now.side) models.now l.command)) }
+    ensures { IfOk result
+        (All (λ l. CommandFits false (2 ^ plan.now.side) models.now l.command)) }
 {
-    match read_script(alloc, words.as_bytes(), plan.side(), models) {
+    match read_script(alloc, words.as_bytes(), plan.side(), models, false) {
         Ok(script) => Ok(script),
         Err(_) => Err(Fail::from("a script")),
     }
@@ -109,10 +111,12 @@ fn is_same_text(
     script: &Script,
     ended: &Ended,
 ) -> Result<bool, Fail>
-    requires { All (λ l. CommandFits (2 ^ plain.old.plan.side) plain.old.models l.command)
-        script.now }
+    requires plain { plain.old.log.coloured ≡ false }
+    requires fit { All (λ l. CommandFits false (2 ^ plain.old.plan.side) plain.old.models
+        l.command) script.now }
     ensures plan { plain.new.plan ≡ plain.old.plan }
     ensures models { plain.new.models ≡ plain.old.models }
+    ensures plain { plain.new.log.coloured ≡ false }
 {
     let told = ended.told(session);
     let answers = rooms.answers(plain, session, script.lines.as_slice(), told)?;
@@ -147,7 +151,7 @@ pub(crate) fn run_program<R: Threads + Wait + Sync>(
     run: Run<'_>,
 ) -> Result<Ended, Fail> {
     let mut shelf = shelf_of(alloc, run)?;
-    let words = words(alloc, run.plan)?;
+    let words = words(alloc, run)?;
     let mut out = MemorySink::new(alloc);
     let waits = (1, first_line(run.second), Place::Before);
     let rules = [(waits, (0, last_line(run.first), Place::After))];
@@ -226,16 +230,19 @@ fn told(alloc: Global, shelf: &MemoryShelf, name: &str) -> Result<Vec<LineAnswer
     }
 }
 
-fn words(alloc: Global, plan: &Plan) -> Result<Vec<String>, AllocError> {
-    let side = plan.side().cells();
-    let buckets = plan.buckets()[0];
-    let cap = plan.cap();
+fn words(alloc: Global, run: Run<'_>) -> Result<Vec<String>, AllocError> {
+    let side = run.plan.side().cells();
+    let buckets = run.plan.buckets()[0];
+    let cap = run.plan.cap();
     let line = format!(in alloc;
         "run --side {side} --buckets {buckets} --cap {cap} --journal j --report p m.vox a b"
     )?;
     let mut words = Vec::new(alloc);
     for word in line.as_str().split(' ') {
         words.push(String::from_str(alloc, word)?)?;
+    }
+    if run.keep > 0 {
+        words.push(format!(in alloc; "--keep={}", run.keep)?)?;
     }
     Ok(words)
 }

@@ -1,6 +1,6 @@
 //! The plain run with the buckets of a plan, which it doesn't have: judged by contents alone.
 
-ghost use Rattle.std.specs.Prelude.{◌≡◌, ◌^◌, All, true};
+ghost use Rattle.std.specs.Prelude.{◌≡◌, ◌^◌, All, true, false};
 ghost use Rattle.history_model.specs.Logs.{FitsWorld};
 ghost use Rattle.history_model.specs.Worlds.{is_edit};
 ghost use Rattle.script.specs.Fitting.{CommandFits};
@@ -16,19 +16,22 @@ use std::alloc::{AllocError, Global};
 use std::test::Fail;
 use transcript::{Answer, LineAnswer};
 
-/// The buckets and slots of a store, and what each version of a run contains.
+/// The buckets and slots of a store, how many last versions alone it holds, or 0 for all, and what
+/// each version of a run contains.
 #[derive(Drop)]
 pub(crate) struct Rooms {
     alloc: Global,
     plan: Plan,
+    keep: u32,
     versions: Vec<Contents>,
 }
 
 impl Rooms {
-    pub(crate) fn new(alloc: Global, plan: &Plan) -> Rooms {
+    pub(crate) fn new(alloc: Global, plan: &Plan, keep: u32) -> Rooms {
         Rooms {
             alloc,
             plan: *plan,
+            keep,
             versions: Vec::new(alloc),
         }
     }
@@ -44,10 +47,12 @@ impl Rooms {
         lines: &[ScriptLine],
         told: &[LineAnswer],
     ) -> Result<Vec<LineAnswer>, Fail>
-        requires fit { All (λ l. CommandFits (2 ^ plain.old.plan.side) plain.old.models l.command)
-            lines.now }
+        requires plain { plain.old.log.coloured ≡ false }
+        requires fit { All (λ l. CommandFits false (2 ^ plain.old.plan.side) plain.old.models
+            l.command) lines.now }
         ensures plan { plain.new.plan ≡ plain.old.plan }
         ensures models { plain.new.models ≡ plain.old.models }
+        ensures plain { plain.new.log.coloured ≡ false }
     {
         let mut answers = Vec::new(self.alloc);
         for line in lines {
@@ -65,9 +70,11 @@ impl Rooms {
         l: ScriptLine,
         told: Answer,
     ) -> Result<LineAnswer, Fail>
-        requires fits { CommandFits (2 ^ plain.old.plan.side) plain.old.models l.command }
+        requires plain { plain.old.log.coloured ≡ false }
+        requires fits { CommandFits false (2 ^ plain.old.plan.side) plain.old.models l.command }
         ensures plan { plain.new.plan ≡ plain.old.plan }
         ensures models { plain.new.models ≡ plain.old.models }
+        ensures plain { plain.new.log.coloured ≡ false }
     {
         match self.refused(plain, l.command, told)? {
             Some(answer) => Ok(LineAnswer {
@@ -77,6 +84,9 @@ impl Rooms {
             }),
             None => {
                 let answer = plain.answer(session, l)?;
+                if answer.answer == Answer::Done {
+                    plain.let_fall(self.keep)?;
+                }
                 Ok(answer)
             }
         }
@@ -89,7 +99,7 @@ impl Rooms {
         command: Command,
         told: Answer,
     ) -> Result<Option<Answer>, AllocError>
-        requires { CommandFits (2 ^ plain.now.plan.side) plain.now.models command }
+        requires { CommandFits false (2 ^ plain.now.plan.side) plain.now.models command }
     {
         match command {
             Command::Edit { act, once: _ } => match act {

@@ -16,6 +16,8 @@ pub(crate) enum Edits {
     Any,
     /// The same, where each fourth line is a save.
     AnyAndSaves,
+    /// Each second line is a change, and the others ask, or forget one of the newest versions.
+    Forgetful,
     /// Each edit fills or clears a box of octants of the world. Only few leaves and nodes below the
     /// root are different then, and many roots.
     Octants,
@@ -50,6 +52,7 @@ fn next_line(
     match edits {
         Edits::Any => line(alloc, draws, side),
         Edits::AnyAndSaves => line_or_save(alloc, seed, number, draws, side),
+        Edits::Forgetful => changed_or_forgotten(alloc, number, draws, side),
         Edits::Octants => coarse_line(alloc, draws, side),
     }
 }
@@ -65,6 +68,32 @@ fn line_or_save(
         return saved(alloc, seed, number, draws, side);
     }
     line(alloc, draws, side)
+}
+
+fn changed_or_forgotten(
+    alloc: Global,
+    number: u16,
+    draws: &mut Draws,
+    side: u16,
+) -> Result<String, AllocError> {
+    if number % 2 == 0 {
+        return changed(alloc, draws, side);
+    }
+    // so many changes were asked for before this one
+    let newest = number / 2;
+    match draws.below(4) {
+        0 => question(alloc, draws, side),
+        1 => asked_of(alloc, draws, side),
+        _ => format!(in alloc; "forget {}", newest.saturating_sub(draws.below(5))),
+    }
+}
+
+fn changed(alloc: Global, draws: &mut Draws, side: u16) -> Result<String, AllocError> {
+    match draws.below(6) {
+        0 => format!(in alloc; "undo"),
+        1 => format!(in alloc; "redo"),
+        _ => edited(alloc, draws, side),
+    }
 }
 
 fn coarse_line(alloc: Global, draws: &mut Draws, side: u16) -> Result<String, AllocError> {

@@ -58,10 +58,25 @@ const FEW_ROOTS: &[Row] = &[
     (16, 1, 6, 45),
 ];
 
-// The scripts of a row.
+// The last versions that are held, and rows of which some have few slots.
+const KEEPING: &[(u32, Row)] = &[
+    (1, (4, 64, 256, 51)),
+    (1, (8, 2, 3, 52)),
+    (2, (4, 64, 256, 53)),
+    (2, (8, 3, 2, 66)),
+    (3, (8, 64, 256, 55)),
+    (3, (4, 1, 4, 56)),
+    (4, (8, 64, 256, 57)),
+    (4, (8, 3, 3, 58)),
+    (5, (4, 64, 256, 59)),
+    (5, (8, 2, 6, 60)),
+];
+
+// The scripts of a row, and the last versions that its run holds.
 #[derive(Drop)]
 struct Drawn {
     plan: Plan,
+    keep: u32,
     first: String,
     second: String,
 }
@@ -70,13 +85,14 @@ impl Drawn {
     fn run(&self) -> Run<'_> {
         Run {
             plan: &self.plan,
+            keep: self.keep,
             first: self.first.as_str(),
             second: self.second.as_str(),
         }
     }
 }
 
-fn draw(alloc: Global, edits: Edits, row: &Row) -> Result<Drawn, Fail> {
+fn draw(alloc: Global, edits: Edits, keep: u32, row: &Row) -> Result<Drawn, Fail> {
     let &(side, buckets, cap, seed) = row;
     let lines = if side < 16 { 40 } else { 20 };
     let first = script(alloc, edits, seed, side, lines)?;
@@ -85,6 +101,7 @@ fn draw(alloc: Global, edits: Edits, row: &Row) -> Result<Drawn, Fail> {
     let plan = Plan::even(side, buckets, cap).ok_or("a plan")?;
     Ok(Drawn {
         plan,
+        keep,
         first,
         second,
     })
@@ -108,7 +125,7 @@ fn show<R: Threads + Wait + Sync>(
     level: u8,
     row: &Row,
 ) -> Result<Shown, Fail> {
-    let drawn = draw(alloc, edits, row)?;
+    let drawn = draw(alloc, edits, 0, row)?;
     let ended = run_program(rt, alloc, drawn.run())?;
     let same = is_as_plain(alloc, drawn.run(), &ended)?;
     Ok(Shown {
@@ -185,6 +202,75 @@ fn scripts_by_chance_run_as_plain_ones(rt: HostRuntime) -> Result<(), Fail> {
         let shown = show(&rt, rt.alloc(), Edits::AnyAndSaves, 0, row)?;
         assert!(rt; shown.same, "side {}, number {}", row.0, row.3);
         assert!(rt; !shown.full, "side {}, number {}", row.0, row.3);
+    }
+    Ok(())
+}
+
+// What runs that hold their last versions alone showed.
+#[derive(Clone, Copy)]
+struct Kept {
+    same: bool,
+    // whether a session was told that a version is forgotten, and forgot one itself
+    forgotten: bool,
+    forgot: bool,
+}
+
+fn keep<R: Threads + Wait + Sync>(
+    rt: &R,
+    alloc: Global,
+    keep: u32,
+    row: &Row,
+) -> Result<Kept, Fail> {
+    let drawn = draw(alloc, Edits::Forgetful, keep, row)?;
+    let ended = run_program(rt, alloc, drawn.run())?;
+    let same = is_as_plain(alloc, drawn.run(), &ended)?;
+    Ok(Kept {
+        same,
+        forgotten: has_forgotten(ended.told(0)),
+        forgot: has_forgot(ended.told(0)),
+    })
+}
+
+fn has_forgotten(told: &[LineAnswer]) -> bool {
+    for a in told {
+        if is_forgotten(a.answer) {
+            return true;
+        }
+    }
+    false
+}
+
+fn is_forgotten(answer: Answer) -> bool {
+    match answer {
+        Answer::Forgotten(_) => true,
+        _ => false,
+    }
+}
+
+fn has_forgot(told: &[LineAnswer]) -> bool {
+    for a in told {
+        if is_forgot(a.answer) {
+            return true;
+        }
+    }
+    false
+}
+
+fn is_forgot(answer: Answer) -> bool {
+    match answer {
+        Answer::Forgot(_) => true,
+        _ => false,
+    }
+}
+
+#[test]
+fn last_versions_are_held_as_plain_ones(rt: HostRuntime) -> Result<(), Fail> {
+    for (last, row) in KEEPING {
+        let kept = keep(&rt, rt.alloc(), *last, row)?;
+        assert!(rt; kept.same, "with {last}, number {}", row.3);
+        assert!(rt; kept.forgotten, "with {last}, number {}", row.3);
+        // with one version alone there is none to forget by hand
+        assert!(rt; kept.forgot == (*last > 1), "with {last}, number {}", row.3);
     }
     Ok(())
 }

@@ -105,10 +105,10 @@ fn counts_pinned<G: Gate>(
     times: u32,
     gate: &G,
 ) -> (u64, u64)
-    requires rest { IsAtRest world.now s.old }
+    requires rest { IsAtRest world.now.table s.old }
     requires pinned { IsPinned s.old.view p.now }
-    requires fits { FitsAt part.at part.size (2 ^ world.now.plan.side) }
-    ensures rest { IsAtRest world.now s.new }
+    requires fits { FitsAt part.at part.size (2 ^ world.now.table.plan.side) }
+    ensures rest { IsAtRest world.now.table s.new }
     ensures pinned { IsPinned s.new.view p.now }
     ensures held { s.new.view.held ≡ s.old.view.held }
 {
@@ -136,7 +136,7 @@ fn counts<R: Wait, G: Gate, L: Ledger>(
     steps: &mut Steps<L>,
 ) -> Told
     requires free { IsFree world.now s.old }
-    requires fits { FitsAt part.at part.size (2 ^ world.now.plan.side) }
+    requires fits { FitsAt part.at part.size (2 ^ world.now.table.plan.side) }
     ensures free { IsFree world.now s.new }
 {
     match world.pin(rt, s, version, steps) {

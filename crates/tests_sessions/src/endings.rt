@@ -6,7 +6,7 @@ use crate::calls::Call::{Act, Forget};
 use crate::calls::{Row, Told, answered};
 use crate::worlds::{FIRST, SECOND, sessions_ended, world_begun};
 use gate_run::NoGate;
-use history_model::Act::Fill;
+use history_model::Act::{Fill, Redo, Undo};
 use session::{CloseRefused, Ended, Session, World};
 use session_runs::ActAnswer;
 use std::alloc::Global;
@@ -141,21 +141,49 @@ const ROWS: &[Row] = &[
     (Forget(1), Told::Forget(Ok(2))),
 ];
 
+// What a world of two sessions that holds so many last versions alone, or with 0 all, leaves behind
+// these calls of the last one.
+fn ended_by<R: Wait>(
+    rt: &R,
+    alloc: Global,
+    keep: u32,
+    rows: &[Row],
+) -> Result<Option<(u32, u16, Left)>, Fail> {
+    let models = Models {
+        list: Vec::new(alloc),
+    };
+    let (world, sessions) = world_begun(alloc, 8, 64, 256, &models, 2, keep)?;
+    Ok(ends(rt, alloc, world, sessions, rows))
+}
+
 #[test]
 fn a_world_is_closed_with_all_its_sessions(rt: HostRuntime) -> Result<(), Fail> {
-    let models = Models {
-        list: Vec::new(rt.alloc()),
-    };
-    let (world, sessions) = world_begun(rt.alloc(), 8, 64, 256, &models, 2)?;
     let left = Left {
         records: 2,
         marks: 1,
         kept: 2,
         live: [1, 1],
     };
-    assert_eq!(rt;
-        ends(&rt, rt.alloc(), world, sessions, ROWS),
-        Some((3, 2, left))
-    );
+    assert_eq!(rt; ended_by(&rt, rt.alloc(), 0, ROWS)?, Some((3, 2, left)));
+    Ok(())
+}
+
+// With the last two versions alone, the versions 3 and 4 are kept.
+const LAST_TWO: &[Row] = &[
+    (Act(Fill(FIRST)), Told::Act(ActAnswer::Done { n: 1 })),
+    (Act(Fill(SECOND)), Told::Act(ActAnswer::Done { n: 2 })),
+    (Act(Undo), Told::Act(ActAnswer::Done { n: 3 })),
+    (Act(Redo), Told::Act(ActAnswer::Done { n: 4 })),
+];
+
+#[test]
+fn a_closed_world_keeps_its_last_versions(rt: HostRuntime) -> Result<(), Fail> {
+    let left = Left {
+        records: 4,
+        marks: 3,
+        kept: 2,
+        live: [2, 2],
+    };
+    assert_eq!(rt; ended_by(&rt, rt.alloc(), 2, LAST_TWO)?, Some((4, 2, left)));
     Ok(())
 }

@@ -22,7 +22,7 @@ fn meet<R: Threads + Wait + Sync>(
     let models = Models {
         list: Vec::new(alloc),
     };
-    let (world, sessions) = world_begun(alloc, 8, 64, 256, &models, 2)?;
+    let (world, sessions) = world_begun(alloc, 8, 64, 256, &models, 2, 0)?;
     let turns = Turns::new();
     let right = both_answered(rt, alloc, &world, sessions, first, second, &turns);
     Ok((right, turns.is_given_up()))

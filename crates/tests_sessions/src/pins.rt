@@ -60,10 +60,10 @@ fn lists(
     part: Boxed,
     want: &[Voxel],
 ) -> bool
-    requires rest { IsAtRest world.now s.old }
+    requires rest { IsAtRest world.now.table s.old }
     requires pinned { IsPinned s.old.view p.now }
-    requires fits { FitsAt part.at part.size (2 ^ world.now.plan.side) }
-    ensures rest { IsAtRest world.now s.new }
+    requires fits { FitsAt part.at part.size (2 ^ world.now.table.plan.side) }
+    ensures rest { IsAtRest world.now.table s.new }
     ensures pinned { IsPinned s.new.view p.now }
     ensures held { s.new.view.held ≡ s.old.view.held }
 {
@@ -79,10 +79,10 @@ fn lists(
 
 // Whether what was pinned counts and lists so.
 fn is_kept(alloc: Global, world: &World<'_>, s: &mut Session, p: &Pinned, part: Boxed) -> bool
-    requires rest { IsAtRest world.now s.old }
+    requires rest { IsAtRest world.now.table s.old }
     requires pinned { IsPinned s.old.view p.now }
-    requires fits { FitsAt part.at part.size (2 ^ world.now.plan.side) }
-    ensures rest { IsAtRest world.now s.new }
+    requires fits { FitsAt part.at part.size (2 ^ world.now.table.plan.side) }
+    ensures rest { IsAtRest world.now.table s.new }
     ensures pinned { IsPinned s.new.view p.now }
     ensures held { s.new.view.held ≡ s.old.view.held }
 {
@@ -108,7 +108,7 @@ fn outlives<R: Wait, L: Ledger>(
     requires some { 0 < L.parts }
     requires first { IsFree world.now a.old }
     requires second { IsFree world.now b.old }
-    requires fits { FitsAt part.at part.size (2 ^ world.now.plan.side) }
+    requires fits { FitsAt part.at part.size (2 ^ world.now.table.plan.side) }
     ensures first { IsFree world.now a.new }
     ensures second { IsFree world.now b.new }
 {
@@ -199,7 +199,7 @@ fn a_pin_outlives_a_mark(rt: HostRuntime) -> Result<(), Fail> {
     let models = Models {
         list: Vec::new(rt.alloc()),
     };
-    let (world, sessions) = world_begun(rt.alloc(), 8, 64, 256, &models, 2)?;
+    let (world, sessions) = world_begun(rt.alloc(), 8, 64, 256, &models, 2, 0)?;
     assert_eq!(rt;
         both_forgotten_beside(&rt, rt.alloc(), &world, sessions),
         (true, 5)

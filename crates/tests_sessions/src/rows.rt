@@ -41,19 +41,20 @@ fn rows_answered<R: Wait>(
     right
 }
 
-// The same in a new world of side 8.
+// The same in a new world of side 8, which holds so many last versions alone, or with 0 all.
 fn answered_in<R: Wait>(
     rt: &R,
     alloc: Global,
     buckets: u16,
     cap: u16,
+    keep: u32,
     first: &[Row],
     second: &[Row],
 ) -> Result<u32, Fail> {
     let models = Models {
         list: Vec::new(alloc),
     };
-    let (world, sessions) = world_begun(alloc, 8, buckets, cap, &models, 2)?;
+    let (world, sessions) = world_begun(alloc, 8, buckets, cap, &models, 2, keep)?;
     Ok(rows_answered(rt, &world, sessions, first, second))
 }
 
@@ -75,7 +76,10 @@ const GOES_BACK: &[Row] = &[
 
 #[test]
 fn undos_have_their_answers(rt: HostRuntime) -> Result<(), Fail> {
-    assert_eq!(rt; answered_in(&rt, rt.alloc(), 64, 256, MAKES, GOES_BACK)?, 9);
+    assert_eq!(rt;
+        answered_in(&rt, rt.alloc(), 64, 256, 0, MAKES, GOES_BACK)?,
+        9
+    );
     Ok(())
 }
 
@@ -144,7 +148,7 @@ const MEETS_A_MARK: &[Row] = &[
 #[test]
 fn a_forgotten_version_is_refused(rt: HostRuntime) -> Result<(), Fail> {
     assert_eq!(rt;
-        answered_in(&rt, rt.alloc(), 64, 256, FORGETS, MEETS_A_MARK)?,
+        answered_in(&rt, rt.alloc(), 64, 256, 0, FORGETS, MEETS_A_MARK)?,
         18
     );
     Ok(())
@@ -180,6 +184,83 @@ const FILLS_TOO: &[Row] = &[
 
 #[test]
 fn a_full_bucket_is_told(rt: HostRuntime) -> Result<(), Fail> {
-    assert_eq!(rt; answered_in(&rt, rt.alloc(), 1, 1, FILLS, FILLS_TOO)?, 5);
+    assert_eq!(rt; answered_in(&rt, rt.alloc(), 1, 1, 0, FILLS, FILLS_TOO)?, 5);
+    Ok(())
+}
+
+// With the last two versions alone, version 0 falls out with record 2, and version 1 with record 3.
+const FALLS_OUT: &[Row] = &[
+    (Act(Fill(FIRST)), Told::Act(ActAnswer::Done { n: 1 })),
+    (Act(Fill(SECOND)), Told::Act(ActAnswer::Done { n: 2 })),
+    (Act(Undo), Told::Act(ActAnswer::Done { n: 3 })),
+    (
+        Act(Undo),
+        Told::Act(ActAnswer::Forgotten {
+            at: 3,
+            mark: FALLEN,
+        }),
+    ),
+    (Act(Redo), Told::Act(ActAnswer::Done { n: 4 })),
+    (
+        Count(Some(0), WHOLE, 1),
+        Told::NotPinned(PinRefused::Forgotten {
+            at: 4,
+            mark: FALLEN,
+        }),
+    ),
+    (Count(None, WHOLE, 1), Told::Count(4, 2, 2)),
+];
+
+// What session 1 pushed out by its line 2.
+const FALLEN: Mark = Mark {
+    version: 0,
+    at: 2,
+    session: 1,
+    line: 2,
+};
+
+// And by its line 5.
+const FALLEN_LAST: Mark = Mark {
+    version: 2,
+    at: 4,
+    session: 1,
+    line: 5,
+};
+
+// The other session forgets version 3 by hand before it would fall out, and record 5 pushes it out.
+const HELD_LAST: &[Row] = &[
+    (
+        Count(Some(2), WHOLE, 1),
+        Told::NotPinned(PinRefused::Forgotten {
+            at: 4,
+            mark: FALLEN_LAST,
+        }),
+    ),
+    (Count(Some(3), WHOLE, 1), Told::Count(4, 1, 1)),
+    (Forget(3), Told::Forget(Ok(4))),
+    (Act(Fill(AWAY)), Told::Act(ActAnswer::Done { n: 5 })),
+    (
+        Forget(3),
+        Told::Forget(Err(ForgetRefused::Forgotten {
+            at: 5,
+            mark: BY_HAND,
+        })),
+    ),
+    (Count(Some(4), WHOLE, 1), Told::Count(5, 2, 2)),
+];
+
+const BY_HAND: Mark = Mark {
+    version: 3,
+    at: 4,
+    session: 0,
+    line: 3,
+};
+
+#[test]
+fn the_last_versions_alone_are_held(rt: HostRuntime) -> Result<(), Fail> {
+    assert_eq!(rt;
+        answered_in(&rt, rt.alloc(), 64, 256, 2, FALLS_OUT, HELD_LAST)?,
+        13
+    );
     Ok(())
 }

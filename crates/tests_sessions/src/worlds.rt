@@ -34,7 +34,8 @@ pub const AWAY: Boxed = Boxed {
     size: Cell { x: 1, y: 1, z: 1 },
 };
 
-/// A world of this side, with so many buckets of so many slots on each level, and its sessions.
+/// A world of this side, with so many buckets of so many slots on each level, which holds so many
+/// last versions alone, or with 0 all, and its sessions.
 pub fn world_begun<'m>(
     alloc: Global,
     side: u32,
@@ -42,6 +43,7 @@ pub fn world_begun<'m>(
     cap: u16,
     models: &'m Models,
     sessions: u16,
+    keep: u32,
 ) -> Result<(World<'m>, Vec<Session>), Fail>
     requires sessions { (1 ≤ sessions) × (sessions ≤ 64) }
     requires models { models.now ≡ [] }
@@ -49,7 +51,7 @@ pub fn world_begun<'m>(
 {
     let side = Side::new(side).ok_or("a side")?;
     let plan = Plan::even(side, buckets, cap).ok_or("a plan")?;
-    match World::begin(alloc, &plan, models, sessions) {
+    match World::begin(alloc, &plan, models, sessions, keep) {
         Ok(world_begun) => Ok(world_begun),
         Err(_) => Err(Fail::from("memory")),
     }
@@ -57,7 +59,7 @@ pub fn world_begun<'m>(
 
 /// The box, where it lies in the world.
 pub fn within(world: &World<'_>, part: Boxed) -> Option<Boxed>
-    ensures { IfSome result (λ b. FitsAt b.at b.size (2 ^ world.now.plan.side)) }
+    ensures { IfSome result (λ b. FitsAt b.at b.size (2 ^ world.now.table.plan.side)) }
 {
     Boxed::new(part.at, part.size, world.plan().side())
 }

@@ -1,1 +1,2 @@
 pub mod OneChild
+pub mod Roots

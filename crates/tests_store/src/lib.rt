@@ -1,13 +1,25 @@
-//! Tests of the store for one thread, over its public calls.
+//! Tests of the store for one thread, over its public calls, and of DAG files byte by byte: what is
+//! refused and where, what a file tells of its versions, and files that are written of a store's
+//! versions.
 #![tactic(auto)]
+
+mod changes;
+mod looks;
+mod worlds;
+
+pub use changes::{changes_of, cuts_of};
+pub use looks::{Counted, fault_in, look_at};
+pub use worlds::full_world_file;
 
 #[cfg(test)]
 mod calls;
 #[cfg(test)]
+mod dag_tests;
+#[cfg(test)]
 mod files;
 #[cfg(test)]
-mod slots;
+mod slot_tests;
 #[cfg(test)]
-mod tests;
+mod slots;
 #[cfg(test)]
 mod under;

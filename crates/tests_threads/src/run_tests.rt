@@ -33,9 +33,11 @@ fn run<R: Threads + Wait + Sync, G: Gate + Sync>(
     let models = Models {
         list: Vec::new(alloc),
     };
-    let one = read_script(alloc, first, side, &models).map_err(|_| "a script")?;
-    let two = read_script(alloc, second, side, &models).map_err(|_| "a script")?;
-    let run = run_scripts(rt, gate, alloc, &plan, &models, &[one, two]).map_err(|_| "no memory")?;
+    let one = read_script(alloc, first, side, &models, false).map_err(|_| "a script")?;
+    let two = read_script(alloc, second, side, &models, false).map_err(|_| "a script")?;
+    let run = run_scripts(rt, gate, alloc, &plan, &models, &[one, two], 0).map_err(
+        |_| "no memory",
+    )?;
     let ScriptsRun {
         mut run,
         transcripts,

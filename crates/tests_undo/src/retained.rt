@@ -1,9 +1,9 @@
-ghost use Rattle.retain.specs.Retained.{AreRising};
+ghost use Rattle.versions.specs.Retained.{AreRising};
 
 use history_model::{Act, Mark, Record};
-use retain::{all_marks, falls_out};
 use std::alloc::{AllocError, Global};
 use std::test::Fail;
+use versions::{all_marks, falls_out};
 use vw_cell::{Boxed, Cell};
 
 // Two fills, an undo, and a redo on line 5, of session 0.

@@ -1,6 +1,6 @@
 use history_model::Act;
 use std::test::Fail;
-use undo_trail::Trail;
+use undo::Trail;
 use vw_cell::Cell;
 
 #[test]

@@ -6,7 +6,8 @@ use Rattle.history_model.specs.declared.acts.Act.{Act}
 use Rattle.history_model.specs.declared.histories.Record.{Record}
 use Rattle.history_model.specs.Logs.{FitsWorld}
 use Rattle.history_model.specs.Making.{MayMake}
-use Rattle.history_model.specs.Worlds.{is_edit}
+use Rattle.history_model.specs.Stores.{stored_in}
+use Rattle.history_model.specs.Worlds.{World, is_edit}
 use Rattle.node_shapes.specs.declared.names.Name.{Name}
 use Rattle.node_shapes.specs.Shape.{ShowsCells}
 use Rattle.node_shapes.specs.Tree.{Tree, Gone, LeafAt, NodeAt, shape_of, root_of}
@@ -32,6 +33,7 @@ use Rattle.version_log.specs.declared.forgetting.Forgot.{Forgot}
 use Rattle.version_log.specs.Commits.{AppendsNext, IsMadeOver}
 use Rattle.version_log.specs.Falling.{CommitsNext, falls_out}
 use Rattle.version_log.specs.Forgets.{ForgetsVersion}
+use Rattle.version_log.specs.Keeping.{OnlyKeeps}
 use Rattle.version_log.specs.Roots.{HoldsRootOf, GetsRoot}
 use Rattle.version_log.specs.Targets.{IsMadeNow, KnowsNext}
 use Rattle.version_log.proofs.AppendLaws.{edit_made, open_of_edit}
@@ -448,3 +450,14 @@ gone_taken u behind old mid line act root n none came same a =
     subst (λ (ts : List Tree). SameHeld ts behind.held) none
     (gets_back old mid root came behind.held
     (subst (λ (ts : List Tree). GoesBack root ts behind.held) same a.gone))
+
+-- a version's cells are the same behind the share that was taken of its root
+pub kept_root : (v w : SeatView) (root : Option Name) (n : ℕ) → OnlyKeeps v w
+    → HoldsRootOf w root (seen_has v n) → HoldsRootOf w root (seen_has w n)
+kept_root v w root n k h =
+    let plan = k.session.plan in
+    let models = k.session.models in
+    let log = k.log in
+    let same : seen_has w n ≡ seen_has v n =
+    (λ i. stored_in (2 ^ (plan i).side) (models i) ((log i).seen.records) n) in
+    subst (λ (c : World). HoldsRootOf w root c) (sym same) h

@@ -1,6 +1,6 @@
 //! What the pure core answers to the calls over a log beside it.
+use crate::calls::WasPinned;
 use crate::uniform::act_behind;
-use crate::versions::WasPinned;
 use history_model::Act;
 use node_shapes::Name;
 use std::alloc::Global;

@@ -6,8 +6,8 @@ ghost use Rattle.node_table.specs.LogTurns.{HasNoTurn};
 ghost use Rattle.node_table.specs.Seen.{BelongsTo};
 ghost use Rattle.tests_versions.specs.Holding.{HoldsUniform, PinsBlank};
 
+use crate::calls::fallen_back;
 use crate::uniform::{act_behind, name_of, root_back};
-use crate::versions::fallen_back;
 use node_table::{NodeTable, Pass};
 use node_words::{Share, Steps};
 use std::sync::Wait;

@@ -2,8 +2,8 @@
 ghost use Rattle.std.specs.Prelude.{◌≡◌, ◌≤◌, ◌<◌, All};
 ghost use Rattle.node_table.specs.Closing.{IsSpare};
 
+use crate::calls::{edit_uniform, forget_at, go};
 use crate::uniform::{begun, closed, ended};
-use crate::versions::{edit_uniform, forget_at, go};
 use history_model::{Act, Mark, Record};
 use node_shapes::Name;
 use node_table::{Closed, NodeTable, Pass, Root};

@@ -3,6 +3,8 @@
 #![tactic(auto)]
 
 #[cfg(test)]
+mod calls;
+#[cfg(test)]
 mod cores;
 #[cfg(test)]
 mod edits;
@@ -16,7 +18,5 @@ mod threads;
 mod twins;
 #[cfg(test)]
 mod uniform;
-#[cfg(test)]
-mod versions;
 #[cfg(test)]
 mod words;

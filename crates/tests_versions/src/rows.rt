@@ -2,11 +2,11 @@
 ghost use Rattle.std.specs.Prelude.{◌≡◌, ◌≤◌, ◌<◌, All};
 ghost use Rattle.node_table.specs.Closing.{IsSpare};
 
-use crate::edits::{Came, commit_uniform, let_go, pin_beside, try_again, try_uniform};
-use crate::uniform::{all_back, begun, ended, uniform_root};
-use crate::versions::{
+use crate::calls::{
     WasPinned, Went, edit_uniform, finish_uniform, forget_at, go, go_keeping, pin_at,
 };
+use crate::edits::{Came, commit_uniform, let_go, pin_beside, try_again, try_uniform};
+use crate::uniform::{all_back, begun, ended, uniform_root};
 use history_model::{Act, Mark};
 use node_shapes::Name;
 use node_table::{NodeTable, Pass};

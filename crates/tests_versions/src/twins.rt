@@ -3,9 +3,9 @@
 ghost use Rattle.std.specs.Prelude.{◌≡◌, ◌≤◌, ◌<◌, All};
 ghost use Rattle.node_table.specs.Closing.{IsSpare};
 
+use crate::calls::{Went, edit_uniform, forget_at, go, pin_at};
 use crate::cores::{Twin, appends, forgets, goes, pins};
 use crate::uniform::{begun, ended};
-use crate::versions::{Went, edit_uniform, forget_at, go, pin_at};
 use history_model::Act;
 use node_shapes::Name;
 use node_table::{NodeTable, Pass};

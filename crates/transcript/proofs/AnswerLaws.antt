@@ -17,7 +17,7 @@ use Rattle.plain_text.specs.Steps.{◌>>=◌, three_words}
 use Rattle.plain_text.specs.Numbers.{exact}
 use Rattle.plain_text.specs.NumberLaws.{exact_again, exact_takes}
 use Rattle.transcript.specs.declared.answers.Answer.{Answer}
-use Rattle.transcript.specs.declared.answers.Answer.TheVariants.{Done, Forgot, Is, Count, Faces, Extent, Hit, Same, Head, Saved, Full, NoVersion, Forgotten, IsHead, NothingToUndo, NothingToRedo, LogFull, Stale}
+use Rattle.transcript.specs.declared.answers.Answer.TheVariants.{Done, Forgot, Is, Colour, Count, Faces, Extent, Hit, Same, Head, Saved, Full, NoVersion, Forgotten, IsHead, NothingToUndo, NothingToRedo, LogFull, Stale}
 use Rattle.transcript.specs.declared.answers.LineAnswer.{LineAnswer}
 use Rattle.transcript.specs.Lines.{answer_list, line_list}
 use Rattle.transcript.specs.Bounds.{IsAnswer, IsLineAnswer}
@@ -71,6 +71,7 @@ answer_again Done is = refl
 answer_again (Forgot v) is = let again = version_again v is in rw again refl
 answer_again (Is true) is = refl
 answer_again (Is false) is = refl
+answer_again (Colour tint) is = let again = number_again (2 ^ 8) tint (lit≤ tt) is in rw again refl
 answer_again (Count cells) is = let again = sum_again cells is in rw again refl
 answer_again (Faces number) is = let again = sum_again number is in rw again refl
 answer_again (Extent None) is = refl
@@ -293,18 +294,21 @@ keeps_version make name each = record { each = λ words a same. number_row_takes
 long_keep : AllByRecursion Keeps long_rows
 unfolding long_rows
 long_keep = (
-  keeps_sum Count (codes "count") (λ n less. (refl, less)),
+  record { each = λ words a same. number_row_takes (2 ^ 8) Colour (codes "colour") words a (lit≤ tt) (λ n less. (refl, less)) same },
   (
-    keeps_sum Faces (codes "faces") (λ n less. (refl, less)),
+    keeps_sum Count (codes "count") (λ n less. (refl, less)),
     (
-      keeps_sum Saved (codes "saved") (λ n less. (refl, less)),
+      keeps_sum Faces (codes "faces") (λ n less. (refl, less)),
       (
-        keeps_version Forgot (codes "forgot") (λ n less. (refl, less)),
+        keeps_sum Saved (codes "saved") (λ n less. (refl, less)),
         (
-          keeps_version Forgotten (codes "forgotten") (λ n less. (refl, less)),
+          keeps_version Forgot (codes "forgot") (λ n less. (refl, less)),
           (
-            keeps_version Stale (codes "stale") (λ n less. (refl, less)),
-            (record { each = no_takes }, (record { each = bounds_takes }, (record { each = hit_takes }, (record { each = full_takes }, tt)))),
+            keeps_version Forgotten (codes "forgotten") (λ n less. (refl, less)),
+            (
+              keeps_version Stale (codes "stale") (λ n less. (refl, less)),
+              (record { each = no_takes }, (record { each = bounds_takes }, (record { each = hit_takes }, (record { each = full_takes }, tt)))),
+            ),
           ),
         ),
       ),

@@ -8,7 +8,7 @@ use Rattle.plain_text.specs.Parts.{words, lines}
 use Rattle.plain_text.specs.PartLaws.{Free, decimal_free, free_append, joined_parts, joined_free, parts_joined}
 use Rattle.plain_text.specs.WordLaws.{AllFree, letters_free, words_back}
 use Rattle.transcript.specs.declared.answers.Answer.{Answer}
-use Rattle.transcript.specs.declared.answers.Answer.TheVariants.{Done, Forgot, Is, Count, Faces, Extent, Hit, Same, Head, Saved, Full, NoVersion, Forgotten, IsHead, NothingToUndo, NothingToRedo, LogFull, Stale}
+use Rattle.transcript.specs.declared.answers.Answer.TheVariants.{Done, Forgot, Is, Colour, Count, Faces, Extent, Hit, Same, Head, Saved, Full, NoVersion, Forgotten, IsHead, NothingToUndo, NothingToRedo, LogFull, Stale}
 use Rattle.transcript.specs.declared.answers.LineAnswer.{LineAnswer}
 use Rattle.transcript.specs.Lines.{cell_told, answer_list, line_list, transcript_of}
 use Rattle.transcript.specs.Bounds.{IsAnswer, IsLineAnswer}
@@ -34,6 +34,7 @@ answer_free separator Done low is = (letters_free separator (codes "ok") low ref
 answer_free separator (Forgot v) low is = (letters_free separator (codes "forgot") low refl, number_free separator v low (omega arith))
 answer_free separator (Is true) low is = (letters_free separator (codes "set") low refl, tt)
 answer_free separator (Is false) low is = (letters_free separator (codes "clear") low refl, tt)
+answer_free separator (Colour tint) low is = (letters_free separator (codes "colour") low refl, number_free separator tint low (omega arith))
 answer_free separator (Count cells) low is = (letters_free separator (codes "count") low refl, number_free separator cells low is)
 answer_free separator (Faces number) low is = (letters_free separator (codes "faces") low refl, number_free separator number low is)
 answer_free separator (Extent None) low is = (letters_free separator (codes "bounds") low refl, (letters_free separator (codes "none") low refl, tt))

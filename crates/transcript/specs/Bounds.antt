@@ -1,13 +1,13 @@
 -- The numbers that an answer can hold.
 use Rattle.std.specs.Prelude.{◌^◌, ◌<◌, Some}
-use Rattle.vw_cell.specs.declared.cells.Cell.{Cell}
 use Rattle.transcript.specs.declared.answers.Answer.{Answer}
-use Rattle.transcript.specs.declared.answers.Answer.TheVariants.{Forgot, Count, Faces, Extent, Hit, Saved, Full, NoVersion, Forgotten, Stale}
+use Rattle.transcript.specs.declared.answers.Answer.TheVariants.{Forgot, Colour, Count, Faces, Extent, Hit, Saved, Full, NoVersion, Forgotten, Stale}
 use Rattle.transcript.specs.declared.answers.LineAnswer.{LineAnswer}
 use Rattle.vw_cell.specs.Places.{IsCell}
 
 abbrev pub IsAnswer : Answer → Type 0
 IsAnswer (Forgot v) = v < 2 ^ 32
+IsAnswer (Colour tint) = tint < 2 ^ 8
 IsAnswer (Count cells) = cells < 2 ^ 64
 IsAnswer (Faces number) = number < 2 ^ 64
 IsAnswer (Extent (Some b)) = IsCell b.at × IsCell b.size

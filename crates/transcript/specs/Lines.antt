@@ -1,10 +1,10 @@
 -- The words of answers, and the text of a transcript.
 use Rattle.std.specs.Prelude.{ℕ, true, false, Some, None, List, [], ◌∷◌, ◌++◌, codes}
-use Rattle.std.specs.List.{flat_map, join_with_byte}
+use Rattle.std.specs.List.{flat_map}
 use Rattle.std.specs.Fmt.{decimal}
 use Rattle.vw_cell.specs.declared.cells.Cell.{Cell}
 use Rattle.transcript.specs.declared.answers.Answer.{Answer}
-use Rattle.transcript.specs.declared.answers.Answer.TheVariants.{Done, Forgot, Is, Count, Faces, Extent, Hit, Same, Head, Saved, Full, NoVersion, Forgotten, IsHead, NothingToUndo, NothingToRedo, LogFull, Stale}
+use Rattle.transcript.specs.declared.answers.Answer.TheVariants.{Done, Forgot, Is, Colour, Count, Faces, Extent, Hit, Same, Head, Saved, Full, NoVersion, Forgotten, IsHead, NothingToUndo, NothingToRedo, LogFull, Stale}
 use Rattle.transcript.specs.declared.answers.LineAnswer.{LineAnswer}
 use Rattle.plain_text.specs.Parts.{line_of}
 
@@ -17,6 +17,7 @@ answer_list Done = codes "ok" ∷ []
 answer_list (Forgot v) = codes "forgot" ∷ decimal v ∷ []
 answer_list (Is true) = codes "set" ∷ []
 answer_list (Is false) = codes "clear" ∷ []
+answer_list (Colour tint) = codes "colour" ∷ decimal tint ∷ []
 answer_list (Count cells) = codes "count" ∷ decimal cells ∷ []
 answer_list (Faces number) = codes "faces" ∷ decimal number ∷ []
 answer_list (Extent None) = codes "bounds" ∷ codes "none" ∷ []

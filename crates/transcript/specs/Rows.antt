@@ -8,7 +8,7 @@ use Rattle.plain_text.specs.declared.faults.WordFault.TheVariants.{Word, Number}
 use Rattle.plain_text.specs.Steps.{◌>>=◌, next_word, three_words, nothing_more, must_be}
 use Rattle.plain_text.specs.Numbers.{exact}
 use Rattle.transcript.specs.declared.answers.Answer.{Answer}
-use Rattle.transcript.specs.declared.answers.Answer.TheVariants.{Done, Forgot, Is, Count, Faces, Extent, Hit, Same, Head, Saved, Full, NoVersion, Forgotten, IsHead, NothingToUndo, NothingToRedo, LogFull, Stale}
+use Rattle.transcript.specs.declared.answers.Answer.TheVariants.{Done, Forgot, Is, Colour, Count, Faces, Extent, Hit, Same, Head, Saved, Full, NoVersion, Forgotten, IsHead, NothingToUndo, NothingToRedo, LogFull, Stale}
 use Rattle.transcript.specs.declared.answers.LineAnswer.{LineAnswer}
 
 -- a word in the place of a number below the bound
@@ -32,6 +32,9 @@ version_said answer words = number_said (2 ^ 32) words >>= λ v. Ok (answer v)
 
 abbrev pub sum_said : (ℕ → Answer) → List (List ℕ) → Result Answer WordFault
 sum_said answer words = number_said (2 ^ 64) words >>= λ n. Ok (answer n)
+
+abbrev pub tint_said : List (List ℕ) → Result Answer WordFault
+tint_said words = number_said (2 ^ 8) words >>= λ c. Ok (Colour c)
 
 -- one fixed word
 unfoldable pub word_said : List ℕ → Answer → List (List ℕ) → Result Answer WordFault
@@ -119,7 +122,8 @@ answer_row name read = record { name = name; read = read }
 -- the answers that have a number, and the others
 unfoldable pub long_rows : List AnswerRow
 long_rows =
-    answer_row (codes "count") (sum_said Count)
+    answer_row (codes "colour") tint_said
+    ∷ answer_row (codes "count") (sum_said Count)
     ∷ answer_row (codes "faces") (sum_said Faces)
     ∷ answer_row (codes "saved") (sum_said Saved)
     ∷ answer_row (codes "forgot") (version_said Forgot)

@@ -10,6 +10,8 @@ pub enum Answer {
     Forgot(u32),
     /// Whether the cell is set.
     Is(bool),
+    /// The tint of the cell, 0 where it isn't set.
+    Colour(u8),
     /// The number of set cells.
     Count(u64),
     /// The number of faces.
@@ -55,6 +57,7 @@ impl fmt::Display for Answer {
             Answer::Forgot(v) => write!(f, "forgot {v}"),
             Answer::Is(true) => write!(f, "set"),
             Answer::Is(false) => write!(f, "clear"),
+            Answer::Colour(tint) => write!(f, "colour {tint}"),
             Answer::Count(cells) => write!(f, "count {cells}"),
             Answer::Faces(number) => write!(f, "faces {number}"),
             Answer::Extent(None) => write!(f, "bounds none"),

@@ -1,7 +1,7 @@
 ghost use Rattle.std.specs.Prelude.{◌≡◌, ◌+◌, ◌≤◌, ◌^◌, IfOk};
 ghost use Rattle.plain_text.specs.Parts.{words};
-ghost use Rattle.transcript.specs.declared.answers.Answer.TheVariants.{Count, Faces, Saved, Forgot, Forgotten, Stale};
-ghost use Rattle.transcript.specs.Rows.{limited_number, nothing_said, number_said, version_said, sum_said, word_said, full_said, no_said, way_told, way_to, cell_said, hit_said, box_said, bounds_said, short_spelled, answer_spelled, moment_spelled, line_spelled};
+ghost use Rattle.transcript.specs.declared.answers.Answer.TheVariants.{Colour, Count, Faces, Saved, Forgot, Forgotten, Stale};
+ghost use Rattle.transcript.specs.Rows.{limited_number, nothing_said, number_said, version_said, tint_said, sum_said, word_said, full_said, no_said, way_told, way_to, cell_said, hit_said, box_said, bounds_said, short_spelled, answer_spelled, moment_spelled, line_spelled};
 
 use crate::answers::{Answer, LineAnswer};
 use plain_text::{
@@ -11,6 +11,8 @@ use vw_cell::{Boxed, Cell};
 
 /// The greatest number of 32 bits.
 const MOST_32: u64 = 4_294_967_295;
+
+const COLOUR: &[u8] = b"colour";
 
 const COUNT: &[u8] = b"count";
 
@@ -90,6 +92,9 @@ fn read_moment(word: &[u8]) -> Result<u32, WordFault>
 fn read_answer(name: &[u8], words: &mut ExactWords) -> Result<Answer, WordFault>
     ensures { result ≡ answer_spelled name.now words.old }
 {
+    if name == COLOUR {
+        return read_colour(words);
+    }
     if name == COUNT {
         return read_count(words);
     }
@@ -159,6 +164,13 @@ fn read_short(name: &[u8], words: &mut ExactWords) -> Result<Answer, WordFault>
         return read_way_to(words);
     }
     Err(WordFault::Word)
+}
+
+fn read_colour(words: &mut ExactWords) -> Result<Answer, WordFault>
+    ensures { result ≡ tint_said words.old }
+{
+    let tint = read_number(words, 255)?;
+    Ok(Answer::Colour(tint as u8))
 }
 
 fn read_count(words: &mut ExactWords) -> Result<Answer, WordFault>

@@ -3,7 +3,7 @@ use Rattle.std.proofs.Common.{Result, Ok, Err, IfErr, ◌≡◌, ◌⊎◌, ◌+
 use Rattle.std.proofs.lemmas.List.{append-nil}
 use Rattle.std.specs.List.{Contains}
 use Rattle.history_model.specs.declared.acts.Act.{Act}
-use Rattle.history_model.specs.declared.acts.Act.TheVariants.{Fill, Erase, Ball, Carve, Copy, Stamp, Undo, Redo}
+use Rattle.history_model.specs.declared.acts.Act.TheVariants.{Fill, Erase, Ball, Carve, Copy, Stamp, Tint, Undo, Redo}
 use Rattle.history_model.specs.declared.histories.Record.{Record}
 use Rattle.history_model.specs.Logs.{FitsWorld}
 use Rattle.history_model.specs.Making.{MayMake}
@@ -79,6 +79,7 @@ open_of_edit v (Ball b) edit = tt
 open_of_edit v (Carve b) edit = tt
 open_of_edit v (Copy b to) edit = tt
 open_of_edit v (Stamp m at) edit = tt
+open_of_edit v (Tint t) edit = tt
 open_of_edit v Undo edit = absurd (let no : ⊥ = cc in no)
 open_of_edit v Redo edit = absurd (let no : ⊥ = cc in no)
 
@@ -279,6 +280,7 @@ target_stays v u (Ball b) learns is = tt
 target_stays v u (Carve b) learns is = tt
 target_stays v u (Copy b to) learns is = tt
 target_stays v u (Stamp m at) learns is = tt
+target_stays v u (Tint t) learns is = tt
 target_stays v u Undo learns is =
     subst (λ (rs : List Record). IsOpenTarget u (position_after rs).past)
     (sym (ap (λ (x : SeatView). x.log.seen.records) learns.is))

@@ -8,7 +8,7 @@ use Rattle.node_shapes.specs.Tree.{shape_of}
 use Rattle.node_shapes.specs.Weights.{weigh, weight_of}
 use Rattle.block_contents.specs.Aligned.{world_block}
 use Rattle.table_rule.specs.LogTelling.{number_seen, seen_has}
-use Rattle.version_answers.specs.Listing.{Found}
+use Rattle.versions.specs.Listing.{Found}
 use Rattle.table_rule.specs.Views.{SeatView}
 use Rattle.node_table.specs.LogTurns.{FoundOpen, ForgetsUnderTurn, HasNoTurn, LearnsLog, TakesLog, next_mark}
 use Rattle.version_log.specs.declared.forgetting.Forgot.{Forgot}

@@ -2,8 +2,8 @@
 use Rattle.std.proofs.Common.{◌≡◌, ◌↔◌, ◌+◌, ◌^◌, ◌≤◌, ℕ, Option, Some, None, false, ◌++◌, length, refl, sym, ◌∙◌, ap, subst, arith, length-append}
 use Rattle.vw_cell.specs.declared.cells.Cell.{Cell}
 use Rattle.vw_cell.specs.Places.{IsInWorld}
-use Rattle.history_model.specs.Laws.{has_stays}
-use Rattle.history_model.specs.Moments.{world_has}
+use Rattle.history_model.specs.Stores.{stored_in}
+use Rattle.history_model.specs.StoreLaws.{stored_stays}
 use Rattle.history_model.specs.Worlds.{World}
 use Rattle.node_shapes.specs.declared.names.Name.{Name}
 use Rattle.node_shapes.specs.Shape.{Shape, Clear, ShowsCells, IsCanonical}
@@ -19,8 +19,8 @@ use Rattle.table_rule.specs.LogTelling.{number_seen, seen_has}
 use Rattle.table_rule.specs.Telling.{ViewTells}
 use Rattle.table_rule.specs.Views.{SeatView}
 use Rattle.version_log.specs.declared.pinned.Pinned.{Pinned}
-use Rattle.version_answers.specs.declared.refusals.PinRefused.{PinRefused}
-use Rattle.version_answers.specs.declared.refusals.PinRefused.TheVariants.{NoVersion, Forgotten}
+use Rattle.versions.specs.declared.refusals.PinRefused.{PinRefused}
+use Rattle.versions.specs.declared.refusals.PinRefused.TheVariants.{NoVersion, Forgotten}
 use Rattle.version_log.specs.Pins.{IsPinned, RefusesPin}
 use Rattle.version_log.specs.PinStatements.{KeepsAllHeld}
 use Rattle.version_log.specs.Seeing.{LooksOn}
@@ -30,11 +30,13 @@ pub cells_stay : (v w : SeatView) (n : ℕ) → LooksOn v w → n ≤ number_see
     → seen_has w n ≡ seen_has v n
 cells_stay v w n looks there =
     let begins = looks.sees.seen in
-    let same : world_has w.models w.log.seen.records n
-    ≡ world_has v.models (v.log.seen.records ++ begins.more) n =
-    λ i. world_has (looks.session.models i) (begins.records i) n
+    let side : w.plan.side ≡ v.plan.side = ap (λ x. x.side) looks.session.plan in
+    let same : stored_in (2 ^ w.plan.side) w.models w.log.seen.records n
+    ≡ stored_in (2 ^ v.plan.side) v.models (v.log.seen.records ++ begins.more) n =
+    λ i. stored_in (2 ^ side i) (looks.session.models i) (begins.records i) n
     in
-    same ∙ (λ i q. has_stays v.models v.log.seen.records begins.more n q there i)
+    same
+    ∙ (λ i q. stored_stays (2 ^ v.plan.side) v.models v.log.seen.records begins.more n q there i)
 
 pub pinned_stays : (v w : SeatView) (p : Pinned) → LooksOn v w → KeepsAllHeld v.held w.held
     → IsPinned v p → IsPinned w p

@@ -11,11 +11,11 @@ use Rattle.table_rule.specs.LogTelling.{IsShownRoot, number_seen, seen_has}
 use Rattle.table_rule.specs.Telling.{ViewTells}
 use Rattle.table_rule.specs.Views.{SeatView}
 use Rattle.table_rule.proofs.Containing.{contains_more}
-use Rattle.version_answers.specs.Listing.{Found}
+use Rattle.versions.specs.Listing.{Found}
 use Rattle.table_steps.specs.LogChanges.{has_mark, marks_with, place_mark}
 use Rattle.node_table.specs.LogTurns.{LearnsLog, LooksForMark}
-use Rattle.version_answers.specs.declared.comparing.SameRefused.{SameRefused}
-use Rattle.version_answers.specs.declared.comparing.SameRefused.TheVariants.{NoVersion, Forgotten}
+use Rattle.versions.specs.declared.comparing.SameRefused.{SameRefused}
+use Rattle.versions.specs.declared.comparing.SameRefused.TheVariants.{NoVersion, Forgotten}
 use Rattle.version_log.specs.Sames.{IsFoundOpen, RefusesLook, RefusesSame, TellsSame}
 use Rattle.version_log.specs.Reading.{learns_on}
 

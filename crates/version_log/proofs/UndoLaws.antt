@@ -1,13 +1,13 @@
 -- How an undo or a redo goes under the log's turn: the target that was found without a mark, and
 -- the share of its root, are what its record needs.
-use Rattle.std.proofs.Common.{◌≡◌, ◌+◌, ℕ, false, Option, Some, List, [], ◌∷◌, length, slice_get, sym, ap, subst}
+use Rattle.std.proofs.Common.{◌≡◌, ◌+◌, ◌^◌, ℕ, false, Option, Some, List, [], ◌∷◌, length, slice_get, sym, ap, subst}
 use Rattle.vox_read.specs.Contents.{Content}
 use Rattle.history_model.specs.declared.acts.Act.{Act}
-use Rattle.history_model.specs.declared.acts.Act.TheVariants.{Fill, Erase, Ball, Carve, Copy, Stamp, Undo, Redo}
+use Rattle.history_model.specs.declared.acts.Act.TheVariants.{Fill, Erase, Ball, Carve, Copy, Stamp, Tint, Undo, Redo}
 use Rattle.history_model.specs.declared.histories.Record.{Record}
 use Rattle.history_model.specs.Logs.{FitsWorld}
-use Rattle.history_model.specs.Moments.{world_has}
 use Rattle.history_model.specs.Positions.{position_after}
+use Rattle.history_model.specs.Stores.{stored_in}
 use Rattle.history_model.specs.Worlds.{is_edit}
 use Rattle.node_shapes.specs.declared.names.Name.{Name}
 use Rattle.node_table.specs.Making.{version_gone_to}
@@ -27,6 +27,7 @@ other_fits side models (Ball b) other = absurd (let no : ⊥ = cc in no)
 other_fits side models (Carve b) other = absurd (let no : ⊥ = cc in no)
 other_fits side models (Copy b to) other = absurd (let no : ⊥ = cc in no)
 other_fits side models (Stamp m at) other = absurd (let no : ⊥ = cc in no)
+other_fits side models (Tint t) other = absurd (let no : ⊥ = cc in no)
 other_fits side models Undo other = tt
 other_fits side models Redo other = tt
 
@@ -44,6 +45,7 @@ target_open v (Ball b) to e shown = tt
 target_open v (Carve b) to e shown = tt
 target_open v (Copy b c) to e shown = tt
 target_open v (Stamp m at) to e shown = tt
+target_open v (Tint t) to e shown = tt
 target_open v Undo to e shown = first_open v (position_after v.log.seen.records).past to e shown
 target_open v Redo to e shown = first_open v (position_after v.log.seen.records).future to e shown
 
@@ -63,7 +65,7 @@ target_made v act to root other target holds =
         edit = λ yes. absurd (let no : ⊥ = cc in no);
         other = λ no. record {
           each = λ q inside.
-              ap (λ (k : ℕ). world_has v.models records k q) (sym gone);
+              ap (λ (k : ℕ). stored_in (2 ^ v.plan.side) v.models records k q) (sym gone);
         };
       };
     }

@@ -2,7 +2,7 @@
 use Rattle.std.proofs.Common.{All, IfSome, ◌<◌, ◌≡◌, ◌+◌, ◌-◌, ◌*◌, ◌^◌, ◌≤◌, ℕ, suc, true, false, cond, Option, Some, None, List, [], ◌∷◌, ◌++◌, length, take, slice_get, slice_index, refl, sym, ◌∙◌, ap, subst, arith}
 use Rattle.std.proofs.lemmas.Option.{slice_get-get_or}
 use Rattle.history_model.specs.declared.acts.Act.{Act}
-use Rattle.history_model.specs.declared.acts.Act.TheVariants.{Fill, Erase, Ball, Carve, Copy, Stamp, Undo, Redo}
+use Rattle.history_model.specs.declared.acts.Act.TheVariants.{Fill, Erase, Ball, Carve, Copy, Stamp, Tint, Undo, Redo}
 use Rattle.history_model.specs.declared.histories.Record.{Record}
 use Rattle.history_model.specs.Laws.{position_of_next}
 use Rattle.history_model.specs.Packing.{packed, last_edit, log_words}
@@ -37,6 +37,7 @@ now_of_edit n (Ball b) before edit = refl
 now_of_edit n (Carve b) before edit = refl
 now_of_edit n (Copy b to) before edit = refl
 now_of_edit n (Stamp m at) before edit = refl
+now_of_edit n (Tint t) before edit = refl
 now_of_edit n Undo before edit = absurd (let no : ⊥ = cc in no)
 now_of_edit n Redo before edit = absurd (let no : ⊥ = cc in no)
 
@@ -86,6 +87,7 @@ other_now records n (Ball b) to e = absurd (let no : ⊥ = cc in no)
 other_now records n (Carve b) to e = absurd (let no : ⊥ = cc in no)
 other_now records n (Copy b c) to e = absurd (let no : ⊥ = cc in no)
 other_now records n (Stamp m at) to e = absurd (let no : ⊥ = cc in no)
+other_now records n (Tint t) to e = absurd (let no : ⊥ = cc in no)
 other_now records n Undo to e =
     let at = position_after records in undo_now at.past at.now at.future to e
 other_now records n Redo to e =
@@ -125,6 +127,7 @@ open_target v (Ball b) other is = absurd (let no : ⊥ = cc in no)
 open_target v (Carve b) other is = absurd (let no : ⊥ = cc in no)
 open_target v (Copy b c) other is = absurd (let no : ⊥ = cc in no)
 open_target v (Stamp m at) other is = absurd (let no : ⊥ = cc in no)
+open_target v (Tint t) other is = absurd (let no : ⊥ = cc in no)
 open_target v Undo other is = open_first v (position_after v.log.seen.records).past is
 open_target v Redo other is = open_first v (position_after v.log.seen.records).future is
 
@@ -136,6 +139,7 @@ edit_by_not (Ball b) no_undo no_redo = refl
 edit_by_not (Carve b) no_undo no_redo = refl
 edit_by_not (Copy b to) no_undo no_redo = refl
 edit_by_not (Stamp m at) no_undo no_redo = refl
+edit_by_not (Tint t) no_undo no_redo = refl
 edit_by_not Undo no_undo no_redo = absurd (no_undo refl)
 edit_by_not Redo no_undo no_redo = absurd (no_redo refl)
 
@@ -162,6 +166,7 @@ gone_there records (Ball b) to e = absurd (let no : ⊥ = cc in no)
 gone_there records (Carve b) to e = absurd (let no : ⊥ = cc in no)
 gone_there records (Copy b c) to e = absurd (let no : ⊥ = cc in no)
 gone_there records (Stamp m at) to e = absurd (let no : ⊥ = cc in no)
+gone_there records (Tint t) to e = absurd (let no : ⊥ = cc in no)
 gone_there records Undo to e =
     subst (λ (t : Option ℕ). IfSome t (λ k. k ≤ length records)) e (past_there records)
 gone_there records Redo to e =
@@ -197,6 +202,7 @@ kept_by records (Ball b) behind a knows = tt
 kept_by records (Carve b) behind a knows = tt
 kept_by records (Copy b to) behind a knows = tt
 kept_by records (Stamp m at) behind a knows = tt
+kept_by records (Tint t) behind a knows = tt
 kept_by records Undo behind a knows = knows
 kept_by records Redo behind a knows = knows
 
@@ -217,6 +223,7 @@ edit_knows records (Ball b) a edit = tt
 edit_knows records (Carve b) a edit = tt
 edit_knows records (Copy b to) a edit = tt
 edit_knows records (Stamp m at) a edit = tt
+edit_knows records (Tint t) a edit = tt
 edit_knows records Undo a edit = absurd (let no : ⊥ = cc in no)
 edit_knows records Redo a edit = absurd (let no : ⊥ = cc in no)
 

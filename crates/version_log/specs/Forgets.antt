@@ -10,8 +10,8 @@ use Rattle.table_rule.specs.LogTelling.{number_seen, seen_has}
 use Rattle.table_rule.specs.Rules.{SameSession}
 use Rattle.table_rule.specs.Views.{SeatView}
 use Rattle.version_log.specs.declared.forgetting.Forgot.{Forgot}
-use Rattle.version_answers.specs.declared.refusals.ForgetRefused.{ForgetRefused}
-use Rattle.version_answers.specs.declared.refusals.ForgetRefused.TheVariants.{NoVersion, IsHead, Forgotten}
+use Rattle.versions.specs.declared.refusals.ForgetRefused.{ForgetRefused}
+use Rattle.versions.specs.declared.refusals.ForgetRefused.TheVariants.{NoVersion, IsHead, Forgotten}
 use Rattle.version_log.specs.Seeing.{MetOthers, KnowsMore, HasSeenMark}
 
 -- the mark of the pass's session, this line and this length

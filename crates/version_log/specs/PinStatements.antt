@@ -8,7 +8,7 @@ use Rattle.table_rule.specs.LogTelling.{seen_has}
 use Rattle.table_rule.specs.Telling.{ViewTells}
 use Rattle.table_rule.specs.Views.{SeatView}
 use Rattle.version_log.specs.declared.pinned.Pinned.{Pinned}
-use Rattle.version_answers.specs.declared.refusals.PinRefused.{PinRefused}
+use Rattle.versions.specs.declared.refusals.PinRefused.{PinRefused}
 use Rattle.version_log.specs.Pins.{IsPinned, RefusesPin}
 use Rattle.version_log.specs.Seeing.{LooksOn}
 

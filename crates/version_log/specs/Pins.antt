@@ -5,8 +5,8 @@ use Rattle.block_contents.specs.Versions.{IsUnmarked}
 use Rattle.table_rule.specs.Views.{SeatView}
 use Rattle.table_rule.specs.LogTelling.{number_seen, seen_has}
 use Rattle.version_log.specs.declared.pinned.Pinned.{Pinned}
-use Rattle.version_answers.specs.declared.refusals.PinRefused.{PinRefused}
-use Rattle.version_answers.specs.declared.refusals.PinRefused.TheVariants.{NoVersion, Forgotten}
+use Rattle.versions.specs.declared.refusals.PinRefused.{PinRefused}
+use Rattle.versions.specs.declared.refusals.PinRefused.TheVariants.{NoVersion, Forgotten}
 use Rattle.version_log.specs.Roots.{HoldsRootOf, GetsRoot}
 use Rattle.version_log.specs.Seeing.{HasSeenMark}
 

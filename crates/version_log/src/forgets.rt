@@ -9,7 +9,7 @@ ghost use Rattle.version_log.specs.Seeing.{LooksOn};
 use crate::forgetting::Forgot;
 use node_table::{NodeTable, Pass};
 use std::sync::Wait;
-use version_answers::ForgetRefused;
+use versions::ForgetRefused;
 
 /// Forgets an earlier version: it is marked, and the log's share of its root comes. It may
 /// wait for the log's turn.

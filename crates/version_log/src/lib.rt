@@ -62,4 +62,4 @@ pub use sames::same;
 pub use sures::{Sure, leave};
 pub use taking::{sure, take};
 pub use tries::try_commit;
-pub use version_answers::{ForgetRefused, PinRefused, SameAt, SameRefused};
+pub use versions::{ForgetRefused, PinRefused, SameAt, SameRefused};

@@ -14,7 +14,7 @@ use node_table::{NodeTable, Pass};
 use node_words::Steps;
 use std::sync::Wait;
 use std::sync::ledger::Ledger;
-use version_answers::PinRefused;
+use versions::PinRefused;
 
 // The version that is asked for at this length.
 fn version_asked(version: Option<u32>, at: u32) -> u32

@@ -14,7 +14,7 @@ use crate::taking::take;
 use node_shapes::Name;
 use node_table::{LogTurn, NodeTable, Pass};
 use std::sync::Wait;
-use version_answers::{SameAt, SameRefused};
+use versions::{SameAt, SameRefused};
 
 // Looks whether the version is there without a mark.
 fn look_at(table: &NodeTable, pass: &mut Pass, at: u32, v: u32) -> Result<(), SameRefused>

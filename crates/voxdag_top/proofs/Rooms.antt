@@ -60,12 +60,12 @@ save_fits name room long =
     let end = length-append (name_bytes name) (codes "\n") in
     omega (arith, long, few, within, line, end)
 
-saves_fit : (models : List Content) (kept : List KeptSave) (room : ℕ) → 85 ≤ room
-    → All (NameFits room) (map (saved_output models) kept)
-saves_fit models [] room long = All-nil (NameFits room)
-saves_fit models (k ∷ kept) room long =
-    All-cons (NameFits room) (saved_output models k) (map (saved_output models) kept)
-    (save_fits k.save.name room long) (saves_fit models kept room long)
+saves_fit : (file : KeptSave → List ℕ) (kept : List KeptSave) (room : ℕ) → 85 ≤ room
+    → All (NameFits room) (map (saved_output file) kept)
+saves_fit file [] room long = All-nil (NameFits room)
+saves_fit file (k ∷ kept) room long =
+    All-cons (NameFits room) (saved_output file k) (map (saved_output file) kept)
+    (save_fits k.save.name room long) (saves_fit file kept room long)
 
 -- whatever a run writes
 first_fit : (asked : Asked) (given : Given) (room : ℕ) → NamesFit asked room
@@ -74,9 +74,9 @@ first_fit asked given room fit =
     let names = map transcript_name asked.scripts in
     let texts = map transcript_of given.transcripts in
     All-append (NameFits room) (named_texts names texts)
-    (map (saved_output given.models) given.kept)
+    (map (saved_output given.file) given.kept)
     (named_fit names texts room fit.transcripts)
-    (saves_fit given.models given.kept room fit.saved)
+    (saves_fit given.file given.kept room fit.saved)
 
 outputs_fit : (asked : Asked) (given : Given) (log : Log) (report : List ℕ) (room : ℕ)
     → NamesFit asked room → All (NameFits room) (texts_written asked given log report)

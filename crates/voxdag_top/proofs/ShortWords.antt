@@ -1,7 +1,7 @@
 -- Fewer words than a command needs ask for nothing.
 use Rattle.std.proofs.Common.{◌≡◌, ℕ, ◌<◌, List, [], ◌∷◌, length, map, None, refl, arith}
 use Rattle.voxdag_top.specs.Questions.{ray_in}
-use Rattle.voxdag_top.specs.Words.{look_words}
+use Rattle.voxdag_top.specs.Words.{audit_words, look_words}
 
 pub no_ray : {X : Type 0} (f : X → List ℕ) (words : List X) → length words < 3
     → ray_in (map f words) ≡ None
@@ -16,3 +16,9 @@ no_look f [] short = refl
 no_look f (x ∷ []) short = refl
 no_look f (x ∷ (y ∷ [])) short = refl
 no_look f (x ∷ (y ∷ (z ∷ rest))) short = absurd (omega (arith, short))
+
+pub no_audit : {X : Type 0} (f : X → List ℕ) (words : List X) → length words < 2
+    → audit_words (map f words) ≡ None
+no_audit f [] short = refl
+no_audit f (x ∷ []) short = refl
+no_audit f (x ∷ (y ∷ rest)) short = absurd (omega (arith, short))

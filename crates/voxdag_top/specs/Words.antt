@@ -70,20 +70,31 @@ plan_told side buckets cap = None
 abbrev pub plan_in : LineTexts → Option Layout
 plan_in line = plan_told (side_told line.side) line.buckets (cap_told line.cap)
 
+-- how many last versions alone are held: from 1 to 65,535, and all, told by 0, where the words give
+-- no number of them
+abbrev pub keep_of : Option ℕ → Option ℕ
+keep_of None = None
+keep_of (Some n) = if nat_le 1 n && nat_le n 65535 then Some n else None
+
+abbrev pub keep_told : Option (List ℕ) → Option ℕ
+keep_told None = Some 0
+keep_told (Some word) = keep_of (short_number word)
+
 -- the first operand is the VOX file, and the others are the scripts
-abbrev pub run_named : Layout → LineTexts → List (List ℕ) → Option Request
-run_named plan line [] = None
-run_named plan line (file ∷ scripts) = Some (Run (record {
+abbrev pub run_named : Layout → ℕ → LineTexts → List (List ℕ) → Option Request
+run_named plan keep line [] = None
+run_named plan keep line (file ∷ scripts) = Some (Run (record {
   plan = plan;
+  keep = keep;
   journal = line.journal;
   report = line.report;
   file = file;
   scripts = scripts;
 }))
 
-abbrev pub run_planned : Option Layout → LineTexts → Option Request
-run_planned None line = None
-run_planned (Some plan) line = run_named plan line line.operands
+abbrev pub run_planned : Option Layout → Option ℕ → LineTexts → Option Request
+run_planned (Some plan) (Some keep) line = run_named plan keep line line.operands
+run_planned plan keep line = None
 
 -- the texts of the words behind `run`, where they can stand there
 abbrev pub run_texts : List (List ℕ) → Option LineTexts
@@ -93,7 +104,7 @@ run_texts words =
 
 abbrev pub run_asked : Option LineTexts → Option Request
 run_asked None = None
-run_asked (Some line) = run_planned (plan_in line) line
+run_asked (Some line) = run_planned (plan_in line) (keep_told line.keep) line
 
 -- the same of all words, where they are those of `run`
 abbrev pub line_of : List (List ℕ) → Option LineTexts
@@ -146,35 +157,64 @@ dag_words (file ∷ journal ∷ out ∷ []) =
     then Some (Dag (record { file = file; journal = journal; out = out })) else None
 dag_words _ = None
 
--- `audit [--buckets b] FILE JOURNAL SCRIPT ..`, with 1 to 64 scripts
+-- `audit FILE JOURNAL SCRIPT ..`, with 1 to 64 scripts
 abbrev pub is_number_of_scripts : ℕ → Bool
 is_number_of_scripts n = nat_le 1 n && nat_le n 64
 
-abbrev pub audit_of : Option ℕ → List (List ℕ) → Option Request
-audit_of buckets (file ∷ journal ∷ scripts) =
+abbrev pub audit_of : Option ℕ → ℕ → List (List ℕ) → Option Request
+audit_of buckets keep (file ∷ journal ∷ scripts) =
     if list_all is_operand (file ∷ journal ∷ scripts) && is_number_of_scripts (length scripts)
     then Some (Audit (record {
       buckets = buckets;
+      keep = keep;
       file = file;
       journal = journal;
       scripts = scripts;
     }))
     else None
-audit_of buckets _ = None
+audit_of buckets keep _ = None
 
 -- the number of buckets that a word tells, from 1 to 4,096
 abbrev pub buckets_of : Option ℕ → Option ℕ
 buckets_of None = None
 buckets_of (Some n) = number_of_buckets n
 
-abbrev pub audit_by : Option ℕ → List (List ℕ) → Option Request
-audit_by None words = None
-audit_by (Some buckets) words = audit_of (Some buckets) words
+-- behind `--buckets b` and `--keep k`
+abbrev pub audit_by : Option ℕ → Option ℕ → List (List ℕ) → Option Request
+audit_by (Some buckets) (Some keep) words = audit_of (Some buckets) keep words
+audit_by buckets keep words = None
 
+-- behind one of them, the other may stand
+abbrev pub audit_judged : Option ℕ → List (List ℕ) → Option Request
+audit_judged None words = None
+audit_judged (Some buckets) (option ∷ number ∷ others) =
+    if bytes_eq option (codes "--keep")
+    then audit_by (Some buckets) (keep_of (short_number number)) others
+    else audit_of (Some buckets) 0 (option ∷ number ∷ others)
+audit_judged (Some buckets) _ = None
+
+abbrev pub audit_kept : Option ℕ → List (List ℕ) → Option Request
+audit_kept None words = None
+audit_kept (Some keep) (option ∷ number ∷ others) =
+    if bytes_eq option (codes "--buckets")
+    then audit_by (buckets_of (short_number number)) (Some keep) others
+    else audit_of None keep (option ∷ number ∷ others)
+audit_kept (Some keep) _ = None
+
+-- where `--buckets b` doesn't come first
+abbrev pub audit_unjudged : List (List ℕ) → Option Request
+audit_unjudged (option ∷ number ∷ others) =
+    if bytes_eq option (codes "--keep")
+    then audit_kept (keep_of (short_number number)) others
+    else audit_of None 0 (option ∷ number ∷ others)
+audit_unjudged _ = None
+
+-- `audit [--buckets b] [--keep k] FILE JOURNAL SCRIPT ..`, the options in either order
 abbrev pub audit_words : List (List ℕ) → Option Request
 audit_words (option ∷ number ∷ others) =
-    if bytes_eq option (codes "--buckets") then audit_by (buckets_of (short_number number)) others
-    else audit_of None (option ∷ number ∷ others)
+    if bytes_eq option (codes "--buckets")
+    then audit_judged (buckets_of (short_number number)) others
+    else audit_unjudged (option ∷ number ∷ others)
 audit_words _ = None
 
 -- `look DAG v` and a question; the version has 1 to 6 digits
@@ -191,9 +231,9 @@ look_words _ = None
 
 -- what the words ask for, where they are in the grammar: `count FILE`; `demo N`;
 -- `flood FILE m x y z OUT`; `scene FILE OUT SCRIPT`; `dag FILE JOURNAL OUT`;
--- `look DAG v` and a question; `audit [--buckets b] FILE JOURNAL SCRIPT ..`;
+-- `look DAG v` and a question; `audit [--buckets b] [--keep k] FILE JOURNAL SCRIPT ..`;
 -- or `run`, and behind it in any order FILE SCRIPT .. and at most once each `--side s`,
--- `--buckets b`, `--cap c`, `--journal J` and `--report P`
+-- `--buckets b`, `--cap c`, `--keep k`, `--journal J` and `--report P`
 abbrev pub named_request : List ℕ → List (List ℕ) → Option Request
 named_request command others =
     if bytes_eq command (codes "count") then counted others

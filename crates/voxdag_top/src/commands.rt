@@ -29,10 +29,11 @@ use vw_io::{Shelf, Sink};
 /// the numbers of scripts, records, marks and live nodes. Among these words, in any order and each
 /// at most once, may stand options, as `--side s` or `--side=s`: the world has the side `s`, 4 to
 /// 4,096 and 256 without this option; its store has `--buckets b` of `--cap c` slots on each level,
-/// 1 to 4,096 and 1 to 256; `--journal J` and `--report P` are written too. A VOX file has at most
-/// 256 MiB, a script 8 MiB. `demo N` runs the load that the number N of 1 to 6 digits makes, writes
-/// `demo.0.out` to `demo.3.out` and `demo.journal`, and puts N, the number of records, and how many
-/// cells each region had when its script counted them.
+/// 1 to 4,096 and 1 to 256; with `--keep k` the last k versions alone are held, 1 to 65,535;
+/// `--journal J` and `--report P` are written too. A VOX file has at most 256 MiB, a script 8 MiB.
+/// `demo N` runs the load that the number N of 1 to 6 digits makes, writes `demo.0.out` to
+/// `demo.3.out` and `demo.journal`, and puts N, the number of records, and how many cells each
+/// region had when its script counted them.
 ///
 /// `flood FILE m x y z OUT` writes the empty region of model m that is connected with the cell
 /// (x, y, z) as the VOX file OUT, and puts its number of cells; numbers have 1 to 6 digits.
@@ -44,8 +45,8 @@ use vw_io::{Shelf, Sink};
 /// `count x y z a b c`, `bounds`, `faces x y z a b c` or `ray x y z dx dy dz`, each number of 1 to
 /// 9 digits; it puts the answer as a transcript has it. `audit FILE JOURNAL SCRIPT ..` puts `yes`
 /// where JOURNAL and the transcripts `SCRIPT.out` are those of one run of the scripts over the
-/// models of FILE, and `no` where they are not; before FILE may stand `--buckets b`, as the run had
-/// it.
+/// models of FILE, and `no` where they are not; before FILE may stand `--buckets b` and `--keep k`,
+/// as the run had them.
 ///
 /// The answer is the status with which the process ends: 0 done, 1 words outside the grammar or
 /// names that collide, 2 an input that is not there, 3 a fault of the shelf at an input, 4 a VOX

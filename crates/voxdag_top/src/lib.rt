@@ -1,4 +1,8 @@
 //! The program `voxdag` as a call over any shelf and any sink.
+//!
+//! It reads the words of its line, carries the command out, and puts one line and a status. What
+//! words mean is said in `specs/Words.antt` and `specs/Questions.antt`, what each status means and
+//! which one must come in `specs/Statuses.antt` and `specs/Verdicts.antt`.
 #![tactic(auto)]
 
 mod commands;

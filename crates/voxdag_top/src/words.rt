@@ -4,7 +4,7 @@ ghost use Rattle.std.specs.Option.{option_map};
 ghost use Rattle.command_line.specs.Texts.{texts};
 ghost use Rattle.command_line.specs.Parts.{is_operand};
 ghost use Rattle.script_files.specs.Commands.{scripts_asked};
-ghost use Rattle.voxdag_top.specs.Words.{request_of, run_texts, line_of, named_request, counted, run_asked, run_planned, demo_of, flood_words, scene_words, dag_words, look_words, audit_words, audit_of, audit_by, buckets_of, is_number_of_scripts, demo_words, exponent_of, short_number, plan_for, side_of, side_told, cap_told, plan_with, plan_by, plan_told, plan_in};
+ghost use Rattle.voxdag_top.specs.Words.{request_of, run_texts, line_of, named_request, counted, run_asked, run_planned, demo_of, flood_words, scene_words, dag_words, look_words, audit_words, audit_unjudged, audit_of, audit_by, audit_judged, audit_kept, buckets_of, is_number_of_scripts, demo_words, exponent_of, short_number, keep_of, keep_told, plan_for, side_of, side_told, cap_told, plan_with, plan_by, plan_told, plan_in};
 
 use crate::questions::question_in;
 use command_line::{Line, are_of_a_run, is_operand, split};
@@ -116,21 +116,23 @@ fn run_asked<'w>(line: &'w Option<Line<'w>>) -> Option<Request<'w>>
 {
     match line {
         None => None,
-        Some(line) => run_planned(plan_in(line), line),
+        Some(line) => run_planned(plan_in(line), keep_told(line.keep), line),
     }
 }
 
-fn run_planned<'w>(plan: Option<Plan>, line: &'w Line<'w>) -> Option<Request<'w>>
+fn run_planned<'w>(plan: Option<Plan>, keep: Option<u32>, line: &'w Line<'w>) -> Option<Request<'w>>
     requires few { length line.now.operands ≤ 65 }
-    ensures asked { result ≡ run_planned plan line.now }
+    ensures asked { result ≡ run_planned plan keep line.now }
     ensures few { IfSome result (λ a. length (scripts_asked a) ≤ 64) }
 {
     let plan = plan?;
+    let keep = keep?;
     match line.operands.as_slice() {
         [] => None,
         [file, scripts @ ..] => {
             let order = Order {
                 plan,
+                keep,
                 journal: line.journal,
                 report: line.report,
                 file: *file,
@@ -220,31 +222,87 @@ fn kept(words: &[String]) -> Option<Request<'_>>
     Some(Request::Dag(DagOrder { file, journal, out }))
 }
 
-// `[--buckets b] FILE JOURNAL SCRIPT ..`, the words of `audit`.
+// `[--buckets b] [--keep k] FILE JOURNAL SCRIPT ..`, the words of `audit`, the options in either
+// order.
 fn audited(words: &[String]) -> Option<Request<'_>>
     ensures asked { result ≡ audit_words (texts words.now) }
     ensures few { IfSome result (λ a. length (scripts_asked a) ≤ 64) }
 {
-    match words {
-        [option, number, others @ ..] if option.as_str() == "--buckets" => {
-            audited_by(buckets_of(short_number(number.as_str())), others)
-        }
-        _ => audited_of(None, words),
+    let [option, number, others @ ..] = words else {
+        return None;
+    };
+    if option.as_str() == "--buckets" {
+        return judged(buckets_of(short_number(number.as_str())), others);
     }
+    unjudged(words)
 }
 
-fn audited_by<'w>(buckets: Option<Buckets>, words: &'w [String]) -> Option<Request<'w>>
-    ensures asked { result ≡ audit_by buckets (texts words.now) }
+// Where `--buckets b` doesn't come first.
+fn unjudged(words: &[String]) -> Option<Request<'_>>
+    ensures asked { result ≡ audit_unjudged (texts words.now) }
     ensures few { IfSome result (λ a. length (scripts_asked a) ≤ 64) }
 {
-    match buckets {
-        None => None,
-        Some(buckets) => audited_of(Some(buckets), words),
+    match words {
+        [option, number, others @ ..] if option.as_str() == "--keep" => {
+            keeping(keep_of(short_number(number.as_str())), others)
+        }
+        _ => audited_of(None, 0, words),
     }
 }
 
-fn audited_of<'w>(buckets: Option<Buckets>, words: &'w [String]) -> Option<Request<'w>>
-    ensures asked { result ≡ audit_of buckets (texts words.now) }
+// Behind `--buckets b`.
+fn judged<'w>(buckets: Option<Buckets>, words: &'w [String]) -> Option<Request<'w>>
+    ensures asked { result ≡ audit_judged buckets (texts words.now) }
+    ensures few { IfSome result (λ a. length (scripts_asked a) ≤ 64) }
+{
+    let buckets = buckets?;
+    match words {
+        [option, number, others @ ..] if option.as_str() == "--keep" => {
+            audited_by(
+                Some(buckets),
+                keep_of(short_number(number.as_str())),
+                others,
+            )
+        }
+        _ => audited_of(Some(buckets), 0, words),
+    }
+}
+
+// Behind `--keep k`.
+fn keeping<'w>(keep: Option<u32>, words: &'w [String]) -> Option<Request<'w>>
+    ensures asked { result ≡ audit_kept keep (texts words.now) }
+    ensures few { IfSome result (λ a. length (scripts_asked a) ≤ 64) }
+{
+    let keep = keep?;
+    match words {
+        [option, number, others @ ..] if option.as_str() == "--buckets" => {
+            audited_by(
+                buckets_of(short_number(number.as_str())),
+                Some(keep),
+                others,
+            )
+        }
+        _ => audited_of(None, keep, words),
+    }
+}
+
+// Behind both.
+fn audited_by<'w>(
+    buckets: Option<Buckets>,
+    keep: Option<u32>,
+    words: &'w [String],
+) -> Option<Request<'w>>
+    ensures asked { result ≡ audit_by buckets keep (texts words.now) }
+    ensures few { IfSome result (λ a. length (scripts_asked a) ≤ 64) }
+{
+    match (buckets, keep) {
+        (Some(buckets), Some(keep)) => audited_of(Some(buckets), keep, words),
+        _ => None,
+    }
+}
+
+fn audited_of<'w>(buckets: Option<Buckets>, keep: u32, words: &'w [String]) -> Option<Request<'w>>
+    ensures asked { result ≡ audit_of buckets keep (texts words.now) }
     ensures few { IfSome result (λ a. length (scripts_asked a) ≤ 64) }
 {
     let [file, journal, scripts @ ..] = words else {
@@ -255,6 +313,7 @@ fn audited_of<'w>(buckets: Option<Buckets>, words: &'w [String]) -> Option<Reque
     }
     Some(Request::Audit(AuditOrder {
         buckets,
+        keep,
         file: file.as_str(),
         journal: journal.as_str(),
         scripts,
@@ -336,6 +395,25 @@ fn cap_told(word: Option<&str>) -> Option<u32>
     match word {
         None => Some(128),
         Some(word) => short_number(word),
+    }
+}
+
+fn keep_told(word: Option<&str>) -> Option<u32>
+    ensures { result ≡ keep_told (option_map (λ t. t.now) word.entry) }
+{
+    match word {
+        None => Some(0),
+        Some(word) => keep_of(short_number(word)),
+    }
+}
+
+// How many last versions a word tells, from 1 to 65,535.
+fn keep_of(number: Option<u32>) -> Option<u32>
+    ensures { result ≡ keep_of number }
+{
+    match number {
+        Some(number) if number >= 1 && number <= 65_535 => Some(number),
+        _ => None,
     }
 }
 

@@ -5,6 +5,7 @@
 ghost use Rattle.std.specs.Prelude.{◌≡◌, ◌^◌, option_copied};
 ghost use Rattle.block_walk.specs.Roots.{HoldsRoot};
 ghost use Rattle.conformance.specs.Fitting.{QuestionFits};
+ghost use Rattle.sums.specs.Sums.{one_if};
 ghost use Rattle.world_answers.specs.TellsRoots.{TellsRoot};
 
 use history_model::Question;
@@ -33,9 +34,17 @@ pub fn tell<B: Blocks>(
 {
     match question {
         Question::Get(c) => Answer::Is(get(store, root, side, c)),
+        Question::Colour(c) => Answer::Colour(tint_of(get(store, root, side, c))),
         Question::Count(b) => Answer::Count(count(store, root, side, b)),
         Question::Bounds => Answer::Extent(bounds(store, root, side)),
         Question::Faces(b) => Answer::Faces(faces(store, root, side, b)),
         Question::Ray(from, way) => Answer::Hit(ray(store, root, side, from, way)),
     }
+}
+
+// The tint of a cell of a world without tints.
+fn tint_of(set: bool) -> u8
+    ensures { result ≡ one_if set }
+{
+    u8::from(set)
 }

@@ -8,7 +8,7 @@ use transcript::Answer;
 use vw_cell::{Boxed, Cell, Side};
 
 // What the empty world of this side answers to a question of each kind.
-fn told(alloc: Global, side: Side, b: Boxed, way: Way) -> Result<[Answer; 5], Fail> {
+fn told(alloc: Global, side: Side, b: Boxed, way: Way) -> Result<[Answer; 6], Fail> {
     if !b.at.is_in_world(side) {
         return Err("a cell of the world".into());
     }
@@ -16,6 +16,7 @@ fn told(alloc: Global, side: Side, b: Boxed, way: Way) -> Result<[Answer; 5], Fa
     let mut store = OneStore::begin(alloc, &Plan::usual(side))?;
     Ok([
         tell(&mut store, None, side, Question::Get(b.at)),
+        tell(&mut store, None, side, Question::Colour(b.at)),
         tell(&mut store, None, side, Question::Count(b)),
         tell(&mut store, None, side, Question::Bounds),
         tell(&mut store, None, side, Question::Faces(b)),
@@ -32,6 +33,7 @@ fn the_empty_world_is_told_where_there_is_no_root(rt: HostRuntime) -> Result<(),
     let told = told(rt.alloc(), side, Boxed { at, size }, way)?;
     let want = [
         Answer::Is(false),
+        Answer::Colour(0),
         Answer::Count(0),
         Answer::Extent(None),
         Answer::Faces(0),

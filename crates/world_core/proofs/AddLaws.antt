@@ -19,8 +19,8 @@ use Rattle.core_laws.specs.LogEvents.{stores}
 use Rattle.core_laws.proofs.Bounds.{missing_in_bucket}
 use Rattle.core_reading.specs.Slots.{Bucket, Level, bucket_at, entry_at, key_or_none, put_at}
 use Rattle.core_reading.proofs.SlotLaws.{adds_slot, stays_laid_out}
-use Rattle.entry_lists.specs.Changes.{AreLive}
-use Rattle.entry_lists.specs.Trading.{TradesNames, weights}
+use Rattle.world_core.specs.Changes.{AreLive}
+use Rattle.world_core.specs.Trading.{TradesNames, weights}
 use Rattle.world_core.specs.Lawful.{HoldsShares, HoldsAtMost}
 use Rattle.world_core.specs.Stored.{Stored, IsStored, state_of, root_in}
 use Rattle.world_core.specs.Steps.{FindsEntry, AddsEntry, IsNowhere}

@@ -1,5 +1,5 @@
 -- A core in which nothing was done yet.
-use Rattle.std.proofs.Common.{◌≡◌, ℕ, ◌≤◌, refl, sym, ◌∙◌, ap, subst, arith, None, Option, List, [], length, get_or, replicate, sum_by}
+use Rattle.std.proofs.Common.{◌≡◌, ℕ, ◌≤◌, refl, sym, ◌∙◌, ap, subst, arith, None, Option, List, [], length, get_or, replicate, sum_by, false}
 use Rattle.std.proofs.lemmas.Bool.{cases_lt}
 use Rattle.std.proofs.Common.{inl, inr}
 use Rattle.std.proofs.lemmas.List.{get_or_past, get_or-replicate, length-replicate}
@@ -36,7 +36,7 @@ begun p models entries roots held = record {
   models = models;
   entries = entries;
   roots = roots;
-  log = record { side = p.side; records = []; marks = [] };
+  log = record { side = p.side; coloured = false; records = []; marks = [] };
   held = held;
 }
 

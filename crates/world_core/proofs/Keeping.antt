@@ -18,7 +18,7 @@ use Rattle.core_laws.specs.States.{IsLive}
 use Rattle.core_laws.proofs.Bounds.{book_small}
 use Rattle.core_laws.proofs.StepLaws.{step_sound}
 use Rattle.core_reading.specs.Slots.{Level, IsLaidOut, entry_at, read_lists}
-use Rattle.entry_lists.specs.Trading.{HasAll, TradesNames, weights}
+use Rattle.world_core.specs.Trading.{HasAll, TradesNames, weights}
 use Rattle.world_core.specs.Stored.{Stored, IsStored, state_of, root_in}
 
 abbrev pub IsSmall : List Name → Type 0

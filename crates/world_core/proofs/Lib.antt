@@ -7,3 +7,7 @@ pub mod UnderLaws
 pub mod DoingLaws
 pub mod MadeLaws
 pub mod BeginLaws
+mod Absent
+pub mod Cells
+mod Counted
+mod Empty

@@ -20,8 +20,8 @@ use Rattle.core_laws.specs.States.{IsLive}
 use Rattle.core_laws.proofs.Lives.{held_lives}
 use Rattle.core_reading.specs.Slots.{Level, entry_at, key_or_none, put_at}
 use Rattle.core_reading.proofs.SlotLaws.{lowers_slot, frees_slot, stays_laid_out}
-use Rattle.entry_lists.specs.Changes.{LowersEntryAt}
-use Rattle.entry_lists.specs.Trading.{HasAll, TradesNames, weights}
+use Rattle.world_core.specs.Changes.{LowersEntryAt}
+use Rattle.world_core.specs.Trading.{HasAll, TradesNames, weights}
 use Rattle.world_core.specs.Answering.{children_in}
 use Rattle.world_core.specs.Lawful.{HoldsShares, MayLower}
 use Rattle.world_core.specs.Stored.{Stored, IsStored, state_of, root_in}

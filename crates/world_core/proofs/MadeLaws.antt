@@ -2,12 +2,9 @@
 use Rattle.std.proofs.Common.{◌≡◌, ℕ, ◌+◌, ◌-◌, ◌^◌, ◌<◌, ◌≤◌, Bool, true, false, refl, sym, ◌∙◌, ap, subst, arith, inl, inr, Some, None, Option, List, [], ◌∷◌, length}
 use Rattle.std.proofs.Common.{Result, Ok, Err}
 use Rattle.vw_cell.specs.declared.memory.Memory.{Memory}
-use Rattle.std.specs.Prelude.{All, IfOk, nat_lt, nat_le, ◌&&◌, ◌||◌, if◌then◌else◌, not}
-use Rattle.std.proofs.lemmas.Bool.{cases_Bool, ltb-true, leb-true}
+use Rattle.std.specs.Prelude.{All, IfOk}
 use Rattle.vw_cell.specs.declared.cells.Cell.{Cell}
-use Rattle.vw_cell.specs.declared.boxes.Boxed.{Boxed}
-use Rattle.vw_cell.specs.Places.{IsInWorld, IsInBlock, FitsAt, is_in_box, is_within, block_side}
-use Rattle.vox_read.specs.Contents.{Content}
+use Rattle.vw_cell.specs.Places.{IsInWorld}
 use Rattle.node_shapes.specs.declared.names.Name.{Name}
 use Rattle.node_shapes.specs.Shape.{Shape, ShowsCells}
 use Rattle.node_shapes.specs.Shape as shapes
@@ -15,7 +12,7 @@ use Rattle.node_shapes.specs.Tree.{shape_of}
 use Rattle.node_shapes.proofs.ShowLaws.{shown_once}
 use Rattle.node_words.specs.declared.keys.Key.{Key}
 use Rattle.history_model.specs.declared.acts.Act.{Act}
-use Rattle.history_model.specs.declared.acts.Act.TheVariants.{Fill, Erase, Ball, Carve, Copy, Stamp, Undo, Redo}
+use Rattle.history_model.specs.declared.acts.Act.TheVariants.{Fill, Erase, Ball, Carve, Copy, Stamp, Tint, Undo, Redo}
 use Rattle.history_model.specs.declared.histories.Record.{Record}
 use Rattle.history_model.specs.Logs.{Log, FitsWorld, MayFollow, HasTarget, IsVersionHeld}
 use Rattle.history_model.specs.PositionLaws.{names_below}
@@ -23,9 +20,10 @@ use Rattle.core_laws.specs.Making.{version_gone_to}
 use Rattle.block_contents.specs.Versions.{IsUnmarked}
 use Rattle.history_model.specs.LegalLaws.{edit_follows}
 use Rattle.history_model.specs.Making.{MayMake}
-use Rattle.history_model.specs.Moments.{world_has}
+use Rattle.history_model.specs.Stores.{stored_in}
+use Rattle.history_model.proofs.Agreeing.{edited_agree}
 use Rattle.history_model.specs.Positions.{position_after, first_of}
-use Rattle.history_model.specs.Worlds.{World, edited, is_edit, box_at, plus, less}
+use Rattle.history_model.specs.Worlds.{World, is_edit}
 use Rattle.block_contents.specs.Aligned.{top, world_block}
 use Rattle.block_contents.specs.Versions.{IsKept}
 use Rattle.block_contents.proofs.WorldBlocks.{in_world, in_block}
@@ -57,46 +55,6 @@ own_cell : (side : ℕ) (key : Name → Key) (root : Option Name) (cells : World
 own_cell side key root cells q low shows inside =
     sym (less_zero (top side) (shape_of (tree_at key (top side) root)) q) ∙ shows.each q (in_block side q low inside)
 
-and_both : (a b : Bool) → a && b ≡ true → (a ≡ true) × (b ≡ true)
-and_both true b e = (refl, e)
-and_both false b e = absurd (let no : ⊥ = cc in no)
-
--- an edit makes the same of worlds that are the same
-in_axis : (low size p at side : ℕ) → is_within low size p ≡ true → at + size ≤ side
-    → at + (p - low) < side
-in_axis low size p at side e fits =
-    let w = and_both (nat_le low p) (nat_lt p (low + size)) e in
-    let le = leb-true low p w.0 in let lt = ltb-true p (low + size) w.1 in omega arith
-
-copied_in : (side : ℕ) (b : Boxed) (to q : Cell) → FitsAt b.at b.size side
-    → is_in_box (box_at to b.size) q ≡ true → IsInWorld side (plus b.at (less q to))
-copied_in side b to q fits inside =
-    let all = and_both (is_within to.x b.size.x q.x && is_within to.y b.size.y q.y) (is_within to.z b.size.z q.z) inside in
-    let both = and_both (is_within to.x b.size.x q.x) (is_within to.y b.size.y q.y) all.0 in
-    record {
-      x = in_axis to.x b.size.x q.x b.at.x side both.0 fits.x.1;
-      y = in_axis to.y b.size.y q.y b.at.y side both.1 fits.y.1;
-      z = in_axis to.z b.size.z q.z b.at.z side all.1 fits.z.1;
-    }
-
-pub edited_same : (side : ℕ) (models : List Content) (act : Act) (v w : World) (q : Cell) → FitsWorld side models act
-    → ((p : Cell) → IsInWorld side p → v p ≡ w p) → IsInWorld side q → edited models act v q ≡ edited models act w q
-edited_same side models (Fill b) v w q fits same inside = ap (λ (x : Bool). is_in_box b q || x) (same q inside)
-edited_same side models (Erase b) v w q fits same inside = ap (λ (x : Bool). x && not (is_in_box b q)) (same q inside)
-edited_same side models (Ball ball) v w q fits same inside = ap (λ (x : Bool). Rattle.vw_cell.specs.Places.is_in_ball ball q || x) (same q inside)
-edited_same side models (Carve ball) v w q fits same inside = ap (λ (x : Bool). x && not (Rattle.vw_cell.specs.Places.is_in_ball ball q)) (same q inside)
-edited_same side models (Copy b to) v w q fits same inside = elim (cases_Bool (is_in_box (box_at to b.size) q)) [
-  | inl inner ↦ ap (λ (t : Bool). if t then v (plus b.at (less q to)) else v q) inner
-      ∙ same (plus b.at (less q to)) (copied_in side b to q fits.0 inner)
-      ∙ sym (ap (λ (t : Bool). if t then w (plus b.at (less q to)) else w q) inner)
-  | inr outer ↦ ap (λ (t : Bool). if t then v (plus b.at (less q to)) else v q) outer
-      ∙ same q inside
-      ∙ sym (ap (λ (t : Bool). if t then w (plus b.at (less q to)) else w q) outer)
-]
-edited_same side models (Stamp m at) v w q fits same inside = ap (λ (x : Bool). Rattle.history_model.specs.Worlds.is_in_stamp (Rattle.std.specs.List.slice_get models m) at q || x) (same q inside)
-edited_same side models Undo v w q fits same inside = same q inside
-edited_same side models Redo v w q fits same inside = same q inside
-
 -- the newest version is kept
 pub head_kept : (s : Stored) → IsStored s → IsKept s.log (length s.log.records)
 head_kept s is = record {
@@ -111,9 +69,9 @@ module _ (s : Stored) (act : Act) (root : Option Name) (is : IsStored s) where
 
   head_cell : (q : Cell) → IsInWorld (2 ^ s.plan.side) q
       → world_of (state_of s).key (top s.plan.side) (root_in s.roots (length s.log.records)) q
-      ≡ world_has s.models s.log.records (length s.log.records) q
+      ≡ stored_in (2 ^ s.plan.side) s.models s.log.records (length s.log.records) q
   head_cell q inside = own_cell s.plan.side (state_of s).key (root_in s.roots (length s.log.records))
-      (world_has s.models s.log.records (length s.log.records)) q is.plan.side_low
+      (stored_in (2 ^ s.plan.side) s.models s.log.records (length s.log.records)) q is.plan.side_low
       (is.sound.versions.shown (length s.log.records) (head_kept s is)) inside
 
   pub edit_made : FitsWorld (2 ^ s.plan.side) s.models act → is_edit act ≡ true
@@ -127,7 +85,7 @@ module _ (s : Stored) (act : Act) (root : Option Name) (is : IsStored s) where
     shows = shows_own s.plan.side (state_of s).key root;
     makes = record {
       edit = λ _. record {
-        each = λ q inside. made.each q inside ∙ edited_same (2 ^ s.plan.side) s.models act _ _ q fits head_cell inside;
+        each = λ q inside. made.each q inside ∙ edited_agree (2 ^ s.plan.side) s.models act _ _ fits head_cell q inside;
       };
       other = λ other. absurd (Rattle.std.proofs.lemmas.Bool.both_ways (is_edit act) other edit);
     };
@@ -141,7 +99,7 @@ module _ (s : Stored) (act : Act) (root : Option Name) (is : IsStored s) where
   made_edit fits edit made = record {
     each = λ q inside. own_cell s.plan.side (state_of s).key root made.cells q is.plan.side_low made.shows inside
         ∙ (made.makes.edit edit).each q inside
-        ∙ sym (edited_same (2 ^ s.plan.side) s.models act _ _ q fits head_cell inside);
+        ∙ sym (edited_agree (2 ^ s.plan.side) s.models act _ _ fits head_cell q inside);
   }
 
   -- an undo or a redo makes the root of the version that it goes to
@@ -151,12 +109,12 @@ module _ (s : Stored) (act : Act) (root : Option Name) (is : IsStored s) where
       → IsRootMade s.plan s.models act root (state_of s)
   other_made v other kept follows goes same = record {
     follows = follows;
-    cells = world_has s.models s.log.records v;
-    shows = subst (λ (o : Option Name). ShowsCells (world_block s.plan.side) (shape_of (tree_at (state_of s).key (top s.plan.side) o)) (world_has s.models s.log.records v)) (sym same)
+    cells = stored_in (2 ^ s.plan.side) s.models s.log.records v;
+    shows = subst (λ (o : Option Name). ShowsCells (world_block s.plan.side) (shape_of (tree_at (state_of s).key (top s.plan.side) o)) (stored_in (2 ^ s.plan.side) s.models s.log.records v)) (sym same)
         (is.sound.versions.shown v kept);
     makes = record {
       edit = λ edit. absurd (Rattle.std.proofs.lemmas.Bool.both_ways (is_edit act) other edit);
-      other = λ _. record { each = λ q inside. ap (λ (w : ℕ). world_has s.models s.log.records w q) (sym goes) };
+      other = λ _. record { each = λ q inside. ap (λ (w : ℕ). stored_in (2 ^ s.plan.side) s.models s.log.records w q) (sym goes) };
     };
   }
 
@@ -170,7 +128,7 @@ module _ (s : Stored) (act : Act) (root : Option Name) (is : IsStored s) where
       let its : AreLive p (state_of s) (top p.side) (root_in s.roots v) = λ n some. record { live = root_lives p (state_of s) v n is.sound.entries (root_in_range p s.models (state_of s) v n is.sound.versions some) some; same_level = is.sound.versions.level v n some } in
       let shows : ShowsCells (world_block p.side) (shape_of (tree_at (state_of s).key (top p.side) (root_in s.roots v))) made.cells = record {
         each = λ q in_b. (is.sound.versions.shown v kept).each q in_b
-            ∙ ap (λ (w : ℕ). world_has s.models s.log.records w q) (sym goes)
+            ∙ ap (λ (w : ℕ). stored_in (2 ^ s.plan.side) s.models s.log.records w q) (sym goes)
             ∙ sym ((made.makes.other other).each q (in_world p.side q is.plan.side_low in_b));
       } in
       shape_once p (state_of s) is.sound.entries (top p.side) root (root_in s.roots v) lives its
@@ -196,6 +154,7 @@ target_goes records (Ball b) v e = absurd (Rattle.std.proofs.lemmas.Option.none-
 target_goes records (Carve b) v e = absurd (Rattle.std.proofs.lemmas.Option.none-some v e)
 target_goes records (Copy b to) v e = absurd (Rattle.std.proofs.lemmas.Option.none-some v e)
 target_goes records (Stamp m at) v e = absurd (Rattle.std.proofs.lemmas.Option.none-some v e)
+target_goes records (Tint t) v e = absurd (Rattle.std.proofs.lemmas.Option.none-some v e)
 target_goes records Undo v e = goes_undo (position_after records).past (position_after records).now (position_after records).future v e
 target_goes records Redo v e = goes_redo (position_after records).past (position_after records).now (position_after records).future v e
 
@@ -214,13 +173,13 @@ target_in log (to ∷ more) v e held = subst (λ (w : ℕ). IsVersionHeld log.ma
 
 in_target : (log : Log) (versions : List ℕ) (v : ℕ) → first_of versions ≡ Some v
     → HasTarget log.marks (length log.records + 1) versions → IsVersionHeld log.marks (length log.records + 1) v
-in_target log [] v e world_has = absurd world_has
-in_target log (to ∷ more) v e world_has = subst (λ (w : ℕ). IsVersionHeld log.marks (length log.records + 1) w) (Rattle.std.proofs.lemmas.Option.same_Some to v e) world_has
+in_target log [] v e has = absurd has
+in_target log (to ∷ more) v e has = subst (λ (w : ℕ). IsVersionHeld log.marks (length log.records + 1) w) (Rattle.std.proofs.lemmas.Option.same_Some to v e) has
 
 no_target : (log : Log) (versions : List ℕ) → first_of versions ≡ None
     → HasTarget log.marks (length log.records + 1) versions → ⊥
-no_target log [] e world_has = world_has
-no_target log (to ∷ more) e world_has = Rattle.std.proofs.lemmas.Option.none-some to (sym e)
+no_target log [] e has = has
+no_target log (to ∷ more) e has = Rattle.std.proofs.lemmas.Option.none-some to (sym e)
 
 first_below : (versions : List ℕ) (v n : ℕ) → first_of versions ≡ Some v → All (λ w. w < n) versions → v < n
 first_below [] v n e below = absurd (Rattle.std.proofs.lemmas.Option.none-some v e)

@@ -12,7 +12,7 @@ use Rattle.core_laws.specs.LogEvents.{stores}
 use Rattle.core_laws.specs.States.{IsLive}
 use Rattle.core_reading.specs.Slots.{Level, entry_at, put_at}
 use Rattle.core_reading.proofs.SlotLaws.{raises_slot, stays_laid_out}
-use Rattle.entry_lists.specs.Trading.{HasAll, TradesNames, weights}
+use Rattle.world_core.specs.Trading.{HasAll, TradesNames, weights}
 use Rattle.world_core.specs.Lawful.{HoldsAtMost}
 use Rattle.world_core.specs.Stored.{Stored, IsStored, state_of, root_in}
 use Rattle.world_core.specs.Steps.{RaisesEntry}

@@ -11,7 +11,7 @@ use Rattle.block_contents.specs.Versions.{IsUnmarked, MarkComes}
 use Rattle.core_laws.specs.Counting.{weight}
 use Rattle.core_laws.specs.Events.{no_weight, at_most_one, PutsRoot, TakesRoot}
 use Rattle.core_laws.specs.LogEvents.{MayAppend, Appends, Forgets, appends, forgets}
-use Rattle.entry_lists.specs.Trading.{HasAll, TradesNames}
+use Rattle.world_core.specs.Trading.{HasAll, TradesNames}
 use Rattle.world_core.specs.Lawful.{HoldsShares, HoldsAtMost}
 use Rattle.world_core.specs.Stored.{Stored, IsStored, state_of, root_in}
 use Rattle.world_core.specs.Steps.{AppendsRoot, MarksRoot}
@@ -50,10 +50,10 @@ pub recorded : (s : Stored) (r : Record) (root : Option Name) (names after : Lis
     → HoldsShares (state_of s) r.session (root ∷ []) → slice_get s.held r.session ≡ Some names
     → TradesNames names (root ∷ []) [] after → version ≡ length s.log.records + 1
     → AppendsRoot s r root (logged s (set s.roots version root)
-    (record { side = s.log.side; records = s.log.records ++ r ∷ []; marks = s.log.marks }) r.session after)
+    (record { side = s.log.side; coloured = s.log.coloured; records = s.log.records ++ r ∷ []; marks = s.log.marks }) r.session after)
 recorded s r root names after version is may held at trade same =
     let next : ℕ = length s.log.records + 1 in
-    let log : Log = record { side = s.log.side; records = s.log.records ++ r ∷ []; marks = s.log.marks } in
+    let log : Log = record { side = s.log.side; coloured = s.log.coloured; records = s.log.records ++ r ∷ []; marks = s.log.marks } in
     let room = may.room in
     let places = is.places in
     let has = has_of s r.session (root ∷ []) names held at in
@@ -82,10 +82,10 @@ recorded s r root names after version is may held at trade same =
 
 -- the log with one more record, and with a mark at a place
 abbrev pub longer : Log → Record → Log
-longer log r = record { side = log.side; records = log.records ++ r ∷ []; marks = log.marks }
+longer log r = record { side = log.side; coloured = log.coloured; records = log.records ++ r ∷ []; marks = log.marks }
 
 abbrev pub with_mark : Log → ℕ → Mark → Log
-with_mark log place mark = record { side = log.side; records = log.records; marks = take place log.marks ++ mark ∷ drop place log.marks }
+with_mark log place mark = record { side = log.side; coloured = log.coloured; records = log.records; marks = take place log.marks ++ mark ∷ drop place log.marks }
 
 -- a mark in its place among marks by rising version
 mark_comes : (marks : List Mark) (mark : Mark) (place : ℕ) → place ≤ length marks
@@ -125,12 +125,12 @@ pub marked : (s : Stored) (mark : Mark) (root : Option Name) (names after : List
     → ((k : ℕ) (m : Mark) → k < place → (get_or s.log.marks k m).version ≤ mark.version)
     → ((m : Mark) → place < length s.log.marks → mark.version < (get_or s.log.marks place m).version)
     → MarksRoot s mark root (logged s (set s.roots mark.version None)
-    (record { side = s.log.side; records = s.log.records; marks = take place s.log.marks ++ mark ∷ drop place s.log.marks }) mark.session after)
+    (record { side = s.log.side; coloured = s.log.coloured; records = s.log.records; marks = take place s.log.marks ++ mark ∷ drop place s.log.marks }) mark.session after)
 marked s mark root names after place is earlier now unmarked room at its trade le lower higher =
     let few_records = is.sound.versions.legal.few in
     let places = is.places in
     let v : ℕ = mark.version in
-    let log : Log = record { side = s.log.side; records = s.log.records; marks = take place s.log.marks ++ mark ∷ drop place s.log.marks } in
+    let log : Log = record { side = s.log.side; coloured = s.log.coloured; records = s.log.records; marks = take place s.log.marks ++ mark ∷ drop place s.log.marks } in
     let has : HasAll names [] = record { weighs = λ f. omega arith } in
     let trades = trades_as s mark.session names after [] (root ∷ []) at has trade no_weight (at_most_one (root_in s.roots v)) no_weights
     (λ f. one_weight root f ∙ ap (weight f) its) in
@@ -147,6 +147,7 @@ marked s mark root names after place is earlier now unmarked room at its trade l
       earlier = earlier;
       now = now;
       side = refl;
+      coloured = refl;
       records = refl;
       marks = mark_comes s.log.marks mark place le is.sound.versions.legal.rising unmarked lower higher;
       takes = takes;

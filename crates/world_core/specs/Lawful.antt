@@ -16,7 +16,7 @@ use Rattle.block_contents.specs.Aligned.{top, world_block}
 use Rattle.core_laws.specs.States.{State, IsUnder, tree_at}
 use Rattle.core_laws.specs.Soundness.{FitsLevel}
 use Rattle.core_laws.specs.Making.{Makes}
-use Rattle.entry_lists.specs.Trading.{HasAll}
+use Rattle.world_core.specs.Trading.{HasAll}
 use Rattle.world_core.specs.declared.events.Event.{Event}
 use Rattle.world_core.specs.declared.events.Event.TheVariants.{Leaf, Node, Raise, Lower, Pin, Append, Forget}
 

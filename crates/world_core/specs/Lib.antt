@@ -6,3 +6,6 @@ pub mod Steps
 pub mod Lawful
 pub mod Effects
 pub mod Answering
+pub mod Changes
+pub mod Reads
+pub mod Trading

@@ -8,8 +8,8 @@ ghost use Rattle.world_core.specs.Kept.{stored};
 ghost use Rattle.world_core.specs.Lawful.{HoldsShares, HoldsAtMost, Reaches};
 ghost use Rattle.world_core.specs.Stored.{IsStored, state_of};
 
+use crate::is_same;
 use crate::parts::Parts;
-use entry_lists::is_same;
 use node_words::{Key, Name};
 use std::alloc::Global;
 use vw_cell::Memory;

@@ -3,9 +3,9 @@ ghost use Rattle.world_core.specs.Answering.{Replies};
 ghost use Rattle.world_core.specs.Beginning.{HasBegun};
 ghost use Rattle.world_core.specs.Stored.{IsStored, state_of};
 
+use crate::Entries;
 use crate::events::{Event, Reply};
 use crate::parts::{Parts, no_history, no_holdings, no_roots};
-use entry_lists::Entries;
 use node_words::Plan;
 use std::alloc::Global;
 use std::marker::Model;

@@ -3,7 +3,7 @@ ghost use Rattle.node_shapes.specs.declared.names.Name.{Name as name};
 ghost use Rattle.vw_cell.specs.Places.{block_side};
 ghost use Rattle.history_model.specs.Logs.{FitsWorld};
 ghost use Rattle.history_model.specs.Making.{MayMake};
-ghost use Rattle.entry_lists.specs.Reads.{keys_in};
+ghost use Rattle.world_core.specs.Reads.{keys_in};
 ghost use Rattle.world_core.specs.Shown.{world_of};
 ghost use Rattle.history_model.specs.Worlds.{is_edit};
 ghost use Rattle.block_contents.specs.Aligned.{top};
@@ -16,9 +16,9 @@ ghost use Rattle.world_core.specs.Stored.{IsStored, root_in, state_of};
 
 use crate::asking::is_row;
 use crate::events::Event;
+use crate::is_same;
 use crate::logs::{count, mark_of, target};
 use crate::parts::Parts;
-use entry_lists::is_same;
 use history_model::{Act, may_make};
 use node_words::Name;
 use std::alloc::Global;
@@ -226,6 +226,7 @@ fn is_edit(act: &Act) -> bool
         Act::Carve(_) => true,
         Act::Copy(_, _) => true,
         Act::Stamp(_, _) => true,
+        Act::Tint(_) => true,
         Act::Undo => false,
         Act::Redo => false,
     }

@@ -44,6 +44,7 @@ fn first(versions: &[u32]) -> Option<u32>
 pub(crate) fn append(history: &mut History, next: Record) -> Result<(), Memory>
     ensures appended { OnOk result (history.new ≡ record {
       side = history.old.side;
+      coloured = history.old.coloured;
       records = history.old.records ++ next ∷ [];
       marks = history.old.marks;
     }) }
@@ -58,6 +59,7 @@ pub(crate) fn insert(history: &mut History, place: usize, mark: Mark) -> Result<
     requires { place ≤ length history.old.marks }
     ensures inserted { OnOk result (history.new ≡ record {
       side = history.old.side;
+      coloured = history.old.coloured;
       records = history.old.records;
       marks = insert history.old.marks place mark;
     }) }

@@ -1,6 +1,6 @@
-ghost use Rattle.std.specs.Prelude.{◌≡◌, [], None, IfOk, replicate};
+ghost use Rattle.std.specs.Prelude.{◌≡◌, [], None, IfOk, replicate, false};
 
-use entry_lists::{Entries, Holding};
+use crate::{Entries, Holding};
 use history_model::History;
 use node_words::{Name, Plan};
 use std::alloc::{AllocError, Global};
@@ -41,11 +41,13 @@ pub(crate) fn no_holdings(alloc: Global, sessions: u16) -> Result<Vec<Holding>, 
 
 // No record was appended.
 pub(crate) fn no_history(alloc: Global, plan: &Plan) -> History
-    ensures history { result ≡ record { side = plan.now.side; records = []; marks = [] } }
+    ensures history { result
+        ≡ record { side = plan.now.side; coloured = false; records = []; marks = [] } }
     ensures plan { IsPlan plan.now }
 {
     History {
         side: plan.side(),
+        coloured: false,
         records: Vec::new(alloc),
         marks: Vec::new(alloc),
     }

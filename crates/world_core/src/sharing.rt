@@ -4,7 +4,7 @@ ghost use Rattle.node_places.specs.Spots.{levels};
 ghost use Rattle.core_laws.specs.Counting.{children_weight};
 ghost use Rattle.core_laws.specs.Soundness.{FitsLevel};
 ghost use Rattle.core_laws.specs.States.{IsLive};
-ghost use Rattle.entry_lists.specs.Trading.{weights};
+ghost use Rattle.world_core.specs.Trading.{weights};
 ghost use Rattle.world_core.specs.Answering.{children_in};
 ghost use Rattle.world_core.specs.Kept.{stored};
 ghost use Rattle.world_core.specs.Lawful.{HoldsShares, HoldsAtMost, MayLower};

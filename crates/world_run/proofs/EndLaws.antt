@@ -23,36 +23,50 @@ use Rattle.world_run.specs.Ends.{IsEndOf}
 use Rattle.world_run.specs.Told.{root_in}
 use Rattle.world_run.proofs.Telling.{closed_tells}
 
-module _ (t : TableSeen) (closed : Closed) (low : 2 ≤ t.plan.side) (high : t.plan.side ≤ 12) (ends : EndsTable t closed) where
+module _ (t : TableSeen) (closed : Closed) (low : 2 ≤ t.plan.side) (high : t.plan.side ≤ 12)
+    (ends : EndsTable t closed) where
   legal : IsLegal (2 ^ t.plan.side) t.models closed.history
-  legal = subst (λ (log : Log). IsLegal (2 ^ t.plan.side) t.models log) (sym ends.history) ends.sound.versions.legal
+  legal = subst (λ (log : Log). IsLegal (2 ^ t.plan.side) t.models log)
+      (sym ends.history) ends.sound.versions.legal
 
   side_is : closed.history.side ≡ t.plan.side
   side_is = log_side t.plan t.models closed.history legal
 
-  pub roots_tell : (roots : List (Option Name)) → ((v : ℕ) → listed_root roots v ≡ root_in closed.roots.items v) → RootsTellWorlds t.models closed.history (listed_root roots)
+  pub roots_tell : (roots : List (Option Name))
+      → ((v : ℕ) → listed_root roots v ≡ root_in closed.roots.items v)
+      → RootsTellWorlds t.models closed.history (listed_root roots)
   roots_tell roots told =
       let same : root_in closed.roots.items ≡ listed_root roots = λ i v. sym (told v) i in
-      subst (λ (root : ℕ → Option Name). RootsTellWorlds t.models closed.history root) same (closed_tells t closed low high ends).roots_tell
+      subst (λ (root : ℕ → Option Name). RootsTellWorlds t.models closed.history root) same
+      (closed_tells t closed low high ends).roots_tell
 
-  pub numbers_are : (numbers : List ℕ) (n : ℕ) → n ≡ t.plan.side - 2 → numbers ≡ take (n + 1) closed.live → AreNumbers t.models closed.history numbers
+  pub numbers_are : (numbers : List ℕ) (n : ℕ) → n ≡ t.plan.side - 2
+      → numbers ≡ take (n + 1) closed.live → AreNumbers t.models closed.history numbers
   numbers_are numbers n is told =
-      let same : take (levels t.plan) closed.live ≡ numbers = ap (λ (k : ℕ). take k closed.live) (let e : t.plan.side - 1 ≡ n + 1 = omega arith in e) ∙ sym told in
-      subst (λ (ns : List ℕ). AreNumbers t.models closed.history ns) same (closed_tells t closed low high ends).are_numbers
+      let same : take (levels t.plan) closed.live ≡ numbers =
+      ap (λ (k : ℕ). take k closed.live) (let e : t.plan.side - 1 ≡ n + 1 = omega arith in e)
+      ∙ sym told in
+      subst (λ (ns : List ℕ). AreNumbers t.models closed.history ns) same
+      (closed_tells t closed low high ends).are_numbers
 
   pub is_end : IsEndOf t.models closed.history closed
   is_end = record {
     history = refl;
-    numbers = numbers_are (take (top closed.history.side + 1) closed.live) (top closed.history.side) (ap (λ (s : ℕ). s - 2) side_is) refl;
+    numbers = numbers_are (take (top closed.history.side + 1) closed.live)
+        (top closed.history.side) (ap (λ (s : ℕ). s - 2) side_is) refl;
   }
 
 -- ---- sessions that are given up, or come to the end
 
-pub seen_more : (spare more : List PassSeen) (session : PassSeen) (all left : List SavedSession) (saved : SavedSession) (whole : List SessionSeen) → more ≡ spare ++ session ∷ [] → all ≡ saved ∷ left
-    → session_seen session.view ≡ session_seen saved.session.view → sessions_seen spare ++ saved_seen all ≡ whole → sessions_seen more ++ saved_seen left ≡ whole
+pub seen_more : (spare more : List PassSeen) (session : PassSeen) (all left : List SavedSession)
+    (saved : SavedSession) (whole : List SessionSeen) → more ≡ spare ++ session ∷ []
+    → all ≡ saved ∷ left
+    → session_seen session.view ≡ session_seen saved.session.view
+    → sessions_seen spare ++ saved_seen all ≡ whole → sessions_seen more ++ saved_seen left ≡ whole
 seen_more spare more session all left saved whole pushed is same so_far =
     ap (λ (ss : List PassSeen). sessions_seen ss ++ saved_seen left) pushed
-    ∙ ap (λ (zs : List SessionSeen). zs ++ saved_seen left) (map_push (λ (s : PassSeen). session_seen s.view) spare session)
+    ∙ ap (λ (zs : List SessionSeen). zs ++ saved_seen left)
+    (map_push (λ (s : PassSeen). session_seen s.view) spare session)
     ∙ append_assoc (sessions_seen spare) (session_seen session.view ∷ []) (saved_seen left)
     ∙ ap (λ (z : SessionSeen). sessions_seen spare ++ z ∷ saved_seen left) same
     ∙ ap (λ (ss : List SavedSession). sessions_seen spare ++ saved_seen ss) (sym is)
@@ -65,17 +79,27 @@ first_of {X} P x xs ys is all = All-head P x xs (subst (λ (zs : List X). All P 
 
 -- ---- what a run tells whose world was closed
 
-module _ {E : Type 0} (t : TableSeen) (closed : Closed) (low : 2 ≤ t.plan.side) (high : t.plan.side ≤ 12) (ends : EndsTable t closed) where
-  pub ran_ends : (result : Result WorldRan E) → IfOk result (λ r. r.ended ≡ closed) → IfOk result (λ r. IsEndOf t.models r.ended.history r.ended)
-  ran_ends (Ok r) same = subst (λ (c : Closed). IsEndOf t.models c.history c) (sym same) (is_end t closed low high ends)
+module _ {E : Type 0} (t : TableSeen) (closed : Closed) (low : 2 ≤ t.plan.side)
+    (high : t.plan.side ≤ 12) (ends : EndsTable t closed) where
+  pub ran_ends : (result : Result WorldRan E) → IfOk result (λ r. r.ended ≡ closed)
+      → IfOk result (λ r. IsEndOf t.models r.ended.history r.ended)
+  ran_ends (Ok r) same = subst (λ (c : Closed). IsEndOf t.models c.history c) (sym same)
+      (is_end t closed low high ends)
   ran_ends (Err e) same = tt
 
-  pub ran_roots : (result : Result WorldRan E) → IfOk result (λ r. r.ended ≡ closed) → IfOk result (λ r. (v : ℕ) → listed_root r.roots.items v ≡ root_in closed.roots.items v)
+  pub ran_roots : (result : Result WorldRan E) → IfOk result (λ r. r.ended ≡ closed)
+      → IfOk result (λ r. (v : ℕ) → listed_root r.roots.items v ≡ root_in closed.roots.items v)
       → IfOk result (λ r. RootsTellWorlds t.models r.ended.history (listed_root r.roots.items))
-  ran_roots (Ok r) same told = subst (λ (c : Closed). RootsTellWorlds t.models c.history (listed_root r.roots.items)) (sym same) (roots_tell t closed low high ends r.roots.items told)
+  ran_roots (Ok r) same told = subst
+      (λ (c : Closed). RootsTellWorlds t.models c.history (listed_root r.roots.items)) (sym same)
+      (roots_tell t closed low high ends r.roots.items told)
   ran_roots (Err e) same told = tt
 
-  pub ran_numbers : (result : Result WorldRan E) (n : ℕ) → n ≡ t.plan.side - 2 → IfOk result (λ r. r.ended ≡ closed) → IfOk result (λ r. r.numbers.items ≡ take (n + 1) closed.live)
+  pub ran_numbers : (result : Result WorldRan E) (n : ℕ) → n ≡ t.plan.side - 2
+      → IfOk result (λ r. r.ended ≡ closed)
+      → IfOk result (λ r. r.numbers.items ≡ take (n + 1) closed.live)
       → IfOk result (λ r. AreNumbers t.models r.ended.history r.numbers.items)
-  ran_numbers (Ok r) n is same told = subst (λ (c : Closed). AreNumbers t.models c.history r.numbers.items) (sym same) (numbers_are t closed low high ends r.numbers.items n is told)
+  ran_numbers (Ok r) n is same told = subst
+      (λ (c : Closed). AreNumbers t.models c.history r.numbers.items) (sym same)
+      (numbers_are t closed low high ends r.numbers.items n is told)
   ran_numbers (Err e) n is same told = tt

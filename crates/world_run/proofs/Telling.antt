@@ -35,41 +35,57 @@ pub record TellsHistory (models : List Content) (log : Log) (roots : List Root)
 
 -- the root that is listed for a version
 found_here : (r : Root) (roots : List Root) (v : ℕ) → r.version ≡ v → root_in (r ∷ roots) v ≡ r.name
-found_here r roots v e = ap (λ (b : Bool). if b then r.name else root_in roots v) (eq-eqb r.version v e)
+found_here r roots v e =
+    ap (λ (b : Bool). if b then r.name else root_in roots v) (eq-eqb r.version v e)
 
 bool_false : (b : Bool) → (b ≡ true → ⊥) → b ≡ false
 bool_false true h = absurd (h refl)
 bool_false false h = refl
 
-found_later : (r : Root) (roots : List Root) (v : ℕ) → r.version ≢ v → root_in (r ∷ roots) v ≡ root_in roots v
-found_later r roots v other = ap (λ (b : Bool). if b then r.name else root_in roots v) (bool_false (r.version == v) (λ e. other (eqb-true r.version v e)))
+found_later : (r : Root) (roots : List Root) (v : ℕ) → r.version ≢ v
+    → root_in (r ∷ roots) v ≡ root_in roots v
+found_later r roots v other =
+    ap (λ (b : Bool). if b then r.name else root_in roots v)
+    (bool_false (r.version == v) (λ e. other (eqb-true r.version v e)))
 
-named_root : (root : ℕ → Option Name) (roots : List Root) (v : ℕ) → All (λ r. r.name ≡ root r.version) roots → Contains (map (λ r. r.version) roots) v → root_in roots v ≡ root v
+named_root : (root : ℕ → Option Name) (roots : List Root) (v : ℕ)
+    → All (λ r. r.name ≡ root r.version) roots → Contains (map (λ r. r.version) roots) v
+    → root_in roots v ≡ root v
 named_root root [] v named (k, lt, e) = absurd (omega arith)
 named_root root (r ∷ roots) v named listed = elim (cases_eq r.version v) [
-  | inl same ↦ found_here r roots v same ∙ All-head (λ s. s.name ≡ root s.version) r roots named ∙ ap root same
-  | inr other ↦ elim (Contains-append_cases (r.version ∷ []) (map (λ r. r.version) roots) v listed) [
-    | inl here ↦ absurd (other (only here))
-    | inr there ↦ found_later r roots v other ∙ named_root root roots v (All-tail (λ s. s.name ≡ root s.version) r roots named) there
-  ]
+  | inl same ↦ found_here r roots v same ∙ All-head (λ s. s.name ≡ root s.version) r roots named
+      ∙ ap root same
+  | inr other ↦ elim
+      (Contains-append_cases (r.version ∷ []) (map (λ r. r.version) roots) v listed) [
+        | inl here ↦ absurd (other (only here))
+        | inr there ↦ found_later r roots v other
+            ∙ named_root root roots v (All-tail (λ s. s.name ≡ root s.version) r roots named) there
+      ]
 ]
   where
     only : Contains (r.version ∷ []) v → r.version ≡ v
-    only there = All-contains (λ (n : ℕ). r.version ≡ n) (r.version ∷ []) v (All-cons (λ (n : ℕ). r.version ≡ n) r.version [] refl (All-nil (λ (n : ℕ). r.version ≡ n))) there
+    only there = All-contains (λ (n : ℕ). r.version ≡ n) (r.version ∷ []) v
+        (All-cons (λ (n : ℕ). r.version ≡ n) r.version [] refl
+        (All-nil (λ (n : ℕ). r.version ≡ n))) there
 
 -- roots that are the same for kept versions tell the same
-module _ (models : List Content) (log : Log) (root listed : ℕ → Option Name) (same : (v : ℕ) → IsKept log v → listed v ≡ root v) where
+module _ (models : List Content) (log : Log) (root listed : ℕ → Option Name)
+    (same : (v : ℕ) → IsKept log v → listed v ≡ root v) where
   tell_same : RootsTellWorlds models log root → RootsTellWorlds models log listed
   tell_same tells = record {
     no_cell = λ v kept e. tells.no_cell v kept (sym (same v kept) ∙ e);
     no_root = λ v kept none. same v kept ∙ tells.no_root v kept none;
-    same_cells = λ v w first second e. tells.same_cells v w first second (sym (same v first) ∙ e ∙ same w second);
-    same_root = λ v w first second cells. same v first ∙ tells.same_root v w first second cells ∙ sym (same w second);
+    same_cells = λ v w first second e. tells.same_cells v w first second
+        (sym (same v first) ∙ e ∙ same w second);
+    same_root = λ v w first second cells. same v first ∙ tells.same_root v w first second cells
+        ∙ sym (same w second);
   }
 
 -- the first numbers of a list
 first_numbers : (live : List ℕ) (n i : ℕ) → i < n → slice_index (take n live) i ≡ slice_index live i
-first_numbers [] n i lt = ap (λ (xs : List ℕ). slice_index xs i) (let none : take n [] ≡ [] = take_all n [] (omega arith) in none)
+first_numbers [] n i lt =
+    ap (λ (xs : List ℕ). slice_index xs i)
+    (let none : take n [] ≡ [] = take_all n [] (omega arith) in none)
 first_numbers (x ∷ live) zero i lt = absurd (omega arith)
 first_numbers (x ∷ live) (suc n) zero lt = refl
 first_numbers (x ∷ live) (suc n) (suc i) lt = first_numbers live n i (omega arith)
@@ -80,20 +96,29 @@ number_taken [] (suc n) le = absurd (omega arith)
 number_taken (x ∷ live) zero le = refl
 number_taken (x ∷ live) (suc n) le = (let rest = number_taken live n (omega arith) in omega arith)
 
-pub closed_tells : (t : TableSeen) (closed : Closed) → 2 ≤ t.plan.side → t.plan.side ≤ 12 → EndsTable t closed → TellsHistory t.models closed.history closed.roots.items (live_numbers t closed)
+pub closed_tells : (t : TableSeen) (closed : Closed) → 2 ≤ t.plan.side → t.plan.side ≤ 12
+    → EndsTable t closed
+    → TellsHistory t.models closed.history closed.roots.items (live_numbers t closed)
 closed_tells t closed low high ends =
     let state : State = ends.state in
-    let tells : RootsTellWorlds t.models state.log state.root = sound_roots t.plan t.models state low ends.sound in
+    let tells : RootsTellWorlds t.models state.log state.root =
+    sound_roots t.plan t.models state low ends.sound in
     let roots : RootsTellWorlds t.models state.log (root_in closed.roots.items) =
-    tell_same t.models state.log state.root (root_in closed.roots.items) (λ v kept. named_root state.root closed.roots.items v ends.roots.named (ends.roots.all v kept)) tells
+    tell_same t.models state.log state.root (root_in closed.roots.items)
+    (λ v kept. named_root state.root closed.roots.items v ends.roots.named
+    (ends.roots.all v kept)) tells
     in
     let many = ends.live.as_many in
-    let number : length (live_numbers t closed) ≡ top t.plan.side + 1 = (let taken = number_taken closed.live (levels t.plan) (omega arith) in omega arith) in
+    let number : length (live_numbers t closed) ≡ top t.plan.side + 1 =
+    (let taken = number_taken closed.live (levels t.plan) (omega arith) in omega arith) in
     let numbers : AreNumbers t.models state.log (live_numbers t closed) =
     numbers_told t.plan t.models state (live_numbers t closed) low ends.sound ends.idle number
-    (λ level le. first_numbers closed.live (levels t.plan) level (omega arith) ∙ ends.live.each level (omega arith))
+    (λ level le. first_numbers closed.live (levels t.plan) level (omega arith)
+    ∙ ends.live.each level (omega arith))
     in
     record {
-      roots_tell = subst (λ (log : Log). RootsTellWorlds t.models log (root_in closed.roots.items)) (sym ends.history) roots;
-      are_numbers = subst (λ (log : Log). AreNumbers t.models log (live_numbers t closed)) (sym ends.history) numbers;
+      roots_tell = subst (λ (log : Log). RootsTellWorlds t.models log (root_in closed.roots.items))
+          (sym ends.history) roots;
+      are_numbers = subst (λ (log : Log). AreNumbers t.models log (live_numbers t closed))
+          (sym ends.history) numbers;
     }

@@ -3,7 +3,7 @@ use Rattle.std.specs.Prelude.{◌≡◌, ℕ, ◌^◌, ◌<◌, ◌≤◌, Some,
 use Rattle.std.specs.List.{slice_get}
 use Rattle.vox_read.specs.Contents.{Content}
 use Rattle.history_model.specs.Logs.{Log}
-use Rattle.history_model.specs.Moments.{world_has}
+use Rattle.history_model.specs.Stores.{store_has}
 use Rattle.node_words.specs.Plans.{Layout}
 use Rattle.session.specs.Saved.{file_of_box}
 use Rattle.script.specs.Fitting.{SaveFits}
@@ -13,7 +13,7 @@ use Rattle.session_runs.specs.Kept.{KeptSave, kept_at}
 use Rattle.session_runs.specs.Saves.{versions_of}
 use Rattle.session_runs.specs.Seen.{SessionSeen}
 use Rattle.session.specs.Resting.{IsAtRest}
-use Rattle.session.specs.Saves.{HoldsSaves, pinned_versions}
+use Rattle.session.specs.Saves.{HoldsPins, pinned_versions}
 use Rattle.session.specs.Seen.{session_seen}
 use Rattle.world_run.specs.declared.open_runs.SavedSession.{SavedSession}
 use Rattle.world_run.specs.declared.open_runs.SavePlace.{SavePlace}
@@ -25,10 +25,11 @@ pub record RunState : Type 0 where
   pub sessions : List SessionSeen
   pub kept : List KeptSave
 
--- the file of a save: that of its box at its version, by the history that its session saw
+-- the file of a save: that of its box at its version, by the store's cells in the history that its
+-- session saw
 abbrev pub saved_file : List Content → KeptSave → List ℕ
 saved_file models k =
-    file_of_box k.save.part (world_has models k.seen.records k.save.version)
+    file_of_box k.save.part (store_has models k.seen k.save.version)
 
 -- the save stands at this place
 pub record SavesAt (kept : List KeptSave) (k : ℕ) (save : SavedBox) : Type 0 where
@@ -39,7 +40,7 @@ pub record SavesAt (kept : List KeptSave) (k : ℕ) (save : SavedBox) : Type 0 w
 -- made of each save
 pub record IsSaved (w : TableSeen) (s : SavedSession) : Type 0 where
   pub rest : IsAtRest w s.session
-  pub holds : HoldsSaves w (session_seen s.session.view) s.session.view.held s.pins.items
+  pub holds : HoldsPins w s.session.view s.pins.items
   pub versions : pinned_versions s.pins.items ≡ versions_of s.saves.items
   pub fit : All (λ b. SaveFits (2 ^ w.plan.side) b.name b.part) s.saves.items
   pub few : length s.saves.items ≤ 1024

@@ -1,17 +1,16 @@
 -- The work of a session that runs its script.
-use Rattle.std.specs.Prelude.{◌≡◌, ℕ, ◌+◌, ◌^◌, ◌≤◌, List, [], ◌∷◌, All, length, vec_capacity, ⊤}
-use Rattle.script.specs.Fitting.{CommandFits, RisesFrom}
+use Rattle.std.specs.Prelude.{◌≡◌, ℕ, ◌+◌, ◌≤◌, List, [], ◌∷◌, All, length, vec_capacity, ⊤}
+use Rattle.script.specs.Fitting.{RisesFrom}
 use Rattle.script.specs.declared.commands.ScriptLine.{ScriptLine}
 use Rattle.conformance.specs.Saves.{saved_in}
-use Rattle.node_table.specs.Seen.{TableSeen}
 use Rattle.session_runs.specs.Ran.{SessionRan}
 use Rattle.session_runs.specs.Runs.{RunsScript}
 use Rattle.session_runs.specs.Saves.{saves_asked_in, versions_of}
 use Rattle.session_runs.specs.Seen.{none_noted}
 use Rattle.session.specs.Resting.{IsAtRest}
-use Rattle.session.specs.Saves.{HoldsSaves, pinned_versions}
+use Rattle.session.specs.Saves.{HoldsPins, pinned_versions}
 use Rattle.session.specs.Scripts.{IsFresh}
-use Rattle.session.specs.Seen.{of_world, session_seen}
+use Rattle.session.specs.Seen.{AreLinesOf, WorldSeen, of_world, session_seen}
 use Rattle.world_run.specs.declared.rooms.ScriptRoom.{ScriptRoom}
 use Rattle.world_run.specs.declared.works.SessionWork.{SessionWork}
 
@@ -31,26 +30,24 @@ pub record IsRoomFor (script : List ScriptLine) (room : ScriptRoom) : Type 0 whe
 
 -- the session has done nothing, and there is room for all that comes
 pub record MayWork (w : SessionWork) : Type 0 where
-  pub rest : IsAtRest w.world.now w.session
+  pub rest : IsAtRest w.world.now.table w.session
   pub fresh : IsFresh w.session.view
   pub rises : RisesFrom 1 w.script.now
-  pub fit : All (λ l. CommandFits (2 ^ w.world.now.plan.side) w.world.now.models l.command)
-      w.script.now
+  pub fit : AreLinesOf w.world.now w.script.now
   pub room : IsRoomFor w.script.now w.room
 
 -- the session ran its script, and holds what it saved
 pub record Worked (old new : SessionWork) : Type 0 where
   pub saves : new.room.saves ≡ old.room.saves
-  pub rest : IsAtRest old.world.now new.session
+  pub rest : IsAtRest old.world.now.table new.session
   pub ran : (number : ℕ) → old.session.view.numbers ≡ number ∷ [] → RunsScript
       (of_world old.world.now number) old.script.now old.room.answers.items
       new.room.answers.items (session_seen old.session.view) (session_seen new.session.view) []
       (pinned_versions new.room.pins.items)
-  pub holds : HoldsSaves old.world.now (session_seen new.session.view) new.session.view.held
-      new.room.pins.items
+  pub holds : HoldsPins old.world.now.table new.session.view new.room.pins.items
 
 -- the work is that of the session of this number in this world, and of this script
-pub record IsWorkOf (t : TableSeen) (script : List ScriptLine) (number : ℕ) (w : SessionWork)
+pub record IsWorkOf (t : WorldSeen) (script : List ScriptLine) (number : ℕ) (w : SessionWork)
     : Type 0 where
   pub world : w.world.now ≡ t
   pub script_is : w.script.now ≡ script
@@ -59,12 +56,12 @@ pub record IsWorkOf (t : TableSeen) (script : List ScriptLine) (number : ℕ) (w
   pub may : MayWork w
 
 -- it is done
-pub record IsDoneOf (t : TableSeen) (script : List ScriptLine) (number : ℕ) (w : SessionWork)
+pub record IsDoneOf (t : WorldSeen) (script : List ScriptLine) (number : ℕ) (w : SessionWork)
     : Type 0 where
-  pub rest : IsAtRest t w.session
+  pub rest : IsAtRest t.table w.session
   pub ran : SessionRan (of_world t number) script w.room.answers.items none_noted
       (session_seen w.session.view)
-  pub holds : HoldsSaves t (session_seen w.session.view) w.session.view.held w.room.pins.items
+  pub holds : HoldsPins t.table w.session.view w.room.pins.items
   pub versions : pinned_versions w.room.pins.items
       ≡ versions_of (saved_in script w.room.answers.items)
   pub no_save : w.room.saves.items ≡ []
@@ -72,13 +69,13 @@ pub record IsDoneOf (t : TableSeen) (script : List ScriptLine) (number : ℕ) (w
   pub few : saves_asked_in script ≤ 1024
 
 -- the works are those of the sessions from this number on
-abbrev pub AreWorks : TableSeen → ℕ → List (List ScriptLine) → List SessionWork → Type 0
+abbrev pub AreWorks : WorldSeen → ℕ → List (List ScriptLine) → List SessionWork → Type 0
 AreWorks t first [] [] = ⊤
 AreWorks t first (script ∷ scripts) (w ∷ works) =
     IsWorkOf t script first w × AreWorks t (first + 1) scripts works
 AreWorks t first _ _ = ⊥
 
-abbrev pub AreDone : TableSeen → ℕ → List (List ScriptLine) → List SessionWork → Type 0
+abbrev pub AreDone : WorldSeen → ℕ → List (List ScriptLine) → List SessionWork → Type 0
 AreDone t first [] [] = ⊤
 AreDone t first (script ∷ scripts) (w ∷ works) =
     IsDoneOf t script first w × AreDone t (first + 1) scripts works

@@ -36,18 +36,18 @@ pub(crate) fn close_over<R: Wait>(
     world: World<'_>,
     sessions: Vec<SavedSession>,
 ) -> Result<WorldRan, Memory>
-    requires saved { All (IsSaved world) sessions.items }
-    requires all { length sessions.items ≡ world.made }
-    ensures closes { IfOk result (λ r. ClosesWorld world.entry.plan world.entry.models
+    requires saved { All (IsSaved world.table) sessions.items }
+    requires all { length sessions.items ≡ world.table.made }
+    ensures closes { IfOk result (λ r. ClosesWorld world.entry.table.plan world.entry.table.models
         (saved_seen sessions.items) r.ended.history) }
     ensures is_end { IfOk result
-        (λ r. IsEndOf world.entry.models r.ended.history r.ended) }
+        (λ r. IsEndOf world.entry.table.models r.ended.history r.ended) }
     ensures places { IfOk result
         (λ r. length r.ended.history.records < length r.roots.items) }
-    ensures roots { IfOk result (λ r. RootsTellWorlds world.entry.models r.ended.history
+    ensures roots { IfOk result (λ r. RootsTellWorlds world.entry.table.models r.ended.history
         (listed_root r.roots.items)) }
     ensures numbers { IfOk result
-        (λ r. AreNumbers world.entry.models r.ended.history r.numbers.items) }
+        (λ r. AreNumbers world.entry.table.models r.ended.history r.numbers.items) }
 {
     let Ok(room) = Vec::with_capacity(alloc, sessions.len()) else {
         give_up_over(rt, &world, sessions);
@@ -99,7 +99,8 @@ fn roots_by_version(
 ) -> Result<Vec<Option<Name>>, Memory>
     requires { All (λ r. r.version < versions) roots.now }
     ensures many { IfOk result (λ all. length all.items ≡ versions) }
-    ensures roots { IfOk result (λ all. (v : ℕ) → listed_root all.items v ≡ root_in roots.now v) }
+    ensures roots { IfOk result
+        (λ all. (v : ℕ) → listed_root all.items v ≡ root_in roots.now v) }
 {
     let mut all = vec![in alloc; None; versions]?;
     let mut k = roots.len();
@@ -122,7 +123,7 @@ fn first_numbers(alloc: Global, live: &[u32; 11], levels: usize) -> Result<Vec<u
 
 /// Gives back what is held for saves, and gives up the sessions of the world.
 pub(crate) fn give_up_over<R: Wait>(rt: &R, world: &World<'_>, sessions: Vec<SavedSession>)
-    requires saved { All (IsSaved world.now) sessions.items }
+    requires saved { All (IsSaved world.now.table) sessions.items }
 {
     let mut sessions = sessions.into_iter();
     while let Some(saved) = sessions.next() {
@@ -151,10 +152,10 @@ fn unpin_all<R: Wait>(
     sessions: Vec<SavedSession>,
     room: Vec<Session>,
 ) -> Vec<Session>
-    requires saved { All (IsSaved world.now) sessions.items }
+    requires saved { All (IsSaved world.now.table) sessions.items }
     requires none { room.items ≡ [] }
     requires capacity { length sessions.items ≤ vec_capacity room }
-    ensures rest { All (IsAtRest world.now) result.items }
+    ensures rest { All (IsAtRest world.now.table) result.items }
     ensures spare { All (λ s. s.view.held ≡ []) result.items }
     ensures seen { sessions_seen result.items ≡ saved_seen sessions.items }
     ensures many { vec_len result ≡ length sessions.items }
@@ -171,8 +172,8 @@ fn unpin_all<R: Wait>(
 
 // The session, when nothing is held any more.
 fn unpin_one<R: Wait>(rt: &R, world: &World<'_>, saved: SavedSession) -> Session
-    requires saved { IsSaved world.now saved }
-    ensures rest { IsAtRest world.now result }
+    requires saved { IsSaved world.now.table saved }
+    ensures rest { IsAtRest world.now.table result }
     ensures none { result.view.held ≡ [] }
     ensures seen { session_seen result.view ≡ session_seen saved.session.view }
 {

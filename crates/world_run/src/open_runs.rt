@@ -26,8 +26,8 @@ pub(crate) struct SavedSession {
     pub(crate) pins: Vec<Pinned>,
 }
 
-/// A run whose sessions all ran their scripts, all sessions of its world. It holds what was saved, so
-/// that files can be made one at a time, and then its world is closed, or it is given up.
+/// A run whose sessions all ran their scripts, all sessions of its world. It holds what was saved,
+/// so that files can be made one at a time, and then its world is closed, or it is given up.
 pub struct OpenRun<'m> {
     pub(crate) world: World<'m>,
     pub(crate) sessions: Vec<SavedSession>,
@@ -45,14 +45,14 @@ impl<'m> Model for OpenRun<'m> {
     ghost coded = { Prim.hlevel (codes, coded_shape, coded_wanted) };
 
     ghost view = { λ r. record {
-      plan = r.world.plan;
-      models = r.world.models;
+      plan = r.world.table.plan;
+      models = r.world.table.models;
       sessions = saved_seen r.sessions.items;
       kept = kept_in r.sessions.items;
     } };
 
-    ghost invariant = { λ r. All (IsSaved r.world) r.sessions.items
-        × (length r.sessions.items ≡ r.world.made)
+    ghost invariant = { λ r. All (IsSaved r.world.table) r.sessions.items
+        × (length r.sessions.items ≡ r.world.table.made)
         × (length r.sessions.items ≤ 64) };
 }
 
@@ -102,13 +102,13 @@ fn file_in(
     s: &mut SavedSession,
     k: usize,
 ) -> Result<Vec<u8>, Memory>
-    requires saved { IsSaved world.now s.old }
+    requires saved { IsSaved world.now.table s.old }
     requires there { k < length s.old.saves.items }
-    ensures saved { IsSaved world.now s.new }
+    ensures saved { IsSaved world.now.table s.new }
     ensures same { s.new.saves ≡ s.old.saves }
     ensures seen { session_seen s.new.session.view ≡ session_seen s.old.session.view }
     ensures file { IfOk result (λ file. (b : SavedBox) → slice_get s.old.saves.items k ≡ Some b
-        → file.items ≡ saved_file world.now.models
+        → file.items ≡ saved_file world.now.table.models
         (kept_at (session_seen s.old.session.view).log b)) }
 {
     let part = s.saves[k].part;

@@ -1,12 +1,13 @@
 //! Scripts are run in threads.
-ghost use Rattle.std.specs.Prelude.{◌≡◌, ◌^◌, ◌≤◌, [], All, IfOk, length, vec_capacity};
+ghost use Rattle.std.specs.Prelude.{◌≡◌, ◌^◌, ◌≤◌, false, [], All, IfOk, length, vec_capacity};
 ghost use Rattle.vox_read.specs.Contents.{AreModels};
 ghost use Rattle.script.specs.Fitting.{CommandFits, RisesFrom};
 ghost use Rattle.gate_run.specs.Runs.{RanEach};
 ghost use Rattle.node_table.specs.Begins.{AreNewPasses, terms_of};
 ghost use Rattle.session_runs.specs.Kept.{kept_of};
-ghost use Rattle.session_runs.specs.Ran.{SessionsRan};
+ghost use Rattle.session_runs.specs.Ran.{SessionsRanKeeping};
 ghost use Rattle.session.specs.Resting.{IsAtRest};
+ghost use Rattle.session.specs.Seen.{AreLinesOf};
 ghost use Rattle.std.specs.List.{AllZip};
 ghost use Rattle.world_run.specs.Open.{IsSaved, kept_in, saved_seen};
 ghost use Rattle.world_run.specs.Works.{AreDone, AreWorks, IsRoomFor};
@@ -59,13 +60,14 @@ pub fn run_scripts<'m, R: Threads + Wait + Sync, G: Gate + Sync>(
     plan: &Plan,
     models: &'m Models,
     scripts: &[Script],
+    keep: u32,
 ) -> Result<ScriptsRun<'m>, Memory>
     requires models { AreModels models.now }
     requires few { length scripts.now ≤ 64 }
     requires rise { All (RisesFrom 1) scripts.now }
     requires fit { All
-        (All (λ l. CommandFits (2 ^ plan.now.side) models.now l.command)) scripts.now }
-    ensures ran { IfOk result (λ r. SessionsRan plan.now models.now 0 scripts.now
+        (All (λ l. CommandFits false (2 ^ plan.now.side) models.now l.command)) scripts.now }
+    ensures ran { IfOk result (λ r. SessionsRanKeeping keep plan.now models.now 0 scripts.now
         r.transcripts.items r.run.sessions) }
     ensures saved { IfOk result
         (λ r. r.run.kept ≡ kept_of scripts.now r.transcripts.items r.run.sessions) }
@@ -81,7 +83,7 @@ pub fn run_scripts<'m, R: Threads + Wait + Sync, G: Gate + Sync>(
         give_up_rooms(rooms);
         return Err(Memory);
     };
-    match World::begin(alloc, plan, models, scripts.len() as u16) {
+    match World::begin(alloc, plan, models, scripts.len() as u16, keep) {
         Ok((world, begun)) => {
             let outcomes = Outcomes {
                 sessions,
@@ -111,17 +113,16 @@ fn run_in<'m, R: Threads + Wait + Sync, G: Gate + Sync>(
     start: Start,
     scripts: &[Script],
 ) -> Result<ScriptsRun<'m>, Memory>
-    requires begun { HasBegun world scripts.now start }
+    requires begun { HasBegun world.table scripts.now start }
     requires few { length scripts.now ≤ 64 }
     requires rise { All (RisesFrom 1) scripts.now }
-    requires fit { All (All (λ l. CommandFits (2 ^ world.plan.side) world.models l.command))
-        scripts.now }
-    ensures ran { IfOk result (λ r. SessionsRan world.entry.plan world.entry.models 0 scripts.now
-        r.transcripts.items r.run.sessions) }
+    requires fit { All (AreLinesOf world) scripts.now }
+    ensures ran { IfOk result (λ r. SessionsRanKeeping world.entry.keep world.entry.table.plan
+        world.entry.table.models 0 scripts.now r.transcripts.items r.run.sessions) }
     ensures saved { IfOk result
         (λ r. r.run.kept ≡ kept_of scripts.now r.transcripts.items r.run.sessions) }
-    ensures models { IfOk result (λ r. r.run.models ≡ world.entry.models) }
-    ensures plan { IfOk result (λ r. r.run.plan ≡ world.entry.plan) }
+    ensures models { IfOk result (λ r. r.run.models ≡ world.entry.table.models) }
+    ensures plan { IfOk result (λ r. r.run.plan ≡ world.entry.table.plan) }
 {
     let Start {
         sessions,
@@ -156,13 +157,12 @@ fn give_out<'a, 'm>(
     scripts: &'a [Script],
     room: Vec<SessionWork<'a, 'm>>,
 ) -> Vec<SessionWork<'a, 'm>>
-    requires new { AreNewPasses world.now.id (terms_of world.now) sessions.items }
+    requires new { AreNewPasses world.now.table.id (terms_of world.now.table) sessions.items }
     requires many { length sessions.items ≡ length scripts.now }
     requires rooms { AllZip IsRoomFor scripts.now rooms.items }
-    requires rest { All (IsAtRest world.now) sessions.items }
+    requires rest { All (IsAtRest world.now.table) sessions.items }
     requires rise { All (RisesFrom 1) scripts.now }
-    requires fit { All (All (λ l. CommandFits (2 ^ world.now.plan.side) world.now.models
-        l.command)) scripts.now }
+    requires fit { All (AreLinesOf world.now) scripts.now }
     requires empty { room.items ≡ [] }
     requires capacity { length scripts.now ≤ vec_capacity room }
     ensures works { AreWorks world.now 0 scripts.now result.items }
@@ -213,17 +213,17 @@ fn take_in(
 ) -> Outcomes
     requires done { AreDone _world.now 0 scripts.now works.items }
     requires many { length works.items ≡ length scripts.now }
-    requires fit { All (All (λ l. CommandFits (2 ^ _world.now.plan.side) _world.now.models
-        l.command)) scripts.now }
+    requires fit { All (AreLinesOf _world.now) scripts.now }
     requires no_session { outcomes.sessions.items ≡ [] }
     requires no_transcript { outcomes.transcripts.items ≡ [] }
     requires sessions { length scripts.now ≤ vec_capacity outcomes.sessions }
     requires transcripts { length scripts.now ≤ vec_capacity outcomes.transcripts }
-    ensures ran { SessionsRan _world.now.plan _world.now.models 0 scripts.now
-        result.transcripts.items (saved_seen result.sessions.items) }
+    ensures ran { SessionsRanKeeping _world.now.keep _world.now.table.plan
+        _world.now.table.models 0 scripts.now result.transcripts.items
+        (saved_seen result.sessions.items) }
     ensures kept { kept_in result.sessions.items ≡ kept_of scripts.now result.transcripts.items
         (saved_seen result.sessions.items) }
-    ensures saved { All (IsSaved _world.now) result.sessions.items }
+    ensures saved { All (IsSaved _world.now.table) result.sessions.items }
     ensures many { length result.sessions.items ≡ length scripts.now }
 {
     let Outcomes {

@@ -1,10 +1,11 @@
-use Rattle.std.proofs.Common.{◌^◌, sym, subst}
+use Rattle.std.proofs.Common.{ℕ, ◌^◌, sym, subst}
 use Rattle.std.specs.Prelude.{option_copied}
 use Rattle.history_model.specs.declared.questions.Question.{Question}
+use Rattle.history_model.specs.declared.questions.Question.TheVariants.{Colour}
 use Rattle.transcript.specs.declared.answers.Answer.TheVariants as answers
 use Rattle.conformance.specs.Fitting.{QuestionFits}
 use Rattle.world_answers.specs.TellsRoots.{TellsRoot}
-use Rattle.world_answers.proofs.RootTells.{get_told, count_told, bounds_told, faces_told, ray_told}
+use Rattle.world_answers.proofs.RootTells.{get_told, colour_told, count_told, bounds_told, faces_told, ray_told}
 use Rattle.world_answers.proofs.tell.Goals as goal
 
 pub returns-in-Get-clause-tells : goal.returns-in-Get-clause-tells
@@ -13,6 +14,14 @@ returns-in-Get-clause-tells g c =
     let fits = subst (QuestionFits (2 ^ c.args.side)) c.in-Get.is c.requires.fits in
     subst (λ (q : Question). TellsRoot held c.args.side (option_copied c.args.root) q (answers.Is c.get.result)) (sym c.in-Get.is)
     (get_told held c.args.side (option_copied c.args.root) c.in-Get.c c.get.result fits c.get.ensures.value)
+
+pub returns-in-Colour-clause-tells : goal.returns-in-Colour-clause-tells
+returns-in-Colour-clause-tells g c =
+    let held = (g.B.Blocks.seen c.args.store.now).held in
+    let fits = subst (QuestionFits (2 ^ c.args.side)) c.in-Colour.is c.requires.fits in
+    subst (λ (q : Question). TellsRoot held c.args.side (option_copied c.args.root) q (answers.Colour c.tint_of.result)) (sym c.in-Colour.is)
+    (subst (λ (n : ℕ). TellsRoot held c.args.side (option_copied c.args.root) (Colour c.in-Colour.c) (answers.Colour n)) (sym c.tint_of.ensures)
+    (colour_told held c.args.side (option_copied c.args.root) c.in-Colour.c c.get-in-Colour.result fits c.get-in-Colour.ensures.value))
 
 pub returns-in-Count-clause-tells : goal.returns-in-Count-clause-tells
 returns-in-Count-clause-tells g c =

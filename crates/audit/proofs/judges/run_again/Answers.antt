@@ -21,6 +21,6 @@ returns-in-Ok-Some-replay_all-clause-legal g c =
     let models : c.replay_all.new.replay.models ≡ c.args.models = search rules in (
       legal_by c.args.models c.args.log.now few marks follow,
       legal_rerun c.args.log.now c.replay_all.new.replay c.in-Ok-Some-replay_all.ways.items c.in-Ok-Some.table.items
-          records side few ways tells,
+          c.requires.plain records side few ways tells,
       models,
     )

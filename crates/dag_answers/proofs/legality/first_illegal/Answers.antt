@@ -10,8 +10,8 @@ returns c =
     let is : c.as_slice-2.result.now ≡ c.args.history.now.records = search rules in
     let side : c.history.inside.side ≡ c.args.history.now.side = search rules in
     subst (λ (s : ℕ). IfOk c.find_illegal.result (FindsIllegal (2 ^ s) c.args.models.now
-    (record { side = s; records = c.args.history.now.records; marks = c.args.history.now.marks }))) side
+    (record { side = s; coloured = c.args.history.now.coloured; records = c.args.history.now.records; marks = c.args.history.now.marks }))) side
     (subst (λ (rs : List Record). IfOk c.find_illegal.result
     (FindsIllegal (2 ^ c.history.inside.side) c.args.models.now
-    (record { side = c.history.inside.side; records = rs; marks = c.args.history.now.marks }))) is
-    (c.find_illegal.ensures c.args.history.now.marks tells))
+    (record { side = c.history.inside.side; coloured = c.args.history.now.coloured; records = rs; marks = c.args.history.now.marks }))) is
+    (c.find_illegal.ensures c.args.history.now.coloured c.args.history.now.marks tells))

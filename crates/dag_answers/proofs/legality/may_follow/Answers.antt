@@ -3,7 +3,7 @@ use Rattle.history_model.specs.declared.acts.Act.{Act}
 use Rattle.history_model.specs.declared.acts.Act.TheVariants.{Undo, Redo}
 use Rattle.history_model.specs.Logs.{MayFollow}
 use Rattle.history_model.specs.Positions.{first_of}
-use Rattle.undo_trail.specs.Trails.{trail_position}
+use Rattle.undo.specs.Trails.{trail_position}
 use Rattle.dag_answers.specs.Legality.{IsOpen}
 use Rattle.dag_answers.proofs.EndLaws.{undo_follows, redo_follows}
 use Rattle.dag_answers.proofs.legality.may_follow.Goals as goal

@@ -1,9 +1,9 @@
-use Rattle.std.proofs.Common.{rules, ◌≡◌, ◌<◌, ◌≤◌, ◌+◌, ℕ, List, drop, get_or, length, refl, subst, sym, ◌∙◌, arith}
+use Rattle.std.proofs.Common.{rules, ◌≡◌, ◌<◌, ◌≤◌, ◌+◌, ℕ, List, drop, get_or, length, true, false, refl, subst, sym, ◌∙◌, arith}
 use Rattle.std.specs.Prelude.{All}
 use Rattle.vox_read.specs.Contents.{Content}
 use Rattle.history_model.specs.declared.histories.Mark.{Mark}
 use Rattle.history_model.specs.declared.histories.Record.{Record}
-use Rattle.history_model.specs.Logs.{MayFollow}
+use Rattle.history_model.specs.Logs.{MayFollow, suits_tints}
 use Rattle.history_model.specs.Positions.{position_after}
 use Rattle.store_run.specs.Changing.{with_record}
 use Rattle.store_run.specs.Marked.{replayed}
@@ -30,6 +30,12 @@ take-requires-clause-follows g c =
     (may_come c.args.replay.now.models c.args.history.now c.args.due.now c.requires.due
     c.loop-record.record-index c.loop-record.next now any_record c.loop-record.invariant.so_far
     (search rules) c.requires.records)
+
+pub take-requires-clause-plain : goal.take-requires-clause-plain
+take-requires-clause-plain g c =
+    let is : c.deref-record-items.result.now ≡ c.args.history.now.records = search rules in
+    subst (λ (rs : List Record). suits_tints false (get_or rs c.loop-record.record-index any_record).act ≡ true)
+    (sym is) (c.requires.plain.acts c.loop-record.record-index any_record (search rules))
 
 pub returns-in-Err-clause-refused : goal.returns-in-Err-clause-refused
 returns-in-Err-clause-refused g c =

@@ -1,6 +1,6 @@
 use Rattle.std.proofs.Common.{◌≡◌, refl, ◌^◌, ◌≤◌, arith}
 use Rattle.vw_cell.specs.Counts.{cell_at}
-use Rattle.history_model.specs.Worlds.{edited}
+use Rattle.history_model.specs.Stores.{edited_in}
 use Rattle.history_model.proofs.MakingLaws.{same_answers, row_more}
 use Rattle.history_model.proofs.making.is_row_made.Goals as goal
 
@@ -9,9 +9,9 @@ loop-x-preserved g c = λ v w of_v of_w.
     let same = same_answers c.after.result c.is_set-made.result c.if-after-made.false in
     let q = cell_at c.loop-x.x c.args.y c.args.z in
     let of_after : c.after.result ≡ w q = of_w.each q c.after.result c.after.ensures in
-    let of_made : c.is_set-made.result ≡ edited c.args.models.now c.args.act.now v q =
+    let of_made : c.is_set-made.result ≡ edited_in (2 ^ c.args.side) c.args.models.now c.args.act.now v q =
     c.is_set-made.ensures v of_v in
-    let here : w q ≡ edited c.args.models.now c.args.act.now v q = cc in
+    let here : w q ≡ edited_in (2 ^ c.args.side) c.args.models.now c.args.act.now v q = cc in
     row_more (2 ^ c.args.side) c.args.models.now c.args.act.now v w c.args.y c.args.z c.loop-x.x
     (c.loop-x.invariant v w of_v of_w)
     here

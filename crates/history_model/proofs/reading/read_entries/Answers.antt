@@ -25,6 +25,6 @@ returns-then-eq-clause-refused c =
 pub returns-in_err-add_entry-clause-refused : goal.returns-in_err-add_entry-clause-refused
 returns-in_err-add_entry-clause-refused c =
     let p = err_from_is_err_and c.from_residual.result c.from_residual.ensures.1 in
-    let fact : RefusesLines c.in_err-add_entry.field-0.0 (begun c.args.side ++ lines c.args.entries.now) =
+    let fact : RefusesLines c.in_err-add_entry.field-0.0 (begun c.args.coloured c.args.side ++ lines c.args.entries.now) =
     entry_unfit c.in_err-add_entry.field-0.0 c.loop-line.history _ (lines c.loop-line.rest.now) c.in-Some.line.now c.in-Some.after.now c.loop-line.invariant.told c.loop-line.invariant.lined c.in-Some.ensures.lines (sym c.eq.ensures ∙ c.if-eq.false) c.in_err-add_entry.ensures in
-    rw p.1 (subst (λ (fault : JournalFault). RefusesLines fault (begun c.args.side ++ lines c.args.entries.now)) (sym p.2) fact)
+    rw p.1 (subst (λ (fault : JournalFault). RefusesLines fault (begun c.args.coloured c.args.side ++ lines c.args.entries.now)) (sym p.2) fact)

@@ -1,4 +1,4 @@
-use Rattle.history_model.specs.Moments.{world_has}
+use Rattle.history_model.specs.Stores.{store_has}
 use Rattle.block_contents.specs.Aligned.{world_block}
 use Rattle.block_contents.specs.Versions.{IsKept}
 use Rattle.reporting.proofs.RootLaws.{sound_roots}
@@ -10,6 +10,6 @@ pub returns : goal.returns
 returns c = record {
   roots = sound_roots;
   numbers = numbers_told;
-  one_number = λ models log level a b. one_number (world_block log.side) (λ v. world_has models log.records v) (IsKept log) level a b;
+  one_number = λ models log level a b. one_number (world_block log.side) (λ v. store_has models log v) (IsKept log) level a b;
   one_report = one_report;
 }

@@ -5,4 +5,6 @@ use Rattle.script_files.proofs.runs.inputs_of.Given as goal
 
 abbrev pub invariant-loop-script : goal.invariant-loop-script
 invariant-loop-script l =
-    l.inputs.items ≡ record { name = l.order.file; limit = vox_limit } ∷ map script_input (map (λ name. name.now) (take l.script-index l.scripts))
+    l.inputs.items
+    ≡ record { name = l.order.file; limit = vox_limit } ∷ map script_input
+    (map (λ name. name.now) (take l.script-index l.scripts))

@@ -6,4 +6,5 @@ use Rattle.script_files.proofs.runs.transcript_names.Given as goal
 
 abbrev pub invariant-loop-script : goal.invariant-loop-script
 invariant-loop-script l =
-    map string_bytes l.names.items ≡ map transcript_name (map (λ name. name.now) (take l.script-index l.scripts))
+    map string_bytes l.names.items
+    ≡ map transcript_name (map (λ name. name.now) (take l.script-index l.scripts))

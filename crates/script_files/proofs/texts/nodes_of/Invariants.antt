@@ -4,4 +4,5 @@ use Rattle.std.specs.List.{sum}
 use Rattle.script_files.proofs.texts.nodes_of.Given as goal
 
 abbrev pub invariant-loop-number : goal.invariant-loop-number
-invariant-loop-number l = (l.nodes ≡ sum (take l.number-index l.numbers)) × (l.nodes ≤ l.number-index * 2 ^ 32)
+invariant-loop-number l =
+    (l.nodes ≡ sum (take l.number-index l.numbers)) × (l.nodes ≤ l.number-index * 2 ^ 32)

@@ -4,4 +4,5 @@ use Rattle.transcript.specs.Lines.{transcript_of}
 use Rattle.script_files.proofs.texts.transcript_texts.Given as goal
 
 abbrev pub invariant-loop-transcript : goal.invariant-loop-transcript
-invariant-loop-transcript l = l.texts.items ≡ map transcript_of (take l.transcript-index l.transcripts)
+invariant-loop-transcript l =
+    l.texts.items ≡ map transcript_of (take l.transcript-index l.transcripts)

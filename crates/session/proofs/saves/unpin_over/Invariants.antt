@@ -7,10 +7,10 @@ use Rattle.session.proofs.saves.unpin_over.Given as goal
 
 abbrev pub invariant-loop-pin : goal.invariant-loop-pin
 invariant-loop-pin g l = record {
-  rest : IsAtRest l.world l.s;
+  rest : IsAtRest l.world.table l.s;
   same : SamePass l.fn.s l.s;
   seen : session_seen l.s.view ≡ session_seen l.fn.s.view;
-  holds : HoldsSaves l.world (session_seen l.s.view) l.s.view.held l.saves.items;
+  holds : HoldsSaves l.world.table (session_seen l.s.view) l.s.view.held l.saves.items;
   few : length l.saves.items ≤ 3900;
 }
 

@@ -1,5 +1,5 @@
-use Rattle.std.proofs.Common.{arith, rules}
-use Rattle.session.specs.Seen.{session_seen}
+use Rattle.std.proofs.Common.{ap, arith, rules}
+use Rattle.session.specs.Seen.{WorldSeen, session_seen}
 use Rattle.session.proofs.DeskLaws.{desk_begins, script_holds, script_ran, script_rests, script_same}
 use Rattle.session.proofs.scripts.run_over.Goals as goal
 
@@ -7,11 +7,11 @@ pub run_lines-requires-clause-stands : goal.run_lines-requires-clause-stands
 run_lines-requires-clause-stands g c =
     let few = c.min-most.ensures in
     let room = c.capacity.ensures in
-    desk_begins c.args.world.now c.number-number.result c.min-most.result c.args.s.now c.args.saves.now.items _ c.requires.rest c.number-number.ensures c.requires.fresh.held c.requires.none (omega arith) (omega arith)
+    desk_begins c.args.world.now.table c.number-number.result c.min-most.result c.args.s.now c.args.saves.now.items _ c.requires.rest c.number-number.ensures c.requires.fresh.held c.requires.none (omega arith) (omega arith)
 
 pub returns-clause-rest : goal.returns-clause-rest
 returns-clause-rest g c =
-    script_rests c.args.world.now c.run_lines.new.desk.world.now c.run_lines.new.desk.session.now _ c.run_lines.ensures.rests.world (search rules) c.run_lines.ensures.stands.rest
+    script_rests c.args.world.now.table c.run_lines.new.desk.world.now.table c.run_lines.new.desk.session.now _ (ap (λ (w : WorldSeen). w.table) c.run_lines.ensures.rests.world) (search rules) c.run_lines.ensures.stands.rest
 
 pub returns-clause-same : goal.returns-clause-same
 returns-clause-same g c =
@@ -24,6 +24,6 @@ returns-clause-ran g c =
 
 pub returns-clause-holds : goal.returns-clause-holds
 returns-clause-holds g c =
-    script_holds c.args.world.now c.run_lines.new.desk.world.now (session_seen c.run_lines.new.desk.session.now.view) _ c.run_lines.new.desk.session.now.view.held _ c.run_lines.new.desk.saves.now.items _
-    c.run_lines.ensures.rests.world (search rules) (search rules) (search rules)
+    script_holds c.args.world.now.table c.run_lines.new.desk.world.now.table (session_seen c.run_lines.new.desk.session.now.view) _ c.run_lines.new.desk.session.now.view.held _ c.run_lines.new.desk.saves.now.items _
+    (ap (λ (w : WorldSeen). w.table) c.run_lines.ensures.rests.world) (search rules) (search rules) (search rules)
     c.run_lines.ensures.stands.holds

@@ -24,4 +24,4 @@ returns-in-Some-clause-full g c =
 
 pub returns-in-None-clause-grows : goal.returns-in-None-clause-grows
 returns-in-None-clause-grows g c =
-    no_stamp_grows (g.N.Blocks.seen c.args.store.now) (g.N.Blocks.seen c.rebuild_act.new.store) c.args.side (option_copied c.args.old) c.args.models.now c.args.act c.rebuild_act.result (sym c.in-None.ensures) c.rebuild_act.ensures.grows
+    no_stamp_grows (g.N.Blocks.seen c.args.store.now) (g.N.Blocks.seen c.rebuild_act.new.store) c.args.side (option_copied c.args.old) c.args.models.now c.args.act c.rebuild_act.result (sym c.in-None.ensures) c.requires.plain c.rebuild_act.ensures.grows

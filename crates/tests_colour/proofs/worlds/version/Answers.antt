@@ -1,7 +1,7 @@
 use Rattle.std.proofs.Common.{arith, ◌-◌, ◌^◌}
 use Rattle.std.specs.Prelude.{option_copied}
 use Rattle.edit_cells.proofs.WorldLaws.{root_shown}
-use Rattle.tints.specs.Parts.{after_parts, part_number}
+use Rattle.history_model.specs.Parts.{after_parts, part_number}
 use Rattle.colour.specs.Inks.{parts_in}
 use Rattle.test_worlds.proofs.RootLaws.{only_root, only_number, rebuilt_two, same_only}
 use Rattle.tests_colour.proofs.worlds.version.Goals as goal

@@ -6,7 +6,8 @@ use Rattle.world_run.proofs.accepted.number_of_saves.Goals as goal
 
 pub loop-line-preserved : goal.loop-line-preserved
 loop-line-preserved c =
-    let next = asked_next c.args.lines.now c.loop-line.line-index c.line-item.result c.loop-line-test.true c.line-item.is in
+    let next =
+    asked_next c.args.lines.now c.loop-line.line-index c.line-item.result c.loop-line-test.true c.line-item.is in
     let one = c.saves_asked-number.ensures.value in
     let least = c.saves_asked-number.ensures.few in
     let so_far = c.loop-line.invariant.is in

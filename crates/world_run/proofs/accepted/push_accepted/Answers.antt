@@ -13,7 +13,8 @@ loop-k-init c = record {
 
 pub push_save-requires : goal.push_save-requires
 push_save-requires c =
-    let within = asked_within c.args.lines.now c.loop-k.k c.index-lines-k.result c.loop-k-test.true c.index-lines-k.is in
+    let within =
+    asked_within c.args.lines.now c.loop-k.k c.index-lines-k.result c.loop-k-test.true c.index-lines-k.is in
     let few = c.loop-k.invariant.few in
     let same = c.loop-k.invariant.capacity in
     let room = c.requires.room in
@@ -21,7 +22,8 @@ push_save-requires c =
 
 pub loop-k-preserved : goal.loop-k-preserved
 loop-k-preserved c =
-    let next = asked_next c.args.lines.now c.loop-k.k c.index-lines-k.result c.loop-k-test.true c.index-lines-k.is in
+    let next =
+    asked_next c.args.lines.now c.loop-k.k c.index-lines-k.result c.loop-k-test.true c.index-lines-k.is in
     let few = c.loop-k.invariant.few in
     let more = c.push_save.ensures.len in
     record {

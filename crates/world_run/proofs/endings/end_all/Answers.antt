@@ -6,6 +6,9 @@ use Rattle.world_run.proofs.endings.end_all.Goals as goal
 
 pub loop-session-preserved : goal.loop-session-preserved
 loop-session-preserved c = record {
-  held = All-rest (λ (s : PassSeen). s.view.held ≡ []) c.in-Some.session _ _ c.in-Some.ensures.items c.loop-session.invariant.held;
-  idle = All-rest (λ (s : PassSeen). HasNoTurn s.view) c.in-Some.session _ _ c.in-Some.ensures.items c.loop-session.invariant.idle;
+  held = All-rest
+      (λ (s : PassSeen). s.view.held
+      ≡ []) c.in-Some.session _ _ c.in-Some.ensures.items c.loop-session.invariant.held;
+  idle = All-rest
+      (λ (s : PassSeen). HasNoTurn s.view) c.in-Some.session _ _ c.in-Some.ensures.items c.loop-session.invariant.idle;
 }

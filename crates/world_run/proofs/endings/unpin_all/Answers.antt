@@ -7,7 +7,11 @@ use Rattle.world_run.proofs.EndLaws.{first_of, seen_more}
 use Rattle.world_run.proofs.endings.unpin_all.Goals as goal
 
 pub unpin_one-session-requires : goal.unpin_one-session-requires
-unpin_one-session-requires g c = record { saved = first_of (IsSaved c.args.world.now) c.in-Some.saved _ _ c.in-Some.ensures.items c.loop-saved.invariant.saved }
+unpin_one-session-requires g c =
+    record {
+      saved = first_of
+          (IsSaved c.args.world.now.table) c.in-Some.saved _ _ c.in-Some.ensures.items c.loop-saved.invariant.saved;
+    }
 
 pub loop-saved-preserved : goal.loop-saved-preserved
 loop-saved-preserved g c =
@@ -17,13 +21,15 @@ loop-saved-preserved g c =
     let pushed = c.push_reserved.ensures.len in
     let wide = c.push_reserved.ensures.capacity in
     record {
-      saved = All-rest (IsSaved c.args.world.now) c.in-Some.saved _ _ c.in-Some.ensures.items c.loop-saved.invariant.saved;
+      saved = All-rest
+          (IsSaved c.args.world.now.table) c.in-Some.saved _ _ c.in-Some.ensures.items c.loop-saved.invariant.saved;
       rest =
-          All-same (IsAtRest c.args.world.now) _ _ c.push_reserved.ensures.items
-          (All-push (IsAtRest c.args.world.now) c.loop-saved.spare.items c.unpin_one-session.result c.loop-saved.invariant.rest c.unpin_one-session.ensures.rest);
+          All-same (IsAtRest c.args.world.now.table) _ _ c.push_reserved.ensures.items
+          (All-push (IsAtRest c.args.world.now.table) c.loop-saved.spare.items c.unpin_one-session.result c.loop-saved.invariant.rest c.unpin_one-session.ensures.rest);
       spare =
           All-same (λ (s : PassSeen). s.view.held ≡ []) _ _ c.push_reserved.ensures.items
-          (All-push (λ (s : PassSeen). s.view.held ≡ []) c.loop-saved.spare.items c.unpin_one-session.result c.loop-saved.invariant.spare c.unpin_one-session.ensures.none);
+          (All-push (λ (s : PassSeen). s.view.held
+          ≡ []) c.loop-saved.spare.items c.unpin_one-session.result c.loop-saved.invariant.spare c.unpin_one-session.ensures.none);
       seen = seen_more c.loop-saved.spare.items c.push_reserved.new.self.items c.unpin_one-session.result _ _ c.in-Some.saved _ c.push_reserved.ensures.items c.in-Some.ensures.items c.unpin_one-session.ensures.seen
           c.loop-saved.invariant.seen;
       many = omega arith;

@@ -7,7 +7,8 @@ use Rattle.world_run.proofs.open_runs.number_kept.Goals as goal
 
 pub loop-s-preserved : goal.loop-s-preserved
 loop-s-preserved c =
-    let next = number_first c.args.sessions.now c.loop-s.s-index c.s-item.result c.loop-s-test.true c.s-item.is in
+    let next =
+    number_first c.args.sessions.now c.loop-s.s-index c.s-item.result c.loop-s-test.true c.s-item.is in
     let long = c.s-item.result.saves.ok.0 in
     let so_far = c.loop-s.invariant.is in
     let few = c.loop-s.invariant.few in
@@ -18,4 +19,5 @@ loop-s-preserved c =
 pub returns : goal.returns
 returns c =
     c.loop-s.invariant.is
-    ∙ ap (λ (zs : List SavedSession). length (kept_in zs)) (take_all c.loop-s.s-index c.args.sessions.now c.loop-s-test.false)
+    ∙ ap (λ (zs : List SavedSession). length (kept_in zs))
+    (take_all c.loop-s.s-index c.args.sessions.now c.loop-s-test.false)

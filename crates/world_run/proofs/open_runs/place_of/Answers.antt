@@ -10,7 +10,9 @@ loop-at-init c = record { is = omega arith; inside = c.requires }
 
 pub unreachable-requires : goal.unreachable-requires
 unreachable-requires c =
-    let none = ap (λ (zs : List SavedSession). length (kept_in zs)) (drop_all c.loop-at.at c.args.sessions.now c.loop-at-test.false) in
+    let none =
+    ap (λ (zs : List SavedSession). length (kept_in zs))
+    (drop_all c.loop-at.at c.args.sessions.now c.loop-at-test.false) in
     let nothing : length (kept_in []) ≡ 0 = refl in
     let inside = c.loop-at.invariant.inside in
     absurd (omega arith)
@@ -22,8 +24,10 @@ returns-then-left-number c =
 
 pub loop-at-preserved : goal.loop-at-preserved
 loop-at-preserved c =
-    let first = number_first c.args.sessions.now c.loop-at.at c.index-sessions-at.result c.loop-at-test.true c.index-sessions-at.is in
-    let left = number_left c.args.sessions.now c.loop-at.at c.index-sessions-at.result c.loop-at-test.true c.index-sessions-at.is in
+    let first =
+    number_first c.args.sessions.now c.loop-at.at c.index-sessions-at.result c.loop-at-test.true c.index-sessions-at.is in
+    let left =
+    number_left c.args.sessions.now c.loop-at.at c.index-sessions-at.result c.loop-at-test.true c.index-sessions-at.is in
     let long = c.index-sessions-at.result.saves.ok.0 in
     let e = c.len-number.ensures in
     let same = ap (λ (z : SavedSession). vec_len z.saves) c.index-sessions-at.is in

@@ -3,7 +3,9 @@ use Rattle.world_run.proofs.RoomLaws.{next_room, rooms_empty}
 use Rattle.world_run.proofs.rooms.rooms_of.Goals as goal
 
 pub give_up_rooms-requires : goal.give_up_rooms-requires
-give_up_rooms-requires c = rooms_empty (take c.loop-script.script-index c.args.scripts.now) c.loop-script.rooms.items c.loop-script.invariant.rooms
+give_up_rooms-requires c =
+    rooms_empty
+    (take c.loop-script.script-index c.args.scripts.now) c.loop-script.rooms.items c.loop-script.invariant.rooms
 
 pub loop-script-preserved : goal.loop-script-preserved
 loop-script-preserved c =

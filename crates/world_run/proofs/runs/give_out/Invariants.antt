@@ -12,8 +12,8 @@ abbrev pub invariant-loop-script : goal.invariant-loop-script
 invariant-loop-script l = record {
   works : AreWorks l.world 0 (take l.script-index l.scripts) l.works.items;
   new : (k : ℕ) (s : PassSeen) → slice_get (into_iter_items l.sessions) k ≡ Some s
-      → IsNewPass l.world.id (terms_of l.world) (l.script-index + k) s;
-  rest : All (IsAtRest l.world) (into_iter_items l.sessions);
+      → IsNewPass l.world.table.id (terms_of l.world.table) (l.script-index + k) s;
+  rest : All (IsAtRest l.world.table) (into_iter_items l.sessions);
   many : l.script-index + length (into_iter_items l.sessions) ≡ length l.scripts;
   rooms : AllZip IsRoomFor (drop l.script-index l.scripts) (into_iter_items l.rooms);
   len : vec_len l.works ≡ l.script-index;

@@ -4,13 +4,17 @@ use Rattle.world_run.proofs.Working.{all_may, new_held, works_done, works_many}
 use Rattle.world_run.proofs.runs.run_in.Goals as goal
 
 pub give_up_rooms-requires : goal.give_up_rooms-requires
-give_up_rooms-requires g c = rooms_empty c.args.scripts.now c.args.start.rooms.items c.requires.begun.rooms
+give_up_rooms-requires g c =
+    rooms_empty c.args.scripts.now c.args.start.rooms.items c.requires.begun.rooms
 
 pub end_all-requires-clause-held : goal.end_all-requires-clause-held
-end_all-requires-clause-held g c = new_held c.args.world.id (terms_of c.args.world) c.args.start.sessions.items c.requires.begun.new
+end_all-requires-clause-held g c =
+    new_held c.args.world.table.id
+    (terms_of c.args.world.table) c.args.start.sessions.items c.requires.begun.new
 
 pub run_works-works-requires-clause-may : goal.run_works-works-requires-clause-may
-run_works-works-requires-clause-may g c = λ κs bounds. all_may c.args.world 0 c.args.scripts.now c.give_out-works.result.items c.give_out-works.ensures.works
+run_works-works-requires-clause-may g c =
+    λ κs bounds. all_may c.args.world 0 c.args.scripts.now c.give_out-works.result.items c.give_out-works.ensures.works
 
 pub take_in-sessions-requires-clause-done : goal.take_in-sessions-requires-clause-done
 take_in-sessions-requires-clause-done g c =

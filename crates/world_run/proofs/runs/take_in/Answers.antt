@@ -1,7 +1,5 @@
-use Rattle.std.proofs.Common.{◌∙◌, ◌^◌, List, ap, arith, length, refl, subst, sym}
-use Rattle.std.specs.Prelude.{All}
-use Rattle.script.specs.Fitting.{CommandFits}
-use Rattle.script.specs.declared.commands.ScriptLine.{ScriptLine}
+use Rattle.std.proofs.Common.{◌∙◌, ap, arith, length, refl, subst, sym}
+use Rattle.session.specs.Seen.{AreLinesOf}
 use Rattle.world_run.proofs.Working.{done_left, is_saved, many_answered, next_taken, saves_taken}
 use Rattle.world_run.proofs.runs.take_in.Goals as goal
 
@@ -10,7 +8,8 @@ push_accepted-requires-clause-many c =
     let both =
     done_left c.args._world.now c.args.scripts.now c.loop-script.script-index c.script-item.result _ _ c.in-Some.work c.loop-script-test.true c.script-item.is c.in-Some.ensures.items c.loop-script.invariant.done
     in
-    ap length c.as_slice-in-loop-script.ensures.value ∙ many_answered _ c.script-item.result c.in-Some.work.room.answers.items both.0.ran.lines
+    ap length c.as_slice-in-loop-script.ensures.value
+    ∙ many_answered _ c.script-item.result c.in-Some.work.room.answers.items both.0.ran.lines
     ∙ sym (ap length (c.as_slice.ensures.value ∙ c.script.view_is))
 
 pub loop-script-preserved : goal.loop-script-preserved
@@ -19,13 +18,14 @@ loop-script-preserved c =
     let both =
     done_left c.args._world.now c.args.scripts.now c.loop-script.script-index c.script-item.result _ _ c.in-Some.work c.loop-script-test.true c.script-item.is c.in-Some.ensures.items c.loop-script.invariant.done
     in
-    let fit : All (λ (l : ScriptLine). CommandFits (2 ^ c.args._world.now.plan.side) c.args._world.now.models l.command) c.script-item.result =
-    subst (λ (ls : List ScriptLine). All (λ (l : ScriptLine). CommandFits (2 ^ c.args._world.now.plan.side) c.args._world.now.models l.command) ls) (sym c.script-item.is)
+    let fit : AreLinesOf c.args._world.now c.script-item.result =
+    subst (AreLinesOf c.args._world.now) (sym c.script-item.is)
     (c.requires.fit i c.script-item.result c.loop-script-test.true)
     in
     let saves =
     saves_taken c.script-item.result c.as_slice.result.now c.in-Some.work.room.answers.items c.as_slice-in-loop-script.result.now c.in-Some.work.room.saves.items c.push_accepted.new.saves.items both.0.no_save
-    (c.as_slice.ensures.value ∙ c.script.view_is) c.as_slice-in-loop-script.ensures.value c.push_accepted.ensures
+    (c.as_slice.ensures.value
+    ∙ c.script.view_is) c.as_slice-in-loop-script.ensures.value c.push_accepted.ensures
     in
     let pushed = c.push_reserved.ensures.len in
     let wide = c.push_reserved.ensures.capacity in

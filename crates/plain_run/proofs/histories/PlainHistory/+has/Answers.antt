@@ -1,5 +1,6 @@
-use Rattle.std.proofs.Common.{rules, arith}
-use Rattle.plain_run.proofs.Having.{goes_back, has_told}
+use Rattle.std.proofs.Common.{◌≡◌, ℕ, false, rules, sym, subst, ◌∙◌, arith}
+use Rattle.plain_run.specs.Histories.{plain_world}
+use Rattle.plain_run.proofs.Having.{goes_back, has_none, has_told, has_moved, has_gone}
 use Rattle.plain_run.proofs.histories.PlainHistory.+has.Goals as goal
 
 pub has-requires-in-Gone : goal.has-requires-in-Gone
@@ -9,6 +10,22 @@ has-requires-in-Gone t c =
     let there = c.requires.there in
     (omega (arith, back, c.decreases), (c.requires.are, omega (arith, back, there)))
 
+pub returns-then-version-eq0 : goal.returns-then-version-eq0
+returns-then-version-eq0 t c =
+    let zero : c.args.version ≡ 0 = search rules in
+    subst (λ (v : ℕ). false ≡ plain_world c.args.self.now v c.args.c) (sym zero) (has_none c.args.self.now c.args.c)
+
 pub returns-in-Is : goal.returns-in-Is
 returns-in-Is t c =
     has_told c.args.self.now c.args.version c.index-record.result.now c.args.c (search rules) c.requires.there c.index-record.ensures c.in-Is.set c.in-Is.ensures
+
+pub returns-in-As : goal.returns-in-As
+returns-in-As t c =
+    c.has.ensures
+    ∙ has_moved c.args.self.now c.args.version c.index-record.result.now c.args.c (search rules) c.requires.there c.index-record.ensures c.in-As.from c.in-As.ensures
+
+pub returns-in-Gone : goal.returns-in-Gone
+returns-in-Gone t c =
+    c.has-in-Gone.ensures
+    ∙ has_gone c.args.self.now c.args.version c.index-record.result.now c.args.c (search rules) c.requires.there c.index-record.ensures c.requires.are
+    c.in-Gone.ensures c.index.result.now c.index.ensures

@@ -2,7 +2,7 @@ use Rattle.std.proofs.Common.{rules, sym, subst}
 use Rattle.script.specs.declared.commands.Command.TheVariants.{Edit}
 use Rattle.transcript.specs.declared.answers.Answer.{Answer}
 use Rattle.plain_run.specs.Plain.{RunsOn}
-use Rattle.plain_run.proofs.Changing.{go_nowhere, go_forgotten, go_late, go_done, goes_there}
+use Rattle.plain_run.proofs.Changing.{go_nowhere, go_forgotten, go_late, change_done, goes_there}
 use Rattle.plain_run.proofs.histories.PlainHistory.go.Goals as goal
 
 pub returns-in-None-clause-runs_on : goal.returns-in-None-clause-runs_on
@@ -24,5 +24,5 @@ returns-then-moment-eq-RECORDS-clause-runs_on c =
 
 pub returns-clause-runs_on : goal.returns-clause-runs_on
 returns-clause-runs_on c =
-    λ once. go_done c.args.self.now c.append.new.self c.args.next.session c.args.next.line c.args.next.act once
+    λ once. change_done c.args.self.now c.append.new.self c.args.next.session c.args.next.line c.args.next.act once
     c.append.ensures.plan c.append.ensures.models c.in_ok-append.ensures.grows

@@ -3,18 +3,18 @@ use Rattle.session_runs.specs.Told.{SaveTold}
 use Rattle.session.specs.Saves.{saved_told}
 use Rattle.session.specs.Seen.{of_world, session_seen}
 use Rattle.session.specs.declared.saves.PinnedSave.{PinnedSave}
-use Rattle.version_answers.specs.declared.refusals.PinRefused.{PinRefused}
+use Rattle.versions.specs.declared.refusals.PinRefused.{PinRefused}
 use Rattle.std.proofs.Common.{subst}
 use Rattle.session.proofs.DeskLaws.{desk_goes_on, desk_saves, few_shares, save_sees}
 use Rattle.session.proofs.desks.ScriptDeskSessionCalls.save.Goals as goal
 
 pub pin_box-requires-clause-room : goal.pin_box-requires-clause-room
 pin_box-requires-clause-room g c =
-    few_shares c.args.self.now.world.now c.args.self.now.number c.args.self.now.most c.args.self.now.session.now c.args.self.now.saves.now.items _ c.requires.stands
+    few_shares c.args.self.now.world.now.table c.args.self.now.number c.args.self.now.most c.args.self.now.session.now c.args.self.now.saves.now.items _ c.requires.stands
 
 pub returns-in-Ok-clause-stands : goal.returns-in-Ok-clause-stands
 returns-in-Ok-clause-stands g c =
-    desk_saves c.args.self.now.world.now c.args.self.now.number c.args.self.now.most c.args.self.now.session.now c.args.self.now.saves.now.items _ c.requires.stands c.pin_box.new.s c.in-Ok.field-0.pin c.push_reserved.new.self.items c.requires.room c.pin_box.ensures.rest c.pin_box.ensures.same c.in-Ok.ensures.pinned
+    desk_saves c.args.self.now.world.now.table c.args.self.now.number c.args.self.now.most c.args.self.now.session.now c.args.self.now.saves.now.items _ c.requires.stands c.pin_box.new.s c.in-Ok.field-0.pin c.push_reserved.new.self.items c.requires.room c.pin_box.ensures.rest c.pin_box.ensures.same c.in-Ok.ensures.pinned
     (save_sees (of_world c.args.self.now.world.now c.args.self.now.number) (session_seen c.args.self.now.session.now.view) (session_seen c.pin_box.new.s.view) c.args.version c.args.part (saved_told c.pin_box.result) (c.pin_box.ensures.told c.args.self.now.number)) c.push_reserved.ensures.items _ c.push_reserved.ensures.capacity
 
 pub returns-in-Ok-clause-told : goal.returns-in-Ok-clause-told
@@ -24,7 +24,7 @@ returns-in-Ok-clause-told g c =
 
 pub returns-in-Err-clause-stands : goal.returns-in-Err-clause-stands
 returns-in-Err-clause-stands g c =
-    desk_goes_on c.args.self.now.world.now c.args.self.now.number c.args.self.now.most c.args.self.now.session.now c.args.self.now.saves.now.items _ c.requires.stands c.pin_box.new.s c.pin_box.ensures.rest c.pin_box.ensures.same c.in-Err.ensures.held
+    desk_goes_on c.args.self.now.world.now.table c.args.self.now.number c.args.self.now.most c.args.self.now.session.now c.args.self.now.saves.now.items _ c.requires.stands c.pin_box.new.s c.pin_box.ensures.rest c.pin_box.ensures.same c.in-Err.ensures.held
     (save_sees (of_world c.args.self.now.world.now c.args.self.now.number) (session_seen c.args.self.now.session.now.view) (session_seen c.pin_box.new.s.view) c.args.version c.args.part (saved_told c.pin_box.result) (c.pin_box.ensures.told c.args.self.now.number))
 
 pub returns-in-Err-clause-told : goal.returns-in-Err-clause-told

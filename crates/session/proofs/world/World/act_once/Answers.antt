@@ -1,5 +1,5 @@
-use Rattle.std.proofs.Common.{refl}
-use Rattle.session.proofs.EditLaws.{base_gone, base_room, once_told, pinned_answers, pinned_room, stale_told, two_room}
+use Rattle.std.proofs.Common.{refl, rules}
+use Rattle.session.proofs.EditLaws.{base_back, base_gone, base_room, once_told, pinned_answers, pinned_room, stale_told, two_room}
 use Rattle.session.proofs.ForgetLaws.{knows_back}
 use Rattle.session.proofs.CommitLaws.{held_itself}
 use Rattle.session.proofs.world.World.act_once.Goals as goal
@@ -27,6 +27,14 @@ give_root-requires-in-Err-2-clause-room g c =
     c.attempt.new.s.view c.give_root-in-Err.new.s.view c.in-Err.field-0.root refl
     (held_itself _) c.give_root-in-Err.ensures.gone) c.requires.room
 
+pub give_root-requires-in-Err-2-clause-held : goal.give_root-requires-in-Err-2-clause-held
+give_root-requires-in-Err-2-clause-held g c =
+    base_back c.args.s.now.view c.pin_head-base.new.s.view c.pin_head-base.result.root
+    c.pin_head-base.ensures.gains c.give_root-in-Err.new.s.view _ (search rules)
+    (base_gone c.pin_head-base.new.s.view c.attempt.new.s.view _ c.in-Err.ensures.comes.gains
+    c.attempt.new.s.view c.give_root-in-Err.new.s.view c.in-Err.field-0.root refl
+    (held_itself _) c.give_root-in-Err.ensures.gone)
+
 pub returns-in-Ok-clause-told : goal.returns-in-Ok-clause-told
 returns-in-Ok-clause-told g c =
     once_told c.args.self.now c.args.line c.args.act.now c.in-Ok.answer c.once_answer.result
@@ -45,9 +53,9 @@ returns-in-Err-clause-told g c =
 
 pub returns-in-Ok-clause-knows : goal.returns-in-Ok-clause-knows
 returns-in-Ok-clause-knows g c =
-    knows_back c.args.self.now c.give_root.new.s c.give_root.ensures.rest c.tell.ensures
+    knows_back c.args.self.now.table c.give_root.new.s c.give_root.ensures.rest c.tell.ensures
 
 pub returns-in-Err-clause-knows : goal.returns-in-Err-clause-knows
 returns-in-Err-clause-knows g c =
-    knows_back c.args.self.now c.give_root-in-Err-2.new.s c.give_root-in-Err-2.ensures.rest
+    knows_back c.args.self.now.table c.give_root-in-Err-2.new.s c.give_root-in-Err-2.ensures.rest
     c.tell-in-Err.ensures

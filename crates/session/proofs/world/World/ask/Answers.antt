@@ -6,17 +6,17 @@ use Rattle.session.proofs.world.World.ask.Goals as goal
 
 pub tell_root-answer-requires-clause-root : goal.tell_root-answer-requires-clause-root
 tell_root-answer-requires-clause-root c =
-    pinned_walk c.args.self.now c.args.s.now c.args.p.now _ (search rules) c.requires.rest
+    pinned_walk c.args.self.now.table c.args.s.now c.args.p.now _ (search rules) c.requires.rest
     c.requires.pinned
 
 pub returns-clause-tells : goal.returns-clause-tells
 returns-clause-tells c =
-    pinned_tells c.args.self.now c.args.s.now c.args.p.now _ (search rules) c.requires.rest
+    pinned_tells c.args.self.now.table c.args.s.now c.args.p.now _ (search rules) c.requires.rest
     c.requires.pinned c.args.question.now c.tell_root-answer.result
     c.tell_root-answer.ensures.tells
 
 pub returns-clause-knows : goal.returns-clause-knows
 returns-clause-knows c =
-    knows_back c.args.self.now c.tell_root-answer.new.s
-    (rests_lent c.args.self.now c.args.self.now c.args.s.now c.tell_root-answer.new.s refl
+    knows_back c.args.self.now.table c.tell_root-answer.new.s
+    (rests_lent c.args.self.now.table c.args.self.now.table c.args.s.now c.tell_root-answer.new.s refl
     c.requires.rest c.tell_root-answer.ensures.stays) c.tell.ensures

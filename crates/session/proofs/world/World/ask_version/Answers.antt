@@ -5,7 +5,7 @@ use Rattle.session.proofs.world.World.ask_version.Goals as goal
 
 pub tell_root-answer-requires-clause-root : goal.tell_root-answer-requires-clause-root
 tell_root-answer-requires-clause-root g c =
-    may_walk_as c.args.self.now c.args.s.now c.pin.new.pass c.args.version c.in-Ok.field-0 _
+    may_walk_as c.args.self.now.table c.args.s.now c.pin.new.pass c.args.version c.in-Ok.field-0 _
     (search rules) c.requires.rest c.in-Ok.ensures.looks c.in-Ok.ensures.pinned
 
 pub give_back-requires-clause-room : goal.give_back-requires-clause-room
@@ -37,5 +37,5 @@ returns-in-Err-clause-told g c = λ number.
 
 pub returns-in-Err-clause-knows : goal.returns-in-Err-clause-knows
 returns-in-Err-clause-knows g c =
-    rest_knows c.args.self.now c.args.s.now c.pin.new.pass c.requires.rest
+    rest_knows c.args.self.now.table c.args.s.now c.pin.new.pass c.requires.rest
     c.in-Err.ensures.looks c.tell-in-Err.ensures

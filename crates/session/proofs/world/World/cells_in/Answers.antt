@@ -7,17 +7,17 @@ use Rattle.session.proofs.world.World.cells_in.Goals as goal
 
 pub cells_of_root-listed-requires-clause-root : goal.cells_of_root-listed-requires-clause-root
 cells_of_root-listed-requires-clause-root c =
-    pinned_walk c.args.self.now c.args.s.now c.args.p.now _ (search rules) c.requires.rest
+    pinned_walk c.args.self.now.table c.args.s.now c.args.p.now _ (search rules) c.requires.rest
     c.requires.pinned
 
 pub returns-clause-voxels : goal.returns-clause-voxels
 returns-clause-voxels c =
-    pinned_cells c.args.self.now c.args.s.now c.args.p.now c.requires.rest c.requires.pinned
+    pinned_cells c.args.self.now.table c.args.s.now c.args.p.now c.requires.rest c.requires.pinned
     c.cells_of_root-listed.result c.args.part c.requires.inside c.args.into.now.items
     c.cells_of_root-listed.new.into.items _ (search rules) c.cells_of_root-listed.ensures.voxels
 
 pub returns-clause-knows : goal.returns-clause-knows
 returns-clause-knows c =
-    knows_back c.args.self.now c.cells_of_root-listed.new.s
-    (rests_lent c.args.self.now c.args.self.now c.args.s.now c.cells_of_root-listed.new.s refl
+    knows_back c.args.self.now.table c.cells_of_root-listed.new.s
+    (rests_lent c.args.self.now.table c.args.self.now.table c.args.s.now c.cells_of_root-listed.new.s refl
     c.requires.rest c.cells_of_root-listed.ensures.stays) c.tell.ensures

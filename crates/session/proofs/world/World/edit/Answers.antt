@@ -1,5 +1,5 @@
-use Rattle.std.proofs.Common.{refl}
-use Rattle.session.proofs.EditLaws.{again_answers, base_gone, base_room, pinned_answers, pinned_room, two_few, two_room}
+use Rattle.std.proofs.Common.{refl, rules}
+use Rattle.session.proofs.EditLaws.{again_answers, base_back, base_gone, base_room, pinned_answers, pinned_room, two_few, two_room}
 use Rattle.session.proofs.SurelyLaws.{gets_keeps}
 use Rattle.session.proofs.world.World.edit.Goals as goal
 
@@ -35,6 +35,14 @@ give_root-requires-in-Err-2-clause-room g c =
     (base_gone c.pin_head-base.new.s.view c.attempt.new.s.view _ c.in-Err.ensures.comes.gains
     c.edit_surely-answer.new.s.view c.give_root-in-Err.new.s.view c.in-Err.field-0.root refl
     c.edit_surely-answer.ensures.held c.give_root-in-Err.ensures.gone) c.requires.room
+
+pub give_root-requires-in-Err-2-clause-held : goal.give_root-requires-in-Err-2-clause-held
+give_root-requires-in-Err-2-clause-held g c =
+    base_back c.args.s.now.view c.pin_head-base.new.s.view c.pin_head-base.result.root
+    c.pin_head-base.ensures.gains c.give_root-in-Err.new.s.view _ (search rules)
+    (base_gone c.pin_head-base.new.s.view c.attempt.new.s.view _ c.in-Err.ensures.comes.gains
+    c.edit_surely-answer.new.s.view c.give_root-in-Err.new.s.view c.in-Err.field-0.root refl
+    c.edit_surely-answer.ensures.held c.give_root-in-Err.ensures.gone)
 
 pub returns-in-Ok-clause-told : goal.returns-in-Ok-clause-told
 returns-in-Ok-clause-told g c =

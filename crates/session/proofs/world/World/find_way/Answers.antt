@@ -1,12 +1,13 @@
-use Rattle.std.proofs.Common.{refl, rules}
+use Rattle.std.proofs.Common.{ap, refl, rules}
 use Rattle.session.proofs.GoLaws.{asked_held, asked_looks, asked_there, found_held, found_on, marked_told, nowhere_told, open_shown, way_found, way_gets, way_known, way_looks, way_made, way_open}
 use Rattle.session.proofs.SurelyLaws.{room_still}
 use Rattle.session.proofs.TurnLaws.{has_turn, log_same, log_stays}
+use Rattle.session.specs.Seen.{WorldSeen}
 use Rattle.session.proofs.world.World.find_way.Goals as goal
 
 pub length-at-requires : goal.length-at-requires
 length-at-requires g c =
-    has_turn c.args.self.now _ c.args.s.now _ (search rules) refl c.requires.turn
+    has_turn c.args.self.now.table _ c.args.s.now _ (ap (λ (w : WorldSeen). w.table) c.self.view_is) refl c.requires.turn
 
 pub mark-requires-clause-there : goal.mark-requires-clause-there
 mark-requires-clause-there g c =
@@ -32,7 +33,7 @@ keep_version-root-requires-clause-room g c =
 
 pub returns-in-None-clause-turn : goal.returns-in-None-clause-turn
 returns-in-None-clause-turn g c =
-    log_stays c.args.self.now _ c.args.s.now c.target-lead.new.pass (search rules)
+    log_stays c.args.self.now.table _ c.args.s.now c.target-lead.new.pass (ap (λ (w : WorldSeen). w.table) c.self.view_is)
     c.requires.turn c.target-lead.ensures.turn
     (asked_looks c.args.self.now c.args.act.now c.requires.other c.args.s.now c.length-at.new.pass
     c.target-lead.new.pass c.length-at.result c.target-lead.result.to c.length-at.ensures.same
@@ -40,7 +41,7 @@ returns-in-None-clause-turn g c =
 
 pub returns-in-None-clause-same : goal.returns-in-None-clause-same
 returns-in-None-clause-same g c =
-    log_same c.args.self.now _ c.args.s.now c.target-lead.new.pass (search rules)
+    log_same c.args.self.now.table _ c.args.s.now c.target-lead.new.pass (ap (λ (w : WorldSeen). w.table) c.self.view_is)
     c.requires.turn c.target-lead.ensures.turn.of
     (asked_looks c.args.self.now c.args.act.now c.requires.other c.args.s.now c.length-at.new.pass
     c.target-lead.new.pass c.length-at.result c.target-lead.result.to c.length-at.ensures.same
@@ -67,7 +68,7 @@ returns-in-None-clause-told g c =
 
 pub returns-in-Some-mark-clause-turn : goal.returns-in-Some-mark-clause-turn
 returns-in-Some-mark-clause-turn g c =
-    log_stays c.args.self.now _ c.args.s.now c.mark.new.pass (search rules)
+    log_stays c.args.self.now.table _ c.args.s.now c.mark.new.pass (ap (λ (w : WorldSeen). w.table) c.self.view_is)
     c.requires.turn c.mark.ensures.turn
     (found_on c.args.self.now c.args.act.now c.requires.other c.args.s.now c.length-at.new.pass
     c.target-lead.new.pass c.length-at.result c.target-lead.result.to c.length-at.ensures.same
@@ -76,7 +77,7 @@ returns-in-Some-mark-clause-turn g c =
 
 pub returns-in-Some-mark-clause-same : goal.returns-in-Some-mark-clause-same
 returns-in-Some-mark-clause-same g c =
-    log_same c.args.self.now _ c.args.s.now c.mark.new.pass (search rules)
+    log_same c.args.self.now.table _ c.args.s.now c.mark.new.pass (ap (λ (w : WorldSeen). w.table) c.self.view_is)
     c.requires.turn c.mark.ensures.turn.of
     (found_on c.args.self.now c.args.act.now c.requires.other c.args.s.now c.length-at.new.pass
     c.target-lead.new.pass c.length-at.result c.target-lead.result.to c.length-at.ensures.same
@@ -107,7 +108,7 @@ returns-in-Some-mark-clause-told g c =
 
 pub returns-in-None-mark-clause-turn : goal.returns-in-None-mark-clause-turn
 returns-in-None-mark-clause-turn g c =
-    log_stays c.args.self.now _ c.args.s.now c.keep_version-root.new.pass (search rules)
+    log_stays c.args.self.now.table _ c.args.s.now c.keep_version-root.new.pass (ap (λ (w : WorldSeen). w.table) c.self.view_is)
     c.requires.turn c.keep_version-root.ensures.turn
     (way_looks c.args.self.now c.args.act.now c.requires.other c.args.s.now c.length-at.new.pass
     c.target-lead.new.pass c.length-at.result c.target-lead.result.to c.length-at.ensures.same
@@ -117,7 +118,7 @@ returns-in-None-mark-clause-turn g c =
 
 pub returns-in-None-mark-clause-same : goal.returns-in-None-mark-clause-same
 returns-in-None-mark-clause-same g c =
-    log_same c.args.self.now _ c.args.s.now c.keep_version-root.new.pass (search rules)
+    log_same c.args.self.now.table _ c.args.s.now c.keep_version-root.new.pass (ap (λ (w : WorldSeen). w.table) c.self.view_is)
     c.requires.turn c.keep_version-root.ensures.turn.of
     (way_looks c.args.self.now c.args.act.now c.requires.other c.args.s.now c.length-at.new.pass
     c.target-lead.new.pass c.length-at.result c.target-lead.result.to c.length-at.ensures.same

@@ -15,8 +15,8 @@ returns-in-Ok-clause-told g c = λ number one.
 
 pub returns-in-Ok-clause-knows : goal.returns-in-Ok-clause-knows
 returns-in-Ok-clause-knows g c =
-    knows_back c.args.self.now c.give_back.new.s
-    (rests_back c.args.self.now c.args.s.now c.forget.new.pass c.give_back.new.s c.args.version
+    knows_back c.args.self.now.table c.give_back.new.s
+    (rests_back c.args.self.now.table c.args.s.now c.forget.new.pass c.give_back.new.s c.args.version
     c.args.line c.in-Ok.field-0 c.requires.rest c.in-Ok.ensures.forgets c.in-Ok.ensures.idle
     c.give_back.ensures.stays) c.tell.ensures
 
@@ -28,5 +28,5 @@ returns-in-Err-clause-told g c = λ number one.
 
 pub returns-in-Err-clause-knows : goal.returns-in-Err-clause-knows
 returns-in-Err-clause-knows g c =
-    rest_knows c.args.self.now c.args.s.now c.forget.new.pass c.requires.rest
+    rest_knows c.args.self.now.table c.args.s.now c.forget.new.pass c.requires.rest
     c.in-Err.ensures.looks c.tell-in-Err.ensures

@@ -1,10 +1,11 @@
-use Rattle.std.proofs.Common.{refl, rules}
+use Rattle.std.proofs.Common.{ap, refl}
 use Rattle.session.proofs.TurnLaws.{has_turn, head_gets, head_holds, head_log, head_looks, head_open, head_room, log_same}
+use Rattle.session.specs.Seen.{WorldSeen}
 use Rattle.session.proofs.world.World.keep_head.Goals as goal
 
 pub length-at-requires : goal.length-at-requires
 length-at-requires g c =
-    has_turn c.args.self.now _ c.args.s.now _ (search rules) refl c.requires.turn
+    has_turn c.args.self.now.table _ c.args.s.now _ (ap (λ (w : WorldSeen). w.table) c.self.view_is) refl c.requires.turn
 
 pub keep_version-requires-clause-unmarked : goal.keep_version-requires-clause-unmarked
 keep_version-requires-clause-unmarked g c =
@@ -22,12 +23,12 @@ pub returns-clause-turn : goal.returns-clause-turn
 returns-clause-turn g c =
     head_log c.args.s.now c.length-at.new.pass c.mark-mark.new.pass
     c.length-at.result c.mark-mark.result c.length-at.ensures.same c.length-at.ensures.number
-    c.mark-mark.ensures.looks c.keep_version.new.pass c.keep_version.ensures.only c.args.self.now _ (search rules)
+    c.mark-mark.ensures.looks c.keep_version.new.pass c.keep_version.ensures.only c.args.self.now.table _ (ap (λ (w : WorldSeen). w.table) c.self.view_is)
     c.requires.turn c.keep_version.ensures.turn
 
 pub returns-clause-same : goal.returns-clause-same
 returns-clause-same g c =
-    log_same c.args.self.now _ c.args.s.now c.keep_version.new.pass (search rules)
+    log_same c.args.self.now.table _ c.args.s.now c.keep_version.new.pass (ap (λ (w : WorldSeen). w.table) c.self.view_is)
     c.requires.turn c.keep_version.ensures.turn.of
     (head_looks c.args.s.now c.length-at.new.pass c.mark-mark.new.pass
     c.length-at.result c.mark-mark.result c.length-at.ensures.same c.length-at.ensures.number

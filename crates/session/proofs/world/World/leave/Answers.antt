@@ -1,33 +1,34 @@
-use Rattle.std.proofs.Common.{refl, rules}
+use Rattle.std.proofs.Common.{ap, refl}
 use Rattle.session.proofs.TurnLaws.{has_turn, leave_at, leave_held, leave_rests, leave_same, leave_seen}
+use Rattle.session.specs.Seen.{WorldSeen}
 use Rattle.session.proofs.world.World.leave.Goals as goal
 
 pub length-at-requires : goal.length-at-requires
 length-at-requires c =
-    has_turn c.args.self.now _ c.args.s.now _ (search rules) refl c.requires.turn
+    has_turn c.args.self.now.table _ c.args.s.now _ (ap (λ (w : WorldSeen). w.table) c.self.view_is) refl c.requires.turn
 
 pub returns-clause-rest : goal.returns-clause-rest
 returns-clause-rest c =
-    leave_rests c.args.self.now _ c.args.s.now c.length-at.new.pass c.leave.new.pass
-    (search rules) c.length-at.ensures.same c.requires.turn c.leave.ensures.view c.leave.ensures.of
+    leave_rests c.args.self.now.table _ c.args.s.now c.length-at.new.pass c.leave.new.pass
+    (ap (λ (w : WorldSeen). w.table) c.self.view_is) c.length-at.ensures.same c.requires.turn c.leave.ensures.view c.leave.ensures.of
 
 pub returns-clause-same : goal.returns-clause-same
 returns-clause-same c =
-    leave_same c.args.self.now _ c.args.s.now c.length-at.new.pass c.leave.new.pass
-    (search rules) c.length-at.ensures.same c.requires.turn c.leave.ensures.view c.leave.ensures.of
+    leave_same c.args.self.now.table _ c.args.s.now c.length-at.new.pass c.leave.new.pass
+    (ap (λ (w : WorldSeen). w.table) c.self.view_is) c.length-at.ensures.same c.requires.turn c.leave.ensures.view c.leave.ensures.of
 
 pub returns-clause-seen : goal.returns-clause-seen
 returns-clause-seen c =
-    leave_seen c.args.self.now c.args.self.now c.args.s.now c.length-at.new.pass
+    leave_seen c.args.self.now.table c.args.self.now.table c.args.s.now c.length-at.new.pass
     c.leave.new.pass refl c.length-at.ensures.same c.requires.turn c.leave.ensures.view
 
 pub returns-clause-held : goal.returns-clause-held
 returns-clause-held c =
-    leave_held c.args.self.now c.args.self.now c.args.s.now c.length-at.new.pass
+    leave_held c.args.self.now.table c.args.self.now.table c.args.s.now c.length-at.new.pass
     c.leave.new.pass refl c.length-at.ensures.same c.requires.turn c.leave.ensures.view
 
 pub returns-clause-at : goal.returns-clause-at
 returns-clause-at c =
-    leave_at c.args.self.now c.args.self.now c.args.s.now c.length-at.new.pass
+    leave_at c.args.self.now.table c.args.self.now.table c.args.s.now c.length-at.new.pass
     c.leave.new.pass refl c.length-at.ensures.same c.requires.turn c.leave.ensures.view
     c.length-at.result c.length-at.ensures.number

@@ -11,14 +11,14 @@ pub box_file-requires-clause-root : goal.box_file-requires-clause-root
 box_file-requires-clause-root c =
     subst (λ (z : PassSeen). HoldsRoot z.view.held c.side-side.result (option_copied c.as_ref-root.result))
     (sym c.hand-hand.ensures.session)
-    (pin_root c.args.self.now (session_seen c.args.s.now.view) c.args.s.now.view.held
+    (pin_root c.args.self.now.table (session_seen c.args.s.now.view) c.args.s.now.view.held
     c.args.saves.now c.args.k c.index-saves-k.result c.requires.holds c.requires.there
     c.index-saves-k.is c.side-side.result (option_copied c.as_ref-root.result) (search rules)
     (search rules))
 
 pub returns-clause-file : goal.returns-clause-file
 returns-clause-file c =
-    pin_file c.args.self.now (session_seen c.args.s.now.view) c.args.s.now.view.held
+    pin_file c.args.self.now.table (session_seen c.args.s.now.view) c.args.s.now.view.held
     c.args.saves.now c.args.k c.index-saves-k.result c.requires.holds c.requires.there
     c.index-saves-k.is c.args.part c.box_file.result c.side-side.result
     (option_copied c.as_ref-root.result) c.requires.inside (search rules) (search rules)

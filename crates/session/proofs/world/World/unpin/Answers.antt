@@ -8,4 +8,4 @@ give_root-requires-clause-held g c =
 
 pub returns-clause-knows : goal.returns-clause-knows
 returns-clause-knows g c =
-    knows_back c.args.self.now c.give_root.new.s c.give_root.ensures.rest c.tell.ensures
+    knows_back c.args.self.now.table c.give_root.new.s c.give_root.ensures.rest c.tell.ensures

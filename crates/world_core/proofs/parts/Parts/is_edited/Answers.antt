@@ -5,7 +5,7 @@ use Rattle.node_shapes.specs.declared.names.Name.{Name}
 use Rattle.history_model.specs.Making.{MayMake}
 use Rattle.block_contents.specs.Aligned.{top}
 use Rattle.block_contents.proofs.WorldBlocks.{world_wide}
-use Rattle.entry_lists.specs.Reads.{keys_in}
+use Rattle.world_core.specs.Reads.{keys_in}
 use Rattle.world_core.specs.Kept.{stored}
 use Rattle.world_core.specs.Shown.{world_of}
 use Rattle.world_core.specs.Stored.{root_in}

@@ -1,0 +1,169 @@
+-- Blocks of a store of tints: their octants, and blocks of which nothing changes.
+use Rattle.std.proofs.Common.{◌≡◌, ◌≢◌, ℕ, zero, suc, ◌+◌, ◌-◌, ◌<◌, ◌≤◌, ◌==◌, false, Option, List, refl, sym, ◌∙◌, ap, subst, arith}
+use Rattle.std.specs.Int.{bit_at}
+use Rattle.node_shapes.specs.declared.names.Name.{Name}
+use Rattle.node_shapes.specs.Shape.{Leaf, bits_of, bit_number, has}
+use Rattle.node_shapes.specs.Tree.{Tree, shape_of}
+use Rattle.node_words.proofs.HeldLaws.{Keeps}
+use Rattle.block_walk.specs.Roots.{HasBlock, IsOctantOf, ForBlock}
+use Rattle.cell_shapes.specs.CellShapes.{Cells, SameIn, no_cells, octant_cells}
+use Rattle.edit_cells.specs.declared.tasks.Whole.{Whole}
+use Rattle.edit_cells.specs.Tasks.{Making, MakesCells, IsWhole, MakeAlike}
+use Rattle.edit_cells.specs.Paints.{whole_of_old}
+use Rattle.edit_cells.proofs.PaintLaws.{old_block, old_has, paints_octant, paints_missed}
+use Rattle.colour.specs.declared.walks.TintTask.{TintTask}
+use Rattle.colour.specs.declared.walks.TintTask.TheVariants.{Plane}
+use Rattle.colour.specs.Walks.{MakesKept, MakesRow, Octants, first_octants, bit_octants, root_octants, makes_tint}
+
+-- ---- a row of octants
+
+pub row_has : (octants : Octants) (old : Option Name) (held : List Tree) (level : ℕ)
+    → MakesCells (MakesRow octants old) held level → HasBlock held level old
+row_has octants old held level (base, cells, keeps, m) = old_has base held level m.tree old keeps m.is_old
+
+-- what is made of the octant that was read
+pub row_octant : (octants : Octants) (old child : Option Name) (base held : List Tree) (level : ℕ)
+    (cells : Cells) (k : ℕ) → k < 8 → Keeps base held → MakesRow octants old base level cells
+    → IsOctantOf held level old k child
+    → octants k child base (level - 1) (octant_cells (level - 1) cells k)
+row_octant octants old child base held level cells k lt keeps m is =
+    subst (λ (n : Option Name). octants k n base (level - 1) (octant_cells (level - 1) cells k))
+    (is m.tree (old_block base held level m.tree old keeps m.is_old)).root (m.each k lt)
+
+-- octants without a plane
+
+root_rest : {P T : Type 0} (task_of : P → ℕ → Option Name → T) (makes : T → Making) (planes : P)
+    (k : ℕ) (old : Option Name) (base : List Tree) (level : ℕ) (cells : Cells) → k ≢ 0 → k ≢ 1
+    → root_octants task_of makes planes k old base level cells → MakesKept old base level cells
+root_rest task_of makes planes zero old base level cells first second m = absurd (first refl)
+root_rest task_of makes planes (suc zero) old base level cells first second m = absurd (second refl)
+root_rest task_of makes planes (suc (suc k)) old base level cells first second m = m
+
+first_rest : {P T : Type 0} (task_of : P → ℕ → Option Name → T) (makes : T → Making)
+    (planes : P) (k : ℕ) (old : Option Name) (base : List Tree) (level : ℕ) (cells : Cells) → k ≢ 0
+    → first_octants task_of makes planes k old base level cells → MakesKept old base level cells
+first_rest task_of makes planes zero old base level cells first m = absurd (first refl)
+first_rest task_of makes planes (suc k) old base level cells first m = m
+
+-- what is made of each octant
+
+module _ {P T : Type 0} (task_of : P → ℕ → Option Name → T) (makes : T → Making) (planes : P)
+    (old child : Option Name) (base held : List Tree) (level : ℕ) (cells : Cells) (k : ℕ)
+    (lt : k < 8) (keeps : Keeps base held) (is : IsOctantOf held level old k child) where
+  pub root_first : k ≡ 0 → MakesRow (root_octants task_of makes planes) old base level cells
+      → MakesRow (first_octants task_of makes planes) child base (level - 1)
+      (octant_cells (level - 1) cells k)
+  root_first e m =
+      subst (λ (j : ℕ). root_octants task_of makes planes j child base (level - 1)
+      (octant_cells (level - 1) cells k)) e
+      (row_octant (root_octants task_of makes planes) old child base held level cells k lt keeps m is)
+
+  pub root_second : k ≡ 1 → MakesRow (root_octants task_of makes planes) old base level cells
+      → MakesRow (bit_octants task_of makes planes) child base (level - 1)
+      (octant_cells (level - 1) cells k)
+  root_second e m =
+      subst (λ (j : ℕ). root_octants task_of makes planes j child base (level - 1)
+      (octant_cells (level - 1) cells k)) e
+      (row_octant (root_octants task_of makes planes) old child base held level cells k lt keeps m is)
+
+  pub root_other : k ≢ 0 → k ≢ 1 → MakesRow (root_octants task_of makes planes) old base level cells
+      → MakesKept child base (level - 1) (octant_cells (level - 1) cells k)
+  root_other first second m =
+      root_rest task_of makes planes k child base (level - 1) (octant_cells (level - 1) cells k)
+      first second
+      (row_octant (root_octants task_of makes planes) old child base held level cells k lt keeps m is)
+
+  pub first_made : (task : T) → task ≡ task_of planes 0 child → k ≡ 0
+      → MakesRow (first_octants task_of makes planes) old base level cells
+      → makes task base (level - 1) (octant_cells (level - 1) cells k)
+  first_made task is_task e m =
+      subst (λ (t : T). makes t base (level - 1) (octant_cells (level - 1) cells k)) (sym is_task)
+      (subst (λ (j : ℕ). first_octants task_of makes planes j child base (level - 1)
+      (octant_cells (level - 1) cells k)) e
+      (row_octant (first_octants task_of makes planes) old child base held level cells k lt keeps m
+      is))
+
+  pub first_other : k ≢ 0 → MakesRow (first_octants task_of makes planes) old base level cells
+      → MakesKept child base (level - 1) (octant_cells (level - 1) cells k)
+  first_other first m =
+      first_rest task_of makes planes k child base (level - 1) (octant_cells (level - 1) cells k)
+      first
+      (row_octant (first_octants task_of makes planes) old child base held level cells k lt keeps m
+      is)
+
+  pub bit_made : (task : T) → task ≡ task_of planes (k + 1) child
+      → MakesRow (bit_octants task_of makes planes) old base level cells
+      → makes task base (level - 1) (octant_cells (level - 1) cells k)
+  bit_made task is_task m =
+      let up : k + 1 ≡ suc k = omega arith in
+      subst (λ (t : T). makes t base (level - 1) (octant_cells (level - 1) cells k))
+      (sym (is_task ∙ ap (λ (j : ℕ). task_of planes j child) up))
+      (row_octant (bit_octants task_of makes planes) old child base held level cells k lt keeps m is)
+
+-- ---- blocks of which nothing changes
+
+pub kept_has : (old : Option Name) (base held : List Tree) (level : ℕ) (cells : Cells)
+    → Keeps base held → MakesKept old base level cells → HasBlock held level old
+kept_has old base held level cells keeps m =
+    old_has base held level m.paints.tree old keeps m.paints.is_old
+
+pub kept_octant : (old child : Option Name) (base held : List Tree) (level : ℕ) (cells : Cells)
+    (k : ℕ) → 1 ≤ level → k < 8 → Keeps base held → MakesKept old base level cells
+    → IsOctantOf held level old k child
+    → MakesKept child base (level - 1) (octant_cells (level - 1) cells k)
+kept_octant old child base held level cells k one lt keeps m is =
+    record {
+      small = omega (arith, m.small);
+      paints = paints_octant base level old child false no_cells no_cells cells k one lt m.paints
+          (sym (is m.paints.tree
+          (old_block base held level m.paints.tree old keeps m.paints.is_old)).root)
+          (record { each = λ x y z p q r. refl });
+    }
+
+pub kept_whole : (old : Option Name) (base : List Tree) (level : ℕ) (cells : Cells) (whole : Whole)
+    → whole ≡ whole_of_old old → MakesKept old base level cells → IsWhole base level cells whole
+kept_whole old base level cells whole e m =
+    subst (λ (w : Whole). IsWhole base level cells w) (sym e)
+    (paints_missed base level old false no_cells cells (record { each = λ x y z p q r. refl })
+    m.paints)
+
+pub kept_bits : (old : Option Name) (base held : List Tree) (cells : Cells) (bits : ℕ)
+    → Keeps base held → MakesKept old base 0 cells
+    → ForBlock held 0 old (λ s. bits ≡ bits_of s) → SameIn 0 (has 0 (Leaf bits)) cells
+unfolding has
+kept_bits old base held cells bits keeps m read =
+    let e : bits ≡ bits_of (shape_of m.paints.tree) =
+    read m.paints.tree (old_block base held 0 m.paints.tree old keeps m.paints.is_old) in
+    record {
+      each = λ x y z p q r.
+          ap (λ (n : ℕ). bit_at n (bit_number x y z) == 1) e ∙ sym (m.paints.shows.each x y z p q r);
+    }
+
+-- ---- the same in two planes
+
+pub planes_alike : {P T : Type 0} (task_of : P → ℕ → Option Name → T) (makes : T → Making)
+    (a b : TintTask P T) (s t : T) → a ≡ Plane s → b ≡ Plane t → MakeAlike (makes s) (makes t)
+    → MakeAlike (makes_tint task_of makes a) (makes_tint task_of makes b)
+planes_alike task_of makes a b s t e f same base level p q m n =
+    same base level p q
+    (subst (λ (u : TintTask _ _). makes_tint task_of makes u base level p) e m)
+    (subst (λ (u : TintTask _ _). makes_tint task_of makes u base level q) f n)
+
+-- a row stands above the leaves
+pub row_above : (octants : Octants) (old : Option Name) (base : List Tree) (cells : Cells)
+    → MakesRow octants old base 0 cells → ⊥
+row_above octants old base cells m = let above = m.above in omega (arith, above)
+
+-- a task under another name
+pub makes_as : {P T : Type 0} (task_of : P → ℕ → Option Name → T) (makes : T → Making)
+    (a b : TintTask P T) (base : List Tree) (level : ℕ) (cells : Cells) → a ≡ b
+    → makes_tint task_of makes a base level cells → makes_tint task_of makes b base level cells
+makes_as task_of makes a b base level cells e m =
+    subst (λ (u : TintTask _ _). makes_tint task_of makes u base level cells) e m
+
+pub some_as : {P T : Type 0} (task_of : P → ℕ → Option Name → T) (makes : T → Making)
+    (a b : TintTask P T) (held : List Tree) (level : ℕ) → a ≡ b
+    → MakesCells (makes_tint task_of makes a) held level
+    → MakesCells (makes_tint task_of makes b) held level
+some_as task_of makes a b held level e (base, cells, keeps, m) =
+    (base, cells, keeps, makes_as task_of makes a b base level cells e m)

@@ -1,0 +1,233 @@
+ghost use Rattle.std.specs.Prelude.{◌≡◌, ◌-◌, ◌<◌, ◌≤◌, ℕ, Option, option_copied};
+ghost use Rattle.node_shapes.specs.declared.names.Name.{Name};
+ghost use Rattle.node_shapes.specs.Weights.{number_of_trees};
+ghost use Rattle.block_walk.specs.Roots.{HoldsRoot};
+ghost use Rattle.edit_walk.specs.Memos.{RecallsHeld};
+ghost use Rattle.colour.specs.Edits.{RebuildsEdit, GrowsByEdit, RefusesEdit};
+ghost use Rattle.cell_shapes.specs.CellShapes.{octant_cells};
+ghost use Rattle.edit_cells.specs.Tasks.{MakesCells, ForCells};
+ghost use Rattle.colour.specs.Walks.{MakesRow, root_octants, first_octants, bit_octants, makes_tint, CellEdit, all_planes, MakesPlanes};
+
+use edit_cells::{Task, Whole, leaf_bits, name_of, octant_name, old_whole};
+use edit_walk::{Memo, Repeats, rebuild_world};
+use node_shapes::Name;
+use node_words::{Blocks, Full, NodeStore, Share, Steps};
+use std::sync::ledger::Ledger;
+use vw_cell::Side;
+
+/// What an act makes of each plane of a store of tints, as a task of the plane's block.
+pub(crate) trait Planes<T: Task>: Copy {
+    ghost task_of: { Self → ℕ → Option Name → T };
+
+    /// The task of a plane, of which this is the old block.
+    fn task(&self, plane: u8, old: Option<Name>) -> T
+        requires plane { plane < 9 }
+        ensures task { result ≡ task_of self.now plane old };
+}
+
+/// What an act makes of a block of a store of tints.
+#[derive(Clone, Copy)]
+pub(crate) enum TintTask<P, T> {
+    /// The root.
+    Root(Option<Name>, P),
+    /// Octant 0 of the root, whose octant 0 is plane 0.
+    Cells(Option<Name>, P),
+    /// Octant 1 of the root, whose octants are the planes of the bits.
+    Bits(Option<Name>, P),
+    /// A block that is in no plane.
+    Kept(Option<Name>),
+    /// A block in a plane.
+    Plane(T),
+}
+
+impl<P: Planes<T>, T: Task> Task for TintTask<P, T> {
+    ghost use Rattle.edit_cells.specs.Tasks.{blocks_in};
+    ghost use Rattle.std.specs.Prelude.{◌-◌};
+    ghost use Rattle.colour.specs.Walks.{makes_tint, tint_lasts};
+
+    ghost makes = { makes_tint P.task_of T.makes };
+
+    ghost lasts = { tint_lasts P.task_of T.makes T.lasts };
+
+    ghost mixed = { λ level t. blocks_in level };
+
+    ghost mixed_in = { λ level t k. blocks_in (level - 1) };
+
+    #[inline(always)]
+    fn octant<B: Blocks>(&self, store: &mut B, level: u8, octant: u8) -> TintTask<P, T> {
+        match self {
+            TintTask::Root(old, planes) => root_octant(store, level, *old, *planes, octant),
+            TintTask::Cells(old, planes) => first_octant(store, level, *old, *planes, octant),
+            TintTask::Bits(old, planes) => bit_octant(store, level, *old, *planes, octant),
+            TintTask::Kept(old) => TintTask::Kept(octant_name(store, level, *old, octant)),
+            TintTask::Plane(task) => TintTask::Plane(task.octant(store, level, octant)),
+        }
+    }
+
+    fn whole(&self, level: u8) -> Whole {
+        match self {
+            TintTask::Root(_, _) => Whole::Mixed,
+            TintTask::Cells(_, _) => Whole::Mixed,
+            TintTask::Bits(_, _) => Whole::Mixed,
+            TintTask::Kept(old) => old_whole(*old),
+            TintTask::Plane(task) => task.whole(level),
+        }
+    }
+
+    fn bits<B: Blocks>(&self, store: &mut B) -> u64 {
+        match self {
+            // These stand above the leaves.
+            TintTask::Root(_, _) => 0,
+            TintTask::Cells(_, _) => 0,
+            TintTask::Bits(_, _) => 0,
+            TintTask::Kept(old) => leaf_bits(store, *old),
+            TintTask::Plane(task) => task.bits(store),
+        }
+    }
+}
+
+// What is made of an octant of the root.
+fn root_octant<P: Planes<T>, T: Task, B: Blocks>(
+    store: &mut B,
+    level: u8,
+    old: Option<Name>,
+    planes: P,
+    octant: u8,
+) -> TintTask<P, T>
+    requires level { 1 ≤ level }
+    requires octant { octant < 8 }
+    requires task { MakesCells (MakesRow (root_octants P.task_of T.makes planes) old)
+        (B.seen store.old).held level }
+    ensures task { ForCells (MakesRow (root_octants P.task_of T.makes planes) old)
+        (B.seen store.old).held level
+        (λ base cells. makes_tint P.task_of T.makes result base (level - 1)
+        (octant_cells (level - 1) cells octant)) }
+    ensures seen { B.seen store.new ≡ B.seen store.old }
+    ensures rests { B.rests store.old store.new }
+{
+    let part = octant_name(store, level, old, octant);
+    if octant == 0 {
+        return TintTask::Cells(part, planes);
+    }
+    if octant == 1 {
+        return TintTask::Bits(part, planes);
+    }
+    TintTask::Kept(part)
+}
+
+// The same of octant 0 of the root.
+fn first_octant<P: Planes<T>, T: Task, B: Blocks>(
+    store: &mut B,
+    level: u8,
+    old: Option<Name>,
+    planes: P,
+    octant: u8,
+) -> TintTask<P, T>
+    requires level { 1 ≤ level }
+    requires octant { octant < 8 }
+    requires task { MakesCells (MakesRow (first_octants P.task_of T.makes planes) old)
+        (B.seen store.old).held level }
+    ensures task { ForCells (MakesRow (first_octants P.task_of T.makes planes) old)
+        (B.seen store.old).held level
+        (λ base cells. makes_tint P.task_of T.makes result base (level - 1)
+        (octant_cells (level - 1) cells octant)) }
+    ensures seen { B.seen store.new ≡ B.seen store.old }
+    ensures rests { B.rests store.old store.new }
+{
+    let part = octant_name(store, level, old, octant);
+    if octant == 0 {
+        return TintTask::Plane(planes.task(0, part));
+    }
+    TintTask::Kept(part)
+}
+
+// The same of octant 1 of the root.
+fn bit_octant<P: Planes<T>, T: Task, B: Blocks>(
+    store: &mut B,
+    level: u8,
+    old: Option<Name>,
+    planes: P,
+    octant: u8,
+) -> TintTask<P, T>
+    requires level { 1 ≤ level }
+    requires octant { octant < 8 }
+    requires task { MakesCells (MakesRow (bit_octants P.task_of T.makes planes) old)
+        (B.seen store.old).held level }
+    ensures task { ForCells (MakesRow (bit_octants P.task_of T.makes planes) old)
+        (B.seen store.old).held level
+        (λ base cells. makes_tint P.task_of T.makes result base (level - 1)
+        (octant_cells (level - 1) cells octant)) }
+    ensures seen { B.seen store.new ≡ B.seen store.old }
+    ensures rests { B.rests store.old store.new }
+{
+    let part = octant_name(store, level, old, octant);
+    TintTask::Plane(planes.task(octant + 1, part))
+}
+
+impl<P: Planes<T>, T: Repeats> Repeats for TintTask<P, T> {
+    #[inline(always)]
+    fn is_same(&self, other: &TintTask<P, T>) -> bool {
+        match self {
+            TintTask::Plane(task) => match other {
+                TintTask::Plane(kept) => task.is_same(kept),
+                _ => false,
+            },
+            _ => false,
+        }
+    }
+
+    #[inline(always)]
+    fn place(&self, level: u8) -> usize {
+        match self {
+            TintTask::Plane(task) => task.place(level),
+            _ => 0,
+        }
+    }
+}
+
+/// A share of the root of the store's world with each plane made by its task, in one walk. Blocks
+/// of planes that are alike are made once, where the memo remembers them.
+pub(crate) fn rebuild_planes<
+    P: Planes<T>,
+    T: Task,
+    M: Memo<TintTask<P, T>>,
+    N: NodeStore,
+    L: Ledger,
+>(
+    store: &mut N,
+    old: Option<&Share>,
+    side: Side,
+    planes: P,
+    memo: &mut M,
+    steps: &mut Steps<L>,
+) -> Result<Option<Share>, Full>
+    requires side { side ≡ (N.seen store.old).plan.side }
+    requires large { 4 ≤ side }
+    requires memo { RecallsHeld (makes_tint P.task_of T.makes) (N.seen store.old).held
+        (M.has memo.old) }
+    requires planes { (edit : CellEdit) × MakesPlanes P.task_of T.makes planes
+        (N.seen store.old).held (side - 2 - 2) edit }
+    requires old { HoldsRoot (N.seen store.old).held side (option_copied old) }
+    requires room { number_of_trees (N.seen store.old).held ≤ 3910 }
+    ensures ok { (edit : CellEdit) → MakesPlanes P.task_of T.makes planes
+        (N.seen store.old).held (side - 2 - 2) edit
+        → RebuildsEdit (N.seen store.old) side (option_copied old.entry) (all_planes side edit)
+        result (N.seen store.new) }
+    ensures grows { (edit : CellEdit) → MakesPlanes P.task_of T.makes planes
+        (N.seen store.old).held (side - 2 - 2) edit
+        → GrowsByEdit (N.seen store.old) side (option_copied old.entry) (all_planes side edit)
+        result (N.seen store.new) }
+    ensures full { (edit : CellEdit) → MakesPlanes P.task_of T.makes planes
+        (N.seen store.old).held (side - 2 - 2) edit
+        → RefusesEdit (N.seen store.old) side (option_copied old.entry) (all_planes side edit)
+        result (N.seen store.new) }
+    ensures rests { N.rests store.old store.new }
+{
+    let task = TintTask::Root(name_of(old), planes);
+    let _held = store.held();
+    let _level = side.root_level();
+    match rebuild_world(store, side, &task, memo, steps) {
+        Ok(share) => Ok(share),
+        Err(e) => Err(e),
+    }
+}

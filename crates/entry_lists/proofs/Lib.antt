@@ -1,4 +1,0 @@
-mod Absent
-pub mod Cells
-mod Counted
-mod Empty

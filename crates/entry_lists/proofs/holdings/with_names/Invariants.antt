@@ -1,7 +1,0 @@
-use Rattle.std.proofs.Common.{◌≡◌, ◌+◌, ℕ, take, sum_by}
-use Rattle.node_shapes.specs.declared.names.Name.{Name}
-use Rattle.core_laws.specs.Counting.{weight}
-use Rattle.entry_lists.proofs.holdings.with_names.Given as goal
-
-abbrev pub invariant-loop-n : goal.invariant-loop-n
-invariant-loop-n l = (f : Name → ℕ) → sum_by f l.names.items ≡ sum_by f l.initial.names.items + sum_by (weight f) (take l.n-index l.some)

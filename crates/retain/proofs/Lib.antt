@@ -1,4 +1,0 @@
-mod Merging
-mod OneList
-mod Lasting
-mod Growing

@@ -1,3 +1,0 @@
-pub mod Retained
-pub mod Passing
-pub mod Statements

@@ -1,0 +1,4 @@
+pub mod Merging
+pub mod OneList
+pub mod Lasting
+mod Growing
