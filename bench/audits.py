@@ -24,6 +24,9 @@ where the world stood on the future, and a redo the other way.
 Agrees: each command has one line, in order; moments never fall; an `ok` is later than all before it; what made a `try` stale
 is later than all before it; each answer is the one of its moment, on plain cells; and the `ok` lines and the `forgot` lines
 are just the records and the marks.
+
+With `--keep k` the version k before each record has a mark at that record or earlier, and the marks are those of the `forgot`
+lines and, for each such version that none of them names, one made at that record, by its session and line.
 """
 
 import os
@@ -390,7 +393,7 @@ def command_fits(command, side):
     return True
 
 
-def slow_audit(journal, scripts, transcripts, buckets):
+def slow_audit(journal, scripts, transcripts, buckets, keep=0):
     """The status and the line that have to come."""
     try:
         side, records, marks = read_journal(journal)
@@ -406,11 +409,17 @@ def slow_audit(journal, scripts, transcripts, buckets):
             read.append(read_transcript(text))
         except Line as fault:
             return 15, f"voxdag: transcript {number} {fault.args[0]}\n"
-    return 0, "yes\n" if agrees(Versions(side, records, marks), scripts, read, buckets) else "no\n"
+    return 0, "yes\n" if agrees(Versions(side, records, marks), scripts, read, buckets, keep) else "no\n"
 
 
-def agrees(versions, scripts, read, buckets):
-    if not versions.legal:
+def fallen(records, keep):
+    """The marks of the versions that fell out of the last ones, by their versions."""
+    return {n - keep: (n - keep, n, *records[n - 1][:2]) for n in range(keep, len(records) + 1)} if keep else {}
+
+
+def agrees(versions, scripts, read, buckets, keep):
+    out = fallen(versions.records, keep)
+    if not versions.legal or any(all(m[0] != v or m[1] > out[v][1] for m in versions.marks) for v in out):
         return False
     shown, forgot = [], []
     for session, (script, lines) in enumerate(zip(scripts, read)):
@@ -423,6 +432,8 @@ def agrees(versions, scripts, read, buckets):
                 shown.append((session, line, (command[0], tuple(command[1]))))
             if answer[0] == "forgot":
                 forgot.append((answer[1], n, session, line))
+    named = {m[0] for m in forgot}
+    forgot += [out[v] for v in out if v not in named]
     return sorted(shown) == sorted(versions.records) and sorted(forgot) == sorted(versions.marks)
 
 
@@ -467,18 +478,24 @@ def one_round(program, folder, rng, changes, tally):
     texts = ["".join(random_line(rng, side, k, i) + "\n" for i in range(rng.randint(1, 12))) for k in range(len(names))]
     store = rng.choice([[], ["--buckets", "1"], ["--buckets", "16"]])
     room = ["--cap", str(rng.choice([2, 8, 256]))] if store else []
+    keep = rng.choice([0, 0, 1, 2, 3, 5])
+    kept = ["--keep", str(keep)] if keep else []
     for name, text in zip(names, texts):
         open(os.path.join(folder, name), "w", encoding="ascii").write(text)
-    words = ["run", "--side", str(side), *store, *room, "--journal", "j", "m.vox", *names]
+    words = ["run", "--side", str(side), *store, *room, *kept, "--journal", "j", "m.vox", *names]
     status, line = run(program, folder, words)
     assert status == 0, (words, status, line)
     inputs = ["j"] + [name + ".out" for name in names]
     left = [open(os.path.join(folder, name), "rb").read() for name in inputs]
     scripts = [commands_of(text) for text in texts]
     buckets = [int(store[1])] * 11 if store else USUAL
-    audit = ["audit", *store, "m.vox", "j", *names]
-    assert slow_audit(left[0], scripts, left[1:], buckets) == (0, "yes\n"), (texts, left)
-    assert run(program, folder, audit) == (0, "yes\n"), (texts, left)
+    audit = ["audit", *rng.choice([[*store, *kept], [*kept, *store]]), "m.vox", "j", *names]
+    assert slow_audit(left[0], scripts, left[1:], buckets, keep) == (0, "yes\n"), (keep, texts, left)
+    assert run(program, folder, audit) == (0, "yes\n"), (keep, texts, left)
+    other = rng.randint(0, 6)
+    want = slow_audit(left[0], scripts, left[1:], buckets, other)
+    got = run(program, folder, ["audit", *store, *(["--keep", str(other)] if other else []), "m.vox", "j", *names])
+    assert got == want, (got, want, keep, other, texts, left)
     for _ in range(changes):
         which = rng.choice([0] + list(range(len(inputs))))
         if not left[which]:
@@ -489,9 +506,9 @@ def one_round(program, folder, rng, changes, tally):
         texts_now[which] = left[which][:at] + bytes([byte]) + left[which][at + 1:]
         with open(os.path.join(folder, inputs[which]), "wb") as file:
             file.write(texts_now[which])
-        want = slow_audit(texts_now[0], scripts, texts_now[1:], buckets)
+        want = slow_audit(texts_now[0], scripts, texts_now[1:], buckets, keep)
         got = run(program, folder, audit)
-        assert got == want, (got, want, texts, texts_now)
+        assert got == want, (got, want, keep, texts, texts_now)
         kind = (want[0], want[1] if want[0] == 0 else "")
         tally[kind] = tally.get(kind, 0) + 1
         with open(os.path.join(folder, inputs[which]), "wb") as file:

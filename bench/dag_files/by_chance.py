@@ -3,9 +3,9 @@
 
     by_chance.py PROGRAM FOLDER [SEED] [ROUNDS] [CHANGES]
 
-Each round runs a script of edits and of questions of its versions with PROGRAM, and has `dag` make the file of its journal. Each
-question of a kept version is asked of the file by `look`: it must put what the transcript has. Of a version that was forgotten,
-or never was, it must say that there is no such place. Then it spoils as many copies of the file as CHANGES says: a byte is
+Each round runs a script of edits and of questions of its versions with PROGRAM, holding all versions or the last ones alone, and
+has `dag` make the file of its journal. Each question of a kept version is asked of the file by `look`: it must put what the
+transcript has. Of a version that was forgotten, or never was, it must say that there is no such place. Then it spoils as many copies of the file as CHANGES says: a byte is
 changed, bytes are cut off or added, an entry is put twice, two stand in each other's places, or a number is one more or less.
 Of each of them `look` is asked again, and status and output must be those of slow_reader.py and of plain cells: the place of
 the first fault, or the answer.
@@ -87,7 +87,9 @@ def one_round(program, folder, chance, changes, tally):
     lines = edits + [f"at {version} {words}" for version, words in asked]
     with open(os.path.join(folder, "s"), "w", encoding="ascii") as file:
         file.write("".join(line + "\n" for line in lines))
-    assert audits.run(program, folder, ["run", "--side", str(side), "--journal", "j", "m.vox", "s"])[0] == 0, lines
+    keep = chance.choice([0, 0, 1, 2, 4])
+    kept = ["--keep", str(keep)] if keep else []
+    assert audits.run(program, folder, ["run", "--side", str(side), *kept, "--journal", "j", "m.vox", "s"])[0] == 0, lines
     assert audits.run(program, folder, ["dag", "m.vox", "j", "d"]) == (0, ""), lines
     with open(os.path.join(folder, "s.out"), encoding="ascii") as file:
         told = [line.split(" ", 2)[2] for line in file.read().splitlines()][len(edits):]

@@ -2,7 +2,7 @@
 """A slow reader of DAG files, written from the rules of docs/DAG_FILES.md alone.
 
     slow_reader.py FILE..        the place of each file's first fault, or `right`
-    slow_reader.py --tables      the numbers that the tests of `tests_dag` compare with
+    slow_reader.py --tables      the numbers that the tests of `tests_store` compare with
 
 A table's number goes over files that differ from a right one in one byte, or that are cut, and
 joins where each is refused: for each answer in turn 31 times what was before, plus the place of
