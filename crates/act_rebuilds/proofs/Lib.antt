@@ -1,2 +1,7 @@
 pub mod StampActs
 pub mod OneAct
+pub mod PlainActs
+pub mod TintedActs
+pub mod ListLaws
+pub mod Rooms
+pub mod Places

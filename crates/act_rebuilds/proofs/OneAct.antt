@@ -6,19 +6,22 @@ use Rattle.node_shapes.specs.declared.names.Name.{Name}
 use Rattle.node_words.specs.declared.shares.Full.{Full}
 use Rattle.node_words.specs.Held.{Seen}
 use Rattle.history_model.specs.declared.acts.Act.{Act}
-use Rattle.act_rebuilds.specs.Acts.{RebuildsAct, GrowsByAct, RefusesAct}
+use Rattle.history_model.specs.Worlds.{edited}
+use Rattle.colour.specs.Edits.{RebuildsEdit, GrowsByEdit, RefusesEdit}
 
 module _ (old new : Seen) (side : ℕ) (root : Option Name) (models : List Content) (act one : Act)
     (result : Result (Option Name) Full) (e : act ≡ one) where
-  pub rebuilds_one : RebuildsAct old side root models one result new
-      → RebuildsAct old side root models act result new
+  pub rebuilds_one : RebuildsEdit old side root (edited models one) result new
+      → RebuildsEdit old side root (edited models act) result new
   rebuilds_one h =
-      subst (λ (a : Act). RebuildsAct old side root models a result new) (sym e) h
+      subst (λ (a : Act). RebuildsEdit old side root (edited models a) result new) (sym e) h
 
-  pub grows_one : GrowsByAct old side root models one result new
-      → GrowsByAct old side root models act result new
-  grows_one h = subst (λ (a : Act). GrowsByAct old side root models a result new) (sym e) h
+  pub grows_one : GrowsByEdit old side root (edited models one) result new
+      → GrowsByEdit old side root (edited models act) result new
+  grows_one h =
+      subst (λ (a : Act). GrowsByEdit old side root (edited models a) result new) (sym e) h
 
-  pub refuses_one : RefusesAct old side root models one result new
-      → RefusesAct old side root models act result new
-  refuses_one h = subst (λ (a : Act). RefusesAct old side root models a result new) (sym e) h
+  pub refuses_one : RefusesEdit old side root (edited models one) result new
+      → RefusesEdit old side root (edited models act) result new
+  refuses_one h =
+      subst (λ (a : Act). RefusesEdit old side root (edited models a) result new) (sym e) h

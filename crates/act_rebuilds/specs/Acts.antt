@@ -1,33 +1,52 @@
--- What carrying out an act on the root of a world leaves, for each outcome.
-use Rattle.std.specs.Prelude.{ℕ, ◌-◌, Option, List, Result, IfOk, IfErr, OnOk}
+-- What carrying out an act on the root of a store leaves, for each outcome.
+use Rattle.std.specs.Prelude.{ℕ, ◌-◌, ◌≤◌, ◌^◌, Option, List, Result, IfOk, IfErr, OnOk, ⊤}
 use Rattle.vox_read.specs.Contents.{Content}
 use Rattle.node_shapes.specs.declared.names.Name.{Name}
+use Rattle.node_shapes.specs.Shape.{Shape}
 use Rattle.node_words.specs.declared.shares.Full.{Full}
 use Rattle.node_words.specs.Held.{Seen}
-use Rattle.node_words.specs.Gathering.{Grows, Fails}
 use Rattle.history_model.specs.declared.acts.Act.{Act}
-use Rattle.history_model.specs.Worlds.{edited}
-use Rattle.edit_stamp.specs.Worlds.{ForEdited, Rebuilt, world_shape}
+use Rattle.history_model.specs.declared.acts.Act.TheVariants.{Tint}
+use Rattle.history_model.specs.Worlds.{World}
+use Rattle.history_model.specs.Stores.{edited_in, edit_parts, edit_part_number}
+use Rattle.edit_stamp.specs.Worlds.{ForEdited, Rebuilt}
+use Rattle.colour.specs.Made.{IsOfParts, GrowsBy, FailsBy, ForShown}
 
--- a share came of the root of what the act makes of each world that the root shows
+-- a store of this side, told by its exponent, is large enough for the act: a tinted one wants 16
+-- cells or more
+abbrev pub IsLargeFor : Act → ℕ → Type 0
+IsLargeFor (Tint t) side = 4 ≤ side
+IsLargeFor act side = ⊤
+
+-- how many trees may be held before the act: a tinted one holds a root of its own between its parts
+abbrev pub room_for : Act → ℕ
+room_for (Tint t) = 3909
+room_for act = 3910
+
+-- a share came of the root of what the act makes of the cells of each store that the root shows
 abbrev pub RebuildsAct : Seen → ℕ → Option Name → List Content → Act → Result (Option Name) Full
     → Seen → Type 0
 RebuildsAct old side root models act result new =
     IfOk result
-    (λ r. ForEdited old side root (edited models act) (λ world. Rebuilt (side - 2) world r old new))
+    (λ r. ForEdited old side root (edited_in (2 ^ side) models act)
+    (λ world. Rebuilt (side - 2) world r old new))
 
--- parts of its canonical shape may have been made, and nothing met a full bucket
+-- the act wants the shape: it is a part of the canonical shape of what one of its parts leaves
+abbrev pub IsOfAct : ℕ → List Content → Act → World → Shape → Type 0
+IsOfAct side models act before =
+    IsOfParts (side - 2) (edit_parts (2 ^ side) models act) (edit_part_number act) before
+
+-- such shapes may have been made, and nothing met a full bucket
 abbrev pub GrowsByAct : Seen → ℕ → Option Name → List Content → Act → Result (Option Name) Full
     → Seen → Type 0
 GrowsByAct old side root models act result new =
     OnOk result
-    (ForEdited old side root (edited models act)
-    (λ world. Grows (world_shape (side - 2) world) old new))
+    (ForShown old side root (λ before. GrowsBy (IsOfAct side models act before) old new))
 
--- a part of it met this full bucket, and the store holds what it held
+-- such a shape met this full bucket, and the store holds what it held
 abbrev pub RefusesAct : Seen → ℕ → Option Name → List Content → Act → Result (Option Name) Full
     → Seen → Type 0
 RefusesAct old side root models act result new =
     IfErr result
-    (λ e. ForEdited old side root (edited models act)
-    (λ world. Fails (world_shape (side - 2) world) e.level e.bucket old new))
+    (λ e. ForShown old side root
+    (λ before. FailsBy (IsOfAct side models act before) e.level e.bucket old new))

@@ -1,14 +1,20 @@
-//! One editing act carried out on the root of a version, over any store of nodes.
+//! One editing act carried out on the root of a version, over any store of nodes, of a world of
+//! plain cells and of one whose cells have tints.
 //!
 //! Whatever the act, the contract is one: what its cells are, what joined the entries made, and
 //! what a full bucket leaves.
 #![tactic(auto)]
 
 mod drawn;
+mod plain;
 mod rebuild;
+mod tinted;
 
-pub use drawn::{DrawnModel, draw_models};
+pub use colour::TintStencil;
+pub use drawn::{DrawnModel, DrawnModels, TintedModel, draw_models};
 pub use edit_copy::{CopyTask, copy_may_repeat, rebuild_copy_with};
 pub use edit_ops::{BallTask, BoxTask, box_may_repeat, rebuild_ball_with, rebuild_box_with};
 pub use edit_stamp::{Stencil, rebuild_stamp};
+pub use plain::rebuild_plain;
 pub use rebuild::rebuild_act;
+pub use tinted::rebuild_tinted;

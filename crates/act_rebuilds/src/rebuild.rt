@@ -1,39 +1,65 @@
-ghost use Rattle.std.specs.Prelude.{◌≡◌, ◌≤◌, ◌^◌, ℕ, true, false, Some, List, option_copied};
-ghost use Rattle.std.specs.List.{slice_get};
-ghost use Rattle.vw_cell.specs.Places.{FitsAt};
-ghost use Rattle.vox_read.specs.Contents.{Content};
+ghost use Rattle.std.specs.Prelude.{◌≡◌, ◌≤◌, ◌^◌, true, option_copied};
 ghost use Rattle.node_shapes.specs.Weights.{number_of_trees};
 ghost use Rattle.history_model.specs.Worlds.{is_edit};
 ghost use Rattle.history_model.specs.Logs.{FitsWorld, suits_tints};
-ghost use Rattle.history_model.specs.declared.acts.Act.TheVariants.{Stamp};
 ghost use Rattle.edit_stamp.specs.Roots.{HoldsRoot};
-ghost use Rattle.act_rebuilds.specs.Acts.{RebuildsAct, GrowsByAct, RefusesAct};
+ghost use Rattle.act_rebuilds.specs.Acts.{IsLargeFor, room_for, RebuildsAct, GrowsByAct, RefusesAct};
 
-use crate::drawn::DrawnModel;
-use edit_copy::rebuild_copy;
-use edit_ops::{rebuild_ball, rebuild_box};
-use edit_stamp::rebuild_stamp;
+use crate::drawn::{DrawnModels, ModelList, TintedModel};
+use crate::plain::rebuild_plain;
+use crate::tinted::{rebuild_tinted, stencil_of};
 use history_model::Act;
 use node_words::{Full, NodeStore, Share, Steps};
 use std::sync::ledger::Ledger;
-use vw_cell::{Cell, Side};
+use vw_cell::Side;
 
-/// A share of the root of the world that the edit makes, where a cell is set then. A store that met
-/// a full bucket holds what it held.
+/// A share of the root of what the edit makes of the store's cells, where a cell is set then. A
+/// store that met a full bucket holds what it held.
 pub fn rebuild_act<N: NodeStore, L: Ledger>(
     store: &mut N,
     old: Option<&Share>,
     side: Side,
-    models: &[DrawnModel],
+    models: &DrawnModels,
     act: Act,
     steps: &mut Steps<L>,
 ) -> Result<Option<Share>, Full>
     requires side { side ≡ (N.seen store.old).plan.side }
+    requires large { IsLargeFor act side }
     requires edit { is_edit act ≡ true }
-    requires plain { suits_tints false act ≡ true }
+    requires suits { suits_tints models.now.tint act ≡ true }
+    requires fits { FitsWorld (2 ^ side) models.now.models act }
+    requires old { HoldsRoot (N.seen store.old).held side (option_copied old) }
+    requires room { number_of_trees (N.seen store.old).held ≤ room_for act }
+    ensures ok { RebuildsAct (N.seen store.old) side (option_copied old.entry) models.now.models
+        act result (N.seen store.new) }
+    ensures grows { GrowsByAct (N.seen store.old) side (option_copied old.entry) models.now.models
+        act result (N.seen store.new) }
+    ensures full { RefusesAct (N.seen store.old) side (option_copied old.entry) models.now.models
+        act result (N.seen store.new) }
+    ensures rests { N.rests store.old store.new }
+{
+    match &models.list {
+        ModelList::Cells(list) => rebuild_plain(store, old, side, list.as_slice(), act, steps),
+        ModelList::Tints(list) => rebuild_with(store, old, side, list.as_slice(), act, steps),
+    }
+}
+
+// The same in a world whose cells have tints.
+fn rebuild_with<N: NodeStore, L: Ledger>(
+    store: &mut N,
+    old: Option<&Share>,
+    side: Side,
+    models: &[TintedModel],
+    act: Act,
+    steps: &mut Steps<L>,
+) -> Result<Option<Share>, Full>
+    requires side { side ≡ (N.seen store.old).plan.side }
+    requires large { IsLargeFor act side }
+    requires edit { is_edit act ≡ true }
+    requires tinted { suits_tints true act ≡ true }
     requires fits { FitsWorld (2 ^ side) models.now act }
     requires old { HoldsRoot (N.seen store.old).held side (option_copied old) }
-    requires room { number_of_trees (N.seen store.old).held ≤ 3910 }
+    requires room { number_of_trees (N.seen store.old).held ≤ room_for act }
     ensures ok { RebuildsAct (N.seen store.old) side (option_copied old.entry) models.now act result
         (N.seen store.new) }
     ensures grows { GrowsByAct (N.seen store.old) side (option_copied old.entry) models.now act
@@ -43,44 +69,10 @@ pub fn rebuild_act<N: NodeStore, L: Ledger>(
     ensures rests { N.rests store.old store.new }
 {
     match act {
-        Act::Fill(b) => rebuild_box(store, old, side, b, true, steps),
-        Act::Erase(b) => rebuild_box(store, old, side, b, false, steps),
-        Act::Ball(ball) => rebuild_ball(store, old, side, ball, true, steps),
-        Act::Carve(ball) => rebuild_ball(store, old, side, ball, false, steps),
-        Act::Copy(from, to) => rebuild_copy(store, old, side, from, to, steps),
-        Act::Stamp(m, at) => stamp(store, old, side, &models[usize::from(m)], at, steps),
-        Act::Tint(_) | Act::Undo | Act::Redo => unreachable!(),
-    }
-}
-
-// A share of the root of the world with the model's cells set, in the words of the act that names
-// the model by its number in some list.
-fn stamp<N: NodeStore, L: Ledger>(
-    store: &mut N,
-    old: Option<&Share>,
-    side: Side,
-    model: &DrawnModel,
-    at: Cell,
-    steps: &mut Steps<L>,
-) -> Result<Option<Share>, Full>
-    requires side { side ≡ (N.seen store.old).plan.side }
-    requires inside { FitsAt at model.now.size (2 ^ side) }
-    requires old { HoldsRoot (N.seen store.old).held side (option_copied old) }
-    requires room { number_of_trees (N.seen store.old).held ≤ 3910 }
-    ensures ok { (models : List Content) (m : ℕ) → slice_get models m ≡ Some model.now
-        → RebuildsAct (N.seen store.old) side (option_copied old.entry) models (Stamp m at) result
-        (N.seen store.new) }
-    ensures grows { (models : List Content) (m : ℕ) → slice_get models m ≡ Some model.now
-        → GrowsByAct (N.seen store.old) side (option_copied old.entry) models (Stamp m at) result
-        (N.seen store.new) }
-    ensures full { (models : List Content) (m : ℕ) → slice_get models m ≡ Some model.now
-        → RefusesAct (N.seen store.old) side (option_copied old.entry) models (Stamp m at) result
-        (N.seen store.new) }
-    ensures rests { N.rests store.old store.new }
-{
-    let stencil = &model.stencil;
-    match rebuild_stamp(store, old, side, stencil, at, steps) {
-        Ok(share) => Ok(share),
-        Err(e) => Err(e),
+        Act::Tint(t) => {
+            let stencil = stencil_of(models, &t);
+            rebuild_tinted(store, old, side, &t, stencil, steps)
+        }
+        _ => unreachable!(),
     }
 }

@@ -1,4 +1,6 @@
-//! Rows of bits.
+//! Rows of bits, as 64-bit words: to set one, and to set or count the bits between two places at
+//! once. It holds numbers alone and knows no cell. What a row says of a bit is in
+//! `specs/Bits.antt`.
 #![tactic(auto)]
 
 mod bits;

@@ -1,5 +1,7 @@
 //! One bucket of entries: a row of slots, each empty or with a key and the number of references to
-//! it. Exact after each call.
+//! it. It is exact after each call.
+//!
+//! It knows no table and no thread. What stands in a slot is in `specs/Slots.antt`.
 #![tactic(auto)]
 
 mod buckets;

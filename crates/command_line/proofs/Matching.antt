@@ -1,46 +1,32 @@
 -- What the command finds in the words of a run.
-use Rattle.std.proofs.Common.{◌≡◌, ℕ, ◌≤◌, Bool, true, false, List, [], ◌∷◌, length, codes, refl, ap, ◌∙◌, leb-true}
+use Rattle.std.proofs.Common.{◌≡◌, ℕ, ◌≤◌, true, false, List, [], length, codes, refl, ap, ◌∙◌, leb-true}
 use Rattle.clap.specs.Matches.{raw_values, matched_of}
 use Rattle.clap.specs.declared.parser.matches.Found.{Found}
 use Rattle.clap.specs.declared.builder.command.Command.{Command}
 use Rattle.clap.specs.declared.builder.command.Command.TheViews.{out-Command as fields_of}
 use Rattle.clap.proofs.WalkLemmas.{raw_values-rows}
 use Rattle.std.specs.Borrow.{Bor}
-use Rattle.std.specs.Prelude.{⊤, Some, None, option_map, map, fold, if◌then◌else◌, nat_le, unwrap_or}
+use Rattle.std.specs.Prelude.{Some, None, option_map, map, fold, nat_le, unwrap_or}
 use Rattle.std.specs.List.{list_all}
 use Rattle.std.proofs.lemmas.Bool.{and_parts}
-use Rattle.clap.specs.Walk.{Row, Rule, Text, with_default, has_row, walked, walk_from, nothing_held, all_of, rows_of}
+use Rattle.clap.specs.Walk.{Row, Text, walked, walk_from, nothing_held, all_of, rows_of}
 use Rattle.clap.specs.Simple.{matches_of, is_simple, app_of, app_of_fields, new_app, on_top}
-use Rattle.command_line.specs.Parts.{Part, is_part, parts_of, values_in, line_texts, are_of_a_run}
+use Rattle.command_line.specs.Parts.{Part, is_part, parts_of, flags_in, values_in, line_texts, are_of_a_run}
 use Rattle.command_line.specs.Command.{run_app, bare, line_in}
 use Rattle.command_line.proofs.Walking.{rules, rows_held}
 use Rattle.command_line.proofs.Splitting.{rows_by, walk_rows}
-use Rattle.command_line.proofs.Values.{KnowOptions, parts_know, option_found, operands_found}
+use Rattle.command_line.proofs.Values.{KnowOptions, parts_know, option_found, flag_found, operands_found}
+use Rattle.command_line.proofs.Defaults.{defaulted, all_defaults}
 
 pub simple : is_simple run_app ≡ true
 simple = refl
 
-abbrev pub LackDefaults : List Rule → Type 0
-LackDefaults [] = ⊤
-LackDefaults (a ∷ others) = (a.defaults ≡ []) × LackDefaults others
-
-either : (b : Bool) (rows : List Row) → (if b then rows else rows) ≡ rows
-either true rows = refl
-either false rows = refl
-
-one_default : (a : Rule) (rows : List Row) → a.defaults ≡ [] → with_default rows a ≡ rows
-one_default a rows none = rw none (either (has_row a.id rows) rows)
-
-no_defaults : (c : List Rule) (rows : List Row) → LackDefaults c → fold with_default rows c ≡ rows
-no_defaults [] rows none = refl
-no_defaults (a ∷ others) rows none = ap (λ rs. fold with_default rs others) (one_default a rows none.0) ∙ no_defaults others rows none.1
-
-pub matched : (words : List Text) → list_all is_part (parts_of words) ≡ true → matches_of run_app words ≡ rows_by (parts_of words) []
+pub matched : (words : List Text) → list_all is_part (parts_of words) ≡ true → matches_of run_app words ≡ defaulted (rows_by (parts_of words) [])
 matched words right =
-    no_defaults rules (rows_held (fold (walked rules []) (walk_from nothing_held) words).held) (refl, (refl, (refl, (refl, (refl, (refl, (refl, tt)))))))
-    ∙ walk_rows words right false nothing_held
+    all_defaults (rows_held (fold (walked rules []) (walk_from nothing_held) words).held)
+    ∙ ap defaulted (walk_rows words right false nothing_held)
 
--- each option's value, and the operands
+-- each option's value, the flag, and the operands
 record Fits (parts : List Part) : Type 0 where
   parts_are : list_all is_part parts ≡ true
   side : length (values_in (codes "--side") parts) ≤ 1
@@ -49,6 +35,7 @@ record Fits (parts : List Part) : Type 0 where
   keep : length (values_in (codes "--keep") parts) ≤ 1
   journal : length (values_in (codes "--journal") parts) ≤ 1
   report : length (values_in (codes "--report") parts) ≤ 1
+  colours : flags_in parts ≤ 1
 
 once : (n : ℕ) → nat_le n 1 ≡ true → n ≤ 1
 once n is = leb-true n 1 is
@@ -56,7 +43,9 @@ once n is = leb-true n 1 is
 fits : (parts : List Part) → are_of_a_run parts ≡ true → Fits parts
 fits parts are =
     let all = and_parts _ _ are in
-    let given = and_parts _ _ (and_parts _ _ all.1).0 in
+    let rest = and_parts _ _ all.1 in
+    let given = and_parts _ _ rest.0 in
+    let flag = and_parts _ _ rest.1 in
     let second = and_parts _ _ given.1 in
     let third = and_parts _ _ second.1 in
     let fourth = and_parts _ _ third.1 in
@@ -70,18 +59,20 @@ fits parts are =
       keep = once _ fourth.0;
       journal = once _ fifth.0;
       report = once _ sixth.0;
+      colours = once _ flag.0;
     }
 
-told : (parts : List Part) → KnowOptions parts → Fits parts → line_in (rows_by parts []) ≡ line_texts parts
+told : (parts : List Part) → KnowOptions parts → Fits parts → line_in (defaulted (rows_by parts [])) ≡ line_texts parts
 told parts know f =
-    let side = option_found (codes "--side") refl parts f.side in
-    let buckets = option_found (codes "--buckets") refl parts f.buckets in
-    let cap = option_found (codes "--cap") refl parts f.cap in
-    let keep = option_found (codes "--keep") refl parts f.keep in
-    let journal = option_found (codes "--journal") refl parts f.journal in
-    let report = option_found (codes "--report") refl parts f.report in
+    let side = option_found (codes "--side") (record { operands = refl; flag = refl }) parts f.side in
+    let buckets = option_found (codes "--buckets") (record { operands = refl; flag = refl }) parts f.buckets in
+    let cap = option_found (codes "--cap") (record { operands = refl; flag = refl }) parts f.cap in
+    let keep = option_found (codes "--keep") (record { operands = refl; flag = refl }) parts f.keep in
+    let journal = option_found (codes "--journal") (record { operands = refl; flag = refl }) parts f.journal in
+    let report = option_found (codes "--report") (record { operands = refl; flag = refl }) parts f.report in
+    let colours = flag_found parts know f.colours in
     let operands = operands_found parts know in
-    λ i. record { side = side i; buckets = buckets i; cap = cap i; keep = keep i; journal = journal i; report = report i; operands = operands i }
+    λ i. record { side = side i; buckets = buckets i; cap = cap i; keep = keep i; journal = journal i; report = report i; colours = colours i; operands = operands i }
 
 pub line_found : (words : List Text) (rows : List Row) → are_of_a_run (parts_of words) ≡ true → rows ≡ matches_of run_app words → line_in rows ≡ line_texts (parts_of words)
 line_found words rows are found =

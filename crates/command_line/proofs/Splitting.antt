@@ -9,19 +9,21 @@ use Rattle.std.proofs.lemmas.Bool.Decides.{nat_tests}
 use Rattle.std.proofs.lemmas.List.{drop_all}
 use Rattle.std.proofs.lemmas.List.Sums.{split_at_first, passes_at_first}
 use Rattle.clap.specs.Walk.{Held, Row, Text, Walk, walked}
-use Rattle.command_line.specs.Parts.{Part, Operand, Gives, NoPart, is_operand, is_option, is_part, option_with, behind_equals, word_alone, parts_of}
-use Rattle.command_line.proofs.Walking.{rules, rows_held, with_operand, with_option, at, holding, joined_held, Meets, operand_met, operand_held, side_meets, buckets_meets, cap_meets, keep_meets, journal_meets, report_meets}
+use Rattle.command_line.specs.Parts.{Part, Operand, Gives, Colours, NoPart, is_flag, is_operand, is_option, is_part, option_with, behind_equals, word_alone, parts_of}
+use Rattle.command_line.proofs.Walking.{rules, rows_held, with_operand, with_option, with_flag, at, holding, joined_held, flagged, flag_met, Meets, operand_met, operand_held, side_meets, buckets_meets, cap_meets, keep_meets, journal_meets, report_meets}
 
 -- what parts put into the rows
 abbrev pub rows_by : List Part → List Row → List Row
 rows_by [] rows = rows
 rows_by (Operand text ∷ parts) rows = rows_by parts (with_operand text rows)
 rows_by (Gives option value ∷ parts) rows = rows_by parts (with_option option value rows)
+rows_by (Colours ∷ parts) rows = rows_by parts (with_flag rows)
 rows_by (NoPart ∷ parts) rows = rows_by parts rows
 
 rows_then : (part : Part) (parts : List Part) (rows : List Row) → rows_by (part ∷ parts) rows ≡ rows_by parts (rows_by (part ∷ []) rows)
 rows_then (Operand text) parts rows = refl
 rows_then (Gives option value) parts rows = refl
+rows_then Colours parts rows = refl
 rows_then NoPart parts rows = refl
 
 -- ---- the options
@@ -82,12 +84,19 @@ joined_goes behind h word option (first ∷ others) cut part = go (is_option opt
     })
 
 alone_goes : (behind : Bool) (h : Held) (word : Text) → is_part (word_alone word) ≡ true → Goes behind h word (word_alone word)
-alone_goes behind h word part = go (is_operand word) refl part
+alone_goes behind h word part = go (is_operand word) (is_flag word) refl refl part
   where
-    go : (b : Bool) → is_operand word ≡ b → is_part (if b then Operand word else behind_equals (before_first is_equals word) (after_first is_equals word)) ≡ true
-        → Goes behind h word (if is_operand word then Operand word else behind_equals (before_first is_equals word) (after_first is_equals word))
-    go true is right = rw is (record { to = true; held = holding (codes "operands") word h; walks = operand_met behind h word is; puts = operand_held h word })
-    go false is right = rw is (joined_goes behind h word (before_first is_equals word) (after_first is_equals word) (word_cut word) right)
+    go : (b f : Bool) → is_operand word ≡ b → is_flag word ≡ f
+        → is_part (if b then Operand word else (if f then Colours else behind_equals (before_first is_equals word) (after_first is_equals word))) ≡ true
+        → Goes behind h word (if is_operand word then Operand word else (if is_flag word then Colours else behind_equals (before_first is_equals word) (after_first is_equals word)))
+    go true f is flag right = rw is (record { to = true; held = holding (codes "operands") word h; walks = operand_met behind h word is; puts = operand_held h word })
+    go false true is flag right = rw (is, flag) (record {
+      to = false;
+      held = flagged h;
+      walks = ap (walked rules [] (at behind h)) (sym ((bytes_eq-Decides (codes "--colours") word).0 flag)) ∙ flag_met behind h;
+      puts = refl;
+    })
+    go false false is flag right = rw (is, flag) (joined_goes behind h word (before_first is_equals word) (after_first is_equals word) (word_cut word) right)
 
 -- ---- all words
 

@@ -23,6 +23,13 @@ with_operand text rows = with_values (codes "operands") as_text CommandLine (tex
 abbrev pub with_option : Text → Text → List Row → List Row
 with_option word value rows = with_values word as_text CommandLine (value ∷ []) (without word rows)
 
+-- the rows with the flag set
+abbrev pub as_flag : Reading
+as_flag = reading_of parsers.Bool
+
+abbrev pub with_flag : List Row → List Row
+with_flag rows = with_values (codes "--colours") as_flag CommandLine (codes "true" ∷ []) (without (codes "--colours") rows)
+
 -- what is held, with the values of the last part put in their row
 abbrev pub rows_held : Held → List Row
 rows_held h = settled_rows rules h.pending h.rows
@@ -68,6 +75,15 @@ operand_met false h (first ∷ others) is = go (first == 45) refl is
 
 pub operand_held : (h : Held) (text : Text) → rows_held (holding (codes "operands") text h) ≡ with_operand text (rows_held h)
 operand_held h text = refl
+
+-- the flag is held
+abbrev pub flagged : Held → Held
+flagged h = record h { rows = with_flag (rows_held h); pending = None }
+
+pub flag_met : (behind : Bool) (h : Held) → walked rules [] (at behind h) (codes "--colours") ≡ at false (flagged h)
+unfolding walked
+flag_met true h = refl
+flag_met false h = refl
 
 -- an option's word, and its value as the next word or behind `=`
 pub record Meets (word : Text) : Type 0 where

@@ -1,4 +1,7 @@
 //! The words of a command line as what they are: options with their values, and operands.
+//!
+//! It knows the words of a run and no file. A run's words, part after part, are in
+//! `specs/Parts.antt`; the kit's `clap` splits them by the command in `specs/Command.antt`.
 #![tactic(auto)]
 
 mod lines;

@@ -1,12 +1,13 @@
 ghost use Rattle.std.specs.Prelude.{◌≡◌, ◌≤◌, true, length};
 ghost use Rattle.std.specs.List.{list_all};
-ghost use Rattle.command_line.specs.Parts.{is_part, parts_of, operands_in, values_in, is_given_once, is_number_of_operands, are_of_a_run};
+ghost use Rattle.command_line.specs.Parts.{is_part, parts_of, flags_in, operands_in, values_in, is_given_once, is_number_of_operands, are_of_a_run};
 ghost use Rattle.command_line.specs.Texts.{texts};
 
 use crate::parts::first_part;
 use std::marker::Model;
 
-/// The texts of the words behind `run`: the value that each option is given, and the operands.
+/// The texts of the words behind `run`: the value that each option is given, whether the flag
+/// `--colours` stands there, and the operands.
 #[derive(Drop)]
 pub struct Line<'w> {
     pub side: Option<&'w str>,
@@ -15,6 +16,7 @@ pub struct Line<'w> {
     pub keep: Option<&'w str>,
     pub journal: Option<&'w str>,
     pub report: Option<&'w str>,
+    pub colours: bool,
     pub operands: Vec<&'w str>,
 }
 
@@ -31,12 +33,13 @@ impl<'w> Model for Line<'w> {
       keep = option_map (λ t. t.now) line.keep;
       journal = option_map (λ t. t.now) line.journal;
       report = option_map (λ t. t.now) line.report;
+      colours = line.colours;
       operands = map (λ t. t.now) line.operands.items;
     } };
 }
 
 /// Whether these words can stand behind `run`: operands, a file and 1 to 64 scripts, and among them
-/// the options, each at most once, with their values.
+/// the options with their values and the flag, each at most once.
 pub fn are_of_a_run(words: &[String]) -> bool
     ensures are { result ≡ are_of_a_run (parts_of (texts words.now)) }
     ensures few { result ≡ true → length (operands_in (parts_of (texts words.now))) ≤ 65 }
@@ -48,6 +51,7 @@ pub fn are_of_a_run(words: &[String]) -> bool
                     && (is_given_once(words, "--keep")
                         && (is_given_once(words, "--journal")
                             && is_given_once(words, "--report"))))))
+        && number_of_flags(words) <= 1
         && is_number_of_operands(number_of_operands(words))
 }
 
@@ -57,7 +61,7 @@ fn are_parts(words: &[String]) -> bool
 {
     match first_part(words) {
         None => true,
-        Some(step) => step.text.is_some() && are_parts(step.others),
+        Some(step) => (step.flag || step.text.is_some()) && are_parts(step.others),
     }
 }
 
@@ -69,10 +73,21 @@ fn number_of_operands(words: &[String]) -> usize
         return 0;
     };
     let others = number_of_operands(step.others);
-    match (step.option, step.text) {
-        (None, Some(_)) => 1 + others,
+    match (step.flag, step.option, step.text) {
+        (false, None, Some(_)) => 1 + others,
         _ => others,
     }
+}
+
+fn number_of_flags(words: &[String]) -> usize
+    ensures number { result ≡ flags_in (parts_of (texts words.now)) }
+    ensures small { result ≤ length words.now }
+{
+    let Some(step) = first_part(words) else {
+        return 0;
+    };
+    let others = number_of_flags(step.others);
+    if step.flag { 1 + others } else { others }
 }
 
 fn is_number_of_operands(n: usize) -> bool
@@ -95,8 +110,8 @@ fn number_of_values(words: &[String], option: &str) -> usize
         return 0;
     };
     let others = number_of_values(step.others, option);
-    match (step.option, step.text) {
-        (Some(name), Some(_)) if name == option => 1 + others,
+    match (step.flag, step.option, step.text) {
+        (false, Some(name), Some(_)) if name == option => 1 + others,
         _ => others,
     }
 }

@@ -1,13 +1,14 @@
-ghost use Rattle.std.specs.Prelude.{◌≡◌, ◌∷◌, ◌<◌, ◌≤◌, [], if◌then◌else◌, Some, None, IfSome, MatchOption, length};
+ghost use Rattle.std.specs.Prelude.{◌≡◌, ◌∷◌, ◌<◌, ◌≤◌, [], false, if◌then◌else◌, Some, None, IfSome, MatchOption, length};
 ghost use Rattle.std.specs.Option.{option_map};
-ghost use Rattle.command_line.specs.Parts.{is_operand, is_option, behind_equals, parts_of, word_alone};
+ghost use Rattle.command_line.specs.Parts.{is_flag, is_operand, is_option, behind_equals, parts_of, word_alone};
 ghost use Rattle.command_line.specs.Steps.{part_told};
 ghost use Rattle.command_line.specs.Texts.{texts};
 
 // The part that begins the words, and the words behind it. An operand has no option, and what is no
-// part has no text.
+// part has no text; the flag has neither.
 #[derive(Drop)]
 pub(crate) struct Step<'w> {
+    pub(crate) flag: bool,
     pub(crate) option: Option<&'w str>,
     pub(crate) text: Option<&'w str>,
     pub(crate) others: &'w [String],
@@ -15,7 +16,7 @@ pub(crate) struct Step<'w> {
 
 pub(crate) fn first_part(words: &[String]) -> Option<Step<'_>>
     ensures parts { MatchOption result (parts_of (texts words.now) ≡ [])
-        (λ s. parts_of (texts words.now) ≡ part_told (option_map (λ t. t.now) s.option)
+        (λ s. parts_of (texts words.now) ≡ part_told s.flag (option_map (λ t. t.now) s.option)
         (option_map (λ t. t.now) s.text) ∷ parts_of (texts s.others.now)) }
     ensures fewer { IfSome result (λ s. length s.others.now < length words.now) }
 {
@@ -28,7 +29,7 @@ pub(crate) fn first_part(words: &[String]) -> Option<Step<'_>>
 #[tactic(auto, using(crate::proofs::Heads::not_option, crate::proofs::Heads::option_alone, crate::proofs::Heads::option_then))]
 fn part_before<'w>(word: &'w str, others: &'w [String]) -> Step<'w>
     ensures parts { parts_of (word.now ∷ texts others.now)
-        ≡ part_told (option_map (λ t. t.now) result.option)
+        ≡ part_told result.flag (option_map (λ t. t.now) result.option)
         (option_map (λ t. t.now) result.text) ∷ parts_of (texts result.others.now) }
     ensures fewer { length result.others.now ≤ length others.now }
 {
@@ -38,6 +39,7 @@ fn part_before<'w>(word: &'w str, others: &'w [String]) -> Step<'w>
     match others {
         [] => no_part(others),
         [next, others @ ..] => Step {
+            flag: false,
             option: Some(word),
             text: operand(next.as_str()),
             others,
@@ -48,14 +50,23 @@ fn part_before<'w>(word: &'w str, others: &'w [String]) -> Step<'w>
 // A word that is no option's name.
 #[tactic(auto, using(crate::proofs::Heads::split_joined))]
 fn alone<'w>(word: &'w str, others: &'w [String]) -> Step<'w>
-    ensures part { part_told (option_map (λ t. t.now) result.option)
+    ensures part { part_told result.flag (option_map (λ t. t.now) result.option)
         (option_map (λ t. t.now) result.text) ≡ word_alone word.now }
     ensures others { result.others ≡ others.entry }
 {
     if is_operand(word) {
         return Step {
+            flag: false,
             option: None,
             text: Some(word),
+            others,
+        };
+    }
+    if is_flag(word) {
+        return Step {
+            flag: true,
+            option: None,
+            text: None,
             others,
         };
     }
@@ -67,7 +78,7 @@ fn alone<'w>(word: &'w str, others: &'w [String]) -> Step<'w>
 
 // `option=value`.
 fn behind_equals<'w>(option: &'w str, value: &'w str, others: &'w [String]) -> Step<'w>
-    ensures part { part_told (option_map (λ t. t.now) result.option)
+    ensures part { part_told result.flag (option_map (λ t. t.now) result.option)
         (option_map (λ t. t.now) result.text) ≡ behind_equals option.now value.now }
     ensures others { result.others ≡ others.entry }
 {
@@ -77,6 +88,7 @@ fn behind_equals<'w>(option: &'w str, value: &'w str, others: &'w [String]) -> S
         None
     };
     Step {
+        flag: false,
         option: Some(option),
         text,
         others,
@@ -84,9 +96,15 @@ fn behind_equals<'w>(option: &'w str, value: &'w str, others: &'w [String]) -> S
 }
 
 fn no_part<'w>(others: &'w [String]) -> Step<'w>
-    ensures { result ≡ record { option = None; text = None; others = others.entry } }
+    ensures { result ≡ record {
+      flag = false;
+      option = None;
+      text = None;
+      others = others.entry;
+    } }
 {
     Step {
+        flag: false,
         option: None,
         text: None,
         others,
@@ -120,4 +138,10 @@ fn is_option(word: &str) -> bool
         || "--keep" == word
         || "--journal" == word
         || "--report" == word
+}
+
+fn is_flag(word: &str) -> bool
+    ensures { result ≡ is_flag word.now }
+{
+    "--colours" == word
 }

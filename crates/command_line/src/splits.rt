@@ -3,7 +3,7 @@ ghost use Rattle.clap.specs.Walk.{rows_of, all_of, first_of};
 ghost use Rattle.clap.specs.Simple.{app_of, new_app, on_top, with_rule};
 ghost use Rattle.clap.specs.Matches.{found_of};
 ghost use Rattle.command_line.specs.Parts.{parts_of, line_texts, are_of_a_run};
-ghost use Rattle.command_line.specs.Command.{run_app, bare, option_rule, operands_rule, line_in};
+ghost use Rattle.command_line.specs.Command.{run_app, options_app, bare, option_rule, flag_rule, operands_rule, is_set, line_in};
 ghost use Rattle.command_line.specs.Texts.{texts};
 
 use crate::lines::Line;
@@ -26,13 +26,21 @@ pub fn split(alloc: Global, words: &[String]) -> Result<Line<'_>, AllocError>
 fn run_command<'a>(alloc: Global) -> Result<Command<'a>, AllocError>
     ensures { IfOk result (λ c. app_of c ≡ run_app) }
 {
+    let command = options_command(alloc)?;
+    let command = with_flag(alloc, command, "--colours", "colours")?;
+    with_operands(alloc, command)
+}
+
+// Its options.
+fn options_command<'a>(alloc: Global) -> Result<Command<'a>, AllocError>
+    ensures { IfOk result (λ c. app_of c ≡ options_app) }
+{
     let command = with_option(alloc, bare_command(alloc), "--side", "side")?;
     let command = with_option(alloc, command, "--buckets", "buckets")?;
     let command = with_option(alloc, command, "--cap", "cap")?;
     let command = with_option(alloc, command, "--keep", "keep")?;
     let command = with_option(alloc, command, "--journal", "journal")?;
-    let command = with_option(alloc, command, "--report", "report")?;
-    with_operands(alloc, command)
+    with_option(alloc, command, "--report", "report")
 }
 
 fn bare_command<'a>(alloc: Global) -> Command<'a>
@@ -61,6 +69,18 @@ fn with_option<'a>(
     command.arg(Arg::new(alloc, word).long(name))
 }
 
+fn with_flag<'a>(
+    alloc: Global,
+    command: Command<'a>,
+    word: &'a str,
+    name: &'a str,
+) -> Result<Command<'a>, AllocError>
+    ensures { IfOk result (λ c. app_of c
+        ≡ with_rule (app_of command.entry) (flag_rule word.now name.now)) }
+{
+    command.arg(Arg::new(alloc, word).long(name).action(ArgAction::SetTrue))
+}
+
 fn line<'w>(alloc: Global, matches: &ArgMatches<'w>) -> Result<Line<'w>, AllocError>
     ensures { IfOk result (λ line. line ≡ line_in (rows_of (found_of matches.now))) }
 {
@@ -72,6 +92,7 @@ fn line<'w>(alloc: Global, matches: &ArgMatches<'w>) -> Result<Line<'w>, AllocEr
         keep: value(matches, "--keep"),
         journal: value(matches, "--journal"),
         report: value(matches, "--report"),
+        colours: is_set(value(matches, "--colours")),
         operands,
     })
 }
@@ -81,6 +102,16 @@ fn value<'w>(matches: &ArgMatches<'w>, id: &str) -> Option<&'w str>
         ≡ first_of id.now (rows_of (found_of matches.now)) }
 {
     matches.get_str(id)
+}
+
+// Whether the first text of a flag says that it is set.
+fn is_set(text: Option<&str>) -> bool
+    ensures { result ≡ is_set (option_map (λ t. t.now) text.entry) }
+{
+    match text {
+        None => false,
+        Some(text) => text == "true",
+    }
 }
 
 #[tactic(auto, using(crate::proofs::Matching::operands_some, crate::proofs::Matching::operands_none))]

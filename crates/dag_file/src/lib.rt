@@ -1,4 +1,8 @@
 //! Many versions of a world in one file: each node once, by level, and a root for each version.
+//!
+//! It writes from any store that can be read, and its reader is such a store over the file's bytes.
+//! The file of a list of versions is in `specs/Kept.antt`, the first broken rule in
+//! `specs/Rules.antt`.
 #![tactic(auto)]
 
 mod blocks;

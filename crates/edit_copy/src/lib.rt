@@ -1,4 +1,7 @@
 //! The copy of a box to another place, over any store of nodes.
+//!
+//! It reads the old root's blocks at an offset and makes nodes by `edit_walk`. What it makes of a
+//! block is in `specs/Copies.antt`.
 #![tactic(auto)]
 
 mod copies;

@@ -1,4 +1,8 @@
-//! Edits that set or clear the cells of a box or a ball, over any store of nodes.
+//! Edits that set or clear the cells of a box, of a ball, or of a ball within a box, over any store
+//! of nodes.
+//!
+//! Each is a task of `edit_walk`. What each makes of a block is in `specs/Boxes.antt`,
+//! `specs/Balls.antt` and `specs/Clips.antt`.
 #![tactic(auto)]
 
 mod balls;

@@ -1,4 +1,7 @@
 //! The set cells of a box as a list of voxels, and as a VOX file, over any store that can be read.
+//!
+//! A layer's leaves are gathered once for all its rows. The list, in order, is in
+//! `specs/Listing.antt`, and the file in `specs/Saved.antt`.
 #![tactic(auto)]
 
 mod boxes;

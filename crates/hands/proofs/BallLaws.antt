@@ -1,18 +1,23 @@
--- What a ball makes of a world, it makes whatever the models are.
-use Rattle.std.proofs.Common.{ℕ, Bool, true, false, Option}
+-- A ball that is set or cleared is no tinted act and names no model, and its centre lies in the world.
+use Rattle.std.proofs.Common.{◌≡◌, ℕ, Bool, true, false, refl}
+use Rattle.std.specs.Prelude.{List, []}
 use Rattle.vw_cell.specs.declared.balls.Ball.{Ball}
-use Rattle.vw_cell.specs.declared.cells.Cell.{Cell}
+use Rattle.vw_cell.specs.Places.{IsInWorld}
 use Rattle.vox_read.specs.Contents.{Content}
 use Rattle.history_model.specs.Worlds.{edited}
-use Rattle.node_shapes.specs.declared.names.Name.{Name}
-use Rattle.node_words.specs.Held.{Seen}
-use Rattle.edit_cells.specs.Worlds.{ForEdited}
+use Rattle.history_model.specs.Logs.{FitsWorld, suits_tints}
 use Rattle.act_rebuilds.specs.Balls.{ball_act}
-use Rattle.std.specs.Prelude.{List, []}
 
-pub for_ball : (models : List Content) (set : Bool) (b : Ball) (seen : Seen) (side : ℕ)
-    (root : Option Name) (P : (Cell → Bool) → Type 0)
-    → ForEdited seen side root (edited [] (ball_act set b)) P
-    → ForEdited seen side root (edited models (ball_act set b)) P
-for_ball models true b seen side root P h = h
-for_ball models false b seen side root P h = h
+pub ball_plain : (set : Bool) (b : Ball) → suits_tints false (ball_act set b) ≡ true
+ball_plain true b = refl
+ball_plain false b = refl
+
+pub ball_same : (models : List Content) (set : Bool) (b : Ball)
+    → edited [] (ball_act set b) ≡ edited models (ball_act set b)
+ball_same models true b = refl
+ball_same models false b = refl
+
+pub ball_inside : (side : ℕ) (models : List Content) (set : Bool) (b : Ball)
+    → FitsWorld side models (ball_act set b) → IsInWorld side b.centre
+ball_inside side models true b fits = fits.0
+ball_inside side models false b fits = fits.0

@@ -1,18 +1,17 @@
--- What a box makes of a world, it makes whatever the models are.
-use Rattle.std.proofs.Common.{ℕ, Bool, true, false, Option}
+-- A box that is set or cleared is no tinted act and names no model.
+use Rattle.std.proofs.Common.{◌≡◌, Bool, true, false, refl}
+use Rattle.std.specs.Prelude.{List, []}
 use Rattle.vw_cell.specs.declared.boxes.Boxed.{Boxed}
-use Rattle.vw_cell.specs.declared.cells.Cell.{Cell}
 use Rattle.vox_read.specs.Contents.{Content}
 use Rattle.history_model.specs.Worlds.{edited}
-use Rattle.node_shapes.specs.declared.names.Name.{Name}
-use Rattle.node_words.specs.Held.{Seen}
-use Rattle.edit_cells.specs.Worlds.{ForEdited}
+use Rattle.history_model.specs.Logs.{suits_tints}
 use Rattle.act_rebuilds.specs.Boxes.{box_act}
-use Rattle.std.specs.Prelude.{List, []}
 
-pub for_box : (models : List Content) (set : Bool) (b : Boxed) (seen : Seen) (side : ℕ)
-    (root : Option Name) (P : (Cell → Bool) → Type 0)
-    → ForEdited seen side root (edited [] (box_act set b)) P
-    → ForEdited seen side root (edited models (box_act set b)) P
-for_box models true b seen side root P h = h
-for_box models false b seen side root P h = h
+pub box_plain : (set : Bool) (b : Boxed) → suits_tints false (box_act set b) ≡ true
+box_plain true b = refl
+box_plain false b = refl
+
+pub box_same : (models : List Content) (set : Bool) (b : Boxed)
+    → edited [] (box_act set b) ≡ edited models (box_act set b)
+box_same models true b = refl
+box_same models false b = refl

@@ -4,3 +4,4 @@ pub mod Recalling
 pub use Rattle.act_rebuilds.specs.Acts
 pub use Rattle.act_rebuilds.specs.Balls
 pub use Rattle.act_rebuilds.specs.Boxes
+pub use Rattle.act_rebuilds.specs.Drawn

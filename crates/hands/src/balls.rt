@@ -4,7 +4,7 @@ ghost use Rattle.act_rebuilds.specs.Balls.{ball_act, makes_ball};
 ghost use Rattle.edit_walk.specs.Memos.{IsKeptIn, RecallsHeld};
 
 use crate::makers::ActMaker;
-use act_rebuilds::{BallTask, DrawnModel, rebuild_ball_with};
+use act_rebuilds::{BallTask, DrawnModels, rebuild_ball_with};
 use edit_walk::Upper;
 use history_model::Act;
 use node_words::{Full, NodeStore, Share, Steps};
@@ -15,7 +15,7 @@ use vw_cell::{Ball, Side};
 /// stayed the same.
 #[derive(Drop)]
 pub struct BallAct<'w, 'm, 'b> {
-    models: &'w [DrawnModel<'m>],
+    models: &'w DrawnModels<'m>,
     ball: &'b Ball,
     set: bool,
     memo: Upper<BallTask<'b>>,
@@ -24,7 +24,7 @@ pub struct BallAct<'w, 'm, 'b> {
 impl<'w, 'm, 'b> BallAct<'w, 'm, 'b> {
     /// Nothing is made yet.
     #[tactic(auto, using(edit_walk::proofs::MemoLaws::recalls_none))]
-    pub fn new(models: &'w [DrawnModel<'m>], ball: &'b Ball, set: bool) -> BallAct<'w, 'm, 'b>
+    pub fn new(models: &'w DrawnModels<'m>, ball: &'b Ball, set: bool) -> BallAct<'w, 'm, 'b>
         ensures models { result.models.now ≡ models.now }
         ensures act { ball_act result.set result.ball.now ≡ ball_act set ball.now }
         ensures recalls { (held : List Tree)
@@ -45,7 +45,9 @@ impl<'w, 'm, 'b> ActMaker for BallAct<'w, 'm, 'b> {
     ghost use Rattle.edit_walk.specs.Memos.{IsKeptIn, RecallsHeld};
     ghost use Rattle.hands.specs.Recalling.{recalls_more};
 
-    ghost models = { λ m. m.models.now };
+    ghost tint = { λ m. m.models.now.tint };
+
+    ghost models = { λ m. m.models.now.models };
 
     ghost act = { λ m. ball_act m.set m.ball.now };
 

@@ -4,7 +4,7 @@ ghost use Rattle.act_rebuilds.specs.Boxes.{MakesBox, box_act};
 ghost use Rattle.edit_walk.specs.Memos.{IsKeptIn, RecallsHeld};
 
 use crate::makers::ActMaker;
-use act_rebuilds::{BoxTask, DrawnModel, rebuild_box_with};
+use act_rebuilds::{BoxTask, DrawnModels, rebuild_box_with};
 use edit_walk::Latest;
 use history_model::Act;
 use node_words::{Full, NodeStore, Share, Steps};
@@ -15,7 +15,7 @@ use vw_cell::{Boxed, Side};
 /// the same.
 #[derive(Drop)]
 pub struct BoxAct<'w, 'm> {
-    models: &'w [DrawnModel<'m>],
+    models: &'w DrawnModels<'m>,
     part: Boxed,
     set: bool,
     memo: Latest<BoxTask>,
@@ -24,7 +24,7 @@ pub struct BoxAct<'w, 'm> {
 impl<'w, 'm> BoxAct<'w, 'm> {
     /// Nothing is made yet.
     #[tactic(auto, using(edit_walk::proofs::MemoLaws::recalls_none))]
-    pub fn new(models: &'w [DrawnModel<'m>], part: Boxed, set: bool) -> BoxAct<'w, 'm>
+    pub fn new(models: &'w DrawnModels<'m>, part: Boxed, set: bool) -> BoxAct<'w, 'm>
         ensures models { result.models.now ≡ models.now }
         ensures act { box_act result.set result.part ≡ box_act set part }
         ensures recalls { (held : List Tree)
@@ -45,7 +45,9 @@ impl<'w, 'm> ActMaker for BoxAct<'w, 'm> {
     ghost use Rattle.edit_walk.specs.Memos.{IsKeptIn, RecallsHeld};
     ghost use Rattle.hands.specs.Recalling.{recalls_more};
 
-    ghost models = { λ m. m.models.now };
+    ghost tint = { λ m. m.models.now.tint };
+
+    ghost models = { λ m. m.models.now.models };
 
     ghost act = { λ m. box_act m.set m.part };
 

@@ -5,7 +5,7 @@ ghost use Rattle.act_rebuilds.specs.Copies.{MakesCopy};
 ghost use Rattle.edit_walk.specs.Memos.{IsKeptIn, RecallsHeld};
 
 use crate::makers::ActMaker;
-use act_rebuilds::{CopyTask, DrawnModel, rebuild_copy_with};
+use act_rebuilds::{CopyTask, DrawnModels, rebuild_copy_with};
 use edit_walk::Latest;
 use history_model::Act;
 use node_words::{Full, NodeStore, Share, Steps};
@@ -16,7 +16,7 @@ use vw_cell::{Boxed, Cell, Side};
 /// that stayed the same, where what is copied into them did so too.
 #[derive(Drop)]
 pub struct CopyAct<'w, 'm> {
-    models: &'w [DrawnModel<'m>],
+    models: &'w DrawnModels<'m>,
     from: Boxed,
     to: Cell,
     memo: Latest<CopyTask>,
@@ -25,7 +25,7 @@ pub struct CopyAct<'w, 'm> {
 impl<'w, 'm> CopyAct<'w, 'm> {
     /// Nothing is made yet.
     #[tactic(auto, using(edit_walk::proofs::MemoLaws::recalls_none))]
-    pub fn new(models: &'w [DrawnModel<'m>], from: Boxed, to: Cell) -> CopyAct<'w, 'm>
+    pub fn new(models: &'w DrawnModels<'m>, from: Boxed, to: Cell) -> CopyAct<'w, 'm>
         ensures models { result.models.now ≡ models.now }
         ensures act { Copy result.from result.to ≡ Copy from to }
         ensures recalls { (held : List Tree)
@@ -47,7 +47,9 @@ impl<'w, 'm> ActMaker for CopyAct<'w, 'm> {
     ghost use Rattle.edit_walk.specs.Memos.{IsKeptIn, RecallsHeld};
     ghost use Rattle.hands.specs.Recalling.{recalls_more};
 
-    ghost models = { λ m. m.models.now };
+    ghost tint = { λ m. m.models.now.tint };
+
+    ghost models = { λ m. m.models.now.models };
 
     ghost act = { λ m. Copy m.from m.to };
 

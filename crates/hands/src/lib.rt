@@ -1,5 +1,8 @@
-//! Edits over sessions that are borrowed: a session is lent to a hand, the hand is a store of nodes,
-//! and what the hand leaves is the session.
+//! Edits over sessions that are borrowed: a session is lent to a hand, the hand is a store of
+//! nodes, and what the hand leaves is the session.
+//!
+//! It touches the table by `intern` and `release` alone. What a hand has of its lender is in
+//! `specs/Lent.antt`.
 #![tactic(auto)]
 
 mod balls;
@@ -12,11 +15,11 @@ mod making;
 mod taking;
 mod traits;
 
-pub use act_rebuilds::{DrawnModel, box_may_repeat, copy_may_repeat, draw_models};
+pub use act_rebuilds::{DrawnModels, box_may_repeat, copy_may_repeat, draw_models};
 pub use balls::BallAct;
 pub use boxes::BoxAct;
 pub use copies::CopyAct;
 pub use giving::give_back;
 pub use hand::Hand;
-pub use makers::{ActMaker, PlainAct};
+pub use makers::{ActMaker, AnyAct};
 pub use making::make_over;

@@ -1,4 +1,4 @@
-ghost use Rattle.std.specs.Prelude.{◌≡◌, ◌≤◌, ◌^◌, true, false, OnOk, List, option_copied};
+ghost use Rattle.std.specs.Prelude.{◌≡◌, ◌≤◌, ◌^◌, Bool, true, OnOk, List, option_copied};
 ghost use Rattle.vox_read.specs.Contents.{Content};
 ghost use Rattle.node_shapes.specs.Tree.{Tree};
 ghost use Rattle.node_shapes.specs.Weights.{number_of_trees};
@@ -7,9 +7,9 @@ ghost use Rattle.history_model.specs.declared.acts.Act.{Act};
 ghost use Rattle.history_model.specs.Logs.{FitsWorld, suits_tints};
 ghost use Rattle.history_model.specs.Worlds.{is_edit};
 ghost use Rattle.block_walk.specs.Roots.{HoldsRoot};
-ghost use Rattle.act_rebuilds.specs.Acts.{RebuildsAct, GrowsByAct, RefusesAct};
+ghost use Rattle.act_rebuilds.specs.Acts.{IsLargeFor, room_for, RebuildsAct, GrowsByAct, RefusesAct};
 
-use act_rebuilds::{DrawnModel, rebuild_act};
+use act_rebuilds::{DrawnModels, rebuild_act};
 use history_model::Act;
 use node_words::{Full, NodeStore, Share, Steps};
 use std::sync::ledger::Ledger;
@@ -17,6 +17,9 @@ use vw_cell::Side;
 
 /// An edit that may be made of one root after another, while all that was made stays held.
 pub trait ActMaker {
+    /// Whether the cells of its world have tints.
+    ghost tint: { Self → Bool };
+
     ghost models: { Self → List Content };
 
     ghost act: { Self → Act };
@@ -32,8 +35,8 @@ pub trait ActMaker {
     fn act(&self) -> Act
         ensures value { result ≡ act self.now };
 
-    /// A share of the root of the world that the edit makes, where a cell is set then. A store that
-    /// met a full bucket holds what it held.
+    /// A share of the root of what the edit makes of the store's cells, where a cell is set then. A
+    /// store that met a full bucket holds what it held.
     fn make<N: NodeStore, L: Ledger>(
         &mut self,
         store: &mut N,
@@ -42,12 +45,14 @@ pub trait ActMaker {
         steps: &mut Steps<L>,
     ) -> Result<Option<Share>, Full>
         requires side { side ≡ (N.seen store.old).plan.side }
+        requires large { IsLargeFor (act self.old) side }
         requires edit { is_edit (act self.old) ≡ true }
-        requires plain { suits_tints false (act self.old) ≡ true }
+        requires suits { suits_tints (tint self.old) (act self.old) ≡ true }
         requires fits { FitsWorld (2 ^ side) (models self.old) (act self.old) }
         requires old { HoldsRoot (N.seen store.old).held side (option_copied old) }
-        requires room { number_of_trees (N.seen store.old).held ≤ 3910 }
+        requires room { number_of_trees (N.seen store.old).held ≤ room_for (act self.old) }
         requires recalls { recalls self.old (N.seen store.old).held }
+        ensures tint { tint self.new ≡ tint self.old }
         ensures models { models self.new ≡ models self.old }
         ensures act { act self.new ≡ act self.old }
         ensures ok { RebuildsAct (N.seen store.old) side (option_copied old.entry)
@@ -62,13 +67,15 @@ pub trait ActMaker {
 
 /// An edit that is made anew of each root.
 #[derive(Drop)]
-pub struct PlainAct<'w, 'm> {
-    pub models: &'w [DrawnModel<'m>],
+pub struct AnyAct<'w, 'm> {
+    pub models: &'w DrawnModels<'m>,
     pub edit: Act,
 }
 
-impl<'w, 'm> ActMaker for PlainAct<'w, 'm> {
-    ghost models = { λ m. m.models.now };
+impl<'w, 'm> ActMaker for AnyAct<'w, 'm> {
+    ghost tint = { λ m. m.models.now.tint };
+
+    ghost models = { λ m. m.models.now.models };
 
     ghost act = { λ m. m.edit };
 

@@ -1,4 +1,8 @@
-//! Shares of nodes of a table, by their content.
+//! Shares of nodes of a table, by their content: the node that is there already, or a new one in a
+//! free slot of its bucket, under the bucket's turn.
+//!
+//! It touches the table by its turns alone. What each outcome leaves is in `specs/Leaves.antt` and
+//! `specs/Nodes.antt`.
 #![tactic(auto)]
 
 mod giving;

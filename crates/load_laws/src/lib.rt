@@ -1,4 +1,8 @@
-//! Laws of the inputs that one number makes: a run takes them.
+//! Laws of the inputs that one number makes: a run takes them, since their scripts are read as the
+//! commands they were made of.
+//!
+//! It has no code but the statements. The commands are in `specs/Commands.antt`; what a load is
+//! says `gen_load`.
 #![tactic(auto)]
 
 ghost use Rattle.load_laws.specs.ReadLaws.{ScriptsAreRead};

@@ -1,4 +1,8 @@
-//! Lines, words and numbers of texts in which each thing has one form.
+//! Lines, words and numbers of texts in which each thing has one form, so that what is read is what
+//! was written.
+//!
+//! It knows no command and no answer. How a text is parted is in `specs/Parts.antt`, and a number's
+//! digits in `specs/Numbers.antt`.
 #![tactic(auto)]
 
 mod cuts;

@@ -1,4 +1,8 @@
-//! Shares of nodes of a table: one more, and back with all that only it kept.
+//! Shares of nodes of a table: one more of a node that is held, and back, with all that only it
+//! kept.
+//!
+//! It touches the table by its turns alone, one bucket at a time. What shares that go back leave is
+//! in `specs/Returns.antt`.
 #![tactic(auto)]
 
 ghost use Rattle.std.specs.Prelude.{◌≡◌, ◌≤◌, ◌+◌, ◌-◌, ◌*◌, Some, None};

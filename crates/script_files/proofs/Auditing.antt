@@ -1,5 +1,5 @@
 -- What an audit answers, as an outcome of the whole command.
-use Rattle.std.proofs.Common.{◌≡◌, ℕ, ◌+◌, ◌<◌, List, [], ◌∷◌, ◌++◌, Bool, length, map, take, drop, get_or, Option, None, Ok, refl, sym, ap, subst, ◌∙◌, arith}
+use Rattle.std.proofs.Common.{◌≡◌, ℕ, ◌+◌, ◌<◌, List, [], ◌∷◌, ◌++◌, Bool, false, length, map, take, drop, get_or, Option, None, Ok, refl, sym, ap, subst, ◌∙◌, arith}
 use Rattle.std.specs.Prelude.{All, IsTrue, ◌↔◌}
 use Rattle.std.proofs.lemmas.List.{take_more, drop_more, map-append, length-map, length-take-le}
 use Rattle.std.proofs.lemmas.List.Elements.{All-nil, All-cons, All-append}
@@ -98,7 +98,7 @@ module _ (file : List ℕ) (t : AuditTexts) (models : List Content) (log : Log)
     }
 
     pub scripts_refused_at : (r : TextRefused)
-        → RefusesScripts r (scripts_of log.side models t.scripts) → RefusesAuditing file t r
+        → RefusesScripts r (scripts_of false log.side models t.scripts) → RefusesAuditing file t r
     scripts_refused_at (Script at) says =
         record { begun = journal_read; is_of_text = says.0; first = says.1 }
     scripts_refused_at Memory says = tt
@@ -112,7 +112,7 @@ module _ (file : List ℕ) (t : AuditTexts) (models : List Content) (log : Log)
     scripts_refused_at (Transcript at) says = absurd says
 
     pub transcripts_refused : (lines : List (List ScriptLine))
-        → scripts_of log.side models t.scripts ≡ Ok lines → (r : TextRefused)
+        → scripts_of false log.side models t.scripts ≡ Ok lines → (r : TextRefused)
         → RefusesTranscripts t.transcripts r → RefusesAuditing file t r
     transcripts_refused lines read (Transcript at) says = record {
       scripts = record { begun = journal_read; lines = lines; read = read };

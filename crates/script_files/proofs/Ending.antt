@@ -1,6 +1,8 @@
 -- What each stage gives, as an outcome of the whole command.
-use Rattle.std.proofs.Common.{◌≡◌, ◌⊎◌, inl, inr, ℕ, ◌≤◌, List, [], ◌∷◌, ◌++◌, length, map, Option, Some, None, Result, Ok, Err, refl, sym, ap, subst, ◌∙◌, arith, append_assoc, append-nil}
+use Rattle.std.proofs.Common.{◌≡◌, ◌⊎◌, inl, inr, ℕ, ◌^◌, ◌≤◌, Bool, List, [], ◌∷◌, ◌++◌, length, map, Option, Some, None, Result, Ok, Err, refl, sym, ap, subst, ◌∙◌, arith, append_assoc, append-nil}
+use Rattle.std.specs.Prelude.{All}
 use Rattle.std.proofs.lemmas.List.{length-append}
+use Rattle.std.proofs.lemmas.List.Elements.{All-append, All-contains, All-head, All-nil, All-tail}
 use Rattle.vw_io.specs.declared.shelves.WriteRefused.{WriteRefused}
 use Rattle.vw_io.specs.declared.shelves.WriteRefused.TheVariants.{Memory}
 use Rattle.history_model.specs.Logs.{Log}
@@ -11,12 +13,12 @@ use Rattle.history_model.specs.Journal.{journal_of}
 use Rattle.vox_read.specs.Contents.{Content}
 use Rattle.transcript.specs.Lines.{transcript_of}
 use Rattle.conformance.specs.Runs.{AllRanKeeping}
+use Rattle.conformance.specs.Saves.{saved_in, saved_of}
 use Rattle.conformance.specs.declared.saves.SavedBox.{SavedBox}
-use Rattle.flood.specs.Saved.{file_of_box}
-use Rattle.history_model.specs.Worlds.{World}
 use Rattle.world_run.specs.Closed.{Closed}
 use Rattle.node_words.specs.Plans.{Layout}
 use Rattle.script.specs.Commands.{name_bytes}
+use Rattle.script.specs.Fitting.{CommandFits, RisesFrom}
 use Rattle.script.specs.declared.commands.ScriptLine.{ScriptLine}
 use Rattle.transcript.specs.declared.answers.LineAnswer.{LineAnswer}
 use Rattle.session_runs.specs.Kept.{kept_of, kept_by}
@@ -24,7 +26,7 @@ use Rattle.session_runs.specs.Ran.{SessionsRanKeeping, ClosesWorld}
 use Rattle.session_runs.specs.Seen.{SessionSeen}
 use Rattle.session_runs.proofs.Closing.{are_a_run}
 use Rattle.session_runs.proofs.KeptWorlds.{saved_stay}
-use Rattle.session_runs.proofs.PlainLaws.{history_plain}
+use Rattle.session_runs.proofs.SuitLaws.{history_suits}
 use Rattle.world_run.specs.Ends.{IsEndOf}
 use Rattle.world_run.specs.Open.{RunState, saved_file}
 use Rattle.script_files.specs.declared.tallies.RunWritten.{RunWritten}
@@ -45,11 +47,14 @@ use Rattle.script_files.specs.declared.requests.Request.TheVariants.{Count, Run}
 use Rattle.script_files.specs.declared.scripts.Read.{Read}
 use Rattle.script_files.specs.Orders.{Asked}
 use Rattle.script_files.specs.Refusals.{output_name}
+use Rattle.script_files.specs.Scripts.{AreFitScripts}
 use Rattle.script_files.specs.Reports.{ReportIs, BeginsFirst, BeginsTexts}
 use Rattle.script_files.specs.Requests.{Given, given_seen, given_by, inputs_of, named_texts, transcript_name, save_file, saved_output, wanted_output, written_first, written_last, texts_written}
 use Rattle.script_files.specs.Meanings.{file_in, IsAccepted, TalliesRun, RefusesTexts, SessionsBegan, ScriptsBegan}
 use Rattle.script_files.specs.Outcomes.{Outcome}
 use Rattle.script_files.specs.Stages.{CountsFile, JournalIs, IsRead, given_of, ClosesRun, TellsRun, HistoryTexts, AreTexts, WroteHistory, StopsOpen, StopsClosed, WritesClosed, WritesHistory, WroteRun, BeginsClosed, StopsRun, WritesRun}
+use Rattle.world_run.proofs.Accepting.{saves_fit}
+use Rattle.script_files.proofs.SavedFiles.{IsGood, save_same}
 use Rattle.script_files.proofs.Writing.{both_written, stops_after, stops_before, stops_at_once}
 
 -- the first text is within the first input's limit
@@ -329,79 +334,119 @@ module _ (asked : Asked) (run : ScriptsRun) (old : ShelfState) where
 
 -- ---- what sessions saved, once their world is closed
 
--- the file of a box at a world, under the save's name
-abbrev pub box_output : SavedBox → World → Named
-box_output save w = record { name = name_bytes save.name; bytes = file_of_box save.part w }
+-- each accepted save fits the world
+good_saves : (tint : Bool) (p : Layout) (models : List Content) (lines : List (List ScriptLine))
+    (transcripts : List (List LineAnswer)) → AreFitScripts tint p.side models lines
+    → All (IsGood tint p) (saved_of lines transcripts)
+good_saves tint p models [] transcripts fits = All-nil (IsGood tint p)
+good_saves tint p models (script ∷ scripts) [] fits = All-nil (IsGood tint p)
+good_saves tint p models (script ∷ scripts) (answers ∷ transcripts) fits =
+    let each : List ScriptLine → Type 0 =
+    All (λ l. CommandFits tint (2 ^ p.side) models l.command) in
+    All-append (IsGood tint p) (saved_in script answers) (saved_of scripts transcripts)
+    (saves_fit tint (2 ^ p.side) models script answers (All-head each script scripts fits.fit))
+    (good_saves tint p models scripts transcripts (record {
+      fit = All-tail each script scripts fits.fit;
+      rise = All-tail (RisesFrom 1) script scripts fits.rise;
+    }))
 
-pub saved_same : (keep : ℕ) (p : Layout) (models : List Content) (lines : List (List ScriptLine))
-    (transcripts : List (List LineAnswer)) (sessions : List SessionSeen) (log : Log)
-    → SessionsRanKeeping keep p models 0 lines transcripts sessions
-    → ClosesWorld p models sessions log
-    → map (saved_output (saved_file models)) (kept_of lines transcripts sessions)
-    ≡ map (saved_output (save_file models)) (kept_by lines transcripts log)
-saved_same keep p models lines transcripts sessions log ran closes =
-    saved_stay box_output keep p models log 0 lines transcripts sessions ran
-    (history_plain keep p models lines transcripts sessions log ran closes) closes.seen
+-- a file under the save's name
+abbrev pub named_file : SavedBox → List ℕ → Named
+named_file save file = record { name = name_bytes save.name; bytes = file }
+
+pub saved_same : (keep : ℕ) (tint : Bool) (p : Layout) (models : List Content)
+    (lines : List (List ScriptLine)) (transcripts : List (List LineAnswer))
+    (sessions : List SessionSeen) (log : Log)
+    → AreFitScripts tint p.side models lines
+    → SessionsRanKeeping keep tint p models 0 lines transcripts sessions
+    → ClosesWorld tint p models sessions log
+    → map (saved_output (saved_file tint models)) (kept_of lines transcripts sessions)
+    ≡ map (saved_output (save_file tint models)) (kept_by lines transcripts log)
+saved_same keep tint p models lines transcripts sessions log fits ran closes =
+    saved_stay (saved_output (saved_file tint models)) (saved_output (save_file tint models))
+    (IsGood tint p) tint p models log
+    (λ save s suits g le good.
+    ap (named_file save)
+    (save_same tint p models log save s suits g le good))
+    keep 0 lines transcripts sessions ran
+    (history_suits keep tint p models lines transcripts sessions log ran closes) closes.seen
+    (λ save is.
+    All-contains (IsGood tint p) (saved_of lines transcripts) save
+    (good_saves tint p models lines transcripts fits) is)
 
 -- so what was written first is what the one history gives
 pub first_same : (asked : Asked) (models : List Content) (lines : List (List ScriptLine))
     (transcripts : List (List LineAnswer)) (sessions : List SessionSeen) (log : Log)
-    → SessionsRanKeeping asked.keep asked.plan models 0 lines transcripts sessions
-    → ClosesWorld asked.plan models sessions log
-    → written_first asked (given_seen models lines transcripts sessions)
-    ≡ written_first asked (given_by models lines log transcripts)
-first_same asked models lines transcripts sessions log ran closes =
+    → AreFitScripts asked.tint asked.plan.side models lines
+    → SessionsRanKeeping asked.keep asked.tint asked.plan models 0 lines transcripts sessions
+    → ClosesWorld asked.tint asked.plan models sessions log
+    → written_first asked (given_seen asked.tint models lines transcripts sessions)
+    ≡ written_first asked (given_by asked.tint models lines log transcripts)
+first_same asked models lines transcripts sessions log fits ran closes =
     ap (λ (os : List Named).
     named_texts (map transcript_name asked.scripts) (map transcript_of transcripts) ++ os)
-    (saved_same asked.keep asked.plan models lines transcripts sessions log ran closes)
+    (saved_same asked.keep asked.tint asked.plan models lines transcripts sessions log fits ran
+    closes)
 
 module _ (asked : Asked) (models : List Content) (lines : List (List ScriptLine)) (run : ScriptsRun)
-    (ran : SessionsRanKeeping asked.keep asked.plan models 0 lines run.transcripts.items
+    (ran : SessionsRanKeeping asked.keep asked.tint asked.plan models 0 lines run.transcripts.items
     run.run.sessions)
-    (plan_is : run.run.plan ≡ asked.plan) (models_are : run.run.models ≡ models)
-    (kept : run.run.kept ≡ kept_of lines run.transcripts.items run.run.sessions) where
+    (plan_is : run.run.plan ≡ asked.plan) (tint_is : run.run.tint ≡ asked.tint)
+    (models_are : run.run.models ≡ models)
+    (kept : run.run.kept ≡ kept_of lines run.transcripts.items run.run.sessions)
+    (fits : AreFitScripts asked.tint asked.plan.side models lines) where
   pub given_same : given_of run
-      ≡ given_seen models lines run.transcripts.items run.run.sessions
+      ≡ given_seen asked.tint models lines run.transcripts.items run.run.sessions
   given_same = λ i. record {
     models = models_are i;
     transcripts = run.transcripts.items;
     kept = kept i;
-    file = saved_file (models_are i);
+    file = saved_file (tint_is i) (models_are i);
   }
 
   module _ (closed : Closed) (closes : ClosesRun run.run closed) where
-    pub closes_world : ClosesWorld asked.plan models run.run.sessions closed.history
+    pub closes_world : ClosesWorld asked.tint asked.plan models run.run.sessions closed.history
     closes_world =
-        subst (λ (p : Layout). ClosesWorld p models run.run.sessions closed.history) plan_is
-        (subst (λ (ms : List Content). ClosesWorld run.run.plan ms run.run.sessions closed.history)
-        models_are closes.closes)
+        subst (λ (c : Bool). ClosesWorld c asked.plan models run.run.sessions closed.history) tint_is
+        (subst (λ (p : Layout). ClosesWorld run.run.tint p models run.run.sessions closed.history)
+        plan_is
+        (subst (λ (ms : List Content). ClosesWorld run.run.tint run.run.plan ms run.run.sessions
+        closed.history) models_are closes.closes))
 
-    pub ends_world : IsEndOf models closed.history closed
+    pub ends_world : IsEndOf asked.tint models closed.history closed
     ends_world =
-        subst (λ (ms : List Content). IsEndOf ms closed.history closed) models_are closes.is_end
+        subst (λ (c : Bool). IsEndOf c models closed.history closed) tint_is
+        (subst (λ (ms : List Content). IsEndOf run.run.tint ms closed.history closed) models_are
+        closes.is_end)
+
+    -- the history is coloured where tints were asked for
+    pub is_coloured : closed.history.coloured ≡ asked.tint
+    is_coloured = closes_world.coloured
 
     pub is_run : AllRanKeeping asked.keep asked.plan models lines run.transcripts.items
         closed.history
     is_run =
-        are_a_run asked.keep asked.plan models lines run.transcripts.items run.run.sessions
+        are_a_run asked.keep asked.tint asked.plan models lines run.transcripts.items run.run.sessions
         closed.history ran closes_world
 
     pub written_same : written_first asked (given_of run)
-        ≡ written_first asked (given_by models lines closed.history run.transcripts.items)
+        ≡ written_first asked
+        (given_by asked.tint models lines closed.history run.transcripts.items)
     written_same =
         ap (λ (g : Given). written_first asked g) given_same
-        ∙ first_same asked models lines run.transcripts.items run.run.sessions closed.history ran
-        closes_world
+        ∙ first_same asked models lines run.transcripts.items run.run.sessions closed.history fits
+        ran closes_world
 
     pub texts_same : (report : List ℕ) → texts_written asked (given_of run) closed.history report
-        ≡ texts_written asked (given_by models lines closed.history run.transcripts.items)
+        ≡ texts_written asked
+        (given_by asked.tint models lines closed.history run.transcripts.items)
         closed.history report
     texts_same report =
         ap (λ (os : List Named). os ++ written_last asked closed.history report) written_same
 
     pub begins_same : (outputs : List Named)
         → BeginsTexts asked (given_of run) closed.history outputs
-        → BeginsTexts asked (given_by models lines closed.history run.transcripts.items)
+        → BeginsTexts asked (given_by asked.tint models lines closed.history run.transcripts.items)
         closed.history outputs
     begins_same outputs b = record {
       report = b.report;
@@ -416,10 +461,12 @@ module _ (asked : Asked) (models : List Content) (lines : List (List ScriptLine)
 module _ (asked : Asked) (texts : List (List ℕ)) (r : Read) (run : ScriptsRun)
     (old mid new : ShelfState) (taken : AreTaken old.files (inputs_of (Run asked)) texts)
     (read : IsRead asked texts r)
-    (ran : SessionsRanKeeping asked.keep asked.plan r.models 0 r.scripts.items run.transcripts.items
-    run.run.sessions)
-    (plan_is : run.run.plan ≡ asked.plan) (models_are : run.run.models ≡ r.models)
+    (ran : SessionsRanKeeping asked.keep asked.tint asked.plan r.models 0 r.scripts.items
+    run.transcripts.items run.run.sessions)
+    (plan_is : run.run.plan ≡ asked.plan) (tint_is : run.run.tint ≡ asked.tint)
+    (models_are : run.run.models ≡ r.models)
     (kept : run.run.kept ≡ kept_of r.scripts.items run.transcripts.items run.run.sessions)
+    (fits : AreFitScripts asked.tint asked.plan.side r.models r.scripts.items)
     (same : mid ≡ old) where
   abbrev accepts : (closed : Closed) → ClosesRun run.run closed
       → IsAccepted asked texts closed.history run.transcripts.items
@@ -429,7 +476,10 @@ module _ (asked : Asked) (texts : List (List ℕ)) (r : Read) (run : ScriptsRun)
     lines = r.scripts.items;
     read = read.read;
     apart = read.apart;
-    run = is_run asked r.models r.scripts.items run ran plan_is models_are kept closed closes;
+    run = is_run asked r.models r.scripts.items run ran plan_is tint_is models_are kept fits closed
+        closes;
+    coloured = is_coloured asked r.models r.scripts.items run ran plan_is tint_is models_are kept
+        fits closed closes;
   }
 
   pub run_written : (tally : Tally) (closed : Closed) → WroteRun asked run tally closed mid new
@@ -446,15 +496,15 @@ module _ (asked : Asked) (texts : List (List ℕ)) (r : Read) (run : ScriptsRun)
             log = closed.history;
             transcripts = run.transcripts.items;
             accepted = accepts closed w.closes;
-            ends = ends_world asked r.models r.scripts.items run ran plan_is models_are kept closed
-                w.closes;
+            ends = ends_world asked r.models r.scripts.items run ran plan_is tint_is models_are kept
+                fits closed w.closes;
             tallied = subst (λ (ms : List Content). TalliesRun asked ms closed.history tally)
                 models_are w.tallied;
             report = w.report;
             reported = subst (λ (ms : List Content).
                 ReportIs asked.report ms closed.history w.report) models_are w.reported;
-            are = texts_same asked r.models r.scripts.items run ran plan_is models_are kept closed
-                w.closes w.report;
+            are = texts_same asked r.models r.scripts.items run ran plan_is tint_is models_are kept
+                fits closed w.closes w.report;
           };
         };
         whole = w.whole;
@@ -474,14 +524,14 @@ module _ (asked : Asked) (texts : List (List ℕ)) (r : Read) (run : ScriptsRun)
     sessions = run.run.sessions;
     ran = ran;
     begins = subst (λ (g : Given). BeginsFirst asked g outputs)
-        (given_same asked r.models r.scripts.items run ran plan_is models_are kept) b;
+        (given_same asked r.models r.scripts.items run ran plan_is tint_is models_are kept fits) b;
   })
   run_begun outputs (inr b) = inr (record {
     log = b.closed.history;
     transcripts = run.transcripts.items;
     accepted = accepts b.closed b.closes;
-    begins = begins_same asked r.models r.scripts.items run ran plan_is models_are kept b.closed
-        b.closes outputs b.begins;
+    begins = begins_same asked r.models r.scripts.items run ran plan_is tint_is models_are kept fits
+        b.closed b.closes outputs b.begins;
   })
 
   pub run_stopped : (refused : OutputRefused) → StopsRun asked run refused mid new

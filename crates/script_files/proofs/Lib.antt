@@ -1,5 +1,7 @@
 pub mod Refusing
 pub mod Writing
+pub mod WorldSides
+pub mod SavedFiles
 pub mod Ending
 pub mod ScriptLists
 pub mod Loading

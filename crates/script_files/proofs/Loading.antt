@@ -1,5 +1,5 @@
 -- The run of a load, and what it leaves.
-use Rattle.std.proofs.Common.{inl, inr, ◌⊎◌, Some, ◌≡◌, ℕ, ◌*◌, ◌^◌, ◌≤◌, arith, Result, List, [], ◌∷◌, length, map, Vec, Global, Ok, Err, refl, ap, subst, ◌∙◌}
+use Rattle.std.proofs.Common.{false, inl, inr, ◌⊎◌, Some, ◌≡◌, ℕ, ◌*◌, ◌^◌, ◌≤◌, arith, Result, List, [], ◌∷◌, length, map, Vec, Global, Ok, Err, refl, ap, subst, ◌∙◌}
 use Rattle.std.proofs.lemmas.Bool.{cases_order}
 use Rattle.std.proofs.lemmas.List.{length-map}
 use Rattle.std.proofs.Math.Nat.{pow-le-pow_right}
@@ -21,7 +21,7 @@ use Rattle.script_files.specs.declared.tallies.Done.TheVariants.{Shown}
 use Rattle.script_files.specs.declared.tallies.LoadTally.{LoadTally}
 use Rattle.script_files.specs.declared.refusals.CommandRefused.TheVariants.{Output}
 use Rattle.script_files.specs.declared.requests.Request.TheVariants.{Demo}
-use Rattle.script_files.specs.Scripts.{scripts_of}
+use Rattle.script_files.specs.Scripts.{AreFitScripts, scripts_of}
 use Rattle.world_run.specs.Closed.{Closed}
 use Rattle.session_runs.specs.Kept.{kept_of}
 use Rattle.session_runs.specs.Ran.{SessionsRan}
@@ -35,7 +35,7 @@ use Rattle.script_files.specs.Reports.{BeginsFirst}
 use Rattle.script_files.specs.Demos.{demo_plan, demo_asked, LoadBegan, LoadSessionsBegan}
 use Rattle.script_files.specs.Outcomes.{Outcome}
 use Rattle.script_files.specs.Stages.{IsLoadRead, given_of, ClosesRun, WroteRun, BeginsClosed, StopsRun}
-use Rattle.script_files.proofs.Ending.{given_same, is_run, ends_world, texts_same, begins_same}
+use Rattle.script_files.proofs.Ending.{given_same, is_coloured, is_run, ends_world, texts_same, begins_same}
 
 -- 256 is one power of two alone
 pub eight_of_256 : (s : ℕ) → 2 ^ s ≡ 256 → s ≡ 8
@@ -61,7 +61,7 @@ ok_of a b x y of_x of_y same = cc
 -- the models that are read are the load's one
 pub load_read : (n : ℕ) (vox : List ℕ) (r : Read) (scripts : List (List ℕ))
     → ReadsModels vox (Ok r.models) → ReadsModels vox (Ok (load_model n ∷ []))
-    → scripts ≡ load_scripts n → scripts_of 8 r.models scripts ≡ Ok r.scripts.items
+    → scripts ≡ load_scripts n → scripts_of false 8 r.models scripts ≡ Ok r.scripts.items
     → IsLoadRead n r
 load_read n vox r scripts found says same read =
     let is : r.models ≡ load_model n ∷ [] =
@@ -70,8 +70,10 @@ load_read n vox r scripts found says same read =
     record {
       models = is;
       read =
-          subst (λ (ms : List Content). scripts_of 8 ms (load_scripts n) ≡ Ok r.scripts.items) is
-          (subst (λ (ss : List (List ℕ)). scripts_of 8 r.models ss ≡ Ok r.scripts.items) same read);
+          subst (λ (ms : List Content). scripts_of false 8 ms (load_scripts n)
+          ≡ Ok r.scripts.items) is
+          (subst (λ (ss : List (List ℕ)). scripts_of false 8 r.models ss
+          ≡ Ok r.scripts.items) same read);
     }
 
 -- a load has four scripts
@@ -85,7 +87,7 @@ few_texts n texts e =
     omega (arith, ap length e, length-map texts (λ (t : Vec ℕ Global). t.items), four_scripts n)
 
 -- the commands of the load's scripts
-load_is_read : (n : ℕ) → scripts_of 8 (load_model n ∷ []) (load_scripts n) ≡ Ok (load_lines n)
+load_is_read : (n : ℕ) → scripts_of false 8 (load_model n ∷ []) (load_scripts n) ≡ Ok (load_lines n)
 unfolding scripts_from
 load_is_read n =
     let g = state_after n 16000 in
@@ -107,13 +109,19 @@ told_of n records counts = record { number = n; records = records; counts = coun
 
 module _ (n : ℕ) (r : Read) (run : ScriptsRun) (old new : ShelfState) (counted : LoadsAreCounted)
     (read : IsLoadRead n r)
-    (ran : SessionsRan demo_plan r.models 0 r.scripts.items run.transcripts.items run.run.sessions)
-    (plan_is : run.run.plan ≡ demo_plan) (models_are : run.run.models ≡ r.models)
-    (kept : run.run.kept ≡ kept_of r.scripts.items run.transcripts.items run.run.sessions) where
-  ran_load : SessionsRan demo_plan (load_model n ∷ []) 0 r.scripts.items run.transcripts.items
+    (ran : SessionsRan false demo_plan r.models 0 r.scripts.items run.transcripts.items run.run.sessions)
+    (plan_is : run.run.plan ≡ demo_plan) (tint_is : run.run.tint ≡ false)
+    (models_are : run.run.models ≡ r.models)
+    (kept : run.run.kept ≡ kept_of r.scripts.items run.transcripts.items run.run.sessions)
+    (fits : AreFitScripts false 8 r.models r.scripts.items) where
+  fits_load : AreFitScripts false 8 (load_model n ∷ []) r.scripts.items
+  fits_load = subst (λ (ms : List Content). AreFitScripts false 8 ms r.scripts.items) read.models
+      fits
+
+  ran_load : SessionsRan false demo_plan (load_model n ∷ []) 0 r.scripts.items run.transcripts.items
       run.run.sessions
   ran_load =
-      subst (λ (ms : List Content). SessionsRan demo_plan ms 0 r.scripts.items
+      subst (λ (ms : List Content). SessionsRan false demo_plan ms 0 r.scripts.items
       run.transcripts.items run.run.sessions) read.models ran
 
   load_models : run.run.models ≡ load_model n ∷ []
@@ -123,8 +131,9 @@ module _ (n : ℕ) (r : Read) (run : ScriptsRun) (old new : ShelfState) (counted
     run_of_load : AllRan demo_plan (load_model n ∷ []) r.scripts.items run.transcripts.items
         closed.history
     run_of_load =
-        is_run demo_asked (load_model n ∷ []) r.scripts.items run ran_load plan_is load_models kept
-        closed closes
+        is_run demo_asked
+        (load_model n ∷ []) r.scripts.items run ran_load plan_is tint_is load_models kept
+        fits_load closed closes
 
     -- each region's count is what its own script makes
     own : length closed.history.records ≡ 800
@@ -156,13 +165,13 @@ module _ (n : ℕ) (r : Read) (run : ScriptsRun) (old new : ShelfState) (counted
             read = read.read;
             run = run_of_load closed w.closes;
             ends = ends_world demo_asked (load_model n ∷ []) r.scripts.items run ran_load plan_is
-                load_models kept closed w.closes;
+                tint_is load_models kept fits_load closed w.closes;
             number = refl;
             records = w.tallied.records;
             counts = are;
             regions = λ all. are ∙ own closed w.closes all;
             are = texts_same demo_asked (load_model n ∷ []) r.scripts.items run ran_load plan_is
-                load_models kept closed w.closes [];
+                tint_is load_models kept fits_load closed w.closes [];
           };
         };
         whole = w.whole;
@@ -179,8 +188,9 @@ module _ (n : ℕ) (r : Read) (run : ScriptsRun) (old new : ShelfState) (counted
     sessions = run.run.sessions;
     ran = ran_load;
     begins = subst (λ (g : Given). BeginsFirst demo_asked g outputs)
-        (given_same demo_asked (load_model n ∷ []) r.scripts.items run ran_load plan_is load_models
-        kept) b;
+        (given_same demo_asked
+        (load_model n ∷ []) r.scripts.items run ran_load plan_is tint_is load_models
+        kept fits_load) b;
   })
   demo_begun outputs (inr b) = inr (record {
     log = b.closed.history;
@@ -188,8 +198,10 @@ module _ (n : ℕ) (r : Read) (run : ScriptsRun) (old new : ShelfState) (counted
     lines = r.scripts.items;
     read = read.read;
     run = run_of_load b.closed b.closes;
+    coloured = is_coloured demo_asked (load_model n ∷ []) r.scripts.items run ran_load plan_is
+        tint_is load_models kept fits_load b.closed b.closes;
     begins = begins_same demo_asked (load_model n ∷ []) r.scripts.items run ran_load plan_is
-        load_models kept b.closed b.closes outputs b.begins;
+        tint_is load_models kept fits_load b.closed b.closes outputs b.begins;
   })
 
   pub demo_stopped : (refused : OutputRefused) → StopsRun demo_asked run refused old new

@@ -15,10 +15,10 @@ use Rattle.script_files.specs.declared.refusals.TextRefused.{TextRefused}
 use Rattle.script_files.specs.declared.refusals.TextRefused.TheVariants as texts
 use Rattle.script_files.specs.declared.requests.Request.{Request}
 use Rattle.script_files.specs.declared.requests.Request.TheVariants.{Count, Run, Demo, Flood, Scene, Dag, Look, Audit}
-use Rattle.script_files.specs.Orders.{Asked}
+use Rattle.script_files.specs.Orders.{Asked, asked_side}
 use Rattle.script_files.specs.Meanings.{file_in, scripts_in, RefusesVox, RefusesTexts}
 use Rattle.script_files.specs.Refusals.{of_vox, of_kind, of_fault, RefusesScripts}
-use Rattle.script_files.specs.Scripts.{in_script, scripts_of}
+use Rattle.script_files.specs.Scripts.{in_script, lines_asked, scripts_of}
 
 -- the request reads a VOX file
 abbrev pub ReadsVox : Request → Type 0
@@ -89,7 +89,7 @@ script_refused number fault read refuses = refused_at fault.kind number fault re
 -- what the scripts' texts are refused for, the run is refused for
 pub scripts_refused : (r : TextRefused) (asked : Asked) (models : List Content)
     (texts : List (List ℕ)) → ReadsModels (file_in texts) (Ok models)
-    → RefusesScripts r (scripts_of asked.plan.side models (scripts_in texts))
+    → RefusesScripts r (lines_asked asked models (scripts_in texts))
     → RefusesTexts r (Run asked) texts
 scripts_refused (texts.Script at) asked models texts gives refuses =
     record { models = models; gives = gives; is_of_text = refuses.0; first = refuses.1 }
@@ -102,6 +102,16 @@ scripts_refused (texts.StoreFull full) asked models texts gives refuses = absurd
 scripts_refused (texts.NoDag place) asked models texts gives refuses = absurd refuses
 scripts_refused (texts.Journal line) asked models texts gives refuses = absurd refuses
 scripts_refused (texts.Transcript at) asked models texts gives refuses = absurd refuses
+
+-- the same of scripts that were read by the side of the run's world
+pub scripts_refused_by : (r : TextRefused) (asked : Asked) (side : ℕ) (models : List Content)
+    (texts : List (List ℕ)) → side ≡ asked_side asked → ReadsModels (file_in texts) (Ok models)
+    → RefusesScripts r (scripts_of asked.tint side models (scripts_in texts))
+    → RefusesTexts r (Run asked) texts
+scripts_refused_by r asked side models texts same gives refuses =
+    scripts_refused r asked models texts gives
+    (subst (λ (s : ℕ). RefusesScripts r (scripts_of asked.tint s models (scripts_in texts))) same
+    refuses)
 
 -- a fault of the first text is the VOX file's
 pub first_refused : (fault : VoxFault) (asked : Asked) (texts : List (List ℕ)) (file : List ℕ)

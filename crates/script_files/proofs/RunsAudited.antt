@@ -1,5 +1,5 @@
 -- What a run left is audited yes.
-use Rattle.std.proofs.Common.{◌≡◌, ℕ, List, Option, Some, None, Result, Ok, refl, sym, ap, subst, ◌∙◌}
+use Rattle.std.proofs.Common.{◌≡◌, ℕ, Bool, false, List, Option, Some, None, Result, Ok, refl, sym, ap, subst, ◌∙◌}
 use Rattle.vox_chunk.specs.declared.faults.VoxFault.{VoxFault}
 use Rattle.vox_read.specs.Contents.{Content}
 use Rattle.vox_read.specs.Once.{one_reading}
@@ -13,7 +13,8 @@ use Rattle.audit.proofs.Running.{runs_are_audited}
 use Rattle.script_files.specs.declared.refusals.NumberedFault.{NumberedFault}
 use Rattle.script_files.specs.Meanings.{file_in, scripts_in}
 use Rattle.script_files.specs.RunsAudited.{RunsAreAnsweredYes}
-use Rattle.script_files.specs.Scripts.{scripts_of}
+use Rattle.script_files.specs.Orders.{world_exponent}
+use Rattle.script_files.specs.Scripts.{lines_asked, scripts_of}
 use Rattle.script_files.specs.Unread.{said_once}
 
 abbrev Reading : Type 0
@@ -43,15 +44,19 @@ answered_yes asked texts log transcripts buckets answer accepted told answers sa
     in
     let side : log.side ≡ asked.plan.side =
     same_exponent log.side asked.plan.side accepted.run.legal.same_side in
-    let reads : scripts_of asked.plan.side accepted.models (scripts_in texts)
-    ≡ scripts_of begun.log.side begun.models (scripts_in texts) =
-    ap (λ (s : ℕ). scripts_of s accepted.models (scripts_in texts)) (sym side)
-    ∙ ap (λ (l : Log). scripts_of l.side accepted.models (scripts_in texts)) logs
-    ∙ ap (λ (ms : List Content). scripts_of begun.log.side ms (scripts_in texts)) models in
+    let plain : asked.tint ≡ false =
+    sym accepted.coloured ∙ ap (λ (l : Log). l.coloured) logs ∙ begun.journal.plain in
+    let reads : lines_asked asked accepted.models (scripts_in texts)
+    ≡ scripts_of false begun.log.side begun.models (scripts_in texts) =
+    ap (λ (b : Bool). scripts_of b (world_exponent b asked.plan.side) accepted.models
+    (scripts_in texts)) plain
+    ∙ ap (λ (s : ℕ). scripts_of false s accepted.models (scripts_in texts)) (sym side)
+    ∙ ap (λ (l : Log). scripts_of false l.side accepted.models (scripts_in texts)) logs
+    ∙ ap (λ (ms : List Content). scripts_of false begun.log.side ms (scripts_in texts)) models in
     let lines : accepted.lines ≡ audit.all.scripts.lines =
     lines_once accepted.lines audit.all.scripts.lines
-    (scripts_of asked.plan.side accepted.models (scripts_in texts))
-    (scripts_of begun.log.side begun.models (scripts_in texts)) accepted.read
+    (lines_asked asked accepted.models (scripts_in texts))
+    (scripts_of false begun.log.side begun.models (scripts_in texts)) accepted.read
     audit.all.scripts.read reads in
     let said : transcripts ≡ audit.all.said =
     said_once transcripts audit.all.said answers audit.all.transcripts.answers

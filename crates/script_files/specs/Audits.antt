@@ -89,7 +89,7 @@ pub record JournalRead (file : List ℕ) (t : AuditTexts) : Type 0 where
 pub record ScriptsRead (file : List ℕ) (t : AuditTexts) : Type 0 where
   pub begun : JournalRead file t
   pub lines : List (List ScriptLine)
-  pub read : scripts_of begun.log.side begun.models t.scripts ≡ Ok lines
+  pub read : scripts_of false begun.log.side begun.models t.scripts ≡ Ok lines
 
 -- and the transcripts are read
 pub record AllRead (file : List ℕ) (t : AuditTexts) : Type 0 where
@@ -126,7 +126,7 @@ pub record LacksJournal (file : List ℕ) (t : AuditTexts) (line : ℕ) : Type 0
 pub record LacksScript (file : List ℕ) (t : AuditTexts) (at : NumberedFault) : Type 0 where
   pub begun : JournalRead file t
   pub is_of_text : IsOfText at.fault.kind
-  pub first : scripts_of begun.log.side begun.models t.scripts ≡ Err at
+  pub first : scripts_of false begun.log.side begun.models t.scripts ≡ Err at
 
 -- no script has a fault, and this is the first line of the first transcript that doesn't fit
 pub record LacksTranscript (file : List ℕ) (t : AuditTexts) (at : TranscriptLine) : Type 0 where

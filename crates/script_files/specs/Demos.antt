@@ -1,5 +1,5 @@
 -- What the run of a load tells and writes.
-use Rattle.std.specs.Prelude.{◌≡◌, ℕ, List, [], ◌∷◌, length, Some, None, Ok, codes}
+use Rattle.std.specs.Prelude.{◌≡◌, ℕ, false, List, [], ◌∷◌, length, Some, None, Ok, codes}
 use Rattle.vw_io.specs.Outputs.{Named}
 use Rattle.history_model.specs.Logs.{Log}
 use Rattle.node_words.specs.Plans.{Layout, usual_buckets}
@@ -28,6 +28,7 @@ demo_plan = record { side = 8; buckets = usual_buckets; cap = 128 }
 abbrev pub demo_asked : Asked
 demo_asked = record {
   plan = demo_plan;
+  tint = false;
   keep = 0;
   journal = Some (codes "demo.journal");
   report = None;
@@ -42,32 +43,33 @@ pub record LoadRan (n : ℕ) (told : LoadTally) (closed : Closed) (outputs : Lis
     pub log : Log
     pub transcripts : List (List LineAnswer)
     pub lines : List (List ScriptLine)
-    pub read : scripts_of 8 (load_model n ∷ []) (load_scripts n) ≡ Ok lines
+    pub read : scripts_of false 8 (load_model n ∷ []) (load_scripts n) ≡ Ok lines
     pub run : AllRan demo_plan (load_model n ∷ []) lines transcripts log
-    pub ends : IsEndOf (load_model n ∷ []) log closed
+    pub ends : IsEndOf false (load_model n ∷ []) log closed
     pub number : told.number ≡ n
     pub records : told.records ≡ length log.records
     pub counts : told.counts ≡ region_counts transcripts
     pub regions : length log.records ≡ 800 → told.counts ≡ own_counts n
     pub are : outputs ≡ texts_written demo_asked
-        (given_by (load_model n ∷ []) lines log transcripts) log []
+        (given_by false (load_model n ∷ []) lines log transcripts) log []
 
 -- the same as far as these first outputs, of which a later one may not have been made
 pub record LoadBegan (n : ℕ) (outputs : List Named) : Type 0 where
   pub log : Log
   pub transcripts : List (List LineAnswer)
   pub lines : List (List ScriptLine)
-  pub read : scripts_of 8 (load_model n ∷ []) (load_scripts n) ≡ Ok lines
+  pub read : scripts_of false 8 (load_model n ∷ []) (load_scripts n) ≡ Ok lines
   pub run : AllRan demo_plan (load_model n ∷ []) lines transcripts log
-  pub begins : BeginsTexts demo_asked (given_by (load_model n ∷ []) lines log transcripts) log
+  pub coloured : log.coloured ≡ false
+  pub begins : BeginsTexts demo_asked (given_by false (load_model n ∷ []) lines log transcripts) log
       outputs
 
 -- the world wasn't closed yet: these are first ones of the sessions' transcripts
 pub record LoadSessionsBegan (n : ℕ) (outputs : List Named) : Type 0 where
   pub transcripts : List (List LineAnswer)
   pub lines : List (List ScriptLine)
-  pub read : scripts_of 8 (load_model n ∷ []) (load_scripts n) ≡ Ok lines
+  pub read : scripts_of false 8 (load_model n ∷ []) (load_scripts n) ≡ Ok lines
   pub sessions : List SessionSeen
-  pub ran : SessionsRan demo_plan (load_model n ∷ []) 0 lines transcripts sessions
+  pub ran : SessionsRan false demo_plan (load_model n ∷ []) 0 lines transcripts sessions
   pub begins : BeginsFirst demo_asked
-      (given_seen (load_model n ∷ []) lines transcripts sessions) outputs
+      (given_seen false (load_model n ∷ []) lines transcripts sessions) outputs

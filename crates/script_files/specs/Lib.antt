@@ -1,4 +1,5 @@
 pub mod Orders
+pub mod TintFiles
 pub mod Requests
 pub mod Scripts
 pub mod Reports

@@ -30,7 +30,7 @@ use Rattle.script_files.specs.Orders.{Asked, AuditAsked}
 use Rattle.script_files.specs.Audits.{AuditTexts, audit_texts, Audited, LacksJournal, LacksScript, LacksTranscript, FillsAudit}
 use Rattle.script_files.specs.Requests.{inputs_of, output_names, given_seen, given_by, texts_written}
 use Rattle.script_files.specs.Reports.{ReportIs, BeginsFirst, BeginsTexts}
-use Rattle.script_files.specs.Scripts.{scripts_of}
+use Rattle.script_files.specs.Scripts.{lines_asked}
 use Rattle.script_files.specs.Demos.{LoadRan, LoadBegan, LoadSessionsBegan}
 use Rattle.node_words.specs.declared.shares.Full.{Full}
 use Rattle.script_files.specs.Floods.{RegionFlooded, RegionBegun, LacksPlace, FillsStore}
@@ -65,15 +65,16 @@ AreApart asked lines = collide (output_names asked lines) (inputs_of (Run asked)
 
 -- `run`: the file gives models, no script has a fault, no names collide, and these are the history
 -- and the transcripts of the run of all scripts, in which as many last versions alone are held as
--- is asked for
+-- is asked for. The history is coloured where tints are asked for
 pub record IsAccepted (asked : Asked) (texts : List (List ℕ)) (log : Log)
     (transcripts : List (List LineAnswer)) : Type 0 where
   pub models : List Content
   pub gives : ReadsModels (file_in texts) (Ok models)
   pub lines : List (List ScriptLine)
-  pub read : scripts_of asked.plan.side models (scripts_in texts) ≡ Ok lines
+  pub read : lines_asked asked models (scripts_in texts) ≡ Ok lines
   pub apart : AreApart asked lines
   pub run : AllRanKeeping asked.keep asked.plan models lines transcripts log
+  pub coloured : log.coloured ≡ asked.tint
 
 -- the numbers of a run: its scripts, the records and marks of its history, and, over all levels,
 -- the different contents of the blocks of the versions that are kept
@@ -91,12 +92,12 @@ pub record ScriptsRan (asked : Asked) (texts : List (List ℕ)) (tally : Tally) 
   pub log : Log
   pub transcripts : List (List LineAnswer)
   pub accepted : IsAccepted asked texts log transcripts
-  pub ends : IsEndOf accepted.models log closed
+  pub ends : IsEndOf asked.tint accepted.models log closed
   pub tallied : TalliesRun asked accepted.models log tally
   pub report : List ℕ
   pub reported : ReportIs asked.report accepted.models log report
   pub are : outputs ≡ texts_written asked
-      (given_by accepted.models accepted.lines log transcripts) log report
+      (given_by asked.tint accepted.models accepted.lines log transcripts) log report
 
 -- the same as far as these first outputs, of which a later one may not have been made
 pub record ScriptsBegan (asked : Asked) (texts : List (List ℕ)) (outputs : List Named) : Type 0
@@ -105,7 +106,7 @@ pub record ScriptsBegan (asked : Asked) (texts : List (List ℕ)) (outputs : Lis
     pub transcripts : List (List LineAnswer)
     pub accepted : IsAccepted asked texts log transcripts
     pub begins : BeginsTexts asked
-        (given_by accepted.models accepted.lines log transcripts) log outputs
+        (given_by asked.tint accepted.models accepted.lines log transcripts) log outputs
 
 -- the world wasn't closed yet: each session ran its script, and these are first ones of their
 -- transcripts and saved files
@@ -114,12 +115,13 @@ pub record SessionsBegan (asked : Asked) (texts : List (List ℕ)) (outputs : Li
     pub models : List Content
     pub gives : ReadsModels (file_in texts) (Ok models)
     pub lines : List (List ScriptLine)
-    pub read : scripts_of asked.plan.side models (scripts_in texts) ≡ Ok lines
+    pub read : lines_asked asked models (scripts_in texts) ≡ Ok lines
     pub apart : AreApart asked lines
     pub transcripts : List (List LineAnswer)
     pub sessions : List SessionSeen
-    pub ran : SessionsRanKeeping asked.keep asked.plan models 0 lines transcripts sessions
-    pub begins : BeginsFirst asked (given_seen models lines transcripts sessions) outputs
+    pub ran : SessionsRanKeeping asked.keep asked.tint asked.plan models 0 lines transcripts
+        sessions
+    pub begins : BeginsFirst asked (given_seen asked.tint models lines transcripts sessions) outputs
 
 -- what a command gives where nothing is refused, and the closed world where it ran scripts
 abbrev pub GivesOutputs : Request → List (List ℕ) → Done → Option Closed → List Named → Type 0
@@ -158,7 +160,7 @@ pub record HasScriptFault (asked : Asked) (texts : List (List ℕ))
   pub models : List Content
   pub gives : ReadsModels (file_in texts) (Ok models)
   pub is_of_text : IsOfText at.fault.kind
-  pub first : scripts_of asked.plan.side models (scripts_in texts) ≡ Err at
+  pub first : lines_asked asked models (scripts_in texts) ≡ Err at
 
 abbrev pub RefusesScript : Request → List (List ℕ) → NumberedFault → Type 0
 RefusesScript (Count file) texts at = ⊥
@@ -175,7 +177,7 @@ pub record HasTakenName (asked : Asked) (texts : List (List ℕ)) : Type 0 where
   pub models : List Content
   pub gives : ReadsModels (file_in texts) (Ok models)
   pub lines : List (List ScriptLine)
-  pub read : scripts_of asked.plan.side models (scripts_in texts) ≡ Ok lines
+  pub read : lines_asked asked models (scripts_in texts) ≡ Ok lines
   pub collides : IsTrue (collide (output_names asked lines) (inputs_of (Run asked)))
 
 abbrev pub RefusesNames : Request → List (List ℕ) → Type 0

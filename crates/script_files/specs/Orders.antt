@@ -1,18 +1,29 @@
 -- What a run is asked for.
-use Rattle.std.specs.Prelude.{ℕ, if◌then◌else◌, List, Option, Some, None}
+use Rattle.std.specs.Prelude.{ℕ, ◌-◌, Bool, true, false, if◌then◌else◌, List, Option, Some, None}
 use Rattle.node_words.specs.Plans.{Layout, is_number_of_buckets}
 use Rattle.history_model.specs.declared.questions.Question.{Question}
 
--- how the world's store is laid out, how many last versions alone are held, or 0 for all, the names
--- of the journal and of the report where they are wanted, and those of the VOX file and of the
--- scripts, of which the first is that of session 0
+-- how the world's store is laid out, whether the world's cells have tints, how many last versions
+-- alone are held, or 0 for all, the names of the journal and of the report where they are wanted,
+-- and those of the VOX file and of the scripts, of which the first is that of session 0
 pub record Asked : Type 0 where
   pub plan : Layout
+  pub tint : Bool
   pub keep : ℕ
   pub journal : Option (List ℕ)
   pub report : Option (List ℕ)
   pub file : List ℕ
   pub scripts : List (List ℕ)
+
+-- the exponent of the side of the world that a store of this side keeps: a quarter of the side
+-- where cells have tints
+abbrev pub world_exponent : Bool → ℕ → ℕ
+world_exponent true side = side - 2
+world_exponent false side = side
+
+-- that of a run's world
+abbrev pub asked_side : Asked → ℕ
+asked_side asked = world_exponent asked.tint asked.plan.side
 
 -- what a flood is asked for: the name of the VOX file, the number of its model, the place from
 -- which is flooded, and the name of the region's file

@@ -1,5 +1,5 @@
 -- What a request reads, and what it writes.
-use Rattle.std.specs.Prelude.{ℕ, ◌^◌, ◌++◌, ◌∷◌, [], List, map, Option, Some, None, codes}
+use Rattle.std.specs.Prelude.{ℕ, ◌^◌, Bool, true, false, ◌++◌, ◌∷◌, [], List, map, Option, Some, None, codes}
 use Rattle.vw_io.specs.Inputs.{WantedInput}
 use Rattle.vw_io.specs.Outputs.{Named}
 use Rattle.history_model.specs.Journal.{journal_of}
@@ -17,8 +17,12 @@ use Rattle.vox_read.specs.Contents.{Content}
 use Rattle.session_runs.specs.Kept.{KeptSave, kept_of, kept_by}
 use Rattle.session_runs.specs.Seen.{SessionSeen}
 use Rattle.world_run.specs.Open.{saved_file}
-use Rattle.history_model.specs.Moments.{world_has}
+use Rattle.vw_cell.specs.declared.boxes.Boxed.{Boxed}
+use Rattle.history_model.specs.Moments.{world_has, world_tint}
+use Rattle.history_model.specs.Tints.{Tints}
+use Rattle.history_model.specs.Worlds.{World}
 use Rattle.flood.specs.Saved.{file_of_box}
+use Rattle.script_files.specs.TintFiles.{file_of_tints}
 
 -- the most bytes of a VOX file or a file of many versions, and of any other input
 abbrev pub vox_limit : ℕ
@@ -88,10 +92,16 @@ abbrev pub wanted_output : Option (List ℕ) → List ℕ → List Named
 wanted_output None text = []
 wanted_output (Some name) text = record { name = name; bytes = text } ∷ []
 
+-- the file of a box of a world, with its tints where cells have them
+abbrev pub box_file : Bool → Boxed → World → Tints → List ℕ
+box_file true b cells tints = file_of_tints b cells tints
+box_file false b cells tints = file_of_box b cells
+
 -- the file of an accepted save: that of its box at its version
-abbrev pub save_file : List Content → KeptSave → List ℕ
-save_file models k =
-    file_of_box k.save.part (world_has models k.seen.records k.save.version)
+abbrev pub save_file : Bool → List Content → KeptSave → List ℕ
+save_file tint models k = box_file tint k.save.part
+    (world_has models k.seen.records k.save.version)
+    (world_tint models k.seen.records k.save.version)
 
 -- the file of a save, under its name
 abbrev pub saved_output : (KeptSave → List ℕ) → KeptSave → Named
@@ -106,21 +116,22 @@ pub record Given : Type 0 where
   pub file : KeptSave → List ℕ
 
 -- by the cells of the store that each session saw, and by the one history of all
-abbrev pub given_seen : List Content → List (List ScriptLine) → List (List LineAnswer)
+abbrev pub given_seen : Bool → List Content → List (List ScriptLine) → List (List LineAnswer)
     → List SessionSeen → Given
-given_seen models lines transcripts sessions = record {
+given_seen tint models lines transcripts sessions = record {
   models = models;
   transcripts = transcripts;
   kept = kept_of lines transcripts sessions;
-  file = saved_file models;
+  file = saved_file tint models;
 }
 
-abbrev pub given_by : List Content → List (List ScriptLine) → Log → List (List LineAnswer) → Given
-given_by models lines log transcripts = record {
+abbrev pub given_by : Bool → List Content → List (List ScriptLine) → Log → List (List LineAnswer)
+    → Given
+given_by tint models lines log transcripts = record {
   models = models;
   transcripts = transcripts;
   kept = kept_by lines transcripts log;
-  file = save_file models;
+  file = save_file tint models;
 }
 
 -- what a run writes first: the texts of its transcripts, and then its saved files, by script and

@@ -1,11 +1,11 @@
 -- What the stages of a command give.
-use Rattle.std.specs.Prelude.{◌≡◌, ◌⊎◌, ℕ, false, List, [], ◌∷◌, ◌++◌, Option, Some, None, Result, Ok, Err, ⊤}
+use Rattle.std.specs.Prelude.{◌≡◌, ◌⊎◌, ℕ, Bool, false, List, [], ◌∷◌, ◌++◌, Option, Some, None, Result, Ok, Err, ⊤}
 use Rattle.vw_io.specs.Outside.{ShelfState}
 use Rattle.vw_io.specs.Outputs.{Named, AreWritten, StopsWith}
 use Rattle.vox_read.specs.Contents.{Content, cells_of_all}
 use Rattle.vox_read.specs.Files.{ReadsModels}
 use Rattle.history_model.specs.Journal.{journal_of}
-use Rattle.history_model.specs.Logs.{Log}
+use Rattle.history_model.specs.Logs.{Log, store_exponent}
 use Rattle.script.specs.declared.commands.ScriptLine.{ScriptLine}
 use Rattle.script.specs.Scripts.{commands_of}
 use Rattle.gen_load.specs.Loads.{load_model, load_scripts}
@@ -20,7 +20,7 @@ use Rattle.world_run.specs.declared.endings.WorldRan.{WorldRan}
 use Rattle.script_files.specs.declared.tallies.RunWritten.{RunWritten}
 use Rattle.script_files.specs.declared.tallies.Tally.{Tally}
 use Rattle.script_files.specs.Orders.{Asked}
-use Rattle.script_files.specs.Scripts.{AreFitScripts, scripts_of}
+use Rattle.script_files.specs.Scripts.{AreFitScripts, lines_asked, scripts_of}
 use Rattle.script_files.specs.declared.refusals.OutputRefused.{OutputRefused}
 use Rattle.script_files.specs.declared.scripts.Read.{Read}
 use Rattle.script_files.specs.Meanings.{file_in, scripts_in, AreApart, TalliesRun}
@@ -43,7 +43,7 @@ JournalIs (Some name) text want = text ≡ want
 -- no input has a fault, no name is taken, and these are the models and the commands
 pub record IsRead (asked : Asked) (texts : List (List ℕ)) (r : Read) : Type 0 where
   pub gives : ReadsModels (file_in texts) (Ok r.models)
-  pub read : scripts_of asked.plan.side r.models (scripts_in texts) ≡ Ok r.scripts.items
+  pub read : lines_asked asked r.models (scripts_in texts) ≡ Ok r.scripts.items
   pub apart : AreApart asked r.scripts.items
 
 -- what a run has come to whose world isn't closed
@@ -52,13 +52,13 @@ given_of r = record {
   models = r.run.models;
   transcripts = r.transcripts.items;
   kept = r.run.kept;
-  file = saved_file r.run.models;
+  file = saved_file r.run.tint r.run.models;
 }
 
 -- its world was closed with this history, and left this
 pub record ClosesRun (r : RunState) (closed : Closed) : Type 0 where
-  pub closes : ClosesWorld r.plan r.models r.sessions closed.history
-  pub is_end : IsEndOf r.models closed.history closed
+  pub closes : ClosesWorld r.tint r.plan r.models r.sessions closed.history
+  pub is_end : IsEndOf r.tint r.models closed.history closed
 
 -- what a history tells, and its texts. They are empty where they are not asked for
 pub record HistoryTexts : Type 0 where
@@ -74,17 +74,17 @@ pub record AreTexts (asked : Asked) (models : List Content) (log : Log)
   pub report_is : ReportIs asked.report models log written.report
 
 -- one more script was read, and its commands stand behind those before it
-pub record ReadsScript (side : ℕ) (models : List Content) (text : List ℕ)
+pub record ReadsScript (tint : Bool) (side : ℕ) (models : List Content) (text : List ℕ)
     (old new : List (List ScriptLine)) : Type 0 where
   pub lines : List ScriptLine
-  pub read : commands_of false side models text ≡ Ok lines
+  pub read : commands_of tint side models text ≡ Ok lines
   pub kept : new ≡ old ++ lines ∷ []
-  pub fit : AreFitScripts side models (lines ∷ [])
+  pub fit : AreFitScripts tint (store_exponent tint side) models (lines ∷ [])
 
 -- the model and the commands of a load
 pub record IsLoadRead (n : ℕ) (r : Read) : Type 0 where
   pub models : r.models ≡ load_model n ∷ []
-  pub read : scripts_of 8 (load_model n ∷ []) (load_scripts n) ≡ Ok r.scripts.items
+  pub read : scripts_of false 8 (load_model n ∷ []) (load_scripts n) ≡ Ok r.scripts.items
 
 -- ---- what is written
 

@@ -1,5 +1,5 @@
 //! The audit of what a run left.
-ghost use Rattle.std.specs.Prelude.{◌≡◌, ◌≤◌, ◌+◌, ◌^◌, ◌<◌, ◌++◌, ◌↔◌, length, map, take, drop, string_bytes, IfOk, IfErr, IfSome, IsTrue, OnOk};
+ghost use Rattle.std.specs.Prelude.{◌≡◌, ◌≤◌, ◌+◌, ◌^◌, ◌<◌, ◌++◌, ◌↔◌, false, length, map, take, drop, string_bytes, IfOk, IfErr, IfSome, IsTrue, OnOk};
 ghost use Rattle.node_words.specs.Plans.{is_number_of_buckets};
 ghost use Rattle.audit.specs.Audits.{IsAudited, RefusesAudit, judged_by};
 ghost use Rattle.vox_read.specs.Contents.{AreModels};
@@ -188,7 +188,7 @@ fn answer_by(
 ) -> Result<bool, AuditRefused>
     requires models { AreModels left.models }
     requires plain { IsPlain left.history }
-    requires fit { AreFitScripts left.history.side left.models left.scripts.items }
+    requires fit { AreFitScripts false left.history.side left.models left.scripts.items }
     requires number { length left.scripts.items ≤ 64 }
     ensures answer { IfOk result (λ answer. IsTrue answer
         ↔ IsAudited keep (judged_by left.history.side buckets) left.models left.history
@@ -244,7 +244,7 @@ fn read_left(
     ensures models { IfOk result (λ left. AreModels left.models) }
     ensures plain { IfOk result (λ left. IsPlain left.history) }
     ensures fit { IfOk result
-        (λ left. AreFitScripts left.history.side left.models left.scripts.items) }
+        (λ left. AreFitScripts false left.history.side left.models left.scripts.items) }
     ensures number { IfOk result (λ left. length left.scripts.items ≤ 64) }
     ensures refused { IfErr result (RefusesAuditing file (record {
       journal = journal;
@@ -263,7 +263,7 @@ fn read_left(
     };
     drop(journal);
     let (scripts, transcripts) = texts.as_slice().split_at(number);
-    let scripts = match read_scripts(alloc, scripts, history.side, &models) {
+    let scripts = match read_scripts(alloc, scripts, history.side, &models, false) {
         Ok(scripts) => scripts,
         Err(refused) => return Err(refused),
     };

@@ -1,4 +1,4 @@
-ghost use Rattle.std.specs.Prelude.{◌≡◌, ◌≤◌, length, map, string_bytes, IfOk, IfErr};
+ghost use Rattle.std.specs.Prelude.{◌≡◌, ◌≤◌, false, length, map, string_bytes, IfOk, IfErr};
 ghost use Rattle.vox_read.specs.Contents.{AreModels};
 ghost use Rattle.script_files.specs.declared.requests.Request.TheVariants.{Demo};
 ghost use Rattle.script_files.specs.Requests.{transcript_name};
@@ -26,7 +26,7 @@ use transcript::Answer;
 use vox_read::read_models;
 use vw_cell::{Memory, Side};
 use vw_io::Shelf;
-use world_run::run_scripts;
+use world_run::{Settings, run_scripts};
 
 static SCRIPTS: [&str; 4] = ["demo.0", "demo.1", "demo.2", "demo.3"];
 
@@ -37,6 +37,7 @@ pub fn demo_order<'w>() -> Order<'w>
 {
     Order {
         plan: Plan::usual(side()),
+        tint: false,
         keep: 0,
         journal: Some("demo.journal"),
         report: None,
@@ -83,7 +84,10 @@ pub fn run_demo<'w, S: Shelf, R: Threads + Wait + Sync, G: Gate + Sync>(
         &order.plan,
         &read.models,
         read.scripts.as_slice(),
-        order.keep,
+        Settings {
+            tint: order.tint,
+            keep: order.keep,
+        },
     ) else {
         return Err(CommandRefused::Text(TextRefused::Memory));
     };
@@ -134,7 +138,7 @@ fn count_told(answer: Answer) -> u64
 fn made_load(alloc: Global, n: u32) -> Result<Read, Memory>
     ensures read { IfOk result (IsLoadRead n) }
     ensures models { IfOk result (λ read. AreModels read.models) }
-    ensures fit { IfOk result (λ read. AreFitScripts 8 read.models read.scripts.items) }
+    ensures fit { IfOk result (λ read. AreFitScripts false 8 read.models read.scripts.items) }
     ensures number { IfOk result (λ read. length read.scripts.items ≤ 64) }
 {
     let load = load(alloc, n)?;
@@ -144,7 +148,7 @@ fn made_load(alloc: Global, n: u32) -> Result<Read, Memory>
     let Ok(models) = read_models(alloc, load.vox.as_slice()) else {
         return Err(Memory);
     };
-    let Ok(scripts) = read_scripts(alloc, load.scripts.as_slice(), side(), &models) else {
+    let Ok(scripts) = read_scripts(alloc, load.scripts.as_slice(), side(), &models, false) else {
         return Err(Memory);
     };
     Ok(Read { models, scripts })

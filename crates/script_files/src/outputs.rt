@@ -73,7 +73,8 @@ fn write_saves<'w, S: Shelf>(
     run: &mut OpenRun<'_>,
     shelf: &mut S,
 ) -> Result<(), OutputRefused<'w>>
-    ensures writes { Writes result (map (saved_output (saved_file run.old.models)) run.old.kept)
+    ensures writes { Writes result
+        (map (saved_output (saved_file run.old.tint run.old.models)) run.old.kept)
         (S.state shelf.old) (S.state shelf.new) }
     ensures same { run.new ≡ run.old }
     ensures named { IfErr result (λ refused. IsOutputName refused.name) }
@@ -95,7 +96,7 @@ fn write_save<'w, S: Shelf>(
 ) -> Result<(), OutputRefused<'w>>
     requires { k < length run.old.kept }
     ensures writes { Writes result
-        (take 1 (drop k (map (saved_output (saved_file run.old.models)) run.old.kept)))
+        (take 1 (drop k (map (saved_output (saved_file run.old.tint run.old.models)) run.old.kept)))
         (S.state shelf.old) (S.state shelf.new) }
     ensures same { run.new ≡ run.old }
     ensures named { IfErr result (λ refused. IsOutputName refused.name) }

@@ -1,6 +1,7 @@
 use dag_answers::SpelledQuestion;
 use node_words::Plan;
 use std::marker::Model;
+use vw_cell::Side;
 
 /// The most bytes that a VOX file or a file of many versions may have: 256 MiB.
 pub(crate) const VOX_LIMIT: u64 = 268_435_456;
@@ -43,12 +44,14 @@ impl<'w> Model for FileName<'w> {
     ghost view = { λ name. name.text.now };
 }
 
-/// What a run is asked for: how the world's store is laid out, how many last versions alone are
-/// held, or 0 for all, the names of the journal and of the report where they are wanted, and those
-/// of the VOX file and of the scripts, of which the first is that of session 0.
+/// What a run is asked for: how the world's store is laid out, whether the world's cells have
+/// tints, how many last versions alone are held, or 0 for all, the names of the journal and of the
+/// report where they are wanted, and those of the VOX file and of the scripts, of which the first
+/// is that of session 0.
 #[derive(Drop)]
 pub struct Order<'w> {
     pub plan: Plan,
+    pub tint: bool,
     pub keep: u32,
     pub journal: Option<&'w str>,
     pub report: Option<&'w str>,
@@ -65,12 +68,38 @@ impl<'w> Model for Order<'w> {
 
     ghost view = { λ order. record {
       plan = order.plan;
+      tint = order.tint;
       keep = order.keep;
       journal = option_map (λ name. name.now) order.journal;
       report = option_map (λ name. name.now) order.report;
       file = order.file.now;
       scripts = map (λ name. name.now) order.scripts.now;
     } };
+}
+
+impl<'w> Order<'w> {
+    ghost use Rattle.std.specs.Prelude.{◌≡◌, ◌≤◌, true, IfSome};
+    ghost use Rattle.history_model.specs.Logs.{store_exponent};
+    ghost use Rattle.script_files.specs.Orders.{asked_side};
+
+    // The side of the run's world: the store's, or a quarter of it where cells have tints. No words
+    // ask for tints in a store that has no such quarter.
+    #[tactic(auto, using(crate::proofs::WorldSides::quarter_side))]
+    pub(crate) fn world_side(&self) -> Option<Side>
+        ensures side { IfSome result (λ s. s ≡ asked_side self.now) }
+        ensures kept { IfSome result
+            (λ s. store_exponent self.now.tint s ≡ self.now.plan.side) }
+        ensures large { IfSome result (λ s. self.now.tint ≡ true → 4 ≤ self.now.plan.side) }
+    {
+        let side = self.plan.side();
+        if !self.tint {
+            return Some(side);
+        }
+        if side.exponent() < 4 {
+            return None;
+        }
+        Side::new(side.cells() / 4)
+    }
 }
 
 /// What a flood is asked for: the VOX file, the number of its model, the place from which is

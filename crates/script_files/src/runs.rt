@@ -15,7 +15,7 @@ use std::sync::Wait;
 use std::thread::Threads;
 use vw_cell::Memory;
 use vw_io::{Input, Shelf, read_all};
-use world_run::run_scripts;
+use world_run::{Settings, run_scripts};
 
 /// Runs scripts from files to files, and gives the numbers of the run and its closed world.
 ///
@@ -58,7 +58,10 @@ pub fn run_files<'w, S: Shelf, R: Threads + Wait + Sync, G: Gate + Sync>(
         &order.plan,
         &read.models,
         read.scripts.as_slice(),
-        order.keep,
+        Settings {
+            tint: order.tint,
+            keep: order.keep,
+        },
     ) else {
         return Err(CommandRefused::Text(TextRefused::Memory));
     };

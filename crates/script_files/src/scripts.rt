@@ -1,7 +1,8 @@
-ghost use Rattle.std.specs.Prelude.{◌≡◌, ◌≤◌, ◌^◌, ◌+◌, ◌<◌, ◌++◌, false, Ok, All, length, map, string_bytes, IfOk, IfErr, OnOk};
+ghost use Rattle.std.specs.Prelude.{◌≡◌, ◌≤◌, ◌^◌, ◌+◌, ◌<◌, ◌++◌, true, Ok, All, length, map, string_bytes, IfOk, IfErr, OnOk};
 ghost use Rattle.std.specs.Option.{option_map};
 ghost use Rattle.vw_io.specs.Names.{collide};
 ghost use Rattle.vox_read.specs.Contents.{AreModels};
+ghost use Rattle.history_model.specs.Logs.{store_exponent};
 ghost use Rattle.script.specs.Fitting.{CommandFits, RisesFrom};
 ghost use Rattle.script_files.specs.declared.requests.Request.TheVariants.{Run};
 ghost use Rattle.script_files.specs.Requests.{inputs_of, output_names, transcript_name, wanted_name, name_saved, names_saved_in, names_saved};
@@ -29,7 +30,7 @@ pub(crate) struct Read {
 
 // The models and the commands, where the VOX file gives models, no script has a fault, and no name
 // of an output is taken. The texts are given back once they are read.
-#[tactic(auto, using(crate::proofs::Refusing::scripts_refused))]
+#[tactic(auto, using(crate::proofs::Refusing::scripts_refused_by, crate::proofs::WorldSides::read_by, crate::proofs::WorldSides::fit_by))]
 pub(crate) fn read_texts(
     alloc: Global,
     order: &Order<'_>,
@@ -45,7 +46,9 @@ pub(crate) fn read_texts(
     ensures read { IfOk result (IsRead order.now texts.items) }
     ensures models { IfOk result (λ read. AreModels read.models) }
     ensures fit { IfOk result
-        (λ read. AreFitScripts order.now.plan.side read.models read.scripts.items) }
+        (λ read. AreFitScripts order.now.tint order.now.plan.side read.models
+        read.scripts.items) }
+    ensures large { IfOk result (λ _. order.now.tint ≡ true → 4 ≤ order.now.plan.side) }
     ensures number { IfOk result (λ read. length read.scripts.items ≤ 64) }
     ensures refused { IfErr result (λ refused. RefusesTexts refused (Run order.now) texts.items) }
 {
@@ -53,8 +56,10 @@ pub(crate) fn read_texts(
     let file = texts.remove(0);
     let models = read_models(alloc, file.as_slice())?;
     drop(file);
-    let side = order.plan.side();
-    let scripts = read_scripts(alloc, texts.as_slice(), side, &models)?;
+    let Some(side) = order.world_side() else {
+        return Err(TextRefused::Memory);
+    };
+    let scripts = read_scripts(alloc, texts.as_slice(), side, &models, order.tint)?;
     drop(texts);
     if names_collide(alloc, order, transcripts, scripts.as_slice(), inputs)? {
         return Err(TextRefused::Collides);
@@ -156,19 +161,21 @@ pub(crate) fn read_scripts<T: AsSlice<u8>>(
     texts: &[T],
     side: Side,
     models: &Models,
+    tint: bool,
 ) -> Result<Vec<Script>, TextRefused>
     requires models { AreModels models.now }
     requires few { length texts.now ≤ 64 }
     ensures read { IfOk result
-        (λ scripts. scripts_of side models.now (map T.items texts.now) ≡ Ok scripts.items) }
+        (λ scripts. scripts_of tint side models.now (map T.items texts.now) ≡ Ok scripts.items) }
     ensures refused { IfErr result (λ refused.
-        RefusesScripts refused (scripts_of side models.now (map T.items texts.now))) }
+        RefusesScripts refused (scripts_of tint side models.now (map T.items texts.now))) }
     ensures number { IfOk result (λ scripts. length scripts.items ≡ length texts.now) }
-    ensures fit { IfOk result (λ scripts. AreFitScripts side models.now scripts.items) }
+    ensures fit { IfOk result
+        (λ scripts. AreFitScripts tint (store_exponent tint side) models.now scripts.items) }
 {
     let mut scripts = Vec::new(alloc);
     for text in texts {
-        read_next(alloc, text.as_slice(), side, models, &mut scripts)?;
+        read_next(alloc, text.as_slice(), side, models, tint, &mut scripts)?;
     }
     Ok(scripts)
 }
@@ -180,17 +187,18 @@ fn read_next(
     text: &[u8],
     side: Side,
     models: &Models,
+    tint: bool,
     scripts: &mut Vec<Script>,
 ) -> Result<(), TextRefused>
     requires models { AreModels models.now }
     requires few { length scripts.old.items < 64 }
-    ensures read { OnOk result (ReadsScript side models.now text.now
+    ensures read { OnOk result (ReadsScript tint side models.now text.now
         scripts.old.items scripts.new.items) }
     ensures refused { IfErr result (λ refused. RefusesScripts refused (in_script
-        (length scripts.old.items) (commands_of false side models.now text.now))) }
+        (length scripts.old.items) (commands_of tint side models.now text.now))) }
 {
     let number = scripts.len() as u16;
-    let script = match read_script(alloc, text, side, models, false) {
+    let script = match read_script(alloc, text, side, models, tint) {
         Ok(script) => script,
         Err(fault) => {
             return Err(TextRefused::from(NumberedFault {

@@ -1,5 +1,5 @@
 -- What is asked of a version that is pinned.
-use Rattle.std.proofs.Common.{◌≡◌, ◌⊎◌, ◌-◌, ◌^◌, ◌≤◌, ℕ, Option, Some, None, List, inl, inr, refl, sym, ◌∙◌, ap, subst, arith}
+use Rattle.std.proofs.Common.{◌≡◌, ◌⊎◌, ◌-◌, ◌^◌, ◌≤◌, ℕ, Bool, true, false, Option, Some, None, List, inl, inr, refl, sym, ◌∙◌, ap, subst, arith}
 use Rattle.vox_read.specs.Contents.{Content}
 use Rattle.history_model.specs.Stores.{stored_in}
 use Rattle.history_model.specs.Worlds.{World}
@@ -14,8 +14,8 @@ use Rattle.node_words.specs.Held.{IsHeld, OnlyHeldChanges, Seen}
 use Rattle.block_walk.specs.Roots as walks
 use Rattle.edit_cells.specs.Worlds.{ShowsWorld}
 use Rattle.conformance.specs.Answers.{asked_version}
-use Rattle.conformance.specs.Telling.{Tells}
-use Rattle.world_answers.specs.TellsRoots.{TellsRoot}
+use Rattle.conformance.specs.Kinds.{is_resting}
+use Rattle.world_answers.specs.TellsRoots.{TellsTinted}
 use Rattle.table_rule.specs.LogTelling.{seen_has}
 use Rattle.table_rule.specs.Views.{SeatView, seen_of}
 use Rattle.version_log.specs.Pins.{PinsVersion, version_asked}
@@ -27,13 +27,14 @@ use Rattle.versions.specs.declared.refusals.PinRefused.{PinRefused}
 use Rattle.versions.specs.declared.refusals.PinRefused.TheVariants.{NoVersion, Forgotten}
 use Rattle.session_runs.specs.Calls.{FindsVersion}
 use Rattle.session_runs.specs.Seen.{SessionSeen}
-use Rattle.session_runs.specs.Told.{WasAsked, PinIsRefused, plainly_tinted}
+use Rattle.session_runs.specs.Told.{WasAsked, PinIsRefused, TellsKept, plainly_tinted}
 use Rattle.hands.specs.Lendable.{StaysLendable}
 use Rattle.node_words.specs.Plans.{Layout}
 use Rattle.table_rule.specs.LogViews.{LogView}
 use Rattle.table_rule.specs.Telling.{ViewTells}
 use Rattle.node_table.specs.Seen.{TableSeen, PassSeen}
 use Rattle.session.specs.Resting.{IsAtRest}
+use Rattle.session.specs.Roots.{TellsHeld}
 use Rattle.session.specs.Seen.{KnowsItself, WorldSeen, of_world, session_seen}
 use Rattle.session.proofs.ForgetLaws.{same_seen}
 use Rattle.session.proofs.SameLaws.{finds}
@@ -83,6 +84,23 @@ shows_world v root cells h = record {
   shows = h.shows;
 }
 
+-- what is told of tints by a store that holds the same
+pub tints_told : (more held : List Tree) (n side : ℕ) (root : Option Name) (question : Question)
+    (answer : Answer) → TellsTinted more n root question answer → more ≡ held → n ≡ side
+    → TellsTinted held side root question answer
+tints_told more held n side root question answer told same is =
+    subst (λ (k : ℕ). TellsTinted held k root question answer) is
+    (subst (λ (ts : List Tree). TellsTinted ts n root question answer) same told)
+
+-- what is told of a root is told of the world that the cells keep which it shows
+pub kept_told : (tint : Bool) (held : List Tree) (side : ℕ) (root : Option Name) (cells : World)
+    (question : Question) (answer : Answer) → ShowsWorld held (side - 2) root cells
+    → TellsHeld tint held side root question answer → TellsKept tint (2 ^ side) cells question answer
+kept_told false held side root cells question answer shows told =
+    told cells (plainly_tinted cells) shows (λ c inside. refl)
+kept_told true held side root cells question answer shows told =
+    λ w t keeps small set. told cells w t shows keeps small set
+
 pub asked_as : (asked : Option ℕ) (n : ℕ) → version_asked asked n ≡ asked_version asked n
 asked_as None n = refl
 asked_as (Some version) n = refl
@@ -115,24 +133,26 @@ few_pinned v w x root gains same few =
 module _ (t : WorldSeen) (number : ℕ) (asked : Option ℕ) (question : Question) (v w : PassSeen)
     (p : Pinned) (answer : Answer) (r : IsAtRest t.table v) (looks : LooksOn v.view w.view)
     (is : PinsVersion v.view asked p w.view) (root : Option Name) (same : root ≡ p.root)
-    (tells : TellsRoot w.view.held t.table.plan.side root question answer) where
+    (tells : TellsHeld t.tint w.view.held t.table.plan.side root question answer)
+    (resting : is_resting answer ≡ true) where
   version_is : p.version ≡ asked_version asked p.moment
   version_is = is.version ∙ asked_as asked p.moment
 
   plan_side : w.view.plan.side ≡ t.table.plan.side
   plan_side = ap (λ (l : Layout). l.side) (looks.session.plan ∙ r.of.plan)
 
-  tells_version : Tells (2 ^ t.table.plan.side) (seen_has w.view p.version)
-      (plainly_tinted (seen_has w.view p.version)) question answer
+  tells_version : TellsKept t.tint (2 ^ t.table.plan.side) (seen_has w.view p.version) question
+      answer
   tells_version =
-      subst (λ (x : Option Name). TellsRoot w.view.held t.table.plan.side x question answer) same tells
-      (seen_has w.view p.version) (plainly_tinted (seen_has w.view p.version))
+      kept_told t.tint w.view.held t.table.plan.side p.root (seen_has w.view p.version) question answer
       (subst (λ (n : ℕ). ShowsWorld w.view.held (n - 2) p.root (seen_has w.view p.version)) plan_side
-      (shows_world w.view p.root (seen_has w.view p.version) is.pinned.root)) (λ c inside. refl)
+      (shows_world w.view p.root (seen_has w.view p.version) is.pinned.root))
+      (subst (λ (x : Option Name). TellsHeld t.tint w.view.held t.table.plan.side x question answer)
+      same tells)
 
   -- the answer tells of these cells, in a world of this side
   abbrev tells_so : ℕ → World → Type 0
-  tells_so side cells = Tells (2 ^ side) cells (plainly_tinted cells) question answer
+  tells_so side cells = TellsKept t.tint (2 ^ side) cells question answer
 
   -- the cells of the version that was asked, in a store of this side, by these models
   abbrev cells_by : ℕ → List Content → World
@@ -157,6 +177,7 @@ module _ (t : WorldSeen) (number : ℕ) (asked : Option ℕ) (question : Questio
         (subst (λ (n : ℕ). tells_so t.table.plan.side (cells_by n w.view.models)) plan_side
         (subst (λ (u : ℕ). tells_so t.table.plan.side (seen_has w.view u)) version_is
         tells_version)));
+    rests = resting;
   }
 
   pub asked_told : (x z : PassSeen) → StaysLendable t.table w x → seen_of x.view ≡ seen_of w.view

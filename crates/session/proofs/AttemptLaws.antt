@@ -1,5 +1,5 @@
 -- What an attempt at an edit leaves, for each of its outcomes.
-use Rattle.std.proofs.Common.{◌≡◌, ◌≤◌, ℕ, Option, List, length, sym, ◌∙◌, ap, subst, arith}
+use Rattle.std.proofs.Common.{◌≡◌, ◌≤◌, Bool, ℕ, Option, List, length, sym, ◌∙◌, ap, subst, arith}
 use Rattle.vox_read.specs.Contents.{Content}
 use Rattle.history_model.specs.declared.acts.Act.{Act}
 use Rattle.node_shapes.specs.declared.names.Name.{Name}
@@ -83,8 +83,8 @@ pub refused_as : (base : Pinned) (root : Option Name) (e d : CommitRefused) (x :
 refused_as base root e d x same h =
     subst (λ (y : CommitRefused). RefusesCommit base root y x) same h
 
-module _ (t : WorldSeen) (line : ℕ) (act : Act) (models : List Content) (base : Pinned)
-    (v w : PassSeen) (maker : IsMaker t.table models act) (head : HasPinnedHead v.view base)
+module _ (t : WorldSeen) (line : ℕ) (act : Act) (tint : Bool) (models : List Content)
+    (base : Pinned) (v w : PassSeen) (maker : IsMaker t.table tint models act) (head : HasPinnedHead v.view base)
     (stays : StaysLendable t.table v w) where
   pub full_comes : (full : Full) → FailsToMake t.table act full v.view w.view
       → SameHeld v.view.held w.view.held

@@ -1,5 +1,5 @@
 -- The set cells of a box of a version that is pinned.
-use Rattle.std.proofs.Common.{◌≡◌, ◌-◌, ◌^◌, ℕ, Option, List, ◌++◌, ◌∙◌, ap, subst}
+use Rattle.std.proofs.Common.{◌≡◌, ◌-◌, ◌^◌, ℕ, Bool, Option, List, ◌++◌, ◌∙◌, ap, subst}
 use Rattle.std.specs.Prelude.{Result, Ok, Err, OnOk}
 use Rattle.vw_cell.specs.declared.boxes.Boxed.{Boxed}
 use Rattle.vw_cell.specs.Places.{FitsAt}
@@ -12,14 +12,16 @@ use Rattle.node_words.proofs.HeldLaws.{held_reached}
 use Rattle.node_words.specs.Plans.{Layout}
 use Rattle.block_contents.specs.Aligned.{top, world_block}
 use Rattle.block_walk.specs.Roots.{ForWorld, IsBlockOf, cells_of}
-use Rattle.extract.specs.Listing.{voxels_of_box}
+use Rattle.history_model.specs.Logs.{kept_side}
 use Rattle.table_rule.specs.LogTelling.{seen_has}
 use Rattle.node_table.specs.Seen.{TableSeen, PassSeen}
 use Rattle.version_log.specs.declared.pinned.Pinned.{Pinned}
 use Rattle.version_log.specs.Pins.{IsPinned}
 use Rattle.session.specs.Resting.{IsAtRest}
 use Rattle.session.proofs.AskLaws.{named_held}
-use Rattle.session.proofs.FileLaws.{same_voxels, shown_in}
+use Rattle.session.proofs.FileLaws.{shown_at}
+use Rattle.session.proofs.VoxelLaws.{kept_same}
+use Rattle.session.specs.Roots.{voxels_kept}
 
 module _ (t : TableSeen) (v : PassSeen) (p : Pinned) (r : IsAtRest t v) (is : IsPinned v.view p)
   where
@@ -43,24 +45,28 @@ module _ (t : TableSeen) (v : PassSeen) (p : Pinned) (r : IsAtRest t v) (is : Is
         subst (λ (k : ℕ). ShowsCells (world_block k) (shape_of is.root.tree)
         (seen_has v.view p.version)) side_is is.root.shows
 
-    listed : (part : Boxed) → FitsAt part.at part.size (2 ^ t.plan.side) → (old new : List Voxel)
-        → ForWorld v.view.held t.plan.side p.root (λ cells. new ≡ old ++ voxels_of_box part cells)
-        → new ≡ old ++ voxels_of_box part (seen_has v.view p.version)
-    listed part fits old new told =
-        told is.root.tree block
-        ∙ ap (λ (vs : List Voxel). old ++ vs)
-        (same_voxels part (cells_of (t.plan.side - 2) (shape_of is.root.tree))
-        (seen_has v.view p.version)
-        (shown_in t.plan.side part (shape_of is.root.tree) (seen_has v.view p.version) shows fits))
+    module _ (tint : Bool) where
+      listed : (part : Boxed) → FitsAt part.at part.size (kept_side tint (2 ^ t.plan.side))
+          → (old new : List Voxel)
+          → ForWorld v.view.held t.plan.side p.root
+          (λ cells. new ≡ old ++ voxels_kept tint t.plan.side part cells)
+          → new ≡ old ++ voxels_kept tint t.plan.side part (seen_has v.view p.version)
+      listed part fits old new told =
+          told is.root.tree block
+          ∙ ap (λ (vs : List Voxel). old ++ vs)
+          (kept_same tint t.plan.side part (cells_of (t.plan.side - 2) (shape_of is.root.tree))
+          (seen_has v.view p.version) fits
+          (shown_at t.plan.side (shape_of is.root.tree) (seen_has v.view p.version) shows))
 
-    pub pinned_cells : {X E : Type 0} (result : Result X E) (part : Boxed)
-        → FitsAt part.at part.size (2 ^ t.plan.side) → (old new : List Voxel)
-        → (root : Option Name) → root ≡ p.root
-        → OnOk result (ForWorld v.view.held t.plan.side root
-        (λ cells. new ≡ old ++ voxels_of_box part cells))
-        → OnOk result (new ≡ old ++ voxels_of_box part (seen_has v.view p.version))
-    pinned_cells (Err e) part fits old new root same told = tt
-    pinned_cells (Ok x) part fits old new root same told =
-        listed part fits old new
-        (subst (λ (n : Option Name). ForWorld v.view.held t.plan.side n
-        (λ cells. new ≡ old ++ voxels_of_box part cells)) same told)
+      pub pinned_cells : {X E : Type 0} (result : Result X E) (part : Boxed)
+          → FitsAt part.at part.size (kept_side tint (2 ^ t.plan.side)) → (old new : List Voxel)
+          → (root : Option Name) → root ≡ p.root
+          → OnOk result (ForWorld v.view.held t.plan.side root
+          (λ cells. new ≡ old ++ voxels_kept tint t.plan.side part cells))
+          → OnOk result (new ≡ old ++ voxels_kept tint t.plan.side part
+          (seen_has v.view p.version))
+      pinned_cells (Err e) part fits old new root same told = tt
+      pinned_cells (Ok x) part fits old new root same told =
+          listed part fits old new
+          (subst (λ (n : Option Name). ForWorld v.view.held t.plan.side n
+          (λ cells. new ≡ old ++ voxels_kept tint t.plan.side part cells)) same told)

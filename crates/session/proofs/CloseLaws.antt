@@ -1,5 +1,5 @@
 -- What a closed table tells of its passes is what a closed world tells of its sessions.
-use Rattle.std.proofs.Common.{◌≡◌, ℕ, suc, ◌+◌, ◌<◌, ◌^◌, Bool, false, Some, List, [], ◌∷◌, ◌++◌, length, get_or, refl, sym, ◌∙◌, ap, subst, arith}
+use Rattle.std.proofs.Common.{◌≡◌, ℕ, suc, ◌+◌, ◌<◌, ◌^◌, Bool, Some, List, [], ◌∷◌, ◌++◌, length, get_or, refl, sym, ◌∙◌, ap, subst, arith}
 use Rattle.std.specs.Prelude.{All, map, sum_by}
 use Rattle.std.specs.List.{Contains, slice_get}
 use Rattle.std.proofs.lemmas.List.Elements.{All-append, All-contains_itself, All-map, All-nil, All-weaker}
@@ -27,7 +27,7 @@ use Rattle.node_table.specs.Seen.{TableSeen, PassSeen}
 use Rattle.node_table.specs.declared.closed.Closed.{Closed}
 use Rattle.node_table.specs.declared.closed.Root.{Root}
 use Rattle.session_runs.specs.Ran.{ClosesWorld, StillFound, records_of_all, marks_of_all, made_of_all, met_of_all}
-use Rattle.session_runs.specs.Seen.{SessionSeen}
+use Rattle.session_runs.specs.Seen.{SessionSeen, MayTint, log_as}
 use Rattle.session.proofs.BeginLaws.{get_there}
 use Rattle.session.specs.Closes.{coloured_as, sessions_seen}
 use Rattle.session.specs.Resting.{IsAtRest}
@@ -80,15 +80,6 @@ met_of P (s ∷ passes) each =
     (met_of P passes (λ k t is. each (suc k) t is))
 
 -- ---- a history as coloured as the world
-
--- the log of the same records and marks
-abbrev log_as : Bool → Log → Log
-log_as coloured log = record {
-  side = log.side;
-  coloured = coloured;
-  records = log.records;
-  marks = log.marks;
-}
 
 kept_as : (coloured : Bool) (log : Log) (v : ℕ) → IsKept log v → IsKept (log_as coloured log) v
 kept_as coloured log v k = record { there = k.there; unmarked = k.unmarked }
@@ -169,18 +160,19 @@ ends_as coloured t closed ends =
 
 -- ---- the world
 
-module _ (w : TableSeen) (passes : List PassSeen) (closed : Closed) (rest : All (IsAtRest w) passes)
+module _ (tint : Bool) (w : TableSeen) (may : MayTint tint w.plan w.models)
+    (passes : List PassSeen) (closed : Closed) (rest : All (IsAtRest w) passes)
     (ends : EndsTable w closed) (tells : TellsAll closed.history passes) (had : HadEnough w.plan passes) where
   -- the history that the world leaves
   abbrev history : Log
-  history = (coloured_as false closed).history
+  history = (coloured_as tint closed).history
 
   legal : IsLegal (2 ^ w.plan.side) w.models history
   legal =
-      let e = ends_as false w closed ends in
+      let e = ends_as tint w closed ends in
       subst (λ (log : Log). IsLegal (2 ^ w.plan.side) w.models log) (sym e.history) e.sound.versions.legal
 
-  goes_on_to : (k : ℕ) (d : PassSeen) → k < length passes → GoesOn (log_seen (get_or passes k d).view.log) history
+  goes_on_to : (k : ℕ) (d : PassSeen) → k < length passes → GoesOn (log_as tint (log_seen (get_or passes k d).view.log)) history
   goes_on_to k d lt =
       let s = get_or passes k d in
       let b = tells.seen k s (get_there passes k d lt) in
@@ -198,11 +190,12 @@ module _ (w : TableSeen) (passes : List PassSeen) (closed : Closed) (rest : All 
   found_of : (k : ℕ) (s : PassSeen) → slice_get passes k ≡ Some s → All (StillFound history) s.view.log.found
   found_of k s is = all_there (StillFound history) s.view.log.found (λ f there. was_found f (tells.found k s is f there))
 
-  pub closes_world : ClosesWorld w.plan w.models (sessions_seen passes) history
+  pub closes_world : ClosesWorld tint w.plan w.models (sessions_seen passes) history
   closes_world = record {
     legal = legal;
+    may = may;
     coloured = refl;
-    seen = All-map (λ (s : SessionSeen). GoesOn s.log history) (λ (s : PassSeen). session_seen s.view) passes goes_on_to;
+    seen = All-map (λ (s : SessionSeen). GoesOn (log_as tint s.log) history) (λ (s : PassSeen). session_seen s.view) passes goes_on_to;
     found = all_mapped (λ (s : SessionSeen). All (StillFound history) s.found) (λ (s : PassSeen). session_seen s.view) passes found_of;
     records = record {
       weighs = λ f.

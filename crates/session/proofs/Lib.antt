@@ -16,5 +16,8 @@ mod TurnLaws
 mod WorkLaws
 mod CloseLaws
 mod FileLaws
+mod VoxelLaws
+mod PinFiles
+mod ActLaws
 mod SaveLaws
 mod DeskLaws

@@ -1,35 +1,36 @@
 -- What a rebuild of the newest version makes and meets, as a session tells it.
-use Rattle.std.proofs.Common.{◌≡◌, ◌-◌, ◌^◌, ℕ, Option, List, [], ◌∷◌, ◌++◌, length, refl, sym, ◌∙◌, ap, subst, arith, Ok, Err}
+use Rattle.std.proofs.Common.{◌≡◌, ◌-◌, ◌^◌, Bool, ℕ, Option, List, [], ◌∷◌, ◌++◌, length, refl, sym, ◌∙◌, ap, subst, arith, Ok, Err}
 use Rattle.std.specs.Prelude.{All}
 use Rattle.std.proofs.lemmas.List.Elements.{All-nil, All-cons, All-weaker}
 use Rattle.vox_read.specs.Contents.{Content}
 use Rattle.history_model.specs.declared.acts.Act.{Act}
 use Rattle.history_model.specs.Logs.{FitsWorld}
-use Rattle.history_model.specs.Stores.{edited_in, stored_in}
-use Rattle.history_model.specs.Worlds.{World, edited}
+use Rattle.history_model.specs.Parts.{after_parts}
+use Rattle.history_model.specs.Stores.{edit_parts, edited_in, made_by_parts, stored_in}
+use Rattle.history_model.specs.Worlds.{World}
 use Rattle.node_shapes.specs.declared.names.Name.{Name}
-use Rattle.node_shapes.specs.Shape.{Shape, IsPart, ShowsCells}
+use Rattle.node_shapes.specs.Shape.{Shape, ShowsCells}
 use Rattle.node_shapes.specs.Tree.{shape_of}
 use Rattle.node_shapes.proofs.TreeLaws.{level_of}
 use Rattle.node_words.specs.declared.shares.Full.{Full}
-use Rattle.node_words.specs.Gathering.{Fails, Grew, unchanged, one, Grows}
+use Rattle.node_words.specs.Gathering.{Grew, unchanged, one}
 use Rattle.node_words.specs.Held.{IsSought, Wanted}
 use Rattle.node_words.specs.Plans.{Layout}
 use Rattle.cell_shapes.proofs.CellShapeLaws.{shape_with-canonical}
 use Rattle.block_walk.specs.Roots as walks
 use Rattle.edit_cells.specs.Worlds.{Rebuilt, ShowsWorld, world_cells, world_shape}
 use Rattle.edit_cells.proofs.WorldLaws.{shape_shows}
-use Rattle.hands.specs.Acts.{GrowsByAct, RebuildsAct, RefusesAct}
+use Rattle.hands.specs.Acts.{GrowsByAct, IsLargeFor, IsOfAct, RebuildsAct, RefusesAct}
+use Rattle.colour.specs.Made.{FailsBy, GrowsBy}
 use Rattle.block_contents.specs.Aligned.{top, world_block}
-use Rattle.session_runs.specs.Keeping.{IsPlainTarget, IsWanted, MakesPart}
-use Rattle.session_runs.proofs.PlainTargets.{plain_target_wanted}
+use Rattle.session_runs.specs.Keeping.{IsWanted, MakesPart}
+use Rattle.conformance.specs.Needed.{made_of}
 use Rattle.table_rule.specs.LogTelling.{number_seen, seen_has}
 use Rattle.table_rule.specs.LogViews.{LogView}
 use Rattle.table_rule.specs.Views.{seen_of}
 use Rattle.node_table.specs.Seen.{TableSeen, PassSeen}
 use Rattle.version_log.specs.Roots.{HoldsRootOf}
 use Rattle.session_runs.specs.Calls.{AcceptsNothing, NotesFor}
-use Rattle.tints.proofs.VersionLaws.{plainly}
 use Rattle.hands.specs.Lendable.{IsLendable, StaysLendable}
 use Rattle.session.specs.Attempts.{FailsToMake, IsMaker, MakesNextRoot, WorksOn}
 use Rattle.session.specs.Seen.{session_seen}
@@ -54,11 +55,17 @@ grown P old _ (one {a} {new = before} p rest) = (
     })
 
 -- the edit fits by the models of whoever makes it; the table is the world's
-pub maker_own_fits : (t u : TableSeen) (models : List Content) (act : Act) → u ≡ t
-    → IsMaker t models act → FitsWorld (2 ^ u.plan.side) models act
-maker_own_fits t u models act same m =
+pub maker_own_fits : (t u : TableSeen) (tint : Bool) (models : List Content) (act : Act) → u ≡ t
+    → IsMaker t tint models act → FitsWorld (2 ^ u.plan.side) models act
+maker_own_fits t u tint models act same m =
     subst (λ (x : TableSeen). FitsWorld (2 ^ x.plan.side) models act) (sym same)
     (subst (λ (ms : List Content). FitsWorld (2 ^ t.plan.side) ms act) (sym m.models_are) m.fits)
+
+-- its store is large enough
+pub maker_own_large : (t u : TableSeen) (tint : Bool) (models : List Content) (act : Act) → u ≡ t
+    → IsMaker t tint models act → IsLargeFor act u.plan.side
+maker_own_large t u tint models act same m =
+    subst (λ (x : TableSeen). IsLargeFor act x.plan.side) (sym same) m.large
 
 -- a root of a version may be walked
 pub next_walk : (t u : TableSeen) (v : PassSeen) (root : Option Name) (cells : World) → u ≡ t
@@ -74,8 +81,8 @@ pub lent_as : (t u : TableSeen) (v w : PassSeen) → u ≡ t → StaysLendable u
     → StaysLendable t v w
 lent_as t u v w same stays = subst (λ (x : TableSeen). StaysLendable x v w) same stays
 
-module _ (t : TableSeen) (act : Act) (models : List Content) (v w : PassSeen)
-    (maker : IsMaker t models act) (ready : IsLendable t v) (stays : StaysLendable t v w)
+module _ (t : TableSeen) (act : Act) (tint : Bool) (models : List Content) (v w : PassSeen)
+    (maker : IsMaker t tint models act) (ready : IsLendable t v) (stays : StaysLendable t v w)
     (base : Option Name)
     (h : HoldsRootOf v.view base (seen_has v.view (number_seen v.view))) where
   -- the newest version that is seen, and its cells
@@ -86,7 +93,7 @@ module _ (t : TableSeen) (act : Act) (models : List Content) (v w : PassSeen)
   before = seen_has v.view at
 
   abbrev after : World
-  after = edited models act before
+  after = edited_in (2 ^ t.plan.side) models act before
 
   abbrev level : ℕ
   level = t.plan.side - 2
@@ -101,40 +108,49 @@ module _ (t : TableSeen) (act : Act) (models : List Content) (v w : PassSeen)
   same_number : number_seen w.view ≡ at
   same_number = ap (λ (l : LogView). length l.seen.records) stays.log
 
+  -- what the act wants, and what its first parts make
+  abbrev Wants : Shape → Type 0
+  Wants = IsOfAct t.plan.side models act before
+
+  abbrev after_some : ℕ → World
+  after_some k = after_parts (edit_parts (2 ^ t.plan.side) models act) k before
+
   -- by the history that is seen then, and by the act that was asked for
-  made_as : edited t.models act (stored_in (2 ^ t.plan.side) t.models w.view.log.seen.records at)
-      ≡ after
-  made_as =
+  made_as : (k : ℕ)
+      → made_of (2 ^ t.plan.side) t.models w.view.log.seen.records act at k ≡ after_some k
+  made_as k =
       let f : t.models ≡ models = sym maker.models_are in
       let g : t.models ≡ v.view.models = sym ready.of.models in
       let p : t.plan ≡ v.view.plan = sym ready.of.plan in
       let l : w.view.log ≡ v.view.log = stays.log in
-      (λ i. edited (f i) act (stored_in (2 ^ (p i).side) (g i) ((l i).seen.records) at))
+      (λ i. made_by_parts (2 ^ t.plan.side) (f i) act k
+      (stored_in (2 ^ (p i).side) (g i) ((l i).seen.records) at))
 
-  target : IsPlainTarget t.plan t.models w.view.log.seen.records act at (world_shape level after)
-  target = record {
+  wanted_by : (s : Shape) → Wants s → IsWanted t.plan t.models w.view.log.seen.records act at s
+  wanted_by s of = record {
     edit = maker.edit;
-    plain = maker.plain;
-    canonical = shape_with-canonical level (world_cells after);
-    shows = subst (λ (x : World). ShowsCells (world_block t.plan.side) (world_shape level after) x)
-        (sym made_as) (shape_shows level (world_shape level after) after refl);
+    parts = of.after;
+    some_part = of.some;
+    few_parts = of.few;
+    part = record {
+      all = world_shape level (after_some of.after);
+      canonical = shape_with-canonical level (world_cells (after_some of.after));
+      shows = subst (λ (x : World). ShowsCells (world_block t.plan.side)
+          (world_shape level (after_some of.after)) x) (sym (made_as of.after))
+          (shape_shows level (world_shape level (after_some of.after)) (after_some of.after) refl);
+      part = of.is_part;
+    };
   }
 
-  wanted_by : (s : Shape) → IsPart s (world_shape level after)
-      → IsWanted t.plan t.models w.view.log.seen.records act at s
-  wanted_by s part = plain_target_wanted t.plan t.models w.view.log.seen.records act at
-      (world_shape level after) target s part
-
-  makes_part : (s : Shape) → IsPart s (world_shape level after)
-      → MakesPart t.plan t.models w.view.log.seen.records act (number_seen v.view)
-      (number_seen w.view) s
-  makes_part s part =
+  makes_part : (s : Shape) → Wants s → MakesPart t.plan t.models w.view.log.seen.records act
+      (number_seen v.view) (number_seen w.view) s
+  makes_part s of =
       let same = same_number in
       record {
         version = at;
         low = omega arith;
         high = omega arith;
-        wanted = wanted_by s part;
+        wanted = wanted_by s of;
       }
 
   nothing_came : AcceptsNothing (session_seen v.view) (session_seen w.view)
@@ -145,14 +161,14 @@ module _ (t : TableSeen) (act : Act) (models : List Content) (v w : PassSeen)
         marks = ap (λ (l : LogView). l.marks) stays.log;
       }
 
-  grown_notes : Grows (world_shape level after) (seen_of v.view) (seen_of w.view)
+  grown_notes : GrowsBy Wants (seen_of v.view) (seen_of w.view)
       → NotesFor t.plan t.models act (session_seen v.view) (session_seen w.view)
   grown_notes g =
-      let more = grown (λ s. IsPart s (world_shape level after)) v.view.made w.view.made g.made in
+      let more = grown Wants v.view.made w.view.made g.made in
       record {
         more = more.more;
         made = more.is;
-        parts = All-weaker (λ s. IsPart s (world_shape level after))
+        parts = All-weaker Wants
             (MakesPart t.plan t.models w.view.log.seen.records act (number_seen v.view)
             (number_seen w.view)) makes_part more.more more.each;
         further = [];
@@ -162,14 +178,14 @@ module _ (t : TableSeen) (act : Act) (models : List Content) (v w : PassSeen)
       }
 
   abbrev failed_notes : (full : Full)
-      → Fails (world_shape level after) full.level full.bucket (seen_of v.view) (seen_of w.view)
+      → FailsBy Wants full.level full.bucket (seen_of v.view) (seen_of w.view)
       → NotesFor t.plan t.models act (session_seen v.view) (session_seen w.view)
   failed_notes full g =
-      let more = grown (λ s. IsPart s (world_shape level after)) v.view.made w.view.made g.made in
+      let more = grown Wants v.view.made w.view.made g.made in
       record {
         more = more.more;
         made = more.is;
-        parts = All-weaker (λ s. IsPart s (world_shape level after))
+        parts = All-weaker Wants
             (MakesPart t.plan t.models w.view.log.seen.records act (number_seen v.view)
             (number_seen w.view)) makes_part more.more more.each;
         further = record { level = full.level; bucket = full.bucket; shape = g.wanted } ∷ [];
@@ -177,7 +193,7 @@ module _ (t : TableSeen) (act : Act) (models : List Content) (v w : PassSeen)
         wanted = All-cons (λ (x : Wanted). MakesPart t.plan t.models w.view.log.seen.records act
             (number_seen v.view) (number_seen w.view) x.shape)
             (record { level = full.level; bucket = full.bucket; shape = g.wanted }) []
-            (makes_part g.wanted g.is_part)
+            (makes_part g.wanted g.wants)
             (All-nil (λ (x : Wanted). MakesPart t.plan t.models w.view.log.seen.records act
             (number_seen v.view) (number_seen w.view) x.shape));
       }
@@ -210,12 +226,12 @@ module _ (t : TableSeen) (act : Act) (models : List Content) (v w : PassSeen)
       (seen_has w.view (number_seen w.view)) ≡ after
   after_as =
       let p : w.view.plan ≡ v.view.plan = stays.same.session.plan in
+      let q : w.view.plan ≡ t.plan = plan_is in
       let g : w.view.models ≡ v.view.models = stays.same.session.models in
       let f : w.view.models ≡ models = g ∙ ready.of.models ∙ sym maker.models_are in
       let l : w.view.log ≡ v.view.log = stays.log in
-      (λ i. edited_in (2 ^ (p i).side) (f i) act (stored_in (2 ^ (p i).side) (g i)
+      (λ i. edited_in (2 ^ (q i).side) (f i) act (stored_in (2 ^ (p i).side) (g i)
       ((l i).seen.records) (length ((l i).seen.records))))
-      ∙ ap (λ (e : World → World). e before) (plainly (2 ^ v.view.plan.side) models act maker.plain)
 
   makes_root : (r : Option Name)
       → RebuildsAct (seen_of v.view) t.plan.side base models act (Ok r) (seen_of w.view)
@@ -253,33 +269,33 @@ module _ (t : TableSeen) (act : Act) (models : List Content) (v w : PassSeen)
           listed = (0, omega arith, refl);
           sought = subst (λ (p : Layout). IsSought p x) ready.of.plan g.sought;
           wanted = subst (λ (n : ℕ). IsWanted t.plan t.models w.view.log.seen.records act n g.wanted)
-              (sym same_number) (wanted_by g.wanted g.is_part);
+              (sym same_number) (wanted_by g.wanted g.wants);
         };
         held = record { weighs = g.held };
       }
 
 -- the same as the world's table tells it
-pub makes_root_as : (t u : TableSeen) (act : Act) (models : List Content) (v w : PassSeen)
-    → u ≡ t → IsMaker t models act → IsLendable t v → StaysLendable u v w
+pub makes_root_as : (t u : TableSeen) (act : Act) (tint : Bool) (models : List Content)
+    (v w : PassSeen) → u ≡ t → IsMaker t tint models act → IsLendable t v → StaysLendable u v w
     → (base : Option Name) → HoldsRootOf v.view base (seen_has v.view (number_seen v.view))
     → (r : Option Name)
     → RebuildsAct (seen_of v.view) u.plan.side base models act (Ok r) (seen_of w.view)
     → GrowsByAct (seen_of v.view) u.plan.side base models act (Ok r) (seen_of w.view)
     → MakesNextRoot t act r v.view w.view
-makes_root_as t u act models v w same maker ready stays base h r ok grows =
-    makes_root t act models v w maker ready (lent_as t u v w same stays) base h r
+makes_root_as t u act tint models v w same maker ready stays base h r ok grows =
+    makes_root t act tint models v w maker ready (lent_as t u v w same stays) base h r
     (subst (λ (x : TableSeen). RebuildsAct (seen_of v.view) x.plan.side base models act (Ok r)
     (seen_of w.view)) same ok)
     (subst (λ (x : TableSeen). GrowsByAct (seen_of v.view) x.plan.side base models act (Ok r)
     (seen_of w.view)) same grows)
 
-pub fails_as : (t u : TableSeen) (act : Act) (models : List Content) (v w : PassSeen)
-    → u ≡ t → IsMaker t models act → IsLendable t v → StaysLendable u v w
+pub fails_as : (t u : TableSeen) (act : Act) (tint : Bool) (models : List Content)
+    (v w : PassSeen) → u ≡ t → IsMaker t tint models act → IsLendable t v → StaysLendable u v w
     → (base : Option Name) → HoldsRootOf v.view base (seen_has v.view (number_seen v.view))
     → (full : Full)
     → RefusesAct (seen_of v.view) u.plan.side base models act (Err full) (seen_of w.view)
     → FailsToMake t act full v.view w.view
-fails_as t u act models v w same maker ready stays base h full refuses =
-    fails_to_make t act models v w maker ready (lent_as t u v w same stays) base h full
+fails_as t u act tint models v w same maker ready stays base h full refuses =
+    fails_to_make t act tint models v w maker ready (lent_as t u v w same stays) base h full
     (subst (λ (x : TableSeen). RefusesAct (seen_of v.view) x.plan.side base models act (Err full)
     (seen_of w.view)) same refuses)

@@ -1,9 +1,9 @@
 -- Versions that are pinned: their roots are walked, and they stay pinned.
-use Rattle.std.proofs.Common.{◌≡◌, ◌-◌, ◌^◌, ◌≤◌, ℕ, Option, length, refl, sym, ap, subst, arith}
+use Rattle.std.proofs.Common.{◌≡◌, ◌-◌, ◌^◌, ◌≤◌, ℕ, Bool, false, Option, length, sym, ◌∙◌, ap, subst, arith}
 use Rattle.std.specs.List.{Contains}
 use Rattle.history_model.specs.declared.questions.Question.{Question}
 use Rattle.transcript.specs.declared.answers.Answer.{Answer}
-use Rattle.conformance.specs.Telling.{Tells}
+use Rattle.conformance.specs.Telling.{Tells, count}
 use Rattle.node_shapes.specs.declared.names.Name.{Name}
 use Rattle.node_shapes.specs.Weights.{weigh}
 use Rattle.node_words.specs.Held.{Seen}
@@ -11,6 +11,11 @@ use Rattle.node_words.specs.Plans.{Layout}
 use Rattle.edit_blocks.specs.Blocks.{MayGoBack}
 use Rattle.block_walk.specs.Roots as walks
 use Rattle.edit_cells.specs.Worlds.{ShowsWorld}
+use Rattle.history_model.specs.declared.questions.Question.TheVariants.{Count}
+use Rattle.history_model.specs.Tints.{Tints}
+use Rattle.history_model.specs.Worlds.{World}
+use Rattle.vw_cell.specs.declared.boxes.Boxed.{Boxed}
+use Rattle.vw_cell.specs.Counts.{number_in}
 use Rattle.world_answers.specs.TellsRoots.{TellsRoot}
 use Rattle.table_rule.specs.LogTelling.{seen_has}
 use Rattle.table_rule.specs.LogViews.{LogView}
@@ -19,10 +24,17 @@ use Rattle.node_table.specs.Seen.{TableSeen, PassSeen}
 use Rattle.version_log.specs.declared.pinned.Pinned.{Pinned}
 use Rattle.version_log.specs.Pins.{IsPinned}
 use Rattle.hands.specs.Lendable.{StaysLendable}
-use Rattle.session_runs.specs.Told.{plainly_tinted}
+use Rattle.session_runs.specs.Told.{TellsKept, plainly_tinted}
+use Rattle.session.specs.Roots.{TellsHeld}
+use Rattle.session.specs.Saves.{cells_counted}
 use Rattle.session.specs.Resting.{IsAtRest}
-use Rattle.session.proofs.AskLaws.{may_walk, shows_world}
+use Rattle.session.proofs.AskLaws.{kept_told, may_walk, shows_world}
 use Rattle.session.proofs.CommitLaws.{holds_stays}
+
+-- the answer to a count
+counted_is : (side : ℕ) (w : World) (tints : Tints) (b : Boxed) (answer : Answer)
+    → Tells side w tints (Count b) answer → cells_counted answer ≡ number_in b w
+counted_is side w tints part answer (count b cells e) = e
 
 module _ (t : TableSeen) (v : PassSeen) (p : Pinned) (root : Option Name) (same : root ≡ p.root)
     (r : IsAtRest t v) (is : IsPinned v.view p) where
@@ -35,15 +47,29 @@ module _ (t : TableSeen) (v : PassSeen) (p : Pinned) (root : Option Name) (same 
       (subst (λ (n : ℕ). walks.HoldsRoot v.view.held n p.root) side_is
       (may_walk v.view p.root (seen_has v.view p.version) is.root))
 
-  pub pinned_tells : (question : Question) (answer : Answer)
-      → TellsRoot v.view.held t.plan.side root question answer
-      → Tells (2 ^ t.plan.side) (seen_has v.view p.version)
-      (plainly_tinted (seen_has v.view p.version)) question answer
-  pinned_tells question answer tells =
-      subst (λ (x : Option Name). TellsRoot v.view.held t.plan.side x question answer) same tells
-      (seen_has v.view p.version) (plainly_tinted (seen_has v.view p.version))
-      (subst (λ (n : ℕ). ShowsWorld v.view.held (n - 2) p.root (seen_has v.view p.version)) side_is
-      (shows_world v.view p.root (seen_has v.view p.version) is.root)) (λ c inside. refl)
+  shows_here : ShowsWorld v.view.held (t.plan.side - 2) p.root (seen_has v.view p.version)
+  shows_here =
+      subst (λ (n : ℕ). ShowsWorld v.view.held (n - 2) p.root (seen_has v.view p.version)) side_is
+      (shows_world v.view p.root (seen_has v.view p.version) is.root)
+
+  pub pinned_tells : (tint : Bool) (question : Question) (answer : Answer)
+      → TellsHeld tint v.view.held t.plan.side root question answer
+      → TellsKept tint (2 ^ t.plan.side) (seen_has v.view p.version) question answer
+  pinned_tells tint question answer tells =
+      kept_told tint v.view.held t.plan.side p.root (seen_has v.view p.version) question answer
+      shows_here
+      (subst (λ (x : Option Name). TellsHeld tint v.view.held t.plan.side x question answer) same
+      tells)
+
+  -- the store's cells are counted
+  pub pinned_count : (part : Boxed) (answer : Answer) (cells : ℕ)
+      → TellsRoot v.view.held t.plan.side root (Count part) answer → cells ≡ cells_counted answer
+      → cells ≡ number_in part (seen_has v.view p.version)
+  pinned_count part answer cells tells counted =
+      counted
+      ∙ counted_is (2 ^ t.plan.side) (seen_has v.view p.version)
+      (plainly_tinted (seen_has v.view p.version)) part answer
+      (pinned_tells false (Count part) answer tells)
 
 -- what is pinned stays so while nothing is seen and the same is held
 pub pinned_stays : (t : TableSeen) (v w : PassSeen) (p : Pinned) → StaysLendable t v w

@@ -7,10 +7,7 @@ use Rattle.vw_cell.specs.declared.boxes.Boxed.{Boxed}
 use Rattle.vw_cell.specs.Counts.{number_in}
 use Rattle.vox_read.specs.Contents.{Content}
 use Rattle.history_model.specs.Stores.{store_has, stored_in}
-use Rattle.history_model.specs.Tints.{Tints}
 use Rattle.history_model.specs.Worlds.{World}
-use Rattle.history_model.specs.declared.questions.Question.TheVariants.{Count}
-use Rattle.transcript.specs.declared.answers.Answer.{Answer}
 use Rattle.node_shapes.proofs.WeightLaws.{weigh-cons, weight_of-one}
 use Rattle.node_shapes.specs.declared.names.Name.{Name}
 use Rattle.node_shapes.specs.Shape.{ShowsCells}
@@ -22,7 +19,6 @@ use Rattle.node_words.specs.Plans.{Layout}
 use Rattle.edit_blocks.specs.Blocks.{GoesBack, MayGoBack}
 use Rattle.block_contents.specs.Aligned.{top, world_block}
 use Rattle.conformance.specs.Answers.{asked_version}
-use Rattle.conformance.specs.Telling.{Tells, count}
 use Rattle.table_rule.specs.LogTelling.{seen_has}
 use Rattle.table_rule.specs.Telling.{ViewTells}
 use Rattle.node_table.proofs.LogActs.{one_tree}
@@ -30,21 +26,16 @@ use Rattle.node_table.specs.Seen.{TableSeen, PassSeen, SamePass}
 use Rattle.version_log.specs.Pins.{PinsVersion}
 use Rattle.version_log.specs.Seeing.{LooksOn}
 use Rattle.version_log.specs.declared.pinned.Pinned.{Pinned}
-use Rattle.session_runs.proofs.PlainLaws.{store_stays}
+use Rattle.session_runs.proofs.SuitLaws.{store_stays}
 use Rattle.session_runs.specs.Seen.{SessionSeen}
 use Rattle.session_runs.specs.Calls.{FindsVersion, FollowsHistory}
-use Rattle.session_runs.specs.Told.{Saved, plainly_tinted}
+use Rattle.session_runs.specs.Told.{Saved}
 use Rattle.session.proofs.AskLaws.{asked_as, held_or_gone}
 use Rattle.session.proofs.SameLaws.{finds}
 use Rattle.session.proofs.SeenLaws.{models_stay, only_sees}
 use Rattle.session.specs.Resting.{IsAtRest}
-use Rattle.session.specs.Saves.{AddsPin, HoldsSaves, IsSavedRoot, cells_counted}
+use Rattle.session.specs.Saves.{AddsPin, HoldsSaves, IsSavedRoot}
 use Rattle.session.specs.Seen.{WorldSeen, of_world, session_seen}
-
--- ---- a save is a count of its box
-
-counted_is : (side : ℕ) (w : World) (tints : Tints) (b : Boxed) (answer : Answer) → Tells side w tints (Count b) answer → cells_counted answer ≡ number_in b w
-counted_is side w tints part answer (count b cells e) = e
 
 module _ (t : WorldSeen) (asked : Option ℕ) (v w : PassSeen) (p : Pinned) (r : IsAtRest t.table v) (looks : LooksOn v.view w.view) (is : PinsVersion v.view asked p w.view) where
   plan_is : w.view.plan ≡ t.table.plan
@@ -61,10 +52,10 @@ module _ (t : WorldSeen) (asked : Option ℕ) (v w : PassSeen) (p : Pinned) (r :
   version_is = is.version ∙ asked_as asked p.moment
 
   -- the version that was saved was found, and its cells were counted
-  pub save_told : (number : ℕ) (x : PassSeen) (part : Boxed) (answer : Answer) (cells : ℕ) → session_seen x.view ≡ session_seen w.view
-      → Tells (2 ^ t.table.plan.side) (seen_has w.view p.version) (plainly_tinted (seen_has w.view p.version)) (Count part) answer → cells ≡ cells_counted answer
+  pub save_told : (number : ℕ) (x : PassSeen) (part : Boxed) (cells : ℕ) → session_seen x.view ≡ session_seen w.view
+      → cells ≡ number_in part (seen_has w.view p.version)
       → Saved (of_world t number) asked part (session_seen v.view) (session_seen x.view) (record { at = p.moment; cells = cells })
-  save_told number x part answer cells same tells counted =
+  save_told number x part cells same counted =
       subst (λ (s : SessionSeen). Saved (of_world t number) asked part (session_seen v.view) s (record { at = p.moment; cells = cells })) (sym same)
       (record {
         at_is = is.moment;
@@ -72,7 +63,7 @@ module _ (t : WorldSeen) (asked : Option ℕ) (v w : PassSeen) (p : Pinned) (r :
         finds = subst (λ (u : ℕ). FindsVersion (session_seen w.view) u) version_is
             (finds w.view p.version p.moment is.moment (record { there = is.pinned.version; unmarked = is.unmarked; found = is.pinned.found }));
         cells =
-            counted ∙ counted_is (2 ^ t.table.plan.side) (seen_has w.view p.version) (plainly_tinted (seen_has w.view p.version)) part answer tells
+            counted
             ∙ ap (λ (ms : List Content). number_in part (stored_in (2 ^ w.view.plan.side) ms w.view.log.seen.records p.version)) models_is
             ∙ ap (λ (n : ℕ). number_in part (stored_in (2 ^ n) t.table.models w.view.log.seen.records p.version)) side_is
             ∙ ap (λ (u : ℕ). number_in part (store_has t.table.models w.view.log.seen u)) version_is;

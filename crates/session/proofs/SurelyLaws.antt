@@ -49,7 +49,7 @@ module _ (t : WorldSeen) (line : ℕ) (act : Act) (v w : SeatView) (full : Full)
 -- a share of the root came
 module _ (t : WorldSeen) (line : ℕ) (act : Act) (root : Option Name) (v w : SeatView)
     (makes : MakesNextRoot t.table act root v w) where
-  pub made_few : number_of_trees v.held ≤ 3910 → number_of_trees w.held ≤ 4095
+  pub made_few : number_of_trees v.held ≤ 3909 → number_of_trees w.held ≤ 4095
   made_few few = let more = few_gained v.held w.held root makes.gains in omega arith
 
   pub done_made : (x y : SeatView) (c : Committed) → CommitsNext w t.keep line act root c x
@@ -63,10 +63,10 @@ module _ (t : WorldSeen) (line : ℕ) (act : Act) (root : Option Name) (v w : Se
   done_held x y c made back = pushed_held t.keep line act root c v.held w x y.held makes.gains made back
 
   pub done_room : (x : SeatView) (c : Committed) → CommitsNext w t.keep line act root c x
-      → number_of_trees v.held ≤ 3910 → number_of_trees x.held ≤ 4008
+      → number_of_trees v.held ≤ 3909 → number_of_trees x.held ≤ 4008
   done_room x c made few = fallen_room t.keep line act root c v.held w x makes.gains made (omega arith)
 
-  pub late_room : (x : SeatView) → x.held ≡ w.held → number_of_trees v.held ≤ 3910
+  pub late_room : (x : SeatView) → x.held ≡ w.held → number_of_trees v.held ≤ 3909
       → number_of_trees x.held ≤ 4008
   late_room x kept few =
       let more = few_gained v.held w.held root makes.gains in
@@ -93,7 +93,7 @@ pub few_behind : (a b : List Tree) → b ≡ a → number_of_trees a ≤ 3900
 few_behind a b same few = few_from a b same (omega arith)
 
 pub more_from : (a b c : List Tree) (root : Option Name) → b ≡ a → GetsRoot b root c
-    → number_of_trees a ≤ 3902 → number_of_trees c ≤ 3910
+    → number_of_trees a ≤ 3902 → number_of_trees c ≤ 3909
 more_from a b c root same g few =
     let e : number_of_trees b ≡ number_of_trees a = ap number_of_trees same in
     let one = few_gained b c root g in

@@ -1,10 +1,11 @@
 -- What the attempts at an edit leave of a session.
-use Rattle.std.specs.Prelude.{◌≡◌, ℕ, ◌^◌, ◌<◌, true, false, Option, List, [], ◌∷◌, Result, Ok, Err}
+use Rattle.std.specs.Prelude.{◌≡◌, ℕ, ◌^◌, ◌<◌, Bool, true, Option, List, [], ◌∷◌, Result, Ok, Err}
 use Rattle.vox_read.specs.Contents.{Content}
 use Rattle.history_model.specs.declared.acts.Act.{Act}
 use Rattle.history_model.specs.declared.acts.Act.TheVariants.{Undo}
 use Rattle.history_model.specs.Logs.{FitsWorld, suits_tints}
 use Rattle.history_model.specs.Worlds.{is_edit}
+use Rattle.hands.specs.Acts.{IsLargeFor}
 use Rattle.node_shapes.specs.declared.names.Name.{Name}
 use Rattle.node_words.specs.declared.shares.Full.{Full}
 use Rattle.node_words.specs.Held.{SameHeld}
@@ -28,12 +29,14 @@ use Rattle.session.specs.declared.attempts.EditAnswer.TheVariants as edits
 use Rattle.session.specs.declared.attempts.Late.{Late}
 use Rattle.session.specs.Seen.{WorldSeen, of_world, session_seen}
 
--- the act is an edit without a tint that fits the world, by the world's models
-pub record IsMaker (t : TableSeen) (models : List Content) (act : Act) : Type 0 where
+-- the act is an edit of a world whose cells have tints, or have none; it lies in the world, by the
+-- world's models, and the world's store is large enough for it
+pub record IsMaker (t : TableSeen) (tint : Bool) (models : List Content) (act : Act) : Type 0 where
   pub models_are : models ≡ t.models
   pub edit : is_edit act ≡ true
-  pub plain : suits_tints false act ≡ true
+  pub suits : suits_tints tint act ≡ true
   pub fits : FitsWorld (2 ^ t.plan.side) t.models act
+  pub large : IsLargeFor act t.plan.side
 
 -- the session saw the history go on, and nothing of its own was accepted; what it made and met is
 -- wanted by the act of versions that it saw

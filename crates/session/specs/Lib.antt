@@ -1,6 +1,7 @@
 pub mod Seen
 pub mod Resting
 pub mod Attempts
+pub mod Roots
 pub mod Closes
 pub mod Saves
 pub mod Desks

@@ -15,7 +15,7 @@ ghost use Rattle.session.specs.Seen.{IsActOf, KnowsItself, of_world, session_see
 use crate::attempts::{EditAnswer, Late};
 use crate::world::{Session, World};
 use gate_run::Gate;
-use hands::{ActMaker, BallAct, BoxAct, CopyAct, PlainAct, box_may_repeat, copy_may_repeat};
+use hands::{ActMaker, AnyAct, BallAct, BoxAct, CopyAct, box_may_repeat, copy_may_repeat};
 use history_model::Act;
 use node_words::{Share, Steps};
 use session_runs::{ActAnswer, OnceAnswer};
@@ -113,12 +113,12 @@ impl<'m> World<'m> {
             Act::Ball(ball) => self.edit_ball(rt, s, line, act, ball, true, gate, steps),
             Act::Carve(ball) => self.edit_ball(rt, s, line, act, ball, false, gate, steps),
             Act::Copy(from, to) => self.edit_copy(rt, s, line, act, *from, *to, gate, steps),
-            Act::Stamp(_, _) => self.edit_plainly(rt, s, line, act, gate, steps),
-            Act::Tint(_) => unreachable!(),
+            Act::Stamp(_, _) | Act::Tint(_) => self.edit_anew(rt, s, line, act, gate, steps),
         }
     }
 
-    fn edit_plainly<R: Wait, G: Gate, L: Ledger>(
+    // An edit that is made anew of each root.
+    fn edit_anew<R: Wait, G: Gate, L: Ledger>(
         &self,
         rt: &R,
         s: &mut Session,
@@ -136,7 +136,7 @@ impl<'m> World<'m> {
         ensures held { SameHeld s.old.view.held s.new.view.held }
         ensures told { AnswersAct self.now line act.now result s.old.view s.new.view }
     {
-        let mut maker = PlainAct {
+        let mut maker = AnyAct {
             models: &self.drawn,
             edit: *act,
         };
@@ -166,7 +166,7 @@ impl<'m> World<'m> {
         ensures told { AnswersAct self.now line act.now result s.old.view s.new.view }
     {
         if !box_may_repeat(b.size, self.plan().side()) {
-            return self.edit_plainly(rt, s, line, act, gate, steps);
+            return self.edit_anew(rt, s, line, act, gate, steps);
         }
         let mut maker = BoxAct::new(&self.drawn, b, set);
         act_answer(self.edit(rt, s, line, &mut maker, gate, steps))
@@ -195,7 +195,7 @@ impl<'m> World<'m> {
         ensures told { AnswersAct self.now line act.now result s.old.view s.new.view }
     {
         if ball.radius < FEW {
-            return self.edit_plainly(rt, s, line, act, gate, steps);
+            return self.edit_anew(rt, s, line, act, gate, steps);
         }
         let mut maker = BallAct::new(&self.drawn, ball, set);
         act_answer(self.edit(rt, s, line, &mut maker, gate, steps))
@@ -224,7 +224,7 @@ impl<'m> World<'m> {
         ensures told { AnswersAct self.now line act.now result s.old.view s.new.view }
     {
         if !copy_may_repeat(from.size) {
-            return self.edit_plainly(rt, s, line, act, gate, steps);
+            return self.edit_anew(rt, s, line, act, gate, steps);
         }
         let mut maker = CopyAct::new(&self.drawn, from, to);
         act_answer(self.edit(rt, s, line, &mut maker, gate, steps))
@@ -241,7 +241,8 @@ impl<'m> World<'m> {
         steps: &mut Steps<L>,
     ) -> EditAnswer
         requires rest { IsAtRest self.now.table s.old }
-        requires maker { IsMaker self.now.table (M.models maker.old) (M.act maker.old) }
+        requires maker { IsMaker self.now.table (M.tint maker.old) (M.models maker.old)
+            (M.act maker.old) }
         requires room { number_of_trees s.old.view.held ≤ 3900 }
         requires recalls { M.recalls maker.old s.old.view.held }
         ensures rest { IsAtRest self.now.table s.new }
@@ -287,7 +288,7 @@ impl<'m> World<'m> {
             (session_seen s.new.view) result }
         ensures knows { KnowsItself s.new.view }
     {
-        let mut maker = PlainAct {
+        let mut maker = AnyAct {
             models: &self.drawn,
             edit: *act,
         };

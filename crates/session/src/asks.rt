@@ -1,5 +1,5 @@
 //! What is asked of a version.
-ghost use Rattle.std.specs.Prelude.{◌≡◌, ◌≤◌, ◌^◌, ℕ, option_copied};
+ghost use Rattle.std.specs.Prelude.{◌≡◌, ◌≤◌, ◌^◌, true, ℕ, option_copied};
 ghost use Rattle.node_shapes.specs.Weights.{number_of_trees};
 ghost use Rattle.block_walk.specs.Roots.{HoldsRoot};
 ghost use Rattle.node_words.specs.Held.{SameHeld};
@@ -7,14 +7,15 @@ ghost use Rattle.table_rule.specs.Views.{seen_of};
 ghost use Rattle.hands.specs.Lendable.{IsLendable, StaysLendable};
 ghost use Rattle.node_table.specs.Seen.{SamePass};
 ghost use Rattle.script.specs.Fitting.{QuestionFits};
-ghost use Rattle.conformance.specs.Telling.{Tells};
+ghost use Rattle.conformance.specs.Kinds.{is_resting};
 ghost use Rattle.table_rule.specs.LogTelling.{seen_has};
 ghost use Rattle.version_log.specs.declared.pinned.Pinned.{Pinned};
 ghost use Rattle.version_log.specs.Pins.{IsPinned};
-ghost use Rattle.session_runs.specs.Told.{AskTold, plainly_tinted};
+ghost use Rattle.session_runs.specs.Told.{AskTold, TellsKept};
 ghost use Rattle.world_answers.specs.TellsRoots.{TellsRoot};
 ghost use Rattle.session.specs.Resting.{IsAtRest};
-ghost use Rattle.session.specs.Seen.{KnowsItself, of_world, session_seen};
+ghost use Rattle.session.specs.Roots.{TellsHeld};
+ghost use Rattle.session.specs.Seen.{KnowsItself, of_world, session_seen, side_of};
 
 use crate::world::{Session, World};
 use history_model::Question;
@@ -24,10 +25,12 @@ use std::sync::Wait;
 use std::sync::ledger::Ledger;
 use transcript::Answer;
 use version_log::{PinRefused, Pinned};
+use world_answers::{tell, tell_tinted};
 
 impl<'m> World<'m> {
-    // What is asked of a root that the session holds. It takes no turn and waits for nobody.
-    pub(crate) fn tell_root(
+    // What is asked of the cells of the store, by a root that the session holds. It takes no turn
+    // and waits for nobody.
+    pub(crate) fn tell_cells(
         &self,
         s: &mut Session,
         root: Option<&Share>,
@@ -39,25 +42,61 @@ impl<'m> World<'m> {
         ensures stays { StaysLendable self.now.table s.old s.new }
         ensures tells { TellsRoot s.old.view.held self.now.table.plan.side
             (option_copied root.entry) question result }
+        ensures resting { is_resting result ≡ true }
         ensures seen { seen_of s.new.view ≡ seen_of s.old.view }
     {
         let side = self.table.plan().side();
         let mut hand = self.hand(&(), s);
-        world_answers::tell(&mut hand, root, side, question)
+        tell(&mut hand, root, side, question)
     }
 
-    /// The answer to a question about a version that is pinned, of which each set cell has tint 1.
-    /// It takes no turn, and waits for nobody.
+    // The same of the tints that they keep.
+    fn tell_tints(&self, s: &mut Session, root: Option<&Share>, question: Question) -> Answer
+        requires ready { IsLendable self.now.table s.old }
+        requires tint { self.now.tint ≡ true }
+        requires root { HoldsRoot s.old.view.held self.now.table.plan.side (option_copied root) }
+        requires fits { QuestionFits (side_of self.now) question }
+        ensures stays { StaysLendable self.now.table s.old s.new }
+        ensures tells { TellsHeld true s.old.view.held self.now.table.plan.side
+            (option_copied root.entry) question result }
+        ensures resting { is_resting result ≡ true }
+        ensures seen { seen_of s.new.view ≡ seen_of s.old.view }
+    {
+        let side = self.table.plan().side();
+        let mut hand = self.hand(&(), s);
+        tell_tinted(&mut hand, root, side, question)
+    }
+
+    // What is asked of the world, by a root that the session holds.
+    fn tell_root(&self, s: &mut Session, root: Option<&Share>, question: Question) -> Answer
+        requires ready { IsLendable self.now.table s.old }
+        requires root { HoldsRoot s.old.view.held self.now.table.plan.side (option_copied root) }
+        requires fits { QuestionFits (side_of self.now) question }
+        ensures stays { StaysLendable self.now.table s.old s.new }
+        ensures tells { TellsHeld self.now.tint s.old.view.held self.now.table.plan.side
+            (option_copied root.entry) question result }
+        ensures resting { is_resting result ≡ true }
+        ensures seen { seen_of s.new.view ≡ seen_of s.old.view }
+    {
+        if self.tint {
+            self.tell_tints(s, root, question)
+        } else {
+            self.tell_cells(s, root, question)
+        }
+    }
+
+    /// The answer to a question about the world at a version that is pinned. Where its cells have
+    /// no tints, each set one has tint 1. It takes no turn, and waits for nobody.
     pub fn ask(&self, s: &mut Session, p: &Pinned, question: &Question) -> Answer
         requires rest { IsAtRest self.now.table s.old }
         requires pinned { IsPinned s.old.view p.now }
-        requires fits { QuestionFits (2 ^ self.now.table.plan.side) question.now }
+        requires fits { QuestionFits (side_of self.now) question.now }
         ensures rest { IsAtRest self.now.table s.new }
         ensures same { SamePass s.old s.new }
         ensures held { s.new.view.held ≡ s.old.view.held }
         ensures seen { session_seen s.new.view ≡ session_seen s.old.view }
-        ensures tells { Tells (2 ^ self.now.table.plan.side) (seen_has s.old.view p.now.version)
-            (plainly_tinted (seen_has s.old.view p.now.version)) question.now result }
+        ensures tells { TellsKept self.now.tint (2 ^ self.now.table.plan.side)
+            (seen_has s.old.view p.now.version) question.now result }
         ensures pinned { (q : Pinned) → IsPinned s.old.view q → IsPinned s.new.view q }
         ensures knows { KnowsItself s.new.view }
     {
@@ -77,7 +116,7 @@ impl<'m> World<'m> {
         steps: &mut Steps<L>,
     ) -> Result<AskedAt, PinRefused>
         requires rest { IsAtRest self.now.table s.old }
-        requires fits { QuestionFits (2 ^ self.now.table.plan.side) question }
+        requires fits { QuestionFits (side_of self.now) question }
         requires room { number_of_trees s.old.view.held ≤ 3900 }
         ensures rest { IsAtRest self.now.table s.new }
         ensures same { SamePass s.old s.new }

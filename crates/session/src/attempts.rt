@@ -51,12 +51,14 @@ impl<'m> World<'m> {
         steps: &mut Steps<L>,
     ) -> Result<Option<Share>, Full>
         requires ready { IsLendable self.now.table s.old }
-        requires maker { IsMaker self.now.table (M.models maker.old) (M.act maker.old) }
+        requires maker { IsMaker self.now.table (M.tint maker.old) (M.models maker.old)
+            (M.act maker.old) }
         requires base { HoldsRootOf s.old.view (option_copied base)
             (seen_has s.old.view (number_seen s.old.view)) }
-        requires room { number_of_trees s.old.view.held ≤ 3910 }
+        requires room { number_of_trees s.old.view.held ≤ 3909 }
         requires recalls { M.recalls maker.old s.old.view.held }
         ensures stays { StaysLendable self.now.table s.old s.new }
+        ensures tint { M.tint maker.new ≡ M.tint maker.old }
         ensures models { M.models maker.new ≡ M.models maker.old }
         ensures act { M.act maker.new ≡ M.act maker.old }
         ensures root { IfOk result
@@ -114,12 +116,14 @@ impl<'m> World<'m> {
         steps: &mut Steps<L>,
     ) -> Result<EditAnswer, Late>
         requires rest { IsAtRest self.now.table s.old }
-        requires maker { IsMaker self.now.table (M.models maker.old) (M.act maker.old) }
+        requires maker { IsMaker self.now.table (M.tint maker.old) (M.models maker.old)
+            (M.act maker.old) }
         requires base { HasPinnedHead s.old.view base.now }
         requires room { number_of_trees s.old.view.held ≤ 3901 }
         requires recalls { M.recalls maker.old s.old.view.held }
         ensures rest { IsAtRest self.now.table s.new }
         ensures same { SamePass s.old s.new }
+        ensures tint { M.tint maker.new ≡ M.tint maker.old }
         ensures models { M.models maker.new ≡ M.models maker.old }
         ensures act { M.act maker.new ≡ M.act maker.old }
         ensures comes { Attempts self.now line (M.act maker.old) base.now result s.old.view

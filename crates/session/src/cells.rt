@@ -1,8 +1,7 @@
-//! The set cells of versions that are pinned.
-ghost use Rattle.std.specs.Prelude.{◌≡◌, ◌≤◌, ◌^◌, ◌++◌, OnErr, OnOk, option_copied};
+//! The set cells of versions that are pinned, and their files.
+ghost use Rattle.std.specs.Prelude.{◌≡◌, ◌≤◌, ◌++◌, true, IfOk, OnErr, OnOk, option_copied};
 ghost use Rattle.vw_cell.specs.Places.{FitsAt};
 ghost use Rattle.block_walk.specs.Roots.{ForWorld, HoldsRoot};
-ghost use Rattle.extract.specs.Listing.{voxels_of_box};
 ghost use Rattle.table_rule.specs.LogTelling.{seen_has};
 ghost use Rattle.table_rule.specs.Views.{seen_of};
 ghost use Rattle.hands.specs.Lendable.{IsLendable, StaysLendable};
@@ -10,15 +9,47 @@ ghost use Rattle.node_table.specs.Seen.{SamePass};
 ghost use Rattle.version_log.specs.declared.pinned.Pinned.{Pinned};
 ghost use Rattle.version_log.specs.Pins.{IsPinned};
 ghost use Rattle.session.specs.Resting.{IsAtRest};
-ghost use Rattle.session.specs.Seen.{KnowsItself, session_seen};
+ghost use Rattle.session.specs.Roots.{file_kept, voxels_kept};
+ghost use Rattle.session.specs.Seen.{KnowsItself, session_seen, side_of};
 
 use crate::world::{Session, World};
+use colour::tints_in;
+use extract::cells_in;
 use node_words::Share;
+use std::alloc::Global;
 use version_log::Pinned;
 use vox_read::Voxel;
+use vox_write::write_model;
 use vw_cell::{Boxed, Memory};
 
 impl<'m> World<'m> {
+    // The set cells of a box, each with its tint, of the world whose tints the store of a root
+    // keeps.
+    fn tints_of_root(
+        &self,
+        s: &mut Session,
+        root: Option<&Share>,
+        part: Boxed,
+        into: &mut Vec<Voxel>,
+    ) -> Result<(), Memory>
+        requires ready { IsLendable self.now.table s.old }
+        requires tint { self.now.tint ≡ true }
+        requires root { HoldsRoot s.old.view.held self.now.table.plan.side (option_copied root) }
+        requires inside { FitsAt part.at part.size (side_of self.now) }
+        requires small { (part.size.x ≤ 256) × (part.size.y ≤ 256) × (part.size.z ≤ 256) }
+        ensures stays { StaysLendable self.now.table s.old s.new }
+        ensures voxels { OnOk result
+            (ForWorld s.old.view.held self.now.table.plan.side (option_copied root.entry)
+            (λ cells. into.new.items ≡ into.old.items
+            ++ voxels_kept true self.now.table.plan.side part cells)) }
+        ensures memory { OnErr result (into.new.items ≡ into.old.items) }
+        ensures seen { seen_of s.new.view ≡ seen_of s.old.view }
+    {
+        let side = self.table.plan().side();
+        let mut hand = self.hand(&(), s);
+        tints_in(&mut hand, root, side, part, into)
+    }
+
     // The set cells of a box by a root that the session holds. It takes no turn and waits for
     // nobody.
     fn cells_of_root(
@@ -30,22 +61,52 @@ impl<'m> World<'m> {
     ) -> Result<(), Memory>
         requires ready { IsLendable self.now.table s.old }
         requires root { HoldsRoot s.old.view.held self.now.table.plan.side (option_copied root) }
-        requires inside { FitsAt part.at part.size (2 ^ self.now.table.plan.side) }
+        requires inside { FitsAt part.at part.size (side_of self.now) }
         requires small { (part.size.x ≤ 256) × (part.size.y ≤ 256) × (part.size.z ≤ 256) }
         ensures stays { StaysLendable self.now.table s.old s.new }
         ensures voxels { OnOk result
             (ForWorld s.old.view.held self.now.table.plan.side (option_copied root.entry)
-            (λ cells. into.new.items ≡ into.old.items ++ voxels_of_box part cells)) }
+            (λ cells. into.new.items ≡ into.old.items
+            ++ voxels_kept self.now.tint self.now.table.plan.side part cells)) }
         ensures memory { OnErr result (into.new.items ≡ into.old.items) }
         ensures seen { seen_of s.new.view ≡ seen_of s.old.view }
     {
+        if self.tint {
+            return self.tints_of_root(s, root, part, into);
+        }
         let side = self.table.plan().side();
         let mut hand = self.hand(&(), s);
-        extract::cells_in(&mut hand, root, side, part, into)
+        cells_in(&mut hand, root, side, part, into)
     }
 
-    /// Appends the set cells of a box of a version that is pinned, told from the box's corner and
-    /// with colour 1, by rising z, then y, then x. It takes no turn, and waits for nobody.
+    // The file of a box by a root that the session holds.
+    pub(crate) fn file_of_root(
+        &self,
+        alloc: Global,
+        s: &mut Session,
+        root: Option<&Share>,
+        part: Boxed,
+    ) -> Result<Vec<u8>, Memory>
+        requires ready { IsLendable self.now.table s.old }
+        requires root { HoldsRoot s.old.view.held self.now.table.plan.side (option_copied root) }
+        requires inside { FitsAt part.at part.size (side_of self.now) }
+        requires small { (part.size.x ≤ 256) × (part.size.y ≤ 256) × (part.size.z ≤ 256) }
+        ensures stays { StaysLendable self.now.table s.old s.new }
+        ensures file { IfOk result
+            (λ file. ForWorld s.old.view.held self.now.table.plan.side (option_copied root.entry)
+            (λ cells. file.items ≡ file_kept self.now.tint self.now.table.plan.side part cells)) }
+        ensures seen { seen_of s.new.view ≡ seen_of s.old.view }
+    {
+        let mut voxels = Vec::new(alloc);
+        self.cells_of_root(s, root, part, &mut voxels)?;
+        let mut file = Vec::new(alloc);
+        write_model(part.size, voxels.as_slice(), &mut file)?;
+        Ok(file)
+    }
+
+    /// Appends the set cells of a box of a version that is pinned, told from the box's corner, by
+    /// rising z, then y, then x: with their tints as colours, or with colour 1 where cells have
+    /// none. It takes no turn, and waits for nobody.
     pub fn cells_in(
         &self,
         s: &mut Session,
@@ -55,14 +116,15 @@ impl<'m> World<'m> {
     ) -> Result<(), Memory>
         requires rest { IsAtRest self.now.table s.old }
         requires pinned { IsPinned s.old.view p.now }
-        requires inside { FitsAt part.at part.size (2 ^ self.now.table.plan.side) }
+        requires inside { FitsAt part.at part.size (side_of self.now) }
         requires small { (part.size.x ≤ 256) × (part.size.y ≤ 256) × (part.size.z ≤ 256) }
         ensures rest { IsAtRest self.now.table s.new }
         ensures same { SamePass s.old s.new }
         ensures held { s.new.view.held ≡ s.old.view.held }
         ensures seen { session_seen s.new.view ≡ session_seen s.old.view }
         ensures voxels { OnOk result (into.new.items ≡ into.old.items
-            ++ voxels_of_box part (seen_has s.old.view p.now.version)) }
+            ++ voxels_kept self.now.tint self.now.table.plan.side part
+            (seen_has s.old.view p.now.version)) }
         ensures memory { OnErr result (into.new.items ≡ into.old.items) }
         ensures pinned { (q : Pinned) → IsPinned s.old.view q → IsPinned s.new.view q }
         ensures knows { KnowsItself s.new.view }

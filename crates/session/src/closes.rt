@@ -33,18 +33,19 @@ impl<'m> World<'m> {
         requires spare { All (λ s. s.view.held ≡ []) sessions.items }
         ensures made { IfOk result (λ e. vec_len sessions ≡ self.entry.table.made) }
         ensures ends { IfOk result (λ e. EndsTable self.entry.table e) }
-        ensures closes { IfOk result (λ e. ClosesWorld self.entry.table.plan self.entry.table.models
-            (sessions_seen sessions.items) e.history) }
+        ensures closes { IfOk result (λ e. ClosesWorld self.entry.tint self.entry.table.plan
+            self.entry.table.models (sessions_seen sessions.items) e.history) }
         ensures refused { IfErr result (λ e. RefusesWorld self.entry sessions.items e) }
     {
         let World {
             table,
             drawn,
             models,
+            tint,
             keep,
         } = self;
         match table.close(alloc, sessions) {
-            Ok(closed) => Ok(Ended::of(closed, false)),
+            Ok(closed) => Ok(Ended::of(closed, tint)),
             Err(
                 TableCloseRefused::Count {
                     table,
@@ -56,6 +57,7 @@ impl<'m> World<'m> {
                     table,
                     drawn,
                     models,
+                    tint,
                     keep,
                 },
                 sessions: passes,
@@ -66,6 +68,7 @@ impl<'m> World<'m> {
                     table,
                     drawn,
                     models,
+                    tint,
                     keep,
                 },
                 sessions: passes,

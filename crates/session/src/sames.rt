@@ -10,7 +10,8 @@ use std::sync::Wait;
 use version_log::{SameAt, SameRefused};
 
 impl<'m> World<'m> {
-    /// Whether both versions have the same cells. Nothing is walked.
+    /// Whether both versions have the same cells, and the same tints where cells have them.
+    /// Nothing is walked.
     pub fn same<R: Wait>(
         &self,
         rt: &R,

@@ -1,23 +1,25 @@
 //! Boxes of versions are saved: the version is pinned until its file is made.
-ghost use Rattle.std.specs.Prelude.{◌≡◌, ◌<◌, ◌≤◌, ◌^◌, ℕ, Some, [], IfErr, IfOk, length};
+ghost use Rattle.std.specs.Prelude.{◌≡◌, ◌<◌, ◌≤◌, ℕ, Some, [], IfErr, IfOk, length};
 ghost use Rattle.std.specs.List.{slice_get};
+ghost use Rattle.vw_cell.specs.Counts.{number_in};
 ghost use Rattle.vw_cell.specs.Places.{FitsAt};
 ghost use Rattle.node_shapes.specs.Weights.{number_of_trees};
 ghost use Rattle.node_words.specs.Held.{SameHeld};
 ghost use Rattle.history_model.specs.Stores.{store_has};
 ghost use Rattle.conformance.specs.Answers.{asked_version};
-ghost use Rattle.extract.specs.Saved.{file_of_box};
+ghost use Rattle.table_rule.specs.LogTelling.{seen_has};
 ghost use Rattle.table_rule.specs.Views.{seen_of};
 ghost use Rattle.hands.specs.Lendable.{IsLendable, StaysLendable};
 ghost use Rattle.node_table.specs.Seen.{SamePass};
 ghost use Rattle.version_log.specs.declared.pinned.Pinned.{Pinned};
+ghost use Rattle.version_log.specs.Pins.{IsPinned};
 ghost use Rattle.session_runs.specs.Told.{SaveTold};
 ghost use Rattle.session.specs.Resting.{IsAtRest};
+ghost use Rattle.session.specs.Roots.{file_kept};
 ghost use Rattle.session.specs.Saves.{AddsPin, HoldsPins, cells_counted, saved_told};
-ghost use Rattle.session.specs.Seen.{KnowsItself, of_world, session_seen};
+ghost use Rattle.session.specs.Seen.{KnowsItself, of_world, session_seen, side_of};
 
 use crate::world::{Session, World};
-use extract::box_file;
 use history_model::Question;
 use node_words::Steps;
 use session_runs::SavedAt;
@@ -47,6 +49,23 @@ fn cells_counted(answer: Answer) -> u64
 }
 
 impl<'m> World<'m> {
+    // How many cells of a box the store has set at a version that is pinned.
+    fn count_pinned(&self, s: &mut Session, p: &Pinned, part: Boxed) -> u64
+        requires rest { IsAtRest self.now.table s.old }
+        requires pinned { IsPinned s.old.view p.now }
+        requires fits { FitsAt part.at part.size (side_of self.now) }
+        ensures rest { IsAtRest self.now.table s.new }
+        ensures same { SamePass s.old s.new }
+        ensures held { s.new.view.held ≡ s.old.view.held }
+        ensures seen { session_seen s.new.view ≡ session_seen s.old.view }
+        ensures cells { result ≡ number_in part (seen_has s.old.view p.now.version) }
+        ensures knows { KnowsItself s.new.view }
+    {
+        let answer = self.tell_cells(s, p.root.as_ref(), Question::Count(part));
+        s.tell();
+        cells_counted(answer)
+    }
+
     /// Pins this version, or the newest, and counts the set cells of the box.
     pub fn pin_box<R: Wait, L: Ledger>(
         &self,
@@ -57,7 +76,7 @@ impl<'m> World<'m> {
         steps: &mut Steps<L>,
     ) -> Result<PinnedSave, PinRefused>
         requires rest { IsAtRest self.now.table s.old }
-        requires fits { FitsAt part.at part.size (2 ^ self.now.table.plan.side) }
+        requires fits { FitsAt part.at part.size (side_of self.now) }
         requires room { number_of_trees s.old.view.held ≤ 3900 }
         ensures rest { IsAtRest self.now.table s.new }
         ensures same { SamePass s.old s.new }
@@ -73,10 +92,10 @@ impl<'m> World<'m> {
         match self.pin(rt, s, version, steps) {
             Ok(pin) => {
                 s.tell();
-                let answer = self.ask(s, &pin, &Question::Count(part));
+                let cells = self.count_pinned(s, &pin, part);
                 let saved = SavedAt {
                     at: pin.moment,
-                    cells: cells_counted(answer),
+                    cells,
                 };
                 Ok(PinnedSave { saved, pin })
             }
@@ -84,8 +103,8 @@ impl<'m> World<'m> {
         }
     }
 
-    /// The file of a box at the version of the save of this number. It takes no turn and waits for
-    /// nobody.
+    /// The file of a box at the version of the save of this number, in which each set cell has its
+    /// tint as its colour. It takes no turn and waits for nobody.
     pub fn saved_file(
         &self,
         alloc: Global,
@@ -97,18 +116,16 @@ impl<'m> World<'m> {
         requires ready { IsLendable self.now.table s.old }
         requires holds { HoldsPins self.now.table s.old.view saves.now }
         requires there { k < length saves.now }
-        requires inside { FitsAt part.at part.size (2 ^ self.now.table.plan.side) }
+        requires inside { FitsAt part.at part.size (side_of self.now) }
         requires small { (part.size.x ≤ 256) × (part.size.y ≤ 256) × (part.size.z ≤ 256) }
         ensures stays { StaysLendable self.now.table s.old s.new }
         ensures seen { seen_of s.new.view ≡ seen_of s.old.view }
         ensures file { IfOk result (λ file. (p : Pinned) → slice_get saves.now k ≡ Some p
-            → file.items ≡ file_of_box part
+            → file.items ≡ file_kept self.now.tint self.now.table.plan.side part
             (store_has self.now.table.models s.old.view.log.seen p.version)) }
     {
-        let side = self.table.plan().side();
         let root = saves[k].root.as_ref();
-        let mut hand = self.hand(&(), s);
-        box_file(alloc, &mut hand, root, side, part)
+        self.file_of_root(alloc, s, root, part)
     }
 
     /// Gives back what is held for saves, which is all that the session holds.

@@ -28,10 +28,11 @@ impl<'m> World<'m> {
         steps: &mut Steps<L>,
     ) -> EditAnswer
         requires turn { HasLog self.now.table s.old }
-        requires maker { IsMaker self.now.table (M.models maker.old) (M.act maker.old) }
+        requires maker { IsMaker self.now.table (M.tint maker.old) (M.models maker.old)
+            (M.act maker.old) }
         requires head { HoldsRootOf s.old.view (option_copied head)
             (seen_has s.old.view (number_seen s.old.view)) }
-        requires room { number_of_trees s.old.view.held ≤ 3910 }
+        requires room { number_of_trees s.old.view.held ≤ 3909 }
         requires recalls { M.recalls maker.old s.old.view.held }
         ensures rest { IsAtRest self.now.table s.new }
         ensures same { SamePass s.old s.new }
@@ -67,7 +68,8 @@ impl<'m> World<'m> {
         steps: &mut Steps<L>,
     ) -> EditAnswer
         requires rest { IsAtRest self.now.table s.old }
-        requires maker { IsMaker self.now.table (M.models maker.old) (M.act maker.old) }
+        requires maker { IsMaker self.now.table (M.tint maker.old) (M.models maker.old)
+            (M.act maker.old) }
         requires room { number_of_trees s.old.view.held ≤ 3902 }
         requires recalls { M.recalls maker.old s.old.view.held }
         ensures rest { IsAtRest self.now.table s.new }

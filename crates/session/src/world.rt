@@ -1,10 +1,10 @@
-ghost use Rattle.std.specs.Prelude.{◌≡◌, ◌↔◌, IsTrue, false};
+ghost use Rattle.std.specs.Prelude.{◌≡◌, ◌↔◌, IsTrue};
 ghost use Rattle.history_model.specs.Logs.{suits_tints};
 ghost use Rattle.hands.specs.Lendable.{IsLendable};
 ghost use Rattle.hands.specs.Lent.{IsHandOf};
 ghost use Rattle.session.specs.Seen.{IsActOf};
 
-use hands::{DrawnModel, Hand};
+use hands::{DrawnModels, Hand};
 use history_model::Act;
 use node_table::{NodeTable, Pass};
 use node_words::Plan;
@@ -16,13 +16,14 @@ pub type Session = Pass;
 
 /// A world that many sessions edit and read at the same time, and its models as stencils.
 ///
-/// Contracts see it as its table, which has its models too, and as how many last versions alone it
-/// holds, or 0 for all.
+/// Contracts see it as its table, which has its models too, as whether its cells have tints, and as
+/// how many last versions alone it holds, or 0 for all.
 #[derive(Drop)]
 pub struct World<'m> {
     pub(crate) table: NodeTable,
-    pub(crate) drawn: Vec<DrawnModel<'m>>,
+    pub(crate) drawn: DrawnModels<'m>,
     pub(crate) models: &'m Models,
+    pub(crate) tint: bool,
     pub(crate) keep: u32,
 }
 
@@ -30,21 +31,26 @@ impl<'m> Model for World<'m> {
     ghost use Rattle.std.specs.Coded.{codes};
     ghost use Rattle.std.specs.Prelude.{◌≡◌};
     ghost use Rattle.atomic_table.specs.Seated.{table_id_coded};
-    ghost use Rattle.session.specs.Seen.{WorldSeen};
+    ghost use Rattle.session.specs.Seen.{HasModels, WorldSeen};
 
     ghost Value = { WorldSeen };
 
     ghost coded = { Prim.hlevel (codes, table_id_coded) };
 
-    ghost view = { λ w. record { table = w.table; keep = w.keep } };
+    ghost view = { λ w. record { table = w.table; tint = w.tint; keep = w.keep } };
 
-    ghost invariant = { λ w. (w.drawn.items ≡ w.table.models) × (w.models.now ≡ w.table.models) };
+    ghost invariant = { λ w. HasModels w.table w.tint w.drawn w.models.now };
 }
 
-fn is_plain(act: &Act) -> bool
-    ensures { result ≡ suits_tints false act.now }
+// Whether an act is tinted exactly where cells have tints, or is an undo or a redo.
+fn suits(tint: bool, act: &Act) -> bool
+    ensures { result ≡ suits_tints tint act.now }
 {
-    !matches!(act, Act::Tint(_))
+    match act {
+        Act::Undo | Act::Redo => true,
+        Act::Tint(_) => tint,
+        _ => !tint,
+    }
 }
 
 impl<'m> World<'m> {
@@ -55,11 +61,12 @@ impl<'m> World<'m> {
         self.table.plan()
     }
 
-    /// Whether the act lies in this world, its model is one of the world's, and it has no tint.
+    /// Whether the act lies in this world, its model is one of the world's, and it is tinted
+    /// exactly where cells have tints, or it is an undo or a redo.
     pub fn fits(&self, act: &Act) -> bool
         ensures { IsTrue result ↔ IsActOf self.now act.now }
     {
-        is_plain(act) && act.fits(self.table.plan().side(), self.models)
+        suits(self.tint, act) && act.fits(self.table.plan().side(), self.models)
     }
 
     /// The session as a store of nodes, for as long as the hand lives. With `()` to wait with it

@@ -24,7 +24,7 @@ use Rattle.conformance.specs.Shown.{Accepted, accepted_by, forgotten_by}
 use Rattle.conformance.proofs.LineKinds.{resting_not_done, resting_accepts, resting_forgets}
 use Rattle.script_runs.specs.Keeping.{MakesFor, WasMet}
 use Rattle.script_runs.proofs.Arms.{sought_low}
-use Rattle.session_runs.specs.Seen.{session_keeping, SessionSeen, SeesPlain}
+use Rattle.session_runs.specs.Seen.{session_keeping, log_as, SessionSeen, SeesSuited}
 use Rattle.session_runs.specs.Fallen.{LineMarks}
 use Rattle.session_runs.specs.Notes.{LineNotes}
 use Rattle.session_runs.specs.Lines.{AreEarlier, AnswersLine}
@@ -78,9 +78,9 @@ idle_notes p models l a old new none same = record {
 
 -- ---- lines that accept something
 
-pub accepted_arm : (keep : ℕ) (p : Layout) (models : List Content) (session line : ℕ) (act : Act) (once : Bool) (old new : SessionSeen) → AppendsOwn keep session line act old new → NotesFor p models act old new
-    → AnswersLine (session_keeping keep p models session) (record { line = line; command = Edit act once }) old new (record { line = line; at = length new.log.records; answer = answers.Done })
-accepted_arm keep p models session line act once old new appends notes = record {
+pub accepted_arm : (keep : ℕ) (tint : Bool) (p : Layout) (models : List Content) (session line : ℕ) (act : Act) (once : Bool) (old new : SessionSeen) → AppendsOwn keep session line act old new → NotesFor p models act old new
+    → AnswersLine (session_keeping keep tint p models session) (record { line = line; command = Edit act once }) old new (record { line = line; at = length new.log.records; answer = answers.Done })
+accepted_arm keep tint p models session line act once old new appends notes = record {
   same_line = refl;
   newest = refl;
   goes_on = appends.sees.goes_on;
@@ -89,13 +89,13 @@ accepted_arm keep p models session line act once old new appends notes = record 
   found = appends.sees.found;
   records = appends.records;
   marks = appends.marks;
-  fits = λ plain. done act once appends.last;
+  fits = λ suits. done act once appends.last;
   notes = act_notes p models act once line answers.Done old new refl notes;
 }
 
-pub forgot_arm : (keep : ℕ) (p : Layout) (models : List Content) (session line version : ℕ) (old new : SessionSeen) → ForgetsOwn session line version old new
-    → AnswersLine (session_keeping keep p models session) (record { line = line; command = Forget version }) old new (record { line = line; at = length new.log.records; answer = answers.Forgot version })
-forgot_arm keep p models session line version old new forgets = record {
+pub forgot_arm : (keep : ℕ) (tint : Bool) (p : Layout) (models : List Content) (session line version : ℕ) (old new : SessionSeen) → ForgetsOwn session line version old new
+    → AnswersLine (session_keeping keep tint p models session) (record { line = line; command = Forget version }) old new (record { line = line; at = length new.log.records; answer = answers.Forgot version })
+forgot_arm keep tint p models session line version old new forgets = record {
   same_line = refl;
   newest = refl;
   goes_on = forgets.sees.goes_on;
@@ -104,7 +104,7 @@ forgot_arm keep p models session line version old new forgets = record {
   found = forgets.sees.found;
   records = forgets.records;
   marks = forgets.marks;
-  fits = λ plain. forgot version forgets.listed;
+  fits = λ suits. forgot version forgets.listed;
   notes = idle_notes p models (record { line = line; command = Forget version }) (record { line = line; at = length new.log.records; answer = answers.Forgot version }) old new refl forgets.noted;
 }
 
@@ -118,9 +118,9 @@ same_after {X} none old new e same = subst (λ (xs : List X). new ≡ xs ++ old)
 no_record : (keep : ℕ) (xs : List Accepted) (were : List Mark) (new : SessionSeen) → xs ≡ [] → new.marks ≡ were → LineMarks keep xs were new
 no_record keep xs were new none same = subst (λ (cs : List Accepted). LineMarks keep cs were new) (sym none) same
 
-pub full_arm : (keep : ℕ) (p : Layout) (models : List Content) (session line : ℕ) (act : Act) (once : Bool) (level bucket : ℕ) (old new : SessionSeen) → AcceptsNothing old new → MeetsFullBucket p models act level bucket old new
-    → AnswersLine (session_keeping keep p models session) (record { line = line; command = Edit act once }) old new (record { line = line; at = length new.log.records; answer = answers.Full level bucket })
-full_arm keep p models session line act once level bucket old new nothing meets = record {
+pub full_arm : (keep : ℕ) (tint : Bool) (p : Layout) (models : List Content) (session line : ℕ) (act : Act) (once : Bool) (level bucket : ℕ) (old new : SessionSeen) → AcceptsNothing old new → MeetsFullBucket p models act level bucket old new
+    → AnswersLine (session_keeping keep tint p models session) (record { line = line; command = Edit act once }) old new (record { line = line; at = length new.log.records; answer = answers.Full level bucket })
+full_arm keep tint p models session line act once level bucket old new nothing meets = record {
   same_line = refl;
   newest = refl;
   goes_on = nothing.sees.goes_on;
@@ -129,7 +129,7 @@ full_arm keep p models session line act once level bucket old new nothing meets 
   found = nothing.sees.found;
   records = nothing.records;
   marks = nothing.marks;
-  fits = λ plain.
+  fits = λ suits.
       full act once level bucket meets.wanted.edit
       (sought_low p (made_of (2 ^ p.side) models new.log.records act (length new.log.records) meets.wanted.parts) (record { level = level; bucket = bucket; shape = meets.shape }) meets.wanted.part meets.sought) meets.sought.bucket_in;
   notes = full_notes p models act once line level bucket old new meets;
@@ -142,9 +142,9 @@ base_of _ = 0
 same_base : (b c : ℕ) → answers.Stale b ≡ answers.Stale c → b ≡ c
 same_base b c e = ap base_of e
 
-pub stale_arm : (keep : ℕ) (p : Layout) (models : List Content) (session line : ℕ) (act : Act) (base : ℕ) (old new : SessionSeen) → AcceptsNothing old new → NotesFor p models act old new → length old.log.records ≤ base → base < length new.log.records → length new.log.records < 65535
-    → AnswersLine (session_keeping keep p models session) (record { line = line; command = Edit act true }) old new (record { line = line; at = length new.log.records; answer = answers.Stale base })
-stale_arm keep p models session line act base old new nothing notes low high room = record {
+pub stale_arm : (keep : ℕ) (tint : Bool) (p : Layout) (models : List Content) (session line : ℕ) (act : Act) (base : ℕ) (old new : SessionSeen) → AcceptsNothing old new → NotesFor p models act old new → length old.log.records ≤ base → base < length new.log.records → length new.log.records < 65535
+    → AnswersLine (session_keeping keep tint p models session) (record { line = line; command = Edit act true }) old new (record { line = line; at = length new.log.records; answer = answers.Stale base })
+stale_arm keep tint p models session line act base old new nothing notes low high room = record {
   same_line = refl;
   newest = refl;
   goes_on = nothing.sees.goes_on;
@@ -153,14 +153,14 @@ stale_arm keep p models session line act base old new nothing notes low high roo
   found = nothing.sees.found;
   records = nothing.records;
   marks = nothing.marks;
-  fits = λ plain. stale act base high room;
+  fits = λ suits. stale act base high room;
   notes = act_notes p models act true line (answers.Stale base) old new refl notes;
 }
 
-pub refused_arm : (keep : ℕ) (p : Layout) (models : List Content) (session line : ℕ) (act : Act) (once : Bool) (answer : Answer) (old new : SessionSeen) → AcceptsNothing old new → NotesFor p models act old new → is_resting answer ≡ true → refused_by (Edit act once) (length new.log.records) answer ≡ []
-    → (SeesPlain new → Answers p models new.log (IsLooked new.found new.marks line (length new.log.records)) session line (length new.log.records) (Edit act once) answer)
-    → AnswersLine (session_keeping keep p models session) (record { line = line; command = Edit act once }) old new (record { line = line; at = length new.log.records; answer = answer })
-refused_arm keep p models session line act once answer old new nothing notes rests none fits = record {
+pub refused_arm : (keep : ℕ) (tint : Bool) (p : Layout) (models : List Content) (session line : ℕ) (act : Act) (once : Bool) (answer : Answer) (old new : SessionSeen) → AcceptsNothing old new → NotesFor p models act old new → is_resting answer ≡ true → refused_by (Edit act once) (length new.log.records) answer ≡ []
+    → (SeesSuited (session_keeping keep tint p models session) new → Answers p models (log_as tint new.log) (IsLooked new.found new.marks line (length new.log.records)) session line (length new.log.records) (Edit act once) answer)
+    → AnswersLine (session_keeping keep tint p models session) (record { line = line; command = Edit act once }) old new (record { line = line; at = length new.log.records; answer = answer })
+refused_arm keep tint p models session line act once answer old new nothing notes rests none fits = record {
   same_line = refl;
   newest = refl;
   goes_on = nothing.sees.goes_on;
@@ -175,9 +175,9 @@ refused_arm keep p models session line act once answer old new nothing notes res
   notes = act_notes p models act once line answer old new none notes;
 }
 
-pub resting_arm : (keep : ℕ) (p : Layout) (models : List Content) (session : ℕ) (l : ScriptLine) (answer : Answer) (old new : SessionSeen) → OnlySees old new → is_resting answer ≡ true → refused_by l.command (length new.log.records) answer ≡ []
-    → (SeesPlain new → Answers p models new.log (IsLooked new.found new.marks l.line (length new.log.records)) session l.line (length new.log.records) l.command answer) → AnswersLine (session_keeping keep p models session) l old new (answer_at l (length new.log.records) answer)
-resting_arm keep p models session l answer old new only rests none fits = record {
+pub resting_arm : (keep : ℕ) (tint : Bool) (p : Layout) (models : List Content) (session : ℕ) (l : ScriptLine) (answer : Answer) (old new : SessionSeen) → OnlySees old new → is_resting answer ≡ true → refused_by l.command (length new.log.records) answer ≡ []
+    → (SeesSuited (session_keeping keep tint p models session) new → Answers p models (log_as tint new.log) (IsLooked new.found new.marks l.line (length new.log.records)) session l.line (length new.log.records) l.command answer) → AnswersLine (session_keeping keep tint p models session) l old new (answer_at l (length new.log.records) answer)
+resting_arm keep tint p models session l answer old new only rests none fits = record {
   same_line = refl;
   newest = refl;
   goes_on = only.nothing.sees.goes_on;

@@ -1,5 +1,5 @@
 -- A session's run goes on line by line.
-use Rattle.std.proofs.Common.{◌≡◌, ℕ, ◌+◌, ◌<◌, ◌≤◌, ◌⊎◌, true, false, List, [], ◌∷◌, ◌++◌, length, refl, sym, subst, ◌∙◌, inl, inr, arith}
+use Rattle.std.proofs.Common.{◌≡◌, ℕ, ◌+◌, ◌<◌, ◌≤◌, ◌⊎◌, Bool, true, List, [], ◌∷◌, ◌++◌, length, refl, sym, subst, ◌∙◌, inl, inr, arith}
 use Rattle.std.specs.Prelude.{All, sum_by}
 use Rattle.std.specs.List.{AllZip, Contains}
 use Rattle.std.proofs.lemmas.List.Sums.{sum_by-append}
@@ -24,30 +24,30 @@ use Rattle.conformance.proofs.Running.{accepted_push, lines_push, forgotten_push
 use Rattle.conformance.proofs.Seeing.{pass_line, pass_agrees, longer}
 use Rattle.script_runs.specs.Keeping.{MadeAndMet, last_moment}
 use Rattle.script_runs.proofs.Arms.{last_within}
-use Rattle.session_runs.specs.Seen.{session_keeping, SessionSeen, SeesPlain, DidNothing, AllowsWhole}
+use Rattle.session_runs.specs.Seen.{session_keeping, log_as, SessionSeen, SeesSuited, DidNothing, AllowsWhole}
 use Rattle.session_runs.specs.Ran.{IsAnswered, SessionRan}
-use Rattle.session_runs.specs.Lines.{AreEarlier, AnswersLine, IsPlainCommand, SessionSoFar}
+use Rattle.session_runs.specs.Lines.{AreEarlier, AnswersLine, SuitsCommand, SessionSoFar}
 use Rattle.session_runs.specs.Fallen.{IsFallen}
 use Rattle.session_runs.proofs.Fallen.{Grown, line_grows, fallen_is_of, none_own, own_more}
 use Rattle.session_runs.proofs.Items.{own_listed, same_first}
-use Rattle.session_runs.proofs.PlainLaws.{accepted_plain, plain_before}
+use Rattle.session_runs.proofs.SuitLaws.{accepted_suit, goes_as, suits_before, whole_suits}
 use Rattle.session_runs.proofs.SavedSeen.{saves_seen}
 use Rattle.session_runs.proofs.Noting.{line_notes_from, notes_push, notes_stay}
 
-pub begins : (keep : ℕ) (p : Layout) (models : List Content) (session : ℕ) (s : SessionSeen) → DidNothing s → SessionSoFar (session_keeping keep p models session) [] [] s.noted s
-begins keep p models session s idle = record {
+pub begins : (keep : ℕ) (tint : Bool) (p : Layout) (models : List Content) (session : ℕ) (s : SessionSeen) → DidNothing s → SessionSoFar (session_keeping keep tint p models session) [] [] s.noted s
+begins keep tint p models session s idle = record {
   lines = tt;
   moments = pairs_nil InOrder;
   accepted = same_of s.records [] idle.records;
-  plain = subst (λ (cs : List Accepted). All (λ c. suits_tints false c.entry.act ≡ true) cs) (sym idle.records) (All-nil _);
+  suit = subst (λ (cs : List Accepted). All (λ c. suits_tints tint c.entry.act ≡ true) cs) (sym idle.records) (All-nil _);
   marks = none_own keep s idle.records idle.marks;
   by = subst (λ (ms : List Mark). All (λ m. Contains (line_numbers []) m.line) ms) (sym idle.marks) (All-nil _);
-  pass = λ plain. record { lines = tt; moments = pairs_nil InOrder; accepted = same_of s.records [] idle.records };
+  pass = λ suits. record { lines = tt; moments = pairs_nil InOrder; accepted = same_of s.records [] idle.records };
   notes = refl;
 }
 
-pub are_earlier : (keep : ℕ) (p : Layout) (models : List Content) (session : ℕ) (script : List ScriptLine) (answers : List LineAnswer) (before : MadeAndMet) (s : SessionSeen) (l : ScriptLine) → SessionSoFar (session_keeping keep p models session) script answers before s → IsAfter script l → AreEarlier s l.line
-are_earlier keep p models session script answers before s l so_far rising =
+pub are_earlier : (keep : ℕ) (tint : Bool) (p : Layout) (models : List Content) (session : ℕ) (script : List ScriptLine) (answers : List LineAnswer) (before : MadeAndMet) (s : SessionSeen) (l : ScriptLine) → SessionSoFar (session_keeping keep tint p models session) script answers before s → IsAfter script l → AreEarlier s l.line
+are_earlier keep tint p models session script answers before s l so_far rising =
     All-weaker (λ (m : Mark). Contains (line_numbers script) m.line) (λ (m : Mark). m.line < l.line)
     (λ m here. All-contains (λ (n : ℕ). n < l.line) (line_numbers script) m.line (All-map (λ (n : ℕ). n < l.line) (λ (k : ScriptLine). k.line) script rising) here) s.marks so_far.by
 
@@ -77,7 +77,7 @@ forgotten_of_line : (session line n : ℕ) (answer : Answer) → All (λ (m : Ma
 forgotten_of_line session line n (answers.Forgot v) = All-cons (λ (m : Mark). m.line ≡ line) _ [] refl (All-nil (λ (m : Mark). m.line ≡ line))
 forgotten_of_line session line n _ = All-nil (λ (m : Mark). m.line ≡ line)
 
-module _ (keep : ℕ) (p : Layout) (models : List Content) (session : ℕ) (l : ScriptLine) (old new : SessionSeen) (a : LineAnswer) (step : AnswersLine (session_keeping keep p models session) l old new a) where
+module _ (keep : ℕ) (tint : Bool) (p : Layout) (models : List Content) (session : ℕ) (l : ScriptLine) (old new : SessionSeen) (a : LineAnswer) (step : AnswersLine (session_keeping keep tint p models session) l old new a) where
   -- a mark of a version that fell out is of the line
   fallen_of_line : (m : Mark) → IsFallen keep (accepted_by session l.line l.command a.at a.answer) m → m.line ≡ l.line
   fallen_of_line m f =
@@ -94,24 +94,26 @@ module _ (keep : ℕ) (p : Layout) (models : List Content) (session : ℕ) (l : 
       (All-append (λ (m : Mark). (Contains old.marks m) ⊎ (m.line ≡ l.line)) (forgotten_by session l.line a.at a.answer) old.marks
       (All-weaker (λ (m : Mark). m.line ≡ l.line) (λ (m : Mark). (Contains old.marks m) ⊎ (m.line ≡ l.line)) (λ m e. inr e) (forgotten_by session l.line a.at a.answer) (forgotten_of_line session l.line a.at a.answer)) (λ i d lt. inl (All-contains_itself old.marks i d lt))))
 
-  pass_step : SeesPlain new → PassStep p models session l old.log new.log old.found new.found old.records new.records old.marks new.marks a
-  pass_step plain =
+  pass_step : SeesSuited (session_keeping keep tint p models session) new → PassStep p models session l (log_as tint old.log) (log_as tint new.log) old.found new.found old.records new.records old.marks new.marks a
+  pass_step suits =
       let wide = longer old.log new.log step.goes_on in
       let at = step.newest in
+      let low : length old.log.records ≤ a.at = omega arith in
+      let within : a.at ≤ length new.log.records = omega arith in
       record {
-        goes_on = step.goes_on;
+        goes_on = goes_as tint old.log new.log step.goes_on;
         found_stay = step.found;
         own_or_new = own_or_new;
-        no_earlier = omega arith;
+        no_earlier = low;
         later = step.later;
         unseen = step.unseen;
-        fits = record { same_line = step.same_line; within = omega arith; answers = step.fits plain };
+        fits = record { same_line = step.same_line; within = within; answers = step.fits suits };
         accepted = same_first new.records (accepted_by session l.line l.command a.at a.answer) old.records step.records;
       }
 
-pub goes_on : (keep : ℕ) (p : Layout) (models : List Content) (session : ℕ) (script : List ScriptLine) (answers : List LineAnswer) (before : MadeAndMet) (old new : SessionSeen) (l : ScriptLine) (a : LineAnswer) → SessionSoFar (session_keeping keep p models session) script answers before old → IsAfter script l → IsPlainCommand l.command
-    → AnswersLine (session_keeping keep p models session) l old new a → SessionSoFar (session_keeping keep p models session) (script ++ l ∷ []) (answers ++ a ∷ []) before new
-goes_on keep p models session script answers before old new l a so_far rising plainly step =
+pub goes_on : (keep : ℕ) (tint : Bool) (p : Layout) (models : List Content) (session : ℕ) (script : List ScriptLine) (answers : List LineAnswer) (before : MadeAndMet) (old new : SessionSeen) (l : ScriptLine) (a : LineAnswer) → SessionSoFar (session_keeping keep tint p models session) script answers before old → IsAfter script l → SuitsCommand tint l.command
+    → AnswersLine (session_keeping keep tint p models session) l old new a → SessionSoFar (session_keeping keep tint p models session) (script ++ l ∷ []) (answers ++ a ∷ []) before new
+goes_on keep tint p models session script answers before old new l a so_far rising suited step =
     let within = answered_within (length old.log.records) script answers so_far.lines in
     let low = last_within (length old.log.records) 0 answers within (omega arith) in
     let wide = longer old.log new.log step.goes_on in
@@ -129,9 +131,9 @@ goes_on keep p models session script answers before old new l a so_far rising pl
         weighs = λ f. now.weighs f
             ∙ both_weigh f old.records (accepted_by session l.line l.command a.at a.answer) (accepted_in session script answers) (accepted_in session (script ++ l ∷ []) (answers ++ a ∷ [])) (so_far.accepted.weighs f) (accepted_push (IsAnswered (length old.log.records)) f session script answers l a so_far.lines);
       };
-      plain =
-          subst (λ (cs : List Accepted). All (λ c. suits_tints false c.entry.act ≡ true) cs) (sym step.records)
-          (All-append (λ (c : Accepted). suits_tints false c.entry.act ≡ true) (accepted_by session l.line l.command a.at a.answer) old.records (accepted_plain session l.line l.command a.at a.answer plainly) so_far.plain);
+      suit =
+          subst (λ (cs : List Accepted). All (λ c. suits_tints tint c.entry.act ≡ true) cs) (sym step.records)
+          (All-append (λ (c : Accepted). suits_tints tint c.entry.act ≡ true) (accepted_by session l.line l.command a.at a.answer) old.records (accepted_suit tint session l.line l.command a.at a.answer suited) so_far.suit);
       marks =
           own_more keep old new (accepted_by session l.line l.command a.at a.answer) (forgotten_in session script answers) (forgotten_by session l.line a.at a.answer) (forgotten_in session (script ++ l ∷ []) (answers ++ a ∷ [])) step.records step.goes_on.marks step.marks
           (λ f. forgotten_push (IsAnswered (length old.log.records)) f session script answers l a so_far.lines) so_far.marks;
@@ -141,8 +143,8 @@ goes_on keep p models session script answers before old new l a so_far rising pl
           (λ m which. elim which [
             | inl was ↦ Contains-append_left (line_numbers script) (l.line ∷ []) m.line (All-contains (λ (n : Mark). Contains (line_numbers script) n.line) old.marks m so_far.by was)
             | inr now ↦ subst (λ (n : ℕ). Contains (line_numbers script ++ l.line ∷ []) n) (sym now) (Contains-push (line_numbers script) l.line)
-          ]) new.marks (own_or_new keep p models session l old new a step));
-      pass = λ plain. pass_line p models session script answers l old.log new.log old.found new.found old.records new.records old.marks new.marks a (so_far.pass (plain_before old.log new.log step.goes_on plain)) rising (pass_step keep p models session l old new a step plain);
+          ]) new.marks (own_or_new keep tint p models session l old new a step));
+      pass = λ suits. pass_line p models session script answers l (log_as tint old.log) (log_as tint new.log) old.found new.found old.records new.records old.marks new.marks a (so_far.pass (suits_before tint p models (log_as tint old.log) (log_as tint new.log) (goes_as tint old.log new.log step.goes_on) suits)) rising (pass_step keep tint p models session l old new a step suits);
       notes =
           notes_push p models new.log.records 0 script answers before old.noted new.noted l a
           (notes_stay p models old.log new.log step.goes_on (length old.log.records) 0 script answers before old.noted (omega arith) so_far.lines so_far.notes)
@@ -150,19 +152,19 @@ goes_on keep p models session script answers before old new l a so_far rising pl
     }
 
 -- at the end each answer fits over every whole history that the session's view allows
-pub ends : (keep : ℕ) (p : Layout) (models : List Content) (session : ℕ) (script : List ScriptLine) (answers : List LineAnswer) (before : MadeAndMet) (s : SessionSeen) → SessionSoFar (session_keeping keep p models session) script answers before s → SessionRan (session_keeping keep p models session) script answers before s
-ends keep p models session script answers before s so_far = record {
+pub ends : (keep : ℕ) (tint : Bool) (p : Layout) (models : List Content) (session : ℕ) (script : List ScriptLine) (answers : List LineAnswer) (before : MadeAndMet) (s : SessionSeen) → SessionSoFar (session_keeping keep tint p models session) script answers before s → SessionRan (session_keeping keep tint p models session) script answers before s
+ends keep tint p models session script answers before s so_far = record {
   lines = so_far.lines;
   moments = so_far.moments;
-  fit = λ whole is. (pass_agrees p models session script answers s.log whole s.found s.records s.marks (so_far.pass (plain_before s.log whole is.goes_on is.plain)) (closes whole is)).lines;
+  fit = λ whole is. (pass_agrees p models session script answers (log_as tint s.log) whole s.found s.records s.marks (so_far.pass (suits_before tint p models (log_as tint s.log) whole is.goes_on (whole_suits (session_keeping keep tint p models session) s whole is))) (closes whole is)).lines;
   records = so_far.accepted;
-  plain = so_far.plain;
+  suit = so_far.suit;
   marks = so_far.marks;
   notes = so_far.notes;
-  saves = λ plain. saves_seen p models session s script answers (so_far.pass plain).lines;
+  saves = λ suits. saves_seen tint p models session s script answers (so_far.pass suits).lines;
 }
   where
-    closes : (whole : Log) → AllowsWhole (session_keeping keep p models session) s whole → Closes s.log s.found session s.marks whole
+    closes : (whole : Log) → AllowsWhole (session_keeping keep tint p models session) s whole → Closes (log_as tint s.log) s.found session s.marks whole
     closes whole is = record {
       goes_on = is.goes_on;
       excluded = is.found;

@@ -24,7 +24,7 @@ use Rattle.conformance.specs.Passes.{own_of}
 use Rattle.conformance.specs.Shown.{Accepted, SameItems, numbered, weight_at, accepted_in, forgotten_in, forgotten_of}
 use Rattle.conformance.proofs.Moments.{record_at}
 use Rattle.conformance.proofs.Parts.{accepted_own, forgotten_own}
-use Rattle.session_runs.specs.Seen.{SessionSeen}
+use Rattle.session_runs.specs.Seen.{SessionSeen, log_as}
 use Rattle.session_runs.specs.Fallen.{IsFallen, HasMark, OwnAndFallen, OwnMarks}
 use Rattle.session_runs.specs.Ran.{SessionsRanKeeping, records_of_all, marks_of_all}
 use Rattle.session_runs.proofs.Fallen.{any_there, still_marked, fallen_is_of, fallen_wider}
@@ -97,11 +97,11 @@ pub record FallenOfAll (keep : ℕ) (records : List Accepted) (own forgot : List
   pub weighs : (f : Mark → ℕ) → sum_by f own ≡ sum_by f forgot + sum_by f fallen
   pub each : All (IsFallen keep records) fallen
 
-fallen_of_all : (k : ℕ) (p : Layout) (models : List Content) (first : ℕ) (scripts : List (List ScriptLine)) (transcripts : List (List LineAnswer)) (sessions : List SessionSeen) → SessionsRanKeeping (suc k) p models first scripts transcripts sessions
+fallen_of_all : (k : ℕ) (tint : Bool) (p : Layout) (models : List Content) (first : ℕ) (scripts : List (List ScriptLine)) (transcripts : List (List LineAnswer)) (sessions : List SessionSeen) → SessionsRanKeeping (suc k) tint p models first scripts transcripts sessions
     → FallenOfAll (suc k) (records_of_all sessions) (marks_of_all sessions) (forgotten_of first scripts transcripts)
-fallen_of_all k p models first [] [] [] ran = record { fallen = []; weighs = λ f. (let none : sum_by f [] ≡ 0 = refl in omega arith); each = All-nil (IsFallen (suc k) []) }
-fallen_of_all k p models first (script ∷ scripts) (answers ∷ transcripts) (s ∷ sessions) ran =
-    let rest = fallen_of_all k p models (first + 1) scripts transcripts sessions ran.1 in
+fallen_of_all k tint p models first [] [] [] ran = record { fallen = []; weighs = λ f. (let none : sum_by f [] ≡ 0 = refl in omega arith); each = All-nil (IsFallen (suc k) []) }
+fallen_of_all k tint p models first (script ∷ scripts) (answers ∷ transcripts) (s ∷ sessions) ran =
+    let rest = fallen_of_all k tint p models (first + 1) scripts transcripts sessions ran.1 in
     let own : OwnAndFallen (suc k) s (forgotten_in first script answers) = ran.0.marks in
     let here : All (IsFallen (suc k) (s.records ++ records_of_all sessions)) own.fallen =
     All-weaker (IsFallen (suc k) s.records) (IsFallen (suc k) (s.records ++ records_of_all sessions))
@@ -123,19 +123,19 @@ fallen_of_all k p models first (script ∷ scripts) (answers ∷ transcripts) (s
           omega arith);
       each = All-append (IsFallen (suc k) (s.records ++ records_of_all sessions)) own.fallen rest.fallen here later;
     }
-fallen_of_all k p models first _ _ _ ran = absurd ran
+fallen_of_all k tint p models first _ _ _ ran = absurd ran
 
 -- what each record pushed out has a mark at the end
-all_marked : (k : ℕ) (p : Layout) (models : List Content) (log : Log) (first : ℕ) (scripts : List (List ScriptLine)) (transcripts : List (List LineAnswer)) (sessions : List SessionSeen) → SessionsRanKeeping (suc k) p models first scripts transcripts sessions
-    → All (λ s. GoesOn s.log log) sessions → All (HasMark (suc k) log.marks) (records_of_all sessions)
-all_marked k p models log first [] [] [] ran seen = All-nil (HasMark (suc k) log.marks)
-all_marked k p models log first (script ∷ scripts) (answers ∷ transcripts) (s ∷ sessions) ran seen =
+all_marked : (k : ℕ) (tint : Bool) (p : Layout) (models : List Content) (log : Log) (first : ℕ) (scripts : List (List ScriptLine)) (transcripts : List (List LineAnswer)) (sessions : List SessionSeen) → SessionsRanKeeping (suc k) tint p models first scripts transcripts sessions
+    → All (λ s. GoesOn (log_as tint s.log) log) sessions → All (HasMark (suc k) log.marks) (records_of_all sessions)
+all_marked k tint p models log first [] [] [] ran seen = All-nil (HasMark (suc k) log.marks)
+all_marked k tint p models log first (script ∷ scripts) (answers ∷ transcripts) (s ∷ sessions) ran seen =
     let own : OwnAndFallen (suc k) s (forgotten_in first script answers) = ran.0.marks in
-    let g : GoesOn s.log log = All-head (λ t. GoesOn t.log log) s sessions seen in
+    let g : GoesOn (log_as tint s.log) log = All-head (λ t. GoesOn (log_as tint t.log) log) s sessions seen in
     All-append (HasMark (suc k) log.marks) s.records (records_of_all sessions)
     (All-weaker (HasMark (suc k) s.log.marks) (HasMark (suc k) log.marks) (λ c has late. still_marked s.log.marks log.marks c.at (c.at - suc k) g.marks (has late)) s.records own.marked)
-    (all_marked k p models log (first + 1) scripts transcripts sessions ran.1 (All-tail (λ t. GoesOn t.log log) s sessions seen))
-all_marked k p models log first _ _ _ ran seen = absurd ran
+    (all_marked k tint p models log (first + 1) scripts transcripts sessions ran.1 (All-tail (λ t. GoesOn (log_as tint t.log) log) s sessions seen))
+all_marked k tint p models log first _ _ _ ran seen = absurd ran
 
 -- ---- each record has the version that it pushed out marked
 
@@ -154,11 +154,11 @@ marked_at k log all same marked n late within =
     (All-weaker (HasMark (suc k) log.marks) (λ (c : Accepted). 0 < weight_at (λ r. 1) n c → IsTrue (is_marked_by n (n - suc k) log.marks))
     (λ c has here. (let at = at_moment n c here in let low : suc k ≤ c.at = omega arith in subst (λ (i : ℕ). IsTrue (is_marked_by i (i - suc k) log.marks)) at (has low))) all marked) (omega arith)
 
-pub keeps_last : (keep : ℕ) (p : Layout) (models : List Content) (log : Log) (scripts : List (List ScriptLine)) (transcripts : List (List LineAnswer)) (sessions : List SessionSeen) → SessionsRanKeeping keep p models 0 scripts transcripts sessions
-    → All (λ s. GoesOn s.log log) sessions → SameItems (numbered 1 log.records) (records_of_all sessions) → KeepsLast keep log
-keeps_last zero p models log scripts transcripts sessions ran seen records = keeps_all log
-keeps_last (suc k) p models log scripts transcripts sessions ran seen records = record {
-  marked = λ n some late within. marked_at k log (records_of_all sessions) records (all_marked k p models log 0 scripts transcripts sessions ran seen) n late within;
+pub keeps_last : (keep : ℕ) (tint : Bool) (p : Layout) (models : List Content) (log : Log) (scripts : List (List ScriptLine)) (transcripts : List (List LineAnswer)) (sessions : List SessionSeen) → SessionsRanKeeping keep tint p models 0 scripts transcripts sessions
+    → All (λ s. GoesOn (log_as tint s.log) log) sessions → SameItems (numbered 1 log.records) (records_of_all sessions) → KeepsLast keep log
+keeps_last zero tint p models log scripts transcripts sessions ran seen records = keeps_all log
+keeps_last (suc k) tint p models log scripts transcripts sessions ran seen records = record {
+  marked = λ n some late within. marked_at k log (records_of_all sessions) records (all_marked k tint p models log 0 scripts transcripts sessions ran seen) n late within;
 }
 
 -- ---- the marks of the versions that fell out
@@ -362,25 +362,25 @@ module _ (k : ℕ) (log : Log) (all : List Accepted) (forgot fallen : List Mark)
         omega arith);
   }
 
-marks_weigh : (p : Layout) (models : List Content) (f : Mark → ℕ) (first : ℕ) (scripts : List (List ScriptLine)) (transcripts : List (List LineAnswer)) (sessions : List SessionSeen) → SessionsRanKeeping 0 p models first scripts transcripts sessions → sum_by f (marks_of_all sessions) ≡ sum_by f (forgotten_of first scripts transcripts)
-marks_weigh p models f first [] [] [] ran = refl
-marks_weigh p models f first (script ∷ scripts) (answers ∷ transcripts) (s ∷ sessions) ran =
+marks_weigh : (tint : Bool) (p : Layout) (models : List Content) (f : Mark → ℕ) (first : ℕ) (scripts : List (List ScriptLine)) (transcripts : List (List LineAnswer)) (sessions : List SessionSeen) → SessionsRanKeeping 0 tint p models first scripts transcripts sessions → sum_by f (marks_of_all sessions) ≡ sum_by f (forgotten_of first scripts transcripts)
+marks_weigh tint p models f first [] [] [] ran = refl
+marks_weigh tint p models f first (script ∷ scripts) (answers ∷ transcripts) (s ∷ sessions) ran =
     let here = ran.0.marks.weighs f in
-    let rest = marks_weigh p models f (first + 1) scripts transcripts sessions ran.1 in
+    let rest = marks_weigh tint p models f (first + 1) scripts transcripts sessions ran.1 in
     let one = sum_by-append f s.marks (marks_of_all sessions) in
     let two = sum_by-append f (forgotten_in first script answers) (forgotten_of (first + 1) scripts transcripts) in
     omega arith
-marks_weigh p models f first _ _ _ ran = absurd ran
+marks_weigh tint p models f first _ _ _ ran = absurd ran
 
 -- the marks of the history are those by hand, and those of the versions that fell out
-pub marks_shown : (keep : ℕ) (p : Layout) (models : List Content) (log : Log) (scripts : List (List ScriptLine)) (transcripts : List (List LineAnswer)) (sessions : List SessionSeen) → SessionsRanKeeping keep p models 0 scripts transcripts sessions
-    → AreRising log.marks → All (λ s. GoesOn s.log log) sessions → SameItems (numbered 1 log.records) (records_of_all sessions) → SameItems log.marks (marks_of_all sessions)
+pub marks_shown : (keep : ℕ) (tint : Bool) (p : Layout) (models : List Content) (log : Log) (scripts : List (List ScriptLine)) (transcripts : List (List LineAnswer)) (sessions : List SessionSeen) → SessionsRanKeeping keep tint p models 0 scripts transcripts sessions
+    → AreRising log.marks → All (λ s. GoesOn (log_as tint s.log) log) sessions → SameItems (numbered 1 log.records) (records_of_all sessions) → SameItems log.marks (marks_of_all sessions)
     → SameItems log.marks (with_fallen keep log.records (forgotten_of 0 scripts transcripts))
-marks_shown zero p models log scripts transcripts sessions ran rising seen records marks = record { weighs = λ f. marks.weighs f ∙ marks_weigh p models f 0 scripts transcripts sessions ran }
-marks_shown (suc k) p models log scripts transcripts sessions ran rising seen records marks =
-    let out = fallen_of_all k p models 0 scripts transcripts sessions ran in
+marks_shown zero tint p models log scripts transcripts sessions ran rising seen records marks = record { weighs = λ f. marks.weighs f ∙ marks_weigh tint p models f 0 scripts transcripts sessions ran }
+marks_shown (suc k) tint p models log scripts transcripts sessions ran rising seen records marks =
+    let out = fallen_of_all k tint p models 0 scripts transcripts sessions ran in
     let same : SameItems log.marks (forgotten_of 0 scripts transcripts ++ out.fallen) = record { weighs = λ f. marks.weighs f ∙ out.weighs f ∙ sym (sum_by-append f (forgotten_of 0 scripts transcripts) out.fallen) } in
-    all_with_fallen k log (records_of_all sessions) (forgotten_of 0 scripts transcripts) out.fallen rising records (all_marked k p models log 0 scripts transcripts sessions ran seen) same out.each
+    all_with_fallen k log (records_of_all sessions) (forgotten_of 0 scripts transcripts) out.fallen rising records (all_marked k tint p models log 0 scripts transcripts sessions ran seen) same out.each
 
 -- ---- session by session
 
@@ -389,13 +389,13 @@ abbrev OwnTheirs : ℕ → List SessionSeen → Type 0
 OwnTheirs first [] = ⊤
 OwnTheirs first (s ∷ sessions) = All (λ m. m.session ≡ first) s.marks × OwnTheirs (first + 1) sessions
 
-own_theirs : (keep : ℕ) (p : Layout) (models : List Content) (first : ℕ) (scripts : List (List ScriptLine)) (transcripts : List (List LineAnswer)) (sessions : List SessionSeen) → SessionsRanKeeping keep p models first scripts transcripts sessions → OwnTheirs first sessions
-own_theirs keep p models first [] [] [] ran = tt
-own_theirs keep p models first (script ∷ scripts) (answers ∷ transcripts) (s ∷ sessions) ran = (
+own_theirs : (keep : ℕ) (tint : Bool) (p : Layout) (models : List Content) (first : ℕ) (scripts : List (List ScriptLine)) (transcripts : List (List LineAnswer)) (sessions : List SessionSeen) → SessionsRanKeeping keep tint p models first scripts transcripts sessions → OwnTheirs first sessions
+own_theirs keep tint p models first [] [] [] ran = tt
+own_theirs keep tint p models first (script ∷ scripts) (answers ∷ transcripts) (s ∷ sessions) ran = (
   own_marks_own keep first s script answers ran.0.records ran.0.marks,
-  own_theirs keep p models (first + 1) scripts transcripts sessions ran.1,
+  own_theirs keep tint p models (first + 1) scripts transcripts sessions ran.1,
 )
-own_theirs keep p models first _ _ _ ran = absurd ran
+own_theirs keep tint p models first _ _ _ ran = absurd ran
 
 -- the marks of one session, as a weight
 abbrev only : (Mark → ℕ) → ℕ → Mark → ℕ
@@ -449,7 +449,7 @@ theirs_from items first (s ∷ sessions) own weighs = (
       omega arith)),
 )
 
-pub marks_are_theirs : (keep : ℕ) (p : Layout) (models : List Content) (items : List Mark) (scripts : List (List ScriptLine)) (transcripts : List (List LineAnswer)) (sessions : List SessionSeen) → SessionsRanKeeping keep p models 0 scripts transcripts sessions
+pub marks_are_theirs : (keep : ℕ) (tint : Bool) (p : Layout) (models : List Content) (items : List Mark) (scripts : List (List ScriptLine)) (transcripts : List (List LineAnswer)) (sessions : List SessionSeen) → SessionsRanKeeping keep tint p models 0 scripts transcripts sessions
     → SameItems items (marks_of_all sessions) → AreTheirs items 0 sessions
-marks_are_theirs keep p models items scripts transcripts sessions ran same =
-    theirs_from items 0 sessions (own_theirs keep p models 0 scripts transcripts sessions ran) (λ f session le. same.weighs (only f session))
+marks_are_theirs keep tint p models items scripts transcripts sessions ran same =
+    theirs_from items 0 sessions (own_theirs keep tint p models 0 scripts transcripts sessions ran) (λ f session le. same.weighs (only f session))

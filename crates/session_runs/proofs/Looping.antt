@@ -16,7 +16,7 @@ use Rattle.conformance.proofs.LineKinds.{goes_nowhere}
 use Rattle.script_runs.proofs.RunSteps.{earlier}
 use Rattle.script_runs.proofs.Saving.{SavedByLines, no_line_saved, line_saved, all_lines_saved}
 use Rattle.session_runs.specs.Seen.{SessionOf, SessionSeen, DidNothing}
-use Rattle.session_runs.specs.Lines.{AreEarlier, AnswersLine, IsPlainCommand, SessionSoFar}
+use Rattle.session_runs.specs.Lines.{AreEarlier, AnswersLine, SuitsCommand, SessionSoFar}
 use Rattle.session_runs.specs.Runs.{RunsScript}
 use Rattle.session_runs.specs.Saves.{saves_asked, saves_asked_in, versions_of}
 use Rattle.session_runs.proofs.Going.{begins, are_earlier, goes_on, ends}
@@ -71,7 +71,7 @@ pub no_lines : (of : SessionOf) (before : List LineAnswer) (s : SessionSeen) (sa
 no_lines of before s saved idle = record {
   answers = [];
   pushed = sym (append-nil before);
-  so_far = begins of.keep of.plan of.models of.number s idle;
+  so_far = begins of.keep of.tint of.plan of.models of.number s idle;
   goes_on = goes_nowhere s.log;
   boxes = [];
   saved = no_line_saved [];
@@ -82,18 +82,18 @@ no_lines of before s saved idle = record {
 pub next_earlier : (of : SessionOf) (lines : List ScriptLine) (i : ℕ) (l : ScriptLine) (before after : List LineAnswer) (old s : SessionSeen) (were are : List ℕ) → i < length lines → RisesFrom 1 lines → l ≡ get_or lines i l
     → LinesRan of (take i lines) before after old s were are → AreEarlier s l.line
 next_earlier of lines i l before after old s were are lt rising is ran =
-    are_earlier of.keep of.plan of.models of.number (take i lines) ran.answers old.noted s l ran.so_far (subst (λ (k : ScriptLine). IsAfter (take i lines) k) (sym is) (earlier 1 lines i l rising lt))
+    are_earlier of.keep of.tint of.plan of.models of.number (take i lines) ran.answers old.noted s l ran.so_far (subst (λ (k : ScriptLine). IsAfter (take i lines) k) (sym is) (earlier 1 lines i l rising lt))
 
 pub next_line : (of : SessionOf) (lines : List ScriptLine) (i : ℕ) (l : ScriptLine) (before after further : List LineAnswer) (old mid new : SessionSeen) (were between are : List ℕ) (a : LineAnswer)
-    → i < length lines → RisesFrom 1 lines → l ≡ get_or lines i l → IsPlainCommand l.command → LinesRan of (take i lines) before after old mid were between → AnswersLine of l mid new a → are ≡ between ++ versions_of (saved_by l.command a.at a.answer) → further ≡ after ++ a ∷ []
+    → i < length lines → RisesFrom 1 lines → l ≡ get_or lines i l → SuitsCommand of.tint l.command → LinesRan of (take i lines) before after old mid were between → AnswersLine of l mid new a → are ≡ between ++ versions_of (saved_by l.command a.at a.answer) → further ≡ after ++ a ∷ []
     → LinesRan of (take (i + 1) lines) before further old new were are
-next_line of lines i l before after further old mid new were between are a lt rising is plainly ran takes saved pushed =
+next_line of lines i l before after further old mid new were between are a lt rising is suited ran takes saved pushed =
     let next : take (i + 1) lines ≡ take i lines ++ l ∷ [] = take_more lines i l lt ∙ ap (λ (k : ScriptLine). take i lines ++ k ∷ []) (sym is) in
     let rises : IsAfter (take i lines) l = subst (λ (k : ScriptLine). IsAfter (take i lines) k) (sym is) (earlier 1 lines i l rising lt) in
     record {
       answers = ran.answers ++ a ∷ [];
       pushed = pushed ∙ ap (λ (bs : List LineAnswer). bs ++ a ∷ []) ran.pushed ∙ append_assoc before ran.answers (a ∷ []);
-      so_far = subst (λ (ls : List ScriptLine). SessionSoFar of ls (ran.answers ++ a ∷ []) old.noted new) (sym next) (goes_on of.keep of.plan of.models of.number (take i lines) ran.answers old.noted mid new l a ran.so_far rises plainly takes);
+      so_far = subst (λ (ls : List ScriptLine). SessionSoFar of ls (ran.answers ++ a ∷ []) old.noted new) (sym next) (goes_on of.keep of.tint of.plan of.models of.number (take i lines) ran.answers old.noted mid new l a ran.so_far rises suited takes);
       goes_on = goes_through old.log mid.log new.log ran.goes_on takes.goes_on;
       boxes = ran.boxes ++ saved_by l.command a.at a.answer;
       saved = line_saved [] ran.boxes (ran.boxes ++ saved_by l.command a.at a.answer) lines i l ran.answers (ran.answers ++ a ∷ []) a lt ran.saved is refl refl;
@@ -105,7 +105,7 @@ pub all_lines : (of : SessionOf) (lines : List ScriptLine) (i : ℕ) (before aft
 all_lines of lines i before after old new were are past ran = record {
   answers = ran.answers;
   pushed = ran.pushed;
-  ran = ends of.keep of.plan of.models of.number lines ran.answers old.noted new (subst (λ (ls : List ScriptLine). SessionSoFar of ls ran.answers old.noted new) (take_all i lines past) ran.so_far);
+  ran = ends of.keep of.tint of.plan of.models of.number lines ran.answers old.noted new (subst (λ (ls : List ScriptLine). SessionSoFar of ls ran.answers old.noted new) (take_all i lines past) ran.so_far);
   goes_on = ran.goes_on;
   saved = ran.versions ∙ ap (λ (ss : List SavedBox). were ++ versions_of ss) (all_lines_saved [] ran.boxes lines i ran.answers past ran.saved);
 }

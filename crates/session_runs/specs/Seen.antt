@@ -1,9 +1,10 @@
 -- What a session has seen and done, and which whole histories that allows.
-use Rattle.std.specs.Prelude.{◌≡◌, ℕ, ◌^◌, true, false, List, [], All}
-use Rattle.history_model.specs.Contents.{Content}
+use Rattle.std.specs.Prelude.{◌≡◌, ℕ, ◌^◌, ◌<◌, ◌≤◌, Bool, true, false, List, [], All, ⊤}
+use Rattle.vw_cell.specs.declared.cells.Cell.{Cell}
+use Rattle.vw_cell.specs.Counts.{IsBelow}
+use Rattle.history_model.specs.Contents.{Content, colour_at}
 use Rattle.history_model.specs.declared.histories.Mark.{Mark}
-use Rattle.history_model.specs.declared.histories.Record.{Record}
-use Rattle.history_model.specs.Logs.{Log, IsLegal, IsPlain, IsVersionHeld, suits_tints}
+use Rattle.history_model.specs.Logs.{Log, FitsWorld, IsLegal, IsVersionHeld, SuitsTints}
 use Rattle.node_words.specs.Plans.{Layout}
 use Rattle.conformance.specs.Answers.{GoesOn}
 use Rattle.conformance.specs.Passes.{Found, own_of}
@@ -19,21 +20,22 @@ pub record SessionSeen : Type 0 where
   pub found : List Found
   pub noted : MadeAndMet
 
--- which session it is: the plan and the models of its world, how many last versions alone are held
--- there, or 0 for all, and its number
+-- which session it is: the plan and the models of its world, whether its cells have tints, how many
+-- last versions alone are held there, or 0 for all, and its number
 pub record SessionOf : Type 0 where
   pub plan : Layout
   pub models : List Content
+  pub tint : Bool
   pub keep : ℕ
   pub number : ℕ
 
-abbrev pub session_keeping : ℕ → Layout → List Content → ℕ → SessionOf
-session_keeping keep p models number = record
-    { plan = p; models = models; keep = keep; number = number }
+abbrev pub session_keeping : ℕ → Bool → Layout → List Content → ℕ → SessionOf
+session_keeping keep tint p models number = record
+    { plan = p; models = models; tint = tint; keep = keep; number = number }
 
--- where all versions are held
+-- where all versions are held, and cells have no tints
 abbrev pub of_session : Layout → List Content → ℕ → SessionOf
-of_session p models number = session_keeping 0 p models number
+of_session p models number = session_keeping 0 false p models number
 
 abbrev pub none_noted : MadeAndMet
 none_noted = record { made = []; met = [] }
@@ -43,25 +45,63 @@ pub record DidNothing (s : SessionSeen) : Type 0 where
   pub records : s.records ≡ []
   pub marks : s.marks ≡ []
 
--- none of these records' acts has a tint
-abbrev pub ArePlain : List Record → Type 0
-ArePlain records = All (λ r. suits_tints false r.act ≡ true) records
+-- a store of this plan can keep tints, and each place of a model has one
+pub record CanTint (p : Layout) (models : List Content) : Type 0 where
+  pub large : 4 ≤ p.side
+  pub colours : All (λ m. (q : Cell) → IsBelow m.size q → colour_at m.voxels q < 2 ^ 8) models
 
--- the history that the session has seen isn't coloured, and no act of it has a tint. What it tells
--- of cells is so where this holds, since it takes from others what they append
-abbrev pub SeesPlain : SessionSeen → Type 0
-SeesPlain s = IsPlain s.log
+-- which is so of a world whose cells have tints
+abbrev pub MayTint : Bool → Layout → List Content → Type 0
+MayTint true p models = CanTint p models
+MayTint false p models = ⊤
+
+-- what tints of a world need of a history besides: a store of the world's side, which can keep
+-- them, and each act lies in the world
+pub record KeepsTints (p : Layout) (models : List Content) (log : Log) : Type 0 where
+  pub side : 2 ^ log.side ≡ 2 ^ p.side
+  pub can : CanTint p models
+  pub fit : All (λ r. FitsWorld (2 ^ p.side) models r.act) log.records
+
+-- which is so of a history of a world whose cells have tints
+abbrev pub MayKeep : Bool → Layout → List Content → Log → Type 0
+MayKeep true p models log = KeepsTints p models log
+MayKeep false p models log = ⊤
+
+-- the history suits a world: it is coloured where cells have tints, which it then keeps, and each
+-- act of it suits it
+pub record SuitsWorld (tint : Bool) (p : Layout) (models : List Content) (log : Log) : Type 0 where
+  pub coloured : log.coloured ≡ tint
+  pub acts : SuitsTints log
+  pub keeps : MayKeep tint p models log
+
+-- the history of the same records and marks that is as coloured as this
+abbrev pub log_as : Bool → Log → Log
+log_as coloured log = record
+    { side = log.side; coloured = coloured; records = log.records; marks = log.marks }
+
+-- the history that the session has seen: records and marks are what it sees, and its world says
+-- whether they are of a coloured one
+abbrev pub history_seen : SessionOf → SessionSeen → Log
+history_seen of s = log_as of.tint s.log
+
+-- this history suits its world. What the session tells of cells is so where this holds, since it
+-- takes from others what they append
+abbrev pub SeesSuited : SessionOf → SessionSeen → Type 0
+SeesSuited of s = SuitsWorld of.tint of.plan of.models (history_seen of s)
 
 -- no mark forgets the version below the length at which it was found without one
 abbrev pub IsStill : Log → Found → Type 0
 IsStill whole f = IsVersionHeld whole.marks f.at f.version
 
--- a legal plain history that goes on from what the session of this number saw: its records and
--- marks of the session are just the session's own, and it forgets no version before that was found
+-- a legal history that suits the world and goes on from what the session of this number saw: its
+-- records and marks of the session are just the session's own, and it forgets no version before
+-- that was found
 pub record AllowsWhole (of : SessionOf) (s : SessionSeen) (whole : Log) : Type 0 where
   pub legal : IsLegal (2 ^ of.plan.side) of.models whole
-  pub plain : IsPlain whole
-  pub goes_on : GoesOn s.log whole
+  pub may : MayTint of.tint of.plan of.models
+  pub coloured : whole.coloured ≡ of.tint
+  pub suits : SuitsTints whole
+  pub goes_on : GoesOn (history_seen of s) whole
   pub records : SameItems (own_of (λ c. c.entry.session) of.number (numbered 1 whole.records))
       s.records
   pub marks : SameItems (own_of (λ m. m.session) of.number whole.marks) s.marks

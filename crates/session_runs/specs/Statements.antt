@@ -17,25 +17,26 @@ use Rattle.conformance.specs.Passes.{IsLooked}
 use Rattle.conformance.specs.Refusing.{refused_by}
 use Rattle.conformance.specs.Runs.{AllRanKeeping}
 use Rattle.script_runs.specs.Keeping.{MadeAndMet}
-use Rattle.session_runs.specs.Seen.{SessionOf, SessionSeen, SeesPlain, DidNothing}
+use Rattle.session_runs.specs.Seen.{SessionOf, SessionSeen, SeesSuited, DidNothing, history_seen}
 use Rattle.session_runs.specs.Ran.{SessionRan, SessionsRanKeeping, ClosesWorld}
-use Rattle.session_runs.specs.Lines.{AreEarlier, AnswersLine, IsPlainCommand, SessionSoFar}
+use Rattle.session_runs.specs.Lines.{AreEarlier, AnswersLine, SuitsCommand, SessionSoFar}
 use Rattle.session_runs.specs.Calls.{KnowsOwn, AcceptsNothing, OnlySees, AppendsOwn, ForgetsOwn, NotesFor, MeetsFullBucket, FindsVersion, SeesForgotten}
 
 -- sessions that ran beside each other in a world that was closed are a run of their scripts, which
 -- holds as many last versions as they did
 abbrev pub SessionsAreARun : Type 0
-SessionsAreARun = (keep : ℕ) (p : Layout) (models : List Content)
+SessionsAreARun = (keep : ℕ) (tint : Bool) (p : Layout) (models : List Content)
     (scripts : List (List ScriptLine)) (transcripts : List (List LineAnswer))
     (sessions : List SessionSeen) (log : Log)
-    → SessionsRanKeeping keep p models 0 scripts transcripts sessions
-    → ClosesWorld p models sessions log → AllRanKeeping keep p models scripts transcripts log
+    → SessionsRanKeeping keep tint p models 0 scripts transcripts sessions
+    → ClosesWorld tint p models sessions log
+    → AllRanKeeping keep p models scripts transcripts log
 
 -- what a session saw of a version is what the history has
 abbrev pub SeenWorldsStay : Type 0
-SeenWorldsStay = (models : List Content) (s : SessionSeen) (log : Log) (version : ℕ)
-    → GoesOn s.log log → version ≤ length s.log.records
-    → world_has models log.records version ≡ world_has models s.log.records version
+SeenWorldsStay = (models : List Content) (seen log : Log) (version : ℕ)
+    → GoesOn seen log → version ≤ length seen.records
+    → world_has models log.records version ≡ world_has models seen.records version
 
 -- ---- line by line
 
@@ -53,8 +54,8 @@ abbrev pub SessionsGoOn : Type 0
 SessionsGoOn = (of : SessionOf) (script : List ScriptLine)
     (answers : List LineAnswer) (before : MadeAndMet) (old new : SessionSeen) (l : ScriptLine)
     (a : LineAnswer)
-    → SessionSoFar of script answers before old → IsAfter script l → IsPlainCommand l.command
-    → AnswersLine of l old new a
+    → SessionSoFar of script answers before old → IsAfter script l
+    → SuitsCommand of.tint l.command → AnswersLine of l old new a
     → SessionSoFar of (script ++ l ∷ []) (answers ++ a ∷ []) before new
 
 abbrev pub SessionsEnd : Type 0
@@ -100,7 +101,7 @@ RefusedActsTakeLines = (of : SessionOf) (line : ℕ) (act : Act)
     → AcceptsNothing old new → NotesFor of.plan of.models act old new
     → is_resting answer ≡ true
     → refused_by (Edit act once) (length new.log.records) answer ≡ []
-    → (SeesPlain new → Answers of.plan of.models new.log
+    → (SeesSuited of new → Answers of.plan of.models (history_seen of new)
     (IsLooked new.found new.marks line (length new.log.records))
     of.number line (length new.log.records) (Edit act once) answer)
     → AnswersLine of (record { line = line; command = Edit act once }) old new
@@ -120,7 +121,7 @@ RestingLinesTakeLines = (of : SessionOf) (l : ScriptLine)
     (answer : Answer) (old new : SessionSeen)
     → OnlySees old new → is_resting answer ≡ true
     → refused_by l.command (length new.log.records) answer ≡ []
-    → (SeesPlain new → Answers of.plan of.models new.log
+    → (SeesSuited of new → Answers of.plan of.models (history_seen of new)
     (IsLooked new.found new.marks l.line (length new.log.records))
     of.number l.line (length new.log.records) l.command answer)
     → AnswersLine of l old new (answer_at l (length new.log.records) answer)

@@ -1,13 +1,16 @@
--- What each answer of a session's calls tells. Of cells it tells those of the world's store, and of
--- tints that each set one has tint 1.
-use Rattle.std.specs.Prelude.{◌≡◌, ◌⊎◌, ℕ, ◌^◌, ◌<◌, ◌≤◌, Bool, true, false, Option, Some, None, length, Result, Ok, Err}
+-- What each answer of a session's calls tells. Of cells it tells those of the world's store, and
+-- what is asked is told of the world that such a store keeps.
+use Rattle.std.specs.Prelude.{◌≡◌, ◌⊎◌, ℕ, ◌/◌, ◌^◌, ◌<◌, ◌≤◌, Bool, true, false, Option, Some, None, length, Result, Ok, Err}
 use Rattle.std.specs.List.{Contains}
 use Rattle.vw_cell.specs.declared.boxes.Boxed.{Boxed}
+use Rattle.vw_cell.specs.declared.cells.Cell.{Cell}
 use Rattle.vw_cell.specs.Counts.{number_in}
+use Rattle.vw_cell.specs.Places.{IsInWorld}
 use Rattle.history_model.specs.declared.acts.Act.{Act}
 use Rattle.history_model.specs.declared.acts.Act.TheVariants.{Undo, Redo}
 use Rattle.history_model.specs.declared.histories.Mark.{Mark}
 use Rattle.history_model.specs.declared.questions.Question.{Question}
+use Rattle.history_model.specs.Planes.{StoresTints, tells}
 use Rattle.history_model.specs.Stores.{store_has}
 use Rattle.history_model.specs.Tints.{Tints}
 use Rattle.history_model.specs.Worlds.{World, is_edit}
@@ -17,6 +20,7 @@ use Rattle.transcript.specs.declared.answers.Answer.{Answer}
 use Rattle.transcript.specs.declared.answers.Answer.TheVariants as answers
 use Rattle.transcript.specs.declared.answers.LineAnswer.{LineAnswer}
 use Rattle.conformance.specs.Answers.{asked_version, target_at}
+use Rattle.conformance.specs.Kinds.{is_resting}
 use Rattle.conformance.specs.Telling.{Tells}
 use Rattle.session_runs.specs.declared.calls.ActAnswer.{ActAnswer}
 use Rattle.session_runs.specs.declared.calls.ActAnswer.TheVariants as acts
@@ -131,15 +135,28 @@ PinIsRefused version old new (pins.Forgotten at mark) = NamesMarked version old 
 abbrev pub plainly_tinted : World → Tints
 plainly_tinted w c = one_if (w c)
 
--- it was found, and the answer is that of its cells, of which each set one has tint 1
+-- the answer tells what the question asks of the world that these cells of a store of this side
+-- keep. Where cells have no tints, they are the world's, each set one with tint 1; where they have,
+-- it is each world of a quarter of the side whose tints, which are below 256, the store keeps, and
+-- whose cells are those with a tint other than 0
+abbrev pub TellsKept : Bool → ℕ → World → Question → Answer → Type 0
+TellsKept false side cells question answer =
+    Tells side cells (plainly_tinted cells) question answer
+TellsKept true side cells question answer =
+    (w : World) (t : Tints) → StoresTints (side / 4) t cells
+    → ((c : Cell) → IsInWorld (side / 4) c → t c < 2 ^ 8)
+    → ((c : Cell) → IsInWorld (side / 4) c → tells 0 (t c) ≡ w c)
+    → Tells (side / 4) w t question answer
+
+-- it was found, and the answer is that of the world that its cells keep
 pub record WasAsked (of : SessionOf) (version : Option ℕ) (question : Question)
     (old new : SessionSeen) (a : AskedAt) : Type 0 where
   pub at_is : IsSeenLength new a.at
   pub only : OnlySees old new
   pub finds : FindsVersion new (asked_version version a.at)
-  pub tells : Tells (2 ^ new.log.side)
-      (store_has of.models new.log (asked_version version a.at))
-      (plainly_tinted (store_has of.models new.log (asked_version version a.at))) question a.answer
+  pub tells : TellsKept of.tint (2 ^ new.log.side)
+      (store_has of.models new.log (asked_version version a.at)) question a.answer
+  pub rests : is_resting a.answer ≡ true
 
 abbrev pub AskTold : SessionOf → Option ℕ → Question → SessionSeen → SessionSeen
     → Result AskedAt PinRefused → Type 0

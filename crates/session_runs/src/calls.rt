@@ -1,4 +1,5 @@
-ghost use Rattle.std.specs.Prelude.{◌≡◌, ◌+◌, ◌++◌, ◌^◌, ◌≤◌, [], true, false, ℕ, List};
+ghost use Rattle.std.specs.Prelude.{◌≡◌, ◌+◌, ◌++◌, ◌^◌, ◌≤◌, [], true, ℕ, List};
+ghost use Rattle.history_model.specs.Logs.{kept_side};
 ghost use Rattle.history_model.specs.Worlds.{is_edit};
 ghost use Rattle.script.specs.Fitting.{EditFits, QuestionFits, SaveFits};
 ghost use Rattle.session_runs.specs.Calls.{KnowsOwn};
@@ -59,8 +60,9 @@ pub struct SavedAt {
 
 /// The calls of a session in a world that other sessions change too.
 ///
-/// Contracts see the session: its plan, its models and its number; what it has seen and done; the
-/// versions that it has saved, in order; and for how many more saves it has room.
+/// Contracts see the session: its plan, its models, whether its world's cells have tints, and its
+/// number; what it has seen and done; the versions that it has saved, in order; and for how many
+/// more saves it has room.
 pub trait SessionCalls {
     ghost of: { Self → SessionOf };
 
@@ -78,7 +80,8 @@ pub trait SessionCalls {
 
     /// Carries out the act of this line, as the newest record.
     fn act(&mut self, line: u32, act: Act) -> ActAnswer
-        requires fits { EditFits false (2 ^ (of self.old).plan.side) (of self.old).models act }
+        requires fits { EditFits (of self.old).tint (2 ^ (of self.old).plan.side)
+            (of self.old).models act }
         requires stands { stands self.old }
         ensures stands { stands self.new }
         ensures of { of self.new ≡ of self.old }
@@ -90,7 +93,8 @@ pub trait SessionCalls {
 
     /// Carries out the edit of this line in one attempt, where the history doesn't go on meanwhile.
     fn act_once(&mut self, line: u32, act: Act) -> OnceAnswer
-        requires fits { EditFits false (2 ^ (of self.old).plan.side) (of self.old).models act }
+        requires fits { EditFits (of self.old).tint (2 ^ (of self.old).plan.side)
+            (of self.old).models act }
         requires edit { is_edit act ≡ true }
         requires stands { stands self.old }
         ensures stands { stands self.new }
@@ -103,7 +107,8 @@ pub trait SessionCalls {
 
     /// Answers the question of this version, or of the newest.
     fn ask(&mut self, version: Option<u32>, question: Question) -> Result<AskedAt, PinRefused>
-        requires fits { QuestionFits (2 ^ (of self.old).plan.side) question }
+        requires fits { QuestionFits
+            (kept_side (of self.old).tint (2 ^ (of self.old).plan.side)) question }
         requires stands { stands self.old }
         ensures stands { stands self.new }
         ensures of { of self.new ≡ of self.old }
@@ -121,7 +126,8 @@ pub trait SessionCalls {
         name: SaveName,
         part: Boxed,
     ) -> Result<SavedAt, PinRefused>
-        requires fits { SaveFits (2 ^ (of self.old).plan.side) name part }
+        requires fits { SaveFits
+            (kept_side (of self.old).tint (2 ^ (of self.old).plan.side)) name part }
         requires room { 1 ≤ room self.old }
         requires stands { stands self.old }
         ensures stands { stands self.new }
@@ -144,7 +150,7 @@ pub trait SessionCalls {
         ensures room { room self.new ≡ room self.old }
         ensures rests { rests self.old self.new };
 
-    /// Whether both versions have the same cells.
+    /// Whether both versions have the same cells, and the same tints where cells have them.
     fn same(&mut self, v: u32, w: u32) -> Result<SameAt, SameRefused>
         requires stands { stands self.old }
         ensures stands { stands self.new }

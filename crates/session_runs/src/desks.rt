@@ -1,4 +1,4 @@
-ghost use Rattle.std.specs.Prelude.{◌≡◌, ◌+◌, ◌++◌, ◌^◌, ◌≤◌, false, ℕ, List};
+ghost use Rattle.std.specs.Prelude.{◌≡◌, ◌+◌, ◌++◌, ◌^◌, ◌≤◌, ℕ, List};
 ghost use Rattle.script.specs.Fitting.{CommandFits};
 ghost use Rattle.conformance.specs.Saves.{saved_by};
 ghost use Rattle.session_runs.specs.Saves.{saves_asked, versions_of};
@@ -29,8 +29,8 @@ pub trait SessionDesk {
 
     /// Does what the session's line asks for, and answers it.
     fn answer(&mut self, l: ScriptLine) -> LineAnswer
-        requires fits { CommandFits false (2 ^ (of self.old).plan.side) (of self.old).models
-            l.command }
+        requires fits { CommandFits (of self.old).tint (2 ^ (of self.old).plan.side)
+            (of self.old).models l.command }
         requires earlier { AreEarlier (seen self.old) l.line }
         requires room { saves_asked l.command ≤ room self.old }
         requires stands { stands self.old }

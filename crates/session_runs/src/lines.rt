@@ -1,5 +1,5 @@
 //! How a session's calls answer the lines of its script.
-ghost use Rattle.std.specs.Prelude.{◌≡◌, ◌+◌, ◌++◌, ◌^◌, ◌≤◌, false};
+ghost use Rattle.std.specs.Prelude.{◌≡◌, ◌+◌, ◌++◌, ◌^◌, ◌≤◌};
 ghost use Rattle.history_model.specs.Worlds.{is_edit};
 ghost use Rattle.script.specs.Fitting.{CommandFits};
 ghost use Rattle.conformance.specs.Saves.{saved_by};
@@ -16,8 +16,8 @@ use versions::{ForgetRefused, PinRefused, SameAt, SameRefused};
 /// Does what the session's line asks for, and answers it.
 #[tactic(auto, using(crate::proofs::Answering::save_saved, crate::proofs::Answering::none_saved))]
 pub fn answer_line<C: SessionCalls>(calls: &mut C, l: ScriptLine) -> LineAnswer
-    requires fits { CommandFits false (2 ^ (C.of calls.old).plan.side) (C.of calls.old).models
-        l.command }
+    requires fits { CommandFits (C.of calls.old).tint (2 ^ (C.of calls.old).plan.side)
+        (C.of calls.old).models l.command }
     requires earlier { AreEarlier (C.seen calls.old) l.line }
     requires room { saves_asked l.command ≤ C.room calls.old }
     requires stands { C.stands calls.old }

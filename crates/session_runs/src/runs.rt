@@ -1,4 +1,4 @@
-ghost use Rattle.std.specs.Prelude.{◌≡◌, ◌+◌, ◌++◌, ◌^◌, ◌≤◌, false, All, length, vec_len, vec_capacity};
+ghost use Rattle.std.specs.Prelude.{◌≡◌, ◌+◌, ◌++◌, ◌^◌, ◌≤◌, All, length, vec_len, vec_capacity};
 ghost use Rattle.script.specs.Fitting.{CommandFits, RisesFrom};
 ghost use Rattle.session_runs.specs.Seen.{DidNothing};
 ghost use Rattle.session_runs.specs.Runs.{RunsScript};
@@ -11,7 +11,7 @@ use transcript::LineAnswer;
 /// Runs the lines of a session's script, and puts an answer to each behind the answers.
 pub fn run_lines<D: SessionDesk>(desk: &mut D, lines: &[ScriptLine], answers: &mut Vec<LineAnswer>)
     requires rises { RisesFrom 1 lines.now }
-    requires fit { All (λ l. CommandFits false (2 ^ (D.of desk.old).plan.side)
+    requires fit { All (λ l. CommandFits (D.of desk.old).tint (2 ^ (D.of desk.old).plan.side)
         (D.of desk.old).models l.command) lines.now }
     requires idle { DidNothing (D.seen desk.old) }
     requires room { vec_len answers.old + length lines.now ≤ vec_capacity answers.old }

@@ -1,5 +1,8 @@
 //! What a store for one thread notes of its shares, and what takes no part in what it does: which
-//! trees are held, which shapes were added and what met a full bucket. Only contracts see it.
+//! trees are held, which shapes were added and what met a full bucket.
+//!
+//! Only contracts see it. What is noted is in `specs/Told.antt`, how it changes in
+//! `specs/Changes.antt`.
 #![tactic(auto)]
 
 mod notes;

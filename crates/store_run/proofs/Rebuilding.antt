@@ -28,7 +28,7 @@ use Rattle.block_contents.specs.Aligned.{top, world_block}
 use Rattle.block_contents.specs.Versions.{IsKept}
 use Rattle.core_laws.proofs.SeenNodes.{gone_tree}
 use Rattle.edit_cells.specs.Worlds.{ShowsWorld, Rebuilt, world_shape}
-use Rattle.act_rebuilds.specs.Acts.{RebuildsAct, GrowsByAct, RefusesAct}
+use Rattle.act_rebuilds.specs.Edits.{RebuildsEdit, GrowsByEdit, RefusesEdit}
 use Rattle.entry_words.specs.Words.{key_in}
 use Rattle.one_store.specs.Known.{Known, IsStore, known_seen, root_tree, stored_root}
 use Rattle.one_store.specs.Steps.{SparesRoots, spares_on}
@@ -94,13 +94,13 @@ module _ (v : Versions) (s : Known) (base : Option Name) (act : Act) (version : 
   target_here : world_shape (v.side - 2) (edited_world v act) ≡ target_of v act
   target_here = λ i. world_shape (are.side i - 2) (edited_world v act)
 
-  pub makes_beside : RebuildsAct (known_seen v.store) v.side base v.models.items act result (known_seen s)
-      → GrowsByAct (known_seen v.store) v.side base v.models.items act result (known_seen s)
+  pub makes_beside : RebuildsEdit (known_seen v.store) v.side base (edited v.models.items act) result (known_seen s)
+      → GrowsByEdit (known_seen v.store) v.side base (edited v.models.items act) result (known_seen s)
       → IfOk result (λ root. MakesBeside v act root (with_store v s))
   makes_beside = go result
     where
-      go : (r : Result (Option Name) Full) → RebuildsAct (known_seen v.store) v.side base v.models.items act r (known_seen s)
-          → GrowsByAct (known_seen v.store) v.side base v.models.items act r (known_seen s)
+      go : (r : Result (Option Name) Full) → RebuildsEdit (known_seen v.store) v.side base (edited v.models.items act) r (known_seen s)
+          → GrowsByEdit (known_seen v.store) v.side base (edited v.models.items act) r (known_seen s)
           → IfOk r (λ root. MakesBeside v act root (with_store v s))
       go (Err e) rebuilds grows = tt
       go (Ok root) rebuilds grows = record {
@@ -108,24 +108,24 @@ module _ (v : Versions) (s : Known) (base : Option Name) (act : Act) (version : 
         grows = subst (λ (t : Shape). Grows t (known_seen v.store) (known_seen s)) target_here (grows (world_of v (moment_of v)) shown);
       }
 
-  pub fails_beside : RefusesAct (known_seen v.store) v.side base v.models.items act result (known_seen s)
+  pub fails_beside : RefusesEdit (known_seen v.store) v.side base (edited v.models.items act) result (known_seen s)
       → IfErr result (λ full. Fails (target_of v act) full.level full.bucket (known_seen v.store) (known_seen s))
   fails_beside = go result
     where
-      go : (r : Result (Option Name) Full) → RefusesAct (known_seen v.store) v.side base v.models.items act r (known_seen s)
+      go : (r : Result (Option Name) Full) → RefusesEdit (known_seen v.store) v.side base (edited v.models.items act) r (known_seen s)
           → IfErr r (λ full. Fails (target_of v act) full.level full.bucket (known_seen v.store) (known_seen s))
       go (Ok root) refuses = tt
       go (Err full) refuses =
           subst (λ (t : Shape). Fails t full.level full.bucket (known_seen v.store) (known_seen s)) target_here (refuses (world_of v (moment_of v)) shown)
 
-  more : (r : Result (Option Name) Full) → RebuildsAct (known_seen v.store) v.side base v.models.items act r (known_seen s)
-      → RefusesAct (known_seen v.store) v.side base v.models.items act r (known_seen s)
+  more : (r : Result (Option Name) Full) → RebuildsEdit (known_seen v.store) v.side base (edited v.models.items act) r (known_seen s)
+      → RefusesEdit (known_seen v.store) v.side base (edited v.models.items act) r (known_seen s)
       → (f : Tree → ℕ) → weigh f v.store.told.held ≤ weigh f s.told.held
   more (Ok root) rebuilds refuses f = let r = rebuilds (world_of v (moment_of v)) shown in omega (arith, r.weighs f)
   more (Err full) rebuilds refuses f = let r = refuses (world_of v (moment_of v)) shown in omega (arith, r.held f)
 
-  pub still_held : RebuildsAct (known_seen v.store) v.side base v.models.items act result (known_seen s)
-      → RefusesAct (known_seen v.store) v.side base v.models.items act result (known_seen s)
+  pub still_held : RebuildsEdit (known_seen v.store) v.side base (edited v.models.items act) result (known_seen s)
+      → RefusesEdit (known_seen v.store) v.side base (edited v.models.items act) result (known_seen s)
       → SparesRoots v.store s → HoldsTree s base
   still_held rebuilds refuses spares = record {
     each = λ n e. record {
@@ -138,13 +138,13 @@ module _ (v : Versions) (s : Known) (base : Option Name) (act : Act) (version : 
     };
   }
 
-  pub few_held : RebuildsAct (known_seen v.store) v.side base v.models.items act result (known_seen s)
-      → RefusesAct (known_seen v.store) v.side base v.models.items act result (known_seen s)
+  pub few_held : RebuildsEdit (known_seen v.store) v.side base (edited v.models.items act) result (known_seen s)
+      → RefusesEdit (known_seen v.store) v.side base (edited v.models.items act) result (known_seen s)
       → number_of_trees v.store.told.held ≤ 2049 → number_of_trees s.told.held ≤ 2050
   few_held = go result
     where
-      go : (r : Result (Option Name) Full) → RebuildsAct (known_seen v.store) v.side base v.models.items act r (known_seen s)
-          → RefusesAct (known_seen v.store) v.side base v.models.items act r (known_seen s)
+      go : (r : Result (Option Name) Full) → RebuildsEdit (known_seen v.store) v.side base (edited v.models.items act) r (known_seen s)
+          → RefusesEdit (known_seen v.store) v.side base (edited v.models.items act) r (known_seen s)
           → number_of_trees v.store.told.held ≤ 2049 → number_of_trees s.told.held ≤ 2050
       go (Ok root) rebuilds refuses few =
           let r = rebuilds (world_of v (moment_of v)) shown in omega (arith, r.weighs (λ _. 1), weight_of-one r.tree, few)

@@ -13,7 +13,7 @@ use Rattle.history_model.specs.declared.acts.Act.TheVariants.{Fill, Erase, Ball,
 use Rattle.history_model.specs.Logs.{FitsWorld, suits_tints}
 use Rattle.history_model.specs.Worlds.{World, edited}
 use Rattle.edit_cells.specs.Worlds.{ForEdited, Rebuilt, world_shape}
-use Rattle.act_rebuilds.specs.Acts.{RebuildsAct, GrowsByAct, RefusesAct}
+use Rattle.act_rebuilds.specs.Edits.{RebuildsEdit, GrowsByEdit, RefusesEdit}
 use Rattle.store_run.specs.Stamps.{stamp_in}
 
 some_no : {X : Type 0} → (x : X) → Some x ≡ None → ⊥
@@ -46,20 +46,20 @@ same_edit models Redo e is = refl
 module _ (old new : Seen) (side : ℕ) (root : Option Name) (models : List Content) (act : Act)
     (result : Result (Option Name) Full) (e : stamp_in act ≡ None)
     (is : suits_tints false act ≡ true) where
-  pub no_stamp_rebuilds : RebuildsAct old side root [] act result new
-      → RebuildsAct old side root models act result new
+  pub no_stamp_rebuilds : RebuildsEdit old side root (edited [] act) result new
+      → RebuildsEdit old side root (edited models act) result new
   no_stamp_rebuilds h =
       subst (λ (f : World → World). IfOk result (λ r. ForEdited old side root f (λ world. Rebuilt (side - 2) world r old new)))
       (same_edit models act e is) h
 
-  pub no_stamp_grows : GrowsByAct old side root [] act result new
-      → GrowsByAct old side root models act result new
+  pub no_stamp_grows : GrowsByEdit old side root (edited [] act) result new
+      → GrowsByEdit old side root (edited models act) result new
   no_stamp_grows h =
       subst (λ (f : World → World). OnOk result (ForEdited old side root f (λ world. Grows (world_shape (side - 2) world) old new)))
       (same_edit models act e is) h
 
-  pub no_stamp_refuses : RefusesAct old side root [] act result new
-      → RefusesAct old side root models act result new
+  pub no_stamp_refuses : RefusesEdit old side root (edited [] act) result new
+      → RefusesEdit old side root (edited models act) result new
   no_stamp_refuses h =
       subst (λ (f : World → World). IfErr result (λ e. ForEdited old side root f (λ world. Fails (world_shape (side - 2) world) e.level e.bucket old new)))
       (same_edit models act e is) h

@@ -4,14 +4,14 @@ ghost use Rattle.std.specs.List.{slice_get};
 ghost use Rattle.vw_cell.specs.Places.{FitsAt};
 ghost use Rattle.vox_read.specs.Contents.{Content, IsModel, AreModels};
 ghost use Rattle.node_shapes.specs.Weights.{number_of_trees};
-ghost use Rattle.history_model.specs.Worlds.{is_edit};
+ghost use Rattle.history_model.specs.Worlds.{is_edit, edited};
 ghost use Rattle.history_model.specs.Logs.{FitsWorld, suits_tints};
 ghost use Rattle.history_model.specs.declared.acts.Act.TheVariants.{Stamp};
 ghost use Rattle.block_walk.specs.Roots.{HoldsRoot};
-ghost use Rattle.act_rebuilds.specs.Acts.{RebuildsAct, GrowsByAct, RefusesAct};
+ghost use Rattle.act_rebuilds.specs.Edits.{RebuildsEdit, GrowsByEdit, RefusesEdit};
 ghost use Rattle.store_run.specs.Stamps.{stamp_in};
 
-use act_rebuilds::{DrawnModel, Stencil, rebuild_act, rebuild_stamp};
+use act_rebuilds::{DrawnModel, Stencil, rebuild_plain, rebuild_stamp};
 use history_model::Act;
 use node_words::{Full, NodeStore, Share, Steps};
 use std::alloc::Global;
@@ -84,19 +84,19 @@ pub(crate) fn rebuild_own<N: NodeStore, L: Ledger>(
     requires fits { FitsWorld (2 ^ side) models.now act }
     requires old { HoldsRoot (N.seen store.old).held side (option_copied old) }
     requires room { number_of_trees (N.seen store.old).held ≤ 3910 }
-    ensures ok { RebuildsAct (N.seen store.old) side (option_copied old.entry) models.now act result
-        (N.seen store.new) }
-    ensures grows { GrowsByAct (N.seen store.old) side (option_copied old.entry) models.now act
-        result (N.seen store.new) }
-    ensures full { RefusesAct (N.seen store.old) side (option_copied old.entry) models.now act
-        result (N.seen store.new) }
+    ensures ok { RebuildsEdit (N.seen store.old) side (option_copied old.entry)
+        (edited models.now act) result (N.seen store.new) }
+    ensures grows { GrowsByEdit (N.seen store.old) side (option_copied old.entry)
+        (edited models.now act) result (N.seen store.new) }
+    ensures full { RefusesEdit (N.seen store.old) side (option_copied old.entry)
+        (edited models.now act) result (N.seen store.new) }
     ensures rests { N.rests store.old store.new }
 {
     match stamp_in(act) {
         Some((m, at)) => stamp(store, old, side, &models[usize::from(m)], at, steps),
         None => {
             let none: &[DrawnModel] = &[];
-            rebuild_act(store, old, side, none, act, steps)
+            rebuild_plain(store, old, side, none, act, steps)
         }
     }
 }
@@ -126,14 +126,14 @@ fn stamp<N: NodeStore, L: Ledger>(
     requires old { HoldsRoot (N.seen store.old).held side (option_copied old) }
     requires room { number_of_trees (N.seen store.old).held ≤ 3910 }
     ensures ok { (models : List Content) (m : ℕ) → slice_get models m ≡ Some model.now
-        → RebuildsAct (N.seen store.old) side (option_copied old.entry) models (Stamp m at) result
-        (N.seen store.new) }
+        → RebuildsEdit (N.seen store.old) side (option_copied old.entry)
+        (edited models (Stamp m at)) result (N.seen store.new) }
     ensures grows { (models : List Content) (m : ℕ) → slice_get models m ≡ Some model.now
-        → GrowsByAct (N.seen store.old) side (option_copied old.entry) models (Stamp m at) result
-        (N.seen store.new) }
+        → GrowsByEdit (N.seen store.old) side (option_copied old.entry)
+        (edited models (Stamp m at)) result (N.seen store.new) }
     ensures full { (models : List Content) (m : ℕ) → slice_get models m ≡ Some model.now
-        → RefusesAct (N.seen store.old) side (option_copied old.entry) models (Stamp m at) result
-        (N.seen store.new) }
+        → RefusesEdit (N.seen store.old) side (option_copied old.entry)
+        (edited models (Stamp m at)) result (N.seen store.new) }
     ensures rests { N.rests store.old store.new }
 {
     match rebuild_stamp(store, old, side, &model.stencil, at, steps) {

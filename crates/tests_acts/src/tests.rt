@@ -45,7 +45,7 @@ fn nodes_after<L: Ledger>(
 {
     let side = Side::new(8).ok_or("a side")?;
     let plan = Plan::usual(side);
-    let drawn = draw_models(alloc, models).map_err(|_| "out of memory")?;
+    let drawn = draw_models(alloc, models, false).map_err(|_| "out of memory")?;
     let mut store = OneStore::begin(alloc, &plan)?;
     let mut steps: Steps<L> = Steps::start(blank);
     if store.held() > 0 || !is_plain_edit(&act) || !act.fits(side, models) {

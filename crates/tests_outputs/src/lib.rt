@@ -2,6 +2,8 @@
 #![tactic(auto)]
 
 #[cfg(test)]
+mod colour_tests;
+#[cfg(test)]
 mod keep_tests;
 #[cfg(test)]
 mod run_tests;

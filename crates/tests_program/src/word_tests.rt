@@ -52,6 +52,18 @@ const AT_256: &[&str] = &[
     "run one.vox --cap 128 s",
 ];
 
+// Words that are taken at side 8 with tints, with the script of two changes.
+const WITH_TINTS: &[&str] = &[
+    "run --colours --side 8 one.vox s",
+    "run --side 8 --colours one.vox s",
+    "run one.vox --colours s --side 8",
+    "run one.vox s --side=8 --colours",
+    "run --colours one.vox --report p s --journal=j --side=000008",
+];
+
+// Two versions have cells in the plane of all cells and in that of bit 0 of the tint.
+const TINTED: &str = "scripts 1 records 2 marks 0 nodes 8\n";
+
 // Words, their script, and what the program then puts and answers.
 const SIDES: &[(&str, &str, &str, &str)] = &[
     (
@@ -65,6 +77,18 @@ const SIDES: &[(&str, &str, &str, &str)] = &[
         GOOD,
         "scripts 1 records 2 marks 0 nodes 16\n",
         ANSWERS,
+    ),
+    (
+        "run --side 4 --colours one.vox s",
+        "",
+        "scripts 1 records 0 marks 0 nodes 0\n",
+        "",
+    ),
+    (
+        "run --colours --side 1024 one.vox s",
+        "get 1023 1023 1023\n",
+        "scripts 1 records 0 marks 0 nodes 0\n",
+        "1 @0 clear\n",
     ),
 ];
 
@@ -85,6 +109,15 @@ fn is_taken<R: Threads + Wait + Sync>(
 fn options_stand_anywhere(rt: HostRuntime) -> Result<(), Fail> {
     for &line in AT_8 {
         let taken = is_taken(&rt, rt.alloc(), line, GOOD, TWO, ANSWERS)?;
+        assert!(rt; taken, "at {line}");
+    }
+    Ok(())
+}
+
+#[test]
+fn the_flag_stands_anywhere(rt: HostRuntime) -> Result<(), Fail> {
+    for &line in WITH_TINTS {
+        let taken = is_taken(&rt, rt.alloc(), line, GOOD, TINTED, ANSWERS)?;
         assert!(rt; taken, "at {line}");
     }
     Ok(())
@@ -117,6 +150,7 @@ const VALUES: &[(&str, &str)] = &[
     ("run --journal=a=b one.vox s", "a=b"),
     ("run --journal side one.vox s", "side"),
     ("run one.vox --journal run s", "run"),
+    ("run --journal=--colours one.vox s", "--colours"),
 ];
 
 fn leaves<R: Threads + Wait + Sync>(
@@ -171,6 +205,19 @@ const NO_WORDS: &[&str] = &[
     "run --journal j --journal k one.vox s",
     "run --report p one.vox --report q s",
     "run --keep 2 one.vox s --keep=2",
+    // the flag twice, with a value, where an option's value is missing, or for a side over 1,024
+    "run --colours --side 8 --colours one.vox s",
+    "run --colours=x --side 8 one.vox s",
+    "run --colours= --side 8 one.vox s",
+    "run --colours=true one.vox s",
+    "run --side --colours one.vox s",
+    "run one.vox s --journal --colours",
+    "run --colours one.vox",
+    "run --side 2048 --colours one.vox s",
+    "run --colours --side=4096 one.vox s",
+    "run --side 2 --colours one.vox s",
+    "run --colour one.vox s",
+    "run --Colours one.vox s",
     // a value that is missing, empty or an option
     "run one.vox s --side",
     "run one.vox s --keep",

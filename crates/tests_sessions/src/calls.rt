@@ -1,22 +1,23 @@
 //! Calls of a world by a session, and what the session is told.
-ghost use Rattle.std.specs.Prelude.{◌≡◌, ◌<◌, ◌^◌};
+ghost use Rattle.std.specs.Prelude.{◌≡◌, ◌<◌};
 ghost use Rattle.vw_cell.specs.Places.{FitsAt};
 ghost use Rattle.version_log.specs.Pins.{IsPinned};
 ghost use Rattle.session.specs.Resting.{IsAtRest};
+ghost use Rattle.session.specs.Seen.{side_of};
 ghost use Rattle.tests_sessions.specs.Free.{IsFree};
 
-use crate::worlds::within;
+use crate::worlds::{cell_within, within};
 use gate_run::Gate;
 use history_model::{Act, Question};
 use node_words::Steps;
 use session::{Session, World};
-use session_runs::{ActAnswer, OnceAnswer};
+use session_runs::{ActAnswer, AskedAt, OnceAnswer};
 use std::marker::Brand;
 use std::sync::Wait;
 use std::sync::ledger::{Blank, Ledger};
 use transcript::Answer;
 use version_log::{ForgetRefused, PinRefused, Pinned, SameAt, SameRefused};
-use vw_cell::Boxed;
+use vw_cell::{Boxed, Cell};
 
 /// A call, and with what.
 #[derive(Clone, Copy)]
@@ -27,6 +28,8 @@ pub enum Call {
     /// Pins a version, or the newest, counts the cells of a box of it so many times, and gives it
     /// back.
     Count(Option<u32>, Boxed, u32),
+    /// Asks the colour of a cell of a version, or of the newest.
+    Colour(Option<u32>, Cell),
     Forget(u32),
     Same(u32, u32),
     Head,
@@ -35,13 +38,15 @@ pub enum Call {
 /// What the session is told.
 #[derive(Clone, Copy, Debug, PartialEq, Eq)]
 pub enum Told {
-    /// The act or the box leaves the world.
+    /// The act isn't one of the world, or the box or the cell leaves it.
     Outside,
     Act(ActAnswer),
     Once(OnceAnswer),
     /// The version was pinned at this length, and these are the least and the greatest count.
     Count(u32, u64, u64),
     NotPinned(PinRefused),
+    /// The version was found at this length, and this is the colour.
+    Colour(u32, u8),
     Forget(Result<u32, ForgetRefused>),
     Same(Result<SameAt, SameRefused>),
     Head(u32),
@@ -107,7 +112,7 @@ fn counts_pinned<G: Gate>(
 ) -> (u64, u64)
     requires rest { IsAtRest world.now.table s.old }
     requires pinned { IsPinned s.old.view p.now }
-    requires fits { FitsAt part.at part.size (2 ^ world.now.table.plan.side) }
+    requires fits { FitsAt part.at part.size (side_of world.now) }
     ensures rest { IsAtRest world.now.table s.new }
     ensures pinned { IsPinned s.new.view p.now }
     ensures held { s.new.view.held ≡ s.old.view.held }
@@ -136,7 +141,7 @@ fn counts<R: Wait, G: Gate, L: Ledger>(
     steps: &mut Steps<L>,
 ) -> Told
     requires free { IsFree world.now s.old }
-    requires fits { FitsAt part.at part.size (2 ^ world.now.table.plan.side) }
+    requires fits { FitsAt part.at part.size (side_of world.now) }
     ensures free { IsFree world.now s.new }
 {
     match world.pin(rt, s, version, steps) {
@@ -147,6 +152,37 @@ fn counts<R: Wait, G: Gate, L: Ledger>(
             Told::Count(moment, least, greatest)
         }
         Err(refused) => Told::NotPinned(refused),
+    }
+}
+
+// The colour that a question was answered with.
+fn colour_told(asked: AskedAt) -> Told {
+    match asked.answer {
+        Answer::Colour(colour) => Told::Colour(asked.at, colour),
+        _ => Told::Outside,
+    }
+}
+
+fn asks_colour<R: Wait, L: Ledger>(
+    rt: &R,
+    world: &World<'_>,
+    s: &mut Session,
+    version: Option<u32>,
+    cell: Cell,
+    steps: &mut Steps<L>,
+) -> Told
+    requires { IsFree world.now s.old }
+    ensures { IsFree world.now s.new }
+{
+    match cell_within(world, cell) {
+        Some(cell) => {
+            let question = Question::Colour(cell);
+            match world.ask_version(rt, s, version, question, steps) {
+                Ok(asked) => colour_told(asked),
+                Err(refused) => Told::NotPinned(refused),
+            }
+        }
+        None => Told::Outside,
     }
 }
 
@@ -187,6 +223,7 @@ fn tell_over<R: Wait, G: Gate, L: Ledger>(
             Some(part) => counts(rt, world, s, line, version, part, times, gate, &mut steps),
             None => Told::Outside,
         },
+        Call::Colour(version, cell) => asks_colour(rt, world, s, version, cell, &mut steps),
         Call::Forget(version) => forgets(rt, world, s, line, version, &mut steps),
         Call::Same(v, w) => Told::Same(world.same(rt, s, v, w)),
         Call::Head => Told::Head(world.head(rt, s)),

@@ -4,15 +4,15 @@ ghost use Rattle.tests_sessions.specs.Free.{IsFree};
 
 use crate::calls::Call::{Act, Forget};
 use crate::calls::{Row, Told, answered};
-use crate::worlds::{FIRST, SECOND, sessions_ended, world_begun};
+use crate::worlds::{Begun, FIRST, PLAIN, SECOND, TINTED, no_models, sessions_ended, world_begun};
 use gate_run::NoGate;
-use history_model::Act::{Fill, Redo, Undo};
+use history_model::Act::{Fill, Redo, Tint, Undo};
+use history_model::TintAct;
 use session::{CloseRefused, Ended, Session, World};
 use session_runs::ActAnswer;
 use std::alloc::Global;
 use std::sync::Wait;
 use std::test::Fail;
-use vox_read::Models;
 
 // What the world leaves, with all of its sessions.
 fn closed(alloc: Global, world: World<'_>, sessions: Vec<Session>) -> Option<Ended>
@@ -95,22 +95,30 @@ fn closed_late(
     }
 }
 
-// What a world leaves: how many records, marks and kept versions, and the nodes of its two levels.
+// What a world leaves: whether its history is coloured, how many records, marks and kept versions,
+// and the nodes of its four lowest levels.
 #[derive(Clone, Copy, Debug, PartialEq, Eq)]
 struct Left {
+    coloured: bool,
     records: usize,
     marks: usize,
     kept: usize,
-    live: [u32; 2],
+    live: [u32; 4],
 }
 
 fn left_by(ended: &Ended) -> Left {
     let closed = ended.closed();
     Left {
+        coloured: closed.history.coloured,
         records: closed.history.records.len(),
         marks: closed.history.marks.len(),
         kept: closed.roots.len(),
-        live: [closed.live[0], closed.live[1]],
+        live: [
+            closed.live[0],
+            closed.live[1],
+            closed.live[2],
+            closed.live[3],
+        ],
     }
 }
 
@@ -141,30 +149,28 @@ const ROWS: &[Row] = &[
     (Forget(1), Told::Forget(Ok(2))),
 ];
 
-// What a world of two sessions that holds so many last versions alone, or with 0 all, leaves behind
-// these calls of the last one.
+// What a world of two sessions leaves behind these calls of the last one.
 fn ended_by<R: Wait>(
     rt: &R,
     alloc: Global,
-    keep: u32,
+    begun: Begun,
     rows: &[Row],
 ) -> Result<Option<(u32, u16, Left)>, Fail> {
-    let models = Models {
-        list: Vec::new(alloc),
-    };
-    let (world, sessions) = world_begun(alloc, 8, 64, 256, &models, 2, keep)?;
+    let models = no_models(alloc);
+    let (world, sessions) = world_begun(alloc, begun, &models, 2)?;
     Ok(ends(rt, alloc, world, sessions, rows))
 }
 
 #[test]
 fn a_world_is_closed_with_all_its_sessions(rt: HostRuntime) -> Result<(), Fail> {
     let left = Left {
+        coloured: false,
         records: 2,
         marks: 1,
         kept: 2,
-        live: [1, 1],
+        live: [1, 1, 0, 0],
     };
-    assert_eq!(rt; ended_by(&rt, rt.alloc(), 0, ROWS)?, Some((3, 2, left)));
+    assert_eq!(rt; ended_by(&rt, rt.alloc(), PLAIN, ROWS)?, Some((3, 2, left)));
     Ok(())
 }
 
@@ -179,11 +185,46 @@ const LAST_TWO: &[Row] = &[
 #[test]
 fn a_closed_world_keeps_its_last_versions(rt: HostRuntime) -> Result<(), Fail> {
     let left = Left {
+        coloured: false,
         records: 4,
         marks: 3,
         kept: 2,
-        live: [2, 2],
+        live: [2, 2, 0, 0],
     };
-    assert_eq!(rt; ended_by(&rt, rt.alloc(), 2, LAST_TWO)?, Some((4, 2, left)));
+    let last_two = Begun { keep: 2, ..PLAIN };
+    assert_eq!(rt;
+        ended_by(&rt, rt.alloc(), last_two, LAST_TWO)?,
+        Some((4, 2, left))
+    );
+    Ok(())
+}
+
+// Both versions have one cell, of tint 5 and of tint 2: its plane is one node of the lowest two
+// levels. The block of the cells' plane is one of the third, and so are the blocks of the bits of
+// both tints; each version has a root.
+const TWO_TINTS: &[Row] = &[
+    (
+        Act(Tint(TintAct::Fill(FIRST, 5))),
+        Told::Act(ActAnswer::Done { n: 1 }),
+    ),
+    (
+        Act(Tint(TintAct::Fill(FIRST, 2))),
+        Told::Act(ActAnswer::Done { n: 2 }),
+    ),
+];
+
+#[test]
+fn a_closed_world_with_tints_is_coloured(rt: HostRuntime) -> Result<(), Fail> {
+    let left = Left {
+        coloured: true,
+        records: 2,
+        marks: 0,
+        kept: 3,
+        live: [1, 1, 3, 2],
+    };
+    assert_eq!(rt;
+        ended_by(&rt, rt.alloc(), TINTED, TWO_TINTS)?,
+        Some((2, 2, left))
+    );
     Ok(())
 }

@@ -1,4 +1,4 @@
-//! Tests of sessions of one world, on one thread and on two.
+//! Tests of sessions of one world, on one thread and on two, and of worlds whose cells have tints.
 #![tactic(auto)]
 
 #[cfg(test)]
@@ -13,5 +13,7 @@ mod pins;
 mod players;
 #[cfg(test)]
 mod rows;
+#[cfg(test)]
+mod tinted;
 #[cfg(test)]
 mod worlds;

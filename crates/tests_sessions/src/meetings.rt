@@ -2,7 +2,7 @@
 use crate::calls::Call::{Act, Count, FillOnce};
 use crate::calls::{Row, Told};
 use crate::players::both_answered;
-use crate::worlds::{FIRST, SECOND, WHOLE, world_begun};
+use crate::worlds::{FIRST, PLAIN, SECOND, WHOLE, no_models, world_begun};
 use history_model::Act::{Erase, Fill};
 use session_runs::{ActAnswer, OnceAnswer};
 use std::alloc::{AllocError, Global};
@@ -10,7 +10,6 @@ use std::sync::Wait;
 use std::test::Fail;
 use std::thread::Threads;
 use test_gates::Turns;
-use vox_read::Models;
 
 // How many calls of two sessions of a world of side 8 are right, and whether one waited in vain.
 fn meet<R: Threads + Wait + Sync>(
@@ -19,10 +18,8 @@ fn meet<R: Threads + Wait + Sync>(
     first: &[Row],
     second: &[Row],
 ) -> Result<(u32, bool), Fail> {
-    let models = Models {
-        list: Vec::new(alloc),
-    };
-    let (world, sessions) = world_begun(alloc, 8, 64, 256, &models, 2, 0)?;
+    let models = no_models(alloc);
+    let (world, sessions) = world_begun(alloc, PLAIN, &models, 2)?;
     let turns = Turns::new();
     let right = both_answered(rt, alloc, &world, sessions, first, second, &turns);
     Ok((right, turns.is_given_up()))
@@ -83,8 +80,8 @@ fn whole_edits(alloc: Global, times: u32) -> Result<Vec<Row>, AllocError> {
     Ok(rows)
 }
 
-// Session 1 pinned the empty world before the first edit, and counts version 1 a hundred times, each
-// time behind one more edit.
+// Session 1 pinned the empty world before the first edit, and counts version 1 a hundred times,
+// each time behind one more edit.
 const COUNTED: &[Row] = &[
     (Count(None, WHOLE, 1), Told::Count(0, 0, 0)),
     (Count(Some(1), WHOLE, 100), Told::Count(1, 512, 512)),

@@ -1,13 +1,14 @@
 //! A version that is pinned while another session forgets it.
-ghost use Rattle.std.specs.Prelude.{◌≡◌, ◌<◌, ◌≤◌, ◌^◌, All};
+ghost use Rattle.std.specs.Prelude.{◌≡◌, ◌<◌, ◌≤◌, All};
 ghost use Rattle.vw_cell.specs.Places.{FitsAt};
 ghost use Rattle.version_log.specs.Pins.{IsPinned};
 ghost use Rattle.session.specs.Resting.{IsAtRest};
+ghost use Rattle.session.specs.Seen.{side_of};
 ghost use Rattle.tests_sessions.specs.Free.{IsFree};
 
 use crate::calls::Call::{Act, Count, Forget};
 use crate::calls::{Row, Told, answered};
-use crate::worlds::{sessions_ended, within, world_begun};
+use crate::worlds::{PLAIN, no_models, sessions_ended, within, world_begun};
 use gate_run::NoGate;
 use history_model::Act::{Erase, Fill};
 use history_model::{Mark, Question};
@@ -21,7 +22,7 @@ use std::sync::ledger::{Blank, Ledger};
 use std::test::Fail;
 use transcript::Answer;
 use version_log::{PinRefused, Pinned};
-use vox_read::{Models, Voxel};
+use vox_read::Voxel;
 use vw_cell::{Boxed, Cell};
 
 // What is set in version 1.
@@ -51,8 +52,8 @@ const SET: [Voxel; 2] = [
     },
 ];
 
-// Whether the pinned version has just these cells in its part.
-fn lists(
+/// Whether the pinned version has just these cells in its part.
+pub fn lists(
     alloc: Global,
     world: &World<'_>,
     s: &mut Session,
@@ -62,7 +63,7 @@ fn lists(
 ) -> bool
     requires rest { IsAtRest world.now.table s.old }
     requires pinned { IsPinned s.old.view p.now }
-    requires fits { FitsAt part.at part.size (2 ^ world.now.table.plan.side) }
+    requires fits { FitsAt part.at part.size (side_of world.now) }
     ensures rest { IsAtRest world.now.table s.new }
     ensures pinned { IsPinned s.new.view p.now }
     ensures held { s.new.view.held ≡ s.old.view.held }
@@ -81,7 +82,7 @@ fn lists(
 fn is_kept(alloc: Global, world: &World<'_>, s: &mut Session, p: &Pinned, part: Boxed) -> bool
     requires rest { IsAtRest world.now.table s.old }
     requires pinned { IsPinned s.old.view p.now }
-    requires fits { FitsAt part.at part.size (2 ^ world.now.table.plan.side) }
+    requires fits { FitsAt part.at part.size (side_of world.now) }
     ensures rest { IsAtRest world.now.table s.new }
     ensures pinned { IsPinned s.new.view p.now }
     ensures held { s.new.view.held ≡ s.old.view.held }
@@ -108,7 +109,7 @@ fn outlives<R: Wait, L: Ledger>(
     requires some { 0 < L.parts }
     requires first { IsFree world.now a.old }
     requires second { IsFree world.now b.old }
-    requires fits { FitsAt part.at part.size (2 ^ world.now.table.plan.side) }
+    requires fits { FitsAt part.at part.size (side_of world.now) }
     ensures first { IsFree world.now a.new }
     ensures second { IsFree world.now b.new }
 {
@@ -196,10 +197,8 @@ fn both_forgotten_beside<R: Wait>(
 
 #[test]
 fn a_pin_outlives_a_mark(rt: HostRuntime) -> Result<(), Fail> {
-    let models = Models {
-        list: Vec::new(rt.alloc()),
-    };
-    let (world, sessions) = world_begun(rt.alloc(), 8, 64, 256, &models, 2, 0)?;
+    let models = no_models(rt.alloc());
+    let (world, sessions) = world_begun(rt.alloc(), PLAIN, &models, 2)?;
     assert_eq!(rt;
         both_forgotten_beside(&rt, rt.alloc(), &world, sessions),
         (true, 5)

@@ -1,10 +1,11 @@
 //! Calls of two sessions of one world, one session after the other.
 ghost use Rattle.std.specs.Prelude.{All};
+ghost use Rattle.vox_read.specs.Contents.{AreModels};
 ghost use Rattle.tests_sessions.specs.Free.{IsFree};
 
 use crate::calls::Call::{Act, Count, FillOnce, Forget, Head, Same};
 use crate::calls::{Row, Told, answered};
-use crate::worlds::{AWAY, FIRST, SECOND, WHOLE, world_begun};
+use crate::worlds::{AWAY, Begun, FIRST, PLAIN, SECOND, WHOLE, no_models, world_begun};
 use gate_run::NoGate;
 use history_model::Act::{Fill, Redo, Undo};
 use history_model::Mark;
@@ -18,8 +19,8 @@ use version_log::{ForgetRefused, PinRefused, SameAt, SameRefused};
 use vox_read::Models;
 use vw_cell::{Boxed, Cell};
 
-// How many calls are right: the last session makes the first ones, and then the one before it, where
-// there is one, makes the second ones.
+// How many calls are right: the last session makes the first ones, and then the one before it,
+// where there is one, makes the second ones.
 fn rows_answered<R: Wait>(
     rt: &R,
     world: &World<'_>,
@@ -41,20 +42,18 @@ fn rows_answered<R: Wait>(
     right
 }
 
-// The same in a new world of side 8, which holds so many last versions alone, or with 0 all.
-fn answered_in<R: Wait>(
+/// The same in a new world.
+pub fn answered_in<R: Wait>(
     rt: &R,
     alloc: Global,
-    buckets: u16,
-    cap: u16,
-    keep: u32,
+    begun: Begun,
+    models: &Models,
     first: &[Row],
     second: &[Row],
-) -> Result<u32, Fail> {
-    let models = Models {
-        list: Vec::new(alloc),
-    };
-    let (world, sessions) = world_begun(alloc, 8, buckets, cap, &models, 2, keep)?;
+) -> Result<u32, Fail>
+    requires { AreModels models.now }
+{
+    let (world, sessions) = world_begun(alloc, begun, models, 2)?;
     Ok(rows_answered(rt, &world, sessions, first, second))
 }
 
@@ -76,8 +75,9 @@ const GOES_BACK: &[Row] = &[
 
 #[test]
 fn undos_have_their_answers(rt: HostRuntime) -> Result<(), Fail> {
+    let models = no_models(rt.alloc());
     assert_eq!(rt;
-        answered_in(&rt, rt.alloc(), 64, 256, 0, MAKES, GOES_BACK)?,
+        answered_in(&rt, rt.alloc(), PLAIN, &models, MAKES, GOES_BACK)?,
         9
     );
     Ok(())
@@ -147,8 +147,9 @@ const MEETS_A_MARK: &[Row] = &[
 
 #[test]
 fn a_forgotten_version_is_refused(rt: HostRuntime) -> Result<(), Fail> {
+    let models = no_models(rt.alloc());
     assert_eq!(rt;
-        answered_in(&rt, rt.alloc(), 64, 256, 0, FORGETS, MEETS_A_MARK)?,
+        answered_in(&rt, rt.alloc(), PLAIN, &models, FORGETS, MEETS_A_MARK)?,
         18
     );
     Ok(())
@@ -184,7 +185,16 @@ const FILLS_TOO: &[Row] = &[
 
 #[test]
 fn a_full_bucket_is_told(rt: HostRuntime) -> Result<(), Fail> {
-    assert_eq!(rt; answered_in(&rt, rt.alloc(), 1, 1, 0, FILLS, FILLS_TOO)?, 5);
+    let models = no_models(rt.alloc());
+    let small = Begun {
+        buckets: 1,
+        cap: 1,
+        ..PLAIN
+    };
+    assert_eq!(rt;
+        answered_in(&rt, rt.alloc(), small, &models, FILLS, FILLS_TOO)?,
+        5
+    );
     Ok(())
 }
 
@@ -258,8 +268,10 @@ const BY_HAND: Mark = Mark {
 
 #[test]
 fn the_last_versions_alone_are_held(rt: HostRuntime) -> Result<(), Fail> {
+    let models = no_models(rt.alloc());
+    let last_two = Begun { keep: 2, ..PLAIN };
     assert_eq!(rt;
-        answered_in(&rt, rt.alloc(), 64, 256, 2, FALLS_OUT, HELD_LAST)?,
+        answered_in(&rt, rt.alloc(), last_two, &models, FALLS_OUT, HELD_LAST)?,
         13
     );
     Ok(())

@@ -1,8 +1,11 @@
 //! Worlds that begin and end.
-ghost use Rattle.std.specs.Prelude.{◌≡◌, ◌≤◌, ◌^◌, [], All, IfOk, IfSome};
-ghost use Rattle.vw_cell.specs.Places.{FitsAt};
+ghost use Rattle.std.specs.Prelude.{◌≤◌, All, IfOk, IfSome};
+ghost use Rattle.vw_cell.specs.Places.{FitsAt, IsInWorld};
+ghost use Rattle.vox_read.specs.Contents.{AreModels};
+ghost use Rattle.session.specs.Seen.{side_of};
 ghost use Rattle.tests_sessions.specs.Free.{IsFree};
 
+use history_model::{Act, TintAct};
 use node_words::Plan;
 use session::{Session, World};
 use std::alloc::Global;
@@ -34,24 +37,61 @@ pub const AWAY: Boxed = Boxed {
     size: Cell { x: 1, y: 1, z: 1 },
 };
 
-/// A world of this side, with so many buckets of so many slots on each level, which holds so many
-/// last versions alone, or with 0 all, and its sessions.
+/// How a world is begun: the side of its store, so many buckets of so many slots on each level,
+/// whether its cells have tints, and how many last versions alone it holds, or 0 for all.
+#[derive(Clone, Copy)]
+pub struct Begun {
+    pub side: u32,
+    pub buckets: u16,
+    pub cap: u16,
+    pub tint: bool,
+    pub keep: u32,
+}
+
+/// A world of side 8 without tints, which holds all versions.
+pub const PLAIN: Begun = Begun {
+    side: 8,
+    buckets: 64,
+    cap: 256,
+    tint: false,
+    keep: 0,
+};
+
+/// A world of side 8 whose cells have tints.
+pub const TINTED: Begun = Begun {
+    side: 32,
+    buckets: 64,
+    cap: 256,
+    tint: true,
+    keep: 0,
+};
+
+/// No models.
+pub fn no_models(alloc: Global) -> Models
+    ensures { AreModels result }
+{
+    Models {
+        list: Vec::new(alloc),
+    }
+}
+
+/// A world that is begun so, and its sessions.
 pub fn world_begun<'m>(
     alloc: Global,
-    side: u32,
-    buckets: u16,
-    cap: u16,
+    begun: Begun,
     models: &'m Models,
     sessions: u16,
-    keep: u32,
 ) -> Result<(World<'m>, Vec<Session>), Fail>
     requires sessions { (1 ≤ sessions) × (sessions ≤ 64) }
-    requires models { models.now ≡ [] }
+    requires models { AreModels models.now }
     ensures { IfOk result (λ r. All (IsFree r.0) r.1.items) }
 {
-    let side = Side::new(side).ok_or("a side")?;
-    let plan = Plan::even(side, buckets, cap).ok_or("a plan")?;
-    match World::begin(alloc, &plan, models, sessions, keep) {
+    let side = Side::new(begun.side).ok_or("a side")?;
+    let plan = Plan::even(side, begun.buckets, begun.cap).ok_or("a plan")?;
+    if plan.side().exponent() < 4 && begun.tint {
+        return Err(Fail::from("a side"));
+    }
+    match World::begin(alloc, &plan, models, sessions, begun.tint, begun.keep) {
         Ok(world_begun) => Ok(world_begun),
         Err(_) => Err(Fail::from("memory")),
     }
@@ -59,9 +99,29 @@ pub fn world_begun<'m>(
 
 /// The box, where it lies in the world.
 pub fn within(world: &World<'_>, part: Boxed) -> Option<Boxed>
-    ensures { IfSome result (λ b. FitsAt b.at b.size (2 ^ world.now.table.plan.side)) }
+    ensures { IfSome result (λ b. FitsAt b.at b.size (side_of world.now)) }
 {
-    Boxed::new(part.at, part.size, world.plan().side())
+    if world.fits(&Act::Fill(part)) {
+        return Some(part);
+    }
+    if world.fits(&Act::Tint(TintAct::Fill(part, 1))) {
+        return Some(part);
+    }
+    None
+}
+
+/// The cell, where it lies in the world.
+pub fn cell_within(world: &World<'_>, cell: Cell) -> Option<Cell>
+    ensures { IfSome result (λ c. IsInWorld (side_of world.now) c) }
+{
+    let part = Boxed {
+        at: cell,
+        size: Cell { x: 1, y: 1, z: 1 },
+    };
+    match within(world, part) {
+        Some(part) => Some(part.at),
+        None => None,
+    }
 }
 
 /// The sessions are given up.

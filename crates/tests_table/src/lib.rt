@@ -18,6 +18,8 @@ mod tests;
 #[cfg(test)]
 mod threads;
 #[cfg(test)]
+mod tinted;
+#[cfg(test)]
 mod twins;
 #[cfg(test)]
 mod worlds;

@@ -11,7 +11,7 @@ use test_gates::Place::{After, Before};
 use transcript::{Answer, LineAnswer};
 use vox_read::Models;
 use vw_cell::Side;
-use world_run::{ScriptsRun, WorldRan, run_scripts};
+use world_run::{ScriptsRun, Settings, WorldRan, run_scripts};
 
 // What two scripts give.
 #[derive(Drop)]
@@ -35,7 +35,11 @@ fn run<R: Threads + Wait + Sync, G: Gate + Sync>(
     };
     let one = read_script(alloc, first, side, &models, false).map_err(|_| "a script")?;
     let two = read_script(alloc, second, side, &models, false).map_err(|_| "a script")?;
-    let run = run_scripts(rt, gate, alloc, &plan, &models, &[one, two], 0).map_err(
+    let settings = Settings {
+        tint: false,
+        keep: 0,
+    };
+    let run = run_scripts(rt, gate, alloc, &plan, &models, &[one, two], settings).map_err(
         |_| "no memory",
     )?;
     let ScriptsRun {

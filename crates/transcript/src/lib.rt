@@ -1,4 +1,7 @@
-//! The answers to a script's commands, and their text.
+//! The answers to a script's commands, and their text: it is written and read back in one form.
+//!
+//! It touches no world: an answer is a value here. The words of each are in `specs/Lines.antt`,
+//! what a refused text says of itself in `specs/Refusals.antt`.
 #![tactic(auto)]
 
 mod answers;

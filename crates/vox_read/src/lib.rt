@@ -1,4 +1,7 @@
 //! Models of MagicaVoxel's VOX files, and the number of their cells.
+//!
+//! It reads bytes and keeps voxels; the frame of the chunks is `vox_chunk`'s. What a file says is
+//! in `specs/Files.antt`, and which places of a model are cells in `specs/Contents.antt`.
 #![tactic(auto)]
 
 mod collecting;

@@ -1,11 +1,11 @@
 -- The sides that a run's words can name.
-use Rattle.std.proofs.Common.{◌≡◌, ℕ, zero, suc, ◌^◌, ◌≤◌, Bool, true, false, if◌then◌else◌, List, [], ◌∷◌, Option, Some, None, refl, sym, subst, arith}
-use Rattle.std.specs.Prelude.{IsSome, IfSome, IsTrue, ◌↔◌, ◌==◌, ◌||◌}
+use Rattle.std.proofs.Common.{◌≡◌, ℕ, zero, suc, ◌^◌, ◌<◌, ◌≤◌, Bool, true, false, if◌then◌else◌, List, [], ◌∷◌, Option, Some, None, refl, sym, subst, arith}
+use Rattle.std.specs.Prelude.{IsSome, IfSome, IsTrue, ◌↔◌, ◌*◌, ◌==◌, ◌||◌, nat_le}
 use Rattle.std.specs.List.{list_any}
-use Rattle.std.proofs.lemmas.Bool.{eqb-true}
+use Rattle.std.proofs.lemmas.Bool.{eqb-true, leb-true}
 use lib.Pow.{pow_mono}
 use Rattle.vw_cell.specs.Sides.{sides, is_side}
-use Rattle.voxdag_top.specs.Words.{exponent_of}
+use Rattle.voxdag_top.specs.Words.{exponent_of, store_of}
 
 -- the numbers of these that are n are at most 4,096
 abbrev AreLow : List ℕ → Type 0
@@ -67,3 +67,26 @@ pub side_made : (r : Option ℕ) (n : ℕ) → (IsSome r ↔ IsTrue (is_side n))
 side_made None n exactly value = sym (none_made (4 == n) (8 == n) (16 == n) (32 == n) (64 == n) (128 == n) (256 == n) (512 == n) (1024 == n) (2048 == n) (4096 == n) _ (λ is. (let some = exactly.1 is in let no : ⊥ = cc in no)))
 side_made (Some s) n exactly value =
     subst (λ (m : ℕ). Some s ≡ exponent_of m) value (power_made s (subst (λ (m : ℕ). IsTrue (is_side m)) (sym value) (exactly.0 refl)))
+
+-- ---- four times a side
+
+pub fourfold_made : (s : ℕ) → 2 ≤ s → s ≤ 10 → exponent_of (2 ^ s * 4) ≡ store_of true s
+fourfold_made zero low high = absurd (omega (arith, low))
+fourfold_made (suc zero) low high = absurd (omega (arith, low))
+fourfold_made (suc (suc zero)) low high = refl
+fourfold_made (suc (suc (suc zero))) low high = refl
+fourfold_made (suc (suc (suc (suc zero)))) low high = refl
+fourfold_made (suc (suc (suc (suc (suc zero))))) low high = refl
+fourfold_made (suc (suc (suc (suc (suc (suc zero)))))) low high = refl
+fourfold_made (suc (suc (suc (suc (suc (suc (suc zero))))))) low high = refl
+fourfold_made (suc (suc (suc (suc (suc (suc (suc (suc zero)))))))) low high = refl
+fourfold_made (suc (suc (suc (suc (suc (suc (suc (suc (suc zero))))))))) low high = refl
+fourfold_made (suc (suc (suc (suc (suc (suc (suc (suc (suc (suc zero)))))))))) low high = refl
+fourfold_made (suc (suc (suc (suc (suc (suc (suc (suc (suc (suc (suc s))))))))))) low high = absurd (omega (arith, high))
+
+pub fourfold_none : (s : ℕ) → 10 < s → None ≡ store_of true s
+fourfold_none s over = let no : nat_le s 10 ≡ false = go (nat_le s 10) refl in rw no refl
+  where
+    go : (b : Bool) → nat_le s 10 ≡ b → nat_le s 10 ≡ false
+    go true is = absurd (let few : s ≤ 10 = leb-true s 10 is in omega (arith, few, over))
+    go false is = is

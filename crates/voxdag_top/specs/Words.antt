@@ -1,5 +1,5 @@
 -- The words after the program's name, and what they ask for.
-use Rattle.std.specs.Prelude.{ℕ, ◌^◌, ◌==◌, ◌&&◌, not, nat_le, if◌then◌else◌, List, [], ◌∷◌, Bool, find, length, replicate, Option, Some, None, Result, Ok, Err, codes}
+use Rattle.std.specs.Prelude.{ℕ, ◌^◌, ◌==◌, ◌&&◌, not, nat_le, if◌then◌else◌, List, [], ◌∷◌, Bool, true, false, find, length, replicate, Option, Some, None, Result, Ok, Err, codes}
 use Rattle.std.specs.List.{list_all}
 use Rattle.std.specs.Str.{bytes_eq}
 use Rattle.script.specs.declared.faults.ScriptKind.{ScriptKind}
@@ -7,6 +7,7 @@ use Rattle.script.specs.Numbers.{number_of}
 use Rattle.node_words.specs.Plans.{Layout, is_number_of_buckets, is_cap, usual_buckets}
 use Rattle.command_line.specs.Parts.{LineTexts, is_operand, parts_of, line_texts, are_of_a_run}
 use Rattle.script_files.specs.Orders.{number_of_buckets}
+use Rattle.history_model.specs.Logs.{store_exponent}
 use Rattle.history_model.specs.declared.questions.Question.{Question}
 use Rattle.voxdag_top.specs.Questions.{question_in}
 use Rattle.script_files.specs.declared.requests.Request.{Request}
@@ -40,7 +41,8 @@ plan_for side (Some buckets) cap =
 
 -- ---- the words of `run`
 
--- the exponent of the side that a run's words tell: 8, that of a side of 256, where they give none
+-- the exponent of the world's side that a run's words tell: 8, that of a side of 256, where they
+-- give none
 abbrev pub side_of : Option ℕ → Option ℕ
 side_of None = None
 side_of (Some n) = exponent_of n
@@ -48,6 +50,16 @@ side_of (Some n) = exponent_of n
 abbrev pub side_told : Option (List ℕ) → Option ℕ
 side_told None = Some 8
 side_told (Some word) = side_of (short_number word)
+
+-- the exponent of the side of the store that keeps a world of this side, whose cells have tints or
+-- not: with tints the store has four times the side, so that the world's is 1,024 at most
+abbrev pub store_of : Bool → ℕ → Option ℕ
+store_of false side = Some side
+store_of true side = if nat_le side 10 then Some (store_exponent true side) else None
+
+abbrev pub store_told : Bool → Option ℕ → Option ℕ
+store_told tint None = None
+store_told tint (Some side) = store_of tint side
 
 -- the cap is 128 where the words give none
 abbrev pub cap_told : Option (List ℕ) → Option ℕ
@@ -68,7 +80,8 @@ plan_told (Some side) buckets (Some cap) = plan_by side buckets cap
 plan_told side buckets cap = None
 
 abbrev pub plan_in : LineTexts → Option Layout
-plan_in line = plan_told (side_told line.side) line.buckets (cap_told line.cap)
+plan_in line =
+    plan_told (store_told line.colours (side_told line.side)) line.buckets (cap_told line.cap)
 
 -- how many last versions alone are held: from 1 to 65,535, and all, told by 0, where the words give
 -- no number of them
@@ -85,6 +98,7 @@ abbrev pub run_named : Layout → ℕ → LineTexts → List (List ℕ) → Opti
 run_named plan keep line [] = None
 run_named plan keep line (file ∷ scripts) = Some (Run (record {
   plan = plan;
+  tint = line.colours;
   keep = keep;
   journal = line.journal;
   report = line.report;
@@ -233,7 +247,7 @@ look_words _ = None
 -- `flood FILE m x y z OUT`; `scene FILE OUT SCRIPT`; `dag FILE JOURNAL OUT`;
 -- `look DAG v` and a question; `audit [--buckets b] [--keep k] FILE JOURNAL SCRIPT ..`;
 -- or `run`, and behind it in any order FILE SCRIPT .. and at most once each `--side s`,
--- `--buckets b`, `--cap c`, `--keep k`, `--journal J` and `--report P`
+-- `--buckets b`, `--cap c`, `--keep k`, `--journal J`, `--report P` and `--colours`
 abbrev pub named_request : List ℕ → List (List ℕ) → Option Request
 named_request command others =
     if bytes_eq command (codes "count") then counted others

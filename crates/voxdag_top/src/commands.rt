@@ -30,7 +30,8 @@ use vw_io::{Shelf, Sink};
 /// at most once, may stand options, as `--side s` or `--side=s`: the world has the side `s`, 4 to
 /// 4,096 and 256 without this option; its store has `--buckets b` of `--cap c` slots on each level,
 /// 1 to 4,096 and 1 to 256; with `--keep k` the last k versions alone are held, 1 to 65,535;
-/// `--journal J` and `--report P` are written too. A VOX file has at most 256 MiB, a script 8 MiB.
+/// `--journal J` and `--report P` are written too; with `--colours` each cell has a tint from 0 to
+/// 255, and the world a side of 1,024 at most. A VOX file has at most 256 MiB, a script 8 MiB.
 /// `demo N` runs the load that the number N of 1 to 6 digits makes, writes `demo.0.out` to
 /// `demo.3.out` and `demo.journal`, and puts N, the number of records, and how many cells each
 /// region had when its script counted them.

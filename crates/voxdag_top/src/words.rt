@@ -4,7 +4,7 @@ ghost use Rattle.std.specs.Option.{option_map};
 ghost use Rattle.command_line.specs.Texts.{texts};
 ghost use Rattle.command_line.specs.Parts.{is_operand};
 ghost use Rattle.script_files.specs.Commands.{scripts_asked};
-ghost use Rattle.voxdag_top.specs.Words.{request_of, run_texts, line_of, named_request, counted, run_asked, run_planned, demo_of, flood_words, scene_words, dag_words, look_words, audit_words, audit_unjudged, audit_of, audit_by, audit_judged, audit_kept, buckets_of, is_number_of_scripts, demo_words, exponent_of, short_number, keep_of, keep_told, plan_for, side_of, side_told, cap_told, plan_with, plan_by, plan_told, plan_in};
+ghost use Rattle.voxdag_top.specs.Words.{request_of, run_texts, line_of, named_request, counted, run_asked, run_planned, demo_of, flood_words, scene_words, dag_words, look_words, audit_words, audit_unjudged, audit_of, audit_by, audit_judged, audit_kept, buckets_of, is_number_of_scripts, demo_words, exponent_of, short_number, keep_of, keep_told, plan_for, side_of, side_told, store_of, store_told, cap_told, plan_with, plan_by, plan_told, plan_in};
 
 use crate::questions::question_in;
 use command_line::{Line, are_of_a_run, is_operand, split};
@@ -132,6 +132,7 @@ fn run_planned<'w>(plan: Option<Plan>, keep: Option<u32>, line: &'w Line<'w>) ->
         [file, scripts @ ..] => {
             let order = Order {
                 plan,
+                tint: line.colours,
                 keep,
                 journal: line.journal,
                 report: line.report,
@@ -377,7 +378,8 @@ fn looked(words: &[String]) -> Option<Request<'_>>
 fn plan_in(line: &Line<'_>) -> Option<Plan>
     ensures { result ≡ plan_in line.now }
 {
-    plan_told(side_told(line.side), line.buckets, cap_told(line.cap))
+    let side = store_told(line.colours, side_told(line.side));
+    plan_told(side, line.buckets, cap_told(line.cap))
 }
 
 fn side_told(word: Option<&str>) -> Option<Side>
@@ -387,6 +389,32 @@ fn side_told(word: Option<&str>) -> Option<Side>
         None => side_with(256),
         Some(word) => side_of(word),
     }
+}
+
+// The side of the store that keeps a world of this side.
+fn store_told(tint: bool, side: Option<Side>) -> Option<Side>
+    ensures { result ≡ store_told tint side }
+{
+    match side {
+        None => None,
+        Some(side) => store_of(tint, side),
+    }
+}
+
+fn store_of(tint: bool, side: Side) -> Option<Side>
+    ensures { result ≡ store_of tint side }
+{
+    if tint { fourfold(side) } else { Some(side) }
+}
+
+// Four times the side, where that is one.
+fn fourfold(side: Side) -> Option<Side>
+    ensures { result ≡ store_of true side }
+{
+    if side.exponent() > 10 {
+        return None;
+    }
+    side_with(side.cells() * 4)
 }
 
 fn cap_told(word: Option<&str>) -> Option<u32>

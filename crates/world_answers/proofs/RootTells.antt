@@ -31,14 +31,14 @@ world_within (suc zero) = omega arith
 world_within (suc (suc n)) = (let same : 2 ^ (suc (suc n)) ≡ block_side n = root_side n (suc (suc n)) (omega arith) (omega arith) in let level : suc (suc n) - 2 ≡ n = omega arith in let sides : block_side (suc (suc n) - 2) ≡ block_side n = ap block_side level in omega arith)
 
 module _ (held : List Tree) (side : ℕ) (root : Option Name) where
-  root_block : (w : World) (s : ShowsWorld held (side - 2) root w) → IsBlockOf held (side - 2) root s.tree
+  pub root_block : (w : World) (s : ShowsWorld held (side - 2) root w) → IsBlockOf held (side - 2) root s.tree
   root_block w s = record { root = s.is_root.root; reached = λ n e. held_reached held s.tree (s.is_root.is_held n e); of_level = s.is_root.at }
 
   from_origin : (x : ℕ) → x - 0 ≡ x
   from_origin x = omega arith
 
   -- the cells of the root are those of a world that it shows
-  root_same : (w : World) (s : ShowsWorld held (side - 2) root w) → SameWorld (2 ^ side) (cells_of (side - 2) (shape_of s.tree)) w
+  pub root_same : (w : World) (s : ShowsWorld held (side - 2) root w) → SameWorld (2 ^ side) (cells_of (side - 2) (shape_of s.tree)) w
   root_same w s = record {
     each = λ q i.
         let x = i.x in let y = i.y in let z = i.z in

@@ -16,7 +16,7 @@ use Rattle.history_model.specs.Worlds.{World}
 use Rattle.one_store.specs.Versions.{SameWorld}
 
 -- what counts only where a test passes
-where_passed : (test x y : Bool) → (test ≡ true → x ≡ y) → (test && x) ≡ (test && y)
+pub where_passed : (test x y : Bool) → (test ≡ true → x ≡ y) → (test && x) ≡ (test && y)
 where_passed true x y same = same refl
 where_passed false x y same = refl
 

@@ -2,9 +2,10 @@
 //! read, and answered in a transcript's terms.
 #![tactic(auto)]
 
-ghost use Rattle.std.specs.Prelude.{◌≡◌, ◌^◌, option_copied};
+ghost use Rattle.std.specs.Prelude.{◌≡◌, ◌^◌, true, option_copied};
 ghost use Rattle.block_walk.specs.Roots.{HoldsRoot};
 ghost use Rattle.conformance.specs.Fitting.{QuestionFits};
+ghost use Rattle.conformance.specs.Kinds.{is_resting};
 ghost use Rattle.sums.specs.Sums.{one_if};
 ghost use Rattle.world_answers.specs.TellsRoots.{TellsRoot};
 
@@ -17,6 +18,9 @@ use vw_cell::Side;
 
 #[cfg(test)]
 mod tests;
+mod tinted;
+
+pub use tinted::tell_tinted;
 
 /// Answers what is asked of the root's world, the empty one where there is no root.
 pub fn tell<B: Blocks>(
@@ -29,6 +33,7 @@ pub fn tell<B: Blocks>(
     requires fits { QuestionFits (2 ^ side) question }
     ensures tells { TellsRoot (B.seen store.old).held side (option_copied root.entry) question
         result }
+    ensures resting { is_resting result ≡ true }
     ensures seen { B.seen store.new ≡ B.seen store.old }
     ensures rests { B.rests store.old store.new }
 {

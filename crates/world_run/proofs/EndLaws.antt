@@ -1,6 +1,6 @@
 -- What a closed world tells, by version and by level.
 use Rattle.std.proofs.Common.{◌≡◌, ℕ, ◌+◌, ◌-◌, ◌≤◌, ◌^◌, Option, List, [], ◌∷◌, ◌++◌, take, refl, sym, ◌∙◌, ap, subst, arith, append_assoc}
-use Rattle.std.specs.Prelude.{All, Result, Ok, Err, IfOk}
+use Rattle.std.specs.Prelude.{All, Bool, Result, Ok, Err, IfOk}
 use Rattle.std.proofs.lemmas.List.{map_push}
 use Rattle.std.proofs.lemmas.List.Elements.{All-head}
 use Rattle.history_model.specs.Logs.{Log, IsLegal}
@@ -49,9 +49,11 @@ module _ (t : TableSeen) (closed : Closed) (low : 2 ≤ t.plan.side) (high : t.p
       subst (λ (ns : List ℕ). AreNumbers t.models closed.history ns) same
       (closed_tells t closed low high ends).are_numbers
 
-  pub is_end : IsEndOf t.models closed.history closed
-  is_end = record {
+  pub is_end : (tint : Bool) → closed.history.coloured ≡ tint
+      → IsEndOf tint t.models closed.history closed
+  is_end tint coloured = record {
     history = refl;
+    coloured = coloured;
     numbers = numbers_are (take (top closed.history.side + 1) closed.live)
         (top closed.history.side) (ap (λ (s : ℕ). s - 2) side_is) refl;
   }
@@ -81,11 +83,13 @@ first_of {X} P x xs ys is all = All-head P x xs (subst (λ (zs : List X). All P 
 
 module _ {E : Type 0} (t : TableSeen) (closed : Closed) (low : 2 ≤ t.plan.side)
     (high : t.plan.side ≤ 12) (ends : EndsTable t closed) where
-  pub ran_ends : (result : Result WorldRan E) → IfOk result (λ r. r.ended ≡ closed)
-      → IfOk result (λ r. IsEndOf t.models r.ended.history r.ended)
-  ran_ends (Ok r) same = subst (λ (c : Closed). IsEndOf t.models c.history c) (sym same)
-      (is_end t closed low high ends)
-  ran_ends (Err e) same = tt
+  pub ran_ends : (tint : Bool) → closed.history.coloured ≡ tint → (result : Result WorldRan E)
+      → IfOk result (λ r. r.ended ≡ closed)
+      → IfOk result (λ r. IsEndOf tint t.models r.ended.history r.ended)
+  ran_ends tint coloured (Ok r) same =
+      subst (λ (c : Closed). IsEndOf tint t.models c.history c) (sym same)
+      (is_end t closed low high ends tint coloured)
+  ran_ends tint coloured (Err e) same = tt
 
   pub ran_roots : (result : Result WorldRan E) → IfOk result (λ r. r.ended ≡ closed)
       → IfOk result (λ r. (v : ℕ) → listed_root r.roots.items v ≡ root_in closed.roots.items v)

@@ -1,4 +1,4 @@
-mod Accepting
+pub mod Accepting
 mod EndLaws
 mod KeptLaws
 mod OpenLaws

@@ -1,6 +1,6 @@
 -- One session of an open run makes a file, and all is saved as before.
 use Rattle.std.proofs.Common.{◌≡◌, ℕ, zero, suc, ◌<◌, ◌≤◌, ◌^◌, Some, Option, List, [], ◌∷◌, ◌++◌, length, get_or, set, sym, ◌∙◌, ap, subst, arith, inl, inr, true}
-use Rattle.std.specs.Prelude.{All, map, Result, Ok, Err, IfOk}
+use Rattle.std.specs.Prelude.{All, Bool, map, Result, Ok, Err, IfOk}
 use Rattle.std.specs.declared.vec.Vec.{Vec}
 use Rattle.std.specs.List.{slice_get}
 use Rattle.std.specs.Option.{option_map}
@@ -8,7 +8,8 @@ use Rattle.std.proofs.lemmas.List.{length-map}
 use Rattle.std.proofs.lemmas.Option.{get_or_from_slice_get, same_Some, slice_get-get_or, slice_get-map, slice_get_cases}
 use Rattle.vox_read.specs.Contents.{Content}
 use Rattle.script.specs.Placing.{is_save_name}
-use Rattle.session.specs.Saved.{file_of_box}
+use Rattle.history_model.specs.Logs.{kept_side}
+use Rattle.session.specs.Roots.{file_kept}
 use Rattle.history_model.specs.Stores.{store_has}
 use Rattle.node_words.specs.Held.{Seen}
 use Rattle.node_table.specs.Seen.{TableSeen, PassSeen}
@@ -24,15 +25,15 @@ use Rattle.session_runs.specs.Seen.{SessionSeen}
 use Rattle.session.specs.Lendable.{StaysLendable}
 use Rattle.session.specs.Resting.{IsAtRest}
 use Rattle.session.specs.Saves.{HoldsPins, HoldsSaves, pinned_versions}
-use Rattle.session.specs.Seen.{log_seen, session_seen}
+use Rattle.session.specs.Seen.{WorldSeen, log_seen, session_seen}
 use Rattle.world_run.specs.declared.open_runs.SavedSession.{SavedSession}
 use Rattle.world_run.specs.declared.open_runs.SavePlace.{SavePlace}
 use Rattle.world_run.specs.Open.{HasSave, IsSaved, RunState, SavesAt, kept_in, saved_file, saved_seen}
 
 -- there are as many pins as saves
-pub pins_of_saves : (t : TableSeen) (s : SavedSession) → IsSaved t s
+pub pins_of_saves : (tint : Bool) (t : TableSeen) (s : SavedSession) → IsSaved tint t s
     → length s.pins.items ≡ length s.saves.items
-pins_of_saves t s saved =
+pins_of_saves tint t s saved =
     sym (length-map s.pins.items (λ p. p.version)) ∙ ap length saved.versions
     ∙ length-map s.saves.items (λ b. b.version)
 
@@ -69,11 +70,12 @@ still_rests t old new rest stays = record {
   dated = subst (λ (l : LogView). IsDated l.seen) (sym stays.log) rest.dated;
 }
 
-pub still_saved : (t : TableSeen) (old new : SavedSession) → IsSaved t old → new.saves ≡ old.saves
+pub still_saved : (tint : Bool) (t : TableSeen) (old new : SavedSession) → IsSaved tint t old
+    → new.saves ≡ old.saves
     → new.pins ≡ old.pins → StaysLendable t old.session new.session
     → seen_of new.session.view ≡ seen_of old.session.view
-    → IsSaved t new
-still_saved t old new saved saves pins stays seen =
+    → IsSaved tint t new
+still_saved tint t old new saved saves pins stays seen =
     let same = same_seen old.session.view new.session.view stays.log seen in
     let boxes : new.saves.items ≡ old.saves.items = ap (λ v. v.items) saves in
     let kept : new.pins.items ≡ old.pins.items = ap (λ v. v.items) pins in
@@ -85,7 +87,8 @@ still_saved t old new saved saves pins stays seen =
           (subst (λ (s : Seen). HoldsSaves t (session_seen old.session.view) s.held old.pins.items)
           (sym seen) saved.holds));
       versions = ap pinned_versions kept ∙ saved.versions ∙ ap versions_of (sym boxes);
-      fit = subst (λ (bs : List SavedBox). All (λ b. SaveFits (2 ^ t.plan.side) b.name b.part) bs)
+      fit = subst (λ (bs : List SavedBox). All
+          (λ b. SaveFits (kept_side tint (2 ^ t.plan.side)) b.name b.part) bs)
           (sym boxes) saved.fit;
       few = subst (λ (bs : List SavedBox). length bs ≤ 1024) (sym boxes) saved.few;
     }
@@ -93,9 +96,10 @@ still_saved t old new saved saves pins stays seen =
 -- ---- the file of a save
 
 -- a pin has the version of its save
-pin_version : (t : TableSeen) (s : SavedSession) (k : ℕ) (p : Pinned) (b : SavedBox) → IsSaved t s
+pin_version : (tint : Bool) (t : TableSeen) (s : SavedSession) (k : ℕ) (p : Pinned) (b : SavedBox)
+    → IsSaved tint t s
     → slice_get s.pins.items k ≡ Some p → slice_get s.saves.items k ≡ Some b → p.version ≡ b.version
-pin_version t s k p b saved of here =
+pin_version tint t s k p b saved of here =
     same_Some p.version b.version
     (ap (λ (q : Option Pinned). option_map (λ x. x.version) q) (sym of)
     ∙ sym (slice_get-map (λ (x : Pinned). x.version) s.pins.items k)
@@ -103,38 +107,47 @@ pin_version t s k p b saved of here =
     ∙ slice_get-map (λ (x : SavedBox). x.version) s.saves.items k
     ∙ ap (λ (q : Option SavedBox). option_map (λ x. x.version) q) here)
 
-one_file : (t : TableSeen) (s : SavedSession) (k : ℕ) (at : SavedBox) (file : List ℕ) → IsSaved t s
+one_file : (tint : Bool) (t : TableSeen) (s : SavedSession) (k : ℕ) (at : SavedBox)
+    (file : List ℕ) → IsSaved tint t s
     → k < length s.saves.items → at ≡ get_or s.saves.items k at
     → ((p : Pinned) → slice_get s.pins.items k ≡ Some p → file
-    ≡ file_of_box at.part (store_has t.models (log_seen s.session.view.log) p.version))
+    ≡ file_kept tint t.plan.side at.part
+    (store_has t.models (log_seen s.session.view.log) p.version))
     → (b : SavedBox) → slice_get s.saves.items k ≡ Some b
-    → file ≡ saved_file t.models (kept_at (log_seen s.session.view.log) b)
-one_file t s k at file saved lt is told b here =
+    → file ≡ saved_file tint t.models (kept_at (log_seen s.session.view.log) b)
+one_file tint t s k at file saved lt is told b here =
     let same : at ≡ b = is ∙ get_or_from_slice_get s.saves.items k b at here in
     elim (slice_get_cases s.pins.items k).1 [
       | inl (p, within, of, read) ↦
           told p of
           ∙ ap
-          (λ (x : SavedBox). file_of_box x.part
+          (λ (x : SavedBox). file_kept tint t.plan.side x.part
           (store_has t.models (log_seen s.session.view.log) p.version)) same
-          ∙ ap (λ (v : ℕ). file_of_box b.part (store_has t.models (log_seen s.session.view.log) v))
-          (pin_version t s k p b saved of here)
-      | inr (past, none) ↦ absurd (let many = pins_of_saves t s saved in omega arith)
+          ∙ ap
+          (λ (v : ℕ). file_kept tint t.plan.side b.part
+          (store_has t.models (log_seen s.session.view.log) v))
+          (pin_version tint t s k p b saved of here)
+          ∙ ap
+          (λ (n : ℕ). file_kept tint n b.part
+          (store_has t.models (log_seen s.session.view.log) b.version)) (sym saved.rest.side)
+      | inr (past, none) ↦ absurd (let many = pins_of_saves tint t s saved in omega arith)
     ]
 
-pub file_told : {E Z : Type 0} (t : TableSeen) (s : SavedSession) (k : ℕ) (at : SavedBox)
-    (pins : List Pinned) (result : Result (Vec ℕ Z) E) → IsSaved t s → k < length s.saves.items
+pub file_told : {E Z : Type 0} (tint : Bool) (t : TableSeen) (s : SavedSession) (k : ℕ)
+    (at : SavedBox)
+    (pins : List Pinned) (result : Result (Vec ℕ Z) E) → IsSaved tint t s → k < length s.saves.items
     → at ≡ get_or s.saves.items k at → pins ≡ s.pins.items
     → IfOk result
     (λ file. (p : Pinned) → slice_get pins k ≡ Some p → file.items
-    ≡ file_of_box at.part (store_has t.models (log_seen s.session.view.log) p.version))
+    ≡ file_kept tint t.plan.side at.part
+    (store_has t.models (log_seen s.session.view.log) p.version))
     → IfOk result
     (λ file. (b : SavedBox) → slice_get s.saves.items k ≡ Some b → file.items
-    ≡ saved_file t.models (kept_at (session_seen s.session.view).log b))
-file_told t s k at pins (Ok file) saved lt is of told =
-    one_file t s k at file.items saved lt is
+    ≡ saved_file tint t.models (kept_at (session_seen s.session.view).log b))
+file_told tint t s k at pins (Ok file) saved lt is of told =
+    one_file tint t s k at file.items saved lt is
     (λ p here. told p (ap (λ (ps : List Pinned). slice_get ps k) of ∙ here))
-file_told t s k at pins (Err e) saved lt is of told = tt
+file_told tint t s k at pins (Err e) saved lt is of told = tt
 
 -- ---- a session in its place
 
@@ -164,11 +177,16 @@ kept_set (s ∷ sessions) (suc i) old new lt is seen saves =
     ap (λ (ks : List KeptSave). map (kept_at (log_seen s.session.view.log)) s.saves.items ++ ks)
     (kept_set sessions i old new (omega arith) is seen saves)
 
-abbrev pub run_of : TableSeen → List SessionSeen → List KeptSave → RunState
-run_of w sessions kept =
-    record { plan = w.plan; models = w.models; sessions = sessions; kept = kept }
+abbrev pub run_of : WorldSeen → List SessionSeen → List KeptSave → RunState
+run_of w sessions kept = record {
+  plan = w.table.plan;
+  tint = w.tint;
+  models = w.table.models;
+  sessions = sessions;
+  kept = kept;
+}
 
-pub run_same : (w : TableSeen) (sessions more : List SavedSession)
+pub run_same : (w : WorldSeen) (sessions more : List SavedSession)
     → saved_seen more ≡ saved_seen sessions → kept_in more ≡ kept_in sessions
     → run_of w (saved_seen more) (kept_in more) ≡ run_of w (saved_seen sessions) (kept_in sessions)
 run_same w sessions more seen kept =
@@ -194,37 +212,41 @@ module _ (sessions : List SavedSession) (k : ℕ) (p : SavePlace) (s : SavedSess
         (slice_get-get_or s.saves.items p.save b save_less ∙ ap Some (sym at));
   }
 
-  pub save_named : (t : TableSeen) (b : SavedBox) → All (IsSaved t) sessions
+  pub save_named : (tint : Bool) (t : TableSeen) (b : SavedBox) → All (IsSaved tint t) sessions
       → b ≡ get_or s.saves.items p.save b → is_save_name b.name ≡ true
-  save_named t b all at =
-      let saved : IsSaved t s =
-      subst (λ (z : SavedSession). IsSaved t z) (sym of) (all p.session s has.session) in
+  save_named tint t b all at =
+      let saved : IsSaved tint t s =
+      subst (λ (z : SavedSession). IsSaved tint t z) (sym of) (all p.session s has.session) in
       let fits = saved.fit p.save b save_less in
       ap (λ (x : SavedBox). is_save_name x.name) at ∙ fits.is_name
 
-  one_run_file : (t : TableSeen) (models : List Content) (kept : List KeptSave) (file : List ℕ)
-      → kept ≡ kept_in sessions → models ≡ t.models
+  one_run_file : (tint : Bool) (t : TableSeen) (asked : Bool) (models : List Content)
+      (kept : List KeptSave) (file : List ℕ)
+      → kept ≡ kept_in sessions → asked ≡ tint → models ≡ t.models
       → ((b : SavedBox) → slice_get s.saves.items p.save ≡ Some b → file
-      ≡ saved_file t.models (kept_at (log_seen s.session.view.log) b)) → (q : KeptSave)
-      → slice_get kept k ≡ Some q → file ≡ saved_file models q
-  one_run_file t models kept file is same told q at =
+      ≡ saved_file tint t.models (kept_at (log_seen s.session.view.log) b)) → (q : KeptSave)
+      → slice_get kept k ≡ Some q → file ≡ saved_file asked models q
+  one_run_file tint t asked models kept file is alike same told q at =
       elim (slice_get_cases s.saves.items p.save).1 [
         | inl (b, within, here, read) ↦
             told b here
-            ∙ ap (λ (x : KeptSave). saved_file t.models x)
+            ∙ ap (λ (x : KeptSave). saved_file tint t.models x)
             (same_Some (kept_at (log_seen s.session.view.log) b) q
             (sym ((has.each s session_at).1 b here)
             ∙ sym (ap (λ (ks : List KeptSave). slice_get ks k) is) ∙ at))
-            ∙ ap (λ (ms : List Content). saved_file ms q) (sym same)
+            ∙ ap (λ (ms : List Content). saved_file tint ms q) (sym same)
+            ∙ ap (λ (b : Bool). saved_file b models q) (sym alike)
         | inr (past, none) ↦ absurd (let less = save_less in omega arith)
       ]
 
-  pub run_file : {E Z : Type 0} (t : TableSeen) (models : List Content) (kept : List KeptSave)
-      (result : Result (Vec ℕ Z) E) → kept ≡ kept_in sessions → models ≡ t.models
+  pub run_file : {E Z : Type 0} (tint : Bool) (t : TableSeen) (asked : Bool)
+      (models : List Content) (kept : List KeptSave)
+      (result : Result (Vec ℕ Z) E) → kept ≡ kept_in sessions → asked ≡ tint → models ≡ t.models
       → IfOk result
       (λ file. (b : SavedBox) → slice_get s.saves.items p.save ≡ Some b → file.items
-      ≡ saved_file t.models (kept_at (session_seen s.session.view).log b))
+      ≡ saved_file tint t.models (kept_at (session_seen s.session.view).log b))
       → IfOk result
-      (λ file. (q : KeptSave) → slice_get kept k ≡ Some q → file.items ≡ saved_file models q)
-  run_file t models kept (Ok file) is same told = one_run_file t models kept file.items is same told
-  run_file t models kept (Err e) is same told = tt
+      (λ file. (q : KeptSave) → slice_get kept k ≡ Some q → file.items ≡ saved_file asked models q)
+  run_file tint t asked models kept (Ok file) is alike same told =
+      one_run_file tint t asked models kept file.items is alike same told
+  run_file tint t asked models kept (Err e) is alike same told = tt

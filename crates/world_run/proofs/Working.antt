@@ -1,6 +1,6 @@
 -- Works that are given out, done and taken in.
 use Rattle.std.proofs.Common.{◌≡◌, ℕ, suc, ◌+◌, ◌<◌, ◌≤◌, ◌^◌, Some, List, [], ◌∷◌, ◌++◌, length, take, drop, get_or, refl, sym, ◌∙◌, ap, subst, arith, append-nil, append_assoc}
-use Rattle.std.specs.Prelude.{All, map, vec_capacity}
+use Rattle.std.specs.Prelude.{All, Bool, map, vec_capacity}
 use Rattle.std.specs.List.{AllZip, slice_get}
 use Rattle.std.proofs.lemmas.List.{drop_more, length-take-le, map-append, take_more}
 use Rattle.std.proofs.lemmas.Option.{slice_get-get_or}
@@ -8,6 +8,7 @@ use Rattle.std.proofs.lemmas.List.Elements.{All-append, All-cons, All-nil}
 use Rattle.atomic_table.specs.Seated.{TableId}
 use Rattle.gate_run.specs.Runs.{RanEach}
 use Rattle.vox_read.specs.Contents.{Content}
+use Rattle.history_model.specs.Logs.{kept_side}
 use Rattle.node_shapes.specs.Shape.{Shape}
 use Rattle.node_words.specs.Held.{Wanted}
 use Rattle.node_words.specs.Plans.{Layout}
@@ -205,62 +206,69 @@ all_done t first (s ∷ scripts) (o ∷ old) (n ∷ new) are number each = (
 
 -- ---- works that are taken in
 
-pub one_more_ran : (keep : ℕ) (p : Layout) (models : List Content) (first : ℕ)
+pub one_more_ran : (keep : ℕ) (tint : Bool) (p : Layout) (models : List Content) (first : ℕ)
     (scripts : List (List ScriptLine)) (transcripts : List (List LineAnswer))
     (sessions : List SessionSeen) (script : List ScriptLine) (answers : List LineAnswer)
     (s : SessionSeen)
-    → SessionsRanKeeping keep p models first scripts transcripts sessions
+    → SessionsRanKeeping keep tint p models first scripts transcripts sessions
     → SessionRan
-    (session_keeping keep p models (first + length scripts)) script answers none_noted s
-    → SessionsRanKeeping keep p models first (scripts ++ script ∷ []) (transcripts ++ answers ∷ [])
+    (session_keeping keep tint p models (first + length scripts)) script answers none_noted s
+    → SessionsRanKeeping keep tint p models first (scripts ++ script ∷ [])
+    (transcripts ++ answers ∷ [])
     (sessions ++ s ∷ [])
-one_more_ran keep p models first [] [] [] script answers s ran one = (
-  subst (λ (n : ℕ). SessionRan (session_keeping keep p models n) script answers none_noted s)
+one_more_ran keep tint p models first [] [] [] script answers s ran one = (
+  subst (λ (n : ℕ). SessionRan (session_keeping keep tint p models n) script answers none_noted s)
       (let e : first + 0 ≡ first = omega arith in e) one,
   tt,
 )
-one_more_ran keep p models first [] [] (z ∷ sessions) script answers s ran one = absurd ran
-one_more_ran keep p models first [] (t ∷ transcripts) sessions script answers s ran one = absurd ran
-one_more_ran keep p models first (l ∷ scripts) [] sessions script answers s ran one = absurd ran
-one_more_ran keep p models first (l ∷ scripts) (t ∷ transcripts) [] script answers s ran one =
+one_more_ran keep tint p models first [] [] (z ∷ sessions) script answers s ran one = absurd ran
+one_more_ran keep tint p models first [] (t ∷ transcripts) sessions script answers s ran one =
     absurd ran
-one_more_ran keep p models first (l ∷ scripts) (t ∷ transcripts)
+one_more_ran keep tint p models first (l ∷ scripts) [] sessions script answers s ran one =
+    absurd ran
+one_more_ran keep tint p models first (l ∷ scripts) (t ∷ transcripts) [] script answers s ran one =
+    absurd ran
+one_more_ran keep tint p models first (l ∷ scripts) (t ∷ transcripts)
     (z ∷ sessions) script answers s ran one = (
       ran.0,
-      one_more_ran keep p models (first + 1) scripts transcripts sessions script answers s ran.1
-          (subst (λ (n : ℕ). SessionRan (session_keeping keep p models n) script answers none_noted s)
+      one_more_ran keep tint p models
+          (first + 1) scripts transcripts sessions script answers s ran.1
+          (subst (λ (n : ℕ). SessionRan
+          (session_keeping keep tint p models n) script answers none_noted s)
           (let e : first + suc (length scripts)
           ≡ first + 1 + length scripts = omega arith in e) one),
     )
 
-kept_of_more : (keep : ℕ) (p : Layout) (models : List Content) (first : ℕ)
+kept_of_more : (keep : ℕ) (tint : Bool) (p : Layout) (models : List Content) (first : ℕ)
     (scripts : List (List ScriptLine)) (transcripts : List (List LineAnswer))
     (sessions : List SessionSeen) (script : List ScriptLine) (answers : List LineAnswer)
     (s : SessionSeen)
-    → SessionsRanKeeping keep p models first scripts transcripts sessions
+    → SessionsRanKeeping keep tint p models first scripts transcripts sessions
     → kept_of (scripts ++ script ∷ []) (transcripts ++ answers ∷ [])
     (sessions ++ s ∷ []) ≡ kept_of scripts transcripts sessions ++ map (kept_at s.log)
     (saved_in script answers)
-kept_of_more keep p models first [] [] [] script answers s ran = append-nil _
-kept_of_more keep p models first [] [] (z ∷ sessions) script answers s ran = absurd ran
-kept_of_more keep p models first [] (t ∷ transcripts) sessions script answers s ran = absurd ran
-kept_of_more keep p models first (l ∷ scripts) [] sessions script answers s ran = absurd ran
-kept_of_more keep p models first (l ∷ scripts) (t ∷ transcripts) [] script answers s ran =
+kept_of_more keep tint p models first [] [] [] script answers s ran = append-nil _
+kept_of_more keep tint p models first [] [] (z ∷ sessions) script answers s ran = absurd ran
+kept_of_more keep tint p models first [] (t ∷ transcripts) sessions script answers s ran =
     absurd ran
-kept_of_more keep p models first (l ∷ scripts) (t ∷ transcripts)
+kept_of_more keep tint p models first (l ∷ scripts) [] sessions script answers s ran = absurd ran
+kept_of_more keep tint p models first (l ∷ scripts) (t ∷ transcripts) [] script answers s ran =
+    absurd ran
+kept_of_more keep tint p models first (l ∷ scripts) (t ∷ transcripts)
     (z ∷ sessions) script answers s ran =
     ap (λ (ks : List KeptSave). map (kept_at z.log) (saved_in l t) ++ ks)
-    (kept_of_more keep p models (first + 1) scripts transcripts sessions script answers s ran.1)
+    (kept_of_more keep tint p models
+    (first + 1) scripts transcripts sessions script answers s ran.1)
     ∙ sym
     (append_assoc (map (kept_at z.log) (saved_in l t)) (kept_of scripts transcripts sessions) _)
 
 -- what was taken in of the first scripts
 pub record TakenIn (t : WorldSeen) (scripts : List (List ScriptLine))
     (transcripts : List (List LineAnswer)) (sessions : List SavedSession) : Type 0 where
-  pub ran : SessionsRanKeeping t.keep t.table.plan t.table.models 0 scripts transcripts
+  pub ran : SessionsRanKeeping t.keep t.tint t.table.plan t.table.models 0 scripts transcripts
       (saved_seen sessions)
   pub kept : kept_in sessions ≡ kept_of scripts transcripts (saved_seen sessions)
-  pub saved : All (IsSaved t.table) sessions
+  pub saved : All (IsSaved t.tint t.table) sessions
 
 pub none_taken : (t : WorldSeen) → TakenIn t [] [] []
 none_taken t = record { ran = tt; kept = refl; saved = λ k d lt. absurd (omega arith) }
@@ -270,7 +278,8 @@ pub one_taken : (t : WorldSeen) (scripts : List (List ScriptLine))
     (answers : List LineAnswer) (s : SavedSession)
     → TakenIn t scripts transcripts sessions
     → SessionRan (of_world t (length scripts)) script answers none_noted
-    (session_seen s.session.view) → s.saves.items ≡ saved_in script answers → IsSaved t.table s
+    (session_seen s.session.view) → s.saves.items ≡ saved_in script answers
+    → IsSaved t.tint t.table s
     → TakenIn t (scripts ++ script ∷ []) (transcripts ++ answers ∷ []) (sessions ++ s ∷ [])
 one_taken t scripts transcripts sessions script answers s taken ran saves saved =
     let seen = session_seen s.session.view in
@@ -278,9 +287,9 @@ one_taken t scripts transcripts sessions script answers s taken ran saves saved 
     map-append (λ (z : SavedSession). session_seen z.session.view) sessions (s ∷ []) in
     record {
       ran =
-          subst (λ (zs : List SessionSeen). SessionsRanKeeping t.keep t.table.plan t.table.models 0
+          subst (λ (zs : List SessionSeen). SessionsRanKeeping t.keep t.tint t.table.plan t.table.models 0
           (scripts ++ script ∷ []) (transcripts ++ answers ∷ []) zs) (sym more)
-          (one_more_ran t.keep t.table.plan t.table.models 0 scripts transcripts
+          (one_more_ran t.keep t.tint t.table.plan t.table.models 0 scripts transcripts
           (saved_seen sessions) script answers seen taken.ran
           (subst (λ (n : ℕ). SessionRan (of_world t n) script answers none_noted seen)
           (let e : length scripts ≡ 0 + length scripts = omega arith in e) ran));
@@ -291,13 +300,13 @@ one_taken t scripts transcripts sessions script answers s taken ran saves saved 
           (λ (bs : List SavedBox). kept_of scripts transcripts (saved_seen sessions) ++ map
           (kept_at seen.log) bs) saves
           ∙ sym
-          (kept_of_more t.keep t.table.plan t.table.models 0 scripts transcripts
+          (kept_of_more t.keep t.tint t.table.plan t.table.models 0 scripts transcripts
           (saved_seen sessions) script answers seen taken.ran)
           ∙ ap
           (λ (zs : List SessionSeen). kept_of (scripts ++ script ∷ [])
           (transcripts ++ answers ∷ []) zs) (sym more);
-      saved = All-append (IsSaved t.table) sessions (s ∷ []) taken.saved
-          (All-cons (IsSaved t.table) s [] saved (All-nil (IsSaved t.table)));
+      saved = All-append (IsSaved t.tint t.table) sessions (s ∷ []) taken.saved
+          (All-cons (IsSaved t.tint t.table) s [] saved (All-nil (IsSaved t.tint t.table)));
     }
 
 pub many_answered : (n : ℕ) (script : List ScriptLine) (answers : List LineAnswer)
@@ -323,7 +332,7 @@ pub is_saved : (t : WorldSeen) (script : List ScriptLine) (number : ℕ) (w : Se
     (s : SavedSession) → IsDoneOf t script number w
     → AreLinesOf t script
     → s.session ≡ w.session → s.pins.items ≡ w.room.pins.items
-    → s.saves.items ≡ saved_in script w.room.answers.items → IsSaved t.table s
+    → s.saves.items ≡ saved_in script w.room.answers.items → IsSaved t.tint t.table s
 is_saved t script number w s done fit session pins saves = record {
   rest = subst (λ (z : PassSeen). IsAtRest t.table z) (sym session) done.rest;
   holds = subst (λ (ps : List Pinned). HoldsPins t.table s.session.view ps) (sym pins)
@@ -331,8 +340,8 @@ is_saved t script number w s done fit session pins saves = record {
       done.holds);
   versions = ap pinned_versions pins ∙ done.versions ∙ ap versions_of (sym saves);
   fit = subst (λ (bs : List SavedBox). All
-      (λ b. SaveFits (2 ^ t.table.plan.side) b.name b.part) bs) (sym saves)
-      (saves_fit (2 ^ t.table.plan.side) t.table.models script w.room.answers.items fit);
+      (λ b. SaveFits (kept_side t.tint (2 ^ t.table.plan.side)) b.name b.part) bs) (sym saves)
+      (saves_fit t.tint (2 ^ t.table.plan.side) t.table.models script w.room.answers.items fit);
   few =
       (let same = ap length saves in
       let least = few_accepted script w.room.answers.items in
@@ -347,7 +356,7 @@ pub next_taken : (t : WorldSeen) (scripts : List (List ScriptLine)) (i : ℕ)
     ≡ transcripts ++ answers ∷ [] → more_sessions ≡ sessions ++ s ∷ []
     → TakenIn t (take i scripts) transcripts sessions
     → SessionRan (of_world t i) script answers none_noted (session_seen s.session.view)
-    → s.saves.items ≡ saved_in script answers → IsSaved t.table s
+    → s.saves.items ≡ saved_in script answers → IsSaved t.tint t.table s
     → TakenIn t (take (i + 1) scripts) more_transcripts more_sessions
 next_taken t scripts i script transcripts more_transcripts sessions more_sessions answers s lt is told kept taken ran saves saved =
     let next : take (i + 1) scripts ≡ take i scripts ++ script ∷ [] =

@@ -1,11 +1,11 @@
 -- What contracts see of a run whose sessions all ran their scripts, in a world that isn't closed.
-use Rattle.std.specs.Prelude.{◌≡◌, ℕ, ◌^◌, ◌<◌, ◌≤◌, Some, List, [], ◌∷◌, ◌++◌, All, length, map}
+use Rattle.std.specs.Prelude.{◌≡◌, ℕ, ◌^◌, ◌<◌, ◌≤◌, Bool, Some, List, [], ◌∷◌, ◌++◌, All, length, map}
 use Rattle.std.specs.List.{slice_get}
 use Rattle.vox_read.specs.Contents.{Content}
-use Rattle.history_model.specs.Logs.{Log}
+use Rattle.history_model.specs.Logs.{Log, kept_side}
 use Rattle.history_model.specs.Stores.{store_has}
 use Rattle.node_words.specs.Plans.{Layout}
-use Rattle.session.specs.Saved.{file_of_box}
+use Rattle.session.specs.Roots.{file_kept}
 use Rattle.script.specs.Fitting.{SaveFits}
 use Rattle.conformance.specs.declared.saves.SavedBox.{SavedBox}
 use Rattle.node_table.specs.Seen.{TableSeen}
@@ -18,18 +18,20 @@ use Rattle.session.specs.Seen.{session_seen}
 use Rattle.world_run.specs.declared.open_runs.SavedSession.{SavedSession}
 use Rattle.world_run.specs.declared.open_runs.SavePlace.{SavePlace}
 
--- the plan, the models, what each session saw and did, and what was saved, in order
+-- the plan, whether cells have tints, the models, what each session saw and did, and what was
+-- saved, in order
 pub record RunState : Type 0 where
   pub plan : Layout
+  pub tint : Bool
   pub models : List Content
   pub sessions : List SessionSeen
   pub kept : List KeptSave
 
 -- the file of a save: that of its box at its version, by the store's cells in the history that its
--- session saw
-abbrev pub saved_file : List Content → KeptSave → List ℕ
-saved_file models k =
-    file_of_box k.save.part (store_has models k.seen k.save.version)
+-- session saw, with tints where cells have them
+abbrev pub saved_file : Bool → List Content → KeptSave → List ℕ
+saved_file tint models k =
+    file_kept tint k.seen.side k.save.part (store_has models k.seen k.save.version)
 
 -- the save stands at this place
 pub record SavesAt (kept : List KeptSave) (k : ℕ) (save : SavedBox) : Type 0 where
@@ -38,11 +40,11 @@ pub record SavesAt (kept : List KeptSave) (k : ℕ) (save : SavedBox) : Type 0 w
 
 -- the session holds the roots of the versions that it saved, and nothing else, and a file can be
 -- made of each save
-pub record IsSaved (w : TableSeen) (s : SavedSession) : Type 0 where
+pub record IsSaved (tint : Bool) (w : TableSeen) (s : SavedSession) : Type 0 where
   pub rest : IsAtRest w s.session
   pub holds : HoldsPins w s.session.view s.pins.items
   pub versions : pinned_versions s.pins.items ≡ versions_of s.saves.items
-  pub fit : All (λ b. SaveFits (2 ^ w.plan.side) b.name b.part) s.saves.items
+  pub fit : All (λ b. SaveFits (kept_side tint (2 ^ w.plan.side)) b.name b.part) s.saves.items
   pub few : length s.saves.items ≤ 1024
 
 abbrev pub saved_seen : List SavedSession → List SessionSeen

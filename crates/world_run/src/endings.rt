@@ -36,12 +36,12 @@ pub(crate) fn close_over<R: Wait>(
     world: World<'_>,
     sessions: Vec<SavedSession>,
 ) -> Result<WorldRan, Memory>
-    requires saved { All (IsSaved world.table) sessions.items }
+    requires saved { All (IsSaved world.tint world.table) sessions.items }
     requires all { length sessions.items ≡ world.table.made }
-    ensures closes { IfOk result (λ r. ClosesWorld world.entry.table.plan world.entry.table.models
-        (saved_seen sessions.items) r.ended.history) }
+    ensures closes { IfOk result (λ r. ClosesWorld world.entry.tint world.entry.table.plan
+        world.entry.table.models (saved_seen sessions.items) r.ended.history) }
     ensures is_end { IfOk result
-        (λ r. IsEndOf world.entry.table.models r.ended.history r.ended) }
+        (λ r. IsEndOf world.entry.tint world.entry.table.models r.ended.history r.ended) }
     ensures places { IfOk result
         (λ r. length r.ended.history.records < length r.roots.items) }
     ensures roots { IfOk result (λ r. RootsTellWorlds world.entry.table.models r.ended.history
@@ -123,7 +123,7 @@ fn first_numbers(alloc: Global, live: &[u32; 11], levels: usize) -> Result<Vec<u
 
 /// Gives back what is held for saves, and gives up the sessions of the world.
 pub(crate) fn give_up_over<R: Wait>(rt: &R, world: &World<'_>, sessions: Vec<SavedSession>)
-    requires saved { All (IsSaved world.now.table) sessions.items }
+    requires saved { All (IsSaved world.now.tint world.now.table) sessions.items }
 {
     let mut sessions = sessions.into_iter();
     while let Some(saved) = sessions.next() {
@@ -152,7 +152,7 @@ fn unpin_all<R: Wait>(
     sessions: Vec<SavedSession>,
     room: Vec<Session>,
 ) -> Vec<Session>
-    requires saved { All (IsSaved world.now.table) sessions.items }
+    requires saved { All (IsSaved world.now.tint world.now.table) sessions.items }
     requires none { room.items ≡ [] }
     requires capacity { length sessions.items ≤ vec_capacity room }
     ensures rest { All (IsAtRest world.now.table) result.items }
@@ -172,7 +172,7 @@ fn unpin_all<R: Wait>(
 
 // The session, when nothing is held any more.
 fn unpin_one<R: Wait>(rt: &R, world: &World<'_>, saved: SavedSession) -> Session
-    requires saved { IsSaved world.now.table saved }
+    requires saved { IsSaved world.now.tint world.now.table saved }
     ensures rest { IsAtRest world.now.table result }
     ensures none { result.view.held ≡ [] }
     ensures seen { session_seen result.view ≡ session_seen saved.session.view }

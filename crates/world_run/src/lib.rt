@@ -14,5 +14,5 @@ mod works;
 
 pub use endings::WorldRan;
 pub use open_runs::OpenRun;
-pub use runs::{ScriptsRun, run_scripts};
+pub use runs::{ScriptsRun, Settings, run_scripts};
 pub use session::Ended;

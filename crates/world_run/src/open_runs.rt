@@ -46,12 +46,13 @@ impl<'m> Model for OpenRun<'m> {
 
     ghost view = { λ r. record {
       plan = r.world.table.plan;
+      tint = r.world.tint;
       models = r.world.table.models;
       sessions = saved_seen r.sessions.items;
       kept = kept_in r.sessions.items;
     } };
 
-    ghost invariant = { λ r. All (IsSaved r.world.table) r.sessions.items
+    ghost invariant = { λ r. All (IsSaved r.world.tint r.world.table) r.sessions.items
         × (length r.sessions.items ≡ r.world.table.made)
         × (length r.sessions.items ≤ 64) };
 }
@@ -102,13 +103,13 @@ fn file_in(
     s: &mut SavedSession,
     k: usize,
 ) -> Result<Vec<u8>, Memory>
-    requires saved { IsSaved world.now.table s.old }
+    requires saved { IsSaved world.now.tint world.now.table s.old }
     requires there { k < length s.old.saves.items }
-    ensures saved { IsSaved world.now.table s.new }
+    ensures saved { IsSaved world.now.tint world.now.table s.new }
     ensures same { s.new.saves ≡ s.old.saves }
     ensures seen { session_seen s.new.session.view ≡ session_seen s.old.session.view }
     ensures file { IfOk result (λ file. (b : SavedBox) → slice_get s.old.saves.items k ≡ Some b
-        → file.items ≡ saved_file world.now.table.models
+        → file.items ≡ saved_file world.now.tint world.now.table.models
         (kept_at (session_seen s.old.session.view).log b)) }
 {
     let part = s.saves[k].part;
@@ -137,7 +138,7 @@ impl<'m> OpenRun<'m> {
     pub fn file(&mut self, alloc: Global, k: usize) -> Result<Vec<u8>, Memory>
         requires { k < length self.old.kept }
         ensures file { IfOk result (λ file. (s : KeptSave) → slice_get self.old.kept k ≡ Some s
-            → file.items ≡ saved_file self.old.models s) }
+            → file.items ≡ saved_file self.old.tint self.old.models s) }
         ensures same { self.new ≡ self.old }
     {
         let place = place_of(self.sessions.as_slice(), k);
@@ -147,10 +148,10 @@ impl<'m> OpenRun<'m> {
 
     /// Gives back what is held for saves, and closes the world.
     pub fn close<R: Wait>(self, rt: &R, alloc: Global) -> Result<WorldRan, Memory>
-        ensures closes { IfOk result (λ r. ClosesWorld self.entry.plan self.entry.models
-            self.entry.sessions r.ended.history) }
+        ensures closes { IfOk result (λ r. ClosesWorld self.entry.tint self.entry.plan
+            self.entry.models self.entry.sessions r.ended.history) }
         ensures is_end { IfOk result
-            (λ r. IsEndOf self.entry.models r.ended.history r.ended) }
+            (λ r. IsEndOf self.entry.tint self.entry.models r.ended.history r.ended) }
         ensures places { IfOk result
             (λ r. length r.ended.history.records < length r.roots.items) }
         ensures roots { IfOk result (λ r. RootsTellWorlds self.entry.models r.ended.history

@@ -1,5 +1,5 @@
 //! Scripts are run in threads.
-ghost use Rattle.std.specs.Prelude.{◌≡◌, ◌^◌, ◌≤◌, false, [], All, IfOk, length, vec_capacity};
+ghost use Rattle.std.specs.Prelude.{◌≡◌, ◌^◌, ◌≤◌, true, [], All, IfOk, length, vec_capacity};
 ghost use Rattle.vox_read.specs.Contents.{AreModels};
 ghost use Rattle.script.specs.Fitting.{CommandFits, RisesFrom};
 ghost use Rattle.gate_run.specs.Runs.{RanEach};
@@ -29,6 +29,14 @@ use std::thread::Threads;
 use vox_read::Models;
 use vw_cell::Memory;
 
+/// Whether the cells of a run's world have tints, and how many last versions alone are held, or 0
+/// for all.
+#[derive(Clone, Copy)]
+pub struct Settings {
+    pub tint: bool,
+    pub keep: u32,
+}
+
 /// A run whose sessions all ran their scripts, and their transcripts.
 pub struct ScriptsRun<'m> {
     pub run: OpenRun<'m>,
@@ -48,7 +56,8 @@ struct Start {
     outcomes: Outcomes,
 }
 
-/// Runs scripts in threads, script k as session k, from an empty world of the plan's side.
+/// Runs scripts in threads, script k as session k, from an empty world in a store of this plan. A
+/// world whose cells have tints has a quarter of the store's side.
 ///
 /// The world, a stencil of each model and the lists of all answers and saves are taken before the
 /// first command; a command takes no memory. A run of no script, for which no words ask, is told as
@@ -60,19 +69,22 @@ pub fn run_scripts<'m, R: Threads + Wait + Sync, G: Gate + Sync>(
     plan: &Plan,
     models: &'m Models,
     scripts: &[Script],
-    keep: u32,
+    settings: Settings,
 ) -> Result<ScriptsRun<'m>, Memory>
     requires models { AreModels models.now }
+    requires large { settings.tint ≡ true → 4 ≤ plan.now.side }
     requires few { length scripts.now ≤ 64 }
     requires rise { All (RisesFrom 1) scripts.now }
     requires fit { All
-        (All (λ l. CommandFits false (2 ^ plan.now.side) models.now l.command)) scripts.now }
-    ensures ran { IfOk result (λ r. SessionsRanKeeping keep plan.now models.now 0 scripts.now
-        r.transcripts.items r.run.sessions) }
+        (All (λ l. CommandFits settings.tint (2 ^ plan.now.side) models.now l.command))
+        scripts.now }
+    ensures ran { IfOk result (λ r. SessionsRanKeeping settings.keep settings.tint plan.now
+        models.now 0 scripts.now r.transcripts.items r.run.sessions) }
     ensures saved { IfOk result
         (λ r. r.run.kept ≡ kept_of scripts.now r.transcripts.items r.run.sessions) }
     ensures models { IfOk result (λ r. r.run.models ≡ models.now) }
     ensures plan { IfOk result (λ r. r.run.plan ≡ plan.now) }
+    ensures tint { IfOk result (λ r. r.run.tint ≡ settings.tint) }
 {
     if scripts.is_empty() {
         return Err(Memory);
@@ -83,7 +95,8 @@ pub fn run_scripts<'m, R: Threads + Wait + Sync, G: Gate + Sync>(
         give_up_rooms(rooms);
         return Err(Memory);
     };
-    match World::begin(alloc, plan, models, scripts.len() as u16, keep) {
+    let Settings { tint, keep } = settings;
+    match World::begin(alloc, plan, models, scripts.len() as u16, tint, keep) {
         Ok((world, begun)) => {
             let outcomes = Outcomes {
                 sessions,
@@ -117,12 +130,14 @@ fn run_in<'m, R: Threads + Wait + Sync, G: Gate + Sync>(
     requires few { length scripts.now ≤ 64 }
     requires rise { All (RisesFrom 1) scripts.now }
     requires fit { All (AreLinesOf world) scripts.now }
-    ensures ran { IfOk result (λ r. SessionsRanKeeping world.entry.keep world.entry.table.plan
-        world.entry.table.models 0 scripts.now r.transcripts.items r.run.sessions) }
+    ensures ran { IfOk result (λ r. SessionsRanKeeping world.entry.keep world.entry.tint
+        world.entry.table.plan world.entry.table.models 0 scripts.now r.transcripts.items
+        r.run.sessions) }
     ensures saved { IfOk result
         (λ r. r.run.kept ≡ kept_of scripts.now r.transcripts.items r.run.sessions) }
     ensures models { IfOk result (λ r. r.run.models ≡ world.entry.table.models) }
     ensures plan { IfOk result (λ r. r.run.plan ≡ world.entry.table.plan) }
+    ensures tint { IfOk result (λ r. r.run.tint ≡ world.entry.tint) }
 {
     let Start {
         sessions,
@@ -218,12 +233,12 @@ fn take_in(
     requires no_transcript { outcomes.transcripts.items ≡ [] }
     requires sessions { length scripts.now ≤ vec_capacity outcomes.sessions }
     requires transcripts { length scripts.now ≤ vec_capacity outcomes.transcripts }
-    ensures ran { SessionsRanKeeping _world.now.keep _world.now.table.plan
+    ensures ran { SessionsRanKeeping _world.now.keep _world.now.tint _world.now.table.plan
         _world.now.table.models 0 scripts.now result.transcripts.items
         (saved_seen result.sessions.items) }
     ensures kept { kept_in result.sessions.items ≡ kept_of scripts.now result.transcripts.items
         (saved_seen result.sessions.items) }
-    ensures saved { All (IsSaved _world.now.table) result.sessions.items }
+    ensures saved { All (IsSaved _world.now.tint _world.now.table) result.sessions.items }
     ensures many { length result.sessions.items ≡ length scripts.now }
 {
     let Outcomes {

@@ -1,71 +1,97 @@
-use Rattle.std.proofs.Common.{◌^◌, subst}
+use Rattle.std.proofs.Common.{◌^◌, ◌≡◌, ◌∙◌, true, Bool, List, sym, subst}
 use Rattle.std.specs.Prelude.{option_copied}
-use Rattle.history_model.specs.declared.acts.Act.{Act}
-use Rattle.history_model.specs.declared.acts.Act.TheVariants.{Fill, Erase, Ball, Carve, Copy, Stamp}
-use Rattle.history_model.specs.Logs.{FitsWorld}
-use Rattle.act_rebuilds.proofs.StampActs.{fits_there, model_there}
-use Rattle.act_rebuilds.proofs.OneAct.{rebuilds_one, grows_one, refuses_one}
+use Rattle.vox_read.specs.Contents.{Content}
+use Rattle.history_model.specs.Logs.{FitsWorld, suits_tints}
+use Rattle.act_rebuilds.specs.Acts.{RebuildsAct, GrowsByAct, RefusesAct}
+use Rattle.act_rebuilds.proofs.ListLaws.{cells_plain, cells_models, tints_tinted, tints_models}
+use Rattle.act_rebuilds.proofs.PlainActs.{plainly_rebuilds, plainly_grows, plainly_refuses}
+use Rattle.act_rebuilds.proofs.Rooms.{most_room}
 use Rattle.act_rebuilds.proofs.rebuild.rebuild_act.Goals as goal
 
-pub returns-in-Fill-clause-ok : goal.returns-in-Fill-clause-ok
-returns-in-Fill-clause-ok g c = rebuilds_one (g.N.Blocks.seen c.args.store.now) (g.N.Blocks.seen c.rebuild_box.new.store) c.args.side (option_copied c.args.old) c.args.models.now c.args.act (Fill c.in-Fill.b) c.rebuild_box.result c.in-Fill.is c.rebuild_box.ensures.ok
+pub rebuild_plain-requires-clause-plain : goal.rebuild_plain-requires-clause-plain
+rebuild_plain-requires-clause-plain g c =
+    subst (λ (b : Bool). suits_tints b c.args.act ≡ true)
+    (cells_plain _ _ c.models.view_is _ c.in-Cells.is) c.requires.suits
 
-pub returns-in-Fill-clause-grows : goal.returns-in-Fill-clause-grows
-returns-in-Fill-clause-grows g c = grows_one (g.N.Blocks.seen c.args.store.now) (g.N.Blocks.seen c.rebuild_box.new.store) c.args.side (option_copied c.args.old) c.args.models.now c.args.act (Fill c.in-Fill.b) c.rebuild_box.result c.in-Fill.is c.rebuild_box.ensures.grows
+pub rebuild_plain-requires-clause-fits : goal.rebuild_plain-requires-clause-fits
+rebuild_plain-requires-clause-fits g c =
+    let row = c.as_slice.ensures.value ∙ cells_models _ _ c.models.view_is _ c.in-Cells.is in
+    subst (λ (ms : List Content). FitsWorld (2 ^ c.args.side) ms c.args.act) (sym row)
+    c.requires.fits
 
-pub returns-in-Fill-clause-full : goal.returns-in-Fill-clause-full
-returns-in-Fill-clause-full g c = refuses_one (g.N.Blocks.seen c.args.store.now) (g.N.Blocks.seen c.rebuild_box.new.store) c.args.side (option_copied c.args.old) c.args.models.now c.args.act (Fill c.in-Fill.b) c.rebuild_box.result c.in-Fill.is c.rebuild_box.ensures.full
+pub rebuild_plain-requires-clause-room : goal.rebuild_plain-requires-clause-room
+rebuild_plain-requires-clause-room g c = most_room c.args.act _ c.requires.room
 
-pub returns-in-Erase-clause-ok : goal.returns-in-Erase-clause-ok
-returns-in-Erase-clause-ok g c = rebuilds_one (g.N.Blocks.seen c.args.store.now) (g.N.Blocks.seen c.rebuild_box-in-Erase.new.store) c.args.side (option_copied c.args.old) c.args.models.now c.args.act (Erase c.in-Erase.b) c.rebuild_box-in-Erase.result c.in-Erase.is c.rebuild_box-in-Erase.ensures.ok
+pub rebuild_with-requires-clause-tinted : goal.rebuild_with-requires-clause-tinted
+rebuild_with-requires-clause-tinted g c =
+    subst (λ (b : Bool). suits_tints b c.args.act ≡ true)
+    (tints_tinted _ _ c.models.view_is _ c.in-Tints.is) c.requires.suits
 
-pub returns-in-Erase-clause-grows : goal.returns-in-Erase-clause-grows
-returns-in-Erase-clause-grows g c = grows_one (g.N.Blocks.seen c.args.store.now) (g.N.Blocks.seen c.rebuild_box-in-Erase.new.store) c.args.side (option_copied c.args.old) c.args.models.now c.args.act (Erase c.in-Erase.b) c.rebuild_box-in-Erase.result c.in-Erase.is c.rebuild_box-in-Erase.ensures.grows
+pub rebuild_with-requires-clause-fits : goal.rebuild_with-requires-clause-fits
+rebuild_with-requires-clause-fits g c =
+    let row = c.as_slice-in-Tints.ensures.value ∙ tints_models _ _ c.models.view_is _ c.in-Tints.is in
+    subst (λ (ms : List Content). FitsWorld (2 ^ c.args.side) ms c.args.act) (sym row)
+    c.requires.fits
 
-pub returns-in-Erase-clause-full : goal.returns-in-Erase-clause-full
-returns-in-Erase-clause-full g c = refuses_one (g.N.Blocks.seen c.args.store.now) (g.N.Blocks.seen c.rebuild_box-in-Erase.new.store) c.args.side (option_copied c.args.old) c.args.models.now c.args.act (Erase c.in-Erase.b) c.rebuild_box-in-Erase.result c.in-Erase.is c.rebuild_box-in-Erase.ensures.full
+pub returns-in-Cells-clause-ok : goal.returns-in-Cells-clause-ok
+returns-in-Cells-clause-ok g c =
+    let old = g.N.Blocks.seen c.args.store.now in
+    let new = g.N.Blocks.seen c.rebuild_plain.new.store in
+    let root = option_copied c.args.old in
+    let row = c.as_slice.ensures.value ∙ cells_models _ _ c.models.view_is _ c.in-Cells.is in
+    let plain = subst (λ (b : Bool). suits_tints b c.args.act ≡ true)
+    (cells_plain _ _ c.models.view_is _ c.in-Cells.is) c.requires.suits in
+    subst (λ (ms : List Content). RebuildsAct old c.args.side root ms c.args.act c.rebuild_plain.result new)
+    row (plainly_rebuilds old new c.args.side root c.as_slice.result.now c.args.act plain c.rebuild_plain.result
+    c.rebuild_plain.ensures.ok)
 
-pub returns-in-Ball-clause-ok : goal.returns-in-Ball-clause-ok
-returns-in-Ball-clause-ok g c = rebuilds_one (g.N.Blocks.seen c.args.store.now) (g.N.Blocks.seen c.rebuild_ball.new.store) c.args.side (option_copied c.args.old) c.args.models.now c.args.act (Ball c.in-Ball.ball) c.rebuild_ball.result c.in-Ball.is c.rebuild_ball.ensures.ok
+pub returns-in-Tints-clause-ok : goal.returns-in-Tints-clause-ok
+returns-in-Tints-clause-ok g c =
+    let old = g.N.Blocks.seen c.args.store.now in
+    let new = g.N.Blocks.seen c.rebuild_with.new.store in
+    let root = option_copied c.args.old in
+    let row = c.as_slice-in-Tints.ensures.value ∙ tints_models _ _ c.models.view_is _ c.in-Tints.is in
+    subst (λ (ms : List Content). RebuildsAct old c.args.side root ms c.args.act c.rebuild_with.result new)
+    row c.rebuild_with.ensures.ok
 
-pub returns-in-Ball-clause-grows : goal.returns-in-Ball-clause-grows
-returns-in-Ball-clause-grows g c = grows_one (g.N.Blocks.seen c.args.store.now) (g.N.Blocks.seen c.rebuild_ball.new.store) c.args.side (option_copied c.args.old) c.args.models.now c.args.act (Ball c.in-Ball.ball) c.rebuild_ball.result c.in-Ball.is c.rebuild_ball.ensures.grows
+pub returns-in-Cells-clause-grows : goal.returns-in-Cells-clause-grows
+returns-in-Cells-clause-grows g c =
+    let old = g.N.Blocks.seen c.args.store.now in
+    let new = g.N.Blocks.seen c.rebuild_plain.new.store in
+    let root = option_copied c.args.old in
+    let row = c.as_slice.ensures.value ∙ cells_models _ _ c.models.view_is _ c.in-Cells.is in
+    let plain = subst (λ (b : Bool). suits_tints b c.args.act ≡ true)
+    (cells_plain _ _ c.models.view_is _ c.in-Cells.is) c.requires.suits in
+    subst (λ (ms : List Content). GrowsByAct old c.args.side root ms c.args.act c.rebuild_plain.result new)
+    row (plainly_grows old new c.args.side root c.as_slice.result.now c.args.act plain c.rebuild_plain.result
+    c.rebuild_plain.ensures.grows)
 
-pub returns-in-Ball-clause-full : goal.returns-in-Ball-clause-full
-returns-in-Ball-clause-full g c = refuses_one (g.N.Blocks.seen c.args.store.now) (g.N.Blocks.seen c.rebuild_ball.new.store) c.args.side (option_copied c.args.old) c.args.models.now c.args.act (Ball c.in-Ball.ball) c.rebuild_ball.result c.in-Ball.is c.rebuild_ball.ensures.full
+pub returns-in-Tints-clause-grows : goal.returns-in-Tints-clause-grows
+returns-in-Tints-clause-grows g c =
+    let old = g.N.Blocks.seen c.args.store.now in
+    let new = g.N.Blocks.seen c.rebuild_with.new.store in
+    let root = option_copied c.args.old in
+    let row = c.as_slice-in-Tints.ensures.value ∙ tints_models _ _ c.models.view_is _ c.in-Tints.is in
+    subst (λ (ms : List Content). GrowsByAct old c.args.side root ms c.args.act c.rebuild_with.result new)
+    row c.rebuild_with.ensures.grows
 
-pub returns-in-Carve-clause-ok : goal.returns-in-Carve-clause-ok
-returns-in-Carve-clause-ok g c = rebuilds_one (g.N.Blocks.seen c.args.store.now) (g.N.Blocks.seen c.rebuild_ball-in-Carve.new.store) c.args.side (option_copied c.args.old) c.args.models.now c.args.act (Carve c.in-Carve.ball) c.rebuild_ball-in-Carve.result c.in-Carve.is c.rebuild_ball-in-Carve.ensures.ok
+pub returns-in-Cells-clause-full : goal.returns-in-Cells-clause-full
+returns-in-Cells-clause-full g c =
+    let old = g.N.Blocks.seen c.args.store.now in
+    let new = g.N.Blocks.seen c.rebuild_plain.new.store in
+    let root = option_copied c.args.old in
+    let row = c.as_slice.ensures.value ∙ cells_models _ _ c.models.view_is _ c.in-Cells.is in
+    let plain = subst (λ (b : Bool). suits_tints b c.args.act ≡ true)
+    (cells_plain _ _ c.models.view_is _ c.in-Cells.is) c.requires.suits in
+    subst (λ (ms : List Content). RefusesAct old c.args.side root ms c.args.act c.rebuild_plain.result new)
+    row (plainly_refuses old new c.args.side root c.as_slice.result.now c.args.act plain c.rebuild_plain.result
+    c.rebuild_plain.ensures.full)
 
-pub returns-in-Carve-clause-grows : goal.returns-in-Carve-clause-grows
-returns-in-Carve-clause-grows g c = grows_one (g.N.Blocks.seen c.args.store.now) (g.N.Blocks.seen c.rebuild_ball-in-Carve.new.store) c.args.side (option_copied c.args.old) c.args.models.now c.args.act (Carve c.in-Carve.ball) c.rebuild_ball-in-Carve.result c.in-Carve.is c.rebuild_ball-in-Carve.ensures.grows
-
-pub returns-in-Carve-clause-full : goal.returns-in-Carve-clause-full
-returns-in-Carve-clause-full g c = refuses_one (g.N.Blocks.seen c.args.store.now) (g.N.Blocks.seen c.rebuild_ball-in-Carve.new.store) c.args.side (option_copied c.args.old) c.args.models.now c.args.act (Carve c.in-Carve.ball) c.rebuild_ball-in-Carve.result c.in-Carve.is c.rebuild_ball-in-Carve.ensures.full
-
-pub returns-in-Copy-clause-ok : goal.returns-in-Copy-clause-ok
-returns-in-Copy-clause-ok g c = rebuilds_one (g.N.Blocks.seen c.args.store.now) (g.N.Blocks.seen c.rebuild_copy.new.store) c.args.side (option_copied c.args.old) c.args.models.now c.args.act (Copy c.in-Copy.from c.in-Copy.to) c.rebuild_copy.result c.in-Copy.is c.rebuild_copy.ensures.ok
-
-pub returns-in-Copy-clause-grows : goal.returns-in-Copy-clause-grows
-returns-in-Copy-clause-grows g c = grows_one (g.N.Blocks.seen c.args.store.now) (g.N.Blocks.seen c.rebuild_copy.new.store) c.args.side (option_copied c.args.old) c.args.models.now c.args.act (Copy c.in-Copy.from c.in-Copy.to) c.rebuild_copy.result c.in-Copy.is c.rebuild_copy.ensures.grows
-
-pub returns-in-Copy-clause-full : goal.returns-in-Copy-clause-full
-returns-in-Copy-clause-full g c = refuses_one (g.N.Blocks.seen c.args.store.now) (g.N.Blocks.seen c.rebuild_copy.new.store) c.args.side (option_copied c.args.old) c.args.models.now c.args.act (Copy c.in-Copy.from c.in-Copy.to) c.rebuild_copy.result c.in-Copy.is c.rebuild_copy.ensures.full
-
-pub returns-in-Stamp-clause-grows : goal.returns-in-Stamp-clause-grows
-returns-in-Stamp-clause-grows g c =
-    let fits = subst (λ (a : Act). FitsWorld (2 ^ c.args.side) c.args.models.now a) c.in-Stamp.is c.requires.fits in
-    let there = model_there c.args.models.now c.in-Stamp.m c.from.result c.index-models-from.result (fits_there _ c.args.models.now c.in-Stamp.m c.in-Stamp.at fits) c.from.ensures c.index-models-from.is in
-    grows_one (g.N.Blocks.seen c.args.store.now) (g.N.Blocks.seen c.stamp.new.store) c.args.side (option_copied c.args.old) c.args.models.now c.args.act (Stamp c.in-Stamp.m c.in-Stamp.at) c.stamp.result c.in-Stamp.is (c.stamp.ensures.grows c.args.models.now c.in-Stamp.m there)
-
-pub returns-in-Stamp-clause-full : goal.returns-in-Stamp-clause-full
-returns-in-Stamp-clause-full g c =
-    let fits = subst (λ (a : Act). FitsWorld (2 ^ c.args.side) c.args.models.now a) c.in-Stamp.is c.requires.fits in
-    let there = model_there c.args.models.now c.in-Stamp.m c.from.result c.index-models-from.result (fits_there _ c.args.models.now c.in-Stamp.m c.in-Stamp.at fits) c.from.ensures c.index-models-from.is in
-    refuses_one (g.N.Blocks.seen c.args.store.now) (g.N.Blocks.seen c.stamp.new.store) c.args.side (option_copied c.args.old) c.args.models.now c.args.act (Stamp c.in-Stamp.m c.in-Stamp.at) c.stamp.result c.in-Stamp.is (c.stamp.ensures.full c.args.models.now c.in-Stamp.m there)
-
-pub returns-in-Stamp-clause-ok : goal.returns-in-Stamp-clause-ok
-returns-in-Stamp-clause-ok g c =
-    let fits = subst (λ (a : Act). FitsWorld (2 ^ c.args.side) c.args.models.now a) c.in-Stamp.is c.requires.fits in
-    let there = model_there c.args.models.now c.in-Stamp.m c.from.result c.index-models-from.result (fits_there _ c.args.models.now c.in-Stamp.m c.in-Stamp.at fits) c.from.ensures c.index-models-from.is in
-    rebuilds_one (g.N.Blocks.seen c.args.store.now) (g.N.Blocks.seen c.stamp.new.store) c.args.side (option_copied c.args.old) c.args.models.now c.args.act (Stamp c.in-Stamp.m c.in-Stamp.at) c.stamp.result c.in-Stamp.is (c.stamp.ensures.ok c.args.models.now c.in-Stamp.m there)
+pub returns-in-Tints-clause-full : goal.returns-in-Tints-clause-full
+returns-in-Tints-clause-full g c =
+    let old = g.N.Blocks.seen c.args.store.now in
+    let new = g.N.Blocks.seen c.rebuild_with.new.store in
+    let root = option_copied c.args.old in
+    let row = c.as_slice-in-Tints.ensures.value ∙ tints_models _ _ c.models.view_is _ c.in-Tints.is in
+    subst (λ (ms : List Content). RefusesAct old c.args.side root ms c.args.act c.rebuild_with.result new)
+    row c.rebuild_with.ensures.full

@@ -1,4 +1,4 @@
-use Rattle.std.proofs.Common.{rules, ◌≡◌, ℕ, List, take, drop, map, Ok, sym, subst}
+use Rattle.std.proofs.Common.{rules, false, ◌≡◌, ℕ, List, take, drop, map, Ok, sym, subst}
 use Rattle.std.proofs.lemmas.List.{map-id}
 use Rattle.vox_read.specs.Files.{ReadsModels}
 use Rattle.script_files.specs.Audits.{AuditTexts, IsJournalOf, RefusesAuditing, RefusesPlain}
@@ -29,12 +29,12 @@ returns-in-Err-read_scripts-clause-refused c =
     let of : IsJournalOf c.args.journal c.in-Ok-read_plain.history = search rules in
     let same : map (λ (t : List ℕ). t) front ≡ front = map-id front in
     let said : RefusesScripts c.in-Err-read_scripts.refused
-    (scripts_of c.in-Ok-read_plain.history.side c.in-Ok.models
+    (scripts_of false c.in-Ok-read_plain.history.side c.in-Ok.models
     (map (λ (t : List ℕ). t) front)) = search rules in
     let says : RefusesScripts c.in-Err-read_scripts.refused
-    (scripts_of c.in-Ok-read_plain.history.side c.in-Ok.models front) =
+    (scripts_of false c.in-Ok-read_plain.history.side c.in-Ok.models front) =
     subst (λ (ts : List (List ℕ)). RefusesScripts c.in-Err-read_scripts.refused
-    (scripts_of c.in-Ok-read_plain.history.side c.in-Ok.models ts)) same said in
+    (scripts_of false c.in-Ok-read_plain.history.side c.in-Ok.models ts)) same said in
     scripts_refused_at c.args.file _ c.in-Ok.models c.in-Ok-read_plain.history gives of
     c.in-Err-read_scripts.refused says
 
@@ -45,11 +45,12 @@ returns-in-Err-read_transcripts-clause-refused c =
     let of : IsJournalOf c.args.journal c.in-Ok-read_plain.history = search rules in
     let front = take c.args.number c.args.texts.items in
     let same : map (λ (t : List ℕ). t) front ≡ front = map-id front in
-    let said : scripts_of c.in-Ok-read_plain.history.side c.in-Ok.models
+    let said : scripts_of false c.in-Ok-read_plain.history.side c.in-Ok.models
     (map (λ (t : List ℕ). t) front) ≡ Ok c.in-Ok-read_scripts.scripts.items = search rules in
-    let read : scripts_of c.in-Ok-read_plain.history.side c.in-Ok.models front
+    let read : scripts_of false c.in-Ok-read_plain.history.side c.in-Ok.models front
     ≡ Ok c.in-Ok-read_scripts.scripts.items =
-    subst (λ (ts : List (List ℕ)). scripts_of c.in-Ok-read_plain.history.side c.in-Ok.models ts
+    subst (λ (ts : List
+    (List ℕ)). scripts_of false c.in-Ok-read_plain.history.side c.in-Ok.models ts
     ≡ Ok c.in-Ok-read_scripts.scripts.items) same said in
     let says : RefusesTranscripts (drop c.args.number c.args.texts.items)
     c.in-Err-read_transcripts.refused = search rules in

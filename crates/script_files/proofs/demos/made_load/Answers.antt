@@ -1,4 +1,4 @@
-use Rattle.std.proofs.Common.{rules, ◌≡◌, ℕ, List, [], ◌∷◌, Ok, map, ap, sym, subst, ◌∙◌, arith}
+use Rattle.std.proofs.Common.{rules, false, ◌≡◌, ℕ, List, [], ◌∷◌, Ok, map, ap, sym, subst, ◌∙◌, arith}
 use Rattle.vox_read.specs.Files.{ReadsModels}
 use Rattle.gen_load.specs.Loads.{load_model, load_scripts}
 use Rattle.script_files.specs.Scripts.{scripts_of}
@@ -23,7 +23,7 @@ returns-clause-read c =
     (map (λ t. t.items) c.as_slice-2.result.now) found
     (subst (λ (v : List ℕ). ReadsModels v (Ok (load_model c.args.n ∷ []))) (sym vox)
     c.in_ok-load.ensures.reads) texts
-    (subst (λ (side : ℕ). scripts_of side c.in-Ok.models
+    (subst (λ (side : ℕ). scripts_of false side c.in-Ok.models
     (map (λ t. t.items) c.as_slice-2.result.now) ≡ Ok c.in-Ok-read_scripts.scripts.items)
     c.side.ensures c.in-Ok-read_scripts.ensures.read)
 

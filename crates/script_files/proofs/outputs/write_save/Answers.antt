@@ -14,7 +14,7 @@ returns-in-Ok-clause-writes g c =
     let old = g.S.Shelf.state c.args.shelf.now in
     let new = g.S.Shelf.state c.write.new.self in
     output_written
-    (saved_output (saved_file run.models)) run.kept c.args.k s c.as_slice.result.now old
+    (saved_output (saved_file run.tint run.models)) run.kept c.args.k s c.as_slice.result.now old
     new c.in-Ok.field-0 at.at
     (c.as_slice.ensures.value ∙ c.in_ok-file.ensures.file s at.at)
     (subst (λ (n : List ℕ). WriteTold old.files new.files n c.as_slice.result.now
@@ -28,7 +28,7 @@ returns-clause-writes g c =
     let old = g.S.Shelf.state c.args.shelf.now in
     let new = g.S.Shelf.state c.write.new.self in
     output_stops
-    (saved_output (saved_file run.models)) run.kept c.args.k s c.as_slice.result.now old
+    (saved_output (saved_file run.tint run.models)) run.kept c.args.k s c.as_slice.result.now old
     new c.in-Err.why at.at
     (c.as_slice.ensures.value ∙ c.in_ok-file.ensures.file s at.at)
     (subst (λ (n : List ℕ). WriteTold old.files new.files n c.as_slice.result.now

@@ -7,6 +7,6 @@ use Rattle.script_files.proofs.outputs.write_saves.Given as goal
 
 abbrev pub invariant-loop-k : goal.invariant-loop-k
 invariant-loop-k g l =
-    IsWrittenTo (map (saved_output (saved_file l.fn.run.models)) l.fn.run.kept) l.k
+    IsWrittenTo (map (saved_output (saved_file l.fn.run.tint l.fn.run.models)) l.fn.run.kept) l.k
     (g.S.Shelf.state l.fn.shelf) (g.S.Shelf.state l.shelf)
     × (l.run ≡ l.fn.run)

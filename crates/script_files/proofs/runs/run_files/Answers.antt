@@ -1,4 +1,4 @@
-use Rattle.std.proofs.Common.{rules, ◌≡◌, ℕ, List, ap, subst}
+use Rattle.std.proofs.Common.{rules, ◌≡◌, ℕ, Bool, List, ap, subst}
 use Rattle.vw_io.specs.Inputs.{AreTaken}
 use Rattle.node_words.specs.Plans.{Layout}
 use Rattle.session_runs.specs.Kept.{kept_of}
@@ -6,6 +6,7 @@ use Rattle.session_runs.specs.Ran.{SessionsRanKeeping}
 use Rattle.world_run.specs.declared.runs.ScriptsRun.{ScriptsRun}
 use Rattle.script_files.specs.Orders.{Asked}
 use Rattle.script_files.specs.Requests.{inputs_of}
+use Rattle.script_files.specs.Scripts.{AreFitScripts}
 use Rattle.script_files.specs.Stages.{IsRead, StopsRun, WroteRun}
 use Rattle.script_files.specs.declared.requests.Request.TheVariants.{Run}
 use Rattle.script_files.specs.declared.scripts.Read.{Read}
@@ -23,24 +24,30 @@ returns-in-Ok-write_run-clause-outcome g c =
     let new = g.S.Shelf.state c.write_run.new.shelf in
     let taken : AreTaken old.files (inputs_of (Run asked)) texts = search rules in
     let is_read : IsRead asked texts read = search rules in
-    let ran : SessionsRanKeeping c.order.inside.keep c.order.inside.plan read.models 0
-    read.scripts.items run.transcripts.items run.run.sessions = search rules in
-    let asked_ran : SessionsRanKeeping asked.keep asked.plan read.models 0 read.scripts.items
-    run.transcripts.items run.run.sessions =
-    subst (λ (k : ℕ). SessionsRanKeeping k asked.plan read.models 0 read.scripts.items
+    let ran : SessionsRanKeeping c.order.inside.keep c.order.inside.tint c.order.inside.plan
+    read.models 0 read.scripts.items run.transcripts.items run.run.sessions = search rules in
+    let asked_ran : SessionsRanKeeping asked.keep asked.tint asked.plan read.models 0
+    read.scripts.items run.transcripts.items run.run.sessions =
+    subst (λ (k : ℕ). SessionsRanKeeping k asked.tint asked.plan read.models 0 read.scripts.items
     run.transcripts.items run.run.sessions) (ap (λ (a : Asked). a.keep) c.order.view_is)
-    (subst (λ (p : Layout). SessionsRanKeeping c.order.inside.keep p read.models 0
+    (subst (λ (b : Bool). SessionsRanKeeping c.order.inside.keep b asked.plan read.models 0
     read.scripts.items run.transcripts.items run.run.sessions)
-    (ap (λ (a : Asked). a.plan) c.order.view_is) ran) in
+    (ap (λ (a : Asked). a.tint) c.order.view_is)
+    (subst (λ (p : Layout). SessionsRanKeeping c.order.inside.keep c.order.inside.tint p read.models
+    0 read.scripts.items run.transcripts.items run.run.sessions)
+    (ap (λ (a : Asked). a.plan) c.order.view_is) ran)) in
     let plan_is : run.run.plan ≡ asked.plan = search rules in
+    let tint_is : run.run.tint ≡ asked.tint = search rules in
     let models_are : run.run.models ≡ read.models = search rules in
+    let fits : AreFitScripts asked.tint asked.plan.side read.models read.scripts.items =
+    search rules in
     let kept : run.run.kept ≡ kept_of read.scripts.items run.transcripts.items run.run.sessions =
     search rules in
     let same : mid ≡ old = search rules in
     let wrote : WroteRun asked run c.in-Ok-write_run.written.tally c.in-Ok-write_run.written.ended
     mid new = search rules in
-    run_written asked texts read run old mid new taken is_read asked_ran plan_is models_are kept
-    same c.in-Ok-write_run.written.tally c.in-Ok-write_run.written.ended wrote
+    run_written asked texts read run old mid new taken is_read asked_ran plan_is tint_is
+    models_are kept fits same c.in-Ok-write_run.written.tally c.in-Ok-write_run.written.ended wrote
 
 pub returns-clause-outcome : goal.returns-clause-outcome
 returns-clause-outcome g c =
@@ -53,20 +60,26 @@ returns-clause-outcome g c =
     let new = g.S.Shelf.state c.write_run.new.shelf in
     let taken : AreTaken old.files (inputs_of (Run asked)) texts = search rules in
     let is_read : IsRead asked texts read = search rules in
-    let ran : SessionsRanKeeping c.order.inside.keep c.order.inside.plan read.models 0
-    read.scripts.items run.transcripts.items run.run.sessions = search rules in
-    let asked_ran : SessionsRanKeeping asked.keep asked.plan read.models 0 read.scripts.items
-    run.transcripts.items run.run.sessions =
-    subst (λ (k : ℕ). SessionsRanKeeping k asked.plan read.models 0 read.scripts.items
+    let ran : SessionsRanKeeping c.order.inside.keep c.order.inside.tint c.order.inside.plan
+    read.models 0 read.scripts.items run.transcripts.items run.run.sessions = search rules in
+    let asked_ran : SessionsRanKeeping asked.keep asked.tint asked.plan read.models 0
+    read.scripts.items run.transcripts.items run.run.sessions =
+    subst (λ (k : ℕ). SessionsRanKeeping k asked.tint asked.plan read.models 0 read.scripts.items
     run.transcripts.items run.run.sessions) (ap (λ (a : Asked). a.keep) c.order.view_is)
-    (subst (λ (p : Layout). SessionsRanKeeping c.order.inside.keep p read.models 0
+    (subst (λ (b : Bool). SessionsRanKeeping c.order.inside.keep b asked.plan read.models 0
     read.scripts.items run.transcripts.items run.run.sessions)
-    (ap (λ (a : Asked). a.plan) c.order.view_is) ran) in
+    (ap (λ (a : Asked). a.tint) c.order.view_is)
+    (subst (λ (p : Layout). SessionsRanKeeping c.order.inside.keep c.order.inside.tint p read.models
+    0 read.scripts.items run.transcripts.items run.run.sessions)
+    (ap (λ (a : Asked). a.plan) c.order.view_is) ran)) in
     let plan_is : run.run.plan ≡ asked.plan = search rules in
+    let tint_is : run.run.tint ≡ asked.tint = search rules in
     let models_are : run.run.models ≡ read.models = search rules in
+    let fits : AreFitScripts asked.tint asked.plan.side read.models read.scripts.items =
+    search rules in
     let kept : run.run.kept ≡ kept_of read.scripts.items run.transcripts.items run.run.sessions =
     search rules in
     let same : mid ≡ old = search rules in
     let stopped : StopsRun asked run c.in-Err-write_run.refused mid new = search rules in
-    run_stopped asked texts read run old mid new taken is_read asked_ran plan_is models_are kept
-    same c.in-Err-write_run.refused stopped
+    run_stopped asked texts read run old mid new taken is_read asked_ran plan_is tint_is
+    models_are kept fits same c.in-Err-write_run.refused stopped

@@ -1,4 +1,4 @@
-use Rattle.std.proofs.Common.{false, rules, length, map, sym, arith, ◌∙◌, ap}
+use Rattle.std.proofs.Common.{rules, length, map, sym, arith, ◌∙◌, ap}
 use Rattle.std.proofs.lemmas.List.{get_or-map, length-map}
 use Rattle.script.specs.Scripts.{commands_of}
 use Rattle.script_files.specs.declared.refusals.TextRefused.{TextRefused}
@@ -15,7 +15,7 @@ loop-text-preserved g c =
     c.as_slice.ensures ∙ ap (λ t. g.T.AsSlice.items t) c.text-item.is
     ∙ sym
     (get_or-map (λ t. g.T.AsSlice.items t) texts k c.text-item.result c.as_slice.result.now c.loop-text-test.true) in
-    next_read c.args.side c.args.models.now (map (λ t. g.T.AsSlice.items t) texts)
+    next_read c.args.tint c.args.side c.args.models.now (map (λ t. g.T.AsSlice.items t) texts)
     c.as_slice.result.now k _ _
     (omega (arith, c.loop-text-test.true, length-map texts (λ t. g.T.AsSlice.items t))) one
     c.loop-text.invariant c.in_ok-read_next.ensures.read
@@ -30,10 +30,11 @@ returns-in_err-read_next-clause-refused g c =
     (get_or-map (λ t. g.T.AsSlice.items t) texts k c.text-item.result c.as_slice.result.now c.loop-text-test.true) in
     let by : (r : TextRefused)
     → RefusesScripts r (in_script (length c.loop-text.scripts.items)
-    (commands_of false c.args.side c.args.models.now c.as_slice.result.now))
-    → RefusesScripts r (scripts_of c.args.side c.args.models.now
+    (commands_of c.args.tint c.args.side c.args.models.now c.as_slice.result.now))
+    → RefusesScripts r (scripts_of c.args.tint c.args.side c.args.models.now
     (map (λ t. g.T.AsSlice.items t) texts)) =
-    λ r. next_refused r c.args.side c.args.models.now (map (λ t. g.T.AsSlice.items t) texts)
+    λ r. next_refused r c.args.tint c.args.side c.args.models.now
+    (map (λ t. g.T.AsSlice.items t) texts)
     c.as_slice.result.now k c.loop-text.scripts.items
     (omega (arith, c.loop-text-test.true, length-map texts (λ t. g.T.AsSlice.items t)))
     one c.loop-text.invariant in

@@ -5,4 +5,5 @@ use Rattle.script_files.proofs.scripts.read_scripts.Given as goal
 
 abbrev pub invariant-loop-text : goal.invariant-loop-text
 invariant-loop-text g l =
-    IsReadTo l.side l.models (map (λ t. g.T.AsSlice.items t) l.texts) l.text-index l.scripts.items
+    IsReadTo l.tint l.side l.models
+    (map (λ t. g.T.AsSlice.items t) l.texts) l.text-index l.scripts.items

@@ -1,4 +1,6 @@
-use Rattle.std.proofs.Common.{rules}
+use Rattle.std.proofs.Common.{◌^◌, rules, subst}
+use Rattle.script.specs.declared.commands.Command.{Command}
+use Rattle.script.specs.Fitting.{CommandFits}
 use Rattle.session_runs.specs.Told.{AskTold}
 use Rattle.session_runs.proofs.Answering.{line_is, tried_is, act_takes, once_takes, ask_takes, save_takes, forget_takes, same_takes, head_takes}
 use Rattle.session_runs.proofs.lines.answer_line.Goals as goal
@@ -44,7 +46,9 @@ returns-in-Save-clause-takes g c =
     let old = g.C.SessionCalls.seen c.args.calls.now in
     let new = g.C.SessionCalls.seen c.save-answer.new.self in
     line_is of old new c.args.l _ _ _ c.in-Save.is c.save_line.ensures
-    (save_takes of old new c.save-answer.ensures.knows c.args.l.line c.in-Save.version c.in-Save.name c.in-Save.part c.save-answer.result c.requires.earlier c.save-answer.ensures.told)
+    (save_takes of old new c.save-answer.ensures.knows c.args.l.line c.in-Save.version c.in-Save.name c.in-Save.part c.save-answer.result
+    (subst (λ (command : Command). CommandFits of.tint (2 ^ of.plan.side) of.models command) c.in-Save.is c.requires.fits)
+    c.requires.earlier c.save-answer.ensures.told)
 
 pub returns-in-Same-clause-takes : goal.returns-in-Same-clause-takes
 returns-in-Same-clause-takes g c =

@@ -2,7 +2,7 @@ use Rattle.std.proofs.Common.{◌∙◌, ◌^◌, refl, subst, arith, rules}
 use Rattle.session_runs.specs.Lines.{AnswersLine}
 use Rattle.session_runs.specs.Seen.{SessionOf}
 use Rattle.session_runs.proofs.Looping.{all_lines, asked_next, asked_within, next_earlier, next_line, no_lines}
-use Rattle.session_runs.proofs.PlainLaws.{command_plain}
+use Rattle.session_runs.proofs.SuitLaws.{command_suits}
 use Rattle.session_runs.proofs.runs.run_lines.Goals as goal
 
 pub loop-line-init : goal.loop-line-init
@@ -37,7 +37,7 @@ loop-line-preserved g c =
           next_line (g.D.SessionDesk.of c.args.desk.now) c.args.lines.now c.loop-line.line-index c.line-item.result c.args.answers.now.items c.loop-line.answers.items
           c.push_reserved.new.self.items (g.D.SessionDesk.seen c.args.desk.now) (g.D.SessionDesk.seen c.loop-line.desk) (g.D.SessionDesk.seen c.answer-answer.new.self) (g.D.SessionDesk.saved c.args.desk.now) (g.D.SessionDesk.saved c.loop-line.desk)
           (g.D.SessionDesk.saved c.answer-answer.new.self) c.answer-answer.result c.loop-line-test.true c.requires.rises c.line-item.is
-          (command_plain (2 ^ (g.D.SessionDesk.of c.args.desk.now).plan.side) (g.D.SessionDesk.of c.args.desk.now).models c.line-item.result.command (search rules)) c.loop-line.invariant.ran
+          (command_suits (g.D.SessionDesk.of c.args.desk.now).tint (2 ^ (g.D.SessionDesk.of c.args.desk.now).plan.side) (g.D.SessionDesk.of c.args.desk.now).models c.line-item.result.command (search rules)) c.loop-line.invariant.ran
           (subst (λ (of : SessionOf). AnswersLine of c.line-item.result (g.D.SessionDesk.seen c.loop-line.desk) (g.D.SessionDesk.seen c.answer-answer.new.self) c.answer-answer.result) c.loop-line.invariant.of c.answer-answer.ensures.takes)
           c.answer-answer.ensures.saved c.push_reserved.ensures.items;
       len = omega arith;

@@ -9,7 +9,7 @@ returns-in-Ok-close-clause-is_end g c =
     (let a = c.root_level.ensures.bounds.0 in let b = c.side.ensures.value in let e = ap
     (λ (p : Layout). p.side) c.plan.ensures.value in omega arith)
     (let a = c.root_level.ensures.bounds.1 in let b = c.side.ensures.value in let e = ap
-    (λ (p : Layout). p.side) c.plan.ensures.value in omega arith) c.in-Ok-close.ensures.ends c.told.result c.told.ensures.ended
+    (λ (p : Layout). p.side) c.plan.ensures.value in omega arith) c.in-Ok-close.ensures.ends c.args.world.tint c.in-Ok-close.ensures.closes.coloured c.told.result c.told.ensures.ended
 
 pub returns-in-Ok-close-clause-roots : goal.returns-in-Ok-close-clause-roots
 returns-in-Ok-close-clause-roots g c =

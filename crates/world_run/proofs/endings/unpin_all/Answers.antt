@@ -10,7 +10,7 @@ pub unpin_one-session-requires : goal.unpin_one-session-requires
 unpin_one-session-requires g c =
     record {
       saved = first_of
-          (IsSaved c.args.world.now.table) c.in-Some.saved _ _ c.in-Some.ensures.items c.loop-saved.invariant.saved;
+          (IsSaved c.args.world.now.tint c.args.world.now.table) c.in-Some.saved _ _ c.in-Some.ensures.items c.loop-saved.invariant.saved;
     }
 
 pub loop-saved-preserved : goal.loop-saved-preserved
@@ -22,7 +22,7 @@ loop-saved-preserved g c =
     let wide = c.push_reserved.ensures.capacity in
     record {
       saved = All-rest
-          (IsSaved c.args.world.now.table) c.in-Some.saved _ _ c.in-Some.ensures.items c.loop-saved.invariant.saved;
+          (IsSaved c.args.world.now.tint c.args.world.now.table) c.in-Some.saved _ _ c.in-Some.ensures.items c.loop-saved.invariant.saved;
       rest =
           All-same (IsAtRest c.args.world.now.table) _ _ c.push_reserved.ensures.items
           (All-push (IsAtRest c.args.world.now.table) c.loop-saved.spare.items c.unpin_one-session.result c.loop-saved.invariant.rest c.unpin_one-session.ensures.rest);

@@ -8,7 +8,7 @@ use Rattle.world_run.proofs.endings.unpin_all.Given as goal
 
 abbrev pub invariant-loop-saved : goal.invariant-loop-saved
 invariant-loop-saved g l = record {
-  saved : All (IsSaved l.world.table) (into_iter_items l.sessions);
+  saved : All (IsSaved l.world.tint l.world.table) (into_iter_items l.sessions);
   rest : All (IsAtRest l.world.table) l.spare.items;
   spare : All (λ s. s.view.held ≡ []) l.spare.items;
   seen : sessions_seen l.spare.items ++ saved_seen (into_iter_items l.sessions)

@@ -1,28 +1,41 @@
-use Rattle.std.proofs.Common.{◌-◌}
+use Rattle.std.proofs.Common.{◌^◌, Ok, Err, refl}
 use Rattle.std.specs.Prelude.{option_copied}
-use Rattle.node_words.specs.Gathering.{Fails, Grows}
-use Rattle.edit_cells.specs.Worlds.{Rebuilt, world_shape}
-use Rattle.hands.proofs.BallLaws.{for_ball}
+use Rattle.act_rebuilds.specs.Balls.{ball_act}
+use Rattle.act_rebuilds.proofs.Rooms.{most_room}
+use Rattle.hands.proofs.BallLaws.{ball_inside, ball_plain, ball_same}
+use Rattle.hands.proofs.PlainLaws.{made_plainly, grown_plainly, refused_plainly}
 use Rattle.hands.proofs.balls.BallActActMaker.make.Goals as goal
+
+pub rebuild_ball_with-requires : goal.rebuild_ball_with-requires
+rebuild_ball_with-requires g c =
+    let b = c.args.self.now.ball.now in
+    let inside = ball_inside (2 ^ c.args.side) c.args.self.now.models.now.models c.args.self.now.set b c.requires.fits in
+    let room = most_room (ball_act c.args.self.now.set b) _ c.requires.room in
+    λ k. ((refl, tt), (c.requires.side, (c.requires.recalls, (inside, (c.requires.old, room)))))
 
 pub returns-in-Ok-clause-ok : goal.returns-in-Ok-clause-ok
 returns-in-Ok-clause-ok g c =
-    for_ball c.args.self.now.models.now c.args.self.now.set c.args.self.now.ball.now
-    (g.N.Blocks.seen c.args.store.now) c.args.side (option_copied c.args.old)
-    (λ world. Rebuilt (c.args.side - 2) world c.in-Ok.root (g.N.Blocks.seen c.args.store.now)
-    (g.N.Blocks.seen c.rebuild_ball_with.new.store)) c.in-Ok.ensures.ok
+    made_plainly (g.N.Blocks.seen c.args.store.now) (g.N.Blocks.seen c.rebuild_ball_with.new.store) c.args.side
+    (option_copied c.args.old) c.args.self.now.models.now.models
+    (ball_act c.args.self.now.set c.args.self.now.ball.now)
+    (ball_plain c.args.self.now.set c.args.self.now.ball.now)
+    (ball_same c.args.self.now.models.now.models c.args.self.now.set c.args.self.now.ball.now) (Ok c.in-Ok.root)
+    c.in-Ok.ensures.ok
 
 pub returns-in-Ok-clause-grows : goal.returns-in-Ok-clause-grows
 returns-in-Ok-clause-grows g c =
-    for_ball c.args.self.now.models.now c.args.self.now.set c.args.self.now.ball.now
-    (g.N.Blocks.seen c.args.store.now) c.args.side (option_copied c.args.old)
-    (λ world. Grows (world_shape (c.args.side - 2) world) (g.N.Blocks.seen c.args.store.now)
-    (g.N.Blocks.seen c.rebuild_ball_with.new.store)) c.in-Ok.ensures.grows
+    grown_plainly (g.N.Blocks.seen c.args.store.now) (g.N.Blocks.seen c.rebuild_ball_with.new.store) c.args.side
+    (option_copied c.args.old) c.args.self.now.models.now.models
+    (ball_act c.args.self.now.set c.args.self.now.ball.now)
+    (ball_plain c.args.self.now.set c.args.self.now.ball.now)
+    (ball_same c.args.self.now.models.now.models c.args.self.now.set c.args.self.now.ball.now) (Ok c.in-Ok.root)
+    c.in-Ok.ensures.grows
 
 pub returns-in-Err-clause-full : goal.returns-in-Err-clause-full
 returns-in-Err-clause-full g c =
-    for_ball c.args.self.now.models.now c.args.self.now.set c.args.self.now.ball.now
-    (g.N.Blocks.seen c.args.store.now) c.args.side (option_copied c.args.old)
-    (λ world. Fails (world_shape (c.args.side - 2) world) c.in-Err.full.level
-    c.in-Err.full.bucket (g.N.Blocks.seen c.args.store.now)
-    (g.N.Blocks.seen c.rebuild_ball_with.new.store)) c.in-Err.ensures.full
+    refused_plainly (g.N.Blocks.seen c.args.store.now) (g.N.Blocks.seen c.rebuild_ball_with.new.store) c.args.side
+    (option_copied c.args.old) c.args.self.now.models.now.models
+    (ball_act c.args.self.now.set c.args.self.now.ball.now)
+    (ball_plain c.args.self.now.set c.args.self.now.ball.now)
+    (ball_same c.args.self.now.models.now.models c.args.self.now.set c.args.self.now.ball.now) (Err c.in-Err.full)
+    c.in-Err.ensures.full

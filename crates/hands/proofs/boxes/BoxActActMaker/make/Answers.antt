@@ -1,28 +1,37 @@
-use Rattle.std.proofs.Common.{◌-◌}
+use Rattle.std.proofs.Common.{Ok, Err}
 use Rattle.std.specs.Prelude.{option_copied}
-use Rattle.node_words.specs.Gathering.{Fails, Grows}
-use Rattle.edit_cells.specs.Worlds.{Rebuilt, world_shape}
-use Rattle.hands.proofs.BoxLaws.{for_box}
+use Rattle.act_rebuilds.specs.Boxes.{box_act}
+use Rattle.act_rebuilds.proofs.Rooms.{most_room}
+use Rattle.hands.proofs.BoxLaws.{box_plain, box_same}
+use Rattle.hands.proofs.PlainLaws.{made_plainly, grown_plainly, refused_plainly}
 use Rattle.hands.proofs.boxes.BoxActActMaker.make.Goals as goal
+
+pub rebuild_box_with-requires-clause-room : goal.rebuild_box_with-requires-clause-room
+rebuild_box_with-requires-clause-room g c = most_room (box_act c.args.self.now.set c.args.self.now.part) _ c.requires.room
 
 pub returns-in-Ok-clause-ok : goal.returns-in-Ok-clause-ok
 returns-in-Ok-clause-ok g c =
-    for_box c.args.self.now.models.now c.args.self.now.set c.args.self.now.part
-    (g.N.Blocks.seen c.args.store.now) c.args.side (option_copied c.args.old)
-    (λ world. Rebuilt (c.args.side - 2) world c.in-Ok.root (g.N.Blocks.seen c.args.store.now)
-    (g.N.Blocks.seen c.rebuild_box_with.new.store)) c.in-Ok.ensures.ok
+    made_plainly (g.N.Blocks.seen c.args.store.now) (g.N.Blocks.seen c.rebuild_box_with.new.store) c.args.side
+    (option_copied c.args.old) c.args.self.now.models.now.models
+    (box_act c.args.self.now.set c.args.self.now.part)
+    (box_plain c.args.self.now.set c.args.self.now.part)
+    (box_same c.args.self.now.models.now.models c.args.self.now.set c.args.self.now.part) (Ok c.in-Ok.root)
+    c.in-Ok.ensures.ok
 
 pub returns-in-Ok-clause-grows : goal.returns-in-Ok-clause-grows
 returns-in-Ok-clause-grows g c =
-    for_box c.args.self.now.models.now c.args.self.now.set c.args.self.now.part
-    (g.N.Blocks.seen c.args.store.now) c.args.side (option_copied c.args.old)
-    (λ world. Grows (world_shape (c.args.side - 2) world) (g.N.Blocks.seen c.args.store.now)
-    (g.N.Blocks.seen c.rebuild_box_with.new.store)) c.in-Ok.ensures.grows
+    grown_plainly (g.N.Blocks.seen c.args.store.now) (g.N.Blocks.seen c.rebuild_box_with.new.store) c.args.side
+    (option_copied c.args.old) c.args.self.now.models.now.models
+    (box_act c.args.self.now.set c.args.self.now.part)
+    (box_plain c.args.self.now.set c.args.self.now.part)
+    (box_same c.args.self.now.models.now.models c.args.self.now.set c.args.self.now.part) (Ok c.in-Ok.root)
+    c.in-Ok.ensures.grows
 
 pub returns-in-Err-clause-full : goal.returns-in-Err-clause-full
 returns-in-Err-clause-full g c =
-    for_box c.args.self.now.models.now c.args.self.now.set c.args.self.now.part
-    (g.N.Blocks.seen c.args.store.now) c.args.side (option_copied c.args.old)
-    (λ world. Fails (world_shape (c.args.side - 2) world) c.in-Err.full.level
-    c.in-Err.full.bucket (g.N.Blocks.seen c.args.store.now)
-    (g.N.Blocks.seen c.rebuild_box_with.new.store)) c.in-Err.ensures.full
+    refused_plainly (g.N.Blocks.seen c.args.store.now) (g.N.Blocks.seen c.rebuild_box_with.new.store) c.args.side
+    (option_copied c.args.old) c.args.self.now.models.now.models
+    (box_act c.args.self.now.set c.args.self.now.part)
+    (box_plain c.args.self.now.set c.args.self.now.part)
+    (box_same c.args.self.now.models.now.models c.args.self.now.set c.args.self.now.part) (Err c.in-Err.full)
+    c.in-Err.ensures.full

@@ -1,4 +1,5 @@
 use Rattle.std.proofs.Common.{refl, rules}
+use Rattle.session.proofs.ActLaws.{maker_of, models_of}
 use Rattle.session.proofs.EditLaws.{base_back, base_gone, base_room, once_told, pinned_answers, pinned_room, stale_told, two_room}
 use Rattle.session.proofs.ForgetLaws.{knows_back}
 use Rattle.session.proofs.CommitLaws.{held_itself}
@@ -59,3 +60,9 @@ pub returns-in-Err-clause-knows : goal.returns-in-Err-clause-knows
 returns-in-Err-clause-knows g c =
     knows_back c.args.self.now.table c.give_root-in-Err-2.new.s c.give_root-in-Err-2.ensures.rest
     c.tell-in-Err.ensures
+
+pub attempt-requires-clause-maker : goal.attempt-requires-clause-maker
+attempt-requires-clause-maker g c =
+    maker_of c.args.self.now _ _ _ c.args.act.now _
+    (models_of c.args.self.now _ _ _ c.self.view_is c.self.invariant) c.requires.fits
+    c.requires.edit refl refl

@@ -12,7 +12,7 @@ tell_root-answer-requires-clause-root c =
 pub returns-clause-tells : goal.returns-clause-tells
 returns-clause-tells c =
     pinned_tells c.args.self.now.table c.args.s.now c.args.p.now _ (search rules) c.requires.rest
-    c.requires.pinned c.args.question.now c.tell_root-answer.result
+    c.requires.pinned c.args.self.now.tint c.args.question.now c.tell_root-answer.result
     c.tell_root-answer.ensures.tells
 
 pub returns-clause-knows : goal.returns-clause-knows

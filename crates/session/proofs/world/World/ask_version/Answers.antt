@@ -19,6 +19,7 @@ returns-in-Ok-clause-told g c = λ number.
     asked_told c.args.self.now number c.args.version c.args.question c.args.s.now c.pin.new.pass
     c.in-Ok.field-0 c.tell_root-answer.result c.requires.rest c.in-Ok.ensures.looks
     c.in-Ok.ensures.pinned _ (search rules) c.tell_root-answer.ensures.tells
+    c.tell_root-answer.ensures.resting
     c.tell_root-answer.new.s c.give_back.new.s c.tell_root-answer.ensures.stays
     c.tell_root-answer.ensures.seen c.give_back.ensures.stays c.give_back.ensures.only
 
@@ -27,6 +28,7 @@ returns-in-Ok-clause-knows g c =
     knows_asked c.args.self.now 0 c.args.version c.args.question c.args.s.now c.pin.new.pass
     c.in-Ok.field-0 c.tell_root-answer.result c.requires.rest c.in-Ok.ensures.looks
     c.in-Ok.ensures.pinned _ (search rules) c.tell_root-answer.ensures.tells
+    c.tell_root-answer.ensures.resting
     c.tell_root-answer.new.s c.give_back.new.s c.tell_root-answer.ensures.stays
     c.give_back.ensures.stays c.tell.ensures
 

@@ -11,18 +11,18 @@ make_next-requires-clause-base g c =
 
 pub commit_root-requires-clause-room : goal.commit_root-requires-clause-room
 commit_root-requires-clause-room g c =
-    made_room c.args.self.now c.args.line _ _ c.args.base.now c.args.s.now c.make_next.new.s
+    made_room c.args.self.now c.args.line _ _ _ c.args.base.now c.args.s.now c.make_next.new.s
     c.requires.maker c.requires.base c.make_next.ensures.stays _ c.in-Ok.ensures.root
     c.requires.room
 
 pub returns-in-Err-clause-comes : goal.returns-in-Err-clause-comes
 returns-in-Err-clause-comes g c =
-    full_comes c.args.self.now c.args.line _ _ c.args.base.now c.args.s.now c.make_next.new.s
+    full_comes c.args.self.now c.args.line _ _ _ c.args.base.now c.args.s.now c.make_next.new.s
     c.requires.maker c.requires.base c.make_next.ensures.stays c.in-Err.full c.in-Err.ensures.full
 
 pub give_root-requires-in-Err-LogFull-clause-room : goal.give_root-requires-in-Err-LogFull-clause-room
 give_root-requires-in-Err-LogFull-clause-room g c =
-    late_room c.args.self.now c.args.line _ _ c.args.base.now c.args.s.now c.make_next.new.s
+    late_room c.args.self.now c.args.line _ _ _ c.args.base.now c.args.s.now c.make_next.new.s
     c.requires.maker c.requires.base c.make_next.ensures.stays _
     c.in-Ok.ensures.root c.commit_root.new.s.view c.in-Err-LogFull.ensures.kept c.requires.room
 
@@ -34,7 +34,7 @@ give_root-requires-clause-held g c =
 
 pub returns-in-Ok-commit_root-clause-comes : goal.returns-in-Ok-commit_root-clause-comes
 returns-in-Ok-commit_root-clause-comes g c =
-    done_comes c.args.self.now c.args.line _ _ c.args.base.now c.args.s.now c.make_next.new.s
+    done_comes c.args.self.now c.args.line _ _ _ c.args.base.now c.args.s.now c.make_next.new.s
     c.requires.maker c.requires.base c.make_next.ensures.stays _
     c.in-Ok.ensures.root c.commit_root.new.s.view c.give_root.new.s.view
     c.in-Ok-commit_root.field-0
@@ -44,7 +44,7 @@ returns-in-Ok-commit_root-clause-comes g c =
 
 pub returns-in-Err-LogFull-clause-comes : goal.returns-in-Err-LogFull-clause-comes
 returns-in-Err-LogFull-clause-comes g c =
-    late_comes c.args.self.now c.args.line _ _ c.args.base.now c.args.s.now c.make_next.new.s
+    late_comes c.args.self.now c.args.line _ _ _ c.args.base.now c.args.s.now c.make_next.new.s
     c.requires.maker c.requires.base c.make_next.ensures.stays _
     c.in-Ok.ensures.root c.commit_root.new.s.view c.give_root-in-Err-LogFull.new.s.view c.in-Err-LogFull.root
     c.in-Err-LogFull.ensures.looks c.in-Err-LogFull.ensures.kept
@@ -54,7 +54,7 @@ returns-in-Err-LogFull-clause-comes g c =
 
 pub returns-in-Err-Stale-clause-comes : goal.returns-in-Err-Stale-clause-comes
 returns-in-Err-Stale-clause-comes g c =
-    stale_comes c.args.self.now c.args.line _ _ c.args.base.now c.args.s.now c.make_next.new.s
+    stale_comes c.args.self.now c.args.line _ _ _ c.args.base.now c.args.s.now c.make_next.new.s
     c.requires.maker c.requires.base c.make_next.ensures.stays _
     c.in-Ok.ensures.root c.commit_root.new.s.view c.in-Err-Stale.now c.in-Err-Stale.root
     c.in-Err-Stale.ensures.looks c.in-Err-Stale.ensures.kept
@@ -64,7 +64,7 @@ returns-in-Err-Stale-clause-comes g c =
 
 pub give_root-requires-clause-room : goal.give_root-requires-clause-room
 give_root-requires-clause-room g c =
-    done_room c.args.self.now c.args.line _ _ c.args.base.now c.args.s.now c.make_next.new.s
+    done_room c.args.self.now c.args.line _ _ _ c.args.base.now c.args.s.now c.make_next.new.s
     c.requires.maker c.requires.base c.make_next.ensures.stays _ c.in-Ok.ensures.root
     c.commit_root.new.s.view
     c.in-Ok-commit_root.field-0

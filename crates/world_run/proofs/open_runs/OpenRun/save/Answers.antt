@@ -17,4 +17,4 @@ returns-clause-is_name c =
     let has : HasSave c.self.inside.sessions.items c.args.k c.place_of-place.result =
     subst (λ (zs : List SavedSession). HasSave zs c.args.k c.place_of-place.result) c.as_slice.ensures.value c.place_of-place.ensures
     in
-    save_named c.self.inside.sessions.items c.args.k c.place_of-place.result c.index.result.now has c.index.ensures c.self.inside.world.table c.index-2.result.now c.self.invariant.0 c.index-2.ensures
+    save_named c.self.inside.sessions.items c.args.k c.place_of-place.result c.index.result.now has c.index.ensures c.self.inside.world.tint c.self.inside.world.table c.index-2.result.now c.self.invariant.0 c.index-2.ensures

@@ -3,7 +3,7 @@ use Rattle.std.specs.Prelude.{option_copied}
 use Rattle.node_words.specs.Gathering.{Grows, Fails}
 use Rattle.edit_stamp.specs.Worlds.{Rebuilt, world_shape}
 use Rattle.act_rebuilds.proofs.StampActs.{for_act}
-use Rattle.act_rebuilds.proofs.rebuild.stamp.Goals as goal
+use Rattle.act_rebuilds.proofs.plain.stamp.Goals as goal
 
 pub returns-in-Ok-clause-ok : goal.returns-in-Ok-clause-ok
 returns-in-Ok-clause-ok g c models m e =

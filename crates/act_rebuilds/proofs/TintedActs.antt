@@ -1,0 +1,124 @@
+-- A tinted act with a stencil of the model that it names makes the parts of the act.
+use Rattle.std.proofs.Common.{◌≡◌, ℕ, ◌-◌, ◌/◌, ◌^◌, ◌≤◌, Option, Some, None, List, Ok, Err, refl, sym, ◌∙◌, ap, subst, arith}
+use Rattle.std.specs.Prelude.{Result, IfOk, IfErr}
+use Rattle.std.specs.List.{slice_get}
+use Rattle.vw_cell.specs.declared.cells.Cell.{Cell}
+use Rattle.vw_cell.specs.Places.{FitsAt}
+use Rattle.vox_read.specs.Contents.{Content}
+use Rattle.node_shapes.specs.declared.names.Name.{Name}
+use Rattle.node_words.specs.declared.shares.Full.{Full}
+use Rattle.node_words.specs.Held.{Seen}
+use Rattle.history_model.specs.declared.acts.Act.{Act}
+use Rattle.history_model.specs.declared.acts.Act.TheVariants as acts
+use Rattle.history_model.specs.declared.acts.TintAct.{TintAct}
+use Rattle.history_model.specs.declared.acts.TintAct.TheVariants.{Fill, Erase, Ball, Carve, Copy, Stamp}
+use Rattle.history_model.specs.Worlds.{World}
+use Rattle.history_model.specs.Tints.{Tints, ink_of}
+use Rattle.history_model.specs.Logs.{FitsModel, FitsWorld, TintFits}
+use Rattle.history_model.specs.Parts.{part, part_number}
+use Rattle.history_model.specs.Stores.{edit_parts}
+use Rattle.colour.specs.Inks.{Inked, DrawsTints, FitsInk, HasInk, parts_in}
+use Rattle.colour.specs.Made.{PartsMade, PartsFail}
+use Rattle.colour.proofs.Quarters.{quarter_is}
+use Rattle.colour.proofs.TintedLaws.{ink_is}
+use Rattle.act_rebuilds.specs.Acts.{IsLargeFor, room_for, RebuildsAct, GrowsByAct, RefusesAct}
+
+-- the stencil makes the parts of the act
+parts_as : (side : ℕ) (models : List Content) (t : TintAct) (stencil : Option Inked) → 4 ≤ side
+    → HasInk models t stencil
+    → parts_in (2 ^ (side - 2)) t stencil ≡ edit_parts (2 ^ side) models (acts.Tint t)
+parts_as side models t stencil large ink =
+    ap (λ (i : Tints). part (2 ^ (side - 2)) i t) (ink_is models t stencil ink)
+    ∙ ap (λ (n : ℕ). part n (ink_of models t) t)
+    (sym (quarter_is side (2 ^ side) (omega (arith, large)) refl))
+
+module _ (old new : Seen) (side : ℕ) (root : Option Name) (models : List Content) (t : TintAct)
+    (stencil : Option Inked) (large : 4 ≤ side) (ink : HasInk models t stencil) where
+  made_parts : (name : Option Name)
+      → PartsMade old side root (parts_in (2 ^ (side - 2)) t stencil) (part_number t) name new
+      → PartsMade old side root (edit_parts (2 ^ side) models (acts.Tint t)) (part_number t) name new
+  made_parts name made =
+      subst (λ (parts : ℕ → World → World). PartsMade old side root parts (part_number t) name new)
+      (parts_as side models t stencil large ink) made
+
+  pub tints_rebuilt : (result : Result (Option Name) Full)
+      → IfOk result (λ r. PartsMade old side root (parts_in (2 ^ (side - 2)) t stencil)
+      (part_number t) r new)
+      → RebuildsAct old side root models (acts.Tint t) result new
+  tints_rebuilt (Ok name) made = (made_parts name made).came
+  tints_rebuilt (Err full) made = tt
+
+  pub tints_grown : (result : Result (Option Name) Full)
+      → IfOk result (λ r. PartsMade old side root (parts_in (2 ^ (side - 2)) t stencil)
+      (part_number t) r new)
+      → GrowsByAct old side root models (acts.Tint t) result new
+  tints_grown (Ok name) made = (made_parts name made).grown
+  tints_grown (Err full) made = tt
+
+  pub tints_refused : (result : Result (Option Name) Full)
+      → IfErr result (λ e. PartsFail old side root (parts_in (2 ^ (side - 2)) t stencil)
+      (part_number t) e.level e.bucket new)
+      → RefusesAct old side root models (acts.Tint t) result new
+  tints_refused (Ok name) fails = tt
+  tints_refused (Err full) fails =
+      subst (λ (parts : ℕ → World → World). PartsFail old side root parts (part_number t)
+      full.level full.bucket new) (parts_as side models t stencil large ink) fails
+
+-- a stamp fits where its model does, which has the stencil's size
+model_fits : (n : ℕ) (models : List Content) (m : ℕ) (at : Cell) (model : Content) (inked : Inked)
+    → slice_get models m ≡ Some model → DrawsTints model inked
+    → FitsModel n (slice_get models m) at → FitsAt at inked.size n
+model_fits n models m at model inked e d f =
+    subst (λ (size : Cell). FitsAt at size n) (sym d.size)
+    (subst (λ (o : Option Content). FitsModel n o at) e f)
+
+ink_fits : (n : ℕ) (models : List Content) (t : TintAct) (stencil : Option Inked)
+    → HasInk models t stencil → TintFits n models t → FitsInk n t stencil
+ink_fits n models (Fill b c) None ink f = f
+ink_fits n models (Fill b c) (Some inked) ink f = absurd ink
+ink_fits n models (Erase b) None ink f = f
+ink_fits n models (Erase b) (Some inked) ink f = absurd ink
+ink_fits n models (Ball ball c) None ink f = f
+ink_fits n models (Ball ball c) (Some inked) ink f = absurd ink
+ink_fits n models (Carve ball) None ink f = f
+ink_fits n models (Carve ball) (Some inked) ink f = absurd ink
+ink_fits n models (Copy b to) None ink f = f
+ink_fits n models (Copy b to) (Some inked) ink f = absurd ink
+ink_fits n models (Stamp m at) None ink f = absurd ink
+ink_fits n models (Stamp m at) (Some inked) ink f =
+    model_fits n models m at ink.0 inked ink.1 ink.2 f
+
+-- of an act that is this tinted one
+module _ (side : ℕ) (models : List Content) (act : Act) (t : TintAct) (is : act ≡ acts.Tint t) where
+  pub one_large : IsLargeFor act side → 4 ≤ side
+  one_large large = subst (λ (a : Act). IsLargeFor a side) is large
+
+  pub one_room : (trees : ℕ) → trees ≤ room_for act → trees ≤ 3909
+  one_room trees le = subst (λ (a : Act). trees ≤ room_for a) is le
+
+  pub one_fits : FitsWorld (2 ^ side) models act → TintFits (2 ^ side / 4) models t
+  one_fits f = subst (λ (a : Act). FitsWorld (2 ^ side) models a) is f
+
+  pub one_ink_fits : (stencil : Option Inked) → IsLargeFor act side → HasInk models t stencil
+      → FitsWorld (2 ^ side) models act → FitsInk (2 ^ (side - 2)) t stencil
+  one_ink_fits stencil large ink f =
+      let two : 2 ≤ side = omega (arith, one_large large) in
+      ink_fits (2 ^ (side - 2)) models t stencil ink
+      (subst (λ (n : ℕ). TintFits n models t) (quarter_is side (2 ^ side) two refl) (one_fits f))
+
+-- what was told of the tinted act is told of it
+module _ (old new : Seen) (side : ℕ) (root : Option Name) (models : List Content) (act : Act)
+    (t : TintAct) (result : Result (Option Name) Full) (is : act ≡ acts.Tint t) where
+  pub rebuilds_tint : RebuildsAct old side root models (acts.Tint t) result new
+      → RebuildsAct old side root models act result new
+  rebuilds_tint h =
+      subst (λ (a : Act). RebuildsAct old side root models a result new) (sym is) h
+
+  pub grows_tint : GrowsByAct old side root models (acts.Tint t) result new
+      → GrowsByAct old side root models act result new
+  grows_tint h = subst (λ (a : Act). GrowsByAct old side root models a result new) (sym is) h
+
+  pub refuses_tint : RefusesAct old side root models (acts.Tint t) result new
+      → RefusesAct old side root models act result new
+  refuses_tint h =
+      subst (λ (a : Act). RefusesAct old side root models a result new) (sym is) h

@@ -1,0 +1,165 @@
+//! Runs over worlds whose cells have tints.
+
+use std::alloc::Global;
+use std::sync::Wait;
+use std::test::Fail;
+use std::thread::Threads;
+use test_calls::{ANSWERS, GOOD, ends, ends_by, has, holds, shelf_with};
+use test_gates::{Place, Rule};
+use vw_io::{MemoryShelf, Shelf};
+
+// A cell gets tint 5, and then tint 2: the second fill goes over the first.
+const TWICE: &str = "fill 0 0 0 1 1 1 5\ncolour 0 0 0\ncolour 1 0 0\ncount 0 0 0 8 8 8\n\
+     fill 0 0 0 1 1 1 2\ncolour 0 0 0\nsave c.vox 0 0 0 1 1 1\n";
+
+const TWICE_ANSWERS: &str =
+    "1 @1 ok\n2 @1 colour 5\n3 @1 colour 0\n4 @1 count 1\n5 @2 ok\n6 @2 colour 2\n7 @2 saved 1\n";
+
+const TWICE_JOURNAL: &str =
+    "voxdag journal 2\nside 8\n1 0 1 fill 0 0 0 1 1 1 5\n2 0 5 fill 0 0 0 1 1 1 2\nend\n";
+
+// The store has four times the side. Tint 5 has cells in the planes of all cells and of bits 0 and
+// 2, of which the last two share a block of side 16, and tint 2 in those of all cells and of bit 1.
+const TWICE_REPORT: &str =
+    "voxdag report 1\nside 32\nrecords 2\nmarks 0\nversion 0 empty\nversion 1 root 1\n\
+     version 2 root 2\nlevel 0 nodes 1\nlevel 1 nodes 1\nlevel 2 nodes 3\nlevel 3 nodes 2\n";
+
+const TWICE_LINE: &str = "scripts 1 records 2 marks 0 nodes 7\n";
+
+// A model of one cell of colour 2, whose last byte is that colour.
+const OF_TWO: [u8; 64] =
+    *b"VOX \x96\0\0\0MAIN\0\0\0\0\x2c\0\0\0SIZE\x0c\0\0\0\0\0\0\0\x01\0\0\0\x01\0\0\0\x01\0\0\0XYZI\x08\0\0\0\0\0\0\0\x01\0\0\0\0\0\0\x02";
+
+// A shelf after a run of this script with tints at side 8, which puts this line.
+fn coloured<R: Threads + Wait + Sync>(
+    rt: &R,
+    alloc: Global,
+    script: &str,
+    printed: &str,
+) -> Result<MemoryShelf, Fail> {
+    let mut shelf = shelf_with(alloc, script.as_bytes())?;
+    let line = "run --colours --side 8 --journal j --report p one.vox s";
+    if !ends(rt, alloc, line, &mut shelf, 0, printed)? {
+        return Err(Fail::from("the line"));
+    }
+    Ok(shelf)
+}
+
+#[test]
+fn cells_have_their_last_tint(rt: HostRuntime) -> Result<(), Fail> {
+    let shelf = coloured(&rt, rt.alloc(), TWICE, TWICE_LINE)?;
+    assert!(rt; has(&shelf, "s.out", Some(TWICE_ANSWERS)));
+    assert!(rt; has(&shelf, "j", Some(TWICE_JOURNAL)));
+    assert!(rt; has(&shelf, "p", Some(TWICE_REPORT)));
+    assert!(rt; holds(&shelf, "c.vox", &OF_TWO));
+    Ok(())
+}
+
+// Scripts, the lines that they put, and their transcripts.
+const ROWS: &[(&str, &str, &str)] = &[
+    // a fill without a tint gives tint 1
+    (GOOD, "scripts 1 records 2 marks 0 nodes 8\n", ANSWERS),
+    // a stamp gives the colours of its model
+    (
+        "fill 2 0 0 1 1 1 6\nstamp 0 2 0 0\ncolour 2 0 0\n",
+        "scripts 1 records 2 marks 0 nodes 6\n",
+        "1 @1 ok\n2 @2 ok\n3 @2 colour 1\n",
+    ),
+    // the last tint there is, in the last cell that there is
+    (
+        "fill 7 7 7 1 1 1 255\ncolour 7 7 7\nat 0 colour 7 7 7\nget 7 7 7\nbounds\n\
+         ray 0 7 7 1 0 0\n",
+        "scripts 1 records 1 marks 0 nodes 5\n",
+        "1 @1 ok\n2 @1 colour 255\n3 @1 colour 0\n4 @1 set\n5 @1 bounds 7 7 7 1 1 1\n\
+         6 @1 hit 7 7 7\n",
+    ),
+    // versions are the same where their tints are
+    (
+        "fill 0 0 0 1 1 1 5\nfill 0 0 0 1 1 1 2\nsame 1 2\nundo\nsame 1 3\ncolour 0 0 0\nredo\n\
+         same 2 4\ncolour 0 0 0\n",
+        "scripts 1 records 4 marks 0 nodes 7\n",
+        "1 @1 ok\n2 @2 ok\n3 @2 different\n4 @3 ok\n5 @3 same\n6 @3 colour 5\n7 @4 ok\n\
+         8 @4 same\n9 @4 colour 2\n",
+    ),
+];
+
+#[test]
+fn tints_are_told(rt: HostRuntime) -> Result<(), Fail> {
+    for &(script, printed, transcript) in ROWS {
+        let shelf = coloured(&rt, rt.alloc(), script, printed)?;
+        assert!(rt; has(&shelf, "s.out", Some(transcript)), "at {script}");
+    }
+    Ok(())
+}
+
+// Words of a script that fit no world with tints, and the line that says so.
+const REFUSED: &[(&str, &str)] = &[
+    ("fill 0 0 0 1 1 1 0\n", "voxdag: script 0 1 3\n"),
+    ("fill 0 0 0 1 1 1 256\n", "voxdag: script 0 1 3\n"),
+    ("ball 0 0 0 1 0\n", "voxdag: script 0 1 3\n"),
+    ("erase 0 0 0 1 1 1 5\n", "voxdag: script 0 1 5\n"),
+    ("fill 0 0 0 1 1 1 5 5\n", "voxdag: script 0 1 5\n"),
+    ("colour 8 0 0\n", "voxdag: script 0 1 3\n"),
+    ("fill 8 0 0 1 1 1 5\n", "voxdag: script 0 1 3\n"),
+];
+
+#[test]
+fn tints_have_their_range(rt: HostRuntime) -> Result<(), Fail> {
+    for &(script, printed) in REFUSED {
+        let mut shelf = shelf_with(rt.alloc(), script.as_bytes())?;
+        let line = "run --colours --side 8 one.vox s";
+        let ended = ends(&rt, rt.alloc(), line, &mut shelf, 5, printed)?;
+        assert!(rt; ended && has(&shelf, "s.out", None), "at {script}");
+    }
+    Ok(())
+}
+
+// Without the flag no cell has a tint.
+#[test]
+fn plain_runs_take_no_tint(rt: HostRuntime) -> Result<(), Fail> {
+    for &(script, printed) in &[
+        ("fill 0 0 0 1 1 1 5\n", "voxdag: script 0 1 5\n"),
+        ("colour 0 0 0\n", "voxdag: script 0 1 1\n"),
+    ] {
+        let mut shelf = shelf_with(rt.alloc(), script.as_bytes())?;
+        let line = "run --side 8 one.vox s";
+        let ended = ends(&rt, rt.alloc(), line, &mut shelf, 5, printed)?;
+        assert!(rt; ended, "at {script}");
+    }
+    Ok(())
+}
+
+// What a run with tints left is neither audited nor made one file: its journal is refused for its
+// first line.
+#[test]
+fn coloured_journals_are_refused(rt: HostRuntime) -> Result<(), Fail> {
+    let mut shelf = coloured(&rt, rt.alloc(), TWICE, TWICE_LINE)?;
+    for &line in &["audit one.vox j s", "dag one.vox j d"] {
+        let ended = ends(&rt, rt.alloc(), line, &mut shelf, 12, "voxdag: journal 1\n")?;
+        assert!(rt; ended, "at {line}");
+    }
+    Ok(())
+}
+
+// The second script begins when the first has ended.
+const IN_TURN: &[Rule] = &[((1, 1, Place::Before), (0, 2, Place::After))];
+
+const BOTH_JOURNAL: &str =
+    "voxdag journal 2\nside 8\n1 0 1 fill 0 0 0 1 1 1 5\n2 1 1 fill 0 0 0 1 1 1 2\nend\n";
+
+// A session tells the tints that others gave, and what it saved has them.
+#[test]
+fn sessions_see_the_tints_of_others(rt: HostRuntime) -> Result<(), Fail> {
+    let first = "fill 0 0 0 1 1 1 5\ncolour 0 0 0\n";
+    let second = "fill 0 0 0 1 1 1 2\nat 1 colour 0 0 0\ncolour 0 0 0\nsave c.vox 0 0 0 1 1 1\n";
+    let mut shelf = shelf_with(rt.alloc(), first.as_bytes())?;
+    shelf.write("t", second.as_bytes())?;
+    let line = "run --colours --side 8 --journal j one.vox s t";
+    let printed = "scripts 2 records 2 marks 0 nodes 7\n";
+    assert!(rt; ends_by(&rt, IN_TURN, rt.alloc(), line, &mut shelf, 0, printed)?);
+    assert!(rt; has(&shelf, "s.out", Some("1 @1 ok\n2 @1 colour 5\n")));
+    let seen = "1 @2 ok\n2 @2 colour 5\n3 @2 colour 2\n4 @2 saved 1\n";
+    assert!(rt; has(&shelf, "t.out", Some(seen)) && has(&shelf, "j", Some(BOTH_JOURNAL)));
+    assert!(rt; holds(&shelf, "c.vox", &OF_TWO));
+    Ok(())
+}
