@@ -55,6 +55,16 @@ fn cells_have_their_last_tint(rt: HostRuntime) -> Result<(), Fail> {
     Ok(())
 }
 
+// No level of this run can need 256 contents, so that no bucket of so many slots is full.
+#[test]
+fn roomy_buckets_refuse_no_tint(rt: HostRuntime) -> Result<(), Fail> {
+    let mut shelf = shelf_with(rt.alloc(), TWICE.as_bytes())?;
+    let line = "run --colours --side 8 --cap 256 one.vox s";
+    assert!(rt; ends(&rt, rt.alloc(), line, &mut shelf, 0, TWICE_LINE)?);
+    assert!(rt; has(&shelf, "s.out", Some(TWICE_ANSWERS)));
+    Ok(())
+}
+
 // Scripts, the lines that they put, and their transcripts.
 const ROWS: &[(&str, &str, &str)] = &[
     // a fill without a tint gives tint 1
@@ -81,6 +91,15 @@ const ROWS: &[(&str, &str, &str)] = &[
         "1 @1 ok\n2 @2 ok\n3 @2 different\n4 @3 ok\n5 @3 same\n6 @3 colour 5\n7 @4 ok\n\
          8 @4 same\n9 @4 colour 2\n",
     ),
+    // a copy takes tints along, and cells that are cleared have none
+    (
+        "ball 4 4 4 1 7\ncopy 4 4 4 1 1 1 to 0 0 0\ncolour 0 0 0\ncarve 4 4 4 0\ncolour 4 4 4\n\
+         at 2 colour 4 4 4\ntry erase 0 0 0 1 1 1\ncolour 0 0 0\ncount 0 0 0 8 8 8\n\
+         faces 0 0 0 8 8 8\n",
+        "scripts 1 records 4 marks 0 nodes 22\n",
+        "1 @1 ok\n2 @2 ok\n3 @2 colour 7\n4 @3 ok\n5 @3 colour 0\n6 @3 colour 7\n7 @4 ok\n\
+         8 @4 colour 0\n9 @4 count 6\n10 @4 faces 36\n",
+    ),
 ];
 
 #[test]
@@ -97,9 +116,15 @@ const REFUSED: &[(&str, &str)] = &[
     ("fill 0 0 0 1 1 1 0\n", "voxdag: script 0 1 3\n"),
     ("fill 0 0 0 1 1 1 256\n", "voxdag: script 0 1 3\n"),
     ("ball 0 0 0 1 0\n", "voxdag: script 0 1 3\n"),
+    ("ball 0 0 0 1 256\n", "voxdag: script 0 1 3\n"),
+    ("try fill 0 0 0 1 1 1 0\n", "voxdag: script 0 1 3\n"),
     ("erase 0 0 0 1 1 1 5\n", "voxdag: script 0 1 5\n"),
+    ("carve 0 0 0 1 5\n", "voxdag: script 0 1 5\n"),
     ("fill 0 0 0 1 1 1 5 5\n", "voxdag: script 0 1 5\n"),
     ("colour 8 0 0\n", "voxdag: script 0 1 3\n"),
+    ("at 0 colour 8 0 0\n", "voxdag: script 0 1 3\n"),
+    ("colour 0 0\n", "voxdag: script 0 1 4\n"),
+    ("colour 0 0 0 0\n", "voxdag: script 0 1 5\n"),
     ("fill 8 0 0 1 1 1 5\n", "voxdag: script 0 1 3\n"),
 ];
 
@@ -119,7 +144,9 @@ fn tints_have_their_range(rt: HostRuntime) -> Result<(), Fail> {
 fn plain_runs_take_no_tint(rt: HostRuntime) -> Result<(), Fail> {
     for &(script, printed) in &[
         ("fill 0 0 0 1 1 1 5\n", "voxdag: script 0 1 5\n"),
+        ("ball 0 0 0 1 5\n", "voxdag: script 0 1 5\n"),
         ("colour 0 0 0\n", "voxdag: script 0 1 1\n"),
+        ("at 0 colour 0 0 0\n", "voxdag: script 0 1 1\n"),
     ] {
         let mut shelf = shelf_with(rt.alloc(), script.as_bytes())?;
         let line = "run --side 8 one.vox s";
