@@ -59,6 +59,7 @@ plain_place() {
 plain_journal() {
     local meaning='no line of a journal goes on so'
     [ "$1" = dag ] && meaning='no line of a journal goes on so, or its record breaks a rule of a legal history'
+    [ "$3" = 1 ] && meaning='no journal begins so, or it is of cells with tints'
     printf '%s, line %s: %s\n' "$2" "$3" "$meaning"
 }
 
@@ -72,9 +73,10 @@ plain_usage() {
         '    voxdag dag FILE JOURNAL OUT' \
         '    voxdag look DAG v QUESTION' \
         '    voxdag audit [--buckets b] [--keep k] FILE JOURNAL SCRIPT ..' \
-        '    voxdag run [--side s] [--buckets b] [--cap c] [--keep k] [--journal J] [--report P] FILE SCRIPT ..' \
+        '    voxdag run [--side s] [--buckets b] [--cap c] [--keep k] [--journal J] [--report P] [--colours] FILE SCRIPT ..' \
         'Options stand anywhere behind run, each at most once, as --side s or --side=s. s is 4, 8, 16 and so on up to 4096,' \
-        'b is 1 to 4096, c is 1 to 256, k is 1 to 65535. There are 1 to 64 scripts.' \
+        'with --colours, which has no value, up to 1024; b is 1 to 4096, c is 1 to 256, k is 1 to 65535.' \
+        'There are 1 to 64 scripts.' \
         'No name is empty, and none begins with - but behind =.' \
         'Each SCRIPT.out, J and P are written, so none may be the name of FILE, of a SCRIPT or of another.' \
         'N, m, x, y, z and v have 1 to 6 digits; demo writes demo.0.out to demo.3.out and demo.journal.' \
@@ -83,13 +85,13 @@ plain_usage() {
 }
 
 # operand NUMBER WORD ..: the operand of this number, counted from 0, among the words behind a command. They are in the
-# grammar, so that each option has its value.
+# grammar, so that each option has its value, but for the flag.
 operand() {
     local number=$1
     shift
     while [ $# -gt 0 ]; do
         case $1 in
-            --*=*) shift ;;
+            --*=* | --colours) shift ;;
             --*) shift; shift ;;
             *)
                 [ "$number" = 0 ] && { printf '%s' "$1"; return; }
@@ -139,7 +141,7 @@ plain_script() {
     case $4 in
         1) meaning='a word that is no command there' ;;
         2) meaning='a word that is no number of 1 to 9 digits' ;;
-        3) meaning='something reaches out of the world, a size is 0, a ray has no steps, or no file can have this name or size' ;;
+        3) meaning='something reaches out of the world, a size is 0, a ray has no steps, no file can have this name or size, or no cell this tint' ;;
         4) meaning='a word is missing' ;;
         5) meaning='a word too many' ;;
         6) meaning='the VOX file has no such model' ;;
