@@ -439,6 +439,21 @@ def agrees(versions, scripts, read, buckets, keep):
 
 # ---- runs by chance
 
+def nodes_of(worlds, side):
+    """How many different contents with a cell the aligned blocks of these worlds have, over all levels."""
+    total, width = 0, 4
+    while width <= side:
+        blocks = set()
+        for cells in worlds:
+            by_block = {}
+            for c in cells:
+                by_block.setdefault(tuple(x // width for x in c), []).append(tuple(x % width for x in c))
+            blocks |= {frozenset(block) for block in by_block.values()}
+        total += len(blocks)
+        width *= 2
+    return total
+
+
 def random_box(rng, side):
     at = [rng.randrange(side) for _ in range(3)]
     return at + [rng.randint(1, side - c) for c in at]

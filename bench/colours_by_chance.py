@@ -132,18 +132,7 @@ class Run:
         return cells
 
     def nodes(self):
-        total, side = 0, 4
-        kept = [self.stored(tints) for v, tints in enumerate(self.tints) if v not in self.marks]
-        while side <= 4 * self.side:
-            blocks = set()
-            for cells in kept:
-                by_block = {}
-                for c in cells:
-                    by_block.setdefault(tuple(x // side for x in c), []).append(tuple(x % side for x in c))
-                blocks |= {frozenset(block) for block in by_block.values()}
-            total += len(blocks)
-            side *= 2
-        return total
+        return audits.nodes_of([self.stored(tints) for v, tints in enumerate(self.tints) if v not in self.marks], 4 * self.side)
 
 
 def random_line(rng, side, number):

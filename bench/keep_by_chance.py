@@ -95,18 +95,7 @@ class Run:
         return "".join(line + "\n" for line in lines + ["end"])
 
     def nodes(self):
-        total, side = 0, 4
-        kept = [cells for v, cells in enumerate(self.cells) if v not in self.marks]
-        while side <= self.side:
-            blocks = set()
-            for cells in kept:
-                by_block = {}
-                for c in cells:
-                    by_block.setdefault(tuple(x // side for x in c), []).append(tuple(x % side for x in c))
-                blocks |= {frozenset(block) for block in by_block.values()}
-            total += len(blocks)
-            side *= 2
-        return total
+        return audits.nodes_of([cells for v, cells in enumerate(self.cells) if v not in self.marks], self.side)
 
 
 def one_round(program, folder, rng, tally):

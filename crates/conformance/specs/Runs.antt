@@ -10,9 +10,9 @@ use Rattle.conformance.specs.Agreeing.{AgreesKeeping}
 use Rattle.conformance.specs.Refusing.{FullOnlyWherePossible}
 
 -- all scripts were run, and the last `keep` versions alone are held: one legal history of all
--- sessions, in which acts are tinted exactly where it is coloured, and each version was forgotten as
--- it fell out; which agrees with the scripts and their transcripts; and no change was refused for a
--- full bucket where not enough was possible
+-- sessions, in which acts are tinted exactly where it is coloured, and each version was forgotten
+-- as it fell out; which agrees with the scripts and their transcripts; and no change was refused
+-- for a full bucket where not enough was possible
 pub record AllRanKeeping (keep : ℕ) (p : Layout) (models : List Content)
     (scripts : List (List ScriptLine)) (transcripts : List (List LineAnswer)) (log : Log)
     : Type 0 where

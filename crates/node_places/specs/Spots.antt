@@ -45,8 +45,8 @@ bucket_words p level = p.cap * entry_words level
 abbrev pub level_words : Layout → ℕ → ℕ
 level_words p level = bucket_words p level * buckets_at p level
 
--- the turns stand behind the versions, each with the number of used slots behind it, and the entries
--- behind the turns
+-- the turns stand behind the versions, each with the number of used slots behind it, and the
+-- entries behind the turns
 abbrev pub first_turn : ℕ
 first_turn = 3 + version_words * versions
 
