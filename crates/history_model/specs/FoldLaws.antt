@@ -120,7 +120,8 @@ state_of_next {W} none makes records r =
     ∙ ap (next_state none makes before.states r.act) at
 
 pub next_of_edit : {W : Type 0} (none : W) (makes : Act → W → W) (states : List W) (act : Act)
-    (to : ℕ) → is_edit act ≡ true → next_state none makes states act to ≡ makes act (newest none states)
+    (to : ℕ) → is_edit act ≡ true
+    → next_state none makes states act to ≡ makes act (newest none states)
 next_of_edit none makes states (Fill b) to edit = refl
 next_of_edit none makes states (Erase b) to edit = refl
 next_of_edit none makes states (Ball b) to edit = refl
