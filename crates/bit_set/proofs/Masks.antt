@@ -6,7 +6,7 @@ use Rattle.std.proofs.lemmas.Nat.{ones_cat, and_mask, mod_below, pow_pos, mod-po
 use Rattle.std.proofs.lemmas.Nat.Bits.{bit_at_or, bit_at_and, bit_at_not, bit_at-lt}
 use lib.Count.{ones, ones_in}
 use Rattle.sums.specs.Sums.{sum_below, one_if, sum_below-same, sum_below-le, one_if-le}
-use Rattle.word_bits.specs.Runs.{low_ones, mask_small, in_run, off_run}
+use Rattle.sums.specs.Runs.{low_ones, mask_small, in_run, off_run}
 use Rattle.bit_set.specs.Bits.{PutsBits}
 
 pub sets_bits : (word k piece : ℕ) (value : Bool) (mask : ℕ) → value ≡ true → mask ≡ 2 ^ (k + piece) - 2 ^ k → PutsBits k piece value word (bit_or word mask)

@@ -93,7 +93,7 @@ fn piece_at(at: usize, to: usize) -> usize
 }
 
 // The bits from bit k on, `piece` of them, as a mask.
-#[tactic(auto, using(word_bits::specs::Runs::mask_is))]
+#[tactic(auto, using(sums::specs::Runs::mask_is))]
 fn mask(k: usize, piece: usize) -> u64
     requires some { 1 ≤ piece }
     requires in_word { k + piece ≤ 64 }

@@ -3,8 +3,8 @@ use Rattle.std.specs.Prelude.{◌≡◌, ℕ, Bool, Option}
 use Rattle.vw_cell.specs.declared.cells.Cell.{Cell}
 use Rattle.vw_cell.specs.declared.boxes.Boxed.{Boxed}
 use Rattle.vw_cell.specs.Counts.{number_in}
-use Rattle.world_questions.specs.Faces.{faces_in}
-use Rattle.world_questions.specs.Extents.{IsExtent}
+use Rattle.vw_cell.specs.Faces.{faces_in}
+use Rattle.vw_cell.specs.Extents.{IsExtent}
 use Rattle.history_model.specs.Ways.{Heading}
 use Rattle.history_model.specs.Rays.{Hits}
 use Rattle.history_model.specs.Worlds.{World}

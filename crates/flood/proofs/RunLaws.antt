@@ -6,7 +6,7 @@ use Rattle.std.proofs.lemmas.Bool.{cases_lt}
 use Rattle.std.proofs.lemmas.Nat.{mod-mul-add, div-mul-add}
 use Rattle.std.proofs.lemmas.Nat.Bits.{bit_at_or, bit_at_and, bit_at_not, bit_at-lt, bit_at_ones, bit_at_ones_above, bit_at_cat_high, bit_at_cat_low, bit_at-zero}
 use Rattle.std.proofs.lemmas.Nat.{pow_pos}
-use Rattle.word_bits.specs.Runs.{low_ones}
+use Rattle.sums.specs.Runs.{low_ones}
 use Rattle.block_walk.specs.Sums.{one_if}
 use Rattle.vw_cell.specs.declared.cells.Cell.{Cell}
 use Rattle.vw_cell.specs.declared.boxes.Boxed.{Boxed}

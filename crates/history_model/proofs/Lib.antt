@@ -15,3 +15,4 @@ pub mod MakingLaws
 pub mod PartLaws
 pub mod Agreeing
 pub mod Relating
+pub mod Telling

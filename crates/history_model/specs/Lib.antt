@@ -23,4 +23,5 @@ pub mod Following
 pub mod Refusals
 pub mod Ways
 pub mod Rays
+pub mod Signing
 pub use Rattle.vox_read.specs.Contents

@@ -2,6 +2,7 @@
 //!
 //! What the cells of each version are is said in `specs/Moments.antt`, cell by cell and with no
 //! tree, and what those of the store that keeps them are in `specs/Stores.antt`.
+//! A legal history has a journal, and a journal one history: laws in `laws`.
 #![tactic(auto)]
 
 mod acts;
@@ -9,6 +10,7 @@ mod entries;
 mod fitting;
 mod histories;
 mod journal;
+mod laws;
 mod making;
 mod packing;
 mod parts;
@@ -23,6 +25,7 @@ mod ways;
 pub use acts::{Act, TintAct};
 pub use histories::{History, Mark, Record};
 pub use journal::journal_text;
+pub use laws::{journals_tell_one_history, legal_histories_can_be_told};
 pub use making::may_make;
 pub use packing::{pack, unpack};
 pub use positions::position;

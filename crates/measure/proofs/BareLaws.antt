@@ -9,8 +9,8 @@ use Rattle.node_shapes.specs.Shape.{Shape, octant_shape}
 use Rattle.node_shapes.proofs.ShapeLaws.{has-in_octant, block_side-suc, block_side_some}
 use Rattle.block_walk.specs.Roots.{cells_of}
 use Rattle.block_walk.specs.Parts.{placed}
-use Rattle.world_questions.specs.declared.directions.Direction.{Direction}
-use Rattle.world_questions.specs.declared.directions.Direction.TheVariants.{LowX, HighX, LowY, HighY, LowZ, HighZ}
+use Rattle.vw_cell.specs.declared.directions.Direction.{Direction}
+use Rattle.vw_cell.specs.declared.directions.Direction.TheVariants.{LowX, HighX, LowY, HighY, LowZ, HighZ}
 use Rattle.measure.specs.Bare.{is_inside, next_place, place_beside, is_next_set, bare_of, other_half, is_low, across, stays, beside_shape}
 use Rattle.measure.proofs.AxisLaws.{up_one, up_in, up_stay, up_over, up_out, up_first, down_one, down_in, down_stay, down_over, down_out, down_last}
 

@@ -10,8 +10,8 @@ use Rattle.node_shapes.specs.Shape.{Shape, bits_of, bit_number, octant_number, h
 use Rattle.node_kernels.specs.Leaves.{LiesAcross}
 use Rattle.block_walk.specs.Roots.{cells_of}
 use Rattle.block_walk.proofs.LookLaws.{leaf_tells}
-use Rattle.world_questions.specs.declared.directions.Direction.{Direction}
-use Rattle.world_questions.specs.declared.directions.Direction.TheVariants.{LowX, HighX, LowY, HighY, LowZ, HighZ}
+use Rattle.vw_cell.specs.declared.directions.Direction.{Direction}
+use Rattle.vw_cell.specs.declared.directions.Direction.TheVariants.{LowX, HighX, LowY, HighY, LowZ, HighZ}
 use Rattle.measure.specs.Leaves.{TellsCells}
 use Rattle.measure.specs.Bare.{bare_of, is_next_set}
 use Rattle.measure.proofs.BareLaws.{next_inside, next_beside}

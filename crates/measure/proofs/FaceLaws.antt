@@ -16,9 +16,9 @@ use Rattle.block_walk.specs.Parts.{EndsBy, placed}
 use Rattle.block_walk.proofs.BlockLaws.{clear_block, nothing_block}
 use Rattle.block_walk.proofs.LookLaws.{block_still, root_side}
 use Rattle.block_walk.proofs.PartLaws.{placed_in}
-use Rattle.world_questions.specs.declared.directions.Direction.{Direction}
-use Rattle.world_questions.specs.declared.directions.Direction.TheVariants.{LowX, HighX, LowY, HighY, LowZ, HighZ}
-use Rattle.world_questions.specs.Faces.{has_next, is_bare, faces_in}
+use Rattle.vw_cell.specs.declared.directions.Direction.{Direction}
+use Rattle.vw_cell.specs.declared.directions.Direction.TheVariants.{LowX, HighX, LowY, HighY, LowZ, HighZ}
+use Rattle.vw_cell.specs.Faces.{has_next, is_bare, faces_in}
 use Rattle.measure.specs.Leaves.{TellsCells}
 use Rattle.measure.specs.Tallies.{in_octant, PassesNone}
 use Rattle.measure.specs.Bare.{is_next_set, bare_of, across, stays, beside_shape, beside_tree, PassesBare}

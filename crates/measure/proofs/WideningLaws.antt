@@ -18,7 +18,7 @@ use Rattle.node_shapes.proofs.ShowLaws.{octant_shows, octant_has, half_below}
 use Rattle.node_shapes.proofs.TreeLaws.{shape_of-child}
 use Rattle.node_kernels.specs.Leaves.{LeafShows}
 use Rattle.node_words.specs.Held.{Seen}
-use Rattle.world_questions.specs.Extents.{IsExtent}
+use Rattle.vw_cell.specs.Extents.{IsExtent}
 use Rattle.block_walk.specs.Roots.{IsBlockOf, IsOctantOf, HasBlock, ForBlock, ForWorld, cells_of}
 use Rattle.block_walk.proofs.BlockLaws.{clear_block}
 use Rattle.block_walk.proofs.LookLaws.{block_still, twice, root_side, same_cell}

@@ -9,8 +9,8 @@ use Rattle.node_shapes.specs.declared.names.Name.{Name}
 use Rattle.node_shapes.specs.Shape.{Shape, octant_shape}
 use Rattle.node_shapes.specs.Tree.{Tree, shape_of, child_of}
 use Rattle.block_walk.specs.Roots.{IsBlockOf, cells_of}
-use Rattle.world_questions.specs.declared.directions.Direction.{Direction}
-use Rattle.world_questions.specs.declared.directions.Direction.TheVariants.{LowX, HighX, LowY, HighY, LowZ, HighZ}
+use Rattle.vw_cell.specs.declared.directions.Direction.{Direction}
+use Rattle.vw_cell.specs.declared.directions.Direction.TheVariants.{LowX, HighX, LowY, HighY, LowZ, HighZ}
 
 -- the place next to a cell lies in the same block of this side
 abbrev pub is_inside : Direction → ℕ → Cell → Bool

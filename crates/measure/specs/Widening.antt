@@ -10,7 +10,7 @@ use Rattle.node_shapes.specs.Shape.{ShowsCells, bit_number}
 use Rattle.node_shapes.specs.Tree.{Tree, shape_of}
 use Rattle.block_walk.specs.Roots.{IsBlockOf}
 use Rattle.block_walk.specs.Parts.{EndsBy}
-use Rattle.world_questions.specs.Extents.{LiesWithin}
+use Rattle.vw_cell.specs.Extents.{LiesWithin}
 
 -- the cell lies in the box, where there is one
 abbrev pub IsFound : Option Boxed → Cell → Type 0

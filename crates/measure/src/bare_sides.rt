@@ -4,7 +4,7 @@ ghost use Rattle.vw_cell.specs.Places.{FitsAt, block_side};
 ghost use Rattle.vw_cell.specs.Counts.{number_in};
 ghost use Rattle.node_shapes.specs.Shape.{Shape, bits_of};
 ghost use Rattle.node_shapes.specs.Tree.{Tree};
-ghost use Rattle.world_questions.specs.Faces.{faces_in, is_bare};
+ghost use Rattle.vw_cell.specs.Faces.{faces_in, is_bare};
 ghost use Rattle.block_walk.specs.Roots.{HasBlock, HoldsRoot, ForBlock, ForWorld, cells_of};
 ghost use Rattle.block_walk.specs.Parts.{EndsBy};
 ghost use Rattle.block_walk.specs.Answers.{AreRight};
@@ -19,7 +19,7 @@ use block_walk::{Answers, leaf_bits, name_of, octant_name, same_names};
 use node_shapes::Name;
 use node_words::{Blocks, Share, window_bits};
 use vw_cell::{Boxed, Side};
-use world_questions::Direction;
+use vw_cell::Direction;
 
 /// The number of pairs of a set cell of a box of the root's world and one of its six sides, at
 /// which the place next to it is unset or outside of the world. A side that two set cells share

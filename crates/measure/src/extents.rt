@@ -2,7 +2,7 @@ ghost use Rattle.std.specs.Prelude.{◌≡◌, ◌^◌, ◌<◌, ◌≤◌, ◌-
 ghost use Rattle.vw_cell.specs.declared.cells.Cell.{Cell};
 ghost use Rattle.vw_cell.specs.Places.{IsInBlock, IsInWorld, LiesIn, block_side, octant_of};
 ghost use Rattle.node_kernels.specs.Leaves.{LeafShows};
-ghost use Rattle.world_questions.specs.Extents.{IsExtent};
+ghost use Rattle.vw_cell.specs.Extents.{IsExtent};
 ghost use Rattle.block_walk.specs.Roots.{HasBlock, HoldsRoot, ForBlock, ForWorld, cells_of};
 ghost use Rattle.block_walk.specs.Answers.{AreRight};
 ghost use Rattle.block_walk.specs.Parts.{EndsBy};

@@ -6,7 +6,7 @@ use Rattle.std.proofs.lemmas.Bool.{cases_lt, lt-ltb, le-ltb, le-leb, lt-leb, ltb
 use Rattle.vw_cell.specs.declared.boxes.Boxed.{Boxed}
 use Rattle.vw_cell.specs.declared.cells.Cell.{Cell}
 use Rattle.vw_cell.specs.Places.{IsInWorld}
-use Rattle.world_questions.specs.Extents.{HoldsAll, IsLeastBox}
+use Rattle.vw_cell.specs.Extents.{HoldsAll, IsLeastBox}
 use Rattle.history_model.specs.Worlds.{World}
 use Rattle.plain_run.specs.declared.counts.Axis.{Axis}
 use Rattle.plain_run.specs.declared.counts.Axis.TheVariants.{X, Y, Z}

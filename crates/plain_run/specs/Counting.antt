@@ -6,7 +6,7 @@ use Rattle.vw_cell.specs.declared.boxes.Boxed.{Boxed}
 use Rattle.vw_cell.specs.declared.cells.Cell.{Cell}
 use Rattle.vw_cell.specs.Counts.{cell_at}
 use Rattle.vw_cell.specs.Places.{IsInWorld}
-use Rattle.world_questions.specs.Faces.{is_bare}
+use Rattle.vw_cell.specs.Faces.{is_bare}
 use Rattle.history_model.specs.Worlds.{World}
 use Rattle.plain_run.specs.declared.counts.Axis.{Axis}
 use Rattle.plain_run.specs.declared.counts.Axis.TheVariants.{X, Y, Z}

@@ -1,13 +1,13 @@
 ghost use Rattle.std.specs.Prelude.{◌≡◌, ◌+◌, ◌*◌, ◌<◌, ◌≤◌, ◌^◌, true, false, IsTrue};
 ghost use Rattle.vw_cell.specs.Counts.{number_in, cell_at};
 ghost use Rattle.vw_cell.specs.Places.{FitsAt, IsInWorld};
-ghost use Rattle.world_questions.specs.Faces.{faces_in, has_next};
+ghost use Rattle.vw_cell.specs.Faces.{faces_in, has_next};
 ghost use Rattle.plain_run.specs.Histories.{ArePlain, plain_moment, plain_world};
 ghost use Rattle.plain_run.specs.Counting.{TestFits, NonePasses, SomePasses, passes, row_number, layer_number};
 
 use crate::histories::PlainHistory;
 use vw_cell::{Boxed, Cell};
-use world_questions::Direction;
+use vw_cell::Direction;
 
 #[derive(Clone, Copy)]
 pub(crate) enum Axis {

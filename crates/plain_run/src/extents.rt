@@ -1,5 +1,5 @@
 ghost use Rattle.std.specs.Prelude.{◌≡◌, ◌≤◌, ◌<◌, ◌^◌};
-ghost use Rattle.world_questions.specs.Extents.{IsExtent};
+ghost use Rattle.vw_cell.specs.Extents.{IsExtent};
 ghost use Rattle.plain_run.specs.Histories.{ArePlain, plain_moment, plain_world};
 ghost use Rattle.plain_run.specs.Counting.{SomePasses, IsLowAt, IsEndAt};
 

@@ -31,7 +31,7 @@ use Rattle.conformance.proofs.GoingOn.{tints_stay, world_stays}
 use Rattle.session_runs.specs.Kept.{kept_at}
 use Rattle.session_runs.specs.Seen.{SuitsWorld, log_as}
 use Rattle.session_runs.proofs.SuitLaws.{store_keeps}
-use Rattle.session_runs.proofs.TintBounds.{versions_small}
+use Rattle.tints.proofs.TintBounds.{versions_small}
 use Rattle.session.specs.Roots.{file_kept}
 use Rattle.world_run.specs.Open.{saved_file}
 use Rattle.script_files.specs.Requests.{save_file}

@@ -38,7 +38,7 @@ use Rattle.session_runs.specs.Lines.{SuitsCommand}
 use Rattle.session_runs.specs.Ran.{ClosesWorld, SessionsRanKeeping, records_of_all}
 use Rattle.session_runs.specs.Told.{TellsKept, plainly_tinted}
 use Rattle.session_runs.proofs.Items.{same_numbers, where_so}
-use Rattle.session_runs.proofs.TintBounds.{versions_small}
+use Rattle.tints.proofs.TintBounds.{versions_small}
 
 -- ---- plain histories
 

@@ -2,4 +2,6 @@ pub mod Places
 pub mod Sides
 pub mod Counts
 pub mod Tests
+pub mod Faces
+pub mod Extents
 pub use Rattle.sums.specs.Sums

@@ -7,9 +7,9 @@ use Rattle.vw_cell.specs.declared.boxes.Boxed.{Boxed}
 use Rattle.vw_cell.specs.Counts.{cell_at, number_in}
 use Rattle.vw_cell.specs.Places.{IsInWorld, IsInBox, FitsAt, is_in_box, half_x, half_y, half_z}
 use Rattle.vw_cell.specs.Tests.{is_in_box_tells}
-use Rattle.world_questions.specs.declared.directions.Direction.{Direction}
-use Rattle.world_questions.specs.declared.directions.Direction.TheVariants.{LowX, HighX, LowY, HighY, LowZ, HighZ}
-use Rattle.world_questions.specs.Faces.{has_next, is_bare, faces_in}
+use Rattle.vw_cell.specs.declared.directions.Direction.{Direction}
+use Rattle.vw_cell.specs.declared.directions.Direction.TheVariants.{LowX, HighX, LowY, HighY, LowZ, HighZ}
+use Rattle.vw_cell.specs.Faces.{has_next, is_bare, faces_in}
 use Rattle.history_model.specs.Worlds.{World, plus}
 use Rattle.history_model.specs.Tints.{Tints}
 use Rattle.history_model.specs.Planes.{StoresTints, plane_at, plane_box, tells}

@@ -12,8 +12,8 @@ use Rattle.node_words.proofs.HeldLaws.{held_reached}
 use Rattle.block_walk.specs.Roots.{IsBlockOf, ForWorld, cells_of}
 use Rattle.block_walk.proofs.LookLaws.{root_side}
 use Rattle.edit_cells.specs.Worlds.{ShowsWorld, block_at_origin}
-use Rattle.world_questions.specs.Faces.{faces_in}
-use Rattle.world_questions.specs.Extents.{IsExtent}
+use Rattle.vw_cell.specs.Faces.{faces_in}
+use Rattle.vw_cell.specs.Extents.{IsExtent}
 use Rattle.history_model.specs.Rays.{Hits}
 use Rattle.history_model.specs.Ways.{Heading}
 use Rattle.history_model.specs.Worlds.{World}

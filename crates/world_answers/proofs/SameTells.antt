@@ -6,10 +6,10 @@ use Rattle.vw_cell.specs.declared.cells.Cell.{Cell}
 use Rattle.vw_cell.specs.declared.boxes.Boxed.{Boxed}
 use Rattle.vw_cell.specs.Counts.{cell_at, number_in, number_below-same}
 use Rattle.vw_cell.specs.Places.{IsInWorld, FitsAt}
-use Rattle.world_questions.specs.declared.directions.Direction.{Direction}
-use Rattle.world_questions.specs.declared.directions.Direction.TheVariants.{LowX, HighX, LowY, HighY, LowZ, HighZ}
-use Rattle.world_questions.specs.Faces.{has_next, is_bare, faces_in}
-use Rattle.world_questions.specs.Extents.{IsExtent}
+use Rattle.vw_cell.specs.declared.directions.Direction.{Direction}
+use Rattle.vw_cell.specs.declared.directions.Direction.TheVariants.{LowX, HighX, LowY, HighY, LowZ, HighZ}
+use Rattle.vw_cell.specs.Faces.{has_next, is_bare, faces_in}
+use Rattle.vw_cell.specs.Extents.{IsExtent}
 use Rattle.history_model.specs.Rays.{ClearBefore, Hits}
 use Rattle.history_model.specs.Ways.{Heading}
 use Rattle.history_model.specs.Worlds.{World}

@@ -8,8 +8,8 @@ use Rattle.node_shapes.specs.declared.names.Name.{Name}
 use Rattle.node_shapes.specs.Tree.{Tree, shape_of}
 use Rattle.block_walk.specs.Roots.{ForWorld, cells_of}
 use Rattle.edit_cells.specs.Worlds.{ShowsWorld}
-use Rattle.world_questions.specs.Faces.{faces_in}
-use Rattle.world_questions.specs.Extents.{IsExtent}
+use Rattle.vw_cell.specs.Faces.{faces_in}
+use Rattle.vw_cell.specs.Extents.{IsExtent}
 use Rattle.history_model.specs.Rays.{Hits}
 use Rattle.history_model.specs.Ways.{Heading}
 use Rattle.history_model.specs.Worlds.{World}

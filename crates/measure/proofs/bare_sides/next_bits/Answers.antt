@@ -1,5 +1,5 @@
 use Rattle.std.proofs.Common.{sym, subst}
-use Rattle.world_questions.specs.declared.directions.Direction.{Direction}
+use Rattle.vw_cell.specs.declared.directions.Direction.{Direction}
 use Rattle.measure.specs.Leaves.{TellsCells}
 use Rattle.measure.specs.Bare.{is_next_set}
 use Rattle.measure.proofs.BareLeaves.{low_x_tells, high_x_tells, low_y_tells, high_y_tells, low_z_tells, high_z_tells}

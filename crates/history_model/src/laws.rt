@@ -3,7 +3,7 @@ ghost use Rattle.history_model.specs.Contents.{Content, AreModels};
 ghost use Rattle.history_model.specs.Journal.{journal_of};
 ghost use Rattle.history_model.specs.Logs.{Log, IsLegal, SuitsTints};
 ghost use Rattle.history_model.specs.Entries.{IsSide, IsTold};
-ghost use Rattle.journal_laws.specs.Signing.{AreSigned};
+ghost use Rattle.history_model.specs.Signing.{AreSigned};
 
 /// A law: a legal history can be told by a journal, so that its text is read back as it.
 ///

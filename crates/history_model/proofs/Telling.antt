@@ -15,7 +15,7 @@ use Rattle.history_model.specs.declared.histories.Mark.{Mark}
 use Rattle.history_model.specs.Logs.{Log, FitsWorld, FitsModel, TintFits, IsLegal, SuitsTints, suits_tints}
 use Rattle.history_model.specs.Reach.{ActLiesIn, TintLiesIn}
 use Rattle.history_model.specs.Entries.{IsRecord, AreMarks, IsSide, IsTold}
-use Rattle.journal_laws.specs.Signing.{IsSigned, AreSigned}
+use Rattle.history_model.specs.Signing.{IsSigned, AreSigned}
 
 corner_in : (side : ℕ) (at size : Cell) → FitsAt at size side → IsInWorld side at
 corner_in side at size fits =

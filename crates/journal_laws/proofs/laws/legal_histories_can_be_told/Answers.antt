@@ -1,5 +1,0 @@
-use Rattle.journal_laws.proofs.Telling.{can_be_told}
-use Rattle.journal_laws.proofs.laws.legal_histories_can_be_told.Goals as goal
-
-pub returns : goal.returns
-returns c = can_be_told
