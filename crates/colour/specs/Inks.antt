@@ -29,23 +29,23 @@ abbrev pub bit_drawn : List Drawn → ℕ → Drawn
 bit_drawn bits b = slice_index_or bits b none_drawn
 
 -- the tints of the places
-abbrev pub tints_of : Inked → Tints
-tints_of inked q = bits_below (λ b. drawn_cells (bit_drawn inked.bits b) q) 8
+abbrev pub inked_tints : Inked → Tints
+inked_tints inked q = bits_below (λ b. drawn_cells (bit_drawn inked.bits b) q) 8
 
 -- the tints that they put with their least corner at a place
 abbrev pub ink_at : Inked → Cell → Tints
-ink_at inked at = tints_from inked.size (tints_of inked) at
+ink_at inked at = tints_from inked.size (inked_tints inked) at
 
 -- they are those of the model
 pub record DrawsTints (model : Content) (inked : Inked) : Type 0 where
   pub size : inked.size ≡ model.size
-  pub each : (q : Cell) → IsBelow model.size q → tints_of inked q ≡ colour_at model.voxels q
+  pub each : (q : Cell) → IsBelow model.size q → inked_tints inked q ≡ colour_at model.voxels q
 
 -- it is the drawing of their cells in one plane
 pub record DrawsPlane (plane : ℕ) (inked : Inked) (drawn : Drawn) : Type 0 where
   pub size : drawn.size ≡ inked.size
   pub each : (q : Cell) → IsBelow inked.size q
-      → drawn_cells drawn q ≡ tells plane (tints_of inked q)
+      → drawn_cells drawn q ≡ tells plane (inked_tints inked q)
 
 -- there is a drawing of each bit, and one of the places whose tint isn't 0, all of one size
 pub record AreDrawn (inked : Inked) (cells : Drawn) : Type 0 where

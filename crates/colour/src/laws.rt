@@ -11,14 +11,14 @@ ghost use Rattle.history_model.specs.Tints.{Tints, tinted, tints_from, stamp_tin
 ghost use Rattle.history_model.specs.Logs.{TintFits};
 ghost use Rattle.history_model.specs.Planes.{StoresTints};
 ghost use Rattle.history_model.specs.Parts.{part_number};
-ghost use Rattle.colour.specs.Inks.{Inked, DrawsTints, HasInk, parts_in, tints_of};
+ghost use Rattle.colour.specs.Inks.{Inked, DrawsTints, HasInk, parts_in, inked_tints};
 ghost use Rattle.colour.specs.Made.{PartsMade};
 
 /// A stencil that was drawn of a model puts the model's tints.
 pub fn stencils_put_their_models_tints()
     ensures { (models : List Content) (m : ℕ) (model : Content) (inked : Inked) (at p : Cell)
         → slice_get models m ≡ Some model → DrawsTints model inked
-        → tints_from inked.size (tints_of inked) at p
+        → tints_from inked.size (inked_tints inked) at p
         ≡ stamp_tint (slice_get models m) at p }
 {}
 

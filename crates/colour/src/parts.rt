@@ -3,7 +3,7 @@ ghost use Rattle.vw_cell.specs.Places.{FitsAt};
 ghost use Rattle.node_shapes.specs.Weights.{number_of_trees};
 ghost use Rattle.block_walk.specs.Roots.{HoldsRoot};
 ghost use Rattle.history_model.specs.Worlds.{copied};
-ghost use Rattle.history_model.specs.Parts.{unstamped, stamped_in};
+ghost use Rattle.history_model.specs.Parts.{without_ink, stamped_in};
 ghost use Rattle.colour.specs.Edits.{RebuildsEdit, GrowsByEdit, RefusesEdit, made_at};
 ghost use Rattle.colour.specs.Inks.{ink_at};
 
@@ -100,13 +100,13 @@ pub(crate) fn unstamp_part<N: NodeStore, L: Ledger>(
     requires old { HoldsRoot (N.seen store.old).held side (option_copied old) }
     requires room { number_of_trees (N.seen store.old).held ≤ 3910 }
     ensures ok { RebuildsEdit (N.seen store.old) side (option_copied old.entry)
-        (made_at side plane (unstamped (ink_at stencil.now at)))
+        (made_at side plane (without_ink (ink_at stencil.now at)))
         result (N.seen store.new) }
     ensures grows { GrowsByEdit (N.seen store.old) side (option_copied old.entry)
-        (made_at side plane (unstamped (ink_at stencil.now at)))
+        (made_at side plane (without_ink (ink_at stencil.now at)))
         result (N.seen store.new) }
     ensures full { RefusesEdit (N.seen store.old) side (option_copied old.entry)
-        (made_at side plane (unstamped (ink_at stencil.now at)))
+        (made_at side plane (without_ink (ink_at stencil.now at)))
         result (N.seen store.new) }
     ensures rests { N.rests store.old store.new }
 {

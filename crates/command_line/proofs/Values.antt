@@ -11,7 +11,7 @@ use Rattle.clap.specs.declared.parser.matches.ValueSource.TheVariants.{CommandLi
 use Rattle.command_line.specs.Parts.{Part, Operand, Gives, Colours, NoPart, is_flag, is_operand, is_option, option_with, behind_equals, word_alone, parts_of, flags_in, operands_in, values_in, value_in}
 use Rattle.command_line.proofs.Rows.{IsApart, set_new, append_new, more_found, put_other, set_other, first_is}
 use Rattle.command_line.proofs.Walking.{as_text, as_flag, with_operand, with_option, with_flag}
-use Rattle.command_line.specs.Command.{is_set}
+use Rattle.command_line.specs.Command.{says_set}
 use Rattle.command_line.proofs.Splitting.{rows_by}
 use Rattle.command_line.proofs.Defaults.{defaulted, default_other, default_none, default_some}
 
@@ -126,15 +126,15 @@ flag_row (NoPart ∷ parts) rows none know few = flag_row parts rows none know f
 
 -- where it has no row, the default says that it isn't set
 set_by : (n : ℕ) (rows : List Row) → all_of (codes "--colours") rows ≡ flag_values n
-    → is_set (first_of (codes "--colours") (defaulted rows)) ≡ nat_le 1 n
+    → says_set (first_of (codes "--colours") (defaulted rows)) ≡ nat_le 1 n
 set_by zero rows has =
-    ap is_set (first_is (codes "--colours") (defaulted rows) ∙ ap (option_and_then (λ (vs : List Text). slice_get vs 0)) (default_none rows has))
+    ap says_set (first_is (codes "--colours") (defaulted rows) ∙ ap (option_and_then (λ (vs : List Text). slice_get vs 0)) (default_none rows has))
 set_by (suc n) rows has =
-    ap is_set (first_is (codes "--colours") (defaulted rows) ∙ ap (option_and_then (λ (vs : List Text). slice_get vs 0)) (default_some (codes "true" ∷ []) rows has))
+    ap says_set (first_is (codes "--colours") (defaulted rows) ∙ ap (option_and_then (λ (vs : List Text). slice_get vs 0)) (default_some (codes "true" ∷ []) rows has))
     ∙ sym (le-leb 1 (suc n) (omega arith))
 
 pub flag_found : (parts : List Part) → KnowOptions parts → flags_in parts ≤ 1
-    → is_set (first_of (codes "--colours") (defaulted (rows_by parts []))) ≡ nat_le 1 (flags_in parts)
+    → says_set (first_of (codes "--colours") (defaulted (rows_by parts []))) ≡ nat_le 1 (flags_in parts)
 flag_found parts know few = set_by (flags_in parts) (rows_by parts []) (flag_row parts [] refl know few)
 
 -- ---- the operands

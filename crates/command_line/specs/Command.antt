@@ -41,9 +41,9 @@ run_app =
     operands_rule
 
 -- the first text of a flag says that it is set
-abbrev pub is_set : Option (List ℕ) → Bool
-is_set None = false
-is_set (Some text) = bytes_eq text (codes "true")
+abbrev pub says_set : Option (List ℕ) → Bool
+says_set None = false
+says_set (Some text) = bytes_eq text (codes "true")
 
 -- the texts of these rows of matches
 abbrev pub line_in : List Row → LineTexts
@@ -54,6 +54,6 @@ line_in rows = record {
   keep = first_of (codes "--keep") rows;
   journal = first_of (codes "--journal") rows;
   report = first_of (codes "--report") rows;
-  colours = is_set (first_of (codes "--colours") rows);
+  colours = says_set (first_of (codes "--colours") rows);
   operands = unwrap_or (all_of (codes "operands") rows) [];
 }

@@ -3,7 +3,7 @@ ghost use Rattle.clap.specs.Walk.{rows_of, all_of, first_of};
 ghost use Rattle.clap.specs.Simple.{app_of, new_app, on_top, with_rule};
 ghost use Rattle.clap.specs.Matches.{found_of};
 ghost use Rattle.command_line.specs.Parts.{parts_of, line_texts, are_of_a_run};
-ghost use Rattle.command_line.specs.Command.{run_app, options_app, bare, option_rule, flag_rule, operands_rule, is_set, line_in};
+ghost use Rattle.command_line.specs.Command.{run_app, options_app, bare, option_rule, flag_rule, operands_rule, says_set, line_in};
 ghost use Rattle.command_line.specs.Texts.{texts};
 
 use crate::lines::Line;
@@ -92,7 +92,7 @@ fn line<'w>(alloc: Global, matches: &ArgMatches<'w>) -> Result<Line<'w>, AllocEr
         keep: value(matches, "--keep"),
         journal: value(matches, "--journal"),
         report: value(matches, "--report"),
-        colours: is_set(value(matches, "--colours")),
+        colours: says_set(value(matches, "--colours")),
         operands,
     })
 }
@@ -105,8 +105,8 @@ fn value<'w>(matches: &ArgMatches<'w>, id: &str) -> Option<&'w str>
 }
 
 // Whether the first text of a flag says that it is set.
-fn is_set(text: Option<&str>) -> bool
-    ensures { result ≡ is_set (option_map (λ t. t.now) text.entry) }
+fn says_set(text: Option<&str>) -> bool
+    ensures { result ≡ says_set (option_map (λ t. t.now) text.entry) }
 {
     match text {
         None => false,

@@ -25,7 +25,7 @@ use Rattle.transcript.specs.declared.answers.Answer.TheVariants as answers
 use Rattle.transcript.specs.declared.answers.LineAnswer.{LineAnswer}
 use Rattle.conformance.specs.Answers.{IsStanding, IsForgotten, IsReadable, mark_of, target_at, HasWay, Answers, done, forgot, GoesOn}
 use Rattle.conformance.specs.Shown.{Accepted, numbered, is_done, accepted_by, forgotten_by}
-use Rattle.conformance.specs.Running.{line_numbers, IsBy, IsSoFar, IsOldOrNew, LineStep, GrowsBy, ForgetsBy}
+use Rattle.conformance.specs.Running.{line_numbers, IsBy, IsSoFar, IsOldOrNew, LineStep, GrowsByRecord, ForgetsBy}
 use Rattle.conformance.specs.Kinds.{is_resting, answer_at, IsAfter}
 use Rattle.conformance.proofs.Lists.{same_nothing, same_of}
 
@@ -146,13 +146,13 @@ done_step p models session line act once log legal suits =
 log_of : ℕ → Bool → List Record → List Mark → Log
 log_of side coloured records marks = record { side = side; coloured = coloured; records = records; marks = marks }
 
-grown : (p : Layout) (models : List Content) (r : Record) (old new : Log) → GrowsBy p models r old new → with_record old r ≡ new
+grown : (p : Layout) (models : List Content) (r : Record) (old new : Log) → GrowsByRecord p models r old new → with_record old r ≡ new
 unfolding with_record log_of
 grown p models r old new g =
     ap (λ (n : ℕ). log_of n old.coloured (old.records ++ r ∷ []) old.marks) (sym g.side) ∙ ap (λ (c : Bool). log_of new.side c (old.records ++ r ∷ []) old.marks) (sym g.coloured)
     ∙ ap (λ (rs : List Record). log_of new.side new.coloured rs old.marks) (sym g.records) ∙ ap (λ (ms : List Mark). log_of new.side new.coloured new.records ms) (sym g.marks)
 
-pub done_line : (p : Layout) (models : List Content) (session line : ℕ) (act : Act) (once : Bool) (old new : Log) → GrowsBy p models (record { session = session; line = line; act = act }) old new
+pub done_line : (p : Layout) (models : List Content) (session line : ℕ) (act : Act) (once : Bool) (old new : Log) → GrowsByRecord p models (record { session = session; line = line; act = act }) old new
     → LineStep p models session (record { line = line; command = Edit act once }) old new (record { line = line; at = length old.records + 1; answer = answers.Done })
 unfolding record_of
 done_line p models session line act once old new g =

@@ -22,7 +22,7 @@ use Rattle.conformance.specs.Answers.{IsStanding, IsReadable, IsForgotten, HasWa
 use Rattle.conformance.specs.Shown.{Accepted, SameItems, numbered, weight_at, accepted_in, forgotten_in, accepted_of, forgotten_of}
 use Rattle.conformance.specs.Agreeing.{Agrees, SessionAgrees}
 use Rattle.conformance.specs.Kinds.{is_resting, answer_at, IsAfter}
-use Rattle.conformance.specs.Running.{IsSoFar, LineStep, GrowsBy, ForgetsBy}
+use Rattle.conformance.specs.Running.{IsSoFar, LineStep, GrowsByRecord, ForgetsBy}
 use Rattle.conformance.specs.Passes.{Found, PassSoFar, PassStep, Closes, ArePartly}
 use Rattle.conformance.specs.Refusing.{spans_of, refused_of, FullOnlyWherePossible}
 
@@ -70,7 +70,7 @@ RunsAgree = (p : Layout) (models : List Content) (scripts : List (List ScriptLin
 abbrev pub AcceptedChangesAreSteps : Type 0
 AcceptedChangesAreSteps = (p : Layout) (models : List Content) (session line : ℕ) (act : Act)
     (once : Bool) (old new : Log)
-    → GrowsBy p models (record { session = session; line = line; act = act }) old new
+    → GrowsByRecord p models (record { session = session; line = line; act = act }) old new
     → LineStep p models session (record { line = line; command = Edit act once }) old new
     (record { line = line; at = length old.records + 1; answer = answers.Done })
 

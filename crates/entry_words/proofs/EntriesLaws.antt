@@ -11,7 +11,7 @@ use Rattle.entry_words.specs.declared.key_words.Pairs.{Pairs}
 use Rattle.entry_words.specs.Slots.{slot_place, block_place, bucket_place, number_of_buckets, slots_at, AreEnds}
 use Rattle.entry_words.specs.Rows.{PutsItem, PutsIn, AreEmptyRows, rooms_of}
 use Rattle.entry_words.specs.Words.{Written, book_in, key_in, leaf_bits_in, pairs_in, no_pairs}
-use Rattle.entry_words.specs.Tags.{tag_of_words, PutsTag, Beside, HasRoom, AreEntries}
+use Rattle.entry_words.specs.Tags.{tag_of_words, PutsTag, BesideSlots, HasRoomForPlan, AreEntries}
 use Rattle.entry_words.specs.Changes.{OtherKeysStay, SetsBook}
 use Rattle.entry_words.proofs.SlotLaws.{bucket_in, name_bucket}
 use Rattle.entry_words.proofs.ReadLaws.{default_any}
@@ -30,7 +30,7 @@ last_end p ends l plan at e =
     let top : l ≤ 11 = omega (arith, e, plan.side_high) in
     at.end l top ∙ ap (λ (k : ℕ). sum_below k (buckets_at p)) e
 
-pub entries_free : (w : Written) (b : Beside) → IsPlan w.plan → b.buckets ≡ w.plan.buckets → AreEnds w.plan b.ends → b.width ≡ number_of_buckets w.plan → length w.books ≡ levels w.plan → length w.pairs + 1 ≡ levels w.plan → HasRoom w.plan b → ((k : ℕ) → slice_index_or w.books k [] ≡ []) → b.tags ≡ [] → b.used ≡ replicate b.width 0 → b.filled ≡ replicate b.width 0 → AreEntries w b
+pub entries_free : (w : Written) (b : BesideSlots) → IsPlan w.plan → b.buckets ≡ w.plan.buckets → AreEnds w.plan b.ends → b.width ≡ number_of_buckets w.plan → length w.books ≡ levels w.plan → length w.pairs + 1 ≡ levels w.plan → HasRoomForPlan w.plan b → ((k : ℕ) → slice_index_or w.books k [] ≡ []) → b.tags ≡ [] → b.used ≡ replicate b.width 0 → b.filled ≡ replicate b.width 0 → AreEntries w b
 entries_free w b plan row at wide books pairs room none d e f =
     let free : (n : Name) → book_in w n ≡ 0 = λ n. ap (λ (r : List ℕ). slice_index r (slot_place w.plan n)) (none n.level) in
     record {
@@ -48,7 +48,7 @@ entries_free w b plan row at wide books pairs room none d e f =
       all_live = filled_free w b.filled b.width f;
     }
 
-pub entries_book : (w : Written) (b : Beside) (n : Name) (book : ℕ) (books : List (List ℕ)) → AreEntries w b → length books ≡ length w.books → 1 ≤ book_in w n → 1 ≤ book → SetsBook w n book (with_book w books) → AreEntries (with_book w books) b
+pub entries_book : (w : Written) (b : BesideSlots) (n : Name) (book : ℕ) (books : List (List ℕ)) → AreEntries w b → length books ≡ length w.books → 1 ≤ book_in w n → 1 ≤ book → SetsBook w n book (with_book w books) → AreEntries (with_book w books) b
 entries_book w b n book books h rows live some sets = record {
   plan_is = h.plan_is;
   buckets_are = h.buckets_are;
@@ -64,7 +64,7 @@ entries_book w b n book books h rows live some sets = record {
   all_live = filled_book w b.filled n book books h.all_live some sets;
 }
 
-pub entries_clear : (w : Written) (b : Beside) (n : Name) (block place k was number d : ℕ) (tags : List (List ℕ)) (books : List (List ℕ)) → AreEntries w b → IsName w.plan n → length books ≡ length w.books → block ≡ block_place w.plan n.level n.bucket (n.slot / 16) → place ≡ n.slot % 16 → PutsTag b.tags block place 0 tags → k ≡ bucket_place w.plan n.level n.bucket → was ≡ slice_index_or b.filled k d → number ≤ was → number ≤ n.slot → SetsBook w n 0 (with_book w books) → AreEntries (with_book w books) (record b { tags = tags; filled = set b.filled k number })
+pub entries_clear : (w : Written) (b : BesideSlots) (n : Name) (block place k was number d : ℕ) (tags : List (List ℕ)) (books : List (List ℕ)) → AreEntries w b → IsName w.plan n → length books ≡ length w.books → block ≡ block_place w.plan n.level n.bucket (n.slot / 16) → place ≡ n.slot % 16 → PutsTag b.tags block place 0 tags → k ≡ bucket_place w.plan n.level n.bucket → was ≡ slice_index_or b.filled k d → number ≤ was → number ≤ n.slot → SetsBook w n 0 (with_book w books) → AreEntries (with_book w books) (record b { tags = tags; filled = set b.filled k number })
 entries_clear w b n block place k was number d tags books h a rows f g changes q read falls before sets =
     let inside : k < length b.filled = omega (arith, bucket_in w.plan n.level n.bucket (name_bucket w.plan n a), h.filled_are, q) in
     let low : number ≤ slice_index b.filled k = omega (arith, read ∙ default_any b.filled k d 0 inside, falls) in
@@ -83,7 +83,7 @@ entries_clear w b n block place k was number d tags books h a rows f g changes q
       all_live = filled_clear w b.filled n k number books h.all_live q inside low before sets;
     }
 
-pub entries_key : (w : Written) (b : Beside) (n : Name) (bits : List ℕ) (pairs : List (List Pairs)) → AreEntries w b → length pairs ≡ length w.pairs → book_in w n ≡ 0 → OtherKeysStay w.plan n (key_in w) (key_in (record w { bits = bits; pairs = pairs })) → AreEntries (record w { bits = bits; pairs = pairs }) b
+pub entries_key : (w : Written) (b : BesideSlots) (n : Name) (bits : List ℕ) (pairs : List (List Pairs)) → AreEntries w b → length pairs ≡ length w.pairs → book_in w n ≡ 0 → OtherKeysStay w.plan n (key_in w) (key_in (record w { bits = bits; pairs = pairs })) → AreEntries (record w { bits = bits; pairs = pairs }) b
 entries_key w b n bits pairs h rows free others = record {
   plan_is = h.plan_is;
   buckets_are = h.buckets_are;
@@ -99,13 +99,13 @@ entries_key w b n bits pairs h rows free others = record {
   all_live = record { live = h.all_live.live };
 }
 
-pub entries_bits : (w : Written) (b : Beside) (n : Name) (i item : ℕ) (bits : List ℕ) → AreEntries w b → IsName w.plan n → n.level ≡ 0 → book_in w n ≡ 0 → i ≡ slot_place w.plan n → PutsItem 0 w.bits i item bits → AreEntries (with_bits w bits) b
+pub entries_bits : (w : Written) (b : BesideSlots) (n : Name) (i item : ℕ) (bits : List ℕ) → AreEntries w b → IsName w.plan n → n.level ≡ 0 → book_in w n ≡ 0 → i ≡ slot_place w.plan n → PutsItem 0 w.bits i item bits → AreEntries (with_bits w bits) b
 entries_bits w b n i item bits h a z free e puts = entries_key w b n bits w.pairs h refl free (puts_bits w n i item no_pairs bits a z e puts).others
 
-pub entries_pairs : (w : Written) (b : Beside) (n : Name) (k i : ℕ) (item : Pairs) (pairs : List (List Pairs)) → AreEntries w b → IsName w.plan n → 1 ≤ n.level → book_in w n ≡ 0 → k ≡ n.level - 1 → i ≡ slot_place w.plan n → PutsIn no_pairs w.pairs k i item pairs → AreEntries (with_pairs w pairs) b
+pub entries_pairs : (w : Written) (b : BesideSlots) (n : Name) (k i : ℕ) (item : Pairs) (pairs : List (List Pairs)) → AreEntries w b → IsName w.plan n → 1 ≤ n.level → book_in w n ≡ 0 → k ≡ n.level - 1 → i ≡ slot_place w.plan n → PutsIn no_pairs w.pairs k i item pairs → AreEntries (with_pairs w pairs) b
 entries_pairs w b n k i item pairs h a above free f e puts = entries_key w b n w.bits pairs h puts.rows free (puts_pairs w n k i 0 item pairs a above f e puts).others
 
-pub entries_entry : (w : Written) (b : Beside) (n : Name) (block place k tag was number d were filled d2 : ℕ) (tags : List (List ℕ)) (books : List (List ℕ)) → AreEntries w b → IsName w.plan n → length books ≡ length w.books → block ≡ block_place w.plan n.level n.bucket (n.slot / 16) → place ≡ n.slot % 16 → tag ≡ tag_of_words n.level (leaf_bits_in w n) (pairs_in w n) → PutsTag b.tags block place tag tags → k ≡ bucket_place w.plan n.level n.bucket → was ≡ slice_index_or b.used k d → was ≤ number → n.slot + 1 ≤ number
+pub entries_entry : (w : Written) (b : BesideSlots) (n : Name) (block place k tag was number d were filled d2 : ℕ) (tags : List (List ℕ)) (books : List (List ℕ)) → AreEntries w b → IsName w.plan n → length books ≡ length w.books → block ≡ block_place w.plan n.level n.bucket (n.slot / 16) → place ≡ n.slot % 16 → tag ≡ tag_of_words n.level (leaf_bits_in w n) (pairs_in w n) → PutsTag b.tags block place tag tags → k ≡ bucket_place w.plan n.level n.bucket → was ≡ slice_index_or b.used k d → was ≤ number → n.slot + 1 ≤ number
     → were ≡ slice_index_or b.filled k d2 → ((s : ℕ) → s < filled → s ≢ n.slot → s < were) → SetsBook w n 1 (with_book w books)
     → AreEntries (with_book w books) (record b { tags = tags; used = set b.used k number; filled = set b.filled k filled })
 entries_entry w b n block place k tag was number d were filled d2 tags books h a rows f g is changes q read grows behind read2 goes_on sets =
@@ -129,7 +129,7 @@ entries_entry w b n block place k tag was number d were filled d2 tags books h a
     }
 
 -- the rows have the room that they had
-pub entries_with_room : (w : Written) (b : Beside) (books : List ℕ) (bits : ℕ) (pairs : List ℕ) (tags : ℕ) → AreEntries w b → books ≡ b.rooms_for_books → bits ≡ b.room_for_bits → pairs ≡ b.rooms_for_pairs → tags ≡ b.room_for_tags → AreEntries w (record b { rooms_for_books = books; room_for_bits = bits; rooms_for_pairs = pairs; room_for_tags = tags })
+pub entries_with_room : (w : Written) (b : BesideSlots) (books : List ℕ) (bits : ℕ) (pairs : List ℕ) (tags : ℕ) → AreEntries w b → books ≡ b.rooms_for_books → bits ≡ b.room_for_bits → pairs ≡ b.rooms_for_pairs → tags ≡ b.room_for_tags → AreEntries w (record b { rooms_for_books = books; room_for_bits = bits; rooms_for_pairs = pairs; room_for_tags = tags })
 entries_with_room w b books bits pairs tags h e f g t = record {
   plan_is = h.plan_is;
   buckets_are = h.buckets_are;

@@ -68,7 +68,7 @@ pub record AreTagged (w : Written) (tags : List (List ℕ)) : Type 0 where
 -- what stands beside the words of slots: the buckets of each level and of those before it, how many
 -- buckets there are, tags by blocks, two numbers for each bucket, and how many items the rows have
 -- room for
-pub record Beside : Type 0 where
+pub record BesideSlots : Type 0 where
   pub buckets : List ℕ
   pub ends : List ℕ
   pub width : ℕ
@@ -81,21 +81,21 @@ pub record Beside : Type 0 where
   pub room_for_tags : ℕ
 
 -- each slot of the plan has room
-pub record HasRoom (p : Layout) (b : Beside) : Type 0 where
+pub record HasRoomForPlan (p : Layout) (b : BesideSlots) : Type 0 where
   pub books : (l : ℕ) → l < levels p → slots_at p l ≤ slice_index b.rooms_for_books l
   pub bits : slots_at p 0 ≤ b.room_for_bits
   pub pairs : (l : ℕ) → 1 ≤ l → l < levels p
       → slots_at p l ≤ slice_index b.rooms_for_pairs (l - 1)
   pub tags : number_of_blocks p ≤ b.room_for_tags
 
-pub record AreEntries (w : Written) (b : Beside) : Type 0 where
+pub record AreEntries (w : Written) (b : BesideSlots) : Type 0 where
   pub plan_is : IsPlan w.plan
   pub buckets_are : b.buckets ≡ w.plan.buckets
   pub ends_are : AreEnds w.plan b.ends
   pub width_is : b.width ≡ number_of_buckets w.plan
   pub books_are : length w.books ≡ levels w.plan
   pub pairs_are : length w.pairs + 1 ≡ levels w.plan
-  pub room_is : HasRoom w.plan b
+  pub room_is : HasRoomForPlan w.plan b
   pub tagged : AreTagged w b.tags
   pub used_are : length b.used ≡ number_of_buckets w.plan
   pub unused : AreUsed w b.used

@@ -17,7 +17,7 @@ use Rattle.history_model.specs.declared.spelling.SpelledTint.{SpelledTint}
 use Rattle.history_model.specs.Reach.{ActLiesIn, TintLiesIn}
 use Rattle.history_model.specs.Logs.{suits_tints}
 use Rattle.history_model.specs.Spelled.{act_of, act_told}
-use Rattle.history_model.specs.Spelling.{three_numbers, spelled_by, painted, cell_list, act_list, IsSmallCell, IsSmallTint, IsSmall}
+use Rattle.history_model.specs.Spelling.{three_numbers, spelled_by, tinted_act, cell_list, act_list, IsSmallCell, IsSmallTint, IsSmall}
 use Rattle.history_model.proofs.SpellingLaws.{act_again, act_takes, numbers_again, numbers_take, IsWords, IsActOf}
 use Rattle.history_model.specs.Entries.{IsRecord, record_list, entry_spelled}
 
@@ -121,7 +121,7 @@ plain_suits (spelled.Stamp m at) = refl
 plain_suits spelled.Undo = refl
 plain_suits spelled.Redo = refl
 
-tint_suits : (c : ℕ) (s : Spelled) → suits_tints true (painted c (act_of s)) ≡ true
+tint_suits : (c : ℕ) (s : Spelled) → suits_tints true (tinted_act c (act_of s)) ≡ true
 tint_suits c (spelled.Fill at size) = refl
 tint_suits c (spelled.Erase at size) = refl
 tint_suits c (spelled.Ball centre radius) = refl

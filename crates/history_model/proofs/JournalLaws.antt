@@ -17,7 +17,7 @@ use Rattle.history_model.specs.declared.acts.TintAct.TheVariants as tints
 use Rattle.history_model.specs.declared.histories.Record.{Record}
 use Rattle.history_model.specs.declared.histories.Mark.{Mark}
 use Rattle.history_model.specs.Logs.{Log}
-use Rattle.history_model.specs.Journal.{tint_words, act_words, record_line, record_lines, mark_line, header, kept_side, journal_of}
+use Rattle.history_model.specs.Journal.{tint_words, act_words, record_line, record_lines, mark_line, header, journal_side, journal_of}
 use Rattle.history_model.specs.Spelling.{cell_list, box_list, ball_list, tint_list, act_list, IsSmallCell, IsSmallBox, IsSmallTint, IsSmall}
 use Rattle.history_model.specs.Entries.{IsRecord, IsMark, AreMarks, IsTold, record_list, mark_list, side_list, record_texts, mark_texts, front_lines, last_lines}
 use Rattle.history_model.proofs.EntryLaws.{lies_small}
@@ -88,7 +88,7 @@ mark_free separator count m low few is =
     (letters_free separator (codes "mark") low refl, cell_free separator (cell_at m.version m.at m.session) (decimal m.line ∷ []) low (omega (arith, is), omega (arith, is), omega (arith, is)) (number_free separator m.line low is.3, tt))
 
 side_free : (coloured : Bool) (separator exponent : ℕ) → separator < 48 → exponent ≤ 12 → AllFree separator (side_list coloured exponent)
-side_free coloured separator exponent low few = (letters_free separator (codes "side") low refl, (number_free separator (kept_side coloured exponent) low (world_small coloured exponent few), tt))
+side_free coloured separator exponent low few = (letters_free separator (codes "side") low refl, (number_free separator (journal_side coloured exponent) low (world_small coloured exponent few), tt))
 
 -- ---- the words of each line
 

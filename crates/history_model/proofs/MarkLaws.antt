@@ -17,7 +17,7 @@ use Rattle.plain_text.specs.Numbers.{exact}
 use Rattle.plain_text.specs.NumberLaws.{exact_again}
 use Rattle.history_model.specs.declared.histories.Mark.{Mark}
 use Rattle.history_model.specs.Packing.{Reads}
-use Rattle.history_model.specs.Journal.{kept_side}
+use Rattle.history_model.specs.Journal.{journal_side}
 use Rattle.history_model.specs.Spelling.{three_numbers, IsSmallCell}
 use Rattle.history_model.proofs.SpellingLaws.{numbers_again, numbers_take, number_takes, IsWord, IsWords}
 use Rattle.history_model.specs.Entries.{IsNextMark, IsSide, mark_list, side_list, mark_spelled, side_spelled}
@@ -103,14 +103,14 @@ marks_once count least other a b few is_a is_b same =
 pub side_small : (exponent : ℕ) → exponent ≤ 12 → 2 ^ exponent ≤ 4096
 side_small exponent few = let bound : 2 ^ exponent ≤ 2 ^ 12 = pow_mono few in bound
 
-pub world_small : (coloured : Bool) (exponent : ℕ) → exponent ≤ 12 → kept_side coloured exponent < 2 ^ 32
+pub world_small : (coloured : Bool) (exponent : ℕ) → exponent ≤ 12 → journal_side coloured exponent < 2 ^ 32
 world_small false exponent few = let small = side_small exponent few in omega (arith, small)
 world_small true exponent few = let small = side_small exponent few in omega (arith, small)
 
-side_again : (coloured : Bool) (exponent : ℕ) → exponent ≤ 12 → side_spelled (side_list coloured exponent) ≡ Ok (kept_side coloured exponent)
+side_again : (coloured : Bool) (exponent : ℕ) → exponent ≤ 12 → side_spelled (side_list coloured exponent) ≡ Ok (journal_side coloured exponent)
 unfolding side_spelled
 side_again coloured exponent few =
-    let again = exact_again (2 ^ 32) (kept_side coloured exponent) (lit≤ tt) (world_small coloured exponent few) in
+    let again = exact_again (2 ^ 32) (journal_side coloured exponent) (lit≤ tt) (world_small coloured exponent few) in
     rw again refl
 
 side_takes : (ws : List (List ℕ)) (n : ℕ) → side_spelled ws ≡ Ok n → codes "side" ∷ decimal n ∷ [] ≡ ws
@@ -158,11 +158,11 @@ pub quarter_is_side : (side e cells : ℕ) → 4 ≤ side → e ≡ side → (2 
 quarter_is_side side e cells low same few is =
     world_is_side side (cells / 4) low (omega (arith, same, few)) (ap (λ (n : ℕ). n / 4) is)
 
-pub no_world_side : (coloured : Bool) (n : ℕ) → (IsTrue (is_side n) → ⊥) → (exponent : ℕ) → IsSide coloured exponent → kept_side coloured exponent ≡ n → ⊥
+pub no_world_side : (coloured : Bool) (n : ℕ) → (IsTrue (is_side n) → ⊥) → (exponent : ℕ) → IsSide coloured exponent → journal_side coloured exponent ≡ n → ⊥
 no_world_side false n none exponent is same = none (subst (λ (k : ℕ). IsTrue (is_side k)) same (sides_are exponent is.0 is.1))
 no_world_side true n none exponent is same = none (world_is_side exponent n (is.2 refl) is.1 (sym same))
 
-pub no_store_side : (world n : ℕ) → n ≡ 2 ^ world → (IsTrue (is_side (4 * n)) → ⊥) → (exponent : ℕ) → IsSide true exponent → kept_side true exponent ≡ 2 ^ world → ⊥
+pub no_store_side : (world n : ℕ) → n ≡ 2 ^ world → (IsTrue (is_side (4 * n)) → ⊥) → (exponent : ℕ) → IsSide true exponent → journal_side true exponent ≡ 2 ^ world → ⊥
 no_store_side world n cells none exponent is same =
     let whole = whole_again exponent (is.2 refl) in
     let e : 2 ^ exponent ≡ 4 * n = omega (arith, whole, same, cells) in
@@ -175,7 +175,7 @@ not_low world s low same less =
     let most : 2 ^ s ≤ 2 ^ 3 = pow_mono few in
     omega (arith, up, most, same)
 
-pub store_side_is : (world s n : ℕ) → 2 ≤ world → 2 ≤ s → s ≤ 12 → n ≡ 2 ^ world → 2 ^ s ≡ 4 * n → IsSide true s × (kept_side true s ≡ 2 ^ world)
+pub store_side_is : (world s n : ℕ) → 2 ≤ world → 2 ≤ s → s ≤ 12 → n ≡ 2 ^ world → 2 ^ s ≡ 4 * n → IsSide true s × (journal_side true s ≡ 2 ^ world)
 store_side_is world s n low some few cells same =
     let e : 2 ^ s ≡ 4 * 2 ^ world = omega (arith, cells, same) in
     let four : 4 ≤ s = elim (cases_lt s 4) [
@@ -186,18 +186,18 @@ store_side_is world s n low some few cells same =
 
 pub no_side : (coloured : Bool) (ws : List (List ℕ)) (fault : WordFault) → side_spelled ws ≡ Err fault → (exponent : ℕ) → IsSide coloured exponent → side_list coloured exponent ≡ ws → ⊥
 no_side coloured ws fault read exponent is same =
-    (let again = side_again coloured exponent is.1 in let moved = ap side_spelled same in let wrong : Ok (kept_side coloured exponent) ≡ Err fault = sym again ∙ moved ∙ read in cc)
+    (let again = side_again coloured exponent is.1 in let moved = ap side_spelled same in let wrong : Ok (journal_side coloured exponent) ≡ Err fault = sym again ∙ moved ∙ read in cc)
 
-pub other_side : (coloured : Bool) (ws : List (List ℕ)) (n : ℕ) → side_spelled ws ≡ Ok n → ((exponent : ℕ) → IsSide coloured exponent → kept_side coloured exponent ≡ n → ⊥)
+pub other_side : (coloured : Bool) (ws : List (List ℕ)) (n : ℕ) → side_spelled ws ≡ Ok n → ((exponent : ℕ) → IsSide coloured exponent → journal_side coloured exponent ≡ n → ⊥)
     → (exponent : ℕ) → IsSide coloured exponent → side_list coloured exponent ≡ ws → ⊥
 other_side coloured ws n read other exponent is same =
-    let both : Ok (kept_side coloured exponent) ≡ Ok n = sym (side_again coloured exponent is.1) ∙ ap side_spelled same ∙ read in
+    let both : Ok (journal_side coloured exponent) ≡ Ok n = sym (side_again coloured exponent is.1) ∙ ap side_spelled same ∙ read in
     other exponent is cc
 
-pub this_side : (coloured : Bool) (ws : List (List ℕ)) (n exponent : ℕ) → side_spelled ws ≡ Ok n → kept_side coloured exponent ≡ n → side_list coloured exponent ≡ ws
+pub this_side : (coloured : Bool) (ws : List (List ℕ)) (n exponent : ℕ) → side_spelled ws ≡ Ok n → journal_side coloured exponent ≡ n → side_list coloured exponent ≡ ws
 this_side coloured ws n exponent read same = ap (λ (k : ℕ). codes "side" ∷ decimal k ∷ []) same ∙ side_takes ws n read
 
-whole_sides : (coloured : Bool) (a b : ℕ) → IsSide coloured a → IsSide coloured b → kept_side coloured a ≡ kept_side coloured b → 2 ^ a ≡ 2 ^ b
+whole_sides : (coloured : Bool) (a b : ℕ) → IsSide coloured a → IsSide coloured b → journal_side coloured a ≡ journal_side coloured b → 2 ^ a ≡ 2 ^ b
 whole_sides false a b is_a is_b same = same
 whole_sides true a b is_a is_b same =
     let of_a = whole_again a (is_a.2 refl) in
@@ -206,6 +206,6 @@ whole_sides true a b is_a is_b same =
 
 pub sides_once : (coloured : Bool) (a b : ℕ) → IsSide coloured a → IsSide coloured b → side_list coloured a ≡ side_list coloured b → 2 ^ a ≡ 2 ^ b
 sides_once coloured a b is_a is_b same =
-    let both : Ok (kept_side coloured a) ≡ Ok (kept_side coloured b) = sym (side_again coloured a is_a.1) ∙ ap side_spelled same ∙ side_again coloured b is_b.1 in
-    let e : kept_side coloured a ≡ kept_side coloured b = cc in
+    let both : Ok (journal_side coloured a) ≡ Ok (journal_side coloured b) = sym (side_again coloured a is_a.1) ∙ ap side_spelled same ∙ side_again coloured b is_b.1 in
+    let e : journal_side coloured a ≡ journal_side coloured b = cc in
     whole_sides coloured a b is_a is_b e

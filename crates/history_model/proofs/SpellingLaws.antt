@@ -19,7 +19,7 @@ use Rattle.history_model.specs.declared.acts.Act.TheVariants.{Fill, Erase, Ball,
 use Rattle.history_model.specs.declared.acts.TintAct.{TintAct}
 use Rattle.history_model.specs.declared.acts.TintAct.TheVariants as tints
 use Rattle.history_model.specs.Worlds.{box_at}
-use Rattle.history_model.specs.Spelling.{three_numbers, box_spelled, ball_spelled, copy_spelled, stamp_spelled, act_spelled, tint_fill_spelled, tint_ball_spelled, tint_spelled, spelled_by, painted, cell_list, box_list, ball_list, tint_list, act_list, IsSmallCell, IsSmallBox, IsSmallTint, IsSmall}
+use Rattle.history_model.specs.Spelling.{three_numbers, box_spelled, ball_spelled, copy_spelled, stamp_spelled, act_spelled, tint_fill_spelled, tint_ball_spelled, tint_spelled, spelled_by, tinted_act, cell_list, box_list, ball_list, tint_list, act_list, IsSmallCell, IsSmallBox, IsSmallTint, IsSmall}
 use Rattle.history_model.specs.Logs.{suits_tints}
 
 -- ---- again
@@ -343,7 +343,7 @@ first_word : (a b : List ℕ) (x y : List (List ℕ)) → a ∷ x ≡ b ∷ y �
 first_word a b x y same = cc
 
 -- the words of a plain act that is no fill and no ball are those of the tinted one
-tinted_so : (act : Act) (name : List ℕ) (ws : List (List ℕ)) → (name ≡ codes "fill" → ⊥) → (name ≡ codes "ball" → ⊥) → IsActOf act name ws → IsActOf (painted 1 act) name ws
+tinted_so : (act : Act) (name : List ℕ) (ws : List (List ℕ)) → (name ≡ codes "fill" → ⊥) → (name ≡ codes "ball" → ⊥) → IsActOf act name ws → IsActOf (tinted_act 1 act) name ws
 tinted_so (Fill b) name ws fill ball is = absurd (fill (first_word _ _ _ _ is.0))
 tinted_so (Erase b) name ws fill ball is = is
 tinted_so (Ball b) name ws fill ball is = absurd (ball (first_word _ _ _ _ is.0))
@@ -354,11 +354,11 @@ tinted_so (Tint t) name ws fill ball is = is
 tinted_so Undo name ws fill ball is = is
 tinted_so Redo name ws fill ball is = is
 
-tinted_parts : (read : Result Act WordFault) (act : Act) → (read >>= λ a. Ok (painted 1 a)) ≡ Ok act → (a : Act) × (read ≡ Ok a) × (painted 1 a ≡ act)
+tinted_parts : (read : Result Act WordFault) (act : Act) → (read >>= λ a. Ok (tinted_act 1 a)) ≡ Ok act → (a : Act) × (read ≡ Ok a) × (tinted_act 1 a ≡ act)
 tinted_parts (Ok a) act same = (a, refl, cc)
 tinted_parts (Err fault) act same = absurd cc
 
-others_take : (name : List ℕ) (ws : List (List ℕ)) (act : Act) → (name ≡ codes "fill" → ⊥) → (name ≡ codes "ball" → ⊥) → (act_spelled (exact (2 ^ 32)) name ws >>= λ a. Ok (painted 1 a)) ≡ Ok act → IsActOf act name ws
+others_take : (name : List ℕ) (ws : List (List ℕ)) (act : Act) → (name ≡ codes "fill" → ⊥) → (name ≡ codes "ball" → ⊥) → (act_spelled (exact (2 ^ 32)) name ws >>= λ a. Ok (tinted_act 1 a)) ≡ Ok act → IsActOf act name ws
 others_take name ws act fill ball same =
     let parts = tinted_parts (act_spelled (exact (2 ^ 32)) name ws) act same in
     subst (λ (a : Act). IsActOf a name ws) parts.2 (tinted_so parts.0 name ws fill ball (plain_takes name ws parts.0 parts.1))

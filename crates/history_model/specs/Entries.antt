@@ -12,7 +12,7 @@ use Rattle.history_model.specs.declared.histories.Record.{Record}
 use Rattle.history_model.specs.declared.histories.Mark.{Mark}
 use Rattle.history_model.specs.Logs.{Log, suits_tints}
 use Rattle.history_model.specs.Reach.{ActLiesIn}
-use Rattle.history_model.specs.Journal.{journal_of, header, kept_side}
+use Rattle.history_model.specs.Journal.{journal_of, header, journal_side}
 use Rattle.history_model.specs.Spelling.{three_numbers, spelled_by, cell_list, act_list}
 use Rattle.plain_text.specs.Parts.{line_of}
 
@@ -49,7 +49,7 @@ IsJournal text = (log : Log) × IsTold log × (text ≡ journal_of log)
 -- ---- words
 
 abbrev pub side_list : Bool → ℕ → List (List ℕ)
-side_list coloured exponent = codes "side" ∷ decimal (kept_side coloured exponent) ∷ []
+side_list coloured exponent = codes "side" ∷ decimal (journal_side coloured exponent) ∷ []
 
 abbrev pub record_list : ℕ → Record → List (List ℕ)
 record_list n r = cell_list (cell_at n r.session r.line) (act_list r.act)

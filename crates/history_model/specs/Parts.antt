@@ -33,15 +33,15 @@ in_plane ink (Stamp m at) plane = λ before p.
     if tells 0 (ink p) then tells plane (ink p) else before p
 
 -- the cells that have ink are unset, and those whose ink tells in a plane are set
-abbrev pub unstamped : Tints → World → World
-unstamped ink before p = before p && not (tells 0 (ink p))
+abbrev pub without_ink : Tints → World → World
+without_ink ink before p = before p && not (tells 0 (ink p))
 
 abbrev pub stamped_in : ℕ → Tints → World → World
 stamped_in plane ink before p = tells plane (ink p) || before p
 
 -- the two parts of a stamp in the plane of a bit
 abbrev pub stamp_half : ℕ → ℕ → Tints → World → World
-stamp_half plane zero ink = unstamped ink
+stamp_half plane zero ink = without_ink ink
 stamp_half plane (suc half) ink = stamped_in plane ink
 
 -- the parts of a stamp

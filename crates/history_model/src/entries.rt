@@ -4,7 +4,7 @@ ghost use Rattle.plain_text.specs.Steps.{Gives};
 ghost use Rattle.history_model.specs.Packing.{Reads};
 ghost use Rattle.vw_cell.specs.Counts.{cell_at};
 ghost use Rattle.history_model.specs.Reach.{ActLiesIn};
-ghost use Rattle.history_model.specs.Journal.{kept_side};
+ghost use Rattle.history_model.specs.Journal.{journal_side};
 ghost use Rattle.history_model.specs.Spelled.{act_told};
 ghost use Rattle.history_model.specs.Entries.{IsRecord, IsNextMark, IsSide, record_list, mark_list, side_list, entry_spelled, mark_spelled, side_spelled};
 
@@ -133,8 +133,8 @@ pub(crate) fn read_side(line: &[u8], coloured: bool) -> Option<Side>
 #[tactic(auto, using(crate::proofs::MarkLaws::no_world_side))]
 fn side_of(cells: u32, coloured: bool) -> Option<Side>
     ensures { MatchOption result
-        ((exponent : ℕ) → IsSide coloured exponent → kept_side coloured exponent ≡ cells → ⊥)
-        (λ s. IsSide coloured s × (kept_side coloured s ≡ cells)) }
+        ((exponent : ℕ) → IsSide coloured exponent → journal_side coloured exponent ≡ cells → ⊥)
+        (λ s. IsSide coloured s × (journal_side coloured s ≡ cells)) }
 {
     let side = Side::new(cells)?;
     if coloured {
@@ -147,8 +147,8 @@ fn side_of(cells: u32, coloured: bool) -> Option<Side>
 #[tactic(auto, using(crate::proofs::MarkLaws::no_store_side, crate::proofs::MarkLaws::store_side_is))]
 fn store_side(world: Side) -> Option<Side>
     ensures { MatchOption result
-        ((exponent : ℕ) → IsSide true exponent → kept_side true exponent ≡ 2 ^ world → ⊥)
-        (λ s. IsSide true s × (kept_side true s ≡ 2 ^ world)) }
+        ((exponent : ℕ) → IsSide true exponent → journal_side true exponent ≡ 2 ^ world → ⊥)
+        (λ s. IsSide true s × (journal_side true s ≡ 2 ^ world)) }
 {
     let _world = world.exponent();
     match Side::new(4 * world.cells()) {

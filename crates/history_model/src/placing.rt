@@ -5,7 +5,7 @@ ghost use Rattle.history_model.specs.Worlds.{box_at};
 ghost use Rattle.history_model.specs.Tints.{IsTint};
 ghost use Rattle.history_model.specs.Reach.{GivesWhere, ActLiesIn, TakesTint};
 ghost use Rattle.history_model.specs.Spelled.{act_of, act_told};
-ghost use Rattle.history_model.specs.Spelling.{IsLarge, painted};
+ghost use Rattle.history_model.specs.Spelling.{IsLarge, tinted_act};
 
 use crate::acts::{Act, TintAct};
 use crate::spelling::{Spelled, SpelledTint, Three};
@@ -70,7 +70,7 @@ fn quarter(side: Side) -> Side
 
 // A plain act with this tint, where it can have it.
 fn tint(act: Act, tint: u32) -> Option<Act>
-    ensures { GivesWhere (TakesTint tint act) (painted tint act) result }
+    ensures { GivesWhere (TakesTint tint act) (tinted_act tint act) result }
 {
     match act {
         Act::Fill(b) if is_tint(tint) => Some(Act::Tint(TintAct::Fill(b, tint as u8))),

@@ -3,7 +3,7 @@ ghost use Rattle.interleave.specs.Runs.{HasRun};
 ghost use Rattle.interleave.specs.Statements.{EntriesLeaveByLastShares, HeldShapesStay};
 ghost use Rattle.interleave.specs.Statements.{RootsTellCells, RunsSpareShares, StatesAreSound};
 ghost use Rattle.interleave.specs.Statements.{VersionsKeepCells};
-ghost use Rattle.world_core.specs.Stored.{state_of};
+ghost use Rattle.world_core.specs.Stored.{stored_state};
 
 use node_words::Plan;
 use std::alloc::Global;
@@ -31,7 +31,7 @@ pub fn run_events<'m>(
 ) -> Result<Ran<'m>, Memory>
     requires sessions { (1 ≤ sessions) × (sessions ≤ 64) }
     ensures run { IfOk result (λ ran. HasRun plan.now models.entry.now sessions events.now
-        ran.replies.items (state_of ran.core)) }
+        ran.replies.items (stored_state ran.core)) }
     ensures plan { IfOk result (λ ran. ran.core.plan ≡ plan.now) }
     ensures models { IfOk result (λ ran. ran.core.models ≡ models.entry.now) }
     ensures sound { OnOk result (StatesAreSound plan.now models.entry.now sessions events.now) }

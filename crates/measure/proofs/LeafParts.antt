@@ -17,16 +17,16 @@ use Rattle.block_walk.specs.Parts.{EndsBy, part_in}
 use Rattle.block_walk.proofs.PartLaws.{part_has_cells}
 use Rattle.block_walk.proofs.LookLaws.{same_cell}
 use Rattle.measure.specs.declared.tallies.Part.{Part}
-use Rattle.measure.specs.Leaves.{TellsCells, leaf_block}
+use Rattle.measure.specs.Leaves.{TellsCells, octant_leaf}
 use Rattle.measure.specs.Tallies.{Counting, in_octant, IsOctantTally}
 use Rattle.measure.proofs.LeafCounts.{leaf_number}
 use Rattle.measure.proofs.TallyLaws.{part_ends}
 
 -- which of eight words it is
 pub words_show : (b : Boxed) (m n o p q r s t : ℕ)
-    → LeafShows m (leaf_block 0) (is_in_box b) → LeafShows n (leaf_block 1) (is_in_box b) → LeafShows o (leaf_block 2) (is_in_box b) → LeafShows p (leaf_block 3) (is_in_box b)
-    → LeafShows q (leaf_block 4) (is_in_box b) → LeafShows r (leaf_block 5) (is_in_box b) → LeafShows s (leaf_block 6) (is_in_box b) → LeafShows t (leaf_block 7) (is_in_box b)
-    → (k : ℕ) → k < 8 → LeafShows (slice_index (m ∷ n ∷ o ∷ p ∷ q ∷ r ∷ s ∷ t ∷ []) k) (leaf_block k) (is_in_box b)
+    → LeafShows m (octant_leaf 0) (is_in_box b) → LeafShows n (octant_leaf 1) (is_in_box b) → LeafShows o (octant_leaf 2) (is_in_box b) → LeafShows p (octant_leaf 3) (is_in_box b)
+    → LeafShows q (octant_leaf 4) (is_in_box b) → LeafShows r (octant_leaf 5) (is_in_box b) → LeafShows s (octant_leaf 6) (is_in_box b) → LeafShows t (octant_leaf 7) (is_in_box b)
+    → (k : ℕ) → k < 8 → LeafShows (slice_index (m ∷ n ∷ o ∷ p ∷ q ∷ r ∷ s ∷ t ∷ []) k) (octant_leaf k) (is_in_box b)
 words_show b m n o p q r s t c d e f g h i j zero lt = c
 words_show b m n o p q r s t c d e f g h i j (suc zero) lt = d
 words_show b m n o p q r s t c d e f g h i j (suc (suc zero)) lt = e
@@ -47,7 +47,7 @@ corner_block = record { level = 0; at = cell_at 0 0 0 }
 at_corner : (x y z : ℕ) → cell_at (corner_block.at.x + x) (corner_block.at.y + y) (corner_block.at.z + z) ≡ cell_at x y z
 at_corner x y z = same_cell (cell_at (corner_block.at.x + x) (corner_block.at.y + y) (corner_block.at.z + z)) x y z (omega arith) (omega arith) (omega arith)
 
-part_shown : (mask k : ℕ) (b : Boxed) → LeafShows mask (leaf_block k) (is_in_box b) → LeafShows mask corner_block (is_in_box (part_in 4 b k))
+part_shown : (mask k : ℕ) (b : Boxed) → LeafShows mask (octant_leaf k) (is_in_box b) → LeafShows mask corner_block (is_in_box (part_in 4 b k))
 part_shown mask k b shows = record {
   each = λ x y z p q r. shows.each x y z p q r ∙ sym ((part_has_cells 4 k b).each (cell_at x y z) (record { x = p; y = q; z = r }))
       ∙ ap (is_in_box (part_in 4 b k)) (sym (at_corner x y z));
@@ -55,7 +55,7 @@ part_shown mask k b shows = record {
 
 pub counted_within : {S : Type 0} (counts : Counting S) (a c : Seen) (of : Part S) (k n bits mask : ℕ) (inner : S) → of.level ≡ 1 → c ≡ a → bits < 2 ^ 64
     → ((u : Cell → Bool) → counts a.held 1 of.subject u → counts a.held 0 inner (in_octant 1 k u)) → ((u : Cell → Bool) → counts c.held 0 inner u → TellsCells bits u)
-    → LeafShows mask (leaf_block k) (is_in_box of.part) → n ≡ count_ones (bit_and bits mask) → IsOctantTally counts a.held of k n
+    → LeafShows mask (octant_leaf k) (is_in_box of.part) → n ≡ count_ones (bit_and bits mask) → IsOctantTally counts a.held of k n
 counted_within {S = S} counts a c of k n bits mask inner level same small down bits_are shows is test p =
     let P : ℕ → Type 0 = λ l. n ≡ number_in (part_in (block_side (l - 1)) of.part k) (in_octant l k test) in
     let there : counts a.held 1 of.subject test = subst (λ (l : ℕ). counts a.held l of.subject test) level p in
@@ -77,7 +77,7 @@ none_there part test ends shows =
     (ap (is_in_box part) (at_corner (part.at.x + c.x) (part.at.y + c.y) (part.at.z + c.z)) ∙ is_in_box_holds part (cell_at (part.at.x + c.x) (part.at.y + c.y) (part.at.z + c.z)) (record { x = (omega arith, omega (arith, b.x)); y = (omega arith, omega (arith, b.y)); z = (omega arith, omega (arith, b.z)) }))))
     ∙ number_below-none part.size (λ _. false) (λ _. refl))
 
-pub none_within : {S : Type 0} (counts : Counting S) (held : List Tree) (of : Part S) (k mask : ℕ) → of.level ≡ 1 → mask ≡ 0 → LeafShows mask (leaf_block k) (is_in_box of.part) → IsOctantTally counts held of k 0
+pub none_within : {S : Type 0} (counts : Counting S) (held : List Tree) (of : Part S) (k mask : ℕ) → of.level ≡ 1 → mask ≡ 0 → LeafShows mask (octant_leaf k) (is_in_box of.part) → IsOctantTally counts held of k 0
 none_within {S = S} counts held of k mask level none shows test p =
     let P : ℕ → Type 0 = λ l. 0 ≡ number_in (part_in (block_side (l - 1)) of.part k) (in_octant l k test) in
     let one : P 1 = none_there (part_in 4 of.part k) (in_octant 1 k test) (part_ends 4 of.part k) (subst (λ (m : ℕ). LeafShows m corner_block (is_in_box (part_in 4 of.part k))) none (part_shown mask k of.part shows)) in

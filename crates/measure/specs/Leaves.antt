@@ -13,6 +13,6 @@ pub record TellsCells (bits : ℕ) (test : Cell → Bool) : Type 0 where
       → (bit_at bits (bit_number x y z) == 1) ≡ test (cell_at x y z)
 
 -- the leaf in an octant of a block of eight leaves, told from the block's corner
-abbrev pub leaf_block : ℕ → Block
-leaf_block k =
+abbrev pub octant_leaf : ℕ → Block
+octant_leaf k =
     record { level = 0; at = cell_at (half_x k * 4) (half_y k * 4) (half_z k * 4) }

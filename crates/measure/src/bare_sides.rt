@@ -18,8 +18,7 @@ use crate::wholes::Whole;
 use block_walk::{Answers, leaf_bits, name_of, octant_name, same_names};
 use node_shapes::Name;
 use node_words::{Blocks, Share, window_bits};
-use vw_cell::{Boxed, Side};
-use vw_cell::Direction;
+use vw_cell::{Boxed, Direction, Side};
 
 /// The number of pairs of a set cell of a box of the root's world and one of its six sides, at
 /// which the place next to it is unset or outside of the world. A side that two set cells share

@@ -3,7 +3,7 @@ ghost use Rattle.vw_cell.specs.declared.cells.Cell.{Cell};
 ghost use Rattle.vw_cell.specs.Places.{block_side, is_in_box};
 ghost use Rattle.node_kernels.specs.Leaves.{LeafShows};
 ghost use Rattle.block_walk.specs.Parts.{EndsBy};
-ghost use Rattle.measure.specs.Leaves.{leaf_block};
+ghost use Rattle.measure.specs.Leaves.{octant_leaf};
 ghost use Rattle.measure.specs.Tallies.{IsTally, IsOctantTally};
 
 use crate::tallies::{Part, Subject};
@@ -37,7 +37,7 @@ fn count_within<S: Subject, B: Blocks>(store: &mut B, of: &Part<S>, octant: u8, 
     requires block { (test : Cell → Bool)
         × S.counts (B.seen store.old).held of.now.level of.now.subject test }
     requires part { EndsBy (block_side of.now.level) of.now.part }
-    requires within { LeafShows within (leaf_block octant) (is_in_box of.now.part) }
+    requires within { LeafShows within (octant_leaf octant) (is_in_box of.now.part) }
     ensures number { IsOctantTally S.counts (B.seen store.old).held of.now octant result }
     ensures seen { B.seen store.new ≡ B.seen store.old }
     ensures rests { B.rests store.old store.new }
@@ -52,24 +52,24 @@ fn count_within<S: Subject, B: Blocks>(store: &mut B, of: &Part<S>, octant: u8, 
 
 // Which cells of each of the eight leaves of a block are in the box.
 fn bits_by_leaf(b: Boxed) -> [u64; 8]
-    ensures { (k : ℕ) → k < 8 → LeafShows (slice_index result k) (leaf_block k) (is_in_box b) }
+    ensures { (k : ℕ) → k < 8 → LeafShows (slice_index result k) (octant_leaf k) (is_in_box b) }
 {
     [
-        box_bits(b, leaf_block(0)),
-        box_bits(b, leaf_block(1)),
-        box_bits(b, leaf_block(2)),
-        box_bits(b, leaf_block(3)),
-        box_bits(b, leaf_block(4)),
-        box_bits(b, leaf_block(5)),
-        box_bits(b, leaf_block(6)),
-        box_bits(b, leaf_block(7)),
+        box_bits(b, octant_leaf(0)),
+        box_bits(b, octant_leaf(1)),
+        box_bits(b, octant_leaf(2)),
+        box_bits(b, octant_leaf(3)),
+        box_bits(b, octant_leaf(4)),
+        box_bits(b, octant_leaf(5)),
+        box_bits(b, octant_leaf(6)),
+        box_bits(b, octant_leaf(7)),
     ]
 }
 
 // The leaf in an octant.
-fn leaf_block(octant: u8) -> Block
+fn octant_leaf(octant: u8) -> Block
     requires { octant < 8 }
-    ensures { result ≡ leaf_block octant }
+    ensures { result ≡ octant_leaf octant }
 {
     let at = Cell {
         x: u16::from(octant % 2) * 4,

@@ -24,7 +24,7 @@ use Rattle.script.specs.declared.commands.ScriptLine.{ScriptLine}
 use Rattle.transcript.specs.declared.answers.Answer.TheVariants as answers
 use Rattle.conformance.specs.Answers.{target_at, nothing_to_undo, nothing_to_redo, forgotten, log_full}
 use Rattle.conformance.specs.Kinds.{answer_at}
-use Rattle.conformance.specs.Running.{GrowsBy, ForgetsBy}
+use Rattle.conformance.specs.Running.{GrowsByRecord, ForgetsBy}
 use Rattle.conformance.proofs.LineKinds.{undo_target, redo_target, full_way}
 use Rattle.script_runs.specs.Keeping.{last_moment}
 use Rattle.script_runs.specs.Sessions.{TakesLine}
@@ -106,8 +106,8 @@ module _ (h g : PlainHistory) (r : Record) (now : ℕ) (are : ArePlain h)
         (subst (λ (ns : List ℕ). AreNows (h.records.items ++ r ∷ []) ns) (sym nows) (nows_longer h.records.items h.nows.items r now are.nows is));
   }
 
-  pub appended_grows : GrowsBy h.plan h.models.now r (plain_log h) (plain_log g)
-  appended_grows = subst (λ (l : Log). GrowsBy h.plan h.models.now r (plain_log h) l) (sym log_grown)
+  pub appended_grows : GrowsByRecord h.plan h.models.now r (plain_log h) (plain_log g)
+  appended_grows = subst (λ (l : Log). GrowsByRecord h.plan h.models.now r (plain_log h) l) (sym log_grown)
       (record { legal = longer_legal; side = refl; coloured = refl; suits = suits; records = refl; marks = refl })
 
 pub edit_may_follow : (h : PlainHistory) (act : Act) → is_edit act ≡ true → MayFollow (plain_marks h) (plain_moment h + 1) act (position_after h.records.items)
@@ -143,7 +143,7 @@ module _ (h : PlainHistory) (act : Act) (to : ℕ) (other : is_edit act ≡ fals
 
 module _ (h g : PlainHistory) (session line : ℕ) (act : Act) (once : Bool)
     (plan : g.plan ≡ h.plan) (models : g.models.now ≡ h.models.now)
-    (grows : GrowsBy h.plan h.models.now (record { session = session; line = line; act = act }) (plain_log h) (plain_log g)) where
+    (grows : GrowsByRecord h.plan h.models.now (record { session = session; line = line; act = act }) (plain_log h) (plain_log g)) where
   after : plain_moment g ≡ plain_moment h + 1
   after = ap (λ (rs : List Record). length rs) grows.records ∙ length-append h.records.items (record { session = session; line = line; act = act } ∷ [])
 

@@ -7,7 +7,7 @@ ghost use Rattle.history_model.specs.Worlds.{is_edit};
 ghost use Rattle.script.specs.declared.commands.Command.TheVariants.{Edit, Forget};
 ghost use Rattle.block_contents.specs.Versions.{MarkComes, IsUnmarked};
 ghost use Rattle.conformance.specs.Answers.{target_at};
-ghost use Rattle.conformance.specs.Running.{GrowsBy};
+ghost use Rattle.conformance.specs.Running.{GrowsByRecord};
 ghost use Rattle.plain_run.specs.Falling.{LetsFall};
 ghost use Rattle.plain_run.specs.Histories.{ArePlain, plain_log, plain_marks, plain_moment};
 ghost use Rattle.plain_run.specs.Plain.{RunsOn, nowhere_to_go};
@@ -115,7 +115,7 @@ impl<'m> PlainHistory<'m> {
         ensures are { ArePlain self.new }
         ensures plan { self.new.plan ≡ self.old.plan }
         ensures models { self.new.models.now ≡ self.old.models.now }
-        ensures grows { OnOk result (GrowsBy self.old.plan self.old.models.now next
+        ensures grows { OnOk result (GrowsByRecord self.old.plan self.old.models.now next
             (plain_log self.old) (plain_log self.new)) }
     {
         self.records.reserve(1)?;

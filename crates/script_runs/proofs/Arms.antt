@@ -20,7 +20,7 @@ use Rattle.transcript.specs.declared.answers.LineAnswer.{LineAnswer}
 use Rattle.conformance.specs.Answers.{IsStanding, Answers, full, log_full}
 use Rattle.conformance.specs.Kinds.{is_resting, answer_at}
 use Rattle.conformance.specs.Refusing.{refused_by}
-use Rattle.conformance.specs.Running.{GrowsBy, ForgetsBy}
+use Rattle.conformance.specs.Running.{GrowsByRecord, ForgetsBy}
 use Rattle.conformance.proofs.LineKinds.{done_line, forgot_line, resting_line}
 use Rattle.conformance.proofs.Running.{moments_within}
 use Rattle.script_runs.specs.Keeping.{MadeAndMet, made_and_met, IsPartOfWorld, IsWanted, MeetsFull, last_moment}
@@ -35,7 +35,7 @@ grew_as P Q old _ each unchanged = unchanged
 grew_as P Q old _ each (one {a} {new = before} p rest) = one (each a p) (grew_as P Q old before each rest)
 
 pub rebuilt_arm : (p : Layout) (models : List Content) (session first line : ℕ) (act : Act) (once : Bool) (log new : Log) (made now : MadeAndMet)
-    → GrowsBy p models (record { session = session; line = line; act = act }) log new → first ≤ length log.records → Grew (IsWanted p models log.records act (length log.records)) made.made now.made → now.met ≡ made.met
+    → GrowsByRecord p models (record { session = session; line = line; act = act }) log new → first ≤ length log.records → Grew (IsWanted p models log.records act (length log.records)) made.made now.made → now.met ≡ made.met
     → TakesLine p models session first (record { line = line; command = Edit act once }) log new made now (record { line = line; at = length log.records + 1; answer = answers.Done })
 rebuilt_arm p models session first line act once log new made now grows low grew same =
     let step = done_line p models session line act once log new grows in
@@ -46,7 +46,7 @@ rebuilt_arm p models session first line act once log new made now grows low grew
           (grew_as (IsWanted p models log.records act (length log.records)) (IsWanted p models new.records act (length log.records)) made.made now.made (λ s wanted. wanted_stays p models log new step.goes_on act (length log.records) s (omega arith) wanted) grew) same;
     }
 
-pub undone_arm : (p : Layout) (models : List Content) (session first line : ℕ) (act : Act) (once : Bool) (log new : Log) (noted : MadeAndMet) → GrowsBy p models (record { session = session; line = line; act = act }) log new
+pub undone_arm : (p : Layout) (models : List Content) (session first line : ℕ) (act : Act) (once : Bool) (log new : Log) (noted : MadeAndMet) → GrowsByRecord p models (record { session = session; line = line; act = act }) log new
     → TakesLine p models session first (record { line = line; command = Edit act once }) log new noted noted (record { line = line; at = length log.records + 1; answer = answers.Done })
 undone_arm p models session first line act once log new noted grows = record {
   line = done_line p models session line act once log new grows;

@@ -19,7 +19,7 @@ use Rattle.transcript.specs.declared.answers.LineAnswer.{LineAnswer}
 use Rattle.conformance.specs.Answers.{IsStanding, Answers}
 use Rattle.conformance.specs.Kinds.{is_resting, answer_at}
 use Rattle.conformance.specs.Refusing.{refused_by}
-use Rattle.conformance.specs.Running.{GrowsBy, ForgetsBy}
+use Rattle.conformance.specs.Running.{GrowsByRecord, ForgetsBy}
 use Rattle.script_runs.specs.Keeping.{MadeAndMet, made_and_met, IsWanted, IsPlainTarget, MeetsFull, last_moment}
 use Rattle.script_runs.specs.Sessions.{IsRunning, TakesLine}
 
@@ -27,7 +27,7 @@ use Rattle.script_runs.specs.Sessions.{IsRunning, TakesLine}
 abbrev pub RebuiltEditsTakeLines : Type 0
 RebuiltEditsTakeLines = (p : Layout) (models : List Content) (session first line : ℕ) (act : Act)
     (once : Bool) (log new : Log) (made now : MadeAndMet)
-    → GrowsBy p models (record { session = session; line = line; act = act }) log new
+    → GrowsByRecord p models (record { session = session; line = line; act = act }) log new
     → first ≤ length log.records
     → Grew (IsWanted p models log.records act (length log.records)) made.made now.made
     → now.met ≡ made.met
@@ -38,7 +38,7 @@ RebuiltEditsTakeLines = (p : Layout) (models : List Content) (session first line
 abbrev pub UndosTakeLines : Type 0
 UndosTakeLines = (p : Layout) (models : List Content) (session first line : ℕ) (act : Act)
     (once : Bool) (log new : Log) (noted : MadeAndMet)
-    → GrowsBy p models (record { session = session; line = line; act = act }) log new
+    → GrowsByRecord p models (record { session = session; line = line; act = act }) log new
     → TakesLine p models session first (record { line = line; command = Edit act once }) log new
     noted noted (record { line = line; at = length log.records + 1; answer = answers.Done })
 

@@ -30,7 +30,7 @@ use Rattle.transcript.specs.declared.answers.LineAnswer.{LineAnswer}
 use Rattle.conformance.specs.Answers.{IsStanding, IsReadable, IsForgotten, Answers, tells, saves, same, different, head, no_version, forgotten, is_head, nothing_to_undo, nothing_to_redo, log_full, asked_version, Names, target_at}
 use Rattle.conformance.specs.Kinds.{is_resting, answer_at, IsAfter}
 use Rattle.conformance.specs.Refusing.{refused_by}
-use Rattle.conformance.specs.Running.{IsSoFar, GrowsBy}
+use Rattle.conformance.specs.Running.{IsSoFar, GrowsByRecord}
 use Rattle.conformance.specs.Telling.{Tells, colour, count}
 use Rattle.conformance.proofs.LineKinds.{kept_readable, marked_forgotten}
 use Rattle.script_runs.specs.Keeping.{MadeAndMet, last_moment}
@@ -144,10 +144,10 @@ module _ (v w : Versions) (session line : ℕ) (act : Act) (once : Bool) (are : 
         let low = before_within (plan_of v) v.models.items scripts transcripts script transcript (log_of v) (noted_of v) running in
         let l : ScriptLine = record { line = line; command = Edit act once } in
         let r : Record = record { session = session; line = line; act = act } in
-        let grows : GrowsBy (plan_of v) v.models.items r (log_of v) (log_of w) =
-        subst (λ (q : Layout). GrowsBy q v.models.items r (log_of v) (log_of w)) makes.stay.spares.plan
-        (subst (λ (models : List Content). GrowsBy (plan_of u) models r (log_of v) (log_of w)) makes.stay.models
-        (subst (λ (log : Log). GrowsBy (plan_of u) u.models.items r log (log_of w)) makes.stay.log appends.grows)) in
+        let grows : GrowsByRecord (plan_of v) v.models.items r (log_of v) (log_of w) =
+        subst (λ (q : Layout). GrowsByRecord q v.models.items r (log_of v) (log_of w)) makes.stay.spares.plan
+        (subst (λ (models : List Content). GrowsByRecord (plan_of u) models r (log_of v) (log_of w)) makes.stay.models
+        (subst (λ (log : Log). GrowsByRecord (plan_of u) u.models.items r log (log_of w)) makes.stay.log appends.grows)) in
         let grew : Grew (Wants v act) v.store.told.made w.store.told.made =
         subst (λ (list : List Shape). Grew (Wants v act) v.store.told.made list) (sym appends.only.only.made)
         (grew_wanted v act are edit plain v.store.told.made u.store.told.made makes.grows.made) in
@@ -201,10 +201,10 @@ go_done v u w session line act once to root shares appends = record {
       let first = last_moment 0 transcript in
       let l : ScriptLine = record { line = line; command = Edit act once } in
       let r : Record = record { session = session; line = line; act = act } in
-      let grows : GrowsBy (plan_of v) v.models.items r (log_of v) (log_of w) =
-      subst (λ (q : Layout). GrowsBy q v.models.items r (log_of v) (log_of w)) shares.stay.spares.plan
-      (subst (λ (models : List Content). GrowsBy (plan_of u) models r (log_of v) (log_of w)) shares.stay.models
-      (subst (λ (log : Log). GrowsBy (plan_of u) u.models.items r log (log_of w)) shares.stay.log appends.grows)) in
+      let grows : GrowsByRecord (plan_of v) v.models.items r (log_of v) (log_of w) =
+      subst (λ (q : Layout). GrowsByRecord q v.models.items r (log_of v) (log_of w)) shares.stay.spares.plan
+      (subst (λ (models : List Content). GrowsByRecord (plan_of u) models r (log_of v) (log_of w)) shares.stay.models
+      (subst (λ (log : Log). GrowsByRecord (plan_of u) u.models.items r log (log_of w)) shares.stay.log appends.grows)) in
       let done = undone_arm (plan_of v) v.models.items session first line act once (log_of v) (log_of w) (noted_of v) grows in
       let longer : moment_of w ≡ moment_of v + 1 = ap (λ (rs : List Record). length rs) grows.records ∙ length-append v.records.items (r ∷ []) in
       subst (λ (now : MadeAndMet). TakesLine (plan_of v) v.models.items session first l (log_of v) (log_of w) (noted_of v) now (answer_at l (moment_of w) answers.Done))

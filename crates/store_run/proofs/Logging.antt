@@ -20,7 +20,7 @@ use Rattle.core_laws.specs.Events.{PutsRoot, TakesRoot}
 use Rattle.core_laws.specs.LogEvents.{MayAppend, appends, forgets}
 use Rattle.core_laws.specs.Soundness.{SoundVersions, Sound}
 use Rattle.core_laws.proofs.StepLaws.{step_sound}
-use Rattle.conformance.specs.Running.{GrowsBy, ForgetsBy}
+use Rattle.conformance.specs.Running.{GrowsByRecord, ForgetsBy}
 use Rattle.entry_words.specs.Words.{Written}
 use Rattle.undo.specs.Trails.{trail_position}
 use Rattle.one_store.specs.Known.{Known, IsStore, core_of, root_tree, stored_root}
@@ -106,7 +106,7 @@ module _ (v : Versions) (s : Known) (r : Record) (root : Option Name) (number pl
           met = ap (λ (k : Known). k.told.met) store ∙ keeps.only.met;
         };
       };
-      grows = subst (λ (l : Log). GrowsBy (plan_of v) v.models.items r (log_of v) l) (sym log_grown)
+      grows = subst (λ (l : Log). GrowsByRecord (plan_of v) v.models.items r (log_of v) l) (sym log_grown)
           (record {
             legal = longer_sound.versions.legal;
             side = refl;

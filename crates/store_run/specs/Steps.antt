@@ -17,7 +17,7 @@ use Rattle.edit_cells.specs.Worlds.{Rebuilt, world_shape}
 use Rattle.store_notes.specs.Changes.{MakesNothing}
 use Rattle.one_store.specs.Known.{known_seen, root_tree, stored_root}
 use Rattle.one_store.specs.Steps.{SparesRoots}
-use Rattle.conformance.specs.Running.{GrowsBy, ForgetsBy}
+use Rattle.conformance.specs.Running.{GrowsByRecord, ForgetsBy}
 use Rattle.conformance.specs.Telling.{Tells}
 use Rattle.transcript.specs.declared.answers.Answer.{Answer}
 use Rattle.store_run.specs.declared.stored_versions.Versions.{Versions}
@@ -117,7 +117,7 @@ pub record OnlyLogs (old new : Versions) : Type 0 where
 -- the record came behind the others
 pub record AppendsRecord (old : Versions) (r : Record) (new : Versions) : Type 0 where
   pub only : OnlyLogs old new
-  pub grows : GrowsBy (plan_of old) old.models.items r (log_of old) (log_of new)
+  pub grows : GrowsByRecord (plan_of old) old.models.items r (log_of old) (log_of new)
 
 -- the mark came to its place
 pub record MarksVersion (old : Versions) (mark : Mark) (new : Versions) : Type 0 where

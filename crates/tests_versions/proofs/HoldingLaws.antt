@@ -31,7 +31,8 @@ use Rattle.version_log.specs.declared.ahead.Ahead.{Ahead}
 use Rattle.version_log.specs.declared.committed.Committed.{Committed}
 use Rattle.version_log.specs.declared.forgetting.Forgot.{Forgot}
 use Rattle.version_log.specs.Commits.{AppendsNext, IsMadeOver}
-use Rattle.version_log.specs.Falling.{CommitsNext, falls_out}
+use Rattle.versions.specs.Retained.{falls_out}
+use Rattle.version_log.specs.Falling.{CommitsNext}
 use Rattle.version_log.specs.Forgets.{ForgetsVersion}
 use Rattle.version_log.specs.Keeping.{OnlyKeeps}
 use Rattle.version_log.specs.Roots.{HoldsRootOf, GetsRoot}

@@ -13,7 +13,8 @@ use Rattle.node_table.specs.LogTurns.{ForgetsUnderTurn, FoundMark, FoundOpen, Ha
 use Rattle.version_log.specs.declared.committed.Committed.{Committed}
 use Rattle.version_log.specs.declared.refusals.CommitRefused.{CommitRefused}
 use Rattle.version_log.specs.Commits.{AppendsNext}
-use Rattle.version_log.specs.Falling.{CommitsAlone, CommitsNext, FallsOut, WasMarked, falls_out}
+use Rattle.versions.specs.Retained.{falls_out}
+use Rattle.version_log.specs.Falling.{CommitsAlone, CommitsNext, FallsOut, WasMarked}
 use Rattle.version_log.specs.Forgets.{ForgetsVersion}
 use Rattle.version_log.specs.Roots.{GetsRoot}
 use Rattle.version_log.specs.Seeing.{LooksOn}

@@ -1,18 +1,15 @@
 -- What a record leaves where the last versions alone are kept.
-use Rattle.std.specs.Prelude.{◌≡◌, ◌⊎◌, ◌&&◌, ◌-◌, ℕ, nat_le, if◌then◌else◌, Option, Some, None}
+use Rattle.std.specs.Prelude.{◌≡◌, ◌⊎◌, ℕ, Option, Some, None}
 use Rattle.history_model.specs.declared.acts.Act.{Act}
 use Rattle.history_model.specs.declared.histories.Mark.{Mark}
 use Rattle.node_shapes.specs.declared.names.Name.{Name}
 use Rattle.table_rule.specs.LogTelling.{number_seen}
 use Rattle.table_rule.specs.Views.{SeatView}
+use Rattle.versions.specs.Retained.{falls_out}
 use Rattle.version_log.specs.declared.committed.Committed.{Committed}
 use Rattle.version_log.specs.Commits.{AppendsNext}
 use Rattle.version_log.specs.Forgets.{ForgetsVersion}
 use Rattle.version_log.specs.Seeing.{HasSeenMark, LooksOn}
-
--- the version that falls out of the last `keep` as record n comes; with 0 none does
-abbrev pub falls_out : ℕ → ℕ → Option ℕ
-falls_out n keep = if nat_le 1 keep && nat_le keep n then Some (n - keep) else None
 
 -- the version had a mark, which is seen now and was made at no more than this length; no share
 -- came

@@ -7,7 +7,8 @@ ghost use Rattle.table_steps.specs.LogChanges.{HasOpenTarget};
 ghost use Rattle.node_table.specs.LogTurns.{ForgetsUnderTurn, HasLogTurn, HasNoTurn};
 ghost use Rattle.node_table.specs.LogTurns.{log_left, next_mark};
 ghost use Rattle.node_table.specs.Seen.{BelongsTo};
-ghost use Rattle.version_log.specs.Falling.{CommitsNext, FallsOut, falls_out};
+ghost use Rattle.versions.specs.Retained.{falls_out};
+ghost use Rattle.version_log.specs.Falling.{CommitsNext, FallsOut};
 ghost use Rattle.version_log.specs.Targets.{IsMadeNow, KnowsNext};
 
 use crate::ahead::Ahead;

@@ -12,12 +12,12 @@ use Rattle.std.proofs.lemmas.List.Sorted.{IsPermutation-refl, IsPermutation-cons
 use Rattle.history_model.specs.declared.histories.Record.{Record}
 use Rattle.history_model.specs.declared.histories.Mark.{Mark}
 use Rattle.versions.specs.Retained.{falls_out, fallen_by, fallen_from, unnamed_by, AreRising, AreAllMarks}
-use Rattle.versions.specs.Passing.{chosen, behind, next_marks, left_behind}
+use Rattle.versions.specs.Passing.{chosen, marks_behind, next_marks, left_behind}
 
 -- the marks of these fallen versions, each that by hand where there is one, and the others by hand
 abbrev pub merged : List Mark → List Mark → List Mark
 merged [] left = left
-merged (m ∷ more) left = chosen m left ∷ merged more (behind m left)
+merged (m ∷ more) left = chosen m left ∷ merged more (marks_behind m left)
 
 -- ---- record by record
 

@@ -9,9 +9,9 @@ chosen fallen [] = fallen
 chosen fallen (m ∷ later) = if m.version == fallen.version then m else fallen
 
 -- the marks made by hand behind it
-abbrev pub behind : Mark → List Mark → List Mark
-behind fallen [] = []
-behind fallen (m ∷ later) = if m.version == fallen.version then later else m ∷ later
+abbrev pub marks_behind : Mark → List Mark → List Mark
+marks_behind fallen [] = []
+marks_behind fallen (m ∷ later) = if m.version == fallen.version then later else m ∷ later
 
 -- both, where a version fell out or none
 abbrev pub next_marks : List Mark → List Mark → List Mark
@@ -20,4 +20,4 @@ next_marks (fallen ∷ more) left = chosen fallen left ∷ []
 
 abbrev pub left_behind : List Mark → List Mark → List Mark
 left_behind [] left = left
-left_behind (fallen ∷ more) left = behind fallen left
+left_behind (fallen ∷ more) left = marks_behind fallen left

@@ -1,6 +1,6 @@
 ghost use Rattle.std.specs.Prelude.{◌≡◌, ◌+◌, ◌<◌, ◌≤◌, ◌++◌, IfOk, length, vec_len, vec_capacity};
 ghost use Rattle.versions.specs.Retained.{AreRising, AreAllMarks, falls_out, fallen_by};
-ghost use Rattle.versions.specs.Passing.{chosen, behind, next_marks, left_behind};
+ghost use Rattle.versions.specs.Passing.{chosen, marks_behind, next_marks, left_behind};
 
 use crate::fallen::falls_out;
 use history_model::{Mark, Record};
@@ -63,7 +63,7 @@ fn add_fallen<'m>(
 // hand behind it.
 fn choose<'m>(fallen: Mark, left: &'m [Mark]) -> (Mark, &'m [Mark])
     ensures mark { result.0 ≡ chosen fallen left.now }
-    ensures behind { result.1.now ≡ behind fallen left.now }
+    ensures behind { result.1.now ≡ marks_behind fallen left.now }
 {
     let Some((first, later)) = left.split_first() else {
         return (fallen, left);

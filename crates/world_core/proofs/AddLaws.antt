@@ -22,7 +22,7 @@ use Rattle.core_reading.proofs.SlotLaws.{adds_slot, stays_laid_out}
 use Rattle.world_core.specs.Changes.{AreLive}
 use Rattle.world_core.specs.Trading.{TradesNames, weights}
 use Rattle.world_core.specs.Lawful.{HoldsShares, HoldsAtMost}
-use Rattle.world_core.specs.Stored.{Stored, IsStored, state_of, root_in}
+use Rattle.world_core.specs.Stored.{Stored, IsStored, stored_state, root_in}
 use Rattle.world_core.specs.Steps.{FindsEntry, AddsEntry, IsNowhere}
 use Rattle.world_core.proofs.Keeping.{kept, no_weights, one_weight}
 use Rattle.world_core.proofs.ShareLaws.{moved, few_after, trades_as}
@@ -64,7 +64,7 @@ module _ (s : Stored) (level bucket : ℕ) (key : Key) (is : IsStored s) (low : 
   pub none_found : HasNone (bucket_at s.entries level bucket) key (length (bucket_at s.entries level bucket))
       → IsNowhere s level bucket key
   none_found none = record {
-    missing = missing_in_bucket s.plan (state_of s) level key is.sound.entries
+    missing = missing_in_bucket s.plan (stored_state s) level key is.sound.entries
         (λ slot lt some it. subst (λ (b : ℕ). HasNone (bucket_at s.entries level b) key (length (bucket_at s.entries level b)) → ⊥) same
         (λ no. no.each slot (let w = is.laid.slots level bucket low (bucket_in s level bucket key is low same) in omega arith)
         (has_there (entry_at s.entries (named level bucket slot)) key
@@ -93,7 +93,7 @@ module _ (s : Stored) (level bucket : ℕ) (key : Key) (is : IsStored s) (low : 
 
   -- each slot of the bucket is taken
   pub all_taken : AreLive (bucket_at s.entries level bucket) (length (bucket_at s.entries level bucket))
-      → IsFull s.plan (state_of s) level bucket
+      → IsFull s.plan (stored_state s) level bucket
   all_taken taken = record {
     level_in = low;
     bucket_in = bucket_in s level bucket key is low same;
@@ -104,7 +104,7 @@ module _ (s : Stored) (level bucket : ℕ) (key : Key) (is : IsStored s) (low : 
   pub added : (session slot : ℕ) (names rest after : List Name) (children : List (Option Name))
       (entries : List Level) → IsNowhere s level bucket key → FitsLevel level key
       → ((f : Name → ℕ) → weights children f ≡ children_weight f key)
-      → HoldsShares (state_of s) session children → HoldsAtMost (state_of s) session 4095
+      → HoldsShares (stored_state s) session children → HoldsAtMost (stored_state s) session 4095
       → slice_get s.held session ≡ Some names → TradesNames names children [] rest
       → after ≡ rest ++ named level bucket slot ∷ []
       → IsFirstFree (bucket_at s.entries level bucket) slot
@@ -127,7 +127,7 @@ module _ (s : Stored) (level bucket : ℕ) (key : Key) (is : IsStored s) (low : 
       let trades = trades_as s session names after children (Some n ∷ []) at has all_trade (children_named key) (one_name n) weigh (one_weight (Some n)) in
       let few = few_after s session names after children (Some n ∷ []) at has all_trade 4095 room (omega (arith, one_weight (Some n) (λ _. 1))) in
       let all : List Level = put_at s.entries n (Some (record { key = key; book = 1 })) in
-      let step : Adds s.plan session n key (state_of s) (state_of (moved s all session after)) =
+      let step : Adds s.plan session n key (stored_state s) (stored_state (moved s all session after)) =
       adds_slot s.plan s.entries n key session (root_in s.roots) s.log s.held (set s.held session after)
       is.laid name free.at fits same nowhere.missing trades in
       subst (λ (x : List Level). AddsEntry s session level key n (moved s x session after)) (sym put) (record {

@@ -12,7 +12,7 @@ use Rattle.core_laws.specs.Counting.{holdings}
 use Rattle.core_laws.proofs.RootCells.{empty_sound}
 use Rattle.core_reading.specs.Slots.{Level, IsLaidOut, entry_at}
 use Rattle.world_core.specs.Beginning.{HasBegun}
-use Rattle.world_core.specs.Stored.{Stored, IsStored, root_in, state_of}
+use Rattle.world_core.specs.Stored.{Stored, IsStored, root_in, stored_state}
 
 abbrev no_name : Option Name
 no_name = None
@@ -44,7 +44,7 @@ module _ (p : Layout) (models : List Content) (entries : List Level) (roots : Li
     (held : List (List Name)) (sessions : ℕ) (plan : IsPlan p) (laid : IsLaidOut p entries)
     (free : (n : Name) → entry_at entries n ≡ None) (none : roots ≡ replicate 65536 None)
     (nobody_holds : held ≡ replicate sessions []) (few : sessions ≤ 64) where
-  pub begins : HasBegun p sessions (state_of (begun p models entries roots held))
+  pub begins : HasBegun p sessions (stored_state (begun p models entries roots held))
   begins = record {
     untouched = record {
       book = λ n is. ap book_of_slot (free n);
@@ -60,7 +60,7 @@ module _ (p : Layout) (models : List Content) (entries : List Level) (roots : Li
     plan = plan;
     laid = laid;
     places = ap length none ∙ length-replicate 65536 no_name;
-    sound = empty_sound p models (state_of (begun p models entries roots held)) (record {
+    sound = empty_sound p models (stored_state (begun p models entries roots held)) (record {
       book = λ n is. ap book_of_slot (free n);
       root = λ v. ap (λ (r : List (Option Name)). root_in r v) none ∙ no_root v;
       log = refl;

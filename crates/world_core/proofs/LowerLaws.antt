@@ -24,20 +24,20 @@ use Rattle.world_core.specs.Changes.{LowersEntryAt}
 use Rattle.world_core.specs.Trading.{HasAll, TradesNames, weights}
 use Rattle.world_core.specs.Answering.{children_in}
 use Rattle.world_core.specs.Lawful.{HoldsShares, MayLower}
-use Rattle.world_core.specs.Stored.{Stored, IsStored, state_of, root_in}
+use Rattle.world_core.specs.Stored.{Stored, IsStored, stored_state, root_in}
 use Rattle.world_core.specs.Steps.{LowersEntry, FreesEntry}
 use Rattle.world_core.proofs.Keeping.{kept, no_weights, one_weight, live_there}
 use Rattle.world_core.proofs.ShareLaws.{moved, few_after, trades_as}
 
 -- a name of which a session holds a share is live
 pub held_live : (s : Stored) (session : ℕ) (n : Name) → IsStored s
-    → HoldsShares (state_of s) session (Some n ∷ []) → IsLive s.plan (state_of s) n
-held_live s session n is held = held_lives s.plan (state_of s) session n is.sound.entries
+    → HoldsShares (stored_state s) session (Some n ∷ []) → IsLive s.plan (stored_state s) n
+held_live s session n is held = held_lives s.plan (stored_state s) session n is.sound.entries
     (record { names = held.names; at = held.at; weighs = λ f. (let h = held.has.weighs f in let one = one_weight (Some n) f in omega arith) })
 
 -- what a session holds of the list is there
 pub has_of : (s : Stored) (session : ℕ) (some : List (Option Name)) (names : List Name)
-    → HoldsShares (state_of s) session some → slice_get s.held session ≡ Some names → HasAll names some
+    → HoldsShares (stored_state s) session some → slice_get s.held session ≡ Some names → HasAll names some
 has_of s session some names held at = subst (λ (ns : List Name). HasAll ns some)
     (sym (Rattle.std.proofs.lemmas.Option.same_Some names held.names (sym at ∙ held.at))) held.has
 
@@ -90,16 +90,16 @@ few_children (suc level) (Node children) fits = let le = row children in let eig
     row (o ∷ os) = let first = one o in let rest = row os in let all = sum_by-cons (weight (λ _. 1)) o os in omega arith
 
 module _ (s : Stored) (session : ℕ) (n : Name) (names after : List Name) (entries : List Level)
-    (is : IsStored s) (may : MayLower (state_of s) session n)
+    (is : IsStored s) (may : MayLower (stored_state s) session n)
     (at : slice_get s.held session ≡ Some names) where
-  live : IsLive s.plan (state_of s) n
+  live : IsLive s.plan (stored_state s) n
   live = held_live s session n is may.held
 
   has : HasAll names (Some n ∷ [])
   has = has_of s session (Some n ∷ []) names may.held at
 
   -- one of several shares went
-  pub lowered : (result : Lowered Key) → 1 < (state_of s).book n
+  pub lowered : (result : Lowered Key) → 1 < (stored_state s).book n
       → TradesNames names (Some n ∷ []) [] after → LowersEntryAt s.entries n result entries
       → LowersEntry s session n (moved s entries session after)
   lowered (Last key) more trade put = absurd (let one : book_of_slot (entry_at s.entries n) ≡ 1 = ap book_of_slot put.entry.0 in omega arith)
@@ -118,7 +118,7 @@ module _ (s : Stored) (session : ℕ) (n : Name) (names after : List Name) (entr
           let is_all : entries ≡ all = put.others ∙ ap (λ (x : Option (Entry Key)). put_at s.entries n x)
           (put.entry.2 ∙ ap (λ (x : Option (Entry Key)). with_book x left) some) in
           let name = (held_live s session n is may.held).name in
-          let step : Lowers s.plan session n (state_of s) (state_of (moved s all session after)) =
+          let step : Lowers s.plan session n (stored_state s) (stored_state (moved s all session after)) =
           lowers_slot s.plan s.entries n e.key left session (root_in s.roots) s.log s.held (set s.held session after)
           is.laid name (some ∙ ap (λ (b : ℕ). Some (record { key = e.key; book = b })) book) (omega (arith, put.entry.0)) trades in
           subst (λ (x : List Level). LowersEntry s session n (moved s x session after)) (sym is_all) (record {
@@ -134,25 +134,25 @@ module _ (s : Stored) (session : ℕ) (n : Name) (names after : List Name) (entr
           })
 
   -- the last share went
-  pub freed : (result : Lowered Key) (children : List (Option Name)) → (state_of s).book n ≡ 1
-      → children ≡ children_in ((state_of s).key n)
+  pub freed : (result : Lowered Key) (children : List (Option Name)) → (stored_state s).book n ≡ 1
+      → children ≡ children_in ((stored_state s).key n)
       → TradesNames names (Some n ∷ []) children after → LowersEntryAt s.entries n result entries
       → FreesEntry s session n (moved s entries session after)
   freed (Left left) children last same trade put = absurd (omega (arith, last, put.entry.0, put.entry.1))
   freed (Last key) children last same trade put =
       let name = (held_live s session n is may.held).name in
-      let fits : FitsLevel n.level ((state_of s).key n) = is.sound.entries.fits n (held_live s session n is may.held) in
-      let its : (state_of s).key n ≡ key = ap key_or_none put.entry.0 in
+      let fits : FitsLevel n.level ((stored_state s).key n) = is.sound.entries.fits n (held_live s session n is may.held) in
+      let its : (stored_state s).key n ≡ key = ap key_or_none put.entry.0 in
       let weigh : (f : Name → ℕ) → weights children f ≡ children_named key f =
-      λ f. ap (λ (cs : List (Option Name)). weights cs f) same ∙ key_weighs n.level ((state_of s).key n) f fits
+      λ f. ap (λ (cs : List (Option Name)). weights cs f) same ∙ key_weighs n.level ((stored_state s).key n) f fits
       ∙ ap (λ (k : Key). children_weight f k) its in
       let eight : weights children (λ _. 1) ≤ 8 = subst (λ (cs : List (Option Name)). weights cs (λ _. 1) ≤ 8) (sym same)
-      (few_children n.level ((state_of s).key n) fits) in
+      (few_children n.level ((stored_state s).key n) fits) in
       let trades = trades_as s session names after (Some n ∷ []) children at (has_of s session (Some n ∷ []) names may.held at) trade (one_name n) (children_named key) (one_weight (Some n)) weigh in
       let few = few_after s session names after (Some n ∷ []) children at (has_of s session (Some n ∷ []) names may.held at) trade 4089 may.room (omega (arith, eight, one_weight (Some n) (λ _. 1))) in
       let all : List Level = put_at s.entries n None in
       let is_all : entries ≡ all = put.others ∙ ap (λ (x : Option (Entry Key)). put_at s.entries n x) put.entry.1 in
-      let step : Frees s.plan session n (state_of s) (state_of (moved s all session after)) =
+      let step : Frees s.plan session n (stored_state s) (stored_state (moved s all session after)) =
       frees_slot s.plan s.entries n key session (root_in s.roots) s.log s.held (set s.held session after)
       is.laid name put.entry.0 trades in
       subst (λ (x : List Level). FreesEntry s session n (moved s x session after)) (sym is_all) (record {

@@ -33,7 +33,7 @@ use Rattle.core_laws.proofs.LogSteps.{root_in_range}
 use Rattle.core_laws.proofs.LiveShapes.{AreLive, shape_once, canonical_at}
 use Rattle.world_core.specs.Lawful.{IsRootMade}
 use Rattle.world_core.specs.Shown.{target_of, world_of}
-use Rattle.world_core.specs.Stored.{Stored, IsStored, root_in, state_of}
+use Rattle.world_core.specs.Stored.{Stored, IsStored, root_in, stored_state}
 
 less_zero : (level : ℕ) (s : Shape) (q : Cell)
     → shapes.has level s (q.x - 0) (q.y - 0) (q.z - 0) ≡ shapes.has level s q.x q.y q.z
@@ -65,24 +65,24 @@ head_kept s is = record {
 
 module _ (s : Stored) (act : Act) (root : Option Name) (is : IsStored s) where
   head : World
-  head = world_of (state_of s).key (top s.plan.side) (root_in s.roots (length s.log.records))
+  head = world_of (stored_state s).key (top s.plan.side) (root_in s.roots (length s.log.records))
 
   head_cell : (q : Cell) → IsInWorld (2 ^ s.plan.side) q
-      → world_of (state_of s).key (top s.plan.side) (root_in s.roots (length s.log.records)) q
+      → world_of (stored_state s).key (top s.plan.side) (root_in s.roots (length s.log.records)) q
       ≡ stored_in (2 ^ s.plan.side) s.models s.log.records (length s.log.records) q
-  head_cell q inside = own_cell s.plan.side (state_of s).key (root_in s.roots (length s.log.records))
+  head_cell q inside = own_cell s.plan.side (stored_state s).key (root_in s.roots (length s.log.records))
       (stored_in (2 ^ s.plan.side) s.models s.log.records (length s.log.records)) q is.plan.side_low
       (is.sound.versions.shown (length s.log.records) (head_kept s is)) inside
 
   pub edit_made : FitsWorld (2 ^ s.plan.side) s.models act → is_edit act ≡ true
       → MayMake (2 ^ s.plan.side) s.models act
-      (world_of (state_of s).key (top s.plan.side) (root_in s.roots (length s.log.records)))
-      (world_of (state_of s).key (top s.plan.side) root)
-      → IsRootMade s.plan s.models act root (state_of s)
+      (world_of (stored_state s).key (top s.plan.side) (root_in s.roots (length s.log.records)))
+      (world_of (stored_state s).key (top s.plan.side) root)
+      → IsRootMade s.plan s.models act root (stored_state s)
   edit_made fits edit made = record {
     follows = edit_follows s.log.marks (length s.log.records + 1) act (position_after s.log.records) edit;
-    cells = world_of (state_of s).key (top s.plan.side) root;
-    shows = shows_own s.plan.side (state_of s).key root;
+    cells = world_of (stored_state s).key (top s.plan.side) root;
+    shows = shows_own s.plan.side (stored_state s).key root;
     makes = record {
       edit = λ _. record {
         each = λ q inside. made.each q inside ∙ edited_agree (2 ^ s.plan.side) s.models act _ _ fits head_cell q inside;
@@ -92,12 +92,12 @@ module _ (s : Stored) (act : Act) (root : Option Name) (is : IsStored s) where
   }
 
   pub made_edit : FitsWorld (2 ^ s.plan.side) s.models act → is_edit act ≡ true
-      → IsRootMade s.plan s.models act root (state_of s)
+      → IsRootMade s.plan s.models act root (stored_state s)
       → MayMake (2 ^ s.plan.side) s.models act
-      (world_of (state_of s).key (top s.plan.side) (root_in s.roots (length s.log.records)))
-      (world_of (state_of s).key (top s.plan.side) root)
+      (world_of (stored_state s).key (top s.plan.side) (root_in s.roots (length s.log.records)))
+      (world_of (stored_state s).key (top s.plan.side) root)
   made_edit fits edit made = record {
-    each = λ q inside. own_cell s.plan.side (state_of s).key root made.cells q is.plan.side_low made.shows inside
+    each = λ q inside. own_cell s.plan.side (stored_state s).key root made.cells q is.plan.side_low made.shows inside
         ∙ (made.makes.edit edit).each q inside
         ∙ sym (edited_agree (2 ^ s.plan.side) s.models act _ _ fits head_cell q inside);
   }
@@ -106,11 +106,11 @@ module _ (s : Stored) (act : Act) (root : Option Name) (is : IsStored s) where
   pub other_made : (v : ℕ) → is_edit act ≡ false → IsKept s.log v
       → Rattle.history_model.specs.Logs.MayFollow s.log.marks (length s.log.records + 1) act (position_after s.log.records)
       → Rattle.core_laws.specs.Making.version_gone_to s.log.records act ≡ v → root ≡ root_in s.roots v
-      → IsRootMade s.plan s.models act root (state_of s)
+      → IsRootMade s.plan s.models act root (stored_state s)
   other_made v other kept follows goes same = record {
     follows = follows;
     cells = stored_in (2 ^ s.plan.side) s.models s.log.records v;
-    shows = subst (λ (o : Option Name). ShowsCells (world_block s.plan.side) (shape_of (tree_at (state_of s).key (top s.plan.side) o)) (stored_in (2 ^ s.plan.side) s.models s.log.records v)) (sym same)
+    shows = subst (λ (o : Option Name). ShowsCells (world_block s.plan.side) (shape_of (tree_at (stored_state s).key (top s.plan.side) o)) (stored_in (2 ^ s.plan.side) s.models s.log.records v)) (sym same)
         (is.sound.versions.shown v kept);
     makes = record {
       edit = λ edit. absurd (Rattle.std.proofs.lemmas.Bool.both_ways (is_edit act) other edit);
@@ -120,20 +120,20 @@ module _ (s : Stored) (act : Act) (root : Option Name) (is : IsStored s) where
 
   pub made_other : (v : ℕ) → is_edit act ≡ false → IsKept s.log v
       → Rattle.core_laws.specs.Making.version_gone_to s.log.records act ≡ v
-      → ((n : Name) → root ≡ Some n → IsLive s.plan (state_of s) n × (n.level ≡ top s.plan.side))
-      → IsRootMade s.plan s.models act root (state_of s) → root ≡ root_in s.roots v
+      → ((n : Name) → root ≡ Some n → IsLive s.plan (stored_state s) n × (n.level ≡ top s.plan.side))
+      → IsRootMade s.plan s.models act root (stored_state s) → root ≡ root_in s.roots v
   made_other v other kept goes live made =
       let p = s.plan in
-      let lives : AreLive p (state_of s) (top p.side) root = λ n some. record { live = (live n some).0; same_level = (live n some).1 } in
-      let its : AreLive p (state_of s) (top p.side) (root_in s.roots v) = λ n some. record { live = root_lives p (state_of s) v n is.sound.entries (root_in_range p s.models (state_of s) v n is.sound.versions some) some; same_level = is.sound.versions.level v n some } in
-      let shows : ShowsCells (world_block p.side) (shape_of (tree_at (state_of s).key (top p.side) (root_in s.roots v))) made.cells = record {
+      let lives : AreLive p (stored_state s) (top p.side) root = λ n some. record { live = (live n some).0; same_level = (live n some).1 } in
+      let its : AreLive p (stored_state s) (top p.side) (root_in s.roots v) = λ n some. record { live = root_lives p (stored_state s) v n is.sound.entries (root_in_range p s.models (stored_state s) v n is.sound.versions some) some; same_level = is.sound.versions.level v n some } in
+      let shows : ShowsCells (world_block p.side) (shape_of (tree_at (stored_state s).key (top p.side) (root_in s.roots v))) made.cells = record {
         each = λ q in_b. (is.sound.versions.shown v kept).each q in_b
             ∙ ap (λ (w : ℕ). stored_in (2 ^ s.plan.side) s.models s.log.records w q) (sym goes)
             ∙ sym ((made.makes.other other).each q (in_world p.side q is.plan.side_low in_b));
       } in
-      shape_once p (state_of s) is.sound.entries (top p.side) root (root_in s.roots v) lives its
-      (shown_once (world_block p.side) _ _ made.cells (canonical_at p (state_of s) is.sound.entries (top p.side) root lives)
-      (canonical_at p (state_of s) is.sound.entries (top p.side) (root_in s.roots v) its) made.shows shows)
+      shape_once p (stored_state s) is.sound.entries (top p.side) root (root_in s.roots v) lives its
+      (shown_once (world_block p.side) _ _ made.cells (canonical_at p (stored_state s) is.sound.entries (top p.side) root lives)
+      (canonical_at p (stored_state s) is.sound.entries (top p.side) (root_in s.roots v) its) made.shows shows)
 
 -- where an undo or a redo goes
 goes_undo : (past : List ℕ) (now : ℕ) (future : List ℕ) (v : ℕ) → first_of past ≡ Some v

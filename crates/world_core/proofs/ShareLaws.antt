@@ -14,7 +14,7 @@ use Rattle.core_reading.specs.Slots.{Level, entry_at, put_at}
 use Rattle.core_reading.proofs.SlotLaws.{raises_slot, stays_laid_out}
 use Rattle.world_core.specs.Trading.{HasAll, TradesNames, weights}
 use Rattle.world_core.specs.Lawful.{HoldsAtMost}
-use Rattle.world_core.specs.Stored.{Stored, IsStored, state_of, root_in}
+use Rattle.world_core.specs.Stored.{Stored, IsStored, stored_state, root_in}
 use Rattle.world_core.specs.Steps.{RaisesEntry}
 use Rattle.world_core.proofs.Keeping.{traded, kept, no_weights, one_weight, ones, live_there}
 
@@ -24,12 +24,12 @@ moved s entries session after = record { plan = s.plan; models = s.models; entri
 
 -- what is found of a session in the lists is what it holds
 pub same_names : (s : Stored) (session most : ℕ) (names : List Name)
-    → HoldsAtMost (state_of s) session most → names ≡ get_or s.held session names
+    → HoldsAtMost (stored_state s) session most → names ≡ get_or s.held session names
     → slice_get s.held session ≡ Some names
 same_names s session most names room found =
     room.at ∙ ap Some (sym (found ∙ get_or_from_slice_get s.held session room.names names room.at))
 
-few_names : (s : Stored) (session most : ℕ) (names : List Name) → HoldsAtMost (state_of s) session most
+few_names : (s : Stored) (session most : ℕ) (names : List Name) → HoldsAtMost (stored_state s) session most
     → slice_get s.held session ≡ Some names → length names ≤ most
 few_names s session most names room at =
     let same = Rattle.std.proofs.lemmas.Option.same_Some names room.names (sym at ∙ room.at) in
@@ -37,7 +37,7 @@ few_names s session most names room at =
     subst (λ (ns : List Name). length ns ≤ most) (sym same) few
 
 pub raised : (s : Stored) (session : ℕ) (n : Name) (names after : List Name) (entries : List Level)
-    → IsStored s → IsLive s.plan (state_of s) n → HoldsAtMost (state_of s) session 4095
+    → IsStored s → IsLive s.plan (stored_state s) n → HoldsAtMost (stored_state s) session 4095
     → slice_get s.held session ≡ Some names → TradesNames names [] (Some n ∷ []) after
     → entries ≡ put_at s.entries n (with_book (entry_at s.entries n) (book_of_slot (entry_at s.entries n) + 1))
     → RaisesEntry s session n (moved s entries session after)
@@ -62,7 +62,7 @@ raised s session n names after entries is live room at trade put =
         let all : List Level = put_at s.entries n (Some (record { key = e.key; book = e.book + 1 })) in
         let book : book_of_slot (entry_at s.entries n) ≡ e.book = ap book_of_slot some in
         let low = live.book in
-        let step : Raises s.plan session n (state_of s) (state_of (moved s all session after)) =
+        let step : Raises s.plan session n (stored_state s) (stored_state (moved s all session after)) =
         raises_slot s.plan s.entries n e.key e.book session (root_in s.roots) s.log s.held (set s.held session after)
         is.laid live.name some (omega arith) trades in
         subst P (sym some) (record {
@@ -79,12 +79,12 @@ raised s session n names after entries is live room at trade put =
 
 -- the same, where the session's place is told apart from its number
 pub names_at : (s : Stored) (session at most : ℕ) (names : List Name) → at ≡ session
-    → HoldsAtMost (state_of s) session most → names ≡ get_or s.held at names
+    → HoldsAtMost (stored_state s) session most → names ≡ get_or s.held at names
     → slice_get s.held session ≡ Some names
 names_at s session at most names same room found =
     same_names s session most names room (found ∙ ap (λ (k : ℕ). get_or s.held k names) same)
 
-pub seat_in : (s : Stored) (session at most : ℕ) → at ≡ session → HoldsAtMost (state_of s) session most
+pub seat_in : (s : Stored) (session at most : ℕ) → at ≡ session → HoldsAtMost (stored_state s) session most
     → at < length s.held
 seat_in s session at most same room =
     let lt = Rattle.std.proofs.lemmas.Option.slice_get_within s.held session room.names room.at in omega arith
@@ -93,7 +93,7 @@ seat_in s session at most same room =
 module _ (s : Stored) (session : ℕ) (names after : List Name) (gives takes : List (Option Name))
     (at : slice_get s.held session ≡ Some names) (has : HasAll names gives)
     (trade : TradesNames names gives takes after) where
-  pub few_after : (most : ℕ) → HoldsAtMost (state_of s) session most
+  pub few_after : (most : ℕ) → HoldsAtMost (stored_state s) session most
       → most + weights takes (λ _. 1) ≤ 4096 + weights gives (λ _. 1) → length after ≤ 4096
   few_after most room fits =
       let w = trade.weighs (λ _. 1) in let a = ones after in let b = ones names in

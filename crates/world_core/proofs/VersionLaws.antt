@@ -13,7 +13,7 @@ use Rattle.core_laws.specs.Events.{no_weight, at_most_one, PutsRoot, TakesRoot}
 use Rattle.core_laws.specs.LogEvents.{MayAppend, Appends, Forgets, appends, forgets}
 use Rattle.world_core.specs.Trading.{HasAll, TradesNames}
 use Rattle.world_core.specs.Lawful.{HoldsShares, HoldsAtMost}
-use Rattle.world_core.specs.Stored.{Stored, IsStored, state_of, root_in}
+use Rattle.world_core.specs.Stored.{Stored, IsStored, stored_state, root_in}
 use Rattle.world_core.specs.Steps.{AppendsRoot, MarksRoot}
 use Rattle.world_core.proofs.Keeping.{IsSmall, kept, no_weights, one_weight}
 use Rattle.world_core.proofs.ShareLaws.{few_after, trades_as}
@@ -21,7 +21,7 @@ use Rattle.world_core.proofs.LowerLaws.{has_of}
 
 -- each session holds at most 4,096 shares
 pub all_room : (s : Stored) (session : ℕ) (names : List Name) → IsStored s
-    → slice_get s.held session ≡ Some names → HoldsAtMost (state_of s) session 4096
+    → slice_get s.held session ≡ Some names → HoldsAtMost (stored_state s) session 4096
 all_room s session names is at = record {
   names = names;
   at = at;
@@ -46,8 +46,8 @@ abbrev pub logged : Stored → List (Option Name) → Log → ℕ → List Name 
 logged s roots log session after = record { plan = s.plan; models = s.models; entries = s.entries; roots = roots; log = log; held = set s.held session after }
 
 pub recorded : (s : Stored) (r : Record) (root : Option Name) (names after : List Name) (version : ℕ)
-    → IsStored s → MayAppend s.plan s.models r root (state_of s)
-    → HoldsShares (state_of s) r.session (root ∷ []) → slice_get s.held r.session ≡ Some names
+    → IsStored s → MayAppend s.plan s.models r root (stored_state s)
+    → HoldsShares (stored_state s) r.session (root ∷ []) → slice_get s.held r.session ≡ Some names
     → TradesNames names (root ∷ []) [] after → version ≡ length s.log.records + 1
     → AppendsRoot s r root (logged s (set s.roots version root)
     (record { side = s.log.side; coloured = s.log.coloured; records = s.log.records ++ r ∷ []; marks = s.log.marks }) r.session after)
@@ -60,7 +60,7 @@ recorded s r root names after version is may held at trade same =
     let trades = trades_as s r.session names after (root ∷ []) [] at has trade (at_most_one root) no_weight (one_weight root) no_weights in
     let few = few_after s r.session names after (root ∷ []) [] at has trade 4096 (all_room s r.session names is at) (omega (arith, no_weights (λ _. 1))) in
     subst (λ (v : ℕ). AppendsRoot s r root (logged s (set s.roots v root) log r.session after)) (sym same)
-    (let puts : PutsRoot s.plan r.session next root (state_of s) (state_of (logged s (set s.roots next root) log r.session after)) = record {
+    (let puts : PutsRoot s.plan r.session next root (stored_state s) (stored_state (logged s (set s.roots next root) log r.session after)) = record {
       in_range = omega arith;
       free = no_root s next is (omega arith);
       new_root = get_or-set_same s.roots next root None (omega arith);
@@ -68,7 +68,7 @@ recorded s r root names after version is may held at trade same =
       entries = record { book = λ m _. refl; key = λ m _. refl };
       held = trades;
     } in
-    let step : Appends s.plan s.models r.session r root (state_of s) (state_of (logged s (set s.roots next root) log r.session after)) =
+    let step : Appends s.plan s.models r.session r root (stored_state s) (stored_state (logged s (set s.roots next root) log r.session after)) =
     record { may = may; log = refl; puts = puts } in
     record {
       appends = step;
@@ -119,7 +119,7 @@ mark_comes marks mark place le rising unmarked lower higher = record {
 
 pub marked : (s : Stored) (mark : Mark) (root : Option Name) (names after : List Name) (place : ℕ)
     → IsStored s → mark.version < length s.log.records → mark.at ≡ length s.log.records
-    → IsUnmarked s.log.marks mark.version → HoldsAtMost (state_of s) mark.session 4095
+    → IsUnmarked s.log.marks mark.version → HoldsAtMost (stored_state s) mark.session 4095
     → slice_get s.held mark.session ≡ Some names → root ≡ root_in s.roots mark.version
     → TradesNames names [] (root ∷ []) after → place ≤ length s.log.marks
     → ((k : ℕ) (m : Mark) → k < place → (get_or s.log.marks k m).version ≤ mark.version)
@@ -136,14 +136,14 @@ marked s mark root names after place is earlier now unmarked room at its trade l
     (λ f. one_weight root f ∙ ap (weight f) its) in
     let few = few_after s mark.session names after [] (root ∷ []) at has trade 4095 room
     (let one = one_weight root (λ _. 1) in let small = few_root root in omega (arith, no_weights (λ _. 1))) in
-    let takes : TakesRoot s.plan mark.session v (state_of s) (state_of (logged s (set s.roots v None) log mark.session after)) = record {
+    let takes : TakesRoot s.plan mark.session v (stored_state s) (stored_state (logged s (set s.roots v None) log mark.session after)) = record {
       in_range = omega arith;
       no_root = get_or-set_same s.roots v None None (omega arith);
       roots = λ w other. get_or-set_other s.roots v w None None other;
       entries = record { book = λ m _. refl; key = λ m _. refl };
       held = trades;
     } in
-    let step : Forgets s.plan mark.session mark (state_of s) (state_of (logged s (set s.roots v None) log mark.session after)) = record {
+    let step : Forgets s.plan mark.session mark (stored_state s) (stored_state (logged s (set s.roots v None) log mark.session after)) = record {
       earlier = earlier;
       now = now;
       side = refl;

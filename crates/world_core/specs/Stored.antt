@@ -24,8 +24,8 @@ abbrev pub root_in : List (Option Name) → ℕ → Option Name
 root_in roots version = slice_index_or roots version None
 
 -- the state that the lists show
-abbrev pub state_of : Stored → State
-state_of s = read_lists s.entries (root_in s.roots) s.log s.held
+abbrev pub stored_state : Stored → State
+stored_state s = read_lists s.entries (root_in s.roots) s.log s.held
 
 -- the lists are as long as the plan says, the state is sound, and each of at most 64 sessions holds
 -- at most 4,096 shares
@@ -33,6 +33,6 @@ pub record IsStored (s : Stored) : Type 0 where
   pub plan : IsPlan s.plan
   pub laid : IsLaidOut s.plan s.entries
   pub places : length s.roots ≡ versions
-  pub sound : Sound s.plan s.models (state_of s)
+  pub sound : Sound s.plan s.models (stored_state s)
   pub sessions : length s.held ≤ 64
   pub few : All (λ names. length names ≤ 4096) s.held

@@ -6,7 +6,7 @@ ghost use Rattle.world_core.specs.Kept.{stored};
 ghost use Rattle.world_core.specs.Lawful.{HoldsAtMost, MayAskAppend, MayLower, MayRaise};
 ghost use Rattle.world_core.specs.Lawful.{IsLawful, MayTakeLeaf, MayTakeNode};
 ghost use Rattle.world_core.specs.Steps.{Does, SharesRoot};
-ghost use Rattle.world_core.specs.Stored.{IsStored, state_of};
+ghost use Rattle.world_core.specs.Stored.{IsStored, stored_state};
 
 use crate::asking::children_of;
 use crate::events::{Event, Reply};
@@ -20,7 +20,7 @@ use vw_cell::Memory;
 impl Parts<'_> {
     fn leaf(&mut self, alloc: Global, session: u16, bits: u64) -> Result<Reply, Memory>
         requires stored { IsStored (stored self.old) }
-        requires lawful { MayTakeLeaf (state_of (stored self.old)) session bits }
+        requires lawful { MayTakeLeaf (stored_state (stored self.old)) session bits }
         ensures does { IfOk result (λ r.
             Does (Event.Leaf session bits) (stored self.old) r (stored self.new)) }
         ensures unchanged { OnErr result (stored self.new ≡ stored self.old) }
@@ -36,7 +36,7 @@ impl Parts<'_> {
         children: [Option<Name>; 8],
     ) -> Result<Reply, Memory>
         requires stored { IsStored (stored self.old) }
-        requires lawful { MayTakeNode self.old.plan (state_of (stored self.old)) session level
+        requires lawful { MayTakeNode self.old.plan (stored_state (stored self.old)) session level
             children }
         ensures does { IfOk result (λ r.
             Does (Event.Node session level children) (stored self.old) r (stored self.new)) }
@@ -47,7 +47,7 @@ impl Parts<'_> {
 
     fn share(&mut self, alloc: Global, session: u16, n: Name) -> Result<Reply, Memory>
         requires stored { IsStored (stored self.old) }
-        requires lawful { MayRaise (state_of (stored self.old)) session n }
+        requires lawful { MayRaise (stored_state (stored self.old)) session n }
         ensures does { IfOk result (λ r.
             Does (Event.Raise session n) (stored self.old) r (stored self.new)) }
         ensures unchanged { OnErr result (stored self.new ≡ stored self.old) }
@@ -58,7 +58,7 @@ impl Parts<'_> {
 
     fn give(&mut self, alloc: Global, session: u16, n: Name) -> Result<Reply, Memory>
         requires stored { IsStored (stored self.old) }
-        requires lawful { MayLower (state_of (stored self.old)) session n }
+        requires lawful { MayLower (stored_state (stored self.old)) session n }
         ensures does { IfOk result (λ r.
             Does (Event.Lower session n) (stored self.old) r (stored self.new)) }
         ensures unchanged { OnErr result (stored self.new ≡ stored self.old) }
@@ -75,7 +75,7 @@ impl Parts<'_> {
 
     fn pin(&mut self, alloc: Global, session: u16, version: Option<u32>) -> Result<Reply, Memory>
         requires stored { IsStored (stored self.old) }
-        requires lawful { HoldsAtMost (state_of (stored self.old)) session 4095 }
+        requires lawful { HoldsAtMost (stored_state (stored self.old)) session 4095 }
         ensures does { IfOk result (λ r.
             Does (Event.Pin session version) (stored self.old) r (stored self.new)) }
         ensures unchanged { OnErr result (stored self.new ≡ stored self.old) }
@@ -96,7 +96,7 @@ impl Parts<'_> {
     // The version that is asked for, the newest where none is named.
     fn asked(&self, version: Option<u32>) -> u32
         requires { IsStored (stored self.now) }
-        ensures { result ≡ asked_for (state_of (stored self.now)) version }
+        ensures { result ≡ asked_for (stored_state (stored self.now)) version }
     {
         match version {
             Some(version) => version,
@@ -108,8 +108,8 @@ impl Parts<'_> {
     fn keep(&mut self, alloc: Global, session: u16, root: Option<Name>) -> Result<(), Memory>
         requires stored { IsStored (stored self.old) }
         requires live { (n : name) → root ≡ Some n
-            → IsLive self.old.plan (state_of (stored self.old)) n }
-        requires room { HoldsAtMost (state_of (stored self.old)) session 4095 }
+            → IsLive self.old.plan (stored_state (stored self.old)) n }
+        requires room { HoldsAtMost (stored_state (stored self.old)) session 4095 }
         ensures shares { OnOk result (SharesRoot (stored self.old) session root
             (stored self.new)) }
         ensures unchanged { OnErr result (stored self.new ≡ stored self.old) }
@@ -131,7 +131,7 @@ impl Parts<'_> {
     ) -> Result<Reply, Memory>
         requires stored { IsStored (stored self.old) }
         requires lawful { MayAskAppend self.old.plan self.old.models.now
-            (state_of (stored self.old)) session act base root }
+            (stored_state (stored self.old)) session act base root }
         ensures does { IfOk result (λ r.
             Does (Event.Append session line act base root) (stored self.old) r
             (stored self.new)) }
@@ -157,7 +157,7 @@ impl Parts<'_> {
         version: u32,
     ) -> Result<Reply, Memory>
         requires stored { IsStored (stored self.old) }
-        requires lawful { HoldsAtMost (state_of (stored self.old)) session 4095 }
+        requires lawful { HoldsAtMost (stored_state (stored self.old)) session 4095 }
         ensures does { IfOk result (λ r.
             Does (Event.Forget session line version) (stored self.old) r (stored self.new)) }
         ensures unchanged { OnErr result (stored self.new ≡ stored self.old) }
@@ -186,7 +186,7 @@ impl Parts<'_> {
     pub(crate) fn answer(&mut self, alloc: Global, event: &Event) -> Result<Reply, Memory>
         requires stored { IsStored (stored self.old) }
         requires lawful { IsLawful self.old.plan self.old.models.now
-            (state_of (stored self.old)) event.now }
+            (stored_state (stored self.old)) event.now }
         ensures does { IfOk result (λ r.
             Does event.now (stored self.old) r (stored self.new)) }
         ensures unchanged { OnErr result (stored self.new ≡ stored self.old) }

@@ -6,7 +6,7 @@ ghost use Rattle.core_laws.specs.Soundness.{FitsLevel};
 ghost use Rattle.world_core.specs.Answering.{children_in};
 ghost use Rattle.world_core.specs.Kept.{stored};
 ghost use Rattle.world_core.specs.Lawful.{HoldsShares, HoldsAtMost, Reaches};
-ghost use Rattle.world_core.specs.Stored.{IsStored, state_of};
+ghost use Rattle.world_core.specs.Stored.{IsStored, stored_state};
 
 use crate::is_same;
 use crate::parts::Parts;
@@ -17,7 +17,7 @@ use vw_cell::Memory;
 impl Parts<'_> {
     // Whether the session was begun and holds at most so many shares.
     pub(crate) fn has_room(&self, session: u16, most: usize) -> bool
-        ensures { IsTrue result ↔ HoldsAtMost (state_of (stored self.now)) session most }
+        ensures { IsTrue result ↔ HoldsAtMost (stored_state (stored self.now)) session most }
     {
         match self.held.get(usize::from(session)) {
             None => false,
@@ -33,7 +33,7 @@ impl Parts<'_> {
         some: &[Option<Name>],
     ) -> Result<bool, Memory>
         ensures { IfOk result (λ b.
-            IsTrue b ↔ HoldsShares (state_of (stored self.now)) session some.now) }
+            IsTrue b ↔ HoldsShares (stored_state (stored self.now)) session some.now) }
     {
         match self.held.get(usize::from(session)) {
             None => Ok(false),
@@ -44,9 +44,9 @@ impl Parts<'_> {
     // Whether the name m is n or stands below it, where n is live and of this level.
     pub(crate) fn is_under(&self, level: u8, m: Name, n: Name) -> bool
         requires stored { IsStored (stored self.now) }
-        requires live { IsLive self.now.plan (state_of (stored self.now)) n }
+        requires live { IsLive self.now.plan (stored_state (stored self.now)) n }
         requires level { n.level ≡ level }
-        ensures { IsTrue result ↔ IsUnder (state_of (stored self.now)).key m n }
+        ensures { IsTrue result ↔ IsUnder (stored_state (stored self.now)).key m n }
     {
         if is_same(m, n) {
             return true;
@@ -68,7 +68,7 @@ impl Parts<'_> {
     // Whether the session holds a share of the name, or of one above it.
     pub(crate) fn reaches(&self, session: u16, n: Name) -> bool
         requires { IsStored (stored self.now) }
-        ensures { IsTrue result ↔ Reaches (state_of (stored self.now)) session n }
+        ensures { IsTrue result ↔ Reaches (stored_state (stored self.now)) session n }
     {
         let at = usize::from(session);
         if at >= self.held.len() {

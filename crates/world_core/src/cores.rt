@@ -1,7 +1,7 @@
 ghost use Rattle.std.specs.Prelude.{◌≡◌, ◌≤◌, IfOk, OnErr, length};
 ghost use Rattle.world_core.specs.Answering.{Replies};
 ghost use Rattle.world_core.specs.Beginning.{HasBegun};
-ghost use Rattle.world_core.specs.Stored.{IsStored, state_of};
+ghost use Rattle.world_core.specs.Stored.{IsStored, stored_state};
 
 use crate::Entries;
 use crate::events::{Event, Reply};
@@ -42,7 +42,7 @@ impl<'m> Core<'m> {
         requires sessions { (1 ≤ sessions) × (sessions ≤ 64) }
         ensures plan { IfOk result (λ c. c.plan ≡ plan.now) }
         ensures models { IfOk result (λ c. c.models ≡ models.entry.now) }
-        ensures begun { IfOk result (λ c. HasBegun plan.now sessions (state_of c)) }
+        ensures begun { IfOk result (λ c. HasBegun plan.now sessions (stored_state c)) }
     {
         let parts = Parts {
             plan: *plan,
@@ -58,7 +58,7 @@ impl<'m> Core<'m> {
     /// Answers the event. Where memory is missing nothing changes.
     pub fn apply(&mut self, alloc: Global, event: &Event) -> Result<Reply, Memory>
         ensures answers { IfOk result (λ r. Replies self.old.plan self.old.models event.now r
-            (state_of self.old) (state_of self.new)) }
+            (stored_state self.old) (stored_state self.new)) }
         ensures plan { self.new.plan ≡ self.old.plan }
         ensures models { self.new.models ≡ self.old.models }
         ensures stored { IsStored self.new }

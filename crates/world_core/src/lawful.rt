@@ -12,7 +12,7 @@ ghost use Rattle.core_laws.specs.States.{IsLive};
 ghost use Rattle.world_core.specs.Kept.{stored};
 ghost use Rattle.world_core.specs.Lawful.{IsLawful, IsRootMade, MayAskAppend, MayLower, MayRaise};
 ghost use Rattle.world_core.specs.Lawful.{MayTakeLeaf, MayTakeNode};
-ghost use Rattle.world_core.specs.Stored.{IsStored, root_in, state_of};
+ghost use Rattle.world_core.specs.Stored.{IsStored, root_in, stored_state};
 
 use crate::asking::is_row;
 use crate::events::Event;
@@ -26,7 +26,7 @@ use vw_cell::{Cell, Memory};
 
 impl Parts<'_> {
     fn may_take_leaf(&self, session: u16, bits: u64) -> bool
-        ensures { IsTrue result ↔ MayTakeLeaf (state_of (stored self.now)) session bits }
+        ensures { IsTrue result ↔ MayTakeLeaf (stored_state (stored self.now)) session bits }
     {
         bits > 0 && self.has_room(session, 4095)
     }
@@ -39,7 +39,8 @@ impl Parts<'_> {
         children: &[Option<Name>; 8],
     ) -> Result<bool, Memory>
         ensures { IfOk result (λ b. IsTrue b
-            ↔ MayTakeNode self.now.plan (state_of (stored self.now)) session level children.now) }
+            ↔ MayTakeNode self.now.plan (stored_state (stored self.now)) session level
+            children.now) }
     {
         if level > self.plan.side().root_level() || !is_row(level, children) {
             return Ok(false);
@@ -52,14 +53,14 @@ impl Parts<'_> {
 
     fn may_raise(&self, session: u16, n: Name) -> bool
         requires { IsStored (stored self.now) }
-        ensures { IsTrue result ↔ MayRaise (state_of (stored self.now)) session n }
+        ensures { IsTrue result ↔ MayRaise (stored_state (stored self.now)) session n }
     {
         self.has_room(session, 4095) && self.reaches(session, n)
     }
 
     fn may_lower(&self, alloc: Global, session: u16, n: Name) -> Result<bool, Memory>
         ensures { IfOk result (λ b. IsTrue b
-            ↔ MayLower (state_of (stored self.now)) session n) }
+            ↔ MayLower (stored_state (stored self.now)) session n) }
     {
         if !self.has_room(session, 4089) {
             return Ok(false);
@@ -77,8 +78,8 @@ impl Parts<'_> {
     ) -> Result<bool, Memory>
         requires { IsStored (stored self.now) }
         ensures { IfOk result (λ b. IsTrue b
-            ↔ MayAskAppend self.now.plan self.now.models.now (state_of (stored self.now)) session
-            act.now base root) }
+            ↔ MayAskAppend self.now.plan self.now.models.now (stored_state (stored self.now))
+            session act.now base root) }
     {
         let at = self.moment();
         if base > at {
@@ -104,11 +105,11 @@ impl Parts<'_> {
         requires stored { IsStored (stored self.now) }
         requires fits { FitsWorld (2 ^ self.now.plan.side) self.now.models.now act.now }
         requires live { (n : name) → root ≡ Some n
-            → IsLive self.now.plan (state_of (stored self.now)) n
+            → IsLive self.now.plan (stored_state (stored self.now)) n
             × (n.level ≡ top self.now.plan.side) }
         ensures { IfOk result (λ b. IsTrue b
             ↔ IsRootMade self.now.plan self.now.models.now act.now root
-            (state_of (stored self.now))) }
+            (stored_state (stored self.now))) }
     {
         if is_edit(act) {
             return Ok(self.is_edited(act, root));
@@ -123,7 +124,7 @@ impl Parts<'_> {
         requires edit { is_edit act.now ≡ true }
         ensures { IsTrue result
             ↔ IsRootMade self.now.plan self.now.models.now act.now root
-            (state_of (stored self.now)) }
+            (stored_state (stored self.now)) }
     {
         let level = self.plan.side().root_level();
         let cells = self.plan.side().cells() as u16;
@@ -156,11 +157,11 @@ impl Parts<'_> {
         requires stored { IsStored (stored self.now) }
         requires other { is_edit act.now ≡ false }
         requires live { (n : name) → root ≡ Some n
-            → IsLive self.now.plan (state_of (stored self.now)) n
+            → IsLive self.now.plan (stored_state (stored self.now)) n
             × (n.level ≡ top self.now.plan.side) }
         ensures { IfOk result (λ b. IsTrue b
             ↔ IsRootMade self.now.plan self.now.models.now act.now root
-            (state_of (stored self.now))) }
+            (stored_state (stored self.now))) }
     {
         let target = match target(alloc, &self.history, act)? {
             None => return Ok(false),
@@ -198,7 +199,8 @@ impl Parts<'_> {
     pub(crate) fn allows(&self, alloc: Global, event: &Event) -> Result<bool, Memory>
         requires { IsStored (stored self.now) }
         ensures { IfOk result (λ b. IsTrue b
-            ↔ IsLawful self.now.plan self.now.models.now (state_of (stored self.now)) event.now) }
+            ↔ IsLawful self.now.plan self.now.models.now (stored_state (stored self.now))
+            event.now) }
     {
         match *event {
             Event::Leaf(session, bits) => Ok(self.may_take_leaf(session, bits)),

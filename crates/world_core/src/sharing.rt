@@ -10,7 +10,7 @@ ghost use Rattle.world_core.specs.Kept.{stored};
 ghost use Rattle.world_core.specs.Lawful.{HoldsShares, HoldsAtMost, MayLower};
 ghost use Rattle.world_core.specs.Steps.{AddsOrMeets, FindsEntry, FreesEntry, IsNowhere};
 ghost use Rattle.world_core.specs.Steps.{LowersEntry, RaisesEntry, TakesEntry};
-ghost use Rattle.world_core.specs.Stored.{IsStored, state_of};
+ghost use Rattle.world_core.specs.Stored.{IsStored, stored_state};
 
 use crate::events::Reply;
 use crate::parts::Parts;
@@ -23,8 +23,8 @@ impl Parts<'_> {
     // One more share of a live name.
     pub(crate) fn raise(&mut self, alloc: Global, session: u16, n: Name) -> Result<(), Memory>
         requires stored { IsStored (stored self.old) }
-        requires live { IsLive self.old.plan (state_of (stored self.old)) n }
-        requires room { HoldsAtMost (state_of (stored self.old)) session 4095 }
+        requires live { IsLive self.old.plan (stored_state (stored self.old)) n }
+        requires room { HoldsAtMost (stored_state (stored self.old)) session 4095 }
         ensures raises { OnOk result (RaisesEntry (stored self.old) session n (stored self.new)) }
         ensures unchanged { OnErr result (stored self.new ≡ stored self.old) }
     {
@@ -38,8 +38,8 @@ impl Parts<'_> {
     // One share less of a name that has others.
     pub(crate) fn lower(&mut self, alloc: Global, session: u16, n: Name) -> Result<(), Memory>
         requires stored { IsStored (stored self.old) }
-        requires may { MayLower (state_of (stored self.old)) session n }
-        requires more { 1 < (state_of (stored self.old)).book n }
+        requires may { MayLower (stored_state (stored self.old)) session n }
+        requires more { 1 < (stored_state (stored self.old)).book n }
         ensures lowers { OnOk result (LowersEntry (stored self.old) session n (stored self.new)) }
         ensures unchanged { OnErr result (stored self.new ≡ stored self.old) }
     {
@@ -59,9 +59,9 @@ impl Parts<'_> {
         children: &[Option<Name>; 8],
     ) -> Result<(), Memory>
         requires stored { IsStored (stored self.old) }
-        requires may { MayLower (state_of (stored self.old)) session n }
-        requires last { (state_of (stored self.old)).book n ≡ 1 }
-        requires children { children.now ≡ children_in ((state_of (stored self.old)).key n) }
+        requires may { MayLower (stored_state (stored self.old)) session n }
+        requires last { (stored_state (stored self.old)).book n ≡ 1 }
+        requires children { children.now ≡ children_in ((stored_state (stored self.old)).key n) }
         ensures frees { OnOk result (FreesEntry (stored self.old) session n (stored self.new)) }
         ensures unchanged { OnErr result (stored self.new ≡ stored self.old) }
     {
@@ -109,8 +109,8 @@ impl Parts<'_> {
         requires fits { FitsLevel level key }
         requires nowhere { IsNowhere (stored self.old) level bucket key }
         requires children { (f : name → ℕ) → weights children.now f ≡ children_weight f key }
-        requires held { HoldsShares (state_of (stored self.old)) session children.now }
-        requires room { HoldsAtMost (state_of (stored self.old)) session 4095 }
+        requires held { HoldsShares (stored_state (stored self.old)) session children.now }
+        requires room { HoldsAtMost (stored_state (stored self.old)) session 4095 }
         ensures adds { IfOk result (λ o.
             AddsOrMeets (stored self.old) session level bucket key o (stored self.new)) }
         ensures unchanged { OnErr result (stored self.new ≡ stored self.old) }
@@ -144,8 +144,8 @@ impl Parts<'_> {
         requires level { level < levels self.old.plan }
         requires fits { FitsLevel level key }
         requires children { (f : name → ℕ) → weights children.now f ≡ children_weight f key }
-        requires held { HoldsShares (state_of (stored self.old)) session children.now }
-        requires room { HoldsAtMost (state_of (stored self.old)) session 4095 }
+        requires held { HoldsShares (stored_state (stored self.old)) session children.now }
+        requires room { HoldsAtMost (stored_state (stored self.old)) session 4095 }
         ensures takes { IfOk result (λ r.
             TakesEntry (stored self.old) session level key r (stored self.new)) }
         ensures unchanged { OnErr result (stored self.new ≡ stored self.old) }

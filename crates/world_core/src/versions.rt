@@ -5,7 +5,7 @@ ghost use Rattle.core_laws.specs.LogEvents.{MayAppend};
 ghost use Rattle.world_core.specs.Kept.{stored};
 ghost use Rattle.world_core.specs.Lawful.{HoldsShares, HoldsAtMost};
 ghost use Rattle.world_core.specs.Steps.{AppendsRoot, MarksRoot};
-ghost use Rattle.world_core.specs.Stored.{IsStored, state_of};
+ghost use Rattle.world_core.specs.Stored.{IsStored, stored_state};
 
 use crate::logs::{append, count, insert, place_for};
 use crate::parts::Parts;
@@ -33,8 +33,8 @@ impl Parts<'_> {
     ) -> Result<(), Memory>
         requires stored { IsStored (stored self.old) }
         requires may { MayAppend self.old.plan self.old.models.now next root
-            (state_of (stored self.old)) }
-        requires held { HoldsShares (state_of (stored self.old)) next.session (root ∷ []) }
+            (stored_state (stored self.old)) }
+        requires held { HoldsShares (stored_state (stored self.old)) next.session (root ∷ []) }
         ensures appends { OnOk result (AppendsRoot (stored self.old) next root (stored self.new)) }
         ensures unchanged { OnErr result (stored self.new ≡ stored self.old) }
     {
@@ -53,7 +53,7 @@ impl Parts<'_> {
         requires earlier { mark.version < length self.old.history.records }
         requires now { mark.at ≡ length self.old.history.records }
         requires unmarked { IsUnmarked self.old.history.marks mark.version }
-        requires room { HoldsAtMost (state_of (stored self.old)) mark.session 4095 }
+        requires room { HoldsAtMost (stored_state (stored self.old)) mark.session 4095 }
         ensures marks { IfOk result (λ root.
             MarksRoot (stored self.old) mark root (stored self.new)) }
         ensures unchanged { OnErr result (stored self.new ≡ stored self.old) }

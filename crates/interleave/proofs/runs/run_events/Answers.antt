@@ -1,5 +1,5 @@
 use Rattle.std.proofs.Common.{refl, ◌∙◌}
-use Rattle.world_core.specs.Stored.{state_of}
+use Rattle.world_core.specs.Stored.{stored_state}
 use Rattle.interleave.proofs.RunLaws.{run_begins, run_ends, run_next, sound_at, roots_at, cells_at, shapes_at, spared_at, leave_at}
 use Rattle.interleave.proofs.runs.run_events.Goals as goal
 
@@ -15,7 +15,7 @@ loop-event-preserved c = record {
   plan = c.in_ok-reply.ensures.plan ∙ c.loop-event.invariant.plan;
   models = c.in_ok-reply.ensures.models ∙ c.loop-event.invariant.models;
   run = run_next c.args.plan.now c.loop-event.core.plan c.args.models.now c.loop-event.core.models c.args.sessions c.args.events.now c.loop-event.event-index
-      c.loop-event.replies.items c.push.new.self.items _ _ c.in_ok-reply.reply (state_of c.loop-event.core) (state_of c.apply.new.self)
+      c.loop-event.replies.items c.push.new.self.items _ _ c.in_ok-reply.reply (stored_state c.loop-event.core) (stored_state c.apply.new.self)
       c.loop-event.invariant.plan c.loop-event.invariant.models c.loop-event-test.true refl c.in_ok-push.ensures.items c.loop-event.invariant.run c.in_ok-reply.ensures.answers;
 }
 
@@ -39,4 +39,4 @@ returns-clause-leaves c = leave_at c.args.plan.now c.args.models.now c.args.sess
 
 pub returns-clause-run : goal.returns-clause-run
 returns-clause-run c = run_ends c.args.plan.now c.args.models.now c.args.sessions c.args.events.now c.loop-event.event-index
-    c.loop-event.replies.items (state_of c.loop-event.core) c.loop-event-test.false c.loop-event.invariant.run
+    c.loop-event.replies.items (stored_state c.loop-event.core) c.loop-event-test.false c.loop-event.invariant.run

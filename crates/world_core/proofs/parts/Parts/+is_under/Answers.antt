@@ -1,12 +1,12 @@
 use Rattle.std.proofs.Common.{◌≡◌, ◌≢◌, ◌≤◌, ◌∙◌, ap, refl, arith, true, false}
 use Rattle.world_core.specs.Answering.{children_in}
 use Rattle.world_core.specs.Kept.{stored}
-use Rattle.world_core.specs.Stored.{state_of}
+use Rattle.world_core.specs.Stored.{stored_state}
 use Rattle.world_core.proofs.UnderLaws.{under_same, leaf_alone, child_live, under_child, not_under}
 use Rattle.world_core.proofs.parts.Parts.+is_under.Goals as goal
 
 pub returns-then-is_same : goal.returns-then-is_same
-returns-then-is_same t c = (λ _. under_same (state_of (stored c.args.self.now)).key c.args.m c.args.n (c.if-is_same.ensures.0 refl), λ _. refl)
+returns-then-is_same t c = (λ _. under_same (stored_state (stored c.args.self.now)).key c.args.m c.args.n (c.if-is_same.ensures.0 refl), λ _. refl)
 
 pub returns-then-level-eq0 : goal.returns-then-level-eq0
 returns-then-level-eq0 t c =
