@@ -6,7 +6,7 @@ use Rattle.cell_shapes.proofs.LeafBits.{bits_below-small}
 use Rattle.vox_read.specs.Contents.{Content}
 use Rattle.edit_stamp.specs.Drawings.{drawn_cells}
 use Rattle.colour.specs.Inks.{DrawsTints, Inked, bit_drawn}
-use Rattle.act_rebuilds.specs.Drawn.{TintsPlaces}
+use Rattle.colour.specs.Planes.{TintsPlaces}
 
 pub drawn_places : (model : Content) (inked : Inked) → DrawsTints model inked → TintsPlaces model
 drawn_places model inked d q below =

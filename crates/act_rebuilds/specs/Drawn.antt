@@ -1,19 +1,14 @@
 -- What contracts see of the models of a world that were drawn.
-use Rattle.std.specs.Prelude.{◌<◌, ◌^◌, Bool, true, false, List, All, ⊤}
-use Rattle.vw_cell.specs.declared.cells.Cell.{Cell}
-use Rattle.vw_cell.specs.Counts.{IsBelow}
-use Rattle.vox_read.specs.Contents.{Content, colour_at}
+use Rattle.std.specs.Prelude.{Bool, true, false, List, All, ⊤}
+use Rattle.vox_read.specs.Contents.{Content}
+use Rattle.colour.specs.Planes.{TintsPlaces}
 
 -- whether the world's cells have tints, and its models
 pub record WorldModels : Type 0 where
   pub tint : Bool
   pub models : List Content
 
--- each place of a model has a tint
-abbrev pub TintsPlaces : Content → Type 0
-TintsPlaces m = (q : Cell) → IsBelow m.size q → colour_at m.voxels q < 2 ^ 8
-
--- which is so of all models of a world whose cells have tints
+-- where cells have tints, each place of each model has one
 abbrev pub HaveTints : Bool → List Content → Type 0
 HaveTints true models = All TintsPlaces models
 HaveTints false models = ⊤

@@ -1,6 +1,7 @@
 ghost use Rattle.std.specs.Prelude.{◌≡◌, All, IfOk};
 ghost use Rattle.vox_read.specs.Contents.{IsModel, AreModels};
-ghost use Rattle.act_rebuilds.specs.Drawn.{HaveTints, TintsPlaces};
+ghost use Rattle.act_rebuilds.specs.Drawn.{HaveTints};
+ghost use Rattle.colour.specs.Planes.{TintsPlaces};
 
 use colour::TintStencil;
 use edit_stamp::Stencil;

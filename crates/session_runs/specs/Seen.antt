@@ -1,8 +1,7 @@
 -- What a session has seen and done, and which whole histories that allows.
-use Rattle.std.specs.Prelude.{◌≡◌, ℕ, ◌^◌, ◌<◌, ◌≤◌, Bool, true, false, List, [], All, ⊤}
-use Rattle.vw_cell.specs.declared.cells.Cell.{Cell}
-use Rattle.vw_cell.specs.Counts.{IsBelow}
-use Rattle.history_model.specs.Contents.{Content, colour_at}
+use Rattle.std.specs.Prelude.{◌≡◌, ℕ, ◌^◌, ◌≤◌, Bool, true, false, List, [], All, ⊤}
+use Rattle.history_model.specs.Contents.{Content}
+use Rattle.tints.specs.Planes.{TintsPlaces}
 use Rattle.history_model.specs.declared.histories.Mark.{Mark}
 use Rattle.history_model.specs.Logs.{Log, FitsWorld, IsLegal, IsVersionHeld, SuitsTints}
 use Rattle.node_words.specs.Plans.{Layout}
@@ -48,7 +47,7 @@ pub record DidNothing (s : SessionSeen) : Type 0 where
 -- a store of this plan can keep tints, and each place of a model has one
 pub record CanTint (p : Layout) (models : List Content) : Type 0 where
   pub large : 4 ≤ p.side
-  pub colours : All (λ m. (q : Cell) → IsBelow m.size q → colour_at m.voxels q < 2 ^ 8) models
+  pub colours : All TintsPlaces models
 
 -- which is so of a world whose cells have tints
 abbrev pub MayTint : Bool → Layout → List Content → Type 0

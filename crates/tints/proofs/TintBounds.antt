@@ -5,7 +5,6 @@ use Rattle.std.specs.List.{slice_get}
 use Rattle.std.proofs.lemmas.List.Elements.{All-head, All-tail}
 use Rattle.std.proofs.lemmas.Option.{none-some, same_Some}
 use Rattle.vw_cell.specs.declared.cells.Cell.{Cell}
-use Rattle.vw_cell.specs.Counts.{IsBelow}
 use Rattle.vw_cell.specs.Places.{is_in_box, is_in_ball}
 use Rattle.vw_cell.specs.Tests.{is_in_box_tells}
 use Rattle.history_model.specs.Contents.{Content, colour_at}
@@ -18,10 +17,7 @@ use Rattle.history_model.specs.Tints.{Tints, untinted, over, stamp_tint, tints_b
 use Rattle.history_model.specs.Logs.{FitsWorld}
 use Rattle.history_model.specs.Moments.{world_tint}
 use Rattle.history_model.proofs.Relating.{related}
-
--- each place of the model has a tint
-abbrev pub TintsPlaces : Content → Type 0
-TintsPlaces m = (q : Cell) → IsBelow m.size q → colour_at m.voxels q < 2 ^ 8
+use Rattle.tints.specs.Planes.{TintsPlaces}
 
 put_small : (b : Bool) (c d : ℕ) → c < 2 ^ 8 → d < 2 ^ 8 → (if b then c else d) < 2 ^ 8
 put_small true c d small few = small

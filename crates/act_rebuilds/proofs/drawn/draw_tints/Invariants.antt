@@ -1,5 +1,5 @@
 use Rattle.std.proofs.Common.{◌≡◌, All, take}
-use Rattle.act_rebuilds.specs.Drawn.{TintsPlaces}
+use Rattle.colour.specs.Planes.{TintsPlaces}
 use Rattle.act_rebuilds.proofs.drawn.draw_tints.Given as goal
 
 abbrev pub invariant-loop-model : goal.invariant-loop-model
