@@ -40,10 +40,11 @@ use Rattle.plain_run.proofs.Lines.{rests, forgotten_now}
 pub begun : (h : PlainHistory) → h.records.items ≡ [] → h.marks.items ≡ [] → h.nows.items ≡ 0 ∷ [] → ArePlain h
 begun h records marks nows = record {
   legal =
-      subst (λ (rs : List Record). IsLegal (2 ^ h.plan.side) h.models.now (record { side = h.plan.side; coloured = false; records = rs; marks = h.marks.items })) (sym records)
-      (subst (λ (ms : List Mark). IsLegal (2 ^ h.plan.side) h.models.now (record { side = h.plan.side; coloured = false; records = []; marks = ms })) (sym marks)
-      (legal_empty (2 ^ h.plan.side) h.models.now h.plan.side refl));
-  plain = subst (λ (rs : List Record). All (λ r. suits_tints false r.act ≡ true) rs) (sym records) (All-nil _);
+      subst (λ (rs : List Record). IsLegal (2 ^ h.plan.side) h.models.now (record { side = h.plan.side; coloured = h.coloured; records = rs; marks = h.marks.items })) (sym records)
+      (subst (λ (ms : List Mark). IsLegal (2 ^ h.plan.side) h.models.now (record { side = h.plan.side; coloured = h.coloured; records = []; marks = ms })) (sym marks)
+      (let empty = legal_empty (2 ^ h.plan.side) h.models.now h.plan.side refl in
+      record { same_side = empty.same_side; few = empty.few; fit = empty.fit; follow = empty.follow; rising = empty.rising; marked = empty.marked }));
+  suits = subst (λ (rs : List Record). All (λ r. suits_tints h.coloured r.act ≡ true) rs) (sym records) (All-nil _);
   nows =
       subst (λ (rs : List Record). AreNows rs h.nows.items) (sym records)
       (subst (λ (ns : List ℕ). AreNows [] ns) (sym nows) none_yet);
@@ -84,12 +85,12 @@ nows_longer records nows r now are is =
     }
 
 module _ (h g : PlainHistory) (r : Record) (now : ℕ) (are : ArePlain h)
-    (fits : FitsWorld (2 ^ h.plan.side) h.models.now r.act) (suits : suits_tints false r.act ≡ true) (follows : MayFollow (plain_marks h) (plain_moment h + 1) r.act (position_after h.records.items))
+    (fits : FitsWorld (2 ^ h.plan.side) h.models.now r.act) (suits : suits_tints h.coloured r.act ≡ true) (follows : MayFollow (plain_marks h) (plain_moment h + 1) r.act (position_after h.records.items))
     (room : plain_moment h < 65535) (is : now ≡ (next_position (plain_moment h + 1) r.act (position_after h.records.items)).now)
-    (plan : g.plan ≡ h.plan) (models : g.models.now ≡ h.models.now) (records : g.records.items ≡ h.records.items ++ r ∷ [])
+    (plan : g.plan ≡ h.plan) (coloured : g.coloured ≡ h.coloured) (models : g.models.now ≡ h.models.now) (records : g.records.items ≡ h.records.items ++ r ∷ [])
     (marks : g.marks.items ≡ h.marks.items) (nows : g.nows.items ≡ h.nows.items ++ now ∷ []) where
   log_grown : plain_log g ≡ longer (plain_log h) r
-  log_grown = λ i. record { side = (plan i).side; coloured = false; records = records i; marks = marks i }
+  log_grown = λ i. record { side = (plan i).side; coloured = coloured i; records = records i; marks = marks i }
 
   longer_legal : IsLegal (2 ^ h.plan.side) h.models.now (longer (plain_log h) r)
   longer_legal = legal_next (2 ^ h.plan.side) h.models.now (plain_log h) r are.legal room fits follows
@@ -100,7 +101,9 @@ module _ (h g : PlainHistory) (r : Record) (now : ℕ) (are : ArePlain h)
         subst (λ (l : Log). IsLegal (2 ^ g.plan.side) g.models.now l) (sym log_grown)
         (subst (λ (ms : List Content). IsLegal (2 ^ g.plan.side) ms (longer (plain_log h) r)) (sym models)
         (subst (λ (p : Layout). IsLegal (2 ^ p.side) h.models.now (longer (plain_log h) r)) (sym plan) longer_legal));
-    plain = subst (λ (rs : List Record). All (λ s. suits_tints false s.act ≡ true) rs) (sym records) (All-push (λ s. suits_tints false s.act ≡ true) h.records.items r are.plain suits);
+    suits =
+        subst (λ (b : Bool). All (λ s. suits_tints b s.act ≡ true) g.records.items) (sym coloured)
+        (subst (λ (rs : List Record). All (λ s. suits_tints h.coloured s.act ≡ true) rs) (sym records) (All-push (λ s. suits_tints h.coloured s.act ≡ true) h.records.items r are.suits suits));
     nows =
         subst (λ (rs : List Record). AreNows rs g.nows.items) (sym records)
         (subst (λ (ns : List ℕ). AreNows (h.records.items ++ r ∷ []) ns) (sym nows) (nows_longer h.records.items h.nows.items r now are.nows is));
@@ -222,13 +225,13 @@ mark_comes marks mark place le rising unmarked lower higher = record {
     go (suc k) m lt first = let up = rising place (place + suc k) m (omega arith) (omega arith) in omega arith
 
 module _ (h g : PlainHistory) (mark : Mark) (are : ArePlain h) (earlier : mark.version < plain_moment h) (now : mark.at ≡ plain_moment h)
-    (plan : g.plan ≡ h.plan) (models : g.models.now ≡ h.models.now) (records : g.records.items ≡ h.records.items)
+    (plan : g.plan ≡ h.plan) (coloured : g.coloured ≡ h.coloured) (models : g.models.now ≡ h.models.now) (records : g.records.items ≡ h.records.items)
     (nows : g.nows.items ≡ h.nows.items) (comes : MarkComes (plain_marks h) mark (plain_marks g)) where
   abbrev marked : Log
-  marked = record { side = h.plan.side; coloured = false; records = h.records.items; marks = g.marks.items }
+  marked = record { side = h.plan.side; coloured = h.coloured; records = h.records.items; marks = g.marks.items }
 
   log_marked : plain_log g ≡ marked
-  log_marked = λ i. record { side = (plan i).side; coloured = false; records = records i; marks = g.marks.items }
+  log_marked = λ i. record { side = (plan i).side; coloured = coloured i; records = records i; marks = g.marks.items }
 
   marked_legal : IsLegal (2 ^ h.plan.side) h.models.now marked
   marked_legal = record {
@@ -247,7 +250,9 @@ module _ (h g : PlainHistory) (mark : Mark) (are : ArePlain h) (earlier : mark.v
         subst (λ (l : Log). IsLegal (2 ^ g.plan.side) g.models.now l) (sym log_marked)
         (subst (λ (ms : List Content). IsLegal (2 ^ g.plan.side) ms marked) (sym models)
         (subst (λ (p : Layout). IsLegal (2 ^ p.side) h.models.now marked) (sym plan) marked_legal));
-    plain = subst (λ (rs : List Record). All (λ r. suits_tints false r.act ≡ true) rs) (sym records) are.plain;
+    suits =
+        subst (λ (b : Bool). All (λ r. suits_tints b r.act ≡ true) g.records.items) (sym coloured)
+        (subst (λ (rs : List Record). All (λ r. suits_tints h.coloured r.act ≡ true) rs) (sym records) are.suits);
     nows =
         subst (λ (rs : List Record). AreNows rs g.nows.items) (sym records)
         (subst (λ (ns : List ℕ). AreNows h.records.items ns) (sym nows) are.nows);

@@ -1,22 +1,25 @@
--- The cells of a version, by what its record made of the version before.
-use Rattle.std.proofs.Common.{◌≡◌, ℕ, ◌≢◌, ◌+◌, ◌-◌, ◌^◌, ◌<◌, ◌≤◌, Bool, true, false, List, [], ◌∷◌, ◌++◌, length, length-append, take, drop, get_or, sym, ◌∙◌, ap, subst, arith}
-use Rattle.std.specs.Prelude.{All}
+-- The tints of a version, by what its record made of the version before.
+use Rattle.std.proofs.Common.{◌≡◌, ℕ, ◌≢◌, ◌+◌, ◌-◌, ◌^◌, ◌<◌, ◌≤◌, true, false, List, [], ◌∷◌, ◌++◌, length, length-append, take, drop, get_or, sym, ◌∙◌, ap, subst, arith}
+use Rattle.std.specs.Prelude.{All, not, ◌==◌}
 use Rattle.std.proofs.lemmas.List.{take_more, length-take-le, take-append-drop, get_or_default}
 use Rattle.vw_cell.specs.declared.cells.Cell.{Cell}
 use Rattle.vox_read.specs.Contents.{Content}
 use Rattle.history_model.specs.declared.acts.Act.{Act}
 use Rattle.history_model.specs.declared.acts.Act.TheVariants.{Fill, Erase, Ball, Carve, Copy, Stamp, Tint, Undo, Redo}
 use Rattle.history_model.specs.declared.histories.Record.{Record}
-use Rattle.history_model.specs.Laws.{has_at_0, has_of_edit, has_of_other, has_stays, position_of_next}
+use Rattle.history_model.specs.FoldLaws.{state_at_0, state_of_edit, state_of_other, state_stays}
+use Rattle.history_model.specs.Laws.{position_of_next}
 use Rattle.history_model.specs.Logs.{FitsWorld}
-use Rattle.history_model.specs.Moments.{world_has}
+use Rattle.history_model.specs.Moments.{world_tint}
 use Rattle.history_model.specs.PositionLaws.{names_below}
 use Rattle.history_model.specs.Positions.{Position, position_after, next_position, undone, redone}
-use Rattle.history_model.specs.Worlds.{edited, is_edit}
+use Rattle.history_model.specs.Tints.{Tints, untinted, tints_by}
+use Rattle.history_model.specs.Worlds.{is_edit}
+use Rattle.tints.proofs.VersionLaws.{versions_set}
 use Rattle.plain_run.specs.declared.histories.PlainHistory.{PlainHistory}
 use Rattle.plain_run.specs.declared.traces.Traced.TheVariants.{Is, As, Gone}
 use Rattle.plain_run.specs.Traces.{Traces}
-use Rattle.plain_run.specs.Histories.{ArePlain, plain_moment, plain_world}
+use Rattle.plain_run.specs.Histories.{ArePlain, plain_moment, plain_world, plain_tints}
 
 -- the records up to this one, and the others
 cut : (records : List Record) (k : ℕ) (r : Record) → k < length records → r ≡ get_or records k r → records ≡ (take k records ++ r ∷ []) ++ drop (k + 1) records
@@ -32,26 +35,26 @@ module _ (models : List Content) (records : List Record) (k : ℕ) (r : Record) 
   front_has = length-take-le k records (omega (arith, lt))
 
   -- what stands before the record stays
-  before_stays : (v : ℕ) (c : Cell) → v ≤ k → world_has models records v c ≡ world_has models front v c
+  before_stays : (v : ℕ) (c : Cell) → v ≤ k → world_tint models records v c ≡ world_tint models front v c
   before_stays v c le =
-      ap (λ (rs : List Record). world_has models rs v c) (sym (take-append-drop k records))
-      ∙ has_stays models front (drop k records) v c (omega (arith, front_has, le))
+      ap (λ (rs : List Record). world_tint models rs v c) (sym (take-append-drop k records))
+      ∙ ap (λ (t : Tints). t c) (state_stays untinted (tints_by models) front (drop k records) v (omega (arith, front_has, le)))
 
-  here : (c : Cell) → world_has models records (k + 1) c ≡ world_has models (front ++ r ∷ []) (length front + 1) c
+  here : (c : Cell) → world_tint models records (k + 1) c ≡ world_tint models (front ++ r ∷ []) (length front + 1) c
   here c =
       let more : length (front ++ r ∷ []) ≡ length front + 1 = length-append front (r ∷ []) in
-      ap (λ (rs : List Record). world_has models rs (k + 1) c) (cut records k r lt is)
-      ∙ has_stays models (front ++ r ∷ []) (drop (k + 1) records) (k + 1) c (omega (arith, front_has, more))
-      ∙ ap (λ (n : ℕ). world_has models (front ++ r ∷ []) n c) (let same : k + 1 ≡ length front + 1 = omega (arith, front_has) in same)
+      ap (λ (rs : List Record). world_tint models rs (k + 1) c) (cut records k r lt is)
+      ∙ ap (λ (t : Tints). t c) (state_stays untinted (tints_by models) (front ++ r ∷ []) (drop (k + 1) records) (k + 1) (omega (arith, front_has, more)))
+      ∙ ap (λ (n : ℕ). world_tint models (front ++ r ∷ []) n c) (let same : k + 1 ≡ length front + 1 = omega (arith, front_has) in same)
 
-  told_edit : (c : Cell) → is_edit r.act ≡ true → world_has models records (k + 1) c ≡ edited models r.act (world_has models front k) c
+  told_edit : (c : Cell) → is_edit r.act ≡ true → world_tint models records (k + 1) c ≡ tints_by models r.act (world_tint models front k) c
   told_edit c edit =
-      here c ∙ has_of_edit models front r c edit ∙ ap (λ (n : ℕ). edited models r.act (world_has models front n) c) front_has
+      here c ∙ ap (λ (t : Tints). t c) (state_of_edit untinted (tints_by models) front r edit) ∙ ap (λ (n : ℕ). tints_by models r.act (world_tint models front n) c) front_has
 
-  told_other : (c : Cell) → is_edit r.act ≡ false → world_has models records (k + 1) c ≡ world_has models front (position_after (take (k + 1) records)).now c
+  told_other : (c : Cell) → is_edit r.act ≡ false → world_tint models records (k + 1) c ≡ world_tint models front (position_after (take (k + 1) records)).now c
   told_other c other =
-      here c ∙ has_of_other models front r c other
-      ∙ ap (λ (rs : List Record). world_has models front (position_after rs).now c) (sym (take_more records k r lt ∙ ap (λ (s : Record). front ++ s ∷ []) (sym is)))
+      here c ∙ ap (λ (t : Tints). t c) (state_of_other untinted (tints_by models) front r other)
+      ∙ ap (λ (rs : List Record). world_tint models front (position_after rs).now c) (sym (take_more records k r lt ∙ ap (λ (s : Record). front ++ s ∷ []) (sym is)))
 
   -- an undo or a redo goes to an earlier version
   earlier : (act : Act) → is_edit act ≡ false → (n : ℕ) → (next_position n act (position_after front)).now ≤ k
@@ -87,8 +90,8 @@ module _ (models : List Content) (records : List Record) (k : ℕ) (r : Record) 
       let low = earlier r.act other (length front + 1) in
       subst (λ (n : ℕ). n ≤ k) (ap (λ (q : Position). q.now) (sym at)) low
 
-pub has_none : (h : PlainHistory) (c : Cell) → false ≡ plain_world h 0 c
-has_none h c = sym (has_at_0 h.models.now h.records.items c)
+pub tint_none : (h : PlainHistory) (c : Cell) → 0 ≡ plain_tints h 0 c
+tint_none h c = sym (ap (λ (t : Tints). t c) (state_at_0 untinted (tints_by h.models.now) h.records.items))
 
 module _ (h : PlainHistory) (version : ℕ) (r : Record) (c : Cell) (some : version ≢ 0) (le : version ≤ plain_moment h)
     (is : r ≡ get_or h.records.items (version - 1) r) where
@@ -104,14 +107,14 @@ module _ (h : PlainHistory) (version : ℕ) (r : Record) (c : Cell) (some : vers
   back : (version - 1) + 1 ≡ version
   back = omega (arith, some)
 
-  pub has_told : (set : Bool) → Traces models r.act c (Is set) → set ≡ plain_world h version c
-  has_told set traces =
-      sym (ap (λ (v : ℕ). plain_world h v c) (sym back) ∙ told_edit models records (version - 1) r lt is c traces.0 ∙ traces.1 (world_has models (take (version - 1) records) (version - 1)))
+  pub tint_told : (tint : ℕ) → Traces models r.act c (Is tint) → tint ≡ plain_tints h version c
+  tint_told tint traces =
+      sym (ap (λ (v : ℕ). plain_tints h v c) (sym back) ∙ told_edit models records (version - 1) r lt is c traces.0 ∙ traces.1 (world_tint models (take (version - 1) records) (version - 1)))
 
-  pub has_moved : (from : Cell) → Traces models r.act c (As from) → plain_world h (version - 1) from ≡ plain_world h version c
-  has_moved from traces =
+  pub tint_moved : (from : Cell) → Traces models r.act c (As from) → plain_tints h (version - 1) from ≡ plain_tints h version c
+  tint_moved from traces =
       before_stays models records (version - 1) r lt is (version - 1) from (omega arith)
-      ∙ sym (ap (λ (v : ℕ). plain_world h v c) (sym back) ∙ told_edit models records (version - 1) r lt is c traces.0 ∙ traces.1 (world_has models (take (version - 1) records) (version - 1)))
+      ∙ sym (ap (λ (v : ℕ). plain_tints h v c) (sym back) ∙ told_edit models records (version - 1) r lt is c traces.0 ∙ traces.1 (world_tint models (take (version - 1) records) (version - 1)))
 
   module _ (plain : ArePlain h) (gone : Traces models r.act c Gone) (now : ℕ) (at : now ≡ get_or h.nows.items version now) where
     is_now : now ≡ (position_after (take version records)).now
@@ -125,11 +128,16 @@ module _ (h : PlainHistory) (version : ℕ) (r : Record) (c : Cell) (some : vers
     pub goes_back : now < version
     goes_back = omega (arith, now_low, some)
 
-    pub has_gone : plain_world h now c ≡ plain_world h version c
-    has_gone =
+    pub tint_gone : plain_tints h now c ≡ plain_tints h version c
+    tint_gone =
         before_stays models records (version - 1) r lt is now c now_low
-        ∙ ap (λ (n : ℕ). world_has models (take (version - 1) records) n c) (is_now ∙ ap (λ (v : ℕ). (position_after (take v records)).now) (sym back))
-        ∙ sym (ap (λ (v : ℕ). plain_world h v c) (sym back) ∙ told_other models records (version - 1) r lt is c gone)
+        ∙ ap (λ (n : ℕ). world_tint models (take (version - 1) records) n c) (is_now ∙ ap (λ (v : ℕ). (position_after (take v records)).now) (sym back))
+        ∙ sym (ap (λ (v : ℕ). plain_tints h v c) (sym back) ∙ told_other models records (version - 1) r lt is c gone)
 
 pub fits_at : (h : PlainHistory) (r : Record) (k : ℕ) → ArePlain h → k < plain_moment h → r ≡ get_or h.records.items k r → FitsWorld (2 ^ h.plan.side) h.models.now r.act
 fits_at h r k plain lt is = subst (λ (s : Record). FitsWorld (2 ^ h.plan.side) h.models.now s.act) (sym is) (plain.legal.fit k r lt)
+
+-- a cell is set where its tint isn't 0
+pub set_where : (h : PlainHistory) (version : ℕ) (c : Cell) (tint : ℕ) → ArePlain h → tint ≡ plain_tints h version c → not (tint == 0) ≡ plain_world h version c
+set_where h version c tint are is =
+    ap (λ (n : ℕ). not (n == 0)) is ∙ versions_set (2 ^ h.plan.side) h.models.now h.records.items are.legal.fit version c

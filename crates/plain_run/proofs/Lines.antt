@@ -1,15 +1,12 @@
 -- What each answer makes of a run.
-use Rattle.std.proofs.Common.{◌≡◌, ℕ, ◌^◌, Bool, true, false, Some, Option, List, [], length, refl, sym, ◌∙◌, ap, subst, arith, inl, inr}
-use Rattle.std.specs.Prelude.{IsTrue, IfOk, Result, Ok, Err}
-use Rattle.std.specs.Int.{from_bool}
-use Rattle.vox_read.specs.Sums.{one_if}
-use Rattle.vw_cell.specs.declared.cells.Cell.{Cell}
+use Rattle.std.proofs.Common.{◌≡◌, ℕ, Bool, true, false, Some, Option, List, [], length, refl, sym, ◌∙◌, ap, subst, arith, inl, inr}
+use Rattle.std.specs.Prelude.{IsTrue, IfOk, Result, Ok, Err, not, ◌==◌}
+use Rattle.std.proofs.lemmas.Bool.{eqb-true, eq-eqb}
 use Rattle.vw_cell.specs.declared.boxes.Boxed.{Boxed}
 use Rattle.vw_cell.specs.Counts.{number_in}
 use Rattle.history_model.specs.declared.questions.Question.{Question}
 use Rattle.history_model.specs.Tints.{Tints}
 use Rattle.history_model.specs.Worlds.{World}
-use Rattle.tints.proofs.VersionLaws.{versions_plainly_tinted}
 use Rattle.block_contents.specs.Versions.{IsKept}
 use Rattle.script.specs.declared.commands.Command.TheVariants.{Forget, Ask, Save, Same, Head}
 use Rattle.script.specs.declared.commands.SaveName.{SaveName}
@@ -28,7 +25,7 @@ use Rattle.script_runs.proofs.Arms.{resting_arm}
 use Rattle.plain_run.specs.declared.histories.PlainHistory.{PlainHistory}
 use Rattle.plain_run.specs.Counting.{NonePasses, SomePasses, passes}
 use Rattle.plain_run.specs.declared.counts.Test.TheVariants.{Differs}
-use Rattle.plain_run.specs.Histories.{ArePlain, HasMarkOf, plain_log, plain_marks, plain_moment, plain_world, plain_tints}
+use Rattle.plain_run.specs.Histories.{ArePlain, HasMarkOf, plain_log, plain_marks, plain_side, plain_moment, plain_world, plain_tints, plain_versions}
 use Rattle.plain_run.specs.Plain.{RunsOn, CantBeRead, IsNamedInVain, nothing_noted}
 
 -- what fits, whatever has run so far
@@ -37,21 +34,6 @@ FitsSoFar h session l answer =
     (scripts : List (List ScriptLine)) (transcripts : List (List LineAnswer)) (script : List ScriptLine) (transcript : List LineAnswer)
     → IsSoFar h.plan h.models.now scripts transcripts script transcript (plain_log h) → length scripts ≡ session → IsAfter script l
     → Answers h.plan h.models.now (plain_log h) (IsStanding (plain_marks h) session l.line (plain_moment h)) session l.line (plain_moment h) l.command answer
-
--- each set cell has tint 1
-pub plain_tint : (h : PlainHistory) → ArePlain h → (version : ℕ) (q : Cell) → plain_tints h version q ≡ one_if (plain_world h version q)
-plain_tint h are version q = versions_plainly_tinted h.models.now (plain_log h) (record { coloured = refl; acts = are.plain }) version q
-
--- as the byte of it
-pub byte_is : (b : Bool) → from_bool b ≡ one_if b
-byte_is true = refl
-byte_is false = refl
-
-one_same : (a b : Bool) → one_if a ≡ one_if b → a ≡ b
-one_same true true e = refl
-one_same true false e = absurd (omega (arith, e))
-one_same false true e = absurd (omega (arith, e))
-one_same false false e = refl
 
 -- an answer that changes nothing
 pub rests : (h : PlainHistory) (session : ℕ) (l : ScriptLine) (answer : Answer) → ArePlain h → is_resting answer ≡ true
@@ -144,13 +126,13 @@ module _ (h : PlainHistory) (session line : ℕ) (are : ArePlain h) where
       go _ _ (Rattle.conformance.specs.Telling.hit from way found e) = (refl, λ n version. refl)
 
   pub asks : (named : Option ℕ) (question : Question) (asked : ℕ) (answer : Answer) → asked ≡ asked_version named (plain_moment h) → IsKept (plain_log h) asked
-      → Tells (2 ^ h.plan.side) (plain_world h asked) (plain_tints h asked) question answer → RunsOn h session (record { line = line; command = Ask named question }) answer h
+      → Tells (plain_side h) (plain_world h asked) (plain_tints h asked) question answer → RunsOn h session (record { line = line; command = Ask named question }) answer h
   asks named question asked answer is kept told =
-      let r = telling_rests (2 ^ h.plan.side) (plain_world h asked) (plain_tints h asked) question answer told in
+      let r = telling_rests (plain_side h) (plain_world h asked) (plain_tints h asked) question answer told in
       rests h session (record { line = line; command = Ask named question }) answer are r.0 (r.1 (plain_moment h) named)
       (λ scripts transcripts script transcript so_far number after. tells named question answer
       (subst (λ (n : ℕ). IsReadable (IsStanding (plain_marks h) session line (plain_moment h)) (plain_moment h) n) is (readable_now h session line asked kept))
-      (subst (λ (n : ℕ). Tells (2 ^ h.plan.side) (plain_world h n) (plain_tints h n) question answer) is told))
+      (subst (λ (n : ℕ). Tells (plain_side h) (plain_world h n) (plain_tints h n) question answer) is told))
 
   pub counts_saved : (named : Option ℕ) (name : SaveName) (part : Boxed) (asked cells : ℕ) → asked ≡ asked_version named (plain_moment h) → IsKept (plain_log h) asked
       → cells ≡ number_in part (plain_world h asked) → RunsOn h session (record { line = line; command = Save named name part }) (answers.Saved cells) h
@@ -161,34 +143,31 @@ module _ (h : PlainHistory) (session line : ℕ) (are : ArePlain h) where
       (e ∙ ap (λ (n : ℕ). number_in part (plain_world h n)) is))
 
   -- two versions
-  alike : (a b : Bool) → mathlib.Core.Bool.not (mathlib.Core.Bool.beq a b) ≡ false → a ≡ b
-  alike true true e = refl
-  alike true false e = e
-  alike false true e = sym e
-  alike false false e = refl
+  alike : (a b : ℕ) → not (a == b) ≡ false → a ≡ b
+  alike a b e = eqb-true a b (not_false (a == b) e)
+    where
+      not_false : (c : Bool) → not c ≡ false → c ≡ true
+      not_false true f = refl
+      not_false false f = absurd (let no : ⊥ = cc in no)
 
-  unlike : (a b : Bool) → mathlib.Core.Bool.not (mathlib.Core.Bool.beq a b) ≡ true → a ≡ b → ⊥
-  unlike true true e f = let no : ⊥ = cc in no
-  unlike true false e f = let no : ⊥ = cc in no
-  unlike false true e f = let no : ⊥ = cc in no
-  unlike false false e f = let no : ⊥ = cc in no
+  unlike : (a b : ℕ) → not (a == b) ≡ true → a ≡ b → ⊥
+  unlike a b e equal = let is : (a == b) ≡ true = eq-eqb a b equal in let no : ⊥ = cc in no
 
   pub compares : (a b : ℕ) (is : Bool) → IsKept (plain_log h) a → IsKept (plain_log h) b
-      → (IsTrue is → NonePasses (2 ^ h.plan.side) (passes (2 ^ h.plan.side) (plain_world h) a (Differs b)))
-      → (is ≡ false → SomePasses (2 ^ h.plan.side) (passes (2 ^ h.plan.side) (plain_world h) a (Differs b)))
+      → (IsTrue is → NonePasses (plain_side h) (passes (plain_side h) (plain_versions h) a (Differs b)))
+      → (is ≡ false → SomePasses (plain_side h) (passes (plain_side h) (plain_versions h) a (Differs b)))
       → RunsOn h session (record { line = line; command = Same a b }) (answers.Same is) h
   compares a b is of_a of_b none some =
       rests h session (record { line = line; command = Same a b }) (answers.Same is) are refl refl
       (λ scripts transcripts script transcript so_far number after. go is none some)
     where
-      go : (r : Bool) → (IsTrue r → NonePasses (2 ^ h.plan.side) (passes (2 ^ h.plan.side) (plain_world h) a (Differs b)))
-          → (r ≡ false → SomePasses (2 ^ h.plan.side) (passes (2 ^ h.plan.side) (plain_world h) a (Differs b)))
+      go : (r : Bool) → (IsTrue r → NonePasses (plain_side h) (passes (plain_side h) (plain_versions h) a (Differs b)))
+          → (r ≡ false → SomePasses (plain_side h) (passes (plain_side h) (plain_versions h) a (Differs b)))
           → Answers h.plan h.models.now (plain_log h) (IsStanding (plain_marks h) session line (plain_moment h)) session line (plain_moment h) (Same a b) (answers.Same r)
       go true n s = same a b (readable_now h session line a of_a) (readable_now h session line b of_b)
-          (record { each = λ q inside. plain_tint h are a q ∙ ap one_if (alike (plain_world h a q) (plain_world h b q) ((n refl).each q inside)) ∙ sym (plain_tint h are b q) })
+          (record { each = λ q inside. alike (plain_tints h a q) (plain_tints h b q) ((n refl).each q inside) })
       go false n s = different a b (readable_now h session line a of_a) (readable_now h session line b of_b)
-          (λ alike_all. let d = s refl in unlike (plain_world h a d.cell) (plain_world h b d.cell) d.passes
-          (one_same (plain_world h a d.cell) (plain_world h b d.cell) (sym (plain_tint h are a d.cell) ∙ alike_all.each d.cell d.inside ∙ plain_tint h are b d.cell)))
+          (λ alike_all. let d = s refl in unlike (plain_tints h a d.cell) (plain_tints h b d.cell) d.passes (alike_all.each d.cell d.inside))
 
 -- what follows from an answer follows where there is one
 pub ok_as : {P Q : Answer → Type 0} {E : Type 0} (r : Result Answer E) → IfOk r P → ((a : Answer) → P a → Q a) → IfOk r Q

@@ -1,6 +1,5 @@
 -- What the cells of a version are counted for.
-use Rattle.std.specs.Prelude.{◌≡◌, ℕ, ◌+◌, ◌-◌, ◌≤◌, ◌&&◌, not, nat_lt, nat_le, Bool, true, false, ⊤, Option, Some, None}
-use mathlib.Core.Bool.{beq}
+use Rattle.std.specs.Prelude.{◌≡◌, ℕ, ◌+◌, ◌-◌, ◌≤◌, ◌==◌, ◌&&◌, not, nat_lt, nat_le, Bool, true, false, ⊤, Option, Some, None}
 use Rattle.vox_read.specs.Sums.{sum_below, one_if}
 use Rattle.vw_cell.specs.declared.boxes.Boxed.{Boxed}
 use Rattle.vw_cell.specs.declared.cells.Cell.{Cell}
@@ -8,6 +7,7 @@ use Rattle.vw_cell.specs.Counts.{cell_at}
 use Rattle.vw_cell.specs.Places.{IsInWorld}
 use Rattle.vw_cell.specs.Faces.{is_bare}
 use Rattle.history_model.specs.Worlds.{World}
+use Rattle.history_model.specs.Tints.{Tints}
 use Rattle.plain_run.specs.declared.counts.Axis.{Axis}
 use Rattle.plain_run.specs.declared.counts.Axis.TheVariants.{X, Y, Z}
 use Rattle.plain_run.specs.declared.counts.Test.{Test}
@@ -18,13 +18,18 @@ place_on X c = c.x
 place_on Y c = c.y
 place_on Z c = c.z
 
+-- the cells and the tints of all versions
+pub record CellsAndTints : Type 0 where
+  pub worlds : ℕ → World
+  pub tints : ℕ → Tints
+
 -- the cell of the version passes the test
-abbrev pub passes : ℕ → (ℕ → World) → ℕ → Test → Cell → Bool
-passes side worlds version Set c = worlds version c
-passes side worlds version (Bare direction) c = is_bare direction side (worlds version) c
-passes side worlds version (Differs other) c = not (beq (worlds version c) (worlds other c))
-passes side worlds version (Before axis n) c = nat_lt (place_on axis c) n && worlds version c
-passes side worlds version (From axis n) c = nat_le n (place_on axis c) && worlds version c
+abbrev pub passes : ℕ → CellsAndTints → ℕ → Test → Cell → Bool
+passes side all version Set c = all.worlds version c
+passes side all version (Bare direction) c = is_bare direction side (all.worlds version) c
+passes side all version (Differs other) c = not (all.tints version c == all.tints other c)
+passes side all version (Before axis n) c = nat_lt (place_on axis c) n && all.worlds version c
+passes side all version (From axis n) c = nat_le n (place_on axis c) && all.worlds version c
 
 -- the version that the test names is there
 abbrev pub TestFits : ℕ → Test → Type 0
@@ -53,15 +58,15 @@ pub record SomePasses (side : ℕ) (test : World) : Type 0 where
   pub passes : test cell ≡ true
 
 -- the least place of set cells on an axis, and the end behind the greatest one
-pub record IsLowAt (side : ℕ) (worlds : ℕ → World) (version : ℕ) (axis : Axis)
+pub record IsLowAt (side : ℕ) (all : CellsAndTints) (version : ℕ) (axis : Axis)
     (low : ℕ) : Type 0 where
-  pub none : NonePasses side (passes side worlds version (Before axis low))
-  pub some : SomePasses side (passes side worlds version (Before axis (low + 1)))
+  pub none : NonePasses side (passes side all version (Before axis low))
+  pub some : SomePasses side (passes side all version (Before axis (low + 1)))
 
-pub record IsEndAt (side : ℕ) (worlds : ℕ → World) (version : ℕ) (axis : Axis)
+pub record IsEndAt (side : ℕ) (all : CellsAndTints) (version : ℕ) (axis : Axis)
     (end : ℕ) : Type 0 where
-  pub none : NonePasses side (passes side worlds version (From axis end))
-  pub some : SomePasses side (passes side worlds version (From axis (end - 1)))
+  pub none : NonePasses side (passes side all version (From axis end))
+  pub some : SomePasses side (passes side all version (From axis (end - 1)))
   pub first : 1 ≤ end
 
 -- the cell where there is one that is set, and else none

@@ -1,10 +1,10 @@
-ghost use Rattle.std.specs.Prelude.{◌≡◌, ◌^◌, ℕ, Bool, false, Some, None, IfOk, IfErr};
+ghost use Rattle.std.specs.Prelude.{◌≡◌, ◌^◌, ℕ, Some, None, IfOk, IfErr};
 ghost use Rattle.vw_cell.specs.Places.{FitsAt};
 ghost use Rattle.script.specs.Fitting.{CommandFits, QuestionFits};
 ghost use Rattle.script.specs.declared.commands.Command.TheVariants.{Ask, Save, Same};
 ghost use Rattle.block_contents.specs.Versions.{IsKept};
 ghost use Rattle.conformance.specs.Answers.{asked_version};
-ghost use Rattle.plain_run.specs.Histories.{ArePlain, plain_log, plain_moment};
+ghost use Rattle.plain_run.specs.Histories.{ArePlain, plain_log, plain_side, plain_moment};
 ghost use Rattle.plain_run.specs.Plain.{RunsOn, CantBeRead, IsNamedInVain};
 
 use crate::counts::Test;
@@ -19,9 +19,11 @@ impl<'m> PlainHistory<'m> {
     #[tactic(auto, using(crate::proofs::Lines::tells_head))]
     pub(crate) fn answer_line(&mut self, session: u16, l: ScriptLine) -> Result<Answer, Memory>
         requires are { ArePlain self.old }
-        requires fits { CommandFits false (2 ^ self.old.plan.side) self.old.models.now l.command }
+        requires fits { CommandFits self.old.coloured (2 ^ self.old.plan.side)
+            self.old.models.now l.command }
         ensures are { ArePlain self.new }
         ensures plan { self.new.plan ≡ self.old.plan }
+        ensures coloured { self.new.coloured ≡ self.old.coloured }
         ensures models { self.new.models.now ≡ self.old.models.now }
         ensures runs_on { IfOk result (λ answer. RunsOn self.old session l answer self.new) }
     {
@@ -43,7 +45,7 @@ impl<'m> PlainHistory<'m> {
     #[tactic(auto, using(crate::proofs::Lines::asks, crate::proofs::Lines::vain_ask))]
     fn ask(&self, named: Option<u32>, question: Question) -> Answer
         requires are { ArePlain self.now }
-        requires fits { QuestionFits (2 ^ self.now.plan.side) question }
+        requires fits { QuestionFits (plain_side self.now) question }
         ensures { (session line : ℕ) → RunsOn self.now session
             (record { line = line; command = Ask named question }) result self.now }
     {
@@ -56,7 +58,7 @@ impl<'m> PlainHistory<'m> {
     #[tactic(auto, using(crate::proofs::Lines::counts_saved, crate::proofs::Lines::vain_save))]
     fn count_saved(&self, named: Option<u32>, name: SaveName, part: Boxed) -> Answer
         requires are { ArePlain self.now }
-        requires fits { FitsAt part.at part.size (2 ^ self.now.plan.side) }
+        requires fits { FitsAt part.at part.size (plain_side self.now) }
         ensures { (session line : ℕ) → RunsOn self.now session
             (record { line = line; command = Save named name part }) result self.now }
     {

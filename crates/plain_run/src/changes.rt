@@ -1,4 +1,4 @@
-ghost use Rattle.std.specs.Prelude.{◌≡◌, ◌+◌, ◌++◌, ◌∷◌, [], ◌<◌, ◌≤◌, ◌^◌, Bool, true, false, List, OnOk, IfOk, All, length, take};
+ghost use Rattle.std.specs.Prelude.{◌≡◌, ◌+◌, ◌<◌, ◌≤◌, ◌^◌, Bool, true, false, OnOk, IfOk, All, length, take};
 ghost use Rattle.std.proofs.Common.{get_or};
 ghost use Rattle.history_model.specs.declared.histories.Mark.{Mark};
 ghost use Rattle.history_model.specs.Logs.{FitsWorld, MayFollow, suits_tints};
@@ -25,9 +25,10 @@ impl<'m> PlainHistory<'m> {
     pub(crate) fn change(&mut self, next: Record) -> Result<Answer, Memory>
         requires are { ArePlain self.old }
         requires fits { FitsWorld (2 ^ self.old.plan.side) self.old.models.now next.act }
-        requires plain { suits_tints false next.act ≡ true }
+        requires suits { suits_tints self.old.coloured next.act ≡ true }
         ensures are { ArePlain self.new }
         ensures plan { self.new.plan ≡ self.old.plan }
+        ensures coloured { self.new.coloured ≡ self.old.coloured }
         ensures models { self.new.models.now ≡ self.old.models.now }
         ensures runs_on { IfOk result (λ answer. (once : Bool) → RunsOn self.old next.session
             (record { line = next.line; command = Edit next.act once }) answer self.new) }
@@ -44,9 +45,10 @@ impl<'m> PlainHistory<'m> {
         requires are { ArePlain self.old }
         requires edit { is_edit next.act ≡ true }
         requires fits { FitsWorld (2 ^ self.old.plan.side) self.old.models.now next.act }
-        requires plain { suits_tints false next.act ≡ true }
+        requires suits { suits_tints self.old.coloured next.act ≡ true }
         ensures are { ArePlain self.new }
         ensures plan { self.new.plan ≡ self.old.plan }
+        ensures coloured { self.new.coloured ≡ self.old.coloured }
         ensures models { self.new.models.now ≡ self.old.models.now }
         ensures runs_on { IfOk result (λ answer. (once : Bool) → RunsOn self.old next.session
             (record { line = next.line; command = Edit next.act once }) answer self.new) }
@@ -64,9 +66,10 @@ impl<'m> PlainHistory<'m> {
         requires are { ArePlain self.old }
         requires other { is_edit next.act ≡ false }
         requires fits { FitsWorld (2 ^ self.old.plan.side) self.old.models.now next.act }
-        requires plain { suits_tints false next.act ≡ true }
+        requires suits { suits_tints self.old.coloured next.act ≡ true }
         ensures are { ArePlain self.new }
         ensures plan { self.new.plan ≡ self.old.plan }
+        ensures coloured { self.new.coloured ≡ self.old.coloured }
         ensures models { self.new.models.now ≡ self.old.models.now }
         ensures runs_on { IfOk result (λ answer. (once : Bool) → RunsOn self.old next.session
             (record { line = next.line; command = Edit next.act once }) answer self.new) }
@@ -106,7 +109,7 @@ impl<'m> PlainHistory<'m> {
     fn append(&mut self, next: Record, now: u32) -> Result<(), Memory>
         requires are { ArePlain self.old }
         requires fits { FitsWorld (2 ^ self.old.plan.side) self.old.models.now next.act }
-        requires plain { suits_tints false next.act ≡ true }
+        requires suits { suits_tints self.old.coloured next.act ≡ true }
         requires follows { MayFollow (plain_marks self.old) (plain_moment self.old + 1) next.act
             (position_after self.old.records.items) }
         requires room { plain_moment self.old < 65535 }
@@ -114,6 +117,7 @@ impl<'m> PlainHistory<'m> {
             (position_after self.old.records.items)).now }
         ensures are { ArePlain self.new }
         ensures plan { self.new.plan ≡ self.old.plan }
+        ensures coloured { self.new.coloured ≡ self.old.coloured }
         ensures models { self.new.models.now ≡ self.old.models.now }
         ensures grows { OnOk result (GrowsByRecord self.old.plan self.old.models.now next
             (plain_log self.old) (plain_log self.new)) }
@@ -130,6 +134,7 @@ impl<'m> PlainHistory<'m> {
         requires are { ArePlain self.old }
         ensures are { ArePlain self.new }
         ensures plan { self.new.plan ≡ self.old.plan }
+        ensures coloured { self.new.coloured ≡ self.old.coloured }
         ensures models { self.new.models.now ≡ self.old.models.now }
         ensures runs_on { IfOk result (λ answer. RunsOn self.old session
             (record { line = line; command = Forget version }) answer self.new) }
@@ -158,6 +163,7 @@ impl<'m> PlainHistory<'m> {
         requires are { ArePlain self.old }
         ensures are { ArePlain self.new }
         ensures plan { self.new.plan ≡ self.old.plan }
+        ensures coloured { self.new.coloured ≡ self.old.coloured }
         ensures models { self.new.models.now ≡ self.old.models.now }
         ensures records { self.new.records ≡ self.old.records }
         ensures falls { OnOk result (LetsFall keep (plain_log self.old) (plain_marks self.new)) }

@@ -1,13 +1,12 @@
-ghost use Rattle.std.specs.Prelude.{◌≡◌, ◌+◌, ◌*◌, ◌<◌, ◌≤◌, ◌^◌, true, false, IsTrue};
-ghost use Rattle.vw_cell.specs.Counts.{number_in, cell_at};
+ghost use Rattle.std.specs.Prelude.{◌≡◌, ◌+◌, ◌*◌, ◌<◌, ◌≤◌, false, IsTrue};
+ghost use Rattle.vw_cell.specs.Counts.{number_in};
 ghost use Rattle.vw_cell.specs.Places.{FitsAt, IsInWorld};
 ghost use Rattle.vw_cell.specs.Faces.{faces_in, has_next};
-ghost use Rattle.plain_run.specs.Histories.{ArePlain, plain_moment, plain_world};
+ghost use Rattle.plain_run.specs.Histories.{ArePlain, plain_side, plain_moment, plain_world, plain_versions};
 ghost use Rattle.plain_run.specs.Counting.{TestFits, NonePasses, SomePasses, passes, row_number, layer_number};
 
 use crate::histories::PlainHistory;
-use vw_cell::{Boxed, Cell};
-use vw_cell::Direction;
+use vw_cell::{Boxed, Cell, Direction};
 
 #[derive(Clone, Copy)]
 pub(crate) enum Axis {
@@ -22,7 +21,7 @@ pub(crate) enum Test {
     Set,
     /// Set, and on this side no set cell of the world stands.
     Bare(Direction),
-    /// Set, or clear, as it isn't in this version.
+    /// Its tint isn't that in this version.
     Differs(u32),
     /// Set, with a lower place on the axis.
     Before(Axis, u16),
@@ -36,13 +35,13 @@ impl<'m> PlainHistory<'m> {
         requires are { ArePlain self.now }
         requires there { version ≤ plain_moment self.now }
         requires fits { TestFits (plain_moment self.now) test }
-        requires inside { IsInWorld (2 ^ self.now.plan.side) c }
-        ensures { result ≡ passes (2 ^ self.now.plan.side) (plain_world self.now) version test c }
+        requires inside { IsInWorld (plain_side self.now) c }
+        ensures { result ≡ passes (plain_side self.now) (plain_versions self.now) version test c }
     {
         match test {
             Test::Set => self.has(version, c),
             Test::Bare(direction) => self.has(version, c) && !self.has_next(version, direction, c),
-            Test::Differs(other) => self.has(version, c) != self.has(other, c),
+            Test::Differs(other) => self.tint(version, c) != self.tint(other, c),
             Test::Before(axis, n) => place_on(axis, c) < n && self.has(version, c),
             Test::From(axis, n) => n <= place_on(axis, c) && self.has(version, c),
         }
@@ -52,11 +51,11 @@ impl<'m> PlainHistory<'m> {
     fn has_next(&self, version: u32, direction: Direction, c: Cell) -> bool
         requires are { ArePlain self.now }
         requires there { version ≤ plain_moment self.now }
-        requires inside { IsInWorld (2 ^ self.now.plan.side) c }
-        ensures { result ≡ has_next direction (2 ^ self.now.plan.side)
+        requires inside { IsInWorld (plain_side self.now) c }
+        ensures { result ≡ has_next direction (plain_side self.now)
             (plain_world self.now version) c }
     {
-        let side = self.plan.side().cells() as u16;
+        let side = self.side();
         let Cell { x, y, z } = c;
         match direction {
             Direction::LowX => 0 < x && self.has(version, Cell { x: x - 1, y, z }),
@@ -74,12 +73,12 @@ impl<'m> PlainHistory<'m> {
         requires are { ArePlain self.now }
         requires there { version ≤ plain_moment self.now }
         requires test { TestFits (plain_moment self.now) test }
-        requires fits { FitsAt b.at b.size (2 ^ self.now.plan.side) }
+        requires fits { FitsAt b.at b.size (plain_side self.now) }
         ensures value { result ≡ number_in b
-            (passes (2 ^ self.now.plan.side) (plain_world self.now) version test) }
+            (passes (plain_side self.now) (plain_versions self.now) version test) }
         ensures few { result ≤ 4096 * 4096 * 4096 }
     {
-        let _cells = self.plan.side().cells();
+        let _side = self.side();
         let mut number = 0;
         for z in 0..b.size.z {
             number += self.count_layer(version, test, b, z);
@@ -92,13 +91,13 @@ impl<'m> PlainHistory<'m> {
         requires are { ArePlain self.now }
         requires there { version ≤ plain_moment self.now }
         requires test { TestFits (plain_moment self.now) test }
-        requires fits { FitsAt b.at b.size (2 ^ self.now.plan.side) }
+        requires fits { FitsAt b.at b.size (plain_side self.now) }
         requires layer { z < b.size.z }
         ensures value { result ≡ layer_number
-            (passes (2 ^ self.now.plan.side) (plain_world self.now) version test) b z b.size.y }
+            (passes (plain_side self.now) (plain_versions self.now) version test) b z b.size.y }
         ensures few { result ≤ 4096 * 4096 }
     {
-        let _cells = self.plan.side().cells();
+        let _side = self.side();
         let mut number = 0;
         for y in 0..b.size.y {
             number += self.count_row(version, test, b, y, z);
@@ -111,13 +110,13 @@ impl<'m> PlainHistory<'m> {
         requires are { ArePlain self.now }
         requires there { version ≤ plain_moment self.now }
         requires test { TestFits (plain_moment self.now) test }
-        requires fits { FitsAt b.at b.size (2 ^ self.now.plan.side) }
+        requires fits { FitsAt b.at b.size (plain_side self.now) }
         requires row { (y < b.size.y) × (z < b.size.z) }
         ensures value { result ≡ row_number
-            (passes (2 ^ self.now.plan.side) (plain_world self.now) version test) b y z b.size.x }
+            (passes (plain_side self.now) (plain_versions self.now) version test) b y z b.size.x }
         ensures few { result ≤ 4096 }
     {
-        let _cells = self.plan.side().cells();
+        let _side = self.side();
         let mut number = 0;
         for x in 0..b.size.x {
             let c = Cell {
@@ -136,12 +135,12 @@ impl<'m> PlainHistory<'m> {
         requires are { ArePlain self.now }
         requires there { version ≤ plain_moment self.now }
         requires test { TestFits (plain_moment self.now) test }
-        ensures none { IsTrue result → NonePasses (2 ^ self.now.plan.side)
-            (passes (2 ^ self.now.plan.side) (plain_world self.now) version test) }
-        ensures some { result ≡ false → SomePasses (2 ^ self.now.plan.side)
-            (passes (2 ^ self.now.plan.side) (plain_world self.now) version test) }
+        ensures none { IsTrue result → NonePasses (plain_side self.now)
+            (passes (plain_side self.now) (plain_versions self.now) version test) }
+        ensures some { result ≡ false → SomePasses (plain_side self.now)
+            (passes (plain_side self.now) (plain_versions self.now) version test) }
     {
-        let side = self.plan.side().cells() as u16;
+        let side = self.side();
         let whole = Boxed {
             at: Cell { x: 0, y: 0, z: 0 },
             size: Cell {
@@ -157,8 +156,8 @@ impl<'m> PlainHistory<'m> {
     pub(crate) fn faces(&self, version: u32, b: Boxed) -> u64
         requires are { ArePlain self.now }
         requires there { version ≤ plain_moment self.now }
-        requires fits { FitsAt b.at b.size (2 ^ self.now.plan.side) }
-        ensures { result ≡ faces_in (2 ^ self.now.plan.side) (plain_world self.now version) b }
+        requires fits { FitsAt b.at b.size (plain_side self.now) }
+        ensures { result ≡ faces_in (plain_side self.now) (plain_world self.now version) b }
     {
         let low_x = self.count(version, Test::Bare(Direction::LowX), b);
         let high_x = self.count(version, Test::Bare(Direction::HighX), b);

@@ -1,8 +1,8 @@
-ghost use Rattle.std.specs.Prelude.{◌≡◌, ◌≢◌, ◌≤◌, ◌++◌, ◌^◌, [], All, length, IfOk, OnOk, true, false};
-ghost use Rattle.vox_read.specs.Contents.{AreModels};
+ghost use Rattle.std.specs.Prelude.{◌≡◌, ◌≢◌, ◌≤◌, ◌++◌, ◌^◌, [], All, length, IfOk, OnOk, true};
 ghost use Rattle.history_model.specs.Logs.{FitsWorld};
-ghost use Rattle.history_model.specs.Moments.{world_has};
-ghost use Rattle.history_model.specs.Worlds.{edited, is_edit};
+ghost use Rattle.history_model.specs.Moments.{world_tint};
+ghost use Rattle.history_model.specs.Tints.{tints_by};
+ghost use Rattle.history_model.specs.Worlds.{is_edit};
 ghost use Rattle.conformance.specs.Saves.{saved_by};
 ghost use Rattle.plain_run.specs.Falling.{LetsFall};
 ghost use Rattle.plain_run.specs.Plain.{nothing_noted};
@@ -42,18 +42,25 @@ impl<'m> Model for PlainRun<'m> {
 }
 
 impl<'m> PlainRun<'m> {
-    /// A run where nothing was done yet.
-    pub fn begin(alloc: Global, plan: &Plan, models: &'m Models) -> Result<PlainRun<'m>, Memory>
+    /// A run where nothing was done yet, over a world whose cells have tints or not. With tints the
+    /// world has a quarter of the side of the plan.
+    pub fn begin(
+        alloc: Global,
+        plan: &Plan,
+        models: &'m Models,
+        tint: bool,
+    ) -> Result<PlainRun<'m>, Memory>
         ensures plan { IfOk result (λ r. r.plan ≡ plan.now) }
         ensures models { IfOk result (λ r. r.models ≡ models.now) }
         ensures log { IfOk result
             (λ r. r.log
-            ≡ record { side = plan.now.side; coloured = false; records = []; marks = [] }) }
+            ≡ record { side = plan.now.side; coloured = tint; records = []; marks = [] }) }
         ensures saved { IfOk result (λ r. r.saved ≡ []) }
     {
         let history = PlainHistory {
             alloc,
             plan: *plan,
+            coloured: tint,
             models,
             records: Vec::new(alloc),
             marks: Vec::new(alloc),
@@ -72,26 +79,33 @@ impl<'m> PlainRun<'m> {
         self.history.moment()
     }
 
-    /// Whether the cell is set at the version.
-    pub fn has(&self, version: u32, c: Cell) -> bool
-        requires { version ≤ length self.now.log.records }
-        ensures { result ≡ world_has self.now.models self.now.log.records version c }
+    /// Whether cells have tints.
+    pub fn has_tints(&self) -> bool
+        ensures { result ≡ self.now.log.coloured }
     {
-        self.history.has(version, c)
+        self.history.coloured
     }
 
-    /// Whether the edit makes the cell set, of the newest version.
-    pub fn makes(&self, act: Act, c: Cell) -> bool
+    /// The tint of the cell at the version, 0 where it isn't set. Without tints it is 1 where set.
+    pub fn tint(&self, version: u32, c: Cell) -> u8
+        requires { version ≤ length self.now.log.records }
+        ensures { result ≡ world_tint self.now.models self.now.log.records version c }
+    {
+        self.history.tint(version, c)
+    }
+
+    /// The tint that the edit gives the cell, of the newest version.
+    pub fn makes(&self, act: Act, c: Cell) -> u8
         requires edit { is_edit act ≡ true }
         requires fits { FitsWorld (2 ^ self.now.plan.side) self.now.models act }
-        ensures { result ≡ edited self.now.models act (world_has self.now.models
+        ensures { result ≡ tints_by self.now.models act (world_tint self.now.models
             self.now.log.records (length self.now.log.records)) c }
     {
         let newest = self.history.moment();
         match trace(self.history.plan.side(), self.history.models, act, c) {
-            Traced::Is(set) => set,
-            Traced::As(from) => self.history.has(newest, from),
-            Traced::Gone => false,
+            Traced::Is(tint) => tint,
+            Traced::As(from) => self.history.tint(newest, from),
+            Traced::Gone => 0,
         }
     }
 
@@ -135,13 +149,14 @@ impl<'m> PlainRun<'m> {
     {
         let PlainHistory {
             plan,
+            coloured,
             records,
             marks,
             ..
         } = self.history;
         History {
             side: plan.side(),
-            coloured: false,
+            coloured,
             records,
             marks,
         }

@@ -1,6 +1,6 @@
-ghost use Rattle.std.specs.Prelude.{◌≡◌, ◌≤◌, ◌<◌, ◌^◌};
+ghost use Rattle.std.specs.Prelude.{◌≤◌, ◌<◌};
 ghost use Rattle.vw_cell.specs.Extents.{IsExtent};
-ghost use Rattle.plain_run.specs.Histories.{ArePlain, plain_moment, plain_world};
+ghost use Rattle.plain_run.specs.Histories.{ArePlain, plain_side, plain_moment, plain_world, plain_versions};
 ghost use Rattle.plain_run.specs.Counting.{SomePasses, IsLowAt, IsEndAt};
 
 use crate::counts::{Axis, Test};
@@ -13,7 +13,7 @@ impl<'m> PlainHistory<'m> {
     pub(crate) fn extent(&self, version: u32) -> Option<Boxed>
         requires are { ArePlain self.now }
         requires there { version ≤ plain_moment self.now }
-        ensures { IsExtent (2 ^ self.now.plan.side) (plain_world self.now version) result }
+        ensures { IsExtent (plain_side self.now) (plain_world self.now version) result }
     {
         if self.is_none(version, Test::Set) {
             return None;
@@ -36,10 +36,10 @@ impl<'m> PlainHistory<'m> {
     fn low(&self, version: u32, axis: Axis) -> u16
         requires are { ArePlain self.now }
         requires there { version ≤ plain_moment self.now }
-        requires some { SomePasses (2 ^ self.now.plan.side) (plain_world self.now version) }
-        ensures low { IsLowAt (2 ^ self.now.plan.side) (plain_world self.now) version axis result }
+        requires some { SomePasses (plain_side self.now) (plain_world self.now version) }
+        ensures low { IsLowAt (plain_side self.now) (plain_versions self.now) version axis result }
     {
-        let side = self.plan.side().cells() as u16;
+        let side = self.side();
         for n in 0..side {
             if !self.is_none(version, Test::Before(axis, n + 1)) {
                 return n;
@@ -53,10 +53,10 @@ impl<'m> PlainHistory<'m> {
     fn end(&self, version: u32, axis: Axis) -> u16
         requires are { ArePlain self.now }
         requires there { version ≤ plain_moment self.now }
-        requires some { SomePasses (2 ^ self.now.plan.side) (plain_world self.now version) }
-        ensures end { IsEndAt (2 ^ self.now.plan.side) (plain_world self.now) version axis result }
+        requires some { SomePasses (plain_side self.now) (plain_world self.now version) }
+        ensures end { IsEndAt (plain_side self.now) (plain_versions self.now) version axis result }
     {
-        let side = self.plan.side().cells() as u16;
+        let side = self.side();
         for n in 0..side {
             let place = side - n - 1;
             if !self.is_none(version, Test::From(axis, place)) {

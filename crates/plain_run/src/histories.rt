@@ -1,6 +1,5 @@
-ghost use Rattle.std.specs.Prelude.{◌≡◌, ◌≢◌, ◌≤◌, false, length, IsTrue, All};
-ghost use Rattle.history_model.specs.Worlds.{is_edit};
-ghost use Rattle.plain_run.specs.Histories.{ArePlain, plain_moment, plain_world, plain_marks, HasMarkOf};
+ghost use Rattle.std.specs.Prelude.{◌≡◌, ◌≢◌, ◌<◌, ◌≤◌, false, IsTrue, All};
+ghost use Rattle.plain_run.specs.Histories.{ArePlain, plain_side, plain_moment, plain_world, plain_tints, plain_marks, HasMarkOf};
 
 use crate::traces::{Traced, trace};
 use history_model::{Mark, Record};
@@ -14,6 +13,8 @@ use vw_cell::Cell;
 pub(crate) struct PlainHistory<'m> {
     pub(crate) alloc: Global,
     pub(crate) plan: Plan,
+    // whether cells have tints, other than 0 and 1
+    pub(crate) coloured: bool,
     pub(crate) models: &'m Models,
     pub(crate) records: Vec<Record>,
     pub(crate) marks: Vec<Mark>,
@@ -31,22 +32,40 @@ impl<'m> PlainHistory<'m> {
         self.records.len() as u32
     }
 
+    /// The side of the world, which is a quarter of the store's where cells have tints.
+    pub(crate) fn side(&self) -> u16
+        ensures value { result ≡ plain_side self.now }
+        ensures bounds { (1 ≤ result) × (result ≤ 4096) }
+    {
+        let side = self.plan.side().cells() as u16;
+        if self.coloured { side / 4 } else { side }
+    }
+
     /// Whether the cell is set at the version.
-    #[tactic(auto, using(crate::proofs::Having::has_none, crate::proofs::Having::has_told, crate::proofs::Having::has_moved, crate::proofs::Having::has_gone, crate::proofs::Having::fits_at, crate::proofs::Having::goes_back))]
     pub(crate) fn has(&self, version: u32, c: Cell) -> bool
         requires are { ArePlain self.now }
         requires there { version ≤ plain_moment self.now }
         ensures { result ≡ plain_world self.now version c }
     {
+        self.tint(version, c) != 0
+    }
+
+    /// The tint of the cell at the version, 0 where it isn't set.
+    #[tactic(auto, using(crate::proofs::Having::tint_none, crate::proofs::Having::tint_told, crate::proofs::Having::tint_moved, crate::proofs::Having::tint_gone, crate::proofs::Having::fits_at, crate::proofs::Having::goes_back))]
+    pub(crate) fn tint(&self, version: u32, c: Cell) -> u8
+        requires are { ArePlain self.now }
+        requires there { version ≤ plain_moment self.now }
+        ensures { result ≡ plain_tints self.now version c }
+    {
         if version == 0 {
-            return false;
+            return 0;
         }
         let record = self.records[version as usize - 1];
         let act = record.act;
         match trace(self.plan.side(), self.models, act, c) {
-            Traced::Is(set) => set,
-            Traced::As(from) => self.has(version - 1, from),
-            Traced::Gone => self.has(self.nows[version as usize], c),
+            Traced::Is(tint) => tint,
+            Traced::As(from) => self.tint(version - 1, from),
+            Traced::Gone => self.tint(self.nows[version as usize], c),
         }
     }
 

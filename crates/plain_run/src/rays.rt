@@ -1,8 +1,8 @@
 ghost use Rattle.std.specs.Prelude.{◌≡◌, ◌+◌, ◌*◌, ◌<◌, ◌≤◌, ◌^◌, ℕ, None, IfSome};
 ghost use Rattle.vw_cell.specs.Places.{IsInWorld};
-ghost use Rattle.history_model.specs.Ways.{IsStep, IsHeading, ahead, behind, heading_of};
-ghost use Rattle.history_model.specs.Rays.{Hits, IsAt, Passes, factor, scale};
-ghost use Rattle.plain_run.specs.Histories.{ArePlain, plain_moment, plain_world};
+ghost use Rattle.history_model.specs.Ways.{IsStep, IsHeading, ahead, behind};
+ghost use Rattle.history_model.specs.Rays.{Hits, IsAt, Passes, scale};
+ghost use Rattle.plain_run.specs.Histories.{ArePlain, plain_side, plain_moment, plain_world};
 ghost use Rattle.plain_run.specs.Counting.{IsMet};
 
 use crate::histories::PlainHistory;
@@ -15,10 +15,10 @@ impl<'m> PlainHistory<'m> {
     pub(crate) fn ray(&self, version: u32, from: Cell, way: Way) -> Option<Cell>
         requires are { ArePlain self.now }
         requires there { version ≤ plain_moment self.now }
-        requires from { IsInWorld (2 ^ self.now.plan.side) from }
-        ensures { Hits from way (2 ^ self.now.plan.side) (plain_world self.now version) result }
+        requires from { IsInWorld (plain_side self.now) from }
+        ensures { Hits from way (plain_side self.now) (plain_world self.now version) result }
     {
-        let side = self.plan.side().cells();
+        let side = u32::from(self.side());
         let unit = scale(way);
         for k in 0..2 * unit * u64::from(side) {
             match self.met(version, cell_at(unit, from, way, side, k)) {

@@ -1,6 +1,7 @@
 //! Two scripts, run by the program and by the plain run.
 
-ghost use Rattle.std.specs.Prelude.{◌≡◌, ◌≤◌, ◌^◌, false, length, All, IfOk};
+ghost use Rattle.std.specs.Prelude.{◌≡◌, ◌≤◌, ◌^◌, length, All, IfOk};
+ghost use Rattle.history_model.specs.Logs.{store_exponent};
 ghost use Rattle.script.specs.Fitting.{CommandFits};
 ghost use Rattle.vox_read.specs.Contents.{AreModels};
 
@@ -19,6 +20,7 @@ use test_calls::voxdag_gated;
 use test_gates::{Meeting, Place};
 use transcript::{LineAnswer, read_transcript, transcript_text};
 use vox_read::{Models, read_models};
+use vw_cell::Side;
 use vw_io::{MemoryShelf, MemorySink, Shelf};
 
 // Two models: five cells of a box of 3 x 2 x 2, of which a sixth was cleared again, and a cell.
@@ -31,10 +33,12 @@ fn vox() -> &'static [u8]
     MODELS
 }
 
-/// The scripts, the plan of a run of both, and how many last versions it holds, or 0 for all.
+/// The scripts, the plan of a run of both, whether its cells have tints, and how many last versions
+/// it holds, or 0 for all.
 #[derive(Clone, Copy)]
 pub(crate) struct Run<'s> {
     pub(crate) plan: &'s Plan,
+    pub(crate) tint: bool,
     pub(crate) keep: u32,
     pub(crate) first: &'s str,
     pub(crate) second: &'s str,
@@ -79,9 +83,9 @@ pub(crate) fn is_as_plain(alloc: Global, run: Run<'_>, ended: &Ended) -> Result<
 fn is_same(alloc: Global, run: Run<'_>, models: &Models, ended: &Ended) -> Result<bool, Fail>
     requires { AreModels models.now }
 {
-    let first = read(alloc, run.first, run.plan, models)?;
-    let second = read(alloc, run.second, run.plan, models)?;
-    let mut plain = PlainRun::begin(alloc, run.plan, models)?;
+    let first = read(alloc, run.first, run.plan, run.tint, models)?;
+    let second = read(alloc, run.second, run.plan, run.tint, models)?;
+    let mut plain = PlainRun::begin(alloc, run.plan, models, run.tint)?;
     let mut rooms = Rooms::new(alloc, run.plan, run.keep);
     let same = is_same_text(alloc, &mut rooms, &mut plain, 0, &first, ended)?
         && is_same_text(alloc, &mut rooms, &mut plain, 1, &second, ended)?;
@@ -91,14 +95,38 @@ fn is_same(alloc: Global, run: Run<'_>, models: &Models, ended: &Ended) -> Resul
     is_same_end(alloc, plain, run.plan, ended)
 }
 
-fn read(alloc: Global, words: &str, plan: &Plan, models: &Models) -> Result<Script, Fail>
+fn read(
+    alloc: Global,
+    words: &str,
+    plan: &Plan,
+    tint: bool,
+    models: &Models,
+) -> Result<Script, Fail>
     requires { AreModels models.now }
     ensures { IfOk result
-        (All (λ l. CommandFits false (2 ^ plan.now.side) models.now l.command)) }
+        (All (λ l. CommandFits tint (2 ^ plan.now.side) models.now l.command)) }
 {
-    match read_script(alloc, words.as_bytes(), plan.side(), models, false) {
+    let side = world_side(plan.side(), tint)?;
+    match read_script(alloc, words.as_bytes(), side, models, tint) {
         Ok(script) => Ok(script),
         Err(_) => Err(Fail::from("a script")),
+    }
+}
+
+// The side of the world that a store of this side keeps.
+fn world_side(side: Side, tint: bool) -> Result<Side, Fail>
+    ensures { IfOk result (λ world. store_exponent tint world ≡ side) }
+{
+    if !tint {
+        return Ok(side);
+    }
+    let Some(quarter) = Side::new(side.cells() / 4) else {
+        return Err(Fail::from("a side"));
+    };
+    if quarter.exponent() + 2 == side.exponent() {
+        Ok(quarter)
+    } else {
+        Err(Fail::from("a side"))
     }
 }
 
@@ -111,12 +139,11 @@ fn is_same_text(
     script: &Script,
     ended: &Ended,
 ) -> Result<bool, Fail>
-    requires plain { plain.old.log.coloured ≡ false }
-    requires fit { All (λ l. CommandFits false (2 ^ plain.old.plan.side) plain.old.models
-        l.command) script.now }
+    requires fit { All (λ l. CommandFits plain.old.log.coloured (2 ^ plain.old.plan.side)
+        plain.old.models l.command) script.now }
     ensures plan { plain.new.plan ≡ plain.old.plan }
     ensures models { plain.new.models ≡ plain.old.models }
-    ensures plain { plain.new.log.coloured ≡ false }
+    ensures coloured { plain.new.log.coloured ≡ plain.old.log.coloured }
 {
     let told = ended.told(session);
     let answers = rooms.answers(plain, session, script.lines.as_slice(), told)?;
@@ -231,11 +258,13 @@ fn told(alloc: Global, shelf: &MemoryShelf, name: &str) -> Result<Vec<LineAnswer
 }
 
 fn words(alloc: Global, run: Run<'_>) -> Result<Vec<String>, AllocError> {
-    let side = run.plan.side().cells();
+    let store = run.plan.side().cells();
+    let flag = if run.tint { " --colours" } else { "" };
+    let side = if run.tint { store / 4 } else { store };
     let buckets = run.plan.buckets()[0];
     let cap = run.plan.cap();
     let line = format!(in alloc;
-        "run --side {side} --buckets {buckets} --cap {cap} --journal j --report p m.vox a b"
+        "run{flag} --side {side} --buckets {buckets} --cap {cap} --journal j --report p m.vox a b"
     )?;
     let mut words = Vec::new(alloc);
     for word in line.as_str().split(' ') {

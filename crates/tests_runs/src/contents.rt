@@ -36,7 +36,7 @@ impl Contents {
     /// Adds those of a world.
     pub(crate) fn add(&mut self, world: &World) -> Result<(), AllocError> {
         let mut level: u8 = 0;
-        for side in [4, 8, 16] {
+        for side in [4, 8, 16, 32] {
             if side <= world.side {
                 self.add_level(world, level, side)?;
             }
@@ -236,7 +236,11 @@ fn node(
 
 // Where an octant of a block of this level begins.
 fn octant_at(at: Cell, octant: u16, level: u8) -> Cell {
-    let half: u16 = if level == 1 { 4 } else { 8 };
+    let half: u16 = match level {
+        1 => 4,
+        2 => 8,
+        _ => 16,
+    };
     Cell {
         x: at.x.saturating_add((octant % 2).saturating_mul(half)),
         y: at.y.saturating_add((octant / 2 % 2).saturating_mul(half)),

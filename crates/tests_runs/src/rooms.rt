@@ -1,6 +1,6 @@
 //! The plain run with the buckets of a plan, which it doesn't have: judged by contents alone.
 
-ghost use Rattle.std.specs.Prelude.{◌≡◌, ◌^◌, All, true, false};
+ghost use Rattle.std.specs.Prelude.{◌≡◌, ◌^◌, All, true};
 ghost use Rattle.history_model.specs.Logs.{FitsWorld};
 ghost use Rattle.history_model.specs.Worlds.{is_edit};
 ghost use Rattle.script.specs.Fitting.{CommandFits};
@@ -47,12 +47,11 @@ impl Rooms {
         lines: &[ScriptLine],
         told: &[LineAnswer],
     ) -> Result<Vec<LineAnswer>, Fail>
-        requires plain { plain.old.log.coloured ≡ false }
-        requires fit { All (λ l. CommandFits false (2 ^ plain.old.plan.side) plain.old.models
-            l.command) lines.now }
+        requires fit { All (λ l. CommandFits plain.old.log.coloured (2 ^ plain.old.plan.side)
+            plain.old.models l.command) lines.now }
         ensures plan { plain.new.plan ≡ plain.old.plan }
         ensures models { plain.new.models ≡ plain.old.models }
-        ensures plain { plain.new.log.coloured ≡ false }
+        ensures coloured { plain.new.log.coloured ≡ plain.old.log.coloured }
     {
         let mut answers = Vec::new(self.alloc);
         for line in lines {
@@ -70,11 +69,11 @@ impl Rooms {
         l: ScriptLine,
         told: Answer,
     ) -> Result<LineAnswer, Fail>
-        requires plain { plain.old.log.coloured ≡ false }
-        requires fits { CommandFits false (2 ^ plain.old.plan.side) plain.old.models l.command }
+        requires fits { CommandFits plain.old.log.coloured (2 ^ plain.old.plan.side)
+            plain.old.models l.command }
         ensures plan { plain.new.plan ≡ plain.old.plan }
         ensures models { plain.new.models ≡ plain.old.models }
-        ensures plain { plain.new.log.coloured ≡ false }
+        ensures coloured { plain.new.log.coloured ≡ plain.old.log.coloured }
     {
         match self.refused(plain, l.command, told)? {
             Some(answer) => Ok(LineAnswer {
@@ -92,15 +91,19 @@ impl Rooms {
         }
     }
 
-    // How the command is refused where it is an edit that has no room.
+    // How the command is refused where it is an edit that has no room. In runs with tints each has.
     fn refused(
         &mut self,
         plain: &PlainRun<'_>,
         command: Command,
         told: Answer,
     ) -> Result<Option<Answer>, AllocError>
-        requires { CommandFits false (2 ^ plain.now.plan.side) plain.now.models command }
+        requires { CommandFits plain.now.log.coloured (2 ^ plain.now.plan.side)
+            plain.now.models command }
     {
+        if plain.has_tints() {
+            return Ok(None);
+        }
         match command {
             Command::Edit { act, once: _ } => match act {
                 Act::Undo => Ok(None),

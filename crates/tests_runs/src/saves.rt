@@ -1,6 +1,6 @@
 //! The files that scripts saved, cell by cell.
 
-use crate::worlds::is_set;
+use crate::worlds::tint_at;
 use conformance::SavedBox;
 use plain_run::PlainRun;
 use std::alloc::{AllocError, Global};
@@ -32,7 +32,8 @@ fn has_file(shelf: &MemoryShelf, saved: &SavedBox, want: &[u8]) -> bool {
     }
 }
 
-// The file of a box: a model of its size with its set cells, by rising z, then y, then x.
+// The file of a box: a model of its size with its set cells and their tints, by rising z, then y,
+// then x.
 fn file_of(alloc: Global, run: &PlainRun<'_>, saved: &SavedBox) -> Result<Vec<u8>, AllocError> {
     let voxels = voxels_of(alloc, run, saved)?;
     let bytes = voxels.len().min(65_536) as u32;
@@ -85,11 +86,12 @@ fn put_cell(
         y: corner.y.wrapping_add(place.y),
         z: corner.z.wrapping_add(place.z),
     };
-    if is_set(run, saved.version, c) {
+    let tint = tint_at(run, saved.version, c);
+    if tint != 0 {
         let [x, _] = place.x.to_le_bytes();
         let [y, _] = place.y.to_le_bytes();
         let [z, _] = place.z.to_le_bytes();
-        voxels.extend_from_slice(&[x, y, z, 1])?;
+        voxels.extend_from_slice(&[x, y, z, tint])?;
     }
     Ok(())
 }

@@ -16,6 +16,8 @@ pub(crate) enum Edits {
     Any,
     /// The same, where each fourth line is a save.
     AnyAndSaves,
+    /// The same, where fills and balls mostly have a tint, and some lines ask for one.
+    Tinted,
     /// Each second line is a change, and the others ask, or forget one of the newest versions.
     Forgetful,
     /// Each edit fills or clears a box of octants of the world. Only few leaves and nodes below the
@@ -52,6 +54,7 @@ fn next_line(
     match edits {
         Edits::Any => line(alloc, draws, side),
         Edits::AnyAndSaves => line_or_save(alloc, seed, number, draws, side),
+        Edits::Tinted => tinted_or_save(alloc, seed, number, draws, side),
         Edits::Forgetful => changed_or_forgotten(alloc, number, draws, side),
         Edits::Octants => coarse_line(alloc, draws, side),
     }
@@ -68,6 +71,24 @@ fn line_or_save(
         return saved(alloc, seed, number, draws, side);
     }
     line(alloc, draws, side)
+}
+
+fn tinted_or_save(
+    alloc: Global,
+    seed: u64,
+    number: u16,
+    draws: &mut Draws,
+    side: u16,
+) -> Result<String, AllocError> {
+    if number % 4 == 3 {
+        return saved(alloc, seed, number, draws, side);
+    }
+    match draws.below(8) {
+        0 => tint_asked(alloc, draws, side),
+        1 => tint_asked_of(alloc, draws, side),
+        2 | 3 | 4 => tinted(alloc, draws, side),
+        _ => line(alloc, draws, side),
+    }
 }
 
 fn changed_or_forgotten(
@@ -150,6 +171,18 @@ fn edited(alloc: Global, draws: &mut Draws, side: u16) -> Result<String, AllocEr
     format!(in alloc; "{act}")
 }
 
+// An edit, where a fill and a ball have a tint.
+fn tinted(alloc: Global, draws: &mut Draws, side: u16) -> Result<String, AllocError> {
+    let act = draws.act(side, MODEL);
+    match act {
+        Act::Fill(_) | Act::Ball(_) => {
+            let tint = draws.below(255).saturating_add(1);
+            format!(in alloc; "{act} {tint}")
+        }
+        _ => format!(in alloc; "{act}"),
+    }
+}
+
 // A stamp of the second model, which is a single cell.
 fn stamped(alloc: Global, draws: &mut Draws, side: u16) -> Result<String, AllocError> {
     let at = draws.place(side, Cell { x: 1, y: 1, z: 1 });
@@ -203,6 +236,18 @@ fn cell(draws: &mut Draws, side: u16) -> Cell {
 fn pointed(alloc: Global, draws: &mut Draws, side: u16) -> Result<String, AllocError> {
     let at = numbers(alloc, cell(draws, side))?;
     format!(in alloc; "get {at}")
+}
+
+fn tint_asked(alloc: Global, draws: &mut Draws, side: u16) -> Result<String, AllocError> {
+    let at = numbers(alloc, cell(draws, side))?;
+    format!(in alloc; "colour {at}")
+}
+
+// The same of a version that may be there.
+fn tint_asked_of(alloc: Global, draws: &mut Draws, side: u16) -> Result<String, AllocError> {
+    let version = draws.below(20);
+    let asked = tint_asked(alloc, draws, side)?;
+    format!(in alloc; "at {version} {asked}")
 }
 
 fn boxed(alloc: Global, word: &str, draws: &mut Draws, side: u16) -> Result<String, AllocError> {

@@ -72,10 +72,21 @@ const KEEPING: &[(u32, Row)] = &[
     (5, (8, 2, 6, 60)),
 ];
 
-// The scripts of a row, and the last versions that its run holds.
+// The last versions that are held, or 0 for all, and rows of runs whose cells have tints.
+const WITH_TINTS: &[(u32, Row)] = &[
+    (0, (4, 256, 256, 87)),
+    (0, (4, 1024, 128, 83)),
+    (0, (4, 64, 256, 88)),
+    (0, (8, 1024, 256, 96)),
+    (2, (4, 256, 256, 75)),
+    (4, (4, 512, 128, 82)),
+];
+
+// The scripts of a row, whether its cells have tints, and the last versions that its run holds.
 #[derive(Drop)]
 struct Drawn {
     plan: Plan,
+    tint: bool,
     keep: u32,
     first: String,
     second: String,
@@ -85,6 +96,7 @@ impl Drawn {
     fn run(&self) -> Run<'_> {
         Run {
             plan: &self.plan,
+            tint: self.tint,
             keep: self.keep,
             first: self.first.as_str(),
             second: self.second.as_str(),
@@ -93,14 +105,33 @@ impl Drawn {
 }
 
 fn draw(alloc: Global, edits: Edits, keep: u32, row: &Row) -> Result<Drawn, Fail> {
-    let &(side, buckets, cap, seed) = row;
+    let &(side, _, _, _) = row;
     let lines = if side < 16 { 40 } else { 20 };
+    draw_lines(alloc, edits, false, keep, lines, row)
+}
+
+// So many lines for the first script, and half as many for the second.
+fn draw_lines(
+    alloc: Global,
+    edits: Edits,
+    tint: bool,
+    keep: u32,
+    lines: u16,
+    row: &Row,
+) -> Result<Drawn, Fail> {
+    let &(side, buckets, cap, seed) = row;
     let first = script(alloc, edits, seed, side, lines)?;
     let second = script(alloc, edits, seed.wrapping_add(100), side, lines / 2)?;
-    let side = Side::new(u32::from(side)).ok_or("a side")?;
+    let store = if tint {
+        u32::from(side) * 4
+    } else {
+        u32::from(side)
+    };
+    let side = Side::new(store).ok_or("a side")?;
     let plan = Plan::even(side, buckets, cap).ok_or("a plan")?;
     Ok(Drawn {
         plan,
+        tint,
         keep,
         first,
         second,
@@ -271,6 +302,58 @@ fn last_versions_are_held_as_plain_ones(rt: HostRuntime) -> Result<(), Fail> {
         assert!(rt; kept.forgotten, "with {last}, number {}", row.3);
         // with one version alone there is none to forget by hand
         assert!(rt; kept.forgot == (*last > 1), "with {last}, number {}", row.3);
+    }
+    Ok(())
+}
+
+// What a run whose cells have tints showed.
+#[derive(Clone, Copy)]
+struct Tinted {
+    same: bool,
+    full: bool,
+    // whether a session was told a tint other than 0 and 1
+    told: bool,
+}
+
+fn show_tints<R: Threads + Wait + Sync>(
+    rt: &R,
+    alloc: Global,
+    keep: u32,
+    row: &Row,
+) -> Result<Tinted, Fail> {
+    let drawn = draw_lines(alloc, Edits::Tinted, true, keep, 40, row)?;
+    let ended = run_program(rt, alloc, drawn.run())?;
+    let same = is_as_plain(alloc, drawn.run(), &ended)?;
+    Ok(Tinted {
+        same,
+        full: is_full(&ended),
+        told: has_tint(ended.told(0)) || has_tint(ended.told(1)),
+    })
+}
+
+fn has_tint(told: &[LineAnswer]) -> bool {
+    for a in told {
+        if is_tint(a.answer) {
+            return true;
+        }
+    }
+    false
+}
+
+fn is_tint(answer: Answer) -> bool {
+    match answer {
+        Answer::Colour(tint) => tint > 1,
+        _ => false,
+    }
+}
+
+#[test]
+fn tints_by_chance_run_as_plain_ones(rt: HostRuntime) -> Result<(), Fail> {
+    for (last, row) in WITH_TINTS {
+        let tinted = show_tints(&rt, rt.alloc(), *last, row)?;
+        assert!(rt; tinted.same, "with {last}, number {}", row.3);
+        assert!(rt; !tinted.full, "with {last}, number {}", row.3);
+        assert!(rt; tinted.told, "with {last}, number {}", row.3);
     }
     Ok(())
 }

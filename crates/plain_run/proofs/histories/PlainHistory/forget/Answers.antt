@@ -11,14 +11,14 @@ returns-then-version-at-clause-runs_on c = tells_newest c.args.self.now c.args.s
 
 pub returns-clause-are : goal.returns-clause-are
 returns-clause-are c =
-    marked_are c.args.self.now (record { alloc = c.args.self.now.alloc; plan = c.args.self.now.plan; models = c.args.self.now.models; records = c.args.self.now.records; marks = c.in_ok-self.field-0; nows = c.args.self.now.nows })
+    marked_are c.args.self.now (record { alloc = c.args.self.now.alloc; plan = c.args.self.now.plan; coloured = c.args.self.now.coloured; models = c.args.self.now.models; records = c.args.self.now.records; marks = c.in_ok-self.field-0; nows = c.args.self.now.nows })
     (record { version = c.args.version; at = c.moment-at.result; session = c.args.session; line = c.args.line }) c.requires.are
     (is_earlier c.args.self.now c.args.version c.moment-at.result c.in_default.ensures.kept c.moment-at.ensures.value (search rules))
-    c.moment-at.ensures.value refl refl refl refl c.in_ok-self.ensures
+    c.moment-at.ensures.value refl refl refl refl refl c.in_ok-self.ensures
 
 pub returns-clause-runs_on : goal.returns-clause-runs_on
 returns-clause-runs_on c =
-    forgot c.args.self.now (record { alloc = c.args.self.now.alloc; plan = c.args.self.now.plan; models = c.args.self.now.models; records = c.args.self.now.records; marks = c.in_ok-self.field-0; nows = c.args.self.now.nows })
+    forgot c.args.self.now (record { alloc = c.args.self.now.alloc; plan = c.args.self.now.plan; coloured = c.args.self.now.coloured; models = c.args.self.now.models; records = c.args.self.now.records; marks = c.in_ok-self.field-0; nows = c.args.self.now.nows })
     (record { version = c.args.version; at = c.moment-at.result; session = c.args.session; line = c.args.line }) c.requires.are
     (is_earlier c.args.self.now c.args.version c.moment-at.result c.in_default.ensures.kept c.moment-at.ensures.value (search rules))
-    c.moment-at.ensures.value refl refl refl refl c.in_ok-self.ensures
+    c.moment-at.ensures.value refl refl refl refl refl c.in_ok-self.ensures

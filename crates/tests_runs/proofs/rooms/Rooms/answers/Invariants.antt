@@ -1,7 +1,7 @@
-use Rattle.std.proofs.Common.{◌≡◌, false}
+use Rattle.std.proofs.Common.{◌≡◌}
 use Rattle.tests_runs.proofs.rooms.Rooms.answers.Given as goal
 
 abbrev pub invariant-loop-line : goal.invariant-loop-line
 invariant-loop-line l =
     (l.plain.plan ≡ l.fn.plain.plan) × (l.plain.models ≡ l.fn.plain.models)
-    × (l.plain.log.coloured ≡ false)
+    × (l.plain.log.coloured ≡ l.initial.plain.log.coloured)
