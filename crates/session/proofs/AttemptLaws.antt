@@ -7,7 +7,7 @@ use Rattle.node_shapes.specs.Tree.{Tree}
 use Rattle.node_shapes.specs.Weights.{number_of_trees}
 use Rattle.node_words.specs.declared.shares.Full.{Full}
 use Rattle.node_words.specs.Held.{SameHeld}
-use Rattle.edit_blocks.specs.Blocks.{GoesBack, MayGoBack}
+use Rattle.edit_blocks.specs.Blocks.{GoesBack}
 use Rattle.table_rule.specs.LogViews.{LogView}
 use Rattle.table_rule.specs.Views.{SeatView}
 use Rattle.node_table.specs.LogTurns.{HasNoTurn}
@@ -25,7 +25,7 @@ use Rattle.hands.specs.Lendable.{StaysLendable}
 use Rattle.session.specs.Attempts.{AnswersAct, FailsToMake, HasPinnedHead, IsLate, IsMaker, MakesNextRoot}
 use Rattle.session.specs.Resting.{IsAtRest}
 use Rattle.session.specs.Seen.{WorldSeen, session_seen}
-use Rattle.session.proofs.CommitLaws.{back_same, few_gained, full_answers, head_stays, held_by, late_answers, may_back}
+use Rattle.session.proofs.CommitLaws.{back_same, few_gained, full_answers, held_by, late_answers}
 use Rattle.session.proofs.KeepLaws.{commits_knows, commits_session, fallen_room, kept_answers, pushed_held}
 use Rattle.session.proofs.SeenLaws.{rests}
 use Rattle.session.proofs.WorkLaws.{answers_after, answers_still, looks_work, works_on}
@@ -63,12 +63,7 @@ same_committed t u v w keep line act root c same r of made =
       session = commits_session keep v.view w.view line act root c made;
     }
 
--- and one that looked at the log
-pub rests_looked : (t u : TableSeen) (v w : PassSeen) → u ≡ t → IsAtRest t v → BelongsTo u w
-    → HasNoTurn w.view → LooksOn v.view w.view → IsAtRest t w
-rests_looked t u v w same r of idle looks =
-    rests t v w r (subst (λ (x : TableSeen). BelongsTo x w) same of) idle looks.sees
-
+-- the same of one that looked at the log
 pub same_looked : (t u : TableSeen) (v w : PassSeen) → u ≡ t → IsAtRest t v → BelongsTo u w
     → LooksOn v.view w.view → SamePass v w
 same_looked t u v w same r of looks =
@@ -96,9 +91,6 @@ module _ (t : WorldSeen) (line : ℕ) (act : Act) (tint : Bool) (models : List C
   )
 
   module _ (root : Option Name) (makes : MakesNextRoot t.table act root v.view w.view) where
-    pub head_made : HasPinnedHead w.view base
-    head_made = head_stays t.table v w base root head stays makes.gains
-
     pub made_room : number_of_trees v.view.held ≤ 3901 → number_of_trees w.view.held ≤ 4095
     made_room few =
         let more = few_gained v.view.held w.view.held root makes.gains in omega arith
@@ -117,14 +109,6 @@ module _ (t : WorldSeen) (line : ℕ) (act : Act) (tint : Bool) (models : List C
         → number_of_trees v.view.held ≤ 3901 → number_of_trees x.held ≤ 4008
     done_room x c made few =
         fallen_room t.keep line act root c v.view.held w.view x makes.gains made (omega arith)
-
-    pub late_back : (x : SeatView) (back : Option Name) → LooksOn w.view x
-        → x.held ≡ w.view.held → RefusesCommit base root (LogFull back) x
-        → MayGoBack x.held back
-    late_back x back looks kept refused =
-        subst (λ (r : Option Name). MayGoBack x.held r) (sym refused.0)
-        (may_back v.view.held w.view.held x.held root makes.gains
-        (held_by w.view.held x.held kept))
 
     pub late_room : (x : SeatView) → x.held ≡ w.view.held
         → number_of_trees v.view.held ≤ 3901 → number_of_trees x.held ≤ 4008

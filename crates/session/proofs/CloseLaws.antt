@@ -22,7 +22,7 @@ use Rattle.reporting.proofs.RootLaws.{log_side}
 use Rattle.table_rule.specs.Knowing as knowing
 use Rattle.table_rule.specs.LogKnowing.{WasFound, numbered_from}
 use Rattle.node_table.specs.Closing as closing
-use Rattle.node_table.specs.Closing.{EndsTable, HadEnough, IsSpare, TellsAll, views_of}
+use Rattle.node_table.specs.Closing.{EndsTable, HadEnough, TellsAll, views_of}
 use Rattle.node_table.specs.Seen.{TableSeen, PassSeen}
 use Rattle.node_table.specs.declared.closed.Closed.{Closed}
 use Rattle.node_table.specs.declared.closed.Root.{Root}
@@ -32,13 +32,6 @@ use Rattle.session.proofs.BeginLaws.{get_there}
 use Rattle.session.specs.Closes.{coloured_as, sessions_seen}
 use Rattle.session.specs.Resting.{IsAtRest}
 use Rattle.session.specs.Seen.{log_seen, session_seen}
-
--- sessions at rest that hold nothing may be handed to their table
-pub all_spare : (w : TableSeen) (passes : List PassSeen) → All (IsAtRest w) passes
-    → All (λ s. s.view.held ≡ []) passes → All (IsSpare w) passes
-all_spare w passes rest none = λ k d lt.
-    let r = rest k d lt in
-    record { of = r.of; turn = r.idle.bucket; log_turn = r.idle.log; held = none k d lt }
 
 all_there : {X : Type 0} (P : X → Type 0) (xs : List X) → ((x : X) → Contains xs x → P x) → All P xs
 all_there P xs each = All-weaker (Contains xs) P each xs (All-contains_itself xs)

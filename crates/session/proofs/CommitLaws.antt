@@ -1,6 +1,5 @@
 -- Roots that come and go back, and what an accepted record leaves.
 use Rattle.std.proofs.Common.{◌≡◌, ◌-◌, ◌≤◌, ◌+◌, ◌^◌, ℕ, suc, true, Option, Some, None, List, [], ◌∷◌, ◌++◌, length, slice_get, refl, sym, ◌∙◌, ap, subst, arith, inl, length-append}
-use Rattle.std.specs.List.{Contains}
 use Rattle.vox_read.specs.Contents.{Content}
 use Rattle.history_model.specs.declared.acts.Act.{Act}
 use Rattle.history_model.specs.declared.histories.Record.{Record}
@@ -20,7 +19,6 @@ use Rattle.node_words.specs.declared.shares.Full.{Full}
 use Rattle.edit_blocks.specs.Blocks.{GoesBack, MayGoBack}
 use Rattle.versions.specs.Listing.{Accepted}
 use Rattle.table_rule.specs.LogTelling.{number_seen, seen_has}
-use Rattle.table_rule.specs.LogViews.{LogView}
 use Rattle.table_rule.specs.Rules.{SameSession}
 use Rattle.table_rule.specs.Views.{SeatView}
 use Rattle.node_table.specs.Seen.{TableSeen, PassSeen}
@@ -33,7 +31,6 @@ use Rattle.version_log.specs.declared.pinned.Pinned.{Pinned}
 use Rattle.session_runs.specs.declared.calls.ActAnswer.TheVariants as acts
 use Rattle.session_runs.specs.Seen.{of_session}
 use Rattle.session_runs.specs.Told.{ActDone}
-use Rattle.hands.specs.Lendable.{StaysLendable}
 use Rattle.session.specs.Attempts.{AnswersAct, FailsToMake, HasPinnedHead, WorksOn}
 use Rattle.session.specs.Resting.{IsAtRest}
 use Rattle.session.specs.Seen.{WorldSeen, session_seen}
@@ -116,29 +113,6 @@ holds_stays v w root n plan models log h held =
           (sym cells)
           (subst (λ (p : Layout). ShowsCells (world_block p.side) (shape_of h.tree) (seen_has v n))
           (sym plan) h.shows);
-    }
-
--- it stays pinned while nothing is seen and more is held
-pub head_stays : (t : TableSeen) (v w : PassSeen) (p : Pinned) (root : Option Name)
-    → HasPinnedHead v.view p → StaysLendable t v w → GetsRoot v.view.held root w.view.held
-    → HasPinnedHead w.view p
-head_stays t v w p root h stays gains =
-    let log : v.view.log ≡ w.view.log = sym stays.log in
-    let k = h.pinned in
-    record {
-      pinned = record {
-        version = k.version;
-        moment = subst (λ (l : LogView). p.moment ≤ length l.seen.records) log k.moment;
-        found = subst (λ (l : LogView). Contains l.found
-            (record { version = p.version; at = p.moment })) log k.found;
-        root = holds_stays v.view w.view p.root p.version stays.same.session.plan
-            stays.same.session.models stays.log k.root (record {
-              weighs = λ f. (let a = k.root.held.weighs f in let b = gains.loses.weighs f in
-                  omega arith);
-            });
-      };
-      head = h.head;
-      now = subst (λ (l : LogView). p.moment ≡ length l.seen.records) log h.now;
     }
 
 -- what was made of it may be committed

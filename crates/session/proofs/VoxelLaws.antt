@@ -180,11 +180,3 @@ module _ (tint : Bool) (held : List Tree) (side : ℕ) (root : Option Name) (b :
       let long = kept_long tint side b cells in
       let few = few_voxels b cells small in
       omega (arith, same, long, few)
-
-  pub told_file : (file : List ℕ)
-      → file ≡ [] ++ model_file (record { size = b.size; voxels = voxels })
-      → ForWorld held side root (λ cells. file ≡ file_kept tint side b cells)
-  told_file file is t block =
-      is
-      ∙ ap (λ (vs : List Voxel). model_file (record { size = b.size; voxels = vs }))
-      (told t block)
