@@ -18,7 +18,7 @@ use Rattle.script_runs.specs.Sessions.{GoesOnWith}
 use Rattle.store_run.specs.Answering.{nothing_to_go_to}
 use Rattle.store_run.specs.Changing.{Changes, Forgets, MakesVersion}
 use Rattle.held_world.specs.declared.worlds.World.{World}
-use Rattle.held_world.specs.Calls.{WorldChanges, WorldForgets, WorldAsks, Answered, CantBeAsked, IsAnswered, CountsLine, record_of, side_of, status_of, is_in, cells_in, faces_in, extent_in, hit_in}
+use Rattle.held_world.specs.Calls.{WorldChanges, WorldForgets, WorldAsks, Answered, CantBeAsked, IsAnswered, CountsLine, record_of, held_side, status_of, is_in, cells_in, faces_in, extent_in, hit_in}
 
 nothing_not_done : (act : Act) → nothing_to_go_to act ≡ answers.Done → ⊥
 nothing_not_done Undo e = cc
@@ -40,7 +40,7 @@ done_or_not old new r _ (Changes.log_full _ all way eq) = inr ((λ e. cc), eq)
 done_or_not old new r _ (Changes.forgotten _ to goes gone eq) = inr ((λ e. cc), eq)
 done_or_not old new r _ (Changes.nothing _ other none eq) = inr (nothing_not_done r.act, eq)
 
-module _ (w v : World) (act : Act) (answer : Answer) (status : ℕ) (fits : FitsWorld (side_of w) w.open.models act)
+module _ (w v : World) (act : Act) (answer : Answer) (status : ℕ) (fits : FitsWorld (held_side w) w.open.models act)
     (eq : status ≡ status_of answer) (plan : v.open.plan ≡ w.open.plan) (models : v.open.models ≡ w.open.models) (line : CountsLine answer w.line v.line)
     (logs : Changes w.open.log (record_of w act) answer v.open.log)
     (makes : answer ≡ answers.Done → MakesVersion w.open.models w.open.log act v.open.log)
@@ -59,7 +59,7 @@ module _ (w v : World) (act : Act) (answer : Answer) (status : ℕ) (fits : Fits
       go (inr (other, stays)) =
           subst (λ (n : ℕ). WorldChanges w act n v) (sym eq) (WorldChanges.refused v answer fits other answered stays)
 
-pub lacks_memory : (w v : World) (act : Act) → FitsWorld (side_of w) w.open.models act → v ≡ w → WorldChanges w act 2 v
+pub lacks_memory : (w v : World) (act : Act) → FitsWorld (held_side w) w.open.models act → v ≡ w → WorldChanges w act 2 v
 lacks_memory w v act fits same = subst (λ (u : World). WorldChanges w act 2 u) (sym same) (WorldChanges.memory fits)
 
 pub forgets : (w v : World) (version : ℕ) (answer : Answer) (status : ℕ)

@@ -36,8 +36,8 @@ use Rattle.held_world.specs.declared.worlds.World.{World}
 use Rattle.held_world.specs.Places.{cell_of}
 
 -- the world's side in cells, which cells a version has, and their tints
-abbrev pub side_of : World → ℕ
-side_of w = 2 ^ w.open.plan.side
+abbrev pub held_side : World → ℕ
+held_side w = 2 ^ w.open.plan.side
 
 abbrev pub cells_at : World → ℕ → Cell → Bool
 cells_at w version = world_has w.open.models w.open.log.records version
@@ -104,13 +104,13 @@ HasItsModel models other = ⊤
 -- lack at any change: nothing here says that it doesn't
 pub data WorldChanges (w : World) (act : Act) : ℕ → World → Type 0 where
   no_model : ¬ HasItsModel w.open.models act → WorldChanges w act 14 w
-  outside : HasItsModel w.open.models act → ¬ FitsWorld (side_of w) w.open.models act
+  outside : HasItsModel w.open.models act → ¬ FitsWorld (held_side w) w.open.models act
       → WorldChanges w act 3 w
-  memory : FitsWorld (side_of w) w.open.models act → WorldChanges w act 2 w
-  made : (v : World) → FitsWorld (side_of w) w.open.models act
+  memory : FitsWorld (held_side w) w.open.models act → WorldChanges w act 2 w
+  made : (v : World) → FitsWorld (held_side w) w.open.models act
       → IsAnswered w act answers.Done v
       → MakesVersion w.open.models w.open.log act v.open.log → WorldChanges w act 0 v
-  refused : (v : World) (answer : Answer) → FitsWorld (side_of w) w.open.models act
+  refused : (v : World) (answer : Answer) → FitsWorld (held_side w) w.open.models act
       → answer ≢ answers.Done → IsAnswered w act answer v → v.open.log ≡ w.open.log
       → WorldChanges w act (status_of answer) v
 
@@ -139,13 +139,13 @@ LiesIn side (Ray from way) = IsInWorld side from
 -- the answer tells what is asked of the version, which can be read
 pub record Answered (w : World) (version : ℕ) (question : Question) (answer : Answer) : Type 0 where
   pub kept : IsKept w.open.log version
-  pub fits : QuestionFits (side_of w) question
-  pub tells : Tells (side_of w) (cells_at w version) (tints_at w version) question answer
+  pub fits : QuestionFits (held_side w) question
+  pub tells : Tells (held_side w) (cells_at w version) (tints_at w version) question answer
 
 -- nothing is wrong with what is asked, and the version can't be read
 pub record CantBeAsked (w : World) (version : ℕ) (question : Question) (status : ℕ)
     : Type 0 where
-  pub fits : QuestionFits (side_of w) question
+  pub fits : QuestionFits (held_side w) question
   pub gone : IsGone w.open.log version status
 
 -- a question of a version: the answer that tells what is asked was written, or nothing was
@@ -153,9 +153,9 @@ pub data WorldAsks (w : World) (version : ℕ) (question : Question) (Written : 
     (Untouched : Type 0) : ℕ → Type 0 where
   told : (answer : Answer) → Answered w version question answer → Written answer
       → WorldAsks w version question Written Untouched 0
-  outside : ¬ LiesIn (side_of w) question → Untouched
+  outside : ¬ LiesIn (held_side w) question → Untouched
       → WorldAsks w version question Written Untouched 3
-  no_way : LiesIn (side_of w) question → ¬ QuestionFits (side_of w) question → Untouched
+  no_way : LiesIn (held_side w) question → ¬ QuestionFits (held_side w) question → Untouched
       → WorldAsks w version question Written Untouched 16
   gone : (status : ℕ) → CantBeAsked w version question status → Untouched
       → WorldAsks w version question Written Untouched status
@@ -184,7 +184,7 @@ hit_in other = None
 -- whether two versions have the same cells
 pub data WorldCompares (w : World) (a b : ℕ) (old new : Bool) : ℕ → Type 0 where
   told : IsKept w.open.log a → IsKept w.open.log b
-      → (IsTrue new ↔ SameWorld (side_of w) (cells_at w a) (cells_at w b))
+      → (IsTrue new ↔ SameWorld (held_side w) (cells_at w a) (cells_at w b))
       → WorldCompares w a b old new 0
   first : (status : ℕ) → IsGone w.open.log a status → new ≡ old
       → WorldCompares w a b old new status
@@ -227,14 +227,14 @@ pub record FitsFile (side : ℕ) (part : Boxed) : Type 0 where
 -- the VOX file of a box of a version
 pub data WorldSaves (w : World) (version : ℕ) (part : Boxed) (old new : List ℕ)
     (before needed : ℕ) : ℕ → Type 0 where
-  made : (status : ℕ) → IsKept w.open.log version → FitsFile (side_of w) part
+  made : (status : ℕ) → IsKept w.open.log version → FitsFile (held_side w) part
       → WritesBytes (file_of_box part (cells_at w version)) old new needed status
       → WorldSaves w version part old new before needed status
-  memory : IsKept w.open.log version → FitsFile (side_of w) part
+  memory : IsKept w.open.log version → FitsFile (held_side w) part
       → IsUntouched old new before needed → WorldSaves w version part old new before needed 2
-  outside : ¬ FitsFile (side_of w) part → IsUntouched old new before needed
+  outside : ¬ FitsFile (held_side w) part → IsUntouched old new before needed
       → WorldSaves w version part old new before needed 3
-  gone : (status : ℕ) → FitsFile (side_of w) part → IsGone w.open.log version status
+  gone : (status : ℕ) → FitsFile (held_side w) part → IsGone w.open.log version status
       → IsUntouched old new before needed → WorldSaves w version part old new before needed status
 
 -- the text of the journal
@@ -257,7 +257,7 @@ pub record AreSlots (asked slots : ℕ) : Type 0 where
 
 -- a world of this side and cap, with the models of these bytes, where nothing was done
 pub record IsBegun (side cap : ℕ) (bytes : List ℕ) (w : World) : Type 0 where
-  pub cells : side_of w ≡ side
+  pub cells : held_side w ≡ side
   pub buckets : w.open.plan.buckets ≡ usual_buckets
   pub slots : AreSlots cap w.open.plan.cap
   pub models : HasModels bytes w.open.models

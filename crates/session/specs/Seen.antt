@@ -47,8 +47,8 @@ pub record HasModels (t : TableSeen) (tint : Bool) (drawn : WorldModels) (models
   pub may : MayTint tint t.plan t.models
 
 -- the side of the world, which is a quarter of its store's where its cells have tints
-abbrev pub side_of : WorldSeen → ℕ
-side_of w = kept_side w.tint (2 ^ w.table.plan.side)
+abbrev pub side_seen : WorldSeen → ℕ
+side_seen w = kept_side w.tint (2 ^ w.table.plan.side)
 
 -- the act lies in the world, its model is one of the world's, and it is tinted exactly where cells
 -- have tints, or it is an undo or a redo

@@ -15,7 +15,7 @@ ghost use Rattle.session_runs.specs.Told.{AskTold, TellsKept};
 ghost use Rattle.world_answers.specs.TellsRoots.{TellsRoot};
 ghost use Rattle.session.specs.Resting.{IsAtRest};
 ghost use Rattle.session.specs.Roots.{TellsHeld};
-ghost use Rattle.session.specs.Seen.{KnowsItself, of_world, session_seen, side_of};
+ghost use Rattle.session.specs.Seen.{KnowsItself, of_world, session_seen, side_seen};
 
 use crate::world::{Session, World};
 use history_model::Question;
@@ -55,7 +55,7 @@ impl<'m> World<'m> {
         requires ready { IsLendable self.now.table s.old }
         requires tint { self.now.tint ≡ true }
         requires root { HoldsRoot s.old.view.held self.now.table.plan.side (option_copied root) }
-        requires fits { QuestionFits (side_of self.now) question }
+        requires fits { QuestionFits (side_seen self.now) question }
         ensures stays { StaysLendable self.now.table s.old s.new }
         ensures tells { TellsHeld true s.old.view.held self.now.table.plan.side
             (option_copied root.entry) question result }
@@ -71,7 +71,7 @@ impl<'m> World<'m> {
     fn tell_root(&self, s: &mut Session, root: Option<&Share>, question: Question) -> Answer
         requires ready { IsLendable self.now.table s.old }
         requires root { HoldsRoot s.old.view.held self.now.table.plan.side (option_copied root) }
-        requires fits { QuestionFits (side_of self.now) question }
+        requires fits { QuestionFits (side_seen self.now) question }
         ensures stays { StaysLendable self.now.table s.old s.new }
         ensures tells { TellsHeld self.now.tint s.old.view.held self.now.table.plan.side
             (option_copied root.entry) question result }
@@ -90,7 +90,7 @@ impl<'m> World<'m> {
     pub fn ask(&self, s: &mut Session, p: &Pinned, question: &Question) -> Answer
         requires rest { IsAtRest self.now.table s.old }
         requires pinned { IsPinned s.old.view p.now }
-        requires fits { QuestionFits (side_of self.now) question.now }
+        requires fits { QuestionFits (side_seen self.now) question.now }
         ensures rest { IsAtRest self.now.table s.new }
         ensures same { SamePass s.old s.new }
         ensures held { s.new.view.held ≡ s.old.view.held }
@@ -116,7 +116,7 @@ impl<'m> World<'m> {
         steps: &mut Steps<L>,
     ) -> Result<AskedAt, PinRefused>
         requires rest { IsAtRest self.now.table s.old }
-        requires fits { QuestionFits (side_of self.now) question }
+        requires fits { QuestionFits (side_seen self.now) question }
         requires room { number_of_trees s.old.view.held ≤ 3900 }
         ensures rest { IsAtRest self.now.table s.new }
         ensures same { SamePass s.old s.new }

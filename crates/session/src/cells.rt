@@ -10,7 +10,7 @@ ghost use Rattle.version_log.specs.declared.pinned.Pinned.{Pinned};
 ghost use Rattle.version_log.specs.Pins.{IsPinned};
 ghost use Rattle.session.specs.Resting.{IsAtRest};
 ghost use Rattle.session.specs.Roots.{file_kept, voxels_kept};
-ghost use Rattle.session.specs.Seen.{KnowsItself, session_seen, side_of};
+ghost use Rattle.session.specs.Seen.{KnowsItself, session_seen, side_seen};
 
 use crate::world::{Session, World};
 use colour::tints_in;
@@ -35,7 +35,7 @@ impl<'m> World<'m> {
         requires ready { IsLendable self.now.table s.old }
         requires tint { self.now.tint ≡ true }
         requires root { HoldsRoot s.old.view.held self.now.table.plan.side (option_copied root) }
-        requires inside { FitsAt part.at part.size (side_of self.now) }
+        requires inside { FitsAt part.at part.size (side_seen self.now) }
         requires small { (part.size.x ≤ 256) × (part.size.y ≤ 256) × (part.size.z ≤ 256) }
         ensures stays { StaysLendable self.now.table s.old s.new }
         ensures voxels { OnOk result
@@ -61,7 +61,7 @@ impl<'m> World<'m> {
     ) -> Result<(), Memory>
         requires ready { IsLendable self.now.table s.old }
         requires root { HoldsRoot s.old.view.held self.now.table.plan.side (option_copied root) }
-        requires inside { FitsAt part.at part.size (side_of self.now) }
+        requires inside { FitsAt part.at part.size (side_seen self.now) }
         requires small { (part.size.x ≤ 256) × (part.size.y ≤ 256) × (part.size.z ≤ 256) }
         ensures stays { StaysLendable self.now.table s.old s.new }
         ensures voxels { OnOk result
@@ -89,7 +89,7 @@ impl<'m> World<'m> {
     ) -> Result<Vec<u8>, Memory>
         requires ready { IsLendable self.now.table s.old }
         requires root { HoldsRoot s.old.view.held self.now.table.plan.side (option_copied root) }
-        requires inside { FitsAt part.at part.size (side_of self.now) }
+        requires inside { FitsAt part.at part.size (side_seen self.now) }
         requires small { (part.size.x ≤ 256) × (part.size.y ≤ 256) × (part.size.z ≤ 256) }
         ensures stays { StaysLendable self.now.table s.old s.new }
         ensures file { IfOk result
@@ -116,7 +116,7 @@ impl<'m> World<'m> {
     ) -> Result<(), Memory>
         requires rest { IsAtRest self.now.table s.old }
         requires pinned { IsPinned s.old.view p.now }
-        requires inside { FitsAt part.at part.size (side_of self.now) }
+        requires inside { FitsAt part.at part.size (side_seen self.now) }
         requires small { (part.size.x ≤ 256) × (part.size.y ≤ 256) × (part.size.z ≤ 256) }
         ensures rest { IsAtRest self.now.table s.new }
         ensures same { SamePass s.old s.new }

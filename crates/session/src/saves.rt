@@ -17,7 +17,7 @@ ghost use Rattle.session_runs.specs.Told.{SaveTold};
 ghost use Rattle.session.specs.Resting.{IsAtRest};
 ghost use Rattle.session.specs.Roots.{file_kept};
 ghost use Rattle.session.specs.Saves.{AddsPin, HoldsPins, cells_counted, saved_told};
-ghost use Rattle.session.specs.Seen.{KnowsItself, of_world, session_seen, side_of};
+ghost use Rattle.session.specs.Seen.{KnowsItself, of_world, session_seen, side_seen};
 
 use crate::world::{Session, World};
 use history_model::Question;
@@ -53,7 +53,7 @@ impl<'m> World<'m> {
     fn count_pinned(&self, s: &mut Session, p: &Pinned, part: Boxed) -> u64
         requires rest { IsAtRest self.now.table s.old }
         requires pinned { IsPinned s.old.view p.now }
-        requires fits { FitsAt part.at part.size (side_of self.now) }
+        requires fits { FitsAt part.at part.size (side_seen self.now) }
         ensures rest { IsAtRest self.now.table s.new }
         ensures same { SamePass s.old s.new }
         ensures held { s.new.view.held ≡ s.old.view.held }
@@ -76,7 +76,7 @@ impl<'m> World<'m> {
         steps: &mut Steps<L>,
     ) -> Result<PinnedSave, PinRefused>
         requires rest { IsAtRest self.now.table s.old }
-        requires fits { FitsAt part.at part.size (side_of self.now) }
+        requires fits { FitsAt part.at part.size (side_seen self.now) }
         requires room { number_of_trees s.old.view.held ≤ 3900 }
         ensures rest { IsAtRest self.now.table s.new }
         ensures same { SamePass s.old s.new }
@@ -116,7 +116,7 @@ impl<'m> World<'m> {
         requires ready { IsLendable self.now.table s.old }
         requires holds { HoldsPins self.now.table s.old.view saves.now }
         requires there { k < length saves.now }
-        requires inside { FitsAt part.at part.size (side_of self.now) }
+        requires inside { FitsAt part.at part.size (side_seen self.now) }
         requires small { (part.size.x ≤ 256) × (part.size.y ≤ 256) × (part.size.z ≤ 256) }
         ensures stays { StaysLendable self.now.table s.old s.new }
         ensures seen { seen_of s.new.view ≡ seen_of s.old.view }

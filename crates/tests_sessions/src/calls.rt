@@ -3,7 +3,7 @@ ghost use Rattle.std.specs.Prelude.{◌≡◌, ◌<◌};
 ghost use Rattle.vw_cell.specs.Places.{FitsAt};
 ghost use Rattle.version_log.specs.Pins.{IsPinned};
 ghost use Rattle.session.specs.Resting.{IsAtRest};
-ghost use Rattle.session.specs.Seen.{side_of};
+ghost use Rattle.session.specs.Seen.{side_seen};
 ghost use Rattle.tests_sessions.specs.Free.{IsFree};
 
 use crate::worlds::{cell_within, within};
@@ -112,7 +112,7 @@ fn counts_pinned<G: Gate>(
 ) -> (u64, u64)
     requires rest { IsAtRest world.now.table s.old }
     requires pinned { IsPinned s.old.view p.now }
-    requires fits { FitsAt part.at part.size (side_of world.now) }
+    requires fits { FitsAt part.at part.size (side_seen world.now) }
     ensures rest { IsAtRest world.now.table s.new }
     ensures pinned { IsPinned s.new.view p.now }
     ensures held { s.new.view.held ≡ s.old.view.held }
@@ -141,7 +141,7 @@ fn counts<R: Wait, G: Gate, L: Ledger>(
     steps: &mut Steps<L>,
 ) -> Told
     requires free { IsFree world.now s.old }
-    requires fits { FitsAt part.at part.size (side_of world.now) }
+    requires fits { FitsAt part.at part.size (side_seen world.now) }
     ensures free { IsFree world.now s.new }
 {
     match world.pin(rt, s, version, steps) {

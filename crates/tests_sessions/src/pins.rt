@@ -3,7 +3,7 @@ ghost use Rattle.std.specs.Prelude.{◌≡◌, ◌<◌, ◌≤◌, All};
 ghost use Rattle.vw_cell.specs.Places.{FitsAt};
 ghost use Rattle.version_log.specs.Pins.{IsPinned};
 ghost use Rattle.session.specs.Resting.{IsAtRest};
-ghost use Rattle.session.specs.Seen.{side_of};
+ghost use Rattle.session.specs.Seen.{side_seen};
 ghost use Rattle.tests_sessions.specs.Free.{IsFree};
 
 use crate::calls::Call::{Act, Count, Forget};
@@ -63,7 +63,7 @@ pub fn lists(
 ) -> bool
     requires rest { IsAtRest world.now.table s.old }
     requires pinned { IsPinned s.old.view p.now }
-    requires fits { FitsAt part.at part.size (side_of world.now) }
+    requires fits { FitsAt part.at part.size (side_seen world.now) }
     ensures rest { IsAtRest world.now.table s.new }
     ensures pinned { IsPinned s.new.view p.now }
     ensures held { s.new.view.held ≡ s.old.view.held }
@@ -82,7 +82,7 @@ pub fn lists(
 fn is_kept(alloc: Global, world: &World<'_>, s: &mut Session, p: &Pinned, part: Boxed) -> bool
     requires rest { IsAtRest world.now.table s.old }
     requires pinned { IsPinned s.old.view p.now }
-    requires fits { FitsAt part.at part.size (side_of world.now) }
+    requires fits { FitsAt part.at part.size (side_seen world.now) }
     ensures rest { IsAtRest world.now.table s.new }
     ensures pinned { IsPinned s.new.view p.now }
     ensures held { s.new.view.held ≡ s.old.view.held }
@@ -109,7 +109,7 @@ fn outlives<R: Wait, L: Ledger>(
     requires some { 0 < L.parts }
     requires first { IsFree world.now a.old }
     requires second { IsFree world.now b.old }
-    requires fits { FitsAt part.at part.size (side_of world.now) }
+    requires fits { FitsAt part.at part.size (side_seen world.now) }
     ensures first { IsFree world.now a.new }
     ensures second { IsFree world.now b.new }
 {

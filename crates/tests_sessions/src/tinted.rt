@@ -1,7 +1,7 @@
 //! Worlds whose cells have tints: their acts, the colours of versions, and what is listed of them.
 ghost use Rattle.std.specs.Prelude.{◌≡◌, ◌<◌, All};
 ghost use Rattle.vw_cell.specs.Places.{FitsAt};
-ghost use Rattle.session.specs.Seen.{side_of};
+ghost use Rattle.session.specs.Seen.{side_seen};
 ghost use Rattle.tests_sessions.specs.Free.{IsFree};
 
 use crate::calls::Call::{Act, Colour, Count, Same};
@@ -144,7 +144,7 @@ fn lists_version<R: Wait, L: Ledger>(
     requires parts { blank.parts ≡ L.parts }
     requires some { 0 < L.parts }
     requires free { IsFree world.now s.old }
-    requires fits { FitsAt part.at part.size (side_of world.now) }
+    requires fits { FitsAt part.at part.size (side_seen world.now) }
     ensures free { IsFree world.now s.new }
 {
     let mut steps: Steps<L> = Steps::start(blank);

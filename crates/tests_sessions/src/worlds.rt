@@ -2,7 +2,7 @@
 ghost use Rattle.std.specs.Prelude.{◌≤◌, All, IfOk, IfSome};
 ghost use Rattle.vw_cell.specs.Places.{FitsAt, IsInWorld};
 ghost use Rattle.vox_read.specs.Contents.{AreModels};
-ghost use Rattle.session.specs.Seen.{side_of};
+ghost use Rattle.session.specs.Seen.{side_seen};
 ghost use Rattle.tests_sessions.specs.Free.{IsFree};
 
 use history_model::{Act, TintAct};
@@ -99,7 +99,7 @@ pub fn world_begun<'m>(
 
 /// The box, where it lies in the world.
 pub fn within(world: &World<'_>, part: Boxed) -> Option<Boxed>
-    ensures { IfSome result (λ b. FitsAt b.at b.size (side_of world.now)) }
+    ensures { IfSome result (λ b. FitsAt b.at b.size (side_seen world.now)) }
 {
     if world.fits(&Act::Fill(part)) {
         return Some(part);
@@ -112,7 +112,7 @@ pub fn within(world: &World<'_>, part: Boxed) -> Option<Boxed>
 
 /// The cell, where it lies in the world.
 pub fn cell_within(world: &World<'_>, cell: Cell) -> Option<Cell>
-    ensures { IfSome result (λ c. IsInWorld (side_of world.now) c) }
+    ensures { IfSome result (λ c. IsInWorld (side_seen world.now) c) }
 {
     let part = Boxed {
         at: cell,

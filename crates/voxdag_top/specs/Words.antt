@@ -43,13 +43,13 @@ plan_for side (Some buckets) cap =
 
 -- the exponent of the world's side that a run's words tell: 8, that of a side of 256, where they
 -- give none
-abbrev pub side_of : Option ℕ → Option ℕ
-side_of None = None
-side_of (Some n) = exponent_of n
+abbrev pub side_read : Option ℕ → Option ℕ
+side_read None = None
+side_read (Some n) = exponent_of n
 
 abbrev pub side_told : Option (List ℕ) → Option ℕ
 side_told None = Some 8
-side_told (Some word) = side_of (short_number word)
+side_told (Some word) = side_read (short_number word)
 
 -- the exponent of the side of the store that keeps a world of this side, whose cells have tints or
 -- not: with tints the store has four times the side, so that the world's is 1,024 at most

@@ -4,7 +4,7 @@ ghost use Rattle.std.specs.Option.{option_map};
 ghost use Rattle.command_line.specs.Texts.{texts};
 ghost use Rattle.command_line.specs.Parts.{is_operand};
 ghost use Rattle.script_files.specs.Commands.{scripts_asked};
-ghost use Rattle.voxdag_top.specs.Words.{request_of, run_texts, line_of, named_request, counted, run_asked, run_planned, demo_of, flood_words, scene_words, dag_words, look_words, audit_words, audit_unjudged, audit_of, audit_by, audit_judged, audit_kept, buckets_of, is_number_of_scripts, demo_words, exponent_of, short_number, keep_of, keep_told, plan_for, side_of, side_told, store_of, store_told, cap_told, plan_with, plan_by, plan_told, plan_in};
+ghost use Rattle.voxdag_top.specs.Words.{request_of, run_texts, line_of, named_request, counted, run_asked, run_planned, demo_of, flood_words, scene_words, dag_words, look_words, audit_words, audit_unjudged, audit_of, audit_by, audit_judged, audit_kept, buckets_of, is_number_of_scripts, demo_words, exponent_of, short_number, keep_of, keep_told, plan_for, side_read, side_told, store_of, store_told, cap_told, plan_with, plan_by, plan_told, plan_in};
 
 use crate::questions::question_in;
 use command_line::{Line, are_of_a_run, is_operand, split};
@@ -387,7 +387,7 @@ fn side_told(word: Option<&str>) -> Option<Side>
 {
     match word {
         None => side_with(256),
-        Some(word) => side_of(word),
+        Some(word) => side_read(word),
     }
 }
 
@@ -497,8 +497,8 @@ fn short_number(word: &str) -> Option<u32>
 }
 
 // The side that a word spells.
-fn side_of(word: &str) -> Option<Side>
-    ensures { result ≡ side_of (short_number word.now) }
+fn side_read(word: &str) -> Option<Side>
+    ensures { result ≡ side_read (short_number word.now) }
 {
     match short_number(word) {
         Some(n) => side_with(n),

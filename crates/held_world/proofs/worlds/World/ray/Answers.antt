@@ -4,7 +4,7 @@ use Rattle.vw_cell.specs.declared.cells.Cell.{Cell}
 use Rattle.history_model.specs.Ways.{Heading, IsHeading, heading_of}
 use Rattle.history_model.specs.declared.questions.Question.TheVariants as questions
 use Rattle.transcript.specs.declared.answers.Answer.TheVariants as answers
-use Rattle.held_world.specs.Calls.{WorldAsks, side_of, cells_at, tints_at}
+use Rattle.held_world.specs.Calls.{WorldAsks, held_side, cells_at, tints_at}
 use Rattle.held_world.specs.Places.{cell_of}
 use Rattle.held_world.proofs.Changing.{asked, not_asked, tells_hit}
 use Rattle.held_world.proofs.Fitting.{cell_leaves, cell_lies, same_steps}
@@ -25,7 +25,7 @@ returns-in-Ok-clause-asks c =
     asked c.args.self.now c.args.version (questions.Ray c.in-Some.from c.in-Some-new.way)
     (questions.Ray (cell_of c.args.from) (heading_of c.args.dx c.args.dy c.args.dz)) _ _
     (λ i. questions.Ray (c.in-Some.ensures.value i) (way i)) c.in-Ok.answer c.in-Ok.ensures.told (
-      tells_hit (side_of c.args.self.now) (cells_at c.args.self.now c.args.version)
+      tells_hit (held_side c.args.self.now) (cells_at c.args.self.now c.args.version)
           (tints_at c.args.self.now c.args.version) c.in-Some.from c.in-Some-new.way c.in-Ok.answer c.in-Ok.ensures.told.tells
           ∙ ap (λ (o : Option Cell). answers.Hit o) (sym c.hit_in.ensures ∙ sym c.put_hit.ensures.found),
       c.put_hit.ensures.none,
