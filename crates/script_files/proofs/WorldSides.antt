@@ -1,5 +1,5 @@
 -- The side of the world that a store of tints keeps.
-use Rattle.std.proofs.Common.{◌≡◌, ℕ, ◌+◌, ◌-◌, ◌/◌, ◌≤◌, ◌^◌, Bool, true, List, Option, Some, None, Ok, ap, sym, subst, ◌∙◌, arith}
+use Rattle.std.proofs.Common.{◌≡◌, ℕ, ◌-◌, ◌/◌, ◌≤◌, ◌^◌, Bool, true, List, Option, Some, None, Ok, ap, sym, subst, ◌∙◌, arith}
 use Rattle.std.specs.Prelude.{IfSome}
 use Rattle.colour.proofs.Quarters.{quarter_is}
 use Rattle.vox_scene.proofs.Ends.{same_exponent}

@@ -1,4 +1,4 @@
-use Rattle.std.proofs.Common.{rules, ◌≡◌, Ok}
+use Rattle.std.proofs.Common.{rules, Ok}
 use Rattle.vox_read.specs.Files.{ReadsModels}
 use Rattle.script_files.specs.Audits.{IsJournalOf}
 use Rattle.dag_answers.specs.Histories.{RefusesHistory}
