@@ -1,4 +1,4 @@
-use Rattle.std.proofs.Common.{◌≡◌, ◌∙◌, Some, sym, ap, subst, arith}
+use Rattle.std.proofs.Common.{◌∙◌, Some, sym, ap, subst, arith}
 use Rattle.node_shapes.specs.declared.names.Name.{Name}
 use Rattle.node_words.specs.Held.{HoldsName}
 use Rattle.node_words.proofs.HeldLaws.{came_and_went, gains_held, gains_holds, held_reached, holds_reaches}

@@ -1,6 +1,5 @@
-use Rattle.std.proofs.Common.{refl, ◌∙◌, arith}
-use Rattle.node_words.proofs.HeldLaws.{same_on}
-use Rattle.tests_table.proofs.Giving.{same_itself, still_few}
+use Rattle.std.proofs.Common.{refl, arith}
+use Rattle.tests_table.proofs.Giving.{same_itself}
 use Rattle.tests_table.proofs.twins.are_alike.Goals as goal
 
 pub loop-bits-init : goal.loop-bits-init

@@ -1,6 +1,5 @@
-use Rattle.std.proofs.Common.{List, ◌≡◌, ◌≤◌, ◌∙◌, ap, subst, sym, arith}
+use Rattle.std.proofs.Common.{◌∙◌, ap, arith}
 use Rattle.node_table.specs.Seen.{PassSeen}
-use Rattle.node_shapes.specs.Weights.{number_of_trees}
 use Rattle.tests_table.proofs.Giving.{few_held}
 use Rattle.tests_table.proofs.worlds.counted_over.Goals as goal
 
