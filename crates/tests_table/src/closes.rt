@@ -1,5 +1,5 @@
 //! What closing a table gives, and what comes back where it is refused.
-ghost use Rattle.std.specs.Prelude.{◌≡◌, All, IfOk};
+ghost use Rattle.std.specs.Prelude.{All, IfOk};
 ghost use Rattle.node_table.specs.Closing.{IsSpare};
 
 use crate::calls::{begun, ended};

@@ -3,7 +3,7 @@ ghost use Rattle.std.specs.Prelude.{◌≡◌, ◌≢◌, ◌≤◌, ◌<◌, �
 ghost use Rattle.node_shapes.specs.Tree.{Tree, root_of};
 ghost use Rattle.node_shapes.specs.Weights.{number_of_trees};
 ghost use Rattle.node_shapes.specs.declared.names.Name.{Name};
-ghost use Rattle.node_words.specs.Gathering.{Loses, MayHold};
+ghost use Rattle.node_words.specs.Gathering.{MayHold};
 ghost use Rattle.node_words.specs.Held.{ForHeld, Gains, HoldsName, SameHeld, name_in};
 ghost use Rattle.node_table.specs.Closing.{IsSpare};
 ghost use Rattle.node_table.specs.Seen.{BelongsTo};

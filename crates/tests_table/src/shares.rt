@@ -1,5 +1,5 @@
 //! Shares of a leaf come and go one by one.
-ghost use Rattle.std.specs.Prelude.{◌≡◌, ◌≢◌, ◌≤◌, ◌<◌, ◌+◌, None, [], All};
+ghost use Rattle.std.specs.Prelude.{◌≡◌, ◌≤◌, ◌<◌, None, All};
 ghost use Rattle.node_shapes.specs.Weights.{number_of_trees};
 ghost use Rattle.node_words.specs.Held.{HoldsName, SameHeld};
 ghost use Rattle.node_table.specs.Seen.{BelongsTo};

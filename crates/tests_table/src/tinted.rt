@@ -1,5 +1,5 @@
 //! A world with tints over a pass: edits are made and a tint is told as over any store.
-ghost use Rattle.std.specs.Prelude.{◌≡◌, ◌≤◌, ◌<◌, ◌/◌, ◌^◌, true, [], All, IsTrue, IfSome, option_copied};
+ghost use Rattle.std.specs.Prelude.{◌≡◌, ◌≤◌, ◌<◌, ◌/◌, ◌^◌, true, All, IsTrue, IfSome, option_copied};
 ghost use Rattle.vw_cell.specs.Places.{IsInWorld};
 ghost use Rattle.vox_read.specs.Contents.{AreModels};
 ghost use Rattle.block_walk.specs.Roots.{HoldsRoot};

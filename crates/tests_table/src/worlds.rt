@@ -1,9 +1,8 @@
 //! A world over a pass: an edit and a question run as over any store.
-ghost use Rattle.std.specs.Prelude.{◌≡◌, ◌≤◌, ◌<◌, ◌^◌, None, [], All};
+ghost use Rattle.std.specs.Prelude.{◌≡◌, ◌≤◌, ◌<◌, ◌^◌, None, All};
 ghost use Rattle.vw_cell.specs.Places.{FitsAt};
 ghost use Rattle.node_shapes.specs.Weights.{number_of_trees};
 ghost use Rattle.node_words.specs.Held.{SameHeld};
-ghost use Rattle.node_table.specs.Seen.{BelongsTo};
 ghost use Rattle.node_table.specs.Closing.{IsSpare};
 
 use crate::calls::{begun, end, ended};
