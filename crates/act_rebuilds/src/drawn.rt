@@ -40,7 +40,7 @@ impl<'m> DrawnModel<'m> {
 
 /// A model with its tints as stencils, drawn once for all of its stamps. Contracts see the model.
 #[derive(Drop)]
-pub struct TintedModel<'m> {
+pub(crate) struct TintedModel<'m> {
     // Whose tints they are: what a stamp means.
     model: &'m Model,
     pub(crate) stencil: TintStencil,

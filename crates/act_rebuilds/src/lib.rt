@@ -11,7 +11,7 @@ mod rebuild;
 mod tinted;
 
 pub use colour::TintStencil;
-pub use drawn::{DrawnModel, DrawnModels, TintedModel, draw_models};
+pub use drawn::{DrawnModel, DrawnModels, draw_models};
 pub use edit_copy::{CopyTask, copy_may_repeat, rebuild_copy_with};
 pub use edit_ops::{BallTask, BoxTask, box_may_repeat, rebuild_ball_with, rebuild_box_with};
 pub use edit_stamp::{Stencil, rebuild_stamp};
