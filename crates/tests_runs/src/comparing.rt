@@ -5,9 +5,6 @@ ghost use Rattle.history_model.specs.Logs.{store_exponent};
 ghost use Rattle.script.specs.Fitting.{CommandFits};
 ghost use Rattle.vox_read.specs.Contents.{AreModels};
 
-use crate::reports::tell_end;
-use crate::rooms::Rooms;
-use crate::saves::has_saved;
 use history_model::journal_text;
 use node_words::Plan;
 use plain_run::PlainRun;
@@ -18,6 +15,7 @@ use std::test::Fail;
 use std::thread::Threads;
 use test_calls::voxdag_gated;
 use test_gates::{Meeting, Place};
+use test_scripts::{Rooms, has_saved, tell_end};
 use transcript::{LineAnswer, read_transcript, transcript_text};
 use vox_read::{Models, read_models};
 use vw_cell::Side;

@@ -4,16 +4,4 @@
 #[cfg(test)]
 mod comparing;
 #[cfg(test)]
-mod contents;
-#[cfg(test)]
-mod reports;
-#[cfg(test)]
-mod rooms;
-#[cfg(test)]
-mod saves;
-#[cfg(test)]
-mod scripts;
-#[cfg(test)]
 mod tests;
-#[cfg(test)]
-mod worlds;

@@ -1,10 +1,10 @@
 use crate::comparing::{Ended, Run, is_as_plain, run_program};
-use crate::scripts::{Edits, script};
 use node_words::Plan;
 use std::alloc::Global;
 use std::sync::Wait;
 use std::test::Fail;
 use std::thread::Threads;
+use test_scripts::{Edits, script};
 use transcript::{Answer, LineAnswer};
 use vw_cell::Side;
 

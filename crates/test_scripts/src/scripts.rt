@@ -12,7 +12,7 @@ const MODEL: Cell = Cell { x: 3, y: 2, z: 2 };
 
 /// What the edits of a script are, and whether it has saves.
 #[derive(Clone, Copy)]
-pub(crate) enum Edits {
+pub enum Edits {
     Any,
     /// The same, where each fourth line is a save.
     AnyAndSaves,
@@ -26,7 +26,7 @@ pub(crate) enum Edits {
 }
 
 /// A script of so many lines for a world of this side.
-pub(crate) fn script(
+pub fn script(
     alloc: Global,
     edits: Edits,
     seed: u64,

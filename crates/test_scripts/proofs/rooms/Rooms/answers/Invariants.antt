@@ -1,5 +1,5 @@
 use Rattle.std.proofs.Common.{◌≡◌}
-use Rattle.tests_runs.proofs.rooms.Rooms.answers.Given as goal
+use Rattle.test_scripts.proofs.rooms.Rooms.answers.Given as goal
 
 abbrev pub invariant-loop-line : goal.invariant-loop-line
 invariant-loop-line l =

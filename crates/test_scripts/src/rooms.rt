@@ -19,7 +19,7 @@ use transcript::{Answer, LineAnswer};
 /// The buckets and slots of a store, how many last versions alone it holds, or 0 for all, and what
 /// each version of a run contains.
 #[derive(Drop)]
-pub(crate) struct Rooms {
+pub struct Rooms {
     alloc: Global,
     plan: Plan,
     keep: u32,
@@ -27,7 +27,7 @@ pub(crate) struct Rooms {
 }
 
 impl Rooms {
-    pub(crate) fn new(alloc: Global, plan: &Plan, keep: u32) -> Rooms {
+    pub fn new(alloc: Global, plan: &Plan, keep: u32) -> Rooms {
         Rooms {
             alloc,
             plan: *plan,
@@ -40,7 +40,7 @@ impl Rooms {
     ///
     /// An edit is refused exactly where some bucket can't hold all that is alive when it is done;
     /// which of these buckets is named is left to the run.
-    pub(crate) fn answers(
+    pub fn answers(
         &mut self,
         plain: &mut PlainRun<'_>,
         session: u16,

@@ -1,5 +1,5 @@
 use Rattle.std.proofs.Common.{◌+◌, ◌*◌}
-use Rattle.tests_runs.proofs.contents.+contents.Given as goal
+use Rattle.test_scripts.proofs.contents.+contents.Given as goal
 
 abbrev pub decreases-content_of : goal.decreases-content_of
 decreases-content_of l = 2 * l.level + 1

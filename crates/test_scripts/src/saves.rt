@@ -8,7 +8,7 @@ use vw_cell::Cell;
 use vw_io::MemoryShelf;
 
 /// Whether the shelf has the file of each save that the plain run accepted.
-pub(crate) fn has_saved(
+pub fn has_saved(
     alloc: Global,
     run: &PlainRun<'_>,
     shelf: &MemoryShelf,

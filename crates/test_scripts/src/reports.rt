@@ -8,14 +8,14 @@ use std::alloc::{AllocError, Global};
 
 /// What the run tells at its end.
 #[derive(Drop)]
-pub(crate) struct Told {
-    pub(crate) report: String,
+pub struct Told {
+    pub report: String,
     /// How many different contents there are of all levels.
-    pub(crate) nodes: u32,
+    pub nodes: u32,
 }
 
 /// The report of a run over a world of this side.
-pub(crate) fn tell_end(
+pub fn tell_end(
     alloc: Global,
     run: &PlainRun<'_>,
     plan: &Plan,
