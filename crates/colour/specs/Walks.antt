@@ -12,6 +12,7 @@ use Rattle.node_words.proofs.HeldLaws.{Keeps}
 use Rattle.edit_cells.specs.Tasks.{Making, Lasts, OneEach}
 use Rattle.edit_cells.specs.Paints.{IsOld, Paints, old_lasts, paints_last}
 use Rattle.history_model.specs.Worlds.{World}
+use Rattle.history_model.specs.Tints.{Tints}
 use Rattle.history_model.specs.Planes.{tells, plane_at}
 use Rattle.history_model.specs.Parts.{in_cube, after_parts}
 use Rattle.colour.specs.declared.walks.TintTask.{TintTask}
@@ -156,3 +157,7 @@ pub record MakesPlanes {P T : Type 0} (task_of : P → ℕ → Option Name → T
 -- the cells of a test get a tint: they are set in the planes where it tells
 abbrev pub fill_edit : (Cell → Bool) → ℕ → CellEdit
 fill_edit test tint k p v = if test p then tells k tint else v
+
+-- a cell that has ink gets its tint: each plane shows what it tells, whatever it was before
+abbrev pub ink_edit : Tints → CellEdit
+ink_edit ink k p v = if tells 0 (ink p) then tells k (ink p) else v

@@ -3,9 +3,10 @@ use Rattle.std.proofs.Common.{◌≡◌, ℕ, zero, suc, ◌+◌, ◌-◌, ◌*�
 use Rattle.std.specs.Prelude.{if◌then◌else◌, ◌&&◌, ◌||◌, not, slice_index, bit_and}
 use Rattle.std.specs.Int.{bit_at}
 use Rattle.std.proofs.lemmas.Nat.Bits.{bit_at_and, bit_at-lt}
-use Rattle.std.proofs.lemmas.Bool.{cases_eq}
+use Rattle.std.proofs.lemmas.Bool.{cases_eq, false≢true}
 use Rattle.vw_cell.specs.declared.cells.Cell.{Cell}
 use Rattle.vw_cell.specs.declared.blocks.Block.{Block}
+use Rattle.vw_cell.specs.declared.boxes.Boxed.{Boxed}
 use Rattle.vw_cell.specs.Counts.{cell_at}
 use Rattle.vw_cell.specs.Places.{block_side, HoldsBlock, is_in_box, IsInBox, Meets, octant_of, half_x, half_y, half_z}
 use Rattle.vw_cell.specs.Tests.{is_in_box_tells, is_in_box_holds}
@@ -23,7 +24,7 @@ use Rattle.edit_cells.proofs.WorldPaints.{world_paints}
 use Rattle.std.specs.List.{slice_get}
 use Rattle.history_model.specs.Worlds.{box_at, less, is_in_stamp, edited}
 use Rattle.history_model.specs.declared.acts.Act.TheVariants.{Stamp}
-use Rattle.edit_stamp.specs.Drawings.{first_leaf, last_leaf, AllWords, AllDrawn, Drawn, drawn_cells, IsWord, Draws, leaves_of}
+use Rattle.edit_stamp.specs.Drawings.{first_leaf, last_leaf, AllWords, SameInside, IsSameWord, IsPart, AllDrawn, Agree, Drawn, drawn_cells, IsWord, Draws, leaves_of}
 use Rattle.edit_stamp.specs.Stamps.{is_stamped, MakesStamp, stamped, unstamped, inked}
 
 both_when : (a v w : Bool) → (a ≡ true → v ≡ w) → (a && v) ≡ (a && w)
@@ -221,3 +222,107 @@ scan_drawn drawn place at side set size items from to want es ei ex ey ez words 
     let d : Drawn = record { size = size; words = items } in
     let e : d ≡ drawn = ap (λ (s : Cell). record { size = s; words = items }) es ∙ ap (λ (i : List ℕ). record { size = drawn.size; words = i }) ei in
     subst (λ (v : Drawn). AllDrawn v place at side set) e (all_drawn d place at side set from to want ex ey ez words bits)
+
+-- one more number, of a row or a layer
+pub one_more : (P : ℕ → Type 0) (from k n : ℕ) → ((m : ℕ) → from ≤ m → m < k → P m) → P k
+    → from ≤ n → n < k + 1 → P n
+one_more P from k n before last le lt = elim (cases_eq n k) [
+  | inl q ↦ subst P (sym q) last
+  | inr ne ↦ before n le (omega arith)
+]
+
+-- words that are the same, or the same where the mask of the box is set
+masked_bit : (p q s : ℕ) → p < 2 → q < 2 → s < 2 → (s == 1) ≡ true → min p s ≡ min q s
+    → (p == 1) ≡ (q == 1)
+masked_bit p q zero lp lq ls e same = absurd (false≢true e)
+masked_bit zero zero (suc zero) lp lq ls e same = refl
+masked_bit zero (suc zero) (suc zero) lp lq ls e same = absurd (omega (arith, same))
+masked_bit (suc zero) zero (suc zero) lp lq ls e same = absurd (omega (arith, same))
+masked_bit (suc zero) (suc zero) (suc zero) lp lq ls e same = refl
+masked_bit (suc (suc p)) q (suc zero) lp lq ls e same = absurd (omega arith)
+masked_bit p (suc (suc q)) (suc zero) lp lq ls e same = absurd (omega arith)
+masked_bit p q (suc (suc s)) lp lq ls e same = absurd (omega arith)
+
+pub whole_word : (inside : Boxed) (x y z left right : ℕ) → left ≡ right
+    → IsSameWord inside x y z left right
+whole_word inside x y z left right e = record {
+  each = λ i j k p q r t. ap (λ (n : ℕ). bit_at n (bit_number i j k) == 1) e;
+}
+
+pub masked_word : (inside : Boxed) (x y z left right seen : ℕ) (block : Block)
+    → block.at.x ≡ 4 * x → block.at.y ≡ 4 * y → block.at.z ≡ 4 * z
+    → LeafShows seen block (is_in_box inside) → bit_and left seen ≡ bit_and right seen
+    → IsSameWord inside x y z left right
+masked_word inside x y z left right seen block ex ey ez shows same = record {
+  each = λ i j k p q r t.
+      let b : ℕ = bit_number i j k in
+      masked_bit (bit_at left b) (bit_at right b) (bit_at seen b) (bit_at-lt left b)
+      (bit_at-lt right b) (bit_at-lt seen b)
+      (shows.each i j k p q r ∙ same_cell (is_in_box inside) _ _ _ _ _ _ (omega (arith, ex))
+      (omega (arith, ey)) (omega (arith, ez)) ∙ t)
+      (sym (bit_at_and left seen b) ∙ ap (λ (n : ℕ). bit_at n b) same ∙ bit_at_and right seen b);
+}
+
+-- one axis: a place of the model, that one of the cube's is, in its leaf and in the cube
+record Seen (low size at side x : ℕ) : Type 0 where
+  leaf : (first_leaf low at ≤ (at + x - low) / 4) × ((at + x - low) / 4 < last_leaf low size at side)
+  back : 4 * ((at + x - low) / 4) + (at + x - low) % 4 ≡ at + x - low
+  inside : (at - low ≤ at + x - low) × (at + x - low < at - low + (at + side - low - (at - low)))
+
+seen : (low size at side x : ℕ) → x < side → low ≤ at + x → at + x < low + size
+    → Seen low size at side x
+seen low size at side x lt le gt = record {
+  leaf = all_axis low size at side x lt le gt;
+  back = omega arith;
+  inside = (omega arith, omega arith);
+}
+
+-- the same bits of a cube in the leaves that it touches
+words_agree : (size : Cell) (left right : List ℕ) (place at : Cell) (side : ℕ) (from to : Cell)
+    (inside : Boxed)
+    → (from.x ≡ first_leaf place.x at.x) × (to.x ≡ last_leaf place.x size.x at.x side)
+    → (from.y ≡ first_leaf place.y at.y) × (to.y ≡ last_leaf place.y size.y at.y side)
+    → (from.z ≡ first_leaf place.z at.z) × (to.z ≡ last_leaf place.z size.z at.z side)
+    → IsPart place at side inside → SameInside size left right from to inside
+    → Agree (record { size = size; words = left }) (record { size = size; words = right }) place at side
+words_agree size left right place at side from to inside ex ey ez part words = record {
+  size = refl;
+  each = λ x y z p q r t.
+      let i = is_in_box_tells (box_at place size) (cell_at (at.x + x) (at.y + y) (at.z + z)) t in
+      let ax = seen place.x size.x at.x side x p i.x.0 i.x.1 in
+      let ay = seen place.y size.y at.y side y q i.y.0 i.y.1 in
+      let az = seen place.z size.z at.z side z r i.z.0 i.z.1 in
+      let u : ℕ = at.x + x - place.x in
+      let v : ℕ = at.y + y - place.y in
+      let w : ℕ = at.z + z - place.z in
+      let same = words.each (u / 4) (v / 4) (w / 4) (omega (arith, ex.0, ax.leaf.0))
+      (omega (arith, ex.1, ax.leaf.1)) (omega (arith, ey.0, ay.leaf.0))
+      (omega (arith, ey.1, ay.leaf.1)) (omega (arith, ez.0, az.leaf.0))
+      (omega (arith, ez.1, az.leaf.1)) in
+      same.each (u % 4) (v % 4) (w % 4) (omega arith) (omega arith) (omega arith)
+      (is_in_box_holds inside _ (record {
+        x = (omega (arith, part.x, ax.back, ax.inside), omega (arith, part.x, ax.back, ax.inside));
+        y = (omega (arith, part.y, ay.back, ay.inside), omega (arith, part.y, ay.back, ay.inside));
+        z = (omega (arith, part.z, az.back, az.inside), omega (arith, part.z, az.back, az.inside));
+      }));
+}
+
+pub drawn_agree : (a b : Drawn) (place at : Cell) (side : ℕ) (size : Cell) (left right : List ℕ)
+    (from to : Cell) (inside : Boxed)
+    → size ≡ a.size → size ≡ b.size → left ≡ a.words → right ≡ b.words
+    → (from.x ≡ first_leaf place.x at.x) × (to.x ≡ last_leaf place.x size.x at.x side)
+    → (from.y ≡ first_leaf place.y at.y) × (to.y ≡ last_leaf place.y size.y at.y side)
+    → (from.z ≡ first_leaf place.z at.z) × (to.z ≡ last_leaf place.z size.z at.z side)
+    → IsPart place at side inside → SameInside size left right from to inside
+    → Agree a b place at side
+drawn_agree a b place at side size left right from to inside es fs el er ex ey ez part words =
+    subst (λ (d : Drawn). Agree d b place at side) (as_drawn size left a es el)
+    (subst (λ (d : Drawn). Agree (record { size = size; words = left }) d place at side)
+    (as_drawn size right b fs er)
+    (words_agree size left right place at side from to inside ex ey ez part words))
+  where
+    as_drawn : (size : Cell) (words : List ℕ) (d : Drawn) → size ≡ d.size → words ≡ d.words
+        → record { size = size; words = words } ≡ d
+    as_drawn size words d e f =
+        ap (λ (s : Cell). record { size = s; words = words }) e
+        ∙ ap (λ (i : List ℕ). record { size = d.size; words = i }) f

@@ -2,6 +2,7 @@
 use Rattle.std.specs.Prelude.{◌≡◌, ℕ, ◌+◌, ◌-◌, ◌*◌, ◌/◌, ◌%◌, ◌<◌, ◌≤◌, ◌==◌, Bool, true, List, length, map, slice_index, min}
 use Rattle.std.specs.Int.{bit_at}
 use Rattle.vw_cell.specs.declared.cells.Cell.{Cell}
+use Rattle.vw_cell.specs.declared.boxes.Boxed.{Boxed}
 use Rattle.vw_cell.specs.Counts.{cell_at, IsBelow}
 use Rattle.vw_cell.specs.Places.{is_in_box}
 use Rattle.vox_read.specs.declared.voxels.Voxel.{Voxel}
@@ -76,8 +77,43 @@ pub record AllWords (size : Cell) (words : List ℕ) (from to : Cell) (want : �
   pub each : (x y z : ℕ) → from.x ≤ x → x < to.x → from.y ≤ y → y < to.y → from.z ≤ z → z < to.z
       → slice_index words (leaf_number size x y z) ≡ want
 
+-- the box has the cube's places, counted from a model's least corner, those before it left out
+pub record IsPart (place at : Cell) (side : ℕ) (inside : Boxed) : Type 0 where
+  pub x : (inside.at.x ≡ at.x - place.x)
+      × (inside.size.x ≡ at.x + side - place.x - (at.x - place.x))
+  pub y : (inside.at.y ≡ at.y - place.y)
+      × (inside.size.y ≡ at.y + side - place.y - (at.y - place.y))
+  pub z : (inside.at.z ≡ at.z - place.z)
+      × (inside.size.z ≡ at.z + side - place.z - (at.z - place.z))
+
+-- two words of the leaf with this number on each axis have the same bits of its places in the box
+pub record IsSameWord (inside : Boxed) (x y z left right : ℕ) : Type 0 where
+  pub each : (i j k : ℕ) → i < 4 → j < 4 → k < 4
+      → is_in_box inside (cell_at (4 * x + i) (4 * y + j) (4 * z + k)) ≡ true
+      → (bit_at left (bit_number i j k) == 1) ≡ (bit_at right (bit_number i j k) == 1)
+
+-- this leaf has the same bits of the box in both
+abbrev pub IsSameLeaf : Cell → List ℕ → List ℕ → Boxed → ℕ → ℕ → ℕ → Type 0
+IsSameLeaf size left right inside x y z =
+    IsSameWord inside x y z (slice_index left (leaf_number size x y z))
+    (slice_index right (leaf_number size x y z))
+
+-- these leaves have the same bits of the box in both
+pub record SameInside (size : Cell) (left right : List ℕ) (from to : Cell)
+    (inside : Boxed) : Type 0 where
+  pub each : (x y z : ℕ) → from.x ≤ x → x < to.x → from.y ≤ y → y < to.y → from.z ≤ z → z < to.z
+      → IsSameLeaf size left right inside x y z
+
 -- the model's places in a cube of the world are all set, or all unset
 pub record AllDrawn (drawn : Drawn) (place at : Cell) (side : ℕ) (set : Bool) : Type 0 where
   pub each : (x y z : ℕ) → x < side → y < side → z < side
       → is_in_box (box_at place drawn.size) (cell_at (at.x + x) (at.y + y) (at.z + z)) ≡ true
       → drawn_cells drawn (less (cell_at (at.x + x) (at.y + y) (at.z + z)) place) ≡ set
+
+-- two drawn models of one size have the same of their places in a cube of the world
+pub record Agree (a b : Drawn) (place at : Cell) (side : ℕ) : Type 0 where
+  pub size : a.size ≡ b.size
+  pub each : (x y z : ℕ) → x < side → y < side → z < side
+      → is_in_box (box_at place a.size) (cell_at (at.x + x) (at.y + y) (at.z + z)) ≡ true
+      → drawn_cells a (less (cell_at (at.x + x) (at.y + y) (at.z + z)) place)
+      ≡ drawn_cells b (less (cell_at (at.x + x) (at.y + y) (at.z + z)) place)

@@ -7,12 +7,12 @@ ghost use Rattle.vox_read.specs.Contents.{IsModel, IsSize, StandsInside};
 ghost use Rattle.vw_cell.specs.declared.blocks.Block.{Block};
 ghost use Rattle.node_kernels.specs.Leaves.{LeafShows};
 ghost use Rattle.vw_cell.specs.Places.{block_side};
-ghost use Rattle.edit_stamp.specs.Drawings.{IsWord, Draws, DrawsBit, AllDrawn, AllWords, HasLeaves, leaves_of, leaf_number};
+ghost use Rattle.edit_stamp.specs.Drawings.{IsWord, Draws, DrawsBit, AllDrawn, Agree, AllWords, HasLeaves, leaves_of, leaf_number};
 ghost use Rattle.edit_stamp.specs.Tiers.{TellsTier};
 ghost use Rattle.edit_stamp.specs.Stamps.{is_stamped};
 
 use crate::planes::bit_model;
-use crate::scans::{Leaves, are_all, touched};
+use crate::scans::{Leaves, are_all, are_same, part_of, touched};
 use crate::tiers::{Tier, cubes_over, leaf_count, word_at};
 use edit_cells::side_of;
 use node_words::{box_bits, window_bits};
@@ -110,6 +110,23 @@ impl Stencil {
             return are_all(size, &self.words, leaves, want);
         }
         self.are_all_over((level - 1).min(6), leaves, want)
+    }
+
+    /// Whether two stencils of one size have the same of their models' places in a block of the
+    /// world. It looks at the words of the leaves that the block touches, up to the first two that
+    /// differ in a place of the block.
+    pub fn agrees(&self, other: &Stencil, place: Cell, at: Cell, level: u8) -> bool
+        requires level { level ≤ 10 }
+        ensures { IsTrue result → Agree self.now other.now place at (block_side level) }
+    {
+        let size = self.size();
+        if size != other.size() {
+            return false;
+        }
+        let side = side_of(level);
+        let leaves = touched(size, place, at, side);
+        let inside = part_of(place, at, side);
+        are_same(size, &self.words, &other.words, leaves, inside)
     }
 
     // The first of these words.

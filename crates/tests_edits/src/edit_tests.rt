@@ -196,6 +196,69 @@ fn floors_are_stamped(rt: HostRuntime) -> Result<(), Fail> {
     Ok(())
 }
 
+/// Blocks of a world that has two models of two leaves at this place, and whether these are the same
+/// there. The first leaves are the same, the second ones differ.
+const BESIDE: &[(Cell, u8, bool)] = &[
+    (Cell { x: 4, y: 4, z: 4 }, 0, true),
+    (Cell { x: 8, y: 4, z: 4 }, 0, false),
+    (Cell { x: 12, y: 4, z: 4 }, 0, true),
+    (ORIGIN, 0, true),
+    (ORIGIN, 1, true),
+    (Cell { x: 8, y: 0, z: 0 }, 1, false),
+    (ORIGIN, 2, false),
+    (ORIGIN, 10, false),
+    // Blocks that touch the second leaf, with and without places where its words differ.
+    (Cell { x: 5, y: 4, z: 4 }, 0, true),
+    (Cell { x: 6, y: 4, z: 4 }, 0, false),
+    (Cell { x: 10, y: 4, z: 4 }, 0, false),
+    (Cell { x: 11, y: 4, z: 4 }, 0, true),
+    (Cell { x: 8, y: 7, z: 4 }, 0, true),
+    (Cell { x: 8, y: 4, z: 3 }, 0, false),
+    (Cell { x: 8, y: 4, z: 2 }, 0, true),
+    (Cell { x: 1, y: 0, z: 0 }, 1, true),
+    (Cell { x: 2, y: 0, z: 0 }, 1, false),
+];
+
+const PLACE: Cell = Cell { x: 4, y: 4, z: 4 };
+
+// The second leaf has cells at x = 5 and at this x.
+fn two_leaves(alloc: Global, height: u8, x: u8) -> Result<Stencil, Fail> {
+    let voxels = Vec::from_array(alloc, [[0, 0, 0, 1], [5, 1, 1, 1], [x, 2, 2, 1]])?;
+    let model = Drawing {
+        size: [8, 4, height],
+        voxels,
+    };
+    Ok(model.stencil(alloc).ok_or("a stencil")?)
+}
+
+// Whether the stencils agree in just these blocks.
+fn agree_as(one: &Stencil, other: &Stencil, rows: &[(Cell, u8, bool)]) -> bool {
+    for &(at, level, is_same) in rows {
+        if level > 10 || one.agrees(other, PLACE, at, level) != is_same {
+            return false;
+        }
+    }
+    true
+}
+
+#[test]
+fn stencils_agree_in_blocks_of_the_same_words(rt: HostRuntime) -> Result<(), Fail> {
+    let one = two_leaves(rt.alloc(), 4, 5)?;
+    let other = two_leaves(rt.alloc(), 4, 6)?;
+    assert!(rt; agree_as(&one, &other, BESIDE));
+    assert!(rt; agree_as(&other, &one, BESIDE));
+    assert!(rt; agree_as(&one, &one, &[(ORIGIN, 10, true)]));
+    Ok(())
+}
+
+#[test]
+fn stencils_of_two_sizes_never_agree(rt: HostRuntime) -> Result<(), Fail> {
+    let one = two_leaves(rt.alloc(), 4, 5)?;
+    let higher = two_leaves(rt.alloc(), 5, 5)?;
+    assert!(rt; agree_as(&one, &higher, &[(PLACE, 0, false), (ORIGIN, 0, false)]));
+    Ok(())
+}
+
 /// Sides, edits of which the second meets a full bucket, and the level of that bucket.
 const CROWDED: &[(u32, &[Act], u8)] = &[(8, &[FIRST, FIFTH], 1), (4, &[FIRST, SECOND], 0)];
 

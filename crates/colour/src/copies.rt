@@ -1,0 +1,121 @@
+ghost use Rattle.std.specs.Prelude.{◌≡◌, ◌+◌, ◌-◌, ◌^◌, ◌<◌, ◌≤◌, ℕ, suc, Option, IfOk, IfErr, option_copied};
+ghost use Rattle.vw_cell.specs.Places.{FitsAt};
+ghost use Rattle.node_shapes.specs.declared.names.Name.{Name};
+ghost use Rattle.node_shapes.specs.Weights.{number_of_trees};
+ghost use Rattle.node_words.specs.Held.{Seen};
+ghost use Rattle.block_walk.specs.Roots.{HoldsRoot};
+ghost use Rattle.history_model.specs.Worlds.{copied};
+ghost use Rattle.colour.specs.Edits.{RebuildsEdit, GrowsByEdit, RefusesEdit, made_at};
+ghost use Rattle.colour.specs.Made.{PartsMade, PartsFail, copy_parts};
+
+use crate::planes::{plane_at, plus};
+use edit_blocks::back_if;
+use edit_copy::rebuild_copy;
+use node_words::{Full, NodeStore, Share, Steps};
+use std::sync::ledger::Ledger;
+use vw_cell::{Boxed, Cell, Side};
+
+/// A share of the root of the store's world with the tints of a box copied, plane after plane.
+/// Roots between them go back. A store that met a full bucket holds what it held.
+pub(crate) fn rebuild_copied_tints<N: NodeStore, L: Ledger>(
+    store: &mut N,
+    old: Option<&Share>,
+    side: Side,
+    b: Boxed,
+    to: Cell,
+    steps: &mut Steps<L>,
+) -> Result<Option<Share>, Full>
+    requires side { side ≡ (N.seen store.old).plan.side }
+    requires large { 4 ≤ side }
+    requires from { FitsAt b.at b.size (2 ^ (side - 2)) }
+    requires to { FitsAt to b.size (2 ^ (side - 2)) }
+    requires old { HoldsRoot (N.seen store.old).held side (option_copied old) }
+    requires room { number_of_trees (N.seen store.old).held ≤ 3909 }
+    ensures made { IfOk result (λ r.
+        PartsMade (N.seen store.old) side (option_copied old.entry) (copy_parts side b to) 9 r
+        (N.seen store.new)) }
+    ensures full { IfErr result (λ e.
+        PartsFail (N.seen store.old) side (option_copied old.entry) (copy_parts side b to) 9
+        e.level e.bucket (N.seen store.new)) }
+    ensures rests { N.rests store.old store.new }
+{
+    let mut now = match copy_part(store, old, side, 0, b, to, steps) {
+        Ok(root) => root,
+        Err(full) => return Err(full),
+    };
+    for plane in 1..9u8 {
+        match next_part(store, now, side, plane, b, to, steps) {
+            Ok(root) => now = root,
+            Err(full) => return Err(full),
+        }
+    }
+    Ok(now)
+}
+
+// One more plane, over a root that goes back.
+fn next_part<N: NodeStore, L: Ledger>(
+    store: &mut N,
+    now: Option<Share>,
+    side: Side,
+    plane: u8,
+    b: Boxed,
+    to: Cell,
+    steps: &mut Steps<L>,
+) -> Result<Option<Share>, Full>
+    requires side { side ≡ (N.seen store.old).plan.side }
+    requires large { 4 ≤ side }
+    requires plane { plane < 9 }
+    requires from { FitsAt b.at b.size (2 ^ (side - 2)) }
+    requires to { FitsAt to b.size (2 ^ (side - 2)) }
+    requires now { HoldsRoot (N.seen store.old).held side now }
+    requires room { number_of_trees (N.seen store.old).held ≤ 3910 }
+    ensures made { (first : Seen) (root : Option Name)
+        → PartsMade first side root (copy_parts side b to) plane now (N.seen store.old)
+        → IfOk result (λ r. PartsMade first side root (copy_parts side b to) (suc plane) r
+        (N.seen store.new)) }
+    ensures full { (first : Seen) (root : Option Name)
+        → PartsMade first side root (copy_parts side b to) plane now (N.seen store.old)
+        → IfErr result (λ e. PartsFail first side root (copy_parts side b to) (suc plane) e.level
+        e.bucket (N.seen store.new)) }
+    ensures rests { N.rests store.old store.new }
+{
+    let next = copy_part(store, now.as_ref(), side, plane, b, to, steps);
+    back_if(store, now, steps);
+    next
+}
+
+// The cells of a box copied within one plane.
+fn copy_part<N: NodeStore, L: Ledger>(
+    store: &mut N,
+    old: Option<&Share>,
+    side: Side,
+    plane: u8,
+    b: Boxed,
+    to: Cell,
+    steps: &mut Steps<L>,
+) -> Result<Option<Share>, Full>
+    requires side { side ≡ (N.seen store.old).plan.side }
+    requires large { 4 ≤ side }
+    requires plane { plane < 9 }
+    requires from { FitsAt b.at b.size (2 ^ (side - 2)) }
+    requires to { FitsAt to b.size (2 ^ (side - 2)) }
+    requires old { HoldsRoot (N.seen store.old).held side (option_copied old) }
+    requires room { number_of_trees (N.seen store.old).held ≤ 3910 }
+    ensures ok { RebuildsEdit (N.seen store.old) side (option_copied old.entry)
+        (made_at side plane (copied b to))
+        result (N.seen store.new) }
+    ensures grows { GrowsByEdit (N.seen store.old) side (option_copied old.entry)
+        (made_at side plane (copied b to))
+        result (N.seen store.new) }
+    ensures full { RefusesEdit (N.seen store.old) side (option_copied old.entry)
+        (made_at side plane (copied b to))
+        result (N.seen store.new) }
+    ensures rests { N.rests store.old store.new }
+{
+    let corner = plane_at(side, plane);
+    let moved = Boxed {
+        at: plus(corner, b.at),
+        size: b.size,
+    };
+    rebuild_copy(store, old, side, moved, plus(corner, to), steps)
+}

@@ -1,0 +1,301 @@
+ghost use Rattle.std.specs.Prelude.{◌≡◌, ◌+◌, ◌-◌, ◌*◌, ◌^◌, ◌<◌, ◌≤◌, ◌==◌, ℕ, List, IsTrue, option_copied, if◌then◌else◌};
+ghost use Rattle.std.specs.Int.{bit_at};
+ghost use Rattle.vw_cell.specs.Places.{FitsAt};
+ghost use Rattle.node_shapes.specs.Tree.{Tree};
+ghost use Rattle.node_shapes.specs.Weights.{number_of_trees};
+ghost use Rattle.block_walk.specs.Roots.{HoldsRoot};
+ghost use Rattle.cell_shapes.specs.CellShapes.{Cells, SameIn, no_cells, all_cells};
+ghost use Rattle.edit_cells.specs.Tasks.{IsWhole};
+ghost use Rattle.colour.specs.Edits.{RebuildsEdit, GrowsByEdit, RefusesEdit};
+ghost use Rattle.colour.specs.Inks.{ink_at};
+ghost use Rattle.colour.specs.Stamps.{ink_cells, makes_ink};
+ghost use Rattle.colour.specs.Walks.{all_planes, ink_edit};
+
+use crate::planes::quarter;
+use crate::stencils::TintStencil;
+use crate::walks::{Planes, rebuild_planes};
+use block_walk::{leaf_bits, octant_name, same_cells, same_names};
+use edit_cells::{Task, Whole, old_whole, side_of};
+use edit_walk::{Latest, Repeats};
+use node_shapes::Name;
+use node_words::{Blocks, Full, NodeStore, Share, Steps};
+use std::sync::ledger::Ledger;
+use vw_cell::{Block, Boxed, Cell, Side};
+
+/// Puts the tints of a model, whose least corner is at `place`, into the block at `at` of a plane.
+/// A cell that has ink shows what its tint tells there, set or not, and each other one stays.
+#[derive(Clone, Copy)]
+pub(crate) struct InkTask<'s> {
+    old: Option<Name>,
+    stencil: &'s TintStencil,
+    place: &'s Cell,
+    at: Cell,
+    plane: u8,
+    level: u8,
+}
+
+impl<'s> Task for InkTask<'s> {
+    ghost use Rattle.std.specs.Prelude.{◌-◌};
+    ghost use Rattle.edit_cells.specs.Tasks.{blocks_in};
+    ghost use Rattle.colour.specs.Stamps.{makes_ink, ink_lasts};
+
+    ghost makes = { makes_ink };
+
+    ghost lasts = { ink_lasts };
+
+    ghost mixed = { λ level t. blocks_in level };
+
+    ghost mixed_in = { λ level t k. blocks_in (level - 1) };
+
+    #[inline(always)]
+    fn octant<B: Blocks>(&self, store: &mut B, level: u8, octant: u8) -> InkTask<'s> {
+        let old = octant_name(store, level, self.old, octant);
+        let block = Block { level, at: self.at };
+        let part = block.child(octant);
+        InkTask {
+            old,
+            stencil: self.stencil,
+            place: self.place,
+            at: part.at,
+            plane: self.plane,
+            level: level - 1,
+        }
+    }
+
+    fn whole(&self, level: u8) -> Whole {
+        if self.is_unset(level, self.plane) {
+            return self.cleared(level);
+        }
+        if self.is_set(level, self.plane) {
+            return Whole::All;
+        }
+        Whole::Mixed
+    }
+
+    fn bits<B: Blocks>(&self, store: &mut B) -> u64 {
+        let old = leaf_bits(store, self.old);
+        let block = Block {
+            level: 0,
+            at: self.at,
+        };
+        let drawn = self.stencil.plane(self.plane);
+        let told = drawn.leaf_bits(*self.place, block);
+        if old == 0 {
+            return told;
+        }
+        let cells = self.stencil.plane(0);
+        let ink = cells.leaf_bits(*self.place, block);
+        inked_bits(old, ink, told)
+    }
+}
+
+impl<'s> InkTask<'s> {
+    // Whether no cell of the block has ink that tells in a plane. It may miss that.
+    fn is_unset(&self, level: u8, plane: u8) -> bool
+        requires level { level ≤ 10 }
+        requires plane { plane < 9 }
+        ensures { IsTrue result → SameIn level
+            (ink_cells self.now.stencil.now self.now.place.now plane self.now.at) no_cells }
+    {
+        let place = Boxed {
+            at: *self.place,
+            size: self.stencil.size(),
+        };
+        let block = Block { level, at: self.at };
+        if !place.meets(block) {
+            return true;
+        }
+        let drawn = self.stencil.plane(plane);
+        drawn.is_all(*self.place, self.at, level, false)
+    }
+
+    // Whether each cell of the block has such ink. It may miss that.
+    fn is_set(&self, level: u8, plane: u8) -> bool
+        requires level { level ≤ 10 }
+        requires plane { plane < 9 }
+        ensures { IsTrue result → SameIn level
+            (ink_cells self.now.stencil.now self.now.place.now plane self.now.at) all_cells }
+    {
+        let place = Boxed {
+            at: *self.place,
+            size: self.stencil.size(),
+        };
+        let block = Block { level, at: self.at };
+        if !place.holds_block(block) {
+            return false;
+        }
+        let drawn = self.stencil.plane(plane);
+        drawn.is_all(*self.place, self.at, level, true)
+    }
+
+    // What is known of the block where no ink tells in the plane.
+    fn cleared(&self, level: u8) -> Whole
+        requires level { level ≤ 10 }
+        requires unset { SameIn level
+            (ink_cells self.now.stencil.now self.now.place.now self.now.plane self.now.at)
+            no_cells }
+        ensures { (base : List Tree) (cells : Cells) → makes_ink self.now base level cells
+            → IsWhole base level cells result }
+    {
+        if self.old.is_none() {
+            return Whole::Nothing;
+        }
+        if self.is_unset(level, 0) {
+            return old_whole(self.old);
+        }
+        if self.is_set(level, 0) {
+            return Whole::Nothing;
+        }
+        Whole::Mixed
+    }
+}
+
+// The bits that ink tells where there is ink, and the old ones elsewhere.
+#[tactic(auto, using(crate::proofs::StampBlocks::pick_bits))]
+fn inked_bits(old: u64, ink: u64, told: u64) -> u64
+    ensures { (b : ℕ) → b < 64 → (bit_at result b == 1)
+        ≡ (if bit_at ink b == 1 then bit_at told b == 1 else bit_at old b == 1) }
+{
+    told & ink | old & !ink
+}
+
+impl<'s> Repeats for InkTask<'s> {
+    fn is_same(&self, other: &InkTask<'s>) -> bool {
+        if !same_blocks(self, other) {
+            return false;
+        }
+        same_ink(self, other)
+    }
+
+    fn place(&self, level: u8) -> usize {
+        place_of(level, self.at)
+    }
+}
+
+// Whether both are of one old block at one place.
+fn same_blocks<'s>(a: &InkTask<'s>, b: &InkTask<'s>) -> bool
+    ensures { IsTrue result
+        → (a.now.level ≡ b.now.level) × (a.now.old ≡ b.now.old) × (a.now.at ≡ b.now.at)
+        × (a.now.place.now ≡ b.now.place.now) }
+{
+    if a.level != b.level {
+        return false;
+    }
+    if !same_names(a.old, b.old) {
+        return false;
+    }
+    if !same_cells(a.at, b.at) {
+        return false;
+    }
+    same_cells(*a.place, *b.place)
+}
+
+// Whether both make the same of the block by their ink. It may miss that.
+fn same_ink<'s>(a: &InkTask<'s>, b: &InkTask<'s>) -> bool
+    ensures ink { IsTrue result → SameIn a.now.level
+        (ink_cells a.now.stencil.now a.now.place.now 0 a.now.at)
+        (ink_cells b.now.stencil.now a.now.place.now 0 a.now.at) }
+    ensures told { IsTrue result → SameIn a.now.level
+        (ink_cells a.now.stencil.now a.now.place.now a.now.plane a.now.at)
+        (ink_cells b.now.stencil.now a.now.place.now b.now.plane a.now.at) }
+{
+    if a.level > 10 {
+        return false;
+    }
+    if a.plane > 8 {
+        return false;
+    }
+    if b.plane > 8 {
+        return false;
+    }
+    if !tell_alike(a, a.plane, b, b.plane) {
+        return false;
+    }
+    tell_alike(a, 0, b, 0)
+}
+
+// Whether the ink of both tells the same in these planes, in the first one's block.
+fn tell_alike<'s>(a: &InkTask<'s>, plane: u8, b: &InkTask<'s>, other: u8) -> bool
+    requires level { a.now.level ≤ 10 }
+    requires planes { (plane < 9) × (other < 9) }
+    ensures { IsTrue result → SameIn a.now.level
+        (ink_cells a.now.stencil.now a.now.place.now plane a.now.at)
+        (ink_cells b.now.stencil.now a.now.place.now other a.now.at) }
+{
+    let mine = a.stencil.plane(plane);
+    let theirs = b.stencil.plane(other);
+    mine.agrees(theirs, *a.place, a.at, a.level)
+}
+
+// Blocks side by side have places of their own.
+fn place_of(level: u8, at: Cell) -> usize
+    ensures { result < 2048 }
+{
+    if level > 10 {
+        return 0;
+    }
+    let side = side_of(level);
+    let x = u32::from(at.x) / side;
+    let y = u32::from(at.y) / side;
+    let z = u32::from(at.z) / side;
+    ((x + 8 * y + 64 * z + 1000 * u32::from(level)) % 2048) as usize
+}
+
+/// A model's tints in each plane, and the level of a plane's block.
+#[derive(Clone, Copy)]
+pub(crate) struct InkPlanes<'s> {
+    stencil: &'s TintStencil,
+    place: &'s Cell,
+    level: u8,
+}
+
+impl<'s> Planes<InkTask<'s>> for InkPlanes<'s> {
+    ghost use Rattle.colour.specs.Stamps.{ink_task};
+
+    ghost task_of = { ink_task };
+
+    fn task(&self, plane: u8, old: Option<Name>) -> InkTask<'s> {
+        InkTask {
+            old,
+            stencil: self.stencil,
+            place: self.place,
+            at: Cell { x: 0, y: 0, z: 0 },
+            plane,
+            level: self.level,
+        }
+    }
+}
+
+/// A share of the root of the store's world with a model's tints, where its least corner is at this
+/// place.
+pub(crate) fn rebuild_ink_stamp<N: NodeStore, L: Ledger>(
+    store: &mut N,
+    old: Option<&Share>,
+    side: Side,
+    stencil: &TintStencil,
+    at: Cell,
+    steps: &mut Steps<L>,
+) -> Result<Option<Share>, Full>
+    requires side { side ≡ (N.seen store.old).plan.side }
+    requires large { 4 ≤ side }
+    requires inside { FitsAt at stencil.now.size (2 ^ (side - 2)) }
+    requires old { HoldsRoot (N.seen store.old).held side (option_copied old) }
+    requires room { number_of_trees (N.seen store.old).held ≤ 3910 }
+    ensures ok { RebuildsEdit (N.seen store.old) side (option_copied old.entry)
+        (all_planes side (ink_edit (ink_at stencil.now at))) result (N.seen store.new) }
+    ensures grows { GrowsByEdit (N.seen store.old) side (option_copied old.entry)
+        (all_planes side (ink_edit (ink_at stencil.now at))) result (N.seen store.new) }
+    ensures full { RefusesEdit (N.seen store.old) side (option_copied old.entry)
+        (all_planes side (ink_edit (ink_at stencil.now at))) result (N.seen store.new) }
+    ensures rests { N.rests store.old store.new }
+{
+    let root = side.root_level();
+    let planes = InkPlanes {
+        stencil,
+        place: &at,
+        level: root - 2,
+    };
+    let _n = quarter(side);
+    let mut memo = Latest::new();
+    rebuild_planes(store, old, side, planes, &mut memo, steps)
+}
