@@ -59,7 +59,7 @@ plain_place() {
 plain_journal() {
     local meaning='no line of a journal goes on so'
     [ "$1" = dag ] && meaning='no line of a journal goes on so, or its record breaks a rule of a legal history'
-    [ "$3" = 1 ] && meaning='no journal begins so, or it is of cells with tints'
+    [ "$3" = 1 ] && meaning='no journal begins so'
     printf '%s, line %s: %s\n' "$2" "$3" "$meaning"
 }
 

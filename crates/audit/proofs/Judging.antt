@@ -1,10 +1,10 @@
 -- A history is legal where its marks are, and its records follow one another.
 use Rattle.std.proofs.Common.{◌≡◌, ℕ, ◌^◌, ◌<◌, ◌≤◌, List, length, Option, refl, sym, arith}
-use Rattle.std.specs.Prelude.{All, Bool, Result, IfErr}
+use Rattle.std.specs.Prelude.{All, Bool, true, Result, IfErr}
 use Rattle.history_model.specs.Contents.{Content}
 use Rattle.history_model.specs.declared.histories.Mark.{Mark}
 use Rattle.history_model.specs.declared.histories.Record.{Record}
-use Rattle.history_model.specs.Logs.{Log, FitsWorld, IsLegal, IsPlain}
+use Rattle.history_model.specs.Logs.{Log, FitsWorld, IsLegal, SuitsTints, suits_tints}
 use Rattle.std.proofs.Common.{◌↔◌, subst}
 use Rattle.node_words.specs.Plans.{Layout}
 use Rattle.script.specs.declared.commands.ScriptLine.{ScriptLine}
@@ -50,11 +50,11 @@ legal_by models log few marks follow = record {
 }
 
 pub legal_rerun : (log : Log) (replay : ReplayState) (ways : List Ways) (table : List (Option Mark))
-    → IsPlain log → replay.records ≡ log.records → replay.plan.side ≡ log.side
+    → replay.tint ≡ log.coloured → replay.records ≡ log.records → replay.plan.side ≡ log.side
     → length log.records ≤ 65535 → AreWays log.records ways → TellsMarks log.marks table
     → IsRerun log replay ways table
-legal_rerun log replay ways table plain records side few are tells = record {
-  plain = plain;
+legal_rerun log replay ways table tint records side few are tells = record {
+  tint = tint;
   records = records;
   side = side;
   few = few;
@@ -68,12 +68,16 @@ never_audited keep p models log scripts transcripts side wrong audited =
     wrong (subst (λ (s : ℕ). IsLegal (2 ^ s) models log) side audited.legal)
 
 pub audited_by : (keep : ℕ) (p : Layout) (models : List Content) (log : Log) (scripts : List (List ScriptLine)) (transcripts : List (List LineAnswer))
-    → p.side ≡ log.side → IsLegal (2 ^ log.side) models log → KeepsLast keep log
+    → p.side ≡ log.side → IsLegal (2 ^ log.side) models log → SuitsTints log → KeepsLast keep log
     → AgreesKeeping keep p models log scripts transcripts ↔ IsAudited keep p models log scripts transcripts
-audited_by keep p models log scripts transcripts side legal last = (
-  λ agrees. record { legal = subst (λ (s : ℕ). IsLegal (2 ^ s) models log) (sym side) legal; last = last; agrees = agrees },
+audited_by keep p models log scripts transcripts side legal suits last = (
+  λ agrees. record { legal = subst (λ (s : ℕ). IsLegal (2 ^ s) models log) (sym side) legal; suits = suits; last = last; agrees = agrees },
   λ audited. audited.agrees,
 )
+
+pub never_suits : (keep : ℕ) (p : Layout) (models : List Content) (log : Log) (scripts : List (List ScriptLine)) (transcripts : List (List LineAnswer))
+    → (SuitsTints log → ⊥) → IsAudited keep p models log scripts transcripts → ⊥
+never_suits keep p models log scripts transcripts wrong audited = wrong audited.suits
 
 pub never_kept : (keep : ℕ) (p : Layout) (models : List Content) (log : Log) (scripts : List (List ScriptLine)) (transcripts : List (List LineAnswer))
     → (KeepsLast keep log → ⊥) → IsAudited keep p models log scripts transcripts → ⊥
@@ -115,6 +119,11 @@ pub fit_begun : (s : ReplayState) (side : ℕ) (models : List Content) (records 
 fit_begun s side models records same list all =
     subst (λ (ms : List Content). All (λ (r : Record). FitsWorld (2 ^ s.plan.side) ms r.act) records) (sym list)
     (subst (λ (n : ℕ). All (λ (r : Record). FitsWorld (2 ^ n) models r.act) records) (sym same) all)
+
+pub suits_begun : (s : ReplayState) (tint : Bool) (records : List Record) → s.tint ≡ tint
+    → All (λ r. suits_tints tint r.act ≡ true) records → All (λ r. suits_tints s.tint r.act ≡ true) records
+suits_begun s tint records same all =
+    subst (λ (b : Bool). All (λ (r : Record). suits_tints b r.act ≡ true) records) (sym same) all
 
 pub refused_begun : (s : ReplayState) (p : Layout) (models : List Content) (records : List Record)
     (refused : AuditRefused) → s.plan ≡ p → s.models ≡ models

@@ -5,15 +5,15 @@ use Rattle.std.specs.List.{Contains}
 use Rattle.history_model.specs.declared.histories.Mark.{Mark}
 use Rattle.history_model.specs.declared.questions.Question.{Question}
 use Rattle.history_model.specs.declared.histories.Record.{Record}
-use Rattle.history_model.specs.Logs.{Log, IsPlain, kept_side, world_side}
+use Rattle.history_model.specs.Logs.{Log, kept_side, world_side}
 use Rattle.history_model.specs.Moments.{world_has, world_tint}
-use Rattle.block_contents.specs.Versions.{SameWorld}
+use Rattle.history_model.specs.Tints.{SameTints}
+use Rattle.script.specs.Fitting.{QuestionFits}
 use Rattle.transcript.specs.declared.answers.Answer.{Answer}
 use Rattle.conformance.specs.Answers.{IsStanding, IsForgotten, mark_of}
 use Rattle.conformance.specs.Telling.{Tells}
 use Rattle.store_run.specs.Replaying.{ReplayState}
 use Rattle.audit.specs.declared.replaying.Ways.{Ways}
-use Rattle.store_run.proofs.Plainly.{tints_of_cells, cells_of_tints}
 use Rattle.audit.specs.Fitting.{TellsVersion, AreSame}
 use Rattle.audit.specs.Reruns.{IsRerun}
 use Rattle.audit.specs.Marks.{IsMarkOf, StandsBy, ForgottenBy}
@@ -46,28 +46,29 @@ pub mark_rerun : (log : Log) (replay : ReplayState) (ways : List Ways) (table : 
 mark_rerun log replay ways table version n session line is =
     mark_listed log.marks (mark_of version n session line) (slice_index_or table version None) (is.tells.each version)
 
--- the world of a plain history has the side of its store
-plain_side : (log : Log) → IsPlain log → world_side log ≡ 2 ^ log.side
-plain_side log plain = ap (λ (b : Bool). kept_side b (2 ^ log.side)) plain.coloured
-
 module _ (log : Log) (replay : ReplayState) (ways : List Ways) (table : List (Option Mark))
     (is : IsRerun log replay ways table) where
-  rerun_side : 2 ^ replay.plan.side ≡ world_side log
-  rerun_side = ap (λ (n : ℕ). 2 ^ n) is.side ∙ sym (plain_side log is.plain)
+  -- the world that is replayed is the history's
+  rerun_side : kept_side replay.tint (2 ^ replay.plan.side) ≡ world_side log
+  rerun_side = λ i. kept_side (is.tint i) (2 ^ (is.side i))
+
+  pub question_rerun : (question : Question) → QuestionFits (world_side log) question
+      → QuestionFits (kept_side replay.tint (2 ^ replay.plan.side)) question
+  question_rerun question fits = subst (λ (n : ℕ). QuestionFits n question) (sym rerun_side) fits
 
   told_rerun : (version : ℕ) (question : Question) (told : Answer)
-      → Tells (2 ^ replay.plan.side) (world_has replay.models replay.records version)
+      → Tells (kept_side replay.tint (2 ^ replay.plan.side)) (world_has replay.models replay.records version)
       (world_tint replay.models replay.records version) question told
       → TellsVersion replay.models log version question told
   told_rerun version question told tells =
       subst (λ (n : ℕ). Tells n (world_has replay.models log.records version)
       (world_tint replay.models log.records version) question told) rerun_side
-      (subst (λ (rs : List Record). Tells (2 ^ replay.plan.side) (world_has replay.models rs version)
+      (subst (λ (rs : List Record). Tells (kept_side replay.tint (2 ^ replay.plan.side)) (world_has replay.models rs version)
       (world_tint replay.models rs version) question told) is.records tells)
 
   -- a question is answered by what is told of it, and by nothing else
   pub told_same : (version : ℕ) (question : Question) (told answer : Answer)
-      → Tells (2 ^ replay.plan.side) (world_has replay.models replay.records version)
+      → Tells (kept_side replay.tint (2 ^ replay.plan.side)) (world_has replay.models replay.records version)
       (world_tint replay.models replay.records version) question told
       → (answer ≡ told) ↔ TellsVersion replay.models log version question answer
   told_same version question told answer tells =
@@ -77,18 +78,13 @@ module _ (log : Log) (replay : ReplayState) (ways : List Ways) (table : List (Op
             (world_tint replay.models log.records version) question answer told other here,
       )
 
-  -- versions that have the same cells have the same tints, and the other way round
+  -- two versions have the same tints in the history where they have them in what was replayed
   pub same_rerun : (v w : ℕ) (same : Bool)
-      → (IsTrue same ↔ SameWorld (2 ^ replay.plan.side) (world_has replay.models replay.records v)
-      (world_has replay.models replay.records w))
+      → (IsTrue same ↔ SameTints (kept_side replay.tint (2 ^ replay.plan.side))
+      (world_tint replay.models replay.records v) (world_tint replay.models replay.records w))
       → IsTrue same ↔ AreSame replay.models log v w
-  same_rerun v w same cells =
-      let here : IsTrue same ↔ SameWorld (world_side log) (world_has replay.models log.records v)
-      (world_has replay.models log.records w) =
-      subst (λ (n : ℕ). IsTrue same ↔ SameWorld n (world_has replay.models log.records v)
-      (world_has replay.models log.records w)) rerun_side
-      (subst (λ (rs : List Record). IsTrue same ↔ SameWorld (2 ^ replay.plan.side)
-      (world_has replay.models rs v) (world_has replay.models rs w)) is.records cells) in (
-        λ t. tints_of_cells (world_side log) replay.models log v w is.plain (here.0 t),
-        λ tints. here.1 (cells_of_tints (world_side log) replay.models log v w is.plain tints),
-      )
+  same_rerun v w same tints =
+      subst (λ (n : ℕ). IsTrue same ↔ SameTints n (world_tint replay.models log.records v)
+      (world_tint replay.models log.records w)) rerun_side
+      (subst (λ (rs : List Record). IsTrue same ↔ SameTints (kept_side replay.tint (2 ^ replay.plan.side))
+      (world_tint replay.models rs v) (world_tint replay.models rs w)) is.records tints)

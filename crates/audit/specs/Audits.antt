@@ -2,7 +2,7 @@
 use Rattle.std.specs.Prelude.{ℕ, ◌^◌, List, replicate, Option, Some, None, ⊤}
 use Rattle.history_model.specs.Contents.{Content}
 use Rattle.history_model.specs.declared.histories.Record.{Record}
-use Rattle.history_model.specs.Logs.{Log, IsLegal}
+use Rattle.history_model.specs.Logs.{Log, IsLegal, SuitsTints}
 use Rattle.node_words.specs.Plans.{Layout, usual_buckets}
 use Rattle.script.specs.declared.commands.ScriptLine.{ScriptLine}
 use Rattle.transcript.specs.declared.answers.LineAnswer.{LineAnswer}
@@ -12,12 +12,13 @@ use Rattle.store_run.specs.Replaying.{MayFillAlong, replay_plan}
 use Rattle.audit.specs.declared.audits.AuditRefused.{AuditRefused}
 use Rattle.audit.specs.declared.audits.AuditRefused.TheVariants as refusals
 
--- The history is legal, keeps its last `keep` versions alone, or all with 0, and agrees with the
--- scripts and their transcripts, which show just it. A run of scripts promises the same of what it
--- gives.
+-- The history is legal, its acts are tinted exactly where it is coloured, it keeps its last `keep`
+-- versions alone, or all with 0, and agrees with the scripts and their transcripts, which show just
+-- it. A run of scripts promises the same of what it gives.
 pub record IsAudited (keep : ℕ) (p : Layout) (models : List Content) (log : Log)
     (scripts : List (List ScriptLine)) (transcripts : List (List LineAnswer)) : Type 0 where
   pub legal : IsLegal (2 ^ p.side) models log
+  pub suits : SuitsTints log
   pub last : KeepsLast keep log
   pub agrees : AgreesKeeping keep p models log scripts transcripts
 

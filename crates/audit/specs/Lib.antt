@@ -6,3 +6,4 @@ pub mod Reruns
 pub mod Sessions
 pub mod Counts
 pub mod Statements
+pub use Rattle.store_run.specs.Kept

@@ -1,17 +1,17 @@
 -- What an audit keeps of a replayed history.
 use Rattle.std.specs.Prelude.{◌≡◌, ◌≤◌, List, Option, length}
 use Rattle.history_model.specs.declared.histories.Mark.{Mark}
-use Rattle.history_model.specs.Logs.{Log, IsPlain}
+use Rattle.history_model.specs.Logs.{Log}
 use Rattle.store_run.specs.Replaying.{ReplayState}
 use Rattle.audit.specs.declared.replaying.Ways.{Ways}
 use Rattle.audit.specs.Marks.{TellsMarks}
 use Rattle.audit.specs.Replaying.{AreWays}
 
--- all records are replayed, none of which has a tint, and where undos and redos go and the marks of
--- versions are told
+-- all records are replayed, in a world of the history's kind, and where undos and redos go and the
+-- marks of versions are told
 pub record IsRerun (log : Log) (replay : ReplayState) (ways : List Ways)
     (table : List (Option Mark)) : Type 0 where
-  pub plain : IsPlain log
+  pub tint : replay.tint ≡ log.coloured
   pub records : replay.records ≡ log.records
   pub side : replay.plan.side ≡ log.side
   pub few : length log.records ≤ 65535

@@ -1,6 +1,7 @@
 //! Whether a transcript's line answers a script's line.
 ghost use Rattle.std.specs.Prelude.{◌≡◌, ◌<◌, ◌≤◌, ◌^◌, ◌↔◌, ℕ, List, length, IsTrue, Bool, true, false, None, Some};
 ghost use Rattle.vw_cell.specs.Counts.{number_in};
+ghost use Rattle.history_model.specs.Logs.{world_side};
 ghost use Rattle.history_model.specs.Moments.{world_has};
 ghost use Rattle.history_model.specs.declared.questions.Question.TheVariants as questions;
 ghost use Rattle.script.specs.Fitting.{CommandFits};
@@ -33,7 +34,8 @@ impl<L: Ledger> Rerun<L> {
         a: &LineAnswer,
     ) -> bool
         requires rerun { IsRerun log.now self.old.replay self.old.ways.items self.old.table.items }
-        requires fits { CommandFits false (2 ^ log.now.side) self.old.replay.models l.now.command }
+        requires fits { CommandFits log.now.coloured (2 ^ log.now.side) self.old.replay.models
+            l.now.command }
         ensures fits { IsTrue result ↔ LineFits judged.now self.old.replay.models log.now session
             l.now a.now }
         ensures same { self.new ≡ self.old }
@@ -57,7 +59,8 @@ impl<L: Ledger> Rerun<L> {
     ) -> bool
         requires rerun { IsRerun log.now self.old.replay self.old.ways.items self.old.table.items }
         requires there { n ≤ length log.now.records }
-        requires fits { CommandFits false (2 ^ log.now.side) self.old.replay.models command.now }
+        requires fits { CommandFits log.now.coloured (2 ^ log.now.side) self.old.replay.models
+            command.now }
         ensures fits { IsTrue result ↔ FitsBy judged.now self.old.replay.models log.now
             (IsStanding log.now.marks session line n) session line n command.now answer }
         ensures same { self.new ≡ self.old }
@@ -101,7 +104,8 @@ impl<L: Ledger> Rerun<L> {
     ) -> bool
         requires rerun { IsRerun log.now self.old.replay self.old.ways.items self.old.table.items }
         requires there { n ≤ length log.now.records }
-        requires fits { CommandFits false (2 ^ log.now.side) self.old.replay.models command.now }
+        requires fits { CommandFits log.now.coloured (2 ^ log.now.side) self.old.replay.models
+            command.now }
         ensures fits { IsTrue result ↔ ToldFits judged.now self.old.replay.models log.now
             (IsStanding log.now.marks session line n) session line n command.now answer }
         ensures same { self.new ≡ self.old }
@@ -133,7 +137,8 @@ impl<L: Ledger> Rerun<L> {
     ) -> bool
         requires rerun { IsRerun log.now self.old.replay self.old.ways.items self.old.table.items }
         requires there { n ≤ length log.now.records }
-        requires fits { CommandFits false (2 ^ log.now.side) self.old.replay.models command.now }
+        requires fits { CommandFits log.now.coloured (2 ^ log.now.side) self.old.replay.models
+            command.now }
         ensures fits { IsTrue result ↔ SavedFits judged.now self.old.replay.models log.now
             (IsStanding log.now.marks session line n) session line n command.now cells }
         ensures same { self.new ≡ self.old }
@@ -157,7 +162,7 @@ impl<L: Ledger> Rerun<L> {
     fn counts(&mut self, log: &History, version: u32, part: Boxed, cells: u64) -> bool
         requires rerun { IsRerun log.now self.old.replay self.old.ways.items self.old.table.items }
         requires there { version ≤ length log.now.records }
-        requires fits { FitsAt part.at part.size (2 ^ log.now.side) }
+        requires fits { FitsAt part.at part.size (world_side log.now) }
         ensures fits { IsTrue result ↔ (cells ≡ number_in part
             (world_has self.old.replay.models log.now.records version)) }
         ensures same { self.new ≡ self.old }

@@ -1,9 +1,10 @@
 //! Whether a history, scripts and transcripts are those of one run.
-ghost use Rattle.std.specs.Prelude.{◌≡◌, ◌+◌, ◌<◌, ◌≤◌, ◌^◌, ◌↔◌, false, All, IfOk, IfErr, IfSome, IsTrue, MatchOption, length};
+ghost use Rattle.std.specs.Prelude.{◌≡◌, ◌+◌, ◌<◌, ◌≤◌, ◌^◌, ◌↔◌, true, All, IfOk, IfErr, IfSome, IsTrue, MatchOption, length};
 ghost use Rattle.vox_read.specs.Contents.{AreModels};
-ghost use Rattle.history_model.specs.Logs.{FitsWorld, IsLegal, IsPlain};
+ghost use Rattle.history_model.specs.Logs.{FitsWorld, IsLegal, SuitsTints, suits_tints};
 ghost use Rattle.node_words.specs.Plans.{is_number_of_buckets};
 ghost use Rattle.script.specs.Fitting.{CommandFits, RisesFrom};
+ghost use Rattle.store_run.specs.Kept.{IsLargeStore};
 ghost use Rattle.store_run.specs.Replaying.{replay_plan};
 ghost use Rattle.audit.specs.Audits.{IsAudited, RefusesAlong, RefusesAudit, judged_by};
 ghost use Rattle.audit.specs.Reruns.{IsRerun};
@@ -13,7 +14,7 @@ use crate::marks::{RECORDS, mark_table};
 use crate::replaying::replay_all;
 use crate::reruns::Rerun;
 use conformance::Transcript;
-use history_model::{History, Record};
+use history_model::{Act, History, Record};
 use node_words::Plan;
 use script::Script;
 use std::alloc::Global;
@@ -23,14 +24,15 @@ use store_run::Replay;
 use vox_read::Models;
 use vw_cell::Side;
 
-/// Whether the history is legal and agrees with the scripts and their transcripts, which show just
-/// it: script k and transcript k are those of session k. A full bucket that a transcript tells is
-/// judged by the usual buckets of each level, or by so many on each. Where `keep` isn't 0, the
-/// history has to hold its last `keep` versions alone: a version that falls out has its mark by
-/// then, and is shown by the record that pushes it out, unless a line forgot it.
+/// Whether the history is legal, its acts are tinted exactly where it is coloured, and it agrees
+/// with the scripts and their transcripts, which show just it: script k and transcript k are those
+/// of session k. A full bucket that a transcript tells is judged by the usual buckets of each
+/// level, or by so many on each. Where `keep` isn't 0, the history has to hold its last `keep`
+/// versions alone: a version that falls out has its mark by then, and is shown by the record that
+/// pushes it out, unless a line forgot it.
 ///
 /// The history is replayed once, up to its first record that can't follow those before it, and
-/// every version is kept, also one that is forgotten. A coloured history isn't judged yet.
+/// every version is kept, also one that is forgotten.
 #[tactic(auto, using(crate::proofs::Judging::audited_by_plan))]
 pub fn audit(
     alloc: Global,
@@ -42,9 +44,10 @@ pub fn audit(
     keep: u32,
 ) -> Result<bool, AuditRefused>
     requires models { AreModels models }
-    requires plain { IsPlain history.now }
+    requires large { IsLargeStore history.now.coloured history.now.side }
     requires buckets { IfSome buckets (λ b. IsTrue (is_number_of_buckets b)) }
-    requires fits { All (All (λ l. CommandFits false (2 ^ history.now.side) models l.command))
+    requires fits { All (All
+        (λ l. CommandFits history.now.coloured (2 ^ history.now.side) models l.command))
         scripts.now }
     requires rise { All (RisesFrom 1) scripts.now }
     requires few { length scripts.now ≤ 64 }
@@ -86,7 +89,7 @@ fn judging_plan(side: Side, buckets: Option<u16>) -> Plan
     }
 }
 
-#[tactic(auto, using(crate::proofs::Judging::audited_by, crate::proofs::Judging::never_audited, crate::proofs::Judging::never_kept))]
+#[tactic(auto, using(crate::proofs::Judging::audited_by, crate::proofs::Judging::never_audited, crate::proofs::Judging::never_suits, crate::proofs::Judging::never_kept))]
 fn audit_over<L: Ledger>(
     alloc: Global,
     log: &History,
@@ -99,10 +102,11 @@ fn audit_over<L: Ledger>(
     blank: Blank,
 ) -> Result<bool, AuditRefused>
     requires models { AreModels models }
-    requires plain { IsPlain log.now }
+    requires large { IsLargeStore log.now.coloured log.now.side }
     requires side { judged.now.side ≡ log.now.side }
     requires replayed { replayed.now.side ≡ log.now.side }
-    requires fits { All (All (λ l. CommandFits false (2 ^ log.now.side) models l.command))
+    requires fits { All (All
+        (λ l. CommandFits log.now.coloured (2 ^ log.now.side) models l.command))
         scripts.now }
     requires rise { All (RisesFrom 1) scripts.now }
     requires few { length scripts.now ≤ 64 }
@@ -113,6 +117,9 @@ fn audit_over<L: Ledger>(
         ↔ IsAudited keep judged.now models log.now scripts.now transcripts.now) }
     ensures refused { IfErr result (RefusesAlong replayed.now models log.now.records) }
 {
+    if !acts_suit(log.records.as_slice(), log.coloured) {
+        return Ok(false);
+    }
     match run_again::<L>(alloc, log, models, replayed, blank) {
         Ok(Some(rerun)) => {
             let mut rerun = rerun;
@@ -136,7 +143,8 @@ fn run_again<L: Ledger>(
     blank: Blank,
 ) -> Result<Option<Rerun<L>>, AuditRefused>
     requires models { AreModels models }
-    requires plain { IsPlain log.now }
+    requires suits { SuitsTints log.now }
+    requires large { IsLargeStore log.now.coloured log.now.side }
     requires side { replayed.now.side ≡ log.now.side }
     requires name { blank.name ≡ L.name }
     requires parts { blank.parts ≡ L.parts }
@@ -161,7 +169,8 @@ fn run_again<L: Ledger>(
     if !acts_fit(records, log.side, &models) {
         return Ok(None);
     }
-    let mut replay: Replay<L> = match Replay::begin(alloc, replayed, models, count, blank) {
+    let tint = log.coloured;
+    let mut replay: Replay<L> = match Replay::begin(alloc, replayed, models, tint, count, blank) {
         Ok(replay) => replay,
         Err(_) => return Err(AuditRefused::Memory),
     };
@@ -181,4 +190,22 @@ fn acts_fit(records: &[Record], side: Side, models: &Models) -> bool
     ensures { IsTrue result ↔ All (λ r. FitsWorld (2 ^ side) models.now r.act) records.now }
 {
     records.iter().all(|r| r.act.fits(side, models))
+}
+
+// Whether each act is tinted exactly where the history is coloured.
+fn acts_suit(records: &[Record], coloured: bool) -> bool
+    ensures { IsTrue result ↔ All (λ r. suits_tints coloured r.act ≡ true) records.now }
+{
+    records.iter().all(|r| suits(r.act, coloured))
+}
+
+// Whether this one is, or is an undo or a redo.
+fn suits(act: Act, coloured: bool) -> bool
+    ensures { result ≡ suits_tints coloured act }
+{
+    match act {
+        Act::Undo | Act::Redo => true,
+        Act::Tint(_) => coloured,
+        _ => !coloured,
+    }
 }

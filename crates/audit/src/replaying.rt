@@ -30,11 +30,12 @@ pub(crate) fn replay_all<L: Ledger>(
 ) -> Result<Option<Vec<Ways>>, AuditRefused>
     requires empty { replay.old.records ≡ [] }
     requires few { length records.now ≤ 65535 }
-    requires plain { All (λ r. suits_tints false r.act ≡ true) records.now }
+    requires suits { All (λ r. suits_tints replay.old.tint r.act ≡ true) records.now }
     requires fit { All (λ r. FitsWorld (2 ^ replay.old.plan.side) replay.old.models r.act)
         records.now }
     requires made { MakesOnlyParts replay.old }
     ensures plan { replay.new.plan ≡ replay.old.plan }
+    ensures tint { replay.new.tint ≡ replay.old.tint }
     ensures models { replay.new.models ≡ replay.old.models }
     ensures refused { IfErr result
         (RefusesAlong replay.old.plan replay.old.models records.now) }
@@ -79,10 +80,11 @@ fn step<L: Ledger>(
     table: &[Option<Mark>],
 ) -> Result<bool, AuditRefused>
     requires early { length replay.old.records < 65535 }
-    requires plain { suits_tints false next.act ≡ true }
+    requires suits { suits_tints replay.old.tint next.act ≡ true }
     requires fits { FitsWorld (2 ^ replay.old.plan.side) replay.old.models next.act }
     requires made { MakesOnlyParts replay.old }
     ensures plan { replay.new.plan ≡ replay.old.plan }
+    ensures tint { replay.new.tint ≡ replay.old.tint }
     ensures models { replay.new.models ≡ replay.old.models }
     ensures more { result ≡ Ok true
         → replay.new.records ≡ replay.old.records ++ next ∷ [] }

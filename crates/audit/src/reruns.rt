@@ -2,6 +2,7 @@
 ghost use Rattle.std.specs.Prelude.{◌≡◌, ◌+◌, ◌<◌, ◌≤◌, ◌^◌, ◌↔◌, ℕ, List, length, IsTrue, Some, None};
 ghost use Rattle.std.specs.List.{Contains};
 ghost use Rattle.vw_cell.specs.Counts.{number_in};
+ghost use Rattle.history_model.specs.Logs.{world_side};
 ghost use Rattle.script.specs.Fitting.{QuestionFits};
 ghost use Rattle.vw_cell.specs.Places.{FitsAt};
 ghost use Rattle.conformance.specs.Answers.{IsStanding, IsReadable, IsForgotten, target_at, mark_of};
@@ -127,7 +128,7 @@ impl<L: Ledger> Rerun<L> {
     }
 
     // Whether the answer tells what the question asks of a version.
-    #[tactic(auto, using(crate::proofs::Recalling::told_same))]
+    #[tactic(auto, using(crate::proofs::Recalling::told_same, crate::proofs::Recalling::question_rerun))]
     pub(crate) fn tells(
         &mut self,
         log: &History,
@@ -137,7 +138,7 @@ impl<L: Ledger> Rerun<L> {
     ) -> bool
         requires rerun { IsRerun log.now self.old.replay self.old.ways.items self.old.table.items }
         requires there { version ≤ length log.now.records }
-        requires fits { QuestionFits (2 ^ log.now.side) question }
+        requires fits { QuestionFits (world_side log.now) question }
         ensures tells { IsTrue result ↔ TellsVersion self.old.replay.models log.now version
             question answer }
         ensures same { self.new ≡ self.old }
@@ -146,12 +147,12 @@ impl<L: Ledger> Rerun<L> {
         is_told(told, answer)
     }
 
-    // Whether two versions have the same tints: in a plain history, where they have the same cells.
+    // Whether two versions have the same tints.
     pub(crate) fn are_same(&self, log: &History, v: u32, w: u32) -> bool
         requires rerun { IsRerun log.now self.now.replay self.now.ways.items self.now.table.items }
         requires there { (v ≤ length log.now.records) × (w ≤ length log.now.records) }
         ensures { IsTrue result ↔ AreSame self.now.replay.models log.now v w }
     {
-        self.replay.has_same_cells(v, w)
+        self.replay.has_same_tints(v, w)
     }
 }

@@ -31,7 +31,7 @@ impl<L: Ledger> Rerun<L> {
     ) -> bool
         requires rerun { IsRerun log.now self.old.replay self.old.ways.items self.old.table.items }
         requires fits { All
-            (λ l. CommandFits false (2 ^ log.now.side) self.old.replay.models l.command)
+            (λ l. CommandFits log.now.coloured (2 ^ log.now.side) self.old.replay.models l.command)
             script.now }
         ensures fits { IsTrue result ↔ SessionAgrees judged.now self.old.replay.models log.now
             session script.now transcript.now }
@@ -57,7 +57,7 @@ impl<L: Ledger> Rerun<L> {
     ) -> bool
         requires rerun { IsRerun log.now self.old.replay self.old.ways.items self.old.table.items }
         requires fits { All
-            (λ l. CommandFits false (2 ^ log.now.side) self.old.replay.models l.command)
+            (λ l. CommandFits log.now.coloured (2 ^ log.now.side) self.old.replay.models l.command)
             script.now }
         requires as_many { length script.now ≡ length transcript.now }
         ensures fits { IsTrue result ↔ AllZip (LineFits judged.now self.old.replay.models log.now
@@ -123,7 +123,7 @@ impl<L: Ledger> Rerun<L> {
     ) -> bool
         requires rerun { IsRerun log.now self.old.replay self.old.ways.items self.old.table.items }
         requires fits { All (All
-            (λ l. CommandFits false (2 ^ log.now.side) self.old.replay.models l.command))
+            (λ l. CommandFits log.now.coloured (2 ^ log.now.side) self.old.replay.models l.command))
             scripts.now }
         requires rise { All (RisesFrom 1) scripts.now }
         requires few { length scripts.now ≤ 64 }
@@ -150,7 +150,7 @@ impl<L: Ledger> Rerun<L> {
     ) -> bool
         requires rerun { IsRerun log.now self.old.replay self.old.ways.items self.old.table.items }
         requires fits { All (All
-            (λ l. CommandFits false (2 ^ log.now.side) self.old.replay.models l.command))
+            (λ l. CommandFits log.now.coloured (2 ^ log.now.side) self.old.replay.models l.command))
             scripts.now }
         requires few { length scripts.now ≤ 64 }
         ensures fits { IsTrue result ↔ SessionsAgree judged.now self.old.replay.models log.now
@@ -173,7 +173,7 @@ impl<L: Ledger> Rerun<L> {
     ) -> bool
         requires rerun { IsRerun log.now self.old.replay self.old.ways.items self.old.table.items }
         requires fits { All (All
-            (λ l. CommandFits false (2 ^ log.now.side) self.old.replay.models l.command))
+            (λ l. CommandFits log.now.coloured (2 ^ log.now.side) self.old.replay.models l.command))
             scripts.now }
         requires few { length scripts.now ≤ 64 }
         requires as_many { length scripts.now ≡ length transcripts.now }
@@ -200,7 +200,7 @@ impl<L: Ledger> Rerun<L> {
     ) -> bool
         requires rerun { IsRerun log.now self.old.replay self.old.ways.items self.old.table.items }
         requires fits { All
-            (λ l. CommandFits false (2 ^ log.now.side) self.old.replay.models l.command)
+            (λ l. CommandFits log.now.coloured (2 ^ log.now.side) self.old.replay.models l.command)
             script.now }
         ensures fits { IsTrue result ↔ SessionAgrees judged.now self.old.replay.models log.now
             session script.now transcript.now }

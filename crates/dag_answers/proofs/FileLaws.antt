@@ -8,7 +8,7 @@ use Rattle.vw_cell.specs.Places.{IsInWorld, IsInBlock}
 use Rattle.vox_read.specs.Contents.{Content}
 use Rattle.history_model.specs.declared.histories.Record.{Record}
 use Rattle.history_model.specs.Logs.{Log}
-use Rattle.history_model.specs.Moments.{world_has}
+use Rattle.history_model.specs.Stores.{stored_in, store_has}
 use Rattle.node_shapes.specs.Shape.{Shape, has}
 use Rattle.node_shapes.specs.Tree.{Tree, shape_of}
 use Rattle.node_words.proofs.HeldLaws.{held_reached}
@@ -110,7 +110,7 @@ module _ (models : List Content) (log : Log) (held : List Tree) (roots : List Ro
     from_origin a = omega arith
 
     cells_are : (v i : ℕ) → IsVersion file (log.side - 1) v i
-        → SameWorld (2 ^ log.side) (version_has file log.side i) (world_has models log.records v)
+        → SameWorld (2 ^ log.side) (version_has file log.side i) (store_has models log v)
     cells_are v i is =
         let found = at_place i is.below in
         let x = found.0 in
@@ -122,7 +122,7 @@ module _ (models : List Content) (log : Log) (held : List Tree) (roots : List Ro
               ap (λ (s : Shape). has (log.side - 2) s q.x q.y q.z) shape
               ∙ (λ t. has (log.side - 2) (shape_of shows.shows.tree) (from_origin q.x t) (from_origin q.y t) (from_origin q.z t))
               ∙ shows.shows.shows.each q (in_block q inside)
-              ∙ ap (λ (n : ℕ). world_has models log.records n q) number;
+              ∙ ap (λ (n : ℕ). store_has models log n q) number;
         }
       where
         in_block : (q : Cell) → IsInWorld (2 ^ log.side) q
@@ -150,7 +150,7 @@ file_stays models old new file side records to back is = record {
       (λ there. to v (has.0 there), λ kept. has.1 (back v kept));
   cells =
       subst (λ (rs : List Record). (v i : ℕ) → IsVersion file (new.side - 1) v i
-      → SameWorld (2 ^ new.side) (version_has file new.side i) (world_has models rs v)) records
+      → SameWorld (2 ^ new.side) (version_has file new.side i) (stored_in (2 ^ new.side) models rs v)) records
       (subst (λ (s : ℕ). (v i : ℕ) → IsVersion file (s - 1) v i
-      → SameWorld (2 ^ s) (version_has file s i) (world_has models old.records v)) side is.cells);
+      → SameWorld (2 ^ s) (version_has file s i) (stored_in (2 ^ s) models old.records v)) side is.cells);
 }

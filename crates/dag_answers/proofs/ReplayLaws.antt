@@ -1,5 +1,5 @@
 -- A legal history that is replayed with its marks.
-use Rattle.std.proofs.Common.{◌≡◌, ◌≢◌, ℕ, zero, suc, ◌+◌, ◌^◌, ◌<◌, ◌≤◌, List, [], ◌∷◌, ◌++◌, length, take, drop, get_or, length-append, length-drop, length-take-le, take_all, take-append-drop, sym, ap, subst, ◌∙◌, inl, inr, ◌⊎◌, arith, false}
+use Rattle.std.proofs.Common.{◌≡◌, ◌≢◌, ℕ, zero, suc, ◌+◌, ◌^◌, ◌<◌, ◌≤◌, List, [], ◌∷◌, ◌++◌, length, take, drop, get_or, length-append, length-drop, length-take-le, take_all, take-append-drop, sym, ap, subst, ◌∙◌, inl, inr, ◌⊎◌, arith}
 use Rattle.std.specs.Prelude.{All}
 use Rattle.std.specs.List.{Contains}
 use Rattle.std.proofs.lemmas.Bool.{cases_order}
@@ -79,11 +79,12 @@ in_take xs k x has =
 module _ (models : List Content) (log : Log) (due : List Mark) (of_due : AreDue log.marks due) where
   -- nothing was replayed
   pub has_begun : (now : WorldState) → now.plan.side ≡ log.side → now.models ≡ models
-      → now.log ≡ record { side = now.plan.side; coloured = false; records = []; marks = [] }
+      → now.log ≡ record { side = now.plan.side; coloured = log.coloured; records = []; marks = [] }
       → MakesOnlyParts (replayed now) → HasReplayed models log due 0 0 now
   has_begun now side same is made = record {
     side = side;
     log_side = ap (λ (l : Log). l.side) is ∙ side;
+    coloured = ap (λ (l : Log). l.coloured) is;
     models_are = same;
     records = ap (λ (l : Log). l.records) is;
     many = ap (λ (l : Log). length l.records) is;
@@ -130,6 +131,7 @@ module _ (models : List Content) (log : Log) (due : List Mark) (of_due : AreDue 
       record {
         side = ap (λ (p : Layout). p.side) plan ∙ has.side;
         log_side = ap (λ (l : Log). l.side) is ∙ has.log_side;
+        coloured = ap (λ (l : Log). l.coloured) is ∙ has.coloured;
         models_are = same ∙ has.models_are;
         records =
             ap (λ (l : Log). l.records) is
@@ -215,6 +217,7 @@ module _ (models : List Content) (log : Log) (due : List Mark) (of_due : AreDue 
       record {
         side = ap (λ (p : Layout). p.side) plan ∙ has.side;
         log_side = marks.side ∙ has.log_side;
+        coloured = marks.coloured ∙ has.coloured;
         models_are = same ∙ has.models_are;
         records = marks.records ∙ has.records;
         many = ap (λ (rs : List Record). length rs) marks.records ∙ has.many;

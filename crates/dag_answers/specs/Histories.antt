@@ -2,7 +2,7 @@
 use Rattle.std.specs.Prelude.{◌↔◌, ℕ, ◌-◌, ◌^◌, List, ⊤}
 use Rattle.vox_read.specs.Contents.{Content}
 use Rattle.history_model.specs.Logs.{Log}
-use Rattle.history_model.specs.Moments.{world_has}
+use Rattle.history_model.specs.Stores.{store_has}
 use Rattle.block_contents.specs.Versions.{IsKept, SameWorld}
 use Rattle.store_run.specs.declared.replaying.ReplayRefused.{ReplayRefused}
 use Rattle.store_run.specs.declared.replaying.ReplayRefused.TheVariants as replays
@@ -15,13 +15,14 @@ use Rattle.dag_answers.specs.Looks.{version_has}
 use Rattle.dag_answers.specs.declared.making.HistoryRefused.{HistoryRefused}
 use Rattle.dag_answers.specs.declared.making.HistoryRefused.TheVariants as refusals
 
--- the file keeps all rules, has just the versions that the history keeps, and gives each its cells
+-- the file keeps all rules, has just the versions that the history keeps, and gives each the cells
+-- that a store keeps of it
 pub record IsFileOfHistory (models : List Content) (log : Log) (file : List ℕ) : Type 0 where
   pub bytes : AreBytes file
   pub right : IsDagFile file (log.side - 1)
   pub versions : (v : ℕ) → HasVersion file (log.side - 1) v ↔ IsKept log v
   pub cells : (v i : ℕ) → IsVersion file (log.side - 1) v i
-      → SameWorld (2 ^ log.side) (version_has file log.side i) (world_has models log.records v)
+      → SameWorld (2 ^ log.side) (version_has file log.side i) (store_has models log v)
 
 -- what a refusal says: a bucket is full where all records keep the rules, and want of memory says
 -- nothing

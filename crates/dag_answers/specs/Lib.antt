@@ -4,3 +4,4 @@ pub mod Legality
 pub mod Histories
 pub mod Replays
 pub use Rattle.store_run.specs.Replaying
+pub use Rattle.store_run.specs.Kept

@@ -21,6 +21,7 @@ pub record HasReplayed (models : List Content) (log : Log) (due : List Mark) (n 
     (now : WorldState) : Type 0 where
   pub side : now.plan.side ≡ log.side
   pub log_side : now.log.side ≡ log.side
+  pub coloured : now.log.coloured ≡ log.coloured
   pub models_are : now.models ≡ models
   pub records : now.log.records ≡ take n log.records
   pub many : length now.log.records ≡ n

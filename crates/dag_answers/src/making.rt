@@ -2,7 +2,8 @@
 ghost use Rattle.std.specs.Prelude.{◌≡◌, ◌+◌, ◌^◌, ◌-◌, ◌<◌, ◌≤◌, [], All, IfOk, IfErr, OnOk, drop, length};
 ghost use Rattle.std.specs.List.{AllPairs};
 ghost use Rattle.vox_read.specs.Contents.{AreModels};
-ghost use Rattle.history_model.specs.Logs.{IsPlain};
+ghost use Rattle.history_model.specs.Logs.{SuitsTints};
+ghost use Rattle.store_run.specs.Kept.{IsLargeStore};
 ghost use Rattle.store_run.specs.Known.{known_seen};
 ghost use Rattle.store_run.specs.Marked.{AreLegalMarks, HoldsKept};
 ghost use Rattle.store_run.specs.Replaying.{replay_plan};
@@ -59,15 +60,17 @@ impl From<Memory> for HistoryRefused {
     }
 }
 
-/// The file of the versions of a history that have no mark, in a world of its side. The history is
-/// replayed once, and each version is given back at its mark. A coloured history has no file yet.
+/// The file of the versions of a history that have no mark, in a store of its side. The history is
+/// replayed once, and each version is given back at its mark. Where the history is coloured, it is
+/// a file of the store that keeps the tints of its world.
 pub fn file_of_history(
     alloc: Global,
     history: &History,
     models: Models,
 ) -> Result<Vec<u8>, HistoryRefused>
     requires models { AreModels models }
-    requires plain { IsPlain history.now }
+    requires suits { SuitsTints history.now }
+    requires large { IsLargeStore history.now.coloured history.now.side }
     requires marks { AreLegalMarks (length history.now.records) history.now.marks }
     ensures file { IfOk result (λ file. IsFileOfHistory models history.now file.items) }
     ensures refused { IfErr result (RefusesHistory models history.now) }
@@ -94,7 +97,8 @@ fn file_over<L: Ledger>(
     blank: Blank,
 ) -> Result<Vec<u8>, HistoryRefused>
     requires models { AreModels models }
-    requires plain { IsPlain history.now }
+    requires suits { SuitsTints history.now }
+    requires large { IsLargeStore history.now.coloured history.now.side }
     requires marks { AreLegalMarks (length history.now.records) history.now.marks }
     requires plan { plan.now ≡ replay_plan history.now.side }
     requires records { AreLegalRecords (2 ^ history.now.side) models history.now.marks
@@ -107,7 +111,10 @@ fn file_over<L: Ledger>(
 {
     let due = marks_due(alloc, history.marks.as_slice())?;
     let records = history.records.len();
-    let mut replay: MarkedReplay<L> = MarkedReplay::begin(alloc, plan, models, records, blank)?;
+    let tint = history.coloured;
+    let mut replay: MarkedReplay<L> = MarkedReplay::begin(
+        alloc, plan, models, tint, records, blank,
+    )?;
     replay_all(&mut replay, history, due.as_slice())?;
     let held = replay.into_roots(alloc)?;
     let file = file_of_roots(alloc, history.side, held)?;
@@ -132,7 +139,7 @@ fn replay_all<L: Ledger>(
     history: &History,
     due: &[Mark],
 ) -> Result<(), ReplayRefused>
-    requires plain { IsPlain history.now }
+    requires suits { SuitsTints history.now }
     requires marks { AreLegalMarks (length history.now.records) history.now.marks }
     requires due { AreDue history.now.marks due.now }
     requires records { AreLegalRecords (2 ^ history.now.side) replay.old.models history.now.marks

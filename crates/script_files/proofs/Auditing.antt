@@ -1,5 +1,5 @@
 -- What an audit answers, as an outcome of the whole command.
-use Rattle.std.proofs.Common.{◌≡◌, ℕ, ◌+◌, ◌<◌, List, [], ◌∷◌, ◌++◌, Bool, false, length, map, take, drop, get_or, Option, None, Ok, refl, sym, ap, subst, ◌∙◌, arith}
+use Rattle.std.proofs.Common.{◌≡◌, ℕ, ◌+◌, ◌<◌, List, [], ◌∷◌, ◌++◌, Bool, length, map, take, drop, get_or, Option, None, Ok, refl, sym, ap, subst, ◌∙◌, arith}
 use Rattle.std.specs.Prelude.{All, IsTrue, ◌↔◌}
 use Rattle.std.proofs.lemmas.List.{take_more, drop_more, map-append, length-map, length-take-le}
 use Rattle.std.proofs.lemmas.List.Elements.{All-nil, All-cons, All-append}
@@ -26,13 +26,14 @@ use Rattle.script_files.specs.declared.refusals.TextRefused.{TextRefused}
 use Rattle.script_files.specs.declared.refusals.TextRefused.TheVariants.{Vox, Script, Collides, NoScene, NoPlace, StoreFull, NoDag, Journal, Transcript, Memory}
 use Rattle.script_files.specs.declared.requests.Request.TheVariants.{Audit}
 use Rattle.script_files.specs.Orders.{AuditAsked}
-use Rattle.script_files.specs.Audits.{AuditTexts, IsJournalOf, RefusesPlain, audit_texts, AreTranscriptsOf, JournalRead, AllRead, AnswersAudit, RefusesAuditing}
+use Rattle.history_model.specs.Refusals.{RefusesJournal}
+use Rattle.script_files.specs.Audits.{AuditTexts, IsJournalOf, audit_texts, AreTranscriptsOf, JournalRead, AllRead, AnswersAudit, RefusesAuditing}
 use Rattle.script_files.specs.Auditing.{IsLeft, AddsTranscript, RefusesNextTranscript, RefusesTranscripts}
 use Rattle.script_files.specs.Meanings.{file_in, texts_audited, RefusesTexts}
 use Rattle.script_files.specs.Outcomes.{Outcome}
 use Rattle.script_files.specs.Refusals.{of_vox, of_journal, of_audit, RefusesScripts}
 use Rattle.script_files.specs.Requests.{inputs_of}
-use Rattle.script_files.specs.Scripts.{scripts_of}
+use Rattle.script_files.specs.Scripts.{lines_told}
 use Rattle.script_files.proofs.Ending.{unwritten}
 
 -- ---- refusals
@@ -80,7 +81,7 @@ vox_refused_at (faults.TooManyModels at) file t says = says
 vox_refused_at faults.Memory file t says = tt
 
 pub journal_refused : (fault : JournalFault) (file : List ℕ) (t : AuditTexts)
-    (models : List Content) → ReadsModels file (Ok models) → RefusesPlain fault t.journal
+    (models : List Content) → ReadsModels file (Ok models) → RefusesJournal fault t.journal
     → RefusesAuditing file t (of_journal fault)
 journal_refused (journals.Line line) file t models gives says =
     record { models = models; gives = gives; first = says }
@@ -98,7 +99,7 @@ module _ (file : List ℕ) (t : AuditTexts) (models : List Content) (log : Log)
     }
 
     pub scripts_refused_at : (r : TextRefused)
-        → RefusesScripts r (scripts_of false log.side models t.scripts) → RefusesAuditing file t r
+        → RefusesScripts r (lines_told log models t.scripts) → RefusesAuditing file t r
     scripts_refused_at (Script at) says =
         record { begun = journal_read; is_of_text = says.0; first = says.1 }
     scripts_refused_at Memory says = tt
@@ -112,7 +113,7 @@ module _ (file : List ℕ) (t : AuditTexts) (models : List Content) (log : Log)
     scripts_refused_at (Transcript at) says = absurd says
 
     pub transcripts_refused : (lines : List (List ScriptLine))
-        → scripts_of false log.side models t.scripts ≡ Ok lines → (r : TextRefused)
+        → lines_told log models t.scripts ≡ Ok lines → (r : TextRefused)
         → RefusesTranscripts t.transcripts r → RefusesAuditing file t r
     transcripts_refused lines read (Transcript at) says = record {
       scripts = record { begun = journal_read; lines = lines; read = read };

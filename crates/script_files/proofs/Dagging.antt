@@ -11,7 +11,8 @@ use Rattle.vox_read.specs.Files.{ReadsModels, RefusesFile}
 use Rattle.history_model.specs.declared.reading.JournalFault.{JournalFault}
 use Rattle.history_model.specs.declared.reading.JournalFault.TheVariants as journals
 use Rattle.history_model.specs.Logs.{Log}
-use Rattle.script_files.specs.Audits.{IsJournalOf, RefusesPlain}
+use Rattle.history_model.specs.Refusals.{RefusesJournal}
+use Rattle.script_files.specs.Audits.{IsJournalOf}
 use Rattle.node_words.specs.declared.shares.Full.{Full}
 use Rattle.script_files.specs.declared.refusals.CommandRefused.TheVariants.{Output}
 use Rattle.script_files.specs.declared.refusals.OutputRefused.{OutputRefused}
@@ -47,7 +48,7 @@ dagging_refused (Transcript at) asked texts says = absurd says
 dagging_refused Memory asked texts says = tt
 
 pub line_refused : (fault : JournalFault) (file journal : List ℕ) (models : List Content)
-    → ReadsModels file (Ok models) → RefusesPlain fault journal
+    → ReadsModels file (Ok models) → RefusesJournal fault journal
     → RefusesDagging file journal (of_journal fault)
 line_refused (journals.Line line) file journal models gives says =
     inl (record { models = models; gives = gives; first = says })

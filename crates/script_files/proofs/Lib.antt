@@ -13,3 +13,4 @@ pub mod RunsAudited
 pub mod Dagging
 pub mod Looking
 pub use Rattle.dag_answers.proofs.JudgeLaws
+pub mod Told

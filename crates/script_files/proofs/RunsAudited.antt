@@ -1,5 +1,5 @@
 -- What a run left is audited yes.
-use Rattle.std.proofs.Common.{◌≡◌, ℕ, Bool, false, List, Option, Some, None, Result, Ok, refl, sym, ap, subst, ◌∙◌}
+use Rattle.std.proofs.Common.{◌≡◌, ℕ, Bool, List, Option, Some, None, Result, Ok, refl, sym, ap, subst, ◌∙◌}
 use Rattle.vox_chunk.specs.declared.faults.VoxFault.{VoxFault}
 use Rattle.vox_read.specs.Contents.{Content}
 use Rattle.vox_read.specs.Once.{one_reading}
@@ -14,7 +14,7 @@ use Rattle.script_files.specs.declared.refusals.NumberedFault.{NumberedFault}
 use Rattle.script_files.specs.Meanings.{file_in, scripts_in}
 use Rattle.script_files.specs.RunsAudited.{RunsAreAnsweredYes}
 use Rattle.script_files.specs.Orders.{world_exponent}
-use Rattle.script_files.specs.Scripts.{lines_asked, scripts_of}
+use Rattle.script_files.specs.Scripts.{lines_asked, lines_told, scripts_of}
 use Rattle.script_files.specs.Unread.{said_once}
 
 abbrev Reading : Type 0
@@ -44,19 +44,18 @@ answered_yes asked texts log transcripts buckets answer accepted told answers sa
     in
     let side : log.side ≡ asked.plan.side =
     same_exponent log.side asked.plan.side accepted.run.legal.same_side in
-    let plain : asked.tint ≡ false =
-    sym accepted.coloured ∙ ap (λ (l : Log). l.coloured) logs ∙ begun.journal.plain in
     let reads : lines_asked asked accepted.models (scripts_in texts)
-    ≡ scripts_of false begun.log.side begun.models (scripts_in texts) =
-    ap (λ (b : Bool). scripts_of b (world_exponent b asked.plan.side) accepted.models
-    (scripts_in texts)) plain
-    ∙ ap (λ (s : ℕ). scripts_of false s accepted.models (scripts_in texts)) (sym side)
-    ∙ ap (λ (l : Log). scripts_of false l.side accepted.models (scripts_in texts)) logs
-    ∙ ap (λ (ms : List Content). scripts_of false begun.log.side ms (scripts_in texts)) models in
+    ≡ lines_told begun.log begun.models (scripts_in texts) =
+    ap (λ (s : ℕ). scripts_of asked.tint (world_exponent asked.tint s) accepted.models
+    (scripts_in texts)) (sym side)
+    ∙ ap (λ (b : Bool). scripts_of b (world_exponent b log.side) accepted.models
+    (scripts_in texts)) (sym accepted.coloured)
+    ∙ ap (λ (l : Log). lines_told l accepted.models (scripts_in texts)) logs
+    ∙ ap (λ (ms : List Content). lines_told begun.log ms (scripts_in texts)) models in
     let lines : accepted.lines ≡ audit.all.scripts.lines =
     lines_once accepted.lines audit.all.scripts.lines
     (lines_asked asked accepted.models (scripts_in texts))
-    (scripts_of false begun.log.side begun.models (scripts_in texts)) accepted.read
+    (lines_told begun.log begun.models (scripts_in texts)) accepted.read
     audit.all.scripts.read reads in
     let said : transcripts ≡ audit.all.said =
     said_once transcripts audit.all.said answers audit.all.transcripts.answers

@@ -1,5 +1,5 @@
 -- What the stages of an audit give.
-use Rattle.std.specs.Prelude.{◌≡◌, ℕ, false, List, [], ◌∷◌, ◌++◌, All, Ok, ⊤}
+use Rattle.std.specs.Prelude.{◌≡◌, ℕ, List, [], ◌∷◌, ◌++◌, All, Ok, ⊤}
 use Rattle.vox_read.specs.Files.{ReadsModels}
 use Rattle.transcript.specs.Bounds.{IsLineAnswer}
 use Rattle.transcript.specs.Lines.{transcript_of}
@@ -10,13 +10,13 @@ use Rattle.script_files.specs.declared.audits.RunLeft.{RunLeft}
 use Rattle.script_files.specs.declared.refusals.TextRefused.{TextRefused}
 use Rattle.script_files.specs.declared.refusals.TextRefused.TheVariants.{Transcript, Memory}
 use Rattle.script_files.specs.Audits.{AuditTexts, IsJournalOf, AreTranscriptsOf, IsFirstUnread}
-use Rattle.script_files.specs.Scripts.{scripts_of}
+use Rattle.script_files.specs.Scripts.{lines_told}
 
 -- no text has a fault, and this is what they say
 pub record IsLeft (file : List ℕ) (t : AuditTexts) (left : RunLeft) : Type 0 where
   pub gives : ReadsModels file (Ok left.models)
   pub journal : IsJournalOf t.journal left.history
-  pub read : scripts_of false left.history.side left.models t.scripts ≡ Ok left.scripts.items
+  pub read : lines_told left.history left.models t.scripts ≡ Ok left.scripts.items
   pub transcripts : AreTranscriptsOf t.transcripts left.transcripts.items
 
 -- one more transcript was read, and its answers stand behind those before it

@@ -1,5 +1,5 @@
 -- What the command `audit` answers, or is refused for.
-use Rattle.std.specs.Prelude.{◌≡◌, ◌⊎◌, ℕ, ◌↔◌, List, [], ◌∷◌, Bool, true, false, IsTrue, All, Option, map, get_or, take, drop, Ok, Err, ⊤}
+use Rattle.std.specs.Prelude.{◌≡◌, ℕ, ◌↔◌, List, [], ◌∷◌, Bool, IsTrue, All, Option, map, get_or, take, drop, Ok, Err, ⊤}
 use Rattle.vw_io.specs.Outputs.{Named}
 use Rattle.vox_read.specs.Contents.{Content}
 use Rattle.vox_read.specs.Files.{ReadsModels}
@@ -7,7 +7,6 @@ use Rattle.history_model.specs.Logs.{Log}
 use Rattle.history_model.specs.Entries.{IsTold}
 use Rattle.history_model.specs.Journal.{journal_of}
 use Rattle.history_model.specs.Refusals.{RefusesJournal}
-use Rattle.history_model.specs.declared.reading.JournalFault.{JournalFault}
 use Rattle.history_model.specs.declared.reading.JournalFault.TheVariants as journals
 use Rattle.node_words.specs.declared.shares.Full.{Full}
 use Rattle.script.specs.declared.commands.ScriptLine.{ScriptLine}
@@ -23,7 +22,7 @@ use Rattle.script_files.specs.declared.refusals.NumberedFault.{NumberedFault}
 use Rattle.script_files.specs.declared.refusals.TranscriptLine.{TranscriptLine}
 use Rattle.script_files.specs.declared.refusals.TextRefused.{TextRefused}
 use Rattle.script_files.specs.declared.refusals.TextRefused.TheVariants.{Vox, Journal, Script, Transcript, StoreFull, Memory}
-use Rattle.script_files.specs.Scripts.{scripts_of}
+use Rattle.script_files.specs.Scripts.{lines_told}
 
 -- the texts behind that of the VOX file: the journal's, those of the scripts, and those of their
 -- transcripts
@@ -42,25 +41,10 @@ audit_texts n texts = record {
 
 -- ---- what they say
 
--- the text is that of a history whose cells have no tints
+-- the text is that of a history
 pub record IsJournalOf (text : List ℕ) (log : Log) : Type 0 where
   pub told : IsTold log
   pub is : text ≡ journal_of log
-  pub plain : log.coloured ≡ false
-
--- the text is that of a history whose cells have tints
-pub record TellsColours (text : List ℕ) : Type 0 where
-  pub log : Log
-  pub told : IsTold log
-  pub is : text ≡ journal_of log
-  pub coloured : log.coloured ≡ true
-
--- what a refused journal says of its text: this is its first line that doesn't fit, or the first
--- line of a history whose cells have tints, which is not taken; want of memory says nothing
-abbrev pub RefusesPlain : JournalFault → List ℕ → Type 0
-RefusesPlain (journals.Line line) text =
-    RefusesJournal (journals.Line line) text ⊎ ((line ≡ 1) × TellsColours text)
-RefusesPlain journals.Memory text = ⊤
 
 -- the texts are those of these answers
 pub record AreTranscriptsOf (texts : List (List ℕ)) (said : List (List LineAnswer)) : Type 0 where
@@ -85,11 +69,11 @@ pub record JournalRead (file : List ℕ) (t : AuditTexts) : Type 0 where
   pub log : Log
   pub journal : IsJournalOf t.journal log
 
--- and no script has a fault in a world of the journal's side
+-- and no script has a fault in the history's world
 pub record ScriptsRead (file : List ℕ) (t : AuditTexts) : Type 0 where
   pub begun : JournalRead file t
   pub lines : List (List ScriptLine)
-  pub read : scripts_of false begun.log.side begun.models t.scripts ≡ Ok lines
+  pub read : lines_told begun.log begun.models t.scripts ≡ Ok lines
 
 -- and the transcripts are read
 pub record AllRead (file : List ℕ) (t : AuditTexts) : Type 0 where
@@ -120,13 +104,13 @@ pub record Audited (buckets : Option ℕ) (keep : ℕ) (file : List ℕ) (t : Au
 pub record LacksJournal (file : List ℕ) (t : AuditTexts) (line : ℕ) : Type 0 where
   pub models : List Content
   pub gives : ReadsModels file (Ok models)
-  pub first : RefusesPlain (journals.Line line) t.journal
+  pub first : RefusesJournal (journals.Line line) t.journal
 
 -- the journal gives a history, and this is the first fault of the first script that has one
 pub record LacksScript (file : List ℕ) (t : AuditTexts) (at : NumberedFault) : Type 0 where
   pub begun : JournalRead file t
   pub is_of_text : IsOfText at.fault.kind
-  pub first : scripts_of false begun.log.side begun.models t.scripts ≡ Err at
+  pub first : lines_told begun.log begun.models t.scripts ≡ Err at
 
 -- no script has a fault, and this is the first line of the first transcript that doesn't fit
 pub record LacksTranscript (file : List ℕ) (t : AuditTexts) (at : TranscriptLine) : Type 0 where

@@ -11,7 +11,8 @@ use Rattle.dag_answers.specs.Histories.{IsFileOfHistory}
 use Rattle.dag_answers.specs.Legality.{IsFirstIllegal}
 use Rattle.script_files.specs.declared.refusals.TextRefused.{TextRefused}
 use Rattle.script_files.specs.declared.refusals.TextRefused.TheVariants.{Vox, Journal, StoreFull, Memory}
-use Rattle.script_files.specs.Audits.{IsJournalOf, RefusesPlain}
+use Rattle.history_model.specs.Refusals.{RefusesJournal}
+use Rattle.script_files.specs.Audits.{IsJournalOf}
 use Rattle.script_files.specs.Orders.{DagAsked}
 
 -- the journal's text comes behind that of the VOX file
@@ -48,7 +49,7 @@ pub record DagWritten (asked : DagAsked) (file journal : List ℕ)
 pub record LacksLine (file journal : List ℕ) (line : ℕ) : Type 0 where
   pub models : List Content
   pub gives : ReadsModels file (Ok models)
-  pub first : RefusesPlain (journals.Line line) journal
+  pub first : RefusesJournal (journals.Line line) journal
 
 -- or it is the line of the first record that breaks a rule of a legal history
 pub record HasIllegal (file journal : List ℕ) (line : ℕ) : Type 0 where

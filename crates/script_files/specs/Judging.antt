@@ -35,7 +35,7 @@ use Rattle.script_files.specs.Dags.{HasIllegal, LacksHistory, journal_in}
 use Rattle.dag_answers.proofs.LegalLaws.{first_not_legal, legal_records}
 use Rattle.script_files.specs.Orders.{FloodAsked, DagAsked, LookAsked, AuditAsked}
 use Rattle.script_files.specs.Audits.{AuditTexts, IsJournalOf, AreTranscriptsOf, IsFirstUnread, AllRead}
-use Rattle.script_files.specs.Unread.{no_plain, no_transcripts, said_once}
+use Rattle.script_files.specs.Unread.{no_journal, no_transcripts, said_once}
 use Rattle.script_files.specs.Floods.{start_of, has_start_place}
 use Rattle.vox_scene.specs.declared.faults.SceneFault.{SceneFault}
 use Rattle.vox_scene.specs.Scenes.{SceneSeen, HasScene}
@@ -502,7 +502,7 @@ illegal_follows : (asked : DagAsked) (files : Files) (texts : List (List ℕ)) (
     → v ≡ HasJournalFault
 illegal_follows asked files texts v line taken (inl lacks) judges =
     by_found (Dag asked) files texts v (Ok lacks.models) (OfLegal None) taken lacks.gives
-    (λ log is legal. no_plain (journal_in texts) line log lacks.first is) judges
+    (λ log is legal. no_journal (journal_in texts) line log lacks.first is) judges
 illegal_follows asked files texts v line taken (inr has) judges =
     by_found (Dag asked) files texts v (Ok has.given.models) (OfLegal None) taken has.given.gives
     (illegal_alone (file_in texts) (journal_in texts) line has) judges
@@ -521,7 +521,7 @@ history_follows (Look asked) files texts v line taken says judges = absurd says
 history_follows (Audit asked) files texts v line taken says judges =
     let own =
     judged_run asked files texts v says.models None taken says.gives
-    (λ log. no_plain (texts_audited asked texts).journal line log says.first) judges in
+    (λ log. no_journal (texts_audited asked texts).journal line log says.first) judges in
     own.2
 
 unread_answers : (texts : List (List ℕ)) (at : TranscriptLine)

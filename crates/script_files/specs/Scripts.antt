@@ -9,7 +9,8 @@ use Rattle.script.specs.Placing.{is_save_name}
 use Rattle.script.specs.declared.commands.Command.{Command}
 use Rattle.script.specs.declared.commands.Command.TheVariants.{Save}
 use Rattle.script.specs.Scripts.{commands_of}
-use Rattle.script_files.specs.Orders.{Asked, asked_side}
+use Rattle.history_model.specs.Logs.{Log}
+use Rattle.script_files.specs.Orders.{Asked, asked_side, world_exponent}
 use Rattle.script_files.specs.declared.refusals.NumberedFault.{NumberedFault}
 
 -- a fault stands in the script of its number
@@ -37,6 +38,12 @@ scripts_of tint side models texts = texts_from tint side models 0 texts
 abbrev pub lines_asked : Asked → List Content → List (List ℕ)
     → Result (List (List ScriptLine)) NumberedFault
 lines_asked asked models texts = scripts_of asked.tint (asked_side asked) models texts
+
+-- those of a run that a journal tells of, in its history's world
+abbrev pub lines_told : Log → List Content → List (List ℕ)
+    → Result (List (List ScriptLine)) NumberedFault
+lines_told log models texts =
+    scripts_of log.coloured (world_exponent log.coloured log.side) models texts
 
 -- a file can have the name under which the line saves, where it does
 abbrev pub FileNameIsOf : Command → Type 0

@@ -1,7 +1,6 @@
 -- A text with a line that doesn't fit is no journal, and no transcript.
-use Rattle.std.proofs.Common.{◌≡◌, ℕ, zero, suc, List, [], ◌∷◌, ◌++◌, length, map, drop, get_or, refl, sym, ap, subst, ◌∙◌, arith, inl, inr}
+use Rattle.std.proofs.Common.{◌≡◌, ℕ, zero, suc, List, [], ◌∷◌, ◌++◌, length, map, drop, get_or, refl, sym, ap, subst, ◌∙◌, arith}
 use Rattle.std.specs.Prelude.{All}
-use Rattle.std.proofs.lemmas.Bool.{false≢true}
 use Rattle.std.proofs.lemmas.List.Elements.{All-head, All-tail, recursion_from_All}
 use Rattle.plain_text.specs.Parts.{lines, Unfit, FirstUnfit}
 use Rattle.history_model.specs.Logs.{Log}
@@ -14,9 +13,7 @@ use Rattle.transcript.specs.declared.answers.LineAnswer.{LineAnswer}
 use Rattle.transcript.proofs.ReadingLaws.{one_reading}
 use Rattle.transcript.proofs.TextLaws.{transcript_lines}
 use Rattle.script_files.specs.declared.refusals.TranscriptLine.{TranscriptLine}
-use Rattle.history_model.specs.declared.reading.JournalFault.TheVariants as journals
-use Rattle.history_model.proofs.OnceLaws.{journals_once}
-use Rattle.script_files.specs.Audits.{IsJournalOf, RefusesPlain, AreTranscriptsOf, IsFirstUnread}
+use Rattle.script_files.specs.Audits.{IsJournalOf, AreTranscriptsOf, IsFirstUnread}
 
 goes_on : (Kind : List (List ℕ) → Type 0) (front rest : List (List ℕ)) → Unfit Kind front rest
     → Kind (front ++ rest) → ⊥
@@ -34,15 +31,6 @@ pub no_journal : (text : List ℕ) (n : ℕ) (log : Log) → FirstUnfit IsJourna
 no_journal text n log first is =
     fits_not IsJournalLines (lines text) n first
     (log, is.told, ap lines is.is ∙ journal_lines log is.told)
-
--- and one whose line is refused is none of a history without tints
-pub no_plain : (text : List ℕ) (line : ℕ) (log : Log) → RefusesPlain (journals.Line line) text
-    → IsJournalOf text log → ⊥
-no_plain text line log (inl first) is = no_journal text line log first is
-no_plain text line log (inr (e, tells)) is =
-    let same : log ≡ tells.log =
-    journals_once log tells.log is.told tells.told (sym is.is ∙ tells.is) in
-    false≢true (sym is.plain ∙ ap (λ (l : Log). l.coloured) same ∙ tells.coloured)
 
 -- the transcript of this number
 said_at : (said : List (List LineAnswer)) (n : ℕ) (text : List ℕ) (others : List (List ℕ))

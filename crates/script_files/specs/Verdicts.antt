@@ -1,6 +1,6 @@
 -- What a command over told files has to come to, as long as the shelf doesn't fail and memory is
 -- there.
-use Rattle.std.specs.Prelude.{◌≡◌, ℕ, ◌^◌, false, List, [], ◌∷◌, length, nat_lt, if◌then◌else◌, Option, Some, None, Result, Ok, Err, ⊤}
+use Rattle.std.specs.Prelude.{◌≡◌, ℕ, ◌^◌, List, [], ◌∷◌, length, nat_lt, if◌then◌else◌, Option, Some, None, Result, Ok, Err, ⊤}
 use Rattle.vw_io.specs.Outside.{Files}
 use Rattle.vw_io.specs.Inputs.{WantedInput}
 use Rattle.vw_io.specs.Names.{collide}
@@ -34,7 +34,7 @@ use Rattle.script_files.specs.Requests.{inputs_of, output_names}
 use Rattle.script_files.specs.Meanings.{file_in, scripts_in, texts_audited}
 use Rattle.script_files.specs.Audits.{AuditTexts, IsJournalOf, AreTranscriptsOf}
 use Rattle.script_files.specs.Floods.{has_start_place}
-use Rattle.script_files.specs.Scripts.{lines_asked, scripts_of}
+use Rattle.script_files.specs.Scripts.{lines_asked, lines_told}
 
 -- the first thing that is wrong with the inputs and the names, if anything is
 pub data Verdict : Type 0 where
@@ -88,7 +88,7 @@ abbrev pub verdict_of_run : AuditTexts → List Content → Option Log
     → Option (List (List LineAnswer)) → Verdict
 verdict_of_run t models None said = HasJournalFault
 verdict_of_run t models (Some log) said =
-    verdict_of_lines (scripts_of false log.side models t.scripts) said
+    verdict_of_lines (lines_told log models t.scripts) said
 
 -- what is found behind an accepted VOX file: nothing is looked for; or the fault of its scene, if
 -- it has one; or, with no VOX file, why a file of many versions does not answer, if it doesn't; or

@@ -1,22 +1,22 @@
 //! The audit of what a run left.
-ghost use Rattle.std.specs.Prelude.{◌≡◌, ◌≤◌, ◌+◌, ◌^◌, ◌<◌, ◌++◌, ◌↔◌, false, length, map, take, drop, string_bytes, IfOk, IfErr, IfSome, IsTrue, OnOk};
+ghost use Rattle.std.specs.Prelude.{◌≡◌, ◌≤◌, ◌+◌, ◌^◌, ◌<◌, ◌++◌, ◌↔◌, Ok, length, map, take, drop, string_bytes, IfOk, IfErr, IfSome, IsTrue, OnOk};
 ghost use Rattle.node_words.specs.Plans.{is_number_of_buckets};
 ghost use Rattle.audit.specs.Audits.{IsAudited, RefusesAudit, judged_by};
 ghost use Rattle.vox_read.specs.Contents.{AreModels};
-ghost use Rattle.history_model.specs.Logs.{IsPlain};
+ghost use Rattle.dag_answers.specs.Kept.{IsLargeStore};
 ghost use Rattle.script_files.specs.declared.requests.Request.TheVariants.{Audit};
 ghost use Rattle.script_files.specs.Audits.{AnswersAudit, RefusesAuditing};
 ghost use Rattle.script_files.specs.Meanings.{file_in, texts_audited};
 ghost use Rattle.script_files.specs.Outcomes.{Outcome};
-ghost use Rattle.script_files.specs.Refusals.{IsNamed};
+ghost use Rattle.script_files.specs.Refusals.{IsNamed, RefusesScripts};
 ghost use Rattle.script_files.specs.Requests.{inputs_of, script_input, transcript_name};
-ghost use Rattle.script_files.specs.Scripts.{AreFitScripts};
+ghost use Rattle.script_files.specs.Scripts.{AreFitScripts, lines_told};
 ghost use Rattle.script_files.specs.Audits.{AreTranscriptsOf};
 ghost use Rattle.script_files.specs.Auditing.{IsLeft, AddsTranscript, RefusesNextTranscript, RefusesTranscripts};
 
-use crate::journals::read_plain;
+use crate::journals::read_told;
 use crate::refusals::{CommandRefused, TextRefused, TranscriptLine};
-use crate::requests::{AuditOrder, Buckets, SCRIPT_LIMIT, VOX_LIMIT};
+use crate::requests::{AuditOrder, Buckets, SCRIPT_LIMIT, VOX_LIMIT, world_kept};
 use crate::scripts::read_scripts;
 use crate::tallies::{Completed, Done};
 use audit::{AuditRefused, audit};
@@ -187,8 +187,9 @@ fn answer_by(
     left: RunLeft,
 ) -> Result<bool, AuditRefused>
     requires models { AreModels left.models }
-    requires plain { IsPlain left.history }
-    requires fit { AreFitScripts false left.history.side left.models left.scripts.items }
+    requires large { IsLargeStore left.history.coloured left.history.side }
+    requires fit { AreFitScripts left.history.coloured left.history.side left.models
+        left.scripts.items }
     requires number { length left.scripts.items ≤ 64 }
     ensures answer { IfOk result (λ answer. IsTrue answer
         ↔ IsAudited keep (judged_by left.history.side buckets) left.models left.history
@@ -242,9 +243,11 @@ fn read_left(
       transcripts = drop number texts.items;
     })) }
     ensures models { IfOk result (λ left. AreModels left.models) }
-    ensures plain { IfOk result (λ left. IsPlain left.history) }
+    ensures large { IfOk result
+        (λ left. IsLargeStore left.history.coloured left.history.side) }
     ensures fit { IfOk result
-        (λ left. AreFitScripts false left.history.side left.models left.scripts.items) }
+        (λ left. AreFitScripts left.history.coloured left.history.side left.models
+        left.scripts.items) }
     ensures number { IfOk result (λ left. length left.scripts.items ≤ 64) }
     ensures refused { IfErr result (RefusesAuditing file (record {
       journal = journal;
@@ -257,13 +260,13 @@ fn read_left(
         Err(fault) => return Err(TextRefused::from(fault)),
     };
     drop(file);
-    let history = match read_plain(alloc, journal.as_slice()) {
+    let history = match read_told(alloc, journal.as_slice()) {
         Ok(history) => history,
         Err(fault) => return Err(TextRefused::from(fault)),
     };
     drop(journal);
     let (scripts, transcripts) = texts.as_slice().split_at(number);
-    let scripts = match read_scripts(alloc, scripts, history.side, &models, false) {
+    let scripts = match scripts_told(alloc, scripts, &history, &models) {
         Ok(scripts) => scripts,
         Err(refused) => return Err(refused),
     };
@@ -277,6 +280,34 @@ fn read_left(
         scripts,
         transcripts,
     })
+}
+
+// The commands of all scripts in the history's world, or the first fault of the first that has one.
+#[tactic(auto, using(crate::proofs::WorldSides::told_by, crate::proofs::WorldSides::told_refused, crate::proofs::WorldSides::fit_by))]
+fn scripts_told(
+    alloc: Global,
+    texts: &[Text],
+    history: &History,
+    models: &Models,
+) -> Result<Vec<Script>, TextRefused>
+    requires models { AreModels models.now }
+    requires few { length texts.now ≤ 64 }
+    ensures read { IfOk result
+        (λ scripts. lines_told history.now models.now texts.now ≡ Ok scripts.items) }
+    ensures fit { IfOk result (λ scripts.
+        AreFitScripts history.now.coloured history.now.side models.now scripts.items) }
+    ensures number { IfOk result (λ scripts. length scripts.items ≡ length texts.now) }
+    ensures refused { IfErr result
+        (λ refused. RefusesScripts refused (lines_told history.now models.now texts.now)) }
+{
+    let tint = history.coloured;
+    let Some(side) = world_kept(history.side, tint) else {
+        return Err(TextRefused::Memory);
+    };
+    match read_scripts(alloc, texts, side, models, tint) {
+        Ok(scripts) => Ok(scripts),
+        Err(refused) => Err(refused),
+    }
 }
 
 // The answers of all transcripts, or the first line of the first that has one that doesn't fit.

@@ -5,7 +5,7 @@ ghost use Rattle.script_files.specs.Meanings.{file_in};
 ghost use Rattle.script_files.specs.Outcomes.{Outcome};
 ghost use Rattle.script_files.specs.Refusals.{IsNamed};
 
-use crate::journals::read_plain;
+use crate::journals::read_told;
 use crate::refusals::{CommandRefused, OutputRefused, TextRefused};
 use crate::requests::{DagOrder, SCRIPT_LIMIT, VOX_LIMIT};
 use crate::tallies::{Completed, Done};
@@ -84,7 +84,7 @@ fn dag_of(alloc: Global, file: Text, journal: Text) -> Result<Vec<u8>, TextRefus
         Err(fault) => return Err(TextRefused::from(fault)),
     };
     drop(file);
-    let history = match read_plain(alloc, journal.as_slice()) {
+    let history = match read_told(alloc, journal.as_slice()) {
         Ok(history) => history,
         Err(fault) => return Err(TextRefused::from(fault)),
     };

@@ -1,3 +1,7 @@
+ghost use Rattle.std.specs.Prelude.{◌≡◌, ◌≤◌, true, IfSome};
+ghost use Rattle.history_model.specs.Logs.{store_exponent};
+ghost use Rattle.script_files.specs.Orders.{asked_side, world_exponent};
+
 use dag_answers::SpelledQuestion;
 use node_words::Plan;
 use std::marker::Model;
@@ -78,28 +82,32 @@ impl<'w> Model for Order<'w> {
 }
 
 impl<'w> Order<'w> {
-    ghost use Rattle.std.specs.Prelude.{◌≡◌, ◌≤◌, true, IfSome};
-    ghost use Rattle.history_model.specs.Logs.{store_exponent};
-    ghost use Rattle.script_files.specs.Orders.{asked_side};
-
-    // The side of the run's world: the store's, or a quarter of it where cells have tints. No words
-    // ask for tints in a store that has no such quarter.
-    #[tactic(auto, using(crate::proofs::WorldSides::quarter_side))]
+    // The side of the run's world.
     pub(crate) fn world_side(&self) -> Option<Side>
         ensures side { IfSome result (λ s. s ≡ asked_side self.now) }
         ensures kept { IfSome result
             (λ s. store_exponent self.now.tint s ≡ self.now.plan.side) }
         ensures large { IfSome result (λ s. self.now.tint ≡ true → 4 ≤ self.now.plan.side) }
     {
-        let side = self.plan.side();
-        if !self.tint {
-            return Some(side);
-        }
-        if side.exponent() < 4 {
-            return None;
-        }
-        Side::new(side.cells() / 4)
+        world_kept(self.plan.side(), self.tint)
     }
+}
+
+// The side of the world that a store of this side keeps: its own, or a quarter of it where cells
+// have tints. No words ask for tints in a store that has no such quarter.
+#[tactic(auto, using(crate::proofs::WorldSides::quarter_side))]
+pub(crate) fn world_kept(side: Side, tint: bool) -> Option<Side>
+    ensures side { IfSome result (λ s. s ≡ world_exponent tint side) }
+    ensures kept { IfSome result (λ s. store_exponent tint s ≡ side) }
+    ensures large { IfSome result (λ s. tint ≡ true → 4 ≤ side) }
+{
+    if !tint {
+        return Some(side);
+    }
+    if side.exponent() < 4 {
+        return None;
+    }
+    Side::new(side.cells() / 4)
 }
 
 /// What a flood is asked for: the VOX file, the number of its model, the place from which is

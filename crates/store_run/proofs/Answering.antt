@@ -1,5 +1,5 @@
 -- What each answer makes of a run.
-use Rattle.std.proofs.Common.{◌≡◌, ◌≢◌, ℕ, ◌+◌, ◌^◌, ◌<◌, ◌≤◌, ◌⊎◌, append-nil, Bool, true, false, Some, None, Option, List, [], ◌∷◌, ◌++◌, length, length-append, refl, sym, ◌∙◌, ap, subst, arith, inl, inr}
+use Rattle.std.proofs.Common.{◌≡◌, ◌≢◌, ℕ, ◌+◌, ◌<◌, ◌≤◌, ◌⊎◌, append-nil, Bool, true, false, Some, None, Option, List, [], ◌∷◌, ◌++◌, length, length-append, refl, sym, ◌∙◌, ap, subst, arith, inl, inr}
 use Rattle.std.specs.Prelude.{IsTrue, ◌↔◌}
 use Rattle.std.specs.List.{Contains}
 use Rattle.std.proofs.lemmas.Bool.{false≢true}
@@ -12,8 +12,8 @@ use Rattle.history_model.specs.declared.histories.Mark.{Mark}
 use Rattle.history_model.specs.declared.histories.Record.{Record}
 use Rattle.history_model.specs.declared.questions.Question.{Question}
 use Rattle.history_model.specs.declared.questions.Question.TheVariants as questions
-use Rattle.history_model.specs.Logs.{Log, suits_tints}
-use Rattle.history_model.specs.Tints.{Tints, SameTints}
+use Rattle.history_model.specs.Logs.{Log}
+use Rattle.history_model.specs.Tints.{Tints}
 use Rattle.history_model.specs.Worlds.{World, is_edit}
 use Rattle.node_shapes.specs.Shape.{Shape}
 use Rattle.node_words.specs.declared.shares.Full.{Full}
@@ -39,10 +39,10 @@ use Rattle.script_runs.proofs.Arms.{rebuilt_arm, undone_arm, forgot_arm, full_ar
 use Rattle.one_store.specs.Known.{IsStore, known_seen, stored_root}
 use Rattle.store_run.specs.declared.stored_versions.Versions.{Versions}
 use Rattle.store_run.specs.Kept.{plan_of, log_of, moment_of, world_of, tints_of, noted_of, AreVersions, LosesTree, HoldsSame}
-use Rattle.store_run.specs.Steps.{TellsVersion, HasMark, LeavesAll, SharesRoot, MakesRoot, MeetsBucket, AppendsRecord, MarksVersion}
+use Rattle.store_run.specs.Steps.{TellsVersion, HasMark, LeavesAll, SharesRoot, MakesRoot, MeetsBucket, AppendsRecord, MarksVersion, side_of}
 use Rattle.store_run.specs.Answering.{GoesOnBy, nothing_to_go_to, saved_as}
 use Rattle.store_run.proofs.Holding.{same_again}
-use Rattle.store_run.proofs.Plainly.{same_in_world, same_in_store, plain_log, tints_of_cells, cells_of_tints}
+use Rattle.store_run.proofs.KeptWorlds.{tints_by_cells, cells_by_tints}
 use Rattle.store_run.proofs.Sparing.{versions_sound, gave_nothing}
 use Rattle.script_runs.proofs.Going.{goes_to}
 use Rattle.store_run.proofs.Targets.{Wants, grew_wanted, meets_full}
@@ -60,8 +60,8 @@ records_as old new log = ap (λ (l : Log). l.records) log ∙ sym (append-nil ol
 abbrev pub FitsSoFar : Versions → ℕ → ScriptLine → Answer → Type 0
 FitsSoFar v session l answer =
     (scripts : List (List ScriptLine)) (transcripts : List (List LineAnswer)) (script : List ScriptLine) (transcript : List LineAnswer)
-    → IsSoFar (plan_of v) v.models.items scripts transcripts script transcript (log_of v) → length scripts ≡ session → IsAfter script l
-    → Answers (plan_of v) v.models.items (log_of v) (IsStanding (log_of v).marks session l.line (moment_of v)) session l.line (moment_of v) l.command answer
+    → IsSoFar (plan_of v) v.models.models scripts transcripts script transcript (log_of v) → length scripts ≡ session → IsAfter script l
+    → Answers (plan_of v) v.models.models (log_of v) (IsStanding (log_of v).marks session l.line (moment_of v)) session l.line (moment_of v) l.command answer
 
 -- an answer that changes nothing
 pub rests : (v w : Versions) (session : ℕ) (l : ScriptLine) (answer : Answer) → AreVersions v → LeavesAll v w
@@ -74,9 +74,9 @@ rests v w session l answer are leaves resting none fits = record {
   records = records_as v w leaves.stay.log;
   goes_on = λ scripts transcripts script transcript running number after. (
       let p = plan_of v in
-      let models = v.models.items in
+      let models = v.models.models in
       let first = last_moment 0 transcript in
-      let line = resting_arm p models session first l (log_of v) answer (noted_of v) are.sound.legal resting none
+      let line = resting_arm p models session first l (log_of v) answer (noted_of v) are.stored.sound.legal resting none
       (fits scripts transcripts script transcript running.so_far number after) in
       subst (λ (new : Log). TakesLine p models session first l (log_of v) new (noted_of v) (noted_of w) (answer_at l (length new.records) answer)) (sym leaves.stay.log)
       (subst (λ (now : MadeAndMet). TakesLine p models session first l (log_of v) (log_of v) (noted_of v) now (answer_at l (moment_of v) answer))
@@ -92,12 +92,12 @@ names_missing v session l version past names scripts transcripts script transcri
 
 forgotten_now : (v : Versions) (session : ℕ) (l : ScriptLine) (version : ℕ) (mark : HasMark v version)
     (scripts : List (List ScriptLine)) (transcripts : List (List LineAnswer)) (script : List ScriptLine) (transcript : List LineAnswer)
-    → IsSoFar (plan_of v) v.models.items scripts transcripts script transcript (log_of v) → length scripts ≡ session → IsAfter script l
+    → IsSoFar (plan_of v) v.models.models scripts transcripts script transcript (log_of v) → length scripts ≡ session → IsAfter script l
     → IsForgotten (log_of v).marks session l.line (moment_of v) version
 forgotten_now v session l version mark scripts transcripts script transcript so_far number after =
     subst (λ (n : ℕ). IsForgotten (log_of v).marks session l.line (moment_of v) n) mark.same
     (subst (λ (k : ℕ). IsForgotten (log_of v).marks k l.line (moment_of v) mark.mark.version) number
-    (marked_forgotten (plan_of v) v.models.items scripts transcripts script transcript l (log_of v) mark.mark so_far after mark.listed))
+    (marked_forgotten (plan_of v) v.models.models scripts transcripts script transcript l (log_of v) mark.mark so_far after mark.listed))
 
 pub readable_now : (v : Versions) (session line version : ℕ) → IsKept (log_of v) version
     → IsReadable (IsStanding (log_of v).marks session line (moment_of v)) (moment_of v) version
@@ -105,13 +105,12 @@ readable_now v session line version kept = kept_readable (log_of v) session line
 
 -- ---- edits
 
-module _ (v w : Versions) (session line : ℕ) (act : Act) (once : Bool) (are : AreVersions v) (edit : is_edit act ≡ true)
-    (plain : suits_tints false act ≡ true) where
+module _ (v w : Versions) (session line : ℕ) (act : Act) (once : Bool) (are : AreVersions v) (edit : is_edit act ≡ true) where
   p : Layout
   p = plan_of v
 
   ms : List Content
-  ms = v.models.items
+  ms = v.models.models
 
   pub edit_full : (full : Full) → MeetsBucket v act full w
       → GoesOnBy v session (record { line = line; command = Edit act once }) (answers.Full full.level full.bucket) w
@@ -122,11 +121,11 @@ module _ (v w : Versions) (session line : ℕ) (act : Act) (once : Bool) (are : 
     records = records_as v w meets.stay.log;
     goes_on = λ scripts transcripts script transcript running number after. (
         let first = last_moment 0 transcript in
-        let low = before_within (plan_of v) v.models.items scripts transcripts script transcript (log_of v) (noted_of v) running in
+        let low = before_within (plan_of v) v.models.models scripts transcripts script transcript (log_of v) (noted_of v) running in
         let l : ScriptLine = record { line = line; command = Edit act once } in
-        let done = full_arm (plan_of v) v.models.items session first line act once full.level full.bucket (log_of v) (known_seen v.store) (known_seen w.store)
-        are.sound.legal refl low (meets_full v act are edit plain full.level full.bucket (known_seen v.store) (known_seen w.store) meets.fails) in
-        subst (λ (new : Log). TakesLine (plan_of v) v.models.items session first l (log_of v) new (noted_of v) (noted_of w) (answer_at l (length new.records) (answers.Full full.level full.bucket)))
+        let done = full_arm (plan_of v) v.models.models session first line act once full.level full.bucket (log_of v) (known_seen v.store) (known_seen w.store)
+        are.stored.sound.legal refl low (meets_full v act are.stored edit full.level full.bucket (known_seen v.store) (known_seen w.store) meets.fails) in
+        subst (λ (new : Log). TakesLine (plan_of v) v.models.models session first l (log_of v) new (noted_of v) (noted_of w) (answer_at l (length new.records) (answers.Full full.level full.bucket)))
         (sym meets.stay.log) done);
   }
 
@@ -141,20 +140,20 @@ module _ (v w : Versions) (session line : ℕ) (act : Act) (once : Bool) (are : 
         ∙ ap (λ (l : Log). l.records ++ record { session = session; line = line; act = act } ∷ []) makes.stay.log;
     goes_on = λ scripts transcripts script transcript running number after. (
         let first = last_moment 0 transcript in
-        let low = before_within (plan_of v) v.models.items scripts transcripts script transcript (log_of v) (noted_of v) running in
+        let low = before_within (plan_of v) v.models.models scripts transcripts script transcript (log_of v) (noted_of v) running in
         let l : ScriptLine = record { line = line; command = Edit act once } in
         let r : Record = record { session = session; line = line; act = act } in
-        let grows : GrowsByRecord (plan_of v) v.models.items r (log_of v) (log_of w) =
-        subst (λ (q : Layout). GrowsByRecord q v.models.items r (log_of v) (log_of w)) makes.stay.spares.plan
+        let grows : GrowsByRecord (plan_of v) v.models.models r (log_of v) (log_of w) =
+        subst (λ (q : Layout). GrowsByRecord q v.models.models r (log_of v) (log_of w)) makes.stay.spares.plan
         (subst (λ (models : List Content). GrowsByRecord (plan_of u) models r (log_of v) (log_of w)) makes.stay.models
-        (subst (λ (log : Log). GrowsByRecord (plan_of u) u.models.items r log (log_of w)) makes.stay.log appends.grows)) in
+        (subst (λ (log : Log). GrowsByRecord (plan_of u) u.models.models r log (log_of w)) makes.stay.log appends.grows)) in
         let grew : Grew (Wants v act) v.store.told.made w.store.told.made =
         subst (λ (list : List Shape). Grew (Wants v act) v.store.told.made list) (sym appends.only.only.made)
-        (grew_wanted v act are edit plain v.store.told.made u.store.told.made makes.grows.made) in
-        let done = rebuilt_arm (plan_of v) v.models.items session first line act once (log_of v) (log_of w) (noted_of v) (noted_of w)
+        (grew_wanted v act are.stored edit v.store.told.made u.store.told.made makes.grows.made) in
+        let done = rebuilt_arm (plan_of v) v.models.models session first line act once (log_of v) (log_of w) (noted_of v) (noted_of w)
         grows low grew (appends.only.only.met ∙ makes.grows.met) in
         let longer : moment_of w ≡ moment_of v + 1 = ap (λ (rs : List Record). length rs) grows.records ∙ length-append v.records.items (r ∷ []) in
-        subst (λ (n : ℕ). TakesLine (plan_of v) v.models.items session first l (log_of v) (log_of w) (noted_of v) (noted_of w) (answer_at l n answers.Done)) (sym longer) done);
+        subst (λ (n : ℕ). TakesLine (plan_of v) v.models.models session first l (log_of v) (log_of w) (noted_of v) (noted_of w) (answer_at l n answers.Done)) (sym longer) done);
   }
 
   pub edit_late : (u : Versions) (root : Option Rattle.node_shapes.specs.declared.names.Name.Name) → MakesRoot v act root u
@@ -167,14 +166,14 @@ module _ (v w : Versions) (session line : ℕ) (act : Act) (once : Bool) (are : 
     records = records_as v w (leaves.stay.log ∙ makes.stay.log);
     goes_on = λ scripts transcripts script transcript running number after. (
         let first = last_moment 0 transcript in
-        let low = before_within (plan_of v) v.models.items scripts transcripts script transcript (log_of v) (noted_of v) running in
+        let low = before_within (plan_of v) v.models.models scripts transcripts script transcript (log_of v) (noted_of v) running in
         let l : ScriptLine = record { line = line; command = Edit act once } in
         let grew : Grew (Wants v act) v.store.told.made w.store.told.made =
         subst (λ (list : List Shape). Grew (Wants v act) v.store.told.made list) (sym leaves.only.made)
-        (grew_wanted v act are edit plain v.store.told.made u.store.told.made makes.grows.made) in
-        let done = late_arm (plan_of v) v.models.items session first line act once (log_of v) (noted_of v) (noted_of w)
-        are.sound.legal (sym (moment_as v u makes.stay.log) ∙ all) edit low grew (leaves.only.met ∙ makes.grows.met) in
-        subst (λ (new : Log). TakesLine (plan_of v) v.models.items session first l (log_of v) new (noted_of v) (noted_of w) (answer_at l (length new.records) answers.LogFull))
+        (grew_wanted v act are.stored edit v.store.told.made u.store.told.made makes.grows.made) in
+        let done = late_arm (plan_of v) v.models.models session first line act once (log_of v) (noted_of v) (noted_of w)
+        are.stored.sound.legal (sym (moment_as v u makes.stay.log) ∙ all) edit low grew (leaves.only.met ∙ makes.grows.met) in
+        subst (λ (new : Log). TakesLine (plan_of v) v.models.models session first l (log_of v) new (noted_of v) (noted_of w) (answer_at l (length new.records) answers.LogFull))
         (sym (leaves.stay.log ∙ makes.stay.log)) done);
   }
 
@@ -201,15 +200,15 @@ go_done v u w session line act once to root shares appends = record {
       let first = last_moment 0 transcript in
       let l : ScriptLine = record { line = line; command = Edit act once } in
       let r : Record = record { session = session; line = line; act = act } in
-      let grows : GrowsByRecord (plan_of v) v.models.items r (log_of v) (log_of w) =
-      subst (λ (q : Layout). GrowsByRecord q v.models.items r (log_of v) (log_of w)) shares.stay.spares.plan
+      let grows : GrowsByRecord (plan_of v) v.models.models r (log_of v) (log_of w) =
+      subst (λ (q : Layout). GrowsByRecord q v.models.models r (log_of v) (log_of w)) shares.stay.spares.plan
       (subst (λ (models : List Content). GrowsByRecord (plan_of u) models r (log_of v) (log_of w)) shares.stay.models
-      (subst (λ (log : Log). GrowsByRecord (plan_of u) u.models.items r log (log_of w)) shares.stay.log appends.grows)) in
-      let done = undone_arm (plan_of v) v.models.items session first line act once (log_of v) (log_of w) (noted_of v) grows in
+      (subst (λ (log : Log). GrowsByRecord (plan_of u) u.models.models r log (log_of w)) shares.stay.log appends.grows)) in
+      let done = undone_arm (plan_of v) v.models.models session first line act once (log_of v) (log_of w) (noted_of v) grows in
       let longer : moment_of w ≡ moment_of v + 1 = ap (λ (rs : List Record). length rs) grows.records ∙ length-append v.records.items (r ∷ []) in
-      subst (λ (now : MadeAndMet). TakesLine (plan_of v) v.models.items session first l (log_of v) (log_of w) (noted_of v) now (answer_at l (moment_of w) answers.Done))
+      subst (λ (now : MadeAndMet). TakesLine (plan_of v) v.models.models session first l (log_of v) (log_of w) (noted_of v) now (answer_at l (moment_of w) answers.Done))
       (sym (noted_as v w (appends.only.only.made ∙ shares.only.made) (appends.only.only.met ∙ shares.only.met)))
-      (subst (λ (n : ℕ). TakesLine (plan_of v) v.models.items session first l (log_of v) (log_of w) (noted_of v) (noted_of v) (answer_at l n answers.Done)) (sym longer) done));
+      (subst (λ (n : ℕ). TakesLine (plan_of v) v.models.models session first l (log_of v) (log_of w) (noted_of v) (noted_of v) (answer_at l n answers.Done)) (sym longer) done));
 }
 
 module _ (v : Versions) (session line : ℕ) (act : Act) (once : Bool) (are : AreVersions v) (other : is_edit act ≡ false) where
@@ -217,7 +216,7 @@ module _ (v : Versions) (session line : ℕ) (act : Act) (once : Bool) (are : Ar
   nothing_fits none scripts transcripts script transcript so_far number after = go act other none
     where
       go : (a : Act) → is_edit a ≡ false → target_at v.records.items (moment_of v) a ≡ None
-          → Answers (plan_of v) v.models.items (log_of v) (IsStanding (log_of v).marks session line (moment_of v)) session line (moment_of v) (Edit a once) (nothing_to_go_to a)
+          → Answers (plan_of v) v.models.models (log_of v) (IsStanding (log_of v).marks session line (moment_of v)) session line (moment_of v) (Edit a once) (nothing_to_go_to a)
       go Undo o n = nothing_to_undo once n
       go Redo o n = nothing_to_redo once n
       go (Fill b) o n = absurd (let no : ⊥ = cc in no)
@@ -293,11 +292,11 @@ forgot_version v w session line version at now marks = record {
       let first = last_moment 0 transcript in
       let l : ScriptLine = record { line = line; command = Forget version } in
       let mark : Mark = record { version = version; at = at; session = session; line = line } in
-      let done = forgot_arm (plan_of v) v.models.items first mark (log_of v) (log_of w) (noted_of v) marks.forgets in
+      let done = forgot_arm (plan_of v) v.models.models first mark (log_of v) (log_of w) (noted_of v) marks.forgets in
       let same : moment_of w ≡ moment_of v = ap (λ (rs : List Record). length rs) marks.forgets.records in
-      subst (λ (now : MadeAndMet). TakesLine (plan_of v) v.models.items session first l (log_of v) (log_of w) (noted_of v) now (answer_at l (moment_of w) (answers.Forgot version)))
+      subst (λ (now : MadeAndMet). TakesLine (plan_of v) v.models.models session first l (log_of v) (log_of w) (noted_of v) now (answer_at l (moment_of w) (answers.Forgot version)))
       (sym (noted_as v w marks.only.only.made marks.only.only.met))
-      (subst (λ (n : ℕ). TakesLine (plan_of v) v.models.items session first l (log_of v) (log_of w) (noted_of v) (noted_of v) (answer_at l n (answers.Forgot version))) (sym same) done));
+      (subst (λ (n : ℕ). TakesLine (plan_of v) v.models.models session first l (log_of v) (log_of w) (noted_of v) (noted_of v) (answer_at l n (answers.Forgot version))) (sym same) done));
 }
 
 module _ (v : Versions) (session line : ℕ) (are : AreVersions v) where
@@ -305,7 +304,7 @@ module _ (v : Versions) (session line : ℕ) (are : AreVersions v) where
   forgets_head version is =
       rests v v session (record { line = line; command = Forget version }) answers.IsHead are (gave_nothing v) refl refl
       (λ scripts transcripts script transcript so_far number after.
-      subst (λ (n : ℕ). Answers (plan_of v) v.models.items (log_of v) (IsStanding (log_of v).marks session line (moment_of v)) session line (moment_of v) (Forget n) answers.IsHead) (sym is) is_head)
+      subst (λ (n : ℕ). Answers (plan_of v) v.models.models (log_of v) (IsStanding (log_of v).marks session line (moment_of v)) session line (moment_of v) (Forget n) answers.IsHead) (sym is) is_head)
 
   pub forget_missing : (version : ℕ) → moment_of v < version → GoesOnBy v session (record { line = line; command = Forget version }) (answers.NoVersion version) v
   forget_missing version past =
@@ -344,7 +343,7 @@ module _ (v : Versions) (session line : ℕ) (are : AreVersions v) where
     where
       go : (m : Mark) → m.version ≡ moment_of v → Contains (log_of v).marks m → ⊥
       go m is listed =
-          let dated = Rattle.std.proofs.lemmas.List.Elements.All-contains (λ k. (k.version < k.at) × (k.at ≤ moment_of v)) (log_of v).marks m are.sound.legal.marked listed in
+          let dated = Rattle.std.proofs.lemmas.List.Elements.All-contains (λ k. (k.version < k.at) × (k.at ≤ moment_of v)) (log_of v).marks m are.stored.sound.legal.marked listed in
           omega (arith, is, dated.0, dated.1)
 
   ask_marked_names : (version : Option ℕ) (question : Question) → HasMark v (asked_version version (moment_of v))
@@ -419,23 +418,16 @@ module _ (v : Versions) (session line : ℕ) (are : AreVersions v) where
       rests v v session (record { line = line; command = Same a b }) (answers.Same is) are (gave_nothing v) refl refl
       (λ scripts transcripts script transcript so_far k after. told is roots)
     where
-      side : (plan_of v).side ≡ v.side
-      side = sym are.side
-
       told : (r : Bool) → (IsTrue r ↔ (stored_root v.store.roots a ≡ stored_root v.store.roots b))
-          → Answers (plan_of v) v.models.items (log_of v) (IsStanding (log_of v).marks session line (moment_of v)) session line (moment_of v) (Same a b) (answers.Same r)
+          → Answers (plan_of v) v.models.models (log_of v) (IsStanding (log_of v).marks session line (moment_of v)) session line (moment_of v) (Same a b) (answers.Same r)
       told true e =
           same a b (readable_now v session line a of_a) (readable_now v session line b of_b)
-          (subst (λ (l : ℕ). SameTints (2 ^ l) (tints_of v a) (tints_of v b)) side
-          (tints_of_cells (2 ^ (plan_of v).side) v.models.items (log_of v) a b (plain_log v are)
-          (same_in_world v a b are
-          (same_cells (plan_of v) v.models.items _ st.plan.side_low (versions_sound v number are st) a b of_a of_b (e.0 refl)))))
+          (tints_by_cells v a b are.stored
+          (same_cells (plan_of v) v.models.models _ st.plan.side_low (versions_sound v number are.stored st) a b of_a of_b (e.0 refl)))
       told false e =
           different a b (readable_now v session line a of_a) (readable_now v session line b of_b)
-          (λ tints. false≢true (e.1 (same_root (plan_of v) v.models.items _ st.plan.side_low (versions_sound v number are st) a b of_a of_b
-          (same_in_store v a b are
-          (cells_of_tints (2 ^ (plan_of v).side) v.models.items (log_of v) a b (plain_log v are)
-          (subst (λ (l : ℕ). SameTints (2 ^ l) (tints_of v a) (tints_of v b)) (sym side) tints))))))
+          (λ tints. false≢true (e.1 (same_root (plan_of v) v.models.models _ st.plan.side_low (versions_sound v number are.stored st) a b of_a of_b
+          (cells_by_tints v a b are.stored tints))))
 
 -- a question that is answered
 telling_rests : (side : ℕ) (world : World) (tints : Tints) (question : Question) (answer : Answer)
@@ -456,7 +448,7 @@ pub asks : (v w : Versions) (session line : ℕ) (version : Option ℕ) (questio
     → TellsVersion v asked question answer
     → GoesOnBy v session (record { line = line; command = Ask version question }) answer w
 asks v w session line version question asked answer are is kept leaves told =
-    let r = telling_rests (2 ^ v.side) (world_of v asked) (tints_of v asked) question answer told in
+    let r = telling_rests (side_of v) (world_of v asked) (tints_of v asked) question answer told in
     rests v w session (record { line = line; command = Ask version question }) answer are leaves r.0 (r.1 (moment_of v) version)
     (λ scripts transcripts script transcript so_far number after. tells version question answer
     (subst (λ (n : ℕ). IsReadable (IsStanding (log_of v).marks session line (moment_of v)) (moment_of v) n) is (readable_now v session line asked kept))

@@ -37,7 +37,7 @@ grown old new r side coloured records marks = λ i. record { side = side i; colo
 
 appended : (v u w : Versions) (r : Record) → log_of u ≡ log_of v → AppendsRecord u r w → log_of w ≡ with_record (log_of v) r
 appended v u w r same appends =
-    grown (log_of u) (log_of w) r appends.grows.side refl appends.grows.records appends.grows.marks ∙ ap (λ (l : Log). with_record l r) same
+    grown (log_of u) (log_of w) r appends.grows.side appends.grows.coloured appends.grows.records appends.grows.marks ∙ ap (λ (l : Log). with_record l r) same
 
 edit_way : (log : Log) (act : Act) → is_edit act ≡ true → HasWay log act
 edit_way log act edit = record { other = λ no. absurd (false≢true (sym no ∙ edit)) }
@@ -107,7 +107,7 @@ module _ (v : Versions) (mark : Mark) where
   pub forgot_logs : (w : Versions) → IsKept (log_of v) mark.version → mark.version < moment_of v → MarksVersion v mark w
       → Forgets (log_of v) mark (answers.Forgot mark.version) (log_of w)
   forgot_logs w kept earlier marks =
-      Forgets.forgot (log_of w) (record { kept = kept; earlier = earlier; side = marks.forgets.side; coloured = refl; records = marks.forgets.records; marks = marks.forgets.marks })
+      Forgets.forgot (log_of w) (record { kept = kept; earlier = earlier; side = marks.forgets.side; coloured = marks.forgets.coloured; records = marks.forgets.records; marks = marks.forgets.marks })
 
 -- ---- the cells of the version that is made
 

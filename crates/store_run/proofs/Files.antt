@@ -83,8 +83,8 @@ module _ (v : Versions) (pins : List Pin) (k : ℕ) (pin : Pin) (p : ArePinned v
   here : slice_get pins k ≡ Some pin
   here = slice_get-get_or pins k pin lt ∙ ap Some (sym read)
 
-  h : HasTree v.side v.models.items v.records.items p.holds.trees pin
-  h = pin_here v.side v.models.items v.records.items pins p.holds.trees k pin p.holds.are_pins here
+  h : HasTree v.side v.models.models v.records.items p.holds.trees pin
+  h = pin_here v.side v.models.models v.records.items pins p.holds.trees k pin p.holds.are_pins here
 
   is_held : (n : Name) → pin.root ≡ Some n → IsHeld v.store.told.held h.tree
   is_held n e = record {

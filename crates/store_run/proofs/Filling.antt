@@ -5,7 +5,7 @@ use Rattle.std.proofs.lemmas.List.Elements.{All-nil, All-cons, All-head, All-wea
 use Rattle.vox_read.specs.Contents.{Content}
 use Rattle.history_model.specs.declared.acts.Act.{Act}
 use Rattle.history_model.specs.declared.histories.Record.{Record}
-use Rattle.history_model.specs.Logs.{Log, suits_tints}
+use Rattle.history_model.specs.Logs.{Log}
 use Rattle.history_model.specs.Worlds.{is_edit}
 use Rattle.node_shapes.specs.Shape.{Shape}
 use Rattle.node_words.specs.declared.shares.Full.{Full}
@@ -19,7 +19,7 @@ use Rattle.script_runs.specs.Keeping.{MadeAndMet, IsMadeFor, IsMadeInRun, IsWant
 use Rattle.script_runs.proofs.PossibleLaws.{enough_possible}
 use Rattle.script_runs.proofs.Refusals.{made_in_stays, wanted_stays}
 use Rattle.store_run.specs.declared.stored_versions.Versions.{Versions}
-use Rattle.store_run.specs.Kept.{plan_of, log_of, noted_of, AreVersions}
+use Rattle.store_run.specs.Kept.{plan_of, log_of, noted_of, AreStored}
 use Rattle.store_run.specs.Steps.{MeetsBucket}
 use Rattle.store_run.specs.Replaying.{ReplayState, replay_state, spans_from, MayFillReplay, MakesOnlyParts, TakesEdit, TakesWay, FillsBucket}
 use Rattle.store_run.proofs.Targets.{grew_wanted}
@@ -98,7 +98,7 @@ module _ (p : Layout) (models : List Content) (records : List Record) (r : Recor
 pub nothing_made : (v : Versions) → noted_of v ≡ record { made = []; met = [] } → MakesOnlyParts (replay_state v)
 nothing_made v none = record {
   parts = subst (λ (m : MadeAndMet).
-      All (IsMadeInRun (plan_of v) v.models.items v.records.items (spans_from 0 v.records.items)) m.made)
+      All (IsMadeInRun (plan_of v) v.models.models v.records.items (spans_from 0 v.records.items)) m.made)
       (sym none) (All-nil _);
 }
 
@@ -128,16 +128,16 @@ parts_as p q models others records more made plan same list all =
     (subst (λ (x : List Content). All (IsMadeInRun p x more (spans_from 0 more)) made) (sym same)
     (subst (λ (x : List Record). All (IsMadeInRun p models x (spans_from 0 x)) made) (sym list) all))
 
-pub edit_parts : (s : ReplayState) (u w : Versions) (r : Record) → replay_state u ≡ s → AreVersions u
-    → is_edit r.act ≡ true → suits_tints false r.act ≡ true → MakesOnlyParts s → TakesEdit u r w
+pub edit_parts : (s : ReplayState) (u w : Versions) (r : Record) → replay_state u ≡ s → AreStored u
+    → is_edit r.act ≡ true → MakesOnlyParts s → TakesEdit u r w
     → MakesOnlyParts (replay_state w)
-edit_parts s u w r is are edit plain only takes =
+edit_parts s u w r is are edit only takes =
     let here : MakesOnlyParts (replay_state u) = subst (λ (t : ReplayState). MakesOnlyParts t) (sym is) only in
     record {
-      parts = parts_as (plan_of u) (plan_of w) u.models.items w.models.items (u.records.items ++ r ∷ [])
+      parts = parts_as (plan_of u) (plan_of w) u.models.models w.models.models (u.records.items ++ r ∷ [])
           w.records.items w.store.told.made takes.takes.plan takes.takes.models takes.takes.records
-          (grown_parts (plan_of u) u.models.items u.records.items r u.store.told.made w.store.told.made
-          (grew_wanted u r.act are edit plain u.store.told.made w.store.told.made takes.made) here.parts);
+          (grown_parts (plan_of u) u.models.models u.records.items r u.store.told.made w.store.told.made
+          (grew_wanted u r.act are edit u.store.told.made w.store.told.made takes.made) here.parts);
     }
 
 pub way_parts : (s : ReplayState) (u w : Versions) (r : Record) → replay_state u ≡ s → MakesOnlyParts s
@@ -146,29 +146,30 @@ way_parts s u w r is only takes =
     let here : MakesOnlyParts (replay_state u) = subst (λ (t : ReplayState). MakesOnlyParts t) (sym is) only in
     record {
       parts = subst (λ (made : List Shape).
-          All (IsMadeInRun (plan_of w) w.models.items w.records.items (spans_from 0 w.records.items)) made)
+          All (IsMadeInRun (plan_of w) w.models.models w.records.items (spans_from 0 w.records.items)) made)
           (sym takes.only.made)
-          (parts_as (plan_of u) (plan_of w) u.models.items w.models.items (u.records.items ++ r ∷ [])
+          (parts_as (plan_of u) (plan_of w) u.models.models w.models.models (u.records.items ++ r ∷ [])
           w.records.items u.store.told.made takes.takes.plan takes.takes.models takes.takes.records
-          (stays (plan_of u) u.models.items u.records.items r u.store.told.made here.parts));
+          (stays (plan_of u) u.models.models u.records.items r u.store.told.made here.parts));
     }
 
-pub edit_fills : (s : ReplayState) (u w : Versions) (r : Record) (full : Full) → replay_state u ≡ s → AreVersions u
-    → is_edit r.act ≡ true → suits_tints false r.act ≡ true → MakesOnlyParts s
+pub edit_fills : (s : ReplayState) (u w : Versions) (r : Record) (full : Full) → replay_state u ≡ s → AreStored u
+    → is_edit r.act ≡ true → MakesOnlyParts s
     → FillsBucket u r.act full w → MayFillReplay s.plan s.models (s.records ++ r ∷ []) full
-edit_fills s u w r full is are edit plain only fills =
+edit_fills s u w r full is are edit only fills =
     let here : MakesOnlyParts (replay_state u) = subst (λ (t : ReplayState). MakesOnlyParts t) (sym is) only in
     subst (λ (t : ReplayState). MayFillReplay t.plan t.models (t.records ++ r ∷ []) full) is
-    (may_fill (plan_of u) u.models.items u.records.items r u.store.told.made w.store.told.made full
-    (grew_wanted u r.act are edit plain u.store.told.made w.store.told.made fills.made) here.parts fills.enough)
+    (may_fill (plan_of u) u.models.models u.records.items r u.store.told.made w.store.told.made full
+    (grew_wanted u r.act are edit u.store.told.made w.store.told.made fills.made) here.parts fills.enough)
 
 -- ---- the state of versions that only got room
 
-pub state_as : (s : ReplayState) (v u : Versions) → replay_state v ≡ s → u.models.items ≡ v.models.items
+pub state_as : (s : ReplayState) (v u : Versions) → replay_state v ≡ s → u.models.models ≡ v.models.models
     → log_of u ≡ log_of v → u.store ≡ v.store → replay_state u ≡ s
 state_as s v u is models log store =
     (λ i. record {
       plan = (store i).words.plan;
+      tint = (log i).coloured;
       models = models i;
       records = (log i).records;
       noted = record { made = (store i).told.made; met = (store i).told.met };

@@ -1,5 +1,5 @@
 -- A history that is replayed with its marks.
-use Rattle.std.proofs.Common.{◌≡◌, ℕ, ◌+◌, ◌<◌, List, [], ◌∷◌, length, Some, None, false, refl, sym, ap, subst, ◌∙◌, arith}
+use Rattle.std.proofs.Common.{◌≡◌, ℕ, ◌+◌, ◌<◌, List, [], ◌∷◌, length, Some, None, false, sym, ap, subst, ◌∙◌, arith}
 use Rattle.history_model.specs.declared.acts.Act.{Act}
 use Rattle.history_model.specs.declared.acts.Act.TheVariants.{Fill, Erase, Ball, Carve, Copy, Stamp, Tint, Undo, Redo}
 use Rattle.history_model.specs.declared.histories.Mark.{Mark}
@@ -14,7 +14,7 @@ use Rattle.conformance.proofs.LineKinds.{undo_target, redo_target}
 use Rattle.script_runs.proofs.Going.{goes_to}
 use Rattle.store_run.specs.declared.stored_versions.Versions.{Versions}
 use Rattle.store_run.specs.Changing.{Marks, with_record}
-use Rattle.store_run.specs.Kept.{log_of, moment_of, AreVersions}
+use Rattle.store_run.specs.Kept.{log_of, moment_of, AreStored}
 use Rattle.store_run.specs.Marked.{replayed}
 use Rattle.store_run.specs.Replaying.{ReplayState, replay_state, MakesOnlyParts, TakesRecord}
 use Rattle.store_run.specs.Steps.{MarksVersion}
@@ -44,7 +44,7 @@ follows_held marks n (Stamp b c) records to other is may = absurd (let no : ⊥ 
 follows_held marks n (Tint t) records to other is may = absurd (let no : ⊥ = cc in no)
 
 -- no mark of a legal history is of a later moment, so the version has none
-pub followed_kept : (v : Versions) (r : Record) (to : ℕ) → AreVersions v → is_edit r.act ≡ false
+pub followed_kept : (v : Versions) (r : Record) (to : ℕ) → AreStored v → is_edit r.act ≡ false
     → Some to ≡ target_at v.records.items (moment_of v) r.act
     → MayFollow (log_of v).marks (moment_of v + 1) r.act (position_after v.records.items)
     → IsKept (log_of v) to
@@ -80,16 +80,16 @@ target_there marks records n (Tint t) other is may = let no : ⊥ = cc in no
 
 -- ---- what is seen of a replay
 
-pub log_taken : (w : WorldState) (u v : Versions) (r : Record) → world_state u ≡ w → AreVersions u
-    → AreVersions v → TakesRecord u r v → log_of v ≡ with_record w.log r
+pub log_taken : (w : WorldState) (u v : Versions) (r : Record) → world_state u ≡ w → AreStored u
+    → AreStored v → TakesRecord u r v → log_of v ≡ with_record w.log r
 log_taken w u v r is of_u of_v takes =
     let side : v.side ≡ u.side =
     of_v.side ∙ ap (λ (p : Layout). p.side) takes.plan ∙ sym of_u.side in
-    (λ i. record { side = side i; coloured = false; records = takes.records i; marks = takes.marks i })
+    (λ i. record { side = side i; coloured = takes.tint i; records = takes.records i; marks = takes.marks i })
     ∙ ap (λ (s : WorldState). with_record s.log r) is
 
 -- the same of the parts that are seen of versions that only got room
-pub world_as : (w : WorldState) (v u : Versions) → world_state v ≡ w → u.models.items ≡ v.models.items
+pub world_as : (w : WorldState) (v u : Versions) → world_state v ≡ w → u.models.models ≡ v.models.models
     → log_of u ≡ log_of v → u.store ≡ v.store → world_state u ≡ w
 world_as w v u is models log store =
     (λ i. record {
@@ -111,14 +111,14 @@ replayed_as w u is = ap replayed is
 
 -- ---- a mark
 
-pub marks_come : (v w : Versions) (mark : Mark) → AreVersions v → AreVersions w
+pub marks_come : (v w : Versions) (mark : Mark) → AreStored v → AreStored w
     → IsKept (log_of v) mark.version → mark.version < moment_of v → MarksVersion v mark w
     → Marks (log_of v) mark (log_of w)
 marks_come v w mark of_v of_w kept earlier marks = record {
   kept = kept;
   earlier = earlier;
   side = of_w.side ∙ ap (λ (p : Layout). p.side) marks.only.plan ∙ sym of_v.side;
-  coloured = refl;
+  coloured = marks.forgets.coloured;
   records = marks.forgets.records;
   marks = marks.forgets.marks;
 }
@@ -130,6 +130,7 @@ marked_parts v w mark marks only =
     subst (λ (s : ReplayState). MakesOnlyParts s)
     (sym (λ i. record {
       plan = marks.only.plan i;
+      tint = marks.forgets.coloured i;
       models = marks.only.models i;
       records = marks.forgets.records i;
       noted = record { made = marks.only.only.made i; met = marks.only.only.met i };

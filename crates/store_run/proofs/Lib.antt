@@ -1,4 +1,4 @@
-pub mod Plainly
+pub mod KeptWorlds
 pub mod Holding
 pub mod Sparing
 pub mod Rebuilding
@@ -19,3 +19,4 @@ pub mod Taking
 pub mod Filling
 pub mod Followed
 pub mod Taken
+pub mod ModelLists

@@ -1,5 +1,5 @@
 -- Records and marks that come to versions.
-use Rattle.std.proofs.Common.{◌≡◌, ℕ, ◌+◌, ◌<◌, ◌≤◌, Some, None, Option, List, [], ◌∷◌, ◌++◌, length, set, refl, sym, ◌∙◌, ap, subst, arith, All, true, false}
+use Rattle.std.proofs.Common.{◌≡◌, ℕ, ◌+◌, ◌<◌, ◌≤◌, Some, None, Option, List, [], ◌∷◌, ◌++◌, length, set, refl, sym, ◌∙◌, ap, subst, arith, All, Bool, true}
 use Rattle.std.specs.Vec.{with_item}
 use Rattle.std.proofs.lemmas.List.{length-set}
 use Rattle.std.proofs.lemmas.List.Elements.{All-push}
@@ -21,19 +21,20 @@ use Rattle.core_laws.specs.LogEvents.{MayAppend, appends, forgets}
 use Rattle.core_laws.specs.Soundness.{SoundVersions, Sound}
 use Rattle.core_laws.proofs.StepLaws.{step_sound}
 use Rattle.conformance.specs.Running.{GrowsByRecord, ForgetsBy}
+use Rattle.act_rebuilds.specs.Drawn.{HaveTints}
 use Rattle.entry_words.specs.Words.{Written}
 use Rattle.undo.specs.Trails.{trail_position}
 use Rattle.one_store.specs.Known.{Known, IsStore, core_of, root_tree, stored_root}
 use Rattle.one_store.specs.Steps.{KeepsRoot, GivesRoot}
 use Rattle.store_run.specs.declared.stored_versions.Versions.{Versions}
-use Rattle.store_run.specs.Kept.{plan_of, log_of, moment_of, mark_in, core_with, AreVersions, HoldsTree, GainsTree, LosesTree, HoldsSame}
+use Rattle.store_run.specs.Kept.{plan_of, log_of, moment_of, mark_in, core_with, AreStored, IsLargeStore, HoldsTree, GainsTree, LosesTree, HoldsSame}
 use Rattle.store_run.specs.Steps.{LeavesAll, PutsDown, AppendsRecord, MarksVersion}
 use Rattle.store_run.proofs.Holding.{gained_tree, gained_few, same_again}
 use Rattle.store_run.proofs.Marking.{gets_mark, of_versions_still, none_where_unmarked}
 use Rattle.store_run.proofs.Sparing.{versions_sound}
 
 -- a version that isn't there has no root
-pub no_root : (v : Versions) (place : ℕ) → AreVersions v → moment_of v < place → stored_root v.store.roots place ≡ None
+pub no_root : (v : Versions) (place : ℕ) → AreStored v → moment_of v < place → stored_root v.store.roots place ≡ None
 no_root v place are past = go (stored_root v.store.roots place) refl
   where
     go : (o : Option Name) → stored_root v.store.roots place ≡ o → stored_root v.store.roots place ≡ None
@@ -50,8 +51,8 @@ words_sound p q models old new s plan log sound =
 abbrev longer : Log → Record → Log
 longer log r = record { side = log.side; coloured = log.coloured; records = log.records ++ r ∷ []; marks = log.marks }
 
-module _ (v : Versions) (s : Known) (r : Record) (root : Option Name) (number place : ℕ) (are : AreVersions v) (st : IsStore v.store number)
-    (at : place ≡ moment_of v + 1) (may : MayAppend (plan_of v) v.models.items r root (core_with (log_of v) v.store))
+module _ (v : Versions) (s : Known) (r : Record) (root : Option Name) (number place : ℕ) (are : AreStored v) (st : IsStore v.store number)
+    (at : place ≡ moment_of v + 1) (may : MayAppend (plan_of v) v.models.models r root (core_with (log_of v) v.store))
     (event : PutsRoot (plan_of v) 0 place root (core_of v.store) (core_of s)) where
   puts : PutsRoot (plan_of v) 0 (moment_of v + 1) root (core_with (log_of v) v.store) (core_with (longer (log_of v) r) s)
   puts = subst (λ (n : ℕ). PutsRoot (plan_of v) 0 n root (core_with (log_of v) v.store) (core_with (longer (log_of v) r) s)) at
@@ -64,31 +65,39 @@ module _ (v : Versions) (s : Known) (r : Record) (root : Option Name) (number pl
         held = event.held;
       })
 
-  longer_sound : Sound (plan_of v) v.models.items (core_with (longer (log_of v) r) s)
+  longer_sound : Sound (plan_of v) v.models.models (core_with (longer (log_of v) r) s)
   longer_sound =
-      step_sound (plan_of v) v.models.items 0 (core_with (log_of v) v.store) (core_with (longer (log_of v) r) s) st.plan.side_low
+      step_sound (plan_of v) v.models.models 0 (core_with (log_of v) v.store) (core_with (longer (log_of v) r) s) st.plan.side_low
       (versions_sound v number are st) (appends r root (record { may = may; log = refl; puts = puts }))
 
   module _ (w : Versions) (keeps : KeepsRoot v.store place root s)
-      (store : w.store ≡ s) (side : w.side ≡ v.side) (models : w.models.items ≡ v.models.items)
+      (store : w.store ≡ s) (side : w.side ≡ v.side) (models : w.models.models ≡ v.models.models)
+      (tint : w.models.tint ≡ v.models.tint)
       (records : w.records.items ≡ v.records.items ++ r ∷ []) (marks : w.marks.items ≡ v.marks.items)
       (trail : trail_position w.trail ≡ next_position place r.act (trail_position v.trail)) where
     log_grown : log_of w ≡ longer (log_of v) r
-    log_grown = λ i. record { side = side i; coloured = false; records = records i; marks = marks_below (mark_in (marks i)) versions }
+    log_grown = λ i. record { side = side i; coloured = tint i; records = records i; marks = marks_below (mark_in (marks i)) versions }
 
     plan_kept : plan_of w ≡ plan_of v
     plan_kept = ap (λ (k : Known). k.words.plan) store ∙ ap (λ (x : Written). x.plan) keeps.words
 
-    pub appended_are : suits_tints false r.act ≡ true → AreVersions w
-    appended_are plain = record {
+    pub appended_are : suits_tints v.models.tint r.act ≡ true → AreStored w
+    appended_are suits = record {
       side = side ∙ are.side ∙ sym (ap (λ (p : Layout). p.side) plan_kept);
       sound =
-          subst (λ (k : Known). SoundVersions (plan_of w) w.models.items (core_with (log_of w) k)) (sym store)
+          subst (λ (k : Known). SoundVersions (plan_of w) w.models.models (core_with (log_of w) k)) (sym store)
           (subst (λ (ms : List Content). SoundVersions (plan_of w) ms (core_with (log_of w) s)) (sym models)
-          (words_sound (plan_of v) (plan_of w) v.models.items (longer (log_of v) r) (log_of w) s plan_kept (sym log_grown) longer_sound.versions));
-      plain =
-          subst (λ (rs : List Record). All (λ q. suits_tints false q.act ≡ true) rs) (sym records)
-          (All-push (λ q. suits_tints false q.act ≡ true) v.records.items r are.plain plain);
+          (words_sound (plan_of v) (plan_of w) v.models.models (longer (log_of v) r) (log_of w) s plan_kept (sym log_grown) longer_sound.versions));
+      suits =
+          subst (λ (b : Bool). All (λ q. suits_tints b q.act ≡ true) w.records.items) (sym tint)
+          (subst (λ (rs : List Record). All (λ q. suits_tints v.models.tint q.act ≡ true) rs) (sym records)
+          (All-push (λ q. suits_tints v.models.tint q.act ≡ true) v.records.items r are.suits suits));
+      large =
+          subst (λ (b : Bool). IsLargeStore b (plan_of w).side) (sym tint)
+          (subst (λ (p : Layout). IsLargeStore v.models.tint p.side) (sym plan_kept) are.large);
+      colours =
+          subst (λ (b : Bool). HaveTints b w.models.models) (sym tint)
+          (subst (λ (ms : List Content). HaveTints v.models.tint ms) (sym models) are.colours);
       places = ap (λ (ms : List (Option Mark)). length ms) marks ∙ are.places;
       of_versions = subst (λ (ms : List (Option Mark)). AreOfVersions (mark_in ms)) (sym marks) are.of_versions;
       position =
@@ -96,8 +105,8 @@ module _ (v : Versions) (s : Known) (r : Record) (root : Option Name) (number pl
           ∙ sym (ap position_after records ∙ position_of_next v.records.items r);
     }
 
-    pub appends_record : suits_tints false r.act ≡ true → AppendsRecord v r w
-    appends_record plain = record {
+    pub appends_record : suits_tints v.models.tint r.act ≡ true → AppendsRecord v r w
+    appends_record suits = record {
       only = record {
         models = models;
         plan = plan_kept;
@@ -106,12 +115,12 @@ module _ (v : Versions) (s : Known) (r : Record) (root : Option Name) (number pl
           met = ap (λ (k : Known). k.told.met) store ∙ keeps.only.met;
         };
       };
-      grows = subst (λ (l : Log). GrowsByRecord (plan_of v) v.models.items r (log_of v) l) (sym log_grown)
+      grows = subst (λ (l : Log). GrowsByRecord (plan_of v) v.models.models r (log_of v) l) (sym log_grown)
           (record {
             legal = longer_sound.versions.legal;
             side = refl;
             coloured = refl;
-            suits = plain;
+            suits = suits;
             records = refl;
             marks = refl;
           });
@@ -128,9 +137,9 @@ marked_over v s mark =
     record v { store = s; marks = with_item v.marks mark.version (Some mark) }
 
 abbrev marked_log : Versions → Mark → Log
-marked_log v mark = record { side = v.side; coloured = false; records = v.records.items; marks = marks_below (mark_in (set v.marks.items mark.version (Some mark))) versions }
+marked_log v mark = record { side = v.side; coloured = v.models.tint; records = v.records.items; marks = marks_below (mark_in (set v.marks.items mark.version (Some mark))) versions }
 
-module _ (v : Versions) (s : Known) (mark : Mark) (root : Option Name) (number : ℕ) (are : AreVersions v) (st : IsStore v.store number)
+module _ (v : Versions) (s : Known) (mark : Mark) (root : Option Name) (number : ℕ) (are : AreStored v) (st : IsStore v.store number)
     (kept : IsKept (log_of v) mark.version) (earlier : mark.version < moment_of v) (now : mark.at ≡ moment_of v)
     (event : TakesRoot (plan_of v) 0 mark.version (core_of v.store) (core_of s)) where
   in_range : mark.version < versions
@@ -155,30 +164,39 @@ module _ (v : Versions) (s : Known) (mark : Mark) (root : Option Name) (number :
     held = event.held;
   }
 
-  marked_sound : Sound (plan_of v) v.models.items (core_with (marked_log v mark) s)
+  marked_sound : Sound (plan_of v) v.models.models (core_with (marked_log v mark) s)
   marked_sound =
-      step_sound (plan_of v) v.models.items 0 (core_with (log_of v) v.store) (core_with (marked_log v mark) s) st.plan.side_low
+      step_sound (plan_of v) v.models.models 0 (core_with (log_of v) v.store) (core_with (marked_log v mark) s) st.plan.side_low
       (versions_sound v number are st)
       (forgets mark (record { earlier = earlier; now = now; side = refl; coloured = refl; records = refl; marks = comes; takes = takes }))
 
   module _ (u : Versions) (gives : GivesRoot v.store mark.version s) (is : root ≡ stored_root v.store.roots mark.version)
-      (store : u.store ≡ s) (side : u.side ≡ v.side) (models : u.models.items ≡ v.models.items)
+      (store : u.store ≡ s) (side : u.side ≡ v.side) (models : u.models.models ≡ v.models.models)
+      (tint : u.models.tint ≡ v.models.tint)
       (records : u.records.items ≡ v.records.items) (marks : u.marks.items ≡ set v.marks.items mark.version (Some mark))
       (trail : trail_position u.trail ≡ trail_position v.trail) where
     log_marked : log_of u ≡ marked_log v mark
-    log_marked = λ i. record { side = side i; coloured = false; records = records i; marks = marks_below (mark_in (marks i)) versions }
+    log_marked = λ i. record { side = side i; coloured = tint i; records = records i; marks = marks_below (mark_in (marks i)) versions }
 
     marked_plan : plan_of u ≡ plan_of v
     marked_plan = ap (λ (k : Known). k.words.plan) store ∙ ap (λ (x : Written). x.plan) gives.words
 
-    pub marked_are : AreVersions u
+    pub marked_are : AreStored u
     marked_are = record {
       side = side ∙ are.side ∙ sym (ap (λ (p : Layout). p.side) marked_plan);
       sound =
-          subst (λ (k : Known). SoundVersions (plan_of u) u.models.items (core_with (log_of u) k)) (sym store)
+          subst (λ (k : Known). SoundVersions (plan_of u) u.models.models (core_with (log_of u) k)) (sym store)
           (subst (λ (ms : List Content). SoundVersions (plan_of u) ms (core_with (log_of u) s)) (sym models)
-          (words_sound (plan_of v) (plan_of u) v.models.items (marked_log v mark) (log_of u) s marked_plan (sym log_marked) marked_sound.versions));
-      plain = subst (λ (rs : List Record). All (λ q. suits_tints false q.act ≡ true) rs) (sym records) are.plain;
+          (words_sound (plan_of v) (plan_of u) v.models.models (marked_log v mark) (log_of u) s marked_plan (sym log_marked) marked_sound.versions));
+      suits =
+          subst (λ (b : Bool). All (λ q. suits_tints b q.act ≡ true) u.records.items) (sym tint)
+          (subst (λ (rs : List Record). All (λ q. suits_tints v.models.tint q.act ≡ true) rs) (sym records) are.suits);
+      large =
+          subst (λ (b : Bool). IsLargeStore b (plan_of u).side) (sym tint)
+          (subst (λ (p : Layout). IsLargeStore v.models.tint p.side) (sym marked_plan) are.large);
+      colours =
+          subst (λ (b : Bool). HaveTints b u.models.models) (sym tint)
+          (subst (λ (ms : List Content). HaveTints v.models.tint ms) (sym models) are.colours);
       places = ap (λ (ms : List (Option Mark)). length ms) marks ∙ length-set v.marks.items mark.version (Some mark) ∙ are.places;
       of_versions = subst (λ (ms : List (Option Mark)). AreOfVersions (mark_in ms)) (sym marks) (of_versions_still v.marks.items mark there are.of_versions);
       position = trail ∙ are.position ∙ sym (ap position_after records);
@@ -211,7 +229,7 @@ module _ (v : Versions) (s : Known) (mark : Mark) (root : Option Name) (number :
           met = leaves.only.met ∙ ap (λ (k : Known). k.told.met) store ∙ gives.only.met;
         };
       };
-      forgets = subst (λ (l : Log). ForgetsBy (plan_of v) v.models.items mark (log_of v) l) (sym (leaves.stay.log ∙ log_marked))
+      forgets = subst (λ (l : Log). ForgetsBy (plan_of v) v.models.models mark (log_of v) l) (sym (leaves.stay.log ∙ log_marked))
           (record {
             legal = marked_sound.versions.legal;
             side = refl;

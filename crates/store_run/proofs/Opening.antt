@@ -5,8 +5,9 @@ use Rattle.std.specs.Prelude.{Result, Ok, Err, IfOk, IsTrue}
 use Rattle.vw_cell.specs.declared.boxes.Boxed.{Boxed}
 use Rattle.vw_cell.specs.Places.{FitsAt}
 use Rattle.vox_read.specs.Contents.{Content}
-use Rattle.history_model.specs.Logs.{Log}
-use Rattle.history_model.specs.Moments.{world_has}
+use Rattle.history_model.specs.declared.questions.Question.{Question}
+use Rattle.history_model.specs.Logs.{Log, kept_side}
+use Rattle.history_model.specs.Moments.{world_has, world_tint}
 use Rattle.node_shapes.specs.declared.names.Name.{Name}
 use Rattle.node_shapes.specs.Tree.{shape_of}
 use Rattle.node_words.proofs.HeldLaws.{held_reached}
@@ -18,13 +19,14 @@ use Rattle.one_store.specs.Known.{IsStore, stored_root}
 use Rattle.script.specs.declared.commands.ScriptLine.{ScriptLine}
 use Rattle.transcript.specs.declared.answers.Answer.{Answer}
 use Rattle.conformance.specs.Kinds.{answer_at}
+use Rattle.conformance.specs.Telling.{Tells}
 use Rattle.script_runs.specs.Sessions.{GoesOnWith}
 use Rattle.store_run.specs.declared.stored_versions.Versions.{Versions}
-use Rattle.store_run.specs.Kept.{plan_of, log_of, moment_of, noted_of, world_of, AreVersions, HoldsTree}
-use Rattle.store_run.specs.Steps.{StayVersions}
-use Rattle.store_run.proofs.Rebuilding.{share_shows}
+use Rattle.store_run.specs.Kept.{plan_of, log_of, moment_of, noted_of, world_of, tints_of, AreVersions, HoldsTree}
+use Rattle.store_run.specs.Steps.{StayVersions, TellsVersion}
+use Rattle.store_run.proofs.Rebuilding.{shows_plainly}
 use Rattle.store_run.proofs.Files.{same_file, shown_in}
-use Rattle.store_run.proofs.Plainly.{same_in_world, same_in_store}
+use Rattle.store_run.proofs.KeptWorlds.{same_in_world, same_in_store}
 use Rattle.store_run.proofs.Sparing.{versions_sound}
 use Rattle.store_run.specs.Answering.{GoesOnBy}
 use Rattle.store_run.specs.Worlds.{WorldState, world_state}
@@ -34,7 +36,7 @@ use Rattle.transcript.specs.declared.answers.Answer.TheVariants.{Done}
 use Rattle.history_model.specs.declared.histories.Record.{Record}
 
 -- room for one more changes nothing that is seen
-pub room_same : (u v : Versions) (s : WorldState) → world_state u ≡ s → v.models.items ≡ u.models.items → log_of v ≡ log_of u
+pub room_same : (u v : Versions) (s : WorldState) → world_state u ≡ s → v.models.models ≡ u.models.models → log_of v ≡ log_of u
     → v.store ≡ u.store → world_state v ≡ s
 room_same u v s is models log store =
     (λ i. record { plan = (store i).words.plan; models = models i; log = log i; noted = record { made = (store i).told.made; met = (store i).told.met } })
@@ -44,7 +46,7 @@ module _ (v w : Versions) (s : WorldState) (is : world_state v ≡ s) (session :
   pub changed_plan : plan_of w ≡ s.plan
   changed_plan = g.plan ∙ ap (λ (t : WorldState). t.plan) is
 
-  pub changed_models : w.models.items ≡ s.models
+  pub changed_models : w.models.models ≡ s.models
   changed_models = g.models ∙ ap (λ (t : WorldState). t.models) is
 
   pub changed_goes : GoesOnWith s.plan s.models session l s.log (log_of w) s.noted (noted_of w) (answer_at l (moment_of w) answer)
@@ -58,6 +60,17 @@ module _ (v w : Versions) (s : WorldState) (is : world_state v ≡ s) (r : Recor
   pub changed_makes : answer ≡ Done → MakesVersion s.models s.log r.act (log_of w)
   changed_makes done = made_version s.models s.log (log_of w) r answer changed_logs done
 
+-- ---- a question about a version
+
+pub asked_told : (v : Versions) (s : WorldState) (version : ℕ) (question : Question) (answer : Answer) → world_state v ≡ s → AreVersions v
+    → TellsVersion v version question answer
+    → Tells (2 ^ s.plan.side) (world_has s.models s.log.records version) (world_tint s.models s.log.records version) question answer
+asked_told v s version question answer is are told =
+    subst (λ (t : WorldState). Tells (2 ^ t.plan.side) (world_has t.models t.log.records version)
+    (world_tint t.models t.log.records version) question answer) is
+    (subst (λ (l : ℕ). Tells (2 ^ l) (world_of v version) (tints_of v version) question answer) are.stored.side
+    (subst (λ (b : Bool). Tells (kept_side b (2 ^ v.side)) (world_of v version) (tints_of v version) question answer) are.plain told))
+
 -- ---- the file of a box of a version
 
 pub root_file : {E Z : Type 0} (v : Versions) (version : ℕ) (base : Option Name) (part : Boxed) (result : Result (Vec ℕ Z) E) → AreVersions v
@@ -66,7 +79,7 @@ pub root_file : {E Z : Type 0} (v : Versions) (version : ℕ) (base : Option Nam
     → IfOk result (λ file. file.items ≡ file_of_box part (world_of v version))
 root_file v version base part (Err e) are kept holds is fits told = tt
 root_file v version base part (Ok file) are kept holds is fits told =
-    let s = share_shows v version base are kept holds is in
+    let s = shows_plainly v version base are kept holds is in
     let block : IsBlockOf v.store.told.held (v.side - 2) base s.tree = record {
       root = s.is_root.root;
       reached = λ n e. held_reached v.store.told.held s.tree (s.is_root.is_held n e);
@@ -80,7 +93,7 @@ pub file_still : {E Z : Type 0} (a v : Versions) (version : ℕ) (part : Boxed) 
     → IfOk result (λ file. file.items ≡ file_of_box part (world_of v version))
     → IfOk result (λ file. file.items ≡ file_of_box part (world_of a version))
 file_still {E} {Z} a v version part result stay told =
-    subst (λ (l : Log). IfOk result (λ file. file.items ≡ file_of_box part (world_has a.models.items l.records version))) stay.log
+    subst (λ (l : Log). IfOk result (λ file. file.items ≡ file_of_box part (world_has a.models.models l.records version))) stay.log
     (subst (λ (ms : List Content). IfOk result (λ file. file.items ≡ file_of_box part (world_has ms v.records.items version))) stay.models told)
 
 -- ---- two versions
@@ -91,7 +104,7 @@ pub same_by_roots : (v : Versions) (number a b : ℕ) (is : Bool) → AreVersion
     → (IsTrue is ↔ SameWorld (2 ^ (plan_of v).side) (world_of v a) (world_of v b))
 same_by_roots v number a b is are st of_a of_b roots = (
   (λ yes. same_in_world v a b are
-      (same_cells (plan_of v) v.models.items _ st.plan.side_low (versions_sound v number are st) a b of_a of_b (roots.0 yes))),
-  (λ cells. roots.1 (same_root (plan_of v) v.models.items _ st.plan.side_low (versions_sound v number are st) a b of_a of_b
+      (same_cells (plan_of v) v.models.models _ st.plan.side_low (versions_sound v number are.stored st) a b of_a of_b (roots.0 yes))),
+  (λ cells. roots.1 (same_root (plan_of v) v.models.models _ st.plan.side_low (versions_sound v number are.stored st) a b of_a of_b
       (same_in_store v a b are cells))),
 )

@@ -1,5 +1,5 @@
 -- Pins, and what is held for them.
-use Rattle.std.proofs.Common.{◌≡◌, ℕ, ◌+◌, ◌^◌, ◌<◌, ◌≤◌, zero, suc, Some, None, Option, List, [], ◌∷◌, ◌++◌, length, length-append, append-nil, refl, sym, ◌∙◌, ap, subst, arith}
+use Rattle.std.proofs.Common.{◌≡◌, ℕ, ◌+◌, ◌^◌, ◌<◌, ◌≤◌, zero, suc, Some, None, Option, List, [], ◌∷◌, ◌++◌, length, length-append, append-nil, Bool, false, refl, sym, ◌∙◌, ap, subst, arith}
 use Rattle.std.specs.Prelude.{slice_get}
 use Rattle.std.specs.Option.{option_to_list}
 use Rattle.std.proofs.lemmas.List.{map-append}
@@ -9,7 +9,8 @@ use Rattle.vox_read.specs.Contents.{Content}
 use Rattle.history_model.specs.declared.histories.Record.{Record}
 use Rattle.history_model.specs.declared.questions.Question.TheVariants as questions
 use Rattle.history_model.specs.Laws.{version_stays}
-use Rattle.history_model.specs.Logs.{Log}
+use Rattle.vw_cell.specs.Places.{FitsAt}
+use Rattle.history_model.specs.Logs.{Log, kept_side, world_side}
 use Rattle.history_model.specs.Tints.{Tints}
 use Rattle.history_model.specs.Worlds.{World}
 use Rattle.node_shapes.specs.declared.names.Name.{Name}
@@ -27,24 +28,26 @@ use Rattle.script.specs.declared.commands.Command.{Command}
 use Rattle.script.specs.declared.commands.Command.TheVariants.{Save}
 use Rattle.script.specs.declared.commands.SaveName.{SaveName}
 use Rattle.script.specs.declared.commands.ScriptLine.{ScriptLine}
-use Rattle.script.specs.Fitting.{SaveFits}
+use Rattle.script.specs.Fitting.{CommandFits, QuestionFits, SaveFits}
 use Rattle.transcript.specs.declared.answers.Answer.{Answer}
 use Rattle.conformance.specs.declared.saves.SavedBox.{SavedBox}
 use Rattle.conformance.specs.Answers.{asked_version}
 use Rattle.conformance.specs.Saves.{saved_by}
 use Rattle.conformance.specs.Telling.{Tells, count}
 use Rattle.entry_words.specs.Words.{key_in}
-use Rattle.one_store.specs.Known.{IsStore, root_tree, stored_root}
+use Rattle.one_store.specs.Known.{Known, IsStore, root_tree, stored_root}
 use Rattle.one_store.proofs.RootLaws.{top_tree}
 use Rattle.one_store.proofs.StoreLaws.{held_is}
 use Rattle.store_run.specs.declared.pins.Pin.{Pin}
+use Rattle.store_run.specs.declared.pins.Pinned.{Pinned}
 use Rattle.store_run.specs.declared.stored_versions.Versions.{Versions}
+use Rattle.store_run.specs.Desks.{DeskState, desk_state}
 use Rattle.store_run.specs.Kept.{plan_of, log_of, moment_of, world_of, AreVersions, HoldsNothing, HoldsTree, HoldsSame}
-use Rattle.store_run.specs.Steps.{TellsVersion, StayVersions, StaysSeen, LeavesAll, SharesRoot, PutsDown}
+use Rattle.store_run.specs.Steps.{TellsVersion, StayVersions, StaysSeen, LeavesAll, SharesRoot, PutsDown, side_of}
 use Rattle.store_run.specs.Answering.{GoesOnBy, saved_as}
 use Rattle.store_run.specs.Pins.{IsPinOf, ArePins, pinned_weight, ArePinned, saves_of}
 use Rattle.store_run.proofs.Holding.{root_is}
-use Rattle.store_run.proofs.Plainly.{shown_plainly}
+use Rattle.store_run.proofs.KeptWorlds.{shown_plainly}
 use Rattle.store_run.proofs.Sparing.{tree_same}
 use Rattle.store_run.proofs.Rebuilding.{share_level, kept_still, told_still, stays_on}
 
@@ -130,16 +133,16 @@ more_records side models records more (p ∷ pins) (u ∷ trees) are = (
 )
 
 pins_on : (v w : Versions) (pins : List Pin) (trees : List Tree) (more : List Record) → w.side ≡ v.side
-    → w.models.items ≡ v.models.items → w.records.items ≡ v.records.items ++ more
-    → ArePins v.side v.models.items v.records.items pins trees → ArePins w.side w.models.items w.records.items pins trees
+    → w.models.models ≡ v.models.models → w.records.items ≡ v.records.items ++ more
+    → ArePins v.side v.models.models v.records.items pins trees → ArePins w.side w.models.models w.records.items pins trees
 pins_on v w pins trees more side models records are =
-    subst (λ (l : ℕ). ArePins l w.models.items w.records.items pins trees) (sym side)
+    subst (λ (l : ℕ). ArePins l w.models.models w.records.items pins trees) (sym side)
     (subst (λ (ms : List Content). ArePins v.side ms w.records.items pins trees) (sym models)
-    (subst (λ (rs : List Record). ArePins v.side v.models.items rs pins trees) (sym records)
-    (more_records v.side v.models.items v.records.items more pins trees are)))
+    (subst (λ (rs : List Record). ArePins v.side v.models.models rs pins trees) (sym records)
+    (more_records v.side v.models.models v.records.items more pins trees are)))
 
 pins_kept : (v w : Versions) (pins : List Pin) (trees : List Tree) → StayVersions v w
-    → ArePins v.side v.models.items v.records.items pins trees → ArePins w.side w.models.items w.records.items pins trees
+    → ArePins v.side v.models.models v.records.items pins trees → ArePins w.side w.models.models w.records.items pins trees
 pins_kept v w pins trees stay are =
     pins_on v w pins trees [] (ap (λ (l : Log). l.side) stay.log) stay.models
     (ap (λ (l : Log). l.records) stay.log ∙ sym (append-nil v.records.items)) are
@@ -155,7 +158,7 @@ nothing_pinned v pins are nothing none = subst (λ (ps : List Pin). ArePinned v 
 
 pub pinned_few : (v : Versions) (pins : List Pin) → ArePinned v pins → number_of_trees v.store.told.held ≤ 2048
 pinned_few v pins p =
-    let few = pins_few v.side v.models.items v.records.items pins p.holds.trees p.holds.are_pins in
+    let few = pins_few v.side v.models.models v.records.items pins p.holds.trees p.holds.are_pins in
     omega (arith, few, p.few, p.holds.weighs (λ _. 1))
 
 -- a line that holds what was held
@@ -168,7 +171,7 @@ still_pinned v w pins session l answer p are goes same = record {
     trees = p.holds.trees;
     are_pins =
         pins_on v w pins p.holds.trees goes.more
-        (are.side ∙ ap (λ (q : Layout). q.side) goes.plan ∙ sym p.are.side) goes.models goes.records p.holds.are_pins;
+        (are.stored.side ∙ ap (λ (q : Layout). q.side) goes.plan ∙ sym p.are.stored.side) goes.models goes.records p.holds.are_pins;
     weighs = λ f. same.weighs f ∙ p.holds.weighs f;
   };
 }
@@ -195,16 +198,16 @@ module _ (v u w : Versions) (pins : List Pin) (save : SavedBox) (root : Option N
   still_there = shares.is ∙ sym (ap (λ (r : List (Option Name)). stored_root r save.version) seen.stay.spares.roots)
 
   new_pin : IsKept (log_of v) save.version → SaveFits (2 ^ v.side) save.name save.part
-      → IsPinOf w.side w.models.items w.records.items (record { save = save; root = root }) (root_tree w.store root)
+      → IsPinOf w.side w.models.models w.records.items (record { save = save; root = root }) (root_tree w.store root)
   new_pin kept fits =
       let still = kept_still v w save.version all_stay kept in
       record {
         fits = subst (λ (l : Log). SaveFits (2 ^ l.side) save.name save.part) (sym all_stay.log) fits;
         there = still.there;
         root = root_is w.store root;
-        level = λ n e. share_level w save.version root n are still_there e;
+        level = λ n e. share_level w save.version root n are.stored still_there e;
         shows =
-            subst (λ (l : ℕ). ShowsCells (world_block l) (shape_of (root_tree w.store root)) (world_of w save.version)) (sym are.side)
+            subst (λ (l : ℕ). ShowsCells (world_block l) (shape_of (root_tree w.store root)) (world_of w save.version)) (sym are.stored.side)
             (subst (λ (r : Option Name). ShowsCells (world_block (plan_of w).side) (shape_of (root_tree w.store r)) (world_of w save.version))
             (sym still_there) (shown_plainly w save.version are still));
       }
@@ -216,7 +219,7 @@ module _ (v u w : Versions) (pins : List Pin) (save : SavedBox) (root : Option N
     few = (let long = length-append pins (record { save = save; root = root } ∷ []) in omega (arith, fewer, long));
     holds = record {
       trees = p.holds.trees ++ root_tree w.store root ∷ [];
-      are_pins = pin_added w.side w.models.items w.records.items pins p.holds.trees (record { save = save; root = root }) (root_tree w.store root)
+      are_pins = pin_added w.side w.models.models w.records.items pins p.holds.trees (record { save = save; root = root }) (root_tree w.store root)
           (pins_kept v w pins p.holds.trees all_stay p.holds.are_pins) (new_pin kept fits);
       weighs = λ f. (
           let held = ap (λ (k : Seen). weigh f k.held) seen.seen in
@@ -239,10 +242,36 @@ module _ (v u w : Versions) (pins : List Pin) (save : SavedBox) (root : Option N
       → TellsVersion v save.version (questions.Count save.part) answer
   pin_told answer tells = told_still v u save.version (questions.Count save.part) answer shares.stay tells
 
+-- the box of a save lies in the world
+pub pin_fits : (v u : Versions) (name : SaveName) (part : Boxed) → StayVersions v u → AreVersions v
+    → SaveFits (2 ^ v.side) name part → QuestionFits (side_of u) (questions.Count part)
+pin_fits v u name part stay are fits =
+    subst (λ (l : Log). FitsAt part.at part.size (world_side l)) (sym stay.log)
+    (subst (λ (b : Bool). FitsAt part.at part.size (kept_side b (2 ^ v.side))) (sym are.plain) fits.inside)
+
 pub saves_added : (pins more : List Pin) (save : SavedBox) (root : Option Name)
     → more ≡ pins ++ record { save = save; root = root } ∷ [] → saves_of more ≡ saves_of pins ++ save ∷ []
 saves_added pins more save root is =
     ap saves_of is ∙ map-append (λ (pin : Pin). pin.save) pins (record { save = save; root = root } ∷ [])
+
+-- ---- what a desk sees
+
+module _ (p u : Pinned) (s : DeskState) (is : desk_state p ≡ s) (are : ArePinned u.versions u.pins.items) where
+  -- a line that fits what is seen fits versions that only got room
+  pub desk_fits : (command : Command) → u.versions.models.models ≡ p.versions.models.models → log_of u.versions ≡ log_of p.versions
+      → u.versions.store ≡ p.versions.store → CommandFits s.log.coloured (2 ^ s.plan.side) s.models command
+      → CommandFits false (2 ^ u.versions.side) u.versions.models.models command
+  desk_fits command models log store fits =
+      subst (λ (b : Bool). CommandFits b (2 ^ u.versions.side) u.versions.models.models command) are.are.plain
+      (subst (λ (l : ℕ). CommandFits u.versions.models.tint (2 ^ l) u.versions.models.models command) (sym are.are.stored.side)
+      (subst (λ (ms : List Content). CommandFits u.versions.models.tint (2 ^ (plan_of u.versions).side) ms command) (sym models)
+      (subst (λ (st : Known). CommandFits u.versions.models.tint (2 ^ st.words.plan.side) p.versions.models.models command) (sym store)
+      (subst (λ (l : Log). CommandFits l.coloured (2 ^ (plan_of p.versions).side) p.versions.models.models command) (sym log)
+      (subst (λ (t : DeskState). CommandFits t.log.coloured (2 ^ t.plan.side) t.models command) (sym is) fits)))))
+
+  -- cells have no tints before and after
+  pub desk_plain : ArePinned p.versions p.pins.items → u.versions.models.tint ≡ s.log.coloured
+  desk_plain before = are.are.plain ∙ sym before.are.plain ∙ ap (λ (t : DeskState). t.log.coloured) is
 
 -- ---- which save an answer accepts
 
@@ -271,8 +300,8 @@ module _ (v : Versions) (pins before : List Pin) (pin : Pin) (o : Option Pin) (p
   all : ArePinned v (pins ++ pin ∷ [])
   all = subst (λ (ps : List Pin). ArePinned v ps) (popped ∙ ap (λ (q : Option Pin). pins ++ option_to_list q) is) p
 
-  last : HasLast v.side v.models.items v.records.items pins pin all.holds.trees
-  last = pin_last v.side v.models.items v.records.items pins pin all.holds.trees all.holds.are_pins
+  last : HasLast v.side v.models.models v.records.items pins pin all.holds.trees
+  last = pin_last v.side v.models.models v.records.items pins pin all.holds.trees all.holds.are_pins
 
   last_held : (n : Name) → pin.root ≡ Some n → IsHeld v.store.told.held last.tree
   last_held n e = record {
@@ -285,7 +314,7 @@ module _ (v : Versions) (pins before : List Pin) (pin : Pin) (o : Option Pin) (p
         gone_from_root last.tree (last.is.root ∙ e) ∙ sym (gone_tree (key_in v.store.words) (top v.store.words.plan.side))
         ∙ ap (root_tree v.store) (sym e)
     last_tree (Some n) e =
-        let level : n.level ≡ top (plan_of v).side = last.is.level n e ∙ ap top all.are.side in
+        let level : n.level ≡ top (plan_of v).side = last.is.level n e ∙ ap top all.are.stored.side in
         held_is v.store number last.tree n st (last_held n e) (last.is.root ∙ e) ∙ sym (top_tree v.store n level)
         ∙ ap (root_tree v.store) (sym e)
 
@@ -314,7 +343,7 @@ popped_few v pins p = let few = pinned_few v pins p in omega (arith, few)
 pub none_pinned : (v : Versions) (pins : List Pin) → ArePinned v pins → length pins ≡ 0 → HoldsNothing v.store
 none_pinned v pins p none = go pins p.holds.trees p.holds.are_pins none p.holds.weighs
   where
-    go : (ps : List Pin) (trees : List Tree) → ArePins v.side v.models.items v.records.items ps trees → length ps ≡ 0
+    go : (ps : List Pin) (trees : List Tree) → ArePins v.side v.models.models v.records.items ps trees → length ps ≡ 0
         → ((f : Tree → ℕ) → weigh f v.store.told.held ≡ pinned_weight f trees) → HoldsNothing v.store
     go [] [] are e weighs = record { weighs = weighs }
     go [] (t ∷ trees) are e weighs = absurd are

@@ -1,12 +1,14 @@
 -- What rebuilding the newest version's root leaves.
-use Rattle.std.proofs.Common.{◌≡◌, ℕ, ◌+◌, ◌-◌, ◌^◌, ◌≤◌, Some, None, Option, List, ◌∷◌, Result, Ok, Err, length, refl, sym, ◌∙◌, ap, subst, arith, false}
+use Rattle.std.proofs.Common.{◌≡◌, ℕ, ◌+◌, ◌-◌, ◌^◌, ◌≤◌, Some, None, Option, List, ◌∷◌, Result, Ok, Err, length, refl, sym, ◌∙◌, ap, subst, arith, Bool, true, false, ◌/◌}
 use Rattle.vox_read.specs.Contents.{Content}
 use Rattle.history_model.specs.declared.acts.Act.{Act}
-use Rattle.history_model.specs.Logs.{Log, IsLegal}
-use Rattle.history_model.specs.Worlds.{World, edited}
+use Rattle.history_model.specs.declared.acts.Act.TheVariants.{Fill, Erase, Ball, Carve, Copy, Stamp, Tint, Undo, Redo}
+use Rattle.history_model.specs.Logs.{Log, IsLegal, kept_side, suits_tints, world_side}
+use Rattle.history_model.specs.Stores.{edited_in, stored_in}
+use Rattle.history_model.specs.Worlds.{World}
 use Rattle.history_model.specs.Moments.{world_has, world_tint}
 use Rattle.node_shapes.specs.declared.names.Name.{Name}
-use Rattle.node_shapes.specs.Shape.{Shape, ShowsCells, IsPart}
+use Rattle.node_shapes.specs.Shape.{Shape, ShowsCells}
 use Rattle.node_shapes.specs.Tree.{Tree, shape_of}
 use Rattle.std.specs.Prelude.{IfOk, IfErr}
 use Rattle.history_model.specs.declared.questions.Question.{Question}
@@ -15,30 +17,33 @@ use Rattle.script.specs.Fitting.{QuestionFits}
 use Rattle.transcript.specs.declared.answers.Answer.{Answer}
 use Rattle.conformance.specs.Telling.{Tells}
 use Rattle.tints.proofs.VersionLaws.{versions_plainly_tinted}
-use Rattle.world_answers.specs.TellsRoots.{TellsRoot}
+use Rattle.world_answers.specs.TellsRoots.{TellsRoot, TellsTinted}
 use Rattle.block_walk.specs.Roots.{HoldsRoot}
 use Rattle.node_shapes.specs.Weights.{weigh, weight_of, number_of_trees}
 use Rattle.node_shapes.proofs.TreeLaws.{level_of, gone_from_root}
 use Rattle.node_shapes.proofs.WeightLaws.{weight_of-there, weight_of-one}
 use Rattle.node_words.specs.declared.shares.Full.{Full}
 use Rattle.node_words.specs.Held.{Seen, IsHeld, Wanted, IsSought}
-use Rattle.node_words.specs.Gathering.{Grew, Grows, Fails}
+use Rattle.node_words.specs.Gathering.{Grew}
+use Rattle.node_words.proofs.GatherLaws.{grew_into}
 use Rattle.node_words.specs.Plans.{Layout}
 use Rattle.block_contents.specs.Aligned.{top, world_block}
 use Rattle.block_contents.specs.Versions.{IsKept}
 use Rattle.core_laws.proofs.SeenNodes.{gone_tree}
-use Rattle.edit_cells.specs.Worlds.{ShowsWorld, Rebuilt, world_shape}
-use Rattle.act_rebuilds.specs.Edits.{RebuildsEdit, GrowsByEdit, RefusesEdit}
+use Rattle.edit_cells.specs.Worlds.{ShowsWorld, Rebuilt}
+use Rattle.act_rebuilds.specs.Acts.{IsLargeFor, room_for, IsOfAct, RebuildsAct, GrowsByAct, RefusesAct}
+use Rattle.act_rebuilds.proofs.Rooms.{large_for_all, least_room}
+use Rattle.act_rebuilds.specs.Made.{FailsBy}
 use Rattle.entry_words.specs.Words.{key_in}
 use Rattle.one_store.specs.Known.{Known, IsStore, known_seen, root_tree, stored_root}
 use Rattle.one_store.specs.Steps.{SparesRoots, spares_on}
 use Rattle.one_store.proofs.RootLaws.{top_tree}
 use Rattle.one_store.proofs.StoreLaws.{held_is}
 use Rattle.store_run.specs.declared.stored_versions.Versions.{Versions}
-use Rattle.store_run.specs.Kept.{plan_of, log_of, moment_of, world_of, tints_of, AreVersions, HoldsTree, GainsTree, HoldsSame}
-use Rattle.store_run.specs.Steps.{TellsVersion, StayVersions, StaysSeen, IsOverStore, LeavesAll, SharesRoot, PutsDown, MakesBeside, MakesRoot, MeetsBucket, edited_world, target_of}
+use Rattle.store_run.specs.Kept.{plan_of, log_of, moment_of, stored_of, world_of, tints_of, AreStored, AreVersions, IsLargeStore, HoldsTree, GainsTree, HoldsSame}
+use Rattle.store_run.specs.Steps.{TellsVersion, StayVersions, StaysSeen, IsOverStore, LeavesAll, SharesRoot, PutsDown, MakesBeside, MakesRoot, MeetsBucket, edited_world, side_of, WantsFor}
 use Rattle.store_run.proofs.Holding.{gained_tree, gained_few, holds_root, holds_shows}
-use Rattle.store_run.proofs.Plainly.{plain_log, shown_plainly}
+use Rattle.store_run.proofs.KeptWorlds.{plain_acts, plain_log, stored_plainly, keeps_tints, small_tints, set_tints}
 use Rattle.store_run.proofs.Sparing.{with_store, tree_same}
 
 -- the newest version has no mark
@@ -53,33 +58,47 @@ stays_on a b c f g = record { models = g.models ∙ f.models; log = g.log ∙ f.
 
 pub edited_same : (old new : Versions) (act : Act) → StayVersions old new → edited_world new act ≡ edited_world old act
 edited_same old new act stay =
-    λ i. edited (stay.models i) act (world_has (stay.models i) ((stay.log i).records) (length ((stay.log i).records)))
+    λ i. edited_in (2 ^ (stay.log i).side) (stay.models i) act (stored_in (2 ^ (stay.log i).side) (stay.models i)
+    ((stay.log i).records) (length ((stay.log i).records)))
 
-pub target_same : (old new : Versions) (act : Act) → StayVersions old new → target_of new act ≡ target_of old act
-target_same old new act stay =
-    λ i. world_shape ((stay.spares.plan i).side - 2) (edited_same old new act stay i)
+pub wants_on : (old new : Versions) (act : Act) → StayVersions old new → (s : Shape) → WantsFor new act s → WantsFor old act s
+wants_on old new act stay s wants =
+    subst (λ (l : Log). IsOfAct l.side old.models.models act
+    (stored_in (2 ^ l.side) old.models.models l.records (length l.records)) s) stay.log
+    (subst (λ (ms : List Content). IsOfAct new.side ms act
+    (stored_in (2 ^ new.side) ms new.records.items (moment_of new)) s) stay.models wants)
 
 -- what a share of the version shows
-pub share_level : (v : Versions) (version : ℕ) (root : Option Name) (n : Name) → AreVersions v → root ≡ stored_root v.store.roots version
+pub share_level : (v : Versions) (version : ℕ) (root : Option Name) (n : Name) → AreStored v → root ≡ stored_root v.store.roots version
     → root ≡ Some n → n.level ≡ top v.side
 share_level v version root n are is e = are.sound.level version n (sym is ∙ e) ∙ ap top (sym are.side)
 
-pub share_shows : (v : Versions) (version : ℕ) (root : Option Name) → AreVersions v → IsKept (log_of v) version
+pub share_shows : (v : Versions) (version : ℕ) (root : Option Name) → AreStored v → IsKept (log_of v) version
+    → HoldsTree v.store root → root ≡ stored_root v.store.roots version
+    → ShowsWorld v.store.told.held (v.side - 2) root (stored_of v version)
+share_shows v version root are kept holds is =
+    holds_shows v.store v.side root (stored_of v version) holds (λ n e. share_level v version root n are is e)
+    (subst (λ (l : ℕ). ShowsCells (world_block l) (shape_of (root_tree v.store root))
+    (stored_in (2 ^ l) v.models.models v.records.items version)) (sym are.side)
+    (subst (λ (r : Option Name). ShowsCells (world_block (plan_of v).side) (shape_of (root_tree v.store r))
+    (stored_in (2 ^ (plan_of v).side) v.models.models v.records.items version)) (sym is)
+    (are.sound.shown version kept)))
+
+-- which are those of the world where no cell has a tint
+pub shows_plainly : (v : Versions) (version : ℕ) (root : Option Name) → AreVersions v → IsKept (log_of v) version
     → HoldsTree v.store root → root ≡ stored_root v.store.roots version
     → ShowsWorld v.store.told.held (v.side - 2) root (world_of v version)
-share_shows v version root are kept holds is =
-    holds_shows v.store v.side root (world_of v version) holds (λ n e. share_level v version root n are is e)
-    (subst (λ (l : ℕ). ShowsCells (world_block l) (shape_of (root_tree v.store root)) (world_of v version)) (sym are.side)
-    (subst (λ (r : Option Name). ShowsCells (world_block (plan_of v).side) (shape_of (root_tree v.store r)) (world_of v version)) (sym is)
-    (shown_plainly v version are kept)))
+shows_plainly v version root are kept holds is =
+    subst (λ (w : World). ShowsWorld v.store.told.held (v.side - 2) root w)
+    (stored_plainly v (plain_log v are) version) (share_shows v version root are.stored kept holds is)
 
-pub base_root : (v : Versions) (version : ℕ) (base : Option Name) → AreVersions v → HoldsTree v.store base
+pub base_root : (v : Versions) (version : ℕ) (base : Option Name) → AreStored v → HoldsTree v.store base
     → base ≡ stored_root v.store.roots version → HoldsRoot v.store.told.held v.side base
 base_root v version base are holds is = holds_root v.store v.side base holds (λ n e. share_level v version base n are is e)
 
-pub newest_is_kept : (v : Versions) (version : ℕ) → AreVersions v → version ≡ moment_of v → IsKept (log_of v) version
+pub newest_is_kept : (v : Versions) (version : ℕ) → AreStored v → version ≡ moment_of v → IsKept (log_of v) version
 newest_is_kept v version are is =
-    subst (λ (n : ℕ). IsKept (log_of v) n) (sym is) (newest_kept (2 ^ (plan_of v).side) v.models.items (log_of v) are.sound.legal)
+    subst (λ (n : ℕ). IsKept (log_of v) n) (sym is) (newest_kept (2 ^ (plan_of v).side) v.models.models (log_of v) are.sound.legal)
 
 pub over_store : (v : Versions) (s : Known) → SparesRoots v.store s → IsOverStore v (with_store v s)
 over_store v s spares = record { side = refl; models = refl; records = refl; marks = refl; trail = refl; spares = spares }
@@ -87,45 +106,41 @@ over_store v s spares = record { side = refl; models = refl; records = refl; mar
 -- ---- what the rebuild leaves beside the base
 
 module _ (v : Versions) (s : Known) (base : Option Name) (act : Act) (version : ℕ) (result : Result (Option Name) Full)
-    (are : AreVersions v) (holds : HoldsTree v.store base) (is : base ≡ stored_root v.store.roots (moment_of v)) where
-  shown : ShowsWorld v.store.told.held (v.side - 2) base (world_of v (moment_of v))
+    (are : AreStored v) (holds : HoldsTree v.store base) (is : base ≡ stored_root v.store.roots (moment_of v)) where
+  abbrev before : World
+  before = stored_of v (moment_of v)
+
+  shown : ShowsWorld v.store.told.held (v.side - 2) base before
   shown = share_shows v (moment_of v) base are (newest_is_kept v (moment_of v) are refl) holds is
 
-  target_here : world_shape (v.side - 2) (edited_world v act) ≡ target_of v act
-  target_here = λ i. world_shape (are.side i - 2) (edited_world v act)
-
-  pub makes_beside : RebuildsEdit (known_seen v.store) v.side base (edited v.models.items act) result (known_seen s)
-      → GrowsByEdit (known_seen v.store) v.side base (edited v.models.items act) result (known_seen s)
+  pub makes_beside : RebuildsAct (known_seen v.store) v.side base v.models.models act result (known_seen s)
+      → GrowsByAct (known_seen v.store) v.side base v.models.models act result (known_seen s)
       → IfOk result (λ root. MakesBeside v act root (with_store v s))
   makes_beside = go result
     where
-      go : (r : Result (Option Name) Full) → RebuildsEdit (known_seen v.store) v.side base (edited v.models.items act) r (known_seen s)
-          → GrowsByEdit (known_seen v.store) v.side base (edited v.models.items act) r (known_seen s)
+      go : (r : Result (Option Name) Full) → RebuildsAct (known_seen v.store) v.side base v.models.models act r (known_seen s)
+          → GrowsByAct (known_seen v.store) v.side base v.models.models act r (known_seen s)
           → IfOk r (λ root. MakesBeside v act root (with_store v s))
       go (Err e) rebuilds grows = tt
-      go (Ok root) rebuilds grows = record {
-        rebuilt = rebuilds (world_of v (moment_of v)) shown;
-        grows = subst (λ (t : Shape). Grows t (known_seen v.store) (known_seen s)) target_here (grows (world_of v (moment_of v)) shown);
-      }
+      go (Ok root) rebuilds grows = record { rebuilt = rebuilds before shown; grows = grows before shown }
 
-  pub fails_beside : RefusesEdit (known_seen v.store) v.side base (edited v.models.items act) result (known_seen s)
-      → IfErr result (λ full. Fails (target_of v act) full.level full.bucket (known_seen v.store) (known_seen s))
+  pub fails_beside : RefusesAct (known_seen v.store) v.side base v.models.models act result (known_seen s)
+      → IfErr result (λ full. FailsBy (WantsFor v act) full.level full.bucket (known_seen v.store) (known_seen s))
   fails_beside = go result
     where
-      go : (r : Result (Option Name) Full) → RefusesEdit (known_seen v.store) v.side base (edited v.models.items act) r (known_seen s)
-          → IfErr r (λ full. Fails (target_of v act) full.level full.bucket (known_seen v.store) (known_seen s))
+      go : (r : Result (Option Name) Full) → RefusesAct (known_seen v.store) v.side base v.models.models act r (known_seen s)
+          → IfErr r (λ full. FailsBy (WantsFor v act) full.level full.bucket (known_seen v.store) (known_seen s))
       go (Ok root) refuses = tt
-      go (Err full) refuses =
-          subst (λ (t : Shape). Fails t full.level full.bucket (known_seen v.store) (known_seen s)) target_here (refuses (world_of v (moment_of v)) shown)
+      go (Err full) refuses = refuses before shown
 
-  more : (r : Result (Option Name) Full) → RebuildsEdit (known_seen v.store) v.side base (edited v.models.items act) r (known_seen s)
-      → RefusesEdit (known_seen v.store) v.side base (edited v.models.items act) r (known_seen s)
+  more : (r : Result (Option Name) Full) → RebuildsAct (known_seen v.store) v.side base v.models.models act r (known_seen s)
+      → RefusesAct (known_seen v.store) v.side base v.models.models act r (known_seen s)
       → (f : Tree → ℕ) → weigh f v.store.told.held ≤ weigh f s.told.held
-  more (Ok root) rebuilds refuses f = let r = rebuilds (world_of v (moment_of v)) shown in omega (arith, r.weighs f)
-  more (Err full) rebuilds refuses f = let r = refuses (world_of v (moment_of v)) shown in omega (arith, r.held f)
+  more (Ok root) rebuilds refuses f = let r = rebuilds before shown in omega (arith, r.weighs f)
+  more (Err full) rebuilds refuses f = let r = refuses before shown in omega (arith, r.held f)
 
-  pub still_held : RebuildsEdit (known_seen v.store) v.side base (edited v.models.items act) result (known_seen s)
-      → RefusesEdit (known_seen v.store) v.side base (edited v.models.items act) result (known_seen s)
+  pub still_held : RebuildsAct (known_seen v.store) v.side base v.models.models act result (known_seen s)
+      → RefusesAct (known_seen v.store) v.side base v.models.models act result (known_seen s)
       → SparesRoots v.store s → HoldsTree s base
   still_held rebuilds refuses spares = record {
     each = λ n e. record {
@@ -138,23 +153,23 @@ module _ (v : Versions) (s : Known) (base : Option Name) (act : Act) (version : 
     };
   }
 
-  pub few_held : RebuildsEdit (known_seen v.store) v.side base (edited v.models.items act) result (known_seen s)
-      → RefusesEdit (known_seen v.store) v.side base (edited v.models.items act) result (known_seen s)
+  pub few_held : RebuildsAct (known_seen v.store) v.side base v.models.models act result (known_seen s)
+      → RefusesAct (known_seen v.store) v.side base v.models.models act result (known_seen s)
       → number_of_trees v.store.told.held ≤ 2049 → number_of_trees s.told.held ≤ 2050
   few_held = go result
     where
-      go : (r : Result (Option Name) Full) → RebuildsEdit (known_seen v.store) v.side base (edited v.models.items act) r (known_seen s)
-          → RefusesEdit (known_seen v.store) v.side base (edited v.models.items act) r (known_seen s)
+      go : (r : Result (Option Name) Full) → RebuildsAct (known_seen v.store) v.side base v.models.models act r (known_seen s)
+          → RefusesAct (known_seen v.store) v.side base v.models.models act r (known_seen s)
           → number_of_trees v.store.told.held ≤ 2049 → number_of_trees s.told.held ≤ 2050
       go (Ok root) rebuilds refuses few =
-          let r = rebuilds (world_of v (moment_of v)) shown in omega (arith, r.weighs (λ _. 1), weight_of-one r.tree, few)
+          let r = rebuilds before shown in omega (arith, r.weighs (λ _. 1), weight_of-one r.tree, few)
       go (Err full) rebuilds refuses few =
-          let r = refuses (world_of v (moment_of v)) shown in omega (arith, r.held (λ _. 1), few)
+          let r = refuses before shown in omega (arith, r.held (λ _. 1), few)
 
 -- ---- and once the base went back
 
 module _ (v u w : Versions) (base root : Option Name) (act : Act) (number : ℕ) (before : Known)
-    (are : AreVersions v) (st : IsStore w.store number) (shared : GainsTree before base v.store)
+    (are : AreStored v) (st : IsStore w.store number) (shared : GainsTree before base v.store)
     (is : base ≡ stored_root v.store.roots (moment_of v)) (over : IsOverStore v u) (puts : PutsDown u base w) where
   -- of what came since the base was shared, only the new root's share is left
   left_over : (f : Tree → ℕ) → (r : Rebuilt (v.side - 2) (edited_world v act) root (known_seen v.store) (known_seen u.store))
@@ -167,11 +182,11 @@ module _ (v u w : Versions) (base root : Option Name) (act : Act) (number : ℕ)
   plan_same = puts.leaves.stay.spares.plan ∙ over.spares.plan
 
   over_log : log_of u ≡ log_of v
-  over_log = λ i. record { side = over.side i; coloured = false; records = (over.records i).items; marks = Rattle.block_contents.specs.MarkLists.marks_below (Rattle.store_run.specs.Kept.mark_in ((over.marks i).items)) Rattle.one_store.specs.Spots.versions }
+  over_log = λ i. record { side = over.side i; coloured = (over.models i).tint; records = (over.records i).items; marks = Rattle.block_contents.specs.MarkLists.marks_below (Rattle.store_run.specs.Kept.mark_in ((over.marks i).items)) Rattle.one_store.specs.Spots.versions }
 
   pub all_stay : StayVersions v w
   all_stay = record {
-    models = puts.leaves.stay.models ∙ (λ i. (over.models i).items);
+    models = puts.leaves.stay.models ∙ (λ i. (over.models i).models);
     log = puts.leaves.stay.log ∙ over_log;
     spares = spares_on v.store u.store w.store over.spares puts.leaves.stay.spares;
   }
@@ -209,7 +224,7 @@ module _ (v u w : Versions) (base root : Option Name) (act : Act) (number : ℕ)
         grows = record {
           plan = plan_same;
           made =
-              subst (λ (list : List Shape). Grew (λ p. IsPart p (target_of v act)) v.store.told.made list) (sym puts.leaves.only.made) makes.grows.made;
+              subst (λ (list : List Shape). Grew (WantsFor v act) v.store.told.made list) (sym puts.leaves.only.made) makes.grows.made;
           met = puts.leaves.only.met ∙ makes.grows.met;
         };
       }
@@ -227,15 +242,15 @@ makes_on a v w version base root act shares makes =
       grows = record {
         plan = makes.grows.plan ∙ plan;
         made =
-            subst (λ (list : List Shape). Grew (λ p. IsPart p (target_of a act)) list w.store.told.made) shares.only.made
-            (subst (λ (t : Shape). Grew (λ p. IsPart p t) v.store.told.made w.store.told.made) (target_same a v act shares.stay) makes.grows.made);
+            subst (λ (list : List Shape). Grew (WantsFor a act) list w.store.told.made) shares.only.made
+            (grew_into (wants_on a v act shares.stay) makes.grows.made);
         met = makes.grows.met ∙ shares.only.met;
       };
     }
 
 module _ (a v u w : Versions) (base : Option Name) (act : Act) (number version : ℕ) (result : Result (Option Name) Full)
     (shares : SharesRoot a version base v) (now : version ≡ moment_of a)
-    (are : AreVersions v) (over : IsOverStore v u) (puts : PutsDown u base w) where
+    (are : AreStored v) (over : IsOverStore v u) (puts : PutsDown u base w) where
   pub base_place : base ≡ stored_root v.store.roots (moment_of v)
   base_place = shares.is ∙ ap (stored_root v.store.roots) (now ∙ sym (ap (λ (l : Log). length l.records) shares.stay.log))
 
@@ -254,32 +269,31 @@ module _ (a v u w : Versions) (base : Option Name) (act : Act) (number version :
       go (Err e) makes = tt
       go (Ok root) makes = root_gained v u w base root act number a.store are st shares.gains base_place over puts makes
 
-  nothing_left : (full : Full) → Fails (target_of v act) full.level full.bucket (known_seen v.store) (known_seen u.store)
+  nothing_left : (full : Full) → FailsBy (WantsFor v act) full.level full.bucket (known_seen v.store) (known_seen u.store)
       → (f : Tree → ℕ) → weigh f w.store.told.held ≡ weigh f a.store.told.held
   nothing_left full fails f =
       let tree = ap (weight_of f) (tree_same v.store u.store (moment_of v) base over.spares base_place) in
       omega (arith, puts.loses.weighs f, fails.held f, shares.gains.weighs f, tree)
 
-  pub met_all : IsStore w.store number → IfErr result (λ full. Fails (target_of v act) full.level full.bucket (known_seen v.store) (known_seen u.store))
+  pub met_all : IsStore w.store number → IfErr result (λ full. FailsBy (WantsFor v act) full.level full.bucket (known_seen v.store) (known_seen u.store))
       → IfErr result (λ full. MeetsBucket a act full w)
   met_all st = go result
     where
-      go : (r : Result (Option Name) Full) → IfErr r (λ full. Fails (target_of v act) full.level full.bucket (known_seen v.store) (known_seen u.store))
+      go : (r : Result (Option Name) Full) → IfErr r (λ full. FailsBy (WantsFor v act) full.level full.bucket (known_seen v.store) (known_seen u.store))
           → IfErr r (λ full. MeetsBucket a act full w)
       go (Ok root) fails = tt
       go (Err full) fails =
           let plan = shares.stay.spares.plan in
-          let target = target_same a v act shares.stay in
           record {
             stay = stays_on a v w shares.stay (all_stay v u w base None act number a.store are st shares.gains base_place over puts);
             fails = record {
               plan = puts.leaves.stay.spares.plan ∙ fails.plan ∙ plan;
               made =
-                  subst (λ (list : List Shape). Grew (λ p. IsPart p (target_of a act)) list w.store.told.made) shares.only.made
-                  (subst (λ (list : List Shape). Grew (λ p. IsPart p (target_of a act)) v.store.told.made list) (sym puts.leaves.only.made)
-                  (subst (λ (t : Shape). Grew (λ p. IsPart p t) v.store.told.made u.store.told.made) target fails.made));
+                  subst (λ (list : List Shape). Grew (WantsFor a act) list w.store.told.made) shares.only.made
+                  (subst (λ (list : List Shape). Grew (WantsFor a act) v.store.told.made list) (sym puts.leaves.only.made)
+                  (grew_into (wants_on a v act shares.stay) fails.made));
               wanted = fails.wanted;
-              is_part = subst (λ (t : Shape). IsPart fails.wanted t) target fails.is_part;
+              wants = wants_on a v act shares.stay fails.wanted fails.wants;
               sought = subst (λ (p : Layout). IsSought p (record { level = full.level; bucket = full.bucket; shape = fails.wanted })) plan fails.sought;
               met = puts.leaves.only.met ∙ fails.met
                   ∙ ap (λ (list : List Wanted). record { level = full.level; bucket = full.bucket; shape = fails.wanted } ∷ list) shares.only.met;
@@ -287,19 +301,90 @@ module _ (a v u w : Versions) (base : Option Name) (act : Act) (number version :
             };
           }
 
-pub fits_still : (a v : Versions) (act : Act) → StayVersions a v → FitsWorld (2 ^ a.side) a.models.items act → FitsWorld (2 ^ v.side) v.models.items act
+pub fits_still : (a v : Versions) (act : Act) → StayVersions a v → FitsWorld (2 ^ a.side) a.models.models act → FitsWorld (2 ^ v.side) v.models.models act
 fits_still a v act stay fits =
-    subst (λ (l : Log). FitsWorld (2 ^ l.side) v.models.items act) (sym stay.log)
+    subst (λ (l : Log). FitsWorld (2 ^ l.side) v.models.models act) (sym stay.log)
     (subst (λ (ms : List Content). FitsWorld (2 ^ a.side) ms act) (sym stay.models) fits)
+
+pub suits_still : (a v : Versions) (act : Act) → StayVersions a v → suits_tints a.models.tint act ≡ true
+    → suits_tints v.models.tint act ≡ true
+suits_still a v act stay suits = subst (λ (l : Log). suits_tints l.coloured act ≡ true) (sym stay.log) suits
+
+-- the store is large enough for each act that suits, and has room for it
+pub enough_large : (v : Versions) (act : Act) → AreStored v → suits_tints v.models.tint act ≡ true
+    → IsLargeFor act v.side
+enough_large v act are suits =
+    subst (λ (l : ℕ). IsLargeFor act l) (sym are.side)
+    (large_for v.models.tint act (plan_of v).side are.large suits)
+  where
+    large_for : (tint : Bool) (act : Act) (side : ℕ) → IsLargeStore tint side → suits_tints tint act ≡ true
+        → IsLargeFor act side
+    large_for true act side large suits = large_for_all act side large
+    large_for false (Fill b) side large suits = tt
+    large_for false (Erase b) side large suits = tt
+    large_for false (Ball b) side large suits = tt
+    large_for false (Carve b) side large suits = tt
+    large_for false (Copy b to) side large suits = tt
+    large_for false (Stamp m at) side large suits = tt
+    large_for false (Tint t) side large suits = absurd (let no : ⊥ = cc in no)
+    large_for false Undo side large suits = tt
+    large_for false Redo side large suits = tt
+
+pub enough_room : (v : Versions) (act : Act) → number_of_trees v.store.told.held ≤ 2049
+    → number_of_trees (known_seen v.store).held ≤ room_for act
+enough_room v act few = least_room act (number_of_trees v.store.told.held) (omega (arith, few))
+
+-- where no cell has a tint, an act without one suits
+pub suits_here : (v : Versions) (act : Act) → AreVersions v → suits_tints false act ≡ true
+    → suits_tints v.models.tint act ≡ true
+suits_here v act are plain = subst (λ (b : Bool). suits_tints b act ≡ true) (sym are.plain) plain
+
+pub plain_as : (a v : Versions) → log_of v ≡ log_of a → AreStored v → AreVersions a → AreVersions v
+plain_as a v log stored are =
+    record { stored = stored; plain = ap (λ (l : Log). l.coloured) log ∙ are.plain }
 
 -- ---- questions
 
-pub root_told : (v : Versions) (version : ℕ) (base : Option Name) (question : Question) (answer : Answer) → AreVersions v → IsKept (log_of v) version
-    → HoldsTree v.store base → base ≡ stored_root v.store.roots version
+-- of versions without tints, and of versions with them
+pub root_told : (v : Versions) (version : ℕ) (base : Option Name) (question : Question) (answer : Answer) → AreStored v → IsKept (log_of v) version
+    → HoldsTree v.store base → base ≡ stored_root v.store.roots version → v.models.tint ≡ false
     → TellsRoot v.store.told.held v.side base question answer → TellsVersion v version question answer
-root_told v version base question answer are kept holds is tells =
-    tells (world_of v version) (tints_of v version) (share_shows v version base are kept holds is)
-    (λ c inside. versions_plainly_tinted v.models.items (log_of v) (plain_log v are) version c)
+root_told v version base question answer are kept holds is plain tells =
+    subst (λ (b : Bool). Tells (kept_side b (2 ^ v.side)) (world_of v version) (tints_of v version) question answer)
+    (sym plain)
+    (tells (world_of v version) (tints_of v version)
+    (subst (λ (w : World). ShowsWorld v.store.told.held (v.side - 2) base w)
+    (stored_plainly v (plain_acts v are plain) version) (share_shows v version base are kept holds is))
+    (λ c inside. versions_plainly_tinted v.models.models (log_of v) (plain_acts v are plain) version c))
+
+pub tints_told : (v : Versions) (version : ℕ) (base : Option Name) (question : Question) (answer : Answer) → AreStored v → IsKept (log_of v) version
+    → HoldsTree v.store base → base ≡ stored_root v.store.roots version → v.models.tint ≡ true
+    → TellsTinted v.store.told.held v.side base question answer → TellsVersion v version question answer
+tints_told v version base question answer are kept holds is tinted tells =
+    subst (λ (b : Bool). Tells (kept_side b (2 ^ v.side)) (world_of v version) (tints_of v version) question answer)
+    (sym tinted)
+    (tells (stored_of v version) (world_of v version) (tints_of v version)
+    (share_shows v version base are kept holds is) (keeps_tints v are tinted version)
+    (λ c inside. small_tints v are tinted version c) (λ c inside. set_tints v are version c))
+
+pub large_tints : (v : Versions) → AreStored v → v.models.tint ≡ true → 4 ≤ v.side
+large_tints v are tinted =
+    subst (λ (l : ℕ). 4 ≤ l) (sym are.side)
+    (subst (λ (b : Bool). IsLargeStore b (plan_of v).side) tinted are.large)
+
+-- the question fits the world that the store keeps
+pub question_plain : (v : Versions) (question : Question) → v.models.tint ≡ false → QuestionFits (side_of v) question
+    → QuestionFits (2 ^ v.side) question
+question_plain v question plain fits = subst (λ (b : Bool). QuestionFits (kept_side b (2 ^ v.side)) question) plain fits
+
+pub question_tinted : (v : Versions) (question : Question) → v.models.tint ≡ true → QuestionFits (side_of v) question
+    → QuestionFits (2 ^ v.side / 4) question
+question_tinted v question tinted fits = subst (λ (b : Bool). QuestionFits (kept_side b (2 ^ v.side)) question) tinted fits
+
+pub question_here : (v : Versions) (question : Question) → AreVersions v → QuestionFits (2 ^ v.side) question
+    → QuestionFits (side_of v) question
+question_here v question are fits =
+    subst (λ (b : Bool). QuestionFits (kept_side b (2 ^ v.side)) question) (sym are.plain) fits
 
 pub seen_tree : (v : Versions) (s : Known) (version : ℕ) (base : Option Name) → HoldsTree v.store base → base ≡ stored_root v.store.roots version
     → SparesRoots v.store s → known_seen s ≡ known_seen v.store → HoldsTree s base
@@ -319,15 +404,15 @@ stays_seen v s spares seen = record { stay = record { models = refl; log = refl;
 pub kept_still : (a v : Versions) (version : ℕ) → StayVersions a v → IsKept (log_of a) version → IsKept (log_of v) version
 kept_still a v version stay kept = subst (λ (l : Log). IsKept l version) (sym stay.log) kept
 
-pub question_still : (a v : Versions) (question : Question) → StayVersions a v → QuestionFits (2 ^ a.side) question → QuestionFits (2 ^ v.side) question
-question_still a v question stay fits = subst (λ (l : Log). QuestionFits (2 ^ l.side) question) (sym stay.log) fits
+pub question_still : (a v : Versions) (question : Question) → StayVersions a v → QuestionFits (side_of a) question → QuestionFits (side_of v) question
+question_still a v question stay fits = subst (λ (l : Log). QuestionFits (world_side l) question) (sym stay.log) fits
 
 pub told_still : (a v : Versions) (version : ℕ) (question : Question) (answer : Answer) → StayVersions a v
     → TellsVersion v version question answer → TellsVersion a version question answer
 told_still a v version question answer stay told =
-    subst (λ (l : Log). Tells (2 ^ l.side) (world_has a.models.items l.records version)
-    (world_tint a.models.items l.records version) question answer) stay.log
-    (subst (λ (ms : List Content). Tells (2 ^ v.side) (world_has ms v.records.items version)
+    subst (λ (l : Log). Tells (world_side l) (world_has a.models.models l.records version)
+    (world_tint a.models.models l.records version) question answer) stay.log
+    (subst (λ (ms : List Content). Tells (side_of v) (world_has ms v.records.items version)
     (world_tint ms v.records.items version) question answer) stay.models told)
 
 pub shared_tree : (a v : Versions) (version : ℕ) (base : Option Name) → SharesRoot a version base v → HoldsTree v.store base

@@ -16,13 +16,13 @@ use Rattle.core_laws.specs.States.{IsLive}
 use Rattle.one_store.specs.Known.{Known, IsStore, known_seen, root_tree, stored_root}
 use Rattle.one_store.specs.Steps.{SparesRoots, GainsRoot, spares_itself}
 use Rattle.store_run.specs.declared.stored_versions.Versions.{Versions}
-use Rattle.store_run.specs.Kept.{plan_of, log_of, core_with, AreVersions, HoldsTree, HasRoom}
+use Rattle.store_run.specs.Kept.{plan_of, log_of, core_with, AreStored, AreVersions, IsLargeStore, HoldsTree, HasRoom}
 use Rattle.store_run.specs.Steps.{StayVersions, LeavesAll, SharesRoot, PutsDown}
 use Rattle.store_run.proofs.Holding.{root_is, none_weighs, some_weighs}
 
 -- the versions over another store
 abbrev pub with_store : Versions → Known → Versions
-with_store v s = record { side = v.side; models = v.models; store = s; records = v.records; marks = v.marks; trail = v.trail }
+with_store v s = record v { store = s }
 
 -- the entries of a store are sound with whatever log
 pub sound_with : (s : Known) (number : ℕ) (log : Log) → IsStore s number → SoundEntries s.words.plan (core_with log s)
@@ -34,8 +34,8 @@ sound_with s number log st = record {
   counted = λ f. st.sound.counted f;
 }
 
-pub versions_sound : (v : Versions) (number : ℕ) → AreVersions v → IsStore v.store number
-    → Sound (plan_of v) v.models.items (core_with (log_of v) v.store)
+pub versions_sound : (v : Versions) (number : ℕ) → AreStored v → IsStore v.store number
+    → Sound (plan_of v) v.models.models (core_with (log_of v) v.store)
 versions_sound v number are st = record { entries = sound_with v.store number (log_of v) st; versions = are.sound }
 
 -- roots stay in their places, each with its tree
@@ -64,16 +64,22 @@ sound_spared p models log old new spares sound plan is = record {
       (sound.shown v kept);
 }
 
-pub are_spared : (v : Versions) (s : Known) → AreVersions v → SparesRoots v.store s → AreVersions (with_store v s)
+pub are_spared : (v : Versions) (s : Known) → AreStored v → SparesRoots v.store s → AreStored (with_store v s)
 are_spared v s are spares = record {
   side = are.side ∙ sym (ap (λ (p : Layout). p.side) spares.plan);
-  sound = subst (λ (p : Layout). SoundVersions p v.models.items (core_with (log_of v) s)) (sym spares.plan)
-      (sound_spared (plan_of v) v.models.items (log_of v) v.store s spares are.sound spares.plan refl);
-  plain = are.plain;
+  sound = subst (λ (p : Layout). SoundVersions p v.models.models (core_with (log_of v) s)) (sym spares.plan)
+      (sound_spared (plan_of v) v.models.models (log_of v) v.store s spares are.sound spares.plan refl);
+  suits = are.suits;
+  large = subst (λ (p : Layout). IsLargeStore v.models.tint p.side) (sym spares.plan) are.large;
+  colours = are.colours;
   places = are.places;
   of_versions = are.of_versions;
   position = are.position;
 }
+
+pub plain_spared : (v : Versions) (s : Known) → SparesRoots v.store s → AreVersions v
+    → AreVersions (with_store v s)
+plain_spared v s spares are = record { stored = are_spared v s are.stored spares; plain = are.plain }
 
 pub stay_spared : (v : Versions) (s : Known) → SparesRoots v.store s → StayVersions v (with_store v s)
 stay_spared v s spares = record { models = refl; log = refl; spares = spares }

@@ -1,11 +1,11 @@
 -- Roots that are taken out of their places, one after the other.
-use Rattle.std.proofs.Common.{◌≡◌, ℕ, zero, suc, ◌+◌, ◌<◌, ◌≤◌, List, [], ◌∷◌, ◌++◌, length, length-append, get_or, Some, None, Option, refl, sym, ap, subst, ◌∙◌, inl, inr, ◌⊎◌, arith}
+use Rattle.std.proofs.Common.{◌≡◌, ℕ, zero, suc, ◌+◌, ◌<◌, ◌≤◌, ◌^◌, List, [], ◌∷◌, ◌++◌, length, length-append, get_or, Some, None, Option, refl, sym, ap, subst, ◌∙◌, inl, inr, ◌⊎◌, arith}
 use Rattle.std.specs.List.{Contains}
 use Rattle.std.proofs.lemmas.Bool.{cases_eq}
 use Rattle.std.proofs.lemmas.List.Elements.{Contains-get_or, Contains-append_left, Contains-push, Contains-push_cases}
 use Rattle.std.proofs.lemmas.List.Quantifiers.{all_pairs_push}
 use Rattle.history_model.specs.declared.histories.Mark.{Mark}
-use Rattle.history_model.specs.Moments.{world_has}
+use Rattle.history_model.specs.Stores.{stored_in, store_has}
 use Rattle.node_shapes.specs.declared.names.Name.{Name}
 use Rattle.node_shapes.specs.Shape.{ShowsCells}
 use Rattle.node_shapes.specs.Tree.{Tree, shape_of}
@@ -18,13 +18,12 @@ use Rattle.entry_words.specs.Words.{Written, key_in}
 use Rattle.one_store.specs.Known.{Known, stored_root, root_tree}
 use Rattle.one_store.specs.Steps.{GivesRoot}
 use Rattle.store_run.specs.declared.stored_versions.Versions.{Versions}
-use Rattle.store_run.specs.Kept.{plan_of, log_of, moment_of, mark_in, AreVersions, HoldsNothing, HoldsTree}
+use Rattle.store_run.specs.Kept.{plan_of, log_of, moment_of, mark_in, AreStored, HoldsNothing, HoldsTree}
 use Rattle.store_run.specs.Marked.{Rooted, HoldsKept}
 use Rattle.store_run.specs.Taken.{rooted_weight, AreTaken}
 use Rattle.store_run.proofs.Changing.{marked_gone}
 use Rattle.store_run.proofs.Finding.{kept_at, marked_at}
 use Rattle.store_run.proofs.Holding.{some_weighs, holds_root, holds_shows}
-use Rattle.store_run.proofs.Plainly.{shown_plainly}
 
 -- no more trees than roots
 weight_few : (s : Known) (roots : List Rooted) → rooted_weight (λ _. 1) s roots ≤ length roots
@@ -146,7 +145,7 @@ module _ (v : Versions) (n : ℕ) (s : Known) (roots : List Rooted) (are : AreTa
 
 -- ---- all of them
 
-module _ (v : Versions) (s : Known) (roots : List Rooted) (of_v : AreVersions v)
+module _ (v : Versions) (s : Known) (roots : List Rooted) (of_v : AreStored v)
     (are : AreTaken v (moment_of v + 1) s roots) where
   held_tree : (x : Rooted) → Contains roots x → HoldsTree s x.1
   held_tree x has = record {
@@ -164,13 +163,16 @@ module _ (v : Versions) (s : Known) (roots : List Rooted) (of_v : AreVersions v)
 
   shown : (x : Rooted) → Contains roots x
       → ShowsCells (world_block (plan_of v).side) (shape_of (root_tree s x.1))
-      (world_has v.models.items v.records.items x.0)
+      (store_has v.models.models (log_of v) x.0)
   shown x has =
-      subst (λ (t : Tree). ShowsCells (world_block (plan_of v).side) (shape_of t) (world_has v.models.items v.records.items x.0))
+      subst (λ (l : ℕ). ShowsCells (world_block (plan_of v).side) (shape_of (root_tree s x.1))
+      (stored_in (2 ^ l) v.models.models v.records.items x.0)) (sym of_v.side)
+      (subst (λ (t : Tree). ShowsCells (world_block (plan_of v).side) (shape_of t)
+      (stored_in (2 ^ (plan_of v).side) v.models.models v.records.items x.0))
       (ap (root_tree v.store) (sym (are.roots_are x has)) ∙ sym (tree_of_words v.store s x.1 are.words))
-      (shown_plainly v x.0 of_v (are.listed x has))
+      (of_v.sound.shown x.0 (are.listed x has)))
 
-  pub all_taken : HoldsKept (plan_of v).side v.models.items (log_of v) s.told.held roots
+  pub all_taken : HoldsKept (plan_of v).side v.models.models (log_of v) s.told.held roots
   all_taken = record {
     versions = record {
       rising = are.rising;
@@ -182,7 +184,7 @@ module _ (v : Versions) (s : Known) (roots : List Rooted) (of_v : AreVersions v)
     };
     each = λ x has. record {
       holds = holds_root s (plan_of v).side x.1 (held_tree x has) (of_top x has);
-      shows = holds_shows s (plan_of v).side x.1 (world_has v.models.items v.records.items x.0)
+      shows = holds_shows s (plan_of v).side x.1 (store_has v.models.models (log_of v) x.0)
           (held_tree x has) (of_top x has) (shown x has);
     };
   }
@@ -190,7 +192,7 @@ module _ (v : Versions) (s : Known) (roots : List Rooted) (of_v : AreVersions v)
 -- ---- one version, by its mark
 
 module _ (v : Versions) (n : ℕ) (s : Known) (roots : List Rooted) (are : AreTaken v n s roots)
-    (of_v : AreVersions v) (le : n ≤ moment_of v) where
+    (of_v : AreStored v) (le : n ≤ moment_of v) where
   pub version_passed : (mark : Mark) → mark_in v.marks.items n ≡ Some mark → AreTaken v (n + 1) s roots
   version_passed mark some =
       one_marked v n s roots are (marked_gone v n (marked_at v n mark of_v le some).1)

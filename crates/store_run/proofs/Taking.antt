@@ -14,20 +14,20 @@ use Rattle.store_run.specs.declared.stored_versions.Versions.{Versions}
 use Rattle.node_shapes.specs.Weights.{number_of_trees}
 use Rattle.one_store.specs.Known.{Known}
 use Rattle.store_run.specs.Kept.{plan_of, log_of, moment_of, HoldsNothing, HoldsSame}
-use Rattle.store_run.specs.Steps.{MakesRoot, SharesRoot, AppendsRecord, target_of}
-use Rattle.node_shapes.specs.Shape.{Shape, IsPart}
+use Rattle.store_run.specs.Steps.{MakesRoot, SharesRoot, AppendsRecord, WantsFor}
+use Rattle.node_shapes.specs.Shape.{Shape}
 use Rattle.node_words.specs.Gathering.{Grew}
 use Rattle.history_model.specs.declared.acts.Act.{Act}
 use Rattle.history_model.specs.declared.acts.Act.TheVariants.{Fill, Erase, Ball, Carve, Copy, Stamp, Tint, Undo, Redo}
-use Rattle.history_model.specs.Logs.{HasTarget, MayFollow}
+use Rattle.history_model.specs.Logs.{HasTarget, MayFollow, kept_side}
 use Rattle.history_model.specs.Positions.{position_after, first_of}
-use Rattle.block_contents.specs.Versions.{SameWorld}
+use Rattle.history_model.specs.Tints.{SameTints}
 use Rattle.core_laws.proofs.RootCells.{same_cells, same_root}
 use Rattle.conformance.proofs.LineKinds.{undo_target, redo_target}
 use Rattle.one_store.specs.Known.{IsStore, stored_root}
-use Rattle.store_run.specs.Kept.{world_of}
+use Rattle.store_run.specs.Kept.{tints_of}
 use Rattle.store_run.specs.Replaying.{TakesEdit, TakesWay, CanFollow, Replays, IsReplay}
-use Rattle.store_run.proofs.Plainly.{same_in_world, same_in_store}
+use Rattle.store_run.proofs.KeptWorlds.{tints_by_cells, cells_by_tints}
 use Rattle.store_run.proofs.Sparing.{versions_sound}
 
 pub edit_taken : (v u w : Versions) (r : Record) (root : Option Name) → MakesRoot v r.act root u
@@ -35,11 +35,12 @@ pub edit_taken : (v u w : Versions) (r : Record) (root : Option Name) → MakesR
 edit_taken v u w r root makes appends = record {
   takes = record {
     plan = appends.only.plan ∙ makes.stay.spares.plan;
+    tint = appends.grows.coloured ∙ ap (λ (l : Log). l.coloured) makes.stay.log;
     models = appends.only.models ∙ makes.stay.models;
     records = appends.grows.records ∙ ap (λ (l : Log). l.records ++ r ∷ []) makes.stay.log;
     marks = appends.grows.marks ∙ ap (λ (l : Log). l.marks) makes.stay.log;
   };
-  made = subst (λ (list : List Shape). Grew (λ s. IsPart s (target_of v r.act)) v.store.told.made list)
+  made = subst (λ (list : List Shape). Grew (WantsFor v r.act) v.store.told.made list)
       (sym appends.only.only.made) makes.grows.made;
 }
 
@@ -48,6 +49,7 @@ pub way_taken : (v u w : Versions) (r : Record) (to : ℕ) (root : Option Name) 
 way_taken v u w r to root shares appends = record {
   takes = record {
     plan = appends.only.plan ∙ shares.stay.spares.plan;
+    tint = appends.grows.coloured ∙ ap (λ (l : Log). l.coloured) shares.stay.log;
     models = appends.only.models ∙ shares.stay.models;
     records = appends.grows.records ∙ ap (λ (l : Log). l.records ++ r ∷ []) shares.stay.log;
     marks = appends.grows.marks ∙ ap (λ (l : Log). l.marks) shares.stay.log;
@@ -118,20 +120,22 @@ way_replays old u w r false same other takes follows stays lacks = (
   ap (λ (v : Versions). v.records.items) (stays refl) ∙ same,
 )
 
--- ---- two versions have one root exactly where they have the same cells
+-- ---- two versions have one root exactly where they have the same tints
 
 pub same_roots_same : (v : Versions) (number a b : ℕ) → IsReplay v → IsStore v.store number
     → a ≤ moment_of v → b ≤ moment_of v → (is : Bool)
     → (IsTrue is ↔ (stored_root v.store.roots a ≡ stored_root v.store.roots b))
-    → IsTrue is ↔ SameWorld (2 ^ (plan_of v).side) (world_of v a) (world_of v b)
+    → IsTrue is ↔ SameTints (kept_side v.models.tint (2 ^ (plan_of v).side)) (tints_of v a) (tints_of v b)
 same_roots_same v number a b replay st low high is roots =
     let of_a = unmarked_kept v a replay.unmarked low in
     let of_b = unmarked_kept v b replay.unmarked high in
     let sound = versions_sound v number replay.are st in (
-      λ t. same_in_world v a b replay.are
-          (same_cells (plan_of v) v.models.items _ st.plan.side_low sound a b of_a of_b (roots.0 t)),
-      λ same. roots.1 (same_root (plan_of v) v.models.items _ st.plan.side_low sound a b of_a of_b
-          (same_in_store v a b replay.are same)),
+      λ t. subst (λ (l : ℕ). SameTints (kept_side v.models.tint (2 ^ l)) (tints_of v a) (tints_of v b)) replay.are.side
+          (tints_by_cells v a b replay.are
+          (same_cells (plan_of v) v.models.models _ st.plan.side_low sound a b of_a of_b (roots.0 t))),
+      λ same. roots.1 (same_root (plan_of v) v.models.models _ st.plan.side_low sound a b of_a of_b
+          (cells_by_tints v a b replay.are
+          (subst (λ (l : ℕ). SameTints (kept_side v.models.tint (2 ^ l)) (tints_of v a) (tints_of v b)) (sym replay.are.side) same))),
     )
 
 -- ---- nothing is held between two calls

@@ -19,7 +19,7 @@ pub record DeskState : Type 0 where
 abbrev pub desk_state : Pinned → DeskState
 desk_state p = record {
   plan = plan_of p.versions;
-  models = p.versions.models.items;
+  models = p.versions.models.models;
   log = log_of p.versions;
   noted = noted_of p.versions;
   saved = saves_of p.pins.items;

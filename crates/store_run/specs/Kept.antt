@@ -1,11 +1,12 @@
 -- What versions over a store of nodes are: models, records and marks, and a store that has the root
 -- of each version which is kept in the place of its number.
-use Rattle.std.specs.Prelude.{◌≡◌, ℕ, ◌+◌, ◌<◌, Option, Some, None, List, All, length, slice_index_or, vec_len, vec_capacity, true, false}
+use Rattle.std.specs.Prelude.{◌≡◌, ℕ, ◌+◌, ◌^◌, ◌<◌, ◌≤◌, Bool, Option, Some, None, List, All, length, slice_index_or, vec_len, vec_capacity, true, false, ⊤}
 use Rattle.history_model.specs.declared.histories.Mark.{Mark}
 use Rattle.history_model.specs.Logs.{Log, suits_tints}
 use Rattle.history_model.specs.Positions.{position_after}
 use Rattle.history_model.specs.Worlds.{World}
 use Rattle.history_model.specs.Moments.{world_has, world_tint}
+use Rattle.history_model.specs.Stores.{stored_in}
 use Rattle.history_model.specs.Tints.{Tints}
 use Rattle.node_shapes.specs.declared.names.Name.{Name}
 use Rattle.node_shapes.specs.Tree.{Tree}
@@ -16,6 +17,7 @@ use Rattle.one_store.specs.Spots.{versions}
 use Rattle.block_contents.specs.MarkLists.{marks_below, AreOfVersions}
 use Rattle.core_laws.specs.States.{State}
 use Rattle.core_laws.specs.Soundness.{SoundVersions}
+use Rattle.act_rebuilds.specs.Drawn.{HaveTints}
 use Rattle.undo.specs.Trails.{trail_position, HasSlack}
 use Rattle.one_store.specs.Known.{Known, core_of, root_tree}
 use Rattle.script_runs.specs.Keeping.{MadeAndMet}
@@ -31,20 +33,24 @@ mark_in marks version = slice_index_or marks version None
 abbrev pub log_of : Versions → Log
 log_of v = record {
   side = v.side;
-  coloured = false;
+  coloured = v.models.tint;
   records = v.records.items;
   marks = marks_below (mark_in v.marks.items) versions;
 }
 
--- how many records there are, and the world of a version with its tints
+-- how many records there are, the cells that the store keeps of a version, and the world of that
+-- version with its tints
 abbrev pub moment_of : Versions → ℕ
 moment_of v = length v.records.items
 
+abbrev pub stored_of : Versions → ℕ → World
+stored_of v version = stored_in (2 ^ v.side) v.models.models v.records.items version
+
 abbrev pub world_of : Versions → ℕ → World
-world_of v version = world_has v.models.items v.records.items version
+world_of v version = world_has v.models.models v.records.items version
 
 abbrev pub tints_of : Versions → ℕ → Tints
-tints_of v version = world_tint v.models.items v.records.items version
+tints_of v version = world_tint v.models.models v.records.items version
 
 -- the state of a core that they are read as
 abbrev pub core_with : Log → Known → State
@@ -60,15 +66,27 @@ core_with log store = record {
 abbrev pub noted_of : Versions → MadeAndMet
 noted_of v = record { made = v.store.told.made; met = v.store.told.met }
 
--- the roots show the cells of their versions, no act has a tint, each mark stands at its version,
--- and the trail is where the records lead
-pub record AreVersions (v : Versions) : Type 0 where
+-- a store of tints has a side of 16 cells or more, a power of two
+abbrev pub IsLargeStore : Bool → ℕ → Type 0
+IsLargeStore true side = 4 ≤ side
+IsLargeStore false side = ⊤
+
+-- the roots show the cells that the store keeps of their versions, each act is tinted exactly where
+-- cells have tints, each mark stands at its version, and the trail is where the records lead
+pub record AreStored (v : Versions) : Type 0 where
   pub side : v.side ≡ (plan_of v).side
-  pub sound : SoundVersions (plan_of v) v.models.items (core_with (log_of v) v.store)
-  pub plain : All (λ r. suits_tints false r.act ≡ true) v.records.items
+  pub sound : SoundVersions (plan_of v) v.models.models (core_with (log_of v) v.store)
+  pub suits : All (λ r. suits_tints v.models.tint r.act ≡ true) v.records.items
+  pub large : IsLargeStore v.models.tint (plan_of v).side
+  pub colours : HaveTints v.models.tint v.models.models
   pub places : length v.marks.items ≡ versions
   pub of_versions : AreOfVersions (mark_in v.marks.items)
   pub position : trail_position v.trail ≡ position_after v.records.items
+
+-- and no cell has a tint
+pub record AreVersions (v : Versions) : Type 0 where
+  pub stored : AreStored v
+  pub plain : v.models.tint ≡ false
 
 -- no share is held
 pub record HoldsNothing (store : Known) : Type 0 where

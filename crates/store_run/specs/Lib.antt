@@ -1,3 +1,4 @@
+pub mod Owned
 pub mod Kept
 pub mod Steps
 pub mod Pins

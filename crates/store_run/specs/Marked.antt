@@ -5,7 +5,7 @@ use Rattle.std.specs.List.{AllPairs, Contains}
 use Rattle.vox_read.specs.Contents.{Content}
 use Rattle.history_model.specs.declared.histories.Mark.{Mark}
 use Rattle.history_model.specs.Logs.{Log}
-use Rattle.history_model.specs.Moments.{world_has}
+use Rattle.history_model.specs.Stores.{store_has}
 use Rattle.node_shapes.specs.declared.names.Name.{Name}
 use Rattle.node_shapes.specs.Tree.{Tree}
 use Rattle.edit_cells.specs.Worlds.{ShowsWorld}
@@ -18,6 +18,7 @@ use Rattle.store_run.specs.Worlds.{WorldState}
 abbrev pub replayed : WorldState → ReplayState
 replayed w = record {
   plan = w.plan;
+  tint = w.log.coloured;
   models = w.models;
   records = w.log.records;
   noted = w.noted;
@@ -40,11 +41,11 @@ pub record AreOfKept (log : Log) (roots : List Rooted) : Type 0 where
   pub listed : (x : Rooted) → Contains roots x → IsKept log x.0
   pub all : (v : ℕ) → IsKept log v → (root : Option Name) × Contains roots (v, root)
 
--- the root is held, and shows the cells of its version
+-- the root is held, and shows the cells that the store keeps of its version
 pub record ShowsVersion (side : ℕ) (models : List Content) (log : Log) (held : List Tree)
     (x : Rooted) : Type 0 where
   pub holds : HoldsRoot held side x.1
-  pub shows : ShowsWorld held (side - 2) x.1 (world_has models log.records x.0)
+  pub shows : ShowsWorld held (side - 2) x.1 (store_has models log x.0)
 
 -- so it is with each of them
 pub record HoldsKept (side : ℕ) (models : List Content) (log : Log) (held : List Tree)

@@ -24,7 +24,7 @@ saved_file models log s = file_of_box s.part (world_has models log.records s.ver
 abbrev pub run_state : Pinned → RunState
 run_state p = record {
   plan = plan_of p.versions;
-  models = p.versions.models.items;
+  models = p.versions.models.models;
   log = log_of p.versions;
   saved = saves_of p.pins.items;
 }

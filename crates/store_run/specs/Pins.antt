@@ -41,7 +41,7 @@ pinned_weight f (t ∷ trees) = weight_of f t + pinned_weight f trees
 -- what is held is one share of each pin's root
 pub record HoldsPins (v : Versions) (pins : List Pin) : Type 0 where
   pub trees : List Tree
-  pub are_pins : ArePins v.side v.models.items v.records.items pins trees
+  pub are_pins : ArePins v.side v.models.models v.records.items pins trees
   pub weighs : (f : Tree → ℕ) → weigh f v.store.told.held ≡ pinned_weight f trees
 
 -- versions, and no more than 2,048 pins, which are all that is held

@@ -5,7 +5,6 @@ use Rattle.history_model.specs.declared.acts.Act.{Act}
 use Rattle.history_model.specs.declared.histories.Record.{Record}
 use Rattle.history_model.specs.Logs.{MayFollow}
 use Rattle.history_model.specs.Positions.{position_after}
-use Rattle.node_shapes.specs.Shape.{IsPart}
 use Rattle.node_words.specs.declared.shares.Full.{Full}
 use Rattle.node_words.specs.Enough.{HasEnough}
 use Rattle.node_words.specs.Gathering.{Grew}
@@ -16,12 +15,13 @@ use Rattle.store_notes.specs.Changes.{MakesNothing}
 use Rattle.store_run.specs.declared.stored_versions.Versions.{Versions}
 use Rattle.store_run.specs.declared.replaying.ReplayRefused.{ReplayRefused}
 use Rattle.store_run.specs.declared.replaying.ReplayRefused.TheVariants as refusals
-use Rattle.store_run.specs.Kept.{plan_of, log_of, noted_of, AreVersions, HoldsNothing}
-use Rattle.store_run.specs.Steps.{target_of}
+use Rattle.store_run.specs.Kept.{plan_of, log_of, noted_of, AreStored, HoldsNothing}
+use Rattle.store_run.specs.Steps.{WantsFor}
 
--- the plan, the models, the records so far, and what the store noted
+-- the plan, whether cells have tints, the models, the records so far, and what the store noted
 pub record ReplayState : Type 0 where
   pub plan : Layout
+  pub tint : Bool
   pub models : List Content
   pub records : List Record
   pub noted : MadeAndMet
@@ -29,14 +29,15 @@ pub record ReplayState : Type 0 where
 abbrev pub replay_state : Versions → ReplayState
 replay_state v = record {
   plan = plan_of v;
-  models = v.models.items;
+  tint = v.models.tint;
+  models = v.models.models;
   records = v.records.items;
   noted = noted_of v;
 }
 
 -- versions of which none has a mark, and no share is held
 pub record IsReplay (v : Versions) : Type 0 where
-  pub are : AreVersions v
+  pub are : AreStored v
   pub free : HoldsNothing v.store
   pub unmarked : (log_of v).marks ≡ []
 
@@ -71,26 +72,27 @@ pub record MakesOnlyParts (s : ReplayState) : Type 0 where
 -- the record came behind the others
 pub record TakesRecord (old : Versions) (r : Record) (new : Versions) : Type 0 where
   pub plan : plan_of new ≡ plan_of old
-  pub models : new.models.items ≡ old.models.items
+  pub tint : new.models.tint ≡ old.models.tint
+  pub models : new.models.models ≡ old.models.models
   pub records : new.records.items ≡ old.records.items ++ r ∷ []
   pub marks : (log_of new).marks ≡ (log_of old).marks
 
--- an edit came behind the others, whose parts may have been made
+-- an edit came behind the others, and shapes that it wants may have been made
 pub record TakesEdit (old : Versions) (r : Record) (new : Versions) : Type 0 where
   pub takes : TakesRecord old r new
-  pub made : Grew (λ s. IsPart s (target_of old r.act)) old.store.told.made new.store.told.made
+  pub made : Grew (WantsFor old r.act) old.store.told.made new.store.told.made
 
 -- an undo or a redo did, for which nothing is made
 pub record TakesWay (old : Versions) (r : Record) (new : Versions) : Type 0 where
   pub takes : TakesRecord old r new
   pub only : MakesNothing old.store.told new.store.told
 
--- a part of what the edit makes found its bucket full, of which enough was made, and no record came
+-- a shape that the edit wants found its bucket full, of which enough was made, and no record came
 pub record FillsBucket (old : Versions) (act : Act) (full : Full) (new : Versions) : Type 0 where
   pub plan : plan_of new ≡ plan_of old
-  pub models : new.models.items ≡ old.models.items
+  pub models : new.models.models ≡ old.models.models
   pub log : log_of new ≡ log_of old
-  pub made : Grew (λ s. IsPart s (target_of old act)) old.store.told.made new.store.told.made
+  pub made : Grew (WantsFor old act) old.store.told.made new.store.told.made
   pub enough : HasEnough (plan_of old) new.store.told.made full.level full.bucket
 
 -- the record can follow these, of which no version is forgotten

@@ -5,15 +5,18 @@ use Rattle.history_model.specs.declared.acts.Act.{Act}
 use Rattle.history_model.specs.declared.histories.Mark.{Mark}
 use Rattle.history_model.specs.declared.histories.Record.{Record}
 use Rattle.history_model.specs.declared.questions.Question.{Question}
-use Rattle.history_model.specs.Worlds.{World, edited}
+use Rattle.history_model.specs.Logs.{kept_side}
+use Rattle.history_model.specs.Stores.{edited_in}
+use Rattle.history_model.specs.Worlds.{World}
 use Rattle.node_shapes.specs.declared.names.Name.{Name}
 use Rattle.node_shapes.specs.Shape.{Shape, ShowsCells}
 use Rattle.node_shapes.specs.Tree.{shape_of}
 use Rattle.node_words.specs.declared.shares.Full.{Full}
-use Rattle.node_words.specs.Gathering.{Grows, Fails}
+use Rattle.act_rebuilds.specs.Acts.{IsOfAct}
+use Rattle.act_rebuilds.specs.Made.{GrowsBy as MadeBy, FailsBy}
 use Rattle.block_contents.specs.Aligned.{top, world_block}
 use Rattle.block_contents.specs.Versions.{IsKept}
-use Rattle.edit_cells.specs.Worlds.{Rebuilt, world_shape}
+use Rattle.edit_cells.specs.Worlds.{Rebuilt}
 use Rattle.store_notes.specs.Changes.{MakesNothing}
 use Rattle.one_store.specs.Known.{known_seen, root_tree, stored_root}
 use Rattle.one_store.specs.Steps.{SparesRoots}
@@ -23,7 +26,7 @@ use Rattle.transcript.specs.declared.answers.Answer.{Answer}
 use Rattle.store_run.specs.declared.stored_versions.Versions.{Versions}
 use Rattle.store_run.specs.declared.stored_versions.VersionFound.{VersionFound}
 use Rattle.store_run.specs.declared.stored_versions.VersionFound.TheVariants.{Kept, NotThere, Marked}
-use Rattle.store_run.specs.Kept.{plan_of, log_of, moment_of, world_of, tints_of, GainsTree, LosesTree}
+use Rattle.store_run.specs.Kept.{plan_of, log_of, moment_of, stored_of, world_of, tints_of, GainsTree, LosesTree}
 
 -- whether a version can be read
 pub record HasMark (v : Versions) (version : ℕ) : Type 0 where
@@ -36,14 +39,18 @@ IsVersionFound v version Kept = IsKept (log_of v) version
 IsVersionFound v version NotThere = moment_of v < version
 IsVersionFound v version Marked = (version ≤ moment_of v) × HasMark v version
 
+-- the side of the world that the store keeps
+abbrev pub side_of : Versions → ℕ
+side_of v = kept_side v.models.tint (2 ^ v.side)
+
 -- the answer tells what the question asks of a version
 abbrev pub TellsVersion : Versions → ℕ → Question → Answer → Type 0
 TellsVersion v version question answer =
-    Tells (2 ^ v.side) (world_of v version) (tints_of v version) question answer
+    Tells (side_of v) (world_of v version) (tints_of v version) question answer
 
 -- models, records and marks stay, and so do the roots in their places
 pub record StayVersions (old new : Versions) : Type 0 where
-  pub models : new.models.items ≡ old.models.items
+  pub models : new.models.models ≡ old.models.models
   pub log : log_of new ≡ log_of old
   pub spares : SparesRoots old.store new.store
 
@@ -79,19 +86,20 @@ pub record SharesRoot (old : Versions) (version : ℕ) (root : Option Name)
   pub is : root ≡ stored_root new.store.roots version
   pub gains : GainsTree old.store root new.store
 
--- what an edit makes of the newest version, and the canonical shape of that
+-- what an edit makes of the store's cells of the newest version, and the shapes that it wants for
+-- that
 abbrev pub edited_world : Versions → Act → World
-edited_world v act = edited v.models.items act (world_of v (moment_of v))
+edited_world v act = edited_in (2 ^ v.side) v.models.models act (stored_of v (moment_of v))
 
-abbrev pub target_of : Versions → Act → Shape
-target_of v act = world_shape ((plan_of v).side - 2) (edited_world v act)
+abbrev pub WantsFor : Versions → Act → Shape → Type 0
+WantsFor v act = IsOfAct v.side v.models.models act (stored_of v (moment_of v))
 
 -- a share came, beside what was held, of the root of what the edit makes of the newest version
 pub record MakesBeside (old : Versions) (act : Act) (root : Option Name)
     (new : Versions) : Type 0 where
   pub rebuilt : Rebuilt (old.side - 2) (edited_world old act) root (known_seen old.store)
       (known_seen new.store)
-  pub grows : Grows (target_of old act) (known_seen old.store) (known_seen new.store)
+  pub grows : MadeBy (WantsFor old act) (known_seen old.store) (known_seen new.store)
 
 -- the root is that of what the edit makes, whose parts may have been made
 pub record MakesRoot (old : Versions) (act : Act) (root : Option Name)
@@ -100,26 +108,26 @@ pub record MakesRoot (old : Versions) (act : Act) (root : Option Name)
   pub level : (n : Name) → root ≡ Some n → n.level ≡ top (plan_of old).side
   pub shows : ShowsCells (world_block (plan_of old).side) (shape_of (root_tree new.store root))
       (edited_world old act)
-  pub grows : Grows (target_of old act) (known_seen old.store) (known_seen new.store)
+  pub grows : MadeBy (WantsFor old act) (known_seen old.store) (known_seen new.store)
 
 -- a part of what the edit makes met this full bucket
 pub record MeetsBucket (old : Versions) (act : Act) (full : Full) (new : Versions) : Type 0 where
   pub stay : StayVersions old new
-  pub fails : Fails (target_of old act) full.level full.bucket (known_seen old.store)
+  pub fails : FailsBy (WantsFor old act) full.level full.bucket (known_seen old.store)
       (known_seen new.store)
 
 -- models and plan stay, and nothing was made or met
 pub record OnlyLogs (old new : Versions) : Type 0 where
-  pub models : new.models.items ≡ old.models.items
+  pub models : new.models.models ≡ old.models.models
   pub plan : plan_of new ≡ plan_of old
   pub only : MakesNothing old.store.told new.store.told
 
 -- the record came behind the others
 pub record AppendsRecord (old : Versions) (r : Record) (new : Versions) : Type 0 where
   pub only : OnlyLogs old new
-  pub grows : GrowsByRecord (plan_of old) old.models.items r (log_of old) (log_of new)
+  pub grows : GrowsByRecord (plan_of old) old.models.models r (log_of old) (log_of new)
 
 -- the mark came to its place
 pub record MarksVersion (old : Versions) (mark : Mark) (new : Versions) : Type 0 where
   pub only : OnlyLogs old new
-  pub forgets : ForgetsBy (plan_of old) old.models.items mark (log_of old) (log_of new)
+  pub forgets : ForgetsBy (plan_of old) old.models.models mark (log_of old) (log_of new)

@@ -6,7 +6,7 @@ use Rattle.history_model.specs.Logs.{Log}
 use Rattle.node_words.specs.Plans.{Layout}
 use Rattle.script_runs.specs.Keeping.{MadeAndMet}
 use Rattle.store_run.specs.declared.stored_versions.Versions.{Versions}
-use Rattle.store_run.specs.Kept.{plan_of, log_of, noted_of, AreVersions, HoldsNothing}
+use Rattle.store_run.specs.Kept.{plan_of, log_of, noted_of, AreStored, AreVersions, HoldsNothing}
 
 pub record WorldState : Type 0 where
   pub plan : Layout
@@ -17,7 +17,7 @@ pub record WorldState : Type 0 where
 abbrev pub world_state : Versions → WorldState
 world_state v = record {
   plan = plan_of v;
-  models = v.models.items;
+  models = v.models.models;
   log = log_of v;
   noted = noted_of v;
 }
@@ -25,6 +25,11 @@ world_state v = record {
 -- between two calls
 pub record IsAtRest (v : Versions) : Type 0 where
   pub are : AreVersions v
+  pub nothing : HoldsNothing v.store
+
+-- the same of versions whose cells may have tints
+pub record IsIdle (v : Versions) : Type 0 where
+  pub are : AreStored v
   pub nothing : HoldsNothing v.store
 
 -- the size of a model, where there is one

@@ -86,6 +86,7 @@ impl<L: Ledger> Desk for StoreDesk<L> {
 
     ghost saved = { λ d. d.saved };
 
+    #[tactic(auto, using(crate::proofs::Pinning::desk_fits, crate::proofs::Pinning::desk_plain))]
     fn answer(&mut self, session: u16, l: ScriptLine) -> Result<LineAnswer, Memory> {
         self.pinned.reserve()?;
         let ScriptLine { line, command } = l;

@@ -6,7 +6,7 @@ ghost use Rattle.node_shapes.specs.Weights.{number_of_trees};
 ghost use Rattle.script.specs.Fitting.{QuestionFits};
 ghost use Rattle.script.specs.declared.commands.Command.TheVariants.{Edit, Forget, Ask, Same};
 ghost use Rattle.conformance.specs.Answers.{target_at, asked_version, mark_of};
-ghost use Rattle.store_run.specs.Kept.{log_of, moment_of, AreVersions, HoldsSame, HasRoom};
+ghost use Rattle.store_run.specs.Kept.{log_of, moment_of, AreStored, AreVersions, HoldsSame, HasRoom};
 ghost use Rattle.store_run.specs.Answering.{GoesOnBy, nothing_to_go_to};
 ghost use Rattle.store_run.specs.Changing.{Changes, Forgets};
 
@@ -18,7 +18,7 @@ use transcript::Answer;
 
 impl Versions {
     /// An edit: full, or the history is, or it becomes the next record.
-    #[tactic(auto, using(crate::proofs::Targets::may_edit, crate::proofs::Answering::edit_full, crate::proofs::Answering::edit_done, crate::proofs::Answering::edit_late, crate::proofs::Answering::full_same, crate::proofs::Holding::same_again, crate::proofs::Holding::gained_tree, crate::proofs::Holding::gained_room))]
+    #[tactic(auto, using(crate::proofs::Rebuilding::suits_here, crate::proofs::Rebuilding::suits_still, crate::proofs::Targets::may_edit, crate::proofs::Answering::edit_full, crate::proofs::Answering::edit_done, crate::proofs::Answering::edit_late, crate::proofs::Answering::full_same, crate::proofs::Holding::same_again, crate::proofs::Holding::gained_tree, crate::proofs::Holding::gained_room))]
     pub(crate) fn edit<L: Ledger>(
         &mut self,
         session: u16,
@@ -31,7 +31,7 @@ impl Versions {
         requires room { HasRoom self.old }
         requires edit { is_edit act ≡ true }
         requires plain { suits_tints false act ≡ true }
-        requires fits { FitsWorld (2 ^ self.old.side) self.old.models.items act }
+        requires fits { FitsWorld (2 ^ self.old.side) self.old.models.models act }
         ensures are { AreVersions self.new }
         ensures goes_on { (once : Bool) → GoesOnBy self.old session
             (record { line = line; command = Edit act once }) result self.new }
@@ -58,7 +58,7 @@ impl Versions {
 
     /// An undo or a redo: it has nowhere to go, its version was forgotten, the history is full, or
     /// it becomes the next record.
-    #[tactic(auto, using(crate::proofs::Plainly::way_plain, crate::proofs::Targets::may_go_to, crate::proofs::Answering::go_nowhere, crate::proofs::Answering::go_forgotten, crate::proofs::Answering::go_late, crate::proofs::Answering::go_done, crate::proofs::Answering::go_past, crate::proofs::Answering::went_same, crate::proofs::Holding::same_held, crate::proofs::Rebuilding::shared_tree))]
+    #[tactic(auto, using(crate::proofs::KeptWorlds::way_suits, crate::proofs::Targets::may_go_to, crate::proofs::Answering::go_nowhere, crate::proofs::Answering::go_forgotten, crate::proofs::Answering::go_late, crate::proofs::Answering::go_done, crate::proofs::Answering::go_past, crate::proofs::Answering::went_same, crate::proofs::Holding::same_held, crate::proofs::Rebuilding::shared_tree))]
     pub(crate) fn go(&mut self, session: u16, line: u32, act: Act) -> Answer
         requires are { AreVersions self.old }
         requires few { number_of_trees self.old.store.told.held ≤ 2048 }
@@ -92,7 +92,7 @@ impl Versions {
     // The version that an undo or a redo goes to.
     #[tactic(auto, using(crate::proofs::Targets::target_undo, crate::proofs::Targets::target_redo))]
     pub(crate) fn target(&self, act: Act) -> Option<u32>
-        requires { AreVersions self.now }
+        requires { AreStored self.now }
         ensures { result ≡ target_at self.now.records.items (moment_of self.now) act }
     {
         match act {
@@ -141,7 +141,7 @@ impl Versions {
 
     /// The version that is asked for: the newest where none is named.
     pub(crate) fn asked(&self, version: Option<u32>) -> u32
-        requires { AreVersions self.now }
+        requires { AreStored self.now }
         ensures { result ≡ asked_version version (moment_of self.now) }
     {
         match version {
@@ -150,7 +150,7 @@ impl Versions {
         }
     }
 
-    #[tactic(auto, using(crate::proofs::Answering::ask_missing, crate::proofs::Answering::ask_marked, crate::proofs::Answering::asks, crate::proofs::Holding::same_held))]
+    #[tactic(auto, using(crate::proofs::Rebuilding::question_here, crate::proofs::Answering::ask_missing, crate::proofs::Answering::ask_marked, crate::proofs::Answering::asks, crate::proofs::Holding::same_held))]
     pub(crate) fn tell<L: Ledger>(
         &mut self,
         session: u16,

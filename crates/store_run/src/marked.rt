@@ -5,6 +5,7 @@ ghost use Rattle.history_model.specs.Positions.{position_after};
 ghost use Rattle.block_contents.specs.Versions.{IsKept};
 ghost use Rattle.one_store.specs.Known.{known_seen};
 ghost use Rattle.store_run.specs.Changing.{Marks, with_record};
+ghost use Rattle.store_run.specs.Kept.{IsLargeStore};
 ghost use Rattle.store_run.specs.Marked.{HoldsKept, replayed};
 ghost use Rattle.store_run.specs.Replaying.{MakesOnlyParts, RefusesRecord};
 
@@ -32,7 +33,7 @@ impl<L: Ledger> Model for MarkedReplay<L> {
     ghost use Rattle.std.specs.Coded.{codes};
     ghost use Rattle.node_shapes.specs.ShapeCode.{coded_shape};
     ghost use Rattle.store_notes.specs.Told.{coded_wanted};
-    ghost use Rattle.store_run.specs.Worlds.{WorldState, world_state, IsAtRest};
+    ghost use Rattle.store_run.specs.Worlds.{WorldState, world_state, IsIdle};
 
     ghost Value = { WorldState };
 
@@ -40,20 +41,23 @@ impl<L: Ledger> Model for MarkedReplay<L> {
 
     ghost view = { λ r. world_state r.versions };
 
-    ghost invariant = { λ r. IsAtRest r.versions };
+    ghost invariant = { λ r. IsIdle r.versions };
 }
 
 impl<L: Ledger> MarkedReplay<L> {
-    /// A history with no record, room for so many, and these models.
+    /// A history with no record, room for so many, and these models, of a world whose cells have
+    /// tints, or have none.
     #[tactic(auto, using(crate::proofs::Filling::nothing_made))]
     pub fn begin(
         alloc: Global,
         plan: &Plan,
         models: Models,
+        tint: bool,
         records: usize,
         blank: Blank,
     ) -> Result<MarkedReplay<L>, Memory>
         requires models { AreModels models }
+        requires large { IsLargeStore tint plan.now.side }
         requires name { blank.name ≡ L.name }
         requires parts { blank.parts ≡ L.parts }
         requires some { 0 < L.parts }
@@ -61,10 +65,10 @@ impl<L: Ledger> MarkedReplay<L> {
         ensures models { IfOk result (λ r. r.models ≡ models) }
         ensures log { IfOk result
             (λ r. r.log
-            ≡ record { side = plan.now.side; coloured = false; records = []; marks = [] }) }
+            ≡ record { side = plan.now.side; coloured = tint; records = []; marks = [] }) }
         ensures made { IfOk result (λ r. MakesOnlyParts (replayed r)) }
     {
-        let versions = Versions::begin(alloc, plan, models, records)?;
+        let versions = Versions::begin(alloc, plan, models, records, tint)?;
         let steps = Steps::start(blank);
         Ok(MarkedReplay { versions, steps })
     }
@@ -74,7 +78,7 @@ impl<L: Ledger> MarkedReplay<L> {
     #[tactic(auto, using(crate::proofs::Filling::edit_parts, crate::proofs::Filling::way_parts, crate::proofs::Filling::edit_fills, crate::proofs::Followed::log_taken, crate::proofs::Taking::free_few, crate::proofs::Taking::same_free))]
     pub fn take(&mut self, next: Record) -> Result<(), ReplayRefused>
         requires early { length self.old.log.records < 65535 }
-        requires plain { suits_tints false next.act ≡ true }
+        requires suits { suits_tints self.old.log.coloured next.act ≡ true }
         requires fits { FitsWorld (2 ^ self.old.plan.side) self.old.models next.act }
         requires follows { MayFollow self.old.log.marks (length self.old.log.records + 1) next.act
             (position_after self.old.log.records) }

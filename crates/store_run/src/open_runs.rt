@@ -92,7 +92,7 @@ impl OpenRun {
     }
 }
 
-#[tactic(auto, using(crate::proofs::Plainly::plain_log))]
+#[tactic(auto, using(crate::proofs::KeptWorlds::plain_log))]
 fn close_over<L: Ledger>(alloc: Global, pinned: Pinned, blank: Blank) -> Result<StoreRan, Memory>
     requires are { ArePinned pinned.versions pinned.pins.items }
     requires name { blank.name ≡ L.name }
@@ -101,10 +101,10 @@ fn close_over<L: Ledger>(alloc: Global, pinned: Pinned, blank: Blank) -> Result<
     ensures history { IfOk result (λ r. r.history ≡ log_of pinned.versions) }
     ensures plain { IfOk result (λ r. IsPlain r.history) }
     ensures places { IfOk result (λ r. length r.history.records < length r.roots.items) }
-    ensures roots { IfOk result (λ r. RootsTellWorlds pinned.versions.models.items r.history
+    ensures roots { IfOk result (λ r. RootsTellWorlds pinned.versions.models.models r.history
         (listed_root r.roots.items)) }
     ensures numbers { IfOk result
-        (λ r. AreNumbers pinned.versions.models.items r.history r.numbers.items) }
+        (λ r. AreNumbers pinned.versions.models.models r.history r.numbers.items) }
 {
     let mut steps: Steps<L> = Steps::start(blank);
     let versions = pinned.into_versions(&mut steps);

@@ -64,6 +64,7 @@ impl Model for OpenWorld {
 
 impl OpenWorld {
     /// An empty world with these models.
+    #[tactic(auto, using(crate::proofs::Beginning::begun_plain))]
     pub fn begin(alloc: Global, plan: &Plan, models: Models) -> Result<OpenWorld, Memory>
         requires { AreModels models }
         ensures { IfOk result (λ w. w ≡ record {
@@ -73,7 +74,7 @@ impl OpenWorld {
           noted = record { made = []; met = [] };
         }) }
     {
-        let versions = Versions::begin(alloc, plan, models, FIRST_ROOM)?;
+        let versions = Versions::begin(alloc, plan, models, FIRST_ROOM, false)?;
         Ok(OpenWorld { versions })
     }
 
@@ -88,10 +89,7 @@ impl OpenWorld {
     pub fn model_size(&self, number: usize) -> Option<Cell>
         ensures { result ≡ size_of (slice_get self.now.models number) }
     {
-        match self.versions.models.get(number) {
-            Some(model) => Some(model.size()),
-            None => None,
-        }
+        self.versions.models.size(number)
     }
 
     /// How many records there are, which is the number of the newest version.
@@ -151,6 +149,7 @@ impl OpenWorld {
     }
 
     /// What the question asks of a version.
+    #[tactic(auto, using(crate::proofs::Opening::asked_told))]
     pub fn ask(&mut self, version: u32, question: Question) -> Answer
         requires kept { IsKept self.old.log version }
         requires fits { QuestionFits (2 ^ self.old.plan.side) question }
@@ -207,7 +206,7 @@ fn change_over<L: Ledger>(
     requires rest { IsAtRest versions.old }
     requires room { HasRoom versions.old }
     requires plain { suits_tints false act ≡ true }
-    requires fits { FitsWorld (2 ^ versions.old.side) versions.old.models.items act }
+    requires fits { FitsWorld (2 ^ versions.old.side) versions.old.models.models act }
     requires name { blank.name ≡ L.name }
     requires parts { blank.parts ≡ L.parts }
     requires some { 0 < L.parts }
@@ -246,6 +245,7 @@ fn forget_over<L: Ledger>(
     versions.forget_version(session, line, version, &mut steps)
 }
 
+#[tactic(auto, using(crate::proofs::Rebuilding::question_here))]
 fn ask_over<L: Ledger>(
     versions: &mut Versions,
     version: u32,
@@ -293,7 +293,7 @@ fn file_over<L: Ledger>(
     file
 }
 
-#[tactic(auto, using(crate::proofs::Rebuilding::share_level, crate::proofs::Holding::holds_root, crate::proofs::Sparing::are_spared, crate::proofs::Rebuilding::seen_tree, crate::proofs::Rebuilding::stays_seen, crate::proofs::Opening::root_file))]
+#[tactic(auto, using(crate::proofs::Rebuilding::share_level, crate::proofs::Holding::holds_root, crate::proofs::Sparing::plain_spared, crate::proofs::Rebuilding::seen_tree, crate::proofs::Rebuilding::stays_seen, crate::proofs::Opening::root_file))]
 fn file_root(
     versions: &mut Versions,
     alloc: Global,

@@ -48,7 +48,7 @@ pub(crate) struct Pinned {
 
 impl Pinned {
     /// Version 0 alone, with room for so many records and saves.
-    #[tactic(auto, using(crate::proofs::Pinning::nothing_pinned))]
+    #[tactic(auto, using(crate::proofs::Beginning::begun_plain, crate::proofs::Pinning::nothing_pinned))]
     pub(crate) fn begin(
         alloc: Global,
         plan: &Plan,
@@ -59,13 +59,13 @@ impl Pinned {
         requires { AreModels models }
         ensures are { IfOk result (λ p. ArePinned p.versions p.pins.items) }
         ensures plan { IfOk result (λ p. plan_of p.versions ≡ plan.now) }
-        ensures models { IfOk result (λ p. p.versions.models.items ≡ models) }
+        ensures models { IfOk result (λ p. p.versions.models.models ≡ models) }
         ensures empty { IfOk result (λ p. log_of p.versions
             ≡ record { side = plan.now.side; coloured = false; records = []; marks = [] }) }
         ensures noted { IfOk result (λ p. noted_of p.versions ≡ record { made = []; met = [] }) }
         ensures none { IfOk result (λ p. saves_of p.pins.items ≡ []) }
     {
-        let versions = Versions::begin(alloc, plan, models, records)?;
+        let versions = Versions::begin(alloc, plan, models, records, false)?;
         let pins = Vec::with_capacity(alloc, saves)?;
         Ok(Pinned { versions, pins })
     }
@@ -76,7 +76,7 @@ impl Pinned {
         ensures are { ArePinned self.new.versions self.new.pins.items }
         ensures room { OnOk result (HasRoom self.new.versions) }
         ensures pin_room { OnOk result (HasPinRoom self.new) }
-        ensures same { self.new.versions.models.items ≡ self.old.versions.models.items }
+        ensures same { self.new.versions.models.models ≡ self.old.versions.models.models }
         ensures log { log_of self.new.versions ≡ log_of self.old.versions }
         ensures store { self.new.versions.store ≡ self.old.versions.store }
         ensures pins { self.new.pins.items ≡ self.old.pins.items }
@@ -102,7 +102,7 @@ impl Pinned {
         requires room { HasRoom self.old.versions }
         requires pin_room { HasPinRoom self.old }
         requires fits { CommandFits false (2 ^ self.old.versions.side)
-            self.old.versions.models.items command }
+            self.old.versions.models.models command }
         ensures are { ArePinned self.new.versions self.new.pins.items }
         ensures goes_on { GoesOnBy self.old.versions session
             (record { line = line; command = command }) result self.new.versions }
@@ -185,7 +185,7 @@ impl Pinned {
     }
 
     /// The file of the save of this number.
-    #[tactic(auto, using(crate::proofs::Files::pin_root, crate::proofs::Files::pin_inside, crate::proofs::Files::pin_small, crate::proofs::Files::pin_file, crate::proofs::Pinning::seen_pinned, crate::proofs::Sparing::are_spared, crate::proofs::Rebuilding::stays_seen))]
+    #[tactic(auto, using(crate::proofs::Files::pin_root, crate::proofs::Files::pin_inside, crate::proofs::Files::pin_small, crate::proofs::Files::pin_file, crate::proofs::Pinning::seen_pinned, crate::proofs::Sparing::plain_spared, crate::proofs::Rebuilding::stays_seen))]
     pub(crate) fn file(&mut self, alloc: Global, k: usize) -> Result<Vec<u8>, Memory>
         requires are { ArePinned self.old.versions self.old.pins.items }
         requires there { k < length self.old.pins.items }

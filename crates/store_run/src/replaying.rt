@@ -1,12 +1,13 @@
 ghost use Rattle.std.specs.Prelude.{◌≡◌, ◌+◌, ◌<◌, ◌≤◌, ◌^◌, ◌↔◌, ◌++◌, ◌∷◌, true, false, [], IfOk, IfErr, OnOk, length, IsTrue, Ok, MatchResult};
 ghost use Rattle.vox_read.specs.Contents.{AreModels};
 ghost use Rattle.history_model.specs.Worlds.{is_edit};
-ghost use Rattle.history_model.specs.Logs.{FitsWorld, suits_tints};
+ghost use Rattle.history_model.specs.Logs.{FitsWorld, kept_side, suits_tints};
 ghost use Rattle.history_model.specs.Moments.{world_has, world_tint};
-ghost use Rattle.block_contents.specs.Versions.{SameWorld};
+ghost use Rattle.history_model.specs.Tints.{SameTints};
 ghost use Rattle.script.specs.Fitting.{QuestionFits};
 ghost use Rattle.conformance.specs.Answers.{target_at};
 ghost use Rattle.conformance.specs.Telling.{Tells};
+ghost use Rattle.store_run.specs.Kept.{IsLargeStore};
 ghost use Rattle.store_run.specs.Replaying.{ReplayState, IsReplay, MakesOnlyParts, Replays, RefusesRecord};
 
 use crate::lines::is_edit;
@@ -52,25 +53,29 @@ impl<L: Ledger> Model for Replay<L> {
 }
 
 impl<L: Ledger> Replay<L> {
-    /// A history with no record, room for so many, and these models.
+    /// A history with no record, room for so many, and these models, of a world whose cells have
+    /// tints, or have none.
     #[tactic(auto, using(crate::proofs::Filling::nothing_made))]
     pub fn begin(
         alloc: Global,
         plan: &Plan,
         models: Models,
+        tint: bool,
         records: usize,
         blank: Blank,
     ) -> Result<Replay<L>, Memory>
         requires models { AreModels models }
+        requires large { IsLargeStore tint plan.now.side }
         requires name { blank.name ≡ L.name }
         requires parts { blank.parts ≡ L.parts }
         requires some { 0 < L.parts }
         ensures plan { IfOk result (λ r. r.plan ≡ plan.now) }
+        ensures tint { IfOk result (λ r. r.tint ≡ tint) }
         ensures models { IfOk result (λ r. r.models ≡ models) }
         ensures records { IfOk result (λ r. r.records ≡ []) }
         ensures made { IfOk result MakesOnlyParts }
     {
-        let versions = Versions::begin(alloc, plan, models, records)?;
+        let versions = Versions::begin(alloc, plan, models, records, tint)?;
         let steps = Steps::start(blank);
         Ok(Replay { versions, steps })
     }
@@ -80,10 +85,11 @@ impl<L: Ledger> Replay<L> {
     #[tactic(auto, using(crate::proofs::Filling::edit_parts, crate::proofs::Filling::way_parts, crate::proofs::Filling::edit_fills))]
     pub fn take(&mut self, next: Record) -> Result<bool, ReplayRefused>
         requires early { length self.old.records < 65535 }
-        requires plain { suits_tints false next.act ≡ true }
+        requires suits { suits_tints self.old.tint next.act ≡ true }
         requires fits { FitsWorld (2 ^ self.old.plan.side) self.old.models next.act }
         requires made { MakesOnlyParts self.old }
         ensures plan { self.new.plan ≡ self.old.plan }
+        ensures tint { self.new.tint ≡ self.old.tint }
         ensures models { self.new.models ≡ self.old.models }
         ensures replays { Replays self.old.records next result self.new.records }
         ensures made { OnOk result (MakesOnlyParts self.new) }
@@ -122,8 +128,8 @@ impl<L: Ledger> Replay<L> {
     #[tactic(auto, using(crate::proofs::Taking::free_few, crate::proofs::Taking::unmarked_kept))]
     pub fn ask(&mut self, version: u32, question: Question) -> Answer
         requires there { version ≤ length self.old.records }
-        requires fits { QuestionFits (2 ^ self.old.plan.side) question }
-        ensures tells { Tells (2 ^ self.old.plan.side)
+        requires fits { QuestionFits (kept_side self.old.tint (2 ^ self.old.plan.side)) question }
+        ensures tells { Tells (kept_side self.old.tint (2 ^ self.old.plan.side))
             (world_has self.old.models self.old.records version)
             (world_tint self.old.models self.old.records version) question result }
         ensures same { self.new ≡ self.old }
@@ -132,12 +138,12 @@ impl<L: Ledger> Replay<L> {
         self.versions.ask(version, question, steps)
     }
 
-    /// Whether two versions have the same cells.
-    pub fn has_same_cells(&self, v: u32, w: u32) -> bool
+    /// Whether two versions have the same tints.
+    pub fn has_same_tints(&self, v: u32, w: u32) -> bool
         requires there { (v ≤ length self.now.records) × (w ≤ length self.now.records) }
-        ensures { IsTrue result ↔ SameWorld (2 ^ self.now.plan.side)
-            (world_has self.now.models self.now.records v)
-            (world_has self.now.models self.now.records w) }
+        ensures { IsTrue result ↔ SameTints (kept_side self.now.tint (2 ^ self.now.plan.side))
+            (world_tint self.now.models self.now.records v)
+            (world_tint self.now.models self.now.records w) }
     {
         let _number = self.versions.store.number();
         self.versions.has_same_roots(v, w)

@@ -5,7 +5,7 @@ ghost use Rattle.history_model.specs.Logs.{FitsWorld, MayFollow, suits_tints};
 ghost use Rattle.history_model.specs.Positions.{position_after};
 ghost use Rattle.node_shapes.specs.Weights.{number_of_trees};
 ghost use Rattle.conformance.specs.Answers.{target_at};
-ghost use Rattle.store_run.specs.Kept.{moment_of, log_of, AreVersions, HoldsSame, HasRoom};
+ghost use Rattle.store_run.specs.Kept.{moment_of, log_of, AreStored, HoldsSame, HasRoom};
 ghost use Rattle.store_run.specs.Replaying.{TakesEdit, TakesWay, FillsBucket, CanFollow};
 
 use crate::stored_versions::Versions;
@@ -15,20 +15,20 @@ use std::sync::ledger::Ledger;
 
 impl Versions {
     /// An edit becomes the next record, unless a bucket is full.
-    #[tactic(auto, using(crate::proofs::Targets::may_edit, crate::proofs::Taking::edit_taken, crate::proofs::Filling::fills_bucket, crate::proofs::Holding::same_again, crate::proofs::Holding::gained_tree, crate::proofs::Holding::gained_room))]
+    #[tactic(auto, using(crate::proofs::Rebuilding::suits_still, crate::proofs::Targets::may_edit, crate::proofs::Taking::edit_taken, crate::proofs::Filling::fills_bucket, crate::proofs::Holding::same_again, crate::proofs::Holding::gained_tree, crate::proofs::Holding::gained_room))]
     pub(crate) fn take_edit<L: Ledger>(
         &mut self,
         next: Record,
         steps: &mut Steps<L>,
     ) -> Result<(), Full>
-        requires are { AreVersions self.old }
+        requires are { AreStored self.old }
         requires few { number_of_trees self.old.store.told.held ≤ 2048 }
         requires room { HasRoom self.old }
         requires early { moment_of self.old < 65535 }
         requires edit { is_edit next.act ≡ true }
-        requires plain { suits_tints false next.act ≡ true }
-        requires fits { FitsWorld (2 ^ self.old.side) self.old.models.items next.act }
-        ensures are { AreVersions self.new }
+        requires suits { suits_tints self.old.models.tint next.act ≡ true }
+        requires fits { FitsWorld (2 ^ self.old.side) self.old.models.models next.act }
+        ensures are { AreStored self.new }
         ensures same { HoldsSame self.old.store self.new.store }
         ensures takes { OnOk result (TakesEdit self.old next self.new) }
         ensures fills { IfErr result (λ full. FillsBucket self.old next.act full self.new) }
@@ -45,15 +45,15 @@ impl Versions {
     }
 
     /// An undo or a redo becomes the next record, where it has a version to go to.
-    #[tactic(auto, using(crate::proofs::Plainly::way_plain, crate::proofs::Targets::may_go_to, crate::proofs::Taking::way_taken, crate::proofs::Taking::target_kept, crate::proofs::Taking::target_follows, crate::proofs::Answering::went_same, crate::proofs::Holding::same_held, crate::proofs::Rebuilding::shared_tree))]
+    #[tactic(auto, using(crate::proofs::KeptWorlds::way_suits, crate::proofs::Targets::may_go_to, crate::proofs::Taking::way_taken, crate::proofs::Taking::target_kept, crate::proofs::Taking::target_follows, crate::proofs::Answering::went_same, crate::proofs::Holding::same_held, crate::proofs::Rebuilding::shared_tree))]
     pub(crate) fn take_way(&mut self, next: Record) -> bool
-        requires are { AreVersions self.old }
+        requires are { AreStored self.old }
         requires few { number_of_trees self.old.store.told.held ≤ 2048 }
         requires room { HasRoom self.old }
         requires early { moment_of self.old < 65535 }
         requires other { is_edit next.act ≡ false }
         requires unmarked { (log_of self.old).marks ≡ [] }
-        ensures are { AreVersions self.new }
+        ensures are { AreStored self.new }
         ensures same { HoldsSame self.old.store self.new.store }
         ensures takes { result ≡ true → TakesWay self.old next self.new }
         ensures follows { result ≡ true → CanFollow self.old.records.items next }
@@ -72,16 +72,16 @@ impl Versions {
     }
 
     /// An undo or a redo becomes the next record, which can follow those before it.
-    #[tactic(auto, using(crate::proofs::Plainly::way_plain, crate::proofs::Targets::may_go_to, crate::proofs::Taking::way_taken, crate::proofs::Followed::followed_kept, crate::proofs::Followed::target_there, crate::proofs::Answering::went_same, crate::proofs::Holding::same_held, crate::proofs::Rebuilding::shared_tree))]
+    #[tactic(auto, using(crate::proofs::KeptWorlds::way_suits, crate::proofs::Targets::may_go_to, crate::proofs::Taking::way_taken, crate::proofs::Followed::followed_kept, crate::proofs::Followed::target_there, crate::proofs::Answering::went_same, crate::proofs::Holding::same_held, crate::proofs::Rebuilding::shared_tree))]
     pub(crate) fn follow_way(&mut self, next: Record)
-        requires are { AreVersions self.old }
+        requires are { AreStored self.old }
         requires few { number_of_trees self.old.store.told.held ≤ 2048 }
         requires room { HasRoom self.old }
         requires early { moment_of self.old < 65535 }
         requires other { is_edit next.act ≡ false }
         requires follows { MayFollow (log_of self.old).marks (moment_of self.old + 1) next.act
             (position_after self.old.records.items) }
-        ensures are { AreVersions self.new }
+        ensures are { AreStored self.new }
         ensures same { HoldsSame self.old.store self.new.store }
         ensures takes { TakesWay self.old next self.new }
     {

@@ -1,6 +1,6 @@
 ghost use Rattle.std.specs.Prelude.{◌≡◌, ◌+◌, ◌<◌, ◌≤◌, ◌^◌, ◌↔◌, true, None, IfOk, IfErr, OnOk, IsTrue, [], length, replicate, option_copied, false};
 
-use crate::models::{OwnModel, own_models, rebuild_own};
+use crate::models::{OwnModels, own_models, rebuild_own};
 use history_model::{Act, History, Mark, Question, Record};
 use node_words::{Full, Name, NodeStore, Plan, Share, Steps};
 use one_store::OneStore;
@@ -10,7 +10,7 @@ use transcript::Answer;
 use undo::Trail;
 use vox_read::Models;
 use vw_cell::{Memory, Side};
-use world_answers::tell;
+use world_answers::{tell, tell_tinted};
 
 /// The most records of a history.
 pub(crate) const RECORDS: u32 = 65_535;
@@ -23,7 +23,7 @@ const VERSIONS: usize = 65_536;
 #[derive(Drop)]
 pub(crate) struct Versions {
     pub(crate) side: Side,
-    pub(crate) models: Vec<OwnModel>,
+    pub(crate) models: OwnModels,
     pub(crate) store: OneStore,
     pub(crate) records: Vec<Record>,
     // by version
@@ -45,33 +45,37 @@ ghost use Rattle.history_model.specs.Worlds.{is_edit};
 ghost use Rattle.history_model.specs.Logs.{FitsWorld, suits_tints};
 ghost use Rattle.block_contents.specs.Versions.{IsKept, IsUnmarked};
 ghost use Rattle.core_laws.specs.LogEvents.{MayAppend};
-ghost use Rattle.node_words.specs.Gathering.{Fails};
+ghost use Rattle.act_rebuilds.specs.Made.{FailsBy};
 ghost use Rattle.one_store.specs.Known.{known_seen, stored_root};
 ghost use Rattle.script.specs.Fitting.{QuestionFits};
-ghost use Rattle.store_run.specs.Kept.{plan_of, log_of, moment_of, core_with, noted_of, AreVersions, HoldsNothing, HoldsTree, GainsTree, LosesTree, HoldsSame, HasRoom};
-ghost use Rattle.store_run.specs.Steps.{IsVersionFound, TellsVersion, StaysSeen, IsOverStore, MakesBeside, target_of, PutsDown, LeavesAll, SharesRoot, MakesRoot, MeetsBucket, AppendsRecord, MarksVersion};
+ghost use Rattle.store_run.specs.Kept.{plan_of, log_of, moment_of, core_with, noted_of, AreStored, AreVersions, IsLargeStore, HoldsNothing, HoldsTree, GainsTree, LosesTree, HoldsSame, HasRoom};
+ghost use Rattle.store_run.specs.Steps.{IsVersionFound, TellsVersion, StaysSeen, IsOverStore, MakesBeside, WantsFor, side_of, PutsDown, LeavesAll, SharesRoot, MakesRoot, MeetsBucket, AppendsRecord, MarksVersion};
 
 impl Versions {
-    /// Version 0 alone, with room for so many records.
+    /// Version 0 alone, with room for so many records, of a world whose cells have tints, or have
+    /// none.
     #[tactic(auto, using(crate::proofs::Beginning::begun_are, crate::proofs::Beginning::begun_log, crate::proofs::Beginning::begun_nothing, crate::proofs::Beginning::begun_noted))]
     pub(crate) fn begin(
         alloc: Global,
         plan: &Plan,
         models: Models,
         most: usize,
+        tint: bool,
     ) -> Result<Versions, Memory>
-        requires { AreModels models }
-        ensures are { IfOk result AreVersions }
+        requires models { AreModels models }
+        requires large { IsLargeStore tint plan.now.side }
+        ensures are { IfOk result AreStored }
         ensures plan { IfOk result (λ v. plan_of v ≡ plan.now) }
-        ensures models { IfOk result (λ v. v.models.items ≡ models) }
+        ensures tint { IfOk result (λ v. v.models.tint ≡ tint) }
+        ensures models { IfOk result (λ v. v.models.models ≡ models) }
         ensures empty { IfOk result (λ v. log_of v
-            ≡ record { side = plan.now.side; coloured = false; records = []; marks = [] }) }
+            ≡ record { side = plan.now.side; coloured = tint; records = []; marks = [] }) }
         ensures noted { IfOk result (λ v. noted_of v ≡ record { made = []; met = [] }) }
         ensures free { IfOk result (λ v. HoldsNothing v.store) }
     {
         Ok(Versions {
             side: plan.side(),
-            models: own_models(alloc, models)?,
+            models: own_models(alloc, models, tint)?,
             store: OneStore::begin(alloc, plan)?,
             records: Vec::with_capacity(alloc, most)?,
             marks: no_marks(alloc)?,
@@ -81,7 +85,7 @@ impl Versions {
 
     /// How many records there are.
     pub(crate) fn moment(&self) -> u32
-        requires { AreVersions self.now }
+        requires { AreStored self.now }
         ensures value { result ≡ moment_of self.now }
         ensures few { result ≤ 65535 }
     {
@@ -91,7 +95,7 @@ impl Versions {
     /// Whether the version can be read.
     #[tactic(auto, using(crate::proofs::Finding::in_places, crate::proofs::Finding::kept_at, crate::proofs::Finding::marked_at))]
     pub(crate) fn find(&self, version: u32) -> VersionFound
-        requires { AreVersions self.now }
+        requires { AreStored self.now }
         ensures { IsVersionFound self.now version result }
     {
         if version > self.moment() {
@@ -106,7 +110,7 @@ impl Versions {
     /// Whether two versions have one root.
     #[tactic(auto, using(crate::proofs::Ending::has_place))]
     pub(crate) fn has_same_roots(&self, v: u32, w: u32) -> bool
-        requires are { AreVersions self.now }
+        requires are { AreStored self.now }
         requires there { (v ≤ moment_of self.now) × (w ≤ moment_of self.now) }
         ensures { IsTrue result
             ↔ (stored_root self.now.store.roots v ≡ stored_root self.now.store.roots w) }
@@ -117,12 +121,13 @@ impl Versions {
     }
 
     /// One more share of the version's root.
-    #[tactic(auto, using(crate::proofs::Sparing::shares_root, crate::proofs::Sparing::are_spared, crate::proofs::Sparing::room_stays))]
+    #[tactic(auto, using(crate::proofs::Sparing::shares_root, crate::proofs::Sparing::are_spared, crate::proofs::Sparing::plain_spared, crate::proofs::Sparing::room_stays))]
     pub(crate) fn share(&mut self, version: u32) -> Option<Share>
-        requires are { AreVersions self.old }
+        requires are { AreStored self.old }
         requires kept { IsKept (log_of self.old) version }
         requires few { number_of_trees self.old.store.told.held ≤ 2048 }
-        ensures are { AreVersions self.new }
+        ensures are { AreStored self.new }
+        ensures plain { AreVersions self.old → AreVersions self.new }
         ensures shares { SharesRoot self.old version result self.new }
         ensures room { HasRoom self.old → HasRoom self.new }
     {
@@ -130,12 +135,13 @@ impl Versions {
     }
 
     /// Gives a share of a root back, where there is one.
-    #[tactic(auto, using(crate::proofs::Sparing::puts_some, crate::proofs::Sparing::puts_none, crate::proofs::Sparing::are_spared, crate::proofs::Holding::tree_name, crate::proofs::Sparing::room_stays))]
+    #[tactic(auto, using(crate::proofs::Sparing::puts_some, crate::proofs::Sparing::puts_none, crate::proofs::Sparing::are_spared, crate::proofs::Sparing::plain_spared, crate::proofs::Holding::tree_name, crate::proofs::Sparing::room_stays))]
     pub(crate) fn give_back<L: Ledger>(&mut self, root: Option<Share>, steps: &mut Steps<L>)
-        requires are { AreVersions self.old }
+        requires are { AreStored self.old }
         requires holds { HoldsTree self.old.store root }
         requires few { number_of_trees self.old.store.told.held ≤ 4008 }
-        ensures are { AreVersions self.new }
+        ensures are { AreStored self.new }
+        ensures plain { AreVersions self.old → AreVersions self.new }
         ensures puts { PutsDown self.old root self.new }
         ensures room { HasRoom self.old → HasRoom self.new }
     {
@@ -153,11 +159,12 @@ impl Versions {
         question: Question,
         steps: &mut Steps<L>,
     ) -> Answer
-        requires are { AreVersions self.old }
+        requires are { AreStored self.old }
         requires kept { IsKept (log_of self.old) version }
         requires few { number_of_trees self.old.store.told.held ≤ 2048 }
-        requires fits { QuestionFits (2 ^ self.old.side) question }
-        ensures are { AreVersions self.new }
+        requires fits { QuestionFits (side_of self.old) question }
+        ensures are { AreStored self.new }
+        ensures plain { AreVersions self.old → AreVersions self.new }
         ensures leaves { LeavesAll self.old self.new }
         ensures same { HoldsSame self.old.store self.new.store }
         ensures tells { TellsVersion self.old version question result }
@@ -169,40 +176,45 @@ impl Versions {
     }
 
     /// What the question asks of the version whose root is held.
-    #[tactic(auto, using(crate::proofs::Rebuilding::share_level, crate::proofs::Rebuilding::share_shows, crate::proofs::Holding::holds_root, crate::proofs::Sparing::are_spared, crate::proofs::Rebuilding::seen_tree, crate::proofs::Rebuilding::stays_seen, crate::proofs::Rebuilding::root_told))]
+    #[tactic(auto, using(crate::proofs::Rebuilding::share_level, crate::proofs::Rebuilding::share_shows, crate::proofs::Holding::holds_root, crate::proofs::Sparing::are_spared, crate::proofs::Rebuilding::seen_tree, crate::proofs::Rebuilding::stays_seen, crate::proofs::Rebuilding::root_told, crate::proofs::Rebuilding::tints_told, crate::proofs::Rebuilding::large_tints, crate::proofs::Rebuilding::question_plain, crate::proofs::Rebuilding::question_tinted, crate::proofs::Sparing::plain_spared))]
     pub(crate) fn tell_root(
         &mut self,
         version: u32,
         root: Option<&Share>,
         question: Question,
     ) -> Answer
-        requires are { AreVersions self.old }
+        requires are { AreStored self.old }
         requires kept { IsKept (log_of self.old) version }
         requires holds { HoldsTree self.old.store (option_copied root) }
         requires is { option_copied root ≡ stored_root self.old.store.roots version }
-        requires fits { QuestionFits (2 ^ self.old.side) question }
-        ensures are { AreVersions self.new }
+        requires fits { QuestionFits (side_of self.old) question }
+        ensures are { AreStored self.new }
+        ensures plain { AreVersions self.old → AreVersions self.new }
         ensures stays { StaysSeen self.old self.new }
         ensures holds { HoldsTree self.new.store (option_copied root.entry) }
         ensures tells { TellsVersion self.old version question result }
     {
         let side = self.side;
+        if self.models.tint() {
+            return tell_tinted(&mut self.store, root, side, question);
+        }
         tell(&mut self.store, root, side, question)
     }
 
     /// A share of the root of what the edit makes of the newest version.
-    #[tactic(auto, using(crate::proofs::Rebuilding::newest_is_kept, crate::proofs::Rebuilding::made_all, crate::proofs::Rebuilding::gained_all, crate::proofs::Rebuilding::met_all, crate::proofs::Rebuilding::shared_tree, crate::proofs::Rebuilding::shared_few))]
+    #[tactic(auto, using(crate::proofs::Rebuilding::suits_still, crate::proofs::Rebuilding::newest_is_kept, crate::proofs::Rebuilding::made_all, crate::proofs::Rebuilding::gained_all, crate::proofs::Rebuilding::met_all, crate::proofs::Rebuilding::shared_tree, crate::proofs::Rebuilding::shared_few))]
     pub(crate) fn rebuild<L: Ledger>(
         &mut self,
         act: Act,
         steps: &mut Steps<L>,
     ) -> Result<Option<Share>, Full>
-        requires are { AreVersions self.old }
+        requires are { AreStored self.old }
         requires few { number_of_trees self.old.store.told.held ≤ 2048 }
         requires edit { is_edit act ≡ true }
-        requires plain { suits_tints false act ≡ true }
-        requires fits { FitsWorld (2 ^ self.old.side) self.old.models.items act }
-        ensures are { AreVersions self.new }
+        requires suits { suits_tints self.old.models.tint act ≡ true }
+        requires fits { FitsWorld (2 ^ self.old.side) self.old.models.models act }
+        ensures are { AreStored self.new }
+        ensures plain { AreVersions self.old → AreVersions self.new }
         ensures makes { IfOk result (λ root. MakesRoot self.old act root self.new) }
         ensures gains { IfOk result (λ root. GainsTree self.old.store root self.new.store) }
         ensures meets { IfErr result (λ full. MeetsBucket self.old act full self.new) }
@@ -216,49 +228,45 @@ impl Versions {
     }
 
     // The same from the newest version's root, which is held.
-    #[tactic(auto, using(crate::proofs::Rebuilding::makes_beside, crate::proofs::Rebuilding::fails_beside, crate::proofs::Rebuilding::still_held, crate::proofs::Rebuilding::few_held, crate::proofs::Rebuilding::base_root, crate::proofs::Sparing::are_spared, crate::proofs::Rebuilding::over_store))]
+    #[tactic(auto, using(crate::proofs::Rebuilding::makes_beside, crate::proofs::Rebuilding::fails_beside, crate::proofs::Rebuilding::still_held, crate::proofs::Rebuilding::few_held, crate::proofs::Rebuilding::base_root, crate::proofs::Rebuilding::enough_large, crate::proofs::Rebuilding::enough_room, crate::proofs::Sparing::are_spared, crate::proofs::Sparing::plain_spared, crate::proofs::Rebuilding::over_store))]
     fn rebuild_from<L: Ledger>(
         &mut self,
         base: Option<&Share>,
         act: Act,
         steps: &mut Steps<L>,
     ) -> Result<Option<Share>, Full>
-        requires are { AreVersions self.old }
+        requires are { AreStored self.old }
         requires holds { HoldsTree self.old.store (option_copied base) }
         requires few { number_of_trees self.old.store.told.held ≤ 2049 }
         requires is { option_copied base ≡ stored_root self.old.store.roots (moment_of self.old) }
         requires edit { is_edit act ≡ true }
-        requires plain { suits_tints false act ≡ true }
-        requires fits { FitsWorld (2 ^ self.old.side) self.old.models.items act }
-        ensures are { AreVersions self.new }
+        requires suits { suits_tints self.old.models.tint act ≡ true }
+        requires fits { FitsWorld (2 ^ self.old.side) self.old.models.models act }
+        ensures are { AreStored self.new }
+        ensures plain { AreVersions self.old → AreVersions self.new }
         ensures only { IsOverStore self.old self.new }
         ensures held { HoldsTree self.new.store (option_copied base.entry) }
         ensures few { number_of_trees self.new.store.told.held ≤ 2050 }
         ensures makes { IfOk result (λ root. MakesBeside self.old act root self.new) }
-        ensures meets { IfErr result (λ full. Fails (target_of self.old act) full.level full.bucket
+        ensures meets { IfErr result
+            (λ full. FailsBy (WantsFor self.old act) full.level full.bucket
             (known_seen self.old.store) (known_seen self.new.store)) }
     {
         let side = self.side;
-        rebuild_own(
-            &mut self.store,
-            base,
-            side,
-            self.models.as_slice(),
-            act,
-            steps,
-        )
+        rebuild_own(&mut self.store, base, side, &self.models, act, steps)
     }
 
     /// The record comes behind the others, and the share of its root goes to its version.
     #[tactic(auto, using(crate::proofs::Logging::no_root, crate::proofs::Holding::holds_some, crate::proofs::Logging::appended_are, crate::proofs::Logging::appends_record, crate::proofs::Logging::keeps_loses))]
     pub(crate) fn append(&mut self, next: Record, root: Option<Share>)
-        requires are { AreVersions self.old }
+        requires are { AreStored self.old }
         requires room { HasRoom self.old }
-        requires plain { suits_tints false next.act ≡ true }
+        requires suits { suits_tints self.old.models.tint next.act ≡ true }
         requires holds { HoldsTree self.old.store root }
-        requires may { MayAppend (plan_of self.old) self.old.models.items next root
+        requires may { MayAppend (plan_of self.old) self.old.models.models next root
             (core_with (log_of self.old) self.old.store) }
-        ensures are { AreVersions self.new }
+        ensures are { AreStored self.new }
+        ensures plain { AreVersions self.old → AreVersions self.new }
         ensures appends { AppendsRecord self.old next self.new }
         ensures loses { LosesTree self.old.store root self.new.store }
     {
@@ -273,12 +281,13 @@ impl Versions {
     /// The mark comes to its version, whose root goes at once.
     #[tactic(auto, using(crate::proofs::Logging::marked_are, crate::proofs::Logging::taken_tree, crate::proofs::Logging::taken_few, crate::proofs::Logging::taken_same, crate::proofs::Logging::marks_version, crate::proofs::Logging::no_root, crate::proofs::Ending::has_place))]
     pub(crate) fn forget<L: Ledger>(&mut self, mark: Mark, steps: &mut Steps<L>)
-        requires are { AreVersions self.old }
+        requires are { AreStored self.old }
         requires few { number_of_trees self.old.store.told.held ≤ 2048 }
         requires kept { IsKept (log_of self.old) mark.version }
         requires earlier { mark.version < moment_of self.old }
         requires now { mark.at ≡ moment_of self.old }
-        ensures are { AreVersions self.new }
+        ensures are { AreStored self.new }
+        ensures plain { AreVersions self.old → AreVersions self.new }
         ensures marks { MarksVersion self.old mark self.new }
         ensures same { HoldsSame self.old.store self.new.store }
     {
@@ -290,11 +299,13 @@ impl Versions {
     }
 
     /// Sees to it that one more record has room.
+    #[tactic(auto, using(crate::proofs::Rebuilding::plain_as))]
     pub(crate) fn reserve(&mut self) -> Result<(), Memory>
-        requires { AreVersions self.old }
-        ensures are { AreVersions self.new }
+        requires { AreStored self.old }
+        ensures are { AreStored self.new }
+        ensures plain { AreVersions self.old → AreVersions self.new }
         ensures room { OnOk result (HasRoom self.new) }
-        ensures same { self.new.models.items ≡ self.old.models.items }
+        ensures same { self.new.models.models ≡ self.old.models.models }
         ensures log { log_of self.new ≡ log_of self.old }
         ensures store { self.new.store ≡ self.old.store }
     {

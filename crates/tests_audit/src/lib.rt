@@ -1,9 +1,11 @@
-//! Tests of audits: of texts written by hand, of such with a piece changed, and of runs of the
-//! store for one thread.
+//! Tests of audits: of texts written by hand, with tints too, of such with a piece changed, and of
+//! runs of the store for one thread.
 #![tactic(auto)]
 
 #[cfg(test)]
 mod changes;
+#[cfg(test)]
+mod colours;
 #[cfg(test)]
 mod keeping;
 #[cfg(test)]

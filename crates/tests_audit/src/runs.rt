@@ -1,7 +1,5 @@
 //! Runs of the store for one thread, each of which is one.
-ghost use Rattle.history_model.specs.Logs.{IsPlain};
-
-use crate::texts::{answer_of, no_models, script_of};
+use crate::texts::{answer_of, is_large, no_models, script_in, script_of};
 use audit::{ScriptsRun, audit, run_scripts};
 use conformance::Transcript;
 use history_model::History;
@@ -16,8 +14,8 @@ fn is_run(alloc: Global, first: &str, second: &str) -> Result<bool, Fail> {
     let side = Side::new(16).ok_or("a side")?;
     let plan = Plan::even(side, 8, 2).ok_or("a plan")?;
     let scripts = [
-        script_of(alloc, first, side, &models)?,
-        script_of(alloc, second, side, &models)?,
+        script_in(alloc, first, side, &models, false)?,
+        script_in(alloc, second, side, &models, false)?,
     ];
     match run_scripts(alloc, &plan, models, &scripts) {
         Ok(given) => is_left_by_run(alloc, given, first, second),
@@ -44,13 +42,14 @@ fn is_audited_run(
     transcripts: &[Transcript],
     first: &str,
     second: &str,
-) -> Result<bool, Fail>
-    requires { IsPlain history.now }
-{
+) -> Result<bool, Fail> {
+    if !is_large(history) {
+        return Err(Fail::from("a large store"));
+    }
     let models = no_models(alloc);
     let scripts = [
-        script_of(alloc, first, history.side, &models)?,
-        script_of(alloc, second, history.side, &models)?,
+        script_of(alloc, first, history, &models)?,
+        script_of(alloc, second, history, &models)?,
     ];
     answer_of(audit(alloc, history, models, &scripts, transcripts, Some(8), 0))
 }

@@ -156,13 +156,132 @@ fn plain_runs_take_no_tint(rt: HostRuntime) -> Result<(), Fail> {
     Ok(())
 }
 
-// What a run with tints left is neither audited nor made one file: its journal is refused for its
-// first line.
+// The line of an audit of what a run of one script left.
+const AUDIT: &str = "audit one.vox j s";
+
 #[test]
-fn coloured_journals_are_refused(rt: HostRuntime) -> Result<(), Fail> {
+fn coloured_runs_are_audited_yes(rt: HostRuntime) -> Result<(), Fail> {
+    for &(script, printed, _) in ROWS {
+        let mut shelf = coloured(&rt, rt.alloc(), script, printed)?;
+        let audited = ends(&rt, rt.alloc(), AUDIT, &mut shelf, 0, "yes\n")?;
+        assert!(rt; audited, "at {script}");
+    }
+    Ok(())
+}
+
+// A script, a journal, a transcript, the status of their audit, and what it puts.
+type Left = (&'static str, &'static str, &'static str, u8, &'static str);
+
+const LEFT: &[Left] = &[
+    (TWICE, TWICE_JOURNAL, TWICE_ANSWERS, 0, "yes\n"),
+    // a record has another tint than its line gave
+    (
+        TWICE,
+        "voxdag journal 2\nside 8\n1 0 1 fill 0 0 0 1 1 1 6\n2 0 5 fill 0 0 0 1 1 1 2\nend\n",
+        TWICE_ANSWERS,
+        0,
+        "no\n",
+    ),
+    // a cell is told another tint than it had
+    (
+        TWICE,
+        TWICE_JOURNAL,
+        "1 @1 ok\n2 @1 colour 4\n3 @1 colour 0\n4 @1 count 1\n5 @2 ok\n6 @2 colour 2\n\
+         7 @2 saved 1\n",
+        0,
+        "no\n",
+    ),
+    // versions of the same cells have other tints
+    (
+        "fill 0 0 0 1 1 1 5\nfill 0 0 0 1 1 1 2\nsame 1 2\n",
+        "voxdag journal 2\nside 8\n1 0 1 fill 0 0 0 1 1 1 5\n2 0 2 fill 0 0 0 1 1 1 2\nend\n",
+        "1 @1 ok\n2 @2 ok\n3 @2 same\n",
+        0,
+        "no\n",
+    ),
+    // a fill without a tint gave tint 1
+    (
+        "fill 0 0 0 1 1 1\n",
+        "voxdag journal 2\nside 8\n1 0 1 fill 0 0 0 1 1 1 1\nend\n",
+        "1 @1 ok\n",
+        0,
+        "yes\n",
+    ),
+    // a history without tints has no script that gives any
+    (
+        TWICE,
+        "voxdag journal 1\nside 8\n1 0 1 fill 0 0 0 1 1 1\n2 0 5 fill 0 0 0 1 1 1\nend\n",
+        TWICE_ANSWERS,
+        5,
+        "voxdag: script 0 1 5\n",
+    ),
+    // the store is larger than the world
+    (
+        "fill 8 0 0 1 1 1 5\n",
+        "voxdag journal 2\nside 8\nend\n",
+        "",
+        5,
+        "voxdag: script 0 1 3\n",
+    ),
+    (
+        TWICE,
+        "voxdag journal 2\nside 8\n1 0 1 fill 8 0 0 1 1 1 5\nend\n",
+        "",
+        12,
+        "voxdag: journal 3\n",
+    ),
+];
+
+fn is_audited<R: Threads + Wait + Sync>(rt: &R, alloc: Global, left: &Left) -> Result<bool, Fail> {
+    let &(script, journal, transcript, status, printed) = left;
+    let mut shelf = shelf_with(alloc, script.as_bytes())?;
+    shelf.write("j", journal.as_bytes())?;
+    shelf.write("s.out", transcript.as_bytes())?;
+    Ok(ends(rt, alloc, AUDIT, &mut shelf, status, printed)?)
+}
+
+#[test]
+fn audits_judge_tints(rt: HostRuntime) -> Result<(), Fail> {
+    for left in LEFT {
+        assert!(rt; is_audited(&rt, rt.alloc(), left)?, "at {}", left.1);
+    }
+    Ok(())
+}
+
+// The file of the versions that the first run left. Behind the header: a leaf with its first cell; a
+// block of side 8 that begins with it; the blocks of side 16 of bit 1, of all cells, and of bits 0
+// and 2; the stores of tint 2 and of tint 5; and the three versions with their roots.
+const TWICE_DAG: [u8; 256] = *b"VDAG\x01\0\0\0\x20\0\0\0\x03\0\0\0\
+    \x01\0\0\0\x01\0\0\0\x03\0\0\0\x02\0\0\0\
+    \x01\0\0\0\0\0\0\0\
+    \x01\0\0\0\0\0\0\0\0\0\0\0\0\0\0\0\0\0\0\0\0\0\0\0\0\0\0\0\0\0\0\0\
+    \0\0\0\0\x01\0\0\0\0\0\0\0\0\0\0\0\0\0\0\0\0\0\0\0\0\0\0\0\0\0\0\0\
+    \x01\0\0\0\0\0\0\0\0\0\0\0\0\0\0\0\0\0\0\0\0\0\0\0\0\0\0\0\0\0\0\0\
+    \x01\0\0\0\0\0\0\0\x01\0\0\0\0\0\0\0\0\0\0\0\0\0\0\0\0\0\0\0\0\0\0\0\
+    \x02\0\0\0\x01\0\0\0\0\0\0\0\0\0\0\0\0\0\0\0\0\0\0\0\0\0\0\0\0\0\0\0\
+    \x02\0\0\0\x03\0\0\0\0\0\0\0\0\0\0\0\0\0\0\0\0\0\0\0\0\0\0\0\0\0\0\0\
+    \0\0\0\0\0\0\0\0\x01\0\0\0\x02\0\0\0\x02\0\0\0\x01\0\0\0";
+
+// A question of that file, its status, and what it puts: the cells are those of the store.
+const LOOKS: &[(&str, u8, &str)] = &[
+    ("look d 0 bounds", 0, "bounds none\n"),
+    ("look d 1 count 0 0 0 8 8 8", 0, "count 1\n"),
+    ("look d 1 count 0 0 0 32 32 32", 0, "count 3\n"),
+    ("look d 1 bounds", 0, "bounds 0 0 0 17 9 1\n"),
+    ("look d 1 get 16 8 0", 0, "set\n"),
+    ("look d 1 get 24 0 0", 0, "clear\n"),
+    ("look d 2 bounds", 0, "bounds 0 0 0 25 1 1\n"),
+    ("look d 2 ray 1 0 0 1 0 0", 0, "hit 24 0 0\n"),
+    ("look d 2 get 32 0 0", 10, "voxdag: no place\n"),
+];
+
+#[test]
+fn versions_of_a_coloured_journal_are_written(rt: HostRuntime) -> Result<(), Fail> {
     let mut shelf = coloured(&rt, rt.alloc(), TWICE, TWICE_LINE)?;
-    for &line in &["audit one.vox j s", "dag one.vox j d"] {
-        let ended = ends(&rt, rt.alloc(), line, &mut shelf, 12, "voxdag: journal 1\n")?;
+    assert!(rt; ends(&rt, rt.alloc(), "dag one.vox j d", &mut shelf, 0, "")?);
+    assert!(rt; holds(&shelf, "d", &TWICE_DAG));
+    for &(line, status, printed) in LOOKS {
+        let ended = ends(&rt, rt.alloc(), line, &mut shelf, status, printed)?;
         assert!(rt; ended, "at {line}");
     }
     Ok(())

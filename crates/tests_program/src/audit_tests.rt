@@ -149,8 +149,8 @@ const CHANGED: &[(&str, &str, u8, &str)] = &[
     (
         "voxdag journal 2\nside 8\nend\n",
         "fine\n",
-        12,
-        "voxdag: journal 1\n",
+        15,
+        "voxdag: transcript 0 1\n",
     ),
 ];
 

@@ -54,7 +54,7 @@ fn versions_of_a_journal_are_written(rt: HostRuntime) -> Result<(), Fail> {
 // A journal that is refused, and the line that says why.
 const REFUSED: &[(&str, &str)] = &[
     ("voxdag journal 2\n", "voxdag: journal 2\n"),
-    ("voxdag journal 2\nside 8\nend\n", "voxdag: journal 1\n"),
+    ("voxdag journal 2\nside 2048\nend\n", "voxdag: journal 2\n"),
     (
         "voxdag journal 1\nside 8\n1 0 1 undo\nend\n",
         "voxdag: journal 3\n",

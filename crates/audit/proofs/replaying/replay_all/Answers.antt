@@ -40,6 +40,7 @@ loop-record-preserved g c =
     let pushed : c.push.new.self.items ≡ c.loop-record.ways.items ++ c.ways_now.result ∷ [] = search rules in
     record {
       plan = c.in-Ok-true.ensures.plan ∙ c.loop-record.invariant.plan;
+      tint = c.in-Ok-true.ensures.tint ∙ c.loop-record.invariant.tint;
       models = c.in-Ok-true.ensures.models ∙ c.loop-record.invariant.models;
       number = ap (λ (rs : List Record). length rs) came ∙ length-append c.loop-record.replay.records (r ∷ [])
           ∙ ap (λ k. k + 1) c.loop-record.invariant.number;

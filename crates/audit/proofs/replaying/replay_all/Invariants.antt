@@ -8,6 +8,7 @@ use Rattle.audit.proofs.replaying.replay_all.Given as goal
 abbrev pub invariant-loop-record : goal.invariant-loop-record
 invariant-loop-record g l = record {
   plan : l.replay.plan ≡ l.fn.replay.plan;
+  tint : l.replay.tint ≡ l.fn.replay.tint;
   models : l.replay.models ≡ l.fn.replay.models;
   number : length l.replay.records ≡ l.record-index;
   are : l.replay.records ≡ take l.record-index l.records;

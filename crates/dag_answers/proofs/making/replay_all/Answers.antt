@@ -1,4 +1,4 @@
-use Rattle.std.proofs.Common.{rules, ◌≡◌, ◌<◌, ◌≤◌, ◌+◌, ℕ, List, drop, get_or, length, true, false, refl, subst, sym, ◌∙◌, arith}
+use Rattle.std.proofs.Common.{rules, ◌≡◌, ◌<◌, ◌≤◌, ◌+◌, ℕ, Bool, List, drop, get_or, length, true, refl, subst, sym, ◌∙◌, arith}
 use Rattle.std.specs.Prelude.{All}
 use Rattle.vox_read.specs.Contents.{Content}
 use Rattle.history_model.specs.declared.histories.Mark.{Mark}
@@ -31,11 +31,13 @@ take-requires-clause-follows g c =
     c.loop-record.record-index c.loop-record.next now any_record c.loop-record.invariant.so_far
     (search rules) c.requires.records)
 
-pub take-requires-clause-plain : goal.take-requires-clause-plain
-take-requires-clause-plain g c =
+pub take-requires-clause-suits : goal.take-requires-clause-suits
+take-requires-clause-suits g c =
     let is : c.deref-record-items.result.now ≡ c.args.history.now.records = search rules in
-    subst (λ (rs : List Record). suits_tints false (get_or rs c.loop-record.record-index any_record).act ≡ true)
-    (sym is) (c.requires.plain.acts c.loop-record.record-index any_record (search rules))
+    subst (λ (b : Bool). suits_tints b (get_or c.deref-record-items.result.now c.loop-record.record-index any_record).act ≡ true)
+    (sym c.loop-record.invariant.so_far.coloured)
+    (subst (λ (rs : List Record). suits_tints c.args.history.now.coloured (get_or rs c.loop-record.record-index any_record).act ≡ true)
+    (sym is) (c.requires.suits c.loop-record.record-index any_record (search rules)))
 
 pub returns-in-Err-clause-refused : goal.returns-in-Err-clause-refused
 returns-in-Err-clause-refused g c =

@@ -1,42 +1,97 @@
-use Rattle.std.proofs.Common.{◌^◌, sym, subst}
+use Rattle.std.proofs.Common.{◌^◌, ◌≡◌, ◌∙◌, true, Bool, List, sym, subst}
 use Rattle.std.specs.Prelude.{option_copied}
-use Rattle.history_model.specs.declared.acts.Act.{Act}
-use Rattle.history_model.specs.declared.acts.Act.TheVariants.{Stamp}
-use Rattle.history_model.specs.Logs.{FitsWorld}
-use Rattle.act_rebuilds.proofs.OneAct.{rebuilds_one, grows_one, refuses_one}
-use Rattle.act_rebuilds.proofs.StampActs.{fits_there, model_there}
-use Rattle.store_run.proofs.StampActs.{is_stamp, no_stamp_rebuilds, no_stamp_grows, no_stamp_refuses}
+use Rattle.vox_read.specs.Contents.{Content}
+use Rattle.history_model.specs.Logs.{FitsWorld, suits_tints}
+use Rattle.act_rebuilds.specs.Acts.{RebuildsAct, GrowsByAct, RefusesAct}
+use Rattle.store_run.proofs.ModelLists.{cells_plain, cells_models, tints_tinted, tints_models}
+use Rattle.act_rebuilds.proofs.PlainActs.{plainly_rebuilds, plainly_grows, plainly_refuses}
+use Rattle.act_rebuilds.proofs.Rooms.{most_room}
 use Rattle.store_run.proofs.models.rebuild_own.Goals as goal
 
-pub returns-in-Some-clause-ok : goal.returns-in-Some-clause-ok
-returns-in-Some-clause-ok g c =
-    let is = is_stamp c.args.act c.in-Some.m c.in-Some.at (sym c.in-Some.ensures) in
-    let fits = subst (λ (a : Act). FitsWorld (2 ^ c.args.side) c.args.models.now a) is c.requires.fits in
-    let there = model_there c.args.models.now c.in-Some.m c.from.result c.index-models-from.result (fits_there _ c.args.models.now c.in-Some.m c.in-Some.at fits) c.from.ensures c.index-models-from.is in
-    rebuilds_one (g.N.Blocks.seen c.args.store.now) (g.N.Blocks.seen c.stamp.new.store) c.args.side (option_copied c.args.old) c.args.models.now c.args.act (Stamp c.in-Some.m c.in-Some.at) c.stamp.result is (c.stamp.ensures.ok c.args.models.now c.in-Some.m there)
+pub rebuild_cells-requires-clause-plain : goal.rebuild_cells-requires-clause-plain
+rebuild_cells-requires-clause-plain g c =
+    subst (λ (b : Bool). suits_tints b c.args.act ≡ true)
+    (cells_plain _ _ c.models.view_is _ c.in-Cells.is) c.requires.suits
 
-pub returns-in-Some-clause-grows : goal.returns-in-Some-clause-grows
-returns-in-Some-clause-grows g c =
-    let is = is_stamp c.args.act c.in-Some.m c.in-Some.at (sym c.in-Some.ensures) in
-    let fits = subst (λ (a : Act). FitsWorld (2 ^ c.args.side) c.args.models.now a) is c.requires.fits in
-    let there = model_there c.args.models.now c.in-Some.m c.from.result c.index-models-from.result (fits_there _ c.args.models.now c.in-Some.m c.in-Some.at fits) c.from.ensures c.index-models-from.is in
-    grows_one (g.N.Blocks.seen c.args.store.now) (g.N.Blocks.seen c.stamp.new.store) c.args.side (option_copied c.args.old) c.args.models.now c.args.act (Stamp c.in-Some.m c.in-Some.at) c.stamp.result is (c.stamp.ensures.grows c.args.models.now c.in-Some.m there)
+pub rebuild_cells-requires-clause-fits : goal.rebuild_cells-requires-clause-fits
+rebuild_cells-requires-clause-fits g c =
+    let row = c.as_slice.ensures.value ∙ cells_models _ _ c.models.view_is _ c.in-Cells.is in
+    subst (λ (ms : List Content). FitsWorld (2 ^ c.args.side) ms c.args.act) (sym row)
+    c.requires.fits
 
-pub returns-in-Some-clause-full : goal.returns-in-Some-clause-full
-returns-in-Some-clause-full g c =
-    let is = is_stamp c.args.act c.in-Some.m c.in-Some.at (sym c.in-Some.ensures) in
-    let fits = subst (λ (a : Act). FitsWorld (2 ^ c.args.side) c.args.models.now a) is c.requires.fits in
-    let there = model_there c.args.models.now c.in-Some.m c.from.result c.index-models-from.result (fits_there _ c.args.models.now c.in-Some.m c.in-Some.at fits) c.from.ensures c.index-models-from.is in
-    refuses_one (g.N.Blocks.seen c.args.store.now) (g.N.Blocks.seen c.stamp.new.store) c.args.side (option_copied c.args.old) c.args.models.now c.args.act (Stamp c.in-Some.m c.in-Some.at) c.stamp.result is (c.stamp.ensures.full c.args.models.now c.in-Some.m there)
+pub rebuild_cells-requires-clause-room : goal.rebuild_cells-requires-clause-room
+rebuild_cells-requires-clause-room g c = most_room c.args.act _ c.requires.room
 
-pub returns-in-None-clause-grows : goal.returns-in-None-clause-grows
-returns-in-None-clause-grows g c =
-    no_stamp_grows (g.N.Blocks.seen c.args.store.now) (g.N.Blocks.seen c.rebuild_plain.new.store) c.args.side (option_copied c.args.old) c.args.models.now c.args.act c.rebuild_plain.result (sym c.in-None.ensures) c.requires.plain c.rebuild_plain.ensures.grows
+pub rebuild_tints-requires-clause-tinted : goal.rebuild_tints-requires-clause-tinted
+rebuild_tints-requires-clause-tinted g c =
+    subst (λ (b : Bool). suits_tints b c.args.act ≡ true)
+    (tints_tinted _ _ c.models.view_is _ c.in-Tints.is) c.requires.suits
 
-pub returns-in-None-clause-ok : goal.returns-in-None-clause-ok
-returns-in-None-clause-ok g c =
-    no_stamp_rebuilds (g.N.Blocks.seen c.args.store.now) (g.N.Blocks.seen c.rebuild_plain.new.store) c.args.side (option_copied c.args.old) c.args.models.now c.args.act c.rebuild_plain.result (sym c.in-None.ensures) c.requires.plain c.rebuild_plain.ensures.ok
+pub rebuild_tints-requires-clause-fits : goal.rebuild_tints-requires-clause-fits
+rebuild_tints-requires-clause-fits g c =
+    let row = c.as_slice-in-Tints.ensures.value ∙ tints_models _ _ c.models.view_is _ c.in-Tints.is in
+    subst (λ (ms : List Content). FitsWorld (2 ^ c.args.side) ms c.args.act) (sym row)
+    c.requires.fits
 
-pub returns-in-None-clause-full : goal.returns-in-None-clause-full
-returns-in-None-clause-full g c =
-    no_stamp_refuses (g.N.Blocks.seen c.args.store.now) (g.N.Blocks.seen c.rebuild_plain.new.store) c.args.side (option_copied c.args.old) c.args.models.now c.args.act c.rebuild_plain.result (sym c.in-None.ensures) c.requires.plain c.rebuild_plain.ensures.full
+pub returns-in-Cells-clause-ok : goal.returns-in-Cells-clause-ok
+returns-in-Cells-clause-ok g c =
+    let old = g.N.Blocks.seen c.args.store.now in
+    let new = g.N.Blocks.seen c.rebuild_cells.new.store in
+    let root = option_copied c.args.old in
+    let row = c.as_slice.ensures.value ∙ cells_models _ _ c.models.view_is _ c.in-Cells.is in
+    let plain = subst (λ (b : Bool). suits_tints b c.args.act ≡ true)
+    (cells_plain _ _ c.models.view_is _ c.in-Cells.is) c.requires.suits in
+    subst (λ (ms : List Content). RebuildsAct old c.args.side root ms c.args.act c.rebuild_cells.result new)
+    row (plainly_rebuilds old new c.args.side root c.as_slice.result.now c.args.act plain c.rebuild_cells.result
+    c.rebuild_cells.ensures.ok)
+
+pub returns-in-Tints-clause-ok : goal.returns-in-Tints-clause-ok
+returns-in-Tints-clause-ok g c =
+    let old = g.N.Blocks.seen c.args.store.now in
+    let new = g.N.Blocks.seen c.rebuild_tints.new.store in
+    let root = option_copied c.args.old in
+    let row = c.as_slice-in-Tints.ensures.value ∙ tints_models _ _ c.models.view_is _ c.in-Tints.is in
+    subst (λ (ms : List Content). RebuildsAct old c.args.side root ms c.args.act c.rebuild_tints.result new)
+    row c.rebuild_tints.ensures.ok
+
+pub returns-in-Cells-clause-grows : goal.returns-in-Cells-clause-grows
+returns-in-Cells-clause-grows g c =
+    let old = g.N.Blocks.seen c.args.store.now in
+    let new = g.N.Blocks.seen c.rebuild_cells.new.store in
+    let root = option_copied c.args.old in
+    let row = c.as_slice.ensures.value ∙ cells_models _ _ c.models.view_is _ c.in-Cells.is in
+    let plain = subst (λ (b : Bool). suits_tints b c.args.act ≡ true)
+    (cells_plain _ _ c.models.view_is _ c.in-Cells.is) c.requires.suits in
+    subst (λ (ms : List Content). GrowsByAct old c.args.side root ms c.args.act c.rebuild_cells.result new)
+    row (plainly_grows old new c.args.side root c.as_slice.result.now c.args.act plain c.rebuild_cells.result
+    c.rebuild_cells.ensures.grows)
+
+pub returns-in-Tints-clause-grows : goal.returns-in-Tints-clause-grows
+returns-in-Tints-clause-grows g c =
+    let old = g.N.Blocks.seen c.args.store.now in
+    let new = g.N.Blocks.seen c.rebuild_tints.new.store in
+    let root = option_copied c.args.old in
+    let row = c.as_slice-in-Tints.ensures.value ∙ tints_models _ _ c.models.view_is _ c.in-Tints.is in
+    subst (λ (ms : List Content). GrowsByAct old c.args.side root ms c.args.act c.rebuild_tints.result new)
+    row c.rebuild_tints.ensures.grows
+
+pub returns-in-Cells-clause-full : goal.returns-in-Cells-clause-full
+returns-in-Cells-clause-full g c =
+    let old = g.N.Blocks.seen c.args.store.now in
+    let new = g.N.Blocks.seen c.rebuild_cells.new.store in
+    let root = option_copied c.args.old in
+    let row = c.as_slice.ensures.value ∙ cells_models _ _ c.models.view_is _ c.in-Cells.is in
+    let plain = subst (λ (b : Bool). suits_tints b c.args.act ≡ true)
+    (cells_plain _ _ c.models.view_is _ c.in-Cells.is) c.requires.suits in
+    subst (λ (ms : List Content). RefusesAct old c.args.side root ms c.args.act c.rebuild_cells.result new)
+    row (plainly_refuses old new c.args.side root c.as_slice.result.now c.args.act plain c.rebuild_cells.result
+    c.rebuild_cells.ensures.full)
+
+pub returns-in-Tints-clause-full : goal.returns-in-Tints-clause-full
+returns-in-Tints-clause-full g c =
+    let old = g.N.Blocks.seen c.args.store.now in
+    let new = g.N.Blocks.seen c.rebuild_tints.new.store in
+    let root = option_copied c.args.old in
+    let row = c.as_slice-in-Tints.ensures.value ∙ tints_models _ _ c.models.view_is _ c.in-Tints.is in
+    subst (λ (ms : List Content). RefusesAct old c.args.side root ms c.args.act c.rebuild_tints.result new)
+    row c.rebuild_tints.ensures.full

@@ -4,4 +4,4 @@ use Rattle.audit.proofs.reruns.Rerun.are_same.Goals as goal
 pub returns : goal.returns
 returns g c =
     same_rerun c.args.log.now c.args.self.now.replay c.args.self.now.ways.items c.args.self.now.table.items
-    c.requires.rerun c.args.v c.args.w c.has_same_cells.result c.has_same_cells.ensures
+    c.requires.rerun c.args.v c.args.w c.has_same_tints.result c.has_same_tints.ensures

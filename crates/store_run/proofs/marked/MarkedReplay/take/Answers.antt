@@ -41,7 +41,7 @@ returns-clause-made g c =
     (replayed_as c.args.self.now c.reserve.new.self
     (world_as c.args.self.now c.self.inside.versions c.reserve.new.self c.self.view_is
     c.reserve.ensures.same c.reserve.ensures.log c.reserve.ensures.store))
-    c.reserve.ensures.are (sym c.is_edit.ensures ∙ c.if-not-is_edit.false) c.requires.plain c.requires.made takes
+    c.reserve.ensures.are (sym c.is_edit.ensures ∙ c.if-not-is_edit.false) c.requires.made takes
 
 pub returns-in-Err-clause-refused : goal.returns-in-Err-clause-refused
 returns-in-Err-clause-refused g c =
@@ -50,5 +50,5 @@ returns-in-Err-clause-refused g c =
     (replayed_as c.args.self.now c.reserve.new.self
     (world_as c.args.self.now c.self.inside.versions c.reserve.new.self c.self.view_is
     c.reserve.ensures.same c.reserve.ensures.log c.reserve.ensures.store))
-    c.reserve.ensures.are (sym c.is_edit.ensures ∙ c.if-not-is_edit.false) c.requires.plain c.requires.made
+    c.reserve.ensures.are (sym c.is_edit.ensures ∙ c.if-not-is_edit.false) c.requires.made
     c.in-Err.ensures.fills

@@ -19,7 +19,7 @@ pub loop-pin-preserved : goal.loop-pin-preserved
 loop-pin-preserved g c = record {
   pinned =
       popped_pinned c.loop-pin.versions c.pop.new.self.items c.loop-pin.pins.items c.in-Some.pin c.pop.result c.loop-pin.invariant.pinned
-      c.pop.ensures.items c.in-Some.is c.number-number.result c.number-number.ensures.store c.give_back.new.self c.give_back.ensures.are
+      c.pop.ensures.items c.in-Some.is c.number-number.result c.number-number.ensures.store c.give_back.new.self (c.give_back.ensures.plain c.loop-pin.invariant.pinned.are)
       (subst (λ (r : Option Name). PutsDown c.loop-pin.versions r c.give_back.new.self) c.take_out-root.ensures c.give_back.ensures.puts);
   stay = stays_on c.args.self.versions c.loop-pin.versions c.give_back.new.self c.loop-pin.invariant.stay c.give_back.ensures.puts.leaves.stay;
 }

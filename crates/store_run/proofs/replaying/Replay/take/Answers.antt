@@ -26,4 +26,4 @@ returns-clause-made g c =
     edit_parts c.args.self.now c.reserve.new.self c.take_edit.new.self c.args.next
     (state_as c.args.self.now c.self.inside.versions c.reserve.new.self c.self.view_is
     c.reserve.ensures.same c.reserve.ensures.log c.reserve.ensures.store)
-    c.reserve.ensures.are (sym c.is_edit.ensures ∙ c.if-not-is_edit.false) c.requires.plain c.requires.made takes
+    c.reserve.ensures.are (sym c.is_edit.ensures ∙ c.if-not-is_edit.false) c.requires.made takes

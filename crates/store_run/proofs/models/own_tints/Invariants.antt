@@ -2,12 +2,14 @@ use Rattle.std.proofs.Common.{◌≡◌, ◌++◌}
 use Rattle.std.specs.Prelude.{All}
 use Rattle.std.specs.Vec.Iter.{into_iter_items, into_iter_len}
 use Rattle.vox_read.specs.Contents.{IsModel}
-use Rattle.store_run.proofs.models.own_models.Given as goal
+use Rattle.act_rebuilds.specs.Drawn.{TintsPlaces}
+use Rattle.store_run.proofs.models.own_tints.Given as goal
 
 abbrev pub invariant-loop-model : goal.invariant-loop-model
 invariant-loop-model l = record {
   models : All IsModel (into_iter_items l.rest);
   drawn : l.own.items ++ into_iter_items l.rest ≡ l.fn.models;
+  tints : All TintsPlaces l.own.items;
 }
 
 abbrev pub decreases-loop-model : goal.decreases-loop-model

@@ -1,14 +1,15 @@
 use Rattle.std.proofs.Common.{sym, subst, length, ◌≤◌, ◌^◌, ◌↔◌, IsTrue}
-use Rattle.history_model.specs.Moments.{world_has}
-use Rattle.block_contents.specs.Versions.{SameWorld}
+use Rattle.history_model.specs.Logs.{kept_side}
+use Rattle.history_model.specs.Moments.{world_tint}
+use Rattle.history_model.specs.Tints.{SameTints}
 use Rattle.store_run.specs.Replaying.{ReplayState}
 use Rattle.store_run.proofs.Taking.{same_roots_same}
-use Rattle.store_run.proofs.replaying.Replay.has_same_cells.Goals as goal
+use Rattle.store_run.proofs.replaying.Replay.has_same_tints.Goals as goal
 
 pub returns : goal.returns
 returns g c =
-    subst (λ (s : ReplayState). IsTrue c.has_same_roots.result ↔ SameWorld (2 ^ s.plan.side)
-    (world_has s.models s.records c.args.v) (world_has s.models s.records c.args.w)) c.self.view_is
+    subst (λ (s : ReplayState). IsTrue c.has_same_roots.result ↔ SameTints (kept_side s.tint (2 ^ s.plan.side))
+    (world_tint s.models s.records c.args.v) (world_tint s.models s.records c.args.w)) c.self.view_is
     (same_roots_same c.self.inside.versions c.number-number.result c.args.v c.args.w
     c.self.invariant c.number-number.ensures.store
     (subst (λ (s : ReplayState). c.args.v ≤ length s.records) (sym c.self.view_is) c.requires.there.0)

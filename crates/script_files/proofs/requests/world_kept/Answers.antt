@@ -1,12 +1,12 @@
 use Rattle.std.proofs.Common.{rules, ◌≡◌, ◌^◌, ◌≤◌, true}
 use Rattle.script_files.proofs.WorldSides.{quarter_kept}
-use Rattle.script_files.proofs.requests.Order.world_side.Goals as goal
+use Rattle.script_files.proofs.requests.world_kept.Goals as goal
 
 pub returns-clause-kept : goal.returns-clause-kept
 returns-clause-kept c =
-    let side = c.args.self.now.plan.side in
-    let tinted : c.args.self.now.tint ≡ true = search rules in
+    let side = c.args.side in
+    let tinted : c.args.tint ≡ true = search rules in
     let low : 4 ≤ side = search rules in
     let of : c.cells.result ≡ 2 ^ side = search rules in
-    quarter_kept c.new.result c.args.self.now.tint side c.cells.result tinted low of
+    quarter_kept c.new.result c.args.tint side c.cells.result tinted low of
     c.new.ensures.value

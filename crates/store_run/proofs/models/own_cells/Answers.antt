@@ -1,5 +1,5 @@
 use Rattle.store_run.proofs.OwnModels.{first_model, other_models, drawn_more}
-use Rattle.store_run.proofs.models.own_models.Goals as goal
+use Rattle.store_run.proofs.models.own_cells.Goals as goal
 
 pub new-requires : goal.new-requires
 new-requires c = first_model c.in-Some.model _ _ c.in-Some.ensures.items c.loop-model.invariant.models
