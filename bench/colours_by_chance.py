@@ -9,10 +9,14 @@ their cells a colour, 1 where none is said; an erase and a carve give 0; a copy 
 its model where these aren't 0. Two versions are the same where all colours agree. A saved file has the set cells of its box by
 rising z, then y, then x, each with its colour. The nodes are the different contents of aligned blocks of a store of four times the
 side, in which cell p is set where its colour isn't 0, and p moved to plane b where bit b of its colour is 1.
+
+Then `audit` of what was left must say yes, and no where the number of one answer, drawn by chance, is one higher; and the file that
+`dag` makes of the journal must count as many cells of the world in each version that it keeps as that has with a colour.
 """
 
 import os
 import random
+import re
 import struct
 import sys
 
@@ -171,6 +175,35 @@ def one_round(program, folder, rng, tally):
     assert line == want, (lines, line, want)
     for name, data in world.files.items():
         assert open(os.path.join(folder, name), "rb").read() == data, (lines, name)
+    left_is_judged(program, folder, rng, world, transcript)
+
+
+def judged(program, folder, transcript):
+    with open(os.path.join(folder, "s.out"), "w", encoding="ascii") as file:
+        file.write(transcript)
+    return audits.run(program, folder, ["audit", "m.vox", "j", "s"])
+
+
+def one_higher(rng, transcript):
+    """The transcript with a higher number in the answer to one question, if it has such an answer."""
+    found = [*re.finditer(r" (?:colour|count|faces) (\d+)$", transcript, re.M)]
+    if not found:
+        return None
+    at = rng.choice(found)
+    return transcript[: at.start(1)] + str(int(at[1]) + 1) + transcript[at.end() :]
+
+
+def left_is_judged(program, folder, rng, world, transcript):
+    assert judged(program, folder, transcript) == (0, "yes\n"), transcript
+    spoiled = one_higher(rng, transcript)
+    if spoiled is not None and "colour 256" not in spoiled:
+        assert judged(program, folder, spoiled) == (0, "no\n"), spoiled
+    assert audits.run(program, folder, ["dag", "m.vox", "j", "d"])[0] == 0, transcript
+    whole = [str(n) for n in (0, 0, 0, *[world.side] * 3)]
+    for v, tints in enumerate(world.tints):
+        if v not in world.marks:
+            said = audits.run(program, folder, ["look", "d", str(v), "count", *whole])
+            assert said == (0, f"count {len(tints)}\n"), (v, said, transcript)
 
 
 def main():
