@@ -59,7 +59,8 @@ pub record LineStep (p : Layout) (models : List Content) (session : ℕ) (l : Sc
   pub marks : SameItems new.marks (old.marks ++ forgotten_by session l.line a.at a.answer)
 
 -- the history with one more record, legal as it was, and as much coloured
-pub record GrowsByRecord (p : Layout) (models : List Content) (r : Record) (old new : Log) : Type 0 where
+pub record GrowsByRecord (p : Layout) (models : List Content) (r : Record)
+    (old new : Log) : Type 0 where
   pub legal : IsLegal (2 ^ p.side) models new
   pub side : new.side ≡ old.side
   pub coloured : new.coloured ≡ old.coloured

@@ -94,7 +94,7 @@ impl<'w> Order<'w> {
 }
 
 // The side of the world that a store of this side keeps: its own, or a quarter of it where cells
-// have tints. No words ask for tints in a store that has no such quarter.
+// have tints. Neither words nor a journal ask for tints in a store that has no such quarter.
 #[tactic(auto, using(crate::proofs::WorldSides::quarter_side))]
 pub(crate) fn world_kept(side: Side, tint: bool) -> Option<Side>
     ensures side { IfSome result (λ s. s ≡ world_exponent tint side) }

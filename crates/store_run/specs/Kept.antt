@@ -83,7 +83,7 @@ pub record AreStored (v : Versions) : Type 0 where
   pub of_versions : AreOfVersions (mark_in v.marks.items)
   pub position : trail_position v.trail ≡ position_after v.records.items
 
--- and no cell has a tint
+-- and no act has a tint
 pub record AreVersions (v : Versions) : Type 0 where
   pub stored : AreStored v
   pub plain : v.models.tint ≡ false

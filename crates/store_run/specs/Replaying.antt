@@ -65,7 +65,7 @@ pub record MayFillAlong (p : Layout) (models : List Content) (records : List Rec
 abbrev pub replay_plan : ℕ → Layout
 replay_plan side = record { side = side; buckets = replicate 11 4096; cap = 256 }
 
--- whatever the store made is a part of what a record makes of the version before it
+-- whatever the store made is a part of what a record's parts leave of the version before it
 pub record MakesOnlyParts (s : ReplayState) : Type 0 where
   pub parts : All (IsMadeInRun s.plan s.models s.records (spans_from 0 s.records)) s.noted.made
 

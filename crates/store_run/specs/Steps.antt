@@ -101,7 +101,7 @@ pub record MakesBeside (old : Versions) (act : Act) (root : Option Name)
       (known_seen new.store)
   pub grows : MadeBy (WantsFor old act) (known_seen old.store) (known_seen new.store)
 
--- the root is that of what the edit makes, whose parts may have been made
+-- the root is that of what the edit makes, and shapes that it wants may have been made
 pub record MakesRoot (old : Versions) (act : Act) (root : Option Name)
     (new : Versions) : Type 0 where
   pub stay : StayVersions old new
@@ -110,7 +110,7 @@ pub record MakesRoot (old : Versions) (act : Act) (root : Option Name)
       (edited_world old act)
   pub grows : MadeBy (WantsFor old act) (known_seen old.store) (known_seen new.store)
 
--- a part of what the edit makes met this full bucket
+-- a shape that the edit wants met this full bucket
 pub record MeetsBucket (old : Versions) (act : Act) (full : Full) (new : Versions) : Type 0 where
   pub stay : StayVersions old new
   pub fails : FailsBy (WantsFor old act) full.level full.bucket (known_seen old.store)

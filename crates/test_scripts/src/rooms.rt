@@ -27,6 +27,8 @@ pub struct Rooms {
 }
 
 impl Rooms {
+    /// Nothing was done yet, over a store of this plan that holds so many last versions alone, or
+    /// all with 0.
     pub fn new(alloc: Global, plan: &Plan, keep: u32) -> Rooms {
         Rooms {
             alloc,
@@ -91,7 +93,7 @@ impl Rooms {
         }
     }
 
-    // How the command is refused where it is an edit that has no room. In runs with tints each has.
+    // How the command is refused where it is an edit that has no room. With tints each has.
     fn refused(
         &mut self,
         plain: &PlainRun<'_>,

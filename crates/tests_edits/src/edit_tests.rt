@@ -196,8 +196,8 @@ fn floors_are_stamped(rt: HostRuntime) -> Result<(), Fail> {
     Ok(())
 }
 
-/// Blocks of a world that has two models of two leaves at this place, and whether these are the same
-/// there. The first leaves are the same, the second ones differ.
+/// Blocks of a world that has two models of two leaves at `PLACE`, and whether these are the same
+/// there. The first leaves are the same, the second ones differ, at 9 6 6 and 10 6 6 of the world.
 const BESIDE: &[(Cell, u8, bool)] = &[
     (Cell { x: 4, y: 4, z: 4 }, 0, true),
     (Cell { x: 8, y: 4, z: 4 }, 0, false),

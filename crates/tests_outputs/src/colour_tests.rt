@@ -248,9 +248,9 @@ fn audits_judge_tints(rt: HostRuntime) -> Result<(), Fail> {
     Ok(())
 }
 
-// The file of the versions that the first run left. Behind the header: a leaf with its first cell; a
-// block of side 8 that begins with it; the blocks of side 16 of bit 1, of all cells, and of bits 0
-// and 2; the stores of tint 2 and of tint 5; and the three versions with their roots.
+// The file of the versions that the first run left. Behind the header: a leaf with its first cell;
+// a block of side 8 that begins with it; the blocks of side 16 of bit 1, of all cells, and of bits
+// 0 and 2; the stores of tint 2 and of tint 5; and the three versions with their roots.
 const TWICE_DAG: [u8; 256] = *b"VDAG\x01\0\0\0\x20\0\0\0\x03\0\0\0\
     \x01\0\0\0\x01\0\0\0\x03\0\0\0\x02\0\0\0\
     \x01\0\0\0\0\0\0\0\

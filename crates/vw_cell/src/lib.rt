@@ -1,9 +1,9 @@
 //! Cells of a world, and the boxes, balls and aligned blocks of cells that edits and questions
 //! name.
 //!
-//! Every layer above speaks of membership by the definitions in `specs/Places.antt` alone. What may be
-//! asked of a world's cells is said here too, with no block, node or version: the bare sides of cells
-//! in `specs/Faces.antt`, the least box of all cells in `specs/Extents.antt`.
+//! Every layer above speaks of membership by the definitions in `specs/Places.antt` alone. What may
+//! be asked of a world's cells is said here too, with no block, node or version: the bare sides of
+//! cells in `specs/Faces.antt`, the least box of all cells in `specs/Extents.antt`.
 #![tactic(auto)]
 
 mod balls;
