@@ -21,8 +21,8 @@ use Rattle.table_rule.specs.Telling.{ViewTells}
 use Rattle.table_rule.specs.Views.{SeatView}
 use Rattle.table_rule.proofs.Decoding.{record_back}
 use Rattle.table_rule.proofs.OwnLaws.{first_or_more}
-use Rattle.table_steps.specs.LogChanges.{HasNextWords, IsAppendable, Appended}
-use Rattle.table_steps.proofs.Appending.{side_small}
+use Rattle.table_rule.specs.LogChanges.{HasNextWords, IsAppendable, Appended}
+use Rattle.table_rule.proofs.Appending.{side_small}
 use Rattle.node_table.specs.LogTurns.{AreNextWords, MayAppendWords, AreStored, ForAppended}
 use Rattle.node_table.proofs.StoreSteps.{as_step}
 

@@ -18,8 +18,8 @@ use Rattle.table_rule.specs.Listing.{Found}
 use Rattle.table_rule.specs.LogWords.{mark_of_words}
 use Rattle.table_rule.specs.Views.{SeatView, known_at, spot_same}
 use Rattle.table_rule.proofs.KnownWords.{known_now, known_else}
-use Rattle.table_steps.specs.LogChanges.{log_knowing, log_turned, met_busy, with_found, with_seen_mark, with_record, marks_with, SawNext}
-use Rattle.table_steps.proofs.MarkLists.{with_keeps}
+use Rattle.table_rule.specs.LogChanges.{log_knowing, log_turned, met_busy, with_found, with_seen_mark, with_record, marks_with, SawNext}
+use Rattle.table_rule.proofs.MarkLists.{with_keeps}
 use Rattle.node_table.specs.Learning.{WordsStay}
 use Rattle.node_table.specs.Seen.{TableSeen, PassSeen, SamePass}
 use Rattle.node_table.proofs.Learned.{belongs_on, grows_one}

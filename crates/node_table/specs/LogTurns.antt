@@ -16,7 +16,7 @@ use Rattle.block_contents.specs.Versions.{IsUnmarked}
 use Rattle.table_rule.specs.LogTelling.{number_seen, seen_has, SeesAll, IsShownUnmarked}
 use Rattle.table_rule.specs.LogViews.{LogView}
 use Rattle.table_rule.specs.Views.{SeatView, known_at}
-use Rattle.table_steps.specs.LogChanges.{log_turned, met_busy, marks_with, IsAppendable}
+use Rattle.table_rule.specs.LogChanges.{log_turned, met_busy, marks_with, IsAppendable}
 use Rattle.node_table.specs.Learning.{WordsStay}
 use Rattle.node_table.specs.Seen.{TableSeen, PassSeen, BelongsTo}
 

@@ -7,7 +7,7 @@ ghost use Rattle.node_places.specs.KeyWords.{child_of_word};
 ghost use Rattle.node_places.specs.Spots.{LogLength, Version};
 ghost use Rattle.table_rule.specs.LogTelling.{IsShownRoot, IsShownUnmarked, number_seen};
 ghost use Rattle.table_rule.specs.Views.{known_at};
-ghost use Rattle.table_steps.specs.LogChanges.{log_knowing, log_turned};
+ghost use Rattle.table_rule.specs.LogChanges.{log_knowing, log_turned};
 ghost use Rattle.node_table.specs.LogTurns.{AreWordsOf, HasLogTurn, HasNoTurn, IsBusy, IsReading};
 ghost use Rattle.node_table.specs.LogTurns.{FoundOpen, IsMarkKnown, IsWordOf, LearnsLog};
 ghost use Rattle.node_table.specs.LogTurns.{LooksForMark, SeesMark, SeesMore};

@@ -21,7 +21,7 @@ use Rattle.edit_blocks.specs.Blocks.{GoesBack}
 use Rattle.table_rule.specs.LogTelling.{number_seen, seen_has}
 use Rattle.table_rule.specs.LogViews.{LogView}
 use Rattle.table_rule.specs.Views.{SeatView}
-use Rattle.table_steps.specs.LogChanges.{HasOpenTarget}
+use Rattle.table_rule.specs.LogChanges.{HasOpenTarget}
 use Rattle.intern.specs.Leaves.{LeafCame, LeafRefused}
 use Rattle.node_table.specs.Begins.{AreNewPasses, terms_of}
 use Rattle.node_table.specs.Closing.{IsSpare}

@@ -20,7 +20,7 @@ use Rattle.node_places.specs.Spots.{Spot, Version}
 use Rattle.table_rule.specs.LogTelling.{number_seen, seen_has}
 use Rattle.table_rule.specs.LogWords.{HasNumbers}
 use Rattle.table_rule.specs.Views.{SeatView}
-use Rattle.table_steps.specs.LogChanges.{HasOpenTarget, IsOpenTarget, IsAppendable}
+use Rattle.table_rule.specs.LogChanges.{HasOpenTarget, IsOpenTarget, IsAppendable}
 use Rattle.node_table.specs.LogTurns.{HasNoTurn}
 use Rattle.node_table.specs.LogTurns.{AppendsUnderTurn, AreNextWords, ForAppended, LearnsLog, MayAppendWords, TakesLog}
 use Rattle.version_log.specs.declared.refusals.CommitRefused.{CommitRefused}

@@ -2,8 +2,8 @@
 use Rattle.std.proofs.Common.{◌≡◌, ◌<◌, ◌≤◌, ℕ, length, inl, inr, arith, Option, Some, None, List, [], ◌∷◌, ◌++◌, refl, sym, ◌∙◌, ap, subst, append_assoc}
 use Rattle.std.proofs.lemmas.List.{append-nil, length-append}
 use Rattle.history_model.specs.declared.histories.Record.{Record}
-use Rattle.table_steps.specs.LogChanges.{marks_with}
-use Rattle.table_steps.proofs.MarkLists.{with_has}
+use Rattle.table_rule.specs.LogChanges.{marks_with}
+use Rattle.table_rule.proofs.MarkLists.{with_has}
 use Rattle.history_model.specs.declared.histories.Mark.{Mark}
 use Rattle.history_model.specs.Logs.{Log}
 use Rattle.table_rule.proofs.Containing.{contains_more}

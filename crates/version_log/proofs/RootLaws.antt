@@ -19,7 +19,7 @@ use Rattle.block_contents.proofs.WorldBlocks.{in_world}
 use Rattle.table_rule.specs.LogTelling.{IsShownRoot, seen_has}
 use Rattle.table_rule.specs.Telling.{ViewTells}
 use Rattle.table_rule.specs.Views.{SeatView, BucketAt}
-use Rattle.table_steps.specs.Changes.{turned}
+use Rattle.table_rule.specs.Changes.{turned}
 use Rattle.node_table.specs.Acts.{RaisesUnderTurn, left_with}
 use Rattle.node_table.specs.Learning.{IsKnownLive}
 use Rattle.node_table.specs.Learning.IsKnownLive.{rooted}

@@ -12,7 +12,7 @@ use Rattle.table_rule.specs.Telling.{ViewTells}
 use Rattle.table_rule.specs.Views.{SeatView}
 use Rattle.table_rule.proofs.Containing.{contains_more}
 use Rattle.versions.specs.Listing.{Found}
-use Rattle.table_steps.specs.LogChanges.{has_mark, marks_with, place_mark}
+use Rattle.table_rule.specs.LogChanges.{has_mark, marks_with, place_mark}
 use Rattle.node_table.specs.LogTurns.{LearnsLog, LooksForMark}
 use Rattle.versions.specs.declared.comparing.SameRefused.{SameRefused}
 use Rattle.versions.specs.declared.comparing.SameRefused.TheVariants.{NoVersion, Forgotten}

@@ -13,7 +13,7 @@ use Rattle.node_shapes.specs.declared.names.Name.{Name}
 use Rattle.node_table.specs.Making.{version_gone_to}
 use Rattle.table_rule.specs.LogTelling.{IsShownUnmarked, seen_has}
 use Rattle.table_rule.specs.Views.{SeatView}
-use Rattle.table_steps.specs.LogChanges.{HasOpenTarget, IsOpenTarget}
+use Rattle.table_rule.specs.LogChanges.{HasOpenTarget, IsOpenTarget}
 use Rattle.version_log.specs.Roots.{HoldsRootOf}
 use Rattle.version_log.specs.Targets.{IsMadeNow, act_target}
 use Rattle.version_log.proofs.WordLaws.{other_now}

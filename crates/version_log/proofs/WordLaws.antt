@@ -11,7 +11,7 @@ use Rattle.history_model.specs.Positions.{Position, next_position, position_afte
 use Rattle.history_model.specs.Worlds.{is_edit}
 use Rattle.table_rule.specs.LogTelling.{IsShownUnmarked, number_seen}
 use Rattle.table_rule.specs.Views.{SeatView}
-use Rattle.table_steps.specs.LogChanges.{HasOpenTarget, IsOpenTarget}
+use Rattle.table_rule.specs.LogChanges.{HasOpenTarget, IsOpenTarget}
 use Rattle.node_table.specs.LogTurns.{AreWordsOf}
 use Rattle.undo.specs.declared.standing.Standing.{Standing}
 use Rattle.undo.specs.Standings.{version_of}

@@ -3,7 +3,7 @@ ghost use Rattle.std.specs.Prelude.{◌≡◌, ◌<◌, ◌≤◌, ◌^◌, ◌�
 ghost use Rattle.history_model.specs.Logs.{FitsWorld};
 ghost use Rattle.node_shapes.specs.Weights.{number_of_trees};
 ghost use Rattle.table_rule.specs.LogTelling.{IsShownUnmarked, number_seen};
-ghost use Rattle.table_steps.specs.LogChanges.{HasOpenTarget};
+ghost use Rattle.table_rule.specs.LogChanges.{HasOpenTarget};
 ghost use Rattle.node_table.specs.LogTurns.{ForgetsUnderTurn, HasLogTurn, HasNoTurn};
 ghost use Rattle.node_table.specs.LogTurns.{log_left, next_mark};
 ghost use Rattle.node_table.specs.Seen.{BelongsTo};

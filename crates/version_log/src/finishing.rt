@@ -4,7 +4,7 @@ ghost use Rattle.history_model.specs.Logs.{FitsWorld};
 ghost use Rattle.history_model.specs.Worlds.{is_edit};
 ghost use Rattle.node_shapes.specs.Weights.{number_of_trees};
 ghost use Rattle.table_rule.specs.LogTelling.{number_seen};
-ghost use Rattle.table_steps.specs.LogChanges.{HasOpenTarget};
+ghost use Rattle.table_rule.specs.LogChanges.{HasOpenTarget};
 ghost use Rattle.node_table.specs.LogTurns.{AppendsInTurn, ForAppended, HasLogTurn, HasNoTurn};
 ghost use Rattle.node_table.specs.LogTurns.{LearnsLog, MayAppendWords, log_left};
 ghost use Rattle.node_table.specs.Seen.{BelongsTo};

@@ -4,7 +4,7 @@ ghost use Rattle.std.specs.Borrow.{sem};
 ghost use Rattle.history_model.specs.Logs.{FitsWorld};
 ghost use Rattle.node_shapes.specs.Weights.{number_of_trees};
 ghost use Rattle.table_rule.specs.LogTelling.{IsShownRoot, IsShownUnmarked, number_seen, seen_has};
-ghost use Rattle.table_steps.specs.LogChanges.{HasOpenTarget};
+ghost use Rattle.table_rule.specs.LogChanges.{HasOpenTarget};
 ghost use Rattle.node_table.specs.LogTurns.{HasLogTurn, HasNoTurn, LearnsLog, LooksForMark};
 ghost use Rattle.node_table.specs.LogTurns.{log_left};
 ghost use Rattle.node_table.specs.Seen.{BelongsTo};

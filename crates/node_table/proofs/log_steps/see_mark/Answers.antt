@@ -4,8 +4,8 @@ use Rattle.node_places.specs.Spots.{Version, place}
 use Rattle.table_rule.specs.Views.{SeatView, known_at}
 use Rattle.std.specs.List.{Contains}
 use Rattle.table_rule.specs.LogWords.{mark_of_words}
-use Rattle.table_steps.specs.LogChanges.{log_knowing, with_seen_mark}
-use Rattle.table_steps.proofs.LogLoads.{sees_mark}
+use Rattle.table_rule.specs.LogChanges.{log_knowing, with_seen_mark}
+use Rattle.table_rule.proofs.LogLoads.{sees_mark}
 use Rattle.node_table.specs.Seen.{TableSeen}
 use Rattle.node_table.proofs.StoreSteps.{rest_step}
 use Rattle.node_table.proofs.log_steps.see_mark.Goals as goal

@@ -3,7 +3,7 @@ use Rattle.std.proofs.Common.{◌≡◌, Some, ℕ}
 use Rattle.node_places.specs.Spots.{Version}
 use Rattle.std.specs.List.{Contains}
 use Rattle.table_rule.specs.LogWords.{mark_of_words}
-use Rattle.table_steps.specs.LogChanges.{log_knowing, with_seen_mark}
+use Rattle.table_rule.specs.LogChanges.{log_knowing, with_seen_mark}
 use Rattle.node_table.proofs.log_steps.see_mark.Given as goal
 
 abbrev pub ghosts-load_as : goal.ghosts-load_as

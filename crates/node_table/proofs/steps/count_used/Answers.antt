@@ -2,8 +2,8 @@ use Rattle.std.proofs.Common.{◌≡◌, ℕ, ap, ◌∙◌, arith}
 use Rattle.node_words.specs.Plans.{Layout}
 use Rattle.node_places.specs.Spots.{Used, place}
 use Rattle.table_rule.specs.Views.{SeatView}
-use Rattle.table_steps.specs.Changes.{Counted}
-use Rattle.table_steps.proofs.UsedSlots.{counts_used}
+use Rattle.table_rule.specs.Changes.{Counted}
+use Rattle.table_rule.proofs.UsedSlots.{counts_used}
 use Rattle.node_table.specs.Seen.{TableSeen, bucket_named}
 use Rattle.node_table.proofs.StoreSteps.{rest_step}
 use Rattle.node_table.proofs.UsedLaws.{learn_counted}

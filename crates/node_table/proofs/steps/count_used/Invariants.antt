@@ -1,4 +1,4 @@
-use Rattle.table_steps.specs.Changes.{Counted}
+use Rattle.table_rule.specs.Changes.{Counted}
 use Rattle.node_table.specs.Seen.{bucket_named}
 use Rattle.node_table.proofs.steps.count_used.Given as goal
 

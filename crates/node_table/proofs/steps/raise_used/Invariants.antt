@@ -1,6 +1,6 @@
 use Rattle.std.proofs.Common.{◌≡◌}
 use Rattle.node_places.specs.Spots.{Used}
-use Rattle.table_steps.specs.Changes.{knowing}
+use Rattle.table_rule.specs.Changes.{knowing}
 use Rattle.node_table.proofs.steps.raise_used.Given as goal
 
 abbrev pub ghosts-store_as : goal.ghosts-store_as
