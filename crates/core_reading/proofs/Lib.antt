@@ -1,6 +1,5 @@
 pub mod Readings
 pub mod Rows
-pub mod SlotLaws
 pub use Rattle.core_laws.proofs.Lives
 pub use Rattle.core_laws.proofs.EntrySteps
 pub use Rattle.core_laws.proofs.StepLaws

@@ -1,7 +1,5 @@
 pub mod Reading
 pub mod WordStatements
-pub mod Slots
-pub mod SlotStatements
 pub use Rattle.core_laws.specs.States
 pub use Rattle.core_laws.specs.Soundness
 pub use Rattle.core_laws.specs.Events

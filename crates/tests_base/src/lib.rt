@@ -4,8 +4,6 @@
 #[cfg(test)]
 mod bit_rows;
 #[cfg(test)]
-mod buckets;
-#[cfg(test)]
 mod cells;
 #[cfg(test)]
 mod kernels;

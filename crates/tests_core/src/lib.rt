@@ -1,7 +1,9 @@
-//! Tests of the pure core: events with the replies that its table gives, and the store for one
-//! thread beside it.
+//! Tests of the pure core: its buckets, events with the replies that its table gives, and the store
+//! for one thread beside it.
 #![tactic(auto)]
 
+#[cfg(test)]
+mod buckets;
 #[cfg(test)]
 mod hands;
 #[cfg(test)]

@@ -10,15 +10,15 @@ use Rattle.node_words.specs.Keys.{bucket_of_key}
 use Rattle.node_words.proofs.PlanLaws.{some_buckets}
 use Rattle.node_places.specs.Names.{IsName, named}
 use Rattle.node_places.specs.Spots.{levels, buckets_at}
-use Rattle.bucket_core.specs.declared.entries.Entry.{Entry}
-use Rattle.bucket_core.specs.Slots.{book_of_slot, HasKey, HasNone, IsFirstFree, IsFirstWith}
+use Rattle.world_core.specs.declared.counted.Entry.{Entry}
+use Rattle.world_core.specs.Buckets.{book_of_slot, HasKey, HasNone, IsFirstFree, IsFirstWith}
 use Rattle.core_laws.specs.Counting.{children_weight}
 use Rattle.core_laws.specs.Soundness.{FitsLevel, IsFull}
 use Rattle.core_laws.specs.Events.{one_name, children_named, Adds, adds}
 use Rattle.core_laws.specs.LogEvents.{stores}
 use Rattle.core_laws.proofs.Bounds.{missing_in_bucket}
-use Rattle.core_reading.specs.Slots.{Bucket, Level, bucket_at, entry_at, key_or_none, put_at}
-use Rattle.core_reading.proofs.SlotLaws.{adds_slot, stays_laid_out}
+use Rattle.world_core.specs.Slots.{Bucket, Level, bucket_at, entry_at, key_or_none, put_at}
+use Rattle.world_core.proofs.SlotLaws.{adds_slot, stays_laid_out}
 use Rattle.world_core.specs.Changes.{AreLive}
 use Rattle.world_core.specs.Trading.{TradesNames, weights}
 use Rattle.world_core.specs.Lawful.{HoldsShares, HoldsAtMost}

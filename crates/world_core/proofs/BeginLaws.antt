@@ -7,10 +7,10 @@ use Rattle.std.proofs.lemmas.List.Folds.{sum_by-replicate}
 use Rattle.vox_read.specs.Contents.{Content}
 use Rattle.node_shapes.specs.declared.names.Name.{Name}
 use Rattle.node_words.specs.Plans.{Layout, IsPlan}
-use Rattle.bucket_core.specs.Slots.{book_of_slot}
+use Rattle.world_core.specs.Buckets.{book_of_slot}
 use Rattle.core_laws.specs.Counting.{holdings}
 use Rattle.core_laws.proofs.RootCells.{empty_sound}
-use Rattle.core_reading.specs.Slots.{Level, IsLaidOut, entry_at}
+use Rattle.world_core.specs.Slots.{Level, IsLaidOut, entry_at}
 use Rattle.world_core.specs.Beginning.{HasBegun}
 use Rattle.world_core.specs.Stored.{Stored, IsStored, root_in, stored_state}
 

@@ -6,8 +6,8 @@ use Rattle.node_shapes.specs.declared.names.Name.{Name}
 use Rattle.node_words.specs.declared.keys.Key.{Key}
 use Rattle.node_words.specs.Plans.{Layout}
 use Rattle.node_places.specs.Spots.{levels, buckets_at}
-use Rattle.bucket_core.specs.declared.entries.Entry.{Entry}
-use Rattle.core_reading.specs.Slots.{Bucket, Level, IsLaidOut, bucket_at, entry_at}
+use Rattle.world_core.specs.declared.counted.Entry.{Entry}
+use Rattle.world_core.specs.Slots.{Bucket, Level, IsLaidOut, bucket_at, entry_at}
 
 abbrev no_entry : Option (Entry Key)
 no_entry = None

@@ -10,14 +10,14 @@ use Rattle.node_shapes.specs.declared.names.Name.{Name}
 use Rattle.node_words.proofs.PlanLaws.{few_buckets}
 use Rattle.node_places.specs.Spots.{levels, versions}
 use Rattle.history_model.specs.Logs.{Log}
-use Rattle.bucket_core.specs.Slots.{book_of_slot}
+use Rattle.world_core.specs.Buckets.{book_of_slot}
 use Rattle.core_laws.specs.Counting.{weight, holdings}
 use Rattle.core_laws.specs.Events as events
 use Rattle.core_laws.specs.LogEvents.{Step}
 use Rattle.core_laws.specs.States.{IsLive}
 use Rattle.core_laws.proofs.Bounds.{book_small}
 use Rattle.core_laws.proofs.StepLaws.{step_sound}
-use Rattle.core_reading.specs.Slots.{Level, IsLaidOut, entry_at, read_lists}
+use Rattle.world_core.specs.Slots.{Level, IsLaidOut, entry_at, read_lists}
 use Rattle.world_core.specs.Trading.{HasAll, TradesNames, weights}
 use Rattle.world_core.specs.Stored.{Stored, IsStored, stored_state, root_in}
 

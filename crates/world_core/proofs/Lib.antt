@@ -1,3 +1,5 @@
+pub mod KeyTests
+pub mod SlotLaws
 pub mod Keeping
 pub mod ShareLaws
 pub mod LowerLaws
@@ -9,5 +11,5 @@ pub mod MadeLaws
 pub mod BeginLaws
 mod Absent
 pub mod Cells
-mod Counted
+mod BucketLaws
 mod Empty

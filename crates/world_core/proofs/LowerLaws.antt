@@ -7,10 +7,10 @@ use Rattle.node_shapes.specs.declared.names.Name.{Name}
 use Rattle.node_words.specs.declared.keys.Key.{Key}
 use Rattle.node_words.specs.declared.keys.Key.TheVariants.{Leaf, Node}
 use Rattle.node_words.specs.Held.{name_in}
-use Rattle.bucket_core.specs.declared.entries.Entry.{Entry}
-use Rattle.bucket_core.specs.declared.entries.Lowered.{Lowered}
-use Rattle.bucket_core.specs.declared.entries.Lowered.TheVariants.{Left, Last}
-use Rattle.bucket_core.specs.Slots.{book_of_slot, with_book}
+use Rattle.world_core.specs.declared.counted.Entry.{Entry}
+use Rattle.world_core.specs.declared.counted.Lowered.{Lowered}
+use Rattle.world_core.specs.declared.counted.Lowered.TheVariants.{Left, Last}
+use Rattle.world_core.specs.Buckets.{book_of_slot, with_book}
 use Rattle.core_laws.specs.Counting.{weight, children_weight}
 use Rattle.core_laws.specs.Soundness.{FitsLevel}
 use Rattle.core_laws.specs.Events as events
@@ -18,8 +18,8 @@ use Rattle.core_laws.specs.Events.{no_weight, one_name, children_named, Lowers, 
 use Rattle.core_laws.specs.LogEvents.{stores}
 use Rattle.core_laws.specs.States.{IsLive}
 use Rattle.core_laws.proofs.Lives.{held_lives}
-use Rattle.core_reading.specs.Slots.{Level, entry_at, key_or_none, put_at}
-use Rattle.core_reading.proofs.SlotLaws.{lowers_slot, frees_slot, stays_laid_out}
+use Rattle.world_core.specs.Slots.{Level, entry_at, key_or_none, put_at}
+use Rattle.world_core.proofs.SlotLaws.{lowers_slot, frees_slot, stays_laid_out}
 use Rattle.world_core.specs.Changes.{LowersEntryAt}
 use Rattle.world_core.specs.Trading.{HasAll, TradesNames, weights}
 use Rattle.world_core.specs.Answering.{children_in}

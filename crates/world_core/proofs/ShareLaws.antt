@@ -4,14 +4,14 @@ use Rattle.std.specs.List.{slice_get}
 use Rattle.std.proofs.lemmas.Option.{get_or_from_slice_get}
 use Rattle.node_shapes.specs.declared.names.Name.{Name}
 use Rattle.node_words.specs.declared.keys.Key.{Key}
-use Rattle.bucket_core.specs.declared.entries.Entry.{Entry}
-use Rattle.bucket_core.specs.Slots.{book_of_slot, with_book}
+use Rattle.world_core.specs.declared.counted.Entry.{Entry}
+use Rattle.world_core.specs.Buckets.{book_of_slot, with_book}
 use Rattle.core_laws.specs.Events as events
 use Rattle.core_laws.specs.Events.{no_weight, one_name, Raises, raises}
 use Rattle.core_laws.specs.LogEvents.{stores}
 use Rattle.core_laws.specs.States.{IsLive}
-use Rattle.core_reading.specs.Slots.{Level, entry_at, put_at}
-use Rattle.core_reading.proofs.SlotLaws.{raises_slot, stays_laid_out}
+use Rattle.world_core.specs.Slots.{Level, entry_at, put_at}
+use Rattle.world_core.proofs.SlotLaws.{raises_slot, stays_laid_out}
 use Rattle.world_core.specs.Trading.{HasAll, TradesNames, weights}
 use Rattle.world_core.specs.Lawful.{HoldsAtMost}
 use Rattle.world_core.specs.Stored.{Stored, IsStored, stored_state, root_in}

@@ -1,4 +1,7 @@
 pub mod Beginning
+pub mod Buckets
+pub mod Slots
+pub mod SlotStatements
 pub mod Stored
 pub mod Shown
 pub mod Kept

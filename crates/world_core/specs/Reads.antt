@@ -1,7 +1,7 @@
 -- The keys of entries in nested lists, as a look-up by name.
 use Rattle.node_shapes.specs.declared.names.Name.{Name}
 use Rattle.node_words.specs.declared.keys.Key.{Key}
-use Rattle.core_reading.specs.Slots.{Level, entry_at, key_or_none}
+use Rattle.world_core.specs.Slots.{Level, entry_at, key_or_none}
 use Rattle.std.specs.Prelude.{List}
 
 -- the key of each name; that of a leaf with no set cell where there is no entry

@@ -2,8 +2,8 @@
 use Rattle.std.specs.Prelude.{◌≡◌, ℕ, Option, Some, None, length}
 use Rattle.node_shapes.specs.declared.names.Name.{Name}
 use Rattle.node_words.specs.declared.keys.Key.{Key}
-use Rattle.bucket_core.specs.Slots.{HasNone}
-use Rattle.core_reading.specs.Slots.{bucket_at}
+use Rattle.world_core.specs.Buckets.{HasNone}
+use Rattle.world_core.specs.Slots.{bucket_at}
 use Rattle.core_laws.specs.Events.{IsMissing, Raises, Adds, Lowers, Frees}
 use Rattle.core_laws.specs.States.{IsLive}
 use Rattle.core_laws.specs.Soundness.{IsFull}

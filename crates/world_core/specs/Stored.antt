@@ -7,7 +7,7 @@ use Rattle.node_places.specs.Spots.{versions}
 use Rattle.history_model.specs.Logs.{Log}
 use Rattle.core_laws.specs.States.{State}
 use Rattle.core_laws.specs.Soundness.{Sound}
-use Rattle.core_reading.specs.Slots.{Level, IsLaidOut, read_lists}
+use Rattle.world_core.specs.Slots.{Level, IsLaidOut, read_lists}
 
 -- the plan, the models that stamps name, the entries by level, bucket and slot, a root for each
 -- version, the log, and the names that each session holds

@@ -1,9 +1,10 @@
 ghost use Rattle.std.specs.Prelude.{◌≡◌, ◌<◌, ◌≤◌, ◌+◌, ◌^◌, [], None, Some, IfOk, OnErr, MatchOption, length, replicate};
 ghost use Rattle.std.specs.Prelude.{slice_index_or, slice_set};
-ghost use Rattle.bucket_core.specs.Slots.{AreInUse, HasNone, IsFirstFree, IsFirstWith, IsTaken};
-ghost use Rattle.bucket_core.specs.Slots.{LowersHere, book_of_slot, entry_in, key_of_slot, with_book, with_entry};
+ghost use Rattle.world_core.specs.Buckets.{AreInUse, HasNone, IsFirstFree, IsFirstWith, IsTaken};
+ghost use Rattle.world_core.specs.Buckets.{LowersHere, book_of_slot, entry_in, key_of_slot, with_book, with_entry};
 
-use bucket_core::{Bucket, Lowered};
+use crate::buckets::Bucket;
+use crate::counted::Lowered;
 use node_words::Key;
 use std::alloc::Global;
 use std::marker::Model;
@@ -18,7 +19,7 @@ pub struct Level {
 impl Model for Level {
     ghost use Rattle.std.specs.Prelude.{Option, List};
     ghost use Rattle.node_words.specs.declared.keys.Key.{Key as key};
-    ghost use Rattle.bucket_core.specs.declared.entries.Entry.{Entry as entry};
+    ghost use Rattle.world_core.specs.declared.counted.Entry.{Entry as entry};
 
     ghost Value = { List (List (Option (entry key))) };
 

@@ -1,30 +1,37 @@
 //! The pure core of a world: its entries, its versions, and what each session holds, as plain
-//! lists, with no threads in sight.
+//! lists. It is the plain program whose contract is the definition, isn't fast, and touches memory
+//! alone, with no threads in sight.
 //!
-//! A `Core` answers one event after another. What an event asks for is said in
-//! `specs/Lawful.antt`, and what each reply stands for in `specs/Answering.antt`; what follows from
-//! that is law (`core_laws`). It is the plain program whose contract is the definition, and isn't
-//! fast. Its `Entries` are lists of levels, of their buckets and of their slots, exact after each
-//! call (`core_reading` reads them as a state).
+//! A `Core` answers one event after another: what an event asks for stands in `specs/Lawful.antt`,
+//! what a reply means in `specs/Answering.antt`. Entries are lists of levels, buckets and slots: a
+//! bucket is told in `specs/Buckets.antt`, the state that the lists show in `specs/Slots.antt`.
 #![tactic(auto)]
 
 mod answering;
 mod asking;
+mod buckets;
 mod cores;
+mod counted;
 mod entries;
 mod events;
 mod holdings;
+mod keys;
 mod lawful;
 mod levels;
 mod logs;
 mod parts;
 mod reads;
 mod sharing;
+mod slots;
 mod versions;
 
+pub use buckets::Bucket;
 pub use cores::Core;
+pub use counted::{BucketFull, Entry, Lowered};
 pub use entries::Entries;
 pub use events::{Event, Reply};
 pub use holdings::{Holding, Rest, is_same};
+pub use keys::ExactKey;
 pub use levels::Level;
 pub use reads::{bits_in, child_in};
+pub use slots::{slots_hold, slots_step};

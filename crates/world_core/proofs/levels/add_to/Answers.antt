@@ -1,5 +1,5 @@
 use Rattle.std.proofs.Common.{arith, length}
-use Rattle.world_core.proofs.Counted.{taken_live, lower_live}
+use Rattle.world_core.proofs.BucketLaws.{taken_live, lower_live}
 use Rattle.world_core.proofs.levels.add_to.Goals as goal
 
 pub returns-in-Ok-clause-live : goal.returns-in-Ok-clause-live

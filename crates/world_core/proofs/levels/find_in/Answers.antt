@@ -1,4 +1,4 @@
-use Rattle.world_core.proofs.Counted.{found_live}
+use Rattle.world_core.proofs.BucketLaws.{found_live}
 use Rattle.world_core.proofs.levels.find_in.Goals as goal
 
 pub returns-in-Some-clause-live : goal.returns-in-Some-clause-live

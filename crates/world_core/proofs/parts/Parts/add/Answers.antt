@@ -1,5 +1,5 @@
 use Rattle.std.proofs.Common.{ℕ, sym, subst, arith, ap, List}
-use Rattle.core_reading.specs.Slots.{Level}
+use Rattle.world_core.specs.Slots.{Level}
 use Rattle.world_core.specs.Kept.{stored}
 use Rattle.world_core.specs.Steps.{AddsEntry}
 use Rattle.world_core.proofs.ShareLaws.{moved, names_at, seat_in}

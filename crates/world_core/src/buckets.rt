@@ -17,7 +17,7 @@ ghost use Rattle.std.specs.Prelude.{
   replicate,
 };
 ghost use Rattle.std.specs.Option.{option_copied};
-ghost use Rattle.bucket_core.specs.Slots.{
+ghost use Rattle.world_core.specs.Buckets.{
   book_of_slot,
   entry_in,
   key_of_slot,
@@ -35,11 +35,11 @@ ghost use Rattle.bucket_core.specs.Slots.{
   LowersBook,
 };
 
-use crate::entries::{BucketFull, Entry, Lowered};
+use crate::counted::{BucketFull, Entry, Lowered};
 use crate::keys::ExactKey;
-use node_words::Memory;
 use std::alloc::Global;
 use std::marker::Model;
+use vw_cell::Memory;
 
 /// The slots of one bucket. Contracts see the list of what stands in them.
 #[derive(Drop)]
@@ -49,8 +49,8 @@ pub struct Bucket<K: ExactKey> {
 
 impl<K: ExactKey> Model for Bucket<K> {
     ghost use Rattle.std.specs.Prelude.{Option, List};
-    ghost use Rattle.bucket_core.specs.declared.entries.Entry.{Entry};
-    ghost use Rattle.bucket_core.specs.Slots.{IsCountedBucket};
+    ghost use Rattle.world_core.specs.declared.counted.Entry.{Entry};
+    ghost use Rattle.world_core.specs.Buckets.{IsCountedBucket};
 
     ghost Value = { List (Option (Entry K)) };
 

@@ -1,5 +1,5 @@
-ghost use Rattle.core_reading.specs.SlotStatements.{ListsStayLaidOut, OtherSlotsStay, SlotsAdd};
-ghost use Rattle.core_reading.specs.SlotStatements.{SlotsFree, SlotsHold, SlotsLower, SlotsRaise};
+ghost use Rattle.world_core.specs.SlotStatements.{ListsStayLaidOut, OtherSlotsStay, SlotsAdd};
+ghost use Rattle.world_core.specs.SlotStatements.{SlotsFree, SlotsHold, SlotsLower, SlotsRaise};
 
 /// A slot of nested lists that gets another content is an event of the state that they show.
 pub fn slots_step()

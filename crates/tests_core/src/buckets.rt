@@ -1,5 +1,5 @@
-use bucket_core::{Bucket, Lowered};
 use std::test::Fail;
+use world_core::{Bucket, Lowered};
 
 // What is done to a bucket of two slots, and what comes of it.
 #[derive(Clone, Copy)]

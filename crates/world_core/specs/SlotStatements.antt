@@ -6,11 +6,11 @@ use Rattle.core_laws.specs.Keys.{bucket_of_key}
 use Rattle.core_laws.specs.Plans.{Layout}
 use Rattle.core_laws.specs.Names.{IsName}
 use Rattle.core_laws.specs.Spots.{buckets_at}
-use Rattle.bucket_core.specs.declared.entries.Entry.{Entry}
+use Rattle.world_core.specs.declared.counted.Entry.{Entry}
 use Rattle.core_laws.specs.Logs.{Log}
 use Rattle.core_laws.specs.Soundness.{FitsLevel}
 use Rattle.core_laws.specs.Events.{Trades, IsMissing, Raises, Adds, Lowers, Frees, no_weight, one_name, children_named}
-use Rattle.core_reading.specs.Slots.{Level, entry_at, put_at, IsLaidOut, read_lists}
+use Rattle.world_core.specs.Slots.{Level, entry_at, put_at, IsLaidOut, read_lists}
 
 -- a name's slot has what was put there
 abbrev pub SlotsHold : Type 0
