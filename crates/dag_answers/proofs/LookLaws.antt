@@ -12,7 +12,7 @@ use Rattle.store_run.specs.TellsRoots.{TellsRoot}
 use Rattle.dag_file.specs.declared.faults.DagFault.{DagFault}
 use Rattle.dag_file.specs.declared.faults.DagFault.TheVariants as faults
 use Rattle.dag_file.specs.Rules.{IsDagFile}
-use Rattle.dag_file.specs.Places.{root_word, versions_in}
+use Rattle.dag_file.specs.Places.{version_root_word, versions_in}
 use Rattle.dag_file.specs.Reads.{SaysFault}
 use Rattle.dag_file.specs.Trees.{Opened, opened_seen, word_name, version_tree, roots_below, HasVersion, IsRootOfVersion}
 use Rattle.dag_file.proofs.VersionLaws.{weighs_root, block_word}
@@ -29,7 +29,7 @@ from_origin : (x : ℕ) → x ≡ x - 0
 from_origin x = omega arith
 
 is_root : (bytes : List ℕ) (side v word : ℕ) → v < versions_in bytes → 2 ≤ side
-    → root_word bytes (side - 1) v ≡ word
+    → version_root_word bytes (side - 1) v ≡ word
     → IsRoot (roots_below bytes (side - 1) (versions_in bytes)) (side - 2)
     (version_tree bytes (side - 1) v) (word_name (side - 1 - 1) word)
 is_root bytes side v zero lt low is =
@@ -37,7 +37,7 @@ is_root bytes side v zero lt low is =
     record { root = block.root; is_held = λ n e. cc; at = block.of_level }
 is_root bytes side v (suc i) lt low is =
     let block = block_word bytes side v (suc i) lt low is in
-    let there : root_word bytes (side - 1) v ≡ 0 → ⊥ =
+    let there : version_root_word bytes (side - 1) v ≡ 0 → ⊥ =
     λ none. (let zero_is : suc i ≡ 0 = sym is ∙ none in omega (arith, zero_is)) in
     record {
       root = block.root;
@@ -48,7 +48,7 @@ is_root bytes side v (suc i) lt low is =
     }
 
 shows : (bytes : List ℕ) (side v : ℕ) (root : Option Name) → v < versions_in bytes → 2 ≤ side
-    → root ≡ word_name (side - 1 - 1) (root_word bytes (side - 1) v)
+    → root ≡ word_name (side - 1 - 1) (version_root_word bytes (side - 1) v)
     → ShowsWorld (roots_below bytes (side - 1) (versions_in bytes)) (side - 2) root
     (version_has bytes side v)
 shows bytes side v root lt low is = record {
@@ -56,7 +56,7 @@ shows bytes side v root lt low is = record {
   is_root = subst
       (λ (r : Option Name). IsRoot (roots_below bytes (side - 1) (versions_in bytes)) (side - 2)
       (version_tree bytes (side - 1) v) r) (sym is)
-      (is_root bytes side v (root_word bytes (side - 1) v) lt low refl);
+      (is_root bytes side v (version_root_word bytes (side - 1) v) lt low refl);
   shows = record {
     each = λ c there.
         λ t. has (side - 2) (shape_of (version_tree bytes (side - 1) v)) (sym (from_origin c.x) t) (sym (from_origin c.y) t) (sym (from_origin c.z) t);

@@ -5,7 +5,7 @@ use Rattle.std.specs.List.{flat_map}
 use Rattle.std.specs.Int.{byte_at, bytes_low_first}
 use Rattle.vw_cell.specs.Sides.{is_side}
 use Rattle.dag_file.specs.Kept.{AreBytes}
-use Rattle.dag_file.specs.Writes.{number_bytes, leaf_bytes, numbers_bytes, header_bytes, file_bytes}
+use Rattle.dag_file.specs.Writes.{word_bytes, leaf_bytes, numbers_bytes, header_bytes, file_bytes}
 
 no_bytes : AreBytes []
 no_bytes i = lit< tt
@@ -33,14 +33,14 @@ low_first : (i k n : ℕ) → AreBytes (bytes_low_first i k n)
 low_first i zero n = no_bytes
 low_first i (suc k) n = one_more (byte_at i n) (bytes_low_first (suc i) k n) (byte_small i n) (low_first (suc i) k n)
 
-of_number : (n : ℕ) → AreBytes (number_bytes n)
+of_number : (n : ℕ) → AreBytes (word_bytes n)
 of_number n = low_first 0 4 n
 
 of_leaf : (n : ℕ) → AreBytes (leaf_bytes n)
 of_leaf n = low_first 0 8 n
 
 of_numbers : (ns : List ℕ) → AreBytes (numbers_bytes ns)
-of_numbers ns = each_of number_bytes ns of_number
+of_numbers ns = each_of word_bytes ns of_number
 
 of_mark : AreBytes (codes "VDAG")
 of_mark = one_more 86 (68 ∷ (65 ∷ (71 ∷ []))) (omega arith) (one_more 68 (65 ∷ (71 ∷ [])) (omega arith) (one_more 65 (71 ∷ []) (omega arith) (one_more 71 [] (omega arith) no_bytes)))

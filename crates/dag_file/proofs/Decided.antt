@@ -4,7 +4,7 @@ use Rattle.std.specs.Prelude.{◌==◌, IsTrue, codes}
 use Rattle.std.specs.List.{list_any}
 use Rattle.std.proofs.lemmas.Bool.{cases_lt, cases_eq, or_cases, false≢true, eqb-true}
 use Rattle.vw_cell.specs.Sides.{is_side}
-use Rattle.dag_file.specs.Places.{number_at, leaf_at, word_at, side_in, versions_in, count_place, count_in, entry_place, version_place, version_number, root_word, end_of}
+use Rattle.dag_file.specs.Places.{number_at, leaf_at, word_at, side_in, versions_in, count_place, count_in, entry_place, version_place, version_number, version_root_word, versions_end}
 use Rattle.dag_file.specs.Trees.{HasVersion}
 use Rattle.dag_file.proofs.ReadLaws.{ends_within}
 use Rattle.dag_file.specs.Rules.{IsMarked, HasOne, HasSide, HasVersions, HasCount, IsLeafRight, ComesBefore, HasWord, IsNodeRight, IsEntryRight, IsNumberRight, IsRootRight, IsHeaderRight, AreCountsRight, AreEntriesRight, AreLevelsRight, AreVersionsRight, IsNamedAbove, IsRooted, IsNamed, AreEntriesNamed, AreLevelsNamed, HasLevels, IsRight, IsDagFile, FirstFault, no_mark, no_one, no_side, no_versions, no_count, no_entry, no_number, no_root, unnamed, trailing}
@@ -181,8 +181,8 @@ module _ (bytes : List ℕ) where
   rooted_decided levels i =
       by (λ s. record { version = s.i; below = s.below; names = s.is })
       (λ r. record { i = r.version; below = r.below; is = r.names })
-      (some_of (λ v. root_word bytes levels v ≡ i + 1)
-      (λ v. cases_eq (root_word bytes levels v) (i + 1)) (versions_in bytes))
+      (some_of (λ v. version_root_word bytes levels v ≡ i + 1)
+      (λ v. cases_eq (version_root_word bytes levels v) (i + 1)) (versions_in bytes))
 
   named_decided : (levels level i : ℕ) → Decided (IsNamed bytes levels level i)
   named_decided levels level i =
@@ -222,8 +222,8 @@ module _ (bytes : List ℕ) where
     after_names : (right : IsRight bytes levels) → AreLevelsNamed bytes levels levels → IsAFile ⊎ HasFault
     after_names right named =
         let within = ends_within bytes levels right in
-        elim (cases_lt (end_of bytes levels) (length bytes)) [
-          | inl more ↦ inr (end_of bytes levels, trailing levels right named more)
+        elim (cases_lt (versions_end bytes levels) (length bytes)) [
+          | inl more ↦ inr (versions_end bytes levels, trailing levels right named more)
           | inr no_more ↦ inl (levels, record { right = right; named = named; ends = omega (arith, within, no_more) })
         ]
 

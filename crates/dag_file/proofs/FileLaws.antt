@@ -4,21 +4,21 @@ use Rattle.std.specs.Prelude.{slice_index, slice_index_or, codes}
 use Rattle.std.specs.List.{flat_map}
 use Rattle.std.proofs.lemmas.Bool.{cases_eq}
 use Rattle.std.proofs.lemmas.List.{append_assoc, length-append, take_at}
-use Rattle.dag_file.specs.Places.{number_at, leaf_at, word_at, side_in, versions_in, count_place, count_in, entry_place, start_of, version_place, version_number, root_word, end_of}
+use Rattle.dag_file.specs.Places.{number_at, leaf_at, word_at, side_in, versions_in, count_place, count_in, entry_place, start_of, version_place, version_number, version_root_word, versions_end}
 use Rattle.dag_file.specs.Rules.{IsMarked}
-use Rattle.dag_file.specs.Writes.{number_bytes, leaf_bytes, numbers_bytes, header_bytes, file_bytes}
+use Rattle.dag_file.specs.Writes.{word_bytes, leaf_bytes, numbers_bytes, header_bytes, file_bytes}
 use Rattle.dag_file.specs.Layers.{first_node}
 use Rattle.dag_file.proofs.ReadLaws.{start-zero, start-suc}
 use Rattle.dag_file.proofs.RunLaws.{StandsAt, first_part, second_part, further, number_there, leaf_there, item_there, items_length}
 
-number_length : (n : ℕ) → length (number_bytes n) ≡ 4
+number_length : (n : ℕ) → length (word_bytes n) ≡ 4
 number_length n = refl
 
 leaf_length : (n : ℕ) → length (leaf_bytes n) ≡ 8
 leaf_length n = refl
 
 numbers_length : (ns : List ℕ) → length (numbers_bytes ns) ≡ 4 * length ns
-numbers_length ns = items_length number_bytes 4 0 ns (λ j l. number_length (slice_index ns j))
+numbers_length ns = items_length word_bytes 4 0 ns (λ j l. number_length (slice_index ns j))
 
 -- the numbers of the parts, and that each fits in its bytes
 pub record IsSized (side top : ℕ) (counts leaves : List ℕ) (nodes pairs : List (List ℕ)) : Type 0 where
@@ -126,7 +126,7 @@ module _ (side top : ℕ) (counts leaves : List ℕ) (nodes pairs : List (List �
   is_marked = ap (λ (l : List ℕ). take 4 l) (parts ∙ append_assoc (codes "VDAG") (numbers_bytes fields) (L ++ (N ++ V))) ∙ take_at (codes "VDAG") (numbers_bytes fields ++ (L ++ (N ++ V))) 4 refl
 
   field_is : (i p : ℕ) → i < length fields → slice_index fields i < 256 ^ 4 → 4 + 4 * i ≡ p → number_at file p ≡ slice_index fields i
-  field_is i p lt fits e = number_there file p (slice_index fields i) (further file (numbers_bytes fields) (number_bytes (slice_index fields i)) 4 (4 * i) p fields_there (item_there number_bytes 4 0 fields i (λ j l. number_length (slice_index fields j)) lt) e) fits
+  field_is i p lt fits e = number_there file p (slice_index fields i) (further file (numbers_bytes fields) (word_bytes (slice_index fields i)) 4 (4 * i) p fields_there (item_there word_bytes 4 0 fields i (λ j l. number_length (slice_index fields j)) lt) e) fits
 
   pub one_is : number_at file 4 ≡ 1
   one_is = field_is 0 4 (omega arith) (omega arith) (omega arith)
@@ -161,7 +161,7 @@ module _ (side top : ℕ) (counts leaves : List ℕ) (nodes pairs : List (List �
   pub versions_start : start_of file (suc top) (suc top) ≡ 16 + 4 * suc top + 8 * length leaves + 32 * length nodes
   versions_start = let start = start_is top (omega arith) in let all = s.node_count in omega (arith, start, all)
 
-  pub ends : length file ≡ end_of file (suc top)
+  pub ends : length file ≡ versions_end file (suc top)
   ends = let l = file_length in let start = versions_start in let many = versions_are in omega (arith, l, start, many)
 
   -- ---- the entries and versions
@@ -184,25 +184,25 @@ module _ (side top : ℕ) (counts leaves : List ℕ) (nodes pairs : List (List �
       let at : ℕ = first_node counts level + i in
       let inside = node_inside level i le lt in
       number_there file (entry_place file (suc top) (suc level) i + 4 * k) (slice_index (slice_index_or nodes (first_node counts level + i) []) k)
-      (further file (numbers_bytes (slice_index_or nodes (first_node counts level + i) [])) (number_bytes (slice_index (slice_index_or nodes (first_node counts level + i) []) k)) (16 + 4 * suc top + 8 * length leaves + 32 * (first_node counts level + i)) (4 * k) (entry_place file (suc top) (suc level) i + 4 * k)
+      (further file (numbers_bytes (slice_index_or nodes (first_node counts level + i) [])) (word_bytes (slice_index (slice_index_or nodes (first_node counts level + i) []) k)) (16 + 4 * suc top + 8 * length leaves + 32 * (first_node counts level + i)) (4 * k) (entry_place file (suc top) (suc level) i + 4 * k)
       (further file N (numbers_bytes (slice_index_or nodes (first_node counts level + i) [])) (16 + 4 * suc top + 8 * length leaves) (32 * (first_node counts level + i)) (16 + 4 * suc top + 8 * length leaves + 32 * (first_node counts level + i)) nodes_there
       (item_there numbers_bytes 32 [] nodes (first_node counts level + i) node_length inside) refl)
-      (item_there number_bytes 4 0 (slice_index_or nodes (first_node counts level + i) []) k (λ j l. number_length (slice_index (slice_index_or nodes (first_node counts level + i) []) j)) (let e = s.eight (first_node counts level + i) inside in omega (arith, e, less)))
+      (item_there word_bytes 4 0 (slice_index_or nodes (first_node counts level + i) []) k (λ j l. number_length (slice_index (slice_index_or nodes (first_node counts level + i) []) j)) (let e = s.eight (first_node counts level + i) inside in omega (arith, e, less)))
       (let start = start_is level (omega (arith, le)) in omega (arith, start)))
       (let h = s.small_words (first_node counts level + i) k inside less in omega (arith, h))
 
   pair_is : (v k p : ℕ) → v < length pairs → k < 2 → version_place file (suc top) v + 4 * k ≡ p → number_at file p ≡ slice_index (slice_index_or pairs v []) k
   pair_is v k p lt less e =
       number_there file p (slice_index (slice_index_or pairs v []) k)
-      (further file (numbers_bytes (slice_index_or pairs v [])) (number_bytes (slice_index (slice_index_or pairs v []) k)) (16 + 4 * suc top + 8 * length leaves + 32 * length nodes + 8 * v) (4 * k) p
+      (further file (numbers_bytes (slice_index_or pairs v [])) (word_bytes (slice_index (slice_index_or pairs v []) k)) (16 + 4 * suc top + 8 * length leaves + 32 * length nodes + 8 * v) (4 * k) p
       (further file V (numbers_bytes (slice_index_or pairs v [])) (16 + 4 * suc top + 8 * length leaves + 32 * length nodes) (8 * v) (16 + 4 * suc top + 8 * length leaves + 32 * length nodes + 8 * v) pairs_there
       (item_there numbers_bytes 8 [] pairs v pair_length lt) refl)
-      (item_there number_bytes 4 0 (slice_index_or pairs v []) k (λ j l. number_length (slice_index (slice_index_or pairs v []) j)) (let two = s.two v lt in omega (arith, two, less)))
+      (item_there word_bytes 4 0 (slice_index_or pairs v []) k (λ j l. number_length (slice_index (slice_index_or pairs v []) j)) (let two = s.two v lt in omega (arith, two, less)))
       (let start = versions_start in omega (arith, start, e)))
       (let h = s.small_pairs v k lt less in omega (arith, h))
 
   pub version_is : (v : ℕ) → v < length pairs → version_number file (suc top) v ≡ slice_index (slice_index_or pairs v []) 0
   version_is v lt = pair_is v 0 (version_place file (suc top) v) lt (omega arith) (omega arith)
 
-  pub root_is : (v : ℕ) → v < length pairs → root_word file (suc top) v ≡ slice_index (slice_index_or pairs v []) 1
+  pub root_is : (v : ℕ) → v < length pairs → version_root_word file (suc top) v ≡ slice_index (slice_index_or pairs v []) 1
   root_is v lt = pair_is v 1 (version_place file (suc top) v + 4) lt (omega arith) (omega arith)

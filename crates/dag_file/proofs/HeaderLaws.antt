@@ -3,7 +3,7 @@ use Rattle.std.proofs.Common.{◌≡◌, ℕ, List, [], ◌∷◌, ◌++◌, len
 use Rattle.std.specs.Prelude.{codes}
 use Rattle.std.specs.List.{flat_map}
 use Rattle.std.proofs.lemmas.List.Concat.{flat_map-append}
-use Rattle.dag_file.specs.Writes.{number_bytes, leaf_bytes, numbers_bytes, header_bytes, file_bytes}
+use Rattle.dag_file.specs.Writes.{word_bytes, leaf_bytes, numbers_bytes, header_bytes, file_bytes}
 
 three : (i m p q a b c : List ℕ) → a ≡ i ++ m → b ≡ a ++ p → c ≡ b ++ q → c ≡ i ++ (m ++ (p ++ q))
 three i m p q a b c ea eb ec =
@@ -14,7 +14,7 @@ pub header_put : (side versions : ℕ) (counts i a b c : List ℕ) → a ≡ i +
 unfolding header_bytes
 header_put side versions counts i a b c ea eb ec =
     three i (codes "VDAG") (numbers_bytes (1 ∷ (side ∷ (versions ∷ [])))) (numbers_bytes counts) a b c ea eb ec
-    ∙ ap (λ (l : List ℕ). i ++ (codes "VDAG" ++ l)) (sym (flat_map-append number_bytes (1 ∷ (side ∷ (versions ∷ []))) counts))
+    ∙ ap (λ (l : List ℕ). i ++ (codes "VDAG" ++ l)) (sym (flat_map-append word_bytes (1 ∷ (side ∷ (versions ∷ []))) counts))
 
 -- the whole file
 pub file_put : (side versions : ℕ) (counts leaves : List ℕ) (nodes pairs : List (List ℕ)) (i a b c d : List ℕ) → versions ≡ length pairs → i ≡ [] → a ≡ i ++ header_bytes side versions counts → b ≡ a ++ flat_map leaf_bytes leaves → c ≡ b ++ flat_map numbers_bytes nodes → d ≡ c ++ flat_map numbers_bytes pairs → d ≡ file_bytes side counts leaves nodes pairs

@@ -10,8 +10,8 @@ use Rattle.std.proofs.lemmas.Bool.{cases_lt}
 use Rattle.node_words.specs.Held.{Seen}
 use Rattle.block_walk.specs.Roots.{IsOctantOf}
 use Rattle.node_shapes.specs.declared.names.Name.{Name}
-use Rattle.dag_file.specs.Trees.{index_of}
-use Rattle.dag_file.specs.Writes.{IsWordOfName, IsOctantWord, AreWordsOf, HasSlot}
+use Rattle.dag_file.specs.Trees.{named_index}
+use Rattle.dag_file.specs.Writes.{IsWordOfName, IsOctantWord, AreOctantWords, HasSlot}
 
 -- of rising numbers a later one is more
 rising : (d i : ℕ) (xs : List ℕ) → IsStrictlyIncreasing xs → i + suc d < length xs → slice_index xs i < slice_index xs (i + suc d)
@@ -47,25 +47,26 @@ search_missed xs x i j up h l e = let parts = searched xs x (Err i) h (λ a b le
   | inr more ↦ let higher = parts.2 j more l in absurd (omega (arith, higher, e))
 ]
 
-pub word_found : (keys indices : List ℕ) (n : Name) (i : ℕ) → IsStrictlyIncreasing keys → IsBinarySearchResult (λ y. nat_cmp y (index_of n)) keys (Ok i) → IsWordOfName keys indices (Some n) (slice_index indices i + 1)
-word_found keys indices n i up h = λ j l e. let at = search_found keys (index_of n) i up h in ap (λ (k : ℕ). slice_index indices k + 1) (one_place i j keys up at.0 l (at.1 ∙ sym e))
+pub word_found : (keys indices : List ℕ) (n : Name) (i : ℕ) → IsStrictlyIncreasing keys → IsBinarySearchResult (λ y. nat_cmp y (named_index n)) keys (Ok i) → IsWordOfName keys indices (Some n) (slice_index indices i + 1)
+word_found keys indices n i up h = λ j l e. let at = search_found keys (named_index n) i up h in ap (λ (k : ℕ). slice_index indices k + 1) (one_place i j keys up at.0 l (at.1 ∙ sym e))
 
-pub word_missed : (keys indices : List ℕ) (n : Name) (i : ℕ) → IsStrictlyIncreasing keys → IsBinarySearchResult (λ y. nat_cmp y (index_of n)) keys (Err i) → IsWordOfName keys indices (Some n) 0
-word_missed keys indices n i up h = λ j l e. absurd (search_missed keys (index_of n) i j up h l e)
+pub word_missed : (keys indices : List ℕ) (n : Name) (i : ℕ) → IsStrictlyIncreasing keys → IsBinarySearchResult (λ y. nat_cmp y (named_index n)) keys (Err i) → IsWordOfName keys indices (Some n) 0
+word_missed keys indices n i up h =
+    λ j l e. absurd (search_missed keys (named_index n) i j up h l e)
 
 -- the same of a name that may be none, by its key
-pub named_found : (keys indices : List ℕ) (o : Option Name) (n : Name) (key i : ℕ) → o ≡ Some n → key ≡ index_of n → IsStrictlyIncreasing keys → IsBinarySearchResult (λ y. nat_cmp y key) keys (Ok i) → IsWordOfName keys indices o (slice_index indices i + 1)
+pub named_found : (keys indices : List ℕ) (o : Option Name) (n : Name) (key i : ℕ) → o ≡ Some n → key ≡ named_index n → IsStrictlyIncreasing keys → IsBinarySearchResult (λ y. nat_cmp y key) keys (Ok i) → IsWordOfName keys indices o (slice_index indices i + 1)
 named_found keys indices o n key i some is up h = subst (λ (p : Option Name). IsWordOfName keys indices p (slice_index indices i + 1)) (sym some) (word_found keys indices n i up (subst (λ (k : ℕ). IsBinarySearchResult (λ y. nat_cmp y k) keys (Ok i)) is h))
 
-pub named_missed : (keys indices : List ℕ) (o : Option Name) (n : Name) (key i : ℕ) → o ≡ Some n → key ≡ index_of n → IsStrictlyIncreasing keys → IsBinarySearchResult (λ y. nat_cmp y key) keys (Err i) → IsWordOfName keys indices o 0
+pub named_missed : (keys indices : List ℕ) (o : Option Name) (n : Name) (key i : ℕ) → o ≡ Some n → key ≡ named_index n → IsStrictlyIncreasing keys → IsBinarySearchResult (λ y. nat_cmp y key) keys (Err i) → IsWordOfName keys indices o 0
 named_missed keys indices o n key i some is up h = subst (λ (p : Option Name). IsWordOfName keys indices p 0) (sym some) (word_missed keys indices n i up (subst (λ (k : ℕ). IsBinarySearchResult (λ y. nat_cmp y k) keys (Err i)) is h))
 
 pub never_missed : (xs : List ℕ) (x i : ℕ) → IsStrictlyIncreasing xs → IsBinarySearchResult (λ y. nat_cmp y x) xs (Err i) → Contains xs x → ⊥
 never_missed xs x i up h (j, lt, is) = search_missed xs x i j up h lt (get_or_default xs j 0 x lt ∙ is)
 
 -- the word of one octant more
-pub words_step : (a b : Seen) (level : ℕ) (node : Name) (keys indices : List ℕ) (k i : ℕ) (child : Option Name) (word : ℕ) (words : List ℕ) → b ≡ a → AreWordsOf a.held level node keys indices k words → IsOctantOf b.held level (Some node) k child → HasSlot child → IsWordOfName keys indices child word → i ≡ k → k < length words → AreWordsOf a.held level node keys indices (k + 1) (set words i word)
-words_step a b level node keys indices k i child word words same ws oct slot is at room = subst (λ (m : ℕ). AreWordsOf a.held level node keys indices (k + 1) (set words m word)) (sym at) (λ u l. elim (cases_lt u k) [
+pub words_step : (a b : Seen) (level : ℕ) (node : Name) (keys indices : List ℕ) (k i : ℕ) (child : Option Name) (word : ℕ) (words : List ℕ) → b ≡ a → AreOctantWords a.held level node keys indices k words → IsOctantOf b.held level (Some node) k child → HasSlot child → IsWordOfName keys indices child word → i ≡ k → k < length words → AreOctantWords a.held level node keys indices (k + 1) (set words i word)
+words_step a b level node keys indices k i child word words same ws oct slot is at room = subst (λ (m : ℕ). AreOctantWords a.held level node keys indices (k + 1) (set words m word)) (sym at) (λ u l. elim (cases_lt u k) [
   | inl less ↦ subst (λ (w : ℕ). IsOctantWord a.held level node keys indices u w) (sym (get_or-set_other words k u word 0 (λ e. absurd (omega (arith, e, less))))) (ws u less)
   | inr more ↦ last u (omega (arith, l, more))
 ]) where

@@ -6,7 +6,7 @@ use Rattle.node_shapes.specs.Tree.{Tree, shape_of}
 use Rattle.node_words.specs.Held.{AreTrees}
 use Rattle.block_walk.specs.Roots.{HoldsRoot, IsBlockOf, ForBlock}
 use Rattle.block_walk.proofs.BlockLaws.{clear_block}
-use Rattle.dag_file.specs.Places.{versions_in, version_number, root_word}
+use Rattle.dag_file.specs.Places.{versions_in, version_number, version_root_word}
 use Rattle.dag_file.specs.Rules.{IsDagFile, IsRight}
 use Rattle.dag_file.specs.Trees.{word_name, version_tree}
 use Rattle.dag_file.specs.Kept.{AreBytes, version_shape}
@@ -43,15 +43,15 @@ module _ (bytes : List ℕ) (levels : ℕ) where
     under : suc levels - 1 ≡ levels
     under = omega arith
 
-    held : (v : ℕ) → v < versions_in bytes → HoldsRoot (roots_in bytes levels) (suc levels) (word_name (levels - 1) (root_word bytes levels v))
+    held : (v : ℕ) → v < versions_in bytes → HoldsRoot (roots_in bytes levels) (suc levels) (word_name (levels - 1) (version_root_word bytes levels v))
     held v lt =
-        subst (λ (l : ℕ). HoldsRoot (roots_in bytes l) (suc levels) (word_name (l - 1) (root_word bytes l v))) under
-        (held_word bytes (suc levels) v (root_word bytes (suc levels - 1) v) lt low refl)
+        subst (λ (l : ℕ). HoldsRoot (roots_in bytes l) (suc levels) (word_name (l - 1) (version_root_word bytes l v))) under
+        (held_word bytes (suc levels) v (version_root_word bytes (suc levels - 1) v) lt low refl)
 
-    block : (v : ℕ) → v < versions_in bytes → IsBlockOf (roots_in bytes levels) (suc levels - 2) (word_name (levels - 1) (root_word bytes levels v)) (version_tree bytes levels v)
+    block : (v : ℕ) → v < versions_in bytes → IsBlockOf (roots_in bytes levels) (suc levels - 2) (word_name (levels - 1) (version_root_word bytes levels v)) (version_tree bytes levels v)
     block v lt =
-        subst (λ (l : ℕ). IsBlockOf (roots_in bytes l) (suc levels - 2) (word_name (l - 1) (root_word bytes l v)) (version_tree bytes l v)) under
-        (block_word bytes (suc levels) v (root_word bytes (suc levels - 1) v) lt low refl)
+        subst (λ (l : ℕ). IsBlockOf (roots_in bytes l) (suc levels - 2) (word_name (l - 1) (version_root_word bytes l v)) (version_tree bytes l v)) under
+        (block_word bytes (suc levels) v (version_root_word bytes (suc levels - 1) v) lt low refl)
 
     trees : AreTrees (suc levels) (roots_in bytes levels)
     trees =
@@ -77,8 +77,8 @@ module _ (bytes : List ℕ) (levels : ℕ) where
     shown : (v : ℕ) (x : Listed) → slice_get (list_in bytes levels) v ≡ Some x → ForBlock (roots_in bytes levels) (suc levels - 2) x.1 (λ s. version_shape bytes levels v ≡ s)
     shown v x e t bt =
         let g = one v x e in
-        let root : x.1 ≡ word_name (levels - 1) (root_word bytes levels v) = ap (λ (z : Listed). z.1) g.1 in
-        one_shape (suc levels) (roots_in bytes levels) (suc levels - 2) (word_name (levels - 1) (root_word bytes levels v)) (version_tree bytes levels v) t
+        let root : x.1 ≡ word_name (levels - 1) (version_root_word bytes levels v) = ap (λ (z : Listed). z.1) g.1 in
+        one_shape (suc levels) (roots_in bytes levels) (suc levels - 2) (word_name (levels - 1) (version_root_word bytes levels v)) (version_tree bytes levels v) t
         trees (block v g.0)
         (subst (λ (r : Option Name). IsBlockOf (roots_in bytes levels) (suc levels - 2) r t) root bt)
 

@@ -13,7 +13,7 @@ use Rattle.node_shapes.specs.Tree.{Tree, root_of, child_of}
 use Rattle.block_walk.specs.Roots.{IsBlockOf, HasBlock, IsOctantOf}
 use Rattle.block_walk.proofs.BlockLaws.{root_block}
 use Rattle.dag_file.specs.Lists.{HoldsList}
-use Rattle.dag_file.specs.Trees.{entry_name, index_of}
+use Rattle.dag_file.specs.Trees.{entry_name, named_index}
 use Rattle.dag_file.specs.Writes.{Adds, AreReached, IsChildKey, IsChildOf, AreChildren, IsRootKey, AreRoots, HasSlot, keys_of}
 
 -- nothing is in an empty list, and one thing in a list of one
@@ -105,13 +105,13 @@ octant_none held level node n old new block a none = adds_same _ _ old new a (wi
 ])
 
 -- the octant n has a node, whose key is pushed
-pub octant_some : (held : List Tree) (level : ℕ) (node c : Name) (n : ℕ) (old mid new : List ℕ) → HasBlock held level (Some node) → Adds (IsChildKey held level node n) old mid → IsOctantOf held level (Some node) n (Some c) → HasSlot (Some c) → new ≡ mid ++ index_of c ∷ [] → Adds (IsChildKey held level node (n + 1)) old new
+pub octant_some : (held : List Tree) (level : ℕ) (node c : Name) (n : ℕ) (old mid new : List ℕ) → HasBlock held level (Some node) → Adds (IsChildKey held level node n) old mid → IsOctantOf held level (Some node) n (Some c) → HasSlot (Some c) → new ≡ mid ++ named_index c ∷ [] → Adds (IsChildKey held level node (n + 1)) old new
 octant_some held level node c n old mid new block a some slot e =
-    adds_more _ _ _ old mid new a (adds_pushed (index_of c) mid new e) (wider held level node n)
+    adds_more _ _ _ old mid new a (adds_pushed (named_index c) mid new e) (wider held level node n)
     (λ x p. record { k = n; octant = omega arith; name = c; child = some; slot = slot; is = p })
     (λ x h. elim (cases_lt h.k n) [
       | inl less ↦ inl (record { k = h.k; octant = less; name = h.name; child = h.child; slot = h.slot; is = h.is })
-      | inr more ↦ inr (h.is ∙ ap index_of (some_one h.name c (one_child held level node h.k n (Some h.name) (Some c) block (omega (arith, more, h.octant)) h.child some)))
+      | inr more ↦ inr (h.is ∙ ap named_index (some_one h.name c (one_child held level node h.k n (Some h.name) (Some c) block (omega (arith, more, h.octant)) h.child some)))
     ])
 
 pub octant_pushed : (held : List Tree) (level : ℕ) (node : Name) (c : Option Name) (n : ℕ) (old mid new : List ℕ) → HasBlock held level (Some node) → Adds (IsChildKey held level node n) old mid → IsOctantOf held level (Some node) n c → HasSlot c → new ≡ mid ++ keys_of c → Adds (IsChildKey held level node (n + 1)) old new
@@ -159,7 +159,7 @@ children_sorted held level n keys found sorted a few many rises there back = rec
 }
 
 -- a name is that of its key
-pub entry_of : (n : Name) (level : ℕ) → n.level ≡ level → n.slot < 256 → entry_name level (index_of n) ≡ n
+pub entry_of : (n : Name) (level : ℕ) → n.level ≡ level → n.slot < 256 → entry_name level (named_index n) ≡ n
 entry_of n level l s =
     let b : (256 * n.bucket + n.slot) / 256 ≡ n.bucket = omega (arith, s) in
     let r : (256 * n.bucket + n.slot) % 256 ≡ n.slot = omega (arith, s) in
@@ -224,11 +224,11 @@ root_step roots n number None old mid new at slot a e = subst (λ (m : List ℕ)
 ])) where
   at_n : (v : ℕ) → n ≤ v → v < n + 1 → n ≡ v
   at_n v l m = omega (arith, l, m)
-root_step roots n number (Some c) old mid new at slot a e = adds_more _ _ _ old mid new a (adds_pushed (index_of c) mid new e) (root_wider roots n)
+root_step roots n number (Some c) old mid new at slot a e = adds_more _ _ _ old mid new a (adds_pushed (named_index c) mid new e) (root_wider roots n)
     (λ x p. record { v = n; before = omega arith; number = number; name = c; there = at; slot = slot; is = p })
     (λ x h. elim (cases_lt h.v n) [
       | inl less ↦ inl (record { v = h.v; before = less; number = h.number; name = h.name; there = h.there; slot = h.slot; is = h.is })
-      | inr more ↦ inr (h.is ∙ ap index_of (some_one h.name c (sym (ap (λ (p : ℕ × Option Name). p.1) (same_item (number, Some c) (h.number, Some h.name) (sym at ∙ ap (λ (i : ℕ). slice_get roots i) (at_n h.v more h.before) ∙ h.there))))))
+      | inr more ↦ inr (h.is ∙ ap named_index (some_one h.name c (sym (ap (λ (p : ℕ × Option Name). p.1) (same_item (number, Some c) (h.number, Some h.name) (sym at ∙ ap (λ (i : ℕ). slice_get roots i) (at_n h.v more h.before) ∙ h.there))))))
     ]) where
       at_n : (v : ℕ) → n ≤ v → v < n + 1 → n ≡ v
       at_n v l m = omega (arith, l, m)

@@ -15,7 +15,7 @@ use Rattle.block_walk.specs.Roots.{IsBlockOf, IsOctantOf}
 use Rattle.block_walk.proofs.BlockLaws.{clear_block}
 use Rattle.dag_file.specs.Places.{leaf_at, word_at, count_in, entry_place}
 use Rattle.dag_file.specs.Rules.{IsLeafRight, IsNodeRight, IsEntryRight, AreEntriesRight, AreEntriesNamed, IsNamed, HasWord, ComesBefore}
-use Rattle.dag_file.specs.Trees.{entry_name, index_of, tree_of}
+use Rattle.dag_file.specs.Trees.{entry_name, named_index, tree_of}
 use Rattle.dag_file.specs.Kept.{entry_shape}
 use Rattle.dag_file.specs.Writes.{AreChildren, IsWordOfName, HasSlot, file_bytes}
 use Rattle.dag_file.specs.Layers.{Stands, AreLeafEntries, IsLayer, first_node}
@@ -186,13 +186,13 @@ module _ (held : List Tree) (side top : ℕ) (counts leaves : List ℕ) (nodes p
   -- ---- the word of a name
 
   -- the word of what stands in a block names the entry of its shape
-  pub word_shows : (level : ℕ) (keys indices : List ℕ) → AreWritten level keys indices → (o : Option Name) (word : ℕ) (t : Tree) → ((n : Name) → o ≡ Some n → Contains keys (index_of n)) → IsBlockOf held level o t → IsCanonical level (shape_of t) → HasSlot o → IsWordOfName keys indices o word
+  pub word_shows : (level : ℕ) (keys indices : List ℕ) → AreWritten level keys indices → (o : Option Name) (word : ℕ) (t : Tree) → ((n : Name) → o ≡ Some n → Contains keys (named_index n)) → IsBlockOf held level o t → IsCanonical level (shape_of t) → HasSlot o → IsWordOfName keys indices o word
       → (shape_of t ≡ shape_of (tree_of F (suc top) level word)) × (word ≤ slice_index counts level)
   word_shows level keys indices w None word t known b c slot is =
       (clear_block held level t b ∙ sym (none_shape F (suc top) level) ∙ ap (λ (v : ℕ). shape_of (tree_of F (suc top) level v)) (sym is), omega (arith, is))
   word_shows level keys indices w (Some n) word t known b c slot is =
       let found = known n refl in
-      let key : slice_index keys found.0 ≡ index_of n = get_or_default keys found.0 0 (index_of n) found.1 ∙ found.2 in
+      let key : slice_index keys found.0 ≡ named_index n = get_or_default keys found.0 0 (named_index n) found.1 ∙ found.2 in
       let word_is : word ≡ slice_index indices found.0 + 1 = is found.0 found.1 key in
       let name : n ≡ entry_name level (slice_index keys found.0) = sym (ap (λ (i : ℕ). entry_name level i) key ∙ entry_of n level (b.of_level n refl) slot.0) in
       let block : IsBlockOf held level (Some (entry_name level (slice_index keys found.0))) t = subst (λ (m : Name). IsBlockOf held level (Some m) t) name b in
@@ -231,8 +231,8 @@ module _ (held : List Tree) (side top : ℕ) (counts leaves : List ℕ) (nodes p
         let word = x.entries.words.words j lt k less in
         let block = subst (λ (l : ℕ). IsBlockOf held l word.child (child_of t k)) under (word.octant t b) in
         let canonical = subst (λ (p : Shape). IsCanonical level p) (sym (shape_of-child t k)) (octant_canonical level (shape_of t) k c) in
-        let known : (n : Name) → word.child ≡ Some n → Contains x.below (index_of n) = λ n e.
-        x.children.all (index_of n) (record {
+        let known : (n : Name) → word.child ≡ Some n → Contains x.below (named_index n) = λ n e.
+        x.children.all (named_index n) (record {
           j = j;
           before = lt;
           child = record {

@@ -10,7 +10,7 @@ use Rattle.std.proofs.lemmas.List.{length-append, get_or_append_left, get_or-app
 use Rattle.std.proofs.lemmas.List.Elements.{Contains-get_or}
 use Rattle.node_shapes.specs.declared.names.Name.{Name}
 use Rattle.node_shapes.specs.Tree.{Tree}
-use Rattle.dag_file.specs.Trees.{entry_name, index_of}
+use Rattle.dag_file.specs.Trees.{entry_name, named_index}
 use Rattle.dag_file.specs.Writes.{AreLeaves, AreNodes, AreIndices, AreNodeIndices, AreChildren, IsWordOfName, HasSlot}
 use Rattle.block_walk.specs.Roots.{IsOctantOf}
 use Rattle.dag_file.specs.Layers.{first_node, Stands, AreLayers}
@@ -37,11 +37,11 @@ pub layers_few : (held : List Tree) (level : ℕ) (keys indices counts leaves : 
 layers_few held level keys indices counts leaves nodes a = (stands_indexed held counts leaves nodes level keys indices a.stands).1
 
 -- a word of a name that has a key is small
-pub word_small : (keys indices : List ℕ) (o : Option Name) (word : ℕ) → ((n : Name) → o ≡ Some n → Contains keys (index_of n)) → ((j : ℕ) → j < length keys → slice_index indices j < 2 ^ 24) → IsWordOfName keys indices o word → word ≤ 2 ^ 24
+pub word_small : (keys indices : List ℕ) (o : Option Name) (word : ℕ) → ((n : Name) → o ≡ Some n → Contains keys (named_index n)) → ((j : ℕ) → j < length keys → slice_index indices j < 2 ^ 24) → IsWordOfName keys indices o word → word ≤ 2 ^ 24
 word_small keys indices None word known few is = omega (arith, is)
 word_small keys indices (Some n) word known few is =
     let found = known n refl in
-    let word_is : word ≡ slice_index indices found.0 + 1 = is found.0 found.1 (get_or_default keys found.0 0 (index_of n) found.1 ∙ found.2) in
+    let word_is : word ≡ slice_index indices found.0 + 1 = is found.0 found.1 (get_or_default keys found.0 0 (named_index n) found.1 ∙ found.2) in
     let low = few found.0 found.1 in
     omega (arith, word_is, low)
 
@@ -117,7 +117,7 @@ module _ (held : List Tree) (level : ℕ) (keys below below_indices indices coun
       let word = words.words key.0 key.1 k less in
       subst (λ (r : List ℕ). slice_index r k ≤ 2 ^ 24) key.2
       (word_small below below_indices word.child (slice_index (slice_index_or contents key.0 []) k)
-      (λ n e. children.all (index_of n) (record {
+      (λ n e. children.all (named_index n) (record {
         j = key.0;
         before = key.1;
         child = record {

@@ -12,9 +12,9 @@ use Rattle.node_shapes.specs.Shape.{IsCanonical}
 use Rattle.node_shapes.specs.Tree.{Tree, shape_of}
 use Rattle.block_walk.specs.Roots.{IsBlockOf}
 use Rattle.block_walk.proofs.BlockLaws.{root_block}
-use Rattle.dag_file.specs.Places.{number_at, versions_in, count_in, version_place, version_number, root_word}
+use Rattle.dag_file.specs.Places.{number_at, versions_in, count_in, version_place, version_number, version_root_word}
 use Rattle.dag_file.specs.Rules.{IsRight, IsNumberRight, IsRootRight, IsNamed, AreLevelsNamed}
-use Rattle.dag_file.specs.Trees.{entry_name, index_of, tree_of}
+use Rattle.dag_file.specs.Trees.{entry_name, named_index, tree_of}
 use Rattle.dag_file.specs.Lists.{Listed, HoldsList, DoNumbersRise, ShowCanonical, AreNumbersSmall, IsFileOfList}
 use Rattle.dag_file.specs.Writes.{AreRoots, HasSlot, file_bytes}
 use Rattle.dag_file.specs.Layers.{Stands, AreLayers, IsPairOf, AreVersions}
@@ -108,8 +108,8 @@ module _ (held : List Tree) (side top : ℕ) (roots : List Listed) (keys indices
   pair_of : (v : ℕ) (x : Listed) → slice_get roots v ≡ Some x → IsPairOf keys indices x (slice_index_or pairs v [])
   pair_of v x e = versions.each v x (inside roots v x e) e
 
-  known : (v : ℕ) (x : Listed) → slice_get roots v ≡ Some x → (n : Name) → x.1 ≡ Some n → Contains keys (index_of n)
-  known v x e n is = root_keys.all (index_of n) (record {
+  known : (v : ℕ) (x : Listed) → slice_get roots v ≡ Some x → (n : Name) → x.1 ≡ Some n → Contains keys (named_index n)
+  known v x e n is = root_keys.all (named_index n) (record {
     v = v;
     before = inside roots v x e;
     number = x.0;
@@ -278,7 +278,7 @@ module _ (held : List Tree) (side top : ℕ) (roots : List Listed) (keys indices
         let m = many in
         let is = root_is side top counts leaves nodes pairs s v (omega (arith, l, m)) in
         let shown = (root_shown v x e t (subst (λ (l : ℕ). IsBlockOf held l x.1 t) under b)).0 in
-        ap (λ (l : ℕ). shape_of (tree_of F (suc top) l (root_word F (suc top) v))) one_less
+        ap (λ (l : ℕ). shape_of (tree_of F (suc top) l (version_root_word F (suc top) v))) one_less
         ∙ ap (λ (word : ℕ). shape_of (tree_of F (suc top) top word)) is
         ∙ sym shown);
   }

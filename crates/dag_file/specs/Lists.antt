@@ -5,7 +5,7 @@ use Rattle.node_shapes.specs.declared.names.Name.{Name}
 use Rattle.node_shapes.specs.Shape.{IsCanonical}
 use Rattle.node_shapes.specs.Tree.{Tree}
 use Rattle.block_walk.specs.Roots.{HoldsRoot, ForBlock}
-use Rattle.dag_file.specs.Places.{versions_in, version_number, root_word}
+use Rattle.dag_file.specs.Places.{versions_in, version_number, version_root_word}
 use Rattle.dag_file.specs.Trees.{word_name, roots_below}
 use Rattle.dag_file.specs.Rules.{IsDagFile}
 use Rattle.dag_file.specs.Kept.{AreBytes, version_shape}
@@ -54,7 +54,7 @@ pub record AppendsFile (held : List Tree) (levels : ℕ) (list : List Listed) (o
 -- what a file's version says
 abbrev pub version_listed : List ℕ → ℕ → ℕ → Listed
 version_listed bytes levels v =
-    (version_number bytes levels v, word_name (levels - 1) (root_word bytes levels v))
+    (version_number bytes levels v, word_name (levels - 1) (version_root_word bytes levels v))
 
 -- the d versions of a file from v on, and all of them
 unfoldable pub listed_from : List ℕ → ℕ → ℕ → ℕ → List Listed

@@ -8,18 +8,18 @@ use Rattle.node_shapes.specs.declared.names.Name.{Name}
 use Rattle.node_shapes.specs.Shape.{bits_of}
 use Rattle.node_shapes.specs.Tree.{Tree}
 use Rattle.block_walk.specs.Roots.{IsOctantOf, HasBlock, ForBlock}
-use Rattle.dag_file.specs.Trees.{entry_name, index_of}
+use Rattle.dag_file.specs.Trees.{entry_name, named_index}
 
 -- ---- bytes
 
-abbrev pub number_bytes : ℕ → List ℕ
-number_bytes n = little_bytes 4 n
+abbrev pub word_bytes : ℕ → List ℕ
+word_bytes n = little_bytes 4 n
 
 abbrev pub leaf_bytes : ℕ → List ℕ
 leaf_bytes bits = little_bytes 8 bits
 
 abbrev pub numbers_bytes : List ℕ → List ℕ
-numbers_bytes ns = flat_map number_bytes ns
+numbers_bytes ns = flat_map word_bytes ns
 
 -- the mark, the 1, the side, the number of versions, and the numbers of entries
 unfoldable pub header_bytes : ℕ → ℕ → List ℕ → List ℕ
@@ -45,12 +45,12 @@ pub record Adds (Found : ℕ → Type 0) (old new : List ℕ) : Type 0 where
 -- the key of a name, where there is one
 abbrev pub keys_of : Option Name → List ℕ
 keys_of None = []
-keys_of (Some n) = index_of n ∷ []
+keys_of (Some n) = named_index n ∷ []
 
 -- a name's slot is a byte
 abbrev pub HasSlot : Option Name → Type 0
 HasSlot None = Unit {0}
-HasSlot (Some n) = (n.slot < 256) × (index_of n < 2 ^ 24)
+HasSlot (Some n) = (n.slot < 256) × (named_index n < 2 ^ 24)
 
 -- the keys are those of nodes of a level that may be read
 pub record AreReached (held : List Tree) (level : ℕ) (keys : List ℕ) : Type 0 where
@@ -65,7 +65,7 @@ pub record IsChildKey (held : List Tree) (level : ℕ) (node : Name) (n x : ℕ)
   pub name : Name
   pub child : IsOctantOf held level (Some node) k (Some name)
   pub slot : HasSlot (Some name)
-  pub is : x ≡ index_of name
+  pub is : x ≡ named_index name
 
 -- it is that of one of the first n nodes of a list
 pub record IsChildOf (held : List Tree) (level : ℕ) (keys : List ℕ) (n x : ℕ) : Type 0 where
@@ -89,7 +89,7 @@ pub record AreLeaves (held : List Tree) (keys : List ℕ) (n : ℕ) (leaves : Li
 -- the word of what stands in an octant: 0 for none, else 1 + the index that its key has
 abbrev pub IsWordOfName : List ℕ → List ℕ → Option Name → ℕ → Type 0
 IsWordOfName keys indices name word = MatchOption name (word ≡ 0)
-    (λ n. (j : ℕ) → j < length keys → slice_index keys j ≡ index_of n
+    (λ n. (j : ℕ) → j < length keys → slice_index keys j ≡ named_index n
     → word ≡ slice_index indices j + 1)
 
 -- the word is that of what stands in an octant of a node
@@ -101,8 +101,8 @@ pub record IsOctantWord (held : List Tree) (level : ℕ) (node : Name) (keys ind
   pub word_is : IsWordOfName keys indices child word
 
 -- the first n words of a node
-abbrev pub AreWordsOf : List Tree → ℕ → Name → List ℕ → List ℕ → ℕ → List ℕ → Type 0
-AreWordsOf held level node keys indices n words =
+abbrev pub AreOctantWords : List Tree → ℕ → Name → List ℕ → List ℕ → ℕ → List ℕ → Type 0
+AreOctantWords held level node keys indices n words =
     (k : ℕ) → k < n → IsOctantWord held level node keys indices k (slice_index words k)
 
 -- the words of the nodes of the first n keys, in their order
@@ -110,7 +110,7 @@ pub record AreNodes (held : List Tree) (level : ℕ) (keys below indices : List 
     (nodes : List (List ℕ)) : Type 0 where
   pub many : length nodes ≡ n
   pub words : (j : ℕ) → j < n
-      → AreWordsOf held level (entry_name level (slice_index keys j)) below indices 8
+      → AreOctantWords held level (entry_name level (slice_index keys j)) below indices 8
       (slice_index_or nodes j [])
   pub eight : (j : ℕ) → j < n → length (slice_index_or nodes j []) ≡ 8
 
@@ -129,7 +129,7 @@ pub record IsRootKey (roots : List (ℕ × Option Name)) (n x : ℕ) : Type 0 wh
   pub name : Name
   pub there : slice_get roots v ≡ Some (number, Some name)
   pub slot : HasSlot (Some name)
-  pub is : x ≡ index_of name
+  pub is : x ≡ named_index name
 
 -- the keys of the roots, each once, by rising size
 pub record AreRoots (roots : List (ℕ × Option Name)) (keys : List ℕ) : Type 0 where

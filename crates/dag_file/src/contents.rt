@@ -3,7 +3,7 @@ ghost use Rattle.std.specs.List.{Contains};
 ghost use Rattle.std.specs.List.Sorted.{IsStrictlyIncreasing, IsStrictlySortedBy};
 ghost use Rattle.std.specs.Cmp.Lexicographic.{slice_cmp};
 ghost use Rattle.std.specs.Ordering.{nat_cmp};
-ghost use Rattle.dag_file.specs.Writes.{AreReached, AreLeaves, AreNodes, IsWordOfName, AreWordsOf, HasSlot, AreIndices, AreNodeIndices};
+ghost use Rattle.dag_file.specs.Writes.{AreReached, AreLeaves, AreNodes, IsWordOfName, AreOctantWords, HasSlot, AreIndices, AreNodeIndices};
 ghost use Rattle.block_walk.specs.Roots.{HasBlock};
 
 use crate::keys::{key_of, name_at};
@@ -91,7 +91,8 @@ fn node_content<B: Blocks>(
     requires rises { IsStrictlyIncreasing keys.now }
     requires many { length indices.now ≡ length keys.now }
     requires few { (j : ℕ) → j < length keys.now → slice_index indices.now j < 2 ^ 24 }
-    ensures words { AreWordsOf (B.seen store.old).held level node keys.now indices.now 8 result }
+    ensures words { AreOctantWords
+        (B.seen store.old).held level node keys.now indices.now 8 result }
     ensures eight { length result ≡ 8 }
     ensures seen { B.seen store.new ≡ B.seen store.old }
     ensures rests { B.rests store.old store.new }

@@ -2,7 +2,7 @@ ghost use Rattle.std.specs.Prelude.{◌≡◌, ℕ, ◌+◌, ◌-◌, ◌*◌, �
 ghost use Rattle.std.specs.List.{Contains};
 ghost use Rattle.std.specs.List.Sorted.{IsStrictlyIncreasing};
 ghost use Rattle.block_walk.specs.Roots.{HasBlock};
-ghost use Rattle.dag_file.specs.Trees.{entry_name, index_of};
+ghost use Rattle.dag_file.specs.Trees.{entry_name, named_index};
 ghost use Rattle.dag_file.specs.Writes.{Adds, AreReached, IsChildKey, AreChildren, AreRoots, HasSlot, keys_of};
 
 use block_walk::octant_name;
@@ -12,7 +12,7 @@ use vw_cell::Memory;
 
 /// The key of a name on its level.
 pub(crate) fn key_of(n: Name) -> u32
-    ensures key { result ≡ index_of n }
+    ensures key { result ≡ named_index n }
     ensures below { result < 2 ^ 24 }
 {
     256 * u32::from(n.bucket) + u32::from(n.slot)

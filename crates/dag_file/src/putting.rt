@@ -1,12 +1,12 @@
 ghost use Rattle.std.specs.Prelude.{◌≡◌, ◌++◌, OnOk};
 ghost use Rattle.std.specs.List.{flat_map};
-ghost use Rattle.dag_file.specs.Writes.{number_bytes, leaf_bytes, numbers_bytes, header_bytes};
+ghost use Rattle.dag_file.specs.Writes.{word_bytes, leaf_bytes, numbers_bytes, header_bytes};
 
 use vw_cell::Memory;
 
 /// A number of four bytes, the lowest first.
 pub(crate) fn put_number(n: u32, into: &mut Vec<u8>) -> Result<(), Memory>
-    ensures { OnOk result (into.new.items ≡ into.old.items ++ number_bytes n) }
+    ensures { OnOk result (into.new.items ≡ into.old.items ++ word_bytes n) }
 {
     into.extend_from_slice(&n.to_le_bytes())?;
     Ok(())
