@@ -14,7 +14,7 @@ use Rattle.history_model.specs.declared.histories.Record.{Record}
 use Rattle.history_model.specs.Logs.{Log, IsVersionHeld, HasTarget, MayFollow}
 use Rattle.history_model.specs.Positions.{Position, position_after}
 use Rattle.block_contents.specs.Versions.{IsKept, IsUnmarked}
-use Rattle.store_run.specs.Changing.{Marks, with_record}
+use Rattle.store_run.specs.Changing.{Marks, log_with_record}
 use Rattle.store_run.specs.Marked.{AreLegalMarks, replayed}
 use Rattle.store_run.specs.declared.replaying.ReplayRefused.{ReplayRefused}
 use Rattle.store_run.specs.declared.replaying.ReplayRefused.TheVariants as replays
@@ -122,7 +122,7 @@ module _ (models : List Content) (log : Log) (due : List Mark) (of_due : AreDue 
   pub has_next : (n k : ℕ) (now new : WorldState) (d : Record) → HasReplayed models log due n k now
       → n < length log.records → All (λ m. n < m.at) (drop k due)
       → new.plan ≡ now.plan → new.models ≡ now.models
-      → new.log ≡ with_record now.log (get_or log.records n d) → MakesOnlyParts (replayed new)
+      → new.log ≡ log_with_record now.log (get_or log.records n d) → MakesOnlyParts (replayed new)
       → HasReplayed models log due (n + 1) k new
   has_next n k now new d has lt later plan same is made =
       let long = length-append now.log.records (get_or log.records n d ∷ []) in

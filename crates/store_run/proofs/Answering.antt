@@ -39,7 +39,7 @@ use Rattle.script_runs.proofs.Arms.{rebuilt_arm, undone_arm, forgot_arm, full_ar
 use Rattle.one_store.specs.Known.{IsStore, known_seen, stored_root}
 use Rattle.store_run.specs.declared.stored_versions.Versions.{Versions}
 use Rattle.store_run.specs.Kept.{plan_of, log_of, moment_of, world_of, tints_of, noted_of, AreVersions, LosesTree, HoldsSame}
-use Rattle.store_run.specs.Steps.{TellsVersion, HasMark, LeavesAll, SharesRoot, MakesRoot, MeetsBucket, AppendsRecord, MarksVersion, side_of}
+use Rattle.store_run.specs.Steps.{TellsHeldVersion, HasMark, LeavesAll, SharesRoot, MakesRoot, MeetsBucket, AppendsRecord, MarksVersion, side_of}
 use Rattle.store_run.specs.Answering.{GoesOnBy, nothing_to_go_to, saved_as}
 use Rattle.store_run.proofs.Holding.{same_again}
 use Rattle.store_run.proofs.KeptWorlds.{tints_by_cells, cells_by_tints}
@@ -445,23 +445,23 @@ telling_rests side world tints question answer t = go question answer t
 
 pub asks : (v w : Versions) (session line : ℕ) (version : Option ℕ) (question : Question) (asked : ℕ) (answer : Answer)
     → AreVersions v → asked ≡ asked_version version (moment_of v) → IsKept (log_of v) asked → LeavesAll v w
-    → TellsVersion v asked question answer
+    → TellsHeldVersion v asked question answer
     → GoesOnBy v session (record { line = line; command = Ask version question }) answer w
 asks v w session line version question asked answer are is kept leaves told =
     let r = telling_rests (side_of v) (world_of v asked) (tints_of v asked) question answer told in
     rests v w session (record { line = line; command = Ask version question }) answer are leaves r.0 (r.1 (moment_of v) version)
     (λ scripts transcripts script transcript so_far number after. tells version question answer
     (subst (λ (n : ℕ). IsReadable (IsStanding (log_of v).marks session line (moment_of v)) (moment_of v) n) is (readable_now v session line asked kept))
-    (subst (λ (n : ℕ). TellsVersion v n question answer) is told))
+    (subst (λ (n : ℕ). TellsHeldVersion v n question answer) is told))
 
 -- a save whose cells were counted
 pub saves_count : (v w : Versions) (session line : ℕ) (version : Option ℕ) (name : SaveName) (part : Boxed) (asked : ℕ) (answer : Answer)
     → AreVersions v → asked ≡ asked_version version (moment_of v) → IsKept (log_of v) asked → LeavesAll v w
-    → TellsVersion v asked (questions.Count part) answer
+    → TellsHeldVersion v asked (questions.Count part) answer
     → GoesOnBy v session (record { line = line; command = Save version name part }) (saved_as answer) w
 saves_count v w session line version name part asked answer are is kept leaves told = go answer told
   where
-    go : (a : Answer) → TellsVersion v asked (questions.Count part) a
+    go : (a : Answer) → TellsHeldVersion v asked (questions.Count part) a
         → GoesOnBy v session (record { line = line; command = Save version name part }) (saved_as a) w
     go _ (count _ cells e) =
         rests v w session (record { line = line; command = Save version name part }) (answers.Saved cells) are leaves refl refl

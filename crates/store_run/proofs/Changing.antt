@@ -24,7 +24,7 @@ use Rattle.store_run.specs.declared.stored_versions.Versions.{Versions}
 use Rattle.store_run.specs.Kept.{log_of, moment_of}
 use Rattle.store_run.specs.Steps.{HasMark, LeavesAll, SharesRoot, MakesRoot, MeetsBucket, AppendsRecord, MarksVersion}
 use Rattle.store_run.specs.Answering.{nothing_to_go_to}
-use Rattle.store_run.specs.Changing.{with_record, HasWay, Changes, Forgets, MakesVersion}
+use Rattle.store_run.specs.Changing.{log_with_record, HasWay, Changes, Forgets, MakesVersion}
 
 abbrev record_of : ℕ → ℕ → Act → Record
 record_of session line act = record { session = session; line = line; act = act }
@@ -32,12 +32,12 @@ record_of session line act = record { session = session; line = line; act = act 
 same_moment : (v u : Versions) → log_of u ≡ log_of v → moment_of u ≡ moment_of v
 same_moment v u same = ap (λ (l : Log). length l.records) same
 
-grown : (old new : Log) (r : Record) → new.side ≡ old.side → new.coloured ≡ old.coloured → new.records ≡ old.records ++ r ∷ [] → new.marks ≡ old.marks → new ≡ with_record old r
+grown : (old new : Log) (r : Record) → new.side ≡ old.side → new.coloured ≡ old.coloured → new.records ≡ old.records ++ r ∷ [] → new.marks ≡ old.marks → new ≡ log_with_record old r
 grown old new r side coloured records marks = λ i. record { side = side i; coloured = coloured i; records = records i; marks = marks i }
 
-appended : (v u w : Versions) (r : Record) → log_of u ≡ log_of v → AppendsRecord u r w → log_of w ≡ with_record (log_of v) r
+appended : (v u w : Versions) (r : Record) → log_of u ≡ log_of v → AppendsRecord u r w → log_of w ≡ log_with_record (log_of v) r
 appended v u w r same appends =
-    grown (log_of u) (log_of w) r appends.grows.side appends.grows.coloured appends.grows.records appends.grows.marks ∙ ap (λ (l : Log). with_record l r) same
+    grown (log_of u) (log_of w) r appends.grows.side appends.grows.coloured appends.grows.records appends.grows.marks ∙ ap (λ (l : Log). log_with_record l r) same
 
 edit_way : (log : Log) (act : Act) → is_edit act ≡ true → HasWay log act
 edit_way log act edit = record { other = λ no. absurd (false≢true (sym no ∙ edit)) }
@@ -111,7 +111,7 @@ module _ (v : Versions) (mark : Mark) where
 
 -- ---- the cells of the version that is made
 
-pub makes_version : (models : List Content) (old new : Log) (r : Record) → new ≡ with_record old r → MakesVersion models old r.act new
+pub makes_version : (models : List Content) (old new : Log) (r : Record) → new ≡ log_with_record old r → MakesVersion models old r.act new
 makes_version models old new r is =
     let records : new.records ≡ old.records ++ r ∷ [] = ap (λ (l : Log). l.records) is in
     record {

@@ -13,7 +13,7 @@ use Rattle.conformance.specs.Answers.{target_at}
 use Rattle.conformance.proofs.LineKinds.{undo_target, redo_target}
 use Rattle.script_runs.proofs.Going.{goes_to}
 use Rattle.store_run.specs.declared.stored_versions.Versions.{Versions}
-use Rattle.store_run.specs.Changing.{Marks, with_record}
+use Rattle.store_run.specs.Changing.{Marks, log_with_record}
 use Rattle.store_run.specs.Kept.{log_of, moment_of, AreStored}
 use Rattle.store_run.specs.Marked.{replayed}
 use Rattle.store_run.specs.Replaying.{ReplayState, replay_state, MakesOnlyParts, TakesRecord}
@@ -81,12 +81,12 @@ target_there marks records n (Tint t) other is may = let no : ⊥ = cc in no
 -- ---- what is seen of a replay
 
 pub log_taken : (w : WorldState) (u v : Versions) (r : Record) → world_state u ≡ w → AreStored u
-    → AreStored v → TakesRecord u r v → log_of v ≡ with_record w.log r
+    → AreStored v → TakesRecord u r v → log_of v ≡ log_with_record w.log r
 log_taken w u v r is of_u of_v takes =
     let side : v.side ≡ u.side =
     of_v.side ∙ ap (λ (p : Layout). p.side) takes.plan ∙ sym of_u.side in
     (λ i. record { side = side i; coloured = takes.tint i; records = takes.records i; marks = takes.marks i })
-    ∙ ap (λ (s : WorldState). with_record s.log r) is
+    ∙ ap (λ (s : WorldState). log_with_record s.log r) is
 
 -- the same of the parts that are seen of versions that only got room
 pub world_as : (w : WorldState) (v u : Versions) → world_state v ≡ w → u.models.models ≡ v.models.models

@@ -23,7 +23,7 @@ use Rattle.conformance.specs.Telling.{Tells}
 use Rattle.script_runs.specs.Sessions.{GoesOnWith}
 use Rattle.store_run.specs.declared.stored_versions.Versions.{Versions}
 use Rattle.store_run.specs.Kept.{plan_of, log_of, moment_of, noted_of, world_of, tints_of, AreVersions, HoldsTree}
-use Rattle.store_run.specs.Steps.{StayVersions, TellsVersion}
+use Rattle.store_run.specs.Steps.{StayVersions, TellsHeldVersion}
 use Rattle.store_run.proofs.Rebuilding.{shows_plainly}
 use Rattle.store_run.proofs.Files.{same_file, shown_in}
 use Rattle.store_run.proofs.KeptWorlds.{same_in_world, same_in_store}
@@ -63,7 +63,7 @@ module _ (v w : Versions) (s : WorldState) (is : world_state v ≡ s) (r : Recor
 -- ---- a question about a version
 
 pub asked_told : (v : Versions) (s : WorldState) (version : ℕ) (question : Question) (answer : Answer) → world_state v ≡ s → AreVersions v
-    → TellsVersion v version question answer
+    → TellsHeldVersion v version question answer
     → Tells (2 ^ s.plan.side) (world_has s.models s.log.records version) (world_tint s.models s.log.records version) question answer
 asked_told v s version question answer is are told =
     subst (λ (t : WorldState). Tells (2 ^ t.plan.side) (world_has t.models t.log.records version)

@@ -43,7 +43,7 @@ use Rattle.store_run.specs.declared.pins.Pinned.{Pinned}
 use Rattle.store_run.specs.declared.stored_versions.Versions.{Versions}
 use Rattle.store_run.specs.Desks.{DeskState, desk_state}
 use Rattle.store_run.specs.Kept.{plan_of, log_of, moment_of, world_of, AreVersions, HoldsNothing, HoldsTree, HoldsSame}
-use Rattle.store_run.specs.Steps.{TellsVersion, StayVersions, StaysSeen, LeavesAll, SharesRoot, PutsDown, side_of}
+use Rattle.store_run.specs.Steps.{TellsHeldVersion, StayVersions, StaysSeen, LeavesAll, SharesRoot, PutsDown, side_of}
 use Rattle.store_run.specs.Answering.{GoesOnBy, saved_as}
 use Rattle.store_run.specs.Pins.{IsPinOf, ArePins, pinned_weight, ArePinned, saves_of}
 use Rattle.store_run.proofs.Holding.{root_is}
@@ -238,8 +238,9 @@ module _ (v u w : Versions) (pins : List Pin) (save : SavedBox) (root : Option N
     };
   }
 
-  pub pin_told : (answer : Answer) → TellsVersion u save.version (questions.Count save.part) answer
-      → TellsVersion v save.version (questions.Count save.part) answer
+  pub pin_told : (answer : Answer)
+      → TellsHeldVersion u save.version (questions.Count save.part) answer
+      → TellsHeldVersion v save.version (questions.Count save.part) answer
   pin_told answer tells = told_still v u save.version (questions.Count save.part) answer shares.stay tells
 
 -- the box of a save lies in the world

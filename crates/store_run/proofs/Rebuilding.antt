@@ -41,7 +41,7 @@ use Rattle.one_store.proofs.RootLaws.{top_tree}
 use Rattle.one_store.proofs.StoreLaws.{held_is}
 use Rattle.store_run.specs.declared.stored_versions.Versions.{Versions}
 use Rattle.store_run.specs.Kept.{plan_of, log_of, moment_of, stored_of, world_of, tints_of, AreStored, AreVersions, IsLargeStore, HoldsTree, GainsTree, HoldsSame}
-use Rattle.store_run.specs.Steps.{TellsVersion, StayVersions, StaysSeen, IsOverStore, LeavesAll, SharesRoot, PutsDown, MakesBeside, MakesRoot, MeetsBucket, edited_world, side_of, WantsFor}
+use Rattle.store_run.specs.Steps.{TellsHeldVersion, StayVersions, StaysSeen, IsOverStore, LeavesAll, SharesRoot, PutsDown, MakesBeside, MakesRoot, MeetsBucket, edited_world, side_of, WantsFor}
 use Rattle.store_run.proofs.Holding.{gained_tree, gained_few, holds_root, holds_shows}
 use Rattle.store_run.proofs.KeptWorlds.{plain_acts, plain_log, stored_plainly, keeps_tints, small_tints, set_tints}
 use Rattle.store_run.proofs.Sparing.{with_store, tree_same}
@@ -348,7 +348,7 @@ plain_as a v log stored are =
 -- of versions without tints, and of versions with them
 pub root_told : (v : Versions) (version : ℕ) (base : Option Name) (question : Question) (answer : Answer) → AreStored v → IsKept (log_of v) version
     → HoldsTree v.store base → base ≡ stored_root v.store.roots version → v.models.tint ≡ false
-    → TellsRoot v.store.told.held v.side base question answer → TellsVersion v version question answer
+    → TellsRoot v.store.told.held v.side base question answer → TellsHeldVersion v version question answer
 root_told v version base question answer are kept holds is plain tells =
     subst (λ (b : Bool). Tells (kept_side b (2 ^ v.side)) (world_of v version) (tints_of v version) question answer)
     (sym plain)
@@ -359,7 +359,7 @@ root_told v version base question answer are kept holds is plain tells =
 
 pub tints_told : (v : Versions) (version : ℕ) (base : Option Name) (question : Question) (answer : Answer) → AreStored v → IsKept (log_of v) version
     → HoldsTree v.store base → base ≡ stored_root v.store.roots version → v.models.tint ≡ true
-    → TellsTinted v.store.told.held v.side base question answer → TellsVersion v version question answer
+    → TellsTinted v.store.told.held v.side base question answer → TellsHeldVersion v version question answer
 tints_told v version base question answer are kept holds is tinted tells =
     subst (λ (b : Bool). Tells (kept_side b (2 ^ v.side)) (world_of v version) (tints_of v version) question answer)
     (sym tinted)
@@ -408,7 +408,7 @@ pub question_still : (a v : Versions) (question : Question) → StayVersions a v
 question_still a v question stay fits = subst (λ (l : Log). QuestionFits (world_side l) question) (sym stay.log) fits
 
 pub told_still : (a v : Versions) (version : ℕ) (question : Question) (answer : Answer) → StayVersions a v
-    → TellsVersion v version question answer → TellsVersion a version question answer
+    → TellsHeldVersion v version question answer → TellsHeldVersion a version question answer
 told_still a v version question answer stay told =
     subst (λ (l : Log). Tells (world_side l) (world_has a.models.models l.records version)
     (world_tint a.models.models l.records version) question answer) stay.log

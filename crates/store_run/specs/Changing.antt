@@ -15,8 +15,8 @@ use Rattle.conformance.specs.Answers.{target_at}
 use Rattle.store_run.specs.Answering.{nothing_to_go_to}
 
 -- the history with one more record
-abbrev pub with_record : Log → Record → Log
-with_record log r = record {
+abbrev pub log_with_record : Log → Record → Log
+log_with_record log r = record {
   side = log.side;
   coloured = log.coloured;
   records = log.records ++ r ∷ [];
@@ -35,7 +35,7 @@ pub record HasWay (log : Log) (act : Act) : Type 0 where
 -- an act is answered: the record comes behind the others, or the history stays. A history has
 -- 65,535 records at most
 pub data Changes (log : Log) (r : Record) : Answer → Log → Type 0 where
-  done : (new : Log) → length log.records < 65535 → HasWay log r.act → new ≡ with_record log r
+  done : (new : Log) → length log.records < 65535 → HasWay log r.act → new ≡ log_with_record log r
       → Changes log r answers.Done new
   full : (new : Log) (level bucket : ℕ) → is_edit r.act ≡ true → new ≡ log
       → Changes log r (answers.Full level bucket) new

@@ -44,8 +44,8 @@ abbrev pub side_of : Versions → ℕ
 side_of v = kept_side v.models.tint (2 ^ v.side)
 
 -- the answer tells what the question asks of a version
-abbrev pub TellsVersion : Versions → ℕ → Question → Answer → Type 0
-TellsVersion v version question answer =
+abbrev pub TellsHeldVersion : Versions → ℕ → Question → Answer → Type 0
+TellsHeldVersion v version question answer =
     Tells (side_of v) (world_of v version) (tints_of v version) question answer
 
 -- models, records and marks stay, and so do the roots in their places

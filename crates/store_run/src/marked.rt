@@ -4,7 +4,7 @@ ghost use Rattle.history_model.specs.Logs.{FitsWorld, MayFollow, suits_tints};
 ghost use Rattle.history_model.specs.Positions.{position_after};
 ghost use Rattle.block_contents.specs.Versions.{IsKept};
 ghost use Rattle.one_store.specs.Known.{known_seen};
-ghost use Rattle.store_run.specs.Changing.{Marks, with_record};
+ghost use Rattle.store_run.specs.Changing.{Marks, log_with_record};
 ghost use Rattle.store_run.specs.Kept.{IsLargeStore};
 ghost use Rattle.store_run.specs.Marked.{HoldsKept, replayed};
 ghost use Rattle.store_run.specs.Replaying.{MakesOnlyParts, RefusesRecord};
@@ -85,7 +85,7 @@ impl<L: Ledger> MarkedReplay<L> {
         requires made { MakesOnlyParts (replayed self.old) }
         ensures plan { self.new.plan ≡ self.old.plan }
         ensures models { self.new.models ≡ self.old.models }
-        ensures log { OnOk result (self.new.log ≡ with_record self.old.log next) }
+        ensures log { OnOk result (self.new.log ≡ log_with_record self.old.log next) }
         ensures made { OnOk result (MakesOnlyParts (replayed self.new)) }
         ensures refused { IfErr result (RefusesRecord (replayed self.old) next) }
     {

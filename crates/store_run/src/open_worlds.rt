@@ -19,7 +19,7 @@ ghost use Rattle.one_store.specs.Known.{stored_root};
 ghost use Rattle.store_run.specs.Answering.{GoesOnBy};
 ghost use Rattle.store_run.specs.Changing.{Changes, Forgets, MakesVersion};
 ghost use Rattle.store_run.specs.Kept.{log_of, moment_of, world_of, HasRoom, AreVersions, HoldsTree};
-ghost use Rattle.store_run.specs.Steps.{LeavesAll, StaysSeen, TellsVersion};
+ghost use Rattle.store_run.specs.Steps.{LeavesAll, StaysSeen, TellsHeldVersion};
 ghost use Rattle.store_run.specs.Worlds.{IsAtRest, size_of};
 
 use crate::lines::is_edit;
@@ -260,7 +260,7 @@ fn ask_over<L: Ledger>(
     requires some { 0 < L.parts }
     ensures rest { IsAtRest versions.new }
     ensures leaves { LeavesAll versions.old versions.new }
-    ensures tells { TellsVersion versions.old version question result }
+    ensures tells { TellsHeldVersion versions.old version question result }
 {
     let mut steps: Steps<L> = Steps::start(blank);
     versions.ask(version, question, &mut steps)

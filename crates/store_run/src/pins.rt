@@ -10,7 +10,7 @@ ghost use Rattle.conformance.specs.declared.saves.SavedBox.{SavedBox};
 ghost use Rattle.conformance.specs.Saves.{saved_by};
 ghost use Rattle.extract.specs.Saved.{file_of_box};
 ghost use Rattle.store_run.specs.Kept.{plan_of, log_of, moment_of, world_of, noted_of, AreVersions, HoldsNothing, HasRoom};
-ghost use Rattle.store_run.specs.Steps.{StayVersions, StaysSeen, LeavesAll, TellsVersion};
+ghost use Rattle.store_run.specs.Steps.{StayVersions, StaysSeen, LeavesAll, TellsHeldVersion};
 ghost use Rattle.store_run.specs.Answering.{GoesOnBy, saved_as};
 ghost use Rattle.store_run.specs.Pins.{ArePinned, HasPinRoom, saves_of};
 
@@ -170,7 +170,7 @@ impl Pinned {
         requires fits { SaveFits (2 ^ self.old.versions.side) save.name save.part }
         ensures are { ArePinned self.new.versions self.new.pins.items }
         ensures leaves { LeavesAll self.old.versions self.new.versions }
-        ensures tells { TellsVersion self.old.versions save.version (Count save.part) result }
+        ensures tells { TellsHeldVersion self.old.versions save.version (Count save.part) result }
         ensures pinned { saves_of self.new.pins.items
             ≡ saves_of self.old.pins.items ++ save ∷ [] }
     {

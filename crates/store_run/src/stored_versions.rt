@@ -49,7 +49,7 @@ ghost use Rattle.act_rebuilds.specs.Made.{FailsBy};
 ghost use Rattle.one_store.specs.Known.{known_seen, stored_root};
 ghost use Rattle.script.specs.Fitting.{QuestionFits};
 ghost use Rattle.store_run.specs.Kept.{plan_of, log_of, moment_of, core_with, noted_of, AreStored, AreVersions, IsLargeStore, HoldsNothing, HoldsTree, GainsTree, LosesTree, HoldsSame, HasRoom};
-ghost use Rattle.store_run.specs.Steps.{IsVersionFound, TellsVersion, StaysSeen, IsOverStore, MakesBeside, WantsFor, side_of, PutsDown, LeavesAll, SharesRoot, MakesRoot, MeetsBucket, AppendsRecord, MarksVersion};
+ghost use Rattle.store_run.specs.Steps.{IsVersionFound, TellsHeldVersion, StaysSeen, IsOverStore, MakesBeside, WantsFor, side_of, PutsDown, LeavesAll, SharesRoot, MakesRoot, MeetsBucket, AppendsRecord, MarksVersion};
 
 impl Versions {
     /// Version 0 alone, with room for so many records, of a world whose cells have tints, or have
@@ -167,7 +167,7 @@ impl Versions {
         ensures plain { AreVersions self.old → AreVersions self.new }
         ensures leaves { LeavesAll self.old self.new }
         ensures same { HoldsSame self.old.store self.new.store }
-        ensures tells { TellsVersion self.old version question result }
+        ensures tells { TellsHeldVersion self.old version question result }
     {
         let root = self.share(version);
         let answer = self.tell_root(version, root.as_ref(), question);
@@ -192,7 +192,7 @@ impl Versions {
         ensures plain { AreVersions self.old → AreVersions self.new }
         ensures stays { StaysSeen self.old self.new }
         ensures holds { HoldsTree self.new.store (option_copied root.entry) }
-        ensures tells { TellsVersion self.old version question result }
+        ensures tells { TellsHeldVersion self.old version question result }
     {
         let side = self.side;
         if self.models.tint() {

@@ -5,7 +5,7 @@ use Rattle.history_model.specs.declared.histories.Mark.{Mark}
 use Rattle.history_model.specs.declared.histories.Record.{Record}
 use Rattle.history_model.specs.Logs.{MayFollow, suits_tints}
 use Rattle.history_model.specs.Positions.{position_after}
-use Rattle.store_run.specs.Changing.{with_record}
+use Rattle.store_run.specs.Changing.{log_with_record}
 use Rattle.store_run.specs.Marked.{replayed}
 use Rattle.store_run.specs.Replaying.{RefusesRecord}
 use Rattle.dag_answers.specs.Replays.{HasReplayed}
@@ -56,12 +56,12 @@ forget_due-next-requires-clause-so_far g c =
     let new = c.take.new.self in
     let models = c.args.replay.now.models in
     let is : c.deref-record-items.result.now ≡ c.args.history.now.records = search rules in
-    let came : new.log ≡ with_record now.log (get_or c.deref-record-items.result.now c.loop-record.record-index any_record) = search rules in
+    let came : new.log ≡ log_with_record now.log (get_or c.deref-record-items.result.now c.loop-record.record-index any_record) = search rules in
     let next =
     has_next models c.args.history.now c.args.due.now c.requires.due c.loop-record.record-index
     c.loop-record.next now new any_record c.loop-record.invariant.so_far (search rules)
     c.loop-record.invariant.later c.take.ensures.plan c.take.ensures.models
-    (subst (λ (rs : List Record). new.log ≡ with_record now.log (get_or rs c.loop-record.record-index any_record)) is came)
+    (subst (λ (rs : List Record). new.log ≡ log_with_record now.log (get_or rs c.loop-record.record-index any_record)) is came)
     (search rules) in
     subst (λ (ms : List Content). HasReplayed ms c.args.history.now c.args.due.now (length new.log.records) c.loop-record.next new)
     (sym next.models_are)
