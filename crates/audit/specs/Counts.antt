@@ -57,14 +57,14 @@ pub record ShowAsMany (keep : ℕ) (transcripts : List (List LineAnswer)) (log :
   pub marks : sum_by number_forgot transcripts ≡ number_by_hand keep log.records log.marks
 
 -- the lines of a script stand by rising number
-abbrev pub AreRising : List ScriptLine → Type 0
-AreRising script = AllPairs (λ l k. l.line < k.line) script
+abbrev pub HasRisingLines : List ScriptLine → Type 0
+HasRisingLines script = AllPairs (λ l k. l.line < k.line) script
 
 -- where sessions agree with a history that keeps its last versions and whose marks stand by rising
 -- version, the transcripts show it just where they show as much
 abbrev pub CountsAreEnough : Type 0
 CountsAreEnough = (keep : ℕ) (p : Layout) (models : List Content) (log : Log)
     (scripts : List (List ScriptLine)) (transcripts : List (List LineAnswer))
-    → All AreRising scripts → AllPairs (λ a b. a.version < b.version) log.marks
+    → All HasRisingLines scripts → AllPairs (λ a b. a.version < b.version) log.marks
     → KeepsLast keep log → SessionsAgree p models log 0 scripts transcripts
     → ShowAsMany keep transcripts log ↔ IsShownKeeping keep scripts transcripts log

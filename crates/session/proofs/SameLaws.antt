@@ -6,7 +6,7 @@ use Rattle.history_model.specs.Stores.{stored_in}
 use Rattle.block_contents.specs.Versions.{SameWorld}
 use Rattle.table_rule.specs.LogTelling.{number_seen}
 use Rattle.table_rule.specs.Views.{SeatView}
-use Rattle.version_log.specs.Sames.{IsFoundOpen, RefusesLook, RefusesSame, TellsSame, length_told}
+use Rattle.version_log.specs.Sames.{IsFoundOpen, RefusesVersion, RefusesSame, TellsSame, length_told}
 use Rattle.version_log.specs.Seeing.{LooksOn}
 use Rattle.versions.specs.declared.comparing.SameAt.{SameAt}
 use Rattle.versions.specs.declared.comparing.SameRefused.{SameRefused}
@@ -53,7 +53,7 @@ module _ (t : WorldSeen) (number v w : ℕ) (a b : SeatView) (looks : LooksOn a 
       }
 
   refuses : (e : SameRefused) (u : ℕ) → ((version : ℕ) → u ≡ version → NamesVersion v w (session_seen b) version)
-      → RefusesLook u e b
+      → RefusesVersion u e b
       → SameTold (of_world t number) v w (session_seen a) (session_seen b) (Err e)
   refuses (NoVersion at version) u named is =
       record {
@@ -71,7 +71,7 @@ module _ (t : WorldSeen) (number v w : ℕ) (a b : SeatView) (looks : LooksOn a 
       }
 
   -- the length that a refusal tells is the one that is seen
-  told_here : (e : SameRefused) (u : ℕ) → RefusesLook u e b → length_told e ≡ number_seen b
+  told_here : (e : SameRefused) (u : ℕ) → RefusesVersion u e b → length_told e ≡ number_seen b
   told_here (NoVersion at version) u is = is.0
   told_here (Forgotten at mark) u is = is.0
 

@@ -16,7 +16,7 @@ use Rattle.table_rule.specs.LogChanges.{has_mark, marks_with, place_mark}
 use Rattle.node_table.specs.LogTurns.{LearnsLog, LooksForMark}
 use Rattle.versions.specs.declared.comparing.SameRefused.{SameRefused}
 use Rattle.versions.specs.declared.comparing.SameRefused.TheVariants.{NoVersion, Forgotten}
-use Rattle.version_log.specs.Sames.{IsFoundOpen, RefusesLook, RefusesSame, TellsSame}
+use Rattle.version_log.specs.Sames.{IsFoundOpen, RefusesVersion, RefusesSame, TellsSame}
 use Rattle.version_log.specs.Reading.{learns_on}
 
 -- a root that was shown is shown still once more words are known
@@ -110,7 +110,7 @@ others_here v t w z n o at from to f u other is =
 -- the first version was found, and the second one refused
 pub second_refused : (v w at : ℕ) (e : SameRefused) (x z : SeatView) → number_seen x ≡ at
     → v ≢ w → ((u : ℕ) → u ≢ w → IsFoundOpen x u at → IsFoundOpen z u at) → number_seen z ≡ at
-    → IsFoundOpen x v at → RefusesLook w e z → RefusesSame v w e z
+    → IsFoundOpen x v at → RefusesVersion w e z → RefusesSame v w e z
 second_refused v w at (NoVersion told version) x z here other stays now found refused =
     inr (
       subst (λ (k : ℕ). IsFoundOpen z v k) (sym (refused.0 ∙ now))

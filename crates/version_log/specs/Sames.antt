@@ -23,9 +23,9 @@ pub record TellsSame (v w : ℕ) (s : SameAt) (x : SeatView) : Type 0 where
   pub equal : IsTrue s.equal ↔ SameWorld (2 ^ x.plan.side) (seen_has x v) (seen_has x w)
 
 -- why a look at a version is refused, at the length that is seen now
-abbrev pub RefusesLook : ℕ → SameRefused → SeatView → Type 0
-RefusesLook v (NoVersion at version) x = (at ≡ number_seen x) × (version ≡ v) × (at < v)
-RefusesLook v (Forgotten at mark) x = (at ≡ number_seen x) × HasSeenMark x v mark
+abbrev pub RefusesVersion : ℕ → SameRefused → SeatView → Type 0
+RefusesVersion v (NoVersion at version) x = (at ≡ number_seen x) × (version ≡ v) × (at < v)
+RefusesVersion v (Forgotten at mark) x = (at ≡ number_seen x) × HasSeenMark x v mark
 
 -- the length that a refusal tells
 abbrev pub length_told : SameRefused → ℕ
@@ -34,4 +34,5 @@ length_told (Forgotten at mark) = at
 
 -- the first version is refused, or it is there without a mark and the second one is
 abbrev pub RefusesSame : ℕ → ℕ → SameRefused → SeatView → Type 0
-RefusesSame v w e x = RefusesLook v e x ⊎ (IsFoundOpen x v (length_told e) × RefusesLook w e x)
+RefusesSame v w e x =
+    RefusesVersion v e x ⊎ (IsFoundOpen x v (length_told e) × RefusesVersion w e x)

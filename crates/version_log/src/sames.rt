@@ -4,7 +4,7 @@ ghost use Rattle.block_contents.specs.Versions.{SameWorld};
 ghost use Rattle.table_rule.specs.LogTelling.{IsShownUnmarked, number_seen, seen_has};
 ghost use Rattle.node_table.specs.LogTurns.{HasLogTurn, HasNoTurn, LearnsLog};
 ghost use Rattle.node_table.specs.Seen.{BelongsTo};
-ghost use Rattle.version_log.specs.Sames.{IsFoundOpen, RefusesLook, RefusesSame, TellsSame};
+ghost use Rattle.version_log.specs.Sames.{IsFoundOpen, RefusesVersion, RefusesSame, TellsSame};
 ghost use Rattle.version_log.specs.Seeing.{LooksOn};
 
 use crate::finishing::length;
@@ -30,7 +30,7 @@ fn look_at(table: &NodeTable, pass: &mut Pass, at: u32, v: u32) -> Result<(), Sa
         → IsFoundOpen pass.new.view u at }
     ensures shown { IfOk result (λ u. IsShownUnmarked pass.new.view v) }
     ensures found { IfOk result (λ u. IsFoundOpen pass.new.view v at) }
-    ensures refused { IfErr result (λ e. RefusesLook v e pass.new.view) }
+    ensures refused { IfErr result (λ e. RefusesVersion v e pass.new.view) }
 {
     if v > at {
         return Err(SameRefused::NoVersion { at, version: v });
