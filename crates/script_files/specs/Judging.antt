@@ -47,7 +47,7 @@ use Rattle.dag_answers.specs.Looks.{JudgesLook}
 use Rattle.dag_answers.proofs.JudgeLaws.{answer_has_place}
 use Rattle.dag_answers.proofs.JudgeLaws as look_laws
 use Rattle.script_files.specs.Requests.{inputs_of}
-use Rattle.script_files.specs.Meanings.{file_in, GivesOutputs, RefusesVox, RefusesScript, RefusesNames, RefusesPlace, RefusesFull, RefusesPlaces, RefusesDag, RefusesHistory, RefusesAnswers, texts_audited}
+use Rattle.script_files.specs.Meanings.{file_in, GivesOutputs, RefusesVox, RefusesScript, RefusesNames, RefusesPlace, RefusesFull, RefusesPlaces, RefusesDag, RefusesJournalLine, RefusesAnswers, texts_audited}
 use Rattle.script_files.specs.Outcomes.{RefusesFiles, Outcome}
 use Rattle.script_files.specs.Refusals.{output_name}
 use Rattle.script_files.specs.Verdicts.{Verdict, Fine, LacksInput, InputIsLong, HasVoxFault, HasScriptFault, NamesCollide, HasNoPlace, HasSceneFault, HasDagFault, HasJournalFault, HasTranscriptFault, Finding, NoMore, OfScene, OfLook, OfRun, input_within, inputs_at, verdict_of, verdict_of_look, verdict_of_run, verdict_of_answers, FindsLog, FindsAnswers, FindsPlaces, FindsVersion, FindsRun, FindsLegalLog, FindsLegal, OfLegal, FindsFault, JudgesTexts, JudgesInputs, Judges, FollowsRead, FollowsWrite, FollowsText, Follows}
@@ -508,7 +508,7 @@ illegal_follows asked files texts v line taken (inr has) judges =
     (illegal_alone (file_in texts) (journal_in texts) line has) judges
 
 history_follows : (a : Request) (files : Files) (texts : List (List ℕ)) (v : Verdict) (line : ℕ)
-    → AreTaken (Some files) (inputs_of a) texts → RefusesHistory a texts line → Judges files a v
+    → AreTaken (Some files) (inputs_of a) texts → RefusesJournalLine a texts line → Judges files a v
     → v ≡ HasJournalFault
 history_follows (Count file) files texts v line taken says judges = absurd says
 history_follows (Run asked) files texts v line taken says judges = absurd says

@@ -222,11 +222,11 @@ RefusesFull _ texts full = ⊥
 
 -- the VOX file is accepted, and this is the journal's first line that doesn't fit, or that of the
 -- first record that breaks a rule where the history is to be replayed
-abbrev pub RefusesHistory : Request → List (List ℕ) → ℕ → Type 0
-RefusesHistory (Audit asked) texts line =
+abbrev pub RefusesJournalLine : Request → List (List ℕ) → ℕ → Type 0
+RefusesJournalLine (Audit asked) texts line =
     LacksJournal (file_in texts) (texts_audited asked texts) line
-RefusesHistory (Dag asked) texts line = LacksHistory (file_in texts) (journal_in texts) line
-RefusesHistory _ texts line = ⊥
+RefusesJournalLine (Dag asked) texts line = LacksHistory (file_in texts) (journal_in texts) line
+RefusesJournalLine _ texts line = ⊥
 
 -- no script has a fault, and this is the first line of the first transcript that doesn't fit
 abbrev pub RefusesAnswers : Request → List (List ℕ) → TranscriptLine → Type 0
@@ -247,7 +247,7 @@ RefusesTexts Collides a texts = RefusesNames a texts
 RefusesTexts (NoScene fault) a texts = RefusesPlaces a texts fault
 RefusesTexts NoPlace a texts = RefusesPlace a texts
 RefusesTexts (StoreFull full) a texts = RefusesFull a texts full
-RefusesTexts (Journal line) a texts = RefusesHistory a texts line
+RefusesTexts (Journal line) a texts = RefusesJournalLine a texts line
 RefusesTexts (Transcript at) a texts = RefusesAnswers a texts at
 RefusesTexts (NoDag place) a texts = RefusesDag a texts place
 RefusesTexts Memory a texts = ⊤

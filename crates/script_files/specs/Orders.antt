@@ -53,8 +53,8 @@ pub record AuditAsked : Type 0 where
   pub scripts : List (List ℕ)
 
 -- a number of buckets in its range
-abbrev pub number_of_buckets : ℕ → Option ℕ
-number_of_buckets n = if is_number_of_buckets n then Some n else None
+abbrev pub allowed_buckets : ℕ → Option ℕ
+allowed_buckets n = if is_number_of_buckets n then Some n else None
 
 -- what is asked for the file of the versions of a journal: the names of the VOX file, of the
 -- journal and of that file

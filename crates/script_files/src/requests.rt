@@ -201,11 +201,11 @@ impl Model for Buckets {
 impl Buckets {
     ghost use Rattle.std.specs.Prelude.{◌≡◌, IsTrue};
     ghost use Rattle.node_words.specs.Plans.{is_number_of_buckets};
-    ghost use Rattle.script_files.specs.Orders.{number_of_buckets};
+    ghost use Rattle.script_files.specs.Orders.{allowed_buckets};
 
     /// So many buckets. `None` where that isn't 1 to 4,096.
     pub fn new(number: u32) -> Option<Buckets>
-        ensures { result ≡ number_of_buckets number }
+        ensures { result ≡ allowed_buckets number }
     {
         if number < 1 || number > 4096 {
             return None;

@@ -28,31 +28,31 @@ use Rattle.script_files.specs.Outcomes.{Outcome, BreaksOff}
 use Rattle.voxdag_top.specs.declared.endings.Ending.{Ending}
 use Rattle.voxdag_top.specs.declared.endings.Ending.TheVariants.{Completed, Usage, Refused}
 use Rattle.voxdag_top.specs.Endings.{CommandEnds}
-use Rattle.voxdag_top.specs.Finishing.{FitsIn, NamesFit, OutputsFit, WriteHasRoom, RefusalHasRoom, HasLineRoom, IsEndingNamed}
+use Rattle.voxdag_top.specs.Finishing.{FitsRoom, NamesFit, OutputsFit, WriteHasRoom, RefusalHasRoom, HasLineRoom, IsEndingNamed}
 
 -- the output's name fits
 abbrev pub NameFits : ℕ → Named → Type 0
-NameFits room output = FitsIn room output.name
+NameFits room output = FitsRoom room output.name
 
-middle : (first others : List Named) (output : Named) (room : ℕ) → All (NameFits room) (first ++ output ∷ others) → FitsIn room output.name
+middle : (first others : List Named) (output : Named) (room : ℕ) → All (NameFits room) (first ++ output ∷ others) → FitsRoom room output.name
 middle [] others output room fit = All-head (NameFits room) output others fit
 middle (o ∷ first) others output room fit = middle first others output room (All-tail (NameFits room) o (first ++ output ∷ others) fit)
 
-one_fits : (outputs first others : List Named) (output : Named) (room : ℕ) → All (NameFits room) outputs → outputs ≡ first ++ output ∷ others → FitsIn room output.name
+one_fits : (outputs first others : List Named) (output : Named) (room : ℕ) → All (NameFits room) outputs → outputs ≡ first ++ output ∷ others → FitsRoom room output.name
 one_fits outputs first others output room fit parts = middle first others output room (subst (All (NameFits room)) parts fit)
 
-named_fit : (names texts : List (List ℕ)) (room : ℕ) → All (FitsIn room) names → All (NameFits room) (named_texts names texts)
+named_fit : (names texts : List (List ℕ)) (room : ℕ) → All (FitsRoom room) names → All (NameFits room) (named_texts names texts)
 named_fit [] texts room fit = All-nil (NameFits room)
 named_fit (name ∷ names) [] room fit = All-nil (NameFits room)
 named_fit (name ∷ names) (text ∷ texts) room fit =
-    All-cons (NameFits room) (record { name = name; bytes = text }) (named_texts names texts) (All-head (FitsIn room) name names fit) (named_fit names texts room (All-tail (FitsIn room) name names fit))
+    All-cons (NameFits room) (record { name = name; bytes = text }) (named_texts names texts) (All-head (FitsRoom room) name names fit) (named_fit names texts room (All-tail (FitsRoom room) name names fit))
 
-wanted_fits : (name : Option (List ℕ)) (text : List ℕ) (room : ℕ) → IfSome name (FitsIn room) → All (NameFits room) (wanted_output name text)
+wanted_fits : (name : Option (List ℕ)) (text : List ℕ) (room : ℕ) → IfSome name (FitsRoom room) → All (NameFits room) (wanted_output name text)
 wanted_fits None text room fits = All-nil (NameFits room)
 wanted_fits (Some name) text room fits = All-cons (NameFits room) (record { name = name; bytes = text }) [] fits (All-nil (NameFits room))
 
 -- a name of a saved file has at most 64 bytes
-save_fits : (name : SaveName) (room : ℕ) → 85 ≤ room → FitsIn room (name_bytes name)
+save_fits : (name : SaveName) (room : ℕ) → 85 ≤ room → FitsRoom room (name_bytes name)
 save_fits name room long =
     let few = length-take name.len (take 64 name.bytes) in
     let within = length-take 64 name.bytes in
@@ -91,7 +91,7 @@ outputs_fit asked given log report room fit =
 -- an output among the first ones of some outputs
 among_fits : (all outputs rest first others : List Named) (output : Named) (room : ℕ)
     → All (NameFits room) all → outputs ++ rest ≡ all → outputs ≡ first ++ output ∷ others
-    → FitsIn room output.name
+    → FitsRoom room output.name
 among_fits all outputs rest first others output room fit parts is =
     one_fits all first (others ++ rest) output room fit
     (sym parts ∙ ap (λ (os : List Named). os ++ rest) is
@@ -99,14 +99,14 @@ among_fits all outputs rest first others output room fit parts is =
 
 began_fits : (asked : Asked) (given : Given) (log : Log) (outputs first others : List Named)
     (output : Named) (room : ℕ) → NamesFit asked room → BeginsTexts asked given log outputs
-    → outputs ≡ first ++ output ∷ others → FitsIn room output.name
+    → outputs ≡ first ++ output ∷ others → FitsRoom room output.name
 began_fits asked given log outputs first others output room fit begins parts =
     among_fits (texts_written asked given log begins.report) outputs begins.rest first others output
     room (outputs_fit asked given log begins.report room fit) begins.parts parts
 
 first_began_fits : (asked : Asked) (given : Given) (outputs first others : List Named)
     (output : Named) (room : ℕ) → NamesFit asked room → BeginsFirst asked given outputs
-    → outputs ≡ first ++ output ∷ others → FitsIn room output.name
+    → outputs ≡ first ++ output ∷ others → FitsRoom room output.name
 first_began_fits asked given outputs first others output room fit begins parts =
     among_fits (written_first asked given) outputs begins.rest first others output room
     (first_fit asked given room fit) begins.parts parts
@@ -118,7 +118,7 @@ count_write why name file old new breaks = breaks.begins.begins
 
 run_output : (asked : Asked) (texts : List (List ℕ)) (outputs first others : List Named)
     (output : Named) (room : ℕ) → BeginsOutputs (Run asked) texts outputs → NamesFit asked room
-    → outputs ≡ first ++ output ∷ others → FitsIn room output.name
+    → outputs ≡ first ++ output ∷ others → FitsRoom room output.name
 run_output asked texts outputs first others output room (inl b) fit parts =
     first_began_fits asked _ outputs first others output room fit b.begins parts
 run_output asked texts outputs first others output room (inr b) fit parts =
@@ -128,7 +128,7 @@ run_write : (why : WriteRefused) (name : List ℕ) (asked : Asked) (old new : Sh
     → BreaksOff why name (Run asked) old new → NamesFit asked room → WriteHasRoom why name room
 run_write writes.Failed name asked old new room breaks fit =
     let at = breaks.stops.0 in
-    subst (λ (n : List ℕ). FitsIn room n) (sym at.named)
+    subst (λ (n : List ℕ). FitsRoom room n) (sym at.named)
     (run_output asked breaks.begins.texts breaks.outputs at.first at.others at.output room
     breaks.begins.begins fit at.parts)
 run_write writes.Memory name asked old new room breaks fit = tt
@@ -137,7 +137,7 @@ run_write writes.Memory name asked old new room breaks fit = tt
 
 demo_output : (n : ℕ) (texts : List (List ℕ)) (outputs first others : List Named)
     (output : Named) (room : ℕ) → BeginsOutputs (Demo n) texts outputs → NamesFit demo_asked room
-    → outputs ≡ first ++ output ∷ others → FitsIn room output.name
+    → outputs ≡ first ++ output ∷ others → FitsRoom room output.name
 demo_output n texts outputs first others output room (inl b) fit parts =
     first_began_fits demo_asked _ outputs first others output room fit b.begins parts
 demo_output n texts outputs first others output room (inr b) fit parts =
@@ -147,7 +147,7 @@ demo_write : (why : WriteRefused) (name : List ℕ) (n : ℕ) (old new : ShelfSt
     → BreaksOff why name (Demo n) old new → NamesFit demo_asked room → WriteHasRoom why name room
 demo_write writes.Failed name n old new room breaks fit =
     let at = breaks.stops.0 in
-    subst (λ (m : List ℕ). FitsIn room m) (sym at.named)
+    subst (λ (m : List ℕ). FitsRoom room m) (sym at.named)
     (demo_output n breaks.begins.texts breaks.outputs at.first at.others at.output room
     breaks.begins.begins fit at.parts)
 demo_write writes.Memory name n old new room breaks fit = tt
@@ -155,12 +155,12 @@ demo_write writes.Memory name n old new room breaks fit = tt
 -- ---- `flood`
 
 flood_write : (why : WriteRefused) (name : List ℕ) (asked : FloodAsked) (old new : ShelfState)
-    (room : ℕ) → BreaksOff why name (Flood asked) old new → FitsIn room asked.out
+    (room : ℕ) → BreaksOff why name (Flood asked) old new → FitsRoom room asked.out
     → WriteHasRoom why name room
 flood_write writes.Failed name asked old new room breaks fit =
     let at = breaks.stops.0 in
     let is = breaks.begins.begins.flooded.are in
-    subst (λ (n : List ℕ). FitsIn room n) (sym at.named)
+    subst (λ (n : List ℕ). FitsRoom room n) (sym at.named)
     (one_fits breaks.outputs at.first at.others at.output room
     (subst (All (NameFits room)) (sym is)
     (All-cons (NameFits room) _ [] fit (All-nil (NameFits room)))) at.parts)
@@ -169,14 +169,14 @@ flood_write writes.Memory name asked old new room breaks fit = tt
 -- ---- `scene`
 
 scene_write : (why : WriteRefused) (name : List ℕ) (asked : SceneAsked) (old new : ShelfState)
-    (room : ℕ) → BreaksOff why name (Scene asked) old new → FitsIn room asked.out
-    → FitsIn room asked.script → WriteHasRoom why name room
+    (room : ℕ) → BreaksOff why name (Scene asked) old new → FitsRoom room asked.out
+    → FitsRoom room asked.script → WriteHasRoom why name room
 scene_write writes.Failed name asked old new room breaks fit fits =
     let at = breaks.stops.0 in
     let is = breaks.begins.begins.placed.are in
     let script : Named =
     record { name = asked.script; bytes = breaks.begins.begins.placed.script } in
-    subst (λ (n : List ℕ). FitsIn room n) (sym at.named)
+    subst (λ (n : List ℕ). FitsRoom room n) (sym at.named)
     (one_fits breaks.outputs at.first at.others at.output room
     (subst (All (NameFits room)) (sym is)
     (All-cons (NameFits room) _ (script ∷ []) fit
@@ -186,12 +186,12 @@ scene_write writes.Memory name asked old new room breaks fit fits = tt
 -- ---- `dag`
 
 dag_write : (why : WriteRefused) (name : List ℕ) (asked : DagAsked) (old new : ShelfState)
-    (room : ℕ) → BreaksOff why name (Dag asked) old new → FitsIn room asked.out
+    (room : ℕ) → BreaksOff why name (Dag asked) old new → FitsRoom room asked.out
     → WriteHasRoom why name room
 dag_write writes.Failed name asked old new room breaks fit =
     let at = breaks.stops.0 in
     let is = breaks.begins.begins.are in
-    subst (λ (n : List ℕ). FitsIn room n) (sym at.named)
+    subst (λ (n : List ℕ). FitsRoom room n) (sym at.named)
     (one_fits breaks.outputs at.first at.others at.output room
     (subst (All (NameFits room)) (sym is)
     (All-cons (NameFits room) _ [] fit (All-nil (NameFits room)))) at.parts)

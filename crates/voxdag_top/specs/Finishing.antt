@@ -41,31 +41,31 @@ pub record Runs (a : Option Request) (old new : Outside) (result : ℕ) (ended :
   pub gives : ended ≡ ended_with ending result
 
 -- the line of a fault at this output fits in so many bytes
-abbrev pub FitsIn : ℕ → List ℕ → Type 0
-FitsIn room name = length (write_fault_line name) ≤ room
+abbrev pub FitsRoom : ℕ → List ℕ → Type 0
+FitsRoom room name = length (write_fault_line name) ≤ room
 
 -- so does that of each output of a run. A saved file's name has at most 64 bytes, and the line 21
 -- more
 pub record NamesFit (asked : Asked) (room : ℕ) : Type 0 where
-  pub transcripts : All (FitsIn room) (map transcript_name asked.scripts)
+  pub transcripts : All (FitsRoom room) (map transcript_name asked.scripts)
   pub saved : 85 ≤ room
-  pub journal : IfSome asked.journal (FitsIn room)
-  pub report : IfSome asked.report (FitsIn room)
+  pub journal : IfSome asked.journal (FitsRoom room)
+  pub report : IfSome asked.report (FitsRoom room)
 
 -- and each output of a command
 abbrev pub OutputsFit : Request → ℕ → Type 0
 OutputsFit (Count file) room = ⊤
 OutputsFit (Run asked) room = NamesFit asked room
 OutputsFit (Demo n) room = NamesFit demo_asked room
-OutputsFit (Flood asked) room = FitsIn room asked.out
-OutputsFit (Scene asked) room = FitsIn room asked.out × FitsIn room asked.script
-OutputsFit (Dag asked) room = FitsIn room asked.out
+OutputsFit (Flood asked) room = FitsRoom room asked.out
+OutputsFit (Scene asked) room = FitsRoom room asked.out × FitsRoom room asked.script
+OutputsFit (Dag asked) room = FitsRoom room asked.out
 OutputsFit (Look asked) room = ⊤
 OutputsFit (Audit asked) room = ⊤
 
 -- room of so many bytes is enough for the ending's line, where that line must be made
 abbrev pub WriteHasRoom : WriteRefused → List ℕ → ℕ → Type 0
-WriteHasRoom writes.Failed name room = FitsIn room name
+WriteHasRoom writes.Failed name room = FitsRoom room name
 WriteHasRoom writes.Memory name room = ⊤
 
 abbrev pub RefusalHasRoom : CommandRefused → ℕ → Type 0

@@ -27,12 +27,13 @@ abbrev pub box_in : List (List ℕ) → Option Boxed
 box_in (x ∷ y ∷ z ∷ a ∷ b ∷ c ∷ []) = box_with (place_in x y z) (place_in a b c)
 box_in _ = None
 
-abbrev pub sized : Bool → List ℕ → Option ℤ
-sized low digits = option_map (signed low) (loose digits)
+abbrev pub signed_digits : Bool → List ℕ → Option ℤ
+signed_digits low digits = option_map (signed low) (loose digits)
 
 abbrev pub step_in : List ℕ → Option ℤ
 step_in [] = None
-step_in (b ∷ digits) = if b == 45 then sized true digits else sized false (b ∷ digits)
+step_in (b ∷ digits) =
+    if b == 45 then signed_digits true digits else signed_digits false (b ∷ digits)
 
 abbrev pub way_with : Option ℤ → Option ℤ → Option ℤ → Option Heading
 way_with (Some dx) (Some dy) (Some dz) = Some (heading_of dx dy dz)

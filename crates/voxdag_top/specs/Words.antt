@@ -6,7 +6,7 @@ use Rattle.script.specs.declared.faults.ScriptKind.{ScriptKind}
 use Rattle.script.specs.Numbers.{number_of}
 use Rattle.node_words.specs.Plans.{Layout, is_number_of_buckets, is_cap, usual_buckets}
 use Rattle.command_line.specs.Parts.{LineTexts, is_operand, parts_of, line_texts, are_of_a_run}
-use Rattle.script_files.specs.Orders.{number_of_buckets}
+use Rattle.script_files.specs.Orders.{allowed_buckets}
 use Rattle.history_model.specs.Logs.{store_exponent}
 use Rattle.history_model.specs.declared.questions.Question.{Question}
 use Rattle.voxdag_top.specs.Questions.{question_in}
@@ -121,9 +121,9 @@ run_asked None = None
 run_asked (Some line) = run_planned (plan_in line) (keep_told line.keep) line
 
 -- the same of all words, where they are those of `run`
-abbrev pub line_of : List (List ℕ) → Option LineTexts
-line_of [] = None
-line_of (command ∷ others) =
+abbrev pub run_line_texts : List (List ℕ) → Option LineTexts
+run_line_texts [] = None
+run_line_texts (command ∷ others) =
     if bytes_eq command (codes "run") then run_texts others else None
 
 -- `demo N`
@@ -191,7 +191,7 @@ audit_of buckets keep _ = None
 -- the number of buckets that a word tells, from 1 to 4,096
 abbrev pub buckets_of : Option ℕ → Option ℕ
 buckets_of None = None
-buckets_of (Some n) = number_of_buckets n
+buckets_of (Some n) = allowed_buckets n
 
 -- behind `--buckets b` and `--keep k`
 abbrev pub audit_by : Option ℕ → Option ℕ → List (List ℕ) → Option Request

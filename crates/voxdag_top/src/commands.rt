@@ -4,7 +4,7 @@ ghost use Rattle.script_files.specs.Requests.{transcript_name};
 ghost use Rattle.script_files.specs.Commands.{scripts_asked};
 ghost use Rattle.script_files.specs.Verdicts.{Verdict};
 ghost use Rattle.command_line.specs.Texts.{texts};
-ghost use Rattle.voxdag_top.specs.Words.{request_of, line_of};
+ghost use Rattle.voxdag_top.specs.Words.{request_of, run_line_texts};
 ghost use Rattle.voxdag_top.specs.Endings.{CommandEnds};
 ghost use Rattle.voxdag_top.specs.Finishing.{Runs, OutputsFit, IsEndingNamed};
 ghost use Rattle.voxdag_top.specs.Verdicts.{JudgesWords, status_for};
@@ -233,7 +233,7 @@ fn with_line<S: Shelf, O: Sink, R: Threads + Wait + Sync, G: Gate + Sync>(
     shelf: &mut S,
     out: &mut O,
 ) -> Gated
-    requires line { line.now ≡ line_of (texts words.now) }
+    requires line { line.now ≡ run_line_texts (texts words.now) }
     requires few { IfSome line.now (λ l. length l.operands ≤ 65) }
     ensures { Runs (request_of (texts words.now))
         (outside (S.state shelf.old) (O.state out.old))

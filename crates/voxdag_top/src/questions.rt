@@ -5,7 +5,7 @@ ghost use Rattle.command_line.specs.Texts.{texts};
 ghost use Rattle.history_model.specs.Worlds.{box_at};
 ghost use Rattle.script.specs.Numbers.{loose};
 ghost use Rattle.script_files.specs.Questions.{question_spelled, step_spelled, way_spelled};
-ghost use Rattle.voxdag_top.specs.Questions.{place_in, box_in, sized, step_in, way_in, get_in, bounds_in, ray_in, question_in};
+ghost use Rattle.voxdag_top.specs.Questions.{place_in, box_in, signed_digits, step_in, way_in, get_in, bounds_in, ray_in, question_in};
 
 use history_model::Three;
 use script::number;
@@ -109,7 +109,7 @@ fn step_in(word: &[u8]) -> Option<SpelledStep>
 }
 
 fn sized(low: bool, digits: &[u8]) -> Option<SpelledStep>
-    ensures { option_map step_spelled result ≡ sized low digits.now }
+    ensures { option_map step_spelled result ≡ signed_digits low digits.now }
 {
     let size = number(digits).ok()?;
     Some(SpelledStep { low, size })

@@ -4,7 +4,7 @@ ghost use Rattle.std.specs.Option.{option_map};
 ghost use Rattle.command_line.specs.Texts.{texts};
 ghost use Rattle.command_line.specs.Parts.{is_operand};
 ghost use Rattle.script_files.specs.Commands.{scripts_asked};
-ghost use Rattle.voxdag_top.specs.Words.{request_of, run_texts, line_of, named_request, counted, run_asked, run_planned, demo_of, flood_words, scene_words, dag_words, look_words, audit_words, audit_unjudged, audit_of, audit_by, audit_judged, audit_kept, buckets_of, is_number_of_scripts, demo_words, exponent_of, short_number, keep_of, keep_told, plan_for, side_read, side_told, store_of, store_told, cap_told, plan_with, plan_by, plan_told, plan_in};
+ghost use Rattle.voxdag_top.specs.Words.{request_of, run_texts, run_line_texts, named_request, counted, run_asked, run_planned, demo_of, flood_words, scene_words, dag_words, look_words, audit_words, audit_unjudged, audit_of, audit_by, audit_judged, audit_kept, buckets_of, is_number_of_scripts, demo_words, exponent_of, short_number, keep_of, keep_told, plan_for, side_read, side_told, store_of, store_told, cap_told, plan_with, plan_by, plan_told, plan_in};
 
 use crate::questions::question_in;
 use command_line::{Line, are_of_a_run, is_operand, split};
@@ -22,7 +22,7 @@ pub(crate) fn words_of_a_run(
     alloc: Global,
     words: &[String],
 ) -> Result<Option<Line<'_>>, AllocError>
-    ensures line { IfOk result (λ line. line ≡ line_of (texts words.now)) }
+    ensures line { IfOk result (λ line. line ≡ run_line_texts (texts words.now)) }
     ensures few { IfOk result (λ line. IfSome line (λ l. length l.operands ≤ 65)) }
 {
     match words {
@@ -44,7 +44,7 @@ fn run_texts(alloc: Global, words: &[String]) -> Result<Option<Line<'_>>, AllocE
 
 /// What the words ask for, where they are in the grammar: a row for each command.
 pub(crate) fn request<'w>(words: &'w [String], line: &'w Option<Line<'w>>) -> Option<Request<'w>>
-    requires line { line.now ≡ line_of (texts words.now) }
+    requires line { line.now ≡ run_line_texts (texts words.now) }
     requires few { IfSome line.now (λ l. length l.operands ≤ 65) }
     ensures asked { result ≡ request_of (texts words.now) }
     ensures few { IfSome result (λ a. length (scripts_asked a) ≤ 64) }
@@ -60,7 +60,7 @@ fn named_request<'w>(
     words: &'w [String],
     line: &'w Option<Line<'w>>,
 ) -> Option<Request<'w>>
-    requires line { line.now ≡ line_of (command.now ∷ texts words.now) }
+    requires line { line.now ≡ run_line_texts (command.now ∷ texts words.now) }
     requires few { IfSome line.now (λ l. length l.operands ≤ 65) }
     ensures asked { result ≡ named_request command.now (texts words.now) }
     ensures few { IfSome result (λ a. length (scripts_asked a) ≤ 64) }

@@ -20,7 +20,7 @@ use Rattle.world_run.specs.declared.open_runs.SavedSession.{SavedSession}
 use Rattle.world_run.specs.Open.{saved_seen}
 use Rattle.world_run.specs.declared.endings.WorldRan.{WorldRan}
 use Rattle.world_run.specs.Ends.{IsEndOf}
-use Rattle.world_run.specs.Told.{root_in}
+use Rattle.world_run.specs.Told.{told_root}
 use Rattle.world_run.proofs.Telling.{closed_tells}
 
 module _ (t : TableSeen) (closed : Closed) (low : 2 ≤ t.plan.side) (high : t.plan.side ≤ 12)
@@ -33,10 +33,10 @@ module _ (t : TableSeen) (closed : Closed) (low : 2 ≤ t.plan.side) (high : t.p
   side_is = log_side t.plan t.models closed.history legal
 
   pub roots_tell : (roots : List (Option Name))
-      → ((v : ℕ) → listed_root roots v ≡ root_in closed.roots.items v)
+      → ((v : ℕ) → listed_root roots v ≡ told_root closed.roots.items v)
       → RootsTellWorlds t.models closed.history (listed_root roots)
   roots_tell roots told =
-      let same : root_in closed.roots.items ≡ listed_root roots = λ i v. sym (told v) i in
+      let same : told_root closed.roots.items ≡ listed_root roots = λ i v. sym (told v) i in
       subst (λ (root : ℕ → Option Name). RootsTellWorlds t.models closed.history root) same
       (closed_tells t closed low high ends).roots_tell
 
@@ -92,7 +92,7 @@ module _ {E : Type 0} (t : TableSeen) (closed : Closed) (low : 2 ≤ t.plan.side
   ran_ends tint coloured (Err e) same = tt
 
   pub ran_roots : (result : Result WorldRan E) → IfOk result (λ r. r.ended ≡ closed)
-      → IfOk result (λ r. (v : ℕ) → listed_root r.roots.items v ≡ root_in closed.roots.items v)
+      → IfOk result (λ r. (v : ℕ) → listed_root r.roots.items v ≡ told_root closed.roots.items v)
       → IfOk result (λ r. RootsTellWorlds t.models r.ended.history (listed_root r.roots.items))
   ran_roots (Ok r) same told = subst
       (λ (c : Closed). RootsTellWorlds t.models c.history (listed_root r.roots.items)) (sym same)

@@ -20,7 +20,7 @@ use Rattle.node_table.specs.Closing.{EndsTable}
 use Rattle.node_table.specs.Seen.{TableSeen}
 use Rattle.node_table.specs.declared.closed.Closed.{Closed}
 use Rattle.node_table.specs.declared.closed.Root.{Root}
-use Rattle.world_run.specs.Told.{root_in}
+use Rattle.world_run.specs.Told.{told_root}
 
 -- the numbers of the world's own levels
 abbrev pub live_numbers : TableSeen → Closed → List ℕ
@@ -30,27 +30,28 @@ live_numbers t closed = take (levels t.plan) closed.live
 -- live nodes are those of its different contents
 pub record TellsHistory (models : List Content) (log : Log) (roots : List Root)
     (numbers : List ℕ) : Type 0 where
-  pub roots_tell : RootsTellWorlds models log (root_in roots)
+  pub roots_tell : RootsTellWorlds models log (told_root roots)
   pub are_numbers : AreNumbers models log numbers
 
 -- the root that is listed for a version
-found_here : (r : Root) (roots : List Root) (v : ℕ) → r.version ≡ v → root_in (r ∷ roots) v ≡ r.name
+found_here : (r : Root) (roots : List Root) (v : ℕ) → r.version ≡ v
+    → told_root (r ∷ roots) v ≡ r.name
 found_here r roots v e =
-    ap (λ (b : Bool). if b then r.name else root_in roots v) (eq-eqb r.version v e)
+    ap (λ (b : Bool). if b then r.name else told_root roots v) (eq-eqb r.version v e)
 
 bool_false : (b : Bool) → (b ≡ true → ⊥) → b ≡ false
 bool_false true h = absurd (h refl)
 bool_false false h = refl
 
 found_later : (r : Root) (roots : List Root) (v : ℕ) → r.version ≢ v
-    → root_in (r ∷ roots) v ≡ root_in roots v
+    → told_root (r ∷ roots) v ≡ told_root roots v
 found_later r roots v other =
-    ap (λ (b : Bool). if b then r.name else root_in roots v)
+    ap (λ (b : Bool). if b then r.name else told_root roots v)
     (bool_false (r.version == v) (λ e. other (eqb-true r.version v e)))
 
 named_root : (root : ℕ → Option Name) (roots : List Root) (v : ℕ)
     → All (λ r. r.name ≡ root r.version) roots → Contains (map (λ r. r.version) roots) v
-    → root_in roots v ≡ root v
+    → told_root roots v ≡ root v
 named_root root [] v named (k, lt, e) = absurd (omega arith)
 named_root root (r ∷ roots) v named listed = elim (cases_eq r.version v) [
   | inl same ↦ found_here r roots v same ∙ All-head (λ s. s.name ≡ root s.version) r roots named
@@ -103,8 +104,8 @@ closed_tells t closed low high ends =
     let state : State = ends.state in
     let tells : RootsTellWorlds t.models state.log state.root =
     sound_roots t.plan t.models state low ends.sound in
-    let roots : RootsTellWorlds t.models state.log (root_in closed.roots.items) =
-    tell_same t.models state.log state.root (root_in closed.roots.items)
+    let roots : RootsTellWorlds t.models state.log (told_root closed.roots.items) =
+    tell_same t.models state.log state.root (told_root closed.roots.items)
     (λ v kept. named_root state.root closed.roots.items v ends.roots.named
     (ends.roots.all v kept)) tells
     in
@@ -117,7 +118,8 @@ closed_tells t closed low high ends =
     ∙ ends.live.each level (omega arith))
     in
     record {
-      roots_tell = subst (λ (log : Log). RootsTellWorlds t.models log (root_in closed.roots.items))
+      roots_tell = subst
+          (λ (log : Log). RootsTellWorlds t.models log (told_root closed.roots.items))
           (sym ends.history) roots;
       are_numbers = subst (λ (log : Log). AreNumbers t.models log (live_numbers t closed))
           (sym ends.history) numbers;

@@ -4,6 +4,6 @@ use Rattle.node_shapes.specs.declared.names.Name.{Name}
 use Rattle.node_table.specs.declared.closed.Root.{Root}
 
 -- the root of a version, by a list of them
-abbrev pub root_in : List Root → ℕ → Option Name
-root_in [] v = None
-root_in (r ∷ roots) v = if r.version == v then r.name else root_in roots v
+abbrev pub told_root : List Root → ℕ → Option Name
+told_root [] v = None
+told_root (r ∷ roots) v = if r.version == v then r.name else told_root roots v

@@ -9,7 +9,7 @@ ghost use Rattle.session.specs.Resting.{IsAtRest};
 ghost use Rattle.session.specs.Seen.{session_seen};
 ghost use Rattle.world_run.specs.Ends.{IsEndOf};
 ghost use Rattle.world_run.specs.Open.{IsSaved, saved_seen};
-ghost use Rattle.world_run.specs.Told.{root_in};
+ghost use Rattle.world_run.specs.Told.{told_root};
 
 use crate::open_runs::SavedSession;
 use node_shapes::Name;
@@ -77,7 +77,7 @@ fn told(alloc: Global, ended: Ended, levels: usize) -> Result<WorldRan, Memory>
     ensures ended { IfOk result (λ r. r.ended ≡ ended) }
     ensures places { IfOk result (λ r. length ended.history.records < length r.roots.items) }
     ensures roots { IfOk result (λ r. (v : ℕ) → listed_root r.roots.items v
-        ≡ root_in ended.roots.items v) }
+        ≡ told_root ended.roots.items v) }
     ensures numbers { IfOk result (λ r. r.numbers.items ≡ take levels ended.live) }
 {
     let closed = ended.closed();
@@ -100,7 +100,7 @@ fn roots_by_version(
     requires { All (λ r. r.version < versions) roots.now }
     ensures many { IfOk result (λ all. length all.items ≡ versions) }
     ensures roots { IfOk result
-        (λ all. (v : ℕ) → listed_root all.items v ≡ root_in roots.now v) }
+        (λ all. (v : ℕ) → listed_root all.items v ≡ told_root roots.now v) }
 {
     let mut all = vec![in alloc; None; versions]?;
     let mut k = roots.len();
