@@ -18,7 +18,7 @@ use Rattle.script_runs.specs.Sessions.{GoesOnWith}
 use Rattle.store_run.specs.Answering.{nothing_to_go_to}
 use Rattle.store_run.specs.Changing.{Changes, Forgets, MakesVersion}
 use Rattle.held_world.specs.declared.worlds.World.{World}
-use Rattle.held_world.specs.Calls.{WorldChanges, WorldForgets, WorldAsks, Answered, CantBeAsked, IsAnswered, CountsLine, record_of, held_side, status_of, is_in, cells_in, faces_in, extent_in, hit_in}
+use Rattle.held_world.specs.Calls.{WorldChanges, WorldForgets, WorldAsks, Answered, CantBeAsked, IsAnswered, CountsLine, record_of, held_side, call_status, is_in, cells_in, faces_answered, extent_in, hit_in}
 
 nothing_not_done : (act : Act) → nothing_to_go_to act ≡ answers.Done → ⊥
 nothing_not_done Undo e = cc
@@ -41,7 +41,7 @@ done_or_not old new r _ (Changes.forgotten _ to goes gone eq) = inr ((λ e. cc),
 done_or_not old new r _ (Changes.nothing _ other none eq) = inr (nothing_not_done r.act, eq)
 
 module _ (w v : World) (act : Act) (answer : Answer) (status : ℕ) (fits : FitsWorld (held_side w) w.open.models act)
-    (eq : status ≡ status_of answer) (plan : v.open.plan ≡ w.open.plan) (models : v.open.models ≡ w.open.models) (line : CountsLine answer w.line v.line)
+    (eq : status ≡ call_status answer) (plan : v.open.plan ≡ w.open.plan) (models : v.open.models ≡ w.open.models) (line : CountsLine answer w.line v.line)
     (logs : Changes w.open.log (record_of w act) answer v.open.log)
     (makes : answer ≡ answers.Done → MakesVersion w.open.models w.open.log act v.open.log)
     (goes_on : (once : Bool) → GoesOnWith w.open.plan w.open.models 0 (record { line = w.line; command = Edit act once }) w.open.log v.open.log w.open.noted v.open.noted
@@ -54,7 +54,7 @@ module _ (w v : World) (act : Act) (answer : Answer) (status : ℕ) (fits : Fits
     where
       go : (answer ≡ answers.Done) ⊎ ((answer ≢ answers.Done) × (v.open.log ≡ w.open.log)) → WorldChanges w act status v
       go (inl done) =
-          subst (λ (n : ℕ). WorldChanges w act n v) (sym (eq ∙ ap status_of done))
+          subst (λ (n : ℕ). WorldChanges w act n v) (sym (eq ∙ ap call_status done))
           (WorldChanges.made v fits (subst (λ (a : Answer). IsAnswered w act a v) done answered) (makes done))
       go (inr (other, stays)) =
           subst (λ (n : ℕ). WorldChanges w act n v) (sym eq) (WorldChanges.refused v answer fits other answered stays)
@@ -63,7 +63,7 @@ pub lacks_memory : (w v : World) (act : Act) → FitsWorld (held_side w) w.open.
 lacks_memory w v act fits same = subst (λ (u : World). WorldChanges w act 2 u) (sym same) (WorldChanges.memory fits)
 
 pub forgets : (w v : World) (version : ℕ) (answer : Answer) (status : ℕ)
-    → status ≡ status_of answer → v.open.plan ≡ w.open.plan → v.open.models ≡ w.open.models → CountsLine answer w.line v.line
+    → status ≡ call_status answer → v.open.plan ≡ w.open.plan → v.open.models ≡ w.open.models → CountsLine answer w.line v.line
     → Forgets w.open.log (mark_of version (length w.open.log.records) 0 w.line) answer v.open.log
     → GoesOnWith w.open.plan w.open.models 0 (record { line = w.line; command = Forget version }) w.open.log v.open.log w.open.noted v.open.noted
     (answer_at (record { line = w.line; command = Forget version }) (length v.open.log.records) answer)
@@ -81,7 +81,7 @@ module _ (side : ℕ) (world : worlds.World) (tints : Tints) where
   pub tells_count : (b : _) (answer : Answer) → Tells side world tints (questions.Count b) answer → answer ≡ answers.Count (cells_in answer)
   tells_count _ _ (count b cells e) = refl
 
-  pub tells_faces : (b : _) (answer : Answer) → Tells side world tints (questions.Faces b) answer → answer ≡ answers.Faces (faces_in answer)
+  pub tells_faces : (b : _) (answer : Answer) → Tells side world tints (questions.Faces b) answer → answer ≡ answers.Faces (faces_answered answer)
   tells_faces _ _ (faces b number e) = refl
 
   pub tells_extent : (answer : Answer) → Tells side world tints questions.Bounds answer → answer ≡ answers.Extent (extent_in answer)

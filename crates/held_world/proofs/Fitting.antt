@@ -17,7 +17,7 @@ use Rattle.store_run.specs.Worlds.{size_of}
 use Rattle.held_world.specs.declared.places.Place.{Place}
 use Rattle.held_world.specs.declared.places.Stretch.{Stretch}
 use Rattle.held_world.specs.Calls.{FitsFile}
-use Rattle.held_world.specs.Places.{IsSmall, cell_of, box_of, ball_of}
+use Rattle.held_world.specs.Places.{IsSmall, cell_of_place, box_of, ball_of}
 
 pub world_is_small : (side : ℕ) (c : Cell) → side ≤ 4096 → IsInWorld side c → IsSmall c
 world_is_small side c low inside = record { x = omega (arith, low, inside.x); y = omega (arith, low, inside.y); z = omega (arith, low, inside.z) }
@@ -31,34 +31,34 @@ box_is_small side at size low fits = (
 -- ---- what was tested of the world's own side
 
 module _ (side own : ℕ) (eq : side ≡ own) where
-  pub box_fits : (s : Stretch) (b : Boxed) → b ≡ box_of s → (IsSome (Some b) ↔ FitsAt (cell_of s.at) (cell_of s.size) (2 ^ side))
+  pub box_fits : (s : Stretch) (b : Boxed) → b ≡ box_of s → (IsSome (Some b) ↔ FitsAt (cell_of_place s.at) (cell_of_place s.size) (2 ^ side))
       → FitsAt b.at b.size (2 ^ own)
   box_fits s b is exactly =
       subst (λ (n : ℕ). FitsAt b.at b.size (2 ^ n)) eq (subst (λ (x : Boxed). FitsAt x.at x.size (2 ^ side)) (sym is) (exactly.0 refl))
 
-  pub box_leaves : (s : Stretch) → (IsSome {T = Boxed} None ↔ FitsAt (cell_of s.at) (cell_of s.size) (2 ^ side))
-      → ¬ FitsAt (cell_of s.at) (cell_of s.size) (2 ^ own)
-  box_leaves s exactly fits = false≢true (exactly.1 (subst (λ (n : ℕ). FitsAt (cell_of s.at) (cell_of s.size) (2 ^ n)) (sym eq) fits))
+  pub box_leaves : (s : Stretch) → (IsSome {T = Boxed} None ↔ FitsAt (cell_of_place s.at) (cell_of_place s.size) (2 ^ side))
+      → ¬ FitsAt (cell_of_place s.at) (cell_of_place s.size) (2 ^ own)
+  box_leaves s exactly fits = false≢true (exactly.1 (subst (λ (n : ℕ). FitsAt (cell_of_place s.at) (cell_of_place s.size) (2 ^ n)) (sym eq) fits))
 
-  pub ball_fits : (p : Place) (radius : ℕ) (b : Ball) → b ≡ ball_of p radius → (IsSome (Some b) ↔ (IsInWorld (2 ^ side) (cell_of p) × (radius ≤ 4095)))
+  pub ball_fits : (p : Place) (radius : ℕ) (b : Ball) → b ≡ ball_of p radius → (IsSome (Some b) ↔ (IsInWorld (2 ^ side) (cell_of_place p) × (radius ≤ 4095)))
       → IsInWorld (2 ^ own) b.centre × (b.radius ≤ 4095)
   ball_fits p radius b is exactly =
       subst (λ (n : ℕ). IsInWorld (2 ^ n) b.centre × (b.radius ≤ 4095)) eq
       (subst (λ (x : Ball). IsInWorld (2 ^ side) x.centre × (x.radius ≤ 4095)) (sym is) (exactly.0 refl))
 
-  pub ball_leaves : (p : Place) (radius : ℕ) → (IsSome {T = Ball} None ↔ (IsInWorld (2 ^ side) (cell_of p) × (radius ≤ 4095)))
-      → ¬ (IsInWorld (2 ^ own) (cell_of p) × (radius ≤ 4095))
-  ball_leaves p radius exactly fits = false≢true (exactly.1 (subst (λ (n : ℕ). IsInWorld (2 ^ n) (cell_of p) × (radius ≤ 4095)) (sym eq) fits))
+  pub ball_leaves : (p : Place) (radius : ℕ) → (IsSome {T = Ball} None ↔ (IsInWorld (2 ^ side) (cell_of_place p) × (radius ≤ 4095)))
+      → ¬ (IsInWorld (2 ^ own) (cell_of_place p) × (radius ≤ 4095))
+  ball_leaves p radius exactly fits = false≢true (exactly.1 (subst (λ (n : ℕ). IsInWorld (2 ^ n) (cell_of_place p) × (radius ≤ 4095)) (sym eq) fits))
 
-  pub cell_fits : (p : Place) (c : Cell) → c ≡ cell_of p → (IsSome (Some c) ↔ IsInWorld (2 ^ side) (cell_of p)) → IsInWorld (2 ^ own) c
+  pub cell_fits : (p : Place) (c : Cell) → c ≡ cell_of_place p → (IsSome (Some c) ↔ IsInWorld (2 ^ side) (cell_of_place p)) → IsInWorld (2 ^ own) c
   cell_fits p c is exactly =
       subst (λ (n : ℕ). IsInWorld (2 ^ n) c) eq (subst (λ (x : Cell). IsInWorld (2 ^ side) x) (sym is) (exactly.0 refl))
 
-  pub cell_leaves : (p : Place) → (IsSome {T = Cell} None ↔ IsInWorld (2 ^ side) (cell_of p)) → ¬ IsInWorld (2 ^ own) (cell_of p)
-  cell_leaves p exactly fits = false≢true (exactly.1 (subst (λ (n : ℕ). IsInWorld (2 ^ n) (cell_of p)) (sym eq) fits))
+  pub cell_leaves : (p : Place) → (IsSome {T = Cell} None ↔ IsInWorld (2 ^ side) (cell_of_place p)) → ¬ IsInWorld (2 ^ own) (cell_of_place p)
+  cell_leaves p exactly fits = false≢true (exactly.1 (subst (λ (n : ℕ). IsInWorld (2 ^ n) (cell_of_place p)) (sym eq) fits))
 
-  pub cell_lies : (p : Place) (c : Cell) → (IsSome (Some c) ↔ IsInWorld (2 ^ side) (cell_of p)) → IsInWorld (2 ^ own) (cell_of p)
-  cell_lies p c exactly = subst (λ (n : ℕ). IsInWorld (2 ^ n) (cell_of p)) eq (exactly.0 refl)
+  pub cell_lies : (p : Place) (c : Cell) → (IsSome (Some c) ↔ IsInWorld (2 ^ side) (cell_of_place p)) → IsInWorld (2 ^ own) (cell_of_place p)
+  cell_lies p c exactly = subst (λ (n : ℕ). IsInWorld (2 ^ n) (cell_of_place p)) eq (exactly.0 refl)
 
 -- a step of 16 bits is what its bits stand for
 pub same_steps : (dx dy dz : ℤ) → SFits w16 dx → SFits w16 dy → SFits w16 dz

@@ -33,14 +33,14 @@ use Rattle.store_run.specs.Changing.{Changes, Forgets, MakesVersion}
 use Rattle.store_run.specs.Worlds.{size_of}
 use Rattle.held_world.specs.declared.places.Place.{Place}
 use Rattle.held_world.specs.declared.worlds.World.{World}
-use Rattle.held_world.specs.Places.{cell_of}
+use Rattle.held_world.specs.Places.{cell_of_place}
 
 -- the world's side in cells, which cells a version has, and their tints
 abbrev pub held_side : World → ℕ
 held_side w = 2 ^ w.open.plan.side
 
-abbrev pub cells_at : World → ℕ → Cell → Bool
-cells_at w version = world_has w.open.models w.open.log.records version
+abbrev pub cells_told : World → ℕ → Cell → Bool
+cells_told w version = world_has w.open.models w.open.log.records version
 
 abbrev pub tints_at : World → ℕ → Cell → ℕ
 tints_at w version = world_tint w.open.models w.open.log.records version
@@ -55,15 +55,15 @@ pub data ByHandle (Untouched : Type 0) (Does : World → ℕ → World → Type 
 -- ---- changes
 
 -- the number that C gets for an answer to a change
-abbrev pub status_of : Answer → ℕ
-status_of answers.NothingToUndo = 6
-status_of answers.NothingToRedo = 7
-status_of answers.LogFull = 8
-status_of (answers.Full level bucket) = 9
-status_of (answers.Forgotten version) = 5
-status_of (answers.NoVersion version) = 4
-status_of answers.IsHead = 10
-status_of other = 0
+abbrev pub call_status : Answer → ℕ
+call_status answers.NothingToUndo = 6
+call_status answers.NothingToRedo = 7
+call_status answers.LogFull = 8
+call_status (answers.Full level bucket) = 9
+call_status (answers.Forgotten version) = 5
+call_status (answers.NoVersion version) = 4
+call_status answers.IsHead = 10
+call_status other = 0
 
 -- the record that an act becomes; all that C does is of session 0
 abbrev pub record_of : World → Act → Record
@@ -112,13 +112,13 @@ pub data WorldChanges (w : World) (act : Act) : ℕ → World → Type 0 where
       → MakesVersion w.open.models w.open.log act v.open.log → WorldChanges w act 0 v
   refused : (v : World) (answer : Answer) → FitsWorld (held_side w) w.open.models act
       → answer ≢ answers.Done → IsAnswered w act answer v → v.open.log ≡ w.open.log
-      → WorldChanges w act (status_of answer) v
+      → WorldChanges w act (call_status answer) v
 
 -- a version is forgotten, or not
 pub data WorldForgets (w : World) (version : ℕ) : ℕ → World → Type 0 where
   answered : (v : World) (answer : Answer)
       → Forgets w.open.log (mark_of version (length w.open.log.records) 0 w.line) answer v.open.log
-      → GoesOn w (Forget version) answer v → WorldForgets w version (status_of answer) v
+      → GoesOn w (Forget version) answer v → WorldForgets w version (call_status answer) v
 
 -- ---- questions
 
@@ -140,7 +140,7 @@ LiesIn side (Ray from way) = IsInWorld side from
 pub record Answered (w : World) (version : ℕ) (question : Question) (answer : Answer) : Type 0 where
   pub kept : IsKept w.open.log version
   pub fits : QuestionFits (held_side w) question
-  pub tells : Tells (held_side w) (cells_at w version) (tints_at w version) question answer
+  pub tells : Tells (held_side w) (cells_told w version) (tints_at w version) question answer
 
 -- nothing is wrong with what is asked, and the version can't be read
 pub record CantBeAsked (w : World) (version : ℕ) (question : Question) (status : ℕ)
@@ -169,9 +169,9 @@ abbrev pub cells_in : Answer → ℕ
 cells_in (answers.Count cells) = cells
 cells_in other = 0
 
-abbrev pub faces_in : Answer → ℕ
-faces_in (answers.Faces faces) = faces
-faces_in other = 0
+abbrev pub faces_answered : Answer → ℕ
+faces_answered (answers.Faces faces) = faces
+faces_answered other = 0
 
 abbrev pub extent_in : Answer → Option Boxed
 extent_in (answers.Extent least) = least
@@ -184,7 +184,7 @@ hit_in other = None
 -- whether two versions have the same cells
 pub data WorldCompares (w : World) (a b : ℕ) (old new : Bool) : ℕ → Type 0 where
   told : IsKept w.open.log a → IsKept w.open.log b
-      → (IsTrue new ↔ SameWorld (held_side w) (cells_at w a) (cells_at w b))
+      → (IsTrue new ↔ SameWorld (held_side w) (cells_told w a) (cells_told w b))
       → WorldCompares w a b old new 0
   first : (status : ℕ) → IsGone w.open.log a status → new ≡ old
       → WorldCompares w a b old new status
@@ -197,7 +197,7 @@ pub data TellsNewest (w : World) : ℕ → ℕ → Type 0 where
 
 -- the size of the model of this number
 pub data TellsSize (w : World) (number : ℕ) (old new : Place) : ℕ → Type 0 where
-  told : size_of (slice_get w.open.models number) ≡ Some (cell_of new)
+  told : size_of (slice_get w.open.models number) ≡ Some (cell_of_place new)
       → TellsSize w number old new 0
   no_model : slice_get w.open.models number ≡ None → new ≡ old → TellsSize w number old new 14
 
@@ -228,7 +228,7 @@ pub record FitsFile (side : ℕ) (part : Boxed) : Type 0 where
 pub data WorldSaves (w : World) (version : ℕ) (part : Boxed) (old new : List ℕ)
     (before needed : ℕ) : ℕ → Type 0 where
   made : (status : ℕ) → IsKept w.open.log version → FitsFile (held_side w) part
-      → WritesBytes (file_of_box part (cells_at w version)) old new needed status
+      → WritesBytes (file_of_box part (cells_told w version)) old new needed status
       → WorldSaves w version part old new before needed status
   memory : IsKept w.open.log version → FitsFile (held_side w) part
       → IsUntouched old new before needed → WorldSaves w version part old new before needed 2

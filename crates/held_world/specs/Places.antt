@@ -6,14 +6,14 @@ use Rattle.vw_cell.specs.declared.balls.Ball.{Ball}
 use Rattle.held_world.specs.declared.places.Place.{Place}
 use Rattle.held_world.specs.declared.places.Stretch.{Stretch}
 
-abbrev pub cell_of : Place → Cell
-cell_of p = record { x = p.x; y = p.y; z = p.z }
+abbrev pub cell_of_place : Place → Cell
+cell_of_place p = record { x = p.x; y = p.y; z = p.z }
 
 abbrev pub box_of : Stretch → Boxed
-box_of s = record { at = cell_of s.at; size = cell_of s.size }
+box_of s = record { at = cell_of_place s.at; size = cell_of_place s.size }
 
 abbrev pub ball_of : Place → ℕ → Ball
-ball_of centre radius = record { centre = cell_of centre; radius = radius }
+ball_of centre radius = record { centre = cell_of_place centre; radius = radius }
 
 -- 16 bits are enough for each of the numbers
 pub record IsSmall (c : Cell) : Type 0 where
@@ -28,4 +28,4 @@ extent_of true s = Some (box_of s)
 
 abbrev pub hit_of : Bool → Place → Option Cell
 hit_of false p = None
-hit_of true p = Some (cell_of p)
+hit_of true p = Some (cell_of_place p)

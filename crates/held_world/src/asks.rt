@@ -4,8 +4,8 @@ ghost use Rattle.history_model.specs.Ways.{heading_of};
 ghost use Rattle.history_model.specs.declared.questions.Question.TheVariants as questions;
 ghost use Rattle.script.specs.Fitting.{QuestionFits};
 ghost use Rattle.transcript.specs.declared.answers.Answer.TheVariants as answers;
-ghost use Rattle.held_world.specs.Places.{cell_of, box_of, extent_of, hit_of};
-ghost use Rattle.held_world.specs.Calls.{WorldAsks, WorldCompares, WorldSaves, WorldJournals, Answered, CantBeAsked, is_in, cells_in, faces_in, extent_in, hit_in};
+ghost use Rattle.held_world.specs.Places.{cell_of_place, box_of, extent_of, hit_of};
+ghost use Rattle.held_world.specs.Calls.{WorldAsks, WorldCompares, WorldSaves, WorldJournals, Answered, CantBeAsked, is_in, cells_in, faces_answered, extent_in, hit_in};
 
 use crate::outputs::put_bytes;
 use crate::places::{Place, Stretch};
@@ -19,7 +19,7 @@ use vw_cell::{Boxed, Cell};
 impl World {
     /// Whether a cell of a version is set.
     pub fn get(&mut self, version: u32, place: Place, set: &mut bool) -> u32
-        ensures asks { WorldAsks self.old version (questions.Get (cell_of place))
+        ensures asks { WorldAsks self.old version (questions.Get (cell_of_place place))
             (λ a. a ≡ answers.Is set.new) (set.new ≡ set.old) result }
         ensures same { self.new ≡ self.old }
     {
@@ -101,7 +101,7 @@ impl World {
         hit: &mut Place,
     ) -> u32
         ensures asks { WorldAsks self.old version
-            (questions.Ray (cell_of from) (heading_of dx dy dz))
+            (questions.Ray (cell_of_place from) (heading_of dx dy dz))
             (λ a. (a ≡ answers.Hit (hit_of some.new hit.new))
             × (some.new ≡ false → hit.new ≡ hit.old))
             ((some.new ≡ some.old) × (hit.new ≡ hit.old)) result }
@@ -246,7 +246,7 @@ fn cells_in(answer: Answer) -> u64
 }
 
 fn faces_in(answer: Answer) -> u64
-    ensures { result ≡ faces_in answer }
+    ensures { result ≡ faces_answered answer }
 {
     match answer {
         Answer::Faces(faces) => faces,

@@ -1,6 +1,6 @@
 ghost use Rattle.std.specs.Prelude.{◌≡◌, ◌↔◌, ◌≤◌, ◌^◌, IsSome, IfSome};
 ghost use Rattle.vw_cell.specs.Places.{FitsAt, IsInWorld};
-ghost use Rattle.held_world.specs.Places.{cell_of, box_of, ball_of, IsSmall};
+ghost use Rattle.held_world.specs.Places.{cell_of_place, box_of, ball_of, IsSmall};
 
 use vw_cell::{Ball, Boxed, Cell, Side};
 
@@ -23,7 +23,7 @@ pub struct Stretch {
 
 impl Place {
     pub(crate) fn of(c: Cell) -> Place
-        ensures { cell_of result ≡ c }
+        ensures { cell_of_place result ≡ c }
     {
         Place {
             x: u32::from(c.x),
@@ -34,8 +34,8 @@ impl Place {
 
     // As a cell, where its numbers are those of one.
     fn cell(self) -> Option<Cell>
-        ensures exactly { IsSome result ↔ IsSmall (cell_of self) }
-        ensures value { IfSome result (λ c. c ≡ cell_of self) }
+        ensures exactly { IsSome result ↔ IsSmall (cell_of_place self) }
+        ensures value { IfSome result (λ c. c ≡ cell_of_place self) }
     {
         if self.x <= 65_535 && self.y <= 65_535 && self.z <= 65_535 {
             Some(Cell {
@@ -51,8 +51,8 @@ impl Place {
     /// As a cell of the world of this side.
     #[tactic(auto, using(crate::proofs::Fitting::world_is_small))]
     pub(crate) fn cell_in(self, side: Side) -> Option<Cell>
-        ensures exactly { IsSome result ↔ IsInWorld (2 ^ side) (cell_of self) }
-        ensures value { IfSome result (λ c. c ≡ cell_of self) }
+        ensures exactly { IsSome result ↔ IsInWorld (2 ^ side) (cell_of_place self) }
+        ensures value { IfSome result (λ c. c ≡ cell_of_place self) }
     {
         let _cells = side.cells();
         match self.cell() {
@@ -64,7 +64,7 @@ impl Place {
     /// As the centre of a ball of this radius in the world of this side.
     pub(crate) fn ball_in(self, radius: u32, side: Side) -> Option<Ball>
         ensures exactly { IsSome result
-            ↔ (IsInWorld (2 ^ side) (cell_of self) × (radius ≤ 4095)) }
+            ↔ (IsInWorld (2 ^ side) (cell_of_place self) × (radius ≤ 4095)) }
         ensures value { IfSome result (λ b. b ≡ ball_of self radius) }
     {
         match self.cell_in(side) {
@@ -94,7 +94,8 @@ impl Stretch {
     /// As a box of the world of this side.
     #[tactic(auto, using(crate::proofs::Fitting::box_is_small))]
     pub(crate) fn box_in(self, side: Side) -> Option<Boxed>
-        ensures exactly { IsSome result ↔ FitsAt (cell_of self.at) (cell_of self.size) (2 ^ side) }
+        ensures exactly { IsSome result ↔ FitsAt (cell_of_place self.at) (cell_of_place self.size)
+            (2 ^ side) }
         ensures value { IfSome result (λ b. b ≡ box_of self) }
     {
         let _cells = side.cells();

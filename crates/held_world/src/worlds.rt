@@ -5,8 +5,8 @@ ghost use Rattle.history_model.specs.Logs.{FitsWorld, suits_tints};
 ghost use Rattle.history_model.specs.declared.acts.Act.TheVariants.{Fill, Erase, Carve, Copy, Stamp, Undo, Redo};
 ghost use Rattle.history_model.specs.declared.acts.Act.TheVariants as acts;
 ghost use Rattle.block_contents.specs.Versions.{IsKept};
-ghost use Rattle.held_world.specs.Places.{cell_of, box_of, ball_of};
-ghost use Rattle.held_world.specs.Calls.{WorldChanges, WorldForgets, IsGone, TellsNewest, TellsSize, IsBegun, Refuses, IsPlan, AreSlots, HasModels, CountsLine, status_of, status_of_file};
+ghost use Rattle.held_world.specs.Places.{cell_of_place, box_of, ball_of};
+ghost use Rattle.held_world.specs.Calls.{WorldChanges, WorldForgets, IsGone, TellsNewest, TellsSize, IsBegun, Refuses, IsPlan, AreSlots, HasModels, CountsLine, call_status, status_of_file};
 
 use crate::places::{Place, Stretch};
 use crate::statuses as status;
@@ -109,7 +109,7 @@ impl World {
 
     /// Puts what the box has where its least corner goes to the place.
     pub fn copy(&mut self, part: Stretch, to: Place) -> u32
-        ensures { WorldChanges self.old (Copy (box_of part) (cell_of to)) result self.new }
+        ensures { WorldChanges self.old (Copy (box_of part) (cell_of_place to)) result self.new }
     {
         let side = self.open.side();
         let there = Stretch {
@@ -127,7 +127,7 @@ impl World {
 
     /// Sets the cells of a model, whose number counts from 0, with its least corner at the place.
     pub fn stamp(&mut self, number: u16, at: Place) -> u32
-        ensures { WorldChanges self.old (Stamp number (cell_of at)) result self.new }
+        ensures { WorldChanges self.old (Stamp number (cell_of_place at)) result self.new }
     {
         let size = match self.open.model_size(usize::from(number)) {
             Some(size) => size,
@@ -283,7 +283,7 @@ fn next_line(line: u32, answer: Answer) -> u32
 }
 
 fn status_of(answer: Answer) -> u32
-    ensures { result ≡ status_of answer }
+    ensures { result ≡ call_status answer }
 {
     match answer {
         Answer::NoVersion(_) => status::NO_VERSION,

@@ -10,7 +10,7 @@ ghost use Rattle.history_model.specs.declared.acts.Act.TheVariants.{Fill, Erase,
 ghost use Rattle.history_model.specs.declared.acts.Act.TheVariants as acts;
 ghost use Rattle.history_model.specs.declared.questions.Question.TheVariants as questions;
 ghost use Rattle.transcript.specs.declared.answers.Answer.TheVariants as answers;
-ghost use Rattle.held_world.specs.Places.{cell_of, box_of, ball_of, extent_of, hit_of};
+ghost use Rattle.held_world.specs.Places.{cell_of_place, box_of, ball_of, extent_of, hit_of};
 ghost use Rattle.held_world.specs.Calls.{ByHandle, WorldChanges, WorldForgets, WorldAsks, WorldCompares, WorldSaves, WorldJournals, Opens};
 ghost use Rattle.held_world.specs.Calls.{TellsNewest, TellsSize, IsUntouched, Closes};
 
@@ -106,7 +106,7 @@ pub extern "C" fn voxdag_c_copy(
     to: &Place,
 ) -> u32
     ensures { ByHandle ⊤
-        (λ w status v. WorldChanges w (Copy (box_of part.now) (cell_of to.now)) status v)
+        (λ w status v. WorldChanges w (Copy (box_of part.now) (cell_of_place to.now)) status v)
         handle.old.kept.value result handle.new.kept.value }
 {
     match handle.take(alloc) {
@@ -123,7 +123,8 @@ pub extern "C" fn voxdag_c_copy(
 #[tactic(auto, using(crate::proofs::Through::through_closed, crate::proofs::Through::through_open))]
 #[unsafe(no_mangle)]
 pub extern "C" fn voxdag_c_stamp(alloc: Global, handle: &mut Handle, number: u16, at: &Place) -> u32
-    ensures { ByHandle ⊤ (λ w status v. WorldChanges w (Stamp number (cell_of at.now)) status v)
+    ensures { ByHandle ⊤
+        (λ w status v. WorldChanges w (Stamp number (cell_of_place at.now)) status v)
         handle.old.kept.value result handle.new.kept.value }
 {
     match handle.take(alloc) {
@@ -239,7 +240,7 @@ pub extern "C" fn voxdag_c_get(
     set: &mut bool,
 ) -> u32
     ensures { ByHandle (set.new ≡ set.old)
-        (λ w status v. (v ≡ w) × WorldAsks w version (questions.Get (cell_of place.now))
+        (λ w status v. (v ≡ w) × WorldAsks w version (questions.Get (cell_of_place place.now))
         (λ a. a ≡ answers.Is set.new) (set.new ≡ set.old) status)
         handle.old.kept.value result handle.new.kept.value }
 {
@@ -346,7 +347,7 @@ pub extern "C" fn voxdag_c_ray(
 ) -> u32
     ensures { ByHandle ((some.new ≡ some.old) × (hit.new ≡ hit.old))
         (λ w status v. (v ≡ w) × WorldAsks w version
-        (questions.Ray (cell_of from.now) (heading_of dx dy dz))
+        (questions.Ray (cell_of_place from.now) (heading_of dx dy dz))
         (λ a. (a ≡ answers.Hit (hit_of some.new hit.new))
         × (some.new ≡ false → hit.new ≡ hit.old))
         ((some.new ≡ some.old) × (hit.new ≡ hit.old)) status)

@@ -2,14 +2,14 @@ use Rattle.std.proofs.Common.{Option, refl, sym, ◌∙◌, ap}
 use Rattle.vw_cell.specs.declared.boxes.Boxed.{Boxed}
 use Rattle.history_model.specs.declared.questions.Question.TheVariants as questions
 use Rattle.transcript.specs.declared.answers.Answer.TheVariants as answers
-use Rattle.held_world.specs.Calls.{WorldAsks, held_side, cells_at, tints_at}
+use Rattle.held_world.specs.Calls.{WorldAsks, held_side, cells_told, tints_at}
 use Rattle.held_world.proofs.Changing.{asked, tells_extent}
 use Rattle.held_world.proofs.worlds.World.bounds.Goals as goal
 
 pub returns-in-Ok-clause-asks : goal.returns-in-Ok-clause-asks
 returns-in-Ok-clause-asks c =
     asked c.args.self.now c.args.version questions.Bounds questions.Bounds _ _ refl c.in-Ok.answer c.in-Ok.ensures.told (
-      tells_extent (held_side c.args.self.now) (cells_at c.args.self.now c.args.version)
+      tells_extent (held_side c.args.self.now) (cells_told c.args.self.now c.args.version)
           (tints_at c.args.self.now c.args.version) c.in-Ok.answer c.in-Ok.ensures.told.tells
           ∙ ap (λ (o : Option Boxed). answers.Extent o) (sym c.extent_in.ensures ∙ sym c.put_extent.ensures.found),
       c.put_extent.ensures.none,

@@ -2,7 +2,7 @@ use Rattle.std.proofs.Common.{ℕ, refl, sym, ◌∙◌, ap}
 use Rattle.vw_cell.specs.declared.boxes.Boxed.{Boxed}
 use Rattle.history_model.specs.declared.questions.Question.TheVariants as questions
 use Rattle.transcript.specs.declared.answers.Answer.TheVariants as answers
-use Rattle.held_world.specs.Calls.{WorldAsks, held_side, cells_at, tints_at}
+use Rattle.held_world.specs.Calls.{WorldAsks, held_side, cells_told, tints_at}
 use Rattle.held_world.specs.Places.{box_of}
 use Rattle.held_world.proofs.Changing.{asked, not_asked, tells_count}
 use Rattle.held_world.proofs.Fitting.{box_leaves}
@@ -12,7 +12,7 @@ pub returns-in-Ok-clause-asks : goal.returns-in-Ok-clause-asks
 returns-in-Ok-clause-asks c =
     asked c.args.self.now c.args.version (questions.Count c.in-Some.b) (questions.Count (box_of c.args.part)) _ _
     (ap (λ (x : Boxed). questions.Count x) c.in-Some.ensures.value) c.in-Ok.answer c.in-Ok.ensures.told
-    (tells_count (held_side c.args.self.now) (cells_at c.args.self.now c.args.version)
+    (tells_count (held_side c.args.self.now) (cells_told c.args.self.now c.args.version)
     (tints_at c.args.self.now c.args.version) c.in-Some.b c.in-Ok.answer c.in-Ok.ensures.told.tells
     ∙ ap (λ (x : ℕ). answers.Count x) (sym c.cells_in.ensures))
 

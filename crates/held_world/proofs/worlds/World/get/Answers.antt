@@ -2,23 +2,23 @@ use Rattle.std.proofs.Common.{Bool, refl, sym, ◌∙◌, ap}
 use Rattle.vw_cell.specs.declared.cells.Cell.{Cell}
 use Rattle.history_model.specs.declared.questions.Question.TheVariants as questions
 use Rattle.transcript.specs.declared.answers.Answer.TheVariants as answers
-use Rattle.held_world.specs.Calls.{WorldAsks, held_side, cells_at, tints_at}
-use Rattle.held_world.specs.Places.{cell_of}
+use Rattle.held_world.specs.Calls.{WorldAsks, held_side, cells_told, tints_at}
+use Rattle.held_world.specs.Places.{cell_of_place}
 use Rattle.held_world.proofs.Changing.{asked, not_asked, tells_is}
 use Rattle.held_world.proofs.Fitting.{cell_leaves}
 use Rattle.held_world.proofs.worlds.World.get.Goals as goal
 
 pub returns-in-Ok-clause-asks : goal.returns-in-Ok-clause-asks
 returns-in-Ok-clause-asks c =
-    asked c.args.self.now c.args.version (questions.Get c.in-Some.c) (questions.Get (cell_of c.args.place)) _ _
+    asked c.args.self.now c.args.version (questions.Get c.in-Some.c) (questions.Get (cell_of_place c.args.place)) _ _
     (ap (λ (x : Cell). questions.Get x) c.in-Some.ensures.value) c.in-Ok.answer c.in-Ok.ensures.told
-    (tells_is (held_side c.args.self.now) (cells_at c.args.self.now c.args.version)
+    (tells_is (held_side c.args.self.now) (cells_told c.args.self.now c.args.version)
     (tints_at c.args.self.now c.args.version) c.in-Some.c c.in-Ok.answer c.in-Ok.ensures.told.tells
     ∙ ap (λ (x : Bool). answers.Is x) (sym c.is_in.ensures))
 
 pub returns-in-Err-clause-asks : goal.returns-in-Err-clause-asks
 returns-in-Err-clause-asks c =
-    not_asked c.args.self.now c.args.version (questions.Get c.in-Some.c) (questions.Get (cell_of c.args.place)) _ _
+    not_asked c.args.self.now c.args.version (questions.Get c.in-Some.c) (questions.Get (cell_of_place c.args.place)) _ _
     (ap (λ (x : Cell). questions.Get x) c.in-Some.ensures.value) c.in-Err.status c.in-Err.ensures.gone refl
 
 pub returns-in-None-clause-asks : goal.returns-in-None-clause-asks

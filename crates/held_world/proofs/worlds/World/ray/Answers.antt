@@ -4,8 +4,8 @@ use Rattle.vw_cell.specs.declared.cells.Cell.{Cell}
 use Rattle.history_model.specs.Ways.{Heading, IsHeading, heading_of}
 use Rattle.history_model.specs.declared.questions.Question.TheVariants as questions
 use Rattle.transcript.specs.declared.answers.Answer.TheVariants as answers
-use Rattle.held_world.specs.Calls.{WorldAsks, held_side, cells_at, tints_at}
-use Rattle.held_world.specs.Places.{cell_of}
+use Rattle.held_world.specs.Calls.{WorldAsks, held_side, cells_told, tints_at}
+use Rattle.held_world.specs.Places.{cell_of_place}
 use Rattle.held_world.proofs.Changing.{asked, not_asked, tells_hit}
 use Rattle.held_world.proofs.Fitting.{cell_leaves, cell_lies, same_steps}
 use Rattle.held_world.proofs.worlds.World.ray.Goals as goal
@@ -23,9 +23,9 @@ pub returns-in-Ok-clause-asks : goal.returns-in-Ok-clause-asks
 returns-in-Ok-clause-asks c =
     let way = c.in-Some-new.ensures.value ∙ same_steps c.args.dx c.args.dy c.args.dz c.ranges.dx c.ranges.dy c.ranges.dz in
     asked c.args.self.now c.args.version (questions.Ray c.in-Some.from c.in-Some-new.way)
-    (questions.Ray (cell_of c.args.from) (heading_of c.args.dx c.args.dy c.args.dz)) _ _
+    (questions.Ray (cell_of_place c.args.from) (heading_of c.args.dx c.args.dy c.args.dz)) _ _
     (λ i. questions.Ray (c.in-Some.ensures.value i) (way i)) c.in-Ok.answer c.in-Ok.ensures.told (
-      tells_hit (held_side c.args.self.now) (cells_at c.args.self.now c.args.version)
+      tells_hit (held_side c.args.self.now) (cells_told c.args.self.now c.args.version)
           (tints_at c.args.self.now c.args.version) c.in-Some.from c.in-Some-new.way c.in-Ok.answer c.in-Ok.ensures.told.tells
           ∙ ap (λ (o : Option Cell). answers.Hit o) (sym c.hit_in.ensures ∙ sym c.put_hit.ensures.found),
       c.put_hit.ensures.none,
@@ -35,5 +35,5 @@ pub returns-in-Err-clause-asks : goal.returns-in-Err-clause-asks
 returns-in-Err-clause-asks c =
     let way = c.in-Some-new.ensures.value ∙ same_steps c.args.dx c.args.dy c.args.dz c.ranges.dx c.ranges.dy c.ranges.dz in
     not_asked c.args.self.now c.args.version (questions.Ray c.in-Some.from c.in-Some-new.way)
-    (questions.Ray (cell_of c.args.from) (heading_of c.args.dx c.args.dy c.args.dz)) _ _
+    (questions.Ray (cell_of_place c.args.from) (heading_of c.args.dx c.args.dy c.args.dz)) _ _
     (λ i. questions.Ray (c.in-Some.ensures.value i) (way i)) c.in-Err.status c.in-Err.ensures.gone (refl, refl)

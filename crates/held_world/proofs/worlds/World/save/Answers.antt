@@ -1,7 +1,7 @@
 use Rattle.std.proofs.Common.{List, ℕ, refl, ◌∙◌, ap, subst}
 use Rattle.vw_cell.specs.declared.boxes.Boxed.{Boxed}
 use Rattle.extract.specs.Saved.{file_of_box}
-use Rattle.held_world.specs.Calls.{WorldSaves, WritesBytes, cells_at}
+use Rattle.held_world.specs.Calls.{WorldSaves, WritesBytes, cells_told}
 use Rattle.held_world.proofs.Fitting.{box_fits, box_leaves, file_fits, file_large}
 use Rattle.held_world.proofs.worlds.World.save.Goals as goal
 
@@ -25,7 +25,7 @@ returns-in-Ok-clause-saves c =
     (file_fits _ c.args.part c.in-Some.b c.in-Some.ensures.value (box_fits c.side.result _ c.side.ensures c.args.part c.in-Some.b c.in-Some.ensures.value c.in-Some.ensures.exactly)
     (c.if-not-is_small.ensures.0 refl))
     (subst (λ (bytes : List ℕ). WritesBytes bytes c.args.out.now c.put_bytes.new.out c.put_bytes.new.needed c.put_bytes.result)
-    (c.as_slice.ensures.value ∙ c.in-Ok.ensures.file ∙ ap (λ (b : Boxed). file_of_box b (cells_at c.args.self.now c.args.version)) c.in-Some.ensures.value)
+    (c.as_slice.ensures.value ∙ c.in-Ok.ensures.file ∙ ap (λ (b : Boxed). file_of_box b (cells_told c.args.self.now c.args.version)) c.in-Some.ensures.value)
     c.put_bytes.ensures.writes)
 
 pub returns-in-Err-clause-saves : goal.returns-in-Err-clause-saves

@@ -4,7 +4,7 @@ use Rattle.vw_cell.specs.declared.cells.Cell.{Cell}
 use Rattle.vw_cell.specs.Places.{FitsAt}
 use Rattle.store_run.specs.Worlds.{size_of}
 use Rattle.held_world.specs.Calls.{WorldChanges}
-use Rattle.held_world.specs.Places.{cell_of}
+use Rattle.held_world.specs.Places.{cell_of_place}
 use Rattle.held_world.proofs.Fitting.{box_leaves, model_leaves, no_size, has_size}
 use Rattle.held_world.proofs.worlds.World.stamp.Goals as goal
 
@@ -18,7 +18,8 @@ returns-in-None-box_in c =
     WorldChanges.outside
     (has_size c.args.self.now.open.models c.args.number c.in-Some.size
     (c.in-Some.ensures ∙ ap (λ (k : ℕ). size_of (slice_get c.args.self.now.open.models k)) c.from.ensures))
-    (model_leaves c.args.self.now.open.models c.args.number _ c.in-Some.size (cell_of c.args.at)
+    (model_leaves c.args.self.now.open.models c.args.number _ c.in-Some.size
+    (cell_of_place c.args.at)
     (c.in-Some.ensures ∙ ap (λ (k : ℕ). size_of (slice_get c.args.self.now.open.models k)) c.from.ensures)
-    (subst (λ (s : Cell). ¬ FitsAt (cell_of c.args.at) s (2 ^ c.args.self.now.open.plan.side)) c.of.ensures
+    (subst (λ (s : Cell). ¬ FitsAt (cell_of_place c.args.at) s (2 ^ c.args.self.now.open.plan.side)) c.of.ensures
     (box_leaves c.side.result _ c.side.ensures (record { at = c.args.at; size = c.of.result }) c.in-None-box_in.ensures.exactly)))
