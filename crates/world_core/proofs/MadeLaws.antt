@@ -32,7 +32,7 @@ use Rattle.core_laws.proofs.Lives.{root_lives}
 use Rattle.core_laws.proofs.LogSteps.{root_in_range}
 use Rattle.core_laws.proofs.LiveShapes.{AreLive, shape_once, canonical_at}
 use Rattle.world_core.specs.Lawful.{IsRootMade}
-use Rattle.world_core.specs.Shown.{target_of, world_of}
+use Rattle.world_core.specs.Shown.{target_of, shown_world}
 use Rattle.world_core.specs.Stored.{Stored, IsStored, root_in, stored_state}
 
 less_zero : (level : ℕ) (s : Shape) (q : Cell)
@@ -46,12 +46,12 @@ less_zero level s q =
     ∙ ap (λ (k : ℕ). shapes.has level s q.x q.y k) z
 
 pub shows_own : (side : ℕ) (key : Name → Key) (root : Option Name)
-    → ShowsCells (world_block side) (shape_of (tree_at key (top side) root)) (world_of key (top side) root)
+    → ShowsCells (world_block side) (shape_of (tree_at key (top side) root)) (shown_world key (top side) root)
 shows_own side key root = record { each = λ q inside. less_zero (top side) (shape_of (tree_at key (top side) root)) q }
 
 own_cell : (side : ℕ) (key : Name → Key) (root : Option Name) (cells : World) (q : Cell) → 2 ≤ side
     → ShowsCells (world_block side) (shape_of (tree_at key (top side) root)) cells
-    → IsInWorld (2 ^ side) q → world_of key (top side) root q ≡ cells q
+    → IsInWorld (2 ^ side) q → shown_world key (top side) root q ≡ cells q
 own_cell side key root cells q low shows inside =
     sym (less_zero (top side) (shape_of (tree_at key (top side) root)) q) ∙ shows.each q (in_block side q low inside)
 
@@ -65,10 +65,11 @@ head_kept s is = record {
 
 module _ (s : Stored) (act : Act) (root : Option Name) (is : IsStored s) where
   head : World
-  head = world_of (stored_state s).key (top s.plan.side) (root_in s.roots (length s.log.records))
+  head = shown_world (stored_state s).key (top s.plan.side) (root_in s.roots (length s.log.records))
 
   head_cell : (q : Cell) → IsInWorld (2 ^ s.plan.side) q
-      → world_of (stored_state s).key (top s.plan.side) (root_in s.roots (length s.log.records)) q
+      → shown_world (stored_state s).key (top s.plan.side)
+      (root_in s.roots (length s.log.records)) q
       ≡ stored_in (2 ^ s.plan.side) s.models s.log.records (length s.log.records) q
   head_cell q inside = own_cell s.plan.side (stored_state s).key (root_in s.roots (length s.log.records))
       (stored_in (2 ^ s.plan.side) s.models s.log.records (length s.log.records)) q is.plan.side_low
@@ -76,12 +77,12 @@ module _ (s : Stored) (act : Act) (root : Option Name) (is : IsStored s) where
 
   pub edit_made : FitsWorld (2 ^ s.plan.side) s.models act → is_edit act ≡ true
       → MayMake (2 ^ s.plan.side) s.models act
-      (world_of (stored_state s).key (top s.plan.side) (root_in s.roots (length s.log.records)))
-      (world_of (stored_state s).key (top s.plan.side) root)
+      (shown_world (stored_state s).key (top s.plan.side) (root_in s.roots (length s.log.records)))
+      (shown_world (stored_state s).key (top s.plan.side) root)
       → IsRootMade s.plan s.models act root (stored_state s)
   edit_made fits edit made = record {
     follows = edit_follows s.log.marks (length s.log.records + 1) act (position_after s.log.records) edit;
-    cells = world_of (stored_state s).key (top s.plan.side) root;
+    cells = shown_world (stored_state s).key (top s.plan.side) root;
     shows = shows_own s.plan.side (stored_state s).key root;
     makes = record {
       edit = λ _. record {
@@ -94,8 +95,8 @@ module _ (s : Stored) (act : Act) (root : Option Name) (is : IsStored s) where
   pub made_edit : FitsWorld (2 ^ s.plan.side) s.models act → is_edit act ≡ true
       → IsRootMade s.plan s.models act root (stored_state s)
       → MayMake (2 ^ s.plan.side) s.models act
-      (world_of (stored_state s).key (top s.plan.side) (root_in s.roots (length s.log.records)))
-      (world_of (stored_state s).key (top s.plan.side) root)
+      (shown_world (stored_state s).key (top s.plan.side) (root_in s.roots (length s.log.records)))
+      (shown_world (stored_state s).key (top s.plan.side) root)
   made_edit fits edit made = record {
     each = λ q inside. own_cell s.plan.side (stored_state s).key root made.cells q is.plan.side_low made.shows inside
         ∙ (made.makes.edit edit).each q inside

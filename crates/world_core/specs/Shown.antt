@@ -11,8 +11,8 @@ use Rattle.history_model.specs.Worlds.{World}
 use Rattle.core_laws.specs.States.{tree_at}
 
 -- the cells of the block of this level that stands at a root
-abbrev pub world_of : (Name → Key) → ℕ → Option Name → World
-world_of key level root q = has level (shape_of (tree_at key level root)) q.x q.y q.z
+abbrev pub shown_world : (Name → Key) → ℕ → Option Name → World
+shown_world key level root q = has level (shape_of (tree_at key level root)) q.x q.y q.z
 
 -- the version that an undo or a redo goes to
 abbrev pub target_of : Act → Position → Option ℕ

@@ -4,7 +4,7 @@ ghost use Rattle.vw_cell.specs.Places.{block_side};
 ghost use Rattle.history_model.specs.Logs.{FitsWorld};
 ghost use Rattle.history_model.specs.Making.{MayMake};
 ghost use Rattle.world_core.specs.Reads.{keys_in};
-ghost use Rattle.world_core.specs.Shown.{world_of};
+ghost use Rattle.world_core.specs.Shown.{shown_world};
 ghost use Rattle.history_model.specs.Worlds.{is_edit};
 ghost use Rattle.block_contents.specs.Aligned.{top};
 ghost use Rattle.block_contents.specs.Versions.{IsUnmarked};
@@ -144,8 +144,8 @@ impl Parts<'_> {
         requires edit { is_edit act.now ≡ true }
         requires wide { cells ≡ block_side level }
         ensures { IsTrue result ↔ MayMake (2 ^ self.now.plan.side) self.now.models.now act.now
-            (world_of (keys_in self.now.entries) level head)
-            (world_of (keys_in self.now.entries) level root) }
+            (shown_world (keys_in self.now.entries) level head)
+            (shown_world (keys_in self.now.entries) level root) }
     {
         let before = |q: Cell| self.entries.is_set(cells, level, head, q);
         let after = |q: Cell| self.entries.is_set(cells, level, root, q);

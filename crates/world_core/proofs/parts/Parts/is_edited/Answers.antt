@@ -7,7 +7,7 @@ use Rattle.block_contents.specs.Aligned.{top}
 use Rattle.block_contents.proofs.WorldBlocks.{world_wide}
 use Rattle.world_core.specs.Reads.{keys_in}
 use Rattle.world_core.specs.Kept.{stored}
-use Rattle.world_core.specs.Shown.{world_of}
+use Rattle.world_core.specs.Shown.{shown_world}
 use Rattle.world_core.specs.Stored.{root_in}
 use Rattle.world_core.proofs.VersionLaws.{found_root}
 use Rattle.world_core.proofs.MadeLaws.{edit_made, made_edit}
@@ -30,8 +30,8 @@ returns c =
     let few = c.requires.stored.sound.versions.legal.few in
     let its = found_root s.roots c.count.result c.index-head.result.now (omega (arith, c.requires.stored.places, few, c.count.ensures)) c.index-head.ensures
     ∙ ap (λ (k : ℕ). root_in s.roots k) c.count.ensures in
-    let one = subst (λ (l : ℕ). IsTrue c.makes.result ↔ MayMake (2 ^ side) s.models act (world_of (keys_in s.entries) l c.index-head.result.now) (world_of (keys_in s.entries) l root)) level c.makes.ensures in
-    let two = subst (λ (o : Option Name). IsTrue c.makes.result ↔ MayMake (2 ^ side) s.models act (world_of (keys_in s.entries) (top side) o) (world_of (keys_in s.entries) (top side) root)) its one in (
+    let one = subst (λ (l : ℕ). IsTrue c.makes.result ↔ MayMake (2 ^ side) s.models act (shown_world (keys_in s.entries) l c.index-head.result.now) (shown_world (keys_in s.entries) l root)) level c.makes.ensures in
+    let two = subst (λ (o : Option Name). IsTrue c.makes.result ↔ MayMake (2 ^ side) s.models act (shown_world (keys_in s.entries) (top side) o) (shown_world (keys_in s.entries) (top side) root)) its one in (
       λ t. edit_made s act root c.requires.stored c.requires.fits c.requires.edit (two.0 t),
       λ made. two.1 (made_edit s act root c.requires.stored c.requires.fits c.requires.edit made),
     )
