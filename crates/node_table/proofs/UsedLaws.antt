@@ -10,7 +10,7 @@ use Rattle.node_words.specs.Plans.{Layout}
 use Rattle.node_places.specs.KeyWords.{key_word}
 use Rattle.node_places.specs.Names.{named}
 use Rattle.node_places.specs.Spots.{Spot, key_words}
-use Rattle.core_reading.specs.Reading.{book_of}
+use Rattle.table_rule.specs.Reading.{book_of}
 use Rattle.table_rule.specs.Turning.{used_of}
 use Rattle.table_rule.specs.Views.{SeatView, BucketAt, bucket_of, key_spot, known_at}
 use Rattle.table_rule.proofs.KnownWords.{known_now, known_else}

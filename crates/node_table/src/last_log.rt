@@ -4,7 +4,7 @@ ghost use Rattle.std.specs.Slots.{slots_items, slots_len, IsFull};
 ghost use Rattle.node_places.specs.KeyWords.{child_of_word};
 ghost use Rattle.node_places.specs.Spots.{LogLength, Version, width};
 ghost use Rattle.block_contents.specs.Aligned.{top};
-ghost use Rattle.core_reading.specs.Reading.{word_at};
+ghost use Rattle.table_rule.specs.Reading.{word_at};
 ghost use Rattle.table_rule.specs.LogWords.{act_of_words, ball_of_words, box_of_words, cell_of_word, mark_of_words, marks_in, tint_of_words};
 ghost use Rattle.table_rule.specs.LogWords.{record_of_words, records_in, word_in};
 ghost use Rattle.node_table.specs.Roots.{IsLogSmall, roots_in};

@@ -15,7 +15,7 @@ use Rattle.node_places.specs.Names.{key_child}
 use Rattle.core_laws.specs.States.{State}
 use Rattle.core_laws.specs.Events.{Rests, Adds, Lowers, Frees}
 use Rattle.core_laws.proofs.Trees.{node_at-same}
-use Rattle.core_reading.specs.Reading.{book_of}
+use Rattle.table_rule.specs.Reading.{book_of}
 use Rattle.table_rule.specs.Views.{SeatView, bucket_of, key_spot, known_at}
 use Rattle.table_rule.specs.Rules.{MayWrite}
 use Rattle.table_rule.specs.Telling.{ViewTells, tree_word}

@@ -32,8 +32,8 @@ use Rattle.core_laws.specs.LogEvents.{MayAppend, Appends, appends}
 use Rattle.core_laws.specs.Making.{Makes}
 use Rattle.core_laws.specs.Standing.{Stands}
 use Rattle.core_laws.specs.States.{State, tree_at}
-use Rattle.core_reading.specs.Reading.{Wrote, root_word}
-use Rattle.core_reading.proofs.Readings.{traded, appends_root}
+use Rattle.table_rule.specs.Reading.{Wrote, root_word}
+use Rattle.table_rule.proofs.Readings.{traded, appends_root}
 use Rattle.table_rule.specs.LogKnowing.{KnowsLog}
 use Rattle.table_rule.specs.LogTelling.{number_seen, SeesAll}
 use Rattle.table_rule.specs.LogWords.{log_in, records_in, record_of_words, word_in, IsLogWritten}

@@ -23,8 +23,8 @@ use Rattle.core_laws.specs.Soundness.{FitsLevel}
 use Rattle.core_laws.specs.Counting.{weight, children_weight}
 use Rattle.core_laws.specs.Events.{Trades, StoreStep, Raises, Lowers, Frees, OthersStay, raises, lowers, frees, no_weight, one_name, children_named}
 use Rattle.core_laws.proofs.SeenNodes.{leaf_tree, node_tree}
-use Rattle.core_reading.specs.Reading.{name_or, Wrote, book_of}
-use Rattle.core_reading.proofs.Readings.{traded, raises_book, lowers_book, frees_book}
+use Rattle.table_rule.specs.Reading.{name_or, Wrote, book_of}
+use Rattle.table_rule.proofs.Readings.{traded, raises_book, lowers_book, frees_book}
 use Rattle.table_rule.specs.Views.{SeatView, bucket_of, key_spot, known_at, names_held}
 use Rattle.table_rule.specs.Turning.{used_of, KeepsTurns}
 use Rattle.table_rule.specs.LogWords.{log_in}

@@ -19,7 +19,7 @@ use Rattle.core_laws.specs.Counting.{holdings}
 use Rattle.node_words.specs.Enough.{HasEnough, enough_stays}
 use Rattle.core_laws.specs.LogEvents.{Reseats}
 use Rattle.core_laws.proofs.StepLaws.{reseats_sound}
-use Rattle.core_reading.specs.Reading.{names_of}
+use Rattle.table_rule.specs.Reading.{names_of}
 use Rattle.table_rule.specs.Views.{SeatView, BucketAt, names_held, known_at}
 use Rattle.table_rule.specs.Turning.{IsOf, turn_of, IsTurnWord, KeepsTurns, IsCarried}
 use Rattle.table_rule.specs.Knowing.{all_made, Knows}

@@ -24,8 +24,8 @@ use Rattle.core_laws.specs.Events.{Trades, TakesRoot, no_weight, at_most_one}
 use Rattle.core_laws.specs.LogEvents.{Forgets, forgets}
 use Rattle.core_laws.specs.Standing.{Stands}
 use Rattle.core_laws.specs.States.{State, tree_at}
-use Rattle.core_reading.specs.Reading.{Wrote}
-use Rattle.core_reading.proofs.Readings.{traded, forgets_root}
+use Rattle.table_rule.specs.Reading.{Wrote}
+use Rattle.table_rule.proofs.Readings.{traded, forgets_root}
 use Rattle.table_rule.specs.LogKnowing.{IsPrefix, WasFound, KnowsLog, ListsOwn, if_among}
 use Rattle.table_rule.specs.LogTelling.{number_seen, seen_has, SeesAll, IsShownRoot}
 use Rattle.versions.specs.Listing.{Accepted, Found}

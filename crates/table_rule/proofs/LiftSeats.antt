@@ -7,8 +7,8 @@ use Rattle.node_shapes.specs.Tree.{Tree}
 use Rattle.node_words.specs.Plans.{Layout}
 use Rattle.node_words.specs.Held.{IsHeld, IsReached}
 use Rattle.node_places.specs.Spots.{Spot, Sessions}
-use Rattle.core_reading.specs.Reading.{Wrote, word_at}
-use Rattle.core_reading.proofs.Rows.{row_written}
+use Rattle.table_rule.specs.Reading.{Wrote, word_at}
+use Rattle.table_rule.proofs.Rows.{row_written}
 use Rattle.vox_read.specs.Contents.{Content}
 use Rattle.table_rule.specs.LogKnowing.{ListsOwn}
 use Rattle.table_rule.specs.LogViews.{LogView, log_starting}

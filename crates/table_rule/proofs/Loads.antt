@@ -12,8 +12,8 @@ use Rattle.node_places.specs.Spots.{Spot, LogTurn, LogLength, Version, Sessions,
 use Rattle.core_laws.specs.Events.{EntriesStay, Rests}
 use Rattle.node_words.specs.Enough.{HasEnough}
 use Rattle.core_laws.proofs.Enough.{enough}
-use Rattle.core_reading.specs.Reading.{Wrote, book_of}
-use Rattle.core_reading.proofs.Readings.{readies_key}
+use Rattle.table_rule.specs.Reading.{Wrote, book_of}
+use Rattle.table_rule.proofs.Readings.{readies_key}
 use Rattle.table_rule.specs.Views.{SeatView, BucketAt, bucket_of, key_spot, known_at, names_held}
 use Rattle.table_rule.specs.Turning.{IsOf}
 use Rattle.table_rule.specs.Knowing.{all_made}

@@ -10,7 +10,7 @@ use Rattle.history_model.specs.declared.histories.Mark.{Mark}
 use Rattle.history_model.specs.declared.histories.Record.{Record}
 use Rattle.block_contents.specs.Versions.{IsUnmarked}
 use Rattle.core_laws.specs.Events.{EntriesStay, Rests}
-use Rattle.core_reading.specs.Reading.{Wrote}
+use Rattle.table_rule.specs.Reading.{Wrote}
 use Rattle.table_rule.specs.LogKnowing.{WasFound}
 use Rattle.table_rule.specs.LogTelling.{number_seen, SeesAll}
 use Rattle.table_rule.specs.LogTurning.{IsOfLog}

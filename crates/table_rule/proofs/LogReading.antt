@@ -5,7 +5,7 @@ use Rattle.std.specs.List.{slice_get, Contains}
 use Rattle.std.proofs.lemmas.Bool.{cases_eq}
 use Rattle.std.proofs.lemmas.List.{take-append-le, take_all}
 use Rattle.std.proofs.lemmas.List.Elements.{Contains-append_left, Contains-append_right, Contains-append_cases}
-use Rattle.core_reading.specs.Versions.{IsUnmarked}
+use Rattle.core_laws.specs.Versions.{IsUnmarked}
 use Rattle.node_words.specs.Plans.{Layout}
 use Rattle.node_places.specs.Spots.{Spot, LogTurn, LogLength, Version, versions}
 use Rattle.versions.specs.Mark.{Mark}

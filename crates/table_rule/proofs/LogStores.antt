@@ -11,7 +11,7 @@ use Rattle.node_places.specs.Spots.{Spot, Sessions, LogLength, Version, versions
 use Rattle.history_model.specs.Logs.{Log}
 use Rattle.block_contents.specs.Aligned.{top}
 use Rattle.core_laws.specs.Events.{RootsStay, Rests}
-use Rattle.core_reading.specs.Reading.{Wrote, kept_root}
+use Rattle.table_rule.specs.Reading.{Wrote, kept_root}
 use Rattle.table_rule.specs.LogKnowing.{KnowsLog}
 use Rattle.table_rule.specs.LogTelling.{number_seen, SeesAll}
 use Rattle.table_rule.specs.LogWords.{log_in, records_in}

@@ -19,13 +19,13 @@ use Rattle.versions.specs.Logs.{Log}
 use Rattle.versions.specs.Stores.{stored_in}
 use Rattle.versions.specs.Packing.{log_words}
 use Rattle.versions.specs.Record.{Record}
-use Rattle.core_reading.specs.Aligned.{top, world_block}
-use Rattle.core_reading.specs.Versions.{IsKept, SameWorld}
-use Rattle.core_reading.proofs.Lives.{root_lives}
-use Rattle.core_reading.proofs.LogSteps.{root_in_range}
-use Rattle.core_reading.proofs.RootCells.{same_cells, same_root, no_root_no_cell}
-use Rattle.core_reading.specs.States.{State, IsLive, tree_at, tree_of}
-use Rattle.core_reading.specs.Reading.{kept_root, book_of}
+use Rattle.core_laws.specs.Aligned.{top, world_block}
+use Rattle.core_laws.specs.Versions.{IsKept, SameWorld}
+use Rattle.core_laws.proofs.Lives.{root_lives}
+use Rattle.core_laws.proofs.LogSteps.{root_in_range}
+use Rattle.core_laws.proofs.RootCells.{same_cells, same_root, no_root_no_cell}
+use Rattle.core_laws.specs.States.{State, IsLive, tree_at, tree_of}
+use Rattle.table_rule.specs.Reading.{kept_root, book_of}
 use Rattle.table_rule.specs.LogKnowing.{IsPrefix}
 use Rattle.table_rule.specs.LogTelling.{number_seen, seen_has, IsShownUnmarked, IsShownRoot, LogTells, RootsTell}
 use Rattle.table_rule.specs.LogWords.{log_in, records_in, record_of_words, word_in}

@@ -7,7 +7,7 @@ use Rattle.node_words.specs.Plans.{Layout}
 use Rattle.node_places.specs.Spots.{Spot, Sessions, LogTurn, LogLength, Version}
 use Rattle.history_model.specs.Logs.{Log}
 use Rattle.core_laws.specs.Events.{Rests}
-use Rattle.core_reading.specs.Reading.{Wrote}
+use Rattle.table_rule.specs.Reading.{Wrote}
 use Rattle.table_rule.specs.LogKnowing.{KnowsLog}
 use Rattle.table_rule.specs.LogTurning.{KeepsLogTurn}
 use Rattle.table_rule.specs.LogViews.{LogView}

@@ -5,7 +5,7 @@ use Rattle.std.specs.List.{slice_get, Contains}
 use Rattle.vox_read.specs.Contents.{Content}
 use Rattle.node_words.specs.Plans.{Layout}
 use Rattle.node_places.specs.Spots.{Spot, LogTurn, LogLength, Version, Sessions, IsSpot}
-use Rattle.core_reading.specs.Reading.{Wrote}
+use Rattle.table_rule.specs.Reading.{Wrote}
 use Rattle.table_rule.specs.Views.{SeatView, BucketAt, number_dec, known_at}
 use Rattle.table_rule.specs.Turning.{IsOf, turn_of, IsTurnWord, KeepsTurns}
 use Rattle.core_laws.specs.Events.{Rests}

@@ -19,7 +19,7 @@ use Rattle.node_shapes.specs.Weights.{number_of_trees}
 use Rattle.core_laws.specs.Counting.{holdings}
 use Rattle.core_laws.specs.Soundness.{IsUntouched}
 use Rattle.core_laws.proofs.RootCells.{empty_sound}
-use Rattle.core_reading.specs.Reading.{kept_root, book_of, where_there, word_at}
+use Rattle.table_rule.specs.Reading.{kept_root, book_of, where_there, word_at}
 use Rattle.table_rule.specs.Views.{SeatView, BucketAt, starting, known_at}
 use Rattle.table_rule.specs.Turning.{KeepsTurns, turn_of, IsTurnWord, IsOf}
 use Rattle.table_rule.specs.Knowing.{Knows}

@@ -28,8 +28,8 @@ use Rattle.core_laws.proofs.EntrySteps.{add_entries, add_keys}
 use Rattle.core_laws.proofs.StepLaws.{tree_kept}
 use Rattle.core_laws.proofs.SeenNodes.{gone_tree, leaf_tree, node_tree}
 use Rattle.core_laws.proofs.Bounds.{missing_in_bucket}
-use Rattle.core_reading.specs.Reading.{Wrote, book_of}
-use Rattle.core_reading.proofs.Readings.{traded, adds_book}
+use Rattle.table_rule.specs.Reading.{Wrote, book_of}
+use Rattle.table_rule.proofs.Readings.{traded, adds_book}
 use Rattle.table_rule.specs.Views.{SeatView, bucket_of, key_spot, known_at, names_held}
 use Rattle.table_rule.specs.Turning.{used_of}
 use Rattle.table_rule.specs.Knowing.{all_made}

@@ -14,7 +14,7 @@ use Rattle.core_laws.specs.Events.{Rests}
 use Rattle.node_places.specs.Names.{IsName}
 use Rattle.core_laws.specs.Counting.{holdings}
 use Rattle.core_laws.proofs.Bounds.{book_small}
-use Rattle.core_reading.specs.Reading.{book_of}
+use Rattle.table_rule.specs.Reading.{book_of}
 use Rattle.table_rule.specs.Views.{SeatView, bucket_of, names_held, known_at}
 use Rattle.table_rule.specs.Rules.{KeepsRule, table_state, MayWrite}
 use Rattle.table_rule.specs.Changes.{knowing}

@@ -7,7 +7,7 @@ use Rattle.vox_read.specs.Contents.{Content}
 use Rattle.node_words.specs.Plans.{Layout}
 use Rattle.node_places.specs.Spots.{Spot, LogTurn, LogLength, Version, Sessions, IsSpot}
 use Rattle.core_laws.specs.Events.{EntriesStay, Rests}
-use Rattle.core_reading.specs.Reading.{Wrote}
+use Rattle.table_rule.specs.Reading.{Wrote}
 use Rattle.table_rule.specs.Views.{SeatView, BucketAt}
 use Rattle.table_rule.specs.Turning.{turn_of, KeepsTurns}
 use Rattle.table_rule.specs.Rules.{KeepsRule, table_state, SameSession, MayWrite}

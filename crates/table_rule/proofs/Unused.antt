@@ -3,7 +3,7 @@ use Rattle.std.proofs.Common.{◌≡◌, ◌≢◌, ◌⊎◌, ℕ, ◌<◌, ◌
 use Rattle.std.proofs.lemmas.Bool.{cases_lt}
 use Rattle.node_shapes.specs.declared.names.Name.{Name}
 use Rattle.node_places.specs.Spots.{Spot, Used, Book}
-use Rattle.core_reading.specs.Reading.{Wrote, book_of}
+use Rattle.table_rule.specs.Reading.{Wrote, book_of}
 use Rattle.table_rule.specs.Views.{BucketAt, bucket_of, spot_same}
 use Rattle.table_rule.specs.Turning.{used_of, UnusedAreFree}
 

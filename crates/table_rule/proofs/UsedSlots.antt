@@ -6,7 +6,7 @@ use Rattle.vox_read.specs.Contents.{Content}
 use Rattle.node_words.specs.Plans.{Layout}
 use Rattle.node_places.specs.Spots.{Spot, LogTurn, LogLength, Version, Sessions, Book}
 use Rattle.core_laws.specs.Events.{Rests}
-use Rattle.core_reading.specs.Reading.{Wrote}
+use Rattle.table_rule.specs.Reading.{Wrote}
 use Rattle.table_rule.specs.Views.{SeatView, BucketAt, known_at, spot_same}
 use Rattle.table_rule.specs.Turning.{IsOf, used_of}
 use Rattle.table_rule.specs.Rules.{KeepsRule, table_state, MayWrite}

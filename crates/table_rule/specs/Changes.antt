@@ -13,7 +13,7 @@ use Rattle.node_places.specs.KeyWords.{key_word}
 use Rattle.node_places.specs.Names.{named}
 use Rattle.node_places.specs.Spots.{Spot, Book, key_words, buckets_at}
 use Rattle.core_laws.specs.Soundness.{FitsLevel}
-use Rattle.core_reading.specs.Reading.{book_of}
+use Rattle.table_rule.specs.Reading.{book_of}
 use Rattle.table_rule.specs.Views.{SeatView, BucketAt, bucket_of, key_spot, known_at}
 use Rattle.table_rule.specs.Turning.{used_of}
 use Rattle.table_rule.specs.Telling.{tree_word}

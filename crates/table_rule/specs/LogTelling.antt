@@ -14,9 +14,9 @@ use Rattle.versions.specs.Record.{Record}
 use Rattle.versions.specs.Stores.{stored_in}
 use Rattle.versions.specs.Packing.{log_words}
 use Rattle.versions.specs.Worlds.{World}
-use Rattle.core_reading.specs.Aligned.{top, world_block}
-use Rattle.core_reading.specs.Versions.{SameWorld}
-use Rattle.core_reading.specs.Reading.{book_of}
+use Rattle.core_laws.specs.Aligned.{top, world_block}
+use Rattle.core_laws.specs.Versions.{SameWorld}
+use Rattle.table_rule.specs.Reading.{book_of}
 use Rattle.table_rule.specs.LogKnowing.{OwnsIn}
 use Rattle.table_rule.specs.Views.{SeatView, bucket_of, known_at}
 

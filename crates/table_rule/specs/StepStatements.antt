@@ -15,7 +15,7 @@ use Rattle.node_places.specs.Names.{IsName}
 use Rattle.node_places.specs.Spots.{Spot, Sessions, IsSpot, key_words, width}
 use Rattle.core_laws.specs.Events.{Rests, Raises, Adds, Lowers, Frees}
 use Rattle.core_laws.specs.LogEvents.{Reseats}
-use Rattle.core_reading.specs.Reading.{Wrote, book_of}
+use Rattle.table_rule.specs.Reading.{Wrote, book_of}
 use Rattle.table_rule.specs.Views.{SeatView, BucketAt, bucket_of, key_spot, known_at, starting, spent}
 use Rattle.table_rule.specs.Turning.{IsOf, turn_of, used_of}
 use Rattle.table_rule.specs.Rules.{KeepsRule, IsRuled, table_state, MayWrite}

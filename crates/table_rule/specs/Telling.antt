@@ -8,7 +8,7 @@ use Rattle.node_words.specs.Held.{IsReached, AreTrees, AreCanonical}
 use Rattle.node_places.specs.Names.{IsName}
 use Rattle.node_places.specs.Spots.{key_words}
 use Rattle.node_places.specs.Words.{word_of_child}
-use Rattle.core_reading.specs.Reading.{book_of}
+use Rattle.table_rule.specs.Reading.{book_of}
 use Rattle.table_rule.specs.LogTelling.{LogTells, RootsTell}
 use Rattle.table_rule.specs.Views.{SeatView, bucket_of, key_spot, known_at}
 

@@ -11,7 +11,7 @@ use Rattle.core_laws.specs.Key as keys
 use Rattle.core_laws.specs.Logs.{Log}
 use Rattle.core_laws.specs.Soundness.{FitsLevel}
 use Rattle.core_laws.specs.Events.{Trades, EntriesStay, IsMissing, Raises, Adds, Lowers, Frees, PutsRoot, TakesRoot, no_weight, one_name, at_most_one, children_named}
-use Rattle.core_reading.specs.Reading.{names_of, read, Wrote, book_of, root_word, word_at}
+use Rattle.table_rule.specs.Reading.{names_of, read, Wrote, book_of, root_word, word_at}
 
 -- a book of a live entry that becomes one more is a raise
 abbrev pub BooksRaise : Type 0

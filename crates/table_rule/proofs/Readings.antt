@@ -19,7 +19,7 @@ use Rattle.core_laws.specs.Logs.{Log}
 use Rattle.core_laws.specs.Aligned.{top}
 use Rattle.core_laws.specs.Soundness.{FitsLevel}
 use Rattle.core_laws.specs.Events.{Trades, EntriesStay, OthersStay, RootsStay, IsMissing, Raises, Adds, Lowers, Frees, PutsRoot, TakesRoot, no_weight, one_name, at_most_one, children_named}
-use Rattle.core_reading.specs.Reading.{names_of, kept_root, root_word, read, Wrote, book_of}
+use Rattle.table_rule.specs.Reading.{names_of, kept_root, root_word, read, Wrote, book_of}
 
 book_apart : (m n : Name) → m ≢ n → book_of m ≢ book_of n
 book_apart m n other e = other (same_name m n (cc) (cc) (cc))

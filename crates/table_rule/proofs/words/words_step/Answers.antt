@@ -1,5 +1,5 @@
-use Rattle.core_reading.proofs.Readings.{raises_book, adds_book, lowers_book, frees_book, readies_key, appends_root, forgets_root}
-use Rattle.core_reading.proofs.words.words_step.Goals as goal
+use Rattle.table_rule.proofs.Readings.{raises_book, adds_book, lowers_book, frees_book, readies_key, appends_root, forgets_root}
+use Rattle.table_rule.proofs.words.words_step.Goals as goal
 
 pub returns : goal.returns
 returns c = record {

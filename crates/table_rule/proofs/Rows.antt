@@ -5,7 +5,7 @@ use Rattle.core_laws.specs.Plans.{Layout}
 use Rattle.core_laws.specs.Spots.{Spot, IsSpot, place, width}
 use Rattle.node_places.proofs.SpotTests.{spot_dec}
 use Rattle.core_laws.proofs.Apart.{place_low, place_one}
-use Rattle.core_reading.specs.Reading.{Wrote, where_there, word_at}
+use Rattle.table_rule.specs.Reading.{Wrote, where_there, word_at}
 
 there : {A : Type 0} (d : Dec A) (n : ℕ) → A → where_there d n ≡ n
 there (yes h) n a = λ i. n

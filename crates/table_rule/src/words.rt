@@ -1,6 +1,6 @@
-ghost use Rattle.core_reading.specs.WordStatements.{BooksAdd, BooksFree, BooksLower, BooksRaise};
-ghost use Rattle.core_reading.specs.WordStatements.{FreeKeysChange, LengthsPutRoots};
-ghost use Rattle.core_reading.specs.WordStatements.{MarksTakeRoots, RowsAreWritten, SeatsTrade};
+ghost use Rattle.table_rule.specs.WordStatements.{BooksAdd, BooksFree, BooksLower, BooksRaise};
+ghost use Rattle.table_rule.specs.WordStatements.{FreeKeysChange, LengthsPutRoots};
+ghost use Rattle.table_rule.specs.WordStatements.{MarksTakeRoots, RowsAreWritten, SeatsTrade};
 
 /// A word that is written, with what its seat trades, is an event of the state that is read.
 pub fn words_step()

@@ -1,9 +1,0 @@
-pub mod Reading
-pub mod WordStatements
-pub use Rattle.core_laws.specs.States
-pub use Rattle.core_laws.specs.Soundness
-pub use Rattle.core_laws.specs.Events
-pub use Rattle.core_laws.specs.Standing
-pub use Rattle.core_laws.specs.LogEvents
-pub use Rattle.core_laws.specs.Aligned
-pub use Rattle.core_laws.specs.Versions
