@@ -10,7 +10,7 @@ mod upper;
 mod walks;
 mod worlds;
 
-pub use memos::{Latest, Memo, NoMemo, Repeats};
+pub use memos::{Kept, Latest, Memo, NoMemo, Repeats};
 pub use upper::Upper;
 pub use walks::rebuild;
 pub use worlds::rebuild_world;
