@@ -1,7 +1,9 @@
-//! What the blocks of the versions have in common, said of cells and of the log alone.
+//! What the blocks of the versions have in common, said of cells and of the log alone: definitions
+//! and laws, which touch nothing. No store of nodes occurs here.
 //!
-//! Aligned blocks and their contents, versions that are kept, and marks that come to a log. No
-//! store of nodes occurs in it.
+//! Aligned blocks are in `specs/Aligned.antt`, the number of their different contents in
+//! `specs/Contents.antt`, versions that are kept and marks that come to a log in
+//! `specs/Versions.antt`. What the laws say is in `specs/Statements.antt`.
 #![tactic(auto)]
 
 mod laws;

@@ -1,6 +1,10 @@
 //! What every walk from a root down to leaves has in common, over any store that can be read: the
 //! octants of a block by name, the part of a box in an octant, a look at one cell, and a small
 //! table of what was found before.
+//!
+//! It reads a store, and takes no memory but for that table, which has a fixed size. What stands
+//! below a root is said in `specs/Roots.antt`, a look at a cell in `specs/Looks.antt`, parts in
+//! `specs/Parts.antt`, and answers that are remembered in `specs/Answers.antt`.
 #![tactic(auto)]
 
 mod answers;

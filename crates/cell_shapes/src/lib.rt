@@ -1,8 +1,9 @@
-//! The canonical shape of given cells. An edit, a version of a log and a question of what a run can
-//! need all name a block by its cells; here stands the one shape that a store keeps for them.
+//! The canonical shape of given cells. An edit, a version of a log and a question of what a run
+//! can need all name a block by its cells; here stands the one shape that a store keeps for them.
 //!
-//! The definitions stand in `specs/`. The laws that crates above rest on are the contracts of the
-//! functions here.
+//! It is definitions and laws, and touches nothing. The definitions stand in
+//! `specs/CellShapes.antt`. The laws that crates above rest on are the contracts of the functions
+//! here.
 #![tactic(auto)]
 
 ghost use Rattle.std.specs.Prelude.{◌≡◌, ◌^◌, ◌<◌, ℕ, suc};

@@ -1,8 +1,10 @@
 //! Builds the root of a new version over any store, from a task that says what becomes of each
-//! block.
+//! block. It touches the store, and takes no memory but the stack's.
 //!
 //! The walk goes down where a block is mixed, and takes what is known as a whole by one share. It
-//! remembers the blocks that it made last, so a block like one of them costs one share more.
+//! remembers blocks that it made, in the memo that it is given, so a block like one of them costs
+//! one share more. A walk is told in `specs/Walks.antt` and a memo in `specs/Memos.antt`; what a
+//! task makes of a block is said by cells, in `specs/Tasks.antt` of `edit_cells`.
 #![tactic(auto)]
 
 mod memos;

@@ -1,6 +1,9 @@
 //! The words of a store for one thread: of each slot its book and its tag, and the bits of a leaf
-//! or the words of a node. Books and words have a row for each level, and all words of a node stand
-//! side by side.
+//! or the words of a node.
+//!
+//! All memory is taken at the start. Books and words have a row for each level, and all words of a
+//! node stand side by side (`specs/Slots.antt`). How the words are read as books and keys is said
+//! in `specs/Words.antt`, and how they change in `specs/Changes.antt`.
 #![tactic(auto)]
 
 mod ends;

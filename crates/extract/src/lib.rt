@@ -1,7 +1,8 @@
 //! The set cells of a box as a list of voxels, and as a VOX file, over any store that can be read.
 //!
-//! A layer's leaves are gathered once for all its rows. The list, in order, is in
-//! `specs/Listing.antt`, and the file in `specs/Saved.antt`.
+//! It reads a store, and takes memory for the list and the file; no file is written here. A
+//! layer's leaves are gathered once for all its rows. The list, in order, is in
+//! `specs/Listing.antt`, and the bytes of the file in `specs/Saved.antt`.
 #![tactic(auto)]
 
 mod boxes;

@@ -1,8 +1,9 @@
 //! The bits of a leaf's block at once: those of a box, of a ball, and of a leaf that lies across
-//! eight others.
+//! eight others. They are computed from numbers, and touch nothing.
 //!
 //! Each answers for 64 cells by a few operations on whole words, and is proved to say of each cell
-//! what its definition says.
+//! what its definition says: which bit is whose is in `specs/Leaves.antt`, and when a cell is in a
+//! box or a ball in `specs/Places.antt` of `vw_cell`.
 #![tactic(auto)]
 
 mod balls;

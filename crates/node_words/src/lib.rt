@@ -1,8 +1,9 @@
 //! What any store of nodes promises: names, shares, plans, keys and their buckets, and the traits
-//! of stores.
+//! of stores. It holds no store, and touches none but through those traits.
 //!
 //! A store keeps each node once. Whoever holds a share of a node may read it and all that stands
-//! below it, and may make a node of shares. What a store holds is seen as a list of trees of names.
+//! below it, and may make a node of shares. What a store holds is seen as a list of trees of names
+//! (`specs/Held.antt`); its layout is in `specs/Plans.antt`, its keys in `specs/Keys.antt`.
 #![tactic(auto)]
 
 mod keys;

@@ -1,6 +1,7 @@
 //! Which contents a run's edits can have needed, cell by cell: when a bucket may be full.
 //!
-//! The definitions stand in `specs/`. Nothing here speaks of a store.
+//! It is definitions and a law, and touches nothing: no store occurs here. Which contents an act
+//! needs, and how many different ones a run can have needed, is said in `specs/Needed.antt`.
 #![tactic(auto)]
 
 ghost use Rattle.std.specs.Prelude.{◌≡◌, ℕ, List};

@@ -1,7 +1,9 @@
 //! Scripts: the commands that a text gives, line by line, or the first fault that it has.
 //!
-//! The language stands in `specs/`: its lines, words and numbers, a row for each command, and the
-//! order in which the faults of a line decide.
+//! It reads a text's bytes, and takes memory for the list of commands. The language stands in
+//! `specs/`: lines and words in `Lines.antt`, numbers in `Numbers.antt`, a row for each command in
+//! `Commands.antt`, what must be there for it in `Placing.antt`, and in `Scripts.antt` whole texts
+//! and which fault is the first.
 #![tactic(auto)]
 
 mod commands;

@@ -1,7 +1,8 @@
 //! The answers to a script's commands, and their text: it is written and read back in one form.
 //!
-//! It touches no world: an answer is a value here. The words of each are in `specs/Lines.antt`,
-//! what a refused text says of itself in `specs/Refusals.antt`.
+//! It touches no world and no file, an answer is a value here; it takes memory for texts and
+//! lists. The words of each answer are in `specs/Lines.antt`, the numbers that it can hold in
+//! `specs/Bounds.antt`, what a refused text says of itself in `specs/Refusals.antt`.
 #![tactic(auto)]
 
 mod answers;

@@ -1,7 +1,10 @@
-//! What a history says of its versions. Of one or two of them, whichever session asks, each refusal
-//! tells the length of the history then; `specs/Listing.antt` says what a session lists of what it
-//! did. Of a history that holds its last versions alone: which version each record pushes out, and
-//! the marks that are made so.
+//! What a history says of its versions: it reads records and marks, and takes memory for a list of
+//! marks alone.
+//!
+//! Of one or two versions, whichever session asks, each refusal tells the length of the history
+//! then; `specs/Listing.antt` says what a session lists of what it did. Of a history that holds
+//! its last versions alone, `specs/Retained.antt` says which version each record pushes out and
+//! which marks are made so. The laws of it are in `specs/Statements.antt`.
 #![tactic(auto)]
 
 mod comparing;

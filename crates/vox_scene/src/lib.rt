@@ -1,4 +1,10 @@
-//! The scene of a VOX file: its nodes, and where they place the turned models.
+//! The scene of a VOX file: its nodes, where they place the turned models, and the script that
+//! stamps them; or the file's first fault.
+//!
+//! It reads bytes and takes memory; no file is opened here. Which scene a file has is said in
+//! `specs/Scenes.antt`, and what a refusal names in `specs/Faults.antt`. Nodes are in
+//! `specs/Nodes.antt`, how they turn and move what stands below them in `specs/Turnings.antt`, and
+//! the script in `specs/Written.antt`.
 #![tactic(auto)]
 
 mod dicts;

@@ -1,8 +1,11 @@
 //! Files by name and a place to put bytes, each as a trait, with an implementation in memory and
 //! one over the system.
 //!
-//! A trait's ghost members are what it holds, which it may leave untold, and how often it has
-//! failed. The implementations over the system tell no content: they are the trusted edge.
+//! Only `FileShelf` and `StdSink` touch the system. They tell no content: they are the trusted
+//! edge. A trait's ghost members are what it holds, which it may leave untold, and how often it
+//! has failed (`specs/Outside.antt`). What each call answers is said in `specs/Read.antt`,
+//! `specs/Write.antt` and `specs/Put.antt`, inputs and outputs in a row in `specs/Inputs.antt` and
+//! `specs/Outputs.antt`.
 #![tactic(auto)]
 
 mod faults;
