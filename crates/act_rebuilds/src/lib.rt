@@ -1,8 +1,9 @@
 //! One editing act carried out on the root of a version, over any store of nodes, of a world of
 //! plain cells and of one whose cells have tints.
 //!
-//! Whatever the act, the contract is one: what its cells are, what joined the entries made, and
-//! what a full bucket leaves.
+//! It touches the store, and takes memory for the stencils of models alone. Whatever the act, the
+//! contract is one, in `specs/Acts.antt`: what its cells are, what joined the entries made, and
+//! what a full bucket leaves. Models that were drawn are told in `specs/Drawn.antt`.
 #![tactic(auto)]
 
 mod drawn;

@@ -1,8 +1,10 @@
-//! Which answers fit a history, when a history, scripts and transcripts agree, how a run keeps that
-//! line by line, and what a run of scripts gives.
+//! Which answers fit a history, when a history, scripts and transcripts agree, how a run keeps
+//! that line by line, and what a run of scripts gives.
 //!
-//! The definitions stand in `specs/`, and speak of cells and records alone. The laws are the
-//! contracts of the functions here.
+//! It is definitions, laws and the types of what runs give, and touches nothing. The definitions
+//! speak of cells and records alone: which answer fits is in `specs/Answers.antt`, what agrees in
+//! `specs/Agreeing.antt`, the steps of a run in `specs/Running.antt`, and what a run gives in
+//! `specs/Runs.antt`. The laws are the contracts of the functions here.
 #![tactic(auto)]
 
 mod laws;

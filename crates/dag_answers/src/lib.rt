@@ -1,8 +1,10 @@
 //! The questions of scripts, asked of one version of a file of many versions, and the file of the
 //! versions of a history.
 //!
-//! It takes bytes and spelled questions, and touches no shelf. What a look answers is said in
-//! `specs/Looks.antt`, and which history has a file, and which, in `specs/Histories.antt`.
+//! It takes bytes and spelled questions, and touches no shelf. To make a file it takes memory for
+//! a store in which the history is replayed. What a look answers is said in `specs/Looks.antt`,
+//! which history has a file, and which, in `specs/Histories.antt`, and which record is the first
+//! that isn't legal in `specs/Legality.antt`.
 #![tactic(auto)]
 
 mod asking;

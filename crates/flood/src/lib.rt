@@ -1,8 +1,8 @@
 //! The empty region of a box that is connected with a cell, over any store that can be read.
 //!
-//! It goes by rows of bits and whole blocks, and makes of a model the file of its region. What is
-//! connected is said in `specs/Ways.antt` and what a region is in `specs/Regions.antt`, in cells
-//! alone.
+//! It goes by rows of bits and whole blocks, and takes memory for them, for the list and for the
+//! file. A model's region is told over a store of its own (`specs/Models.antt`). What is connected
+//! is said in `specs/Ways.antt` and what a region is in `specs/Regions.antt`, in cells alone.
 #![tactic(auto)]
 
 mod bit_regions;

@@ -1,8 +1,9 @@
 //! Edits over sessions that are borrowed: a session is lent to a hand, the hand is a store of
 //! nodes, and what the hand leaves is the session.
 //!
-//! It touches the table by `intern` and `release` alone. What a hand has of its lender is in
-//! `specs/Lent.antt`.
+//! It touches the table by `intern` and `release` alone, where edits may wait; questions don't.
+//! What a hand has of its lender is in `specs/Lent.antt`, what a session is between two calls in
+//! `specs/Lendable.antt`, and what an edit makes in `specs/Acts.antt` of `act_rebuilds`.
 #![tactic(auto)]
 
 mod balls;

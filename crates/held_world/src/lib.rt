@@ -1,8 +1,9 @@
 //! A world that C holds between two calls, and what each call does to it.
 //!
-//! A call takes its numbers as they come, tests them, and answers a status of `statuses`. It stands
-//! on the store for one thread and reaches no file. What the world that is held means is said in
-//! `specs/Holding.antt`, and what each call does to it in `specs/Calls.antt`.
+//! A call takes its numbers as they come, tests them, and answers a status of `statuses`. It
+//! stands on the store for one thread, takes memory, and reaches no file. What the world that is
+//! held means is said in `specs/Holding.antt`, and what each call does to it in
+//! `specs/Calls.antt`.
 #![tactic(auto)]
 
 mod asks;

@@ -1,8 +1,9 @@
 //! Laws of the inputs that one number makes: a run takes them, since their scripts are read as the
 //! commands they were made of.
 //!
-//! It has no code but the statements. The commands are in `specs/Commands.antt`; what a load is
-//! says `gen_load`.
+//! It has no code but the statements, and touches nothing. The commands are in
+//! `specs/Commands.antt`, and that they are read in `specs/ReadLaws.antt`; what a load is stands
+//! in `specs/Loads.antt` of `gen_load`.
 #![tactic(auto)]
 
 ghost use Rattle.load_laws.specs.ReadLaws.{ScriptsAreRead};

@@ -1,8 +1,9 @@
 //! Scripts that are run one after another over a desk that answers line by line.
 //!
-//! A desk keeps the world in whatever form. It shows, line by line, what its answer makes of the
-//! history (`TakesLine` in `specs/Sessions.antt`); that a whole run then is one legal history which
-//! agrees with all scripts and transcripts follows here, once for all desks.
+//! A desk keeps the world in whatever form; here memory is taken for the lists of answers alone. A
+//! desk shows, line by line, what its answer makes of the history (`TakesLine` in
+//! `specs/Sessions.antt`); that a whole run then is one legal history which agrees with all
+//! scripts and transcripts follows here, once for all desks.
 #![tactic(auto)]
 
 mod desks;

@@ -1,8 +1,10 @@
 //! Scripts that sessions run beside each other in one world.
 //!
-//! What the run of one session tells rests on what that session saw alone (`SessionRan` in
-//! `specs/Ran.antt`), and what a closed world tells is one history of all sessions (`ClosesWorld`).
-//! Both together are a run of the scripts, as one after another gives it.
+//! It holds definitions, laws and the loop over a session's lines, and touches nothing but the
+//! desk that answers them. What the run of one session tells rests on what that session saw alone
+//! (`SessionRan` in `specs/Ran.antt`), and what a closed world tells is one history of all
+//! sessions (`ClosesWorld` there). Both together are a run of the scripts, as one after another
+//! gives it (`specs/Statements.antt`). What each call tells is in `specs/Told.antt`.
 #![tactic(auto)]
 
 mod calls;

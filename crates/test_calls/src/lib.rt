@@ -1,5 +1,5 @@
-//! What tests ask the program's top call, over shelves and sinks in memory, and files to ask it
-//! about.
+//! For tests: what they ask the program's top call, over shelves and sinks in memory, and files to
+//! ask it about. It holds no test, and touches memory alone.
 #![tactic(auto)]
 
 mod asking;

@@ -1,4 +1,5 @@
-//! For tests: gates at which workers wait for each other, so that a test says how they meet.
+//! For tests: gates at which workers wait for each other, so that a test says how they meet. Its
+//! own tests show that workers do meet.
 #![tactic(auto)]
 
 #[cfg(test)]

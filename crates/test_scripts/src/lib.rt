@@ -1,5 +1,5 @@
-//! For tests: scripts by chance, and what a run of them must answer, write and report, by the plain
-//! run and the contents of aligned blocks.
+//! For tests: scripts by chance, and what a run of them must answer, write and report, by the
+//! plain run and the contents of aligned blocks. It holds no test, and touches memory alone.
 #![tactic(auto)]
 
 mod contents;

@@ -1,5 +1,5 @@
-//! Worlds for tests: one in a store for one thread, and beside it plain cells that the same acts
-//! were done to.
+//! For tests: worlds in a store for one thread, and beside each plain cells that the same acts
+//! were done to, acts by chance too. It holds no test, and touches memory alone.
 #![tactic(auto)]
 
 mod asking;

@@ -1,5 +1,5 @@
 //! Tests of audits: of texts written by hand, with tints too, of such with a piece changed, and of
-//! runs of the store for one thread.
+//! runs of the store for one thread. It holds tests alone, and they touch no file.
 #![tactic(auto)]
 
 #[cfg(test)]

@@ -1,5 +1,5 @@
-//! Tests of tinted acts over a store, and of what such a store tells: rows, and random acts against
-//! a number for each cell.
+//! Tests of tinted acts over a store, and of what such a store tells: rows, and random acts
+//! against a number for each cell. It holds tests alone, over the store for one thread.
 #![tactic(auto)]
 
 #[cfg(test)]

@@ -1,5 +1,5 @@
-//! Tests of the pure core: its buckets, events with the replies that its table gives, and the store
-//! for one thread beside it.
+//! Tests of the pure core: its buckets, events with the replies that its table gives, and the
+//! store for one thread beside it. It holds tests alone.
 #![tactic(auto)]
 
 #[cfg(test)]

@@ -1,5 +1,6 @@
 //! Tests of the four edits over a store, and of what may be asked of a world: rows of what they
-//! make and answer, and random edits and questions against plain cells.
+//! make and answer, and random edits and questions against plain cells. It holds tests alone, over
+//! the store for one thread.
 #![tactic(auto)]
 
 #[cfg(test)]

@@ -1,4 +1,5 @@
-//! Tests of the readers and writers of files, over files that are put together from chunks.
+//! Tests of the readers and writers of VOX files, over files that are put together from chunks,
+//! and of the files and scripts of a load. It holds tests alone, over bytes in memory.
 #![tactic(auto)]
 
 #[cfg(test)]

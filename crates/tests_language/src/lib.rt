@@ -1,4 +1,5 @@
-//! Tests of the texts of histories, scripts and transcripts, and of what stands behind undos.
+//! Tests of the texts of histories, scripts and transcripts, and of what stands behind undos; of
+//! acts, too, as words and in what worlds they fit. It holds tests alone, over texts in memory.
 #![tactic(auto)]
 
 #[cfg(test)]

@@ -1,4 +1,5 @@
-//! Tests of what the program's top call writes: transcripts, journals, reports and saved files.
+//! Tests of what the program's top call writes: transcripts, journals, reports and saved files,
+//! and what is left where a call fails. It holds tests alone, over shelves and sinks in memory.
 #![tactic(auto)]
 
 #[cfg(test)]

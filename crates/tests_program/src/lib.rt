@@ -1,5 +1,6 @@
-//! Tests of the words that the program's top call takes, and of `count`, `demo` and the examples,
-//! over shelves and sinks in memory.
+//! Tests of the words that the program's top call takes, of its commands besides `run`, and of the
+//! examples of `docs/SCRIPTS.md`. It holds tests alone, over shelves and sinks in memory; one
+//! takes real files, and removes them.
 #![tactic(auto)]
 
 #[cfg(test)]

@@ -1,4 +1,5 @@
-//! Tests of regions of worlds, and of the scenes of VOX files.
+//! Tests of regions of worlds, against plain steps from cell to cell, and of the scenes of VOX
+//! files. It holds tests alone, over the store for one thread and over bytes in memory.
 #![tactic(auto)]
 
 #[cfg(test)]

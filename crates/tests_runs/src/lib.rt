@@ -1,4 +1,5 @@
-//! Scripts by chance, run by the program's top call and by the plain run, which has no store.
+//! Scripts by chance, run by the program's top call and by the plain run, which has no store, and
+//! compared byte by byte. It holds tests alone, over shelves and sinks in memory.
 #![tactic(auto)]
 
 #[cfg(test)]

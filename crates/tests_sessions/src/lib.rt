@@ -1,4 +1,5 @@
-//! Tests of sessions of one world, on one thread and on two, and of worlds whose cells have tints.
+//! Tests of sessions of one world, on one thread and on two, and of worlds whose cells have tints:
+//! what their calls answer, and what a closed world leaves. It holds tests alone.
 #![tactic(auto)]
 
 #[cfg(test)]

@@ -1,6 +1,6 @@
-//! Tests of the store for one thread, over its public calls, and of DAG files byte by byte: what is
-//! refused and where, what a file tells of its versions, and files that are written of a store's
-//! versions.
+//! Tests of the store for one thread, over its public calls, and of DAG files byte by byte: what
+//! is refused and where, what a file tells of its versions, and files that are written of a
+//! store's versions. It holds tests and what they call alone.
 #![tactic(auto)]
 
 mod changes;

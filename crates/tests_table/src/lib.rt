@@ -1,4 +1,5 @@
-//! Tests of a table of nodes, on one thread and on many.
+//! Tests of a table of nodes, on one thread and on many: what its calls answer beside the pure
+//! core, and what is left when a table is closed. It holds tests alone.
 #![tactic(auto)]
 
 #[cfg(test)]

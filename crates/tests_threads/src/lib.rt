@@ -1,4 +1,5 @@
-//! Scripts that run at the same time, each as a session of one world.
+//! Scripts that run at the same time, each as a session of one world: in an order that a gate
+//! says, and as they may. It holds tests alone, over threads of their own.
 #![tactic(auto)]
 
 #[cfg(test)]

@@ -1,4 +1,5 @@
-//! Tests of where undos and redos go, over the words of a log, and of which versions fall out.
+//! Tests of where undos and redos go, over the words of a log and along a trail, and of which
+//! versions fall out. It holds tests alone.
 #![tactic(auto)]
 
 #[cfg(test)]

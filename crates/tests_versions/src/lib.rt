@@ -1,5 +1,5 @@
 //! Tests of a table's log and of versions over it: sessions of one small world meet there, on one
-//! thread and on four.
+//! thread and on four. It holds tests alone.
 #![tactic(auto)]
 
 #[cfg(test)]

@@ -1,7 +1,9 @@
 //! A voxel world for C: a handle that C owns, and a function for each command.
 //!
-//! Each number that C hands in is tested before it counts. A status is 0 where a command was
-//! carried out, and else says why not. `include/voxdag.h` has all of this in the words of C.
+//! It touches memory alone, its own and what C hands in. Each number that C hands in is tested
+//! before it counts. A status is 0 where a command was carried out, and else says why not. What
+//! each call does is said in `specs/Calls.antt` of `held_world`, and `include/voxdag.h` has all of
+//! this in the words of C.
 #![tactic(auto)]
 
 ghost use Rattle.std.specs.Prelude.{◌≡◌, false, ⊤};

@@ -1,5 +1,9 @@
 //! The questions of scripts, asked of the root of one version in any store of nodes that can be
 //! read, and answered in a transcript's terms.
+//!
+//! It reads a store, changes nothing in it and takes no memory. Which answer tells what is asked
+//! of a root, with tints or without, is said in `specs/TellsRoots.antt`, in the terms of
+//! `conformance` (`specs/Telling.antt` there).
 #![tactic(auto)]
 
 ghost use Rattle.std.specs.Prelude.{◌≡◌, ◌^◌, true, option_copied};
