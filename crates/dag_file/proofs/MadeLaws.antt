@@ -11,7 +11,7 @@ use Rattle.std.proofs.lemmas.List.Elements.{Contains-get_or}
 use Rattle.node_shapes.specs.declared.names.Name.{Name}
 use Rattle.node_shapes.specs.Tree.{Tree}
 use Rattle.dag_file.specs.Trees.{entry_name, named_index}
-use Rattle.dag_file.specs.Writes.{AreLeaves, AreNodes, AreIndices, AreNodeIndices, AreChildren, IsWordOfName, HasSlot}
+use Rattle.dag_file.specs.Writes.{AreLeaves, AreNodeWords, AreIndices, AreNodeIndices, AreChildren, IsWordOfName, HasSlot}
 use Rattle.block_walk.specs.Roots.{IsOctantOf}
 use Rattle.dag_file.specs.Layers.{first_node, Stands, AreLayers}
 use Rattle.dag_file.proofs.FileLaws.{first_below}
@@ -96,7 +96,7 @@ stands_more held counts more leaves nodes further (suc level) keys indices lt lo
       ∙ x.here i inside);
 }
 
-module _ (held : List Tree) (level : ℕ) (keys below below_indices indices counts leaves : List ℕ) (nodes contents sorted : List (List ℕ)) (old : AreLayers held level below below_indices counts leaves nodes) (children : AreChildren held (suc level) keys below) (words : AreNodes held (suc level) keys below below_indices (length keys) contents) (only : (x : List ℕ) → Contains sorted x → Contains contents x) where
+module _ (held : List Tree) (level : ℕ) (keys below below_indices indices counts leaves : List ℕ) (nodes contents sorted : List (List ℕ)) (old : AreLayers held level below below_indices counts leaves nodes) (children : AreChildren held (suc level) keys below) (words : AreNodeWords held (suc level) keys below below_indices (length keys) contents) (only : (x : List ℕ) → Contains sorted x → Contains contents x) where
   few_below : (j : ℕ) → j < length below → slice_index below_indices j < 2 ^ 24
   few_below = layers_few held level below below_indices counts leaves nodes old
 
@@ -172,7 +172,7 @@ module _ (held : List Tree) (level : ℕ) (keys below below_indices indices coun
         count_here = get_or_push counts (length sorted) 0 (suc level) levels
 
 -- the same of a level that isn't 0
-pub node_layer : (held : List Tree) (level : ℕ) (keys below below_indices indices counts more leaves : List ℕ) (nodes all contents sorted : List (List ℕ)) → 1 ≤ level → AreLayers held (level - 1) below below_indices counts leaves nodes → AreChildren held level keys below → AreNodes held level keys below below_indices (length keys) contents → ((x : List ℕ) → Contains sorted x → Contains contents x) → IsStrictlySortedBy (slice_cmp nat_cmp) sorted → AreNodeIndices contents sorted (length contents) indices → length sorted ≤ 2 ^ 24 → more ≡ counts ++ length sorted ∷ [] → all ≡ nodes ++ sorted → AreLayers held level keys indices more leaves all
+pub node_layer : (held : List Tree) (level : ℕ) (keys below below_indices indices counts more leaves : List ℕ) (nodes all contents sorted : List (List ℕ)) → 1 ≤ level → AreLayers held (level - 1) below below_indices counts leaves nodes → AreChildren held level keys below → AreNodeWords held level keys below below_indices (length keys) contents → ((x : List ℕ) → Contains sorted x → Contains contents x) → IsStrictlySortedBy (slice_cmp nat_cmp) sorted → AreNodeIndices contents sorted (length contents) indices → length sorted ≤ 2 ^ 24 → more ≡ counts ++ length sorted ∷ [] → all ≡ nodes ++ sorted → AreLayers held level keys indices more leaves all
 node_layer held zero keys below below_indices indices counts more leaves nodes all contents sorted some old children words only rises placed few more_is all_is = absurd (omega (arith, some))
 node_layer held (suc level) keys below below_indices indices counts more leaves nodes all contents sorted some old children words only rises placed few more_is all_is =
     let under : suc level - 1 ≡ level = omega arith in
@@ -191,12 +191,12 @@ leaf_layer_of held keys k1 bits b1 b2 leaves l1 indices none counts n nodes ek e
     (subst (λ (b : List ℕ). AreIndices b leaves (length b) indices) eb2 (subst (λ (l : List ℕ). AreIndices b2 l (length b2) indices) el placed))
     (omega (arith, many, same, shorter, few)) (counts_are ∙ ap (λ (l : List ℕ). l ++ n ∷ []) none_is ∙ ap (λ (m : ℕ). m ∷ []) n_is) nodes_are
 
-pub node_layer_of : (held : List Tree) (level : ℕ) (keys k1 below below1 below_indices bi1 indices counts more leaves : List ℕ) (nodes all contents c1 c2 sorted s1 s2 : List (List ℕ)) (n : ℕ) → 1 ≤ level → k1 ≡ keys → below1 ≡ below → bi1 ≡ below_indices → c1 ≡ contents → c2 ≡ contents → s1 ≡ sorted → s2 ≡ sorted → AreLayers held (level - 1) below below_indices counts leaves nodes → AreChildren held level keys below → AreNodes held level k1 below1 bi1 (length k1) contents → ((x : List ℕ) → Contains sorted x → Contains c1 x) → IsStrictlySortedBy (slice_cmp nat_cmp) sorted → length sorted ≤ length c1 → AreNodeIndices c2 s1 (length c2) indices → length keys ≤ 2 ^ 24 → n ≡ length sorted → more ≡ counts ++ n ∷ [] → all ≡ nodes ++ s2 → AreLayers held level keys indices more leaves all
+pub node_layer_of : (held : List Tree) (level : ℕ) (keys k1 below below1 below_indices bi1 indices counts more leaves : List ℕ) (nodes all contents c1 c2 sorted s1 s2 : List (List ℕ)) (n : ℕ) → 1 ≤ level → k1 ≡ keys → below1 ≡ below → bi1 ≡ below_indices → c1 ≡ contents → c2 ≡ contents → s1 ≡ sorted → s2 ≡ sorted → AreLayers held (level - 1) below below_indices counts leaves nodes → AreChildren held level keys below → AreNodeWords held level k1 below1 bi1 (length k1) contents → ((x : List ℕ) → Contains sorted x → Contains c1 x) → IsStrictlySortedBy (slice_cmp nat_cmp) sorted → length sorted ≤ length c1 → AreNodeIndices c2 s1 (length c2) indices → length keys ≤ 2 ^ 24 → n ≡ length sorted → more ≡ counts ++ n ∷ [] → all ≡ nodes ++ s2 → AreLayers held level keys indices more leaves all
 node_layer_of held level keys k1 below below1 below_indices bi1 indices counts more leaves nodes all contents c1 c2 sorted s1 s2 n some ek eb ei ec1 ec2 es1 es2 old children words only rises shorter placed few n_is more_is all_is =
-    let words_of : AreNodes held level keys below below_indices (length keys) contents =
-    subst (λ (k : List ℕ). AreNodes held level k below below_indices (length k) contents) ek
-    (subst (λ (b : List ℕ). AreNodes held level k1 b below_indices (length k1) contents) eb
-    (subst (λ (i : List ℕ). AreNodes held level k1 below1 i (length k1) contents) ei words)) in
+    let words_of : AreNodeWords held level keys below below_indices (length keys) contents =
+    subst (λ (k : List ℕ). AreNodeWords held level k below below_indices (length k) contents) ek
+    (subst (λ (b : List ℕ). AreNodeWords held level k1 b below_indices (length k1) contents) eb
+    (subst (λ (i : List ℕ). AreNodeWords held level k1 below1 i (length k1) contents) ei words)) in
     let many = words_of.many in
     let same : length c1 ≡ length contents = ap (λ (l : List (List ℕ)). length l) ec1 in
     node_layer held level keys below below_indices indices counts more leaves nodes all contents sorted some old children words_of

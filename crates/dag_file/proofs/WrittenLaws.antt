@@ -17,7 +17,7 @@ use Rattle.dag_file.specs.Rules.{IsRight, IsNumberRight, IsRootRight, IsNamed, A
 use Rattle.dag_file.specs.Trees.{entry_name, named_index, tree_of}
 use Rattle.dag_file.specs.Lists.{Listed, HoldsList, DoNumbersRise, ShowCanonical, AreNumbersSmall, IsFileOfList}
 use Rattle.dag_file.specs.Writes.{AreRoots, HasSlot, file_bytes}
-use Rattle.dag_file.specs.Layers.{Stands, AreLayers, IsPairOf, AreVersions}
+use Rattle.dag_file.specs.Layers.{Stands, AreLayers, IsPairOf, AreVersionPairs}
 use Rattle.dag_file.proofs.KeyLaws.{entry_of}
 use Rattle.dag_file.proofs.ListLaws.{there}
 use Rattle.dag_file.proofs.ByteRange.{file_is_bytes, power_is_side}
@@ -76,7 +76,7 @@ counts_few held counts leaves nodes (suc level) keys indices x l le = elim (case
 
 module _ (held : List Tree) (side top : ℕ) (roots : List Listed) (keys indices counts leaves : List ℕ) (nodes pairs : List (List ℕ))
     (low : top ≤ 10) (side_power : side ≡ 2 ^ (top + 2)) (small_side : side ≤ 4096)
-    (layers : AreLayers held top keys indices counts leaves nodes) (root_keys : AreRoots roots keys) (versions : AreVersions roots keys indices (length roots) pairs)
+    (layers : AreLayers held top keys indices counts leaves nodes) (root_keys : AreRoots roots keys) (versions : AreVersionPairs roots keys indices (length roots) pairs)
     (holds : HoldsList held (suc top) roots) (canonical : ShowCanonical held (suc top) roots) (rise : DoNumbersRise roots) (small : AreNumbersSmall roots) where
   under : suc (suc top) - 2 ≡ top
   under = omega arith
@@ -286,7 +286,7 @@ module _ (held : List Tree) (side top : ℕ) (roots : List Listed) (keys indices
 -- ---- in the words of a side's exponent
 
 file_is : (held : List Tree) (exponent top : ℕ) (roots : List Listed) (root_list keys indices counts leaves : List ℕ) (nodes pairs : List (List ℕ)) (bytes : List ℕ) → (2 ≤ exponent) × (exponent ≤ 12) → top ≡ exponent - 2
-    → AreLayers held top keys indices counts leaves nodes → keys ≡ root_list → AreRoots roots root_list → AreVersions roots keys indices (length roots) pairs
+    → AreLayers held top keys indices counts leaves nodes → keys ≡ root_list → AreRoots roots root_list → AreVersionPairs roots keys indices (length roots) pairs
     → HoldsList held (exponent - 1) roots → ShowCanonical held (exponent - 1) roots → DoNumbersRise roots → AreNumbersSmall roots
     → bytes ≡ file_bytes (2 ^ exponent) counts leaves nodes pairs → IsFileOfList held (exponent - 1) roots bytes
 file_is held exponent top roots root_list keys indices counts leaves nodes pairs bytes bounds top_is layers same root_keys versions holds canonical rise small is =
@@ -305,12 +305,12 @@ file_is held exponent top roots root_list keys indices counts leaves nodes pairs
     (subst (λ (l : ℕ). ShowCanonical held l roots) levels canonical)
     rise small))
 
-few_pairs_of : (roots : List Listed) (keys indices : List ℕ) (pairs : List (List ℕ)) → DoNumbersRise roots → AreNumbersSmall roots → AreVersions roots keys indices (length roots) pairs → length pairs ≤ 65536
+few_pairs_of : (roots : List Listed) (keys indices : List ℕ) (pairs : List (List ℕ)) → DoNumbersRise roots → AreNumbersSmall roots → AreVersionPairs roots keys indices (length roots) pairs → length pairs ≤ 65536
 few_pairs_of roots keys indices pairs rise small versions = let f = few_versions roots rise small in let m = versions.many in omega (arith, f, m)
 
 -- a version more
-pub versions_more : (roots : List Listed) (keys indices : List ℕ) (n : ℕ) (item : Listed) (words : List ℕ) (old new : List (List ℕ)) → slice_get roots n ≡ Some item → AreVersions roots keys indices n old → IsPairOf keys indices item words → new ≡ old ++ words ∷ [] → AreVersions roots keys indices (n + 1) new
-versions_more roots keys indices n item words old new at before pair is = subst (λ (ps : List (List ℕ)). AreVersions roots keys indices (n + 1) ps) (sym is) (record {
+pub versions_more : (roots : List Listed) (keys indices : List ℕ) (n : ℕ) (item : Listed) (words : List ℕ) (old new : List (List ℕ)) → slice_get roots n ≡ Some item → AreVersionPairs roots keys indices n old → IsPairOf keys indices item words → new ≡ old ++ words ∷ [] → AreVersionPairs roots keys indices (n + 1) new
+versions_more roots keys indices n item words old new at before pair is = subst (λ (ps : List (List ℕ)). AreVersionPairs roots keys indices (n + 1) ps) (sym is) (record {
   many = (let l = length-append old (words ∷ []) in let m = before.many in omega (arith, l, m));
   each = λ v x lt e. elim (cases_eq v n) [
     | inl last ↦ (
@@ -331,14 +331,14 @@ versions_more roots keys indices n item words old new at before pair is = subst 
 
 -- the same by the slices that calls were given
 pub file_of_parts : (held : List Tree) (exponent e top : ℕ) (roots : List Listed) (root_list keys k1 indices i1 counts leaves : List ℕ) (nodes pairs p1 : List (List ℕ)) (bytes : List ℕ) → e ≡ exponent → (2 ≤ e) × (e ≤ 12) → top ≡ e - 2
-    → AreLayers held top keys indices counts leaves nodes → keys ≡ root_list → AreRoots roots root_list → k1 ≡ keys → i1 ≡ indices → p1 ≡ pairs → AreVersions roots k1 i1 (length roots) pairs
+    → AreLayers held top keys indices counts leaves nodes → keys ≡ root_list → AreRoots roots root_list → k1 ≡ keys → i1 ≡ indices → p1 ≡ pairs → AreVersionPairs roots k1 i1 (length roots) pairs
     → HoldsList held (exponent - 1) roots → ShowCanonical held (exponent - 1) roots → DoNumbersRise roots → AreNumbersSmall roots
     → bytes ≡ file_bytes (2 ^ exponent) counts leaves nodes p1 → IsFileOfList held (exponent - 1) roots bytes
 file_of_parts held exponent e top roots root_list keys k1 indices i1 counts leaves nodes pairs p1 bytes ee bounds top_is layers same root_keys ek ei ep versions holds canonical rise small is =
     file_is held exponent top roots root_list keys indices counts leaves nodes pairs bytes
     (omega (arith, bounds, ee), omega (arith, bounds, ee)) (omega (arith, top_is, ee)) layers same root_keys
-    (subst (λ (k : List ℕ). AreVersions roots k indices (length roots) pairs) ek (subst (λ (i : List ℕ). AreVersions roots k1 i (length roots) pairs) ei versions))
+    (subst (λ (k : List ℕ). AreVersionPairs roots k indices (length roots) pairs) ek (subst (λ (i : List ℕ). AreVersionPairs roots k1 i (length roots) pairs) ei versions))
     holds canonical rise small (is ∙ ap (λ (ps : List (List ℕ)). file_bytes (2 ^ exponent) counts leaves nodes ps) ep)
 
-pub few_in_slice : (roots : List Listed) (keys indices : List ℕ) (pairs p1 : List (List ℕ)) → p1 ≡ pairs → DoNumbersRise roots → AreNumbersSmall roots → AreVersions roots keys indices (length roots) pairs → length p1 ≤ 65536
+pub few_in_slice : (roots : List Listed) (keys indices : List ℕ) (pairs p1 : List (List ℕ)) → p1 ≡ pairs → DoNumbersRise roots → AreNumbersSmall roots → AreVersionPairs roots keys indices (length roots) pairs → length p1 ≤ 65536
 few_in_slice roots keys indices pairs p1 ep rise small versions = subst (λ (ps : List (List ℕ)). length ps ≤ 65536) (sym ep) (few_pairs_of roots keys indices pairs rise small versions)

@@ -7,7 +7,7 @@ use Rattle.std.specs.Cmp.Lexicographic.{slice_cmp}
 use Rattle.std.specs.Ordering.{nat_cmp}
 use Rattle.node_shapes.specs.declared.names.Name.{Name}
 use Rattle.node_shapes.specs.Tree.{Tree}
-use Rattle.dag_file.specs.Writes.{AreLeaves, AreNodes, AreIndices, AreNodeIndices, AreChildren, IsWordOfName, HasSlot}
+use Rattle.dag_file.specs.Writes.{AreLeaves, AreNodeWords, AreIndices, AreNodeIndices, AreChildren, IsWordOfName, HasSlot}
 
 -- where the nodes of the level above this one begin among the nodes of all levels
 abbrev pub first_node : List ℕ → ℕ → ℕ
@@ -29,7 +29,7 @@ pub record AreLeafEntries (held : List Tree) (keys indices counts leaves : List 
 pub record AreNodeEntries (held : List Tree) (level : ℕ)
     (keys below below_indices indices : List ℕ) (sorted : List (List ℕ)) : Type 0 where
   pub contents : List (List ℕ)
-  pub words : AreNodes held level keys below below_indices (length keys) contents
+  pub words : AreNodeWords held level keys below below_indices (length keys) contents
   pub placed : AreNodeIndices contents sorted (length contents) indices
   pub rises : IsStrictlySortedBy (slice_cmp nat_cmp) sorted
   pub only : (x : List ℕ) → Contains sorted x → Contains contents x
@@ -73,7 +73,7 @@ pub record IsPairOf (keys indices : List ℕ) (x : ℕ × Option Name) (words : 
   pub word : IsWordOfName keys indices x.1 (slice_index words 1)
 
 -- the pairs of the first n versions
-pub record AreVersions (roots : List (ℕ × Option Name)) (keys indices : List ℕ) (n : ℕ)
+pub record AreVersionPairs (roots : List (ℕ × Option Name)) (keys indices : List ℕ) (n : ℕ)
     (pairs : List (List ℕ)) : Type 0 where
   pub many : length pairs ≡ n
   pub each : (v : ℕ) (x : ℕ × Option Name) → v < n → slice_get roots v ≡ Some x

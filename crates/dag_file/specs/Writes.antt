@@ -106,7 +106,7 @@ AreOctantWords held level node keys indices n words =
     (k : ℕ) → k < n → IsOctantWord held level node keys indices k (slice_index words k)
 
 -- the words of the nodes of the first n keys, in their order
-pub record AreNodes (held : List Tree) (level : ℕ) (keys below indices : List ℕ) (n : ℕ)
+pub record AreNodeWords (held : List Tree) (level : ℕ) (keys below indices : List ℕ) (n : ℕ)
     (nodes : List (List ℕ)) : Type 0 where
   pub many : length nodes ≡ n
   pub words : (j : ℕ) → j < n

@@ -3,7 +3,7 @@ ghost use Rattle.std.specs.List.{Contains};
 ghost use Rattle.std.specs.List.Sorted.{IsStrictlyIncreasing, IsStrictlySortedBy};
 ghost use Rattle.std.specs.Cmp.Lexicographic.{slice_cmp};
 ghost use Rattle.std.specs.Ordering.{nat_cmp};
-ghost use Rattle.dag_file.specs.Writes.{AreReached, AreLeaves, AreNodes, IsWordOfName, AreOctantWords, HasSlot, AreIndices, AreNodeIndices};
+ghost use Rattle.dag_file.specs.Writes.{AreReached, AreLeaves, AreNodeWords, IsWordOfName, AreOctantWords, HasSlot, AreIndices, AreNodeIndices};
 ghost use Rattle.block_walk.specs.Roots.{HasBlock};
 
 use crate::keys::{key_of, name_at};
@@ -65,7 +65,7 @@ pub(crate) fn node_contents<B: Blocks>(
     requires rises { IsStrictlyIncreasing below.now }
     requires many { length indices.now ≡ length below.now }
     requires few { (j : ℕ) → j < length below.now → slice_index indices.now j < 2 ^ 24 }
-    ensures nodes { IfOk result (λ v. AreNodes (B.seen store.old).held level keys.now below.now
+    ensures nodes { IfOk result (λ v. AreNodeWords (B.seen store.old).held level keys.now below.now
         indices.now (length keys.now) v.items) }
     ensures seen { B.seen store.new ≡ B.seen store.old }
     ensures rests { B.rests store.old store.new }

@@ -1,6 +1,6 @@
 ghost use Rattle.std.specs.Prelude.{◌≡◌, ℕ, ◌-◌, ◌^◌, ◌<◌, ◌≤◌, length, slice_index, IfOk, OnOk, OnErr};
 ghost use Rattle.std.specs.List.Sorted.{IsStrictlyIncreasing};
-ghost use Rattle.dag_file.specs.Layers.{IsPairOf, AreVersions};
+ghost use Rattle.dag_file.specs.Layers.{IsPairOf, AreVersionPairs};
 ghost use Rattle.dag_file.specs.Lists.{HoldsList, ShowCanonical, DoNumbersRise, AreNumbersSmall, IsFileOfList, AppendsFile};
 ghost use Rattle.dag_file.specs.Writes.{file_bytes};
 
@@ -73,7 +73,7 @@ fn pairs_of(
     requires many { length indices.now ≡ length keys.now }
     requires few { (j : ℕ) → j < length keys.now → slice_index indices.now j < 2 ^ 24 }
     ensures { IfOk result
-        (λ v. AreVersions roots.now keys.now indices.now (length roots.now) v.items) }
+        (λ v. AreVersionPairs roots.now keys.now indices.now (length roots.now) v.items) }
 {
     let mut pairs = Vec::new(alloc);
     for item in roots {
