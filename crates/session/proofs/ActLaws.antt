@@ -17,7 +17,7 @@ use Rattle.script.specs.Fitting.{QuestionFits}
 use Rattle.world_answers.proofs.TintTells.{quarter_same}
 use Rattle.session_runs.specs.Seen.{CanTint, MayTint}
 use Rattle.session.specs.Attempts.{IsMaker}
-use Rattle.session.specs.Seen.{HasModels, IsActOf, WorldSeen}
+use Rattle.session.specs.Seen.{KeepsTableModels, IsActOf, WorldSeen}
 use Rattle.session.proofs.VoxelLaws.{IsLarge}
 
 -- models that were drawn by their tints, over a store that is large
@@ -34,7 +34,7 @@ large_plan tint asked p same large e = subst (λ (q : Layout). 4 ≤ q.side) (sy
 -- what a new world keeps
 pub keeps_models : (t : TableSeen) (tint : Bool) (drawn : WorldModels) (models : List Content)
     → drawn.tint ≡ tint → drawn.models ≡ models → t.models ≡ models → IsLarge tint t.plan.side
-    → HaveTints tint models → HasModels t tint drawn models
+    → HaveTints tint models → KeepsTableModels t tint drawn models
 keeps_models t tint drawn models drawn_as drawn_are table_has large have = record {
   drawn_as = drawn_as;
   drawn_are = drawn_are ∙ sym table_has;
@@ -45,13 +45,13 @@ keeps_models t tint drawn models drawn_as drawn_are table_has large have = recor
 
 -- the same of the world as it is seen
 pub models_of : (w x : WorldSeen) (drawn : WorldModels) (models : List Content) → x ≡ w
-    → HasModels x.table x.tint drawn models → HasModels w.table w.tint drawn models
+    → KeepsTableModels x.table x.tint drawn models → KeepsTableModels w.table w.tint drawn models
 models_of w x drawn models same h =
-    subst (λ (y : WorldSeen). HasModels y.table y.tint drawn models) same h
+    subst (λ (y : WorldSeen). KeepsTableModels y.table y.tint drawn models) same h
 
 -- the store of a world whose cells have tints is large
 pub large_of : (t : TableSeen) (tint : Bool) (drawn : WorldModels) (models : List Content)
-    → HasModels t tint drawn models → IsLarge tint t.plan.side
+    → KeepsTableModels t tint drawn models → IsLarge tint t.plan.side
 large_of t tint drawn models h e =
     let can : CanTint t.plan t.models =
     subst (λ (b : Bool). MayTint b t.plan t.models) e h.may
@@ -60,7 +60,7 @@ large_of t tint drawn models h e =
 
 -- the same of the side that its table tells
 pub large_by : (t : TableSeen) (tint : Bool) (drawn : WorldModels) (models : List Content)
-    (side : ℕ) → HasModels t tint drawn models → tint ≡ true → side ≡ t.plan.side → 4 ≤ side
+    (side : ℕ) → KeepsTableModels t tint drawn models → tint ≡ true → side ≡ t.plan.side → 4 ≤ side
 large_by t tint drawn models side h e is =
     subst (λ (n : ℕ). 4 ≤ n) (sym is) (large_of t tint drawn models h e)
 
@@ -94,7 +94,8 @@ large_for false p models Redo may suits = tt
 
 -- an edit of the world, made by the world's models
 pub maker_of : (w : WorldSeen) (drawn own : WorldModels) (models : List Content) (act made : Act)
-    → HasModels w.table w.tint drawn models → IsActOf w act → is_edit act ≡ true → own ≡ drawn
+    → KeepsTableModels w.table w.tint drawn models → IsActOf w act → is_edit act ≡ true
+    → own ≡ drawn
     → made ≡ act → IsMaker w.table own.tint own.models made
 maker_of w drawn own models act made has fits edit by same =
     subst (λ (m : WorldModels). IsMaker w.table m.tint m.models made) (sym by)

@@ -5,7 +5,7 @@ use Rattle.std.proofs.Common.{refl, ◌∙◌}
 use Rattle.node_table.specs.Seen.{TableSeen, PassSeen, SamePass}
 use Rattle.version_log.specs.declared.pinned.Pinned.{Pinned}
 use Rattle.session.specs.Resting.{IsAtRest}
-use Rattle.session.specs.Saves.{HoldsPins}
+use Rattle.session.specs.Saves.{SeatHoldsPins}
 use Rattle.session.specs.Seen.{WorldSeen}
 
 -- the session of this number is at rest, holds the roots of what it saved and nothing else, and
@@ -14,7 +14,7 @@ pub record DeskStands (w : TableSeen) (number most : ℕ) (s : PassSeen) (saves 
     (capacity : ℕ) : Type 0 where
   pub rest : IsAtRest w s
   pub mine : s.view.numbers ≡ number ∷ []
-  pub holds : HoldsPins w s.view saves
+  pub holds : SeatHoldsPins w s.view saves
   pub few : length saves ≤ most
   pub fewer : most ≤ 3900
   pub room : most ≤ capacity

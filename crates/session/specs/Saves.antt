@@ -38,8 +38,8 @@ pub record HoldsSaves (w : TableSeen) (s : SessionSeen) (held : List Tree) (pins
   pub weighs : (f : Tree → ℕ) → weigh f held ≡ sum_by (weight_of f) trees
 
 -- what a session holds is that
-abbrev pub HoldsPins : TableSeen → SeatView → List Pinned → Type 0
-HoldsPins w v pins = HoldsSaves w (session_seen v) v.held pins
+abbrev pub SeatHoldsPins : TableSeen → SeatView → List Pinned → Type 0
+SeatHoldsPins w v pins = HoldsSaves w (session_seen v) v.held pins
 
 abbrev pub pinned_versions : List Pinned → List ℕ
 pinned_versions pins = map (λ p. p.version) pins

@@ -39,8 +39,8 @@ pub record WorldSeen : Type 0 where
 
 -- what a world keeps beside its table: the table's models, drawn by their tints where its cells
 -- have tints, which a store of the table's plan then can keep
-pub record HasModels (t : TableSeen) (tint : Bool) (drawn : WorldModels) (models : List Content)
-    : Type 0 where
+pub record KeepsTableModels (t : TableSeen) (tint : Bool) (drawn : WorldModels)
+    (models : List Content) : Type 0 where
   pub drawn_as : drawn.tint ≡ tint
   pub drawn_are : drawn.models ≡ t.models
   pub models_are : models ≡ t.models

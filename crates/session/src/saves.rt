@@ -16,7 +16,7 @@ ghost use Rattle.version_log.specs.Pins.{IsPinned};
 ghost use Rattle.session_runs.specs.Told.{SaveTold};
 ghost use Rattle.session.specs.Resting.{IsAtRest};
 ghost use Rattle.session.specs.Roots.{file_kept};
-ghost use Rattle.session.specs.Saves.{AddsPin, HoldsPins, cells_counted, saved_told};
+ghost use Rattle.session.specs.Saves.{AddsPin, SeatHoldsPins, cells_counted, saved_told};
 ghost use Rattle.session.specs.Seen.{KnowsItself, of_world, session_seen, side_seen};
 
 use crate::world::{Session, World};
@@ -114,7 +114,7 @@ impl<'m> World<'m> {
         part: Boxed,
     ) -> Result<Vec<u8>, Memory>
         requires ready { IsLendable self.now.table s.old }
-        requires holds { HoldsPins self.now.table s.old.view saves.now }
+        requires holds { SeatHoldsPins self.now.table s.old.view saves.now }
         requires there { k < length saves.now }
         requires inside { FitsAt part.at part.size (side_seen self.now) }
         requires small { (part.size.x ≤ 256) × (part.size.y ≤ 256) × (part.size.z ≤ 256) }
@@ -131,7 +131,7 @@ impl<'m> World<'m> {
     /// Gives back what is held for saves, which is all that the session holds.
     pub fn unpin_saves<R: Wait>(&self, rt: &R, s: &mut Session, saves: Vec<Pinned>)
         requires rest { IsAtRest self.now.table s.old }
-        requires holds { HoldsPins self.now.table s.old.view saves.items }
+        requires holds { SeatHoldsPins self.now.table s.old.view saves.items }
         requires few { length saves.items ≤ 3900 }
         ensures rest { IsAtRest self.now.table s.new }
         ensures same { SamePass s.old s.new }
@@ -150,7 +150,7 @@ fn unpin_over<R: Wait, L: Ledger>(
     blank: Blank,
 )
     requires rest { IsAtRest world.now.table s.old }
-    requires holds { HoldsPins world.now.table s.old.view saves.items }
+    requires holds { SeatHoldsPins world.now.table s.old.view saves.items }
     requires few { length saves.items ≤ 3900 }
     requires name { blank.name ≡ L.name }
     requires parts { blank.parts ≡ L.parts }

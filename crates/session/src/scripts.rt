@@ -5,7 +5,7 @@ ghost use Rattle.script.specs.Fitting.{RisesFrom};
 ghost use Rattle.session_runs.specs.Runs.{RunsScript};
 ghost use Rattle.session_runs.specs.Saves.{saves_asked_in};
 ghost use Rattle.session.specs.Resting.{IsAtRest};
-ghost use Rattle.session.specs.Saves.{HoldsPins, pinned_versions};
+ghost use Rattle.session.specs.Saves.{SeatHoldsPins, pinned_versions};
 ghost use Rattle.session.specs.Scripts.{IsFresh};
 ghost use Rattle.session.specs.Seen.{AreScriptLines, of_world, session_seen};
 
@@ -48,7 +48,7 @@ pub fn run_script<R: Wait, G: Gate>(
     ensures ran { (number : ℕ) → s.old.view.numbers ≡ number ∷ [] → RunsScript
         (of_world world.now number) script.now answers.old.items answers.new.items
         (session_seen s.old.view) (session_seen s.new.view) [] (pinned_versions saves.new.items) }
-    ensures holds { HoldsPins world.now.table s.new.view saves.new.items }
+    ensures holds { SeatHoldsPins world.now.table s.new.view saves.new.items }
 {
     let blank = Blank::new(1);
     run_over::<R, G, Brand>(rt, world, s, script, answers, saves, gate, blank)
@@ -80,7 +80,7 @@ fn run_over<R: Wait, G: Gate, L: Ledger>(
     ensures ran { (number : ℕ) → s.old.view.numbers ≡ number ∷ [] → RunsScript
         (of_world world.now number) script.now answers.old.items answers.new.items
         (session_seen s.old.view) (session_seen s.new.view) [] (pinned_versions saves.new.items) }
-    ensures holds { HoldsPins world.now.table s.new.view saves.new.items }
+    ensures holds { SeatHoldsPins world.now.table s.new.view saves.new.items }
 {
     let number = s.number();
     let most = saves.capacity().min(MOST_HELD);

@@ -31,7 +31,7 @@ impl<'m> Model for World<'m> {
     ghost use Rattle.std.specs.Coded.{codes};
     ghost use Rattle.std.specs.Prelude.{◌≡◌};
     ghost use Rattle.atomic_table.specs.Seated.{table_id_coded};
-    ghost use Rattle.session.specs.Seen.{HasModels, WorldSeen};
+    ghost use Rattle.session.specs.Seen.{KeepsTableModels, WorldSeen};
 
     ghost Value = { WorldSeen };
 
@@ -39,7 +39,7 @@ impl<'m> Model for World<'m> {
 
     ghost view = { λ w. record { table = w.table; tint = w.tint; keep = w.keep } };
 
-    ghost invariant = { λ w. HasModels w.table w.tint w.drawn w.models.now };
+    ghost invariant = { λ w. KeepsTableModels w.table w.tint w.drawn w.models.now };
 }
 
 // Whether an act is tinted exactly where cells have tints, or is an undo or a redo.

@@ -24,7 +24,7 @@ use Rattle.session_runs.specs.Saves.{versions_of}
 use Rattle.session_runs.specs.Seen.{SessionSeen}
 use Rattle.session.specs.Lendable.{StaysLendable}
 use Rattle.session.specs.Resting.{IsAtRest}
-use Rattle.session.specs.Saves.{HoldsPins, HoldsSaves, pinned_versions}
+use Rattle.session.specs.Saves.{SeatHoldsPins, HoldsSaves, pinned_versions}
 use Rattle.session.specs.Seen.{WorldSeen, log_seen, session_seen}
 use Rattle.world_run.specs.declared.open_runs.SavedSession.{SavedSession}
 use Rattle.world_run.specs.declared.open_runs.SavePlace.{SavePlace}
@@ -81,7 +81,7 @@ still_saved tint t old new saved saves pins stays seen =
     let kept : new.pins.items ≡ old.pins.items = ap (λ v. v.items) pins in
     record {
       rest = still_rests t old.session new.session saved.rest stays;
-      holds = subst (λ (ps : List Pinned). HoldsPins t new.session.view ps) (sym kept)
+      holds = subst (λ (ps : List Pinned). SeatHoldsPins t new.session.view ps) (sym kept)
           (subst (λ (z : SessionSeen). HoldsSaves t z new.session.view.held old.pins.items)
           (sym same)
           (subst (λ (s : Seen). HoldsSaves t (session_seen old.session.view) s.held old.pins.items)

@@ -27,7 +27,7 @@ use Rattle.session_runs.specs.Ran.{IsAnswered, SessionRan, SessionsRanKeeping}
 use Rattle.session_runs.specs.Saves.{saves_asked_in, versions_of}
 use Rattle.session_runs.specs.Seen.{SessionSeen, none_noted, session_keeping}
 use Rattle.session.specs.Resting.{IsAtRest}
-use Rattle.session.specs.Saves.{HoldsPins, pinned_versions}
+use Rattle.session.specs.Saves.{SeatHoldsPins, pinned_versions}
 use Rattle.session.specs.Seen.{AreScriptLines, WorldSeen, of_world, session_seen}
 use Rattle.world_run.specs.declared.open_runs.SavedSession.{SavedSession}
 use Rattle.world_run.specs.declared.rooms.ScriptRoom.{ScriptRoom}
@@ -180,7 +180,7 @@ one_done t script number old new is worked =
     record {
       rest = subst (λ (w : WorldSeen). IsAtRest w.table new.session) is.world worked.rest;
       ran = one_ran t script number old new is worked;
-      holds = subst (λ (w : WorldSeen). HoldsPins w.table new.session.view new.room.pins.items)
+      holds = subst (λ (w : WorldSeen). SeatHoldsPins w.table new.session.view new.room.pins.items)
           is.world worked.holds;
       versions = one_versions t script number old new is worked;
       no_save = ap (λ v. v.items) worked.saves ∙ room.no_save;
@@ -335,8 +335,8 @@ pub is_saved : (t : WorldSeen) (script : List ScriptLine) (number : ℕ) (w : Se
     → s.saves.items ≡ saved_in script w.room.answers.items → IsSaved t.tint t.table s
 is_saved t script number w s done fit session pins saves = record {
   rest = subst (λ (z : PassSeen). IsAtRest t.table z) (sym session) done.rest;
-  holds = subst (λ (ps : List Pinned). HoldsPins t.table s.session.view ps) (sym pins)
-      (subst (λ (z : PassSeen). HoldsPins t.table z.view w.room.pins.items) (sym session)
+  holds = subst (λ (ps : List Pinned). SeatHoldsPins t.table s.session.view ps) (sym pins)
+      (subst (λ (z : PassSeen). SeatHoldsPins t.table z.view w.room.pins.items) (sym session)
       done.holds);
   versions = ap pinned_versions pins ∙ done.versions ∙ ap versions_of (sym saves);
   fit = subst (λ (bs : List SavedBox). All

@@ -13,7 +13,7 @@ use Rattle.session_runs.specs.Kept.{KeptSave, kept_at}
 use Rattle.session_runs.specs.Saves.{versions_of}
 use Rattle.session_runs.specs.Seen.{SessionSeen}
 use Rattle.session.specs.Resting.{IsAtRest}
-use Rattle.session.specs.Saves.{HoldsPins, pinned_versions}
+use Rattle.session.specs.Saves.{SeatHoldsPins, pinned_versions}
 use Rattle.session.specs.Seen.{session_seen}
 use Rattle.world_run.specs.declared.open_runs.SavedSession.{SavedSession}
 use Rattle.world_run.specs.declared.open_runs.SavePlace.{SavePlace}
@@ -42,7 +42,7 @@ pub record SavesAt (kept : List KeptSave) (k : ℕ) (save : SavedBox) : Type 0 w
 -- made of each save
 pub record IsSaved (tint : Bool) (w : TableSeen) (s : SavedSession) : Type 0 where
   pub rest : IsAtRest w s.session
-  pub holds : HoldsPins w s.session.view s.pins.items
+  pub holds : SeatHoldsPins w s.session.view s.pins.items
   pub versions : pinned_versions s.pins.items ≡ versions_of s.saves.items
   pub fit : All (λ b. SaveFits (kept_side tint (2 ^ w.plan.side)) b.name b.part) s.saves.items
   pub few : length s.saves.items ≤ 1024

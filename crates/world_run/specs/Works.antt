@@ -8,7 +8,7 @@ use Rattle.session_runs.specs.Runs.{RunsScript}
 use Rattle.session_runs.specs.Saves.{saves_asked_in, versions_of}
 use Rattle.session_runs.specs.Seen.{none_noted}
 use Rattle.session.specs.Resting.{IsAtRest}
-use Rattle.session.specs.Saves.{HoldsPins, pinned_versions}
+use Rattle.session.specs.Saves.{SeatHoldsPins, pinned_versions}
 use Rattle.session.specs.Scripts.{IsFresh}
 use Rattle.session.specs.Seen.{AreScriptLines, WorldSeen, of_world, session_seen}
 use Rattle.world_run.specs.declared.rooms.ScriptRoom.{ScriptRoom}
@@ -44,7 +44,7 @@ pub record Worked (old new : SessionWork) : Type 0 where
       (of_world old.world.now number) old.script.now old.room.answers.items
       new.room.answers.items (session_seen old.session.view) (session_seen new.session.view) []
       (pinned_versions new.room.pins.items)
-  pub holds : HoldsPins old.world.now.table new.session.view new.room.pins.items
+  pub holds : SeatHoldsPins old.world.now.table new.session.view new.room.pins.items
 
 -- the work is that of the session of this number in this world, and of this script
 pub record IsWorkOf (t : WorldSeen) (script : List ScriptLine) (number : ℕ) (w : SessionWork)
@@ -61,7 +61,7 @@ pub record IsDoneOf (t : WorldSeen) (script : List ScriptLine) (number : ℕ) (w
   pub rest : IsAtRest t.table w.session
   pub ran : SessionRan (of_world t number) script w.room.answers.items none_noted
       (session_seen w.session.view)
-  pub holds : HoldsPins t.table w.session.view w.room.pins.items
+  pub holds : SeatHoldsPins t.table w.session.view w.room.pins.items
   pub versions : pinned_versions w.room.pins.items
       ≡ versions_of (saved_in script w.room.answers.items)
   pub no_save : w.room.saves.items ≡ []
