@@ -14,7 +14,7 @@ use Rattle.history_model.specs.declared.histories.Record.{Record}
 use Rattle.history_model.specs.Logs.{Log, IsVersionHeld, HasTarget, MayFollow}
 use Rattle.history_model.specs.Positions.{Position, position_after}
 use Rattle.block_contents.specs.Versions.{IsKept, IsUnmarked}
-use Rattle.store_run.specs.Changing.{Marks, log_with_record}
+use Rattle.store_run.specs.Changing.{LogGainsMark, log_with_record}
 use Rattle.store_run.specs.Marked.{AreLegalMarks, replayed}
 use Rattle.store_run.specs.declared.replaying.ReplayRefused.{ReplayRefused}
 use Rattle.store_run.specs.declared.replaying.ReplayRefused.TheVariants as replays
@@ -209,7 +209,7 @@ module _ (models : List Content) (log : Log) (due : List Mark) (of_due : AreDue 
   -- and it comes to the others
   pub due_comes : (n k : ℕ) (now new : WorldState) (d : Mark) → HasReplayed models log due n k now
       → k < length due → (get_or due k d).at ≡ n → new.plan ≡ now.plan → new.models ≡ now.models
-      → Marks now.log (get_or due k d) new.log → MakesOnlyParts (replayed new)
+      → LogGainsMark now.log (get_or due k d) new.log → MakesOnlyParts (replayed new)
       → HasReplayed models log due n (k + 1) new
   due_comes n k now new d has lt at plan same marks made =
       let m = get_or due k d in

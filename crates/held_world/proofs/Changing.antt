@@ -16,9 +16,9 @@ use Rattle.conformance.specs.Telling.{Tells, is, count, faces, extent, hit}
 use Rattle.history_model.specs.Worlds as worlds
 use Rattle.script_runs.specs.Sessions.{GoesOnWith}
 use Rattle.store_run.specs.Answering.{nothing_to_go_to}
-use Rattle.store_run.specs.Changing.{Changes, Forgets, MakesVersion}
+use Rattle.store_run.specs.Changing.{Changes, AnswersForget, MakesVersion}
 use Rattle.held_world.specs.declared.worlds.World.{World}
-use Rattle.held_world.specs.Calls.{WorldChanges, WorldForgets, WorldAsks, Answered, CantBeAsked, IsAnswered, CountsLine, record_of, held_side, call_status, is_in, cells_in, faces_answered, extent_in, hit_in}
+use Rattle.held_world.specs.Calls.{WorldChanges, WorldForgets, WorldAsks, Answered, CantBeAsked, IsActAnswered, CountsLine, record_of, held_side, call_status, is_in, cells_in, faces_answered, extent_in, hit_in}
 
 nothing_not_done : (act : Act) → nothing_to_go_to act ≡ answers.Done → ⊥
 nothing_not_done Undo e = cc
@@ -46,7 +46,7 @@ module _ (w v : World) (act : Act) (answer : Answer) (status : ℕ) (fits : Fits
     (makes : answer ≡ answers.Done → MakesVersion w.open.models w.open.log act v.open.log)
     (goes_on : (once : Bool) → GoesOnWith w.open.plan w.open.models 0 (record { line = w.line; command = Edit act once }) w.open.log v.open.log w.open.noted v.open.noted
     (answer_at (record { line = w.line; command = Edit act once }) (length v.open.log.records) answer)) where
-  answered : IsAnswered w act answer v
+  answered : IsActAnswered w act answer v
   answered = record { logs = logs; goes_on = λ once. record { plan = plan; models = models; line = line; goes_on = goes_on once } }
 
   pub changes : WorldChanges w act status v
@@ -55,7 +55,7 @@ module _ (w v : World) (act : Act) (answer : Answer) (status : ℕ) (fits : Fits
       go : (answer ≡ answers.Done) ⊎ ((answer ≢ answers.Done) × (v.open.log ≡ w.open.log)) → WorldChanges w act status v
       go (inl done) =
           subst (λ (n : ℕ). WorldChanges w act n v) (sym (eq ∙ ap call_status done))
-          (WorldChanges.made v fits (subst (λ (a : Answer). IsAnswered w act a v) done answered) (makes done))
+          (WorldChanges.made v fits (subst (λ (a : Answer). IsActAnswered w act a v) done answered) (makes done))
       go (inr (other, stays)) =
           subst (λ (n : ℕ). WorldChanges w act n v) (sym eq) (WorldChanges.refused v answer fits other answered stays)
 
@@ -64,7 +64,8 @@ lacks_memory w v act fits same = subst (λ (u : World). WorldChanges w act 2 u) 
 
 pub forgets : (w v : World) (version : ℕ) (answer : Answer) (status : ℕ)
     → status ≡ call_status answer → v.open.plan ≡ w.open.plan → v.open.models ≡ w.open.models → CountsLine answer w.line v.line
-    → Forgets w.open.log (mark_of version (length w.open.log.records) 0 w.line) answer v.open.log
+    → AnswersForget w.open.log (mark_of version (length w.open.log.records) 0 w.line) answer
+    v.open.log
     → GoesOnWith w.open.plan w.open.models 0 (record { line = w.line; command = Forget version }) w.open.log v.open.log w.open.noted v.open.noted
     (answer_at (record { line = w.line; command = Forget version }) (length v.open.log.records) answer)
     → WorldForgets w version status v

@@ -17,12 +17,12 @@ use Rattle.store_run.specs.Worlds.{size_of}
 use Rattle.held_world.specs.declared.places.Place.{Place}
 use Rattle.held_world.specs.declared.places.Stretch.{Stretch}
 use Rattle.held_world.specs.Calls.{FitsFile}
-use Rattle.held_world.specs.Places.{IsSmall, cell_of_place, box_of, ball_of}
+use Rattle.held_world.specs.Places.{FitsSixteenBits, cell_of_place, box_of, ball_of}
 
-pub world_is_small : (side : ℕ) (c : Cell) → side ≤ 4096 → IsInWorld side c → IsSmall c
+pub world_is_small : (side : ℕ) (c : Cell) → side ≤ 4096 → IsInWorld side c → FitsSixteenBits c
 world_is_small side c low inside = record { x = omega (arith, low, inside.x); y = omega (arith, low, inside.y); z = omega (arith, low, inside.z) }
 
-pub box_is_small : (side : ℕ) (at size : Cell) → side ≤ 4096 → FitsAt at size side → IsSmall at × IsSmall size
+pub box_is_small : (side : ℕ) (at size : Cell) → side ≤ 4096 → FitsAt at size side → FitsSixteenBits at × FitsSixteenBits size
 box_is_small side at size low fits = (
   record { x = omega (arith, low, fits.x.1); y = omega (arith, low, fits.y.1); z = omega (arith, low, fits.z.1) },
   record { x = omega (arith, low, fits.x.1); y = omega (arith, low, fits.y.1); z = omega (arith, low, fits.z.1) },

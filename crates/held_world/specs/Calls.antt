@@ -29,7 +29,7 @@ use Rattle.conformance.specs.Answers.{mark_of}
 use Rattle.conformance.specs.Kinds.{answer_at}
 use Rattle.conformance.specs.Telling.{Tells}
 use Rattle.script_runs.specs.Sessions.{GoesOnWith}
-use Rattle.store_run.specs.Changing.{Changes, Forgets, MakesVersion}
+use Rattle.store_run.specs.Changing.{Changes, AnswersForget, MakesVersion}
 use Rattle.store_run.specs.Worlds.{size_of}
 use Rattle.held_world.specs.declared.places.Place.{Place}
 use Rattle.held_world.specs.declared.worlds.World.{World}
@@ -81,7 +81,7 @@ pub record CountsLine (answer : Answer) (old new : ℕ) : Type 0 where
   pub same : is_accepted answer ≡ false → new ≡ old
 
 -- plan and models stay, and the command goes on from whatever was done before, as a script's line
-pub record GoesOn (w : World) (command : Command) (answer : Answer) (v : World) : Type 0 where
+pub record WorldGoesOn (w : World) (command : Command) (answer : Answer) (v : World) : Type 0 where
   pub plan : v.open.plan ≡ w.open.plan
   pub models : v.open.models ≡ w.open.models
   pub line : CountsLine answer w.line v.line
@@ -90,9 +90,9 @@ pub record GoesOn (w : World) (command : Command) (answer : Answer) (v : World) 
       (answer_at (record { line = w.line; command = command }) (length v.open.log.records) answer)
 
 -- the act is answered
-pub record IsAnswered (w : World) (act : Act) (answer : Answer) (v : World) : Type 0 where
+pub record IsActAnswered (w : World) (act : Act) (answer : Answer) (v : World) : Type 0 where
   pub logs : Changes w.open.log (record_of w act) answer v.open.log
-  pub goes_on : (once : Bool) → GoesOn w (Edit act once) answer v
+  pub goes_on : (once : Bool) → WorldGoesOn w (Edit act once) answer v
 
 -- the model that is stamped is there
 abbrev pub HasItsModel : List Content → Act → Type 0
@@ -108,17 +108,18 @@ pub data WorldChanges (w : World) (act : Act) : ℕ → World → Type 0 where
       → WorldChanges w act 3 w
   memory : FitsWorld (held_side w) w.open.models act → WorldChanges w act 2 w
   made : (v : World) → FitsWorld (held_side w) w.open.models act
-      → IsAnswered w act answers.Done v
+      → IsActAnswered w act answers.Done v
       → MakesVersion w.open.models w.open.log act v.open.log → WorldChanges w act 0 v
   refused : (v : World) (answer : Answer) → FitsWorld (held_side w) w.open.models act
-      → answer ≢ answers.Done → IsAnswered w act answer v → v.open.log ≡ w.open.log
+      → answer ≢ answers.Done → IsActAnswered w act answer v → v.open.log ≡ w.open.log
       → WorldChanges w act (call_status answer) v
 
 -- a version is forgotten, or not
 pub data WorldForgets (w : World) (version : ℕ) : ℕ → World → Type 0 where
   answered : (v : World) (answer : Answer)
-      → Forgets w.open.log (mark_of version (length w.open.log.records) 0 w.line) answer v.open.log
-      → GoesOn w (Forget version) answer v → WorldForgets w version (call_status answer) v
+      → AnswersForget w.open.log (mark_of version (length w.open.log.records) 0 w.line) answer
+      v.open.log
+      → WorldGoesOn w (Forget version) answer v → WorldForgets w version (call_status answer) v
 
 -- ---- questions
 
@@ -128,13 +129,13 @@ pub data IsGone (log : Log) (version : ℕ) : ℕ → Type 0 where
   forgotten : version ≤ length log.records → ¬ IsKept log version → IsGone log version 5
 
 -- the place or the box that is asked about lies in the world
-abbrev pub LiesIn : ℕ → Question → Type 0
-LiesIn side (Get c) = IsInWorld side c
-LiesIn side (Colour c) = IsInWorld side c
-LiesIn side (Count b) = FitsAt b.at b.size side
-LiesIn side Bounds = ⊤
-LiesIn side (Faces b) = FitsAt b.at b.size side
-LiesIn side (Ray from way) = IsInWorld side from
+abbrev pub QuestionLiesIn : ℕ → Question → Type 0
+QuestionLiesIn side (Get c) = IsInWorld side c
+QuestionLiesIn side (Colour c) = IsInWorld side c
+QuestionLiesIn side (Count b) = FitsAt b.at b.size side
+QuestionLiesIn side Bounds = ⊤
+QuestionLiesIn side (Faces b) = FitsAt b.at b.size side
+QuestionLiesIn side (Ray from way) = IsInWorld side from
 
 -- the answer tells what is asked of the version, which can be read
 pub record Answered (w : World) (version : ℕ) (question : Question) (answer : Answer) : Type 0 where
@@ -153,9 +154,9 @@ pub data WorldAsks (w : World) (version : ℕ) (question : Question) (Written : 
     (Untouched : Type 0) : ℕ → Type 0 where
   told : (answer : Answer) → Answered w version question answer → Written answer
       → WorldAsks w version question Written Untouched 0
-  outside : ¬ LiesIn (held_side w) question → Untouched
+  outside : ¬ QuestionLiesIn (held_side w) question → Untouched
       → WorldAsks w version question Written Untouched 3
-  no_way : LiesIn (held_side w) question → ¬ QuestionFits (held_side w) question → Untouched
+  no_way : QuestionLiesIn (held_side w) question → ¬ QuestionFits (held_side w) question → Untouched
       → WorldAsks w version question Written Untouched 16
   gone : (status : ℕ) → CantBeAsked w version question status → Untouched
       → WorldAsks w version question Written Untouched status
@@ -215,7 +216,7 @@ pub record WritesBytes (bytes old new : List ℕ) (needed status : ℕ) : Type 0
   pub number : needed ≡ length bytes
 
 -- nothing was written
-pub record IsUntouched (old new : List ℕ) (before needed : ℕ) : Type 0 where
+pub record WritesNothing (old new : List ℕ) (before needed : ℕ) : Type 0 where
   pub bytes : new ≡ old
   pub number : needed ≡ before
 
@@ -231,24 +232,24 @@ pub data WorldSaves (w : World) (version : ℕ) (part : Boxed) (old new : List �
       → WritesBytes (file_of_box part (cells_told w version)) old new needed status
       → WorldSaves w version part old new before needed status
   memory : IsKept w.open.log version → FitsFile (held_side w) part
-      → IsUntouched old new before needed → WorldSaves w version part old new before needed 2
-  outside : ¬ FitsFile (held_side w) part → IsUntouched old new before needed
+      → WritesNothing old new before needed → WorldSaves w version part old new before needed 2
+  outside : ¬ FitsFile (held_side w) part → WritesNothing old new before needed
       → WorldSaves w version part old new before needed 3
   gone : (status : ℕ) → FitsFile (held_side w) part → IsGone w.open.log version status
-      → IsUntouched old new before needed → WorldSaves w version part old new before needed status
+      → WritesNothing old new before needed → WorldSaves w version part old new before needed status
 
 -- the text of the journal
 pub data WorldJournals (w : World) (old new : List ℕ) (before needed : ℕ) : ℕ → Type 0 where
   made : (status : ℕ) → WritesBytes (journal_of w.open.log) old new needed status
       → WorldJournals w old new before needed status
-  memory : IsUntouched old new before needed → WorldJournals w old new before needed 2
+  memory : WritesNothing old new before needed → WorldJournals w old new before needed 2
 
 -- ---- opening
 
 -- the models that are asked for by the bytes of a file, none by no bytes
-abbrev pub HasModels : List ℕ → List Content → Type 0
-HasModels [] models = models ≡ []
-HasModels bytes models = ReadsModels bytes (Ok models)
+abbrev pub AsksForModels : List ℕ → List Content → Type 0
+AsksForModels [] models = models ≡ []
+AsksForModels bytes models = ReadsModels bytes (Ok models)
 
 -- so many slots of a bucket were asked for; 0 asks for the usual number
 pub record AreSlots (asked slots : ℕ) : Type 0 where
@@ -260,24 +261,24 @@ pub record IsBegun (side cap : ℕ) (bytes : List ℕ) (w : World) : Type 0 wher
   pub cells : held_side w ≡ side
   pub buckets : w.open.plan.buckets ≡ usual_buckets
   pub slots : AreSlots cap w.open.plan.cap
-  pub models : HasModels bytes w.open.models
+  pub models : AsksForModels bytes w.open.models
   pub nothing : w.open.log
       ≡ record { side = w.open.plan.side; coloured = false; records = []; marks = [] }
   pub noted : w.open.noted ≡ record { made = []; met = [] }
   pub line : w.line ≡ 1
 
 -- a world can have this side, and its buckets so many slots
-pub record IsPlan (side cap : ℕ) : Type 0 where
+pub record AreSideAndCap (side cap : ℕ) : Type 0 where
   pub is_a_side : IsTrue (is_side side)
   pub is_a_cap : cap ≢ 0 → IsTrue (is_cap cap)
 
 -- why no world is opened
 pub data Refuses (side cap : ℕ) (bytes : List ℕ) : ℕ → Type 0 where
-  bad_plan : ¬ IsPlan side cap → Refuses side cap bytes 12
-  too_long : IsPlan side cap → 2 ^ 28 < length bytes → Refuses side cap bytes 15
-  bad_file : IsPlan side cap → 0 < length bytes → (fault : VoxFault)
+  bad_plan : ¬ AreSideAndCap side cap → Refuses side cap bytes 12
+  too_long : AreSideAndCap side cap → 2 ^ 28 < length bytes → Refuses side cap bytes 15
+  bad_file : AreSideAndCap side cap → 0 < length bytes → (fault : VoxFault)
       → ReadsModels bytes (Err fault) → Refuses side cap bytes 15
-  memory : IsPlan side cap → Refuses side cap bytes 2
+  memory : AreSideAndCap side cap → Refuses side cap bytes 2
 
 -- the number that C gets for a file's fault
 abbrev pub status_of_file : VoxFault → ℕ
@@ -285,12 +286,14 @@ status_of_file Memory = 2
 status_of_file other = 15
 
 -- a world is opened in a handle that has none
-pub data Opens (side cap : ℕ) (bytes : List ℕ) : Option World → ℕ → Option World → Type 0 where
-  is_open : (w : World) → Opens side cap bytes (Some w) 13 (Some w)
-  refused : (status : ℕ) → Refuses side cap bytes status → Opens side cap bytes None status None
-  begun : (w : World) → IsBegun side cap bytes w → Opens side cap bytes None 0 (Some w)
+pub data OpensHandle (side cap : ℕ) (bytes : List ℕ) : Option World → ℕ → Option World
+    → Type 0 where
+  is_open : (w : World) → OpensHandle side cap bytes (Some w) 13 (Some w)
+  refused : (status : ℕ) → Refuses side cap bytes status
+      → OpensHandle side cap bytes None status None
+  begun : (w : World) → IsBegun side cap bytes w → OpensHandle side cap bytes None 0 (Some w)
 
 -- a world is closed, where one is held
-pub data Closes : Option World → ℕ → Option World → Type 0 where
-  closed : Closes None 1 None
-  given_back : (w : World) → Closes (Some w) 0 None
+pub data ClosesHandle : Option World → ℕ → Option World → Type 0 where
+  closed : ClosesHandle None 1 None
+  given_back : (w : World) → ClosesHandle (Some w) 0 None

@@ -16,7 +16,7 @@ abbrev pub ball_of : Place → ℕ → Ball
 ball_of centre radius = record { centre = cell_of_place centre; radius = radius }
 
 -- 16 bits are enough for each of the numbers
-pub record IsSmall (c : Cell) : Type 0 where
+pub record FitsSixteenBits (c : Cell) : Type 0 where
   pub x : c.x ≤ 65535
   pub y : c.y ≤ 65535
   pub z : c.z ≤ 65535

@@ -1,6 +1,6 @@
 ghost use Rattle.std.specs.Prelude.{◌≡◌, ◌↔◌, ◌≤◌, ◌^◌, IsSome, IfSome};
 ghost use Rattle.vw_cell.specs.Places.{FitsAt, IsInWorld};
-ghost use Rattle.held_world.specs.Places.{cell_of_place, box_of, ball_of, IsSmall};
+ghost use Rattle.held_world.specs.Places.{cell_of_place, box_of, ball_of, FitsSixteenBits};
 
 use vw_cell::{Ball, Boxed, Cell, Side};
 
@@ -34,7 +34,7 @@ impl Place {
 
     // As a cell, where its numbers are those of one.
     fn cell(self) -> Option<Cell>
-        ensures exactly { IsSome result ↔ IsSmall (cell_of_place self) }
+        ensures exactly { IsSome result ↔ FitsSixteenBits (cell_of_place self) }
         ensures value { IfSome result (λ c. c ≡ cell_of_place self) }
     {
         if self.x <= 65_535 && self.y <= 65_535 && self.z <= 65_535 {

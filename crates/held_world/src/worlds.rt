@@ -6,7 +6,7 @@ ghost use Rattle.history_model.specs.declared.acts.Act.TheVariants.{Fill, Erase,
 ghost use Rattle.history_model.specs.declared.acts.Act.TheVariants as acts;
 ghost use Rattle.block_contents.specs.Versions.{IsKept};
 ghost use Rattle.held_world.specs.Places.{cell_of_place, box_of, ball_of};
-ghost use Rattle.held_world.specs.Calls.{WorldChanges, WorldForgets, IsGone, TellsNewest, TellsSize, IsBegun, Refuses, IsPlan, AreSlots, HasModels, CountsLine, call_status, status_of_file};
+ghost use Rattle.held_world.specs.Calls.{WorldChanges, WorldForgets, IsGone, TellsNewest, TellsSize, IsBegun, Refuses, AreSideAndCap, AreSlots, AsksForModels, CountsLine, call_status, status_of_file};
 
 use crate::places::{Place, Stretch};
 use crate::statuses as status;
@@ -217,7 +217,7 @@ impl World {
 
 // The plan, where there is one.
 fn plan_of(side: u32, cap: u16) -> Option<Plan>
-    ensures exactly { IsSome result ↔ IsPlan side cap }
+    ensures exactly { IsSome result ↔ AreSideAndCap side cap }
     ensures plan { IfSome result (λ p. (2 ^ p.side ≡ side) × (p.buckets ≡ usual_buckets)) }
     ensures cap { IfSome result (λ p. AreSlots cap p.cap) }
 {
@@ -235,8 +235,8 @@ fn plan_of(side: u32, cap: u16) -> Option<Plan>
 // The models of the file, none where it has no bytes.
 fn read_file(alloc: Global, file: &[u8]) -> Result<Models, u32>
     ensures models { IfOk result AreModels }
-    ensures are { IfOk result (λ models. HasModels file.now models) }
-    ensures refused { IfErr result (λ status. (side cap : ℕ) → IsPlan side cap
+    ensures are { IfOk result (λ models. AsksForModels file.now models) }
+    ensures refused { IfErr result (λ status. (side cap : ℕ) → AreSideAndCap side cap
         → Refuses side cap file.now status) }
 {
     if file.is_empty() {

@@ -24,7 +24,7 @@ use Rattle.store_run.specs.declared.stored_versions.Versions.{Versions}
 use Rattle.store_run.specs.Kept.{log_of, moment_of}
 use Rattle.store_run.specs.Steps.{HasMark, LeavesAll, SharesRoot, MakesRoot, MeetsBucket, AppendsRecord, MarksVersion}
 use Rattle.store_run.specs.Answering.{nothing_to_go_to}
-use Rattle.store_run.specs.Changing.{log_with_record, HasWay, Changes, Forgets, MakesVersion}
+use Rattle.store_run.specs.Changing.{log_with_record, HasKeptTarget, Changes, AnswersForget, MakesVersion}
 
 abbrev record_of : ℕ → ℕ → Act → Record
 record_of session line act = record { session = session; line = line; act = act }
@@ -39,7 +39,7 @@ appended : (v u w : Versions) (r : Record) → log_of u ≡ log_of v → Appends
 appended v u w r same appends =
     grown (log_of u) (log_of w) r appends.grows.side appends.grows.coloured appends.grows.records appends.grows.marks ∙ ap (λ (l : Log). log_with_record l r) same
 
-edit_way : (log : Log) (act : Act) → is_edit act ≡ true → HasWay log act
+edit_way : (log : Log) (act : Act) → is_edit act ≡ true → HasKeptTarget log act
 edit_way log act edit = record { other = λ no. absurd (false≢true (sym no ∙ edit)) }
 
 -- a version that has a mark isn't kept
@@ -95,19 +95,19 @@ module _ (v : Versions) (session line : ℕ) (act : Act) (other : is_edit act �
 -- ---- forgetting
 
 module _ (v : Versions) (mark : Mark) where
-  pub forget_missing_logs : moment_of v < mark.version → Forgets (log_of v) mark (answers.NoVersion mark.version) (log_of v)
-  forget_missing_logs past = Forgets.no_version past
+  pub forget_missing_logs : moment_of v < mark.version → AnswersForget (log_of v) mark (answers.NoVersion mark.version) (log_of v)
+  forget_missing_logs past = AnswersForget.no_version past
 
-  pub forget_marked_logs : (mark.version ≤ moment_of v) × HasMark v mark.version → Forgets (log_of v) mark (answers.Forgotten mark.version) (log_of v)
-  forget_marked_logs is = Forgets.forgotten is.0 (marked_gone v mark.version is.1)
+  pub forget_marked_logs : (mark.version ≤ moment_of v) × HasMark v mark.version → AnswersForget (log_of v) mark (answers.Forgotten mark.version) (log_of v)
+  forget_marked_logs is = AnswersForget.forgotten is.0 (marked_gone v mark.version is.1)
 
-  pub forgets_head_logs : mark.version ≡ moment_of v → Forgets (log_of v) mark answers.IsHead (log_of v)
-  forgets_head_logs is = Forgets.is_head is
+  pub forgets_head_logs : mark.version ≡ moment_of v → AnswersForget (log_of v) mark answers.IsHead (log_of v)
+  forgets_head_logs is = AnswersForget.is_head is
 
   pub forgot_logs : (w : Versions) → IsKept (log_of v) mark.version → mark.version < moment_of v → MarksVersion v mark w
-      → Forgets (log_of v) mark (answers.Forgot mark.version) (log_of w)
+      → AnswersForget (log_of v) mark (answers.Forgot mark.version) (log_of w)
   forgot_logs w kept earlier marks =
-      Forgets.forgot (log_of w) (record { kept = kept; earlier = earlier; side = marks.forgets.side; coloured = marks.forgets.coloured; records = marks.forgets.records; marks = marks.forgets.marks })
+      AnswersForget.forgot (log_of w) (record { kept = kept; earlier = earlier; side = marks.forgets.side; coloured = marks.forgets.coloured; records = marks.forgets.records; marks = marks.forgets.marks })
 
 -- ---- the cells of the version that is made
 

@@ -13,7 +13,7 @@ use Rattle.conformance.specs.Answers.{target_at}
 use Rattle.conformance.proofs.LineKinds.{undo_target, redo_target}
 use Rattle.script_runs.proofs.Going.{goes_to}
 use Rattle.store_run.specs.declared.stored_versions.Versions.{Versions}
-use Rattle.store_run.specs.Changing.{Marks, log_with_record}
+use Rattle.store_run.specs.Changing.{LogGainsMark, log_with_record}
 use Rattle.store_run.specs.Kept.{log_of, moment_of, AreStored}
 use Rattle.store_run.specs.Marked.{replayed}
 use Rattle.store_run.specs.Replaying.{ReplayState, replay_state, MakesOnlyParts, TakesRecord}
@@ -113,7 +113,7 @@ replayed_as w u is = ap replayed is
 
 pub marks_come : (v w : Versions) (mark : Mark) → AreStored v → AreStored w
     → IsKept (log_of v) mark.version → mark.version < moment_of v → MarksVersion v mark w
-    → Marks (log_of v) mark (log_of w)
+    → LogGainsMark (log_of v) mark (log_of w)
 marks_come v w mark of_v of_w kept earlier marks = record {
   kept = kept;
   earlier = earlier;

@@ -16,7 +16,7 @@ use Rattle.core_laws.specs.States.{IsLive}
 use Rattle.one_store.specs.Known.{Known, IsStore, known_seen, root_tree, stored_root}
 use Rattle.one_store.specs.Steps.{SparesRoots, GainsRoot, spares_itself}
 use Rattle.store_run.specs.declared.stored_versions.Versions.{Versions}
-use Rattle.store_run.specs.Kept.{plan_of, log_of, core_with, AreStored, AreVersions, IsLargeStore, HoldsTree, HasRoom}
+use Rattle.store_run.specs.Kept.{plan_of, log_of, core_with, AreStored, AreVersions, IsLargeStore, HoldsTree, HasRecordRoom}
 use Rattle.store_run.specs.Steps.{StayVersions, LeavesAll, SharesRoot, PutsDown}
 use Rattle.store_run.proofs.Holding.{root_is, none_weighs, some_weighs}
 
@@ -125,5 +125,5 @@ puts_none v = record {
   loses = record { weighs = λ f. omega (arith, none_weighs v.store f) };
 }
 
-pub room_stays : (v : Versions) (s : Known) → HasRoom v → HasRoom (with_store v s)
+pub room_stays : (v : Versions) (s : Known) → HasRecordRoom v → HasRecordRoom (with_store v s)
 room_stays v s room = record { record_room = room.record_room; trail_room = room.trail_room }

@@ -29,17 +29,18 @@ pub record GoesToVersion (log : Log) (act : Act) (to : ℕ) : Type 0 where
   pub goes : target_at log.records (length log.records) act ≡ Some to
 
 -- it is an edit, or there is a version for it to go to that isn't forgotten
-pub record HasWay (log : Log) (act : Act) : Type 0 where
+pub record HasKeptTarget (log : Log) (act : Act) : Type 0 where
   pub other : is_edit act ≡ false → (to : ℕ) × GoesToVersion log act to × IsKept log to
 
 -- an act is answered: the record comes behind the others, or the history stays. A history has
 -- 65,535 records at most
 pub data Changes (log : Log) (r : Record) : Answer → Log → Type 0 where
-  done : (new : Log) → length log.records < 65535 → HasWay log r.act → new ≡ log_with_record log r
+  done : (new : Log) → length log.records < 65535 → HasKeptTarget log r.act
+      → new ≡ log_with_record log r
       → Changes log r answers.Done new
   full : (new : Log) (level bucket : ℕ) → is_edit r.act ≡ true → new ≡ log
       → Changes log r (answers.Full level bucket) new
-  log_full : (new : Log) → length log.records ≡ 65535 → HasWay log r.act → new ≡ log
+  log_full : (new : Log) → length log.records ≡ 65535 → HasKeptTarget log r.act → new ≡ log
       → Changes log r answers.LogFull new
   forgotten : (new : Log) (to : ℕ) → GoesToVersion log r.act to → ¬ IsKept log to → new ≡ log
       → Changes log r (answers.Forgotten to) new
@@ -48,7 +49,7 @@ pub data Changes (log : Log) (r : Record) : Answer → Log → Type 0 where
       → Changes log r (nothing_to_go_to r.act) new
 
 -- the mark comes to its version, and nothing else changes
-pub record Marks (log : Log) (mark : Mark) (new : Log) : Type 0 where
+pub record LogGainsMark (log : Log) (mark : Mark) (new : Log) : Type 0 where
   pub kept : IsKept log mark.version
   pub earlier : mark.version < length log.records
   pub side : new.side ≡ log.side
@@ -57,13 +58,14 @@ pub record Marks (log : Log) (mark : Mark) (new : Log) : Type 0 where
   pub marks : MarkComes log.marks mark new.marks
 
 -- a version is to be forgotten by this mark, and is, or the history stays
-pub data Forgets (log : Log) (mark : Mark) : Answer → Log → Type 0 where
-  forgot : (new : Log) → Marks log mark new → Forgets log mark (answers.Forgot mark.version) new
+pub data AnswersForget (log : Log) (mark : Mark) : Answer → Log → Type 0 where
+  forgot : (new : Log) → LogGainsMark log mark new
+      → AnswersForget log mark (answers.Forgot mark.version) new
   no_version : length log.records < mark.version
-      → Forgets log mark (answers.NoVersion mark.version) log
+      → AnswersForget log mark (answers.NoVersion mark.version) log
   forgotten : mark.version ≤ length log.records → ¬ IsKept log mark.version
-      → Forgets log mark (answers.Forgotten mark.version) log
-  is_head : mark.version ≡ length log.records → Forgets log mark answers.IsHead log
+      → AnswersForget log mark (answers.Forgotten mark.version) log
+  is_head : mark.version ≡ length log.records → AnswersForget log mark answers.IsHead log
 
 -- there is one version more: it has what the act makes of the one before, or what the version has
 -- that an undo or a redo goes to; and each earlier one has what it had

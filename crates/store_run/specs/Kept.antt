@@ -111,6 +111,6 @@ pub record HoldsSame (old new : Known) : Type 0 where
   pub weighs : (f : Tree → ℕ) → weigh f new.told.held ≡ weigh f old.told.held
 
 -- one more record has room
-pub record HasRoom (v : Versions) : Type 0 where
+pub record HasRecordRoom (v : Versions) : Type 0 where
   pub record_room : vec_len v.records < vec_capacity v.records
   pub trail_room : HasSlack v.trail

@@ -11,7 +11,7 @@ use Rattle.store_run.specs.Kept.{plan_of, log_of}
 use Rattle.store_run.specs.Pins.{saves_of}
 
 -- the plan, the models, the history, and the saves that were accepted, in order
-pub record RunState : Type 0 where
+pub record StoreRunState : Type 0 where
   pub plan : Layout
   pub models : List Content
   pub log : Log
@@ -21,7 +21,7 @@ pub record RunState : Type 0 where
 abbrev pub saved_file : List Content → Log → SavedBox → List ℕ
 saved_file models log s = file_of_box s.part (world_has models log.records s.version)
 
-abbrev pub run_state : Pinned → RunState
+abbrev pub run_state : Pinned → StoreRunState
 run_state p = record {
   plan = plan_of p.versions;
   models = p.versions.models.models;

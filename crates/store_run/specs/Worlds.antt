@@ -23,12 +23,12 @@ world_state v = record {
 }
 
 -- between two calls
-pub record IsAtRest (v : Versions) : Type 0 where
+pub record AreVersionsAtRest (v : Versions) : Type 0 where
   pub are : AreVersions v
   pub nothing : HoldsNothing v.store
 
 -- the same of versions whose cells may have tints
-pub record IsIdle (v : Versions) : Type 0 where
+pub record AreStoredAtRest (v : Versions) : Type 0 where
   pub are : AreStored v
   pub nothing : HoldsNothing v.store
 

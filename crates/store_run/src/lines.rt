@@ -6,9 +6,9 @@ ghost use Rattle.node_shapes.specs.Weights.{number_of_trees};
 ghost use Rattle.script.specs.Fitting.{QuestionFits};
 ghost use Rattle.script.specs.declared.commands.Command.TheVariants.{Edit, Forget, Ask, Same};
 ghost use Rattle.conformance.specs.Answers.{target_at, asked_version, mark_of};
-ghost use Rattle.store_run.specs.Kept.{log_of, moment_of, AreStored, AreVersions, HoldsSame, HasRoom};
+ghost use Rattle.store_run.specs.Kept.{log_of, moment_of, AreStored, AreVersions, HoldsSame, HasRecordRoom};
 ghost use Rattle.store_run.specs.Answering.{GoesOnBy, nothing_to_go_to};
-ghost use Rattle.store_run.specs.Changing.{Changes, Forgets};
+ghost use Rattle.store_run.specs.Changing.{Changes, AnswersForget};
 
 use crate::stored_versions::{RECORDS, VersionFound, Versions};
 use history_model::{Act, Mark, Question, Record};
@@ -28,7 +28,7 @@ impl Versions {
     ) -> Answer
         requires are { AreVersions self.old }
         requires few { number_of_trees self.old.store.told.held ≤ 2048 }
-        requires room { HasRoom self.old }
+        requires room { HasRecordRoom self.old }
         requires edit { is_edit act ≡ true }
         requires plain { suits_tints false act ≡ true }
         requires fits { FitsWorld (2 ^ self.old.side) self.old.models.models act }
@@ -62,7 +62,7 @@ impl Versions {
     pub(crate) fn go(&mut self, session: u16, line: u32, act: Act) -> Answer
         requires are { AreVersions self.old }
         requires few { number_of_trees self.old.store.told.held ≤ 2048 }
-        requires room { HasRoom self.old }
+        requires room { HasRecordRoom self.old }
         requires other { is_edit act ≡ false }
         ensures are { AreVersions self.new }
         ensures goes_on { (once : Bool) → GoesOnBy self.old session
@@ -115,7 +115,7 @@ impl Versions {
         ensures are { AreVersions self.new }
         ensures goes_on { GoesOnBy self.old session
             (record { line = line; command = Forget version }) result self.new }
-        ensures logs { Forgets (log_of self.old)
+        ensures logs { AnswersForget (log_of self.old)
             (mark_of version (moment_of self.old) session line) result (log_of self.new) }
         ensures same { HoldsSame self.old.store self.new.store }
     {

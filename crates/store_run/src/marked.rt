@@ -4,7 +4,7 @@ ghost use Rattle.history_model.specs.Logs.{FitsWorld, MayFollow, suits_tints};
 ghost use Rattle.history_model.specs.Positions.{position_after};
 ghost use Rattle.block_contents.specs.Versions.{IsKept};
 ghost use Rattle.one_store.specs.Known.{known_seen};
-ghost use Rattle.store_run.specs.Changing.{Marks, log_with_record};
+ghost use Rattle.store_run.specs.Changing.{LogGainsMark, log_with_record};
 ghost use Rattle.store_run.specs.Kept.{IsLargeStore};
 ghost use Rattle.store_run.specs.Marked.{HoldsKept, replayed};
 ghost use Rattle.store_run.specs.Replaying.{MakesOnlyParts, RefusesRecord};
@@ -33,7 +33,7 @@ impl<L: Ledger> Model for MarkedReplay<L> {
     ghost use Rattle.std.specs.Coded.{codes};
     ghost use Rattle.node_shapes.specs.ShapeCode.{coded_shape};
     ghost use Rattle.store_notes.specs.Told.{coded_wanted};
-    ghost use Rattle.store_run.specs.Worlds.{WorldState, world_state, IsIdle};
+    ghost use Rattle.store_run.specs.Worlds.{WorldState, world_state, AreStoredAtRest};
 
     ghost Value = { WorldState };
 
@@ -41,7 +41,7 @@ impl<L: Ledger> Model for MarkedReplay<L> {
 
     ghost view = { λ r. world_state r.versions };
 
-    ghost invariant = { λ r. IsIdle r.versions };
+    ghost invariant = { λ r. AreStoredAtRest r.versions };
 }
 
 impl<L: Ledger> MarkedReplay<L> {
@@ -113,7 +113,7 @@ impl<L: Ledger> MarkedReplay<L> {
         requires made { MakesOnlyParts (replayed self.old) }
         ensures plan { self.new.plan ≡ self.old.plan }
         ensures models { self.new.models ≡ self.old.models }
-        ensures marks { Marks self.old.log mark self.new.log }
+        ensures marks { LogGainsMark self.old.log mark self.new.log }
         ensures made { MakesOnlyParts (replayed self.new) }
     {
         let steps = &mut self.steps;

@@ -28,10 +28,10 @@ pub struct OpenRun {
 
 impl Model for OpenRun {
     ghost use Rattle.std.specs.Coded.{codes};
-    ghost use Rattle.store_run.specs.Open.{RunState, run_state};
+    ghost use Rattle.store_run.specs.Open.{StoreRunState, run_state};
     ghost use Rattle.store_run.specs.Pins.{ArePinned};
 
-    ghost Value = { RunState };
+    ghost Value = { StoreRunState };
 
     ghost coded = { Prim.hlevel codes };
 

@@ -17,10 +17,10 @@ ghost use Rattle.conformance.specs.Telling.{Tells};
 ghost use Rattle.script_runs.specs.Sessions.{GoesOnWith};
 ghost use Rattle.one_store.specs.Known.{stored_root};
 ghost use Rattle.store_run.specs.Answering.{GoesOnBy};
-ghost use Rattle.store_run.specs.Changing.{Changes, Forgets, MakesVersion};
-ghost use Rattle.store_run.specs.Kept.{log_of, moment_of, world_of, HasRoom, AreVersions, HoldsTree};
+ghost use Rattle.store_run.specs.Changing.{Changes, AnswersForget, MakesVersion};
+ghost use Rattle.store_run.specs.Kept.{log_of, moment_of, world_of, HasRecordRoom, AreVersions, HoldsTree};
 ghost use Rattle.store_run.specs.Steps.{LeavesAll, StaysSeen, TellsHeldVersion};
-ghost use Rattle.store_run.specs.Worlds.{IsAtRest, size_of};
+ghost use Rattle.store_run.specs.Worlds.{AreVersionsAtRest, size_of};
 
 use crate::lines::is_edit;
 use crate::stored_versions::{VersionFound, Versions};
@@ -51,7 +51,7 @@ impl Model for OpenWorld {
     ghost use Rattle.std.specs.Coded.{codes};
     ghost use Rattle.node_shapes.specs.ShapeCode.{coded_shape};
     ghost use Rattle.store_notes.specs.Told.{coded_wanted};
-    ghost use Rattle.store_run.specs.Worlds.{WorldState, world_state, IsAtRest};
+    ghost use Rattle.store_run.specs.Worlds.{WorldState, world_state, AreVersionsAtRest};
 
     ghost Value = { WorldState };
 
@@ -59,7 +59,7 @@ impl Model for OpenWorld {
 
     ghost view = { λ w. world_state w.versions };
 
-    ghost invariant = { λ w. IsAtRest w.versions };
+    ghost invariant = { λ w. AreVersionsAtRest w.versions };
 }
 
 impl OpenWorld {
@@ -137,7 +137,7 @@ impl OpenWorld {
     pub fn forget(&mut self, session: u16, line: u32, version: u32) -> Answer
         ensures plan { self.new.plan ≡ self.old.plan }
         ensures models { self.new.models ≡ self.old.models }
-        ensures logs { Forgets self.old.log
+        ensures logs { AnswersForget self.old.log
             (mark_of version (length self.old.log.records) session line) result self.new.log }
         ensures goes_on { GoesOnWith self.old.plan self.old.models session
             (record { line = line; command = Forget version }) self.old.log self.new.log
@@ -203,14 +203,14 @@ fn change_over<L: Ledger>(
     act: Act,
     blank: Blank,
 ) -> Answer
-    requires rest { IsAtRest versions.old }
-    requires room { HasRoom versions.old }
+    requires rest { AreVersionsAtRest versions.old }
+    requires room { HasRecordRoom versions.old }
     requires plain { suits_tints false act ≡ true }
     requires fits { FitsWorld (2 ^ versions.old.side) versions.old.models.models act }
     requires name { blank.name ≡ L.name }
     requires parts { blank.parts ≡ L.parts }
     requires some { 0 < L.parts }
-    ensures rest { IsAtRest versions.new }
+    ensures rest { AreVersionsAtRest versions.new }
     ensures logs { Changes (log_of versions.old)
         (record { session = session; line = line; act = act }) result (log_of versions.new) }
     ensures goes_on { (once : Bool) → GoesOnBy versions.old session
@@ -231,12 +231,12 @@ fn forget_over<L: Ledger>(
     version: u32,
     blank: Blank,
 ) -> Answer
-    requires rest { IsAtRest versions.old }
+    requires rest { AreVersionsAtRest versions.old }
     requires name { blank.name ≡ L.name }
     requires parts { blank.parts ≡ L.parts }
     requires some { 0 < L.parts }
-    ensures rest { IsAtRest versions.new }
-    ensures logs { Forgets (log_of versions.old)
+    ensures rest { AreVersionsAtRest versions.new }
+    ensures logs { AnswersForget (log_of versions.old)
         (mark_of version (moment_of versions.old) session line) result (log_of versions.new) }
     ensures goes_on { GoesOnBy versions.old session
         (record { line = line; command = Forget version }) result versions.new }
@@ -252,13 +252,13 @@ fn ask_over<L: Ledger>(
     question: Question,
     blank: Blank,
 ) -> Answer
-    requires rest { IsAtRest versions.old }
+    requires rest { AreVersionsAtRest versions.old }
     requires kept { IsKept (log_of versions.old) version }
     requires fits { QuestionFits (2 ^ versions.old.side) question }
     requires name { blank.name ≡ L.name }
     requires parts { blank.parts ≡ L.parts }
     requires some { 0 < L.parts }
-    ensures rest { IsAtRest versions.new }
+    ensures rest { AreVersionsAtRest versions.new }
     ensures leaves { LeavesAll versions.old versions.new }
     ensures tells { TellsHeldVersion versions.old version question result }
 {
@@ -274,14 +274,14 @@ fn file_over<L: Ledger>(
     part: Boxed,
     blank: Blank,
 ) -> Result<Vec<u8>, Memory>
-    requires rest { IsAtRest versions.old }
+    requires rest { AreVersionsAtRest versions.old }
     requires kept { IsKept (log_of versions.old) version }
     requires inside { FitsAt part.at part.size (2 ^ versions.old.side) }
     requires small { (part.size.x ≤ 256) × (part.size.y ≤ 256) × (part.size.z ≤ 256) }
     requires name { blank.name ≡ L.name }
     requires parts { blank.parts ≡ L.parts }
     requires some { 0 < L.parts }
-    ensures rest { IsAtRest versions.new }
+    ensures rest { AreVersionsAtRest versions.new }
     ensures leaves { LeavesAll versions.old versions.new }
     ensures file { IfOk result
         (λ file. file.items ≡ file_of_box part (world_of versions.old version)) }

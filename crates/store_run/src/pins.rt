@@ -9,7 +9,7 @@ ghost use Rattle.script.specs.Fitting.{CommandFits, SaveFits};
 ghost use Rattle.conformance.specs.declared.saves.SavedBox.{SavedBox};
 ghost use Rattle.conformance.specs.Saves.{saved_by};
 ghost use Rattle.extract.specs.Saved.{file_of_box};
-ghost use Rattle.store_run.specs.Kept.{plan_of, log_of, moment_of, world_of, noted_of, AreVersions, HoldsNothing, HasRoom};
+ghost use Rattle.store_run.specs.Kept.{plan_of, log_of, moment_of, world_of, noted_of, AreVersions, HoldsNothing, HasRecordRoom};
 ghost use Rattle.store_run.specs.Steps.{StayVersions, StaysSeen, LeavesAll, TellsHeldVersion};
 ghost use Rattle.store_run.specs.Answering.{GoesOnBy, saved_as};
 ghost use Rattle.store_run.specs.Pins.{ArePinned, HasPinRoom, saves_of};
@@ -74,7 +74,7 @@ impl Pinned {
     pub(crate) fn reserve(&mut self) -> Result<(), Memory>
         requires { ArePinned self.old.versions self.old.pins.items }
         ensures are { ArePinned self.new.versions self.new.pins.items }
-        ensures room { OnOk result (HasRoom self.new.versions) }
+        ensures room { OnOk result (HasRecordRoom self.new.versions) }
         ensures pin_room { OnOk result (HasPinRoom self.new) }
         ensures same { self.new.versions.models.models ≡ self.old.versions.models.models }
         ensures log { log_of self.new.versions ≡ log_of self.old.versions }
@@ -99,7 +99,7 @@ impl Pinned {
         steps: &mut Steps<L>,
     ) -> Answer
         requires are { ArePinned self.old.versions self.old.pins.items }
-        requires room { HasRoom self.old.versions }
+        requires room { HasRecordRoom self.old.versions }
         requires pin_room { HasPinRoom self.old }
         requires fits { CommandFits false (2 ^ self.old.versions.side)
             self.old.versions.models.models command }

@@ -5,7 +5,7 @@ ghost use Rattle.history_model.specs.Logs.{FitsWorld, MayFollow, suits_tints};
 ghost use Rattle.history_model.specs.Positions.{position_after};
 ghost use Rattle.node_shapes.specs.Weights.{number_of_trees};
 ghost use Rattle.conformance.specs.Answers.{target_at};
-ghost use Rattle.store_run.specs.Kept.{moment_of, log_of, AreStored, HoldsSame, HasRoom};
+ghost use Rattle.store_run.specs.Kept.{moment_of, log_of, AreStored, HoldsSame, HasRecordRoom};
 ghost use Rattle.store_run.specs.Replaying.{TakesEdit, TakesWay, FillsBucket, CanFollow};
 
 use crate::stored_versions::Versions;
@@ -23,7 +23,7 @@ impl Versions {
     ) -> Result<(), Full>
         requires are { AreStored self.old }
         requires few { number_of_trees self.old.store.told.held ≤ 2048 }
-        requires room { HasRoom self.old }
+        requires room { HasRecordRoom self.old }
         requires early { moment_of self.old < 65535 }
         requires edit { is_edit next.act ≡ true }
         requires suits { suits_tints self.old.models.tint next.act ≡ true }
@@ -49,7 +49,7 @@ impl Versions {
     pub(crate) fn take_way(&mut self, next: Record) -> bool
         requires are { AreStored self.old }
         requires few { number_of_trees self.old.store.told.held ≤ 2048 }
-        requires room { HasRoom self.old }
+        requires room { HasRecordRoom self.old }
         requires early { moment_of self.old < 65535 }
         requires other { is_edit next.act ≡ false }
         requires unmarked { (log_of self.old).marks ≡ [] }
@@ -76,7 +76,7 @@ impl Versions {
     pub(crate) fn follow_way(&mut self, next: Record)
         requires are { AreStored self.old }
         requires few { number_of_trees self.old.store.told.held ≤ 2048 }
-        requires room { HasRoom self.old }
+        requires room { HasRecordRoom self.old }
         requires early { moment_of self.old < 65535 }
         requires other { is_edit next.act ≡ false }
         requires follows { MayFollow (log_of self.old).marks (moment_of self.old + 1) next.act

@@ -48,7 +48,7 @@ ghost use Rattle.core_laws.specs.LogEvents.{MayAppend};
 ghost use Rattle.act_rebuilds.specs.Made.{FailsBy};
 ghost use Rattle.one_store.specs.Known.{known_seen, stored_root};
 ghost use Rattle.script.specs.Fitting.{QuestionFits};
-ghost use Rattle.store_run.specs.Kept.{plan_of, log_of, moment_of, core_with, noted_of, AreStored, AreVersions, IsLargeStore, HoldsNothing, HoldsTree, GainsTree, LosesTree, HoldsSame, HasRoom};
+ghost use Rattle.store_run.specs.Kept.{plan_of, log_of, moment_of, core_with, noted_of, AreStored, AreVersions, IsLargeStore, HoldsNothing, HoldsTree, GainsTree, LosesTree, HoldsSame, HasRecordRoom};
 ghost use Rattle.store_run.specs.Steps.{IsVersionFound, TellsHeldVersion, StaysSeen, IsOverStore, MakesBeside, WantsFor, side_of, PutsDown, LeavesAll, SharesRoot, MakesRoot, MeetsBucket, AppendsRecord, MarksVersion};
 
 impl Versions {
@@ -129,7 +129,7 @@ impl Versions {
         ensures are { AreStored self.new }
         ensures plain { AreVersions self.old → AreVersions self.new }
         ensures shares { SharesRoot self.old version result self.new }
-        ensures room { HasRoom self.old → HasRoom self.new }
+        ensures room { HasRecordRoom self.old → HasRecordRoom self.new }
     {
         self.store.root_share(version)
     }
@@ -143,7 +143,7 @@ impl Versions {
         ensures are { AreStored self.new }
         ensures plain { AreVersions self.old → AreVersions self.new }
         ensures puts { PutsDown self.old root self.new }
-        ensures room { HasRoom self.old → HasRoom self.new }
+        ensures room { HasRecordRoom self.old → HasRecordRoom self.new }
     {
         match root {
             Some(share) => self.store.back(share, steps),
@@ -218,7 +218,7 @@ impl Versions {
         ensures makes { IfOk result (λ root. MakesRoot self.old act root self.new) }
         ensures gains { IfOk result (λ root. GainsTree self.old.store root self.new.store) }
         ensures meets { IfErr result (λ full. MeetsBucket self.old act full self.new) }
-        ensures room { HasRoom self.old → HasRoom self.new }
+        ensures room { HasRecordRoom self.old → HasRecordRoom self.new }
     {
         let base = self.share(self.moment());
         let made = self.rebuild_from(base.as_ref(), act, steps);
@@ -260,7 +260,7 @@ impl Versions {
     #[tactic(auto, using(crate::proofs::Logging::no_root, crate::proofs::Holding::holds_some, crate::proofs::Logging::appended_are, crate::proofs::Logging::appends_record, crate::proofs::Logging::keeps_loses))]
     pub(crate) fn append(&mut self, next: Record, root: Option<Share>)
         requires are { AreStored self.old }
-        requires room { HasRoom self.old }
+        requires room { HasRecordRoom self.old }
         requires suits { suits_tints self.old.models.tint next.act ≡ true }
         requires holds { HoldsTree self.old.store root }
         requires may { MayAppend (plan_of self.old) self.old.models.models next root
@@ -304,7 +304,7 @@ impl Versions {
         requires { AreStored self.old }
         ensures are { AreStored self.new }
         ensures plain { AreVersions self.old → AreVersions self.new }
-        ensures room { OnOk result (HasRoom self.new) }
+        ensures room { OnOk result (HasRecordRoom self.new) }
         ensures same { self.new.models.models ≡ self.old.models.models }
         ensures log { log_of self.new ≡ log_of self.old }
         ensures store { self.new.store ≡ self.old.store }

@@ -6,7 +6,7 @@ use Rattle.history_model.specs.Ways.{Heading, heading_of}
 use Rattle.history_model.specs.declared.questions.Question.TheVariants as questions
 use Rattle.transcript.specs.declared.answers.Answer.{Answer}
 use Rattle.held_world.specs.declared.worlds.World.{World}
-use Rattle.held_world.specs.Calls.{ByHandle, Opens, Closes, IsBegun, Refuses, WorldAsks}
+use Rattle.held_world.specs.Calls.{ByHandle, OpensHandle, ClosesHandle, IsBegun, Refuses, WorldAsks}
 use Rattle.held_world.proofs.Fitting.{same_steps}
 
 module _ (Untouched : Type 0) (Does : World → ℕ → World → Type 0) where
@@ -38,25 +38,25 @@ by_steps {w} {version} {from} {Written} {Untouched} {status} dx dy dz x y z asks
 -- ---- opening and closing
 
 module _ (side cap : ℕ) (bytes : List ℕ) where
-  pub opens_again : (old new : Option World) (w : World) → Some w ≡ old → new ≡ Some w → Opens side cap bytes old 13 new
+  pub opens_again : (old new : Option World) (w : World) → Some w ≡ old → new ≡ Some w → OpensHandle side cap bytes old 13 new
   opens_again old new w was now =
-      subst (λ (o : Option World). Opens side cap bytes o 13 new) was
-      (subst (λ (n : Option World). Opens side cap bytes (Some w) 13 n) (sym now) (Opens.is_open w))
+      subst (λ (o : Option World). OpensHandle side cap bytes o 13 new) was
+      (subst (λ (n : Option World). OpensHandle side cap bytes (Some w) 13 n) (sym now) (OpensHandle.is_open w))
 
-  pub opens_begun : (old new : Option World) (w : World) → old ≡ None → new ≡ Some w → IsBegun side cap bytes w → Opens side cap bytes old 0 new
+  pub opens_begun : (old new : Option World) (w : World) → old ≡ None → new ≡ Some w → IsBegun side cap bytes w → OpensHandle side cap bytes old 0 new
   opens_begun old new w was now begun =
-      subst (λ (o : Option World). Opens side cap bytes o 0 new) (sym was)
-      (subst (λ (n : Option World). Opens side cap bytes None 0 n) (sym now) (Opens.begun w begun))
+      subst (λ (o : Option World). OpensHandle side cap bytes o 0 new) (sym was)
+      (subst (λ (n : Option World). OpensHandle side cap bytes None 0 n) (sym now) (OpensHandle.begun w begun))
 
-  pub opens_not : (old new : Option World) (status : ℕ) → old ≡ None → new ≡ None → Refuses side cap bytes status → Opens side cap bytes old status new
+  pub opens_not : (old new : Option World) (status : ℕ) → old ≡ None → new ≡ None → Refuses side cap bytes status → OpensHandle side cap bytes old status new
   opens_not old new status was now why =
-      subst (λ (o : Option World). Opens side cap bytes o status new) (sym was)
-      (subst (λ (n : Option World). Opens side cap bytes None status n) (sym now) (Opens.refused status why))
+      subst (λ (o : Option World). OpensHandle side cap bytes o status new) (sym was)
+      (subst (λ (n : Option World). OpensHandle side cap bytes None status n) (sym now) (OpensHandle.refused status why))
 
-pub closes_none : (old new : Option World) → old ≡ None → new ≡ None → Closes old 1 new
+pub closes_none : (old new : Option World) → old ≡ None → new ≡ None → ClosesHandle old 1 new
 closes_none old new was now =
-    subst (λ (o : Option World). Closes o 1 new) (sym was) (subst (λ (n : Option World). Closes None 1 n) (sym now) Closes.closed)
+    subst (λ (o : Option World). ClosesHandle o 1 new) (sym was) (subst (λ (n : Option World). ClosesHandle None 1 n) (sym now) ClosesHandle.closed)
 
-pub closes_some : (old new : Option World) (w : World) → Some w ≡ old → new ≡ None → Closes old 0 new
+pub closes_some : (old new : Option World) (w : World) → Some w ≡ old → new ≡ None → ClosesHandle old 0 new
 closes_some old new w was now =
-    subst (λ (o : Option World). Closes o 0 new) was (subst (λ (n : Option World). Closes (Some w) 0 n) (sym now) (Closes.given_back w))
+    subst (λ (o : Option World). ClosesHandle o 0 new) was (subst (λ (n : Option World). ClosesHandle (Some w) 0 n) (sym now) (ClosesHandle.given_back w))

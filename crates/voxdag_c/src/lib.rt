@@ -13,8 +13,8 @@ ghost use Rattle.history_model.specs.declared.acts.Act.TheVariants as acts;
 ghost use Rattle.history_model.specs.declared.questions.Question.TheVariants as questions;
 ghost use Rattle.transcript.specs.declared.answers.Answer.TheVariants as answers;
 ghost use Rattle.held_world.specs.Places.{cell_of_place, box_of, ball_of, extent_of, hit_of};
-ghost use Rattle.held_world.specs.Calls.{ByHandle, WorldChanges, WorldForgets, WorldAsks, WorldCompares, WorldSaves, WorldJournals, Opens};
-ghost use Rattle.held_world.specs.Calls.{TellsNewest, TellsSize, IsUntouched, Closes};
+ghost use Rattle.held_world.specs.Calls.{ByHandle, WorldChanges, WorldForgets, WorldAsks, WorldCompares, WorldSaves, WorldJournals, OpensHandle};
+ghost use Rattle.held_world.specs.Calls.{TellsNewest, TellsSize, WritesNothing, ClosesHandle};
 
 use held_world::{Handle, Place, Stretch, World, statuses as status};
 use std::alloc::Global;
@@ -400,7 +400,7 @@ pub extern "C" fn voxdag_c_save(
     out: &mut [u8],
     needed: &mut usize,
 ) -> u32
-    ensures { ByHandle (IsUntouched out.old out.new needed.old needed.new)
+    ensures { ByHandle (WritesNothing out.old out.new needed.old needed.new)
         (λ w status v. (v ≡ w) × WorldSaves w version (box_of part.now)
         out.old out.new needed.old needed.new status)
         handle.old.kept.value result handle.new.kept.value }
@@ -424,7 +424,7 @@ pub extern "C" fn voxdag_c_journal(
     out: &mut [u8],
     needed: &mut usize,
 ) -> u32
-    ensures { ByHandle (IsUntouched out.old out.new needed.old needed.new)
+    ensures { ByHandle (WritesNothing out.old out.new needed.old needed.new)
         (λ w status v. (v ≡ w) × WorldJournals w out.old out.new needed.old needed.new status)
         handle.old.kept.value result handle.new.kept.value }
 {
@@ -449,7 +449,7 @@ pub extern "C" fn voxdag_c_open(
     cap: u16,
     file: &[u8],
 ) -> u32
-    ensures { Opens side cap file.now handle.old.kept.value result handle.new.kept.value }
+    ensures { OpensHandle side cap file.now handle.old.kept.value result handle.new.kept.value }
 {
     if let Some(world) = handle.take(alloc) {
         handle.put(world);
@@ -467,7 +467,7 @@ pub extern "C" fn voxdag_c_open(
 /// Closes the world, and gives its memory back.
 #[unsafe(no_mangle)]
 pub extern "C" fn voxdag_c_close(alloc: Global, handle: &mut Handle) -> u32
-    ensures { Closes handle.old.kept.value result handle.new.kept.value }
+    ensures { ClosesHandle handle.old.kept.value result handle.new.kept.value }
 {
     match handle.take(alloc) {
         None => status::CLOSED,

@@ -3,7 +3,7 @@ use Rattle.store_run.proofs.Answering.{forgets_head, forget_missing, forget_mark
 use Rattle.transcript.specs.declared.answers.Answer.TheVariants.{Forgot}
 use Rattle.conformance.specs.Answers.{mark_of}
 use Rattle.store_run.specs.Kept.{log_of, moment_of}
-use Rattle.store_run.specs.Changing.{Forgets}
+use Rattle.store_run.specs.Changing.{AnswersForget}
 use Rattle.store_run.proofs.Answering.{kept_earlier}
 use Rattle.store_run.proofs.Changing.{forget_missing_logs, forget_marked_logs, forgets_head_logs, forgot_logs}
 use Rattle.store_run.proofs.stored_versions.Versions.forget_version.Goals as goal
@@ -41,7 +41,7 @@ returns-in-Marked-clause-logs g c =
 
 pub returns-else-version-at-clause-logs : goal.returns-else-version-at-clause-logs
 returns-else-version-at-clause-logs g c =
-    subst (λ (n : ℕ). Forgets (log_of c.args.self.now) (mark_of c.args.version n c.args.session c.args.line) (Forgot c.args.version) (log_of c.forget.new.self))
+    subst (λ (n : ℕ). AnswersForget (log_of c.args.self.now) (mark_of c.args.version n c.args.session c.args.line) (Forgot c.args.version) (log_of c.forget.new.self))
     c.moment-at.ensures.value
     (forgot_logs c.args.self.now (mark_of c.args.version c.moment-at.result c.args.session c.args.line) c.forget.new.self c.in-Kept.ensures
     (kept_earlier c.args.self.now c.args.version c.moment-at.result c.in-Kept.ensures c.moment-at.ensures.value (λ e. omega (arith, c.if-version-at.false, e)))
