@@ -7,7 +7,7 @@ ghost use Rattle.conformance.specs.Answers.{LineFits};
 ghost use Rattle.versions.specs.Retained.{KeepsLast};
 ghost use Rattle.conformance.specs.Agreeing.{InOrder, SessionAgrees, SessionsAgree, AgreesKeeping};
 ghost use Rattle.audit.specs.Reruns.{IsRerun};
-ghost use Rattle.audit.specs.Sessions.{IsAfter, FollowsLast};
+ghost use Rattle.audit.specs.Sessions.{IsAfterMoment, FollowsLast};
 
 use crate::counts::show_as_many;
 use crate::reruns::Rerun;
@@ -100,7 +100,7 @@ fn follows_last(last: Option<u32>, a: LineAnswer) -> bool
 }
 
 fn is_after(n: u32, a: LineAnswer) -> bool
-    ensures { IsTrue result ↔ IsAfter n a }
+    ensures { IsTrue result ↔ IsAfterMoment n a }
 {
     match a.answer {
         Answer::Done => n < a.at,

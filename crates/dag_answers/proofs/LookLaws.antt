@@ -16,7 +16,7 @@ use Rattle.dag_file.specs.Places.{version_root_word, versions_in}
 use Rattle.dag_file.specs.Reads.{SaysFault}
 use Rattle.dag_file.specs.Trees.{Opened, opened_seen, word_name, version_tree, roots_below, HasVersion, IsRootOfVersion}
 use Rattle.dag_file.proofs.VersionLaws.{weighs_root, block_word}
-use Rattle.dag_answers.specs.Looks.{version_has, version_tints, TellsVersion, AnswersLook, LacksAsked, RefusesLook, of_dag}
+use Rattle.dag_answers.specs.Looks.{version_has, version_tints, TellsFileVersion, AnswersLook, LacksAsked, RefusesLook, of_dag}
 
 pub fault_refuses : (bytes : List ℕ) (number : ℕ) (asked : Question) (fault : DagFault)
     → SaysFault bytes fault → RefusesLook bytes number asked (of_dag fault)
@@ -67,7 +67,7 @@ pub version_told : (o : Opened) (number : ℕ) (root : Option Name) (question : 
     (answer : Answer) → 2 ≤ o.side → HasVersion o.bytes (o.side - 1) number
     → IsRootOfVersion o.bytes (o.side - 1) number root
     → TellsRoot (opened_seen o).held o.side root question answer
-    → TellsVersion o.bytes o.side number question answer
+    → TellsFileVersion o.bytes o.side number question answer
 version_told o number root question answer low has is tells = record {
   v = has.0;
   is = has.1;
@@ -79,7 +79,7 @@ version_told o number root question answer low has is tells = record {
 
 pub looked : (bytes : List ℕ) (side number : ℕ) (asked question : Question) (answer : Answer)
     → 2 ≤ side → IsDagFile bytes (side - 1) → question_placed (2 ^ side) asked ≡ Ok question
-    → TellsVersion bytes side number question answer
+    → TellsFileVersion bytes side number question answer
     → AnswersLook bytes number asked answer
 looked bytes side number asked question answer low file placed tells = record {
   side = side;

@@ -25,7 +25,7 @@ abbrev pub version_tints : List ℕ → ℕ → ℕ → Tints
 version_tints bytes side v c = one_if (version_has bytes side v c)
 
 -- the file has a version of this number, and the answer tells what the question asks of its cells
-pub record TellsVersion (bytes : List ℕ) (side number : ℕ) (question : Question)
+pub record TellsFileVersion (bytes : List ℕ) (side number : ℕ) (question : Question)
     (answer : Answer) : Type 0 where
   pub v : ℕ
   pub is : IsVersion bytes (side - 1) number v
@@ -40,7 +40,7 @@ pub record AnswersLook (bytes : List ℕ) (number : ℕ) (asked : Question) (ans
   pub file : IsDagFile bytes (side - 1)
   pub question : Question
   pub placed : question_placed (2 ^ side) asked ≡ Ok question
-  pub tells : TellsVersion bytes side number question answer
+  pub tells : TellsFileVersion bytes side number question answer
 
 -- the file keeps all rules, and hasn't the version, or its worlds have not what is asked
 pub record LacksAsked (bytes : List ℕ) (number : ℕ) (asked : Question) : Type 0 where

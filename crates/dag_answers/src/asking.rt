@@ -3,7 +3,7 @@ ghost use Rattle.block_walk.specs.Roots.{HoldsRoot};
 ghost use Rattle.dag_file.specs.Rules.{IsDagFile};
 ghost use Rattle.dag_file.specs.Trees.{HasVersion, IsRootOfVersion, opened_seen};
 ghost use Rattle.script.specs.Fitting.{QuestionFits};
-ghost use Rattle.dag_answers.specs.Looks.{TellsVersion, AnswersLook, RefusesLook};
+ghost use Rattle.dag_answers.specs.Looks.{TellsFileVersion, AnswersLook, RefusesLook};
 ghost use Rattle.dag_answers.specs.Questions.{question_spelled};
 
 use crate::placing::place_question;
@@ -74,7 +74,7 @@ fn ask_version(view: &mut DagView<'_>, version: u32, question: Question) -> Opti
     ensures same { view.new ≡ view.old }
     ensures tells { MatchOption result
         (HasVersion view.old.bytes (view.old.side - 1) version → ⊥)
-        (TellsVersion view.old.bytes view.old.side version question) }
+        (TellsFileVersion view.old.bytes view.old.side version question) }
 {
     let side = view.side();
     let root = view.root(version)?;

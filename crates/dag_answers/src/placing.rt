@@ -8,7 +8,7 @@ ghost use Rattle.history_model.specs.declared.questions.Question.{Question};
 ghost use Rattle.script.specs.declared.faults.ScriptKind.TheVariants.{Range};
 ghost use Rattle.script.specs.Numbers.{IsLong, box_in, cell_in, way_in};
 ghost use Rattle.script.specs.Placing.{ray_placed, question_placed};
-ghost use Rattle.dag_answers.specs.Questions.{step_spelled, way_spelled, question_spelled};
+ghost use Rattle.dag_answers.specs.Questions.{step_spelled, heading_spelled, question_spelled};
 
 use crate::questions::{SpelledQuestion, SpelledStep, SpelledWay};
 use history_model::{Question, Three, Way};
@@ -31,7 +31,7 @@ pub(crate) fn place_question(asked: &SpelledQuestion, side: Side) -> Result<Ques
 
 #[tactic(auto, unfolding(script::specs::Placing::ray_placed))]
 fn place_ray(from: Three, way: &SpelledWay, side: Side) -> Result<Question, ScriptKind>
-    ensures placed { result ≡ ray_placed (2 ^ side) from (way_spelled way.now) }
+    ensures placed { result ≡ ray_placed (2 ^ side) from (heading_spelled way.now) }
     ensures fits { IfOk result (QuestionFits (2 ^ side)) }
 {
     let from = make_cell(from, side)?;
@@ -63,7 +63,7 @@ fn make_cell(numbers: Three, side: Side) -> Result<Cell, ScriptKind>
 
 #[tactic(auto, using(script::proofs::Fitting::long_dx, script::proofs::Fitting::long_dy, script::proofs::Fitting::long_dz, script::proofs::Fitting::way_made, crate::proofs::PlaceLaws::way_fits))]
 fn make_way(way: &SpelledWay) -> Result<Way, ScriptKind>
-    ensures placed { result ≡ way_in (way_spelled way.now) }
+    ensures placed { result ≡ way_in (heading_spelled way.now) }
     ensures fits { IfOk result IsHeading }
 {
     let dx = make_step(&way.x)?;

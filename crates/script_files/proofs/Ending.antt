@@ -49,10 +49,10 @@ use Rattle.script_files.specs.Orders.{Asked}
 use Rattle.script_files.specs.Refusals.{output_name}
 use Rattle.script_files.specs.Scripts.{AreFitScripts}
 use Rattle.script_files.specs.Reports.{ReportIs, BeginsFirst, BeginsTexts}
-use Rattle.script_files.specs.Requests.{Given, given_seen, given_by, inputs_of, named_texts, transcript_name, save_file, saved_output, wanted_output, written_first, written_last, texts_written}
+use Rattle.script_files.specs.Requests.{RunOutputs, given_seen, given_by, inputs_of, named_texts, transcript_name, save_file, saved_output, wanted_output, written_first, written_last, texts_written}
 use Rattle.script_files.specs.Meanings.{file_in, IsAccepted, TalliesRun, RefusesTexts, SessionsBegan, ScriptsBegan}
 use Rattle.script_files.specs.Outcomes.{Outcome}
-use Rattle.script_files.specs.Stages.{CountsFile, JournalIs, IsRead, given_of, ClosesRun, TellsRun, HistoryTexts, AreTexts, WroteHistory, StopsOpen, StopsClosed, WritesClosed, WritesHistory, WroteRun, BeginsClosed, StopsRun, WritesRun}
+use Rattle.script_files.specs.Stages.{CountsFile, JournalIs, ReadsInputs, given_of, ClosesRun, TellsClosedRun, HistoryTexts, AreTexts, WroteHistory, StopsOpen, StopsClosed, WritesClosed, WritesHistory, WroteRun, BeginsClosed, StopsRun, WritesRun}
 use Rattle.world_run.proofs.Accepting.{saves_fit}
 use Rattle.script_files.proofs.SavedFiles.{IsGood, save_same}
 use Rattle.script_files.proofs.Writing.{both_written, stops_after, stops_before, stops_at_once}
@@ -161,7 +161,7 @@ closed_writes asked r (Err refused) old new writes = inr writes
 
 -- the texts of a closed world are those of its history
 pub told_texts : (asked : Asked) (r : RunState) (w : WorldRan) (texts : HistoryTexts)
-    → TellsRun r w
+    → TellsClosedRun r w
     → ((models : List Content) → RootsTellWorlds models w.ended.history (listed_root w.roots.items)
     → AreNumbers models w.ended.history w.numbers.items
     → AreTexts asked models w.ended.history texts)
@@ -234,7 +234,7 @@ history_stopped asked r closed written outputs refused old new closes are is sto
 -- ---- all stages of a run
 
 module _ (asked : Asked) (run : ScriptsRun) (old : ShelfState) where
-  abbrev given : Given
+  abbrev given : RunOutputs
   given = given_of run
 
   abbrev texts_named : List Named
@@ -433,7 +433,7 @@ module _ (asked : Asked) (models : List Content) (lines : List (List ScriptLine)
         ≡ written_first asked
         (given_by asked.tint models lines closed.history run.transcripts.items)
     written_same =
-        ap (λ (g : Given). written_first asked g) given_same
+        ap (λ (g : RunOutputs). written_first asked g) given_same
         ∙ first_same asked models lines run.transcripts.items run.run.sessions closed.history fits
         ran closes_world
 
@@ -460,7 +460,7 @@ module _ (asked : Asked) (models : List Content) (lines : List (List ScriptLine)
 
 module _ (asked : Asked) (texts : List (List ℕ)) (r : Read) (run : ScriptsRun)
     (old mid new : ShelfState) (taken : AreTaken old.files (inputs_of (Run asked)) texts)
-    (read : IsRead asked texts r)
+    (read : ReadsInputs asked texts r)
     (ran : SessionsRanKeeping asked.keep asked.tint asked.plan r.models 0 r.scripts.items
     run.transcripts.items run.run.sessions)
     (plan_is : run.run.plan ≡ asked.plan) (tint_is : run.run.tint ≡ asked.tint)
@@ -523,7 +523,7 @@ module _ (asked : Asked) (texts : List (List ℕ)) (r : Read) (run : ScriptsRun)
     transcripts = run.transcripts.items;
     sessions = run.run.sessions;
     ran = ran;
-    begins = subst (λ (g : Given). BeginsFirst asked g outputs)
+    begins = subst (λ (g : RunOutputs). BeginsFirst asked g outputs)
         (given_same asked r.models r.scripts.items run ran plan_is tint_is models_are kept fits) b;
   })
   run_begun outputs (inr b) = inr (record {

@@ -21,7 +21,7 @@ use Rattle.script_files.specs.declared.refusals.TextRefused.{TextRefused}
 use Rattle.script_files.specs.declared.refusals.TextRefused.TheVariants.{Vox, Script, Collides, NoScene, NoPlace, StoreFull, NoDag, Journal, Transcript, Memory}
 use Rattle.script_files.specs.declared.requests.Request.TheVariants.{Flood}
 use Rattle.script_files.specs.Orders.{FloodAsked}
-use Rattle.script_files.specs.Floods.{start_of, has_start_place, IsFar, FloodsText, RefusesFlooding, RefusesStart}
+use Rattle.script_files.specs.Floods.{flood_start, has_start_place, IsFar, FloodsText, RefusesFlooding, RefusesStart}
 use Rattle.script_files.specs.Meanings.{file_in, RefusesTexts}
 use Rattle.script_files.specs.Outcomes.{Outcome}
 use Rattle.script_files.specs.Refusals.{output_name, of_vox, of_flood}
@@ -35,7 +35,7 @@ not_true true never = absurd (never refl)
 not_true false never = refl
 
 apart : (asked : FloodAsked) (m : Content) → IsModel m → IsFar asked
-    → IsInBox (whole_box m.size) (start_of asked) → ⊥
+    → IsInBox (whole_box m.size) (flood_start asked) → ⊥
 apart asked m model (inl x) i = (let f = i.x in let s = model.size.x in omega (arith, x, f.1, s.1))
 apart asked m model (inr (inl y)) i =
     (let f = i.y in let s = model.size.y in omega (arith, y, f.1, s.1))
@@ -43,15 +43,15 @@ apart asked m model (inr (inr z)) i =
     (let f = i.z in let s = model.size.z in omega (arith, z, f.1, s.1))
 
 far_of : (asked : FloodAsked) (m : Content) → IsModel m → IsFar asked
-    → is_in_box (whole_box m.size) (start_of asked) ≡ false
-far_of asked m model far = not_true (is_in_box (whole_box m.size) (start_of asked)) (λ inside.
-    apart asked m model far (is_in_box_tells (whole_box m.size) (start_of asked) inside))
+    → is_in_box (whole_box m.size) (flood_start asked) ≡ false
+far_of asked m model far = not_true (is_in_box (whole_box m.size) (flood_start asked)) (λ inside.
+    apart asked m model far (is_in_box_tells (whole_box m.size) (flood_start asked) inside))
 
 pub far_place : (asked : FloodAsked) (models : List Content) → AreModels models → IsFar asked
     → has_start_place asked models ≡ false
 far_place asked models are far = by (slice_get models asked.model) refl where
   by : (o : Option Content) → slice_get models asked.model ≡ o
-      → has_start o (start_of asked) ≡ false
+      → has_start o (flood_start asked) ≡ false
   by None is = refl
   by (Some m) is =
       far_of asked m
@@ -61,7 +61,7 @@ far_place asked models are far = by (slice_get models asked.model) refl where
 -- ---- refusals
 
 pub flood_refused : (asked : FloodAsked) (models : List Content) (refused : FloodRefused)
-    → RefusesFlood models asked.model (start_of asked) refused
+    → RefusesFlood models asked.model (flood_start asked) refused
     → RefusesStart asked models (of_flood refused)
 flood_refused asked models (floods.StoreFull full) says = says
 flood_refused asked models floods.Memory says = tt

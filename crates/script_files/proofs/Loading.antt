@@ -30,7 +30,7 @@ use Rattle.world_run.specs.declared.runs.ScriptsRun.{ScriptsRun}
 use Rattle.script_files.specs.declared.tallies.Tally.{Tally}
 use Rattle.script_files.specs.declared.refusals.OutputRefused.{OutputRefused}
 use Rattle.script_files.specs.declared.scripts.Read.{Read}
-use Rattle.script_files.specs.Requests.{Given, texts_written}
+use Rattle.script_files.specs.Requests.{RunOutputs, texts_written}
 use Rattle.script_files.specs.Reports.{BeginsFirst}
 use Rattle.script_files.specs.Demos.{demo_plan, demo_asked, LoadBegan, LoadSessionsBegan}
 use Rattle.script_files.specs.Outcomes.{Outcome}
@@ -187,7 +187,7 @@ module _ (n : ℕ) (r : Read) (run : ScriptsRun) (old new : ShelfState) (counted
     read = read.read;
     sessions = run.run.sessions;
     ran = ran_load;
-    begins = subst (λ (g : Given). BeginsFirst demo_asked g outputs)
+    begins = subst (λ (g : RunOutputs). BeginsFirst demo_asked g outputs)
         (given_same demo_asked
         (load_model n ∷ []) r.scripts.items run ran_load plan_is tint_is load_models
         kept fits_load) b;

@@ -12,7 +12,7 @@ use Rattle.script_files.specs.Meanings.{AreApart, file_in, scripts_in}
 use Rattle.script_files.specs.Orders.{Asked, asked_side, world_exponent}
 use Rattle.script_files.specs.Refusals.{RefusesScripts}
 use Rattle.script_files.specs.Scripts.{AreFitScripts, lines_told, scripts_of}
-use Rattle.script_files.specs.Stages.{IsRead}
+use Rattle.script_files.specs.Stages.{ReadsInputs}
 use Rattle.script_files.specs.declared.refusals.TextRefused.{TextRefused}
 use Rattle.script_files.specs.declared.scripts.Read.{Read}
 
@@ -38,7 +38,7 @@ quarter_kept (Some s) tint p cells tinted low of is =
 pub read_by : (asked : Asked) (texts : List (List ℕ)) (side : ℕ) (r : Read)
     → side ≡ asked_side asked → ReadsModels (file_in texts) (Ok r.models)
     → scripts_of asked.tint side r.models (scripts_in texts) ≡ Ok r.scripts.items
-    → AreApart asked r.scripts.items → IsRead asked texts r
+    → AreApart asked r.scripts.items → ReadsInputs asked texts r
 read_by asked texts side r same gives read apart = record {
   gives = gives;
   read = ap (λ (s : ℕ). scripts_of asked.tint s r.models (scripts_in texts)) (sym same) ∙ read;

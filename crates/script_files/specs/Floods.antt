@@ -12,11 +12,11 @@ use Rattle.script_files.specs.declared.refusals.TextRefused.TheVariants.{Vox, No
 use Rattle.script_files.specs.Orders.{FloodAsked}
 
 -- the place from which is flooded
-abbrev pub start_of : FloodAsked → Cell
-start_of asked = cell_at asked.x asked.y asked.z
+abbrev pub flood_start : FloodAsked → Cell
+flood_start asked = cell_at asked.x asked.y asked.z
 
 abbrev pub has_start_place : FloodAsked → List Content → Bool
-has_start_place asked models = has_place models asked.model (start_of asked)
+has_start_place asked models = has_place models asked.model (flood_start asked)
 
 -- no model can have the place
 abbrev pub IsFar : FloodAsked → Type 0
@@ -27,7 +27,7 @@ pub record FloodsText (asked : FloodAsked) (bytes : List ℕ) (number : ℕ)
     (file : List ℕ) : Type 0 where
   pub models : List Content
   pub gives : ReadsModels bytes (Ok models)
-  pub floods : FloodsModel models asked.model (start_of asked) number file
+  pub floods : FloodsModel models asked.model (flood_start asked) number file
 
 -- the file gives models, one of which has the place; the number is that of the cells of the place's
 -- region, whose file is the one output
@@ -52,7 +52,7 @@ pub record LacksPlace (asked : FloodAsked) (bytes : List ℕ) : Type 0 where
 pub record FillsStore (asked : FloodAsked) (bytes : List ℕ) (full : Full) : Type 0 where
   pub models : List Content
   pub gives : ReadsModels bytes (Ok models)
-  pub fills : MayFillStore models asked.model (start_of asked) full
+  pub fills : MayFillStore models asked.model (flood_start asked) full
 
 -- what a refusal says of the file, and of the models that it gives: want of memory says nothing
 abbrev pub RefusesFlooding : FloodAsked → List ℕ → TextRefused → Type 0
@@ -65,6 +65,6 @@ RefusesFlooding asked bytes _ = ⊥
 abbrev pub RefusesStart : FloodAsked → List Content → TextRefused → Type 0
 RefusesStart asked models NoPlace = has_start_place asked models ≡ false
 RefusesStart asked models (StoreFull full) =
-    MayFillStore models asked.model (start_of asked) full
+    MayFillStore models asked.model (flood_start asked) full
 RefusesStart asked models Memory = ⊤
 RefusesStart asked models _ = ⊥

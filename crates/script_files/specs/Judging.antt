@@ -36,7 +36,7 @@ use Rattle.dag_answers.proofs.LegalLaws.{first_not_legal, legal_records}
 use Rattle.script_files.specs.Orders.{FloodAsked, DagAsked, LookAsked, AuditAsked}
 use Rattle.script_files.specs.Audits.{AuditTexts, IsJournalOf, AreTranscriptsOf, IsFirstUnread, AllRead}
 use Rattle.script_files.specs.Unread.{no_journal, no_transcripts, said_once}
-use Rattle.script_files.specs.Floods.{start_of, has_start_place}
+use Rattle.script_files.specs.Floods.{flood_start, has_start_place}
 use Rattle.vox_scene.specs.declared.faults.SceneFault.{SceneFault}
 use Rattle.vox_scene.specs.Scenes.{SceneSeen, HasScene}
 use Rattle.vox_scene.specs.Judged.{IsPlaceable}
@@ -50,7 +50,7 @@ use Rattle.script_files.specs.Requests.{inputs_of}
 use Rattle.script_files.specs.Meanings.{file_in, GivesOutputs, RefusesVox, RefusesScript, RefusesNames, RefusesPlace, RefusesFull, RefusesPlaces, RefusesDag, RefusesJournalLine, RefusesAnswers, texts_audited}
 use Rattle.script_files.specs.Outcomes.{RefusesFiles, Outcome}
 use Rattle.script_files.specs.Refusals.{output_name}
-use Rattle.script_files.specs.Verdicts.{Verdict, Fine, LacksInput, InputIsLong, HasVoxFault, HasScriptFault, NamesCollide, HasNoPlace, HasSceneFault, HasDagFault, HasJournalFault, HasTranscriptFault, Finding, NoMore, OfScene, OfLook, OfRun, input_within, inputs_at, verdict_of, verdict_of_look, verdict_of_run, verdict_of_answers, FindsLog, FindsAnswers, FindsPlaces, FindsVersion, FindsRun, FindsLegalLog, FindsLegal, OfLegal, FindsFault, JudgesTexts, JudgesInputs, Judges, FollowsRead, FollowsWrite, FollowsText, Follows}
+use Rattle.script_files.specs.Verdicts.{Verdict, Fine, LacksInput, InputIsLong, HasVoxFault, HasScriptFault, NamesCollide, HasNoPlace, HasSceneFault, HasDagFault, HasJournalFault, HasTranscriptFault, Finding, NoMore, OfScene, OfLook, OfRun, input_within, inputs_at, verdict_of, verdict_of_look, verdict_of_run, verdict_of_answers, FindsLog, FindsAnswers, FindsPlaces, FindsLook, FindsRun, FindsLegalLog, FindsLegal, OfLegal, FindsFault, JudgesTexts, JudgesInputs, Judges, FollowsRead, FollowsWrite, FollowsText, Follows}
 
 -- ---- one verdict
 
@@ -83,8 +83,8 @@ one_places bytes (OfScene f) (OfLook found) of_f of_g = absurd of_g
 one_places bytes (OfScene f) (OfRun log said) of_f of_g = absurd of_g
 one_places bytes (OfScene f) (OfLegal log) of_f of_g = absurd of_g
 
-one_look : (asked : LookAsked) (bytes : List ℕ) (f g : Finding) → FindsVersion asked bytes f
-    → FindsVersion asked bytes g → f ≡ g
+one_look : (asked : LookAsked) (bytes : List ℕ) (f g : Finding) → FindsLook asked bytes f
+    → FindsLook asked bytes g → f ≡ g
 one_look asked bytes (OfLook f) (OfLook g) of_f of_g =
     ap OfLook (look_laws.judged_once bytes asked.version asked.question f g of_f of_g)
 one_look asked bytes NoMore g of_f of_g = absurd of_f
@@ -330,10 +330,10 @@ by_look asked files texts v found taken finds judges =
     same_verdict (Look asked) texts v j.reading (OfLook found) j.says finds j
 
 floods_fine : (asked : FloodAsked) (models : List Content) (number : ℕ) (file : List ℕ)
-    → FloodsModel models asked.model (start_of asked) number file
+    → FloodsModel models asked.model (flood_start asked) number file
     → (if has_start_place asked models then Fine else HasNoPlace) ≡ Fine
 floods_fine asked models number file f =
-    let is : is_in_box (whole_box f.model.size) (start_of asked) ≡ true = f.inside in
+    let is : is_in_box (whole_box f.model.size) (flood_start asked) ≡ true = f.inside in
     rw (f.there, is) refl
 
 -- a scene that there is has no fault
@@ -479,7 +479,7 @@ full_follows (Look asked) files texts v full taken says judges = absurd says
 full_follows (Audit asked) files texts v full taken says judges =
     read_fine asked files texts v taken says.all judges
 full_follows (Flood asked) files texts v full taken says judges =
-    let is : is_in_box (whole_box says.fills.model.size) (start_of asked) ≡ true =
+    let is : is_in_box (whole_box says.fills.model.size) (flood_start asked) ≡ true =
     says.fills.inside in
     let fine : verdict_of (Flood asked) texts (Ok says.models) NoMore ≡ Fine =
     rw (says.fills.there, is) refl in

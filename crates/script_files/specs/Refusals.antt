@@ -36,9 +36,9 @@ IsOutputName (Given name) = ⊤
 IsOutputName (Saved name) = is_save_name name ≡ true
 
 -- so can the output that was not written
-abbrev pub IsNamed : CommandRefused → Type 0
-IsNamed (Output r) = IsOutputName r.name
-IsNamed _ = ⊤
+abbrev pub HasOutputName : CommandRefused → Type 0
+HasOutputName (Output r) = IsOutputName r.name
+HasOutputName _ = ⊤
 
 abbrev pub of_vox : VoxFault → TextRefused
 of_vox faults.Memory = Memory

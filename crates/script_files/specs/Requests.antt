@@ -109,7 +109,7 @@ saved_output file k = record { name = name_bytes k.save.name; bytes = file k }
 
 -- what sessions have come to: the models, their transcripts, what they saved, and the file of each
 -- save
-pub record Given : Type 0 where
+pub record RunOutputs : Type 0 where
   pub models : List Content
   pub transcripts : List (List LineAnswer)
   pub kept : List KeptSave
@@ -117,7 +117,7 @@ pub record Given : Type 0 where
 
 -- by the cells of the store that each session saw, and by the one history of all
 abbrev pub given_seen : Bool → List Content → List (List ScriptLine) → List (List LineAnswer)
-    → List SessionSeen → Given
+    → List SessionSeen → RunOutputs
 given_seen tint models lines transcripts sessions = record {
   models = models;
   transcripts = transcripts;
@@ -126,7 +126,7 @@ given_seen tint models lines transcripts sessions = record {
 }
 
 abbrev pub given_by : Bool → List Content → List (List ScriptLine) → Log → List (List LineAnswer)
-    → Given
+    → RunOutputs
 given_by tint models lines log transcripts = record {
   models = models;
   transcripts = transcripts;
@@ -136,7 +136,7 @@ given_by tint models lines log transcripts = record {
 
 -- what a run writes first: the texts of its transcripts, and then its saved files, by script and
 -- line
-abbrev pub written_first : Asked → Given → List Named
+abbrev pub written_first : Asked → RunOutputs → List Named
 written_first asked given =
     named_texts (map transcript_name asked.scripts) (map transcript_of given.transcripts)
     ++ map (saved_output given.file) given.kept
@@ -147,6 +147,6 @@ written_last asked log report =
     wanted_output asked.journal (journal_of log) ++ wanted_output asked.report report
 
 -- what a run writes, in order
-abbrev pub texts_written : Asked → Given → Log → List ℕ → List Named
+abbrev pub texts_written : Asked → RunOutputs → Log → List ℕ → List Named
 texts_written asked given log report =
     written_first asked given ++ written_last asked log report

@@ -27,7 +27,7 @@ use Rattle.script_files.specs.Meanings.{file_in, scripts_in, AreApart, TalliesRu
 use Rattle.script_files.specs.Refusals.{output_name}
 use Rattle.script_files.specs.Reports.{ReportIs, BeginsFirst, BeginsTexts}
 use Rattle.world_run.specs.Open.{saved_in_world}
-use Rattle.script_files.specs.Requests.{Given, written_last, texts_written}
+use Rattle.script_files.specs.Requests.{RunOutputs, written_last, texts_written}
 
 -- the bytes give these models, and the number is that of their cells
 pub record CountsFile (bytes : List ℕ) (number : ℕ) : Type 0 where
@@ -41,13 +41,13 @@ JournalIs None text want = ⊤
 JournalIs (Some name) text want = text ≡ want
 
 -- no input has a fault, no name is taken, and these are the models and the commands
-pub record IsRead (asked : Asked) (texts : List (List ℕ)) (r : Read) : Type 0 where
+pub record ReadsInputs (asked : Asked) (texts : List (List ℕ)) (r : Read) : Type 0 where
   pub gives : ReadsModels (file_in texts) (Ok r.models)
   pub read : lines_asked asked r.models (scripts_in texts) ≡ Ok r.scripts.items
   pub apart : AreApart asked r.scripts.items
 
 -- what a run has come to whose world isn't closed
-abbrev pub given_of : ScriptsRun → Given
+abbrev pub given_of : ScriptsRun → RunOutputs
 given_of r = record {
   models = r.run.models;
   transcripts = r.transcripts.items;
@@ -121,7 +121,7 @@ pub record StopsClosed (asked : Asked) (r : RunState) (refused : OutputRefused)
       old.faults new.faults
 
 -- what a closed world tells of the run
-pub record TellsRun (r : RunState) (w : WorldRan) : Type 0 where
+pub record TellsClosedRun (r : RunState) (w : WorldRan) : Type 0 where
   pub closes : ClosesRun r w.ended
   pub roots : RootsTellWorlds r.models w.ended.history (listed_root w.roots.items)
   pub numbers : AreNumbers r.models w.ended.history w.numbers.items

@@ -159,9 +159,9 @@ abbrev pub FindsPlaces : List ℕ → Finding → Type 0
 FindsPlaces bytes (OfScene found) = JudgesScene bytes found
 FindsPlaces bytes _ = ⊥
 
-abbrev pub FindsVersion : LookAsked → List ℕ → Finding → Type 0
-FindsVersion asked bytes (OfLook found) = JudgesLook bytes asked.version asked.question found
-FindsVersion asked bytes _ = ⊥
+abbrev pub FindsLook : LookAsked → List ℕ → Finding → Type 0
+FindsLook asked bytes (OfLook found) = JudgesLook bytes asked.version asked.question found
+FindsLook asked bytes _ = ⊥
 
 abbrev pub FindsRun : AuditTexts → Finding → Type 0
 FindsRun t (OfRun log said) = FindsLog t.journal log × FindsAnswers t.transcripts said
@@ -175,7 +175,7 @@ abbrev pub FindsFault : Request → List (List ℕ) → Result (List Content) Vo
     → Type 0
 FindsFault (Scene asked) texts (Ok models) found = FindsPlaces (file_in texts) found
 FindsFault (Dag asked) texts (Ok models) found = FindsLegal models (journal_in texts) found
-FindsFault (Look asked) texts reading found = FindsVersion asked (file_in texts) found
+FindsFault (Look asked) texts reading found = FindsLook asked (file_in texts) found
 FindsFault (Audit asked) texts (Ok models) found = FindsRun (texts_audited asked texts) found
 FindsFault _ texts reading found = found ≡ NoMore
 

@@ -8,7 +8,7 @@ ghost use Rattle.script_files.specs.declared.requests.Request.TheVariants.{Audit
 ghost use Rattle.script_files.specs.Audits.{AnswersAudit, RefusesAuditing};
 ghost use Rattle.script_files.specs.Meanings.{file_in, texts_audited};
 ghost use Rattle.script_files.specs.Outcomes.{Outcome};
-ghost use Rattle.script_files.specs.Refusals.{IsNamed, RefusesScripts};
+ghost use Rattle.script_files.specs.Refusals.{HasOutputName, RefusesScripts};
 ghost use Rattle.script_files.specs.Requests.{inputs_of, script_input, transcript_name};
 ghost use Rattle.script_files.specs.Scripts.{AreFitScripts, lines_told};
 ghost use Rattle.script_files.specs.Audits.{AreTranscriptsOf};
@@ -52,7 +52,7 @@ pub fn audit_files<'w, S: Shelf>(
     requires few { length order.now.scripts ≤ 64 }
     requires named { map string_bytes transcripts.now ≡ map transcript_name order.now.scripts }
     ensures outcome { Outcome result (Audit order.now) (S.state shelf.old) (S.state shelf.new) }
-    ensures named { IfErr result IsNamed }
+    ensures named { IfErr result HasOutputName }
 {
     let Ok(inputs) = inputs_of(alloc, order, transcripts) else {
         return Err(CommandRefused::Text(TextRefused::Memory));

@@ -1,7 +1,7 @@
 ghost use Rattle.std.specs.Prelude.{◌≡◌, ◌≤◌, length, map, string_bytes, IfOk, IfErr};
 ghost use Rattle.script_files.specs.Commands.{scripts_asked};
 ghost use Rattle.script_files.specs.Outcomes.{Outcome};
-ghost use Rattle.script_files.specs.Refusals.{IsNamed};
+ghost use Rattle.script_files.specs.Refusals.{HasOutputName};
 ghost use Rattle.script_files.specs.Requests.{transcript_name};
 
 use crate::audits::{audit_files, names_read};
@@ -37,7 +37,7 @@ pub fn carry_out<'w, S: Shelf, R: Threads + Wait + Sync, G: Gate + Sync>(
     requires named { map string_bytes transcripts.now
         ≡ map transcript_name (scripts_asked asked.now) }
     ensures outcome { Outcome result asked.now (S.state shelf.old) (S.state shelf.new) }
-    ensures named { IfErr result IsNamed }
+    ensures named { IfErr result HasOutputName }
 {
     match asked {
         Request::Count(file) => count_file(alloc, FileName { text: file.text }, shelf),

@@ -3,7 +3,7 @@ ghost use Rattle.script_files.specs.Dags.{MakesDag, RefusesDagging, journal_in};
 ghost use Rattle.script_files.specs.declared.requests.Request.TheVariants as requests;
 ghost use Rattle.script_files.specs.Meanings.{file_in};
 ghost use Rattle.script_files.specs.Outcomes.{Outcome};
-ghost use Rattle.script_files.specs.Refusals.{IsNamed};
+ghost use Rattle.script_files.specs.Refusals.{HasOutputName};
 
 use crate::journals::read_told;
 use crate::refusals::{CommandRefused, OutputRefused, TextRefused};
@@ -24,7 +24,7 @@ pub fn dag_file<'w, S: Shelf>(
 ) -> Result<Completed, CommandRefused<'w>>
     ensures outcome { Outcome result (requests.Dag order.now) (S.state shelf.old)
         (S.state shelf.new) }
-    ensures named { IfErr result IsNamed }
+    ensures named { IfErr result HasOutputName }
 {
     let inputs = [
         Input {

@@ -5,7 +5,7 @@ ghost use Rattle.script_files.specs.Requests.{transcript_name};
 ghost use Rattle.region_laws.specs.LastCounts.{count_told, last_count, region_counts};
 ghost use Rattle.script_files.specs.Demos.{demo_asked};
 ghost use Rattle.script_files.specs.Outcomes.{Outcome};
-ghost use Rattle.script_files.specs.Refusals.{IsNamed};
+ghost use Rattle.script_files.specs.Refusals.{HasOutputName};
 ghost use Rattle.script_files.specs.Scripts.{AreFitScripts};
 ghost use Rattle.script_files.specs.Stages.{IsLoadRead};
 
@@ -70,7 +70,7 @@ pub fn run_demo<'w, S: Shelf, R: Threads + Wait + Sync, G: Gate + Sync>(
 ) -> Result<Completed, CommandRefused<'w>>
     requires { map string_bytes transcripts.now ≡ map transcript_name demo_asked.scripts }
     ensures outcome { Outcome result (Demo n) (S.state shelf.old) (S.state shelf.new) }
-    ensures named { IfErr result IsNamed }
+    ensures named { IfErr result HasOutputName }
 {
     loads_are_counted();
     let order = demo_order();

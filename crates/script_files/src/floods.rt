@@ -2,10 +2,10 @@ ghost use Rattle.std.specs.Prelude.{◌≡◌, ◌≤◌, ◌^◌, length, IfOk,
 ghost use Rattle.vox_read.specs.Contents.{AreModels};
 ghost use Rattle.flood.specs.Models.{FloodsModel};
 ghost use Rattle.script_files.specs.declared.requests.Request.TheVariants.{Flood};
-ghost use Rattle.script_files.specs.Floods.{start_of, IsFar, FloodsText, RefusesFlooding, RefusesStart};
+ghost use Rattle.script_files.specs.Floods.{flood_start, IsFar, FloodsText, RefusesFlooding, RefusesStart};
 ghost use Rattle.script_files.specs.Meanings.{file_in};
 ghost use Rattle.script_files.specs.Outcomes.{Outcome};
-ghost use Rattle.script_files.specs.Refusals.{IsNamed};
+ghost use Rattle.script_files.specs.Refusals.{HasOutputName};
 
 use crate::refusals::{CommandRefused, OutputRefused, TextRefused};
 use crate::requests::{FloodOrder, VOX_LIMIT};
@@ -24,7 +24,7 @@ pub fn flood_file<'w, S: Shelf>(
     shelf: &mut S,
 ) -> Result<Completed, CommandRefused<'w>>
     ensures outcome { Outcome result (Flood order.now) (S.state shelf.old) (S.state shelf.new) }
-    ensures named { IfErr result IsNamed }
+    ensures named { IfErr result HasOutputName }
 {
     let inputs = [Input {
         name: order.file,
@@ -100,7 +100,8 @@ fn region_in(
     models: &Models,
 ) -> Result<RegionFile, TextRefused>
     requires models { AreModels models.now }
-    ensures region { IfOk result (λ r. FloodsModel models.now order.now.model (start_of order.now)
+    ensures region { IfOk result
+        (λ r. FloodsModel models.now order.now.model (flood_start order.now)
         r.cells r.file.items) }
     ensures refused { IfErr result (RefusesStart order.now models.now) }
 {
@@ -116,7 +117,7 @@ fn region_in(
 
 // The place from which is flooded, where a model can have it.
 fn start(order: &FloodOrder<'_>) -> Option<Cell>
-    ensures { MatchOption result (IsFar order.now) (λ c. c ≡ start_of order.now) }
+    ensures { MatchOption result (IsFar order.now) (λ c. c ≡ flood_start order.now) }
 {
     if order.x > 255 || order.y > 255 || order.z > 255 {
         return None;

@@ -4,7 +4,7 @@ ghost use Rattle.script_files.specs.declared.requests.Request.TheVariants as req
 ghost use Rattle.script_files.specs.Looks.{RefusesLooking};
 ghost use Rattle.script_files.specs.Meanings.{file_in};
 ghost use Rattle.script_files.specs.Outcomes.{Outcome};
-ghost use Rattle.script_files.specs.Refusals.{IsNamed};
+ghost use Rattle.script_files.specs.Refusals.{HasOutputName};
 
 use crate::refusals::{CommandRefused, TextRefused};
 use crate::requests::{LookOrder, VOX_LIMIT};
@@ -23,7 +23,7 @@ pub fn look_file<'w, S: Shelf>(
 ) -> Result<Completed, CommandRefused<'w>>
     ensures outcome { Outcome result (requests.Look order.now) (S.state shelf.old)
         (S.state shelf.new) }
-    ensures named { IfErr result IsNamed }
+    ensures named { IfErr result HasOutputName }
 {
     let inputs = [Input {
         name: order.dag,

@@ -6,7 +6,7 @@ ghost use Rattle.script_files.specs.Refusals.{IsOutputName};
 ghost use Rattle.world_run.specs.Open.{saved_in_world};
 ghost use Rattle.script_files.specs.Requests.{named_texts, saved_output, transcript_name, wanted_output};
 ghost use Rattle.world_run.specs.Open.{RunState};
-ghost use Rattle.script_files.specs.Stages.{TellsRun, Writes, WritesClosed, WritesHistory, WritesRun};
+ghost use Rattle.script_files.specs.Stages.{TellsClosedRun, Writes, WritesClosed, WritesHistory, WritesRun};
 
 use crate::refusals::{OutputName, OutputRefused};
 use crate::requests::Order;
@@ -143,7 +143,7 @@ fn write_closed<'w, S: Shelf>(
         ran.ended.history.marks }
     requires places { length ran.ended.history.records < length ran.roots.items }
     requires levels { length ran.numbers.items ≤ 11 }
-    ensures writes { (r : RunState) → TellsRun r ran → WritesClosed order.now r result
+    ensures writes { (r : RunState) → TellsClosedRun r ran → WritesClosed order.now r result
         (S.state shelf.old) (S.state shelf.new) }
     ensures named { IfErr result (λ refused. IsOutputName refused.name) }
 {

@@ -2,7 +2,7 @@ ghost use Rattle.std.specs.Prelude.{◌≡◌, ◌≤◌, length, map, string_by
 ghost use Rattle.script_files.specs.declared.requests.Request.TheVariants.{Run};
 ghost use Rattle.script_files.specs.Requests.{inputs_of, transcript_name};
 ghost use Rattle.script_files.specs.Outcomes.{Outcome};
-ghost use Rattle.script_files.specs.Refusals.{IsNamed};
+ghost use Rattle.script_files.specs.Refusals.{HasOutputName};
 
 use crate::outputs::write_run;
 use crate::refusals::{CommandRefused, TextRefused};
@@ -38,7 +38,7 @@ pub fn run_files<'w, S: Shelf, R: Threads + Wait + Sync, G: Gate + Sync>(
     requires few { length order.now.scripts ≤ 64 }
     requires named { map string_bytes transcripts.now ≡ map transcript_name order.now.scripts }
     ensures outcome { Outcome result (Run order.now) (S.state shelf.old) (S.state shelf.new) }
-    ensures named { IfErr result IsNamed }
+    ensures named { IfErr result HasOutputName }
 {
     let Ok(inputs) = inputs_of(alloc, order) else {
         return Err(CommandRefused::Text(TextRefused::Memory));

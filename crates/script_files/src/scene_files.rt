@@ -4,7 +4,7 @@ ghost use Rattle.script_files.specs.declared.requests.Request.TheVariants as req
 ghost use Rattle.script_files.specs.Scenes.{TellsScene, PlacesText, RefusesPlacing};
 ghost use Rattle.script_files.specs.Meanings.{file_in};
 ghost use Rattle.script_files.specs.Outcomes.{Outcome};
-ghost use Rattle.script_files.specs.Refusals.{IsNamed};
+ghost use Rattle.script_files.specs.Refusals.{HasOutputName};
 
 use crate::refusals::{CommandRefused, OutputRefused, TextRefused};
 use crate::requests::{SceneOrder, VOX_LIMIT};
@@ -33,7 +33,7 @@ pub fn scene_file<'w, S: Shelf>(
 ) -> Result<Completed, CommandRefused<'w>>
     ensures outcome { Outcome result (requests.Scene order.now) (S.state shelf.old)
         (S.state shelf.new) }
-    ensures named { IfErr result IsNamed }
+    ensures named { IfErr result HasOutputName }
 {
     let inputs = [Input {
         name: order.file,

@@ -10,7 +10,7 @@ ghost use Rattle.script_files.specs.Meanings.{file_in, RefusesTexts};
 ghost use Rattle.script_files.specs.Refusals.{RefusesScripts};
 ghost use Rattle.script.specs.Scripts.{commands_of};
 ghost use Rattle.script_files.specs.Scripts.{scripts_of, in_script, HasFileName, AreFitScripts};
-ghost use Rattle.script_files.specs.Stages.{IsRead, ReadsScript};
+ghost use Rattle.script_files.specs.Stages.{ReadsInputs, ReadsScript};
 
 use crate::refusals::{NumberedFault, TextRefused};
 use crate::requests::Order;
@@ -43,7 +43,7 @@ pub(crate) fn read_texts(
     requires within { length (file_in texts.items) ≤ 2 ^ 28 }
     requires inputs { inputs.now ≡ inputs_of (Run order.now) }
     requires named { map string_bytes transcripts.now ≡ map transcript_name order.now.scripts }
-    ensures read { IfOk result (IsRead order.now texts.items) }
+    ensures read { IfOk result (ReadsInputs order.now texts.items) }
     ensures models { IfOk result (λ read. AreModels read.models) }
     ensures fit { IfOk result
         (λ read. AreFitScripts order.now.tint order.now.plan.side read.models

@@ -19,9 +19,9 @@ use Rattle.transcript.specs.Lines.{transcript_of}
 use Rattle.script.specs.declared.commands.SaveName.{SaveName}
 use Rattle.script.specs.Commands.{name_bytes}
 use Rattle.script_files.specs.Kept.{KeptSave}
-use Rattle.script_files.specs.Refusals.{output_name, IsNamed}
+use Rattle.script_files.specs.Refusals.{output_name, HasOutputName}
 use Rattle.script_files.specs.Reports.{BeginsFirst, BeginsTexts}
-use Rattle.script_files.specs.Requests.{Given, transcript_name, named_texts, wanted_output, saved_output, written_first, written_last, texts_written}
+use Rattle.script_files.specs.Requests.{RunOutputs, transcript_name, named_texts, wanted_output, saved_output, written_first, written_last, texts_written}
 use Rattle.script_files.specs.Demos.{demo_asked}
 use Rattle.script_files.specs.Meanings.{BeginsOutputs}
 use Rattle.script_files.specs.Outcomes.{Outcome, BreaksOff}
@@ -68,7 +68,7 @@ saves_fit file (k ∷ kept) room long =
     (save_fits k.save.name room long) (saves_fit file kept room long)
 
 -- whatever a run writes
-first_fit : (asked : Asked) (given : Given) (room : ℕ) → NamesFit asked room
+first_fit : (asked : Asked) (given : RunOutputs) (room : ℕ) → NamesFit asked room
     → All (NameFits room) (written_first asked given)
 first_fit asked given room fit =
     let names = map transcript_name asked.scripts in
@@ -78,7 +78,7 @@ first_fit asked given room fit =
     (named_fit names texts room fit.transcripts)
     (saves_fit given.file given.kept room fit.saved)
 
-outputs_fit : (asked : Asked) (given : Given) (log : Log) (report : List ℕ) (room : ℕ)
+outputs_fit : (asked : Asked) (given : RunOutputs) (log : Log) (report : List ℕ) (room : ℕ)
     → NamesFit asked room → All (NameFits room) (texts_written asked given log report)
 outputs_fit asked given log report room fit =
     let journal = journal_of log in
@@ -97,14 +97,14 @@ among_fits all outputs rest first others output room fit parts is =
     (sym parts ∙ ap (λ (os : List Named). os ++ rest) is
     ∙ append_assoc first (output ∷ others) rest)
 
-began_fits : (asked : Asked) (given : Given) (log : Log) (outputs first others : List Named)
+began_fits : (asked : Asked) (given : RunOutputs) (log : Log) (outputs first others : List Named)
     (output : Named) (room : ℕ) → NamesFit asked room → BeginsTexts asked given log outputs
     → outputs ≡ first ++ output ∷ others → FitsRoom room output.name
 began_fits asked given log outputs first others output room fit begins parts =
     among_fits (texts_written asked given log begins.report) outputs begins.rest first others output
     room (outputs_fit asked given log begins.report room fit) begins.parts parts
 
-first_began_fits : (asked : Asked) (given : Given) (outputs first others : List Named)
+first_began_fits : (asked : Asked) (given : RunOutputs) (outputs first others : List Named)
     (output : Named) (room : ℕ) → NamesFit asked room → BeginsFirst asked given outputs
     → outputs ≡ first ++ output ∷ others → FitsRoom room output.name
 first_began_fits asked given outputs first others output room fit begins parts =
@@ -223,7 +223,7 @@ command_write why name (Look asked) old new room breaks fit =
     absurd (look_write why name asked old new breaks)
 command_write why name (Audit asked) old new room breaks fit = absurd (breaks.begins.begins)
 
-command_refusal : (r : CommandRefused) (a : Request) (old new : ShelfState) (room : ℕ) → IsNamed r
+command_refusal : (r : CommandRefused) (a : Request) (old new : ShelfState) (room : ℕ) → HasOutputName r
     → Outcome (Err r) a old new → OutputsFit a room → RefusalHasRoom r room
 command_refusal (Output r) a old new room named outcome fit =
     (command_write r.why (output_name r.name) a old new room outcome fit, named)

@@ -10,7 +10,7 @@ use Rattle.script_files.specs.declared.requests.Request.{Request}
 use Rattle.script_files.specs.declared.requests.Request.TheVariants.{Count, Run, Demo, Flood, Scene, Dag, Look, Audit}
 use Rattle.script_files.specs.Demos.{demo_asked}
 use Rattle.script_files.specs.Orders.{Asked}
-use Rattle.script_files.specs.Refusals.{output_name, IsOutputName, IsNamed}
+use Rattle.script_files.specs.Refusals.{output_name, IsOutputName, HasOutputName}
 use Rattle.script_files.specs.Requests.{transcript_name}
 use Rattle.voxdag_top.specs.declared.endings.Ending.{Ending}
 use Rattle.voxdag_top.specs.declared.endings.Ending.TheVariants.{Refused}
@@ -80,5 +80,5 @@ HasLineRoom _ room = ⊤
 
 -- an output that was not written is one that a file can have the name of
 abbrev pub IsEndingNamed : Ending → Type 0
-IsEndingNamed (Refused r) = IsNamed r
+IsEndingNamed (Refused r) = HasOutputName r
 IsEndingNamed _ = ⊤

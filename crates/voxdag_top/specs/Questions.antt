@@ -23,9 +23,9 @@ abbrev pub box_with : Option Cell → Option Cell → Option Boxed
 box_with (Some at) (Some size) = Some (box_at at size)
 box_with at size = None
 
-abbrev pub box_in : List (List ℕ) → Option Boxed
-box_in (x ∷ y ∷ z ∷ a ∷ b ∷ c ∷ []) = box_with (place_in x y z) (place_in a b c)
-box_in _ = None
+abbrev pub asked_box : List (List ℕ) → Option Boxed
+asked_box (x ∷ y ∷ z ∷ a ∷ b ∷ c ∷ []) = box_with (place_in x y z) (place_in a b c)
+asked_box _ = None
 
 abbrev pub signed_digits : Bool → List ℕ → Option ℤ
 signed_digits low digits = option_map (signed low) (loose digits)
@@ -39,9 +39,9 @@ abbrev pub way_with : Option ℤ → Option ℤ → Option ℤ → Option Headin
 way_with (Some dx) (Some dy) (Some dz) = Some (heading_of dx dy dz)
 way_with dx dy dz = None
 
-abbrev pub way_in : List (List ℕ) → Option Heading
-way_in (dx ∷ dy ∷ dz ∷ []) = way_with (step_in dx) (step_in dy) (step_in dz)
-way_in _ = None
+abbrev pub asked_way : List (List ℕ) → Option Heading
+asked_way (dx ∷ dy ∷ dz ∷ []) = way_with (step_in dx) (step_in dy) (step_in dz)
+asked_way _ = None
 
 abbrev pub ray_with : Option Cell → Option Heading → Option Question
 ray_with (Some from) (Some way) = Some (Ray from way)
@@ -56,13 +56,13 @@ bounds_in [] = Some Bounds
 bounds_in _ = None
 
 abbrev pub ray_in : List (List ℕ) → Option Question
-ray_in (x ∷ y ∷ z ∷ steps) = ray_with (place_in x y z) (way_in steps)
+ray_in (x ∷ y ∷ z ∷ steps) = ray_with (place_in x y z) (asked_way steps)
 ray_in _ = None
 
 abbrev pub question_in : List ℕ → List (List ℕ) → Option Question
 question_in name words =
     if bytes_eq name (codes "get") then get_in words
-    else (if bytes_eq name (codes "count") then option_map Count (box_in words)
+    else (if bytes_eq name (codes "count") then option_map Count (asked_box words)
     else (if bytes_eq name (codes "bounds") then bounds_in words
-    else (if bytes_eq name (codes "faces") then option_map Faces (box_in words)
+    else (if bytes_eq name (codes "faces") then option_map Faces (asked_box words)
     else (if bytes_eq name (codes "ray") then ray_in words else None))))

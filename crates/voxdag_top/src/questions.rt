@@ -4,8 +4,8 @@ ghost use Rattle.std.specs.Option.{option_map};
 ghost use Rattle.command_line.specs.Texts.{texts};
 ghost use Rattle.history_model.specs.Worlds.{box_at};
 ghost use Rattle.script.specs.Numbers.{loose};
-ghost use Rattle.script_files.specs.Questions.{question_spelled, step_spelled, way_spelled};
-ghost use Rattle.voxdag_top.specs.Questions.{place_in, box_in, signed_digits, step_in, way_in, get_in, bounds_in, ray_in, question_in};
+ghost use Rattle.script_files.specs.Questions.{question_spelled, step_spelled, heading_spelled};
+ghost use Rattle.voxdag_top.specs.Questions.{place_in, asked_box, signed_digits, step_in, asked_way, get_in, bounds_in, ray_in, question_in};
 
 use history_model::Three;
 use script::number;
@@ -67,7 +67,7 @@ fn ray_in(words: &[String]) -> Option<SpelledQuestion>
 
 // `x y z a b c`, the corner and the size of a box.
 fn box_in(words: &[String]) -> Option<(Three, Three)>
-    ensures { option_map (λ b. box_at b.0 b.1) result ≡ box_in (texts words.now) }
+    ensures { option_map (λ b. box_at b.0 b.1) result ≡ asked_box (texts words.now) }
 {
     let [x, y, z, a, b, c] = words else {
         return None;
@@ -87,7 +87,7 @@ fn place_in(x: &str, y: &str, z: &str) -> Option<Three>
 }
 
 fn way_in(words: &[String]) -> Option<SpelledWay>
-    ensures { option_map way_spelled result ≡ way_in (texts words.now) }
+    ensures { option_map heading_spelled result ≡ asked_way (texts words.now) }
 {
     let [dx, dy, dz] = words else {
         return None;

@@ -7,7 +7,7 @@ use Rattle.world_run.specs.declared.runs.ScriptsRun.{ScriptsRun}
 use Rattle.script_files.specs.Orders.{Asked}
 use Rattle.script_files.specs.Requests.{inputs_of}
 use Rattle.script_files.specs.Scripts.{AreFitScripts}
-use Rattle.script_files.specs.Stages.{IsRead, StopsRun, WroteRun}
+use Rattle.script_files.specs.Stages.{ReadsInputs, StopsRun, WroteRun}
 use Rattle.script_files.specs.declared.requests.Request.TheVariants.{Run}
 use Rattle.script_files.specs.declared.scripts.Read.{Read}
 use Rattle.script_files.proofs.Ending.{run_written, run_stopped}
@@ -23,7 +23,7 @@ returns-in-Ok-write_run-clause-outcome g c =
     let mid = g.S.Shelf.state c.read_all.new.shelf in
     let new = g.S.Shelf.state c.write_run.new.shelf in
     let taken : AreTaken old.files (inputs_of (Run asked)) texts = search rules in
-    let is_read : IsRead asked texts read = search rules in
+    let is_read : ReadsInputs asked texts read = search rules in
     let ran : SessionsRanKeeping c.order.inside.keep c.order.inside.tint c.order.inside.plan
     read.models 0 read.scripts.items run.transcripts.items run.run.sessions = search rules in
     let asked_ran : SessionsRanKeeping asked.keep asked.tint asked.plan read.models 0
@@ -59,7 +59,7 @@ returns-clause-outcome g c =
     let mid = g.S.Shelf.state c.read_all.new.shelf in
     let new = g.S.Shelf.state c.write_run.new.shelf in
     let taken : AreTaken old.files (inputs_of (Run asked)) texts = search rules in
-    let is_read : IsRead asked texts read = search rules in
+    let is_read : ReadsInputs asked texts read = search rules in
     let ran : SessionsRanKeeping c.order.inside.keep c.order.inside.tint c.order.inside.plan
     read.models 0 read.scripts.items run.transcripts.items run.run.sessions = search rules in
     let asked_ran : SessionsRanKeeping asked.keep asked.tint asked.plan read.models 0
