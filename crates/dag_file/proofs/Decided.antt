@@ -4,7 +4,7 @@ use Rattle.std.specs.Prelude.{◌==◌, IsTrue, codes}
 use Rattle.std.specs.List.{list_any}
 use Rattle.std.proofs.lemmas.Bool.{cases_lt, cases_eq, or_cases, false≢true, eqb-true}
 use Rattle.vw_cell.specs.Sides.{is_side}
-use Rattle.dag_file.specs.Places.{number_at, leaf_at, word_at, side_in, versions_in, count_place, count_in, entry_place, version_place, version_number, version_root_word, versions_end}
+use Rattle.dag_file.specs.Places.{number_at, leaf_at, node_word_at, side_in, versions_in, count_place, count_in, entry_place, version_place, version_number, version_root_word, versions_end}
 use Rattle.dag_file.specs.Trees.{HasVersion}
 use Rattle.dag_file.proofs.ReadLaws.{ends_within}
 use Rattle.dag_file.specs.Rules.{IsMarked, HasOne, HasSide, HasVersions, HasCount, IsLeafRight, ComesBefore, HasWord, IsNodeRight, IsEntryRight, IsNumberRight, IsRootRight, IsHeaderRight, AreCountsRight, AreEntriesRight, AreLevelsRight, AreVersionsRight, IsNamedAbove, IsRooted, IsNamed, AreEntriesNamed, AreLevelsNamed, HasLevels, IsRight, IsDagFile, FirstFault, no_mark, no_one, no_side, no_versions, no_count, no_entry, no_number, no_root, unnamed, trailing}
@@ -130,17 +130,17 @@ module _ (bytes : List ℕ) where
   before_decided a b =
       by (λ s. record { k = s.i; below = s.below; same = s.is.0; less = s.is.1 })
       (λ r. record { i = r.k; below = r.below; is = (r.same, r.less) })
-      (some_of (λ k. ((j : ℕ) → j < k → word_at bytes a j ≡ word_at bytes b j)
-      × (word_at bytes a k < word_at bytes b k))
-      (λ k. both (all_of (λ j. word_at bytes a j ≡ word_at bytes b j)
-      (λ j. cases_eq (word_at bytes a j) (word_at bytes b j)) k)
-      (is_less (word_at bytes a k) (word_at bytes b k))) 8)
+      (some_of (λ k. ((j : ℕ) → j < k → node_word_at bytes a j ≡ node_word_at bytes b j)
+      × (node_word_at bytes a k < node_word_at bytes b k))
+      (λ k. both (all_of (λ j. node_word_at bytes a j ≡ node_word_at bytes b j)
+      (λ j. cases_eq (node_word_at bytes a j) (node_word_at bytes b j)) k)
+      (is_less (node_word_at bytes a k) (node_word_at bytes b k))) 8)
 
   word_decided : (place : ℕ) → Decided (HasWord bytes place)
   word_decided place =
       by (λ s. record { k = s.i; below = s.below; there = s.is })
       (λ r. record { i = r.k; below = r.below; is = r.there })
-      (some_of (λ k. word_at bytes place k ≢ 0) (λ k. other (cases_eq (word_at bytes place k) 0)) 8)
+      (some_of (λ k. node_word_at bytes place k ≢ 0) (λ k. other (cases_eq (node_word_at bytes place k) 0)) 8)
 
   node_decided : (place i most : ℕ) → Decided (IsNodeRight bytes place i most)
   node_decided place i most =
@@ -148,7 +148,7 @@ module _ (bytes : List ℕ) where
       (λ r. (r.fits, (r.some, (r.known, r.rises))))
       (both (is_most (place + 32) (length bytes))
       (both (word_decided place)
-      (both (all_of (λ k. word_at bytes place k ≤ most) (λ k. is_most (word_at bytes place k) most) 8)
+      (both (all_of (λ k. node_word_at bytes place k ≤ most) (λ k. is_most (node_word_at bytes place k) most) 8)
       (follows (is_less 0 i) (before_decided (place - 32) place)))))
 
   entry_decided : (levels level i : ℕ) → Decided (IsEntryRight bytes levels level i)
@@ -172,9 +172,9 @@ module _ (bytes : List ℕ) where
   above_decided levels level i =
       by (λ s. record { node = s.i; below = s.below; k = s.is.i; octant = s.is.below; names = s.is.is })
       (λ r. record { i = r.node; below = r.below; is = record { i = r.k; below = r.octant; is = r.names } })
-      (some_of (λ node. SomeOf (λ k. word_at bytes (entry_place bytes levels (suc level) node) k ≡ i + 1) 8)
-      (λ node. some_of (λ k. word_at bytes (entry_place bytes levels (suc level) node) k ≡ i + 1)
-      (λ k. cases_eq (word_at bytes (entry_place bytes levels (suc level) node) k) (i + 1)) 8)
+      (some_of (λ node. SomeOf (λ k. node_word_at bytes (entry_place bytes levels (suc level) node) k ≡ i + 1) 8)
+      (λ node. some_of (λ k. node_word_at bytes (entry_place bytes levels (suc level) node) k ≡ i + 1)
+      (λ k. cases_eq (node_word_at bytes (entry_place bytes levels (suc level) node) k) (i + 1)) 8)
       (count_in bytes (suc level)))
 
   rooted_decided : (levels i : ℕ) → Decided (IsRooted bytes levels i)

@@ -4,7 +4,7 @@ use Rattle.std.specs.Prelude.{slice_index, slice_index_or, codes}
 use Rattle.std.specs.List.{flat_map}
 use Rattle.std.proofs.lemmas.Bool.{cases_eq}
 use Rattle.std.proofs.lemmas.List.{append_assoc, length-append, take_at}
-use Rattle.dag_file.specs.Places.{number_at, leaf_at, word_at, side_in, versions_in, count_place, count_in, entry_place, start_of, version_place, version_number, version_root_word, versions_end}
+use Rattle.dag_file.specs.Places.{number_at, leaf_at, node_word_at, side_in, versions_in, count_place, count_in, entry_place, start_of, version_place, version_number, version_root_word, versions_end}
 use Rattle.dag_file.specs.Rules.{IsMarked}
 use Rattle.dag_file.specs.Writes.{word_bytes, leaf_bytes, numbers_bytes, header_bytes, file_bytes}
 use Rattle.dag_file.specs.Layers.{first_node}
@@ -179,7 +179,7 @@ module _ (side top : ℕ) (counts leaves : List ℕ) (nodes pairs : List (List �
       let all = s.node_count in
       omega (arith, up, all, lt)
 
-  pub word_is : (level i k : ℕ) → suc level ≤ top → i < slice_index counts (suc level) → k < 8 → word_at file (entry_place file (suc top) (suc level) i) k ≡ slice_index (slice_index_or nodes (first_node counts level + i) []) k
+  pub word_is : (level i k : ℕ) → suc level ≤ top → i < slice_index counts (suc level) → k < 8 → node_word_at file (entry_place file (suc top) (suc level) i) k ≡ slice_index (slice_index_or nodes (first_node counts level + i) []) k
   word_is level i k le lt less =
       let at : ℕ = first_node counts level + i in
       let inside = node_inside level i le lt in

@@ -11,7 +11,7 @@ use Rattle.node_words.specs.Held.{Seen}
 use Rattle.block_walk.specs.Roots.{IsOctantOf}
 use Rattle.node_shapes.specs.declared.names.Name.{Name}
 use Rattle.dag_file.specs.Trees.{named_index}
-use Rattle.dag_file.specs.Writes.{IsWordOfName, IsOctantWord, AreOctantWords, HasSlot}
+use Rattle.dag_file.specs.Writes.{IsWordOfName, IsOctantWord, AreOctantWords, HasByteSlot}
 
 -- of rising numbers a later one is more
 rising : (d i : ℕ) (xs : List ℕ) → IsStrictlyIncreasing xs → i + suc d < length xs → slice_index xs i < slice_index xs (i + suc d)
@@ -65,7 +65,7 @@ pub never_missed : (xs : List ℕ) (x i : ℕ) → IsStrictlyIncreasing xs → I
 never_missed xs x i up h (j, lt, is) = search_missed xs x i j up h lt (get_or_default xs j 0 x lt ∙ is)
 
 -- the word of one octant more
-pub words_step : (a b : Seen) (level : ℕ) (node : Name) (keys indices : List ℕ) (k i : ℕ) (child : Option Name) (word : ℕ) (words : List ℕ) → b ≡ a → AreOctantWords a.held level node keys indices k words → IsOctantOf b.held level (Some node) k child → HasSlot child → IsWordOfName keys indices child word → i ≡ k → k < length words → AreOctantWords a.held level node keys indices (k + 1) (set words i word)
+pub words_step : (a b : Seen) (level : ℕ) (node : Name) (keys indices : List ℕ) (k i : ℕ) (child : Option Name) (word : ℕ) (words : List ℕ) → b ≡ a → AreOctantWords a.held level node keys indices k words → IsOctantOf b.held level (Some node) k child → HasByteSlot child → IsWordOfName keys indices child word → i ≡ k → k < length words → AreOctantWords a.held level node keys indices (k + 1) (set words i word)
 words_step a b level node keys indices k i child word words same ws oct slot is at room = subst (λ (m : ℕ). AreOctantWords a.held level node keys indices (k + 1) (set words m word)) (sym at) (λ u l. elim (cases_lt u k) [
   | inl less ↦ subst (λ (w : ℕ). IsOctantWord a.held level node keys indices u w) (sym (get_or-set_other words k u word 0 (λ e. absurd (omega (arith, e, less))))) (ws u less)
   | inr more ↦ last u (omega (arith, l, more))

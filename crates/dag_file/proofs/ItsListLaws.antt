@@ -10,7 +10,7 @@ use Rattle.dag_file.specs.Places.{versions_in, version_number, version_root_word
 use Rattle.dag_file.specs.Rules.{IsDagFile, IsRight}
 use Rattle.dag_file.specs.Trees.{word_name, version_tree}
 use Rattle.dag_file.specs.Kept.{AreBytes, version_shape}
-use Rattle.dag_file.specs.Lists.{Listed, version_listed, listed_from, list_in, roots_in, DoNumbersRise, IsOfItsList}
+use Rattle.dag_file.specs.Lists.{Listed, version_listed, listed_from, list_in, file_roots, DoNumbersRise, IsOfItsList}
 use Rattle.dag_file.proofs.TreeLaws.{are_trees}
 use Rattle.dag_file.proofs.VersionLaws.{rises, held_word, block_word}
 
@@ -43,25 +43,25 @@ module _ (bytes : List ℕ) (levels : ℕ) where
     under : suc levels - 1 ≡ levels
     under = omega arith
 
-    held : (v : ℕ) → v < versions_in bytes → HoldsRoot (roots_in bytes levels) (suc levels) (word_name (levels - 1) (version_root_word bytes levels v))
+    held : (v : ℕ) → v < versions_in bytes → HoldsRoot (file_roots bytes levels) (suc levels) (word_name (levels - 1) (version_root_word bytes levels v))
     held v lt =
-        subst (λ (l : ℕ). HoldsRoot (roots_in bytes l) (suc levels) (word_name (l - 1) (version_root_word bytes l v))) under
+        subst (λ (l : ℕ). HoldsRoot (file_roots bytes l) (suc levels) (word_name (l - 1) (version_root_word bytes l v))) under
         (held_word bytes (suc levels) v (version_root_word bytes (suc levels - 1) v) lt low refl)
 
-    block : (v : ℕ) → v < versions_in bytes → IsBlockOf (roots_in bytes levels) (suc levels - 2) (word_name (levels - 1) (version_root_word bytes levels v)) (version_tree bytes levels v)
+    block : (v : ℕ) → v < versions_in bytes → IsBlockOf (file_roots bytes levels) (suc levels - 2) (word_name (levels - 1) (version_root_word bytes levels v)) (version_tree bytes levels v)
     block v lt =
-        subst (λ (l : ℕ). IsBlockOf (roots_in bytes l) (suc levels - 2) (word_name (l - 1) (version_root_word bytes l v)) (version_tree bytes l v)) under
+        subst (λ (l : ℕ). IsBlockOf (file_roots bytes l) (suc levels - 2) (word_name (l - 1) (version_root_word bytes l v)) (version_tree bytes l v)) under
         (block_word bytes (suc levels) v (version_root_word bytes (suc levels - 1) v) lt low refl)
 
-    trees : AreTrees (suc levels) (roots_in bytes levels)
+    trees : AreTrees (suc levels) (file_roots bytes levels)
     trees =
-        subst (λ (l : ℕ). AreTrees (suc levels) (roots_in bytes l)) under
+        subst (λ (l : ℕ). AreTrees (suc levels) (file_roots bytes l)) under
         (are_trees bytes (suc levels) low (subst (λ (l : ℕ). IsRight bytes l) (sym under) file.right))
 
-    holds : (v : ℕ) (x : Listed) → slice_get (list_in bytes levels) v ≡ Some x → HoldsRoot (roots_in bytes levels) (suc levels) x.1
+    holds : (v : ℕ) (x : Listed) → slice_get (list_in bytes levels) v ≡ Some x → HoldsRoot (file_roots bytes levels) (suc levels) x.1
     holds v x e =
         let g = one v x e in
-        subst (λ (y : Listed). HoldsRoot (roots_in bytes levels) (suc levels) y.1) (sym g.1) (held v g.0)
+        subst (λ (y : Listed). HoldsRoot (file_roots bytes levels) (suc levels) y.1) (sym g.1) (held v g.0)
 
     rise : DoNumbersRise (list_in bytes levels)
     rise v x y ex ey =
@@ -74,13 +74,13 @@ module _ (bytes : List ℕ) (levels : ℕ) where
         let at : version_number bytes levels (v + suc zero) ≡ version_number bytes levels (suc v) = ap (version_number bytes levels) next in
         omega (arith, nx, ny, up, at)
 
-    shown : (v : ℕ) (x : Listed) → slice_get (list_in bytes levels) v ≡ Some x → ForBlock (roots_in bytes levels) (suc levels - 2) x.1 (λ s. version_shape bytes levels v ≡ s)
+    shown : (v : ℕ) (x : Listed) → slice_get (list_in bytes levels) v ≡ Some x → ForBlock (file_roots bytes levels) (suc levels - 2) x.1 (λ s. version_shape bytes levels v ≡ s)
     shown v x e t bt =
         let g = one v x e in
         let root : x.1 ≡ word_name (levels - 1) (version_root_word bytes levels v) = ap (λ (z : Listed). z.1) g.1 in
-        one_shape (suc levels) (roots_in bytes levels) (suc levels - 2) (word_name (levels - 1) (version_root_word bytes levels v)) (version_tree bytes levels v) t
+        one_shape (suc levels) (file_roots bytes levels) (suc levels - 2) (word_name (levels - 1) (version_root_word bytes levels v)) (version_tree bytes levels v) t
         trees (block v g.0)
-        (subst (λ (r : Option Name). IsBlockOf (roots_in bytes levels) (suc levels - 2) r t) root bt)
+        (subst (λ (r : Option Name). IsBlockOf (file_roots bytes levels) (suc levels - 2) r t) root bt)
 
     pub of_its_list : IsOfItsList bytes levels
     of_its_list = record {

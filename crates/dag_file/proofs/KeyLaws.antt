@@ -14,7 +14,7 @@ use Rattle.block_walk.specs.Roots.{IsBlockOf, HasBlock, IsOctantOf}
 use Rattle.block_walk.proofs.BlockLaws.{root_block}
 use Rattle.dag_file.specs.Lists.{HoldsList}
 use Rattle.dag_file.specs.Trees.{entry_name, named_index}
-use Rattle.dag_file.specs.Writes.{Adds, AreReached, IsChildKey, IsChildOf, AreChildren, IsRootKey, AreRoots, HasSlot, keys_of}
+use Rattle.dag_file.specs.Writes.{AddsKeys, AreReached, IsChildKey, IsChildOf, AreChildren, IsRootKey, AreRootKeys, HasByteSlot, keys_of}
 
 -- nothing is in an empty list, and one thing in a list of one
 in_none : (x : ℕ) → Contains [] x → ⊥
@@ -39,7 +39,7 @@ item_or None d = d
 item_or (Some n) d = n
 
 -- nothing was found
-adds_none : (P : ℕ → Type 0) (xs : List ℕ) → ((x : ℕ) → P x → ⊥) → Adds P xs xs
+adds_none : (P : ℕ → Type 0) (xs : List ℕ) → ((x : ℕ) → P x → ⊥) → AddsKeys P xs xs
 adds_none P xs none = record {
   keeps = λ x h. h;
   adds = λ x p. absurd (none x p);
@@ -47,7 +47,7 @@ adds_none P xs none = record {
 }
 
 -- the same, told in other words
-adds_same : (P Q : ℕ → Type 0) (old new : List ℕ) → Adds P old new → ((x : ℕ) → P x → Q x) → ((x : ℕ) → Q x → P x) → Adds Q old new
+adds_same : (P Q : ℕ → Type 0) (old new : List ℕ) → AddsKeys P old new → ((x : ℕ) → P x → Q x) → ((x : ℕ) → Q x → P x) → AddsKeys Q old new
 adds_same P Q old new a there back = record {
   keeps = a.keeps;
   adds = λ x q. a.adds x (back x q);
@@ -58,7 +58,7 @@ adds_same P Q old new a there back = record {
 }
 
 -- first the ones, then the others
-adds_more : (P Q R : ℕ → Type 0) (a b c : List ℕ) → Adds P a b → Adds Q b c → ((x : ℕ) → P x → R x) → ((x : ℕ) → Q x → R x) → ((x : ℕ) → R x → P x ⊎ Q x) → Adds R a c
+adds_more : (P Q R : ℕ → Type 0) (a b c : List ℕ) → AddsKeys P a b → AddsKeys Q b c → ((x : ℕ) → P x → R x) → ((x : ℕ) → Q x → R x) → ((x : ℕ) → R x → P x ⊎ Q x) → AddsKeys R a c
 adds_more P Q R a b c first next left right back = record {
   keeps = λ x h. next.keeps x (first.keeps x h);
   adds = λ x r. elim (back x r) [
@@ -75,8 +75,8 @@ adds_more P Q R a b c first next left right back = record {
 }
 
 -- one is pushed
-adds_pushed : (k : ℕ) (old new : List ℕ) → new ≡ old ++ k ∷ [] → Adds (λ x. x ≡ k) old new
-adds_pushed k old new e = subst (λ (n : List ℕ). Adds (λ x. x ≡ k) old n) (sym e) (record {
+adds_pushed : (k : ℕ) (old new : List ℕ) → new ≡ old ++ k ∷ [] → AddsKeys (λ x. x ≡ k) old new
+adds_pushed k old new e = subst (λ (n : List ℕ). AddsKeys (λ x. x ≡ k) old n) (sym e) (record {
   keeps = λ x h. Contains-append_left old (k ∷ []) x h;
   adds = λ x p. subst (λ (y : ℕ). Contains (old ++ k ∷ []) y) (sym p) (Contains-append_right old (k ∷ []) k (one_in k));
   only = λ x h. elim (Contains-append_cases old (k ∷ []) x h) [
@@ -87,7 +87,7 @@ adds_pushed k old new e = subst (λ (n : List ℕ). Adds (λ x. x ≡ k) old n) 
 
 -- ---- the octants of a node
 
-pub no_octants : (held : List Tree) (level : ℕ) (node : Name) (xs : List ℕ) → Adds (IsChildKey held level node 0) xs xs
+pub no_octants : (held : List Tree) (level : ℕ) (node : Name) (xs : List ℕ) → AddsKeys (IsChildKey held level node 0) xs xs
 no_octants held level node xs = adds_none _ xs (λ x h. absurd (omega (arith, h.octant)))
 
 wider : (held : List Tree) (level : ℕ) (node : Name) (n x : ℕ) → IsChildKey held level node n x → IsChildKey held level node (n + 1) x
@@ -98,14 +98,14 @@ one_child : (held : List Tree) (level : ℕ) (node : Name) (k n : ℕ) (a b : Op
 one_child held level node k n a b block e ca cb = sym (ca block.tree block.is_block).root ∙ ap (λ (i : ℕ). root_of (child_of block.tree i)) e ∙ (cb block.tree block.is_block).root
 
 -- the octant n has nothing
-pub octant_none : (held : List Tree) (level : ℕ) (node : Name) (n : ℕ) (old new : List ℕ) → HasBlock held level (Some node) → Adds (IsChildKey held level node n) old new → IsOctantOf held level (Some node) n None → Adds (IsChildKey held level node (n + 1)) old new
+pub octant_none : (held : List Tree) (level : ℕ) (node : Name) (n : ℕ) (old new : List ℕ) → HasBlock held level (Some node) → AddsKeys (IsChildKey held level node n) old new → IsOctantOf held level (Some node) n None → AddsKeys (IsChildKey held level node (n + 1)) old new
 octant_none held level node n old new block a none = adds_same _ _ old new a (wider held level node n) (λ x h. elim (cases_lt h.k n) [
   | inl less ↦ record { k = h.k; octant = less; name = h.name; child = h.child; slot = h.slot; is = h.is }
   | inr more ↦ absurd (none-some h.name (sym (one_child held level node h.k n (Some h.name) None block (omega (arith, more, h.octant)) h.child none)))
 ])
 
 -- the octant n has a node, whose key is pushed
-pub octant_some : (held : List Tree) (level : ℕ) (node c : Name) (n : ℕ) (old mid new : List ℕ) → HasBlock held level (Some node) → Adds (IsChildKey held level node n) old mid → IsOctantOf held level (Some node) n (Some c) → HasSlot (Some c) → new ≡ mid ++ named_index c ∷ [] → Adds (IsChildKey held level node (n + 1)) old new
+pub octant_some : (held : List Tree) (level : ℕ) (node c : Name) (n : ℕ) (old mid new : List ℕ) → HasBlock held level (Some node) → AddsKeys (IsChildKey held level node n) old mid → IsOctantOf held level (Some node) n (Some c) → HasByteSlot (Some c) → new ≡ mid ++ named_index c ∷ [] → AddsKeys (IsChildKey held level node (n + 1)) old new
 octant_some held level node c n old mid new block a some slot e =
     adds_more _ _ _ old mid new a (adds_pushed (named_index c) mid new e) (wider held level node n)
     (λ x p. record { k = n; octant = omega arith; name = c; child = some; slot = slot; is = p })
@@ -114,20 +114,20 @@ octant_some held level node c n old mid new block a some slot e =
       | inr more ↦ inr (h.is ∙ ap named_index (some_one h.name c (one_child held level node h.k n (Some h.name) (Some c) block (omega (arith, more, h.octant)) h.child some)))
     ])
 
-pub octant_pushed : (held : List Tree) (level : ℕ) (node : Name) (c : Option Name) (n : ℕ) (old mid new : List ℕ) → HasBlock held level (Some node) → Adds (IsChildKey held level node n) old mid → IsOctantOf held level (Some node) n c → HasSlot c → new ≡ mid ++ keys_of c → Adds (IsChildKey held level node (n + 1)) old new
-octant_pushed held level node None n old mid new block a none slot e = subst (λ (m : List ℕ). Adds (IsChildKey held level node (n + 1)) old m) (sym (e ∙ append-nil mid)) (octant_none held level node n old mid block a none)
+pub octant_pushed : (held : List Tree) (level : ℕ) (node : Name) (c : Option Name) (n : ℕ) (old mid new : List ℕ) → HasBlock held level (Some node) → AddsKeys (IsChildKey held level node n) old mid → IsOctantOf held level (Some node) n c → HasByteSlot c → new ≡ mid ++ keys_of c → AddsKeys (IsChildKey held level node (n + 1)) old new
+octant_pushed held level node None n old mid new block a none slot e = subst (λ (m : List ℕ). AddsKeys (IsChildKey held level node (n + 1)) old m) (sym (e ∙ append-nil mid)) (octant_none held level node n old mid block a none)
 octant_pushed held level node (Some c) n old mid new block a some slot e = octant_some held level node c n old mid new block a some slot e
 
 -- the same where the store was seen as before
-pub octant_step : (a b : Seen) (level : ℕ) (node : Name) (c : Option Name) (n : ℕ) (old mid new : List ℕ) → b ≡ a → HasBlock b.held level (Some node) → Adds (IsChildKey a.held level node n) old mid → IsOctantOf b.held level (Some node) n c → HasSlot c → new ≡ mid ++ keys_of c → Adds (IsChildKey a.held level node (n + 1)) old new
+pub octant_step : (a b : Seen) (level : ℕ) (node : Name) (c : Option Name) (n : ℕ) (old mid new : List ℕ) → b ≡ a → HasBlock b.held level (Some node) → AddsKeys (IsChildKey a.held level node n) old mid → IsOctantOf b.held level (Some node) n c → HasByteSlot c → new ≡ mid ++ keys_of c → AddsKeys (IsChildKey a.held level node (n + 1)) old new
 octant_step a b level node c n old mid new same block ad some slot e = octant_pushed a.held level node c n old mid new (subst (λ (s : Seen). HasBlock s.held level (Some node)) same block) ad (subst (λ (s : Seen). IsOctantOf s.held level (Some node) n c) same some) slot e
 
 -- ---- the nodes of a list
 
-pub no_nodes : (held : List Tree) (level : ℕ) (keys xs : List ℕ) → Adds (IsChildOf held level keys 0) xs xs
+pub no_nodes : (held : List Tree) (level : ℕ) (keys xs : List ℕ) → AddsKeys (IsChildOf held level keys 0) xs xs
 no_nodes held level keys xs = adds_none _ xs (λ x h. absurd (omega (arith, h.before)))
 
-pub one_node_more : (held : List Tree) (level : ℕ) (keys : List ℕ) (n : ℕ) (old mid new : List ℕ) → Adds (IsChildOf held level keys n) old mid → Adds (IsChildKey held level (entry_name level (slice_index keys n)) 8) mid new → Adds (IsChildOf held level keys (n + 1)) old new
+pub one_node_more : (held : List Tree) (level : ℕ) (keys : List ℕ) (n : ℕ) (old mid new : List ℕ) → AddsKeys (IsChildOf held level keys n) old mid → AddsKeys (IsChildKey held level (entry_name level (slice_index keys n)) 8) mid new → AddsKeys (IsChildOf held level keys (n + 1)) old new
 one_node_more held level keys n old mid new a b = adds_more _ _ _ old mid new a b
     (λ x h. record { j = h.j; before = omega (arith, h.before); child = h.child })
     (λ x h. record { j = n; before = omega arith; child = h })
@@ -138,8 +138,8 @@ one_node_more held level keys n old mid new a b = adds_more _ _ _ old mid new a 
       at_end : (j : ℕ) → n ≤ j → j < n + 1 → j ≡ n
       at_end j l m = omega (arith, l, m)
 
-pub node_step : (a b : Seen) (level : ℕ) (keys : List ℕ) (n : ℕ) (node : Name) (old mid new : List ℕ) → b ≡ a → Adds (IsChildOf a.held level keys n) old mid → node ≡ entry_name level (slice_index keys n) → Adds (IsChildKey b.held level node 8) mid new → Adds (IsChildOf a.held level keys (n + 1)) old new
-node_step a b level keys n node old mid new same ad named one = one_node_more a.held level keys n old mid new ad (subst (λ (m : Name). Adds (IsChildKey a.held level m 8) mid new) named (subst (λ (s : Seen). Adds (IsChildKey s.held level node 8) mid new) same one))
+pub node_step : (a b : Seen) (level : ℕ) (keys : List ℕ) (n : ℕ) (node : Name) (old mid new : List ℕ) → b ≡ a → AddsKeys (IsChildOf a.held level keys n) old mid → node ≡ entry_name level (slice_index keys n) → AddsKeys (IsChildKey b.held level node 8) mid new → AddsKeys (IsChildOf a.held level keys (n + 1)) old new
+node_step a b level keys n node old mid new same ad named one = one_node_more a.held level keys n old mid new ad (subst (λ (m : Name). AddsKeys (IsChildKey a.held level m 8) mid new) named (subst (λ (s : Seen). AddsKeys (IsChildKey s.held level node 8) mid new) same one))
 
 pub still_block : (a b : Seen) (level : ℕ) (node : Name) → b ≡ a → HasBlock a.held level (Some node) → HasBlock b.held level (Some node)
 still_block a b level node same h = subst (λ (s : Seen). HasBlock s.held level (Some node)) (sym same) h
@@ -148,7 +148,7 @@ pub still_reached : (a b : Seen) (level : ℕ) (keys : List ℕ) → b ≡ a →
 still_reached a b level keys same r = subst (λ (s : Seen). AreReached s.held level keys) (sym same) r
 
 -- all of them, sorted
-pub children_sorted : (held : List Tree) (level n : ℕ) (keys found sorted : List ℕ) → Adds (IsChildOf held level keys n) [] found → n ≤ length keys → length keys ≤ n → IsStrictlyIncreasing sorted → ((x : ℕ) → Contains found x → Contains sorted x) → ((x : ℕ) → Contains sorted x → Contains found x) → AreChildren held level keys sorted
+pub children_sorted : (held : List Tree) (level n : ℕ) (keys found sorted : List ℕ) → AddsKeys (IsChildOf held level keys n) [] found → n ≤ length keys → length keys ≤ n → IsStrictlyIncreasing sorted → ((x : ℕ) → Contains found x → Contains sorted x) → ((x : ℕ) → Contains sorted x → Contains found x) → AreChildren held level keys sorted
 children_sorted held level n keys found sorted a few many rises there back = record {
   rises = rises;
   all = λ x h. there x (a.adds x (record { j = h.j; before = omega (arith, many, h.before); child = h.child }));
@@ -202,12 +202,12 @@ few_below keys up low = elim (cases_lt 0 (length keys)) [
 pub few_keys : (held : List Tree) (level : ℕ) (keys : List ℕ) → IsStrictlyIncreasing keys → AreReached held level keys → length keys ≤ 2 ^ 24
 few_keys held level keys up r = few_below keys up r.below
 
-pub few_roots : (roots : List (ℕ × Option Name)) (keys : List ℕ) → AreRoots roots keys → length keys ≤ 2 ^ 24
+pub few_roots : (roots : List (ℕ × Option Name)) (keys : List ℕ) → AreRootKeys roots keys → length keys ≤ 2 ^ 24
 few_roots roots keys a = few_below keys a.rises (λ j l. (let h = a.only (slice_index keys j) (Contains-get_or keys j 0 l) in let is = h.is in let slot = h.slot.1 in omega (arith, is, slot)))
 
 -- ---- roots
 
-pub no_roots : (roots : List (ℕ × Option Name)) (xs : List ℕ) → Adds (IsRootKey roots 0) xs xs
+pub no_roots : (roots : List (ℕ × Option Name)) (xs : List ℕ) → AddsKeys (IsRootKey roots 0) xs xs
 no_roots roots xs = adds_none _ xs (λ x h. absurd (omega (arith, h.before)))
 
 root_wider : (roots : List (ℕ × Option Name)) (n x : ℕ) → IsRootKey roots n x → IsRootKey roots (n + 1) x
@@ -217,8 +217,8 @@ same_item : (p q : ℕ × Option Name) → Some p ≡ Some q → p ≡ q
 same_item p q e = ap (λ (o : Option (ℕ × Option Name)). item_or o p) e
 
 -- root n has no name, or one whose key is pushed
-pub root_step : (roots : List (ℕ × Option Name)) (n number : ℕ) (c : Option Name) (old mid new : List ℕ) → slice_get roots n ≡ Some (number, c) → HasSlot c → Adds (IsRootKey roots n) old mid → new ≡ mid ++ keys_of c → Adds (IsRootKey roots (n + 1)) old new
-root_step roots n number None old mid new at slot a e = subst (λ (m : List ℕ). Adds (IsRootKey roots (n + 1)) old m) (sym (e ∙ append-nil mid)) (adds_same _ _ old mid a (root_wider roots n) (λ x h. elim (cases_lt h.v n) [
+pub root_step : (roots : List (ℕ × Option Name)) (n number : ℕ) (c : Option Name) (old mid new : List ℕ) → slice_get roots n ≡ Some (number, c) → HasByteSlot c → AddsKeys (IsRootKey roots n) old mid → new ≡ mid ++ keys_of c → AddsKeys (IsRootKey roots (n + 1)) old new
+root_step roots n number None old mid new at slot a e = subst (λ (m : List ℕ). AddsKeys (IsRootKey roots (n + 1)) old m) (sym (e ∙ append-nil mid)) (adds_same _ _ old mid a (root_wider roots n) (λ x h. elim (cases_lt h.v n) [
   | inl less ↦ record { v = h.v; before = less; number = h.number; name = h.name; there = h.there; slot = h.slot; is = h.is }
   | inr more ↦ absurd (none-some h.name (ap (λ (p : ℕ × Option Name). p.1) (same_item (number, None) (h.number, Some h.name) (sym at ∙ ap (λ (i : ℕ). slice_get roots i) (at_n h.v more h.before) ∙ h.there))))
 ])) where
@@ -238,10 +238,10 @@ got [] n item l e = absurd (omega (arith, l))
 got (r ∷ rs) zero item l e = ap Some (sym e)
 got (r ∷ rs) (suc n) item l e = got rs n item (omega (arith, l)) e
 
-pub root_item : (roots : List (ℕ × Option Name)) (n : ℕ) (item : ℕ × Option Name) (c : Option Name) (old mid new : List ℕ) → slice_get roots n ≡ Some item → c ≡ item.1 → HasSlot c → Adds (IsRootKey roots n) old mid → new ≡ mid ++ keys_of c → Adds (IsRootKey roots (n + 1)) old new
-root_item roots n item c old mid new at is slot a e = root_step roots n item.0 item.1 old mid new at (subst (λ (o : Option Name). HasSlot o) is slot) a (e ∙ ap (λ (o : Option Name). mid ++ keys_of o) is)
+pub root_item : (roots : List (ℕ × Option Name)) (n : ℕ) (item : ℕ × Option Name) (c : Option Name) (old mid new : List ℕ) → slice_get roots n ≡ Some item → c ≡ item.1 → HasByteSlot c → AddsKeys (IsRootKey roots n) old mid → new ≡ mid ++ keys_of c → AddsKeys (IsRootKey roots (n + 1)) old new
+root_item roots n item c old mid new at is slot a e = root_step roots n item.0 item.1 old mid new at (subst (λ (o : Option Name). HasByteSlot o) is slot) a (e ∙ ap (λ (o : Option Name). mid ++ keys_of o) is)
 
-pub roots_sorted : (roots : List (ℕ × Option Name)) (n : ℕ) (found sorted : List ℕ) → Adds (IsRootKey roots n) [] found → n ≤ length roots → length roots ≤ n → IsStrictlyIncreasing sorted → ((x : ℕ) → Contains found x → Contains sorted x) → ((x : ℕ) → Contains sorted x → Contains found x) → AreRoots roots sorted
+pub roots_sorted : (roots : List (ℕ × Option Name)) (n : ℕ) (found sorted : List ℕ) → AddsKeys (IsRootKey roots n) [] found → n ≤ length roots → length roots ≤ n → IsStrictlyIncreasing sorted → ((x : ℕ) → Contains found x → Contains sorted x) → ((x : ℕ) → Contains sorted x → Contains found x) → AreRootKeys roots sorted
 roots_sorted roots n found sorted a few many rises there back = record {
   rises = rises;
   all = λ x h. there x (a.adds x (record { v = h.v; before = omega (arith, many, h.before); number = h.number; name = h.name; there = h.there; slot = h.slot; is = h.is }));
@@ -253,7 +253,7 @@ roots_sorted roots n found sorted a few many rises there back = record {
 
 -- ---- the keys of roots may be read
 
-pub roots_reached : (held : List Tree) (levels level : ℕ) (roots : List (ℕ × Option Name)) (keys : List ℕ) → level ≡ suc levels - 2 → HoldsList held levels roots → AreRoots roots keys → AreReached held level keys
+pub roots_reached : (held : List Tree) (levels level : ℕ) (roots : List (ℕ × Option Name)) (keys : List ℕ) → level ≡ suc levels - 2 → HoldsList held levels roots → AreRootKeys roots keys → AreReached held level keys
 roots_reached held levels level roots keys level_is holds a = record {
   below = λ j l. let h = a.only (slice_index keys j) (Contains-get_or keys j 0 l) in let is = h.is in let slot = h.slot.1 in omega (arith, is, slot);
   blocks = λ j l. (

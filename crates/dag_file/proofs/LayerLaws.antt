@@ -13,12 +13,12 @@ use Rattle.node_shapes.proofs.TreeLaws.{shape_of-child, shape_of-some, shape_of-
 use Rattle.node_shapes.proofs.ShapeLaws.{octant_canonical}
 use Rattle.block_walk.specs.Roots.{IsBlockOf, IsOctantOf}
 use Rattle.block_walk.proofs.BlockLaws.{clear_block}
-use Rattle.dag_file.specs.Places.{leaf_at, word_at, count_in, entry_place}
+use Rattle.dag_file.specs.Places.{leaf_at, node_word_at, count_in, entry_place}
 use Rattle.dag_file.specs.Rules.{IsLeafRight, IsNodeRight, IsEntryRight, AreEntriesRight, AreEntriesNamed, IsNamed, HasWord, ComesBefore}
-use Rattle.dag_file.specs.Trees.{entry_name, named_index, tree_of}
+use Rattle.dag_file.specs.Trees.{entry_name, named_index, word_tree}
 use Rattle.dag_file.specs.Kept.{entry_shape}
-use Rattle.dag_file.specs.Writes.{AreChildren, IsWordOfName, HasSlot, file_bytes}
-use Rattle.dag_file.specs.Layers.{Stands, AreLeafEntries, IsLayer, first_node}
+use Rattle.dag_file.specs.Writes.{AreChildren, IsWordOfName, HasByteSlot, file_bytes}
+use Rattle.dag_file.specs.Layers.{AreEntriesUpTo, AreLeafEntries, IsLayer, first_node}
 use Rattle.dag_file.proofs.TreeLaws.{row_of, tree-node}
 use Rattle.dag_file.proofs.KeptLaws.{none_shape, leaf_shape}
 use Rattle.dag_file.proofs.KeyLaws.{entry_of, key_block}
@@ -80,8 +80,8 @@ sound_below held level keys below sound children j lt =
     }
 
 -- the bits of leaves fit in eight bytes
-pub leaves_fit : (held : List Tree) (counts leaves : List ℕ) (nodes : List (List ℕ)) (level : ℕ) (keys indices : List ℕ) → AreSound held level keys → Stands held counts leaves nodes level keys indices → (i : ℕ) → i < length leaves → slice_index leaves i < 2 ^ 64
-unfolding Stands
+pub leaves_fit : (held : List Tree) (counts leaves : List ℕ) (nodes : List (List ℕ)) (level : ℕ) (keys indices : List ℕ) → AreSound held level keys → AreEntriesUpTo held counts leaves nodes level keys indices → (i : ℕ) → i < length leaves → slice_index leaves i < 2 ^ 64
+unfolding AreEntriesUpTo
 leaves_fit held counts leaves nodes zero keys indices sound x i lt =
     let found = x.only (slice_index leaves i) (Contains-get_or leaves i 0 lt) in
     let many = x.contents.many in
@@ -186,10 +186,10 @@ module _ (held : List Tree) (side top : ℕ) (counts leaves : List ℕ) (nodes p
   -- ---- the word of a name
 
   -- the word of what stands in a block names the entry of its shape
-  pub word_shows : (level : ℕ) (keys indices : List ℕ) → AreWritten level keys indices → (o : Option Name) (word : ℕ) (t : Tree) → ((n : Name) → o ≡ Some n → Contains keys (named_index n)) → IsBlockOf held level o t → IsCanonical level (shape_of t) → HasSlot o → IsWordOfName keys indices o word
-      → (shape_of t ≡ shape_of (tree_of F (suc top) level word)) × (word ≤ slice_index counts level)
+  pub word_shows : (level : ℕ) (keys indices : List ℕ) → AreWritten level keys indices → (o : Option Name) (word : ℕ) (t : Tree) → ((n : Name) → o ≡ Some n → Contains keys (named_index n)) → IsBlockOf held level o t → IsCanonical level (shape_of t) → HasByteSlot o → IsWordOfName keys indices o word
+      → (shape_of t ≡ shape_of (word_tree F (suc top) level word)) × (word ≤ slice_index counts level)
   word_shows level keys indices w None word t known b c slot is =
-      (clear_block held level t b ∙ sym (none_shape F (suc top) level) ∙ ap (λ (v : ℕ). shape_of (tree_of F (suc top) level v)) (sym is), omega (arith, is))
+      (clear_block held level t b ∙ sym (none_shape F (suc top) level) ∙ ap (λ (v : ℕ). shape_of (word_tree F (suc top) level v)) (sym is), omega (arith, is))
   word_shows level keys indices w (Some n) word t known b c slot is =
       let found = known n refl in
       let key : slice_index keys found.0 ≡ named_index n = get_or_default keys found.0 0 (named_index n) found.1 ∙ found.2 in
@@ -198,7 +198,7 @@ module _ (held : List Tree) (side top : ℕ) (counts leaves : List ℕ) (nodes p
       let block : IsBlockOf held level (Some (entry_name level (slice_index keys found.0))) t = subst (λ (m : Name). IsBlockOf held level (Some m) t) name b in
       let low = w.below found.0 found.1 in
       let one : suc (slice_index indices found.0) ≡ word = omega (arith, word_is) in
-      (w.shape found.0 found.1 t block c ∙ ap (λ (v : ℕ). shape_of (tree_of F (suc top) level v)) one, omega (arith, word_is, low))
+      (w.shape found.0 found.1 t block c ∙ ap (λ (v : ℕ). shape_of (word_tree F (suc top) level v)) one, omega (arith, word_is, low))
 
   -- ---- a level above
 
@@ -213,20 +213,20 @@ module _ (held : List Tree) (side top : ℕ) (counts leaves : List ℕ) (nodes p
     place_below j lt = x.entries.placed.below j (let m = all_keys in omega (arith, lt, m))
 
     -- the words of an entry, and of a key's node, stand in the file
-    row_there : (i k : ℕ) → i < length x.sorted → k < 8 → word_at F (entry_place F (suc top) (suc level) i) k ≡ slice_index (slice_index_or x.sorted i []) k
+    row_there : (i k : ℕ) → i < length x.sorted → k < 8 → node_word_at F (entry_place F (suc top) (suc level) i) k ≡ slice_index (slice_index_or x.sorted i []) k
     row_there i k lt less =
         word_is side top counts leaves nodes pairs s level i k le (let c = x.count in omega (arith, lt, c)) less
         ∙ ap (λ (r : List ℕ). slice_index r k) (x.here i lt)
 
-    words_there : (j k : ℕ) → j < length keys → k < 8 → word_at F (entry_place F (suc top) (suc level) (slice_index indices j)) k ≡ slice_index (slice_index_or x.entries.contents j []) k
+    words_there : (j k : ℕ) → j < length keys → k < 8 → node_word_at F (entry_place F (suc top) (suc level) (slice_index indices j)) k ≡ slice_index (slice_index_or x.entries.contents j []) k
     words_there j k lt less =
         row_there (slice_index indices j) k (place_below j lt) less
         ∙ ap (λ (r : List ℕ). slice_index r k) (x.entries.placed.there j (let m = all_keys in omega (arith, lt, m)))
 
     -- what stands in an octant has the shape that the word there names
     octant_shown : (j : ℕ) → j < length keys → (t : Tree) → IsBlockOf held (suc level) (Some (entry_name (suc level) (slice_index keys j))) t → IsCanonical (suc level) (shape_of t) → (k : ℕ) → k < 8
-        → (shape_of (child_of t k) ≡ shape_of (tree_of F (suc top) level (word_at F (entry_place F (suc top) (suc level) (slice_index indices j)) k)))
-        × (word_at F (entry_place F (suc top) (suc level) (slice_index indices j)) k ≤ slice_index counts level)
+        → (shape_of (child_of t k) ≡ shape_of (word_tree F (suc top) level (node_word_at F (entry_place F (suc top) (suc level) (slice_index indices j)) k)))
+        × (node_word_at F (entry_place F (suc top) (suc level) (slice_index indices j)) k ≤ slice_index counts level)
     octant_shown j lt t b c k less =
         let word = x.entries.words.words j lt k less in
         let block = subst (λ (l : ℕ). IsBlockOf held l word.child (child_of t k)) under (word.octant t b) in
@@ -240,11 +240,11 @@ module _ (held : List Tree) (side top : ℕ) (counts leaves : List ℕ) (nodes p
             octant = less;
             name = n;
             child = subst (λ (o : Option Name). IsOctantOf held (suc level) (Some (entry_name (suc level) (slice_index keys j))) k o) e word.octant;
-            slot = subst (λ (o : Option Name). HasSlot o) e word.slot;
+            slot = subst (λ (o : Option Name). HasByteSlot o) e word.slot;
             is = refl;
           };
         }) in
-        subst (λ (v : ℕ). (shape_of (child_of t k) ≡ shape_of (tree_of F (suc top) level v)) × (v ≤ slice_index counts level)) (sym (words_there j k lt less))
+        subst (λ (v : ℕ). (shape_of (child_of t k) ≡ shape_of (word_tree F (suc top) level v)) × (v ≤ slice_index counts level)) (sym (words_there j k lt less))
         (word_shows level x.below x.below_indices w word.child (slice_index (slice_index_or x.entries.contents j []) k) (child_of t k) known block canonical word.slot word.word_is)
 
     node_shown : (j : ℕ) → j < length keys → (t : Tree) → IsBlockOf held (suc level) (Some (entry_name (suc level) (slice_index keys j))) t → IsCanonical (suc level) (shape_of t) → shape_of t ≡ entry_shape F (suc top) (suc level) (slice_index indices j)
@@ -264,11 +264,11 @@ module _ (held : List Tree) (side top : ℕ) (counts leaves : List ℕ) (nodes p
 
     -- the octants of the node that an entry stands for
     octant_at : (i : ℕ) (h : (j : ℕ) × (j < length keys) × (slice_index indices j ≡ i)) (k : ℕ) → k < 8
-        → (shape_of (child_of (sound h.0 h.1).tree k) ≡ shape_of (tree_of F (suc top) level (word_at F (entry_place F (suc top) (suc level) i) k)))
-        × (word_at F (entry_place F (suc top) (suc level) i) k ≤ slice_index counts level)
+        → (shape_of (child_of (sound h.0 h.1).tree k) ≡ shape_of (word_tree F (suc top) level (node_word_at F (entry_place F (suc top) (suc level) i) k)))
+        × (node_word_at F (entry_place F (suc top) (suc level) i) k ≤ slice_index counts level)
     octant_at i h k less =
-        subst (λ (q : ℕ). (shape_of (child_of (sound h.0 h.1).tree k) ≡ shape_of (tree_of F (suc top) level (word_at F (entry_place F (suc top) (suc level) q) k)))
-        × (word_at F (entry_place F (suc top) (suc level) q) k ≤ slice_index counts level)) h.2
+        subst (λ (q : ℕ). (shape_of (child_of (sound h.0 h.1).tree k) ≡ shape_of (word_tree F (suc top) level (node_word_at F (entry_place F (suc top) (suc level) q) k)))
+        × (node_word_at F (entry_place F (suc top) (suc level) q) k ≤ slice_index counts level)) h.2
         (octant_shown h.0 h.1 (sound h.0 h.1).tree (sound h.0 h.1).is_block (sound h.0 h.1).canonical k less)
 
     node_some : (i : ℕ) (h : (j : ℕ) × (j < length keys) × (slice_index indices j ≡ i)) → HasWord F (entry_place F (suc top) (suc level) i)
@@ -281,7 +281,7 @@ module _ (held : List Tree) (side top : ℕ) (counts leaves : List ℕ) (nodes p
           there = λ none. part.2 (
               sym (shape_of-child block.tree part.0)
               ∙ (octant_at i h part.0 part.1).0
-              ∙ ap (λ (v : ℕ). shape_of (tree_of F (suc top) level v)) none
+              ∙ ap (λ (v : ℕ). shape_of (word_tree F (suc top) level v)) none
               ∙ none_shape F (suc top) level);
         }
 
@@ -371,9 +371,9 @@ module _ (held : List Tree) (side top : ℕ) (counts leaves : List ℕ) (nodes p
       ];
     }
 
-  pub written : (level : ℕ) (keys indices : List ℕ) → level ≤ top → AreSound held level keys → Stands held counts leaves nodes level keys indices → AreWritten level keys indices
-  unfolding Stands
+  pub written : (level : ℕ) (keys indices : List ℕ) → level ≤ top → AreSound held level keys → AreEntriesUpTo held counts leaves nodes level keys indices → AreWritten level keys indices
+  unfolding AreEntriesUpTo
   written zero keys indices le sound x = leaves_written keys indices sound x
   written (suc level) keys indices le sound x =
-      nodes_written level le keys indices (Stands held counts leaves nodes level) sound x
+      nodes_written level le keys indices (AreEntriesUpTo held counts leaves nodes level) sound x
       (written level x.below x.below_indices (omega (arith, le)) (sound_below held level keys x.below sound x.children) x.stands)

@@ -11,16 +11,16 @@ use Rattle.std.proofs.lemmas.List.Elements.{Contains-get_or}
 use Rattle.node_shapes.specs.declared.names.Name.{Name}
 use Rattle.node_shapes.specs.Tree.{Tree}
 use Rattle.dag_file.specs.Trees.{entry_name, named_index}
-use Rattle.dag_file.specs.Writes.{AreLeaves, AreNodeWords, AreIndices, AreNodeIndices, AreChildren, IsWordOfName, HasSlot}
+use Rattle.dag_file.specs.Writes.{AreLeaves, AreNodeWords, AreIndices, AreNodeIndices, AreChildren, IsWordOfName, HasByteSlot}
 use Rattle.block_walk.specs.Roots.{IsOctantOf}
-use Rattle.dag_file.specs.Layers.{first_node, Stands, AreLayers}
+use Rattle.dag_file.specs.Layers.{first_node, AreEntriesUpTo, AreLayers}
 use Rattle.dag_file.proofs.FileLaws.{first_below}
 
 -- ---- indices
 
 -- there is an index for each key, below the bound of a level
-pub stands_indexed : (held : List Tree) (counts leaves : List ℕ) (nodes : List (List ℕ)) (level : ℕ) (keys indices : List ℕ) → Stands held counts leaves nodes level keys indices → (length indices ≡ length keys) × ((j : ℕ) → j < length keys → slice_index indices j < 2 ^ 24)
-unfolding Stands
+pub stands_indexed : (held : List Tree) (counts leaves : List ℕ) (nodes : List (List ℕ)) (level : ℕ) (keys indices : List ℕ) → AreEntriesUpTo held counts leaves nodes level keys indices → (length indices ≡ length keys) × ((j : ℕ) → j < length keys → slice_index indices j < 2 ^ 24)
+unfolding AreEntriesUpTo
 stands_indexed held counts leaves nodes zero keys indices x =
     let many = x.contents.many in
     let placed = x.placed.many in
@@ -48,7 +48,7 @@ word_small keys indices (Some n) word known few is =
 -- ---- the leaves
 
 pub leaf_layer_made : (held : List Tree) (keys bits leaves indices counts : List ℕ) (nodes : List (List ℕ)) → AreLeaves held keys (length keys) bits → IsStrictlyIncreasing leaves → ((x : ℕ) → Contains leaves x → Contains bits x) → AreIndices bits leaves (length bits) indices → length leaves ≤ 2 ^ 24 → counts ≡ length leaves ∷ [] → nodes ≡ [] → AreLayers held 0 keys indices counts leaves nodes
-unfolding Stands
+unfolding AreEntriesUpTo
 leaf_layer_made held keys bits leaves indices counts nodes contents rises only placed few counts_are nodes_are = record {
   stands = record { bits = bits; contents = contents; placed = placed; rises = rises; only = only; count = ap (λ (l : List ℕ). slice_index l 0) counts_are; few = few };
   levels = ap (λ (l : List ℕ). length l) counts_are;
@@ -69,8 +69,8 @@ first_more counts more (suc level) lt =
     omega (arith, before, here)
 
 -- what stands stays where more comes behind it
-stands_more : (held : List Tree) (counts more leaves : List ℕ) (nodes further : List (List ℕ)) (level : ℕ) (keys indices : List ℕ) → level < length counts → first_node counts level ≤ length nodes → Stands held counts leaves nodes level keys indices → Stands held (counts ++ more) leaves (nodes ++ further) level keys indices
-unfolding Stands
+stands_more : (held : List Tree) (counts more leaves : List ℕ) (nodes further : List (List ℕ)) (level : ℕ) (keys indices : List ℕ) → level < length counts → first_node counts level ≤ length nodes → AreEntriesUpTo held counts leaves nodes level keys indices → AreEntriesUpTo held (counts ++ more) leaves (nodes ++ further) level keys indices
+unfolding AreEntriesUpTo
 stands_more held counts more leaves nodes further zero keys indices lt low x = record {
   bits = x.bits;
   contents = x.contents;
@@ -125,14 +125,14 @@ module _ (held : List Tree) (level : ℕ) (keys below below_indices indices coun
           octant = less;
           name = n;
           child = subst (λ (o : Option Name). IsOctantOf held (suc level) (Some (entry_name (suc level) (slice_index keys key.0))) k o) e word.octant;
-          slot = subst (λ (o : Option Name). HasSlot o) e word.slot;
+          slot = subst (λ (o : Option Name). HasByteSlot o) e word.slot;
           is = refl;
         };
       }))
       few_below word.word_is)
 
   pub node_layer_made : (more : List ℕ) (all : List (List ℕ)) → IsStrictlySortedBy (slice_cmp nat_cmp) sorted → AreNodeIndices contents sorted (length contents) indices → length sorted ≤ 2 ^ 24 → more ≡ counts ++ length sorted ∷ [] → all ≡ nodes ++ sorted → AreLayers held (suc level) keys indices more leaves all
-  unfolding Stands
+  unfolding AreEntriesUpTo
   node_layer_made more all rises placed few more_is all_is =
       subst (λ (m : List ℕ). AreLayers held (suc level) keys indices m leaves all) (sym more_is)
       (subst (λ (ns : List (List ℕ)). AreLayers held (suc level) keys indices (counts ++ length sorted ∷ []) leaves ns) (sym all_is)

@@ -14,10 +14,10 @@ use Rattle.block_walk.specs.Roots.{IsBlockOf}
 use Rattle.block_walk.proofs.BlockLaws.{root_block}
 use Rattle.dag_file.specs.Places.{number_at, versions_in, count_in, version_place, version_number, version_root_word}
 use Rattle.dag_file.specs.Rules.{IsRight, IsNumberRight, IsRootRight, IsNamed, AreLevelsNamed}
-use Rattle.dag_file.specs.Trees.{entry_name, named_index, tree_of}
+use Rattle.dag_file.specs.Trees.{entry_name, named_index, word_tree}
 use Rattle.dag_file.specs.Lists.{Listed, HoldsList, DoNumbersRise, ShowCanonical, AreNumbersSmall, IsFileOfList}
-use Rattle.dag_file.specs.Writes.{AreRoots, HasSlot, file_bytes}
-use Rattle.dag_file.specs.Layers.{Stands, AreLayers, IsPairOf, AreVersionPairs}
+use Rattle.dag_file.specs.Writes.{AreRootKeys, HasByteSlot, file_bytes}
+use Rattle.dag_file.specs.Layers.{AreEntriesUpTo, AreLayers, IsPairOf, AreVersionPairs}
 use Rattle.dag_file.proofs.KeyLaws.{entry_of}
 use Rattle.dag_file.proofs.ListLaws.{there}
 use Rattle.dag_file.proofs.ByteRange.{file_is_bytes, power_is_side}
@@ -53,13 +53,13 @@ few_versions list rise small = elim (cases_lt 0 (length list)) [
 
 -- ---- counts of layers
 
-leaf_count : (held : List Tree) (counts leaves : List ℕ) (nodes : List (List ℕ)) (level : ℕ) (keys indices : List ℕ) → Stands held counts leaves nodes level keys indices → slice_index counts 0 ≡ length leaves
-unfolding Stands
+leaf_count : (held : List Tree) (counts leaves : List ℕ) (nodes : List (List ℕ)) (level : ℕ) (keys indices : List ℕ) → AreEntriesUpTo held counts leaves nodes level keys indices → slice_index counts 0 ≡ length leaves
+unfolding AreEntriesUpTo
 leaf_count held counts leaves nodes zero keys indices x = x.count
 leaf_count held counts leaves nodes (suc level) keys indices x = leaf_count held counts leaves nodes level x.below x.below_indices x.stands
 
-counts_few : (held : List Tree) (counts leaves : List ℕ) (nodes : List (List ℕ)) (level : ℕ) (keys indices : List ℕ) → Stands held counts leaves nodes level keys indices → (l : ℕ) → l ≤ level → slice_index counts l ≤ 2 ^ 24
-unfolding Stands
+counts_few : (held : List Tree) (counts leaves : List ℕ) (nodes : List (List ℕ)) (level : ℕ) (keys indices : List ℕ) → AreEntriesUpTo held counts leaves nodes level keys indices → (l : ℕ) → l ≤ level → slice_index counts l ≤ 2 ^ 24
+unfolding AreEntriesUpTo
 counts_few held counts leaves nodes zero keys indices x l le =
     let few = x.few in
     let count = x.count in
@@ -76,7 +76,7 @@ counts_few held counts leaves nodes (suc level) keys indices x l le = elim (case
 
 module _ (held : List Tree) (side top : ℕ) (roots : List Listed) (keys indices counts leaves : List ℕ) (nodes pairs : List (List ℕ))
     (low : top ≤ 10) (side_power : side ≡ 2 ^ (top + 2)) (small_side : side ≤ 4096)
-    (layers : AreLayers held top keys indices counts leaves nodes) (root_keys : AreRoots roots keys) (versions : AreVersionPairs roots keys indices (length roots) pairs)
+    (layers : AreLayers held top keys indices counts leaves nodes) (root_keys : AreRootKeys roots keys) (versions : AreVersionPairs roots keys indices (length roots) pairs)
     (holds : HoldsList held (suc top) roots) (canonical : ShowCanonical held (suc top) roots) (rise : DoNumbersRise roots) (small : AreNumbersSmall roots) where
   under : suc (suc top) - 2 ≡ top
   under = omega arith
@@ -115,7 +115,7 @@ module _ (held : List Tree) (side top : ℕ) (roots : List Listed) (keys indices
     number = x.0;
     name = n;
     there = e ∙ ap (λ (o : Option Name). Some (x.0, o)) is;
-    slot = subst (λ (o : Option Name). HasSlot o) is (pair_of v x e).slot;
+    slot = subst (λ (o : Option Name). HasByteSlot o) is (pair_of v x e).slot;
     is = refl;
   })
 
@@ -159,7 +159,7 @@ module _ (held : List Tree) (side top : ℕ) (roots : List Listed) (keys indices
 
   -- what stands in a version's block has the shape of its root word
   root_shown : (v : ℕ) (x : Listed) → slice_get roots v ≡ Some x → (t : Tree) → IsBlockOf held top x.1 t
-      → (shape_of t ≡ shape_of (tree_of F (suc top) top (slice_index (slice_index_or pairs v []) 1))) × (slice_index (slice_index_or pairs v []) 1 ≤ slice_index counts top)
+      → (shape_of t ≡ shape_of (word_tree F (suc top) top (slice_index (slice_index_or pairs v []) 1))) × (slice_index (slice_index_or pairs v []) 1 ≤ slice_index counts top)
   root_shown v x e t b =
       let p = pair_of v x e in
       word_shows held side top counts leaves nodes pairs s top keys indices w x.1 (slice_index (slice_index_or pairs v []) 1) t (known v x e) b (shows v x e t b) p.slot p.word
@@ -278,15 +278,15 @@ module _ (held : List Tree) (side top : ℕ) (roots : List Listed) (keys indices
         let m = many in
         let is = root_is side top counts leaves nodes pairs s v (omega (arith, l, m)) in
         let shown = (root_shown v x e t (subst (λ (l : ℕ). IsBlockOf held l x.1 t) under b)).0 in
-        ap (λ (l : ℕ). shape_of (tree_of F (suc top) l (version_root_word F (suc top) v))) one_less
-        ∙ ap (λ (word : ℕ). shape_of (tree_of F (suc top) top word)) is
+        ap (λ (l : ℕ). shape_of (word_tree F (suc top) l (version_root_word F (suc top) v))) one_less
+        ∙ ap (λ (word : ℕ). shape_of (word_tree F (suc top) top word)) is
         ∙ sym shown);
   }
 
 -- ---- in the words of a side's exponent
 
 file_is : (held : List Tree) (exponent top : ℕ) (roots : List Listed) (root_list keys indices counts leaves : List ℕ) (nodes pairs : List (List ℕ)) (bytes : List ℕ) → (2 ≤ exponent) × (exponent ≤ 12) → top ≡ exponent - 2
-    → AreLayers held top keys indices counts leaves nodes → keys ≡ root_list → AreRoots roots root_list → AreVersionPairs roots keys indices (length roots) pairs
+    → AreLayers held top keys indices counts leaves nodes → keys ≡ root_list → AreRootKeys roots root_list → AreVersionPairs roots keys indices (length roots) pairs
     → HoldsList held (exponent - 1) roots → ShowCanonical held (exponent - 1) roots → DoNumbersRise roots → AreNumbersSmall roots
     → bytes ≡ file_bytes (2 ^ exponent) counts leaves nodes pairs → IsFileOfList held (exponent - 1) roots bytes
 file_is held exponent top roots root_list keys indices counts leaves nodes pairs bytes bounds top_is layers same root_keys versions holds canonical rise small is =
@@ -299,7 +299,7 @@ file_is held exponent top roots root_list keys indices counts leaves nodes pairs
     (ap (λ (e : ℕ). 2 ^ e) (let e : exponent ≡ top + 2 = omega (arith, bounds, top_is) in e))
     (omega (arith, most))
     layers
-    (subst (λ (ks : List ℕ). AreRoots roots ks) (sym same) root_keys)
+    (subst (λ (ks : List ℕ). AreRootKeys roots ks) (sym same) root_keys)
     versions
     (subst (λ (l : ℕ). HoldsList held l roots) levels holds)
     (subst (λ (l : ℕ). ShowCanonical held l roots) levels canonical)
@@ -331,7 +331,7 @@ versions_more roots keys indices n item words old new at before pair is = subst 
 
 -- the same by the slices that calls were given
 pub file_of_parts : (held : List Tree) (exponent e top : ℕ) (roots : List Listed) (root_list keys k1 indices i1 counts leaves : List ℕ) (nodes pairs p1 : List (List ℕ)) (bytes : List ℕ) → e ≡ exponent → (2 ≤ e) × (e ≤ 12) → top ≡ e - 2
-    → AreLayers held top keys indices counts leaves nodes → keys ≡ root_list → AreRoots roots root_list → k1 ≡ keys → i1 ≡ indices → p1 ≡ pairs → AreVersionPairs roots k1 i1 (length roots) pairs
+    → AreLayers held top keys indices counts leaves nodes → keys ≡ root_list → AreRootKeys roots root_list → k1 ≡ keys → i1 ≡ indices → p1 ≡ pairs → AreVersionPairs roots k1 i1 (length roots) pairs
     → HoldsList held (exponent - 1) roots → ShowCanonical held (exponent - 1) roots → DoNumbersRise roots → AreNumbersSmall roots
     → bytes ≡ file_bytes (2 ^ exponent) counts leaves nodes p1 → IsFileOfList held (exponent - 1) roots bytes
 file_of_parts held exponent e top roots root_list keys k1 indices i1 counts leaves nodes pairs p1 bytes ee bounds top_is layers same root_keys ek ei ep versions holds canonical rise small is =

@@ -7,7 +7,7 @@ use Rattle.std.specs.Cmp.Lexicographic.{slice_cmp}
 use Rattle.std.specs.Ordering.{nat_cmp}
 use Rattle.node_shapes.specs.declared.names.Name.{Name}
 use Rattle.node_shapes.specs.Tree.{Tree}
-use Rattle.dag_file.specs.Writes.{AreLeaves, AreNodeWords, AreIndices, AreNodeIndices, AreChildren, IsWordOfName, HasSlot}
+use Rattle.dag_file.specs.Writes.{AreLeaves, AreNodeWords, AreIndices, AreNodeIndices, AreChildren, IsWordOfName, HasByteSlot}
 
 -- where the nodes of the level above this one begin among the nodes of all levels
 abbrev pub first_node : List ℕ → ℕ → ℕ
@@ -50,15 +50,17 @@ pub record IsLayer (held : List Tree) (counts : List ℕ) (nodes : List (List �
       → slice_index_or nodes (first_node counts level + i) [] ≡ slice_index_or sorted i []
 
 -- the entries of a level and of all below it are those of these keys
-unfoldable pub Stands : List Tree → List ℕ → List ℕ → List (List ℕ) → ℕ → List ℕ → List ℕ → Type 0
-Stands held counts leaves nodes zero keys indices = AreLeafEntries held keys indices counts leaves
-Stands held counts leaves nodes (suc level) keys indices =
-    IsLayer held counts nodes level keys indices (Stands held counts leaves nodes level)
+unfoldable pub AreEntriesUpTo : List Tree → List ℕ → List ℕ → List (List ℕ) → ℕ → List ℕ → List ℕ
+    → Type 0
+AreEntriesUpTo held counts leaves nodes zero keys indices =
+    AreLeafEntries held keys indices counts leaves
+AreEntriesUpTo held counts leaves nodes (suc level) keys indices =
+    IsLayer held counts nodes level keys indices (AreEntriesUpTo held counts leaves nodes level)
 
 -- they are all that there is
 pub record AreLayers (held : List Tree) (level : ℕ) (keys indices counts leaves : List ℕ)
     (nodes : List (List ℕ)) : Type 0 where
-  pub stands : Stands held counts leaves nodes level keys indices
+  pub stands : AreEntriesUpTo held counts leaves nodes level keys indices
   pub levels : length counts ≡ suc level
   pub all : first_node counts level ≡ length nodes
   pub eight : (i : ℕ) → i < length nodes → length (slice_index_or nodes i []) ≡ 8
@@ -69,7 +71,7 @@ pub record AreLayers (held : List Tree) (level : ℕ) (keys indices counts leave
 pub record IsPairOf (keys indices : List ℕ) (x : ℕ × Option Name) (words : List ℕ) : Type 0 where
   pub two : length words ≡ 2
   pub number : slice_index words 0 ≡ x.0
-  pub slot : HasSlot x.1
+  pub slot : HasByteSlot x.1
   pub word : IsWordOfName keys indices x.1 (slice_index words 1)
 
 -- the pairs of the first n versions

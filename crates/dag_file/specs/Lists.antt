@@ -66,10 +66,10 @@ abbrev pub list_in : List ℕ → ℕ → List Listed
 list_in bytes levels = listed_from bytes levels 0 (versions_in bytes)
 
 -- the file is that of its own list, whose roots stand in it
-abbrev pub roots_in : List ℕ → ℕ → List Tree
-roots_in bytes levels = roots_below bytes levels (versions_in bytes)
+abbrev pub file_roots : List ℕ → ℕ → List Tree
+file_roots bytes levels = roots_below bytes levels (versions_in bytes)
 
 pub record IsOfItsList (bytes : List ℕ) (levels : ℕ) : Type 0 where
-  pub roots : HoldsList (roots_in bytes levels) levels (list_in bytes levels)
+  pub roots : HoldsList (file_roots bytes levels) levels (list_in bytes levels)
   pub rise : DoNumbersRise (list_in bytes levels)
-  pub file : IsFileOfList (roots_in bytes levels) levels (list_in bytes levels) bytes
+  pub file : IsFileOfList (file_roots bytes levels) levels (list_in bytes levels) bytes

@@ -37,7 +37,7 @@ file_bytes side counts leaves nodes pairs =
 -- ---- keys
 
 -- what was found is added: all of it, and nothing else
-pub record Adds (Found : ℕ → Type 0) (old new : List ℕ) : Type 0 where
+pub record AddsKeys (Found : ℕ → Type 0) (old new : List ℕ) : Type 0 where
   pub keeps : (x : ℕ) → Contains old x → Contains new x
   pub adds : (x : ℕ) → Found x → Contains new x
   pub only : (x : ℕ) → Contains new x → Contains old x ⊎ Found x
@@ -48,9 +48,9 @@ keys_of None = []
 keys_of (Some n) = named_index n ∷ []
 
 -- a name's slot is a byte
-abbrev pub HasSlot : Option Name → Type 0
-HasSlot None = Unit {0}
-HasSlot (Some n) = (n.slot < 256) × (named_index n < 2 ^ 24)
+abbrev pub HasByteSlot : Option Name → Type 0
+HasByteSlot None = Unit {0}
+HasByteSlot (Some n) = (n.slot < 256) × (named_index n < 2 ^ 24)
 
 -- the keys are those of nodes of a level that may be read
 pub record AreReached (held : List Tree) (level : ℕ) (keys : List ℕ) : Type 0 where
@@ -64,7 +64,7 @@ pub record IsChildKey (held : List Tree) (level : ℕ) (node : Name) (n x : ℕ)
   pub octant : k < n
   pub name : Name
   pub child : IsOctantOf held level (Some node) k (Some name)
-  pub slot : HasSlot (Some name)
+  pub slot : HasByteSlot (Some name)
   pub is : x ≡ named_index name
 
 -- it is that of one of the first n nodes of a list
@@ -97,7 +97,7 @@ pub record IsOctantWord (held : List Tree) (level : ℕ) (node : Name) (keys ind
     (k word : ℕ) : Type 0 where
   pub child : Option Name
   pub octant : IsOctantOf held level (Some node) k child
-  pub slot : HasSlot child
+  pub slot : HasByteSlot child
   pub word_is : IsWordOfName keys indices child word
 
 -- the first n words of a node
@@ -128,11 +128,11 @@ pub record IsRootKey (roots : List (ℕ × Option Name)) (n x : ℕ) : Type 0 wh
   pub number : ℕ
   pub name : Name
   pub there : slice_get roots v ≡ Some (number, Some name)
-  pub slot : HasSlot (Some name)
+  pub slot : HasByteSlot (Some name)
   pub is : x ≡ named_index name
 
 -- the keys of the roots, each once, by rising size
-pub record AreRoots (roots : List (ℕ × Option Name)) (keys : List ℕ) : Type 0 where
+pub record AreRootKeys (roots : List (ℕ × Option Name)) (keys : List ℕ) : Type 0 where
   pub rises : IsStrictlyIncreasing keys
   pub all : (x : ℕ) → IsRootKey roots (length roots) x → Contains keys x
   pub only : (x : ℕ) → Contains keys x → IsRootKey roots (length roots) x

@@ -3,7 +3,7 @@ ghost use Rattle.std.specs.List.{Contains};
 ghost use Rattle.std.specs.List.Sorted.{IsStrictlyIncreasing, IsStrictlySortedBy};
 ghost use Rattle.std.specs.Cmp.Lexicographic.{slice_cmp};
 ghost use Rattle.std.specs.Ordering.{nat_cmp};
-ghost use Rattle.dag_file.specs.Writes.{AreReached, AreLeaves, AreNodeWords, IsWordOfName, AreOctantWords, HasSlot, AreIndices, AreNodeIndices};
+ghost use Rattle.dag_file.specs.Writes.{AreReached, AreLeaves, AreNodeWords, IsWordOfName, AreOctantWords, HasByteSlot, AreIndices, AreNodeIndices};
 ghost use Rattle.block_walk.specs.Roots.{HasBlock};
 
 use crate::keys::{key_of, name_at};
@@ -17,7 +17,7 @@ pub(crate) fn word_of(keys: &[u32], indices: &[u32], child: Option<Name>) -> u32
     requires rises { IsStrictlyIncreasing keys.now }
     requires many { length indices.now ≡ length keys.now }
     requires few { (j : ℕ) → j < length keys.now → slice_index indices.now j < 2 ^ 24 }
-    ensures slot { HasSlot child }
+    ensures slot { HasByteSlot child }
     ensures word { IsWordOfName keys.now indices.now child result }
 {
     let Some(n) = child else {

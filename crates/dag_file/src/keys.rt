@@ -3,7 +3,7 @@ ghost use Rattle.std.specs.List.{Contains};
 ghost use Rattle.std.specs.List.Sorted.{IsStrictlyIncreasing};
 ghost use Rattle.block_walk.specs.Roots.{HasBlock};
 ghost use Rattle.dag_file.specs.Trees.{entry_name, named_index};
-ghost use Rattle.dag_file.specs.Writes.{Adds, AreReached, IsChildKey, AreChildren, AreRoots, HasSlot, keys_of};
+ghost use Rattle.dag_file.specs.Writes.{AddsKeys, AreReached, IsChildKey, AreChildren, AreRootKeys, HasByteSlot, keys_of};
 
 use block_walk::octant_name;
 use node_words::{Blocks, Name, Share};
@@ -43,7 +43,7 @@ pub(crate) fn sort_once(keys: &mut Vec<u32>)
 /// The keys of the roots, each once, by rising size.
 #[tactic(auto, using(crate::proofs::KeyLaws::no_roots))]
 pub(crate) fn root_keys(alloc: Global, roots: &[(u32, Option<Share>)]) -> Result<Vec<u32>, Memory>
-    ensures roots { IfOk result (λ keys. AreRoots roots.now keys.items) }
+    ensures roots { IfOk result (λ keys. AreRootKeys roots.now keys.items) }
     ensures few { IfOk result (λ keys. length keys.items ≤ 2 ^ 24) }
 {
     let mut keys = Vec::new(alloc);
@@ -101,7 +101,7 @@ fn push_children<B: Blocks>(
 ) -> Result<(), Memory>
     requires level { 1 ≤ level }
     requires node { HasBlock (B.seen store.old).held level (Some node) }
-    ensures adds { OnOk result (Adds (IsChildKey (B.seen store.old).held level node 8)
+    ensures adds { OnOk result (AddsKeys (IsChildKey (B.seen store.old).held level node 8)
         found.old.items found.new.items) }
     ensures seen { B.seen store.new ≡ B.seen store.old }
     ensures rests { B.rests store.old store.new }
@@ -115,7 +115,7 @@ fn push_children<B: Blocks>(
 
 // The key of a name, where there is one.
 fn push_key(name: Option<Name>, found: &mut Vec<u32>) -> Result<(), Memory>
-    ensures slot { HasSlot name }
+    ensures slot { HasByteSlot name }
     ensures pushed { OnOk result (found.new.items ≡ found.old.items ++ keys_of name) }
 {
     if let Some(n) = name {
