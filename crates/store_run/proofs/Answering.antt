@@ -39,7 +39,7 @@ use Rattle.script_runs.proofs.Arms.{rebuilt_arm, undone_arm, forgot_arm, full_ar
 use Rattle.one_store.specs.Known.{IsStore, known_seen, stored_root}
 use Rattle.store_run.specs.declared.stored_versions.Versions.{Versions}
 use Rattle.store_run.specs.Kept.{plan_of, log_of, moment_of, world_of, tints_of, noted_of, AreVersions, LosesTree, HoldsSame}
-use Rattle.store_run.specs.Steps.{TellsHeldVersion, HasMark, LeavesAll, SharesRoot, MakesRoot, MeetsBucket, AppendsRecord, MarksVersion, side_of}
+use Rattle.store_run.specs.Steps.{TellsHeldVersion, IsVersionMarked, LeavesAll, SharesRootOfVersion, MakesRoot, MeetsBucket, GainsRecord, GainsMark, side_of}
 use Rattle.store_run.specs.Answering.{GoesOnBy, nothing_to_go_to, saved_as}
 use Rattle.store_run.proofs.Holding.{same_again}
 use Rattle.store_run.proofs.KeptWorlds.{tints_by_cells, cells_by_tints}
@@ -90,7 +90,7 @@ pub names_missing : (v : Versions) (session : ℕ) (l : ScriptLine) (version : �
     → FitsSoFar v session l (answers.NoVersion version)
 names_missing v session l version past names scripts transcripts script transcript so_far number after = no_version l.command version names past
 
-forgotten_now : (v : Versions) (session : ℕ) (l : ScriptLine) (version : ℕ) (mark : HasMark v version)
+forgotten_now : (v : Versions) (session : ℕ) (l : ScriptLine) (version : ℕ) (mark : IsVersionMarked v version)
     (scripts : List (List ScriptLine)) (transcripts : List (List LineAnswer)) (script : List ScriptLine) (transcript : List LineAnswer)
     → IsSoFar (plan_of v) v.models.models scripts transcripts script transcript (log_of v) → length scripts ≡ session → IsAfter script l
     → IsForgotten (log_of v).marks session l.line (moment_of v) version
@@ -130,7 +130,7 @@ module _ (v w : Versions) (session line : ℕ) (act : Act) (once : Bool) (are : 
   }
 
   pub edit_done : (u : Versions) (root : Option Rattle.node_shapes.specs.declared.names.Name.Name) → MakesRoot v act root u
-      → AppendsRecord u (record { session = session; line = line; act = act }) w
+      → GainsRecord u (record { session = session; line = line; act = act }) w
       → GoesOnBy v session (record { line = line; command = Edit act once }) answers.Done w
   edit_done u root makes appends = record {
     models = appends.only.models ∙ makes.stay.models;
@@ -182,13 +182,13 @@ pub full_same : (v w : Versions) (act : Act) (full : Full) → MeetsBucket v act
 full_same v w act full meets = record { weighs = meets.fails.held }
 
 pub went_same : (v u w : Versions) (to : ℕ) (root : Option Rattle.node_shapes.specs.declared.names.Name.Name)
-    → SharesRoot v to root u → LosesTree u.store root w.store → HoldsSame v.store w.store
+    → SharesRootOfVersion v to root u → LosesTree u.store root w.store → HoldsSame v.store w.store
 went_same v u w to root shares loses = same_again v.store u.store w.store root shares.gains loses
 
 -- ---- undos and redos
 
 pub go_done : (v u w : Versions) (session line : ℕ) (act : Act) (once : Bool) (to : ℕ) (root : Option Rattle.node_shapes.specs.declared.names.Name.Name)
-    → SharesRoot v to root u → AppendsRecord u (record { session = session; line = line; act = act }) w
+    → SharesRootOfVersion v to root u → GainsRecord u (record { session = session; line = line; act = act }) w
     → GoesOnBy v session (record { line = line; command = Edit act once }) answers.Done w
 go_done v u w session line act once to root shares appends = record {
   models = appends.only.models ∙ shares.stay.models;
@@ -258,7 +258,7 @@ module _ (v : Versions) (session line : ℕ) (act : Act) (once : Bool) (are : Ar
   pub go_nowhere : target_at v.records.items (moment_of v) act ≡ None → GoesOnBy v session (record { line = line; command = Edit act once }) (nothing_to_go_to act) v
   go_nowhere none = rests v v session (record { line = line; command = Edit act once }) (nothing_to_go_to act) are (gave_nothing v) nothing_rests nothing_refused (nothing_fits none)
 
-  pub go_forgotten : (to : ℕ) → target_at v.records.items (moment_of v) act ≡ Some to → (to ≤ moment_of v) × HasMark v to
+  pub go_forgotten : (to : ℕ) → target_at v.records.items (moment_of v) act ≡ Some to → (to ≤ moment_of v) × IsVersionMarked v to
       → GoesOnBy v session (record { line = line; command = Edit act once }) (answers.Forgotten to) v
   go_forgotten to goes mark =
       rests v v session (record { line = line; command = Edit act once }) (answers.Forgotten to) are (gave_nothing v) refl refl
@@ -281,7 +281,7 @@ pub kept_earlier : (v : Versions) (version at : ℕ) → IsKept (log_of v) versi
 kept_earlier v version at kept now other = let le = kept.there in omega (arith, other, now)
 
 pub forgot_version : (v w : Versions) (session line version at : ℕ) → at ≡ moment_of v
-    → MarksVersion v (record { version = version; at = at; session = session; line = line }) w
+    → GainsMark v (record { version = version; at = at; session = session; line = line }) w
     → GoesOnBy v session (record { line = line; command = Forget version }) (answers.Forgot version) w
 forgot_version v w session line version at now marks = record {
   models = marks.only.models;
@@ -311,7 +311,7 @@ module _ (v : Versions) (session line : ℕ) (are : AreVersions v) where
       rests v v session (record { line = line; command = Forget version }) (answers.NoVersion version) are (gave_nothing v) refl refl
       (names_missing v session (record { line = line; command = Forget version }) version past refl)
 
-  pub forget_marked : (version : ℕ) → (version ≤ moment_of v) × HasMark v version → GoesOnBy v session (record { line = line; command = Forget version }) (answers.Forgotten version) v
+  pub forget_marked : (version : ℕ) → (version ≤ moment_of v) × IsVersionMarked v version → GoesOnBy v session (record { line = line; command = Forget version }) (answers.Forgotten version) v
   forget_marked version mark =
       rests v v session (record { line = line; command = Forget version }) (answers.Forgotten version) are (gave_nothing v) refl refl
       (λ scripts transcripts script transcript so_far number after. forgotten (Forget version) version refl
@@ -338,7 +338,7 @@ module _ (v : Versions) (session line : ℕ) (are : AreVersions v) where
       (ask_names version question (subst (λ (n : ℕ). moment_of v < n) is past))))
 
   -- the newest version has no mark
-  newest_unmarked : HasMark v (moment_of v) → ⊥
+  newest_unmarked : IsVersionMarked v (moment_of v) → ⊥
   newest_unmarked mark = go mark.mark mark.same mark.listed
     where
       go : (m : Mark) → m.version ≡ moment_of v → Contains (log_of v).marks m → ⊥
@@ -346,22 +346,22 @@ module _ (v : Versions) (session line : ℕ) (are : AreVersions v) where
           let dated = Rattle.std.proofs.lemmas.List.Elements.All-contains (λ k. (k.version < k.at) × (k.at ≤ moment_of v)) (log_of v).marks m are.stored.sound.legal.marked listed in
           omega (arith, is, dated.0, dated.1)
 
-  ask_marked_names : (version : Option ℕ) (question : Question) → HasMark v (asked_version version (moment_of v))
+  ask_marked_names : (version : Option ℕ) (question : Question) → IsVersionMarked v (asked_version version (moment_of v))
       → Names (IsStanding (log_of v).marks session line (moment_of v)) (moment_of v) (Ask version question) (asked_version version (moment_of v))
   ask_marked_names None question mark = absurd (newest_unmarked mark)
   ask_marked_names (Some u) question mark = refl
 
-  pub ask_marked : (version : Option ℕ) (question : Question) (asked : ℕ) → asked ≡ asked_version version (moment_of v) → (asked ≤ moment_of v) × HasMark v asked
+  pub ask_marked : (version : Option ℕ) (question : Question) (asked : ℕ) → asked ≡ asked_version version (moment_of v) → (asked ≤ moment_of v) × IsVersionMarked v asked
       → GoesOnBy v session (record { line = line; command = Ask version question }) (answers.Forgotten asked) v
   ask_marked version question asked is mark =
       let l : ScriptLine = record { line = line; command = Ask version question } in
       rests v v session l (answers.Forgotten asked) are (gave_nothing v) refl refl
       (λ scripts transcripts script transcript so_far number after. forgotten (Ask version question) asked
       (subst (λ (n : ℕ). Names (IsStanding (log_of v).marks session line (moment_of v)) (moment_of v) (Ask version question) n) (sym is)
-      (ask_marked_names version question (subst (λ (n : ℕ). HasMark v n) is mark.1)))
+      (ask_marked_names version question (subst (λ (n : ℕ). IsVersionMarked v n) is mark.1)))
       (forgotten_now v session l asked mark.1 scripts transcripts script transcript so_far number after))
 
-  save_names : (version : Option ℕ) (name : SaveName) (part : Boxed) → (moment_of v < asked_version version (moment_of v)) ⊎ HasMark v (asked_version version (moment_of v))
+  save_names : (version : Option ℕ) (name : SaveName) (part : Boxed) → (moment_of v < asked_version version (moment_of v)) ⊎ IsVersionMarked v (asked_version version (moment_of v))
       → Names (IsStanding (log_of v).marks session line (moment_of v)) (moment_of v) (Save version name part) (asked_version version (moment_of v))
   save_names None name part (inl past) = absurd (omega arith)
   save_names None name part (inr mark) = absurd (newest_unmarked mark)
@@ -375,14 +375,14 @@ module _ (v : Versions) (session line : ℕ) (are : AreVersions v) where
       (subst (λ (n : ℕ). Names (IsStanding (log_of v).marks session line (moment_of v)) (moment_of v) (Save version name part) n) (sym is)
       (save_names version name part (inl (subst (λ (n : ℕ). moment_of v < n) is past)))))
 
-  pub save_marked : (version : Option ℕ) (name : SaveName) (part : Boxed) (asked : ℕ) → asked ≡ asked_version version (moment_of v) → (asked ≤ moment_of v) × HasMark v asked
+  pub save_marked : (version : Option ℕ) (name : SaveName) (part : Boxed) (asked : ℕ) → asked ≡ asked_version version (moment_of v) → (asked ≤ moment_of v) × IsVersionMarked v asked
       → GoesOnBy v session (record { line = line; command = Save version name part }) (answers.Forgotten asked) v
   save_marked version name part asked is mark =
       let l : ScriptLine = record { line = line; command = Save version name part } in
       rests v v session l (answers.Forgotten asked) are (gave_nothing v) refl refl
       (λ scripts transcripts script transcript so_far number after. forgotten (Save version name part) asked
       (subst (λ (n : ℕ). Names (IsStanding (log_of v).marks session line (moment_of v)) (moment_of v) (Save version name part) n) (sym is)
-      (save_names version name part (inr (subst (λ (n : ℕ). HasMark v n) is mark.1))))
+      (save_names version name part (inr (subst (λ (n : ℕ). IsVersionMarked v n) is mark.1))))
       (forgotten_now v session l asked mark.1 scripts transcripts script transcript so_far number after))
 
   -- ---- two versions
@@ -397,14 +397,14 @@ module _ (v : Versions) (session line : ℕ) (are : AreVersions v) where
       rests v v session (record { line = line; command = Same a b }) (answers.NoVersion b) are (gave_nothing v) refl refl
       (names_missing v session (record { line = line; command = Same a b }) b past (inr (refl, readable_now v session line a kept)))
 
-  pub same_first_marked : (a b : ℕ) → (a ≤ moment_of v) × HasMark v a → GoesOnBy v session (record { line = line; command = Same a b }) (answers.Forgotten a) v
+  pub same_first_marked : (a b : ℕ) → (a ≤ moment_of v) × IsVersionMarked v a → GoesOnBy v session (record { line = line; command = Same a b }) (answers.Forgotten a) v
   same_first_marked a b mark =
       let l : ScriptLine = record { line = line; command = Same a b } in
       rests v v session l (answers.Forgotten a) are (gave_nothing v) refl refl
       (λ scripts transcripts script transcript so_far number after. forgotten (Same a b) a (inl refl)
       (forgotten_now v session l a mark.1 scripts transcripts script transcript so_far number after))
 
-  pub same_marked : (a b : ℕ) → IsKept (log_of v) a → (b ≤ moment_of v) × HasMark v b → GoesOnBy v session (record { line = line; command = Same a b }) (answers.Forgotten b) v
+  pub same_marked : (a b : ℕ) → IsKept (log_of v) a → (b ≤ moment_of v) × IsVersionMarked v b → GoesOnBy v session (record { line = line; command = Same a b }) (answers.Forgotten b) v
   same_marked a b kept mark =
       let l : ScriptLine = record { line = line; command = Same a b } in
       rests v v session l (answers.Forgotten b) are (gave_nothing v) refl refl

@@ -24,7 +24,7 @@ use Rattle.undo.specs.Trails.{trail_position}
 use Rattle.one_store.specs.Known.{Known, root_names, stored_root}
 use Rattle.one_store.proofs.StateLaws.{root_weight, holdings-one}
 use Rattle.store_run.specs.declared.stored_versions.Versions.{Versions}
-use Rattle.store_run.specs.Kept.{plan_of, log_of, noted_of, mark_in, core_with, AreStored, AreVersions, IsLargeStore, HoldsNothing}
+use Rattle.store_run.specs.Kept.{plan_of, log_of, noted_of, mark_in, core_with, AreStoredVersions, AreVersions, IsLargeStore, HoldsNothing}
 use Rattle.store_run.proofs.Marking.{none_listed, no_mark}
 
 no_holdings : (f : Name → ℕ) → holdings f (root_names [] ∷ []) ≡ 0
@@ -72,7 +72,7 @@ module _ (v : Versions) (p : Layout) (side : v.side ≡ p.side) (plan : plan_of 
   begun_nothing = record { weighs = λ f. ap (λ (t : Told). weigh f t.held) told ∙ weigh-nil f }
 
   pub begun_are : IsLargeStore tint p.side → HaveTints tint v.models.models
-      → AreStored v
+      → AreStoredVersions v
   begun_are large colours = record {
     side = side ∙ sym (ap (λ (q : Layout). q.side) plan);
     sound = recoloured (plan_of v) v.models.models plain_begun v.store v.models.tint
@@ -101,5 +101,5 @@ module _ (v : Versions) (p : Layout) (side : v.side ≡ p.side) (plan : plan_of 
   begun_noted = ap (λ (t : Told). record { made = t.made; met = t.met }) told
 
 -- where cells have no tints
-pub begun_plain : (v : Versions) → AreStored v → v.models.tint ≡ false → AreVersions v
+pub begun_plain : (v : Versions) → AreStoredVersions v → v.models.tint ≡ false → AreVersions v
 begun_plain v are plain = record { stored = are; plain = plain }

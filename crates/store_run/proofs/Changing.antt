@@ -22,7 +22,7 @@ use Rattle.conformance.specs.Answers.{target_at}
 use Rattle.script_runs.proofs.Going.{goes_to}
 use Rattle.store_run.specs.declared.stored_versions.Versions.{Versions}
 use Rattle.store_run.specs.Kept.{log_of, moment_of}
-use Rattle.store_run.specs.Steps.{HasMark, LeavesAll, SharesRoot, MakesRoot, MeetsBucket, AppendsRecord, MarksVersion}
+use Rattle.store_run.specs.Steps.{IsVersionMarked, LeavesAll, SharesRootOfVersion, MakesRoot, MeetsBucket, GainsRecord, GainsMark}
 use Rattle.store_run.specs.Answering.{nothing_to_go_to}
 use Rattle.store_run.specs.Changing.{log_with_record, HasKeptTarget, Changes, AnswersForget, MakesVersion}
 
@@ -35,7 +35,7 @@ same_moment v u same = ap (λ (l : Log). length l.records) same
 grown : (old new : Log) (r : Record) → new.side ≡ old.side → new.coloured ≡ old.coloured → new.records ≡ old.records ++ r ∷ [] → new.marks ≡ old.marks → new ≡ log_with_record old r
 grown old new r side coloured records marks = λ i. record { side = side i; coloured = coloured i; records = records i; marks = marks i }
 
-appended : (v u w : Versions) (r : Record) → log_of u ≡ log_of v → AppendsRecord u r w → log_of w ≡ log_with_record (log_of v) r
+appended : (v u w : Versions) (r : Record) → log_of u ≡ log_of v → GainsRecord u r w → log_of w ≡ log_with_record (log_of v) r
 appended v u w r same appends =
     grown (log_of u) (log_of w) r appends.grows.side appends.grows.coloured appends.grows.records appends.grows.marks ∙ ap (λ (l : Log). log_with_record l r) same
 
@@ -43,7 +43,7 @@ edit_way : (log : Log) (act : Act) → is_edit act ≡ true → HasKeptTarget lo
 edit_way log act edit = record { other = λ no. absurd (false≢true (sym no ∙ edit)) }
 
 -- a version that has a mark isn't kept
-pub marked_gone : (v : Versions) (version : ℕ) → HasMark v version → ¬ IsKept (log_of v) version
+pub marked_gone : (v : Versions) (version : ℕ) → IsVersionMarked v version → ¬ IsKept (log_of v) version
 marked_gone v version mark kept =
     All-contains (λ (m : Mark). m.version ≢ version) (log_of v).marks mark.mark kept.unmarked mark.listed mark.same
 
@@ -54,7 +54,7 @@ module _ (v w : Versions) (session line : ℕ) (act : Act) (edit : is_edit act �
       → Changes (log_of v) (record_of session line act) (answers.Full full.level full.bucket) (log_of w)
   edit_full_logs full meets = Changes.full (log_of w) full.level full.bucket edit meets.stay.log
 
-  pub edit_done_logs : (u : Versions) (root : Option Name) → MakesRoot v act root u → AppendsRecord u (record_of session line act) w
+  pub edit_done_logs : (u : Versions) (root : Option Name) → MakesRoot v act root u → GainsRecord u (record_of session line act) w
       → moment_of u ≢ 65535 → moment_of u ≤ 65535
       → Changes (log_of v) (record_of session line act) answers.Done (log_of w)
   edit_done_logs u root makes appends other few =
@@ -73,7 +73,7 @@ module _ (v : Versions) (session line : ℕ) (act : Act) (other : is_edit act �
       → Changes (log_of v) (record_of session line act) (nothing_to_go_to act) (log_of v)
   go_nowhere_logs none = Changes.nothing (log_of v) other none refl
 
-  pub go_forgotten_logs : (to : ℕ) → target_at v.records.items (moment_of v) act ≡ Some to → HasMark v to
+  pub go_forgotten_logs : (to : ℕ) → target_at v.records.items (moment_of v) act ≡ Some to → IsVersionMarked v to
       → Changes (log_of v) (record_of session line act) (answers.Forgotten to) (log_of v)
   go_forgotten_logs to goes mark = Changes.forgotten (log_of v) to (record { other = other; goes = goes }) (marked_gone v to mark) refl
 
@@ -86,7 +86,7 @@ module _ (v : Versions) (session line : ℕ) (act : Act) (other : is_edit act �
   go_late_logs to goes kept all = Changes.log_full (log_of v) all (record { other = λ _. (to, record { other = other; goes = goes }, kept) }) refl
 
   pub go_done_logs : (u w : Versions) (to : ℕ) (root : Option Name) → target_at v.records.items (moment_of v) act ≡ Some to → IsKept (log_of v) to
-      → moment_of v ≢ 65535 → moment_of v ≤ 65535 → SharesRoot v to root u → AppendsRecord u (record_of session line act) w
+      → moment_of v ≢ 65535 → moment_of v ≤ 65535 → SharesRootOfVersion v to root u → GainsRecord u (record_of session line act) w
       → Changes (log_of v) (record_of session line act) answers.Done (log_of w)
   go_done_logs u w to root goes kept late few shares appends =
       Changes.done (log_of w) (omega (arith, late, few)) (record { other = λ _. (to, record { other = other; goes = goes }, kept) })
@@ -98,13 +98,13 @@ module _ (v : Versions) (mark : Mark) where
   pub forget_missing_logs : moment_of v < mark.version → AnswersForget (log_of v) mark (answers.NoVersion mark.version) (log_of v)
   forget_missing_logs past = AnswersForget.no_version past
 
-  pub forget_marked_logs : (mark.version ≤ moment_of v) × HasMark v mark.version → AnswersForget (log_of v) mark (answers.Forgotten mark.version) (log_of v)
+  pub forget_marked_logs : (mark.version ≤ moment_of v) × IsVersionMarked v mark.version → AnswersForget (log_of v) mark (answers.Forgotten mark.version) (log_of v)
   forget_marked_logs is = AnswersForget.forgotten is.0 (marked_gone v mark.version is.1)
 
   pub forgets_head_logs : mark.version ≡ moment_of v → AnswersForget (log_of v) mark answers.IsHead (log_of v)
   forgets_head_logs is = AnswersForget.is_head is
 
-  pub forgot_logs : (w : Versions) → IsKept (log_of v) mark.version → mark.version < moment_of v → MarksVersion v mark w
+  pub forgot_logs : (w : Versions) → IsKept (log_of v) mark.version → mark.version < moment_of v → GainsMark v mark w
       → AnswersForget (log_of v) mark (answers.Forgot mark.version) (log_of w)
   forgot_logs w kept earlier marks =
       AnswersForget.forgot (log_of w) (record { kept = kept; earlier = earlier; side = marks.forgets.side; coloured = marks.forgets.coloured; records = marks.forgets.records; marks = marks.forgets.marks })

@@ -13,13 +13,13 @@ use Rattle.reporting.proofs.NumberLaws.{numbers_told}
 use Rattle.one_store.specs.Known.{Known, IsStore, core_of}
 use Rattle.one_store.proofs.StateLaws.{root_weight, holdings-one}
 use Rattle.store_run.specs.declared.stored_versions.Versions.{Versions}
-use Rattle.store_run.specs.Kept.{plan_of, log_of, moment_of, mark_in, core_with, AreStored, HoldsNothing}
+use Rattle.store_run.specs.Kept.{plan_of, log_of, moment_of, mark_in, core_with, AreStoredVersions, HoldsNothing}
 use Rattle.store_run.proofs.Sparing.{versions_sound}
 
 idle : (log : Log) (s : Known) → HoldsNothing s → IsIdle (core_with log s)
 idle log s nothing = record { weighs = λ f. holdings-one f s.told.held ∙ nothing.weighs (root_weight f) }
 
-module _ (v : Versions) (number : ℕ) (are : AreStored v) (st : IsStore v.store number) where
+module _ (v : Versions) (number : ℕ) (are : AreStoredVersions v) (st : IsStore v.store number) where
   pub roots_in_range : (roots : List (Option Name)) → roots ≡ v.store.roots → length v.records.items < length roots
   roots_in_range roots same =
       let few = are.sound.legal.few in
@@ -41,11 +41,11 @@ module _ (v : Versions) (number : ℕ) (are : AreStored v) (st : IsStore v.store
       (idle (log_of v) v.store free) (omega arith) (λ level le. each level (omega (arith, le)))
 
 -- a version has a place for its root
-pub has_place : (v : Versions) (number version : ℕ) → AreStored v → IsStore v.store number → version ≤ moment_of v → version < length v.store.roots
+pub has_place : (v : Versions) (number version : ℕ) → AreStoredVersions v → IsStore v.store number → version ≤ moment_of v → version < length v.store.roots
 has_place v number version are st le = let few = are.sound.legal.few in let long = st.places in omega arith
 
 -- the marks in the places of all versions
-pub history_is : (v : Versions) → AreStored v → (marks : List Mark) → marks ≡ marks_below (mark_in v.marks.items) (length v.marks.items)
+pub history_is : (v : Versions) → AreStoredVersions v → (marks : List Mark) → marks ≡ marks_below (mark_in v.marks.items) (length v.marks.items)
     → record { side = v.side; coloured = v.models.tint; records = v.records.items; marks = marks } ≡ log_of v
 history_is v are marks is = λ i. record {
   side = v.side;

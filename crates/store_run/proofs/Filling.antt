@@ -19,7 +19,7 @@ use Rattle.script_runs.specs.Keeping.{MadeAndMet, IsMadeFor, IsMadeInRun, IsWant
 use Rattle.script_runs.proofs.PossibleLaws.{enough_possible}
 use Rattle.script_runs.proofs.Refusals.{made_in_stays, wanted_stays}
 use Rattle.store_run.specs.declared.stored_versions.Versions.{Versions}
-use Rattle.store_run.specs.Kept.{plan_of, log_of, noted_of, AreStored}
+use Rattle.store_run.specs.Kept.{plan_of, log_of, noted_of, AreStoredVersions}
 use Rattle.store_run.specs.Steps.{MeetsBucket}
 use Rattle.store_run.specs.Replaying.{ReplayState, replay_state, spans_from, MayFillReplay, MakesOnlyParts, TakesEdit, TakesWay, FillsBucket}
 use Rattle.store_run.proofs.Targets.{grew_wanted}
@@ -128,7 +128,7 @@ parts_as p q models others records more made plan same list all =
     (subst (λ (x : List Content). All (IsMadeInRun p x more (spans_from 0 more)) made) (sym same)
     (subst (λ (x : List Record). All (IsMadeInRun p models x (spans_from 0 x)) made) (sym list) all))
 
-pub edit_parts : (s : ReplayState) (u w : Versions) (r : Record) → replay_state u ≡ s → AreStored u
+pub edit_parts : (s : ReplayState) (u w : Versions) (r : Record) → replay_state u ≡ s → AreStoredVersions u
     → is_edit r.act ≡ true → MakesOnlyParts s → TakesEdit u r w
     → MakesOnlyParts (replay_state w)
 edit_parts s u w r is are edit only takes =
@@ -153,7 +153,7 @@ way_parts s u w r is only takes =
           (stays (plan_of u) u.models.models u.records.items r u.store.told.made here.parts));
     }
 
-pub edit_fills : (s : ReplayState) (u w : Versions) (r : Record) (full : Full) → replay_state u ≡ s → AreStored u
+pub edit_fills : (s : ReplayState) (u w : Versions) (r : Record) (full : Full) → replay_state u ≡ s → AreStoredVersions u
     → is_edit r.act ≡ true → MakesOnlyParts s
     → FillsBucket u r.act full w → MayFillReplay s.plan s.models (s.records ++ r ∷ []) full
 edit_fills s u w r full is are edit only fills =

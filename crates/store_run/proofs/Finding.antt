@@ -5,22 +5,22 @@ use Rattle.history_model.specs.declared.histories.Mark.{Mark}
 use Rattle.one_store.specs.Spots.{versions}
 use Rattle.block_contents.specs.Versions.{IsKept}
 use Rattle.store_run.specs.declared.stored_versions.Versions.{Versions}
-use Rattle.store_run.specs.Kept.{log_of, moment_of, mark_in, AreStored}
-use Rattle.store_run.specs.Steps.{HasMark}
+use Rattle.store_run.specs.Kept.{log_of, moment_of, mark_in, AreStoredVersions}
+use Rattle.store_run.specs.Steps.{IsVersionMarked}
 use Rattle.store_run.proofs.Marking.{unmarked_at, listed_at}
 
-pub in_places : (v : Versions) (version : ℕ) → AreStored v → version ≤ moment_of v → version < versions
+pub in_places : (v : Versions) (version : ℕ) → AreStoredVersions v → version ≤ moment_of v → version < versions
 in_places v version are le = let few = are.sound.legal.few in omega arith
 
-pub kept_at : (v : Versions) (version : ℕ) → AreStored v → version ≤ moment_of v → mark_in v.marks.items version ≡ None
+pub kept_at : (v : Versions) (version : ℕ) → AreStoredVersions v → version ≤ moment_of v → mark_in v.marks.items version ≡ None
     → IsKept (log_of v) version
 kept_at v version are le none = record {
   there = le;
   unmarked = unmarked_at (mark_in v.marks.items) versions version are.of_versions none;
 }
 
-pub marked_at : (v : Versions) (version : ℕ) (mark : Mark) → AreStored v → version ≤ moment_of v
-    → mark_in v.marks.items version ≡ Some mark → (version ≤ moment_of v) × HasMark v version
+pub marked_at : (v : Versions) (version : ℕ) (mark : Mark) → AreStoredVersions v → version ≤ moment_of v
+    → mark_in v.marks.items version ≡ Some mark → (version ≤ moment_of v) × IsVersionMarked v version
 marked_at v version mark are le some = (
   le,
   record {

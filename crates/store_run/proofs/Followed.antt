@@ -14,10 +14,10 @@ use Rattle.conformance.proofs.LineKinds.{undo_target, redo_target}
 use Rattle.script_runs.proofs.Going.{goes_to}
 use Rattle.store_run.specs.declared.stored_versions.Versions.{Versions}
 use Rattle.store_run.specs.Changing.{LogGainsMark, log_with_record}
-use Rattle.store_run.specs.Kept.{log_of, moment_of, AreStored}
+use Rattle.store_run.specs.Kept.{log_of, moment_of, AreStoredVersions}
 use Rattle.store_run.specs.Marked.{replayed}
 use Rattle.store_run.specs.Replaying.{ReplayState, replay_state, MakesOnlyParts, TakesRecord}
-use Rattle.store_run.specs.Steps.{MarksVersion}
+use Rattle.store_run.specs.Steps.{GainsMark}
 use Rattle.store_run.specs.Worlds.{WorldState, world_state}
 
 -- ---- where an undo or a redo goes that can come next
@@ -44,7 +44,7 @@ follows_held marks n (Stamp b c) records to other is may = absurd (let no : ⊥ 
 follows_held marks n (Tint t) records to other is may = absurd (let no : ⊥ = cc in no)
 
 -- no mark of a legal history is of a later moment, so the version has none
-pub followed_kept : (v : Versions) (r : Record) (to : ℕ) → AreStored v → is_edit r.act ≡ false
+pub followed_kept : (v : Versions) (r : Record) (to : ℕ) → AreStoredVersions v → is_edit r.act ≡ false
     → Some to ≡ target_at v.records.items (moment_of v) r.act
     → MayFollow (log_of v).marks (moment_of v + 1) r.act (position_after v.records.items)
     → IsKept (log_of v) to
@@ -80,8 +80,8 @@ target_there marks records n (Tint t) other is may = let no : ⊥ = cc in no
 
 -- ---- what is seen of a replay
 
-pub log_taken : (w : WorldState) (u v : Versions) (r : Record) → world_state u ≡ w → AreStored u
-    → AreStored v → TakesRecord u r v → log_of v ≡ log_with_record w.log r
+pub log_taken : (w : WorldState) (u v : Versions) (r : Record) → world_state u ≡ w → AreStoredVersions u
+    → AreStoredVersions v → TakesRecord u r v → log_of v ≡ log_with_record w.log r
 log_taken w u v r is of_u of_v takes =
     let side : v.side ≡ u.side =
     of_v.side ∙ ap (λ (p : Layout). p.side) takes.plan ∙ sym of_u.side in
@@ -111,8 +111,8 @@ replayed_as w u is = ap replayed is
 
 -- ---- a mark
 
-pub marks_come : (v w : Versions) (mark : Mark) → AreStored v → AreStored w
-    → IsKept (log_of v) mark.version → mark.version < moment_of v → MarksVersion v mark w
+pub marks_come : (v w : Versions) (mark : Mark) → AreStoredVersions v → AreStoredVersions w
+    → IsKept (log_of v) mark.version → mark.version < moment_of v → GainsMark v mark w
     → LogGainsMark (log_of v) mark (log_of w)
 marks_come v w mark of_v of_w kept earlier marks = record {
   kept = kept;
@@ -124,7 +124,7 @@ marks_come v w mark of_v of_w kept earlier marks = record {
 }
 
 -- nothing is made for it
-pub marked_parts : (v w : Versions) (mark : Mark) → MarksVersion v mark w
+pub marked_parts : (v w : Versions) (mark : Mark) → GainsMark v mark w
     → MakesOnlyParts (replay_state v) → MakesOnlyParts (replay_state w)
 marked_parts v w mark marks only =
     subst (λ (s : ReplayState). MakesOnlyParts s)

@@ -22,7 +22,7 @@ use Rattle.tints.proofs.AgreeLaws.{stored_same, tints_same}
 use Rattle.tints.proofs.TintBounds.{versions_small}
 use Rattle.tints.proofs.VersionLaws.{versions_plain, versions_plainly_tinted, versions_set, versions_stored}
 use Rattle.store_run.specs.declared.stored_versions.Versions.{Versions}
-use Rattle.store_run.specs.Kept.{plan_of, log_of, stored_of, world_of, tints_of, AreStored, AreVersions, IsLargeStore}
+use Rattle.store_run.specs.Kept.{plan_of, log_of, stored_of, world_of, tints_of, AreStoredVersions, AreVersions, IsLargeStore}
 use Rattle.store_run.specs.Steps.{side_of}
 
 -- an undo and a redo suit each history
@@ -40,7 +40,7 @@ way_suits tint Redo other = refl
 -- ---- versions without tints
 
 -- their history is a plain one
-pub plain_acts : (v : Versions) → AreStored v → v.models.tint ≡ false → IsPlain (log_of v)
+pub plain_acts : (v : Versions) → AreStoredVersions v → v.models.tint ≡ false → IsPlain (log_of v)
 plain_acts v are plain = record {
   coloured = plain;
   acts = subst (λ (b : Bool). All (λ r. suits_tints b r.act ≡ true) v.records.items) plain are.suits;
@@ -72,24 +72,24 @@ shown_plainly v version are kept =
 
 -- ---- versions with tints
 
-fit_here : (v : Versions) → AreStored v
+fit_here : (v : Versions) → AreStoredVersions v
     → All (λ r. FitsWorld (2 ^ v.side) v.models.models r.act) v.records.items
 fit_here v are =
     subst (λ (l : ℕ). All (λ r. FitsWorld (2 ^ l) v.models.models r.act) v.records.items)
     (sym are.side) are.sound.legal.fit
 
-pub keeps_tints : (v : Versions) → AreStored v → v.models.tint ≡ true → (version : ℕ)
+pub keeps_tints : (v : Versions) → AreStoredVersions v → v.models.tint ≡ true → (version : ℕ)
     → StoresTints (2 ^ v.side / 4) (tints_of v version) (stored_of v version)
 keeps_tints v are tinted version =
     versions_stored v.models.models (log_of v) tinted are.suits (fit_here v are) version
 
-pub small_tints : (v : Versions) → AreStored v → v.models.tint ≡ true → (version : ℕ) (c : Cell)
+pub small_tints : (v : Versions) → AreStoredVersions v → v.models.tint ≡ true → (version : ℕ) (c : Cell)
     → tints_of v version c < 2 ^ 8
 small_tints v are tinted version c =
     versions_small (2 ^ v.side) v.models.models v.records.items
     (subst (λ (b : Bool). HaveTints b v.models.models) tinted are.colours) (fit_here v are) version c
 
-pub set_tints : (v : Versions) → AreStored v → (version : ℕ) (c : Cell)
+pub set_tints : (v : Versions) → AreStoredVersions v → (version : ℕ) (c : Cell)
     → tells 0 (tints_of v version c) ≡ world_of v version c
 set_tints v are version c =
     versions_set (2 ^ v.side) v.models.models v.records.items (fit_here v are) version c
@@ -102,7 +102,7 @@ same_bit false false e = refl
 same_bit true false e = absurd (omega arith)
 same_bit false true e = absurd (omega arith)
 
-module _ (v : Versions) (a b : ℕ) (are : AreStored v) where
+module _ (v : Versions) (a b : ℕ) (are : AreStoredVersions v) where
   module _ (plain : v.models.tint ≡ false) where
     of_plain : IsPlain (log_of v)
     of_plain = plain_acts v are plain

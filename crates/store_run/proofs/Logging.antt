@@ -27,14 +27,14 @@ use Rattle.undo.specs.Trails.{trail_position}
 use Rattle.one_store.specs.Known.{Known, IsStore, core_of, root_tree, stored_root}
 use Rattle.one_store.specs.Steps.{KeepsRoot, GivesRoot}
 use Rattle.store_run.specs.declared.stored_versions.Versions.{Versions}
-use Rattle.store_run.specs.Kept.{plan_of, log_of, moment_of, mark_in, core_with, AreStored, IsLargeStore, HoldsTree, GainsTree, LosesTree, HoldsSame}
-use Rattle.store_run.specs.Steps.{LeavesAll, PutsDown, AppendsRecord, MarksVersion}
+use Rattle.store_run.specs.Kept.{plan_of, log_of, moment_of, mark_in, core_with, AreStoredVersions, IsLargeStore, HoldsTree, GainsTree, LosesTree, HoldsSame}
+use Rattle.store_run.specs.Steps.{LeavesAll, PutsDown, GainsRecord, GainsMark}
 use Rattle.store_run.proofs.Holding.{gained_tree, gained_few, same_again}
 use Rattle.store_run.proofs.Marking.{gets_mark, of_versions_still, none_where_unmarked}
 use Rattle.store_run.proofs.Sparing.{versions_sound}
 
 -- a version that isn't there has no root
-pub no_root : (v : Versions) (place : ℕ) → AreStored v → moment_of v < place → stored_root v.store.roots place ≡ None
+pub no_root : (v : Versions) (place : ℕ) → AreStoredVersions v → moment_of v < place → stored_root v.store.roots place ≡ None
 no_root v place are past = go (stored_root v.store.roots place) refl
   where
     go : (o : Option Name) → stored_root v.store.roots place ≡ o → stored_root v.store.roots place ≡ None
@@ -51,7 +51,7 @@ words_sound p q models old new s plan log sound =
 abbrev longer : Log → Record → Log
 longer log r = record { side = log.side; coloured = log.coloured; records = log.records ++ r ∷ []; marks = log.marks }
 
-module _ (v : Versions) (s : Known) (r : Record) (root : Option Name) (number place : ℕ) (are : AreStored v) (st : IsStore v.store number)
+module _ (v : Versions) (s : Known) (r : Record) (root : Option Name) (number place : ℕ) (are : AreStoredVersions v) (st : IsStore v.store number)
     (at : place ≡ moment_of v + 1) (may : MayAppend (plan_of v) v.models.models r root (core_with (log_of v) v.store))
     (event : PutsRoot (plan_of v) 0 place root (core_of v.store) (core_of s)) where
   puts : PutsRoot (plan_of v) 0 (moment_of v + 1) root (core_with (log_of v) v.store) (core_with (longer (log_of v) r) s)
@@ -81,7 +81,7 @@ module _ (v : Versions) (s : Known) (r : Record) (root : Option Name) (number pl
     plan_kept : plan_of w ≡ plan_of v
     plan_kept = ap (λ (k : Known). k.words.plan) store ∙ ap (λ (x : Written). x.plan) keeps.words
 
-    pub appended_are : suits_tints v.models.tint r.act ≡ true → AreStored w
+    pub appended_are : suits_tints v.models.tint r.act ≡ true → AreStoredVersions w
     appended_are suits = record {
       side = side ∙ are.side ∙ sym (ap (λ (p : Layout). p.side) plan_kept);
       sound =
@@ -105,7 +105,7 @@ module _ (v : Versions) (s : Known) (r : Record) (root : Option Name) (number pl
           ∙ sym (ap position_after records ∙ position_of_next v.records.items r);
     }
 
-    pub appends_record : suits_tints v.models.tint r.act ≡ true → AppendsRecord v r w
+    pub appends_record : suits_tints v.models.tint r.act ≡ true → GainsRecord v r w
     appends_record suits = record {
       only = record {
         models = models;
@@ -139,7 +139,7 @@ marked_over v s mark =
 abbrev marked_log : Versions → Mark → Log
 marked_log v mark = record { side = v.side; coloured = v.models.tint; records = v.records.items; marks = marks_below (mark_in (set v.marks.items mark.version (Some mark))) versions }
 
-module _ (v : Versions) (s : Known) (mark : Mark) (root : Option Name) (number : ℕ) (are : AreStored v) (st : IsStore v.store number)
+module _ (v : Versions) (s : Known) (mark : Mark) (root : Option Name) (number : ℕ) (are : AreStoredVersions v) (st : IsStore v.store number)
     (kept : IsKept (log_of v) mark.version) (earlier : mark.version < moment_of v) (now : mark.at ≡ moment_of v)
     (event : TakesRoot (plan_of v) 0 mark.version (core_of v.store) (core_of s)) where
   in_range : mark.version < versions
@@ -181,7 +181,7 @@ module _ (v : Versions) (s : Known) (mark : Mark) (root : Option Name) (number :
     marked_plan : plan_of u ≡ plan_of v
     marked_plan = ap (λ (k : Known). k.words.plan) store ∙ ap (λ (x : Written). x.plan) gives.words
 
-    pub marked_are : AreStored u
+    pub marked_are : AreStoredVersions u
     marked_are = record {
       side = side ∙ are.side ∙ sym (ap (λ (p : Layout). p.side) marked_plan);
       sound =
@@ -219,7 +219,7 @@ module _ (v : Versions) (s : Known) (mark : Mark) (root : Option Name) (number :
     pub taken_few : number_of_trees v.store.told.held ≤ 2048 → number_of_trees u.store.told.held ≤ 4008
     taken_few few = let one = gained_few v.store root u.store 2048 taken_gains few in omega arith
 
-    pub marks_version : (w : Versions) → LeavesAll u w → MarksVersion v mark w
+    pub marks_version : (w : Versions) → LeavesAll u w → GainsMark v mark w
     marks_version w leaves = record {
       only = record {
         models = leaves.stay.models ∙ models;

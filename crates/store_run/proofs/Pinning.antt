@@ -43,7 +43,7 @@ use Rattle.store_run.specs.declared.pins.Pinned.{Pinned}
 use Rattle.store_run.specs.declared.stored_versions.Versions.{Versions}
 use Rattle.store_run.specs.Desks.{DeskState, desk_state}
 use Rattle.store_run.specs.Kept.{plan_of, log_of, moment_of, world_of, AreVersions, HoldsNothing, HoldsTree, HoldsSame}
-use Rattle.store_run.specs.Steps.{TellsHeldVersion, StayVersions, StaysSeen, LeavesAll, SharesRoot, PutsDown, side_of}
+use Rattle.store_run.specs.Steps.{TellsHeldVersion, StayVersions, StaysSeen, LeavesAll, SharesRootOfVersion, PutsDown, side_of}
 use Rattle.store_run.specs.Answering.{GoesOnBy, saved_as}
 use Rattle.store_run.specs.Pins.{IsPinOf, ArePins, pinned_weight, ArePinned, saves_of}
 use Rattle.store_run.proofs.Holding.{root_is}
@@ -190,7 +190,7 @@ seen_pinned v w pins p are seen = record {
 -- ---- one more pin
 
 module _ (v u w : Versions) (pins : List Pin) (save : SavedBox) (root : Option Name) (p : ArePinned v pins)
-    (shares : SharesRoot v save.version root u) (seen : StaysSeen u w) (are_u : AreVersions u) (are : AreVersions w) where
+    (shares : SharesRootOfVersion v save.version root u) (seen : StaysSeen u w) (are_u : AreVersions u) (are : AreVersions w) where
   all_stay : StayVersions v w
   all_stay = stays_on v u w shares.stay seen.stay
 

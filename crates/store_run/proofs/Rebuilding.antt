@@ -40,8 +40,8 @@ use Rattle.one_store.specs.Steps.{SparesRoots, spares_on}
 use Rattle.one_store.proofs.RootLaws.{top_tree}
 use Rattle.one_store.proofs.StoreLaws.{held_is}
 use Rattle.store_run.specs.declared.stored_versions.Versions.{Versions}
-use Rattle.store_run.specs.Kept.{plan_of, log_of, moment_of, stored_of, world_of, tints_of, AreStored, AreVersions, IsLargeStore, HoldsTree, GainsTree, HoldsSame}
-use Rattle.store_run.specs.Steps.{TellsHeldVersion, StayVersions, StaysSeen, IsOverStore, LeavesAll, SharesRoot, PutsDown, MakesBeside, MakesRoot, MeetsBucket, edited_world, side_of, WantsFor}
+use Rattle.store_run.specs.Kept.{plan_of, log_of, moment_of, stored_of, world_of, tints_of, AreStoredVersions, AreVersions, IsLargeStore, HoldsTree, GainsTree, HoldsSame}
+use Rattle.store_run.specs.Steps.{TellsHeldVersion, StayVersions, StaysSeen, IsOverStore, LeavesAll, SharesRootOfVersion, PutsDown, MakesBeside, MakesRoot, MeetsBucket, edited_world, side_of, WantsFor}
 use Rattle.store_run.proofs.Holding.{gained_tree, gained_few, holds_root, holds_shows}
 use Rattle.store_run.proofs.KeptWorlds.{plain_acts, plain_log, stored_plainly, keeps_tints, small_tints, set_tints}
 use Rattle.store_run.proofs.Sparing.{with_store, tree_same}
@@ -69,11 +69,11 @@ wants_on old new act stay s wants =
     (stored_in (2 ^ new.side) ms new.records.items (moment_of new)) s) stay.models wants)
 
 -- what a share of the version shows
-pub share_level : (v : Versions) (version : ℕ) (root : Option Name) (n : Name) → AreStored v → root ≡ stored_root v.store.roots version
+pub share_level : (v : Versions) (version : ℕ) (root : Option Name) (n : Name) → AreStoredVersions v → root ≡ stored_root v.store.roots version
     → root ≡ Some n → n.level ≡ top v.side
 share_level v version root n are is e = are.sound.level version n (sym is ∙ e) ∙ ap top (sym are.side)
 
-pub share_shows : (v : Versions) (version : ℕ) (root : Option Name) → AreStored v → IsKept (log_of v) version
+pub share_shows : (v : Versions) (version : ℕ) (root : Option Name) → AreStoredVersions v → IsKept (log_of v) version
     → HoldsTree v.store root → root ≡ stored_root v.store.roots version
     → ShowsWorld v.store.told.held (v.side - 2) root (stored_of v version)
 share_shows v version root are kept holds is =
@@ -92,11 +92,11 @@ shows_plainly v version root are kept holds is =
     subst (λ (w : World). ShowsWorld v.store.told.held (v.side - 2) root w)
     (stored_plainly v (plain_log v are) version) (share_shows v version root are.stored kept holds is)
 
-pub base_root : (v : Versions) (version : ℕ) (base : Option Name) → AreStored v → HoldsTree v.store base
+pub base_root : (v : Versions) (version : ℕ) (base : Option Name) → AreStoredVersions v → HoldsTree v.store base
     → base ≡ stored_root v.store.roots version → HoldsRoot v.store.told.held v.side base
 base_root v version base are holds is = holds_root v.store v.side base holds (λ n e. share_level v version base n are is e)
 
-pub newest_is_kept : (v : Versions) (version : ℕ) → AreStored v → version ≡ moment_of v → IsKept (log_of v) version
+pub newest_is_kept : (v : Versions) (version : ℕ) → AreStoredVersions v → version ≡ moment_of v → IsKept (log_of v) version
 newest_is_kept v version are is =
     subst (λ (n : ℕ). IsKept (log_of v) n) (sym is) (newest_kept (2 ^ (plan_of v).side) v.models.models (log_of v) are.sound.legal)
 
@@ -106,7 +106,7 @@ over_store v s spares = record { side = refl; models = refl; records = refl; mar
 -- ---- what the rebuild leaves beside the base
 
 module _ (v : Versions) (s : Known) (base : Option Name) (act : Act) (version : ℕ) (result : Result (Option Name) Full)
-    (are : AreStored v) (holds : HoldsTree v.store base) (is : base ≡ stored_root v.store.roots (moment_of v)) where
+    (are : AreStoredVersions v) (holds : HoldsTree v.store base) (is : base ≡ stored_root v.store.roots (moment_of v)) where
   abbrev before : World
   before = stored_of v (moment_of v)
 
@@ -169,7 +169,7 @@ module _ (v : Versions) (s : Known) (base : Option Name) (act : Act) (version : 
 -- ---- and once the base went back
 
 module _ (v u w : Versions) (base root : Option Name) (act : Act) (number : ℕ) (before : Known)
-    (are : AreStored v) (st : IsStore w.store number) (shared : GainsTree before base v.store)
+    (are : AreStoredVersions v) (st : IsStore w.store number) (shared : GainsTree before base v.store)
     (is : base ≡ stored_root v.store.roots (moment_of v)) (over : IsOverStore v u) (puts : PutsDown u base w) where
   -- of what came since the base was shared, only the new root's share is left
   left_over : (f : Tree → ℕ) → (r : Rebuilt (v.side - 2) (edited_world v act) root (known_seen v.store) (known_seen u.store))
@@ -230,7 +230,7 @@ module _ (v u w : Versions) (base root : Option Name) (act : Act) (number : ℕ)
       }
 
 -- the same as seen before the base was shared
-makes_on : (a v w : Versions) (version : ℕ) (base root : Option Name) (act : Act) → SharesRoot a version base v → MakesRoot v act root w → MakesRoot a act root w
+makes_on : (a v w : Versions) (version : ℕ) (base root : Option Name) (act : Act) → SharesRootOfVersion a version base v → MakesRoot v act root w → MakesRoot a act root w
 makes_on a v w version base root act shares makes =
     let plan = shares.stay.spares.plan in
     record {
@@ -249,8 +249,8 @@ makes_on a v w version base root act shares makes =
     }
 
 module _ (a v u w : Versions) (base : Option Name) (act : Act) (number version : ℕ) (result : Result (Option Name) Full)
-    (shares : SharesRoot a version base v) (now : version ≡ moment_of a)
-    (are : AreStored v) (over : IsOverStore v u) (puts : PutsDown u base w) where
+    (shares : SharesRootOfVersion a version base v) (now : version ≡ moment_of a)
+    (are : AreStoredVersions v) (over : IsOverStore v u) (puts : PutsDown u base w) where
   pub base_place : base ≡ stored_root v.store.roots (moment_of v)
   base_place = shares.is ∙ ap (stored_root v.store.roots) (now ∙ sym (ap (λ (l : Log). length l.records) shares.stay.log))
 
@@ -311,7 +311,7 @@ pub suits_still : (a v : Versions) (act : Act) → StayVersions a v → suits_ti
 suits_still a v act stay suits = subst (λ (l : Log). suits_tints l.coloured act ≡ true) (sym stay.log) suits
 
 -- the store is large enough for each act that suits, and has room for it
-pub enough_large : (v : Versions) (act : Act) → AreStored v → suits_tints v.models.tint act ≡ true
+pub enough_large : (v : Versions) (act : Act) → AreStoredVersions v → suits_tints v.models.tint act ≡ true
     → IsLargeFor act v.side
 enough_large v act are suits =
     subst (λ (l : ℕ). IsLargeFor act l) (sym are.side)
@@ -339,14 +339,14 @@ pub suits_here : (v : Versions) (act : Act) → AreVersions v → suits_tints fa
     → suits_tints v.models.tint act ≡ true
 suits_here v act are plain = subst (λ (b : Bool). suits_tints b act ≡ true) (sym are.plain) plain
 
-pub plain_as : (a v : Versions) → log_of v ≡ log_of a → AreStored v → AreVersions a → AreVersions v
+pub plain_as : (a v : Versions) → log_of v ≡ log_of a → AreStoredVersions v → AreVersions a → AreVersions v
 plain_as a v log stored are =
     record { stored = stored; plain = ap (λ (l : Log). l.coloured) log ∙ are.plain }
 
 -- ---- questions
 
 -- of versions without tints, and of versions with them
-pub root_told : (v : Versions) (version : ℕ) (base : Option Name) (question : Question) (answer : Answer) → AreStored v → IsKept (log_of v) version
+pub root_told : (v : Versions) (version : ℕ) (base : Option Name) (question : Question) (answer : Answer) → AreStoredVersions v → IsKept (log_of v) version
     → HoldsTree v.store base → base ≡ stored_root v.store.roots version → v.models.tint ≡ false
     → TellsRoot v.store.told.held v.side base question answer → TellsHeldVersion v version question answer
 root_told v version base question answer are kept holds is plain tells =
@@ -357,7 +357,7 @@ root_told v version base question answer are kept holds is plain tells =
     (stored_plainly v (plain_acts v are plain) version) (share_shows v version base are kept holds is))
     (λ c inside. versions_plainly_tinted v.models.models (log_of v) (plain_acts v are plain) version c))
 
-pub tints_told : (v : Versions) (version : ℕ) (base : Option Name) (question : Question) (answer : Answer) → AreStored v → IsKept (log_of v) version
+pub tints_told : (v : Versions) (version : ℕ) (base : Option Name) (question : Question) (answer : Answer) → AreStoredVersions v → IsKept (log_of v) version
     → HoldsTree v.store base → base ≡ stored_root v.store.roots version → v.models.tint ≡ true
     → TellsTinted v.store.told.held v.side base question answer → TellsHeldVersion v version question answer
 tints_told v version base question answer are kept holds is tinted tells =
@@ -367,7 +367,7 @@ tints_told v version base question answer are kept holds is tinted tells =
     (share_shows v version base are kept holds is) (keeps_tints v are tinted version)
     (λ c inside. small_tints v are tinted version c) (λ c inside. set_tints v are version c))
 
-pub large_tints : (v : Versions) → AreStored v → v.models.tint ≡ true → 4 ≤ v.side
+pub large_tints : (v : Versions) → AreStoredVersions v → v.models.tint ≡ true → 4 ≤ v.side
 large_tints v are tinted =
     subst (λ (l : ℕ). 4 ≤ l) (sym are.side)
     (subst (λ (b : Bool). IsLargeStore b (plan_of v).side) tinted are.large)
@@ -415,14 +415,14 @@ told_still a v version question answer stay told =
     (subst (λ (ms : List Content). Tells (side_of v) (world_has ms v.records.items version)
     (world_tint ms v.records.items version) question answer) stay.models told)
 
-pub shared_tree : (a v : Versions) (version : ℕ) (base : Option Name) → SharesRoot a version base v → HoldsTree v.store base
+pub shared_tree : (a v : Versions) (version : ℕ) (base : Option Name) → SharesRootOfVersion a version base v → HoldsTree v.store base
 shared_tree a v version base shares = gained_tree a.store base v.store shares.gains
 
-pub shared_few : (a v : Versions) (version : ℕ) (base : Option Name) → SharesRoot a version base v
+pub shared_few : (a v : Versions) (version : ℕ) (base : Option Name) → SharesRootOfVersion a version base v
     → number_of_trees a.store.told.held ≤ 2048 → number_of_trees v.store.told.held ≤ 2049
 shared_few a v version base shares few = let one = gained_few a.store base v.store 2048 shares.gains few in omega arith
 
-pub asked_same : (a v u w : Versions) (version : ℕ) (base : Option Name) → SharesRoot a version base v → StaysSeen v u → PutsDown u base w
+pub asked_same : (a v u w : Versions) (version : ℕ) (base : Option Name) → SharesRootOfVersion a version base v → StaysSeen v u → PutsDown u base w
     → HoldsSame a.store w.store
 asked_same a v u w version base shares seen puts = record {
   weighs = λ f. (
@@ -431,7 +431,7 @@ asked_same a v u w version base shares seen puts = record {
       omega (arith, shares.gains.weighs f, puts.loses.weighs f, held, tree));
 }
 
-pub asked_all : (a v u w : Versions) (version : ℕ) (base : Option Name) → SharesRoot a version base v → StaysSeen v u → LeavesAll u w → LeavesAll a w
+pub asked_all : (a v u w : Versions) (version : ℕ) (base : Option Name) → SharesRootOfVersion a version base v → StaysSeen v u → LeavesAll u w → LeavesAll a w
 asked_all a v u w version base shares seen leaves = record {
   stay = stays_on a u w (stays_on a v u shares.stay seen.stay) leaves.stay;
   only = record {

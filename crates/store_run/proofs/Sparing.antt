@@ -16,8 +16,8 @@ use Rattle.core_laws.specs.States.{IsLive}
 use Rattle.one_store.specs.Known.{Known, IsStore, known_seen, root_tree, stored_root}
 use Rattle.one_store.specs.Steps.{SparesRoots, GainsRoot, spares_itself}
 use Rattle.store_run.specs.declared.stored_versions.Versions.{Versions}
-use Rattle.store_run.specs.Kept.{plan_of, log_of, core_with, AreStored, AreVersions, IsLargeStore, HoldsTree, HasRecordRoom}
-use Rattle.store_run.specs.Steps.{StayVersions, LeavesAll, SharesRoot, PutsDown}
+use Rattle.store_run.specs.Kept.{plan_of, log_of, core_with, AreStoredVersions, AreVersions, IsLargeStore, HoldsTree, HasRecordRoom}
+use Rattle.store_run.specs.Steps.{StayVersions, LeavesAll, SharesRootOfVersion, PutsDown}
 use Rattle.store_run.proofs.Holding.{root_is, none_weighs, some_weighs}
 
 -- the versions over another store
@@ -34,7 +34,7 @@ sound_with s number log st = record {
   counted = λ f. st.sound.counted f;
 }
 
-pub versions_sound : (v : Versions) (number : ℕ) → AreStored v → IsStore v.store number
+pub versions_sound : (v : Versions) (number : ℕ) → AreStoredVersions v → IsStore v.store number
     → Sound (plan_of v) v.models.models (core_with (log_of v) v.store)
 versions_sound v number are st = record { entries = sound_with v.store number (log_of v) st; versions = are.sound }
 
@@ -64,7 +64,7 @@ sound_spared p models log old new spares sound plan is = record {
       (sound.shown v kept);
 }
 
-pub are_spared : (v : Versions) (s : Known) → AreStored v → SparesRoots v.store s → AreStored (with_store v s)
+pub are_spared : (v : Versions) (s : Known) → AreStoredVersions v → SparesRoots v.store s → AreStoredVersions (with_store v s)
 are_spared v s are spares = record {
   side = are.side ∙ sym (ap (λ (p : Layout). p.side) spares.plan);
   sound = subst (λ (p : Layout). SoundVersions p v.models.models (core_with (log_of v) s)) (sym spares.plan)
@@ -86,7 +86,7 @@ stay_spared v s spares = record { models = refl; log = refl; spares = spares }
 
 -- a share of the root in a place
 pub shares_root : (v : Versions) (s : Known) (version : ℕ) (root : Option Name)
-    → root ≡ stored_root v.store.roots version → GainsRoot v.store version s → SharesRoot v version root (with_store v s)
+    → root ≡ stored_root v.store.roots version → GainsRoot v.store version s → SharesRootOfVersion v version root (with_store v s)
 shares_root v s version root is gains = record {
   stay = stay_spared v s gains.spares;
   only = gains.only;

@@ -18,9 +18,9 @@ use Rattle.entry_words.specs.Words.{Written, key_in}
 use Rattle.one_store.specs.Known.{Known, stored_root, root_tree}
 use Rattle.one_store.specs.Steps.{GivesRoot}
 use Rattle.store_run.specs.declared.stored_versions.Versions.{Versions}
-use Rattle.store_run.specs.Kept.{plan_of, log_of, moment_of, mark_in, AreStored, HoldsNothing, HoldsTree}
+use Rattle.store_run.specs.Kept.{plan_of, log_of, moment_of, mark_in, AreStoredVersions, HoldsNothing, HoldsTree}
 use Rattle.store_run.specs.Marked.{Rooted, HoldsKept}
-use Rattle.store_run.specs.Taken.{rooted_weight, AreTaken}
+use Rattle.store_run.specs.Taken.{rooted_weight, AreTakenRoots}
 use Rattle.store_run.proofs.Changing.{marked_gone}
 use Rattle.store_run.proofs.Finding.{kept_at, marked_at}
 use Rattle.store_run.proofs.Holding.{some_weighs, holds_root, holds_shows}
@@ -38,7 +38,7 @@ weight_added : (f : Tree → ℕ) (s : Known) (roots : List Rooted) (x : Rooted)
 weight_added f s [] x = omega arith
 weight_added f s (y ∷ roots) x = let rest = weight_added f s roots x in omega (arith, rest)
 
-pub taken_few : (v : Versions) (n : ℕ) (s : Known) (roots : List Rooted) → AreTaken v n s roots
+pub taken_few : (v : Versions) (n : ℕ) (s : Known) (roots : List Rooted) → AreTakenRoots v n s roots
     → n ≤ 65536 → number_of_trees s.told.held ≤ 69631
 taken_few v n s roots are few =
     omega (arith, are.weighs (λ _. 1), weight_few v.store roots, are.few, few)
@@ -62,7 +62,7 @@ tree_of_words s t root words =
 none_in : (x : Rooted) → Contains [] x → ⊥
 none_in x has = omega (arith, has.1)
 
-pub none_taken : (v : Versions) → HoldsNothing v.store → AreTaken v 0 v.store []
+pub none_taken : (v : Versions) → HoldsNothing v.store → AreTakenRoots v 0 v.store []
 none_taken v free = record {
   words = refl;
   places = λ p le. refl;
@@ -75,8 +75,8 @@ none_taken v free = record {
   all = λ p lt kept. absurd (omega (arith, lt));
 }
 
-module _ (v : Versions) (n : ℕ) (s : Known) (roots : List Rooted) (are : AreTaken v n s roots) where
-  pub one_marked : (IsKept (log_of v) n → ⊥) → AreTaken v (n + 1) s roots
+module _ (v : Versions) (n : ℕ) (s : Known) (roots : List Rooted) (are : AreTakenRoots v n s roots) where
+  pub one_marked : (IsKept (log_of v) n → ⊥) → AreTakenRoots v (n + 1) s roots
   one_marked gone = record {
     words = are.words;
     places = λ p le. are.places p (omega (arith, le));
@@ -125,7 +125,7 @@ module _ (v : Versions) (n : ℕ) (s : Known) (roots : List Rooted) (are : AreTa
     tree_is : root_tree s (stored_root s.roots n) ≡ root_tree v.store root
     tree_is = tree_of_words v.store s (stored_root s.roots n) are.words ∙ ap (root_tree v.store) (sym is)
 
-    pub one_taken : AreTaken v (n + 1) t (roots ++ (n, root) ∷ [])
+    pub one_taken : AreTakenRoots v (n + 1) t (roots ++ (n, root) ∷ [])
     one_taken = record {
       words = gives.words ∙ are.words;
       places = λ p le.
@@ -145,8 +145,8 @@ module _ (v : Versions) (n : ℕ) (s : Known) (roots : List Rooted) (are : AreTa
 
 -- ---- all of them
 
-module _ (v : Versions) (s : Known) (roots : List Rooted) (of_v : AreStored v)
-    (are : AreTaken v (moment_of v + 1) s roots) where
+module _ (v : Versions) (s : Known) (roots : List Rooted) (of_v : AreStoredVersions v)
+    (are : AreTakenRoots v (moment_of v + 1) s roots) where
   held_tree : (x : Rooted) → Contains roots x → HoldsTree s x.1
   held_tree x has = record {
     each = λ n e. record {
@@ -191,14 +191,14 @@ module _ (v : Versions) (s : Known) (roots : List Rooted) (of_v : AreStored v)
 
 -- ---- one version, by its mark
 
-module _ (v : Versions) (n : ℕ) (s : Known) (roots : List Rooted) (are : AreTaken v n s roots)
-    (of_v : AreStored v) (le : n ≤ moment_of v) where
-  pub version_passed : (mark : Mark) → mark_in v.marks.items n ≡ Some mark → AreTaken v (n + 1) s roots
+module _ (v : Versions) (n : ℕ) (s : Known) (roots : List Rooted) (are : AreTakenRoots v n s roots)
+    (of_v : AreStoredVersions v) (le : n ≤ moment_of v) where
+  pub version_passed : (mark : Mark) → mark_in v.marks.items n ≡ Some mark → AreTakenRoots v (n + 1) s roots
   version_passed mark some =
       one_marked v n s roots are (marked_gone v n (marked_at v n mark of_v le some).1)
 
   pub version_taken : (t : Known) (root : Option Name) → mark_in v.marks.items n ≡ None
       → root ≡ stored_root s.roots n → GivesRoot s n t
-      → AreTaken v (n + 1) t (roots ++ (n, root) ∷ [])
+      → AreTakenRoots v (n + 1) t (roots ++ (n, root) ∷ [])
   version_taken t root none is gives =
       one_taken v n s roots are t root (kept_at v n of_v le none) is gives

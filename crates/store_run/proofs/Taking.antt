@@ -14,7 +14,7 @@ use Rattle.store_run.specs.declared.stored_versions.Versions.{Versions}
 use Rattle.node_shapes.specs.Weights.{number_of_trees}
 use Rattle.one_store.specs.Known.{Known}
 use Rattle.store_run.specs.Kept.{plan_of, log_of, moment_of, HoldsNothing, HoldsSame}
-use Rattle.store_run.specs.Steps.{MakesRoot, SharesRoot, AppendsRecord, WantsFor}
+use Rattle.store_run.specs.Steps.{MakesRoot, SharesRootOfVersion, GainsRecord, WantsFor}
 use Rattle.node_shapes.specs.Shape.{Shape}
 use Rattle.node_words.specs.Gathering.{Grew}
 use Rattle.history_model.specs.declared.acts.Act.{Act}
@@ -31,7 +31,7 @@ use Rattle.store_run.proofs.KeptWorlds.{tints_by_cells, cells_by_tints}
 use Rattle.store_run.proofs.Sparing.{versions_sound}
 
 pub edit_taken : (v u w : Versions) (r : Record) (root : Option Name) → MakesRoot v r.act root u
-    → AppendsRecord u r w → TakesEdit v r w
+    → GainsRecord u r w → TakesEdit v r w
 edit_taken v u w r root makes appends = record {
   takes = record {
     plan = appends.only.plan ∙ makes.stay.spares.plan;
@@ -44,8 +44,8 @@ edit_taken v u w r root makes appends = record {
       (sym appends.only.only.made) makes.grows.made;
 }
 
-pub way_taken : (v u w : Versions) (r : Record) (to : ℕ) (root : Option Name) → SharesRoot v to root u
-    → AppendsRecord u r w → TakesWay v r w
+pub way_taken : (v u w : Versions) (r : Record) (to : ℕ) (root : Option Name) → SharesRootOfVersion v to root u
+    → GainsRecord u r w → TakesWay v r w
 way_taken v u w r to root shares appends = record {
   takes = record {
     plan = appends.only.plan ∙ shares.stay.spares.plan;

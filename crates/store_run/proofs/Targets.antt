@@ -35,8 +35,8 @@ use Rattle.script_runs.proofs.Going.{goes_to}
 use Rattle.undo.specs.Trails.{trail_position}
 use Rattle.one_store.specs.Known.{IsStore, root_tree, stored_root}
 use Rattle.store_run.specs.declared.stored_versions.Versions.{Versions}
-use Rattle.store_run.specs.Kept.{plan_of, log_of, moment_of, core_with, AreStored}
-use Rattle.store_run.specs.Steps.{SharesRoot, MakesRoot, edited_world, WantsFor}
+use Rattle.store_run.specs.Kept.{plan_of, log_of, moment_of, core_with, AreStoredVersions}
+use Rattle.store_run.specs.Steps.{SharesRootOfVersion, MakesRoot, edited_world, WantsFor}
 use Rattle.store_run.proofs.Rebuilding.{edited_same}
 use Rattle.store_run.proofs.Sparing.{versions_sound}
 
@@ -60,7 +60,7 @@ world_shows level world = record {
 abbrev pub Wants : Versions → Act → Shape → Type 0
 Wants v act s = IsWanted (plan_of v) v.models.models v.records.items act (moment_of v) s
 
-module _ (v : Versions) (act : Act) (are : AreStored v) (edit : is_edit act ≡ true) where
+module _ (v : Versions) (act : Act) (are : AreStoredVersions v) (edit : is_edit act ≡ true) where
   -- what so many parts of it make, by the store's side
   abbrev after : ℕ → ℕ → World
   after side k = made_of (2 ^ side) v.models.models v.records.items act (moment_of v) k
@@ -101,7 +101,7 @@ module _ (v : Versions) (act : Act) (are : AreStored v) (edit : is_edit act ≡ 
   }
 
 -- the edit may become the next record, with the root that it made
-pub may_edit : (v u : Versions) (r : Record) (root : Option Name) → AreStored v → AreStored u → MakesRoot v r.act root u
+pub may_edit : (v u : Versions) (r : Record) (root : Option Name) → AreStoredVersions v → AreStoredVersions u → MakesRoot v r.act root u
     → is_edit r.act ≡ true → FitsWorld (2 ^ v.side) v.models.models r.act → moment_of u ≢ 65535 → moment_of u ≤ 65535
     → MayAppend (plan_of u) u.models.models r root (core_with (log_of u) u.store)
 may_edit v u r root are now makes edit fits late few =
@@ -130,7 +130,7 @@ may_edit v u r root are now makes edit fits late few =
 
 -- ---- where an undo or a redo goes
 
-pub may_go_to : (v u : Versions) (r : Record) (to number : ℕ) (root : Option Name) → AreStored u → IsStore u.store number → SharesRoot v to root u
+pub may_go_to : (v u : Versions) (r : Record) (to number : ℕ) (root : Option Name) → AreStoredVersions u → IsStore u.store number → SharesRootOfVersion v to root u
     → is_edit r.act ≡ false → target_at v.records.items (moment_of v) r.act ≡ Some to → IsKept (log_of v) to → moment_of v ≢ 65535 → moment_of v ≤ 65535
     → MayAppend (plan_of u) u.models.models r root (core_with (log_of u) u.store)
 may_go_to v u r to number root are st shares other goes kept late few =
@@ -144,8 +144,8 @@ may_go_to v u r to number root are st shares other goes kept late few =
     (ap (stored_root u.store.roots) g.goes ∙ sym shares.is) may
 
 -- what the trail tells
-pub target_undo : (v : Versions) → AreStored v → first_of (trail_position v.trail).past ≡ target_at v.records.items (moment_of v) Undo
+pub target_undo : (v : Versions) → AreStoredVersions v → first_of (trail_position v.trail).past ≡ target_at v.records.items (moment_of v) Undo
 target_undo v are = ap (λ (at : Rattle.history_model.specs.Positions.Position). first_of at.past) are.position ∙ sym (undo_target v.records.items)
 
-pub target_redo : (v : Versions) → AreStored v → first_of (trail_position v.trail).future ≡ target_at v.records.items (moment_of v) Redo
+pub target_redo : (v : Versions) → AreStoredVersions v → first_of (trail_position v.trail).future ≡ target_at v.records.items (moment_of v) Redo
 target_redo v are = ap (λ (at : Rattle.history_model.specs.Positions.Position). first_of at.future) are.position ∙ sym (redo_target v.records.items)

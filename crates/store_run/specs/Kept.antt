@@ -73,7 +73,7 @@ IsLargeStore false side = ⊤
 
 -- the roots show the cells that the store keeps of their versions, each act is tinted exactly where
 -- cells have tints, each mark stands at its version, and the trail is where the records lead
-pub record AreStored (v : Versions) : Type 0 where
+pub record AreStoredVersions (v : Versions) : Type 0 where
   pub side : v.side ≡ (plan_of v).side
   pub sound : SoundVersions (plan_of v) v.models.models (core_with (log_of v) v.store)
   pub suits : All (λ r. suits_tints v.models.tint r.act ≡ true) v.records.items
@@ -85,7 +85,7 @@ pub record AreStored (v : Versions) : Type 0 where
 
 -- and no act has a tint
 pub record AreVersions (v : Versions) : Type 0 where
-  pub stored : AreStored v
+  pub stored : AreStoredVersions v
   pub plain : v.models.tint ≡ false
 
 -- no share is held

@@ -15,7 +15,7 @@ use Rattle.store_notes.specs.Changes.{MakesNothing}
 use Rattle.store_run.specs.declared.stored_versions.Versions.{Versions}
 use Rattle.store_run.specs.declared.replaying.ReplayRefused.{ReplayRefused}
 use Rattle.store_run.specs.declared.replaying.ReplayRefused.TheVariants as refusals
-use Rattle.store_run.specs.Kept.{plan_of, log_of, noted_of, AreStored, HoldsNothing}
+use Rattle.store_run.specs.Kept.{plan_of, log_of, noted_of, AreStoredVersions, HoldsNothing}
 use Rattle.store_run.specs.Steps.{WantsFor}
 
 -- the plan, whether cells have tints, the models, the records so far, and what the store noted
@@ -37,7 +37,7 @@ replay_state v = record {
 
 -- versions of which none has a mark, and no share is held
 pub record IsReplay (v : Versions) : Type 0 where
-  pub are : AreStored v
+  pub are : AreStoredVersions v
   pub free : HoldsNothing v.store
   pub unmarked : (log_of v).marks ≡ []
 

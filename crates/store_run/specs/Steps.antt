@@ -29,7 +29,7 @@ use Rattle.store_run.specs.declared.stored_versions.VersionFound.TheVariants.{Ke
 use Rattle.store_run.specs.Kept.{plan_of, log_of, moment_of, stored_of, world_of, tints_of, GainsTree, LosesTree}
 
 -- whether a version can be read
-pub record HasMark (v : Versions) (version : ℕ) : Type 0 where
+pub record IsVersionMarked (v : Versions) (version : ℕ) : Type 0 where
   pub mark : Mark
   pub listed : Contains (log_of v).marks mark
   pub same : mark.version ≡ version
@@ -37,7 +37,7 @@ pub record HasMark (v : Versions) (version : ℕ) : Type 0 where
 abbrev pub IsVersionFound : Versions → ℕ → VersionFound → Type 0
 IsVersionFound v version Kept = IsKept (log_of v) version
 IsVersionFound v version NotThere = moment_of v < version
-IsVersionFound v version Marked = (version ≤ moment_of v) × HasMark v version
+IsVersionFound v version Marked = (version ≤ moment_of v) × IsVersionMarked v version
 
 -- the side of the world that the store keeps
 abbrev pub side_of : Versions → ℕ
@@ -79,7 +79,7 @@ pub record PutsDown (old : Versions) (root : Option Name) (new : Versions) : Typ
   pub loses : LosesTree old.store root new.store
 
 -- a share of the version's root came
-pub record SharesRoot (old : Versions) (version : ℕ) (root : Option Name)
+pub record SharesRootOfVersion (old : Versions) (version : ℕ) (root : Option Name)
     (new : Versions) : Type 0 where
   pub stay : StayVersions old new
   pub only : MakesNothing old.store.told new.store.told
@@ -123,11 +123,11 @@ pub record OnlyLogs (old new : Versions) : Type 0 where
   pub only : MakesNothing old.store.told new.store.told
 
 -- the record came behind the others
-pub record AppendsRecord (old : Versions) (r : Record) (new : Versions) : Type 0 where
+pub record GainsRecord (old : Versions) (r : Record) (new : Versions) : Type 0 where
   pub only : OnlyLogs old new
   pub grows : GrowsByRecord (plan_of old) old.models.models r (log_of old) (log_of new)
 
 -- the mark came to its place
-pub record MarksVersion (old : Versions) (mark : Mark) (new : Versions) : Type 0 where
+pub record GainsMark (old : Versions) (mark : Mark) (new : Versions) : Type 0 where
   pub only : OnlyLogs old new
   pub forgets : ForgetsBy (plan_of old) old.models.models mark (log_of old) (log_of new)

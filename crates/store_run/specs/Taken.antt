@@ -17,7 +17,7 @@ rooted_weight f store (x ∷ roots) =
 
 -- of the versions below this number, those that are kept have their roots here, and a share of each
 -- is all that is held; the places from it on are as they were
-pub record AreTaken (old : Versions) (n : ℕ) (new : Known) (roots : List Rooted) : Type 0 where
+pub record AreTakenRoots (old : Versions) (n : ℕ) (new : Known) (roots : List Rooted) : Type 0 where
   pub words : new.words ≡ old.store.words
   pub places : (v : ℕ) → n ≤ v → stored_root new.roots v ≡ stored_root old.store.roots v
   pub weighs : (f : Tree → ℕ) → weigh f new.told.held ≡ rooted_weight f old.store roots

@@ -6,7 +6,7 @@ use Rattle.history_model.specs.Logs.{Log}
 use Rattle.node_words.specs.Plans.{Layout}
 use Rattle.script_runs.specs.Keeping.{MadeAndMet}
 use Rattle.store_run.specs.declared.stored_versions.Versions.{Versions}
-use Rattle.store_run.specs.Kept.{plan_of, log_of, noted_of, AreStored, AreVersions, HoldsNothing}
+use Rattle.store_run.specs.Kept.{plan_of, log_of, noted_of, AreStoredVersions, AreVersions, HoldsNothing}
 
 pub record WorldState : Type 0 where
   pub plan : Layout
@@ -29,7 +29,7 @@ pub record AreVersionsAtRest (v : Versions) : Type 0 where
 
 -- the same of versions whose cells may have tints
 pub record AreStoredAtRest (v : Versions) : Type 0 where
-  pub are : AreStored v
+  pub are : AreStoredVersions v
   pub nothing : HoldsNothing v.store
 
 -- the size of a model, where there is one

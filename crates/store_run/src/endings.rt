@@ -1,6 +1,6 @@
 ghost use Rattle.std.specs.Prelude.{◌≡◌, ◌<◌, None, IfOk, OnOk, length};
 ghost use Rattle.block_contents.specs.MarkLists.{marks_below, with_mark};
-ghost use Rattle.store_run.specs.Kept.{log_of, mark_in, AreStored, HoldsNothing};
+ghost use Rattle.store_run.specs.Kept.{log_of, mark_in, AreStoredVersions, HoldsNothing};
 ghost use Rattle.reporting.specs.Numbers.{AreNumbers};
 ghost use Rattle.reporting.specs.Roots.{RootsTellWorlds, listed_root};
 
@@ -14,7 +14,7 @@ impl Versions {
     /// The root of each version.
     #[tactic(auto, using(crate::proofs::Ending::roots_tell, crate::proofs::Ending::roots_in_range))]
     pub(crate) fn roots(&self, alloc: Global) -> Result<Vec<Option<Name>>, Memory>
-        requires { AreStored self.now }
+        requires { AreStoredVersions self.now }
         ensures places { IfOk result (λ roots. length self.now.records.items < length roots.items) }
         ensures tell { IfOk result (λ roots. RootsTellWorlds self.now.models.models
             (log_of self.now) (listed_root roots.items)) }
@@ -29,7 +29,7 @@ impl Versions {
     /// How many nodes of each level are live.
     #[tactic(auto, using(crate::proofs::Ending::are_numbers))]
     pub(crate) fn numbers(&self, alloc: Global) -> Result<Vec<u32>, Memory>
-        requires are { AreStored self.now }
+        requires are { AreStoredVersions self.now }
         requires free { HoldsNothing self.now.store }
         ensures { IfOk result (λ numbers. AreNumbers self.now.models.models (log_of self.now)
             numbers.items) }
@@ -46,7 +46,7 @@ impl Versions {
     /// A copy of the records and marks.
     #[tactic(auto, using(crate::proofs::Ending::history_is))]
     pub(crate) fn told(&self, alloc: Global) -> Result<History, Memory>
-        requires { AreStored self.now }
+        requires { AreStoredVersions self.now }
         ensures { IfOk result (λ history. history ≡ log_of self.now) }
     {
         let mut records = Vec::with_capacity(alloc, self.records.len())?;
@@ -63,7 +63,7 @@ impl Versions {
     /// The records and marks.
     #[tactic(auto, using(crate::proofs::Ending::history_is))]
     pub(crate) fn history(self, alloc: Global) -> Result<History, Memory>
-        requires { AreStored self }
+        requires { AreStoredVersions self }
         ensures { IfOk result (λ history. history ≡ log_of self) }
     {
         let Versions {

@@ -2,9 +2,9 @@
 ghost use Rattle.std.specs.Prelude.{◌≡◌, ◌+◌, ◌<◌, ◌≤◌, IfOk, vec_capacity, vec_len};
 ghost use Rattle.node_shapes.specs.Weights.{number_of_trees};
 ghost use Rattle.one_store.specs.Known.{known_seen};
-ghost use Rattle.store_run.specs.Kept.{log_of, moment_of, plan_of, mark_in, AreStored, HoldsNothing};
+ghost use Rattle.store_run.specs.Kept.{log_of, moment_of, plan_of, mark_in, AreStoredVersions, HoldsNothing};
 ghost use Rattle.store_run.specs.Marked.{HoldsKept};
-ghost use Rattle.store_run.specs.Taken.{AreTaken};
+ghost use Rattle.store_run.specs.Taken.{AreTakenRoots};
 
 use crate::pins::put_away;
 use crate::stored_versions::Versions;
@@ -24,7 +24,7 @@ impl Versions {
     // The roots of the versions that are kept leave their places.
     #[tactic(auto, using(crate::proofs::Taken::taken_few, crate::proofs::Taken::none_taken, crate::proofs::Taken::all_taken))]
     pub(crate) fn held_roots(self, alloc: Global) -> Result<HeldRoots, Memory>
-        requires are { AreStored self }
+        requires are { AreStoredVersions self }
         requires free { HoldsNothing self.store }
         ensures side { IfOk result (λ h. h.store.words.plan ≡ plan_of self) }
         ensures roots { IfOk result (λ h. HoldsKept (plan_of self).side self.models.models
@@ -48,10 +48,10 @@ impl HeldRoots {
         requires there { version < 65536 }
         requires few { number_of_trees self.old.store.told.held ≤ 69631 }
         requires room { vec_len self.old.roots < vec_capacity self.old.roots }
-        ensures taken { (v : Versions) → AreStored v → version ≤ moment_of v
+        ensures taken { (v : Versions) → AreStoredVersions v → version ≤ moment_of v
             → mark_in v.marks.items version ≡ mark
-            → AreTaken v version self.old.store self.old.roots.items
-            → AreTaken v (version + 1) self.new.store self.new.roots.items }
+            → AreTakenRoots v version self.old.store self.old.roots.items
+            → AreTakenRoots v (version + 1) self.new.store self.new.roots.items }
         ensures room { vec_capacity self.new.roots ≡ vec_capacity self.old.roots }
         ensures many { vec_len self.new.roots ≤ vec_len self.old.roots + 1 }
     {

@@ -6,7 +6,7 @@ ghost use Rattle.node_shapes.specs.Weights.{number_of_trees};
 ghost use Rattle.script.specs.Fitting.{QuestionFits};
 ghost use Rattle.script.specs.declared.commands.Command.TheVariants.{Edit, Forget, Ask, Same};
 ghost use Rattle.conformance.specs.Answers.{target_at, asked_version, mark_of};
-ghost use Rattle.store_run.specs.Kept.{log_of, moment_of, AreStored, AreVersions, HoldsSame, HasRecordRoom};
+ghost use Rattle.store_run.specs.Kept.{log_of, moment_of, AreStoredVersions, AreVersions, HoldsSame, HasRecordRoom};
 ghost use Rattle.store_run.specs.Answering.{GoesOnBy, nothing_to_go_to};
 ghost use Rattle.store_run.specs.Changing.{Changes, AnswersForget};
 
@@ -92,7 +92,7 @@ impl Versions {
     // The version that an undo or a redo goes to.
     #[tactic(auto, using(crate::proofs::Targets::target_undo, crate::proofs::Targets::target_redo))]
     pub(crate) fn target(&self, act: Act) -> Option<u32>
-        requires { AreStored self.now }
+        requires { AreStoredVersions self.now }
         ensures { result ≡ target_at self.now.records.items (moment_of self.now) act }
     {
         match act {
@@ -141,7 +141,7 @@ impl Versions {
 
     /// The version that is asked for: the newest where none is named.
     pub(crate) fn asked(&self, version: Option<u32>) -> u32
-        requires { AreStored self.now }
+        requires { AreStoredVersions self.now }
         ensures { result ≡ asked_version version (moment_of self.now) }
     {
         match version {

@@ -5,7 +5,7 @@ ghost use Rattle.history_model.specs.Logs.{FitsWorld, MayFollow, suits_tints};
 ghost use Rattle.history_model.specs.Positions.{position_after};
 ghost use Rattle.node_shapes.specs.Weights.{number_of_trees};
 ghost use Rattle.conformance.specs.Answers.{target_at};
-ghost use Rattle.store_run.specs.Kept.{moment_of, log_of, AreStored, HoldsSame, HasRecordRoom};
+ghost use Rattle.store_run.specs.Kept.{moment_of, log_of, AreStoredVersions, HoldsSame, HasRecordRoom};
 ghost use Rattle.store_run.specs.Replaying.{TakesEdit, TakesWay, FillsBucket, CanFollow};
 
 use crate::stored_versions::Versions;
@@ -21,14 +21,14 @@ impl Versions {
         next: Record,
         steps: &mut Steps<L>,
     ) -> Result<(), Full>
-        requires are { AreStored self.old }
+        requires are { AreStoredVersions self.old }
         requires few { number_of_trees self.old.store.told.held ≤ 2048 }
         requires room { HasRecordRoom self.old }
         requires early { moment_of self.old < 65535 }
         requires edit { is_edit next.act ≡ true }
         requires suits { suits_tints self.old.models.tint next.act ≡ true }
         requires fits { FitsWorld (2 ^ self.old.side) self.old.models.models next.act }
-        ensures are { AreStored self.new }
+        ensures are { AreStoredVersions self.new }
         ensures same { HoldsSame self.old.store self.new.store }
         ensures takes { OnOk result (TakesEdit self.old next self.new) }
         ensures fills { IfErr result (λ full. FillsBucket self.old next.act full self.new) }
@@ -47,13 +47,13 @@ impl Versions {
     /// An undo or a redo becomes the next record, where it has a version to go to.
     #[tactic(auto, using(crate::proofs::KeptWorlds::way_suits, crate::proofs::Targets::may_go_to, crate::proofs::Taking::way_taken, crate::proofs::Taking::target_kept, crate::proofs::Taking::target_follows, crate::proofs::Answering::went_same, crate::proofs::Holding::same_held, crate::proofs::Rebuilding::shared_tree))]
     pub(crate) fn take_way(&mut self, next: Record) -> bool
-        requires are { AreStored self.old }
+        requires are { AreStoredVersions self.old }
         requires few { number_of_trees self.old.store.told.held ≤ 2048 }
         requires room { HasRecordRoom self.old }
         requires early { moment_of self.old < 65535 }
         requires other { is_edit next.act ≡ false }
         requires unmarked { (log_of self.old).marks ≡ [] }
-        ensures are { AreStored self.new }
+        ensures are { AreStoredVersions self.new }
         ensures same { HoldsSame self.old.store self.new.store }
         ensures takes { result ≡ true → TakesWay self.old next self.new }
         ensures follows { result ≡ true → CanFollow self.old.records.items next }
@@ -74,14 +74,14 @@ impl Versions {
     /// An undo or a redo becomes the next record, which can follow those before it.
     #[tactic(auto, using(crate::proofs::KeptWorlds::way_suits, crate::proofs::Targets::may_go_to, crate::proofs::Taking::way_taken, crate::proofs::Followed::followed_kept, crate::proofs::Followed::target_there, crate::proofs::Answering::went_same, crate::proofs::Holding::same_held, crate::proofs::Rebuilding::shared_tree))]
     pub(crate) fn follow_way(&mut self, next: Record)
-        requires are { AreStored self.old }
+        requires are { AreStoredVersions self.old }
         requires few { number_of_trees self.old.store.told.held ≤ 2048 }
         requires room { HasRecordRoom self.old }
         requires early { moment_of self.old < 65535 }
         requires other { is_edit next.act ≡ false }
         requires follows { MayFollow (log_of self.old).marks (moment_of self.old + 1) next.act
             (position_after self.old.records.items) }
-        ensures are { AreStored self.new }
+        ensures are { AreStoredVersions self.new }
         ensures same { HoldsSame self.old.store self.new.store }
         ensures takes { TakesWay self.old next self.new }
     {

@@ -48,8 +48,8 @@ ghost use Rattle.core_laws.specs.LogEvents.{MayAppend};
 ghost use Rattle.act_rebuilds.specs.Made.{FailsBy};
 ghost use Rattle.one_store.specs.Known.{known_seen, stored_root};
 ghost use Rattle.script.specs.Fitting.{QuestionFits};
-ghost use Rattle.store_run.specs.Kept.{plan_of, log_of, moment_of, core_with, noted_of, AreStored, AreVersions, IsLargeStore, HoldsNothing, HoldsTree, GainsTree, LosesTree, HoldsSame, HasRecordRoom};
-ghost use Rattle.store_run.specs.Steps.{IsVersionFound, TellsHeldVersion, StaysSeen, IsOverStore, MakesBeside, WantsFor, side_of, PutsDown, LeavesAll, SharesRoot, MakesRoot, MeetsBucket, AppendsRecord, MarksVersion};
+ghost use Rattle.store_run.specs.Kept.{plan_of, log_of, moment_of, core_with, noted_of, AreStoredVersions, AreVersions, IsLargeStore, HoldsNothing, HoldsTree, GainsTree, LosesTree, HoldsSame, HasRecordRoom};
+ghost use Rattle.store_run.specs.Steps.{IsVersionFound, TellsHeldVersion, StaysSeen, IsOverStore, MakesBeside, WantsFor, side_of, PutsDown, LeavesAll, SharesRootOfVersion, MakesRoot, MeetsBucket, GainsRecord, GainsMark};
 
 impl Versions {
     /// Version 0 alone, with room for so many records, of a world whose cells have tints, or have
@@ -64,7 +64,7 @@ impl Versions {
     ) -> Result<Versions, Memory>
         requires models { AreModels models }
         requires large { IsLargeStore tint plan.now.side }
-        ensures are { IfOk result AreStored }
+        ensures are { IfOk result AreStoredVersions }
         ensures plan { IfOk result (λ v. plan_of v ≡ plan.now) }
         ensures tint { IfOk result (λ v. v.models.tint ≡ tint) }
         ensures models { IfOk result (λ v. v.models.models ≡ models) }
@@ -85,7 +85,7 @@ impl Versions {
 
     /// How many records there are.
     pub(crate) fn moment(&self) -> u32
-        requires { AreStored self.now }
+        requires { AreStoredVersions self.now }
         ensures value { result ≡ moment_of self.now }
         ensures few { result ≤ 65535 }
     {
@@ -95,7 +95,7 @@ impl Versions {
     /// Whether the version can be read.
     #[tactic(auto, using(crate::proofs::Finding::in_places, crate::proofs::Finding::kept_at, crate::proofs::Finding::marked_at))]
     pub(crate) fn find(&self, version: u32) -> VersionFound
-        requires { AreStored self.now }
+        requires { AreStoredVersions self.now }
         ensures { IsVersionFound self.now version result }
     {
         if version > self.moment() {
@@ -110,7 +110,7 @@ impl Versions {
     /// Whether two versions have one root.
     #[tactic(auto, using(crate::proofs::Ending::has_place))]
     pub(crate) fn has_same_roots(&self, v: u32, w: u32) -> bool
-        requires are { AreStored self.now }
+        requires are { AreStoredVersions self.now }
         requires there { (v ≤ moment_of self.now) × (w ≤ moment_of self.now) }
         ensures { IsTrue result
             ↔ (stored_root self.now.store.roots v ≡ stored_root self.now.store.roots w) }
@@ -123,12 +123,12 @@ impl Versions {
     /// One more share of the version's root.
     #[tactic(auto, using(crate::proofs::Sparing::shares_root, crate::proofs::Sparing::are_spared, crate::proofs::Sparing::plain_spared, crate::proofs::Sparing::room_stays))]
     pub(crate) fn share(&mut self, version: u32) -> Option<Share>
-        requires are { AreStored self.old }
+        requires are { AreStoredVersions self.old }
         requires kept { IsKept (log_of self.old) version }
         requires few { number_of_trees self.old.store.told.held ≤ 2048 }
-        ensures are { AreStored self.new }
+        ensures are { AreStoredVersions self.new }
         ensures plain { AreVersions self.old → AreVersions self.new }
-        ensures shares { SharesRoot self.old version result self.new }
+        ensures shares { SharesRootOfVersion self.old version result self.new }
         ensures room { HasRecordRoom self.old → HasRecordRoom self.new }
     {
         self.store.root_share(version)
@@ -137,10 +137,10 @@ impl Versions {
     /// Gives a share of a root back, where there is one.
     #[tactic(auto, using(crate::proofs::Sparing::puts_some, crate::proofs::Sparing::puts_none, crate::proofs::Sparing::are_spared, crate::proofs::Sparing::plain_spared, crate::proofs::Holding::tree_name, crate::proofs::Sparing::room_stays))]
     pub(crate) fn give_back<L: Ledger>(&mut self, root: Option<Share>, steps: &mut Steps<L>)
-        requires are { AreStored self.old }
+        requires are { AreStoredVersions self.old }
         requires holds { HoldsTree self.old.store root }
         requires few { number_of_trees self.old.store.told.held ≤ 4008 }
-        ensures are { AreStored self.new }
+        ensures are { AreStoredVersions self.new }
         ensures plain { AreVersions self.old → AreVersions self.new }
         ensures puts { PutsDown self.old root self.new }
         ensures room { HasRecordRoom self.old → HasRecordRoom self.new }
@@ -159,11 +159,11 @@ impl Versions {
         question: Question,
         steps: &mut Steps<L>,
     ) -> Answer
-        requires are { AreStored self.old }
+        requires are { AreStoredVersions self.old }
         requires kept { IsKept (log_of self.old) version }
         requires few { number_of_trees self.old.store.told.held ≤ 2048 }
         requires fits { QuestionFits (side_of self.old) question }
-        ensures are { AreStored self.new }
+        ensures are { AreStoredVersions self.new }
         ensures plain { AreVersions self.old → AreVersions self.new }
         ensures leaves { LeavesAll self.old self.new }
         ensures same { HoldsSame self.old.store self.new.store }
@@ -183,12 +183,12 @@ impl Versions {
         root: Option<&Share>,
         question: Question,
     ) -> Answer
-        requires are { AreStored self.old }
+        requires are { AreStoredVersions self.old }
         requires kept { IsKept (log_of self.old) version }
         requires holds { HoldsTree self.old.store (option_copied root) }
         requires is { option_copied root ≡ stored_root self.old.store.roots version }
         requires fits { QuestionFits (side_of self.old) question }
-        ensures are { AreStored self.new }
+        ensures are { AreStoredVersions self.new }
         ensures plain { AreVersions self.old → AreVersions self.new }
         ensures stays { StaysSeen self.old self.new }
         ensures holds { HoldsTree self.new.store (option_copied root.entry) }
@@ -208,12 +208,12 @@ impl Versions {
         act: Act,
         steps: &mut Steps<L>,
     ) -> Result<Option<Share>, Full>
-        requires are { AreStored self.old }
+        requires are { AreStoredVersions self.old }
         requires few { number_of_trees self.old.store.told.held ≤ 2048 }
         requires edit { is_edit act ≡ true }
         requires suits { suits_tints self.old.models.tint act ≡ true }
         requires fits { FitsWorld (2 ^ self.old.side) self.old.models.models act }
-        ensures are { AreStored self.new }
+        ensures are { AreStoredVersions self.new }
         ensures plain { AreVersions self.old → AreVersions self.new }
         ensures makes { IfOk result (λ root. MakesRoot self.old act root self.new) }
         ensures gains { IfOk result (λ root. GainsTree self.old.store root self.new.store) }
@@ -235,14 +235,14 @@ impl Versions {
         act: Act,
         steps: &mut Steps<L>,
     ) -> Result<Option<Share>, Full>
-        requires are { AreStored self.old }
+        requires are { AreStoredVersions self.old }
         requires holds { HoldsTree self.old.store (option_copied base) }
         requires few { number_of_trees self.old.store.told.held ≤ 2049 }
         requires is { option_copied base ≡ stored_root self.old.store.roots (moment_of self.old) }
         requires edit { is_edit act ≡ true }
         requires suits { suits_tints self.old.models.tint act ≡ true }
         requires fits { FitsWorld (2 ^ self.old.side) self.old.models.models act }
-        ensures are { AreStored self.new }
+        ensures are { AreStoredVersions self.new }
         ensures plain { AreVersions self.old → AreVersions self.new }
         ensures only { IsOverStore self.old self.new }
         ensures held { HoldsTree self.new.store (option_copied base.entry) }
@@ -259,15 +259,15 @@ impl Versions {
     /// The record comes behind the others, and the share of its root goes to its version.
     #[tactic(auto, using(crate::proofs::Logging::no_root, crate::proofs::Holding::holds_some, crate::proofs::Logging::appended_are, crate::proofs::Logging::appends_record, crate::proofs::Logging::keeps_loses))]
     pub(crate) fn append(&mut self, next: Record, root: Option<Share>)
-        requires are { AreStored self.old }
+        requires are { AreStoredVersions self.old }
         requires room { HasRecordRoom self.old }
         requires suits { suits_tints self.old.models.tint next.act ≡ true }
         requires holds { HoldsTree self.old.store root }
         requires may { MayAppend (plan_of self.old) self.old.models.models next root
             (core_with (log_of self.old) self.old.store) }
-        ensures are { AreStored self.new }
+        ensures are { AreStoredVersions self.new }
         ensures plain { AreVersions self.old → AreVersions self.new }
-        ensures appends { AppendsRecord self.old next self.new }
+        ensures appends { GainsRecord self.old next self.new }
         ensures loses { LosesTree self.old.store root self.new.store }
     {
         let version = self.moment() + 1;
@@ -281,14 +281,14 @@ impl Versions {
     /// The mark comes to its version, whose root goes at once.
     #[tactic(auto, using(crate::proofs::Logging::marked_are, crate::proofs::Logging::taken_tree, crate::proofs::Logging::taken_few, crate::proofs::Logging::taken_same, crate::proofs::Logging::marks_version, crate::proofs::Logging::no_root, crate::proofs::Ending::has_place))]
     pub(crate) fn forget<L: Ledger>(&mut self, mark: Mark, steps: &mut Steps<L>)
-        requires are { AreStored self.old }
+        requires are { AreStoredVersions self.old }
         requires few { number_of_trees self.old.store.told.held ≤ 2048 }
         requires kept { IsKept (log_of self.old) mark.version }
         requires earlier { mark.version < moment_of self.old }
         requires now { mark.at ≡ moment_of self.old }
-        ensures are { AreStored self.new }
+        ensures are { AreStoredVersions self.new }
         ensures plain { AreVersions self.old → AreVersions self.new }
-        ensures marks { MarksVersion self.old mark self.new }
+        ensures marks { GainsMark self.old mark self.new }
         ensures same { HoldsSame self.old.store self.new.store }
     {
         let _number = self.store.number();
@@ -301,8 +301,8 @@ impl Versions {
     /// Sees to it that one more record has room.
     #[tactic(auto, using(crate::proofs::Rebuilding::plain_as))]
     pub(crate) fn reserve(&mut self) -> Result<(), Memory>
-        requires { AreStored self.old }
-        ensures are { AreStored self.new }
+        requires { AreStoredVersions self.old }
+        ensures are { AreStoredVersions self.new }
         ensures plain { AreVersions self.old → AreVersions self.new }
         ensures room { OnOk result (HasRecordRoom self.new) }
         ensures same { self.new.models.models ≡ self.old.models.models }

@@ -1,6 +1,6 @@
 use Rattle.std.proofs.Common.{rules, ◌+◌, List, subst, sym}
 use Rattle.store_run.specs.Marked.{Rooted}
-use Rattle.store_run.specs.Taken.{AreTaken}
+use Rattle.store_run.specs.Taken.{AreTakenRoots}
 use Rattle.store_run.proofs.Taken.{version_passed, version_taken}
 use Rattle.store_run.proofs.held_roots.HeldRoots.take.Goals as goal
 
@@ -11,7 +11,7 @@ returns-in-Some-clause-taken c = λ v of_v le is taken.
 
 pub returns-clause-taken : goal.returns-clause-taken
 returns-clause-taken c = λ v of_v le is taken.
-    subst (λ (l : List Rooted). AreTaken v (c.args.version + 1) c.take_root-root.new.self l)
+    subst (λ (l : List Rooted). AreTakenRoots v (c.args.version + 1) c.take_root-root.new.self l)
     (sym c.push_reserved.ensures.items)
     (version_taken v c.args.version c.args.self.now.store c.args.self.now.roots.items taken of_v le
     c.take_root-root.new.self c.take_root-root.result (search rules) c.take_root-root.ensures.root

@@ -1,6 +1,6 @@
 use Rattle.std.proofs.Common.{rules, ◌≡◌, ◌+◌, ◌≤◌, ℕ, subst, arith}
 use Rattle.store_run.specs.Kept.{moment_of}
-use Rattle.store_run.specs.Taken.{AreTaken}
+use Rattle.store_run.specs.Taken.{AreTakenRoots}
 use Rattle.store_run.proofs.Finding.{in_places, mark_read}
 use Rattle.store_run.proofs.Taken.{all_taken, taken_few}
 use Rattle.store_run.proofs.stored_versions.Versions.held_roots.Goals as goal
@@ -28,5 +28,5 @@ pub returns-clause-roots : goal.returns-clause-roots
 returns-clause-roots c =
     let end : c.loop-version.version ≡ moment_of c.args.self + 1 = search rules in
     all_taken c.args.self c.loop-version.held.store c.loop-version.held.roots.items c.requires.are
-    (subst (λ (n : ℕ). AreTaken c.args.self n c.loop-version.held.store c.loop-version.held.roots.items)
+    (subst (λ (n : ℕ). AreTakenRoots c.args.self n c.loop-version.held.store c.loop-version.held.roots.items)
     end c.loop-version.invariant.taken)
