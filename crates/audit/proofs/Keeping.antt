@@ -6,13 +6,13 @@ use Rattle.history_model.specs.declared.histories.Mark.{Mark}
 use Rattle.history_model.specs.Logs.{Log}
 use Rattle.versions.specs.Retained.{KeepsLast, is_marked_by}
 use Rattle.versions.proofs.Lasting.{keeps_all}
-use Rattle.audit.specs.Marks.{IsMarkOf, TellsMarks, MarkedBy}
+use Rattle.audit.specs.Marks.{IsOnlyMarkOrNone, TellsMarks, MarkedBy}
 use Rattle.audit.proofs.Counting.{listed, contained, any_of, one_of}
 
 abbrev names : ℕ → ℕ → Mark → Bool
 names n version m = (m.version == version) && nat_le m.at n
 
-marked_is : (all : List Mark) (version n : ℕ) (mark : Option Mark) → IsMarkOf all version mark
+marked_is : (all : List Mark) (version n : ℕ) (mark : Option Mark) → IsOnlyMarkOrNone all version mark
     → MarkedBy mark n ↔ IsTrue (is_marked_by n version all)
 marked_is all version n None is = (
   λ no. absurd no,

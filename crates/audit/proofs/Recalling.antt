@@ -16,7 +16,7 @@ use Rattle.store_run.specs.Replaying.{ReplayState}
 use Rattle.audit.specs.declared.replaying.Ways.{Ways}
 use Rattle.audit.specs.Fitting.{TellsVersion, AreSame}
 use Rattle.audit.specs.Reruns.{IsRerun}
-use Rattle.audit.specs.Marks.{IsMarkOf, StandsBy, ForgottenBy}
+use Rattle.audit.specs.Marks.{IsOnlyMarkOrNone, StandsBy, ForgottenBy}
 use Rattle.audit.proofs.Marking.{stands_is, forgotten_is}
 use Rattle.audit.proofs.OneAnswer.{one_answer}
 
@@ -32,7 +32,7 @@ pub forgotten_rerun : (log : Log) (replay : ReplayState) (ways : List Ways) (tab
 forgotten_rerun log replay ways table session line n version is =
     forgotten_is log.marks version session line n (slice_index_or table version None) (is.tells.each version)
 
-mark_listed : (marks : List Mark) (m : Mark) (found : Option Mark) → IsMarkOf marks m.version found
+mark_listed : (marks : List Mark) (m : Mark) (found : Option Mark) → IsOnlyMarkOrNone marks m.version found
     → (found ≡ Some m) ↔ Contains marks m
 mark_listed marks m None is = (λ e. absurd (let no : ⊥ = cc in no), λ listed. absurd (is m listed refl))
 mark_listed marks m (Some other) is = (

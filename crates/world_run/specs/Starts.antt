@@ -9,7 +9,8 @@ use Rattle.world_run.specs.declared.runs.Start.{Start}
 use Rattle.world_run.specs.Works.{IsRoomFor}
 
 -- one session and one room for each script, in their order, and room for what comes of all
-pub record HasBegun (w : TableSeen) (scripts : List (List ScriptLine)) (s : Start) : Type 0 where
+pub record StartsScripts (w : TableSeen) (scripts : List (List ScriptLine))
+    (s : Start) : Type 0 where
   pub new : AreNewPasses w.id (terms_of w) s.sessions.items
   pub rest : All (IsAtRest w) s.sessions.items
   pub many : length s.sessions.items ≡ length scripts

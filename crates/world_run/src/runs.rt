@@ -11,7 +11,7 @@ ghost use Rattle.session.specs.Seen.{AreScriptLines};
 ghost use Rattle.std.specs.List.{AllZip};
 ghost use Rattle.world_run.specs.Open.{IsSaved, kept_in, saved_seen};
 ghost use Rattle.world_run.specs.Works.{AreDone, AreWorks, IsRoomFor};
-ghost use Rattle.world_run.specs.Starts.{HasBegun};
+ghost use Rattle.world_run.specs.Starts.{StartsScripts};
 
 use crate::accepted::push_accepted;
 use crate::endings::end_all;
@@ -126,7 +126,7 @@ fn run_in<'m, R: Threads + Wait + Sync, G: Gate + Sync>(
     start: Start,
     scripts: &[Script],
 ) -> Result<ScriptsRun<'m>, Memory>
-    requires begun { HasBegun world.table scripts.now start }
+    requires begun { StartsScripts world.table scripts.now start }
     requires few { length scripts.now ≤ 64 }
     requires rise { All (RisesFrom 1) scripts.now }
     requires fit { All (AreScriptLines world) scripts.now }
