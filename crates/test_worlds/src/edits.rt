@@ -3,7 +3,7 @@ ghost use Rattle.test_worlds.specs.Roots.{HoldsOnly, HoldsTwo};
 
 use edit_copy::rebuild_copy;
 use edit_ops::{rebuild_ball, rebuild_box};
-use edit_stamp::{Stencil, rebuild_stamp};
+use edit_stamp::{Stencil, rebuild_stamp, rebuild_unstamp};
 use history_model::Act;
 use node_words::{Full, NodeStore, Share, Steps};
 use std::sync::ledger::Ledger;
@@ -18,12 +18,13 @@ pub enum Refusal {
 }
 
 // The root that an edit makes, beside the old one. A stamp is one of the stencil, whatever its
-// model's number.
+// model's number, and sets or clears its cells.
 pub(crate) fn version<N: NodeStore, L: Ledger>(
     store: &mut N,
     old: Option<&Share>,
     side: Side,
     stencil: &Stencil,
+    set: bool,
     act: &Act,
     steps: &mut Steps<L>,
 ) -> Result<Option<Share>, Refusal>
@@ -42,7 +43,13 @@ pub(crate) fn version<N: NodeStore, L: Ledger>(
         Act::Ball(ball) => balled(store, old, side, ball, true, steps),
         Act::Carve(ball) => balled(store, old, side, ball, false, steps),
         Act::Copy(from, to) => copied(store, old, side, from, to, steps),
-        Act::Stamp(_, at) => stamped(store, old, side, stencil, at, steps),
+        Act::Stamp(_, at) => {
+            if set {
+                stamped(store, old, side, stencil, at, steps)
+            } else {
+                unstamped(store, old, side, stencil, at, steps)
+            }
+        }
         Act::Tint(_) | Act::Undo | Act::Redo => Err(Refusal::Unfit),
     }
 }
@@ -148,6 +155,32 @@ fn stamped<N: NodeStore, L: Ledger>(
     match Boxed::new(at, stencil.size(), side) {
         None => Err(Refusal::Unfit),
         Some(_) => match rebuild_stamp(store, old, side, stencil, at, steps) {
+            Ok(share) => Ok(share),
+            Err(full) => Err(Refusal::Full(full)),
+        },
+    }
+}
+
+fn unstamped<N: NodeStore, L: Ledger>(
+    store: &mut N,
+    old: Option<&Share>,
+    side: Side,
+    stencil: &Stencil,
+    at: Cell,
+    steps: &mut Steps<L>,
+) -> Result<Option<Share>, Refusal>
+    requires side { side ≡ (N.seen store.old).plan.side }
+    requires only { HoldsOnly (N.seen store.old).held (side - 2) (option_copied old) }
+    ensures ok { IfOk result
+        (λ r. HoldsTwo (N.seen store.new).held (side - 2) (option_copied old.entry) r) }
+    ensures refused { OnErr result
+        (HoldsOnly (N.seen store.new).held (side - 2) (option_copied old.entry)) }
+    ensures plan { (N.seen store.new).plan ≡ (N.seen store.old).plan }
+    ensures rests { N.rests store.old store.new }
+{
+    match Boxed::new(at, stencil.size(), side) {
+        None => Err(Refusal::Unfit),
+        Some(_) => match rebuild_unstamp(store, old, side, stencil, at, steps) {
             Ok(share) => Ok(share),
             Err(full) => Err(Refusal::Full(full)),
         },

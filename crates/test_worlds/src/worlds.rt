@@ -11,7 +11,7 @@ use std::alloc::{AllocError, Global};
 use std::marker::Brand;
 use std::sync::ledger::{Blank, Ledger};
 use vox_read::Voxel;
-use vw_cell::{Boxed, Side};
+use vw_cell::{Boxed, Cell, Side};
 
 /// A world in a store for one thread. Its root stands in place 0, so no share is held between
 /// calls.
@@ -54,7 +54,28 @@ impl StoredWorld {
     /// Does the act to the world, or leaves it as it is. A stamp is one of the stencil, whatever
     /// its number.
     pub fn edit(&mut self, act: &Act, stencil: &Stencil) -> Result<(), Refusal> {
-        edit::<Brand>(&mut self.store, self.side, act, stencil, Blank::new(1))
+        edit::<Brand>(
+            &mut self.store,
+            self.side,
+            act,
+            stencil,
+            true,
+            Blank::new(1),
+        )
+    }
+
+    /// Clears the cells of the stencil, whose least corner is at this place, or leaves the world as
+    /// it is.
+    pub fn unstamp(&mut self, stencil: &Stencil, at: Cell) -> Result<(), Refusal> {
+        let act = Act::Stamp(0, at);
+        edit::<Brand>(
+            &mut self.store,
+            self.side,
+            &act,
+            stencil,
+            false,
+            Blank::new(1),
+        )
     }
 
     /// The answer to the question, where it fits the world.
@@ -73,6 +94,7 @@ fn edit<L: Ledger>(
     side: Side,
     act: &Act,
     stencil: &Stencil,
+    set: bool,
     blank: Blank,
 ) -> Result<(), Refusal>
     requires name { blank.name ≡ L.name }
@@ -86,7 +108,7 @@ fn edit<L: Ledger>(
         return Err(Refusal::Unfit);
     }
     let old = store.take_root(0);
-    match version(store, old.as_ref(), side, stencil, act, &mut steps) {
+    match version(store, old.as_ref(), side, stencil, set, act, &mut steps) {
         Ok(new) => {
             back_if(store, old, &mut steps);
             store.keep_root(0, new);

@@ -80,7 +80,7 @@ const ROWS: &[(u32, &[Act], u64)] = &[
 ];
 
 /// Voxels of colour 0 stand after and before others of their place.
-const VOXELS: [[u8; 4]; 12] = [
+const VOXELS: &[[u8; 4]] = &[
     [0, 0, 0, 1],
     [1, 0, 0, 2],
     [2, 0, 0, 0],
@@ -95,12 +95,9 @@ const VOXELS: [[u8; 4]; 12] = [
     [1, 1, 1, 255],
 ];
 
-fn small_stencil(alloc: Global) -> Result<Stencil, Fail> {
-    let voxels = Vec::from_array(alloc, VOXELS)?;
-    let model = Drawing {
-        size: [5, 4, 3],
-        voxels,
-    };
+fn stencil_of(alloc: Global, size: [u8; 3], voxels: &[[u8; 4]]) -> Result<Stencil, Fail> {
+    let voxels = Vec::from_slice(alloc, voxels)?;
+    let model = Drawing { size, voxels };
     Ok(model.stencil(alloc).ok_or("a stencil")?)
 }
 
@@ -126,7 +123,7 @@ fn cells_after(world: &mut StoredWorld, acts: &[Act], stencil: &Stencil) -> Opti
 
 #[test]
 fn edits_set_so_many_cells(rt: HostRuntime) -> Result<(), Fail> {
-    let stencil = small_stencil(rt.alloc())?;
+    let stencil = stencil_of(rt.alloc(), [5, 4, 3], VOXELS)?;
     for &(side, acts, cells) in ROWS {
         let mut world = world_of(rt.alloc(), side, 16, 16)?;
         let found = cells_after(&mut world, acts, &stencil);
@@ -137,13 +134,18 @@ fn edits_set_so_many_cells(rt: HostRuntime) -> Result<(), Fail> {
 
 const MOVED: &[Act] = &[FIRST, THIRD, MOVE];
 
-const SET: &[(u16, bool)] = &[(0, true), (1, true), (2, false), (3, true), (4, false)];
+const SET: &[(Cell, bool)] = &[
+    (ORIGIN, true),
+    (Cell { x: 1, y: 0, z: 0 }, true),
+    (Cell { x: 2, y: 0, z: 0 }, false),
+    (Cell { x: 3, y: 0, z: 0 }, true),
+    (Cell { x: 4, y: 0, z: 0 }, false),
+];
 
-// Whether just these cells of the first five are set.
-fn are_set(world: &mut StoredWorld, cells: &[(u16, bool)]) -> bool {
-    for &(x, is_set) in cells {
-        let found = world.ask(&Question::Get(Cell { x, y: 0, z: 0 }));
-        if found != Some(Found::Is(is_set)) {
+// Whether of these cells just those are set that are said to be.
+fn are_set(world: &mut StoredWorld, cells: &[(Cell, bool)]) -> bool {
+    for &(c, is_set) in cells {
+        if world.ask(&Question::Get(c)) != Some(Found::Is(is_set)) {
             return false;
         }
     }
@@ -158,6 +160,73 @@ fn copies_read_the_cells_before(rt: HostRuntime) -> Result<(), Fail> {
     assert!(rt; acts_done(&mut world, MOVED, &stencil).is_none());
     assert!(rt; are_set(&mut world, SET));
     assert!(rt; world.ask(&Question::Bounds) == Some(Found::Extent(Some(FOUR))));
+    Ok(())
+}
+
+/// A model of three cells, which stand at 3 3 3, 5 3 3 and 4 4 4 of the world, and of a voxel of
+/// colour 0, which stands at 3 4 3 and is none.
+const SPREAD: &[[u8; 4]] = &[[0, 0, 0, 1], [2, 0, 0, 2], [1, 1, 1, 3], [0, 1, 0, 0]];
+
+const SPREAD_AT: Cell = Cell { x: 3, y: 3, z: 3 };
+
+/// The eight cells around the point 4 4 4, each in a leaf of its own. Two are the model's.
+const AROUND: Act = Act::Fill(Boxed {
+    at: SPREAD_AT,
+    size: Cell { x: 2, y: 2, z: 2 },
+});
+
+/// Edits of a world of side 8, how many cells are set when then the model's are cleared, and whether
+/// these are.
+const CLEARED: &[(&[Act], u64, &[(Cell, bool)])] = &[
+    (&[], 0, &[(Cell { x: 5, y: 3, z: 3 }, false)]),
+    (
+        &[AROUND],
+        6,
+        &[
+            (Cell { x: 3, y: 3, z: 3 }, false),
+            (Cell { x: 4, y: 3, z: 3 }, true),
+            (Cell { x: 3, y: 4, z: 3 }, true),
+            (Cell { x: 4, y: 4, z: 3 }, true),
+            (Cell { x: 3, y: 3, z: 4 }, true),
+            (Cell { x: 4, y: 3, z: 4 }, true),
+            (Cell { x: 3, y: 4, z: 4 }, true),
+            (Cell { x: 4, y: 4, z: 4 }, false),
+            // was unset before
+            (Cell { x: 5, y: 3, z: 3 }, false),
+        ],
+    ),
+    (
+        &[WHOLE],
+        509,
+        &[
+            (Cell { x: 3, y: 3, z: 3 }, false),
+            (Cell { x: 5, y: 3, z: 3 }, false),
+            (Cell { x: 4, y: 4, z: 4 }, false),
+        ],
+    ),
+];
+
+// Whether the edits, and then a stamp that clears, leave so many cells, and these as they are told.
+fn leave(
+    world: &mut StoredWorld,
+    acts: &[Act],
+    stencil: &Stencil,
+    cells: u64,
+    set: &[(Cell, bool)],
+) -> bool {
+    if acts_done(world, acts, stencil).is_some() || world.unstamp(stencil, SPREAD_AT).is_err() {
+        return false;
+    }
+    world.held() == 0 && number_of_cells(world) == Some(Found::Number(cells)) && are_set(world, set)
+}
+
+#[test]
+fn models_are_cleared(rt: HostRuntime) -> Result<(), Fail> {
+    let stencil = stencil_of(rt.alloc(), [3, 2, 2], SPREAD)?;
+    for &(acts, cells, set) in CLEARED {
+        let mut world = world_of(rt.alloc(), 8, 16, 16)?;
+        assert!(rt; leave(&mut world, acts, &stencil, cells, set), "{acts:?}");
+    }
     Ok(())
 }
 
