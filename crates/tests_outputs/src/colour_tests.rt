@@ -30,6 +30,39 @@ const TWICE_LINE: &str = "scripts 1 records 2 marks 0 nodes 7\n";
 const OF_TWO: [u8; 64] =
     *b"VOX \x96\0\0\0MAIN\0\0\0\0\x2c\0\0\0SIZE\x0c\0\0\0\0\0\0\0\x01\0\0\0\x01\0\0\0\x01\0\0\0XYZI\x08\0\0\0\0\0\0\0\x01\0\0\0\0\0\0\x02";
 
+// Two models: one cell of colour 1, and a row of three places, of colours 7, none and 9.
+const MODELS: &[u8] = b"VOX \x96\0\0\0MAIN\0\0\0\0\x5c\0\0\0\
+    SIZE\x0c\0\0\0\0\0\0\0\x01\0\0\0\x01\0\0\0\x01\0\0\0\
+    XYZI\x08\0\0\0\0\0\0\0\x01\0\0\0\0\0\0\x01\
+    SIZE\x0c\0\0\0\0\0\0\0\x03\0\0\0\x01\0\0\0\x01\0\0\0\
+    XYZI\x0c\0\0\0\0\0\0\0\x02\0\0\0\0\0\0\x07\x02\0\0\x09";
+
+// A shelf with these models and the script `s`.
+fn shelf_of(alloc: Global, script: &str) -> Result<MemoryShelf, Fail> {
+    let mut shelf = shelf_with(alloc, script.as_bytes())?;
+    shelf.write("two.vox", MODELS)?;
+    Ok(shelf)
+}
+
+// Two boxes get tints 3 and 4, and the row is stamped over the last cell of the first box and both
+// cells of the second, of which the first keeps its tint.
+const STAMPED: &str = "fill 0 0 0 2 1 1 3\nfill 2 0 0 2 1 1 4\nstamp 1 1 0 0\ncolour 0 0 0\n\
+     colour 1 0 0\ncolour 2 0 0\ncolour 3 0 0\nget 2 0 0\nget 4 0 0\nat 2 colour 1 0 0\n\
+     at 2 colour 3 0 0\ncount 0 0 0 8 8 8\n";
+
+const STAMPED_ANSWERS: &str = "1 @1 ok\n2 @2 ok\n3 @3 ok\n4 @3 colour 3\n5 @3 colour 7\n\
+     6 @3 colour 4\n7 @3 colour 9\n8 @3 set\n9 @3 clear\n10 @3 colour 3\n11 @3 colour 4\n\
+     12 @3 count 4\n";
+
+const STAMPED_JOURNAL: &str =
+    "voxdag journal 2\nside 8\n1 0 1 fill 0 0 0 2 1 1 3\n2 0 2 fill 2 0 0 2 1 1 4\n\
+     3 0 3 stamp 1 1 0 0\nend\n";
+
+// The planes of all cells and of bits 0 to 3 have these x set: 01, 01, 01 in version 1; 0123, 01, 01,
+// 23 in version 2; 0123, 013, 01, 12, 3 in version 3. So there are six leaves, each in a block of
+// side 8; of side 16 two blocks of all cells and three of the bits; and three roots.
+const STAMPED_LINE: &str = "scripts 1 records 3 marks 0 nodes 20\n";
+
 // A shelf after a run of this script with tints at side 8, which puts this line.
 fn coloured<R: Threads + Wait + Sync>(
     rt: &R,
@@ -37,8 +70,8 @@ fn coloured<R: Threads + Wait + Sync>(
     script: &str,
     printed: &str,
 ) -> Result<MemoryShelf, Fail> {
-    let mut shelf = shelf_with(alloc, script.as_bytes())?;
-    let line = "run --colours --side 8 --journal j --report p one.vox s";
+    let mut shelf = shelf_of(alloc, script)?;
+    let line = "run --colours --side 8 --journal j --report p two.vox s";
     if !ends(rt, alloc, line, &mut shelf, 0, printed)? {
         return Err(Fail::from("the line"));
     }
@@ -75,6 +108,8 @@ const ROWS: &[(&str, &str, &str)] = &[
         "scripts 1 records 2 marks 0 nodes 6\n",
         "1 @1 ok\n2 @2 ok\n3 @2 colour 1\n",
     ),
+    // and leaves the tints of cells that it doesn't set
+    (STAMPED, STAMPED_LINE, STAMPED_ANSWERS),
     // the last tint there is, in the last cell that there is
     (
         "fill 7 7 7 1 1 1 255\ncolour 7 7 7\nat 0 colour 7 7 7\nget 7 7 7\nbounds\n\
@@ -157,7 +192,7 @@ fn plain_runs_take_no_tint(rt: HostRuntime) -> Result<(), Fail> {
 }
 
 // The line of an audit of what a run of one script left.
-const AUDIT: &str = "audit one.vox j s";
+const AUDIT: &str = "audit two.vox j s";
 
 #[test]
 fn coloured_runs_are_audited_yes(rt: HostRuntime) -> Result<(), Fail> {
@@ -188,6 +223,35 @@ const LEFT: &[Left] = &[
         TWICE_JOURNAL,
         "1 @1 ok\n2 @1 colour 4\n3 @1 colour 0\n4 @1 count 1\n5 @2 ok\n6 @2 colour 2\n\
          7 @2 saved 1\n",
+        0,
+        "no\n",
+    ),
+    (STAMPED, STAMPED_JOURNAL, STAMPED_ANSWERS, 0, "yes\n"),
+    // a cell that the model set is told the tint that it had before
+    (
+        STAMPED,
+        STAMPED_JOURNAL,
+        "1 @1 ok\n2 @2 ok\n3 @3 ok\n4 @3 colour 3\n5 @3 colour 3\n6 @3 colour 4\n\
+         7 @3 colour 9\n8 @3 set\n9 @3 clear\n10 @3 colour 3\n11 @3 colour 4\n12 @3 count 4\n",
+        0,
+        "no\n",
+    ),
+    // a cell that the model left is told a tint of the model
+    (
+        STAMPED,
+        STAMPED_JOURNAL,
+        "1 @1 ok\n2 @2 ok\n3 @3 ok\n4 @3 colour 3\n5 @3 colour 7\n6 @3 colour 7\n\
+         7 @3 colour 9\n8 @3 set\n9 @3 clear\n10 @3 colour 3\n11 @3 colour 4\n12 @3 count 4\n",
+        0,
+        "no\n",
+    ),
+    // a cell that the model left is told to be clear
+    (
+        STAMPED,
+        STAMPED_JOURNAL,
+        "1 @1 ok\n2 @2 ok\n3 @3 ok\n4 @3 colour 3\n5 @3 colour 7\n6 @3 colour 4\n\
+         7 @3 colour 9\n8 @3 clear\n9 @3 clear\n10 @3 colour 3\n11 @3 colour 4\n\
+         12 @3 count 4\n",
         0,
         "no\n",
     ),
@@ -234,7 +298,7 @@ const LEFT: &[Left] = &[
 
 fn is_audited<R: Threads + Wait + Sync>(rt: &R, alloc: Global, left: &Left) -> Result<bool, Fail> {
     let &(script, journal, transcript, status, printed) = left;
-    let mut shelf = shelf_with(alloc, script.as_bytes())?;
+    let mut shelf = shelf_of(alloc, script)?;
     shelf.write("j", journal.as_bytes())?;
     shelf.write("s.out", transcript.as_bytes())?;
     Ok(ends(rt, alloc, AUDIT, &mut shelf, status, printed)?)
