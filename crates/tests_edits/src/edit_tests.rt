@@ -290,15 +290,10 @@ const BESIDE: &[(Cell, u8, bool)] = &[
 
 const PLACE: Cell = Cell { x: 4, y: 4, z: 4 };
 
-// The second leaf has cells at x = 5 and at this x.
-fn two_leaves(alloc: Global, height: u8, x: u8) -> Result<Stencil, Fail> {
-    let voxels = Vec::from_array(alloc, [[0, 0, 0, 1], [5, 1, 1, 1], [x, 2, 2, 1]])?;
-    let model = Drawing {
-        size: [8, 4, height],
-        voxels,
-    };
-    Ok(model.stencil(alloc).ok_or("a stencil")?)
-}
+/// Two models, whose second leaves have a cell at another x.
+const LEAVES: &[[u8; 4]] = &[[0, 0, 0, 1], [5, 1, 1, 1], [5, 2, 2, 1]];
+
+const OTHER_LEAVES: &[[u8; 4]] = &[[0, 0, 0, 1], [5, 1, 1, 1], [6, 2, 2, 1]];
 
 // Whether the stencils agree in just these blocks.
 fn agree_as(one: &Stencil, other: &Stencil, rows: &[(Cell, u8, bool)]) -> bool {
@@ -312,8 +307,8 @@ fn agree_as(one: &Stencil, other: &Stencil, rows: &[(Cell, u8, bool)]) -> bool {
 
 #[test]
 fn stencils_agree_in_blocks_of_the_same_words(rt: HostRuntime) -> Result<(), Fail> {
-    let one = two_leaves(rt.alloc(), 4, 5)?;
-    let other = two_leaves(rt.alloc(), 4, 6)?;
+    let one = stencil_of(rt.alloc(), [8, 4, 4], LEAVES)?;
+    let other = stencil_of(rt.alloc(), [8, 4, 4], OTHER_LEAVES)?;
     assert!(rt; agree_as(&one, &other, BESIDE));
     assert!(rt; agree_as(&other, &one, BESIDE));
     assert!(rt; agree_as(&one, &one, &[(ORIGIN, 10, true)]));
@@ -322,8 +317,8 @@ fn stencils_agree_in_blocks_of_the_same_words(rt: HostRuntime) -> Result<(), Fai
 
 #[test]
 fn stencils_of_two_sizes_never_agree(rt: HostRuntime) -> Result<(), Fail> {
-    let one = two_leaves(rt.alloc(), 4, 5)?;
-    let higher = two_leaves(rt.alloc(), 5, 5)?;
+    let one = stencil_of(rt.alloc(), [8, 4, 4], LEAVES)?;
+    let higher = stencil_of(rt.alloc(), [8, 4, 5], LEAVES)?;
     assert!(rt; agree_as(&one, &higher, &[(PLACE, 0, false), (ORIGIN, 0, false)]));
     Ok(())
 }

@@ -164,17 +164,20 @@ fn turns_of(alloc: Global, at: [u16; 3], size: [u16; 3]) -> Result<u32, Fail> {
     Ok(store.turns)
 }
 
+/// Boxes of a world of side 4,096, and at most how many turns it takes to fill each.
+const LARGE: &[([u16; 3], [u16; 3], u32)] = &[
+    ([0, 0, 0], [4096, 4096, 4096], 299),
+    ([1, 1, 1], [4095, 4095, 4095], 4999),
+    ([0, 0, 0], [4095, 4095, 4095], 4999),
+    ([1, 1, 1], [4094, 4094, 4094], 4999),
+    ([1, 3, 5], [4094, 4001, 4000], 4999),
+    ([5, 0, 77], [1, 4095, 3001], 4999),
+    ([1, 2, 3], [1, 1, 1], 4999),
+];
+
 #[test]
 fn large_fills_take_few_turns(rt: HostRuntime) -> Result<(), Fail> {
-    for &(at, size, most) in &[
-        ([0, 0, 0], [4096, 4096, 4096], 299),
-        ([1, 1, 1], [4095, 4095, 4095], 4999),
-        ([0, 0, 0], [4095, 4095, 4095], 4999),
-        ([1, 1, 1], [4094, 4094, 4094], 4999),
-        ([1, 3, 5], [4094, 4001, 4000], 4999),
-        ([5, 0, 77], [1, 4095, 3001], 4999),
-        ([1, 2, 3], [1, 1, 1], 4999),
-    ] {
+    for &(at, size, most) in LARGE {
         let turns = turns_of(rt.alloc(), at, size)?;
         assert!(rt; turns <= most, "{turns} turns at {at:?} of {size:?}");
     }

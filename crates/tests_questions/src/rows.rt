@@ -1,4 +1,5 @@
 use crate::asks::empty_world;
+use crate::plain::beside;
 use edit_stamp::Stencil;
 use history_model::{Act, Question, Way};
 use std::alloc::Global;
@@ -176,43 +177,6 @@ const MIDDLES: &[Cell] = &[
     Cell { x: 4, y: 4, z: 4 },
     Cell { x: 5, y: 6, z: 5 },
 ];
-
-// The cell beside this one in one of six directions.
-fn beside(at: Cell, direction: u8) -> Cell {
-    let Cell { x, y, z } = at;
-    match direction {
-        0 => Cell {
-            x: x.wrapping_sub(1),
-            y,
-            z,
-        },
-        1 => Cell {
-            x: x.wrapping_add(1),
-            y,
-            z,
-        },
-        2 => Cell {
-            x,
-            y: y.wrapping_sub(1),
-            z,
-        },
-        3 => Cell {
-            x,
-            y: y.wrapping_add(1),
-            z,
-        },
-        4 => Cell {
-            x,
-            y,
-            z: z.wrapping_sub(1),
-        },
-        _ => Cell {
-            x,
-            y,
-            z: z.wrapping_add(1),
-        },
-    }
-}
 
 fn single(at: Cell) -> Boxed {
     Boxed { at, size: ONE }

@@ -47,11 +47,10 @@ impl Twins {
     }
 }
 
+const VOXELS: &[[u8; 4]] = &[[0, 0, 0, 1], [2, 0, 3, 1], [1, 1, 1, 1], [0, 1, 2, 1]];
+
 fn small_model(alloc: Global) -> Result<Drawing, Fail> {
-    let voxels = Vec::from_slice(
-        alloc,
-        &[[0, 0, 0, 1], [2, 0, 3, 1], [1, 1, 1, 1], [0, 1, 2, 1]],
-    )?;
+    let voxels = Vec::from_slice(alloc, VOXELS)?;
     Ok(Drawing {
         size: [3, 2, 4],
         voxels,

@@ -35,48 +35,52 @@ pub fn plain_faces(grid: &Grid, b: Boxed) -> u64 {
     number
 }
 
-// Of the six cells round this one, how many aren't set. A place before the first is none of the
-// world's.
+// Of the six cells round this one, how many aren't set.
 fn bare_sides(grid: &Grid, c: Cell) -> u64 {
-    let Cell { x, y, z } = c;
     let mut number: u64 = 0;
-    for beside in [
-        Cell {
-            x: x.wrapping_sub(1),
-            y,
-            z,
-        },
-        Cell {
-            x: x.wrapping_add(1),
-            y,
-            z,
-        },
-        Cell {
-            x,
-            y: y.wrapping_sub(1),
-            z,
-        },
-        Cell {
-            x,
-            y: y.wrapping_add(1),
-            z,
-        },
-        Cell {
-            x,
-            y,
-            z: z.wrapping_sub(1),
-        },
-        Cell {
-            x,
-            y,
-            z: z.wrapping_add(1),
-        },
-    ] {
-        if !grid.has(beside) {
+    for direction in 0..6u8 {
+        if !grid.has(beside(c, direction)) {
             number = number.saturating_add(1);
         }
     }
     number
+}
+
+/// The cell beside this one in one of six directions. A place before the first is none of a world's.
+pub fn beside(at: Cell, direction: u8) -> Cell {
+    let Cell { x, y, z } = at;
+    match direction {
+        0 => Cell {
+            x: x.wrapping_sub(1),
+            y,
+            z,
+        },
+        1 => Cell {
+            x: x.wrapping_add(1),
+            y,
+            z,
+        },
+        2 => Cell {
+            x,
+            y: y.wrapping_sub(1),
+            z,
+        },
+        3 => Cell {
+            x,
+            y: y.wrapping_add(1),
+            z,
+        },
+        4 => Cell {
+            x,
+            y,
+            z: z.wrapping_sub(1),
+        },
+        _ => Cell {
+            x,
+            y,
+            z: z.wrapping_add(1),
+        },
+    }
 }
 
 /// The least box of all set cells.
