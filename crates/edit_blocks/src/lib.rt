@@ -2,8 +2,9 @@
 //! node that is there already, and of full blocks, whose greatest is kept aside so that each is
 //! made once.
 //!
-//! Whoever meets a full bucket gives back what it has in hand, so that the store holds what it
-//! held.
+//! It touches the store that it is given. Whoever meets a full bucket gives back what it has in
+//! hand, so that the store holds what it held. What came, what is aside and what is refused is said
+//! in `specs/Blocks.antt`.
 #![tactic(auto)]
 
 mod blocks;

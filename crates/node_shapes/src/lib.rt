@@ -1,8 +1,10 @@
 //! What a block of voxels contains, as a shape, and the names that its nodes have in a store, as a
 //! tree.
 //!
-//! The definitions stand in `specs/`. The laws that crates above rest on are the contracts of the
-//! functions here.
+//! It is definitions and laws, and touches nothing. Shapes and their cells stand in
+//! `specs/Shape.antt`, trees in `specs/Tree.antt`, the bucket of a content in `specs/Buckets.antt`,
+//! and lists told by weights in `specs/Weights.antt`. The laws that crates above rest on are the
+//! contracts of the functions here.
 #![tactic(auto)]
 
 ghost use Rattle.std.specs.Prelude.{◌≡◌, ◌≢◌, ◌+◌, ◌<◌, ◌≤◌, ℕ, Bool, List, Some, None, slice_index};

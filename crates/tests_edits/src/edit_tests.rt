@@ -306,7 +306,7 @@ fn agree_as(one: &Stencil, other: &Stencil, rows: &[(Cell, u8, bool)]) -> bool {
 }
 
 #[test]
-fn stencils_agree_in_blocks_of_the_same_words(rt: HostRuntime) -> Result<(), Fail> {
+fn stencils_agree_in_blocks_of_the_same_places(rt: HostRuntime) -> Result<(), Fail> {
     let one = stencil_of(rt.alloc(), [8, 4, 4], LEAVES)?;
     let other = stencil_of(rt.alloc(), [8, 4, 4], OTHER_LEAVES)?;
     assert!(rt; agree_as(&one, &other, BESIDE));

@@ -1,5 +1,5 @@
 //! Tests of what may be asked of a world: rows of answers, and random questions of random worlds
-//! against plain cells.
+//! against plain cells. It holds tests alone, over the store for one thread.
 #![tactic(auto)]
 
 #[cfg(test)]

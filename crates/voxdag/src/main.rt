@@ -1,4 +1,5 @@
-//! The program `voxdag` over real files and standard output.
+//! The program `voxdag` over real files and standard output. What it does with a line of words is
+//! the top call's, in `voxdag_top`.
 #![tactic(auto)]
 
 use std::io::ErrorKind;
