@@ -332,6 +332,27 @@ ink_alike old other a b place there at far i j own same el eo ea ep ink told bas
           ∙ sym (n'.shows.each x y z k l h);
     }
 
+-- where nothing was before, what the ink tells is enough
+pub new_alike : (old other : Option Name) (a b : Inked) (place there at far : Cell)
+    (i j own same : ℕ) → own ≡ same → old ≡ other → old ≡ None → at ≡ far → place ≡ there
+    → SameIn own (ink_cells a place i at) (ink_cells b place j at)
+    → MakeAlike (MakesInk old a place at i own) (MakesInk other b there far j same)
+new_alike old other a b place there at far i j own same el eo none ea ep told base level p q m n =
+    let n' = subst (λ (c : Cell). MakesInk other b c at j same base level q) (sym ep)
+    (subst (λ (c : Cell). MakesInk other b there c j same base level q) (sym ea) n) in
+    record {
+      each = λ x y z k l h.
+          let lx = subst (λ (v : ℕ). x < block_side v) m.same k in
+          let ly = subst (λ (v : ℕ). y < block_side v) m.same l in
+          let lz = subst (λ (v : ℕ). z < block_side v) m.same h in
+          m.shows.each x y z k l h
+          ∙ sym (new_only i _ _ (old_gone base level m.tree old none m.is_old x y z))
+          ∙ told.each x y z lx ly lz
+          ∙ new_only j _ _
+          (old_gone base level n'.tree other (sym eo ∙ none) n'.is_old x y z)
+          ∙ sym (n'.shows.each x y z k l h);
+    }
+
 -- ---- the planes of a store
 
 from_first : (inked : Inked) (place : Cell) (plane level : ℕ) (cells : Cells)

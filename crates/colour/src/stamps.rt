@@ -11,6 +11,7 @@ ghost use Rattle.colour.specs.Inks.{ink_at};
 ghost use Rattle.colour.specs.Stamps.{ink_cells, makes_ink};
 ghost use Rattle.colour.specs.Walks.{all_planes, ink_edit};
 
+use crate::memos::Recent;
 use crate::planes::quarter;
 use crate::stencils::TintStencil;
 use crate::walks::{Planes, rebuild_planes};
@@ -63,6 +64,9 @@ impl<'s> Task for InkTask<'s> {
     }
 
     fn whole(&self, level: u8) -> Whole {
+        if self.is_missed(level) {
+            return old_whole(self.old);
+        }
         if self.is_unset(level, self.plane) {
             return self.cleared(level);
         }
@@ -90,6 +94,21 @@ impl<'s> Task for InkTask<'s> {
 }
 
 impl<'s> InkTask<'s> {
+    // Whether the model has no place in the block.
+    #[inline(always)]
+    fn is_missed(&self, level: u8) -> bool
+        requires { level ≤ 10 }
+        ensures { IsTrue result → SameIn level
+            (ink_cells self.now.stencil.now self.now.place.now 0 self.now.at) no_cells }
+    {
+        let place = Boxed {
+            at: *self.place,
+            size: self.stencil.size(),
+        };
+        let block = Block { level, at: self.at };
+        !place.meets(block)
+    }
+
     // Whether no cell of the block has ink that tells in a plane. It may miss that.
     fn is_unset(&self, level: u8, plane: u8) -> bool
         requires level { level ≤ 10 }
@@ -97,14 +116,6 @@ impl<'s> InkTask<'s> {
         ensures { IsTrue result → SameIn level
             (ink_cells self.now.stencil.now self.now.place.now plane self.now.at) no_cells }
     {
-        let place = Boxed {
-            at: *self.place,
-            size: self.stencil.size(),
-        };
-        let block = Block { level, at: self.at };
-        if !place.meets(block) {
-            return true;
-        }
         let drawn = self.stencil.plane(plane);
         drawn.is_all(*self.place, self.at, level, false)
     }
@@ -164,6 +175,13 @@ impl<'s> Repeats for InkTask<'s> {
         if !same_blocks(self, other) {
             return false;
         }
+        if !same_told(self, other) {
+            return false;
+        }
+        // Where nothing was, what the ink tells is all that is set.
+        if self.old.is_none() {
+            return true;
+        }
         same_ink(self, other)
     }
 
@@ -190,12 +208,9 @@ fn same_blocks<'s>(a: &InkTask<'s>, b: &InkTask<'s>) -> bool
     same_cells(*a.place, *b.place)
 }
 
-// Whether both make the same of the block by their ink. It may miss that.
-fn same_ink<'s>(a: &InkTask<'s>, b: &InkTask<'s>) -> bool
-    ensures ink { IsTrue result → SameIn a.now.level
-        (ink_cells a.now.stencil.now a.now.place.now 0 a.now.at)
-        (ink_cells b.now.stencil.now a.now.place.now 0 a.now.at) }
-    ensures told { IsTrue result → SameIn a.now.level
+// Whether the ink of both tells the same in the block. It may miss that.
+fn same_told<'s>(a: &InkTask<'s>, b: &InkTask<'s>) -> bool
+    ensures { IsTrue result → SameIn a.now.level
         (ink_cells a.now.stencil.now a.now.place.now a.now.plane a.now.at)
         (ink_cells b.now.stencil.now a.now.place.now b.now.plane a.now.at) }
 {
@@ -208,7 +223,16 @@ fn same_ink<'s>(a: &InkTask<'s>, b: &InkTask<'s>) -> bool
     if b.plane > 8 {
         return false;
     }
-    if !tell_alike(a, a.plane, b, b.plane) {
+    tell_alike(a, a.plane, b, b.plane)
+}
+
+// Whether both have ink in the same cells of the block. It may miss that.
+fn same_ink<'s>(a: &InkTask<'s>, b: &InkTask<'s>) -> bool
+    ensures { IsTrue result → SameIn a.now.level
+        (ink_cells a.now.stencil.now a.now.place.now 0 a.now.at)
+        (ink_cells b.now.stencil.now a.now.place.now 0 a.now.at) }
+{
+    if a.level > 10 {
         return false;
     }
     tell_alike(a, 0, b, 0)
@@ -296,6 +320,15 @@ pub(crate) fn rebuild_ink_stamp<N: NodeStore, L: Ledger>(
         level: root - 2,
     };
     let _n = quarter(side);
+    if is_small(stencil.size()) {
+        let mut memo = Recent::new();
+        return rebuild_planes(store, old, side, planes, &mut memo, steps);
+    }
     let mut memo = Latest::new();
     rebuild_planes(store, old, side, planes, &mut memo, steps)
+}
+
+// Whether the blocks of a model have each a place among 256.
+fn is_small(size: Cell) -> bool {
+    size.x.max(size.y).max(size.z) <= 32
 }

@@ -1,7 +1,18 @@
 use Rattle.std.proofs.Common.{refl}
 use Rattle.edit_cells.proofs.WorldLaws.{blocks_some}
-use Rattle.colour.proofs.StampBlocks.{all_told}
+use Rattle.colour.proofs.StampBlocks.{none_inked, all_told}
 use Rattle.colour.proofs.stamps.InkTaskTask.whole.Goals as goal
+
+pub is_missed-requires : goal.is_missed-requires
+is_missed-requires c = let (base, cells, m) = c.requires.task in m.small
+
+pub returns-then-is_missed-clause-whole : goal.returns-then-is_missed-clause-whole
+returns-then-is_missed-clause-whole c base cells m =
+    none_inked _ _ _ _ _ _ base c.args.level cells m _ c.old_whole.ensures
+    (c.if-is_missed.ensures refl)
+
+pub returns-then-is_missed-clause-mixed : goal.returns-then-is_missed-clause-mixed
+returns-then-is_missed-clause-mixed c e h = blocks_some c.args.level h
 
 pub is_unset-requires-clause-level : goal.is_unset-requires-clause-level
 is_unset-requires-clause-level c = let (base, cells, m) = c.requires.task in m.small
