@@ -59,7 +59,8 @@ part_once Redo e = omega arith
 
 module _ (old new : Seen) (side : ℕ) (root : Option Name) (models : List Content) (act : Act)
     (e : suits_tints false act ≡ true) where
-  wanted : (before : World) (s : Shape) → IsPart s (world_shape (side - 2) (edited models act before))
+  wanted : (before : World) (s : Shape)
+      → IsPart s (world_shape (side - 2) (edited models act before))
       → IsOfParts (side - 2) (edit_parts (2 ^ side) models act) (edit_part_number act) before s
   wanted before s p = record {
     after = 1;

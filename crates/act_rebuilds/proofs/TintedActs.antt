@@ -36,7 +36,8 @@ module _ (old new : Seen) (side : ℕ) (root : Option Name) (models : List Conte
     (stencil : Option Inked) (large : 4 ≤ side) (ink : HasInk models t stencil) where
   made_parts : (name : Option Name)
       → PartsMade old side root (parts_in (2 ^ (side - 2)) t stencil) (part_number t) name new
-      → PartsMade old side root (edit_parts (2 ^ side) models (acts.Tint t)) (part_number t) name new
+      → PartsMade old side root (edit_parts (2 ^ side) models (acts.Tint t))
+      (part_number t) name new
   made_parts name made =
       subst (λ (parts : ℕ → World → World). PartsMade old side root parts (part_number t) name new)
       (parts_as side models t stencil large ink) made

@@ -36,7 +36,8 @@ target_held marks n to (v ∷ more) is =
       λ held. subst (λ (w : ℕ). IsVersionHeld marks n w) (sym same) held,
     )
 
-none_held : (marks : List Mark) (n : ℕ) (vs : List ℕ) → first_of vs ≡ None → HasTarget marks n vs → ⊥
+none_held : (marks : List Mark) (n : ℕ) (vs : List ℕ) → first_of vs ≡ None → HasTarget marks n vs
+    → ⊥
 none_held marks n [] is has = has
 none_held marks n (v ∷ more) is has = let no : ⊥ = cc in no
 
@@ -45,9 +46,11 @@ free_by : (marks : List Mark) (table : List (Option Mark)) (n : ℕ) (to : ℕ) 
     → FreeBy (Some to) table n ↔ IsVersionHeld marks n to
 free_by marks table n to tells = held_is marks to n (slice_index_or table to None) (tells.each to)
 
-module _ (marks : List Mark) (table : List (Option Mark)) (tells : TellsMarks marks table) (n : ℕ) where
+module _ (marks : List Mark) (table : List (Option Mark)) (tells : TellsMarks marks table)
+    (n : ℕ) where
   -- of the versions that an undo or a redo can go to
-  goes_marked : (vs : List ℕ) (to : Option ℕ) → first_of vs ≡ to → FreeBy to table n → HasTarget [] n vs
+  goes_marked : (vs : List ℕ) (to : Option ℕ) → first_of vs ≡ to → FreeBy to table n
+      → HasTarget [] n vs
       → HasTarget marks n vs
   goes_marked vs None is free has = absurd (none_held [] n vs is has)
   goes_marked vs (Some to) is free has =
@@ -57,7 +60,8 @@ module _ (marks : List Mark) (table : List (Option Mark)) (tells : TellsMarks ma
   goes_unmarked [] has = has
   goes_unmarked (v ∷ more) has = λ k d lt. absurd (omega (arith, lt))
 
-  goes_free : (vs : List ℕ) (to : Option ℕ) → first_of vs ≡ to → HasTarget marks n vs → FreeBy to table n
+  goes_free : (vs : List ℕ) (to : Option ℕ) → first_of vs ≡ to → HasTarget marks n vs
+      → FreeBy to table n
   goes_free vs None is has = tt
   goes_free vs (Some to) is has =
       (free_by marks table n to tells).1 ((target_held marks n to vs is).0 has)
@@ -66,9 +70,11 @@ module _ (marks : List Mark) (table : List (Option Mark)) (tells : TellsMarks ma
       → FreeBy (target_at records (length records) act) table n
       → MayFollow [] n act (position_after records) → MayFollow marks n act (position_after records)
   may_marked records Undo free may =
-      goes_marked (position_after records).past (target_at records (length records) Undo) (sym (undo_target records)) free may
+      goes_marked (position_after records).past (target_at records (length records) Undo)
+      (sym (undo_target records)) free may
   may_marked records Redo free may =
-      goes_marked (position_after records).future (target_at records (length records) Redo) (sym (redo_target records)) free may
+      goes_marked (position_after records).future (target_at records (length records) Redo)
+      (sym (redo_target records)) free may
   may_marked records (Fill b) free may = tt
   may_marked records (Erase b) free may = tt
   may_marked records (Ball b) free may = tt
@@ -77,7 +83,8 @@ module _ (marks : List Mark) (table : List (Option Mark)) (tells : TellsMarks ma
   may_marked records (Stamp b c) free may = tt
   may_marked records (Tint t) free may = tt
 
-  pub may_unmarked : (records : List Record) (act : Act) → MayFollow marks n act (position_after records)
+  pub may_unmarked : (records : List Record) (act : Act)
+      → MayFollow marks n act (position_after records)
       → MayFollow [] n act (position_after records)
   may_unmarked records Undo may = goes_unmarked (position_after records).past may
   may_unmarked records Redo may = goes_unmarked (position_after records).future may
@@ -89,12 +96,15 @@ module _ (marks : List Mark) (table : List (Option Mark)) (tells : TellsMarks ma
   may_unmarked records (Stamp b c) may = tt
   may_unmarked records (Tint t) may = tt
 
-  pub may_free : (records : List Record) (act : Act) → MayFollow marks n act (position_after records)
+  pub may_free : (records : List Record) (act : Act)
+      → MayFollow marks n act (position_after records)
       → FreeBy (target_at records (length records) act) table n
   may_free records Undo may =
-      goes_free (position_after records).past (target_at records (length records) Undo) (sym (undo_target records)) may
+      goes_free (position_after records).past (target_at records (length records) Undo)
+      (sym (undo_target records)) may
   may_free records Redo may =
-      goes_free (position_after records).future (target_at records (length records) Redo) (sym (redo_target records)) may
+      goes_free (position_after records).future (target_at records (length records) Redo)
+      (sym (redo_target records)) may
   may_free records (Fill b) may = tt
   may_free records (Erase b) may = tt
   may_free records (Ball b) may = tt
@@ -111,18 +121,25 @@ pub step_taken : (side : ℕ) (models : List Content) (marks : List Mark) (table
     → FreeBy (target_at before (length before) r.act) table (length before + 1)
     → Replays before r (Ok taken) now → Steps side models marks before r (Ok taken) now
 step_taken side models marks table before now r true tells fits free replays = (
-  record { fits = fits; follows = may_marked marks table tells (length before + 1) before r.act free replays.0 },
+  record {
+    fits = fits;
+    follows = may_marked marks table tells
+        (length before + 1) before r.act free replays.0;
+  },
   replays.1,
 )
 step_taken side models marks table before now r false tells fits free replays =
-    λ following. replays.0 (may_unmarked marks table tells (length before + 1) before r.act following.follows)
+    λ following. replays.0
+    (may_unmarked marks table tells (length before + 1) before r.act following.follows)
 
-pub step_forbidden : (side : ℕ) (models : List Content) (marks : List Mark) (table : List (Option Mark))
+pub step_forbidden : (side : ℕ) (models : List Content) (marks : List Mark)
+    (table : List (Option Mark))
     (before now : List Record) (r : Record) → TellsMarks marks table
     → (FreeBy (target_at before (length before) r.act) table (length before + 1) → ⊥)
     → Steps side models marks before r (Ok false) now
 step_forbidden side models marks table before now r tells not_free =
-    λ following. not_free (may_free marks table tells (length before + 1) before r.act following.follows)
+    λ following. not_free
+    (may_free marks table tells (length before + 1) before r.act following.follows)
 
 -- ---- all records
 
@@ -138,10 +155,12 @@ follows_on marks n before (s ∷ more) r so_far next =
     let after : Position = next_position n s.act before in (
       so_far.0,
       follows_on marks (n + 1) after more r so_far.1
-          (subst (λ (m : ℕ). MayFollow marks m r.act (position_from (n + 1) after more)) number next),
+          (subst (λ (m : ℕ). MayFollow marks m r.act
+          (position_from (n + 1) after more)) number next),
     )
 
-follow_at : (marks : List Mark) (n : ℕ) (before : Position) (records : List Record) (i : ℕ) (d : Record)
+follow_at : (marks : List Mark) (n : ℕ) (before : Position) (records : List Record) (i : ℕ)
+    (d : Record)
     → MayFollowFrom marks n before records → i < length records
     → MayFollow marks (n + i) (get_or records i d).act (position_from n before (take i records))
 follow_at marks n before [] i d all lt = absurd (omega (arith, lt))
@@ -150,7 +169,8 @@ follow_at marks n before (s ∷ more) zero d all lt =
     subst (λ (m : ℕ). MayFollow marks m s.act before) number all.0
 follow_at marks n before (s ∷ more) (suc i) d all lt =
     let number : n + 1 + i ≡ n + suc i = omega arith in
-    subst (λ (m : ℕ). MayFollow marks m (get_or more i d).act (position_from (n + 1) (next_position n s.act before) (take i more))) number
+    subst (λ (m : ℕ). MayFollow marks m (get_or more i d).act
+    (position_from (n + 1) (next_position n s.act before) (take i more))) number
     (follow_at marks (n + 1) (next_position n s.act before) more i d all.1 (omega (arith, lt)))
 
 last_or_less : (n i : ℕ) → n < i + 1 → (n < i) ⊎ (n ≡ i)
@@ -170,20 +190,29 @@ by_cases f g (inl a) = f a
 by_cases f g (inr b) = g b
 
 -- how far the replay has come
-pub record HasReplayed (side : ℕ) (models : List Content) (marks : List Mark) (records : List Record)
+pub record HasReplayed (side : ℕ) (models : List Content) (marks : List Mark)
+    (records : List Record)
     (i : ℕ) (replayed : List Record) (ways : List Ways) : Type 0 where
   pub are : replayed ≡ take i records
   pub follow : FollowEach side models marks replayed
   pub as_many : length ways ≡ i
   pub each : (n : ℕ) (d : Ways) → n < i → get_or ways n d ≡ ways_at records n
 
-ways_same : (records replayed : List Record) (i : ℕ) → replayed ≡ take i records → i ≤ length records
+ways_same : (records replayed : List Record) (i : ℕ) → replayed ≡ take i records
+    → i ≤ length records
     → ways_at replayed (length replayed) ≡ ways_at records i
 ways_same records replayed i are le =
-    let all : take (length replayed) replayed ≡ take i records = take_all (length replayed) replayed (omega arith) ∙ are in
-    ap (λ (rs : List Record). record { undo = first_of (position_after rs).past; redo = first_of (position_after rs).future }) all
+    let all : take (length replayed) replayed ≡ take i records =
+    take_all (length replayed) replayed (omega arith) ∙ are in
+    ap (λ (rs : List Record).
+    record {
+      undo = first_of (position_after rs).past;
+      redo = first_of
+          (position_after rs).future;
+    }) all
 
-pub replayed_none : (side : ℕ) (models : List Content) (marks : List Mark) (records replayed : List Record)
+pub replayed_none : (side : ℕ) (models : List Content) (marks : List Mark)
+    (records replayed : List Record)
     → replayed ≡ [] → HasReplayed side models marks records 0 replayed []
 replayed_none side models marks records replayed is = record {
   are = is;
@@ -197,15 +226,18 @@ each_more : (records : List Record) (ways : List Ways) (i : ℕ) (w : Ways) → 
     → ((n : ℕ) (d : Ways) → n < i → get_or ways n d ≡ ways_at records n) → w ≡ ways_at records i
     → (n : ℕ) (d : Ways) → n < i + 1 → get_or (ways ++ w ∷ []) n d ≡ ways_at records n
 each_more records ways i w long each is n d lt =
-    by_cases (λ (less : n < i). get_or_append_left ways (w ∷ []) d n (omega (arith, long, less)) ∙ each n d less)
+    by_cases (λ (less : n < i). get_or_append_left ways (w ∷ []) d n (omega (arith, long, less))
+    ∙ each n d less)
     (λ (same : n ≡ i).
     ap (λ (k : ℕ). get_or (ways ++ w ∷ []) k d) (same ∙ sym long) ∙ get_or_last ways w d
     ∙ is ∙ ap (ways_at records) (sym same))
     (last_or_less n i lt)
 
-pub replayed_more : (side : ℕ) (models : List Content) (marks : List Mark) (records replayed now : List Record)
+pub replayed_more : (side : ℕ) (models : List Content) (marks : List Mark)
+    (records replayed now : List Record)
     (i : ℕ) (ways : List Ways) (w : Ways) (r d : Record)
-    → HasReplayed side models marks records i replayed ways → i < length records → r ≡ get_or records i d
+    → HasReplayed side models marks records i replayed ways → i < length records
+    → r ≡ get_or records i d
     → w ≡ ways_at replayed (length replayed) → IsFollowing side models marks replayed r
     → now ≡ replayed ++ r ∷ [] → HasReplayed side models marks records (i + 1) now (ways ++ w ∷ [])
 replayed_more side models marks records replayed now i ways w r d so_far lt is told following more =
@@ -214,32 +246,42 @@ replayed_more side models marks records replayed now i ways w r d so_far lt is t
       are = more ∙ ap (λ (rs : List Record). rs ++ r ∷ []) so_far.are
           ∙ ap (λ (x : Record). take i records ++ x ∷ []) is ∙ sym (take_more records i d lt);
       follow = subst (λ (rs : List Record). FollowEach side models marks rs) (sym more) (record {
-        fit = All-push (λ s. FitsWorld side models s.act) replayed r so_far.follow.fit following.fits;
+        fit = All-push
+            (λ s. FitsWorld side models s.act) replayed r so_far.follow.fit following.fits;
         follow = follows_on marks 1 beginning replayed r so_far.follow.follow
-            (subst (λ (m : ℕ). MayFollow marks m r.act (position_after replayed)) number following.follows);
+            (subst (λ (m : ℕ). MayFollow marks m r.act
+            (position_after replayed)) number following.follows);
       });
       as_many = length-append ways (w ∷ []) ∙ ap (λ (k : ℕ). k + 1) so_far.as_many;
       each = each_more records ways i w so_far.as_many so_far.each
           (told ∙ ways_same records replayed i so_far.are (omega arith));
     }
 
-pub replayed_stop : (side : ℕ) (models : List Content) (marks : List Mark) (records replayed : List Record)
-    (i : ℕ) (ways : List Ways) (r d : Record) → HasReplayed side models marks records i replayed ways
+pub replayed_stop : (side : ℕ) (models : List Content) (marks : List Mark)
+    (records replayed : List Record)
+    (i : ℕ) (ways : List Ways) (r d : Record)
+    → HasReplayed side models marks records i replayed ways
     → i < length records → r ≡ get_or records i d → (IsFollowing side models marks replayed r → ⊥)
     → FollowEach side models marks records → ⊥
 replayed_stop side models marks records replayed i ways r d so_far lt is wrong all =
-    let front : length replayed ≡ i = ap (λ (rs : List Record). length rs) so_far.are ∙ (let h = length-take i records in omega (arith, h, lt)) in
+    let front : length replayed ≡ i =
+    ap (λ (rs : List Record). length rs) so_far.are
+    ∙ (let h = length-take i records in omega (arith, h, lt)) in
     let here = follow_at marks 1 beginning records i d all.follow lt in
     let number : 1 + i ≡ length replayed + 1 = omega (arith, front) in
     wrong (record {
       fits = subst (λ (x : Record). FitsWorld side models x.act) (sym is) (all.fit i d lt);
       follows =
-          subst (λ (x : Record). MayFollow marks (length replayed + 1) x.act (position_after replayed)) (sym is)
-          (subst (λ (m : ℕ). MayFollow marks m (get_or records i d).act (position_after replayed)) number
-          (subst (λ (rs : List Record). MayFollow marks (1 + i) (get_or records i d).act (position_after rs)) (sym so_far.are) here));
+          subst (λ (x : Record). MayFollow marks (length replayed + 1) x.act
+          (position_after replayed)) (sym is)
+          (subst (λ (m : ℕ). MayFollow marks m (get_or records i d).act
+          (position_after replayed)) number
+          (subst (λ (rs : List Record). MayFollow marks (1 + i) (get_or records i d).act
+          (position_after rs)) (sym so_far.are) here));
     })
 
-pub replayed_all : (side : ℕ) (models : List Content) (marks : List Mark) (records replayed : List Record)
+pub replayed_all : (side : ℕ) (models : List Content) (marks : List Mark)
+    (records replayed : List Record)
     (i : ℕ) (ways : List Ways) (w : Ways) → HasReplayed side models marks records i replayed ways
     → i ≡ length records → w ≡ ways_at replayed (length replayed)
     → FollowEach side models marks records × AreWays records (ways ++ w ∷ []) × (replayed ≡ records)
@@ -250,7 +292,8 @@ replayed_all side models marks records replayed i ways w so_far is told =
       record {
         as_many = length-append ways (w ∷ []) ∙ ap (λ (k : ℕ). k + 1) (so_far.as_many ∙ is);
         each = λ n d le. each_more records ways i w so_far.as_many so_far.each
-            (told ∙ ways_same records replayed i so_far.are (omega (arith, is))) n d (omega (arith, le, is));
+            (told ∙ ways_same records replayed i so_far.are (omega (arith, is))) n d
+            (omega (arith, le, is));
       },
       same,
     )
@@ -260,7 +303,11 @@ abbrev pub any_record : Record
 any_record = record {
   session = 0;
   line = 0;
-  act = Fill (record { at = record { x = 0; y = 0; z = 0 }; size = record { x = 0; y = 0; z = 0 } });
+  act = Fill (record {
+    at = record { x = 0; y = 0; z = 0 };
+    size =
+        record { x = 0; y = 0; z = 0 };
+  });
 }
 
 -- ---- a record that was refused
@@ -279,7 +326,8 @@ filled_along p models records replayed i r d full are lt is fills = record {
       ∙ ap (λ (x : Record). take i records ++ x ∷ []) is ∙ sym (take_more records i d lt)) fills;
 }
 
-pub refused_along : (p : Layout) (s : ReplayState) (models : List Content) (records : List Record) (i : ℕ)
+pub refused_along : (p : Layout) (s : ReplayState) (models : List Content) (records : List Record)
+    (i : ℕ)
     (r d : Record) (refused : AuditRefused) → s.plan ≡ p → s.models ≡ models
     → s.records ≡ take i records → i < length records → r ≡ get_or records i d
     → RefusesNext s r refused → RefusesAlong p models records refused
@@ -291,15 +339,18 @@ refused_along p s models records i r d refusals.Memory plan same are lt is fills
 
 -- ---- by the plan and the models with which the replay began
 
-pub record_fits : (p q : Layout) (models others : List Content) (records : List Record) (i : ℕ) (d : Record)
+pub record_fits : (p q : Layout) (models others : List Content) (records : List Record) (i : ℕ)
+    (d : Record)
     → q ≡ p → others ≡ models → i < length records
     → All (λ r. FitsWorld (2 ^ p.side) models r.act) records
     → FitsWorld (2 ^ q.side) others (get_or records i d).act
 record_fits p q models others records i d plan same lt all =
     subst (λ (x : Layout). FitsWorld (2 ^ x.side) others (get_or records i d).act) (sym plan)
-    (subst (λ (x : List Content). FitsWorld (2 ^ p.side) x (get_or records i d).act) (sym same) (all i d lt))
+    (subst (λ (x : List Content). FitsWorld (2 ^ p.side) x (get_or records i d).act) (sym same)
+    (all i d lt))
 
-pub steps_as : (p q : Layout) (models others : List Content) (marks : List Mark) (before now : List Record)
+pub steps_as : (p q : Layout) (models others : List Content) (marks : List Mark)
+    (before now : List Record)
     (r : Record) (taken : Bool) → q ≡ p → others ≡ models
     → Steps (2 ^ q.side) others marks before r (Ok taken) now
     → Steps (2 ^ p.side) models marks before r (Ok taken) now

@@ -24,7 +24,8 @@ pub too_many : (models : List Content) (log : Log) → 65535 < length log.record
     → IsLegal (2 ^ log.side) models log → ⊥
 too_many models log over legal = let few = legal.few in omega (arith, over, few)
 
-pub no_marks : (models : List Content) (log : Log) → (AreLegalMarks (length log.records) log.marks → ⊥)
+pub no_marks : (models : List Content) (log : Log)
+    → (AreLegalMarks (length log.records) log.marks → ⊥)
     → IsLegal (2 ^ log.side) models log → ⊥
 no_marks models log wrong legal = wrong (record { rising = legal.rising; marked = legal.marked })
 
@@ -34,11 +35,13 @@ pub no_fit : (models : List Content) (log : Log)
 no_fit models log wrong legal = wrong legal.fit
 
 pub no_follow : (models : List Content) (log : Log)
-    → (FollowEach (2 ^ log.side) models log.marks log.records → ⊥) → IsLegal (2 ^ log.side) models log → ⊥
+    → (FollowEach (2 ^ log.side) models log.marks log.records → ⊥)
+    → IsLegal (2 ^ log.side) models log → ⊥
 no_follow models log wrong legal = wrong (record { fit = legal.fit; follow = legal.follow })
 
 pub legal_by : (models : List Content) (log : Log) → length log.records ≤ 65535
-    → AreLegalMarks (length log.records) log.marks → FollowEach (2 ^ log.side) models log.marks log.records
+    → AreLegalMarks (length log.records) log.marks
+    → FollowEach (2 ^ log.side) models log.marks log.records
     → IsLegal (2 ^ log.side) models log
 legal_by models log few marks follow = record {
   same_side = refl;
@@ -62,32 +65,46 @@ legal_rerun log replay ways table tint records side few are tells = record {
   tells = tells;
 }
 
-pub never_audited : (keep : ℕ) (p : Layout) (models : List Content) (log : Log) (scripts : List (List ScriptLine)) (transcripts : List (List LineAnswer))
-    → p.side ≡ log.side → (IsLegal (2 ^ log.side) models log → ⊥) → IsAudited keep p models log scripts transcripts → ⊥
+pub never_audited : (keep : ℕ) (p : Layout) (models : List Content) (log : Log)
+    (scripts : List (List ScriptLine)) (transcripts : List (List LineAnswer))
+    → p.side ≡ log.side → (IsLegal (2 ^ log.side) models log → ⊥)
+    → IsAudited keep p models log scripts transcripts → ⊥
 never_audited keep p models log scripts transcripts side wrong audited =
     wrong (subst (λ (s : ℕ). IsLegal (2 ^ s) models log) side audited.legal)
 
-pub audited_by : (keep : ℕ) (p : Layout) (models : List Content) (log : Log) (scripts : List (List ScriptLine)) (transcripts : List (List LineAnswer))
+pub audited_by : (keep : ℕ) (p : Layout) (models : List Content) (log : Log)
+    (scripts : List (List ScriptLine)) (transcripts : List (List LineAnswer))
     → p.side ≡ log.side → IsLegal (2 ^ log.side) models log → SuitsTints log → KeepsLast keep log
-    → AgreesKeeping keep p models log scripts transcripts ↔ IsAudited keep p models log scripts transcripts
+    → AgreesKeeping keep p models log scripts transcripts
+    ↔ IsAudited keep p models log scripts transcripts
 audited_by keep p models log scripts transcripts side legal suits last = (
-  λ agrees. record { legal = subst (λ (s : ℕ). IsLegal (2 ^ s) models log) (sym side) legal; suits = suits; last = last; agrees = agrees },
+  λ agrees. record {
+    legal = subst (λ (s : ℕ). IsLegal (2 ^ s) models log)
+        (sym side) legal;
+    suits = suits;
+    last = last;
+    agrees = agrees;
+  },
   λ audited. audited.agrees,
 )
 
-pub never_suits : (keep : ℕ) (p : Layout) (models : List Content) (log : Log) (scripts : List (List ScriptLine)) (transcripts : List (List LineAnswer))
+pub never_suits : (keep : ℕ) (p : Layout) (models : List Content) (log : Log)
+    (scripts : List (List ScriptLine)) (transcripts : List (List LineAnswer))
     → (SuitsTints log → ⊥) → IsAudited keep p models log scripts transcripts → ⊥
 never_suits keep p models log scripts transcripts wrong audited = wrong audited.suits
 
-pub never_kept : (keep : ℕ) (p : Layout) (models : List Content) (log : Log) (scripts : List (List ScriptLine)) (transcripts : List (List LineAnswer))
+pub never_kept : (keep : ℕ) (p : Layout) (models : List Content) (log : Log)
+    (scripts : List (List ScriptLine)) (transcripts : List (List LineAnswer))
     → (KeepsLast keep log → ⊥) → IsAudited keep p models log scripts transcripts → ⊥
 never_kept keep p models log scripts transcripts wrong audited = wrong audited.last
 
 -- ---- by the plans of the side
 
-pub audited_by_plan : (keep : ℕ) (p q : Layout) (models : List Content) (log : Log) (scripts : List (List ScriptLine))
+pub audited_by_plan : (keep : ℕ) (p q : Layout) (models : List Content) (log : Log)
+    (scripts : List (List ScriptLine))
     (transcripts : List (List LineAnswer)) (answer : Type 0) → p ≡ q
-    → answer ↔ IsAudited keep p models log scripts transcripts → answer ↔ IsAudited keep q models log scripts transcripts
+    → answer ↔ IsAudited keep p models log scripts transcripts
+    → answer ↔ IsAudited keep q models log scripts transcripts
 audited_by_plan keep p q models log scripts transcripts answer same both =
     subst (λ (r : Layout). answer ↔ IsAudited keep r models log scripts transcripts) same both
 
@@ -99,14 +116,16 @@ refused_all p q models records result same refuses =
 
 -- ---- by the state with which a replay begins
 
-pub follows_log : (s : ReplayState) (side : ℕ) (models : List Content) (marks : List Mark) (records : List Record)
+pub follows_log : (s : ReplayState) (side : ℕ) (models : List Content) (marks : List Mark)
+    (records : List Record)
     → s.plan.side ≡ side → s.models ≡ models → FollowEach (2 ^ s.plan.side) s.models marks records
     → FollowEach (2 ^ side) models marks records
 follows_log s side models marks records same list follow =
     subst (λ (n : ℕ). FollowEach (2 ^ n) models marks records) same
     (subst (λ (ms : List Content). FollowEach (2 ^ s.plan.side) ms marks records) list follow)
 
-pub follows_begun : (s : ReplayState) (side : ℕ) (models : List Content) (marks : List Mark) (records : List Record)
+pub follows_begun : (s : ReplayState) (side : ℕ) (models : List Content) (marks : List Mark)
+    (records : List Record)
     → s.plan.side ≡ side → s.models ≡ models → FollowEach (2 ^ side) models marks records
     → FollowEach (2 ^ s.plan.side) s.models marks records
 follows_begun s side models marks records same list follow =
@@ -117,11 +136,13 @@ pub fit_begun : (s : ReplayState) (side : ℕ) (models : List Content) (records 
     → s.plan.side ≡ side → s.models ≡ models → All (λ r. FitsWorld (2 ^ side) models r.act) records
     → All (λ r. FitsWorld (2 ^ s.plan.side) s.models r.act) records
 fit_begun s side models records same list all =
-    subst (λ (ms : List Content). All (λ (r : Record). FitsWorld (2 ^ s.plan.side) ms r.act) records) (sym list)
+    subst (λ (ms : List Content). All
+    (λ (r : Record). FitsWorld (2 ^ s.plan.side) ms r.act) records) (sym list)
     (subst (λ (n : ℕ). All (λ (r : Record). FitsWorld (2 ^ n) models r.act) records) (sym same) all)
 
 pub suits_begun : (s : ReplayState) (tint : Bool) (records : List Record) → s.tint ≡ tint
-    → All (λ r. suits_tints tint r.act ≡ true) records → All (λ r. suits_tints s.tint r.act ≡ true) records
+    → All (λ r. suits_tints tint r.act ≡ true) records
+    → All (λ r. suits_tints s.tint r.act ≡ true) records
 suits_begun s tint records same all =
     subst (λ (b : Bool). All (λ (r : Record). suits_tints b r.act ≡ true) records) (sym same) all
 

@@ -12,7 +12,8 @@ use Rattle.audit.proofs.Counting.{listed, contained, any_of, one_of}
 abbrev names : ℕ → ℕ → Mark → Bool
 names n version m = (m.version == version) && nat_le m.at n
 
-marked_is : (all : List Mark) (version n : ℕ) (mark : Option Mark) → IsOnlyMarkOrNone all version mark
+marked_is : (all : List Mark) (version n : ℕ) (mark : Option Mark)
+    → IsOnlyMarkOrNone all version mark
     → MarkedBy mark n ↔ IsTrue (is_marked_by n version all)
 marked_is all version n None is = (
   λ no. absurd no,
@@ -23,11 +24,13 @@ marked_is all version n None is = (
 )
 marked_is all version n (Some m) is = (
   λ le. any_of (names n version) all m (contained all m is.listed)
-      (both_pass (m.version == version) (nat_le m.at n) (eq-eqb m.version version is.same) (le-leb m.at n le)),
+      (both_pass (m.version == version) (nat_le m.at n) (eq-eqb m.version version is.same)
+      (le-leb m.at n le)),
   λ any. (
       let found = one_of (names n version) all any in
       let both = and_parts (found.0.version == version) (nat_le found.0.at n) found.2 in
-      let one : found.0 ≡ m = is.only found.0 (listed all found.0 found.1) (eqb-true found.0.version version both.0) in
+      let one : found.0 ≡ m =
+      is.only found.0 (listed all found.0 found.1) (eqb-true found.0.version version both.0) in
       subst (λ (x : Mark). x.at ≤ n) one (leb-true found.0.at n both.1)),
 )
   where
@@ -45,18 +48,23 @@ keep_one keep table count so_far one v lt = elim (cases_eq v count) [
   | inr other ↦ so_far v (omega (arith, lt, other))
 ]
 
-pub all_kept : (keep : ℕ) (log : Log) (table : List (Option Mark)) (count : ℕ) → TellsMarks log.marks table
+pub all_kept : (keep : ℕ) (log : Log) (table : List (Option Mark)) (count : ℕ)
+    → TellsMarks log.marks table
     → length log.records + 1 - keep ≤ count → KeepSoFar keep table count → KeepsLast keep log
 all_kept keep log table count tells all so_far = record {
   marked = λ n some late within. (
       let there = so_far (n - keep) (omega (arith, some, late, within, all)) in
       let number : n - keep + keep ≡ n = omega (arith, late) in
-      let by_then = subst (λ (k : ℕ). MarkedBy (slice_index_or table (n - keep) None) k) number there in
-      (marked_is log.marks (n - keep) n (slice_index_or table (n - keep) None) (tells.each (n - keep))).0 by_then);
+      let by_then =
+      subst (λ (k : ℕ). MarkedBy (slice_index_or table (n - keep) None) k) number there in
+      (marked_is log.marks (n - keep) n (slice_index_or table (n - keep) None)
+      (tells.each (n - keep))).0 by_then);
 }
 
-pub one_lost : (keep : ℕ) (log : Log) (table : List (Option Mark)) (v : ℕ) → TellsMarks log.marks table
-    → 1 ≤ keep → v < length log.records + 1 - keep → (MarkedBy (slice_index_or table v None) (v + keep) → ⊥)
+pub one_lost : (keep : ℕ) (log : Log) (table : List (Option Mark)) (v : ℕ)
+    → TellsMarks log.marks table
+    → 1 ≤ keep → v < length log.records + 1 - keep
+    → (MarkedBy (slice_index_or table v None) (v + keep) → ⊥)
     → KeepsLast keep log → ⊥
 one_lost keep log table v tells some lt lost last =
     let any = last.marked (v + keep) some (omega arith) (omega (arith, lt)) in

@@ -20,31 +20,39 @@ use Rattle.audit.specs.Marks.{IsOnlyMarkOrNone, StandsBy, ForgottenBy}
 use Rattle.audit.proofs.Marking.{stands_is, forgotten_is}
 use Rattle.audit.proofs.OneAnswer.{one_answer}
 
-pub stands_rerun : (log : Log) (replay : ReplayState) (ways : List Ways) (table : List (Option Mark)) (session line n version : ℕ) → IsRerun log replay ways table
+pub stands_rerun : (log : Log) (replay : ReplayState) (ways : List Ways)
+    (table : List (Option Mark)) (session line n version : ℕ) → IsRerun log replay ways table
     → StandsBy (slice_index_or table version None) session line n
     ↔ IsStanding log.marks session line n version
 stands_rerun log replay ways table session line n version is =
-    stands_is log.marks version session line n (slice_index_or table version None) (is.tells.each version)
+    stands_is log.marks version session line n (slice_index_or table version None)
+    (is.tells.each version)
 
-pub forgotten_rerun : (log : Log) (replay : ReplayState) (ways : List Ways) (table : List (Option Mark)) (session line n version : ℕ) → IsRerun log replay ways table
+pub forgotten_rerun : (log : Log) (replay : ReplayState) (ways : List Ways)
+    (table : List (Option Mark)) (session line n version : ℕ) → IsRerun log replay ways table
     → ForgottenBy (slice_index_or table version None) session line n
     ↔ IsForgotten log.marks session line n version
 forgotten_rerun log replay ways table session line n version is =
-    forgotten_is log.marks version session line n (slice_index_or table version None) (is.tells.each version)
+    forgotten_is log.marks version session line n (slice_index_or table version None)
+    (is.tells.each version)
 
-mark_listed : (marks : List Mark) (m : Mark) (found : Option Mark) → IsOnlyMarkOrNone marks m.version found
+mark_listed : (marks : List Mark) (m : Mark) (found : Option Mark)
+    → IsOnlyMarkOrNone marks m.version found
     → (found ≡ Some m) ↔ Contains marks m
-mark_listed marks m None is = (λ e. absurd (let no : ⊥ = cc in no), λ listed. absurd (is m listed refl))
+mark_listed marks m None is =
+    (λ e. absurd (let no : ⊥ = cc in no), λ listed. absurd (is m listed refl))
 mark_listed marks m (Some other) is = (
   λ e. (let same : other ≡ m = cc in subst (λ (x : Mark). Contains marks x) same is.listed),
   λ listed. ap Some (sym (is.only m listed refl)),
 )
 
-pub mark_rerun : (log : Log) (replay : ReplayState) (ways : List Ways) (table : List (Option Mark)) (version n session line : ℕ) → IsRerun log replay ways table
+pub mark_rerun : (log : Log) (replay : ReplayState) (ways : List Ways) (table : List (Option Mark))
+    (version n session line : ℕ) → IsRerun log replay ways table
     → (slice_index_or table version None ≡ Some (mark_of version n session line))
     ↔ Contains log.marks (mark_of version n session line)
 mark_rerun log replay ways table version n session line is =
-    mark_listed log.marks (mark_of version n session line) (slice_index_or table version None) (is.tells.each version)
+    mark_listed log.marks (mark_of version n session line) (slice_index_or table version None)
+    (is.tells.each version)
 
 module _ (log : Log) (replay : ReplayState) (ways : List Ways) (table : List (Option Mark))
     (is : IsRerun log replay ways table) where
@@ -57,23 +65,27 @@ module _ (log : Log) (replay : ReplayState) (ways : List Ways) (table : List (Op
   question_rerun question fits = subst (λ (n : ℕ). QuestionFits n question) (sym rerun_side) fits
 
   told_rerun : (version : ℕ) (question : Question) (told : Answer)
-      → Tells (kept_side replay.tint (2 ^ replay.plan.side)) (world_has replay.models replay.records version)
+      → Tells (kept_side replay.tint (2 ^ replay.plan.side))
+      (world_has replay.models replay.records version)
       (world_tint replay.models replay.records version) question told
       → TellsVersion replay.models log version question told
   told_rerun version question told tells =
       subst (λ (n : ℕ). Tells n (world_has replay.models log.records version)
       (world_tint replay.models log.records version) question told) rerun_side
-      (subst (λ (rs : List Record). Tells (kept_side replay.tint (2 ^ replay.plan.side)) (world_has replay.models rs version)
+      (subst (λ (rs : List Record). Tells (kept_side replay.tint (2 ^ replay.plan.side))
+      (world_has replay.models rs version)
       (world_tint replay.models rs version) question told) is.records tells)
 
   -- a question is answered by what is told of it, and by nothing else
   pub told_same : (version : ℕ) (question : Question) (told answer : Answer)
-      → Tells (kept_side replay.tint (2 ^ replay.plan.side)) (world_has replay.models replay.records version)
+      → Tells (kept_side replay.tint (2 ^ replay.plan.side))
+      (world_has replay.models replay.records version)
       (world_tint replay.models replay.records version) question told
       → (answer ≡ told) ↔ TellsVersion replay.models log version question answer
   told_same version question told answer tells =
       let here = told_rerun version question told tells in (
-        λ same. subst (λ (a : Answer). TellsVersion replay.models log version question a) (sym same) here,
+        λ same. subst (λ (a : Answer). TellsVersion replay.models log version question a)
+            (sym same) here,
         λ other. one_answer (world_side log) (world_has replay.models log.records version)
             (world_tint replay.models log.records version) question answer told other here,
       )
@@ -86,5 +98,6 @@ module _ (log : Log) (replay : ReplayState) (ways : List Ways) (table : List (Op
   same_rerun v w same tints =
       subst (λ (n : ℕ). IsTrue same ↔ SameTints n (world_tint replay.models log.records v)
       (world_tint replay.models log.records w)) rerun_side
-      (subst (λ (rs : List Record). IsTrue same ↔ SameTints (kept_side replay.tint (2 ^ replay.plan.side))
+      (subst (λ (rs : List Record). IsTrue same
+      ↔ SameTints (kept_side replay.tint (2 ^ replay.plan.side))
       (world_tint replay.models rs v) (world_tint replay.models rs w)) is.records tints)

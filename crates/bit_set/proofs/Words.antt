@@ -15,20 +15,26 @@ zeros (suc n) (suc k) = zeros n k
 pub none_set : (n i : ℕ) → is_set (replicate n 0) i ≡ false
 none_set n i = rw (zeros n (i / 64), bit_at-zero) refl
 
-pub put_here : (words : List ℕ) (i w : ℕ) → i / 64 < length words → is_set (set words (i / 64) w) i ≡ (bit_at w (i % 64) == 1)
+pub put_here : (words : List ℕ) (i w : ℕ) → i / 64 < length words
+    → is_set (set words (i / 64) w) i ≡ (bit_at w (i % 64) == 1)
 put_here words i w inside = rw get_or-set_same refl
 
 -- two places of one word are places of two bits
 apart : (i j : ℕ) → j ≢ i → j / 64 ≡ i / 64 → j % 64 ≢ i % 64
 apart i j other word bit = other (omega (arith, div-add-mod' i 64, div-add-mod' j 64))
 
-pub put_elsewhere : (words : List ℕ) (i j w : ℕ) → i / 64 < length words → Keeps (i % 64) (get_or words (i / 64) 0) w → j ≢ i → is_set (set words (i / 64) w) j ≡ is_set words j
+pub put_elsewhere : (words : List ℕ) (i j w : ℕ) → i / 64 < length words
+    → Keeps (i % 64) (get_or words (i / 64) 0) w → j ≢ i
+    → is_set (set words (i / 64) w) j ≡ is_set words j
 put_elsewhere words i j w inside keeps other =
     elim (cases_eq (j / 64) (i / 64)) [
       | inl word ↦
-          let at_word : get_or (set words (i / 64) w) (j / 64) 0 ≡ w = rw (word, get_or-set_same) refl in
-          let was : get_or words (j / 64) 0 ≡ get_or words (i / 64) 0 = ap (λ k. get_or words k 0) word in
-          let bit : bit_at w (j % 64) ≡ bit_at (get_or words (i / 64) 0) (j % 64) = keeps.each (j % 64) (mod_below j 64 (lit< tt)) (apart i j other word) in
+          let at_word : get_or (set words (i / 64) w) (j / 64) 0 ≡ w =
+          rw (word, get_or-set_same) refl in
+          let was : get_or words (j / 64) 0 ≡ get_or words (i / 64) 0 =
+          ap (λ k. get_or words k 0) word in
+          let bit : bit_at w (j % 64) ≡ bit_at (get_or words (i / 64) 0) (j % 64) =
+          keeps.each (j % 64) (mod_below j 64 (lit< tt)) (apart i j other word) in
           rw (at_word, was, bit) refl
       | inr word ↦ rw (get_or-set_other) refl
     ]

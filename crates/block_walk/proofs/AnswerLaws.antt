@@ -6,10 +6,12 @@ use Rattle.node_shapes.specs.Tree.{Tree}
 use Rattle.block_walk.specs.declared.answers.Known.{Known}
 use Rattle.block_walk.specs.Answers.{AreRight}
 
-nothing_at : (Q : Type 0) (n i : ℕ) → slice_index_or (replicate {A = Option (Known Q)} n None) i None ≡ None
+nothing_at : (Q : Type 0) (n i : ℕ)
+    → slice_index_or (replicate {A = Option (Known Q)} n None) i None ≡ None
 nothing_at Q zero i = refl
 nothing_at Q (suc n) zero = refl
 nothing_at Q (suc n) (suc i) = nothing_at Q n i
 
-pub none_right : (Q : Type 0) (tells : List Tree → Q → ℕ → Type 0) (n : ℕ) (held : List Tree) → AreRight tells held (replicate n None)
+pub none_right : (Q : Type 0) (tells : List Tree → Q → ℕ → Type 0) (n : ℕ) (held : List Tree)
+    → AreRight tells held (replicate n None)
 none_right Q tells n held = record { each = λ i k e. (let none = nothing_at Q n i in cc) }

@@ -19,7 +19,8 @@ pub full_octant : (level k : ℕ) → k < 8 → octant_shape (full_shape (suc le
 unfolding full_shape
 full_octant level k h = octant_shape-branch_of (λ j. full_shape level) k h
 
-pub full_branch : (level : ℕ) → branch_of (λ k. octant_shape (full_shape (suc level)) k) ≡ full_shape (suc level)
+pub full_branch : (level : ℕ)
+    → branch_of (λ k. octant_shape (full_shape (suc level)) k) ≡ full_shape (suc level)
 unfolding full_shape
 full_branch level = refl
 
@@ -30,7 +31,9 @@ full_leaf = refl
 pub full_canonical : (level : ℕ) → IsCanonical level (full_shape level)
 unfolding full_shape
 full_canonical zero = leaf_shape-canonical (2 ^ 64 - 1) (omega arith)
-full_canonical (suc level) = branch_canonical level (λ k. full_shape level) 0 (omega arith) (full_some level) (λ j h. full_canonical level)
+full_canonical (suc level) =
+    branch_canonical level (λ k. full_shape level) 0 (omega arith) (full_some level)
+    (λ j h. full_canonical level)
 
 full_bits : bits_with all_cells ≡ 2 ^ 64 - 1
 unfolding bits_below
@@ -40,11 +43,18 @@ full_has : (level : ℕ) → SameIn level (has level (full_shape level)) all_cel
 unfolding full_shape
 full_has zero = record {
   each = λ x y z lx ly lz.
-      leaf_shape-has (2 ^ 64 - 1) x y z ∙ ap (λ (b : ℕ). bit_at b (bit_number x y z) == 1) (sym full_bits) ∙ bits_with-bit all_cells x y z lx ly lz;
+      leaf_shape-has (2 ^ 64 - 1) x y z
+      ∙ ap (λ (b : ℕ). bit_at b (bit_number x y z) == 1) (sym full_bits)
+      ∙ bits_with-bit all_cells x y z lx ly lz;
 }
 full_has (suc level) = by_octants level _ _ (λ k h.
     same_on level _ _ _ (octant_has level (full_shape (suc level)) k h)
-    (subst (λ t. SameIn level (has level t) all_cells) (sym (full_octant level k h)) (full_has level)))
+    (subst (λ t. SameIn level (has level t) all_cells) (sym (full_octant level k h))
+    (full_has level)))
 
-pub shape_with-full : (level : ℕ) (cells : Cells) → SameIn level cells all_cells → shape_with level cells ≡ full_shape level
-shape_with-full level cells h = sym (shape_with-only level (full_shape level) cells (full_canonical level) (same_on level _ _ _ (full_has level) (same_back level _ _ h)))
+pub shape_with-full : (level : ℕ) (cells : Cells) → SameIn level cells all_cells
+    → shape_with level cells ≡ full_shape level
+shape_with-full level cells h =
+    sym
+    (shape_with-only level (full_shape level) cells (full_canonical level)
+    (same_on level _ _ _ (full_has level) (same_back level _ _ h)))

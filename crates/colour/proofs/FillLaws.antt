@@ -64,7 +64,8 @@ module _ (n : ℕ) (edit : CellEdit) (before : World) where
         subst (λ (m : ℕ). in_cube n (plane_at n m) (in_cells edit m)
         (after_parts (cell_parts n edit) j before) (plus (plane_at n k) p)
         ≡ edit k p (before (plus (plane_at n k) p))) e
-        (made_in_own n (plane_at n k) (in_cells edit k) (after_parts (cell_parts n edit) j before) p i
+        (made_in_own n (plane_at n k) (in_cells edit k)
+        (after_parts (cell_parts n edit) j before) p i
         ∙ ap (edit k p) (not_yet j k p (omega (arith, e)) (omega arith) i))
     | inr other ↦
         left_outside n (plane_at n j) (in_cells edit j) (after_parts (cell_parts n edit) j before) _
@@ -102,7 +103,8 @@ module _ {P T : Type 0} (task_of : P → ℕ → Option Name → T) (makes : T �
   walk_makes before w =
       let l : ℕ = side - 2 - 2 in
       let up : suc (suc l) ≡ side - 2 = omega arith in
-      let quarter : block_side l ≡ 2 ^ (side - 2) = sym (root_side l (side - 2) refl (omega arith)) in
+      let quarter : block_side l ≡ 2 ^ (side - 2) =
+      sym (root_side l (side - 2) refl (omega arith)) in
       subst (λ (o : Option Name). makes_tint task_of makes (Root o planes) held (side - 2)
       (world_cells (all_planes side edit before))) (sym same)
       (subst (λ (n : ℕ). makes_tint task_of makes (Root root planes) held (side - 2)
@@ -110,7 +112,8 @@ module _ {P T : Type 0} (task_of : P → ℕ → Option Name → T) (makes : T �
       (subst (λ (k : ℕ). makes_tint task_of makes (Root root planes) held k
       (world_cells (after_parts (cell_parts (block_side l) edit) 9 before))) up
       (world_made task_of makes planes held l edit before
-      (after_parts (cell_parts (block_side l) edit) 9 before) (parts_edit (block_side l) edit before)
+      (after_parts (cell_parts (block_side l) edit) 9 before)
+      (parts_edit (block_side l) edit before)
       made plan_side root (omega arith) trees canonical
       (subst (λ (k : ℕ). ShowsWorld held k root before) (sym up) w))))
 
@@ -198,7 +201,8 @@ ball_made held level ball tint k t old cells small o shows =
       small = small;
       inside = world_lies level small;
       paints = painted_by held level t old (is_in_ball ball) tint k cells
-          (cells_from (cell_at 0 0 0) (is_in_ball ball)) o (from_nowhere level (is_in_ball ball)) shows;
+          (cells_from (cell_at 0 0 0) (is_in_ball ball)) o
+          (from_nowhere level (is_in_ball ball)) shows;
     }
 
 pub box_planes : (held : List Tree) (side : ℕ) (planes : BoxPlanes) → side ≤ 12
@@ -216,7 +220,8 @@ pub ball_planes : (held : List Tree) (side : ℕ) (planes : BallPlanes) → side
 ball_planes held side planes small =
     record {
       each = λ k t old cells lt o shows.
-          ball_made held (side - 2 - 2) planes.ball.now planes.tint k t old cells (omega arith) o shows;
+          ball_made held (side - 2 - 2) planes.ball.now planes.tint k t old cells
+          (omega arith) o shows;
     }
 
 -- ---- which acts these are
@@ -232,9 +237,11 @@ module _ (old new : Seen) (side : ℕ) (root : Option Name) (act : TintAct) (ste
   act_made ok grows =
       subst (λ (k : ℕ). IfOk result (λ r. PartsMade old side root
       (parts_in (2 ^ (side - 2)) act stencil) k r new)) (sym nine)
-      (subst (λ (parts : ℕ → World → World). IfOk result (λ r. PartsMade old side root parts 9 r new))
+      (subst (λ (parts : ℕ → World → World). IfOk result
+      (λ r. PartsMade old side root parts 9 r new))
       (sym same)
-      (all_made old new side root (cell_parts (2 ^ (side - 2)) edit) 9 (omega arith) result ok grows))
+      (all_made old new side root (cell_parts (2 ^ (side - 2)) edit) 9
+      (omega arith) result ok grows))
 
   pub act_fails : RefusesEdit old side root (all_planes side edit) result new
       → IfErr result (λ e. PartsFail old side root (parts_in (2 ^ (side - 2)) act stencil)

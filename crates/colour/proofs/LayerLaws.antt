@@ -41,10 +41,12 @@ bit_layer a b c side level bit root name half block words box layer large is_lev
     (subst (λ (m : Option Name). IsBlockOf a.held (side - 2) m t) (sym n) o) in
     let low : IsBlockOf b.held (level - 1 - 1) block (child_of (child_of t 1) bit) =
     second (child_of t 1)
-    (subst (λ (s : Seen). IsBlockOf s.held (level - 1) half (child_of t 1)) (sym same) (first t top)) in
+    (subst (λ (s : Seen). IsBlockOf s.held (level - 1) half (child_of t 1)) (sym same)
+    (first t top)) in
     let down : level - 1 - 1 ≡ level - 2 = omega arith in
     let at : IsBlockOf c.held (level - 2) block (child_of (child_of t 1) bit) =
-    subst (λ (s : Seen). IsBlockOf s.held (level - 2) block (child_of (child_of t 1) bit)) (sym again)
+    subst (λ (s : Seen). IsBlockOf s.held (level - 2) block (child_of (child_of t 1) bit))
+    (sym again)
     (subst (λ (l : ℕ). IsBlockOf b.held l block (child_of (child_of t 1) bit)) down low) in
     let quarter : level - 2 ≡ side - 2 - 2 = omega arith in
     subst (λ (l : ℕ). HoldsLayer words box layer (leaves_in box)
@@ -54,7 +56,8 @@ bit_layer a b c side level bit root name half block words box layer large is_lev
 pub ends_there : (side level : ℕ) (b : Boxed) → 4 ≤ side → level ≡ side - 2
     → FitsAt b.at b.size (2 ^ (side - 2)) → EndsBy (block_side (level - 2)) b
 ends_there side level b large is f =
-    let e : 2 ^ (side - 2) ≡ block_side (level - 2) = root_side (level - 2) (side - 2) (omega arith) (omega arith) in
+    let e : 2 ^ (side - 2) ≡ block_side (level - 2) =
+    root_side (level - 2) (side - 2) (omega arith) (omega arith) in
     record {
       x = omega (arith, f.x.1, e);
       y = omega (arith, f.y.1, e);
@@ -94,7 +97,8 @@ more_bits old new words b layer side t k bit eight lt at is so_far here =
 
 -- ---- one cell
 
-place_in : (at p x0 : ℕ) → x0 ≤ (at + p) / 4 → 4 * (x0 + ((at + p) / 4 - x0)) + (at + p) % 4 ≡ at + p
+place_in : (at p x0 : ℕ) → x0 ≤ (at + p) / 4
+    → 4 * (x0 + ((at + p) / 4 - x0)) + (at + p) % 4 ≡ at + p
 place_in at p x0 h = omega arith
 
 pub layer_cell : (words : List ℕ) (b : Boxed) (x y z m bits : ℕ) (cells : Cell → Bool)
@@ -109,8 +113,10 @@ layer_cell words b x y z m bits cells small lx ly is inside word held =
     let down : ℕ = (b.at.y + y) / 4 - b.at.y / 4 in
     let right : ℕ = (b.at.x + x) / 4 - b.at.x / 4 in
     let near : right < along = omega arith in
-    let col : m % along ≡ right = ap (λ (j : ℕ). j % along) is ∙ mod-mul-add down along right near in
-    let line : m / along ≡ down = ap (λ (j : ℕ). j / along) is ∙ div-mul-add down along right near in
+    let col : m % along ≡ right =
+    ap (λ (j : ℕ). j % along) is ∙ mod-mul-add down along right near in
+    let line : m / along ≡ down =
+    ap (λ (j : ℕ). j / along) is ∙ div-mul-add down along right near in
     let shows = held.each m inside in
     let place : cell_at (4 * (b.at.x / 4 + m % along) + (b.at.x + x) % 4)
     (4 * (b.at.y / 4 + m / along) + (b.at.y + y) % 4) (4 * ((b.at.z + z) / 4) + (b.at.z + z) % 4)
@@ -121,8 +127,10 @@ layer_cell words b x y z m bits cells small lx ly is inside word held =
     (ap (λ (j : ℕ). 4 * (b.at.y / 4 + j) + (b.at.y + y) % 4) line
     ∙ place_in b.at.y y (b.at.y / 4) (omega arith))
     (omega arith) in
-    ap (λ (w : ℕ). bit_at w (bit_number ((b.at.x + x) % 4) ((b.at.y + y) % 4) ((b.at.z + z) % 4)) == 1) word
-    ∙ shows.each ((b.at.x + x) % 4) ((b.at.y + y) % 4) ((b.at.z + z) % 4) (omega arith) (omega arith)
+    ap (λ (w : ℕ). bit_at w
+    (bit_number ((b.at.x + x) % 4) ((b.at.y + y) % 4) ((b.at.z + z) % 4)) == 1) word
+    ∙ shows.each ((b.at.x + x) % 4) ((b.at.y + y) % 4) ((b.at.z + z) % 4) (omega arith)
+    (omega arith)
     (omega arith)
     ∙ ap cells place
 

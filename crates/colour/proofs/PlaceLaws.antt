@@ -40,7 +40,11 @@ in_octants l s b p lt i =
     let z : n * half_z b + p.z ≡ half_z 1 * block_side (suc l) + (half_z b * n + p.z) =
     place_y n (half_z b) p.z ∙ ap (λ (m : ℕ). 0 * m + (half_z b * n + p.z)) (sym e) in
     ap (λ (a : ℕ). has (suc (suc l)) s a (n * half_y b + p.y) (n * half_z b + p.z)) x
-    ∙ ap (λ (a : ℕ). has (suc (suc l)) s (half_x 1 * block_side (suc l) + (half_x b * n + p.x)) a (n * half_z b + p.z)) y
-    ∙ ap (λ (a : ℕ). has (suc (suc l)) s (half_x 1 * block_side (suc l) + (half_x b * n + p.x)) (half_y 1 * block_side (suc l) + (half_y b * n + p.y)) a) z
+    ∙ ap
+    (λ (a : ℕ). has (suc (suc l)) s (half_x 1 * block_side (suc l) + (half_x b * n + p.x)) a
+    (n * half_z b + p.z)) y
+    ∙ ap
+    (λ (a : ℕ). has (suc (suc l)) s (half_x 1 * block_side (suc l) + (half_x b * n + p.x))
+    (half_y 1 * block_side (suc l) + (half_y b * n + p.y)) a) z
     ∙ has-in_octant (suc l) s 1 _ _ _ (omega arith) bx by bz
     ∙ has-in_octant l (octant_shape s 1) b p.x p.y p.z lt i.x i.y i.z

@@ -120,7 +120,9 @@ ink_agrees i j level side a b place at c d dc dd e agree =
           let t : Cell = cell_at (at.x + x) (at.y + y) (at.z + z) in
           both_when (is_in_box (box_at place c.size) t) _ _
           (agree.each x y z (omega (arith, p, e)) (omega (arith, q, e)) (omega (arith, r, e)))
-          ∙ ap (λ (s : Cell). is_in_box (box_at place s) t && drawn_cells d (less t place)) agree.size;
+          ∙ ap
+          (λ (s : Cell). is_in_box (box_at place s) t
+          && drawn_cells d (less t place)) agree.size;
     }
 
 -- ---- a block as a whole
@@ -170,7 +172,8 @@ module _ (old : Option Name) (inked : Inked) (place at : Cell) (plane own : ℕ)
   nothing_kept e none = record {
     each = λ x y z p q r.
         m.shows.each x y z p q r
-        ∙ both _ _ _ false (none.each x y z p q r) (old_gone base level m.tree old e m.is_old x y z);
+        ∙ both _ _ _ false (none.each x y z p q r)
+        (old_gone base level m.tree old e m.is_old x y z);
   }
 
   -- no ink tells, and there is ink all through

@@ -19,7 +19,8 @@ use Rattle.colour.specs.Walks.{MakesKept, MakesRow, Octants, first_octants, bit_
 
 pub row_has : (octants : Octants) (old : Option Name) (held : List Tree) (level : ℕ)
     → MakesCells (MakesRow octants old) held level → HasBlock held level old
-row_has octants old held level (base, cells, keeps, m) = old_has base held level m.tree old keeps m.is_old
+row_has octants old held level (base, cells, keeps, m) =
+    old_has base held level m.tree old keeps m.is_old
 
 -- what is made of the octant that was read
 pub row_octant : (octants : Octants) (old child : Option Name) (base held : List Tree) (level : ℕ)
@@ -136,7 +137,8 @@ kept_bits old base held cells bits keeps m read =
     read m.paints.tree (old_block base held 0 m.paints.tree old keeps m.paints.is_old) in
     record {
       each = λ x y z p q r.
-          ap (λ (n : ℕ). bit_at n (bit_number x y z) == 1) e ∙ sym (m.paints.shows.each x y z p q r);
+          ap (λ (n : ℕ). bit_at n (bit_number x y z) == 1) e
+          ∙ sym (m.paints.shows.each x y z p q r);
     }
 
 -- ---- the same in two planes

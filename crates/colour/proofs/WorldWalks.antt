@@ -35,7 +35,8 @@ place_beside n h y = omega arith
 
 three : (a b c x y z : ℕ) → a ≡ x → b ≡ y → c ≡ z → cell_at a b c ≡ cell_at x y z
 three a b c x y z e f g =
-    ap (λ (i : ℕ). cell_at i b c) e ∙ ap (λ (i : ℕ). cell_at x i c) f ∙ ap (λ (i : ℕ). cell_at x y i) g
+    ap (λ (i : ℕ). cell_at i b c) e ∙ ap (λ (i : ℕ). cell_at x i c) f
+    ∙ ap (λ (i : ℕ). cell_at x y i) g
 
 bit_place : (n s b x y z : ℕ) → s ≡ 2 * n
     → cell_at (half_x 1 * s + (half_x b * n + x)) (half_y 1 * s + (half_y b * n + y))
@@ -54,7 +55,8 @@ first_place : (n s x y z : ℕ)
     → cell_at (half_x 0 * s + (half_x 0 * n + x)) (half_y 0 * s + (half_y 0 * n + y))
     (half_z 0 * s + (half_z 0 * n + z))
     ≡ plus (plane_at n 0) (cell_at x y z)
-first_place n s x y z = three _ _ _ _ _ _ (place_first n s x) (place_first n s y) (place_first n s z)
+first_place n s x y z =
+    three _ _ _ _ _ _ (place_first n s x) (place_first n s y) (place_first n s z)
 
 -- ---- octants without a plane
 
@@ -91,8 +93,10 @@ out_of_root n s k x y z e lt first second j lj =
     (cell_at (half_x k * s + x) (half_y k * s + y) (half_z k * s + z)) b in
     let ey = end_y n j lj in
     let ez = end_z n j lj in
-    let hy : half_y k ≡ 0 = low_half (half_y k) s y ((plane_at n j).y + n) i.y.1 (omega (arith, ey, e)) in
-    let hz : half_z k ≡ 0 = low_half (half_z k) s z ((plane_at n j).z + n) i.z.1 (omega (arith, ez, e)) in
+    let hy : half_y k ≡ 0 =
+    low_half (half_y k) s y ((plane_at n j).y + n) i.y.1 (omega (arith, ey, e)) in
+    let hz : half_z k ≡ 0 =
+    low_half (half_z k) s z ((plane_at n j).z + n) i.z.1 (omega (arith, ez, e)) in
     is_low k lt hy hz first second)
 
 is_first : (k : ℕ) → k < 8 → half_x k ≡ 0 → half_y k ≡ 0 → half_z k ≡ 0 → k ≡ 0
@@ -114,9 +118,12 @@ out_of_first n s k x y z lt other lx zero lj =
     let i = is_in_box_tells (plane_box n 0)
     (cell_at (half_x 0 * s + (half_x k * n + x)) (half_y 0 * s + (half_y k * n + y))
     (half_z 0 * s + (half_z k * n + z))) b in
-    let hx : half_x k ≡ 0 = low_half (half_x k) n x (0 + n) (from_zero s (half_x k) n x (0 + n) i.x.1) (zero_end n) in
-    let hy : half_y k ≡ 0 = low_half (half_y k) n y (0 + n) (from_zero s (half_y k) n y (0 + n) i.y.1) (zero_end n) in
-    let hz : half_z k ≡ 0 = low_half (half_z k) n z (0 + n) (from_zero s (half_z k) n z (0 + n) i.z.1) (zero_end n) in
+    let hx : half_x k ≡ 0 =
+    low_half (half_x k) n x (0 + n) (from_zero s (half_x k) n x (0 + n) i.x.1) (zero_end n) in
+    let hy : half_y k ≡ 0 =
+    low_half (half_y k) n y (0 + n) (from_zero s (half_y k) n y (0 + n) i.y.1) (zero_end n) in
+    let hz : half_z k ≡ 0 =
+    low_half (half_z k) n z (0 + n) (from_zero s (half_z k) n z (0 + n) i.z.1) (zero_end n) in
     other (is_first k lt hx hy hz))
 out_of_first n s k x y z lt other lx (suc b) lj =
     bool_false _ (λ t.
@@ -204,7 +211,8 @@ module _ {P T : Type 0} (task_of : P → ℕ → Option Name → T) (makes : T �
         is_old = o;
         each = λ k lt.
             subst (λ (j : ℕ). first_octants task_of makes planes k (root_of (child_of t k)) held j
-            (octant_cells j (octant_cells (suc l) (world_cells after) 0) k)) (sym down) (octant k lt);
+            (octant_cells j (octant_cells (suc l) (world_cells after) 0) k)) (sym down)
+            (octant k lt);
       }
     where
       down : suc l - 1 ≡ l

@@ -21,7 +21,8 @@ use Rattle.command_line.proofs.Defaults.{defaulted, all_defaults}
 pub simple : is_simple run_app ≡ true
 simple = refl
 
-pub matched : (words : List Text) → list_all is_part (parts_of words) ≡ true → matches_of run_app words ≡ defaulted (rows_by (parts_of words) [])
+pub matched : (words : List Text) → list_all is_part (parts_of words) ≡ true
+    → matches_of run_app words ≡ defaulted (rows_by (parts_of words) [])
 matched words right =
     all_defaults (rows_held (fold (walked rules []) (walk_from nothing_held) words).held)
     ∙ ap defaulted (walk_rows words right false nothing_held)
@@ -62,35 +63,54 @@ fits parts are =
       colours = once _ flag.0;
     }
 
-told : (parts : List Part) → KnowOptions parts → Fits parts → line_in (defaulted (rows_by parts [])) ≡ line_texts parts
+told : (parts : List Part) → KnowOptions parts → Fits parts
+    → line_in (defaulted (rows_by parts [])) ≡ line_texts parts
 told parts know f =
-    let side = option_found (codes "--side") (record { operands = refl; flag = refl }) parts f.side in
-    let buckets = option_found (codes "--buckets") (record { operands = refl; flag = refl }) parts f.buckets in
+    let side =
+    option_found (codes "--side") (record { operands = refl; flag = refl }) parts f.side in
+    let buckets =
+    option_found (codes "--buckets")
+    (record { operands = refl; flag = refl }) parts f.buckets in
     let cap = option_found (codes "--cap") (record { operands = refl; flag = refl }) parts f.cap in
-    let keep = option_found (codes "--keep") (record { operands = refl; flag = refl }) parts f.keep in
-    let journal = option_found (codes "--journal") (record { operands = refl; flag = refl }) parts f.journal in
-    let report = option_found (codes "--report") (record { operands = refl; flag = refl }) parts f.report in
+    let keep =
+    option_found (codes "--keep") (record { operands = refl; flag = refl }) parts f.keep in
+    let journal =
+    option_found (codes "--journal")
+    (record { operands = refl; flag = refl }) parts f.journal in
+    let report =
+    option_found (codes "--report") (record { operands = refl; flag = refl }) parts f.report in
     let colours = flag_found parts know f.colours in
     let operands = operands_found parts know in
     λ i. record { side = side i; buckets = buckets i; cap = cap i; keep = keep i; journal = journal i; report = report i; colours = colours i; operands = operands i }
 
-pub line_found : (words : List Text) (rows : List Row) → are_of_a_run (parts_of words) ≡ true → rows ≡ matches_of run_app words → line_in rows ≡ line_texts (parts_of words)
+pub line_found : (words : List Text) (rows : List Row) → are_of_a_run (parts_of words) ≡ true
+    → rows ≡ matches_of run_app words → line_in rows ≡ line_texts (parts_of words)
 line_found words rows are found =
-    ap line_in (found ∙ matched words (fits (parts_of words) are).parts_are) ∙ told (parts_of words) (parts_know words) (fits (parts_of words) are)
+    ap line_in (found ∙ matched words (fits (parts_of words) are).parts_are)
+    ∙ told (parts_of words) (parts_know words) (fits (parts_of words) are)
 
 -- ---- what the matches' getters give
 
-pub operands_some : (f : Found) (names : Bor (List (Bor Text))) → option_map (λ s. map (λ v. v.now) s.now) (Some names) ≡ option_map raw_values (matched_of f (codes "operands"))
+pub operands_some : (f : Found) (names : Bor (List (Bor Text)))
+    → option_map (λ s. map (λ v. v.now) s.now) (Some names) ≡ option_map raw_values
+    (matched_of f (codes "operands"))
     → map (λ v. v.now) names.now ≡ unwrap_or (all_of (codes "operands") (rows_of f)) []
-operands_some f names is = ap (λ found. unwrap_or found []) (is ∙ raw_values-rows f (codes "operands"))
+operands_some f names is =
+    ap (λ found. unwrap_or found []) (is ∙ raw_values-rows f (codes "operands"))
 
-pub operands_none : (f : Found) → option_map (λ (s : Bor (List (Bor Text))). map (λ v. v.now) s.now) None ≡ option_map raw_values (matched_of f (codes "operands"))
+pub operands_none : (f : Found)
+    → option_map
+    (λ (s : Bor (List (Bor Text))). map (λ v. v.now) s.now) None ≡ option_map raw_values
+    (matched_of f (codes "operands"))
     → [] ≡ unwrap_or (all_of (codes "operands") (rows_of f)) []
 operands_none f is = ap (λ found. unwrap_or found []) (is ∙ raw_values-rows f (codes "operands"))
 
 -- ---- the command
 
-pub bare_is : (c d e : Command) → app_of c ≡ new_app (codes "run") → fields_of d ≡ record (fields_of c) { no_binary_name = true } → fields_of e ≡ record (fields_of d) { disable_help_flag = true }
+pub bare_is : (c d e : Command) → app_of c ≡ new_app (codes "run")
+    → fields_of d ≡ record (fields_of c) { no_binary_name = true }
+    → fields_of e ≡ record (fields_of d) { disable_help_flag = true }
     → app_of e ≡ on_top bare (new_app (codes "run"))
 bare_is c d e new first second =
-    ap app_of_fields second ∙ ap (λ f. app_of_fields (record f { disable_help_flag = true })) first ∙ ap (on_top bare) new
+    ap app_of_fields second ∙ ap (λ f. app_of_fields (record f { disable_help_flag = true })) first
+    ∙ ap (on_top bare) new

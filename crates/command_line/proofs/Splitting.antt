@@ -20,7 +20,8 @@ rows_by (Gives option value ∷ parts) rows = rows_by parts (with_option option 
 rows_by (Colours ∷ parts) rows = rows_by parts (with_flag rows)
 rows_by (NoPart ∷ parts) rows = rows_by parts rows
 
-rows_then : (part : Part) (parts : List Part) (rows : List Row) → rows_by (part ∷ parts) rows ≡ rows_by parts (rows_by (part ∷ []) rows)
+rows_then : (part : Part) (parts : List Part) (rows : List Row)
+    → rows_by (part ∷ parts) rows ≡ rows_by parts (rows_by (part ∷ []) rows)
 rows_then (Operand text) parts rows = refl
 rows_then (Gives option value) parts rows = refl
 rows_then Colours parts rows = refl
@@ -31,7 +32,9 @@ rows_then NoPart parts rows = refl
 named : (option word : Text) → Meets option → bytes_eq option word ≡ true → Meets word
 named option word meets same = subst Meets ((bytes_eq-Decides option word).0 same) meets
 
-one_of : (word : Text) (a b c d e f : Bool) → (a ≡ true → Meets word) → (b ≡ true → Meets word) → (c ≡ true → Meets word) → (d ≡ true → Meets word) → (e ≡ true → Meets word) → (f ≡ true → Meets word)
+one_of : (word : Text) (a b c d e f : Bool) → (a ≡ true → Meets word) → (b ≡ true → Meets word)
+    → (c ≡ true → Meets word) → (d ≡ true → Meets word) → (e ≡ true → Meets word)
+    → (f ≡ true → Meets word)
     → a || (b || (c || (d || (e || (f || false))))) ≡ true → Meets word
 one_of word true b c d e f of_a of_b of_c of_d of_e of_f is = of_a refl
 one_of word false true c d e f of_a of_b of_c of_d of_e of_f is = of_b refl
@@ -39,7 +42,8 @@ one_of word false false true d e f of_a of_b of_c of_d of_e of_f is = of_c refl
 one_of word false false false true e f of_a of_b of_c of_d of_e of_f is = of_d refl
 one_of word false false false false true f of_a of_b of_c of_d of_e of_f is = of_e refl
 one_of word false false false false false true of_a of_b of_c of_d of_e of_f is = of_f refl
-one_of word false false false false false false of_a of_b of_c of_d of_e of_f is = absurd (let bad : false ≡ true = is in cc)
+one_of word false false false false false false of_a of_b of_c of_d of_e of_f is =
+    absurd (let bad : false ≡ true = is in cc)
 
 pub option_meets : (word : Text) → is_option word ≡ true → Meets word
 option_meets word is =
@@ -51,16 +55,29 @@ option_meets word is =
 abbrev is_equals : ℕ → Bool
 is_equals = λ b. b == 61
 
-word_cut : (word : Text) (first : ℕ) (others : Text) → after_first is_equals word ≡ first ∷ others → word ≡ before_first is_equals word ++ 61 ∷ first ∷ others
+word_cut : (word : Text) (first : ℕ) (others : Text) → after_first is_equals word ≡ first ∷ others
+    → word ≡ before_first is_equals word ++ 61 ∷ first ∷ others
 word_cut word first others cut = go (cases_order (position_or_len is_equals word) (length word))
   where
-    go : (position_or_len is_equals word ≡ length word) ⊎ ((position_or_len is_equals word < length word) ⊎ (length word < position_or_len is_equals word)) → word ≡ before_first is_equals word ++ 61 ∷ first ∷ others
-    go (inl same) = absurd (let none : drop (position_or_len is_equals word + 1) word ≡ [] = drop_all (position_or_len is_equals word + 1) word (omega (arith, same)) in let bad : first ∷ others ≡ [] = sym cut ∙ none in cc)
-    go (inr (inr over)) = absurd (let none : drop (position_or_len is_equals word + 1) word ≡ [] = drop_all (position_or_len is_equals word + 1) word (omega (arith, over)) in let bad : first ∷ others ≡ [] = sym cut ∙ none in cc)
+    go : (position_or_len is_equals word ≡ length word)
+        ⊎
+        ((position_or_len is_equals word < length word)
+        ⊎ (length word < position_or_len is_equals word)) → word
+        ≡ before_first is_equals word ++ 61 ∷ first ∷ others
+    go (inl same) = absurd
+        (let none : drop (position_or_len is_equals word + 1) word
+        ≡ [] = drop_all (position_or_len is_equals word + 1) word
+        (omega (arith, same)) in let bad : first ∷ others ≡ [] = sym cut ∙ none in cc)
+    go (inr (inr over)) = absurd
+        (let none : drop (position_or_len is_equals word + 1) word
+        ≡ [] = drop_all (position_or_len is_equals word + 1) word
+        (omega (arith, over)) in let bad : first ∷ others ≡ [] = sym cut ∙ none in cc)
     go (inr (inl inside)) =
         let passes : (get_or word (position_or_len is_equals word) 0 == 61) ≡ true = passes_at_first is_equals word 0 inside in
         let is : get_or word (position_or_len is_equals word) 0 ≡ 61 = grind (arith, nat_tests) in
-        split_at_first is_equals word 0 inside ∙ ap (λ b. before_first is_equals word ++ b ∷ after_first is_equals word) is ∙ ap (λ rest. before_first is_equals word ++ 61 ∷ rest) cut
+        split_at_first is_equals word 0 inside
+        ∙ ap (λ b. before_first is_equals word ++ b ∷ after_first is_equals word) is
+        ∙ ap (λ rest. before_first is_equals word ++ 61 ∷ rest) cut
 
 -- ---- a word alone
 
@@ -70,25 +87,38 @@ pub record Goes (behind : Bool) (h : Held) (word : Text) (part : Part) : Type 0 
   pub walks : walked rules [] (at behind h) word ≡ at to held
   pub puts : rows_held held ≡ rows_by (part ∷ []) (rows_held h)
 
-joined_goes : (behind : Bool) (h : Held) (word option : Text) (value : Text) → ((first : ℕ) (others : Text) → value ≡ first ∷ others → word ≡ option ++ 61 ∷ first ∷ others) → is_part (behind_equals option value) ≡ true → Goes behind h word (behind_equals option value)
+joined_goes : (behind : Bool) (h : Held) (word option : Text) (value : Text)
+    → ((first : ℕ) (others : Text) → value ≡ first ∷ others → word ≡ option ++ 61 ∷ first ∷ others)
+    → is_part (behind_equals option value) ≡ true → Goes behind h word (behind_equals option value)
 joined_goes behind h word option [] cut part = absurd (let bad : false ≡ true = part in cc)
 joined_goes behind h word option (first ∷ others) cut part = go (is_option option) refl part
   where
-    go : (b : Bool) → is_option option ≡ b → is_part (if b then Gives option (first ∷ others) else NoPart) ≡ true → Goes behind h word (if is_option option then Gives option (first ∷ others) else NoPart)
+    go : (b : Bool) → is_option option ≡ b
+        → is_part (if b then Gives option (first ∷ others) else NoPart) ≡ true
+        → Goes behind h word (if is_option option then Gives option (first ∷ others) else NoPart)
     go false is right = absurd (let bad : false ≡ true = right in cc)
     go true is right = rw is (record {
       to = false;
       held = joined_held option (first ∷ others) h;
-      walks = ap (walked rules [] (at behind h)) (cut first others refl) ∙ (option_meets option is).behind_equals behind h (first ∷ others);
+      walks = ap (walked rules [] (at behind h)) (cut first others refl)
+          ∙ (option_meets option is).behind_equals behind h (first ∷ others);
       puts = refl;
     })
 
-alone_goes : (behind : Bool) (h : Held) (word : Text) → is_part (word_alone word) ≡ true → Goes behind h word (word_alone word)
+alone_goes : (behind : Bool) (h : Held) (word : Text) → is_part (word_alone word) ≡ true
+    → Goes behind h word (word_alone word)
 alone_goes behind h word part = go (is_operand word) (is_flag word) refl refl part
   where
     go : (b f : Bool) → is_operand word ≡ b → is_flag word ≡ f
-        → is_part (if b then Operand word else (if f then Colours else behind_equals (before_first is_equals word) (after_first is_equals word))) ≡ true
-        → Goes behind h word (if is_operand word then Operand word else (if is_flag word then Colours else behind_equals (before_first is_equals word) (after_first is_equals word)))
+        → is_part
+        (if b then Operand word
+        else (if f then Colours
+        else behind_equals (before_first is_equals word) (after_first is_equals word)))
+        ≡ true
+        → Goes behind h word
+        (if is_operand word then Operand word
+        else (if is_flag word then Colours
+        else behind_equals (before_first is_equals word) (after_first is_equals word)))
     go true f is flag right = rw is (record { to = true; held = holding (codes "operands") word h; walks = operand_met behind h word is; puts = operand_held h word })
     go false true is flag right = rw (is, flag) (record {
       to = false;
@@ -96,44 +126,67 @@ alone_goes behind h word part = go (is_operand word) (is_flag word) refl refl pa
       walks = ap (walked rules [] (at behind h)) (sym ((bytes_eq-Decides (codes "--colours") word).0 flag)) ∙ flag_met behind h;
       puts = refl;
     })
-    go false false is flag right = rw (is, flag) (joined_goes behind h word (before_first is_equals word) (after_first is_equals word) (word_cut word) right)
+    go false false is flag right = rw (is, flag)
+        (joined_goes behind h word (before_first is_equals word) (after_first is_equals word)
+        (word_cut word) right)
 
 -- ---- all words
 
 front : (a b : Bool) → a && b ≡ true → (a ≡ true) × (b ≡ true)
 front a b both = and_parts a b both
 
-pub walk_rows : (words : List Text) → list_all is_part (parts_of words) ≡ true → (behind : Bool) (h : Held)
-    → rows_held (fold (walked rules []) (at behind h) words).held ≡ rows_by (parts_of words) (rows_held h)
+pub walk_rows : (words : List Text) → list_all is_part (parts_of words) ≡ true
+    → (behind : Bool) (h : Held)
+    → rows_held (fold (walked rules []) (at behind h) words).held ≡ rows_by (parts_of words)
+    (rows_held h)
 walk_rows [] right behind h = refl
 walk_rows (word ∷ []) right behind h = go (is_option word) refl right
   where
-    go : (b : Bool) → is_option word ≡ b → is_part (if b then NoPart else word_alone word) && true ≡ true
-        → rows_held (walked rules [] (at behind h) word).held ≡ rows_by ((if is_option word then NoPart else word_alone word) ∷ []) (rows_held h)
+    go : (b : Bool) → is_option word ≡ b
+        → is_part (if b then NoPart else word_alone word) && true ≡ true
+        → rows_held (walked rules [] (at behind h) word).held ≡ rows_by
+        ((if is_option word then NoPart else word_alone word) ∷ []) (rows_held h)
     go true is part = absurd (let bad : false ≡ true = part in cc)
     go false is part =
         let goes = alone_goes behind h word (front _ _ part).0 in
         rw is (ap (λ (w : Walk). rows_held w.held) goes.walks ∙ goes.puts)
-walk_rows (word ∷ next ∷ others) right behind h = go (is_option word) refl right (walk_rows others) (walk_rows (next ∷ others))
+walk_rows (word ∷ next ∷ others) right behind h =
+    go (is_option word) refl right (walk_rows others) (walk_rows (next ∷ others))
   where
-    go : (b : Bool) → is_option word ≡ b → list_all is_part (if b then option_with word next ∷ parts_of others else word_alone word ∷ parts_of (next ∷ others)) ≡ true
-        → (list_all is_part (parts_of others) ≡ true → (k : Bool) (g : Held) → rows_held (fold (walked rules []) (at k g) others).held ≡ rows_by (parts_of others) (rows_held g))
-        → (list_all is_part (parts_of (next ∷ others)) ≡ true → (k : Bool) (g : Held) → rows_held (fold (walked rules []) (at k g) (next ∷ others)).held ≡ rows_by (parts_of (next ∷ others)) (rows_held g))
-        → rows_held (fold (walked rules []) (walked rules [] (walked rules [] (at behind h) word) next) others).held
-        ≡ rows_by (if is_option word then option_with word next ∷ parts_of others else word_alone word ∷ parts_of (next ∷ others)) (rows_held h)
+    go : (b : Bool) → is_option word ≡ b
+        → list_all is_part
+        (if b then option_with word next ∷ parts_of others
+        else word_alone word ∷ parts_of (next ∷ others)) ≡ true
+        → (list_all is_part (parts_of others) ≡ true → (k : Bool) (g : Held)
+        → rows_held (fold (walked rules []) (at k g) others).held
+        ≡ rows_by (parts_of others) (rows_held g))
+        → (list_all is_part (parts_of (next ∷ others)) ≡ true → (k : Bool) (g : Held)
+        → rows_held (fold (walked rules []) (at k g) (next ∷ others)).held
+        ≡ rows_by (parts_of (next ∷ others)) (rows_held g))
+        → rows_held
+        (fold (walked rules [])
+        (walked rules [] (walked rules [] (at behind h) word) next) others).held
+        ≡ rows_by (if is_option word then option_with word next ∷ parts_of others
+        else word_alone word ∷ parts_of (next ∷ others)) (rows_held h)
     go true is all far near = valued (is_operand next) refl (front _ _ all).0
       where
         meets : Meets word
         meets = option_meets word is
 
-        valued : (b : Bool) → is_operand next ≡ b → is_part (if b then Gives word next else NoPart) ≡ true
-            → rows_held (fold (walked rules []) (walked rules [] (walked rules [] (at behind h) word) next) others).held
-            ≡ rows_by (if is_option word then option_with word next ∷ parts_of others else word_alone word ∷ parts_of (next ∷ others)) (rows_held h)
+        valued : (b : Bool) → is_operand next ≡ b
+            → is_part (if b then Gives word next else NoPart) ≡ true
+            → rows_held
+            (fold (walked rules [])
+            (walked rules [] (walked rules [] (at behind h) word) next) others).held
+            ≡ rows_by (if is_option word then option_with word next ∷ parts_of others
+            else word_alone word ∷ parts_of (next ∷ others)) (rows_held h)
         valued false can part = absurd (let bad : false ≡ true = part in cc)
         valued true can part =
             rw (is, can)
-            (ap (λ (w : Walk). rows_held (fold (walked rules []) (walked rules [] w next) others).held) (meets.name behind h)
-            ∙ ap (λ (w : Walk). rows_held (fold (walked rules []) w others).held) (meets.next h next can)
+            (ap (λ (w : Walk). rows_held
+            (fold (walked rules []) (walked rules [] w next) others).held) (meets.name behind h)
+            ∙ ap (λ (w : Walk). rows_held (fold (walked rules []) w others).held)
+            (meets.next h next can)
             ∙ far (front _ _ all).1 false (holding word next h)
             ∙ ap (rows_by (parts_of others)) (meets.held h next))
     go false is all far near =

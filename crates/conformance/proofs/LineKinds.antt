@@ -31,7 +31,15 @@ use Rattle.conformance.proofs.Lists.{same_nothing, same_of}
 
 -- a history goes on from itself
 pub goes_nowhere : (log : Log) → GoesOn log log
-goes_nowhere log = record { side = refl; coloured = refl; more = []; records = sym (append-nil log.records); marks = All-contains_itself log.marks }
+goes_nowhere log =
+    record {
+      side = refl;
+      coloured = refl;
+      more = [];
+      records = sym
+          (append-nil log.records);
+      marks = All-contains_itself log.marks;
+    }
 
 -- ---- lines that change nothing
 
@@ -56,7 +64,8 @@ resting_not_done answers.NothingToRedo rests = refl
 resting_not_done answers.LogFull rests = refl
 resting_not_done (answers.Stale b) rests = refl
 
-pub resting_accepts : (session line : ℕ) (command : Command) (n : ℕ) (answer : Answer) → is_done answer ≡ false → accepted_by session line command n answer ≡ []
+pub resting_accepts : (session line : ℕ) (command : Command) (n : ℕ) (answer : Answer)
+    → is_done answer ≡ false → accepted_by session line command n answer ≡ []
 resting_accepts session line (Edit act once) n answer other = rw other refl
 resting_accepts session line (Forget v) n answer other = refl
 resting_accepts session line (Ask version question) n answer other = refl
@@ -64,7 +73,8 @@ resting_accepts session line (Save version name part) n answer other = refl
 resting_accepts session line (Same v w) n answer other = refl
 resting_accepts session line Head n answer other = refl
 
-pub resting_forgets : (session line n : ℕ) (answer : Answer) → is_resting answer ≡ true → forgotten_by session line n answer ≡ []
+pub resting_forgets : (session line n : ℕ) (answer : Answer) → is_resting answer ≡ true
+    → forgotten_by session line n answer ≡ []
 resting_forgets session line n answers.Done rests = refl
 resting_forgets session line n (answers.Forgot v) rests = absurd (false≢true rests)
 resting_forgets session line n (answers.Is set) rests = refl
@@ -85,8 +95,11 @@ resting_forgets session line n answers.NothingToRedo rests = refl
 resting_forgets session line n answers.LogFull rests = refl
 resting_forgets session line n (answers.Stale b) rests = refl
 
-pub resting_line : (p : Layout) (models : List Content) (session : ℕ) (l : ScriptLine) (log : Log) (answer : Answer) → IsLegal (2 ^ p.side) models log → is_resting answer ≡ true
-    → Answers p models log (IsStanding log.marks session l.line (length log.records)) session l.line (length log.records) l.command answer → LineStep p models session l log log (answer_at l (length log.records) answer)
+pub resting_line : (p : Layout) (models : List Content) (session : ℕ) (l : ScriptLine) (log : Log)
+    (answer : Answer) → IsLegal (2 ^ p.side) models log → is_resting answer ≡ true
+    → Answers p models log (IsStanding log.marks session l.line (length log.records)) session l.line
+    (length log.records) l.command answer
+    → LineStep p models session l log log (answer_at l (length log.records) answer)
 resting_line p models session l log answer legal rests fits = record {
   legal = legal;
   suits = λ suits. suits;
@@ -96,17 +109,25 @@ resting_line p models session l log answer legal rests fits = record {
   later = λ e. absurd (false≢true (sym (ap is_resting e) ∙ rests));
   unseen = λ base e. absurd (false≢true (sym (ap is_resting e) ∙ rests));
   fits = record { same_line = refl; within = omega arith; answers = fits };
-  records = same_nothing (numbered 1 log.records) _ (resting_accepts session l.line l.command (length log.records) answer (resting_not_done answer rests));
-  marks = same_nothing log.marks _ (resting_forgets session l.line (length log.records) answer rests);
+  records = same_nothing (numbered 1 log.records) _
+      (resting_accepts session l.line l.command (length log.records) answer
+      (resting_not_done answer rests));
+  marks = same_nothing log.marks _
+      (resting_forgets session l.line (length log.records) answer rests);
 }
 
 -- ---- an accepted change
 
-numbered_push : (n : ℕ) (records : List Record) (r : Record) → numbered n (records ++ r ∷ []) ≡ numbered n records ++ record { at = n + length records; entry = r } ∷ []
-numbered_push n [] r = let at : n ≡ n + 0 = omega arith in ap (λ (k : ℕ). record { at = k; entry = r } ∷ []) at
+numbered_push : (n : ℕ) (records : List Record) (r : Record)
+    → numbered n (records ++ r ∷ []) ≡ numbered n records ++ record
+    { at = n + length records; entry = r } ∷ []
+numbered_push n [] r =
+    let at : n ≡ n + 0 = omega arith in ap (λ (k : ℕ). record { at = k; entry = r } ∷ []) at
 numbered_push n (s ∷ records) r =
     let at : n + 1 + length records ≡ n + length (s ∷ records) = omega arith in
-    ap (λ (xs : List Accepted). record { at = n; entry = s } ∷ xs) (numbered_push (n + 1) records r ∙ ap (λ (k : ℕ). numbered (n + 1) records ++ record { at = k; entry = r } ∷ []) at)
+    ap (λ (xs : List Accepted). record { at = n; entry = s } ∷ xs)
+    (numbered_push (n + 1) records r
+    ∙ ap (λ (k : ℕ). numbered (n + 1) records ++ record { at = k; entry = r } ∷ []) at)
 
 get_last : {X : Type 0} (xs : List X) (x : X) → slice_get (xs ++ x ∷ []) (length xs) ≡ Some x
 get_last [] x = refl
@@ -116,19 +137,28 @@ record_of : ℕ → ℕ → Act → Record
 record_of session line act = record { session = session; line = line; act = act }
 
 with_record : Log → Record → Log
-with_record log r = record { side = log.side; coloured = log.coloured; records = log.records ++ r ∷ []; marks = log.marks }
+with_record log r =
+    record { side = log.side; coloured = log.coloured; records = log.records ++ r ∷ []; marks = log.marks }
 
-done_step : (p : Layout) (models : List Content) (session line : ℕ) (act : Act) (once : Bool) (log : Log) → IsLegal (2 ^ p.side) models (with_record log (record_of session line act)) → suits_tints log.coloured act ≡ true
-    → LineStep p models session (record { line = line; command = Edit act once }) log (with_record log (record_of session line act)) (record { line = line; at = length log.records + 1; answer = answers.Done })
+done_step : (p : Layout) (models : List Content) (session line : ℕ) (act : Act) (once : Bool)
+    (log : Log) → IsLegal (2 ^ p.side) models (with_record log (record_of session line act))
+    → suits_tints log.coloured act ≡ true
+    → LineStep p models session (record { line = line; command = Edit act once }) log
+    (with_record log (record_of session line act))
+    (record { line = line; at = length log.records + 1; answer = answers.Done })
 unfolding with_record record_of
 done_step p models session line act once log legal suits =
     let r : Record = record { session = session; line = line; act = act } in
-    let longer : length (log.records ++ r ∷ []) ≡ length log.records + 1 = length-append log.records (r ∷ []) in
+    let longer : length (log.records ++ r ∷ []) ≡ length log.records + 1 =
+    length-append log.records (r ∷ []) in
     let place : length log.records ≡ length log.records + 1 - 1 = omega arith in
     let number : 1 + length log.records ≡ length log.records + 1 = omega arith in
     record {
       legal = legal;
-      suits = λ all. All-append (λ (s : Record). suits_tints log.coloured s.act ≡ true) log.records (r ∷ []) all (All-cons (λ (s : Record). suits_tints log.coloured s.act ≡ true) r [] suits (All-nil _));
+      suits = λ all. All-append (λ (s : Record). suits_tints log.coloured s.act ≡ true) log.records
+          (r ∷ []) all
+          (All-cons (λ (s : Record). suits_tints log.coloured s.act ≡ true) r [] suits
+          (All-nil _));
       goes_on = record { side = refl; coloured = refl; more = r ∷ []; records = refl; marks = All-contains_itself log.marks };
       new_marks = λ i d lt. inl (All-contains_itself log.marks i d lt);
       no_earlier = omega arith;
@@ -137,36 +167,58 @@ done_step p models session line act once log legal suits =
       fits = record {
         same_line = refl;
         within = omega arith;
-        answers = done act once (record { first = omega arith; is = subst (λ (n : ℕ). slice_get (log.records ++ r ∷ []) n ≡ Some r) place (get_last log.records r) });
+        answers = done act once
+            (record {
+              first = omega arith;
+              is = subst
+                  (λ (n : ℕ). slice_get (log.records ++ r ∷ []) n ≡ Some r) place
+                  (get_last log.records r);
+            });
       };
-      records = same_of _ _ (numbered_push 1 log.records r ∙ ap (λ (k : ℕ). numbered 1 log.records ++ record { at = k; entry = r } ∷ []) number);
+      records = same_of _ _
+          (numbered_push 1 log.records r
+          ∙ ap (λ (k : ℕ). numbered 1 log.records ++ record { at = k; entry = r } ∷ []) number);
       marks = same_nothing log.marks [] refl;
     }
 
 log_of : ℕ → Bool → List Record → List Mark → Log
-log_of side coloured records marks = record { side = side; coloured = coloured; records = records; marks = marks }
+log_of side coloured records marks =
+    record { side = side; coloured = coloured; records = records; marks = marks }
 
-grown : (p : Layout) (models : List Content) (r : Record) (old new : Log) → GrowsByRecord p models r old new → with_record old r ≡ new
+grown : (p : Layout) (models : List Content) (r : Record) (old new : Log)
+    → GrowsByRecord p models r old new → with_record old r ≡ new
 unfolding with_record log_of
 grown p models r old new g =
-    ap (λ (n : ℕ). log_of n old.coloured (old.records ++ r ∷ []) old.marks) (sym g.side) ∙ ap (λ (c : Bool). log_of new.side c (old.records ++ r ∷ []) old.marks) (sym g.coloured)
-    ∙ ap (λ (rs : List Record). log_of new.side new.coloured rs old.marks) (sym g.records) ∙ ap (λ (ms : List Mark). log_of new.side new.coloured new.records ms) (sym g.marks)
+    ap (λ (n : ℕ). log_of n old.coloured (old.records ++ r ∷ []) old.marks) (sym g.side)
+    ∙ ap (λ (c : Bool). log_of new.side c (old.records ++ r ∷ []) old.marks) (sym g.coloured)
+    ∙ ap (λ (rs : List Record). log_of new.side new.coloured rs old.marks) (sym g.records)
+    ∙ ap (λ (ms : List Mark). log_of new.side new.coloured new.records ms) (sym g.marks)
 
-pub done_line : (p : Layout) (models : List Content) (session line : ℕ) (act : Act) (once : Bool) (old new : Log) → GrowsByRecord p models (record { session = session; line = line; act = act }) old new
-    → LineStep p models session (record { line = line; command = Edit act once }) old new (record { line = line; at = length old.records + 1; answer = answers.Done })
+pub done_line : (p : Layout) (models : List Content) (session line : ℕ) (act : Act) (once : Bool)
+    (old new : Log)
+    → GrowsByRecord p models (record { session = session; line = line; act = act }) old new
+    → LineStep p models session (record { line = line; command = Edit act once }) old new
+    (record { line = line; at = length old.records + 1; answer = answers.Done })
 unfolding record_of
 done_line p models session line act once old new g =
     let same = grown p models (record_of session line act) old new g in
-    subst (λ (log : Log). LineStep p models session (record { line = line; command = Edit act once }) old log (record { line = line; at = length old.records + 1; answer = answers.Done })) same
-    (done_step p models session line act once old (subst (λ (log : Log). IsLegal (2 ^ p.side) models log) (sym same) g.legal) g.suits)
+    subst (λ (log : Log). LineStep p models session
+    (record { line = line; command = Edit act once }) old log
+    (record { line = line; at = length old.records + 1; answer = answers.Done })) same
+    (done_step p models session line act once old
+    (subst (λ (log : Log). IsLegal (2 ^ p.side) models log) (sym same) g.legal) g.suits)
 
 -- ---- a version is forgotten
 
-All-old : {X : Type 0} (P : X → Type 0) (xs ys : List X) (x : X) → All P (xs ++ ys) → P x → All P (xs ++ x ∷ ys)
+All-old : {X : Type 0} (P : X → Type 0) (xs ys : List X) (x : X) → All P (xs ++ ys) → P x
+    → All P (xs ++ x ∷ ys)
 All-old P [] ys x all here = All-cons P x ys here all
-All-old P (w ∷ xs) ys x all here = All-cons P w (xs ++ x ∷ ys) (all 0 w (omega arith)) (All-old P xs ys x (λ k d lt. all (suc k) d (omega arith)) here)
+All-old P (w ∷ xs) ys x all here =
+    All-cons P w (xs ++ x ∷ ys) (all 0 w (omega arith))
+    (All-old P xs ys x (λ k d lt. all (suc k) d (omega arith)) here)
 
-marks_weigh : (f : Mark → ℕ) (old : List Mark) (mark : Mark) (new : List Mark) → MarkComes old mark new → sum_by f new ≡ sum_by f old + f mark
+marks_weigh : (f : Mark → ℕ) (old : List Mark) (mark : Mark) (new : List Mark)
+    → MarkComes old mark new → sum_by f new ≡ sum_by f old + f mark
 marks_weigh f old mark new m =
     let a : sum_by f old ≡ sum_by f (m.before ++ m.after) = ap (sum_by f) m.was in
     let b : sum_by f new ≡ sum_by f (m.before ++ mark ∷ m.after) = ap (sum_by f) m.is in
@@ -175,36 +227,61 @@ marks_weigh f old mark new m =
     let e = sum_by-cons f mark m.after in
     omega arith
 
-old_listed : (old : List Mark) (mark : Mark) (new : List Mark) → MarkComes old mark new → All (Contains new) old
+old_listed : (old : List Mark) (mark : Mark) (new : List Mark) → MarkComes old mark new
+    → All (Contains new) old
 old_listed old mark new m =
     subst (λ (xs : List Mark). All (Contains new) xs) (sym m.was)
-    (λ k d lt. subst (λ (xs : List Mark). Contains xs (get_or (m.before ++ m.after) k d)) (sym m.is) (wide m.before m.after (get_or (m.before ++ m.after) k d) (All-contains_itself (m.before ++ m.after) k d lt)))
+    (λ k d lt. subst (λ (xs : List Mark). Contains xs (get_or (m.before ++ m.after) k d))
+    (sym m.is) (wide m.before m.after (get_or (m.before ++ m.after) k d)
+    (All-contains_itself (m.before ++ m.after) k d lt)))
   where
     wide : (xs ys : List Mark) (x : Mark) → Contains (xs ++ ys) x → Contains (xs ++ mark ∷ ys) x
     wide [] ys x (k, lt, e) = (suc k, omega arith, e)
     wide (w ∷ xs) ys x (zero, lt, e) = (zero, omega arith, e)
-    wide (w ∷ xs) ys x (suc k, lt, e) = (let c = wide xs ys x (k, omega arith, e) in let at = c.1 in (suc c.0, omega arith, c.2))
+    wide (w ∷ xs) ys x (suc k, lt, e) =
+        (let c = wide xs ys x (k, omega arith, e) in let at = c.1 in (suc c.0, omega arith, c.2))
 
-new_listed : (old : List Mark) (mark : Mark) (new : List Mark) → MarkComes old mark new → Contains new mark
-new_listed old mark new m = subst (λ (xs : List Mark). Contains xs mark) (sym m.is) (Contains-append_right m.before (mark ∷ m.after) mark (0, omega arith, refl))
+new_listed : (old : List Mark) (mark : Mark) (new : List Mark) → MarkComes old mark new
+    → Contains new mark
+new_listed old mark new m =
+    subst (λ (xs : List Mark). Contains xs mark) (sym m.is)
+    (Contains-append_right m.before (mark ∷ m.after) mark (0, omega arith, refl))
 
-old_or_new : (old : List Mark) (n : ℕ) (mark : Mark) (new : List Mark) → MarkComes old mark new → n ≡ mark.at → All (IsOldOrNew old n mark.session mark.line) new
+old_or_new : (old : List Mark) (n : ℕ) (mark : Mark) (new : List Mark) → MarkComes old mark new
+    → n ≡ mark.at → All (IsOldOrNew old n mark.session mark.line) new
 old_or_new old n mark new m at =
     subst (λ (xs : List Mark). All (IsOldOrNew old n mark.session mark.line) xs) (sym m.is)
     (All-old (IsOldOrNew old n mark.session mark.line) m.before m.after mark
-    (subst (λ (xs : List Mark). All (IsOldOrNew old n mark.session mark.line) xs) m.was (λ k d lt. inl (All-contains_itself old k d lt)))
+    (subst (λ (xs : List Mark). All (IsOldOrNew old n mark.session mark.line) xs) m.was
+    (λ k d lt. inl (All-contains_itself old k d lt)))
     (inr (omega arith, refl, refl)))
 
-pub forgot_line : (p : Layout) (models : List Content) (mark : Mark) (old new : Log) → ForgetsBy p models mark old new
-    → LineStep p models mark.session (record { line = mark.line; command = Forget mark.version }) old new (record { line = mark.line; at = length old.records; answer = answers.Forgot mark.version })
+pub forgot_line : (p : Layout) (models : List Content) (mark : Mark) (old new : Log)
+    → ForgetsBy p models mark old new
+    → LineStep p models mark.session
+    (record { line = mark.line; command = Forget mark.version }) old new
+    (record { line = mark.line; at = length old.records; answer = answers.Forgot mark.version })
 forgot_line p models mark old new e =
     let n : ℕ = length old.records in
     let same_number : length new.records ≡ n = ap length e.records in
-    let same_mark : mark ≡ mark_of mark.version n mark.session mark.line = ap (λ (k : ℕ). mark_of mark.version k mark.session mark.line) e.now in
+    let same_mark : mark ≡ mark_of mark.version n mark.session mark.line =
+    ap (λ (k : ℕ). mark_of mark.version k mark.session mark.line) e.now in
     record {
       legal = e.legal;
-      suits = λ all. subst (λ (c : Bool). All (λ (r : Record). suits_tints c r.act ≡ true) new.records) (sym e.coloured) (subst (λ (rs : List Record). All (λ (r : Record). suits_tints old.coloured r.act ≡ true) rs) (sym e.records) all);
-      goes_on = record { side = e.side; coloured = e.coloured; more = []; records = e.records ∙ sym (append-nil old.records); marks = old_listed old.marks mark new.marks e.marks };
+      suits = λ all. subst
+          (λ (c : Bool). All (λ (r : Record). suits_tints c r.act ≡ true) new.records)
+          (sym e.coloured)
+          (subst (λ (rs : List Record). All
+          (λ (r : Record). suits_tints old.coloured r.act ≡ true) rs)
+          (sym e.records) all);
+      goes_on = record {
+        side = e.side;
+        coloured = e.coloured;
+        more = [];
+        records = e.records
+            ∙ sym (append-nil old.records);
+        marks = old_listed old.marks mark new.marks e.marks;
+      };
       new_marks = old_or_new old.marks n mark new.marks e.marks (sym e.now);
       no_earlier = omega arith;
       later = λ same. absurd (let no : ⊥ = cc in no);
@@ -212,9 +289,19 @@ forgot_line p models mark old new e =
       fits = record {
         same_line = refl;
         within = omega arith;
-        answers = forgot mark.version (subst (λ (m : Mark). Contains new.marks m) same_mark (new_listed old.marks mark new.marks e.marks));
+        answers = forgot mark.version
+            (subst (λ (m : Mark). Contains new.marks m) same_mark
+            (new_listed old.marks mark new.marks e.marks));
       };
-      records = record { weighs = λ f. (let a : sum_by f (numbered 1 new.records) ≡ sum_by f (numbered 1 old.records) = ap (λ (rs : List Record). sum_by f (numbered 1 rs)) e.records in let b = sum_by-append f (numbered 1 old.records) [] in let none : sum_by f [] ≡ 0 = refl in omega arith) };
+      records = record {
+        weighs = λ f.
+            (let a : sum_by f (numbered 1 new.records)
+            ≡ sum_by f (numbered 1 old.records) = ap
+            (λ (rs : List Record). sum_by f
+            (numbered 1 rs)) e.records in let b = sum_by-append f
+            (numbered 1 old.records) [] in let none : sum_by f []
+            ≡ 0 = refl in omega arith);
+      };
       marks = record {
         weighs = λ f. (
             let a = marks_weigh f old.marks mark new.marks e.marks in
@@ -227,42 +314,71 @@ forgot_line p models mark old new e =
 -- ---- what stands behind the answers that change nothing
 
 -- a version that no mark forgets is readable
-pub kept_readable : (log : Log) (session line v : ℕ) → IsKept log v → IsReadable (IsStanding log.marks session line (length log.records)) (length log.records) v
+pub kept_readable : (log : Log) (session line v : ℕ) → IsKept log v
+    → IsReadable (IsStanding log.marks session line (length log.records)) (length log.records) v
 kept_readable log session line v kept = record {
   there = kept.there;
-  stands = record { later = λ k d lt same. absurd (kept.unmarked k d lt same); own = λ k d lt same. absurd (kept.unmarked k d lt same) };
+  stands = record {
+    later = λ k d lt same. absurd (kept.unmarked k d lt same);
+    own =
+        λ k d lt same. absurd (kept.unmarked k d lt same);
+  };
 }
 
 -- a mark of the run so far forgets its version for the next line
-pub marked_forgotten : (p : Layout) (models : List Content) (scripts : List (List ScriptLine)) (transcripts : List (List LineAnswer)) (script : List ScriptLine) (transcript : List LineAnswer) (l : ScriptLine) (log : Log) (mark : Mark)
-    → IsSoFar p models scripts transcripts script transcript log → IsAfter script l → Contains log.marks mark → IsForgotten log.marks (length scripts) l.line (length log.records) mark.version
-marked_forgotten p models scripts transcripts script transcript l log mark s rising listed = record {
-  mark = mark;
-  listed = listed;
-  same = refl;
-  by_then = (All-contains (λ (m : Mark). (m.version < m.at) × (m.at ≤ length log.records)) log.marks mark s.legal.marked listed).1;
-  earlier = λ mine. elim (All-contains (IsBy (length scripts) script) log.marks mark s.by listed) [
-    | inl before ↦ absurd (omega arith)
-    | inr here ↦ All-contains (λ (n : ℕ). n < l.line) (line_numbers script) mark.line (All-map (λ (n : ℕ). n < l.line) (λ (k : ScriptLine). k.line) script rising) here.1
-  ];
-}
+pub marked_forgotten : (p : Layout) (models : List Content) (scripts : List (List ScriptLine))
+    (transcripts : List (List LineAnswer)) (script : List ScriptLine) (transcript : List LineAnswer)
+    (l : ScriptLine) (log : Log) (mark : Mark)
+    → IsSoFar p models scripts transcripts script transcript log → IsAfter script l
+    → Contains log.marks mark
+    → IsForgotten log.marks (length scripts) l.line (length log.records) mark.version
+marked_forgotten p models scripts transcripts script transcript l log mark s rising listed =
+    record {
+      mark = mark;
+      listed = listed;
+      same = refl;
+      by_then = (All-contains
+          (λ (m : Mark). (m.version < m.at)
+          × (m.at ≤ length log.records)) log.marks mark s.legal.marked listed).1;
+      earlier = λ mine. elim (All-contains (IsBy (length scripts) script) log.marks mark s.by listed) [
+        | inl before ↦ absurd (omega arith)
+        | inr here ↦ All-contains (λ (n : ℕ). n < l.line) (line_numbers script) mark.line
+            (All-map (λ (n : ℕ). n < l.line) (λ (k : ScriptLine). k.line) script rising) here.1
+      ];
+    }
 
 -- the target of an undo or a redo at the length
-pub target_now : (records : List Record) (act : Act) (to : Option ℕ) → to ≡ target_at records (length records) act → target_at records (length records) act ≡ to
+pub target_now : (records : List Record) (act : Act) (to : Option ℕ)
+    → to ≡ target_at records (length records) act → target_at records (length records) act ≡ to
 target_now records act to e = sym e
 
-pub undo_target : (records : List Record) → target_at records (length records) Undo ≡ first_of (position_after records).past
-undo_target records = ap (λ (rs : List Record). first_of (position_after rs).past) (take_all (length records) records (omega arith))
+pub undo_target : (records : List Record)
+    → target_at records (length records) Undo ≡ first_of (position_after records).past
+undo_target records =
+    ap (λ (rs : List Record). first_of (position_after rs).past)
+    (take_all (length records) records (omega arith))
 
-pub redo_target : (records : List Record) → target_at records (length records) Redo ≡ first_of (position_after records).future
-redo_target records = ap (λ (rs : List Record). first_of (position_after rs).future) (take_all (length records) records (omega arith))
+pub redo_target : (records : List Record)
+    → target_at records (length records) Redo ≡ first_of (position_after records).future
+redo_target records =
+    ap (λ (rs : List Record). first_of (position_after rs).future)
+    (take_all (length records) records (omega arith))
 
 -- a full history: an edit needs no target, and an undo's or redo's is kept
-pub full_way : (log : Log) (session line : ℕ) (act : Act) → ((is_edit act ≡ true) ⊎ ((to : ℕ) × (target_at log.records (length log.records) act ≡ Some to) × IsKept log to))
-    → HasWay (IsStanding log.marks session line (length log.records)) log.records (length log.records) act
+pub full_way : (log : Log) (session line : ℕ) (act : Act)
+    →
+    ((is_edit act ≡ true)
+    ⊎ ((to : ℕ) × (target_at log.records (length log.records) act ≡ Some to)
+    × IsKept log to))
+    → HasWay (IsStanding log.marks session line (length log.records)) log.records
+    (length log.records) act
 full_way log session line act (inl edit) other = absurd (other edit)
-full_way log session line act (inr way) other = (way.0, way.1, kept_readable log session line way.0 way.2)
+full_way log session line act (inr way) other =
+    (way.0, way.1, kept_readable log session line way.0 way.2)
 
 -- what is told of a world of a plan's side is told of one of the history's
-pub same_side : (p : Layout) (models : List Content) (log : Log) (t u : Tints) → IsLegal (2 ^ p.side) models log → SameTints (kept_side log.coloured (2 ^ p.side)) t u → SameTints (world_side log) t u
-same_side p models log t u legal same = subst (λ (side : ℕ). SameTints (kept_side log.coloured side) t u) (sym legal.same_side) same
+pub same_side : (p : Layout) (models : List Content) (log : Log) (t u : Tints)
+    → IsLegal (2 ^ p.side) models log → SameTints (kept_side log.coloured (2 ^ p.side)) t u
+    → SameTints (world_side log) t u
+same_side p models log t u legal same =
+    subst (λ (side : ℕ). SameTints (kept_side log.coloured side) t u) (sym legal.same_side) same

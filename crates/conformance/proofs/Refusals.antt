@@ -12,7 +12,11 @@ none_of : {X : Type 0} (P : X → Type 0) (xs : List X) → ((x : X) → P x →
 none_of P [] never all = refl
 none_of P (x ∷ xs) never all = absurd (never x (all 0 x (omega arith)))
 
-pub never_full : (p : Layout) (models : List Content) (log : Log) (scripts : List (List ScriptLine)) (transcripts : List (List LineAnswer)) → FullOnlyWherePossible p models log scripts transcripts
-    → ((level bucket : ℕ) → ¬ IsPossible p models log.records (spans_of scripts transcripts) level bucket p.cap) → refused_of scripts transcripts ≡ []
+pub never_full : (p : Layout) (models : List Content) (log : Log) (scripts : List (List ScriptLine))
+    (transcripts : List (List LineAnswer)) → FullOnlyWherePossible p models log scripts transcripts
+    → ((level bucket : ℕ)
+    → ¬ IsPossible p models log.records (spans_of scripts transcripts) level bucket p.cap)
+    → refused_of scripts transcripts ≡ []
 never_full p models log scripts transcripts full none =
-    none_of (WasPossible p models log.records (spans_of scripts transcripts)) (refused_of scripts transcripts) (λ r w. none r.level r.bucket w.possible) full.each
+    none_of (WasPossible p models log.records (spans_of scripts transcripts))
+    (refused_of scripts transcripts) (λ r w. none r.level r.bucket w.possible) full.each

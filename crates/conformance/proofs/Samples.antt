@@ -42,15 +42,20 @@ answered n at answer = record { line = n; at = at; answer = answer }
 abbrev corner : Cell
 corner = cell_at 0 0 0
 
--- the first session fills a bar, forgets version 0 and asks of it; the second one wants to go back to it, and counts
+-- the first session fills a bar, forgets version 0 and asks of it; the second one wants to go back
+-- to it, and counts
 abbrev first : List ScriptLine
-first = line 1 (Edit (Fill bar) false) ∷ line 2 (Forget 0) ∷ line 3 (Ask (Some 0) (questions.Get corner)) ∷ []
+first =
+    line 1 (Edit (Fill bar) false) ∷ line 2 (Forget 0) ∷ line 3
+    (Ask (Some 0) (questions.Get corner)) ∷ []
 
 abbrev second : List ScriptLine
 second = line 1 (Edit Undo false) ∷ line 2 (Ask None (questions.Count whole)) ∷ []
 
 abbrev first_answers : List LineAnswer
-first_answers = answered 1 1 answers.Done ∷ answered 2 1 (answers.Forgot 0) ∷ answered 3 1 (answers.Forgotten 0) ∷ []
+first_answers =
+    answered 1 1 answers.Done ∷ answered 2 1 (answers.Forgot 0) ∷ answered 3 1
+    (answers.Forgotten 0) ∷ []
 
 abbrev second_answers : List LineAnswer
 second_answers = answered 1 1 (answers.Forgotten 0) ∷ answered 2 1 (answers.Count 2) ∷ []
@@ -59,7 +64,13 @@ abbrev mark : Mark
 mark = record { version = 0; at = 1; session = 0; line = 2 }
 
 abbrev history : Log
-history = record { side = 3; coloured = false; records = record { session = 0; line = 1; act = Fill bar } ∷ []; marks = mark ∷ [] }
+history = record {
+  side = 3;
+  coloured = false;
+  records =
+      record { session = 0; line = 1; act = Fill bar } ∷ [];
+  marks = mark ∷ [];
+}
 
 two_cells : number_in whole (world_has [] history.records 1) ≡ 2
 unfolding sum_below
@@ -69,12 +80,25 @@ each_mark : (P : Mark → Type 0) → P mark → All P history.marks
 each_mark P here = All-cons P mark [] here (All-nil P)
 
 is_forgotten : (session at : ℕ) → (0 ≡ session → 2 < at) → IsForgotten history.marks session at 1 0
-is_forgotten session at earlier = record { mark = mark; listed = (0, omega arith, refl); same = refl; by_then = omega arith; earlier = earlier }
+is_forgotten session at earlier =
+    record {
+      mark = mark;
+      listed =
+          (0, omega arith, refl);
+      same = refl;
+      by_then = omega arith;
+      earlier = earlier;
+    }
 
 newest_stands : (session at : ℕ) → IsReadable (IsStanding history.marks session at 1) 1 1
 newest_stands session at = record {
   there = omega arith;
-  stands = record { later = each_mark (λ m. m.version ≡ 1 → 1 ≤ m.at) (λ e. absurd (omega arith)); own = each_mark (λ m. m.version ≡ 1 → m.session ≡ session → at ≤ m.line) (λ e. absurd (omega arith)) };
+  stands = record {
+    later = each_mark (λ m. m.version ≡ 1 → 1 ≤ m.at)
+        (λ e. absurd (omega arith));
+    own = each_mark
+        (λ m. m.version ≡ 1 → m.session ≡ session → at ≤ m.line) (λ e. absurd (omega arith));
+  };
 }
 
 abbrev asked : Command → Option ℕ
@@ -84,38 +108,84 @@ asked _ = None
 module _ (p : Layout) where
   first_fit : AllZip (LineFits p [] history 0) first first_answers
   first_fit = (
-    record { same_line = refl; within = omega arith; answers = done (Fill bar) false (record { first = omega arith; is = refl }) },
+    record {
+      same_line = refl;
+      within = omega arith;
+      answers = done (Fill bar) false
+          (record { first = omega arith; is = refl });
+    },
     (
       record { same_line = refl; within = omega arith; answers = forgot 0 (0, omega arith, refl) },
-      (record { same_line = refl; within = omega arith; answers = forgotten (Ask (Some 0) (questions.Get corner)) 0 refl (is_forgotten 0 3 (λ _. omega arith)) }, tt),
+      (
+        record {
+          same_line = refl;
+          within = omega arith;
+          answers = forgotten
+              (Ask (Some 0) (questions.Get corner)) 0 refl (is_forgotten 0 3 (λ _. omega arith));
+        },
+        tt,
+      ),
     ),
   )
 
   second_fit : AllZip (LineFits p [] history 1) second second_answers
   second_fit = (
-    record { same_line = refl; within = omega arith; answers = forgotten (Edit Undo false) 0 refl (is_forgotten 1 1 (λ e. absurd (omega arith))) },
-    (record { same_line = refl; within = omega arith; answers = tells None (questions.Count whole) (answers.Count 2) (newest_stands 1 2) (count whole 2 (sym two_cells)) }, tt),
+    record {
+      same_line = refl;
+      within = omega arith;
+      answers = forgotten (Edit Undo false) 0 refl
+          (is_forgotten 1 1 (λ e. absurd (omega arith)));
+    },
+    (
+      record {
+        same_line = refl;
+        within = omega arith;
+        answers = tells None (questions.Count whole)
+            (answers.Count 2) (newest_stands 1 2) (count whole 2 (sym two_cells));
+      },
+      tt,
+    ),
   )
 
-  -- another session may still answer from version 0 at this length, since the mark may have come after
-  other_may : LineFits p [] history 1 (line 3 (Ask (Some 0) (questions.Get corner))) (answered 3 1 (answers.Is false))
+  -- another session may still answer from version 0 at this length, since the mark may have come
+  -- after
+  other_may : LineFits p [] history 1 (line 3 (Ask (Some 0) (questions.Get corner)))
+      (answered 3 1 (answers.Is false))
   other_may = record {
     same_line = refl;
     within = omega arith;
     answers =
         tells (Some 0) (questions.Get corner) (answers.Is false)
-        (record { there = omega arith; stands = record { later = each_mark (λ m. m.version ≡ 0 → 1 ≤ m.at) (λ _. omega arith); own = each_mark (λ m. m.version ≡ 0 → m.session ≡ 1 → 3 ≤ m.line) (λ _ mine. absurd (omega arith)) } }) (is corner false refl);
+        (record {
+          there = omega arith;
+          stands =
+              record {
+                later = each_mark (λ m. m.version ≡ 0 → 1 ≤ m.at)
+                    (λ _. omega arith);
+                own = each_mark
+                    (λ m. m.version ≡ 0 → m.session ≡ 1 → 3 ≤ m.line)
+                    (λ _ mine. absurd (omega arith));
+              };
+        }) (is corner false refl);
   }
 
   -- the session that forgot it may not
-  own_may_not : LineFits p [] history 0 (line 3 (Ask (Some 0) (questions.Get corner))) (answered 3 1 (answers.Is false)) → ⊥
-  own_may_not fits = no (Ask (Some 0) (questions.Get corner)) (answers.Is false) refl refl fits.answers
+  own_may_not : LineFits p [] history 0 (line 3 (Ask (Some 0) (questions.Get corner)))
+      (answered 3 1 (answers.Is false)) → ⊥
+  own_may_not fits = no (Ask (Some 0) (questions.Get corner))
+      (answers.Is false) refl refl fits.answers
     where
-      no : (c : Command) (a : Answer) → c ≡ Ask (Some 0) (questions.Get corner) → a ≡ (answers.Is false) → Answers p [] history (IsStanding history.marks 0 3 1) 0 3 1 c a → ⊥
+      no : (c : Command) (a : Answer) → c ≡ Ask (Some 0) (questions.Get corner)
+          → a ≡ (answers.Is false) → Answers p [] history (IsStanding history.marks 0 3 1) 0 3 1 c a
+          → ⊥
       no c a e f (tells version question answer readable tell) =
           let at : version ≡ Some 0 = ap asked e in
-          let of : IsReadable (IsStanding history.marks 0 3 1) 1 (asked_version (Some 0) 1) = subst (λ (v : Option ℕ). IsReadable (IsStanding history.marks 0 3 1) 1 (asked_version v 1)) at readable in
-          let late = All-head (λ (m : Mark). m.version ≡ 0 → m.session ≡ 0 → 3 ≤ m.line) mark [] of.stands.own refl refl in
+          let of : IsReadable (IsStanding history.marks 0 3 1) 1 (asked_version (Some 0) 1) =
+          subst (λ (v : Option ℕ). IsReadable (IsStanding history.marks 0 3 1) 1
+          (asked_version v 1)) at readable in
+          let late =
+          All-head (λ (m : Mark). m.version ≡ 0 → m.session ≡ 0
+          → 3 ≤ m.line) mark [] of.stands.own refl refl in
           omega arith
       no c a e f other = absurd (let bad : ⊥ = cc in bad)
 
@@ -127,12 +197,21 @@ shown = record {
 }
 
 -- an erasing that makes nothing needs no bucket, so it can't be refused for a full one
-nothing_needed : (p : Layout) (level bucket : ℕ) → NeedsSome p [] [] (Erase whole) 0 level bucket → ⊥
+nothing_needed : (p : Layout) (level bucket : ℕ) → NeedsSome p [] [] (Erase whole) 0 level bucket
+    → ⊥
 nothing_needed p level bucket n =
     let some = n.needed.some_part in
     let few = n.needed.few_parts in
     let one : n.parts ≡ 1 = omega arith in
-    false≢true (subst (λ (parts : ℕ). made_of (2 ^ p.side) [] [] (Erase whole) 0 parts n.needed.some.at ≡ true) one n.needed.some.set)
+    false≢true (subst
+    (λ (parts : ℕ). made_of (2 ^ p.side) [] [] (Erase whole) 0 parts n.needed.some.at
+    ≡ true) one n.needed.some.set)
 
-never_full : (p : Layout) → FullOnlyWherePossible p [] (record { side = 3; coloured = false; records = []; marks = [] }) ((line 1 (Edit (Erase whole) false) ∷ []) ∷ []) ((answered 1 0 (answers.Full 0 0) ∷ []) ∷ []) → ⊥
-never_full p full = nothing_needed p 0 0 (full.each 0 (record { act = Erase whole; at = 0; level = 0; bucket = 0 }) (omega arith)).needed
+never_full : (p : Layout)
+    → FullOnlyWherePossible p [] (record { side = 3; coloured = false; records = []; marks = [] })
+    ((line 1 (Edit (Erase whole) false) ∷ []) ∷ [])
+    ((answered 1 0 (answers.Full 0 0) ∷ []) ∷ []) → ⊥
+never_full p full =
+    nothing_needed p 0 0
+    (full.each 0 (record { act = Erase whole; at = 0; level = 0; bucket = 0 })
+    (omega arith)).needed

@@ -209,22 +209,26 @@ module _ (p : Layout) (cells : ℕ → World) (state : State) (level : ℕ) wher
 -- the law of live numbers in the plain terms of cells
 pub live_contents : (p : Layout) (models : List Content) (state : State) (level : ℕ) → 2 ≤ p.side
     → Sound p models state → IsIdle state → level < levels p
-    → HasContents (world_block p.side) (λ v. history.stored_in (2 ^ p.side) models state.log.records v)
+    → HasContents (world_block p.side)
+    (λ v. history.stored_in (2 ^ p.side) models state.log.records v)
     (λ v. IsKept state.log v) level (live_number p state level)
 live_contents p models state level low s idle in_plan =
-    contents p (λ v. history.stored_in (2 ^ p.side) models state.log.records v) state level (λ v. IsKept state.log v)
+    contents p (λ v. history.stored_in (2 ^ p.side) models state.log.records v) state level
+    (λ v. IsKept state.log v)
     (live_number p state level)
     (λ v b site. there v (state.root v) refl site.rooted)
     (λ t filled. record {
       in_range = (let le = filled.there.there in let few = s.versions.legal.few in omega arith);
       rooted =
-          λ none. both_ways (history.stored_in (2 ^ p.side) models state.log.records t.version filled.some.at)
+          λ none. both_ways
+          (history.stored_in (2 ^ p.side) models state.log.records t.version filled.some.at)
           (no_root_no_cell p models state low s t.version filled.there none filled.some.at
           (inside t filled)) filled.some.set;
       aligned = filled.aligned;
       same_level = filled.same_level;
     })
-    (live_numbers p (λ v. history.stored_in (2 ^ p.side) models state.log.records v) state level s.entries
+    (live_numbers p
+    (λ v. history.stored_in (2 ^ p.side) models state.log.records v) state level s.entries
     (sound_roots p models state s.versions) idle in_plan)
   where
     there : (v : ℕ) (o : Option Name) → state.root v ≡ o → o ≢ None → IsKept state.log v
@@ -232,7 +236,8 @@ live_contents p models state level low s idle in_plan =
     there v (Some n) e some = s.versions.kept v n e
 
     inside : (t : Site)
-        (filled : IsFilled (world_block p.side) (λ v. history.stored_in (2 ^ p.side) models state.log.records v)
+        (filled : IsFilled (world_block p.side)
+        (λ v. history.stored_in (2 ^ p.side) models state.log.records v)
         (λ v. IsKept state.log v) level t) → IsInWorld (2 ^ p.side) filled.some.at
     inside t filled =
         aligned_in_world p.side t.block filled.some.at low filled.aligned filled.some.inside

@@ -292,7 +292,8 @@ pub take_root_entries : (p : Layout) (holder place : ℕ) (old new : State) → 
 take_root_entries p holder place old new s e = entries_stay_sound p old new s e.entries (λ f. (
     let roots = rooted-change f old new place e.in_range e.roots in
     let none : weight f (new.root place) ≡ 0 = ap (weight f) e.no_root in
-    let shares = traded f old.held new.held holder no_weight (at_most_one (old.root place)) e.held in
+    let shares =
+    traded f old.held new.held holder no_weight (at_most_one (old.root place)) e.held in
     omega arith))
 
 -- each step keeps entries sound

@@ -119,7 +119,8 @@ frees_node p state n middle after steps now s is branch last o none r =
           (λ q h e. gone
           (subst (λ x. IsShapeStored p key middle x)
           (sym e) h.was)) r.freed r.each) r.different;
-      parts = All-cons (λ q. IsPart q t) t r.freed (whole (not_clear_at state.key n.level n)) r.parts;
+      parts = All-cons (λ q. IsPart q t) t r.freed
+          (whole (not_clear_at state.key n.level n)) r.parts;
       each = All-cons (λ q. IsFreed p key before after q) t r.freed
           (record {
             is_branch = branch;

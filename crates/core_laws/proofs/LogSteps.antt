@@ -72,7 +72,8 @@ versions_stay p models old new s t keys roots log v = record {
       shows_same p _ _ _ (root_stays p models old new s v t keys w (roots w))
       (v.shown w (subst (λ (l : Log). IsKept l w) log kept)) in
       subst (λ (l : Log). ShowsCells (world_block p.side)
-      (shape_of (tree_at new.key (top p.side) (new.root w))) (stored_in (2 ^ p.side) models l.records w))
+      (shape_of (tree_at new.key (top p.side) (new.root w)))
+      (stored_in (2 ^ p.side) models l.records w))
       (sym log) shown);
 }
 
@@ -122,7 +123,8 @@ module _ (p : Layout) (models : List Content) (holder : ℕ) (r : Record) (root 
   new_cells q inside =
       sym ((made_cells (2 ^ p.side) models old.log.records r e.may.cells e.may.makes).each q
       (in_world p.side q low inside))
-      ∙ ap (λ (l : Log). stored_in (2 ^ p.side) models l.records (length old.log.records + 1) q) (sym e.log)
+      ∙ ap (λ (l : Log). stored_in (2 ^ p.side) models l.records (length old.log.records + 1) q)
+      (sym e.log)
 
   new_or_old : (v : ℕ) → v ≤ length new.log.records
       → (v ≡ length old.log.records + 1) ⊎ (v ≤ length old.log.records)

@@ -24,7 +24,8 @@ made_cells side models records r cells makes = elim (cases_Bool (is_edit r.act))
   | inr other ↦ record {
     each = λ q in_world.
         stored_of_other side models records r q other
-        ∙ ap (λ (at : Position). stored_in side models records at.now q) (position_of_next records r)
+        ∙ ap (λ (at : Position). stored_in side models records at.now q)
+        (position_of_next records r)
         ∙ sym ((makes.other other).each q in_world);
   }
 ]

@@ -52,7 +52,8 @@ module _ (p : Layout) (state : State) (s : SoundEntries p state) where
       → ((m : Name) → LivesAt p state level m → t ≡ shape_of (tree_at state.key level (Some m))
       → IsShapeStored p state.key state.book r)
       → IsShapeStored p state.key state.book r
-  octant_stored level r None live e part next = absurd (partless part (e ∙ clear_at state.key level))
+  octant_stored level r None live e part next = absurd
+      (partless part (e ∙ clear_at state.key level))
   octant_stored level r (Some m) live e part next = next m (live m refl) e
 
   -- each part of a live entry's shape is stored
@@ -71,7 +72,8 @@ module _ (p : Layout) (state : State) (s : SoundEntries p state) where
       elim (cases_lt k 8) [
         | inr past ↦ absurd (partless more (o ∙ octant_shape-past _ k past))
         | inl lt ↦
-            octant_stored level _ (key_child (state.key n) k) (children_live p state s level n k lt l)
+            octant_stored level _ (key_child (state.key n) k)
+            (children_live p state s level n k lt l)
             (o ∙ octant_at state.key level n k lt) more
             (λ m of_m same. part_stored level m of_m more same)
       ]

@@ -69,7 +69,8 @@ empty_sound p models state e = record {
         let clear : shape_of (tree_at state.key (top p.side) (state.root v)) ≡ Clear =
         ap (λ (o : Option Name). shape_of (tree_at state.key (top p.side) o)) (e.root v)
         ∙ clear_at state.key (top p.side) in
-        subst (λ (s : Shape). ShowsCells (world_block p.side) s (stored_in (2 ^ p.side) models state.log.records v))
+        subst (λ (s : Shape). ShowsCells (world_block p.side) s
+        (stored_in (2 ^ p.side) models state.log.records v))
         (sym clear)
         (clear_shows (world_block p.side) (stored_in (2 ^ p.side) models state.log.records v)
         (λ q _. ap (λ (w : ℕ). stored_in (2 ^ p.side) models state.log.records w q) first
@@ -93,7 +94,8 @@ module _ (p : Layout) (models : List Content) (state : State) (low : 2 ≤ p.sid
   -- versions with one root have the same cells
   pub same_cells : (v w : ℕ) → IsKept state.log v → IsKept state.log w
       → state.root v ≡ state.root w
-      → SameWorld (2 ^ p.side) (stored_in (2 ^ p.side) models state.log.records v) (stored_in (2 ^ p.side) models state.log.records w)
+      → SameWorld (2 ^ p.side) (stored_in (2 ^ p.side) models state.log.records v)
+      (stored_in (2 ^ p.side) models state.log.records w)
   same_cells v w of_v of_w same = record {
     each = λ q inside. (
         let shows_v =
@@ -106,7 +108,8 @@ module _ (p : Layout) (models : List Content) (state : State) (low : 2 ≤ p.sid
 
   -- versions with the same cells have one root
   pub same_root : (v w : ℕ) → IsKept state.log v → IsKept state.log w
-      → SameWorld (2 ^ p.side) (stored_in (2 ^ p.side) models state.log.records v) (stored_in (2 ^ p.side) models state.log.records w)
+      → SameWorld (2 ^ p.side) (stored_in (2 ^ p.side) models state.log.records v)
+      (stored_in (2 ^ p.side) models state.log.records w)
       → state.root v ≡ state.root w
   same_root v w of_v of_w same =
       let shows_v = s.versions.shown v of_v in
@@ -129,18 +132,21 @@ module _ (p : Layout) (models : List Content) (state : State) (low : 2 ≤ p.sid
       → IsInWorld (2 ^ p.side) q → stored_in (2 ^ p.side) models state.log.records v q ≡ false
   no_root_no_cell v of_v none q inside =
       clear_shown (world_block p.side) (stored_in (2 ^ p.side) models state.log.records v) q
-      (subst (λ (t : Shape). ShowsCells (world_block p.side) t (stored_in (2 ^ p.side) models state.log.records v))
+      (subst (λ (t : Shape). ShowsCells (world_block p.side) t
+      (stored_in (2 ^ p.side) models state.log.records v))
       (ap (λ (o : Option Name). shape_of (tree_at state.key (top p.side) o)) none
       ∙ clear_at state.key (top p.side)) (s.versions.shown v of_v))
       (in_block p.side q low inside)
 
   pub no_cell_no_root : (v : ℕ) → IsKept state.log v
-      → ((q : Cell) → IsInWorld (2 ^ p.side) q → stored_in (2 ^ p.side) models state.log.records v q ≡ false)
+      → ((q : Cell) → IsInWorld (2 ^ p.side) q
+      → stored_in (2 ^ p.side) models state.log.records v q ≡ false)
       → state.root v ≡ None
   no_cell_no_root v of_v clear =
       let shows : ShowsCells (world_block p.side) (shape_of (tree_at state.key (top p.side) None))
       (stored_in (2 ^ p.side) models state.log.records v) =
-      subst (λ (t : Shape). ShowsCells (world_block p.side) t (stored_in (2 ^ p.side) models state.log.records v))
+      subst (λ (t : Shape). ShowsCells (world_block p.side) t
+      (stored_in (2 ^ p.side) models state.log.records v))
       (sym (clear_at state.key (top p.side)))
       (clear_shows (world_block p.side) (stored_in (2 ^ p.side) models state.log.records v)
       (λ q in_b. clear q (in_world p.side q low in_b))) in

@@ -265,13 +265,15 @@ root_shows p cells state v r (Some n) e some = r.shown v n e
 
 -- the roots of a sound state show the cells of its versions
 pub sound_roots : (p : Layout) (models : List Content) (state : State)
-    → SoundVersions p models state → RootsShow p (λ v. stored_in (2 ^ p.side) models state.log.records v) state
+    → SoundVersions p models state
+    → RootsShow p (λ v. stored_in (2 ^ p.side) models state.log.records v) state
 sound_roots p models state s = record {
   in_range = λ v n e. root_in_range p models state v n s e;
   level = s.level;
   shown = λ v n e.
       (let kept = s.kept v n e in
       subst (λ (o : Option Name). ShowsCells (world_block p.side)
-      (shape_of (tree_at state.key (top p.side) o)) (stored_in (2 ^ p.side) models state.log.records v)) e
+      (shape_of (tree_at state.key (top p.side) o))
+      (stored_in (2 ^ p.side) models state.log.records v)) e
       (s.shown v kept));
 }

@@ -115,7 +115,8 @@ add_joins p holder n key old new level s up e =
     node_tree new.key n.level level n up ∙ node_at-same n _ _ rows in
     record {
       weighs = λ f. (
-          let r = seen_trades p holder (children_named key) (one_name n) old new f s t keys e.held in
+          let r =
+          seen_trades p holder (children_named key) (one_name n) old new f s t keys e.held in
           let all = r.weighs in
           let of_n = r.is_weight.after n live ∙ ap f tree in
           let of_children =

@@ -208,7 +208,8 @@ leaves p holder m old new (takes_root place e) live none =
 -- no step changes a cell of a version
 pub step_cells : (p : Layout) (models : List Content) (holder : ℕ) (old new : State) (v : ℕ)
     (q : Cell) → Step p models holder old new → v ≤ length old.log.records
-    → stored_in (2 ^ p.side) models new.log.records v q ≡ stored_in (2 ^ p.side) models old.log.records v q
+    → stored_in (2 ^ p.side) models new.log.records v q ≡ stored_in
+    (2 ^ p.side) models old.log.records v q
 step_cells p models holder old new v q (stores e roots log) le =
     ap (λ (l : Log). stored_in (2 ^ p.side) models l.records v q) log
 step_cells p models holder old new v q (pins w e log) le =

@@ -24,7 +24,11 @@ abbrev pub any_record : Record
 any_record = record {
   session = 0;
   line = 0;
-  act = Fill (record { at = record { x = 0; y = 0; z = 0 }; size = record { x = 0; y = 0; z = 0 } });
+  act = Fill (record {
+    at = record { x = 0; y = 0; z = 0 };
+    size =
+        record { x = 0; y = 0; z = 0 };
+  });
 }
 
 -- ---- where a record goes to
@@ -77,7 +81,8 @@ module _ (front : List Mark) (ends : List ℕ) (m : Mark) (tells : TellsEnds fro
   last_held : (n v : ℕ) → IsVersionHeld (front ++ m ∷ []) n v → Held n v m
   last_held n v held = All-contains (Held n v) (front ++ m ∷ []) m held (Contains-push front m)
 
-  -- a mark of a version that the table hasn't, or of a later moment than one before it, adds nothing
+  -- a mark of a version that the table hasn't, or of a later moment than one before it, adds
+  -- nothing
   pub same_ends : (65536 ≤ m.version) ⊎ (slice_index ends m.version ≤ m.at)
       → TellsEnds (front ++ m ∷ []) ends
   same_ends late = record {
@@ -116,7 +121,8 @@ module _ (front : List Mark) (ends : List ℕ) (m : Mark) (tells : TellsEnds fro
           let here : slice_index (set ends m.version m.at) v ≡ m.at =
           ap (slice_index (set ends m.version m.at)) same
           ∙ get_or-set_same ends m.version m.at 0 (omega (arith, long, there)) in
-          let old : slice_index ends v ≡ slice_index ends m.version = ap (slice_index ends) same in (
+          let old : slice_index ends v ≡ slice_index ends m.version =
+          ap (slice_index ends) same in (
             λ held. (let le = last_held n v held (sym same) in omega (arith, here, le)),
             λ le.
                 All-push (Held n v) front m
@@ -128,7 +134,8 @@ module _ (front : List Mark) (ends : List ℕ) (m : Mark) (tells : TellsEnds fro
           get_or-set_other ends m.version v m.at 0 other in
           let each = tells.each v n lt small in (
             λ held.
-                let le = each.0 (all_front (Held n v) front (m ∷ []) held) in omega (arith, here, le),
+                let le =
+                each.0 (all_front (Held n v) front (m ∷ []) held) in omega (arith, here, le),
             λ le.
                 All-push (Held n v) front m (each.1 (omega (arith, here, le)))
                 (λ same. absurd (other (sym same))),
@@ -143,7 +150,8 @@ comes_all side models marks n act at few fits may = record { few = few; fits = f
 
 -- behind the first i records of a history
 module _ (side : ℕ) (models : List Content) (log : Log) (i n : ℕ) (d : Record) (at : Position)
-    (lt : i < length log.records) (same : n ≡ i) (is : at ≡ position_after (take i log.records)) where
+    (lt : i < length log.records) (same : n ≡ i)
+    (is : at ≡ position_after (take i log.records)) where
   short : length (take i log.records) ≡ i
   short = length-take-le i log.records (omega (arith, lt))
 
@@ -167,7 +175,8 @@ module _ (side : ℕ) (models : List Content) (log : Log) (i n : ℕ) (d : Recor
         fits = c.fits;
         may =
             subst (λ (m : ℕ). MayFollow log.marks m next.act at) on
-            (subst (λ (p : Position). MayFollow log.marks (length (take i log.records) + 1) next.act p) (sym is) c.may);
+            (subst (λ (p : Position). MayFollow log.marks
+            (length (take i log.records) + 1) next.act p) (sym is) c.may);
       }
 
   came : CanCome side models log.marks (n + 1) next.act at
@@ -179,7 +188,8 @@ module _ (side : ℕ) (models : List Content) (log : Log) (i n : ℕ) (d : Recor
         early = omega (arith, few, short, same);
         fits = c.fits;
         may =
-            subst (λ (m : ℕ). MayFollow log.marks m next.act (position_after (take i log.records))) on
+            subst (λ (m : ℕ). MayFollow log.marks m next.act
+            (position_after (take i log.records))) on
             (subst (λ (p : Position). MayFollow log.marks (n + 1) next.act p) is c.may);
       }
 

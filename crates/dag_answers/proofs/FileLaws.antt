@@ -50,7 +50,8 @@ module _ (models : List Content) (log : Log) (held : List Tree) (roots : List Ro
   roots_rise = λ v x y is next.
       let at = get_or_from_slice_get roots v x x is in
       let later = get_or_from_slice_get roots (suc v) y x next in
-      let lt = kept.versions.rising v (suc v) x (omega arith) (slice_get_within roots (suc v) y next) in
+      let lt =
+      kept.versions.rising v (suc v) x (omega arith) (slice_get_within roots (suc v) y next) in
       subst (λ (a : Rooted). a.0 < y.0) at
       (subst (λ (b : Rooted). (get_or roots v x).0 < b.0) later lt)
 
@@ -84,7 +85,11 @@ module _ (models : List Content) (log : Log) (held : List Tree) (roots : List Ro
         let found = at_place i below in
         let same = one_some roots i found.0 (v, all.0) found.1 all.1.2 in (
           i,
-          record { below = below; is = of.numbers i found.0 found.1 ∙ ap (λ (x : Rooted). x.0) same },
+          record {
+            below = below;
+            is = of.numbers i found.0 found.1
+                ∙ ap (λ (x : Rooted). x.0) same;
+          },
         )
 
     -- the tree of a root stands in the root's block
@@ -120,7 +125,8 @@ module _ (models : List Content) (log : Log) (held : List Tree) (roots : List Ro
         record {
           each = λ q inside.
               ap (λ (s : Shape). has (log.side - 2) s q.x q.y q.z) shape
-              ∙ (λ t. has (log.side - 2) (shape_of shows.shows.tree) (from_origin q.x t) (from_origin q.y t) (from_origin q.z t))
+              ∙ (λ t. has (log.side - 2) (shape_of shows.shows.tree) (from_origin q.x t)
+              (from_origin q.y t) (from_origin q.z t))
               ∙ shows.shows.shows.each q (in_block q inside)
               ∙ ap (λ (n : ℕ). store_has models log n q) number;
         }
@@ -150,7 +156,9 @@ file_stays models old new file side records to back is = record {
       (λ there. to v (has.0 there), λ kept. has.1 (back v kept));
   cells =
       subst (λ (rs : List Record). (v i : ℕ) → IsVersion file (new.side - 1) v i
-      → SameWorld (2 ^ new.side) (version_has file new.side i) (stored_in (2 ^ new.side) models rs v)) records
+      → SameWorld (2 ^ new.side) (version_has file new.side i)
+      (stored_in (2 ^ new.side) models rs v)) records
       (subst (λ (s : ℕ). (v i : ℕ) → IsVersion file (s - 1) v i
-      → SameWorld (2 ^ s) (version_has file s i) (stored_in (2 ^ s) models old.records v)) side is.cells);
+      → SameWorld (2 ^ s) (version_has file s i)
+      (stored_in (2 ^ s) models old.records v)) side is.cells);
 }

@@ -17,7 +17,8 @@ abbrev pub Judged : List ℕ → ℕ → Question → Type 0
 Judged bytes number asked = (found : Option LookRefused) × JudgesLook bytes number asked found
 
 module _ (bytes : List ℕ) (number : ℕ) (asked : Question) where
-  by_placed : (side : ℕ) → 2 ≤ side → IsDagFile bytes (side - 1) → HasVersion bytes (side - 1) number
+  by_placed : (side : ℕ) → 2 ≤ side → IsDagFile bytes (side - 1)
+      → HasVersion bytes (side - 1) number
       → (r : Result Question ScriptKind) → question_placed (2 ^ side) asked ≡ r
       → Judged bytes number asked
   by_placed side low file has (Ok q) e =
@@ -36,7 +37,8 @@ module _ (bytes : List ℕ) (number : ℕ) (asked : Question) where
   by_file side low file =
       elim (version_decided bytes (side - 1) number) [
         | inl has ↦ by_placed side low file has (question_placed (2 ^ side) asked) refl
-        | inr none ↦ (Some NoPlace, record { side = side; low = low; file = file; lacks = inl none })
+        | inr none ↦
+            (Some NoPlace, record { side = side; low = low; file = file; lacks = inl none })
       ]
 
   by_levels : (levels : ℕ) → IsDagFile bytes levels → Judged bytes number asked

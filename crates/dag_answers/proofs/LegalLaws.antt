@@ -44,7 +44,8 @@ pub legal_records : (models : List Content) (log : Log) → IsLegal (2 ^ log.sid
 legal_records models log legal = record { few = legal.few; fit = legal.fit; follow = legal.follow }
 
 pub legal_whole : (models : List Content) (log : Log) → AreLegalMarks (length log.records) log.marks
-    → AreLegalRecords (2 ^ log.side) models log.marks log.records → IsLegal (2 ^ log.side) models log
+    → AreLegalRecords (2 ^ log.side) models log.marks log.records
+    → IsLegal (2 ^ log.side) models log
 legal_whole models log marks records = record {
   same_side = refl;
   few = records.few;
@@ -71,7 +72,8 @@ follow_push marks n at (x ∷ xs) r follow may =
     )
 
 follow_last : (marks : List Mark) (n : ℕ) (at : Position) (xs : List Record) (r : Record)
-    → MayFollowFrom marks n at (xs ++ r ∷ []) → MayFollow marks (n + length xs) r.act (position_from n at xs)
+    → MayFollowFrom marks n at (xs ++ r ∷ [])
+    → MayFollow marks (n + length xs) r.act (position_from n at xs)
 follow_last marks n at [] r follow =
     let same : n ≡ n + 0 = omega arith in
     subst (λ (m : ℕ). MayFollow marks m r.act at) same follow.0
@@ -88,7 +90,8 @@ pub record ComesNext (side : ℕ) (models : List Content) (marks : List Mark) (f
   pub fits : FitsWorld side models r.act
   pub may : MayFollow marks (length front + 1) r.act (position_after front)
 
-module _ (side : ℕ) (models : List Content) (marks : List Mark) (front : List Record) (r : Record) where
+module _ (side : ℕ) (models : List Content) (marks : List Mark) (front : List Record)
+    (r : Record) where
   pub legal_push : AreLegalRecords side models marks front → ComesNext side models marks front r
       → AreLegalRecords side models marks (front ++ r ∷ [])
   legal_push legal next =
@@ -110,7 +113,8 @@ module _ (side : ℕ) (models : List Content) (marks : List Mark) (front : List 
       let same : 1 + length front ≡ length front + 1 = omega arith in
       record {
         early = omega (arith, long, few);
-        fits = All-contains (λ (q : Record). FitsWorld side models q.act) (front ++ r ∷ []) r legal.fit
+        fits = All-contains (λ (q : Record). FitsWorld side models q.act)
+            (front ++ r ∷ []) r legal.fit
             (Contains-push front r);
         may = subst (λ (m : ℕ). MayFollow marks m r.act (position_after front)) same
             (follow_last marks 1 beginning front r legal.follow);
@@ -130,5 +134,6 @@ illegal_at side models log i d lt legal never = record {
       ∙ ap (λ (rs : List Record). take i log.records ++ rs) (drop_more log.records i d lt);
   number = (let long = length-take-le i log.records (omega (arith, lt)) in omega (arith, long));
   legal = legal;
-  breaks = λ whole. never (legal_last side models log.marks (take i log.records) (get_or log.records i d) whole);
+  breaks = λ whole. never
+      (legal_last side models log.marks (take i log.records) (get_or log.records i d) whole);
 }

@@ -59,7 +59,8 @@ shows bytes side v root lt low is = record {
       (is_root bytes side v (version_root_word bytes (side - 1) v) lt low refl);
   shows = record {
     each = λ c there.
-        λ t. has (side - 2) (shape_of (version_tree bytes (side - 1) v)) (sym (from_origin c.x) t) (sym (from_origin c.y) t) (sym (from_origin c.z) t);
+        λ t. has (side - 2) (shape_of (version_tree bytes (side - 1) v)) (sym (from_origin c.x) t)
+        (sym (from_origin c.y) t) (sym (from_origin c.z) t);
   };
 }
 

@@ -20,7 +20,8 @@ module _ (models : List Content) (log : Log) (due : List Mark) (begun : List Con
     (kept : HoldsKept now.plan.side now.models now.log held roots) where
   has : HasReplayed models log due (length log.records) (length due) now
   has =
-      subst (λ (ms : List Content). HasReplayed ms log due (length log.records) (length due) now) same
+      subst (λ (ms : List Content). HasReplayed ms log due (length log.records)
+      (length due) now) same
       replays
 
   low_now : 2 ≤ now.log.side
@@ -29,7 +30,8 @@ module _ (models : List Content) (log : Log) (due : List Mark) (begun : List Con
   here : HoldsKept now.log.side models now.log held roots
   here =
       subst (λ (ms : List Content). HoldsKept now.log.side ms now.log held roots) has.models_are
-      (subst (λ (s : ℕ). HoldsKept s now.models now.log held roots) (has.side ∙ sym has.log_side) kept)
+      (subst (λ (s : ℕ). HoldsKept s now.models now.log held roots)
+      (has.side ∙ sym has.log_side) kept)
 
   pub list_held : HoldsList held (log.side - 1) roots
   list_held =
@@ -41,7 +43,8 @@ module _ (models : List Content) (log : Log) (due : List Mark) (begun : List Con
 
   pub list_small : length log.records ≤ 65535 → AreNumbersSmall roots
   list_small few =
-      roots_small models now.log held roots low_now here (let many = has.many in omega (arith, many, few))
+      roots_small models now.log held roots low_now here
+      (let many = has.many in omega (arith, many, few))
 
   later : All (λ m. length log.records < m.at) (drop (length due) due)
   later = none_due models log due of_due (length log.records) (length due) (omega arith)

@@ -41,7 +41,8 @@ module _ (some all : List Mark) (within : (m : Mark) → Contains some m → Con
   target_within n [] has = has
   target_within n (to ∷ more) has = held_within n to has
 
-  pub may_within : (n : ℕ) (act : Act) (at : Position) → MayFollow all n act at → MayFollow some n act at
+  pub may_within : (n : ℕ) (act : Act) (at : Position) → MayFollow all n act at
+      → MayFollow some n act at
   may_within n Undo at may = target_within n at.past may
   may_within n Redo at may = target_within n at.future may
   may_within n (Fill b) at may = tt
@@ -63,7 +64,8 @@ pub next_of : (side : ℕ) (models : List Content) (log : Log) (n : ℕ) (d : Re
     → ComesNext side models log.marks (take n log.records) (get_or log.records n d)
 next_of side models log n d lt legal =
     legal_last side models log.marks (take n log.records) (get_or log.records n d)
-    (subst (λ (rs : List Record). AreLegalRecords side models log.marks rs) (take_more log.records n d lt)
+    (subst (λ (rs : List Record). AreLegalRecords side models log.marks rs)
+    (take_more log.records n d lt)
     (legal_front side models log.marks (take (n + 1) log.records) (drop (n + 1) log.records)
     (subst (λ (rs : List Record). AreLegalRecords side models log.marks rs)
     (sym (take-append-drop (n + 1) log.records)) legal)))
@@ -112,9 +114,11 @@ module _ (models : List Content) (log : Log) (due : List Mark) (of_due : AreDue 
       let act = (get_or log.records n d).act in
       let many : length (take n log.records) ≡ length now.log.records =
       ap (λ (rs : List Record). length rs) (sym has.records) in
-      subst (λ (rs : List Record). MayFollow now.log.marks (length now.log.records + 1) act (position_after rs))
+      subst (λ (rs : List Record). MayFollow now.log.marks (length now.log.records + 1) act
+      (position_after rs))
       (sym has.records)
-      (subst (λ (m : ℕ). MayFollow now.log.marks (m + 1) act (position_after (take n log.records))) many
+      (subst (λ (m : ℕ). MayFollow now.log.marks (m + 1) act
+      (position_after (take n log.records))) many
       (may_within now.log.marks log.marks (marks_within n k now has)
       (length (take n log.records) + 1) act (position_after (take n log.records)) next.may))
 
@@ -181,7 +185,10 @@ module _ (models : List Content) (log : Log) (due : List Mark) (of_due : AreDue 
     there = (
         let m = get_or due k d in
         let listed = of_due.same m (Contains-get_or due k d lt) in
-        let both = All-contains (λ (x : Mark). (x.version < x.at) × (x.at ≤ length log.records)) log.marks m legal.marked listed in
+        let both =
+        All-contains
+        (λ (x : Mark). (x.version < x.at)
+        × (x.at ≤ length log.records)) log.marks m legal.marked listed in
         let many = has.many in
         let less = both.0 in
         omega (arith, less, at, many));
@@ -201,7 +208,10 @@ module _ (models : List Content) (log : Log) (due : List Mark) (of_due : AreDue 
   due_earlier n k now d has legal lt at =
       let m = get_or due k d in
       let listed = of_due.same m (Contains-get_or due k d lt) in
-      let both = All-contains (λ (x : Mark). (x.version < x.at) × (x.at ≤ length log.records)) log.marks m legal.marked listed in
+      let both =
+      All-contains
+      (λ (x : Mark). (x.version < x.at)
+      × (x.at ≤ length log.records)) log.marks m legal.marked listed in
       let many = has.many in
       let less = both.0 in
       omega (arith, less, at, many)
@@ -226,7 +236,8 @@ module _ (models : List Content) (log : Log) (due : List Mark) (of_due : AreDue 
             subst (λ (ms : List Mark). Contains ms x) (sym more)
             (among x (comes x (subst (λ (ms : List Mark). Contains ms x) marks.marks.is listed)));
         all = λ x listed.
-            stays x (Contains-push_cases (take k due) m x (subst (λ (ms : List Mark). Contains ms x) more listed));
+            stays x (Contains-push_cases (take k due) m x
+            (subst (λ (ms : List Mark). Contains ms x) more listed));
         past =
             subst (λ (ms : List Mark). All (λ (x : Mark). x.at ≤ n) ms) (sym more)
             (All-push (λ (x : Mark). x.at ≤ n) (take k due) m has.past (omega (arith, at)));
@@ -239,35 +250,44 @@ module _ (models : List Content) (log : Log) (due : List Mark) (of_due : AreDue 
     where
       comes : (x : Mark) → Contains (marks.marks.before ++ get_or due k d ∷ marks.marks.after) x
           → Contains now.log.marks x ⊎ (get_or due k d ≡ x)
-      comes x listed = go (Contains-append_cases marks.marks.before (get_or due k d ∷ marks.marks.after) x listed)
+      comes x listed = go
+          (Contains-append_cases marks.marks.before (get_or due k d ∷ marks.marks.after) x listed)
         where
           back : Contains (marks.marks.before ++ marks.marks.after) x → Contains now.log.marks x
           back there = subst (λ (ms : List Mark). Contains ms x) (sym marks.marks.was) there
 
           go : Contains marks.marks.before x ⊎ Contains (get_or due k d ∷ marks.marks.after) x
               → Contains now.log.marks x ⊎ (get_or due k d ≡ x)
-          go (inl front) = inl (back (Contains-append_left marks.marks.before marks.marks.after x front))
+          go (inl front) = inl
+              (back (Contains-append_left marks.marks.before marks.marks.after x front))
           go (inr (zero, below, is)) = inr is
           go (inr (suc i, below, is)) =
-              inl (back (Contains-append_right marks.marks.before marks.marks.after x (i, omega (arith, below), is)))
+              inl (back (Contains-append_right marks.marks.before marks.marks.after x
+              (i, omega (arith, below), is)))
 
       among : (x : Mark) → Contains now.log.marks x ⊎ (get_or due k d ≡ x)
           → Contains (take k due ++ get_or due k d ∷ []) x
-      among x (inl old) = Contains-append_left (take k due) (get_or due k d ∷ []) x (has.marks x old)
-      among x (inr is) = subst (λ (y : Mark). Contains (take k due ++ get_or due k d ∷ []) y) is (Contains-push (take k due) (get_or due k d))
+      among x (inl old) = Contains-append_left (take k due) (get_or due k d ∷ []) x
+          (has.marks x old)
+      among x (inr is) = subst (λ (y : Mark). Contains (take k due ++ get_or due k d ∷ []) y) is
+          (Contains-push (take k due) (get_or due k d))
 
-      put : (x : Mark) → Contains (marks.marks.before ++ get_or due k d ∷ marks.marks.after) x → Contains new.log.marks x
+      put : (x : Mark) → Contains (marks.marks.before ++ get_or due k d ∷ marks.marks.after) x
+          → Contains new.log.marks x
       put x there = subst (λ (ms : List Mark). Contains ms x) (sym marks.marks.is) there
 
       stays : (x : Mark) → Contains (take k due) x ⊎ (get_or due k d ≡ x) → Contains new.log.marks x
       stays x (inr is) =
-          put x (Contains-append_right marks.marks.before (get_or due k d ∷ marks.marks.after) x (0, omega arith, is))
+          put x (Contains-append_right marks.marks.before (get_or due k d ∷ marks.marks.after) x
+          (0, omega arith, is))
       stays x (inl old) =
           go (Contains-append_cases marks.marks.before marks.marks.after x
           (subst (λ (ms : List Mark). Contains ms x) marks.marks.was (has.all x old)))
         where
-          go : Contains marks.marks.before x ⊎ Contains marks.marks.after x → Contains new.log.marks x
-          go (inl front) = put x (Contains-append_left marks.marks.before (get_or due k d ∷ marks.marks.after) x front)
+          go : Contains marks.marks.before x ⊎ Contains marks.marks.after x
+              → Contains new.log.marks x
+          go (inl front) = put x
+              (Contains-append_left marks.marks.before (get_or due k d ∷ marks.marks.after) x front)
           go (inr (i, below, is)) =
               put x (Contains-append_right marks.marks.before (get_or due k d ∷ marks.marks.after) x
               (suc i, omega (arith, below), is))
@@ -290,7 +310,8 @@ module _ (models : List Content) (log : Log) (due : List Mark) (of_due : AreDue 
       first e = get_or_default due k e d lt
 
       go : (i : ℕ) (e : Mark) → k + i < length due
-          → (get_or (drop k due) i e).at ≡ (get_or due (k + i) e).at → n < (get_or (drop k due) i e).at
+          → (get_or (drop k due) i e).at ≡ (get_or due (k + i) e).at
+          → n < (get_or (drop k due) i e).at
       go zero e below at =
           let same : (get_or due (k + 0) e).at ≡ (get_or due k d).at =
           ap (λ (j : ℕ). (get_or due j e).at) (omega arith) ∙ ap (λ (m : Mark). m.at) (first e) in
@@ -313,7 +334,8 @@ module _ (models : List Content) (log : Log) (due : List Mark) (of_due : AreDue 
   -- ---- all of it was replayed
 
   module _ (k : ℕ) (now : WorldState) (has : HasReplayed models log due (length log.records) k now)
-      (legal : AreLegalMarks (length log.records) log.marks) (later : All (λ m. length log.records < m.at) (drop k due)) where
+      (legal : AreLegalMarks (length log.records) log.marks)
+      (later : All (λ m. length log.records < m.at) (drop k due)) where
     -- no mark is left
     pub all_due : length due ≤ k
     all_due = go (cases_order k (length due))
@@ -325,7 +347,10 @@ module _ (models : List Content) (log : Log) (due : List Mark) (of_due : AreDue 
             let m : Mark = record { version = 0; at = 0; session = 0; line = 0 } in
             let x = get_or due k m in
             let listed = of_due.same x (Contains-get_or due k m lt) in
-            let both = All-contains (λ (y : Mark). (y.version < y.at) × (y.at ≤ length log.records)) log.marks x legal.marked listed in
+            let both =
+            All-contains
+            (λ (y : Mark). (y.version < y.at)
+            × (y.at ≤ length log.records)) log.marks x legal.marked listed in
             let long = length-drop k due in
             let less = later 0 m (omega (arith, lt, long)) in
             let here : (get_or (drop k due) 0 m).at ≡ x.at =
@@ -342,7 +367,9 @@ module _ (models : List Content) (log : Log) (due : List Mark) (of_due : AreDue 
     kept_to v kept = record {
       there = subst (λ (rs : List Record). v ≤ length rs) all_records kept.there;
       unmarked = unmarked_within log.marks now.log.marks
-          (λ m listed. has.all m (subst (λ (ms : List Mark). Contains ms m) (sym (take_all k due all_due)) (of_due.all m listed)))
+          (λ m listed. has.all m
+          (subst (λ (ms : List Mark). Contains ms m) (sym (take_all k due all_due))
+          (of_due.all m listed)))
           v kept.unmarked;
     }
 
@@ -354,11 +381,15 @@ module _ (models : List Content) (log : Log) (due : List Mark) (of_due : AreDue 
     }
 
 -- before the first record nothing is due
-pub begun_later : (log : Log) (due : List Mark) → AreDue log.marks due → AreLegalMarks (length log.records) log.marks
+pub begun_later : (log : Log) (due : List Mark) → AreDue log.marks due
+    → AreLegalMarks (length log.records) log.marks
     → All (λ m. 0 < m.at) (drop 0 due)
 begun_later log due of_due legal = λ i d below.
     let m = get_or (drop 0 due) i d in
     let listed = of_due.same m (Contains-get_or due i d below) in
-    let both = All-contains (λ (y : Mark). (y.version < y.at) × (y.at ≤ length log.records)) log.marks m legal.marked listed in
+    let both =
+    All-contains
+    (λ (y : Mark). (y.version < y.at)
+    × (y.at ≤ length log.records)) log.marks m legal.marked listed in
     let less = both.0 in
     omega (arith, less)

@@ -50,7 +50,8 @@ module _ (v : ℕ) where
       omega (arith, all, rest, first)
 
   rise_below : (m : Mark) (ms : List Mark) → Rise (m ∷ ms) → Rise ms
-  rise_below m ms rise = λ i j d lt within. rise (suc i) (suc j) d (omega (arith, lt)) (omega (arith, within))
+  rise_below m ms rise = λ i j d lt within. rise (suc i) (suc j) d (omega (arith, lt))
+      (omega (arith, within))
 
   few_more : (m : Mark) (ms : List Mark) → Rise (m ∷ ms) → sum_by is_of ms ≤ 1
       → sum_by is_of (m ∷ ms) ≤ 1

@@ -38,10 +38,12 @@ follows (inl p) (inr q) = inr (λ a. q (a p))
 follows (inr p) (inr q) = inl (λ a. absurd (p a))
 
 is_less : (a b : ℕ) → Decided (a < b)
-is_less a b = elim (cases_lt a b) [ inl less ↦ inl less | inr more ↦ inr (λ l. omega (arith, l, more)) ]
+is_less a b =
+    elim (cases_lt a b) [ inl less ↦ inl less | inr more ↦ inr (λ l. omega (arith, l, more)) ]
 
 is_most : (a b : ℕ) → Decided (a ≤ b)
-is_most a b = elim (cases_lt b a) [ inl less ↦ inr (λ l. omega (arith, l, less)) | inr more ↦ inl more ]
+is_most a b =
+    elim (cases_lt b a) [ inl less ↦ inr (λ l. omega (arith, l, less)) | inr more ↦ inl more ]
 
 is_true : (b : Bool) → Decided (IsTrue b)
 is_true true = inl refl
@@ -82,14 +84,26 @@ record FirstBroken (P : ℕ → Type 0) (n : ℕ) : Type 0 where
 
 one_more : (P : ℕ → Type 0) (n : ℕ) → ((i : ℕ) → i < n → P i) → P n → (i : ℕ) → i < suc n → P i
 one_more P n all last i lt =
-    elim (cases_eq i n) [ inl e ↦ subst P (sym e) last | inr differ ↦ all i (omega (arith, lt, differ)) ]
+    elim (cases_eq i n) [
+      | inl e ↦ subst P (sym e) last
+      | inr differ ↦ all i
+          (omega (arith, lt, differ))
+    ]
 
 search_on : (P : ℕ → Type 0) (n : ℕ) → Decided (P n)
-    → ((i : ℕ) → i < n → P i) ⊎ FirstBroken P n → ((i : ℕ) → i < suc n → P i) ⊎ FirstBroken P (suc n)
+    → ((i : ℕ) → i < n → P i) ⊎ FirstBroken P n
+    → ((i : ℕ) → i < suc n → P i) ⊎ FirstBroken P (suc n)
 search_on P n last (inr f) =
-    inr (record { i = f.i; below = (let lt = f.below in omega (arith, lt)); before = f.before; broken = f.broken })
+    inr (record {
+      i = f.i;
+      below =
+          (let lt = f.below in omega (arith, lt));
+      before = f.before;
+      broken = f.broken;
+    })
 search_on P n (inl is) (inl all) = inl (one_more P n all is)
-search_on P n (inr fails) (inl all) = inr (record { i = n; below = omega arith; before = all; broken = fails })
+search_on P n (inr fails) (inl all) =
+    inr (record { i = n; below = omega arith; before = all; broken = fails })
 
 first_of : (P : ℕ → Type 0) → ((i : ℕ) → Decided (P i)) → (n : ℕ)
     → ((i : ℕ) → i < n → P i) ⊎ FirstBroken P n
@@ -98,7 +112,11 @@ first_of P decide (suc n) = search_on P n (decide n) (first_of P decide n)
 
 all_of : (P : ℕ → Type 0) → ((i : ℕ) → Decided (P i)) → (n : ℕ) → Decided ((i : ℕ) → i < n → P i)
 all_of P decide n =
-    elim (first_of P decide n) [ inl all ↦ inl all | inr f ↦ inr (λ all. f.broken (all f.i f.below)) ]
+    elim (first_of P decide n) [
+      | inl all ↦ inl all
+      | inr f ↦ inr
+          (λ all. f.broken (all f.i f.below))
+    ]
 
 record SomeOf (P : ℕ → Type 0) (n : ℕ) : Type 0 where
   i : ℕ
@@ -121,7 +139,8 @@ some_of P decide n =
 module _ (bytes : List ℕ) where
   leaf_decided : (place i : ℕ) → Decided (IsLeafRight bytes place i)
   leaf_decided place i =
-      by (λ a. record { fits = a.0; some = a.1.0; rises = a.1.1 }) (λ r. (r.fits, (r.some, r.rises)))
+      by (λ a. record { fits = a.0; some = a.1.0; rises = a.1.1 })
+      (λ r. (r.fits, (r.some, r.rises)))
       (both (is_most (place + 8) (length bytes))
       (both (other (cases_eq (leaf_at bytes place) 0))
       (follows (is_less 0 i) (is_less (leaf_at bytes (place - 8)) (leaf_at bytes place)))))
@@ -140,7 +159,8 @@ module _ (bytes : List ℕ) where
   word_decided place =
       by (λ s. record { k = s.i; below = s.below; there = s.is })
       (λ r. record { i = r.k; below = r.below; is = r.there })
-      (some_of (λ k. node_word_at bytes place k ≢ 0) (λ k. other (cases_eq (node_word_at bytes place k) 0)) 8)
+      (some_of (λ k. node_word_at bytes place k ≢ 0)
+      (λ k. other (cases_eq (node_word_at bytes place k) 0)) 8)
 
   node_decided : (place i most : ℕ) → Decided (IsNodeRight bytes place i most)
   node_decided place i most =
@@ -148,7 +168,8 @@ module _ (bytes : List ℕ) where
       (λ r. (r.fits, (r.some, (r.known, r.rises))))
       (both (is_most (place + 32) (length bytes))
       (both (word_decided place)
-      (both (all_of (λ k. node_word_at bytes place k ≤ most) (λ k. is_most (node_word_at bytes place k) most) 8)
+      (both (all_of (λ k. node_word_at bytes place k ≤ most)
+      (λ k. is_most (node_word_at bytes place k) most) 8)
       (follows (is_less 0 i) (before_decided (place - 32) place)))))
 
   entry_decided : (levels level i : ℕ) → Decided (IsEntryRight bytes levels level i)
@@ -171,9 +192,16 @@ module _ (bytes : List ℕ) where
   above_decided : (levels level i : ℕ) → Decided (IsNamedAbove bytes levels level i)
   above_decided levels level i =
       by (λ s. record { node = s.i; below = s.below; k = s.is.i; octant = s.is.below; names = s.is.is })
-      (λ r. record { i = r.node; below = r.below; is = record { i = r.k; below = r.octant; is = r.names } })
-      (some_of (λ node. SomeOf (λ k. node_word_at bytes (entry_place bytes levels (suc level) node) k ≡ i + 1) 8)
-      (λ node. some_of (λ k. node_word_at bytes (entry_place bytes levels (suc level) node) k ≡ i + 1)
+      (λ r. record {
+        i = r.node;
+        below = r.below;
+        is =
+            record { i = r.k; below = r.octant; is = r.names };
+      })
+      (some_of (λ node. SomeOf
+      (λ k. node_word_at bytes (entry_place bytes levels (suc level) node) k ≡ i + 1) 8)
+      (λ node. some_of
+      (λ k. node_word_at bytes (entry_place bytes levels (suc level) node) k ≡ i + 1)
       (λ k. cases_eq (node_word_at bytes (entry_place bytes levels (suc level) node) k) (i + 1)) 8)
       (count_in bytes (suc level)))
 
@@ -194,21 +222,33 @@ module _ (bytes : List ℕ) where
 
   pick : (l x : ℕ) (xs : List ℕ) → x ≡ 2 ^ (l + 1) → 1 ≤ l → l ≤ 11
       → (list_any (λ side. side == side_in bytes) xs ≡ true → (levels : ℕ) × HasLevels bytes levels)
-      → list_any (λ side. side == side_in bytes) (x ∷ xs) ≡ true → (levels : ℕ) × HasLevels bytes levels
+      → list_any (λ side. side == side_in bytes) (x ∷ xs) ≡ true
+      → (levels : ℕ) × HasLevels bytes levels
   pick l x xs is low few rest e =
       elim (or_cases (x == side_in bytes) (list_any (λ side. side == side_in bytes) xs) e) [
-        | inl here ↦ (l, record { some = (low, few); side = sym (eqb-true x (side_in bytes) here) ∙ is })
+        | inl here ↦
+            (l, record { some = (low, few); side = sym (eqb-true x (side_in bytes) here) ∙ is })
         | inr later ↦ rest later
       ]
 
   levels_in : IsTrue (is_side (side_in bytes)) → (levels : ℕ) × HasLevels bytes levels
   levels_in e =
-      pick 1 4 (8 ∷ 16 ∷ 32 ∷ 64 ∷ 128 ∷ 256 ∷ 512 ∷ 1024 ∷ 2048 ∷ 4096 ∷ []) refl (omega arith) (omega arith) (pick 2 8 (16 ∷ 32 ∷ 64 ∷ 128 ∷ 256 ∷ 512 ∷ 1024 ∷ 2048 ∷ 4096 ∷ []) refl (omega arith) (omega arith)
-      (pick 3 16 (32 ∷ 64 ∷ 128 ∷ 256 ∷ 512 ∷ 1024 ∷ 2048 ∷ 4096 ∷ []) refl (omega arith) (omega arith) (pick 4 32 (64 ∷ 128 ∷ 256 ∷ 512 ∷ 1024 ∷ 2048 ∷ 4096 ∷ []) refl (omega arith) (omega arith)
-      (pick 5 64 (128 ∷ 256 ∷ 512 ∷ 1024 ∷ 2048 ∷ 4096 ∷ []) refl (omega arith) (omega arith) (pick 6 128 (256 ∷ 512 ∷ 1024 ∷ 2048 ∷ 4096 ∷ []) refl (omega arith) (omega arith)
-      (pick 7 256 (512 ∷ 1024 ∷ 2048 ∷ 4096 ∷ []) refl (omega arith) (omega arith) (pick 8 512 (1024 ∷ 2048 ∷ 4096 ∷ []) refl (omega arith) (omega arith)
-      (pick 9 1024 (2048 ∷ 4096 ∷ []) refl (omega arith) (omega arith) (pick 10 2048 (4096 ∷ []) refl (omega arith) (omega arith)
-      (pick 11 4096 [] refl (omega arith) (omega arith) (λ none. absurd (false≢true none)))))))))))) e
+      pick 1 4 (8 ∷ 16 ∷ 32 ∷ 64 ∷ 128 ∷ 256 ∷ 512 ∷ 1024 ∷ 2048 ∷ 4096 ∷ []) refl (omega arith)
+      (omega arith)
+      (pick 2 8 (16 ∷ 32 ∷ 64 ∷ 128 ∷ 256 ∷ 512 ∷ 1024 ∷ 2048 ∷ 4096 ∷ []) refl
+      (omega arith) (omega arith)
+      (pick 3 16 (32 ∷ 64 ∷ 128 ∷ 256 ∷ 512 ∷ 1024 ∷ 2048 ∷ 4096 ∷ []) refl (omega arith)
+      (omega arith)
+      (pick 4 32 (64 ∷ 128 ∷ 256 ∷ 512 ∷ 1024 ∷ 2048 ∷ 4096 ∷ []) refl (omega arith)
+      (omega arith)
+      (pick 5 64 (128 ∷ 256 ∷ 512 ∷ 1024 ∷ 2048 ∷ 4096 ∷ []) refl (omega arith) (omega arith)
+      (pick 6 128 (256 ∷ 512 ∷ 1024 ∷ 2048 ∷ 4096 ∷ []) refl (omega arith) (omega arith)
+      (pick 7 256 (512 ∷ 1024 ∷ 2048 ∷ 4096 ∷ []) refl (omega arith) (omega arith)
+      (pick 8 512 (1024 ∷ 2048 ∷ 4096 ∷ []) refl (omega arith) (omega arith)
+      (pick 9 1024 (2048 ∷ 4096 ∷ []) refl (omega arith) (omega arith)
+      (pick 10 2048 (4096 ∷ []) refl (omega arith) (omega arith)
+      (pick 11 4096 [] refl (omega arith) (omega arith)
+      (λ none. absurd (false≢true none)))))))))))) e
 
   -- ---- a right file, or a fault
 
@@ -219,46 +259,64 @@ module _ (bytes : List ℕ) where
   HasFault = (place : ℕ) × FirstFault bytes place
 
   module _ (levels : ℕ) (header : IsHeaderRight bytes) (has : HasLevels bytes levels) where
-    after_names : (right : IsRight bytes levels) → AreLevelsNamed bytes levels levels → IsAFile ⊎ HasFault
+    after_names : (right : IsRight bytes levels) → AreLevelsNamed bytes levels levels
+        → IsAFile ⊎ HasFault
     after_names right named =
         let within = ends_within bytes levels right in
         elim (cases_lt (versions_end bytes levels) (length bytes)) [
           | inl more ↦ inr (versions_end bytes levels, trailing levels right named more)
-          | inr no_more ↦ inl (levels, record { right = right; named = named; ends = omega (arith, within, no_more) })
+          | inr no_more ↦ inl (
+            levels,
+            record {
+              right = right;
+              named = named;
+              ends = omega
+                  (arith, within, no_more);
+            },
+          )
         ]
 
     after_versions : (right : IsRight bytes levels) → IsAFile ⊎ HasFault
     after_versions right =
         elim (first_of (λ level. AreEntriesNamed bytes levels level (count_in bytes level))
-        (λ level. all_of (λ i. IsNamed bytes levels level i) (named_decided levels level) (count_in bytes level)) levels) [
+        (λ level. all_of (λ i. IsNamed bytes levels level i) (named_decided levels level)
+        (count_in bytes level)) levels) [
           | inl named ↦ after_names right named
-          | inr f ↦ elim (first_of (λ i. IsNamed bytes levels f.i i) (named_decided levels f.i) (count_in bytes f.i)) [
-            | inl all ↦ absurd (f.broken all)
-            | inr g ↦ inr (entry_place bytes levels f.i g.i, unnamed levels f.i g.i right f.below f.before g.below g.before g.broken)
-          ]
+          | inr f ↦ elim
+              (first_of (λ i. IsNamed bytes levels f.i i) (named_decided levels f.i)
+              (count_in bytes f.i)) [
+                | inl all ↦ absurd (f.broken all)
+                | inr g ↦ inr
+                    (entry_place bytes levels f.i g.i, unnamed levels f.i g.i right f.below f.before g.below g.before g.broken)
+              ]
         ]
 
     abbrev Version : ℕ → Type 0
     Version v = IsNumberRight bytes (version_place bytes levels v) v
         × IsRootRight bytes (version_place bytes levels v) (count_in bytes (levels - 1))
 
-    version_fails : (counts : AreCountsRight bytes levels) (entries : AreLevelsRight bytes levels levels)
+    version_fails : (counts : AreCountsRight bytes levels)
+        (entries : AreLevelsRight bytes levels levels)
         (f : FirstBroken Version (versions_in bytes)) → HasFault
     version_fails counts entries f =
         let before : AreVersionsRight bytes levels f.i =
         record { numbers = λ v lt. (f.before v lt).0; roots = λ v lt. (f.before v lt).1 } in
         elim (number_decided (version_place bytes levels f.i) f.i) [
-          | inr broken ↦ (version_place bytes levels f.i, no_number levels f.i header has counts entries f.below before broken)
+          | inr broken ↦
+              (version_place bytes levels f.i, no_number levels f.i header has counts entries f.below before broken)
           | inl number ↦ (
             version_place bytes levels f.i + 4,
-            no_root levels f.i header has counts entries f.below before number (λ root. f.broken (number, root)),
+            no_root levels f.i header has counts entries f.below before number
+                (λ root. f.broken (number, root)),
           )
         ]
 
-    after_entries : AreCountsRight bytes levels → AreLevelsRight bytes levels levels → IsAFile ⊎ HasFault
+    after_entries : AreCountsRight bytes levels → AreLevelsRight bytes levels levels
+        → IsAFile ⊎ HasFault
     after_entries counts entries =
         elim (first_of Version (λ v. both (number_decided (version_place bytes levels v) v)
-        (root_decided (version_place bytes levels v) (count_in bytes (levels - 1)))) (versions_in bytes)) [
+        (root_decided (version_place bytes levels v) (count_in bytes (levels - 1))))
+        (versions_in bytes)) [
           | inl all ↦ after_versions (record {
             header = header;
             levels_in = has;
@@ -272,32 +330,40 @@ module _ (bytes : List ℕ) where
     after_counts : AreCountsRight bytes levels → IsAFile ⊎ HasFault
     after_counts counts =
         elim (first_of (λ level. AreEntriesRight bytes levels level (count_in bytes level))
-        (λ level. all_of (λ i. IsEntryRight bytes levels level i) (entry_decided levels level) (count_in bytes level)) levels) [
+        (λ level. all_of (λ i. IsEntryRight bytes levels level i) (entry_decided levels level)
+        (count_in bytes level)) levels) [
           | inl entries ↦ after_entries counts entries
-          | inr f ↦ elim (first_of (λ i. IsEntryRight bytes levels f.i i) (entry_decided levels f.i) (count_in bytes f.i)) [
-            | inl all ↦ absurd (f.broken all)
-            | inr g ↦ inr (entry_place bytes levels f.i g.i, no_entry levels f.i g.i header has counts f.below f.before g.below g.before g.broken)
-          ]
+          | inr f ↦ elim
+              (first_of (λ i. IsEntryRight bytes levels f.i i) (entry_decided levels f.i)
+              (count_in bytes f.i)) [
+                | inl all ↦ absurd (f.broken all)
+                | inr g ↦ inr
+                    (entry_place bytes levels f.i g.i, no_entry levels f.i g.i header has counts f.below f.before g.below g.before g.broken)
+              ]
         ]
 
     after_header : IsAFile ⊎ HasFault
     after_header =
         elim (first_of (HasCount bytes)
-        (λ level. both (is_most (count_place level + 4) (length bytes)) (is_most (count_in bytes level) (2 ^ 24))) levels) [
+        (λ level. both (is_most (count_place level + 4) (length bytes))
+        (is_most (count_in bytes level) (2 ^ 24))) levels) [
           | inl counts ↦ after_counts counts
           | inr f ↦ inr (count_place f.i, no_count levels f.i header has f.below f.before f.broken)
         ]
 
-  with_versions : IsMarked bytes → HasOne bytes → (side : HasSide bytes) → Decided (HasVersions bytes) → IsAFile ⊎ HasFault
+  with_versions : IsMarked bytes → HasOne bytes → (side : HasSide bytes)
+      → Decided (HasVersions bytes) → IsAFile ⊎ HasFault
   with_versions mark one side (inr broken) = inr (12, no_versions mark one side broken)
   with_versions mark one side (inl versions) =
       let levels = levels_in side.1 in
-      after_header levels.0 (record { marked = mark; one = one; side = side; versions = versions }) levels.1
+      after_header levels.0
+      (record { marked = mark; one = one; side = side; versions = versions }) levels.1
 
   with_side : IsMarked bytes → HasOne bytes → Decided (HasSide bytes) → IsAFile ⊎ HasFault
   with_side mark one (inr broken) = inr (8, no_side mark one broken)
   with_side mark one (inl side) =
-      with_versions mark one side (both (is_most 16 (length bytes)) (is_most (versions_in bytes) 65536))
+      with_versions mark one side
+      (both (is_most 16 (length bytes)) (is_most (versions_in bytes) 65536))
 
   with_one : IsMarked bytes → Decided (HasOne bytes) → IsAFile ⊎ HasFault
   with_one mark (inr broken) = inr (4, no_one mark broken)
@@ -306,7 +372,8 @@ module _ (bytes : List ℕ) where
 
   with_mark : Decided (IsMarked bytes) → IsAFile ⊎ HasFault
   with_mark (inr broken) = inr (0, no_mark broken)
-  with_mark (inl mark) = with_one mark (both (is_most 8 (length bytes)) (cases_eq (number_at bytes 4) 1))
+  with_mark (inl mark) = with_one mark
+      (both (is_most 8 (length bytes)) (cases_eq (number_at bytes 4) 1))
 
 pub right_or_faulty : (bytes : List ℕ)
     → ((levels : ℕ) × IsDagFile bytes levels) ⊎ ((place : ℕ) × FirstFault bytes place)

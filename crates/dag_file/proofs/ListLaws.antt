@@ -8,12 +8,15 @@ use Rattle.dag_file.specs.Kept.{AreOfOneList}
 use Rattle.dag_file.specs.Lists.{Listed, HoldsList, IsFileOfList}
 use Rattle.dag_file.proofs.ByteLaws.{same_bytes}
 
-pub there : (list : List Listed) (v : ℕ) → v < length list → (x : Listed) × (slice_get list v ≡ Some x)
+pub there : (list : List Listed) (v : ℕ) → v < length list
+    → (x : Listed) × (slice_get list v ≡ Some x)
 there [] v lt = absurd (omega arith)
 there (x ∷ xs) zero lt = (x, refl)
 there (x ∷ xs) (suc v) lt = there xs v (omega arith)
 
-module _ (held : List Tree) (levels : ℕ) (list : List Listed) (a b : List ℕ) (roots : HoldsList held levels list) (fa : IsFileOfList held levels list a) (fb : IsFileOfList held levels list b) where
+module _ (held : List Tree) (levels : ℕ) (list : List Listed) (a b : List ℕ)
+    (roots : HoldsList held levels list) (fa : IsFileOfList held levels list a)
+    (fb : IsFileOfList held levels list b) where
   within : (v : ℕ) → v < versions_in a → v < length list
   within v lt = let e = fa.many in omega (arith, e, lt)
 

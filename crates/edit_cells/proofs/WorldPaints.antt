@@ -12,12 +12,18 @@ use Rattle.edit_cells.specs.Worlds.{world_cells, ShowsWorld}
 use Rattle.edit_cells.proofs.PaintLaws.{chosen}
 use Rattle.edit_cells.proofs.WorldLaws.{root_old, world_places}
 
-pub world_paints : (side level : ℕ) (held : List Tree) (root : Option Name) (before after : Cell → Bool) (set : Bool) (inside : Cell → Bool) (test : Cells) → AreTrees side held → AreCanonical held → ShowsWorld held level root before
-    → ((c : Cell) → after c ≡ (if inside c then set else before c)) → SameIn level (world_cells inside) test → Paints held level root set test (world_cells after)
-world_paints side level held root before after set inside test trees canonical w edits same = record {
-  tree = w.tree;
-  is_old = root_old side level held w.tree root trees canonical w.is_root;
-  shows = record {
-    each = λ x y z p q r. edits (cell_at x y z) ∙ chosen _ _ _ _ set (same.each x y z p q r) (sym ((world_places level _ before w.shows).each x y z p q r));
-  };
-}
+pub world_paints : (side level : ℕ) (held : List Tree) (root : Option Name)
+    (before after : Cell → Bool) (set : Bool) (inside : Cell → Bool) (test : Cells)
+    → AreTrees side held → AreCanonical held → ShowsWorld held level root before
+    → ((c : Cell) → after c ≡ (if inside c then set else before c))
+    → SameIn level (world_cells inside) test → Paints held level root set test (world_cells after)
+world_paints side level held root before after set inside test trees canonical w edits same =
+    record {
+      tree = w.tree;
+      is_old = root_old side level held w.tree root trees canonical w.is_root;
+      shows = record {
+        each = λ x y z p q r. edits (cell_at x y z)
+            ∙ chosen _ _ _ _ set (same.each x y z p q r)
+            (sym ((world_places level _ before w.shows).each x y z p q r));
+      };
+    }

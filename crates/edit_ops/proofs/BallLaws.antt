@@ -23,28 +23,40 @@ use Rattle.edit_ops.specs.Balls.{MakesBall, ball_act}
 pub square_bound : (n : ℕ) → n ≤ 69631 → n * n ≤ 69631 * 69631
 square_bound n h = mul-le-mul h h
 
-pub near_below : (centre at side d i : ℕ) → d ≡ max (at - centre) (centre - (at + side - 1)) → i < side → square d ≤ square (abs_diff centre (at + i))
-near_below centre at side d i e h = let less : d ≤ abs_diff centre (at + i) = omega arith in mul-le-mul less less
+pub near_below : (centre at side d i : ℕ) → d ≡ max (at - centre) (centre - (at + side - 1))
+    → i < side → square d ≤ square (abs_diff centre (at + i))
+near_below centre at side d i e h =
+    let less : d ≤ abs_diff centre (at + i) = omega arith in mul-le-mul less less
 
-pub far_above : (centre at side d i : ℕ) → d ≡ max (abs_diff centre at) (abs_diff centre (at + side - 1)) → i < side → square (abs_diff centre (at + i)) ≤ square d
-far_above centre at side d i e h = let less : abs_diff centre (at + i) ≤ d = omega arith in mul-le-mul less less
+pub far_above : (centre at side d i : ℕ)
+    → d ≡ max (abs_diff centre at) (abs_diff centre (at + side - 1)) → i < side
+    → square (abs_diff centre (at + i)) ≤ square d
+far_above centre at side d i e h =
+    let less : abs_diff centre (at + i) ≤ d = omega arith in mul-le-mul less less
 
-pub outside : (x y z a b c most : ℕ) → most < x + y + z → x ≤ a → y ≤ b → z ≤ c → nat_le (a + b + c) most ≡ false
+pub outside : (x y z a b c most : ℕ) → most < x + y + z → x ≤ a → y ≤ b → z ≤ c
+    → nat_le (a + b + c) most ≡ false
 outside x y z a b c most out p q r = grind (arith, nat_tests)
 
-pub inside : (x y z a b c most : ℕ) → x + y + z ≤ most → a ≤ x → b ≤ y → c ≤ z → nat_le (a + b + c) most ≡ true
+pub inside : (x y z a b c most : ℕ) → x + y + z ≤ most → a ≤ x → b ≤ y → c ≤ z
+    → nat_le (a + b + c) most ≡ true
 inside x y z a b c most within p q r = grind (arith, nat_tests)
 
 -- the task of an octant
-pub ball_octant : (base : List Tree) (level : ℕ) (above : Option Name) (ball : Ball) (at : Cell) (set : Bool) (cells : Cells) (k : ℕ) (old : Option Name) → 1 ≤ level → k < 8 → (m : MakesBall above ball at set base level cells) → old ≡ root_of (child_of m.paints.tree k)
-    → MakesBall old ball (octant_of (record { level = level; at = at }) k).at set base (level - 1) (octant_cells (level - 1) cells k)
+pub ball_octant : (base : List Tree) (level : ℕ) (above : Option Name) (ball : Ball) (at : Cell)
+    (set : Bool) (cells : Cells) (k : ℕ) (old : Option Name) → 1 ≤ level → k < 8
+    → (m : MakesBall above ball at set base level cells) → old ≡ root_of (child_of m.paints.tree k)
+    → MakesBall old ball (octant_of (record { level = level; at = at }) k).at set base (level - 1)
+    (octant_cells (level - 1) cells k)
 ball_octant base level above ball at set cells k old one lt m e = record {
   small = omega (arith, m.small);
   inside = octant_lies level at k one lt m.inside;
-  paints = paints_octant base level above old set _ _ cells k one lt m.paints e (placed_octant (level - 1) at (is_in_ball ball) k);
+  paints = paints_octant base level above old set _ _ cells k one lt m.paints e
+      (placed_octant (level - 1) at (is_in_ball ball) k);
 }
 
-pub ball_edits : (set : Bool) (b : Ball) (before : Cell → Bool) (c : Cell) → edited [] (ball_act set b) before c ≡ (if is_in_ball b c then set else before c)
+pub ball_edits : (set : Bool) (b : Ball) (before : Cell → Bool) (c : Cell)
+    → edited [] (ball_act set b) before c ≡ (if is_in_ball b c then set else before c)
 ball_edits true b before c = either (is_in_ball b c) (before c)
   where
     either : (p q : Bool) → (p || q) ≡ (if p then true else q)
@@ -59,17 +71,25 @@ ball_edits false b before c = either (is_in_ball b c) (before c)
     either false false = refl
 
 -- the same task makes the same cells
-pub ball_same : (base : List Tree) (level : ℕ) (o n : Option Name) (a b : Ball) (at to : Cell) (s t : Bool) (p q : Cells) → o ≡ n → a ≡ b → at ≡ to → s ≡ t → MakesBall o a at s base level p → MakesBall n b to t base level q → SameIn level p q
+pub ball_same : (base : List Tree) (level : ℕ) (o n : Option Name) (a b : Ball) (at to : Cell)
+    (s t : Bool) (p q : Cells) → o ≡ n → a ≡ b → at ≡ to → s ≡ t → MakesBall o a at s base level p
+    → MakesBall n b to t base level q → SameIn level p q
 ball_same base level o n a b at to s t p q old ball place set m h =
     paints_same base level o n s t _ _ p q old set
-    (subst (λ (c : Ball). SameIn level (cells_from at (is_in_ball a)) (cells_from to (is_in_ball c))) ball
-    (subst (λ (c : Cell). SameIn level (cells_from at (is_in_ball a)) (cells_from c (is_in_ball a))) place (same_itself level _)))
+    (subst (λ (c : Ball). SameIn level (cells_from at (is_in_ball a))
+    (cells_from to (is_in_ball c))) ball
+    (subst (λ (c : Cell). SameIn level (cells_from at (is_in_ball a))
+    (cells_from c (is_in_ball a))) place (same_itself level _)))
     m.paints h.paints
 
 -- the task of the whole world
-pub ball_world : (side level : ℕ) (held : List Tree) (set : Bool) (b : Ball) (o : Option Name) (before : Cell → Bool) → level ≤ 10 → AreTrees side held → AreCanonical held → ShowsWorld held level o before → MakesBall o b (cell_at 0 0 0) set held level (world_cells (edited [] (ball_act set b) before))
+pub ball_world : (side level : ℕ) (held : List Tree) (set : Bool) (b : Ball) (o : Option Name)
+    (before : Cell → Bool) → level ≤ 10 → AreTrees side held → AreCanonical held
+    → ShowsWorld held level o before
+    → MakesBall o b (cell_at 0 0 0) set held level (world_cells (edited [] (ball_act set b) before))
 ball_world side level held set b o before small a c w = record {
   small = small;
   inside = world_lies level small;
-  paints = world_paints side level held o before _ set (is_in_ball b) _ a c w (ball_edits set b before) (from_nowhere level (is_in_ball b));
+  paints = world_paints side level held o before _ set (is_in_ball b) _ a c w
+      (ball_edits set b before) (from_nowhere level (is_in_ball b));
 }

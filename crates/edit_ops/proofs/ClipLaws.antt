@@ -47,7 +47,8 @@ both_show bits a b block f g p q e =
     }
 
 -- the task of an octant
-pub clip_octant : (base : List Tree) (level : ℕ) (above : Option Name) (ball : Ball) (within : Boxed)
+pub clip_octant : (base : List Tree) (level : ℕ) (above : Option Name) (ball : Ball)
+    (within : Boxed)
     (at : Cell) (set : Bool) (cells : Cells) (k : ℕ) (old : Option Name) → 1 ≤ level → k < 8
     → (m : MakesClip above ball within at set base level cells)
     → old ≡ root_of (child_of m.paints.tree k)

@@ -19,7 +19,8 @@ bit_model_fine bit model m =
     }
 
 turned : {A : Type 0} (f : A → A) (xs ys : List A)
-    → mathlib.Core.List.reverse_aux (map f xs) (map f ys) ≡ map f (mathlib.Core.List.reverse_aux xs ys)
+    → mathlib.Core.List.reverse_aux (map f xs) (map f ys) ≡ map f
+    (mathlib.Core.List.reverse_aux xs ys)
 turned f [] ys = refl
 turned f (x ∷ xs) ys = turned f xs (x ∷ ys)
 
@@ -32,7 +33,9 @@ found bit q (v ∷ voxels) = cases (stands_at q v) (found bit q voxels)
     cases : (b : Bool)
         → colour_of (find (stands_at q) (map (with_bit bit) voxels))
         ≡ bit_at (colour_of (find (stands_at q) voxels)) bit
-        → colour_of (mathlib.Core.Bool.cond b (Some (with_bit bit v)) (find (stands_at q) (map (with_bit bit) voxels)))
+        → colour_of
+        (mathlib.Core.Bool.cond b (Some (with_bit bit v))
+        (find (stands_at q) (map (with_bit bit) voxels)))
         ≡ bit_at (colour_of (mathlib.Core.Bool.cond b (Some v) (find (stands_at q) voxels))) bit
     cases true h = refl
     cases false h = h
@@ -40,7 +43,8 @@ found bit q (v ∷ voxels) = cases (stands_at q v) (found bit q voxels)
 pub bit_colour : (bit : ℕ) (voxels : List Voxel) (q : Cell)
     → colour_at (map (with_bit bit) voxels) q ≡ bit_at (colour_at voxels q) bit
 bit_colour bit voxels q =
-    ap (λ (list : List Voxel). colour_of (find (stands_at q) list)) (turned (with_bit bit) voxels [])
+    ap (λ (list : List Voxel). colour_of (find (stands_at q) list))
+    (turned (with_bit bit) voxels [])
     ∙ found bit q (reverse voxels)
 
 one_bit : (n : ℕ) → n < 2 → not (n == 0) ≡ (n == 1)
@@ -56,7 +60,8 @@ draws_bit bit model plane drawn e d =
       size = d.size;
       each = λ q b.
           d.each q b ∙ ap (λ (n : ℕ). not (n == 0)) (bit_colour bit model.voxels q)
-          ∙ one_bit (bit_at (colour_at model.voxels q) bit) (bit_at-lt (colour_at model.voxels q) bit);
+          ∙ one_bit (bit_at (colour_at model.voxels q) bit)
+          (bit_at-lt (colour_at model.voxels q) bit);
     }
 
 pub of_bit_draws : {E : Type 0} (bit : ℕ) (model plane : Content) (result : Result Drawn E)

@@ -37,7 +37,8 @@ leaf_place q = cell_at (q.x / 4) (q.y / 4) (q.z / 4)
 
 leaf_below : (size q : Cell) → IsBelow size q → IsBelow (leaf_size size) (leaf_place q)
 unfolding leaf_size leaf_place
-leaf_below size q b = record { x = omega (arith, b.x); y = omega (arith, b.y); z = omega (arith, b.z) }
+leaf_below size q b =
+    record { x = omega (arith, b.x); y = omega (arith, b.y); z = omega (arith, b.z) }
 
 -- one bit more
 
@@ -57,11 +58,13 @@ other_test m b ne = grind (arith, nat_tests)
 
 pow_bit : (b m : ℕ) → (bit_at (2 ^ b) m == 1) ≡ (m == b)
 pow_bit b m = elim (cases_eq m b) [
-  | inl e ↦ ap (λ (n : ℕ). bit_at (2 ^ b) n == 1) e ∙ ap (λ (n : ℕ). n == 1) (bit_at-pow_same b) ∙ sym (equal_test m b e)
+  | inl e ↦ ap (λ (n : ℕ). bit_at (2 ^ b) n == 1) e ∙ ap (λ (n : ℕ). n == 1) (bit_at-pow_same b)
+      ∙ sym (equal_test m b e)
   | inr ne ↦ ap (λ (n : ℕ). n == 1) (bit_at-pow_other b m ne) ∙ sym (other_test m b ne)
 ]
 
-pub set_bit : (word b c m : ℕ) → b ≡ c → b < 64 → (bit_at (bit_or word (1 * 2 ^ b % 2 ^ 64)) m == 1) ≡ ((m == c) || (bit_at word m == 1))
+pub set_bit : (word b c m : ℕ) → b ≡ c → b < 64
+    → (bit_at (bit_or word (1 * 2 ^ b % 2 ^ 64)) m == 1) ≡ ((m == c) || (bit_at word m == 1))
 set_bit word b c m e lt =
     let h : b ≤ 63 = omega arith in
     let p : 2 ^ b ≤ 2 ^ 63 = pow_mono h in
@@ -105,45 +108,72 @@ record SameLeaf (q : Cell) (v : Voxel) : Type 0 where
   y : q.y / 4 ≡ v.y / 4
   z : q.z / 4 ≡ v.z / 4
 
-leaf_same : (size q : Cell) (v : Voxel) → IsBelow size q → StandsInside size v → leaf_number size (q.x / 4) (q.y / 4) (q.z / 4) ≡ leaf_number size (v.x / 4) (v.y / 4) (v.z / 4) → SameLeaf q v
+leaf_same : (size q : Cell) (v : Voxel) → IsBelow size q → StandsInside size v
+    → leaf_number size (q.x / 4) (q.y / 4) (q.z / 4) ≡ leaf_number size (v.x / 4) (v.y / 4)
+    (v.z / 4) → SameLeaf q v
 unfolding leaf_size leaf_place
 leaf_same size q v b s e =
-    let p = same_place (leaf_size size) (leaf_place q) (leaf_place (voxel_place v)) (leaf_below size q b) (leaf_below size (voxel_place v) (place_below size v s)) e in
+    let p =
+    same_place (leaf_size size) (leaf_place q) (leaf_place (voxel_place v))
+    (leaf_below size q b) (leaf_below size (voxel_place v) (place_below size v s)) e in
     record { x = p.0; y = p.1; z = p.2 }
 
-bits_stand : (q : Cell) (v : Voxel) → SameLeaf q v → (bit_number (q.x % 4) (q.y % 4) (q.z % 4) == bit_number (v.x % 4) (v.y % 4) (v.z % 4)) ≡ stands_at q v
+bits_stand : (q : Cell) (v : Voxel) → SameLeaf q v
+    →
+    (bit_number (q.x % 4) (q.y % 4) (q.z % 4) == bit_number (v.x % 4) (v.y % 4) (v.z % 4))
+    ≡ stands_at q v
 bits_stand q v l =
     let n : ℕ = bit_number (q.x % 4) (q.y % 4) (q.z % 4) in
     let m : ℕ = bit_number (v.x % 4) (v.y % 4) (v.z % 4) in
     same_test _ _
-    (λ e. let h : n ≡ m = tested n m e in stands q v (omega (arith, l.x, h)) (omega (arith, l.y, h)) (omega (arith, l.z, h)))
+    (λ e. let h : n
+    ≡ m = tested n m e in stands q v (omega (arith, l.x, h)) (omega (arith, l.y, h))
+    (omega (arith, l.z, h)))
     (λ e. let t = stands_tells q v e in equal_test n m (omega (arith, t.0, t.1, t.2)))
   where
     tested : (n m : ℕ) → (n == m) ≡ true → n ≡ m
     tested n m e = grind (arith, nat_tests)
 
-pub drawing_more : (size : Cell) (items : List Voxel) (k : ℕ) (d : Voxel) (words : List ℕ) (leaf old word : ℕ) → k < length items → StandsInside size (get_or items k d) → Drawing size (take k items) words
-    → leaf ≡ leaf_number size ((get_or items k d).x / 4) ((get_or items k d).y / 4) ((get_or items k d).z / 4) → leaf < length words → old ≡ get_or words leaf old
-    → ((m : ℕ) → m < 64 → (bit_at word m == 1) ≡ ((m == bit_number ((get_or items k d).x % 4) ((get_or items k d).y % 4) ((get_or items k d).z % 4)) || (bit_at old m == 1)))
+pub drawing_more : (size : Cell) (items : List Voxel) (k : ℕ) (d : Voxel) (words : List ℕ)
+    (leaf old word : ℕ) → k < length items → StandsInside size (get_or items k d)
+    → Drawing size (take k items) words
+    → leaf ≡ leaf_number size ((get_or items k d).x / 4) ((get_or items k d).y / 4)
+    ((get_or items k d).z / 4) → leaf < length words → old ≡ get_or words leaf old
+    → ((m : ℕ) → m < 64 → (bit_at word m == 1)
+    ≡ ((m == bit_number ((get_or items k d).x % 4) ((get_or items k d).y % 4)
+    ((get_or items k d).z % 4)) || (bit_at old m == 1)))
     → Drawing size (take (k + 1) items) (set words leaf word)
 drawing_more size items k d words leaf old word lt s so_far e inside was bits = record {
   number = length-set words leaf word ∙ so_far.number;
   each = λ q b. elim (cases_eq (leaf_number size (q.x / 4) (q.y / 4) (q.z / 4)) leaf) [
     | inl same ↦
         let l = leaf_same size q (get_or items k d) b s (same ∙ e) in
-        ap (λ (n : ℕ). bit_at (slice_index (set words leaf word) n) (bit_number (q.x % 4) (q.y % 4) (q.z % 4)) == 1) same
-        ∙ ap (λ (w : ℕ). bit_at w (bit_number (q.x % 4) (q.y % 4) (q.z % 4)) == 1) (get_or-set_same words leaf word 0 inside)
+        ap (λ (n : ℕ). bit_at (slice_index (set words leaf word) n)
+        (bit_number (q.x % 4) (q.y % 4) (q.z % 4)) == 1) same
+        ∙ ap (λ (w : ℕ). bit_at w (bit_number (q.x % 4) (q.y % 4) (q.z % 4)) == 1)
+        (get_or-set_same words leaf word 0 inside)
         ∙ bits (bit_number (q.x % 4) (q.y % 4) (q.z % 4)) (omega arith)
-        ∙ or_turned _ _ _ (ap (λ (w : ℕ). bit_at w (bit_number (q.x % 4) (q.y % 4) (q.z % 4)) == 1) (was ∙ reach words leaf old 0 inside) ∙ ap (λ (n : ℕ). bit_at (slice_index words n) (bit_number (q.x % 4) (q.y % 4) (q.z % 4)) == 1) (sym same) ∙ so_far.each q b)
+        ∙ or_turned _ _ _
+        (ap (λ (w : ℕ). bit_at w (bit_number (q.x % 4) (q.y % 4) (q.z % 4)) == 1)
+        (was ∙ reach words leaf old 0 inside)
+        ∙ ap (λ (n : ℕ). bit_at (slice_index words n)
+        (bit_number (q.x % 4) (q.y % 4) (q.z % 4)) == 1) (sym same)
+        ∙ so_far.each q b)
         ∙ ap (λ (t : Bool). has_voxel (take k items) q || t) (bits_stand q (get_or items k d) l)
         ∙ sym (list_any_more (stands_at q) items k d lt)
     | inr other ↦
-        ap (λ (w : ℕ). bit_at w (bit_number (q.x % 4) (q.y % 4) (q.z % 4)) == 1) (get_or-set_other words leaf (leaf_number size (q.x / 4) (q.y / 4) (q.z / 4)) word 0 other)
+        ap (λ (w : ℕ). bit_at w (bit_number (q.x % 4) (q.y % 4) (q.z % 4)) == 1)
+        (get_or-set_other words leaf
+        (leaf_number size (q.x / 4) (q.y / 4) (q.z / 4)) word 0 other)
         ∙ so_far.each q b
-        ∙ or_none _ (stands_at q (get_or items k d)) (λ t. other (one_leaf q (stands_tells q (get_or items k d) t) ∙ sym e))
+        ∙ or_none _ (stands_at q (get_or items k d))
+        (λ t. other (one_leaf q (stands_tells q (get_or items k d) t) ∙ sym e))
         ∙ sym (list_any_more (stands_at q) items k d lt)
   ];
 }
   where
-    one_leaf : (q : Cell) → ((get_or items k d).x ≡ q.x) × ((get_or items k d).y ≡ q.y) × ((get_or items k d).z ≡ q.z) → leaf_number size (q.x / 4) (q.y / 4) (q.z / 4) ≡ leaf_number size ((get_or items k d).x / 4) ((get_or items k d).y / 4) ((get_or items k d).z / 4)
+    one_leaf : (q : Cell)
+        → ((get_or items k d).x ≡ q.x) × ((get_or items k d).y ≡ q.y) × ((get_or items k d).z ≡ q.z)
+        → leaf_number size (q.x / 4) (q.y / 4) (q.z / 4) ≡ leaf_number size
+        ((get_or items k d).x / 4) ((get_or items k d).y / 4) ((get_or items k d).z / 4)
     one_leaf q t = rw (sym t.0, sym t.1, sym t.2) refl

@@ -7,7 +7,8 @@ use Rattle.node_words.specs.Gathering.{Grows, Fails}
 use Rattle.edit_cells.specs.Worlds.{Rebuilt, world_shape}
 
 module _ (level : ℕ) (v w : Cell → Bool) (old new : Seen) (same : v ≡ w) where
-  pub rebuilt_as : (name : Option Name) → Rebuilt level v name old new → Rebuilt level w name old new
+  pub rebuilt_as : (name : Option Name) → Rebuilt level v name old new
+      → Rebuilt level w name old new
   rebuilt_as name r = subst (λ (u : Cell → Bool). Rebuilt level u name old new) same r
 
   pub grows_as : Grows (world_shape level v) old new → Grows (world_shape level w) old new

@@ -34,45 +34,82 @@ abbrev pub LiesAmong : Boxed → ℕ → Block → ℕ → Type 0
 LiesAmong b layer place m = IsInBlock place (leaf_corner b layer m)
 
 -- nothing is filled in, and two fillings make one
-pub fills_none : (which : ℕ → Type 0) (b : Boxed) (layer : ℕ) (cells : Cell → Bool) (words : List ℕ) → (AreBegun b layer cells words → (m : ℕ) → m < leaves_in b → which m → ShowsItsLeaf b layer cells words m) → Fills which b layer cells words words
-fills_none which b layer cells words there = record { begun = λ f. f; keeps = λ m lt s. s; there = there }
+pub fills_none : (which : ℕ → Type 0) (b : Boxed) (layer : ℕ) (cells : Cell → Bool) (words : List ℕ)
+    →
+    (AreBegun b layer cells words → (m : ℕ) → m < leaves_in b → which m
+    → ShowsItsLeaf b layer cells words m) → Fills which b layer cells words words
+fills_none which b layer cells words there =
+    record { begun = λ f. f; keeps = λ m lt s. s; there = there }
 
-pub fills_then : (first second all : ℕ → Type 0) (b : Boxed) (layer : ℕ) (cells : Cell → Bool) (old mid new : List ℕ) → ((m : ℕ) → all m → first m ⊎ second m) → Fills first b layer cells old mid → Fills second b layer cells mid new → Fills all b layer cells old new
+pub fills_then : (first second all : ℕ → Type 0) (b : Boxed) (layer : ℕ) (cells : Cell → Bool)
+    (old mid new : List ℕ) → ((m : ℕ) → all m → first m ⊎ second m)
+    → Fills first b layer cells old mid → Fills second b layer cells mid new
+    → Fills all b layer cells old new
 fills_then first second all b layer cells old mid new either p q = record {
   begun = λ f. q.begun (p.begun f);
   keeps = λ m lt s. q.keeps m lt (p.keeps m lt s);
-  there = λ f m lt a. elim (either m a) [ inl one ↦ q.keeps m lt (p.there f m lt one) | inr other ↦ q.there (p.begun f) m lt other ];
+  there = λ f m lt a. elim
+      (either m a) [
+        | inl one ↦ q.keeps m lt (p.there f m lt one)
+        | inr other ↦ q.there
+            (p.begun f) m lt other
+      ];
 }
 
-pub fills_for : (which fewer : ℕ → Type 0) (b : Boxed) (layer : ℕ) (cells : Cell → Bool) (old new : List ℕ) → ((m : ℕ) → m < leaves_in b → fewer m → which m) → Fills which b layer cells old new → Fills fewer b layer cells old new
-fills_for which fewer b layer cells old new within p = record { begun = p.begun; keeps = p.keeps; there = λ f m lt w. p.there f m lt (within m lt w) }
+pub fills_for : (which fewer : ℕ → Type 0) (b : Boxed) (layer : ℕ) (cells : Cell → Bool)
+    (old new : List ℕ) → ((m : ℕ) → m < leaves_in b → fewer m → which m)
+    → Fills which b layer cells old new → Fills fewer b layer cells old new
+fills_for which fewer b layer cells old new within p =
+    record { begun = p.begun; keeps = p.keeps; there = λ f m lt w. p.there f m lt (within m lt w) }
 
 -- one word is written
-word_same : (words : List ℕ) (m i bits : ℕ) → m < length words → i ≡ m → slice_index (slice_set words m bits) i ≡ bits
-word_same words m i bits inside e = ap (slice_index (slice_set words m bits)) e ∙ get_or-set_same words m bits 0 inside
+word_same : (words : List ℕ) (m i bits : ℕ) → m < length words → i ≡ m
+    → slice_index (slice_set words m bits) i ≡ bits
+word_same words m i bits inside e =
+    ap (slice_index (slice_set words m bits)) e ∙ get_or-set_same words m bits 0 inside
 
-shown_same : (b : Boxed) (layer : ℕ) (cells : Cell → Bool) (words : List ℕ) (m i bits : ℕ) → m < length words → i ≡ m → LeafShows bits (leaf_block (leaf_corner b layer m)) cells → ShowsItsLeaf b layer cells (slice_set words m bits) i
+shown_same : (b : Boxed) (layer : ℕ) (cells : Cell → Bool) (words : List ℕ) (m i bits : ℕ)
+    → m < length words → i ≡ m → LeafShows bits (leaf_block (leaf_corner b layer m)) cells
+    → ShowsItsLeaf b layer cells (slice_set words m bits) i
 shown_same b layer cells words m i bits inside e shows =
-    subst (λ (w : ℕ). LeafShows w (leaf_block (leaf_corner b layer i)) cells) (sym (word_same words m i bits inside e)) (subst (λ (j : ℕ). LeafShows bits (leaf_block (leaf_corner b layer j)) cells) (sym e) shows)
+    subst (λ (w : ℕ). LeafShows w (leaf_block (leaf_corner b layer i)) cells)
+    (sym (word_same words m i bits inside e))
+    (subst (λ (j : ℕ). LeafShows bits (leaf_block (leaf_corner b layer j)) cells)
+    (sym e) shows)
 
-shown_other : (b : Boxed) (layer : ℕ) (cells : Cell → Bool) (words : List ℕ) (m i bits : ℕ) → i ≢ m → ShowsItsLeaf b layer cells words i → ShowsItsLeaf b layer cells (slice_set words m bits) i
-shown_other b layer cells words m i bits other s = subst (λ (w : ℕ). LeafShows w (leaf_block (leaf_corner b layer i)) cells) (sym (get_or-set_other words m i bits 0 other)) s
+shown_other : (b : Boxed) (layer : ℕ) (cells : Cell → Bool) (words : List ℕ) (m i bits : ℕ) → i ≢ m
+    → ShowsItsLeaf b layer cells words i → ShowsItsLeaf b layer cells (slice_set words m bits) i
+shown_other b layer cells words m i bits other s =
+    subst (λ (w : ℕ). LeafShows w (leaf_block (leaf_corner b layer i)) cells)
+    (sym (get_or-set_other words m i bits 0 other)) s
 
-pub fills_one : (which : ℕ → Type 0) (b : Boxed) (layer : ℕ) (cells : Cell → Bool) (words : List ℕ) (m bits : ℕ) → m < length words → LeafShows bits (leaf_block (leaf_corner b layer m)) cells → ((i : ℕ) → i < leaves_in b → which i → i ≡ m) → Fills which b layer cells words (slice_set words m bits)
+pub fills_one : (which : ℕ → Type 0) (b : Boxed) (layer : ℕ) (cells : Cell → Bool) (words : List ℕ)
+    (m bits : ℕ) → m < length words → LeafShows bits (leaf_block (leaf_corner b layer m)) cells
+    → ((i : ℕ) → i < leaves_in b → which i → i ≡ m)
+    → Fills which b layer cells words (slice_set words m bits)
 fills_one which b layer cells words m bits inside shows only = record {
   begun = λ f i lt. elim (cases_eq i m) [
     | inl e ↦ inr (shown_same b layer cells words m i bits inside e shows)
-    | inr other ↦ elim (f i lt) [ inl z ↦ inl (get_or-set_other words m i bits 0 other ∙ z) | inr s ↦ inr (shown_other b layer cells words m i bits other s) ]
+    | inr other ↦ elim
+        (f i lt) [
+          | inl z ↦ inl (get_or-set_other words m i bits 0 other ∙ z)
+          | inr s ↦ inr
+              (shown_other b layer cells words m i bits other s)
+        ]
   ];
-  keeps = λ i lt s. elim (cases_eq i m) [ inl e ↦ shown_same b layer cells words m i bits inside e shows | inr other ↦ shown_other b layer cells words m i bits other s ];
+  keeps = λ i lt s. elim
+      (cases_eq i m) [ inl e ↦ shown_same b layer cells words m i bits inside e shows | inr other ↦ shown_other b layer cells words m i bits other s ];
   there = λ f i lt w. shown_same b layer cells words m i bits inside (only i lt w) shows;
 }
 
 -- a leaf whose corner lies in a block lies in it
-axis_in : (low q p x : ℕ) → low % 4 ≡ 0 → p % 4 ≡ 0 → IsWithin low (4 * q) p → x < 4 → IsWithin low (4 * q) (p + x)
+axis_in : (low q p x : ℕ) → low % 4 ≡ 0 → p % 4 ≡ 0 → IsWithin low (4 * q) p → x < 4
+    → IsWithin low (4 * q) (p + x)
 axis_in low q p x e f w lt = let w0 = w.0 in let w1 = w.1 in (omega arith, omega arith)
 
-leaf_in : (place : Block) (c : Cell) (x y z : ℕ) → IsLeafCorner place.at → IsLeafCorner c → IsInBlock place c → x < 4 → y < 4 → z < 4 → IsInBlock place (cell_at (c.x + x) (c.y + y) (c.z + z))
+leaf_in : (place : Block) (c : Cell) (x y z : ℕ) → IsLeafCorner place.at → IsLeafCorner c
+    → IsInBlock place c → x < 4 → y < 4 → z < 4
+    → IsInBlock place (cell_at (c.x + x) (c.y + y) (c.z + z))
 leaf_in place c x y z p q i lx ly lz = record {
   x = axis_in place.at.x (2 ^ place.level) c.x x p.x q.x i.x lx;
   y = axis_in place.at.y (2 ^ place.level) c.y y p.y q.y i.y ly;
@@ -83,30 +120,61 @@ corner_leaf : (b : Boxed) (layer m : ℕ) → IsLeafCorner (leaf_corner b layer 
 corner_leaf b layer m = record { x = omega arith; y = omega arith; z = omega arith }
 
 -- where nothing stands the words stay
-zero_shows : (place : Block) (cells : Cell → Bool) (word : ℕ) (c : Cell) → word ≡ 0 → IsLeafCorner place.at → IsLeafCorner c → IsInBlock place c → ((p : Cell) → IsInBlock place p → cells p ≡ false) → LeafShows word (leaf_block c) cells
+zero_shows : (place : Block) (cells : Cell → Bool) (word : ℕ) (c : Cell) → word ≡ 0
+    → IsLeafCorner place.at → IsLeafCorner c → IsInBlock place c
+    → ((p : Cell) → IsInBlock place p → cells p ≡ false) → LeafShows word (leaf_block c) cells
 zero_shows place cells word c e p q i unset =
-    subst (λ (w : ℕ). LeafShows w (leaf_block c) cells) (sym e) (record { each = λ x y z lx ly lz. ap (λ (n : ℕ). n == 1) (bit_at-zero (bit_number x y z)) ∙ sym (unset _ (leaf_in place c x y z p q i lx ly lz)) })
+    subst (λ (w : ℕ). LeafShows w (leaf_block c) cells) (sym e)
+    (record {
+      each = λ x y z lx ly lz. ap (λ (n : ℕ). n == 1) (bit_at-zero (bit_number x y z))
+          ∙ sym (unset _ (leaf_in place c x y z p q i lx ly lz));
+    })
 
-pub nothing_fills : (held : List Tree) (block : Option Name) (place : Block) (b : Boxed) (layer : ℕ) (words : List ℕ) → block ≡ None → IsLeafCorner place.at → ForPlace held block place (λ cells. Fills (LiesAmong b layer place) b layer cells words words)
+pub nothing_fills : (held : List Tree) (block : Option Name) (place : Block) (b : Boxed) (layer : ℕ)
+    (words : List ℕ) → block ≡ None → IsLeafCorner place.at
+    → ForPlace held block place (λ cells. Fills (LiesAmong b layer place) b layer cells words words)
 nothing_fills held block place b layer words e corner cells t o shows =
-    let clear : shape_of t ≡ Clear = clear_block held place.level t (subst (λ (n : Option Name). IsBlockOf held place.level n t) e o) in
-    let unset : (p : Cell) → IsInBlock place p → cells p ≡ false = λ p i. sym (shows.each p i) ∙ ap (λ (s : Shape). has place.level s (p.x - place.at.x) (p.y - place.at.y) (p.z - place.at.z)) clear ∙ has-clear place.level _ _ _ in
-    fills_none _ b layer cells words (λ f m lt i. elim (f m lt) [ inl z ↦ zero_shows place cells _ (leaf_corner b layer m) z corner (corner_leaf b layer m) i unset | inr s ↦ s ])
+    let clear : shape_of t ≡ Clear =
+    clear_block held place.level t
+    (subst (λ (n : Option Name). IsBlockOf held place.level n t) e o) in
+    let unset : (p : Cell) → IsInBlock place p → cells p ≡ false =
+    λ p i. sym (shows.each p i)
+    ∙ ap (λ (s : Shape). has place.level s (p.x - place.at.x) (p.y - place.at.y)
+    (p.z - place.at.z)) clear ∙ has-clear place.level _ _ _ in
+    fills_none _ b layer cells words
+    (λ f m lt i. elim
+    (f m lt) [
+      | inl z ↦ zero_shows place cells _ (leaf_corner b layer m) z corner
+          (corner_leaf b layer m) i unset
+      | inr s ↦ s
+    ])
 
 -- a leaf by itself
-leaf_has_place : (level : ℕ) (s : Shape) (x y z x' y' z' : ℕ) → level ≡ 0 → x ≡ x' → y ≡ y' → z ≡ z' → has level s x y z ≡ (bit_at (bits_of s) (bit_number x' y' z') == 1)
+leaf_has_place : (level : ℕ) (s : Shape) (x y z x' y' z' : ℕ) → level ≡ 0 → x ≡ x' → y ≡ y' → z ≡ z'
+    → has level s x y z ≡ (bit_at (bits_of s) (bit_number x' y' z') == 1)
 unfolding has
 leaf_has_place level s x y z x' y' z' e p q r = ap (λ (l : ℕ). has l s x y z) e ∙ rw (p, q, r) refl
 
-leaf_shown : (held : List Tree) (block : Option Name) (place : Block) (bits : ℕ) (cells : Cell → Bool) (t : Tree) → place.level ≡ 0 → ForBlock held 0 block (λ s. bits ≡ bits_of s) → IsBlockOf held place.level block t → ShowsCells place (shape_of t) cells → LeafShows bits (leaf_block place.at) cells
+leaf_shown : (held : List Tree) (block : Option Name) (place : Block) (bits : ℕ)
+    (cells : Cell → Bool) (t : Tree) → place.level ≡ 0
+    → ForBlock held 0 block (λ s. bits ≡ bits_of s) → IsBlockOf held place.level block t
+    → ShowsCells place (shape_of t) cells → LeafShows bits (leaf_block place.at) cells
 leaf_shown held block place bits cells t e told o shows =
     let at : IsBlockOf held 0 block t = subst (λ (l : ℕ). IsBlockOf held l block t) e o in
     let side : block_side place.level ≡ 4 = ap block_side e in
     record {
       each = λ x y z lx ly lz.
           let c : Cell = cell_at (place.at.x + x) (place.at.y + y) (place.at.z + z) in
-          let inside : IsInBlock place c = record { x = (omega arith, omega (arith, side)); y = (omega arith, omega (arith, side)); z = (omega arith, omega (arith, side)) } in
-          ap (λ (n : ℕ). bit_at n (bit_number x y z) == 1) (told t at) ∙ sym (leaf_has_place place.level (shape_of t) _ _ _ x y z e (omega arith) (omega arith) (omega arith)) ∙ shows.each c inside;
+          let inside : IsInBlock place c =
+          record {
+            x = (omega arith, omega (arith, side));
+            y =
+                (omega arith, omega (arith, side));
+            z = (omega arith, omega (arith, side));
+          } in
+          ap (λ (n : ℕ). bit_at n (bit_number x y z) == 1) (told t at)
+          ∙ sym (leaf_has_place place.level (shape_of t) _ _ _ x y z e (omega arith)
+          (omega arith) (omega arith)) ∙ shows.each c inside;
     }
 
 -- one corner has one number
@@ -115,92 +183,172 @@ one_axis low p q e w = let w0 = w.0 in let w1 = w.1 in omega arith
 
 div_mod_one : (along m n : ℕ) → 1 ≤ along → m % along ≡ n % along → m / along ≡ n / along → m ≡ n
 div_mod_one along m n some e f =
-    sym (div-add-mod' m along) ∙ ap (λ (q : ℕ). q * along + m % along) f ∙ ap (λ (r : ℕ). n / along * along + r) e ∙ div-add-mod' n along
+    sym (div-add-mod' m along) ∙ ap (λ (q : ℕ). q * along + m % along) f
+    ∙ ap (λ (r : ℕ). n / along * along + r) e ∙ div-add-mod' n along
 
-one_number : (b : Boxed) (layer m i : ℕ) (place : Block) → place.level ≡ 0 → leaf_corner b layer m ≡ place.at → 1 ≤ leaves_along b → LiesAmong b layer place i → i ≡ m
+one_number : (b : Boxed) (layer m i : ℕ) (place : Block) → place.level ≡ 0
+    → leaf_corner b layer m ≡ place.at → 1 ≤ leaves_along b → LiesAmong b layer place i → i ≡ m
 one_number b layer m i place e corner some inside =
     let side : block_side place.level ≡ 4 = ap block_side e in
-    let x : IsWithin place.at.x 4 (4 * (b.at.x / 4 + i % leaves_along b)) = subst (λ (n : ℕ). IsWithin place.at.x n (4 * (b.at.x / 4 + i % leaves_along b))) side inside.x in
-    let y : IsWithin place.at.y 4 (4 * (b.at.y / 4 + i / leaves_along b)) = subst (λ (n : ℕ). IsWithin place.at.y n (4 * (b.at.y / 4 + i / leaves_along b))) side inside.y in
-    let px = one_axis place.at.x (b.at.x / 4 + i % leaves_along b) (b.at.x / 4 + m % leaves_along b) (sym (ap (λ (c : Cell). c.x) corner)) x in
-    let py = one_axis place.at.y (b.at.y / 4 + i / leaves_along b) (b.at.y / 4 + m / leaves_along b) (sym (ap (λ (c : Cell). c.y) corner)) y in
+    let x : IsWithin place.at.x 4 (4 * (b.at.x / 4 + i % leaves_along b)) =
+    subst (λ (n : ℕ). IsWithin place.at.x n
+    (4 * (b.at.x / 4 + i % leaves_along b))) side inside.x in
+    let y : IsWithin place.at.y 4 (4 * (b.at.y / 4 + i / leaves_along b)) =
+    subst (λ (n : ℕ). IsWithin place.at.y n
+    (4 * (b.at.y / 4 + i / leaves_along b))) side inside.y in
+    let px =
+    one_axis place.at.x (b.at.x / 4 + i % leaves_along b) (b.at.x / 4 + m % leaves_along b)
+    (sym (ap (λ (c : Cell). c.x) corner)) x in
+    let py =
+    one_axis place.at.y (b.at.y / 4 + i / leaves_along b) (b.at.y / 4 + m / leaves_along b)
+    (sym (ap (λ (c : Cell). c.y) corner)) y in
     div_mod_one (leaves_along b) i m some (omega (arith, px)) (omega (arith, py))
 
-pub leaf_fills : (held : List Tree) (block : Option Name) (place : Block) (b : Boxed) (layer m bits : ℕ) (words : List ℕ) → place.level ≡ 0 → IsSmallLayer b → m < length words → leaf_corner b layer m ≡ place.at → ForBlock held 0 block (λ s. bits ≡ bits_of s) → ForPlace held block place (λ cells. Fills (LiesAmong b layer place) b layer cells words (slice_set words m bits))
+pub leaf_fills : (held : List Tree) (block : Option Name) (place : Block) (b : Boxed)
+    (layer m bits : ℕ) (words : List ℕ) → place.level ≡ 0 → IsSmallLayer b → m < length words
+    → leaf_corner b layer m ≡ place.at → ForBlock held 0 block (λ s. bits ≡ bits_of s)
+    → ForPlace held block place
+    (λ cells. Fills (LiesAmong b layer place) b layer cells words (slice_set words m bits))
 leaf_fills held block place b layer m bits words e small inside corner told cells t o shows =
     let some : 1 ≤ leaves_along b = (let sx = small.x.0 in omega arith) in
     let shown = leaf_shown held block place bits cells t e told o shows in
-    let here : LeafShows bits (leaf_block (leaf_corner b layer m)) cells = subst (λ (c : Cell). LeafShows bits (leaf_block c) cells) (sym corner) shown in
-    fills_one (LiesAmong b layer place) b layer cells words m bits inside here (λ i lt w. one_number b layer m i place e corner some w)
+    let here : LeafShows bits (leaf_block (leaf_corner b layer m)) cells =
+    subst (λ (c : Cell). LeafShows bits (leaf_block c) cells) (sym corner) shown in
+    fills_one (LiesAmong b layer place) b layer cells words m bits inside here
+    (λ i lt w. one_number b layer m i place e corner some w)
 
-pub fills_more : (place : Block) (b : Boxed) (layer n : ℕ) (cells : Cell → Bool) (old mid new : List ℕ) → Fills (λ m. IsInFirst place n (leaf_corner b layer m)) b layer cells old mid → Fills (LiesAmong b layer (octant_of place n)) b layer cells mid new → Fills (λ m. IsInFirst place (n + 1) (leaf_corner b layer m)) b layer cells old new
+pub fills_more : (place : Block) (b : Boxed) (layer n : ℕ) (cells : Cell → Bool)
+    (old mid new : List ℕ)
+    → Fills (λ m. IsInFirst place n (leaf_corner b layer m)) b layer cells old mid
+    → Fills (LiesAmong b layer (octant_of place n)) b layer cells mid new
+    → Fills (λ m. IsInFirst place (n + 1) (leaf_corner b layer m)) b layer cells old new
 fills_more place b layer n cells old mid new p q =
     fills_then _ _ _ b layer cells old mid new
     (λ m i. elim (cases_eq i.octant n) [
       | inl e ↦ inr (subst (λ (k : ℕ). LiesAmong b layer (octant_of place k) m) e i.inside)
-      | inr other ↦ inl (record { octant = i.octant; below = (let l = i.below in omega arith); inside = i.inside })
+      | inr other ↦ inl
+          (record {
+            octant = i.octant;
+            below =
+                (let l = i.below in omega arith);
+            inside = i.inside;
+          })
     ])
     p q
 
-pub fills_block : (place : Block) (b : Boxed) (layer n : ℕ) (cells : Cell → Bool) (old new : List ℕ) → 1 ≤ place.level → n ≡ 8 → Fills (λ m. IsInFirst place n (leaf_corner b layer m)) b layer cells old new → Fills (LiesAmong b layer place) b layer cells old new
+pub fills_block : (place : Block) (b : Boxed) (layer n : ℕ) (cells : Cell → Bool) (old new : List ℕ)
+    → 1 ≤ place.level → n ≡ 8
+    → Fills (λ m. IsInFirst place n (leaf_corner b layer m)) b layer cells old new
+    → Fills (LiesAmong b layer place) b layer cells old new
 fills_block place b layer n cells old new h e p =
     fills_for _ _ b layer cells old new
-    (λ m lt i. (let o = has_octant place (leaf_corner b layer m) h i in record { octant = o.octant; below = (let l = o.below in omega (arith, l, e)); inside = o.inside })) p
+    (λ m lt i. (let o = has_octant place (leaf_corner b layer m) h i in
+    record {
+      octant = o.octant;
+      below =
+          (let l = o.below in omega (arith, l, e));
+      inside = o.inside;
+    })) p
 
 -- an octant that has no leaf of the layer, and one that has
-axis_touches : (at size w low q : ℕ) → 1 ≤ size → w < leaves_met at size → low % 4 ≡ 0 → IsWithin low (4 * q) (4 * (at / 4 + w)) → Touches at size low (4 * q)
-axis_touches at size w low q some lt e i = let i0 = i.0 in let i1 = i.1 in (some, omega arith, omega arith)
+axis_touches : (at size w low q : ℕ) → 1 ≤ size → w < leaves_met at size → low % 4 ≡ 0
+    → IsWithin low (4 * q) (4 * (at / 4 + w)) → Touches at size low (4 * q)
+axis_touches at size w low q some lt e i =
+    let i0 = i.0 in let i1 = i.1 in (some, omega arith, omega arith)
 
-pub among_meets : (place : Block) (b : Boxed) (layer m : ℕ) → IsSmallLayer b → IsLeafCorner place.at → m < leaves_in b → LiesAmong b layer place m → MeetsLayer place b layer
+pub among_meets : (place : Block) (b : Boxed) (layer m : ℕ) → IsSmallLayer b → IsLeafCorner place.at
+    → m < leaves_in b → LiesAmong b layer place m → MeetsLayer place b layer
 among_meets place b layer m small corner lt i =
     let some : 1 ≤ leaves_along b = (let sx = small.x.0 in omega arith) in
     let right = mod_below m (leaves_along b) some in
     let down = div_below m (leaves_along b) (leaves_met b.at.y b.size.y) some lt in
     record {
-      x = axis_touches b.at.x b.size.x (m % leaves_along b) place.at.x (2 ^ place.level) small.x.0 right corner.x i.x;
-      y = axis_touches b.at.y b.size.y (m / leaves_along b) place.at.y (2 ^ place.level) small.y.0 down corner.y i.y;
+      x = axis_touches b.at.x b.size.x (m % leaves_along b) place.at.x
+          (2 ^ place.level) small.x.0 right corner.x i.x;
+      y = axis_touches b.at.y b.size.y (m / leaves_along b) place.at.y
+          (2 ^ place.level) small.y.0 down corner.y i.y;
       z = i.z;
     }
 
-pub misses_fills : (place : Block) (b : Boxed) (layer : ℕ) (cells : Cell → Bool) (words : List ℕ) → IsSmallLayer b → IsLeafCorner place.at → (MeetsLayer place b layer → ⊥) → Fills (LiesAmong b layer place) b layer cells words words
-misses_fills place b layer cells words small corner not = fills_none _ b layer cells words (λ f m lt i. absurd (not (among_meets place b layer m small corner lt i)))
+pub misses_fills : (place : Block) (b : Boxed) (layer : ℕ) (cells : Cell → Bool) (words : List ℕ)
+    → IsSmallLayer b → IsLeafCorner place.at → (MeetsLayer place b layer → ⊥)
+    → Fills (LiesAmong b layer place) b layer cells words words
+misses_fills place b layer cells words small corner not =
+    fills_none _ b layer cells words
+    (λ f m lt i. absurd (not (among_meets place b layer m small corner lt i)))
 
-pub octant_fills : (a b : Seen) (block child : Option Name) (place inner : Block) (k : ℕ) (box : Boxed) (layer : ℕ) (old new : List ℕ) → b ≡ a → 1 ≤ place.level → k < 8 → inner ≡ octant_of place k → IsOctantOf a.held place.level block k child
-    → ForPlace b.held child inner (λ cells. Fills (LiesAmong box layer inner) box layer cells old new) → ForPlace a.held block place (λ cells. Fills (LiesAmong box layer (octant_of place k)) box layer cells old new)
+pub octant_fills : (a b : Seen) (block child : Option Name) (place inner : Block) (k : ℕ)
+    (box : Boxed) (layer : ℕ) (old new : List ℕ) → b ≡ a → 1 ≤ place.level → k < 8
+    → inner ≡ octant_of place k → IsOctantOf a.held place.level block k child
+    → ForPlace b.held child inner
+    (λ cells. Fills (LiesAmong box layer inner) box layer cells old new)
+    → ForPlace a.held block place
+    (λ cells. Fills (LiesAmong box layer (octant_of place k)) box layer cells old new)
 octant_fills a b block child place inner k box layer old new e h lt is octant told cells t o shows =
     let told' : ForPlace b.held child (octant_of place k) (λ cells. Fills (LiesAmong box layer (octant_of place k)) box layer cells old new) = subst (λ (p : Block). ForPlace b.held child p (λ cells. Fills (LiesAmong box layer p) box layer cells old new)) is told in
     let below = block_still a b (place.level - 1) child (child_of t k) e (octant t o) in
-    let shown : ShowsCells (octant_of place k) (shape_of (child_of t k)) cells = subst (λ (s : Shape). ShowsCells (octant_of place k) s cells) (sym (shape_of-child t k)) (octant_shows place (shape_of t) cells k h lt shows) in
+    let shown : ShowsCells (octant_of place k) (shape_of (child_of t k)) cells =
+    subst (λ (s : Shape). ShowsCells (octant_of place k) s cells) (sym (shape_of-child t k))
+    (octant_shows place (shape_of t) cells k h lt shows) in
     told' cells (child_of t k) below shown
 
 -- an octant's corner is one of leaves
-axis_corner : (low half i : ℕ) (q : ℕ) → low % 4 ≡ 0 → half ≡ 4 * q → i < 2 → (low + half * i) % 4 ≡ 0
+axis_corner : (low half i : ℕ) (q : ℕ) → low % 4 ≡ 0 → half ≡ 4 * q → i < 2
+    → (low + half * i) % 4 ≡ 0
 axis_corner low half zero q e d lt = omega arith
 axis_corner low half (suc zero) q e d lt = omega arith
 axis_corner low half (suc (suc i)) q e d lt = absurd (omega arith)
 
-pub octant_corner : (place inner : Block) (k : ℕ) → k < 8 → inner ≡ octant_of place k → IsLeafCorner place.at → IsLeafCorner inner.at
+pub octant_corner : (place inner : Block) (k : ℕ) → k < 8 → inner ≡ octant_of place k
+    → IsLeafCorner place.at → IsLeafCorner inner.at
 octant_corner place inner k lt e p =
     subst (λ (b : Block). IsLeafCorner b.at) (sym e) (record {
-      x = axis_corner place.at.x (block_side (place.level - 1)) (half_x k) (2 ^ (place.level - 1)) p.x refl (omega arith);
-      y = axis_corner place.at.y (block_side (place.level - 1)) (half_y k) (2 ^ (place.level - 1)) p.y refl (omega arith);
-      z = axis_corner place.at.z (block_side (place.level - 1)) (half_z k) (2 ^ (place.level - 1)) p.z refl (omega arith);
+      x = axis_corner place.at.x (block_side (place.level - 1)) (half_x k)
+          (2 ^ (place.level - 1)) p.x refl (omega arith);
+      y = axis_corner place.at.y (block_side (place.level - 1)) (half_y k)
+          (2 ^ (place.level - 1)) p.y refl (omega arith);
+      z = axis_corner place.at.z (block_side (place.level - 1)) (half_z k)
+          (2 ^ (place.level - 1)) p.z refl (omega arith);
     })
 
-pub layer_filled : (held : List Tree) (level layer z : ℕ) (block : Option Name) (b : Boxed) (old new : List ℕ) → IsSmallLayer b → EndsBy (block_side level) b → z < b.size.z → layer ≡ (b.at.z + z) / 4 → ((m : ℕ) → slice_index old m ≡ 0)
-    → ForPlace held block (record { level = level; at = cell_at 0 0 0 }) (λ cells. Fills (LiesAmong b layer (record { level = level; at = cell_at 0 0 0 })) b layer cells old new) → ForBlock held level block (λ s. HoldsLayer new b layer (leaves_in b) (cells_of level s))
+pub layer_filled : (held : List Tree) (level layer z : ℕ) (block : Option Name) (b : Boxed)
+    (old new : List ℕ) → IsSmallLayer b → EndsBy (block_side level) b → z < b.size.z
+    → layer ≡ (b.at.z + z) / 4 → ((m : ℕ) → slice_index old m ≡ 0)
+    → ForPlace held block (record { level = level; at = cell_at 0 0 0 })
+    (λ cells. Fills
+    (LiesAmong b layer
+    (record { level = level; at = cell_at 0 0 0 })) b layer cells old new)
+    → ForBlock held level block
+    (λ s. HoldsLayer new b layer (leaves_in b) (cells_of level s))
 layer_filled held level layer z block b old new small ends lt e none fills t o =
     let filled = fills (cells_of level (shape_of t)) t o (shown_root level (shape_of t)) in
     record {
       each = λ m inside.
           let c = corner_in b (block_side level) z m small ends lt inside in
-          let there : LiesAmong b layer (record { level = level; at = cell_at 0 0 0 }) m = record { x = (omega arith, omega (arith, c.x)); y = (omega arith, omega (arith, c.y)); z = (omega arith, omega (arith, c.z, e)) } in
+          let there : LiesAmong b layer (record {
+            level =
+                level;
+            at = cell_at 0 0 0;
+          }) m =
+          record {
+            x = (omega arith, omega (arith, c.x));
+            y =
+                (omega arith, omega (arith, c.y));
+            z =
+                (omega arith, omega (arith, c.z, e));
+          } in
           filled.there (λ i j. inl (none i)) m inside there;
     }
 
 -- all words are 0 at first
 pub all_zero : (m : ℕ) → slice_index (replicate 4225 0) m ≡ 0
-all_zero m = elim (cases_lt m 4225) [ inl below ↦ get_or-replicate 4225 m 0 0 below | inr past ↦ get_or_past (replicate 4225 0) m 0 (omega (arith, past, length-replicate {A = ℕ} 4225 0)) ]
+all_zero m =
+    elim
+    (cases_lt m 4225) [
+      | inl below ↦ get_or-replicate 4225 m 0 0 below
+      | inr past ↦ get_or_past
+          (replicate 4225 0) m 0 (omega (arith, past, length-replicate {A = ℕ} 4225 0))
+    ]
 
 -- a test isn't both
 pub not_both : (b : Bool) → b ≡ false → b ≡ true → ⊥

@@ -16,16 +16,23 @@ at_bit w m h = omega arith
 moved : (bits a b : ℕ) → a ≡ b → bit_at bits b ≡ 1 → bit_at bits a ≡ 1
 moved bits a b e one = ap (λ (k : ℕ). bit_at bits k) e ∙ one
 
-pub beyond_0 : (size w bits : ℕ) → bits < 2 ^ 64 → w % 4 < 3 → w + 1 < size → IsBeyond size 0 w bits (w + 1) (bits / 2 ^ 63)
+pub beyond_0 : (size w bits : ℕ) → bits < 2 ^ 64 → w % 4 < 3 → w + 1 < size
+    → IsBeyond size 0 w bits (w + 1) (bits / 2 ^ 63)
 beyond_0 size w bits fits row lt = record {
   inside = lt;
   only = λ m h one.
       let high : bit_at bits (63 + m) ≡ 1 = sym (bit_at_down bits 63 m) ∙ one in
       let first : m ≡ 0 = elim (cases_lt m 1) [
         | inl less ↦ omega arith
-        | inr more ↦ absurd (let none = bit_at_above bits 64 (63 + m) fits (omega arith) in omega (arith, none, high))
-      ] in
-      (64 * w + 63, at_word w 63 (omega arith), moved bits _ (63 + m) (omega arith) high, (omega arith, omega arith));
+        | inr more ↦ absurd
+            (let none = bit_at_above bits 64 (63 + m) fits (omega arith) in omega
+            (arith, none, high))
+      ] in (
+        64 * w + 63,
+        at_word w 63 (omega arith),
+        moved bits _ (63 + m) (omega arith) high,
+        (omega arith, omega arith),
+      );
   all = λ i j of_w one t lt_j.
       elim (cases_lt (i % 64) 63) [
         | inl low ↦ inl (let e : j ≡ i + 1 = t.0 in omega arith)
@@ -36,7 +43,8 @@ beyond_0 size w bits fits row lt = record {
       ];
 }
 
-pub beyond_1 : (size w bits : ℕ) → w < size → 0 < w % 4 → IsBeyond size 1 w bits (w - 1) (bits * 2 ^ 63 % 2 ^ 64)
+pub beyond_1 : (size w bits : ℕ) → w < size → 0 < w % 4
+    → IsBeyond size 1 w bits (w - 1) (bits * 2 ^ 63 % 2 ^ 64)
 beyond_1 size w bits lt row = record {
   inside = omega arith;
   only = λ m h one.
@@ -49,14 +57,20 @@ beyond_1 size w bits lt row = record {
         | inr low ↦ (
             let e : i ≡ j + 1 = t.0 in
             let first : j % 64 - 63 ≡ i % 64 = omega arith in
-            inr (omega arith, up_bit_at bits 63 (j % 64) (omega arith) (omega arith) (moved bits _ (i % 64) first one)))
+            inr (
+              omega arith,
+              up_bit_at bits 63 (j % 64) (omega arith) (omega arith)
+                  (moved bits _ (i % 64) first one),
+            ))
       ];
 }
 
-pub beyond_2 : (size w bits : ℕ) → w / 4 % 256 < 255 → w + 4 < size → IsBeyond size 2 w bits (w + 4) bits
+pub beyond_2 : (size w bits : ℕ) → w / 4 % 256 < 255 → w + 4 < size
+    → IsBeyond size 2 w bits (w + 4) bits
 beyond_2 size w bits row lt = record {
   inside = lt;
-  only = λ m h one. (64 * w + m, at_word w m h, moved bits _ m (at_bit w m h) one, (omega arith, omega arith));
+  only = λ m h one.
+      (64 * w + m, at_word w m h, moved bits _ m (at_bit w m h) one, (omega arith, omega arith));
   all = λ i j of_w one t lt_j.
       let e : j ≡ i + 256 = t.0 in
       inr (omega arith, moved bits _ (i % 64) (omega arith) one);
@@ -65,7 +79,8 @@ beyond_2 size w bits row lt = record {
 pub beyond_3 : (size w bits : ℕ) → w < size → 0 < w / 4 % 256 → IsBeyond size 3 w bits (w - 4) bits
 beyond_3 size w bits lt row = record {
   inside = omega arith;
-  only = λ m h one. (64 * w + m, at_word w m h, moved bits _ m (at_bit w m h) one, (omega arith, omega arith));
+  only = λ m h one.
+      (64 * w + m, at_word w m h, moved bits _ m (at_bit w m h) one, (omega arith, omega arith));
   all = λ i j of_w one t lt_j.
       let e : i ≡ j + 256 = t.0 in
       inr (omega arith, moved bits _ (i % 64) (omega arith) one);
@@ -89,5 +104,7 @@ beyond_5 size w bits lt far = record {
       inr (omega arith, moved bits _ (i % 64) (omega arith) one);
 }
 
-pub beyond_of : {size k of w bits word there : ℕ} → k ≡ of → IsBeyond size of w bits word there → IsBeyond size k w bits word there
-beyond_of {size} {k} {of} {w} {bits} {word} {there} e b = subst (λ (d : ℕ). IsBeyond size d w bits word there) (sym e) b
+pub beyond_of : {size k of w bits word there : ℕ} → k ≡ of → IsBeyond size of w bits word there
+    → IsBeyond size k w bits word there
+beyond_of {size} {k} {of} {w} {bits} {word} {there} e b =
+    subst (λ (d : ℕ). IsBeyond size d w bits word there) (sym e) b

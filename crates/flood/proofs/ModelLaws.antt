@@ -294,12 +294,14 @@ no_less size most cells half twice four fits (inr tight) is =
 
 low_of : (side : ℕ) → 4 ≤ 2 ^ side → (side < 2) ⊎ (2 ≤ side) → 2 ≤ side
 low_of side four (inl lt) =
-    let small : 2 ^ side ≤ 2 ^ 1 = pow_mono {i = side} {j = 1} (omega (arith, lt)) in absurd (omega (arith, four, small))
+    let small : 2 ^ side ≤ 2 ^ 1 =
+    pow_mono {i = side} {j = 1} (omega (arith, lt)) in absurd (omega (arith, four, small))
 low_of side four (inr low) = low
 
 high_of : (side : ℕ) → 2 ^ side ≤ 256 → (12 < side) ⊎ (side ≤ 12) → side ≤ 12
 high_of side few (inl lt) =
-    let large : 2 ^ 9 ≤ 2 ^ side = pow_mono {i = 9} {j = side} (omega (arith, lt)) in absurd (omega (arith, few, large))
+    let large : 2 ^ 9 ≤ 2 ^ side =
+    pow_mono {i = 9} {j = side} (omega (arith, lt)) in absurd (omega (arith, few, large))
 high_of side few (inr high) = high
 
 pub least_holding : (size : Cell) (most cells side : ℕ) → 2 ^ side ≡ cells → 4 ≤ cells → cells ≤ 256

@@ -23,13 +23,17 @@ pub record HasDrawn (size : Cell) (g k : ℕ) (voxels : List Voxel) (now : ℕ) 
 
 pub none_drawn : (size : Cell) (g : ℕ) → HasDrawn size g 0 [] g
 unfolding state_after voxels_from
-none_drawn size g = record { are = refl; number = refl; inside = All-nil (StandsInside size); state = refl }
+none_drawn size g =
+    record { are = refl; number = refl; inside = All-nil (StandsInside size); state = refl }
 
-one_more : (g k : ℕ) → voxels_from g (k + 1) ≡ voxels_from g k ++ voxel_from (state_after g (4 * k)) ∷ []
+one_more : (g k : ℕ)
+    → voxels_from g (k + 1) ≡ voxels_from g k ++ voxel_from (state_after g (4 * k)) ∷ []
 unfolding voxels_from
 one_more g k = rw add-one refl
 
-pub one_drawn : (size : Cell) (g k : ℕ) (voxels : List Voxel) (now : ℕ) (v : Voxel) (new : ℕ) → HasDrawn size g k voxels now → v ≡ voxel_from now → StandsInside size v → new ≡ state_after now 4
+pub one_drawn : (size : Cell) (g k : ℕ) (voxels : List Voxel) (now : ℕ) (v : Voxel) (new : ℕ)
+    → HasDrawn size g k voxels now → v ≡ voxel_from now → StandsInside size v
+    → new ≡ state_after now 4
     → HasDrawn size g (k + 1) (voxels ++ v ∷ []) new
 one_drawn size g k voxels now v new drawn is inside moved =
     let all : 4 * k + 4 ≡ 4 * (k + 1) = omega arith in
@@ -38,7 +42,8 @@ one_drawn size g k voxels now v new drawn is inside moved =
       are = rw (drawn.are, same) (sym (one_more g k));
       number = (let more = length_push voxels v in omega (arith, more, drawn.number));
       inside = All-push (StandsInside size) voxels v drawn.inside inside;
-      state = moved ∙ ap (λ (s : ℕ). state_after s 4) drawn.state ∙ state_add g (4 * k) 4 ∙ ap (state_after g) all;
+      state = moved ∙ ap (λ (s : ℕ). state_after s 4) drawn.state ∙ state_add g (4 * k) 4
+          ∙ ap (state_after g) all;
     }
 
 -- so many edits were put behind the text, from the state g on
@@ -50,7 +55,8 @@ pub none_put : (g x : ℕ) (old : List ℕ) → HasPut g x 0 old old g
 unfolding edits_from line_state
 none_put g x old = record { are = sym (append-nil old); state = refl }
 
-one_edit : (g x k : ℕ) → edits_from g x (k + 1) ≡ edits_from g x k ++ edit_from (line_state g k) x ∷ []
+one_edit : (g x k : ℕ)
+    → edits_from g x (k + 1) ≡ edits_from g x k ++ edit_from (line_state g k) x ∷ []
 unfolding edits_from
 one_edit g x k = rw add-one refl
 
@@ -58,12 +64,16 @@ one_line : (g k : ℕ) → line_state g (k + 1) ≡ edit_state (line_state g k)
 unfolding line_state
 one_line g k = rw add-one refl
 
-pub one_put : (g x k : ℕ) (old text : List ℕ) (now : ℕ) (act : Act) (more : List ℕ) (new : ℕ) → HasPut g x k old text now → act ≡ edit_from now x → more ≡ text ++ edit_line act → new ≡ edit_state now
+pub one_put : (g x k : ℕ) (old text : List ℕ) (now : ℕ) (act : Act) (more : List ℕ) (new : ℕ)
+    → HasPut g x k old text now → act ≡ edit_from now x → more ≡ text ++ edit_line act
+    → new ≡ edit_state now
     → HasPut g x (k + 1) old more new
 one_put g x k old text now act more new put is line moved =
     let same : act ≡ edit_from (line_state g k) x = is ∙ ap (λ (s : ℕ). edit_from s x) put.state in
     record {
-      are = line ∙ ap (λ (bs : List ℕ). bs ++ edit_line act) put.are ∙ flat_map_more edit_line old (edits_from g x k) act ∙ ap (λ (a : Act). old ++ flat_map edit_line (edits_from g x k ++ a ∷ [])) same
+      are = line ∙ ap (λ (bs : List ℕ). bs ++ edit_line act) put.are
+          ∙ flat_map_more edit_line old (edits_from g x k) act
+          ∙ ap (λ (a : Act). old ++ flat_map edit_line (edits_from g x k ++ a ∷ [])) same
           ∙ ap (λ (acts : List Act). old ++ flat_map edit_line acts) (sym (one_edit g x k));
       state = moved ∙ ap edit_state put.state ∙ sym (one_line g k);
     }
@@ -82,16 +92,24 @@ unfolding line_state
 lines_add g a zero = rw add-zero refl
 lines_add g a (suc b) = rw add-suc (ap edit_state (lines_add g a b))
 
-one_script : (g i : ℕ) → scripts_from g (i + 1) ≡ scripts_from g i ++ script_from (line_state g (200 * i)) (64 * i) ∷ []
+one_script : (g i : ℕ)
+    → scripts_from g (i + 1) ≡ scripts_from g i ++ script_from (line_state g (200 * i))
+    (64 * i) ∷ []
 unfolding scripts_from
 one_script g i = rw add-one refl
 
-pub one_written : {Z : Type 0} (g i : ℕ) (scripts : List (Vec ℕ Z)) (now : ℕ) (script : Vec ℕ Z) (new : ℕ) → HasWritten g i scripts now → script.items ≡ script_from now (64 * i) → new ≡ line_state now 200
+pub one_written : {Z : Type 0} (g i : ℕ) (scripts : List (Vec ℕ Z)) (now : ℕ) (script : Vec ℕ Z)
+    (new : ℕ) → HasWritten g i scripts now → script.items ≡ script_from now (64 * i)
+    → new ≡ line_state now 200
     → HasWritten g (i + 1) (scripts ++ script ∷ []) new
 one_written {Z = Z} g i scripts now script new written is moved =
     let all : 200 * i + 200 ≡ 200 * (i + 1) = omega arith in
-    let same : script.items ≡ script_from (line_state g (200 * i)) (64 * i) = is ∙ ap (λ (s : ℕ). script_from s (64 * i)) written.state in
+    let same : script.items ≡ script_from (line_state g (200 * i)) (64 * i) =
+    is ∙ ap (λ (s : ℕ). script_from s (64 * i)) written.state in
     record {
-      are = map-append (λ (s : Vec ℕ Z). s.items) scripts (script ∷ []) ∙ ap (λ (xs : List (List ℕ)). xs ++ script.items ∷ []) written.are ∙ ap (λ (text : List ℕ). scripts_from g i ++ text ∷ []) same ∙ sym (one_script g i);
-      state = moved ∙ ap (λ (s : ℕ). line_state s 200) written.state ∙ lines_add g (200 * i) 200 ∙ ap (line_state g) all;
+      are = map-append (λ (s : Vec ℕ Z). s.items) scripts (script ∷ [])
+          ∙ ap (λ (xs : List (List ℕ)). xs ++ script.items ∷ []) written.are
+          ∙ ap (λ (text : List ℕ). scripts_from g i ++ text ∷ []) same ∙ sym (one_script g i);
+      state = moved ∙ ap (λ (s : ℕ). line_state s 200) written.state ∙ lines_add g (200 * i) 200
+          ∙ ap (line_state g) all;
     }

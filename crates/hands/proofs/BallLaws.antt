@@ -1,4 +1,5 @@
--- A ball that is set or cleared is no tinted act and names no model, and its centre lies in the world.
+-- A ball that is set or cleared is no tinted act and names no model, and its centre lies in the
+-- world.
 use Rattle.std.proofs.Common.{◌≡◌, ℕ, Bool, true, false, refl}
 use Rattle.std.specs.Prelude.{List, []}
 use Rattle.vw_cell.specs.declared.balls.Ball.{Ball}

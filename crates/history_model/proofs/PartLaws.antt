@@ -42,7 +42,8 @@ module _ (n : ℕ) (ink : Tints) (act : TintAct) (k : ℕ) (q : Cell) where
   at_cell edit w b e =
       ap (λ (t : Bool). if t then edit (λ p. w (plus corner p)) (less q corner) else w q) e
 
-  pub part_outside : is_in_box (cube_at n corner) q ≡ false → TellsMade (part n ink act k) q (Read q)
+  pub part_outside : is_in_box (cube_at n corner) q ≡ false
+      → TellsMade (part n ink act k) q (Read q)
   part_outside e = λ w. part_is n ink act k w q ∙ at_cell (part_edit ink act k) w false e
 
   pub part_fixed : (set : Bool) → is_in_box (cube_at n corner) q ≡ true
@@ -137,7 +138,8 @@ PutTells has set p made = (test : Cell → Bool) → has ≡ test p → TellsMad
 module _ (ink : Tints) (act : TintAct) (k : ℕ) (p : Cell) (made : Made) (has set : Bool) where
   by_act : (other : TintAct) → act ≡ other → TellsMade (part_edit ink other k) p made
       → TellsMade (part_edit ink act k) p made
-  by_act other same told = subst (λ (a : TintAct). TellsMade (part_edit ink a k) p made) (sym same) told
+  by_act other same told = subst (λ (a : TintAct). TellsMade (part_edit ink a k) p made)
+      (sym same) told
 
   pub fill_made : (b : Boxed) (c : ℕ) → act ≡ Fill b c → has ≡ is_in_box b p → set ≡ tells k c
       → PutTells has set p made → TellsMade (part_edit ink act k) p made

@@ -100,7 +100,8 @@ module _ (W V : Type 0) (Are : W → V → Type 0) (Good : Act → Type 0) (none
             (next_position (length s.states) act s.position).now)
             (next_state nought g t.states act p.now)) at
             (next_are s.states t.states act
-            (next_position (length s.states) act s.position).now (is_edit act) refl ok are.number are.each));
+            (next_position (length s.states) act s.position).now
+            (is_edit act) refl ok are.number are.each));
       }
 
   steps : (s : Stage W) (t : Stage V) (records : List Record) → All (λ r. Good r.act) records

@@ -28,8 +28,11 @@ stamp_lies : (side m : ℕ) (models : List Content) (found : Option Content) (at
     → slice_get models m ≡ found → length models ≤ 1024 → FitsModel side found at
     → (m < 1024) × IsInWorld side at
 stamp_lies side m models None at same few nowhere = absurd nowhere
-stamp_lies side m models (Some model) at same few fits =
-    (let within = slice_get_within models m model same in omega (arith, within, few), corner_in side at model.size fits)
+stamp_lies side m models (Some model) at same few fits = (
+  let within = slice_get_within models m model same in omega
+      (arith, within, few),
+  corner_in side at model.size fits,
+)
 
 tint_lies : (side : ℕ) (models : List Content) (t : TintAct) → length models ≤ 1024
     → TintFits side models t → TintLiesIn side t
@@ -48,7 +51,8 @@ act_lies side models (Erase b) few fits = fits
 act_lies side models (Ball ball) few fits = fits
 act_lies side models (Carve ball) few fits = fits
 act_lies side models (Copy b to) few fits = fits
-act_lies side models (Stamp m at) few fits = stamp_lies side m models (slice_get models m) at refl few fits
+act_lies side models (Stamp m at) few fits =
+    stamp_lies side m models (slice_get models m) at refl few fits
 act_lies side models (Tint t) few fits = tint_lies (side / 4) models t few fits
 act_lies side models Undo few fits = tt
 act_lies side models Redo few fits = tt
@@ -62,8 +66,15 @@ records_told coloured side exponent models [] same few fit signed suit = tt
 records_told coloured side exponent models (r ∷ more) same few fit signed suit =
     let here : IsSigned r.session r.line = signed 0 r (omega arith) in
     let lies : ActLiesIn side r.act = act_lies side models r.act few (fit 0 r (omega arith)) in (
-      (here.of_64, here.of_32_bits, subst (λ (n : ℕ). ActLiesIn n r.act) (sym same) lies, suit 0 r (omega arith)),
-      records_told coloured side exponent models more same few (λ k d lt. fit (suc k) d (omega arith)) (λ k d lt. signed (suc k) d (omega arith))
+      (
+        here.of_64,
+        here.of_32_bits,
+        subst (λ (n : ℕ). ActLiesIn n r.act) (sym same) lies,
+        suit 0 r
+            (omega arith),
+      ),
+      records_told coloured side exponent models more same few
+          (λ k d lt. fit (suc k) d (omega arith)) (λ k d lt. signed (suc k) d (omega arith))
           (λ k d lt. suit (suc k) d (omega arith)),
     )
 
@@ -75,14 +86,17 @@ marks_told count least [] low rising marked signed = tt
 marks_told count least (m ∷ more) low rising marked signed =
     let here : IsSigned m.session m.line = signed 0 m (omega arith) in
     let at = marked 0 m (omega arith) in
-    let later : All (λ n. m.version + 1 ≤ n.version) more = λ k d lt. (let above = rising 0 (suc k) d (omega arith) (omega arith) in omega (arith, above)) in
+    let later : All (λ n. m.version + 1 ≤ n.version) more =
+    λ k d lt. (let above = rising 0 (suc k) d (omega arith) (omega arith) in omega
+    (arith, above)) in
     let others = marks_told count (m.version + 1) more later
     (λ i j d before within. rising (suc i) (suc j) d (omega arith) (omega arith))
     (λ k d lt. marked (suc k) d (omega arith))
     (λ k d lt. signed (suc k) d (omega arith)) in
     (low 0 m (omega arith), (at.0, at.1, here.of_64, here.of_32_bits), others)
 
-pub can_be_told : (side : ℕ) (models : List Content) (log : Log) → IsSide log.coloured log.side → AreModels models
+pub can_be_told : (side : ℕ) (models : List Content) (log : Log) → IsSide log.coloured log.side
+    → AreModels models
     → IsLegal side models log → AreSigned log → SuitsTints log → IsTold log
 can_be_told side models log of_world are legal signed suit =
     record {
@@ -90,5 +104,6 @@ can_be_told side models log of_world are legal signed suit =
       quarter = of_world.2;
       few = legal.few;
       records = records_told log.coloured side log.side models log.records legal.same_side are.few legal.fit signed.records suit;
-      marks = marks_told (length log.records) 0 log.marks (λ k d lt. omega arith) legal.rising legal.marked signed.marks;
+      marks = marks_told (length log.records) 0 log.marks
+          (λ k d lt. omega arith) legal.rising legal.marked signed.marks;
     }

@@ -377,7 +377,8 @@ module _ (v u w : SeatView) (level bucket : ℕ) (names : List (Option Name)) (r
         };
         hit = λ m h. (
           tells.once r.tree n reached r.root (node_at m row) m
-              (reached_more v.held w.held (node_at m row) (gains_keeps v.held r.tree w.held gains) h)
+              (reached_more v.held w.held (node_at m row)
+              (gains_keeps v.held r.tree w.held gains) h)
               refl
               (at ∙ sym (node_level v level names row q m h))
               (ap shape_of tree_is ∙ shape_of-node n row ∙ sym (shape_of-node m row)),

@@ -37,31 +37,46 @@ half_whole half i side e lt = omega (arith, half_none half i, half_all half i si
 abbrev box_at : ℕ → ℕ → ℕ → ℕ → ℕ → ℕ → Boxed
 box_at a b c x y z = record { at = cell_at a b c; size = cell_at x y z }
 
-pub boxes_same : (a b c x y z a' b' c' x' y' z' : ℕ) → a ≡ a' → b ≡ b' → c ≡ c' → x ≡ x' → y ≡ y' → z ≡ z' → box_at a b c x y z ≡ box_at a' b' c' x' y' z'
+pub boxes_same : (a b c x y z a' b' c' x' y' z' : ℕ) → a ≡ a' → b ≡ b' → c ≡ c' → x ≡ x' → y ≡ y'
+    → z ≡ z' → box_at a b c x y z ≡ box_at a' b' c' x' y' z'
 boxes_same a b c x y z a' b' c' x' y' z' p q r u v w = rw (p, q, r, u, v, w) refl
 
-pub whole_part : (level k : ℕ) → 1 ≤ level → k < 8 → whole_of (level - 1) ≡ part_in (block_side (level - 1)) (whole_of level) k
+pub whole_part : (level k : ℕ) → 1 ≤ level → k < 8
+    → whole_of (level - 1) ≡ part_in (block_side (level - 1)) (whole_of level) k
 whole_part level k h lt =
     let half = block_side (level - 1) in
     let side = block_side level in
     let e = twice level h in
     boxes_same _ _ _ _ _ _ _ _ _ _ _ _
-    (sym (half_none half (half_x k))) (sym (half_none half (half_y k))) (sym (half_none half (half_z k)))
-    (sym (half_whole half (half_x k) side e (omega arith))) (sym (half_whole half (half_y k) side e (omega arith))) (sym (half_whole half (half_z k) side e (omega arith)))
+    (sym (half_none half (half_x k))) (sym (half_none half (half_y k)))
+    (sym (half_none half (half_z k)))
+    (sym (half_whole half (half_x k) side e (omega arith)))
+    (sym (half_whole half (half_y k) side e (omega arith)))
+    (sym (half_whole half (half_z k) side e (omega arith)))
 
 -- one more octant of a whole block
-pub whole_step : {S : Type 0} (counts : Counting S) (a b c : Seen) (level k m n : ℕ) (subject inner : S) (test : Cell → Bool) → b ≡ a → c ≡ b → 1 ≤ level → k < 8
-    → ((u : Cell → Bool) → counts b.held level subject u → counts b.held (level - 1) inner (in_octant level k u))
+pub whole_step : {S : Type 0} (counts : Counting S) (a b c : Seen) (level k m n : ℕ)
+    (subject inner : S) (test : Cell → Bool) → b ≡ a → c ≡ b → 1 ≤ level → k < 8
+    → ((u : Cell → Bool) → counts b.held level subject u
+    → counts b.held (level - 1) inner (in_octant level k u))
     → IsWholeTally counts c.held (record { subject = inner; level = level - 1 }) n
-    → counts a.held level subject test → m ≡ tallied level (whole_of level) test k → m + n ≡ tallied level (whole_of level) test (k + 1)
+    → counts a.held level subject test → m ≡ tallied level (whole_of level) test k
+    → m + n ≡ tallied level (whole_of level) test (k + 1)
 whole_step counts a b c level k m n subject inner test e f h lt down told passes sofar =
-    tallied_step counts a b c level (block_side (level - 1)) k m n subject inner (whole_of level) (whole_of (level - 1)) test e f refl (whole_part level k h lt) down told passes sofar
+    tallied_step counts a b c level (block_side (level - 1)) k m n subject inner (whole_of level)
+    (whole_of (level - 1)) test e f refl (whole_part level k h lt) down told passes sofar
 
-pub whole_right_again : {S : Type 0} (counts : Counting S) (a b c : Seen) (places : List (Option (Known (Whole S)))) → b ≡ a → c ≡ b → AreRight (IsWholeTally counts) c.held places → AreRight (IsWholeTally counts) a.held places
-whole_right_again counts a b c places e f r = subst (λ (s : Seen). AreRight (IsWholeTally counts) s.held places) (f ∙ e) r
+pub whole_right_again : {S : Type 0} (counts : Counting S) (a b c : Seen)
+    (places : List (Option (Known (Whole S)))) → b ≡ a → c ≡ b
+    → AreRight (IsWholeTally counts) c.held places → AreRight (IsWholeTally counts) a.held places
+whole_right_again counts a b c places e f r =
+    subst (λ (s : Seen). AreRight (IsWholeTally counts) s.held places) (f ∙ e) r
 
 -- a part that is the whole has its number
-pub part_of_whole : {S : Type 0} (counts : Counting S) (held : List Tree) (level n : ℕ) (subject : S) (part : Boxed) (w : Whole S) → part ≡ whole_of level → w ≡ record { subject = subject; level = level } → IsWholeTally counts held w n → IsTally counts held (record { subject = subject; level = level; part = part }) n
+pub part_of_whole : {S : Type 0} (counts : Counting S) (held : List Tree) (level n : ℕ)
+    (subject : S) (part : Boxed) (w : Whole S) → part ≡ whole_of level
+    → w ≡ record { subject = subject; level = level } → IsWholeTally counts held w n
+    → IsTally counts held (record { subject = subject; level = level; part = part }) n
 part_of_whole {S = S} counts held level n subject part w e f told test p =
     let is = subst (λ (v : Whole S). IsWholeTally counts held v n) f told in
     is test p ∙ ap (λ (b : Boxed). number_in b test) (sym e)
@@ -71,27 +86,39 @@ none_counts : (b : Bool) (n : ℕ) → one_if b ≤ n → 0 ≡ n → b ≡ fals
 none_counts true n le e = absurd (omega arith)
 none_counts false n le e = refl
 
-none_passes : (level : ℕ) (test : Cell → Bool) → 0 ≡ number_in (whole_of level) test → PassesNone level test
+none_passes : (level : ℕ) (test : Cell → Bool) → 0 ≡ number_in (whole_of level) test
+    → PassesNone level test
 none_passes level test e = record {
   each = λ c i.
-      let place : c ≡ cell_at (0 + c.x) (0 + c.y) (0 + c.z) = same_cell c _ _ _ (omega arith) (omega arith) (omega arith) in
+      let place : c ≡ cell_at (0 + c.x) (0 + c.y) (0 + c.z) =
+      same_cell c _ _ _ (omega arith) (omega arith) (omega arith) in
       ap test place
       ∙ none_counts (test (cell_at (0 + c.x) (0 + c.y) (0 + c.z))) (number_in (whole_of level) test)
-      (number_below-at (cell_at (block_side level) (block_side level) (block_side level)) c (λ q. test (cell_at (0 + q.x) (0 + q.y) (0 + q.z))) (record { x = i.x; y = i.y; z = i.z })) e;
+      (number_below-at (cell_at (block_side level) (block_side level) (block_side level)) c
+      (λ q. test (cell_at (0 + q.x) (0 + q.y) (0 + q.z)))
+      (record { x = i.x; y = i.y; z = i.z })) e;
 }
 
-pub none_of_part : {S : Type 0} (counts : Counting S) (a b : Seen) (level n : ℕ) (subject : S) (part : Boxed) (w : Whole S) → b ≡ a → w ≡ record { subject = subject; level = level } → n ≡ 0 → EndsBy (block_side level) part → IsWholeTally counts b.held w n → IsTally counts a.held (record { subject = subject; level = level; part = part }) 0
+pub none_of_part : {S : Type 0} (counts : Counting S) (a b : Seen) (level n : ℕ) (subject : S)
+    (part : Boxed) (w : Whole S) → b ≡ a → w ≡ record { subject = subject; level = level } → n ≡ 0
+    → EndsBy (block_side level) part → IsWholeTally counts b.held w n
+    → IsTally counts a.held (record { subject = subject; level = level; part = part }) 0
 none_of_part {S = S} counts a b level n subject part w e f z ends told test p =
     let is = subst (λ (v : Whole S). IsWholeTally counts b.held v n) f told in
     let there = subst (λ (s : Seen). counts s.held level subject test) (sym e) p in
     none_tallied level part test ends (none_passes level test (sym z ∙ is test there))
 
 -- the same, by what is seen before a call that changes nothing
-pub tally_before : {S : Type 0} (counts : Counting S) (a b : Seen) (of : Part S) (n : ℕ) → b ≡ a → IsTally counts b.held of n → IsTally counts a.held of n
-tally_before counts a b of n e told test p = told test (subst (λ (s : Seen). counts s.held of.level of.subject test) (sym e) p)
+pub tally_before : {S : Type 0} (counts : Counting S) (a b : Seen) (of : Part S) (n : ℕ) → b ≡ a
+    → IsTally counts b.held of n → IsTally counts a.held of n
+tally_before counts a b of n e told test p =
+    told test (subst (λ (s : Seen). counts s.held of.level of.subject test) (sym e) p)
 
-pub right_before : {S : Type 0} (counts : Counting S) (a b : Seen) (places : List (Option (Known (Part S)))) → b ≡ a → AreRight (IsTally counts) b.held places → AreRight (IsTally counts) a.held places
-right_before counts a b places e r = subst (λ (s : Seen). AreRight (IsTally counts) s.held places) e r
+pub right_before : {S : Type 0} (counts : Counting S) (a b : Seen)
+    (places : List (Option (Known (Part S)))) → b ≡ a → AreRight (IsTally counts) b.held places
+    → AreRight (IsTally counts) a.held places
+right_before counts a b places e r =
+    subst (λ (s : Seen). AreRight (IsTally counts) s.held places) e r
 
 pub whole_right_before : {S : Type 0} (counts : Counting S) (a b : Seen)
     (places : List (Option (Known (Whole S)))) → b ≡ a
@@ -100,19 +127,43 @@ whole_right_before counts a b places e r =
     subst (λ (s : Seen). AreRight (IsWholeTally counts) s.held places) e r
 
 -- of a leaf
-pub leaf_tally : {S : Type 0} (counts : Counting S) (held : List Tree) (of : Part S) (bits n : ℕ) → of.level ≡ 0 → ((test : Cell → Bool) → counts held 0 of.subject test → TellsCells bits test) → ((test : Cell → Bool) → TellsCells bits test → n ≡ number_in of.part test) → IsTally counts held of n
-leaf_tally counts held of bits n z bits_are told test p = told test (bits_are test (subst (λ (l : ℕ). counts held l of.subject test) z p))
+pub leaf_tally : {S : Type 0} (counts : Counting S) (held : List Tree) (of : Part S) (bits n : ℕ)
+    → of.level ≡ 0 → ((test : Cell → Bool) → counts held 0 of.subject test → TellsCells bits test)
+    → ((test : Cell → Bool) → TellsCells bits test → n ≡ number_in of.part test)
+    → IsTally counts held of n
+leaf_tally counts held of bits n z bits_are told test p =
+    told test (bits_are test (subst (λ (l : ℕ). counts held l of.subject test) z p))
 
-pub whole_leaf_tally : {S : Type 0} (counts : Counting S) (held : List Tree) (of : Whole S) (bits n : ℕ) (part : Boxed) → of.level ≡ 0 → part ≡ whole_of 0 → ((test : Cell → Bool) → counts held 0 of.subject test → TellsCells bits test) → ((test : Cell → Bool) → TellsCells bits test → n ≡ number_in part test) → IsWholeTally counts held of n
+pub whole_leaf_tally : {S : Type 0} (counts : Counting S) (held : List Tree) (of : Whole S)
+    (bits n : ℕ) (part : Boxed) → of.level ≡ 0 → part ≡ whole_of 0
+    → ((test : Cell → Bool) → counts held 0 of.subject test → TellsCells bits test)
+    → ((test : Cell → Bool) → TellsCells bits test → n ≡ number_in part test)
+    → IsWholeTally counts held of n
 whole_leaf_tally counts held of bits n part z e bits_are told test p =
-    told test (bits_are test (subst (λ (l : ℕ). counts held l of.subject test) z p)) ∙ ap (λ (b : Boxed). number_in b test) e ∙ ap (λ (l : ℕ). number_in (whole_of l) test) (sym z)
+    told test (bits_are test (subst (λ (l : ℕ). counts held l of.subject test) z p))
+    ∙ ap (λ (b : Boxed). number_in b test) e
+    ∙ ap (λ (l : ℕ). number_in (whole_of l) test) (sym z)
 
 -- one more of the eight leaves of a whole block
-pub leaves_step : {S : Type 0} (counts : Counting S) (a b c : Seen) (of : Whole S) (k m n bits : ℕ) (inner : S) (whole : Boxed) (test : Cell → Bool) → of.level ≡ 1 → b ≡ a → c ≡ b → k < 8 → whole ≡ whole_of 0
-    → ((u : Cell → Bool) → counts b.held 1 of.subject u → counts b.held 0 inner (in_octant 1 k u)) → ((u : Cell → Bool) → counts c.held 0 inner u → TellsCells bits u) → ((u : Cell → Bool) → TellsCells bits u → n ≡ number_in whole u)
-    → counts a.held of.level of.subject test → m ≡ tallied of.level (whole_of of.level) test k → m + n ≡ tallied of.level (whole_of of.level) test (k + 1)
+pub leaves_step : {S : Type 0} (counts : Counting S) (a b c : Seen) (of : Whole S) (k m n bits : ℕ)
+    (inner : S) (whole : Boxed) (test : Cell → Bool) → of.level ≡ 1 → b ≡ a → c ≡ b → k < 8
+    → whole ≡ whole_of 0
+    → ((u : Cell → Bool) → counts b.held 1 of.subject u → counts b.held 0 inner (in_octant 1 k u))
+    → ((u : Cell → Bool) → counts c.held 0 inner u → TellsCells bits u)
+    → ((u : Cell → Bool) → TellsCells bits u → n ≡ number_in whole u)
+    → counts a.held of.level of.subject test → m ≡ tallied of.level (whole_of of.level) test k
+    → m + n ≡ tallied of.level (whole_of of.level) test (k + 1)
 leaves_step {S = S} counts a b c of k m n bits inner whole test z e f lt w down bits_are told =
-    let P : ℕ → Type 0 = λ l. counts a.held l of.subject test → m ≡ tallied l (whole_of l) test k → m + n ≡ tallied l (whole_of l) test (k + 1) in
-    let leaf : IsWholeTally counts c.held (record { subject = inner; level = 0 }) n = whole_leaf_tally counts c.held (record { subject = inner; level = 0 }) bits n whole refl w bits_are told in
-    let one : P 1 = λ p sofar. whole_step counts a b c 1 k m n of.subject inner test e f (omega arith) lt down leaf p sofar in
+    let P : ℕ → Type 0 =
+    λ l. counts a.held l of.subject test → m ≡ tallied l (whole_of l) test k → m + n
+    ≡ tallied l (whole_of l) test (k + 1) in
+    let leaf : IsWholeTally counts c.held (record {
+      subject =
+          inner;
+      level = 0;
+    }) n = whole_leaf_tally counts c.held
+    (record { subject = inner; level = 0 }) bits n whole refl w bits_are told in
+    let one : P 1 =
+    λ p sofar. whole_step counts a b c 1 k m n of.subject inner test e f
+    (omega arith) lt down leaf p sofar in
     subst P (sym z) one

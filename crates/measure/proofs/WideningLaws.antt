@@ -27,28 +27,45 @@ use Rattle.measure.proofs.TallyLaws.{small_side}
 use Rattle.measure.specs.Widening.{IsFound, Widens, IsSetIn, IsSetInSome, IsOther, IsOtherAt, IsSetAt, ForPlace, WidensBy, leaf_cell, bit_of}
 
 -- two steps make one
-middle : (may' : Cell → Type 0) (old mid new : Option Boxed) (may : Cell → Type 0) → ((x : Boxed) → old ≡ None → mid ≡ Some x → (c : Cell) × may c) → ((x : Boxed) → mid ≡ None → new ≡ Some x → (c : Cell) × may c) → (b : Boxed) → old ≡ None → new ≡ Some b → (c : Cell) × may c
+middle : (may' : Cell → Type 0) (old mid new : Option Boxed) (may : Cell → Type 0)
+    → ((x : Boxed) → old ≡ None → mid ≡ Some x → (c : Cell) × may c)
+    → ((x : Boxed) → mid ≡ None → new ≡ Some x → (c : Cell) × may c) → (b : Boxed) → old ≡ None
+    → new ≡ Some b → (c : Cell) × may c
 middle may' old None new may p q b e f = q b refl f
 middle may' old (Some x) new may p q b e f = p x e refl
 
-pub widens_then : (must must' may may' all some : Cell → Type 0) (old mid new : Option Boxed) → ((c : Cell) → all c → must c ⊎ must' c) → ((c : Cell) → may c → some c) → ((c : Cell) → may' c → some c)
+pub widens_then : (must must' may may' all some : Cell → Type 0) (old mid new : Option Boxed)
+    → ((c : Cell) → all c → must c ⊎ must' c) → ((c : Cell) → may c → some c)
+    → ((c : Cell) → may' c → some c)
     → Widens must may old mid → Widens must' may' mid new → Widens all some old new
 widens_then must must' may may' all some old mid new either within within' p q = record {
   keeps = λ c f. q.keeps c (p.keeps c f);
   holds = λ c a. elim (either c a) [ inl m ↦ q.keeps c (p.holds c m) | inr m ↦ q.holds c m ];
-  least = λ d fits all'. q.least d (p.least d fits (λ c m. all' c (within c m))) (λ c m. all' c (within' c m));
-  some = middle may' old mid new some (λ x e f. (let w = p.some x e f in (w.0, within w.0 w.1))) (λ x e f. (let w = q.some x e f in (w.0, within' w.0 w.1)));
+  least = λ d fits all'. q.least d (p.least d fits (λ c m. all' c (within c m)))
+      (λ c m. all' c (within' c m));
+  some = middle may' old mid new some (λ x e f. (let w = p.some x e f in (w.0, within w.0 w.1)))
+      (λ x e f. (let w = q.some x e f in (w.0, within' w.0 w.1)));
 }
 
 -- nothing more where all is found
 nothing_came : (old : Option Boxed) (b : Boxed) → old ≡ None → old ≡ Some b → ⊥
 nothing_came old b e f = cc
 
-pub widens_same : (must may : Cell → Type 0) (old : Option Boxed) → ((c : Cell) → must c → IsFound old c) → Widens must may old old
-widens_same must may old found = record { keeps = λ c f. f; holds = found; least = λ d fits _. fits; some = λ b e f. absurd (nothing_came old b e f) }
+pub widens_same : (must may : Cell → Type 0) (old : Option Boxed)
+    → ((c : Cell) → must c → IsFound old c) → Widens must may old old
+widens_same must may old found =
+    record {
+      keeps = λ c f. f;
+      holds = found;
+      least = λ d fits _. fits;
+      some = λ b e f. absurd
+          (nothing_came old b e f);
+    }
 
 -- fewer cells that it must have, and more that it may
-pub widens_for : (must may must' may' : Cell → Type 0) (old new : Option Boxed) → ((c : Cell) → must' c → must c) → ((c : Cell) → may c → may' c) → Widens must may old new → Widens must' may' old new
+pub widens_for : (must may must' may' : Cell → Type 0) (old new : Option Boxed)
+    → ((c : Cell) → must' c → must c) → ((c : Cell) → may c → may' c) → Widens must may old new
+    → Widens must' may' old new
 widens_for must may must' may' old new fewer more p = record {
   keeps = p.keeps;
   holds = λ c m. p.holds c (fewer c m);
@@ -60,46 +77,76 @@ unset_set : (b : Bool) → b ≡ false → b ≡ true → ⊥
 unset_set b e f = cc
 
 -- nothing is set where nothing stands
-pub nothing_widens : (held : List Tree) (block : Option Name) (place : Block) (old : Option Boxed) → block ≡ None → WidensBy held block place old old
+pub nothing_widens : (held : List Tree) (block : Option Name) (place : Block) (old : Option Boxed)
+    → block ≡ None → WidensBy held block place old old
 nothing_widens held block place old e cells t b shows =
     widens_same _ _ old (λ c m.
-    let clear : shape_of t ≡ Clear = clear_block held place.level t (subst (λ (n : Option Name). IsBlockOf held place.level n t) e b) in
-    let unset : cells c ≡ false = sym (shows.each c m.inside) ∙ ap (λ (s : Shape). has place.level s (c.x - place.at.x) (c.y - place.at.y) (c.z - place.at.z)) clear ∙ has-clear place.level _ _ _ in
+    let clear : shape_of t ≡ Clear =
+    clear_block held place.level t
+    (subst (λ (n : Option Name). IsBlockOf held place.level n t) e b) in
+    let unset : cells c ≡ false =
+    sym (shows.each c m.inside)
+    ∙ ap (λ (s : Shape). has place.level s (c.x - place.at.x) (c.y - place.at.y)
+    (c.z - place.at.z)) clear ∙ has-clear place.level _ _ _ in
     absurd (unset_set (cells c) unset m.set))
 
-pub covered_widens : (held : List Tree) (block : Option Name) (place : Block) (old : Option Boxed) → ((c : Cell) → IsInBlock place c → IsFound old c) → WidensBy held block place old old
-covered_widens held block place old covers cells t b shows = widens_same _ _ old (λ c m. covers c m.inside)
+pub covered_widens : (held : List Tree) (block : Option Name) (place : Block) (old : Option Boxed)
+    → ((c : Cell) → IsInBlock place c → IsFound old c) → WidensBy held block place old old
+covered_widens held block place old covers cells t b shows =
+    widens_same _ _ old (λ c m. covers c m.inside)
 
 -- the bits of a leaf show what its shape shows
-leaf_place : (level : ℕ) (s : Shape) (x y z x' y' z' : ℕ) → level ≡ 0 → x ≡ x' → y ≡ y' → z ≡ z' → has level s x y z ≡ (bit_at (bits_of s) (bit_number x' y' z') == 1)
+leaf_place : (level : ℕ) (s : Shape) (x y z x' y' z' : ℕ) → level ≡ 0 → x ≡ x' → y ≡ y' → z ≡ z'
+    → has level s x y z ≡ (bit_at (bits_of s) (bit_number x' y' z') == 1)
 unfolding has
 leaf_place level s x y z x' y' z' e p q r = ap (λ (l : ℕ). has l s x y z) e ∙ rw (p, q, r) refl
 
-pub leaf_widens : (held : List Tree) (block : Option Name) (place : Block) (bits : ℕ) (old new : Option Boxed) → place.level ≡ 0 → ForBlock held 0 block (λ s. bits ≡ bits_of s)
-    → ((cells : Cell → Bool) → LeafShows bits place cells → Widens (IsSetIn place cells) (IsSetIn place cells) old new) → WidensBy held block place old new
+pub leaf_widens : (held : List Tree) (block : Option Name) (place : Block) (bits : ℕ)
+    (old new : Option Boxed) → place.level ≡ 0 → ForBlock held 0 block (λ s. bits ≡ bits_of s)
+    → ((cells : Cell → Bool) → LeafShows bits place cells
+    → Widens (IsSetIn place cells) (IsSetIn place cells) old new)
+    → WidensBy held block place old new
 leaf_widens held block place bits old new e told widens cells t b shows =
     let at : IsBlockOf held 0 block t = subst (λ (l : ℕ). IsBlockOf held l block t) e b in
     let side : block_side place.level ≡ 4 = ap block_side e in
     widens cells (record {
       each = λ x y z lx ly lz.
           let c : Cell = cell_at (place.at.x + x) (place.at.y + y) (place.at.z + z) in
-          let inside : IsInBlock place c = record { x = (omega arith, omega (arith, side)); y = (omega arith, omega (arith, side)); z = (omega arith, omega (arith, side)) } in
-          ap (λ (n : ℕ). bit_at n (bit_number x y z) == 1) (told t at) ∙ sym (leaf_place place.level (shape_of t) _ _ _ x y z e (omega arith) (omega arith) (omega arith)) ∙ shows.each c inside;
+          let inside : IsInBlock place c =
+          record {
+            x = (omega arith, omega (arith, side));
+            y =
+                (omega arith, omega (arith, side));
+            z = (omega arith, omega (arith, side));
+          } in
+          ap (λ (n : ℕ). bit_at n (bit_number x y z) == 1) (told t at)
+          ∙ sym (leaf_place place.level (shape_of t) _ _ _ x y z e (omega arith) (omega arith)
+          (omega arith)) ∙ shows.each c inside;
     })
 
 -- an octant lies in its block
-in_half : (low half i side c : ℕ) → side ≡ 2 * half → i < 2 → IsWithin (low + half * i) half c → IsWithin low side c
+in_half : (low half i side c : ℕ) → side ≡ 2 * half → i < 2 → IsWithin (low + half * i) half c
+    → IsWithin low side c
 in_half low half zero side c d lt h = (omega arith, omega arith)
 in_half low half (suc zero) side c d lt h = (omega arith, omega arith)
 in_half low half (suc (suc i)) side c d lt h = absurd (omega arith)
 
-octant_within : (place : Block) (k : ℕ) (c : Cell) → 1 ≤ place.level → k < 8 → IsInBlock (octant_of place k) c → IsInBlock place c
+octant_within : (place : Block) (k : ℕ) (c : Cell) → 1 ≤ place.level → k < 8
+    → IsInBlock (octant_of place k) c → IsInBlock place c
 octant_within place k c h lt i =
     let d = twice place.level h in
-    record { x = in_half place.at.x _ (half_x k) _ c.x d (omega arith) i.x; y = in_half place.at.y _ (half_y k) _ c.y d (omega arith) i.y; z = in_half place.at.z _ (half_z k) _ c.z d (omega arith) i.z }
+    record {
+      x = in_half place.at.x _ (half_x k) _ c.x d (omega arith) i.x;
+      y = in_half place.at.y _
+          (half_y k) _ c.y d (omega arith) i.y;
+      z = in_half place.at.z _ (half_z k) _ c.z d
+          (omega arith) i.z;
+    }
 
-pub octant_set_in : (place : Block) (cells : Cell → Bool) (k : ℕ) (c : Cell) → 1 ≤ place.level → k < 8 → IsSetIn (octant_of place k) cells c → IsSetIn place cells c
-octant_set_in place cells k c h lt s = record { inside = octant_within place k c h lt s.inside; set = s.set }
+pub octant_set_in : (place : Block) (cells : Cell → Bool) (k : ℕ) (c : Cell) → 1 ≤ place.level
+    → k < 8 → IsSetIn (octant_of place k) cells c → IsSetIn place cells c
+octant_set_in place cells k c h lt s =
+    record { inside = octant_within place k c h lt s.inside; set = s.set }
 
 -- each cell of a block lies in an octant
 pub record HasOctant (place : Block) (c : Cell) : Type 0 where
@@ -107,81 +154,150 @@ pub record HasOctant (place : Block) (c : Cell) : Type 0 where
   pub below : octant < 8
   pub inside : IsInBlock (octant_of place octant) c
 
-pub has_octant : (place : Block) (c : Cell) → 1 ≤ place.level → IsInBlock place c → HasOctant place c
+pub has_octant : (place : Block) (c : Cell) → 1 ≤ place.level → IsInBlock place c
+    → HasOctant place c
 has_octant place c h i =
     let half : ℕ = block_side (place.level - 1) in
     let some = block_side_some (place.level - 1) in
     let d = twice place.level h in
-    let x = half_below place.at.x half c.x some (subst (λ (n : ℕ). IsWithin place.at.x n c.x) d i.x) in
-    let y = half_below place.at.y half c.y some (subst (λ (n : ℕ). IsWithin place.at.y n c.y) d i.y) in
-    let z = half_below place.at.z half c.z some (subst (λ (n : ℕ). IsWithin place.at.z n c.z) d i.z) in
+    let x =
+    half_below place.at.x half c.x some (subst (λ (n : ℕ). IsWithin place.at.x n c.x) d i.x) in
+    let y =
+    half_below place.at.y half c.y some (subst (λ (n : ℕ). IsWithin place.at.y n c.y) d i.y) in
+    let z =
+    half_below place.at.z half c.z some (subst (λ (n : ℕ). IsWithin place.at.z n c.z) d i.z) in
     record {
-      octant = (c.x - place.at.x) / half + 2 * ((c.y - place.at.y) / half) + 4 * ((c.z - place.at.z) / half);
+      octant = (c.x - place.at.x) / half + 2 * ((c.y - place.at.y) / half) + 4 *
+          ((c.z - place.at.z) / half);
       below = omega (arith, x, y, z);
       inside = octant_has place c half _ _ _ h refl i refl refl refl;
     }
 
-end_in : (low half i side : ℕ) → side ≡ 2 * half → i < 2 → low + side ≤ 4096 → low + half * i + half ≤ 4096
+end_in : (low half i side : ℕ) → side ≡ 2 * half → i < 2 → low + side ≤ 4096
+    → low + half * i + half ≤ 4096
 end_in low half zero side d lt h = omega arith
 end_in low half (suc zero) side d lt h = omega arith
 end_in low half (suc (suc i)) side d lt h = absurd (omega arith)
 
-pub octant_lies : (place child : Block) (k : ℕ) → 1 ≤ place.level → k < 8 → child ≡ octant_of place k → LiesIn 4096 place → LiesIn 4096 child
+pub octant_lies : (place child : Block) (k : ℕ) → 1 ≤ place.level → k < 8
+    → child ≡ octant_of place k → LiesIn 4096 place → LiesIn 4096 child
 octant_lies place child k h lt e lies =
     let d = twice place.level h in
-    subst (LiesIn 4096) (sym e) (record { x = end_in place.at.x _ (half_x k) _ d (omega arith) lies.x; y = end_in place.at.y _ (half_y k) _ d (omega arith) lies.y; z = end_in place.at.z _ (half_z k) _ d (omega arith) lies.z })
+    subst (LiesIn 4096) (sym e)
+    (record {
+      x = end_in place.at.x _ (half_x k) _ d
+          (omega arith) lies.x;
+      y = end_in place.at.y _ (half_y k) _ d
+          (omega arith) lies.y;
+      z = end_in place.at.z _ (half_z k) _ d (omega arith) lies.z;
+    })
 
 -- the cells of an octant
-pub octant_widens : (a b : Seen) (block child : Option Name) (place inner : Block) (k : ℕ) (old new : Option Boxed) → b ≡ a → 1 ≤ place.level → k < 8 → inner ≡ octant_of place k → IsOctantOf a.held place.level block k child → WidensBy b.held child inner old new
-    → ForPlace a.held block place (λ cells. Widens (IsSetIn (octant_of place k) cells) (IsSetIn place cells) old new)
+pub octant_widens : (a b : Seen) (block child : Option Name) (place inner : Block) (k : ℕ)
+    (old new : Option Boxed) → b ≡ a → 1 ≤ place.level → k < 8 → inner ≡ octant_of place k
+    → IsOctantOf a.held place.level block k child → WidensBy b.held child inner old new
+    → ForPlace a.held block place
+    (λ cells. Widens (IsSetIn (octant_of place k) cells) (IsSetIn place cells) old new)
 octant_widens a b block child place inner k old new e h lt is octant told cells t o shows =
-    let told' : WidensBy b.held child (octant_of place k) old new = subst (λ (p : Block). WidensBy b.held child p old new) is told in
+    let told' : WidensBy b.held child (octant_of place k) old new =
+    subst (λ (p : Block). WidensBy b.held child p old new) is told in
     let below = block_still a b (place.level - 1) child (child_of t k) e (octant t o) in
-    let shown : ShowsCells (octant_of place k) (shape_of (child_of t k)) cells = subst (λ (s : Shape). ShowsCells (octant_of place k) s cells) (sym (shape_of-child t k)) (octant_shows place (shape_of t) cells k h lt shows) in
-    widens_for _ _ _ _ old new (λ c m. m) (λ c m. octant_set_in place cells k c h lt m) (told' cells (child_of t k) below shown)
+    let shown : ShowsCells (octant_of place k) (shape_of (child_of t k)) cells =
+    subst (λ (s : Shape). ShowsCells (octant_of place k) s cells) (sym (shape_of-child t k))
+    (octant_shows place (shape_of t) cells k h lt shows) in
+    widens_for _ _ _ _ old new (λ c m. m) (λ c m. octant_set_in place cells k c h lt m)
+    (told' cells (child_of t k) below shown)
 
-child_block : (a b : Seen) (level k : ℕ) (block child : Option Name) → b ≡ a → HasBlock a.held level block → IsOctantOf a.held level block k child → HasBlock b.held (level - 1) child
-child_block a b level k block child e h octant = record { tree = child_of h.tree k; is_block = block_still a b (level - 1) child (child_of h.tree k) e (octant h.tree h.is_block) }
+child_block : (a b : Seen) (level k : ℕ) (block child : Option Name) → b ≡ a
+    → HasBlock a.held level block → IsOctantOf a.held level block k child
+    → HasBlock b.held (level - 1) child
+child_block a b level k block child e h octant =
+    record {
+      tree = child_of h.tree k;
+      is_block = block_still a b (level - 1) child
+          (child_of h.tree k) e (octant h.tree h.is_block);
+    }
 
-pub still_block : (a b : Seen) (level : ℕ) (block : Option Name) → b ≡ a → HasBlock a.held level block → HasBlock b.held level block
+pub still_block : (a b : Seen) (level : ℕ) (block : Option Name) → b ≡ a
+    → HasBlock a.held level block → HasBlock b.held level block
 still_block a b level block e h = subst (λ (s : Seen). HasBlock s.held level block) (sym e) h
 
 -- an octant that was passed over, and one that wasn't
-pub apart_same : (place : Block) (cells : Cell → Bool) (corner octant : ℕ) (old : Option Boxed) → (octant ≡ corner) ⊎ (octant ≡ 7 - corner) → Widens (IsSetInSome place cells (IsOtherAt corner octant)) (IsSetIn place cells) old old
-apart_same place cells corner octant old (inl e) = widens_same _ _ old (λ c m. absurd (m.is.apart (m.is.same ∙ e)))
-apart_same place cells corner octant old (inr e) = widens_same _ _ old (λ c m. absurd (m.is.far (m.is.same ∙ e)))
+pub apart_same : (place : Block) (cells : Cell → Bool) (corner octant : ℕ) (old : Option Boxed)
+    → (octant ≡ corner) ⊎ (octant ≡ 7 - corner)
+    → Widens (IsSetInSome place cells (IsOtherAt corner octant)) (IsSetIn place cells) old old
+apart_same place cells corner octant old (inl e) =
+    widens_same _ _ old (λ c m. absurd (m.is.apart (m.is.same ∙ e)))
+apart_same place cells corner octant old (inr e) =
+    widens_same _ _ old (λ c m. absurd (m.is.far (m.is.same ∙ e)))
 
-pub apart_in : (place : Block) (cells : Cell → Bool) (corner octant : ℕ) (old new : Option Boxed) → Widens (IsSetIn (octant_of place octant) cells) (IsSetIn place cells) old new → Widens (IsSetInSome place cells (IsOtherAt corner octant)) (IsSetIn place cells) old new
-apart_in place cells corner octant old new p = widens_for _ _ _ _ old new (λ c m. subst (λ (k : ℕ). IsSetIn (octant_of place k) cells c) m.is.same m.set_in) (λ c m. m) p
+pub apart_in : (place : Block) (cells : Cell → Bool) (corner octant : ℕ) (old new : Option Boxed)
+    → Widens (IsSetIn (octant_of place octant) cells) (IsSetIn place cells) old new
+    → Widens (IsSetInSome place cells (IsOtherAt corner octant)) (IsSetIn place cells) old new
+apart_in place cells corner octant old new p =
+    widens_for _ _ _ _ old new
+    (λ c m. subst (λ (k : ℕ). IsSetIn (octant_of place k) cells c) m.is.same m.set_in)
+    (λ c m. m) p
 
 -- one more octant
-pub others_more : (place : Block) (cells : Cell → Bool) (corner n : ℕ) (old mid new : Option Boxed) → Widens (IsSetInSome place cells (IsOther corner n)) (IsSetIn place cells) old mid
-    → Widens (IsSetInSome place cells (IsOtherAt corner n)) (IsSetIn place cells) mid new → Widens (IsSetInSome place cells (IsOther corner (n + 1))) (IsSetIn place cells) old new
+pub others_more : (place : Block) (cells : Cell → Bool) (corner n : ℕ) (old mid new : Option Boxed)
+    → Widens (IsSetInSome place cells (IsOther corner n)) (IsSetIn place cells) old mid
+    → Widens (IsSetInSome place cells (IsOtherAt corner n)) (IsSetIn place cells) mid new
+    → Widens (IsSetInSome place cells (IsOther corner (n + 1))) (IsSetIn place cells) old new
 others_more place cells corner n old mid new p q =
     widens_then _ _ _ _ _ _ old mid new
     (λ c m. elim (cases_eq m.octant n) [
-      | inl e ↦ inr (record { octant = m.octant; is = record { same = e; apart = m.is.apart; far = m.is.far }; set_in = m.set_in })
-      | inr e ↦ inl (record { octant = m.octant; is = record { below = (let b = m.is.below in omega arith); apart = m.is.apart; far = m.is.far }; set_in = m.set_in })
+      | inl e ↦ inr
+          (record {
+            octant = m.octant;
+            is =
+                record { same = e; apart = m.is.apart; far = m.is.far };
+            set_in = m.set_in;
+          })
+      | inr e ↦ inl
+          (record {
+            octant = m.octant;
+            is =
+                record {
+                  below =
+                      (let b = m.is.below in omega arith);
+                  apart = m.is.apart;
+                  far = m.is.far;
+                };
+            set_in = m.set_in;
+          })
     ])
     (λ c m. m) (λ c m. m) p q
 
-pub others_none : (place : Block) (cells : Cell → Bool) (corner : ℕ) (old : Option Boxed) → Widens (IsSetInSome place cells (IsOther corner 0)) (IsSetIn place cells) old old
-others_none place cells corner old = widens_same _ _ old (λ c m. (let b = m.is.below in absurd (omega arith)))
+pub others_none : (place : Block) (cells : Cell → Bool) (corner : ℕ) (old : Option Boxed)
+    → Widens (IsSetInSome place cells (IsOther corner 0)) (IsSetIn place cells) old old
+others_none place cells corner old =
+    widens_same _ _ old (λ c m. (let b = m.is.below in absurd (omega arith)))
 
 -- an octant, its opposite and all others are the block
-pub all_octants : (place : Block) (cells : Cell → Bool) (corner : ℕ) (old a b new : Option Boxed) → 1 ≤ place.level → Widens (IsSetIn (octant_of place corner) cells) (IsSetIn place cells) old a → Widens (IsSetIn (octant_of place (7 - corner)) cells) (IsSetIn place cells) a b
-    → Widens (IsSetInSome place cells (IsOther corner 8)) (IsSetIn place cells) b new → Widens (IsSetIn place cells) (IsSetIn place cells) old new
+pub all_octants : (place : Block) (cells : Cell → Bool) (corner : ℕ) (old a b new : Option Boxed)
+    → 1 ≤ place.level → Widens (IsSetIn (octant_of place corner) cells) (IsSetIn place cells) old a
+    → Widens (IsSetIn (octant_of place (7 - corner)) cells) (IsSetIn place cells) a b
+    → Widens (IsSetInSome place cells (IsOther corner 8)) (IsSetIn place cells) b new
+    → Widens (IsSetIn place cells) (IsSetIn place cells) old new
 all_octants place cells corner old a b new h p q r =
     let first : Widens (λ c. IsSetIn (octant_of place corner) cells c ⊎ IsSetIn (octant_of place (7 - corner)) cells c) (IsSetIn place cells) old b = widens_then _ _ _ _ _ _ old a b (λ c m. m) (λ c m. m) (λ c m. m) p q in
     widens_then _ _ _ _ _ _ old b new
     (λ c m.
     let o = has_octant place c h m.inside in
-    let here : IsSetIn (octant_of place o.octant) cells c = record { inside = o.inside; set = m.set } in
+    let here : IsSetIn (octant_of place o.octant) cells c =
+    record { inside = o.inside; set = m.set } in
     elim (cases_eq o.octant corner) [
       | inl e ↦ inl (inl (subst (λ (k : ℕ). IsSetIn (octant_of place k) cells c) e here))
       | inr apart ↦ elim (cases_eq o.octant (7 - corner)) [
         | inl e ↦ inl (inr (subst (λ (k : ℕ). IsSetIn (octant_of place k) cells c) e here))
-        | inr far ↦ inr (record { octant = o.octant; is = record { below = o.below; apart = apart; far = far }; set_in = here })
+        | inr far ↦ inr
+            (record {
+              octant = o.octant;
+              is =
+                  record { below = o.below; apart = apart; far = far };
+              set_in = here;
+            })
       ]
     ])
     (λ c m. m) (λ c m. m) first r
@@ -190,7 +306,8 @@ all_octants place cells corner old a b new h p q r =
 bit_places : (low x side bit : ℕ) → side ≡ 4 → IsWithin low side x → x - low < 4
 bit_places low x side bit e w = let l = w.0 in let h = w.1 in omega arith
 
-cell_at_bit : (place : Block) (cells : Cell → Bool) (bit : ℕ) (c : Cell) → place.level ≡ 0 → IsSetAt place cells (λ n. n ≡ bit) c → c ≡ leaf_cell place bit
+cell_at_bit : (place : Block) (cells : Cell → Bool) (bit : ℕ) (c : Cell) → place.level ≡ 0
+    → IsSetAt place cells (λ n. n ≡ bit) c → c ≡ leaf_cell place bit
 cell_at_bit place cells bit c e m =
     let side : block_side place.level ≡ 4 = ap block_side e in
     let i = m.set_in.inside in
@@ -203,32 +320,59 @@ cell_at_bit place cells bit c e m =
     let z1 = i.z.1 in
     same_cell c _ _ _ (omega arith) (omega arith) (omega arith)
 
-pub bit_tells : (bits bit : ℕ) (place : Block) (cells : Cell → Bool) → bit < 64 → LeafShows bits place cells → (bit_at bits bit == 1) ≡ cells (leaf_cell place bit)
+pub bit_tells : (bits bit : ℕ) (place : Block) (cells : Cell → Bool) → bit < 64
+    → LeafShows bits place cells → (bit_at bits bit == 1) ≡ cells (leaf_cell place bit)
 bit_tells bits bit place cells lt shows =
     let whole : bit ≡ bit_number (bit % 4) (bit / 4 % 4) (bit / 16) = omega arith in
-    ap (λ (n : ℕ). bit_at bits n == 1) whole ∙ shows.each (bit % 4) (bit / 4 % 4) (bit / 16) (omega arith) (omega arith) (omega arith)
+    ap (λ (n : ℕ). bit_at bits n == 1) whole
+    ∙ shows.each (bit % 4) (bit / 4 % 4) (bit / 16) (omega arith) (omega arith) (omega arith)
 
-leaf_cell_in : (place : Block) (bit : ℕ) → place.level ≡ 0 → bit < 64 → IsInBlock place (leaf_cell place bit)
+leaf_cell_in : (place : Block) (bit : ℕ) → place.level ≡ 0 → bit < 64
+    → IsInBlock place (leaf_cell place bit)
 leaf_cell_in place bit e lt =
     let side : block_side place.level ≡ 4 = ap block_side e in
-    record { x = (omega arith, omega arith); y = (omega arith, omega arith); z = (omega arith, omega arith) }
+    record {
+      x = (omega arith, omega arith);
+      y = (omega arith, omega arith);
+      z =
+          (omega arith, omega arith);
+    }
 
-pub bit_unset : (bits bit : ℕ) (place : Block) (old : Option Boxed) (is : Bool) → place.level ≡ 0 → bit < 64 → is ≡ (bit_at bits bit == 1) → is ≡ false
-    → (cells : Cell → Bool) → LeafShows bits place cells → Widens (IsSetAt place cells (λ n. n ≡ bit)) (IsSetIn place cells) old old
+pub bit_unset : (bits bit : ℕ) (place : Block) (old : Option Boxed) (is : Bool) → place.level ≡ 0
+    → bit < 64 → is ≡ (bit_at bits bit == 1) → is ≡ false
+    → (cells : Cell → Bool) → LeafShows bits place cells
+    → Widens (IsSetAt place cells (λ n. n ≡ bit)) (IsSetIn place cells) old old
 bit_unset bits bit place old is e lt told unset cells shows =
-    widens_same _ _ old (λ c m. absurd (unset_set (cells c) (ap cells (cell_at_bit place cells bit c e m) ∙ sym (bit_tells bits bit place cells lt shows) ∙ sym told ∙ unset) m.set_in.set))
+    widens_same _ _ old
+    (λ c m. absurd
+    (unset_set (cells c)
+    (ap cells (cell_at_bit place cells bit c e m)
+    ∙ sym (bit_tells bits bit place cells lt shows) ∙ sym told
+    ∙ unset) m.set_in.set))
 
-pub bit_set : (bits bit : ℕ) (place : Block) (found : Cell) (old new : Option Boxed) (is : Bool) → place.level ≡ 0 → bit < 64 → is ≡ (bit_at bits bit == 1) → is ≡ true → found ≡ leaf_cell place bit → Widens (λ c. c ≡ found) (λ c. c ≡ found) old new
-    → (cells : Cell → Bool) → LeafShows bits place cells → Widens (IsSetAt place cells (λ n. n ≡ bit)) (IsSetIn place cells) old new
+pub bit_set : (bits bit : ℕ) (place : Block) (found : Cell) (old new : Option Boxed) (is : Bool)
+    → place.level ≡ 0 → bit < 64 → is ≡ (bit_at bits bit == 1) → is ≡ true
+    → found ≡ leaf_cell place bit → Widens (λ c. c ≡ found) (λ c. c ≡ found) old new
+    → (cells : Cell → Bool) → LeafShows bits place cells
+    → Widens (IsSetAt place cells (λ n. n ≡ bit)) (IsSetIn place cells) old new
 bit_set bits bit place found old new is e lt told set f p cells shows =
-    let here : IsSetIn place cells (leaf_cell place bit) = record { inside = leaf_cell_in place bit e lt; set = sym (bit_tells bits bit place cells lt shows) ∙ sym told ∙ set } in
-    widens_for _ _ _ _ old new (λ c m. cell_at_bit place cells bit c e m ∙ sym f) (λ c q. subst (IsSetIn place cells) (sym (q ∙ f)) here) p
+    let here : IsSetIn place cells (leaf_cell place bit) =
+    record {
+      inside = leaf_cell_in place bit e lt;
+      set = sym
+          (bit_tells bits bit place cells lt shows) ∙ sym told ∙ set;
+    } in
+    widens_for _ _ _ _ old new (λ c m. cell_at_bit place cells bit c e m ∙ sym f)
+    (λ c q. subst (IsSetIn place cells) (sym (q ∙ f)) here) p
 
-pub bits_none : (place : Block) (cells : Cell → Bool) (old : Option Boxed) → Widens (IsSetAt place cells (λ n. n < 0)) (IsSetIn place cells) old old
+pub bits_none : (place : Block) (cells : Cell → Bool) (old : Option Boxed)
+    → Widens (IsSetAt place cells (λ n. n < 0)) (IsSetIn place cells) old old
 bits_none place cells old = widens_same _ _ old (λ c m. (let b = m.is in absurd (omega arith)))
 
-pub bits_more : (place : Block) (cells : Cell → Bool) (bit : ℕ) (old mid new : Option Boxed) → Widens (IsSetAt place cells (λ n. n < bit)) (IsSetIn place cells) old mid
-    → Widens (IsSetAt place cells (λ n. n ≡ bit)) (IsSetIn place cells) mid new → Widens (IsSetAt place cells (λ n. n < bit + 1)) (IsSetIn place cells) old new
+pub bits_more : (place : Block) (cells : Cell → Bool) (bit : ℕ) (old mid new : Option Boxed)
+    → Widens (IsSetAt place cells (λ n. n < bit)) (IsSetIn place cells) old mid
+    → Widens (IsSetAt place cells (λ n. n ≡ bit)) (IsSetIn place cells) mid new
+    → Widens (IsSetAt place cells (λ n. n < bit + 1)) (IsSetIn place cells) old new
 bits_more place cells bit old mid new p q =
     widens_then _ _ _ _ _ _ old mid new
     (λ c m. elim (cases_eq (bit_of place c) bit) [
@@ -237,7 +381,10 @@ bits_more place cells bit old mid new p q =
     ])
     (λ c m. m) (λ c m. m) p q
 
-pub bits_all : (place : Block) (cells : Cell → Bool) (bit : ℕ) (old new : Option Boxed) → place.level ≡ 0 → bit ≡ 64 → Widens (IsSetAt place cells (λ n. n < bit)) (IsSetIn place cells) old new → Widens (IsSetIn place cells) (IsSetIn place cells) old new
+pub bits_all : (place : Block) (cells : Cell → Bool) (bit : ℕ) (old new : Option Boxed)
+    → place.level ≡ 0 → bit ≡ 64
+    → Widens (IsSetAt place cells (λ n. n < bit)) (IsSetIn place cells) old new
+    → Widens (IsSetIn place cells) (IsSetIn place cells) old new
 bits_all place cells bit old new e f p =
     let side : block_side place.level ≡ 4 = ap block_side e in
     widens_for _ _ _ _ old new
@@ -284,15 +431,35 @@ leaf_found bits mask b place found e is in_mask all cells shows =
     subst (λ (f : Option Boxed). IsFound f c) (sym is) (is_in_box_tells b c inside))
 
 -- the box of a whole world
-same_place : (level : ℕ) (s : Shape) (x y z x' y' z' : ℕ) → x ≡ x' → y ≡ y' → z ≡ z' → has level s x y z ≡ has level s x' y' z'
+same_place : (level : ℕ) (s : Shape) (x y z x' y' z' : ℕ) → x ≡ x' → y ≡ y' → z ≡ z'
+    → has level s x y z ≡ has level s x' y' z'
 same_place level s x y z x' y' z' p q r = rw (p, q, r) refl
 
-pub shown_root : (level : ℕ) (s : Shape) → ShowsCells (record { level = level; at = cell_at 0 0 0 }) s (cells_of level s)
-shown_root level s = record { each = λ c i. same_place level s (c.x - 0) (c.y - 0) (c.z - 0) c.x c.y c.z (omega arith) (omega arith) (omega arith) }
+pub shown_root : (level : ℕ) (s : Shape)
+    → ShowsCells (record { level = level; at = cell_at 0 0 0 }) s (cells_of level s)
+shown_root level s =
+    record {
+      each = λ c i. same_place level s (c.x - 0) (c.y - 0) (c.z - 0) c.x c.y c.z
+          (omega arith) (omega arith) (omega arith);
+    }
 
-root_extent : (side level : ℕ) (cells : Cell → Bool) (new : Option Boxed) → side ≡ block_side level → Widens (IsSetIn (record { level = level; at = cell_at 0 0 0 }) cells) (IsSetIn (record { level = level; at = cell_at 0 0 0 }) cells) None new → IsExtent side cells new
+root_extent : (side level : ℕ) (cells : Cell → Bool) (new : Option Boxed) → side ≡ block_side level
+    → Widens (IsSetIn (record { level = level; at = cell_at 0 0 0 }) cells)
+    (IsSetIn (record { level = level; at = cell_at 0 0 0 }) cells) None new
+    → IsExtent side cells new
 root_extent side level cells None e p = λ c i. elim (cases_Bool (cells c)) [
-  | inl set ↦ absurd (p.holds c (record { inside = record { x = (omega arith, omega (arith, e, i.x)); y = (omega arith, omega (arith, e, i.y)); z = (omega arith, omega (arith, e, i.z)) }; set = set }))
+  | inl set ↦ absurd
+      (p.holds c (record {
+        inside =
+            record {
+              x = (omega arith, omega (arith, e, i.x));
+              y =
+                  (omega arith, omega (arith, e, i.y));
+              z =
+                  (omega arith, omega (arith, e, i.z));
+            };
+        set = set;
+      }))
   | inr unset ↦ unset
 ]
 root_extent side level cells (Some b) e p =
@@ -300,28 +467,71 @@ root_extent side level cells (Some b) e p =
     let at = w.1.inside in
     record {
       some = w.0;
-      inside = record { x = omega (arith, e, at.x.1); y = omega (arith, e, at.y.1); z = omega (arith, e, at.z.1) };
+      inside = record {
+        x = omega (arith, e, at.x.1);
+        y = omega (arith, e, at.y.1);
+        z = omega
+            (arith, e, at.z.1);
+      };
       set = w.1.set;
-      holds = record { each = λ c i set. p.holds c (record { inside = record { x = (omega arith, omega (arith, e, i.x)); y = (omega arith, omega (arith, e, i.y)); z = (omega arith, omega (arith, e, i.z)) }; set = set }) };
-      least = λ d all. p.least d tt (λ c m. (let i = m.inside in all.each c (record { x = omega (arith, e, i.x.1); y = omega (arith, e, i.y.1); z = omega (arith, e, i.z.1) }) m.set));
+      holds = record {
+        each = λ c i set. p.holds c
+            (record {
+              inside =
+                  record {
+                    x = (omega arith, omega (arith, e, i.x));
+                    y =
+                        (omega arith, omega (arith, e, i.y));
+                    z =
+                        (omega arith, omega (arith, e, i.z));
+                  };
+              set = set;
+            });
+      };
+      least = λ d all. p.least d tt
+          (λ c m. (let i = m.inside in all.each c
+          (record {
+            x = omega (arith, e, i.x.1);
+            y = omega (arith, e, i.y.1);
+            z = omega
+                (arith, e, i.z.1);
+          }) m.set));
     }
 
-pub block_extent : (held : List Tree) (level : ℕ) (name : Option Name) (new : Option Boxed) → WidensBy held name (record { level = level; at = cell_at 0 0 0 }) None new → ForBlock held level name (λ s. IsExtent (block_side level) (cells_of level s) new)
+pub block_extent : (held : List Tree) (level : ℕ) (name : Option Name) (new : Option Boxed)
+    → WidensBy held name (record { level = level; at = cell_at 0 0 0 }) None new
+    → ForBlock held level name (λ s. IsExtent (block_side level) (cells_of level s) new)
 block_extent held level name new widens t o =
-    root_extent (block_side level) level (cells_of level (shape_of t)) new refl (widens (cells_of level (shape_of t)) t o (shown_root level (shape_of t)))
+    root_extent (block_side level) level (cells_of level (shape_of t)) new refl
+    (widens (cells_of level (shape_of t)) t o (shown_root level (shape_of t)))
 
-pub world_extent : (held : List Tree) (level side : ℕ) (root name : Option Name) (new : Option Boxed) → level ≡ side - 2 → 2 ≤ side → name ≡ root → ForBlock held level name (λ s. IsExtent (block_side level) (cells_of level s) new) → ForWorld held side root (λ cells. IsExtent (2 ^ side) cells new)
+pub world_extent : (held : List Tree) (level side : ℕ) (root name : Option Name)
+    (new : Option Boxed) → level ≡ side - 2 → 2 ≤ side → name ≡ root
+    → ForBlock held level name (λ s. IsExtent (block_side level) (cells_of level s) new)
+    → ForWorld held side root (λ cells. IsExtent (2 ^ side) cells new)
 world_extent held level side root name new e h n extent t o =
-    let there = subst (λ (m : Option Name). IsBlockOf held level m t) (sym n) (subst (λ (l : ℕ). IsBlockOf held l root t) (sym e) o) in
-    let all = subst (λ (s : ℕ). IsExtent s (cells_of level (shape_of t)) new) (sym (root_side level side e h)) (extent t there) in
+    let there =
+    subst (λ (m : Option Name). IsBlockOf held level m t) (sym n)
+    (subst (λ (l : ℕ). IsBlockOf held l root t) (sym e) o) in
+    let all =
+    subst (λ (s : ℕ). IsExtent s (cells_of level (shape_of t)) new)
+    (sym (root_side level side e h)) (extent t there) in
     subst (λ (l : ℕ). IsExtent (2 ^ side) (cells_of l (shape_of t)) new) e all
 
-pub root_lies : (level : ℕ) → level ≤ 10 → LiesIn 4096 (record { level = level; at = cell_at 0 0 0 })
-root_lies level h = let side = small_side level h in record { x = omega (arith, side); y = omega (arith, side); z = omega (arith, side) }
+pub root_lies : (level : ℕ) → level ≤ 10
+    → LiesIn 4096 (record { level = level; at = cell_at 0 0 0 })
+root_lies level h =
+    let side = small_side level h in record
+    { x = omega (arith, side); y = omega (arith, side); z = omega (arith, side) }
 
 -- a child's level and block
-pub child_level : (place child : Block) (k : ℕ) → child ≡ octant_of place k → child.level ≡ place.level - 1
+pub child_level : (place child : Block) (k : ℕ) → child ≡ octant_of place k
+    → child.level ≡ place.level - 1
 child_level place child k e = ap (λ (b : Block). b.level) e
 
-pub child_there : (a b : Seen) (place inner : Block) (k : ℕ) (block child : Option Name) → b ≡ a → inner ≡ octant_of place k → HasBlock a.held place.level block → IsOctantOf a.held place.level block k child → HasBlock b.held inner.level child
-child_there a b place inner k block child e is h octant = subst (λ (p : Block). HasBlock b.held p.level child) (sym is) (child_block a b place.level k block child e h octant)
+pub child_there : (a b : Seen) (place inner : Block) (k : ℕ) (block child : Option Name) → b ≡ a
+    → inner ≡ octant_of place k → HasBlock a.held place.level block
+    → IsOctantOf a.held place.level block k child → HasBlock b.held inner.level child
+child_there a b place inner k block child e is h octant =
+    subst (λ (p : Block). HasBlock b.held p.level child) (sym is)
+    (child_block a b place.level k block child e h octant)

@@ -12,7 +12,8 @@ both_dec (yes a) (yes b) = yes (a, b)
 both_dec (yes a) (no b) = no (λ t. b t.1)
 both_dec (no a) _ = no (λ t. a t.0)
 
-slot_of : {p : Layout} {l b s : ℕ} → Dec (l < levels p) → Dec (b < buckets_at p l) → Dec (s < p.cap) → Dec (IsSlot p l b s)
+slot_of : {p : Layout} {l b s : ℕ} → Dec (l < levels p) → Dec (b < buckets_at p l) → Dec (s < p.cap)
+    → Dec (IsSlot p l b s)
 slot_of (yes x) (yes y) (yes z) = yes (record { level_in = x; bucket_in = y; slot_in = z })
 slot_of (yes x) (yes y) (no z) = no (λ t. z t.slot_in)
 slot_of (yes x) (no y) _ = no (λ t. y t.bucket_in)
@@ -26,7 +27,10 @@ spot_dec p Sessions = yes tt
 spot_dec p LogTurn = yes tt
 spot_dec p LogLength = yes tt
 spot_dec p (Version version word) = both_dec (lt_dec version versions) (lt_dec word version_words)
-spot_dec p (Turn level bucket) = both_dec (lt_dec level (levels p)) (lt_dec bucket (buckets_at p level))
-spot_dec p (Used level bucket) = both_dec (lt_dec level (levels p)) (lt_dec bucket (buckets_at p level))
-spot_dec p (Key level bucket slot word) = both_dec (slot_dec p level bucket slot) (lt_dec word (key_words level))
+spot_dec p (Turn level bucket) =
+    both_dec (lt_dec level (levels p)) (lt_dec bucket (buckets_at p level))
+spot_dec p (Used level bucket) =
+    both_dec (lt_dec level (levels p)) (lt_dec bucket (buckets_at p level))
+spot_dec p (Key level bucket slot word) =
+    both_dec (slot_dec p level bucket slot) (lt_dec word (key_words level))
 spot_dec p (Book level bucket slot) = slot_dec p level bucket slot

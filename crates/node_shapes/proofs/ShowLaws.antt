@@ -17,24 +17,36 @@ record InHalf (low half i c : ℕ) : Type 0 where
   whole : IsWithin low (2 * half) c
 
 in_half : (low half i c : ℕ) → i < 2 → IsWithin (low + half * i) half c → InHalf low half i c
-in_half low half zero c lt h = record { inside = omega arith; place = omega arith; whole = (omega arith, omega arith) }
-in_half low half (suc zero) c lt h = record { inside = omega arith; place = omega arith; whole = (omega arith, omega arith) }
+in_half low half zero c lt h =
+    record { inside = omega arith; place = omega arith; whole = (omega arith, omega arith) }
+in_half low half (suc zero) c lt h =
+    record { inside = omega arith; place = omega arith; whole = (omega arith, omega arith) }
 in_half low half (suc (suc i)) c lt h = absurd (omega arith)
 
-has_below : (level : ℕ) (s : Shape) (k x y z : ℕ) → 1 ≤ level → k < 8 → x < block_side (level - 1) → y < block_side (level - 1) → z < block_side (level - 1) → has level s (half_x k * block_side (level - 1) + x) (half_y k * block_side (level - 1) + y) (half_z k * block_side (level - 1) + z) ≡ has (level - 1) (octant_shape s k) x y z
+has_below : (level : ℕ) (s : Shape) (k x y z : ℕ) → 1 ≤ level → k < 8 → x < block_side (level - 1)
+    → y < block_side (level - 1) → z < block_side (level - 1)
+    → has level s (half_x k * block_side (level - 1) + x) (half_y k * block_side (level - 1) + y)
+    (half_z k * block_side (level - 1) + z) ≡ has (level - 1) (octant_shape s k) x y z
 has_below level s k x y z h lt p q r =
     let e : suc (level - 1) ≡ level = omega arith in
-    let P : ℕ → Type 0 = λ l. has l s (half_x k * block_side (level - 1) + x) (half_y k * block_side (level - 1) + y) (half_z k * block_side (level - 1) + z) ≡ has (level - 1) (octant_shape s k) x y z in
+    let P : ℕ → Type 0 =
+    λ l. has l s (half_x k * block_side (level - 1) + x)
+    (half_y k * block_side (level - 1) + y) (half_z k * block_side (level - 1) + z)
+    ≡ has (level - 1) (octant_shape s k) x y z in
     subst P e (has-in_octant (level - 1) s k x y z lt p q r)
 
 twice : (level : ℕ) → 1 ≤ level → 2 * block_side (level - 1) ≡ block_side level
-twice level h = let e : suc (level - 1) ≡ level = omega arith in sym (block_side-suc (level - 1)) ∙ ap (λ (l : ℕ). block_side l) e
+twice level h =
+    let e : suc (level - 1) ≡ level = omega arith in sym (block_side-suc (level - 1))
+    ∙ ap (λ (l : ℕ). block_side l) e
 
-has_same : (level : ℕ) (s : Shape) (x y z x' y' z' : ℕ) → x ≡ x' → y ≡ y' → z ≡ z' → has level s x y z ≡ has level s x' y' z'
+has_same : (level : ℕ) (s : Shape) (x y z x' y' z' : ℕ) → x ≡ x' → y ≡ y' → z ≡ z'
+    → has level s x y z ≡ has level s x' y' z'
 has_same level s x y z x' y' z' p q r = rw (p, q, r) refl
 
 -- what a shape shows in a block its octants show in the block's octants
-pub octant_shows : (b : Block) (s : Shape) (cells : Cell → Bool) (k : ℕ) → 1 ≤ b.level → k < 8 → ShowsCells b s cells → ShowsCells (octant_of b k) (octant_shape s k) cells
+pub octant_shows : (b : Block) (s : Shape) (cells : Cell → Bool) (k : ℕ) → 1 ≤ b.level → k < 8
+    → ShowsCells b s cells → ShowsCells (octant_of b k) (octant_shape s k) cells
 octant_shows b s cells k h lt shown = record {
   each = λ c i.
       let half = block_side (b.level - 1) in
@@ -42,8 +54,10 @@ octant_shows b s cells k h lt shown = record {
       let y = in_half b.at.y half (half_y k) c.y (omega arith) i.y in
       let z = in_half b.at.z half (half_z k) c.z (omega arith) i.z in
       let e = twice b.level h in
-      let at : IsInBlock b c = record { x = rw e at x.whole; y = rw e at y.whole; z = rw e at z.whole } in
-      sym (has_below b.level s k _ _ _ h lt x.inside y.inside z.inside) ∙ has_same b.level s _ _ _ _ _ _ x.place y.place z.place ∙ shown.each c at;
+      let at : IsInBlock b c =
+      record { x = rw e at x.whole; y = rw e at y.whole; z = rw e at z.whole } in
+      sym (has_below b.level s k _ _ _ h lt x.inside y.inside z.inside)
+      ∙ has_same b.level s _ _ _ _ _ _ x.place y.place z.place ∙ shown.each c at;
 }
 
 -- c stands in the half of the stretch from low that a division tells
@@ -70,10 +84,14 @@ record HalvesOf (i j k : ℕ) : Type 0 where
   z : half_z (i + 2 * j + 4 * k) ≡ k
 
 halves_of : (i j k : ℕ) → i < 2 → j < 2 → k < 2 → HalvesOf i j k
-halves_of i j k p q r = record { number = omega arith; x = omega arith; y = omega arith; z = omega arith }
+halves_of i j k p q r =
+    record { number = omega arith; x = omega arith; y = omega arith; z = omega arith }
 
 -- the octant that the halves of a cell's place name has the cell
-pub octant_has : (b : Block) (c : Cell) (half i j k : ℕ) → 1 ≤ b.level → half ≡ block_side (b.level - 1) → IsInBlock b c → i ≡ (c.x - b.at.x) / half → j ≡ (c.y - b.at.y) / half → k ≡ (c.z - b.at.z) / half → IsInBlock (octant_of b (i + 2 * j + 4 * k)) c
+pub octant_has : (b : Block) (c : Cell) (half i j k : ℕ) → 1 ≤ b.level
+    → half ≡ block_side (b.level - 1) → IsInBlock b c → i ≡ (c.x - b.at.x) / half
+    → j ≡ (c.y - b.at.y) / half → k ≡ (c.z - b.at.z) / half
+    → IsInBlock (octant_of b (i + 2 * j + 4 * k)) c
 octant_has b c half i j k h e w ei ej ek =
     let some = block_side_some (b.level - 1) in
     let d = sym (twice b.level h) in
@@ -83,17 +101,23 @@ octant_has b c half i j k h e w ei ej ek =
     let qi = rw e at ei in
     let qj = rw e at ej in
     let qk = rw e at ek in
-    let n = halves_of i j k (rw (sym qi) at x.half_below) (rw (sym qj) at y.half_below) (rw (sym qk) at z.half_below) in
+    let n =
+    halves_of i j k (rw (sym qi) at x.half_below) (rw (sym qj) at y.half_below)
+    (rw (sym qk) at z.half_below) in
     record { x = rw (n.x, qi) x.within; y = rw (n.y, qj) y.within; z = rw (n.z, qk) z.within }
 
-has_split : (level : ℕ) (s : Shape) (x y z : ℕ) → 1 ≤ level → has level s x y z ≡ has (level - 1) (octant_shape s (octant_number (block_side (level - 1)) x y z)) (x % block_side (level - 1)) (y % block_side (level - 1)) (z % block_side (level - 1))
+has_split : (level : ℕ) (s : Shape) (x y z : ℕ) → 1 ≤ level
+    → has level s x y z ≡ has (level - 1)
+    (octant_shape s (octant_number (block_side (level - 1)) x y z)) (x % block_side (level - 1))
+    (y % block_side (level - 1)) (z % block_side (level - 1))
 unfolding has
 has_split level s x y z h =
     let e : level ≡ suc (level - 1) = omega arith in
     ap (λ (l : ℕ). has l s x y z) e
 
 -- what the octants show in the block's octants the shape shows in the block
-pub octants_show : (b : Block) (s : Shape) (cells : Cell → Bool) → 1 ≤ b.level → ((k : ℕ) → k < 8 → ShowsCells (octant_of b k) (octant_shape s k) cells) → ShowsCells b s cells
+pub octants_show : (b : Block) (s : Shape) (cells : Cell → Bool) → 1 ≤ b.level
+    → ((k : ℕ) → k < 8 → ShowsCells (octant_of b k) (octant_shape s k) cells) → ShowsCells b s cells
 octants_show b s cells h shown = record {
   each = λ c i.
       let half = block_side (b.level - 1) in
@@ -102,9 +126,17 @@ octants_show b s cells h shown = record {
       let x = has_half b.at.x half c.x some (rw e at i.x) in
       let y = has_half b.at.y half c.y some (rw e at i.y) in
       let z = has_half b.at.z half c.z some (rw e at i.z) in
-      let n = halves_of ((c.x - b.at.x) / half) ((c.y - b.at.y) / half) ((c.z - b.at.z) / half) x.half_below y.half_below z.half_below in
+      let n =
+      halves_of ((c.x - b.at.x) / half) ((c.y - b.at.y) / half)
+      ((c.z - b.at.z) / half) x.half_below y.half_below z.half_below in
       let k = octant_number half (c.x - b.at.x) (c.y - b.at.y) (c.z - b.at.z) in
-      let at : IsInBlock (octant_of b k) c = record { x = rw (← n.x) at x.within; y = rw (← n.y) at y.within; z = rw (← n.z) at z.within } in
+      let at : IsInBlock (octant_of b k) c =
+      record {
+        x = rw (← n.x) at x.within;
+        y = rw (← n.y) at y.within;
+        z = rw
+            (← n.z) at z.within;
+      } in
       let low = λ (m : ℕ) (a d : ℕ) (p : m ≡ a). ap (λ (v : ℕ). d + half * v) p in
       has_split b.level s _ _ _ h
       ∙ has_same (b.level - 1) (octant_shape s k) _ _ _ _ _ _
@@ -115,38 +147,61 @@ octants_show b s cells h shown = record {
 }
 
 -- a bit that is shifted out tells its cell
-pub leaf_has : (bits x y z : ℕ) → (bit_and (bits / 2 ^ (x + 4 * y + 16 * z)) 1 == 1) ≡ has 0 (Leaf bits) x y z
+pub leaf_has : (bits x y z : ℕ)
+    → (bit_and (bits / 2 ^ (x + 4 * y + 16 * z)) 1 == 1) ≡ has 0 (Leaf bits) x y z
 unfolding has
 leaf_has bits x y z = rw shr_and_one refl
 
 -- a leaf's block shows the leaf's bits
-pub leaf_shows : (b : Block) (s : Shape) (cells : Cell → Bool) → b.level ≡ 0 → ((c : Cell) → IsInBlock b c → (bit_at (bits_of s) (bit_number (c.x - b.at.x) (c.y - b.at.y) (c.z - b.at.z)) == 1) ≡ cells c) → ShowsCells b s cells
+pub leaf_shows : (b : Block) (s : Shape) (cells : Cell → Bool) → b.level ≡ 0
+    →
+    ((c : Cell) → IsInBlock b c
+    → (bit_at (bits_of s) (bit_number (c.x - b.at.x) (c.y - b.at.y) (c.z - b.at.z)) == 1)
+    ≡ cells c) → ShowsCells b s cells
 unfolding has
-leaf_shows b s cells e h = record { each = λ c i. ap (λ (l : ℕ). has l s (c.x - b.at.x) (c.y - b.at.y) (c.z - b.at.z)) e ∙ h c i }
+leaf_shows b s cells e h =
+    record {
+      each = λ c i. ap (λ (l : ℕ). has l s (c.x - b.at.x) (c.y - b.at.y) (c.z - b.at.z)) e
+          ∙ h c i;
+    }
 
-pub leaf_shown : (b : Block) (s : Shape) (cells : Cell → Bool) (c : Cell) → b.level ≡ 0 → ShowsCells b s cells → IsInBlock b c → (bit_at (bits_of s) (bit_number (c.x - b.at.x) (c.y - b.at.y) (c.z - b.at.z)) == 1) ≡ cells c
+pub leaf_shown : (b : Block) (s : Shape) (cells : Cell → Bool) (c : Cell) → b.level ≡ 0
+    → ShowsCells b s cells → IsInBlock b c
+    → (bit_at (bits_of s) (bit_number (c.x - b.at.x) (c.y - b.at.y) (c.z - b.at.z)) == 1) ≡ cells c
 unfolding has
-leaf_shown b s cells c e h i = ap (λ (l : ℕ). has l s (c.x - b.at.x) (c.y - b.at.y) (c.z - b.at.z)) (sym e) ∙ h.each c i
+leaf_shown b s cells c e h i =
+    ap (λ (l : ℕ). has l s (c.x - b.at.x) (c.y - b.at.y) (c.z - b.at.z)) (sym e) ∙ h.each c i
 
 -- a clear block shows no set cell
-pub clear_shows : (b : Block) (cells : Cell → Bool) → ((c : Cell) → IsInBlock b c → cells c ≡ false) → ShowsCells b Clear cells
+pub clear_shows : (b : Block) (cells : Cell → Bool) → ((c : Cell) → IsInBlock b c → cells c ≡ false)
+    → ShowsCells b Clear cells
 clear_shows b cells h = record { each = λ c i. has-clear b.level _ _ _ ∙ sym (h c i) }
 
-pub clear_shown : (b : Block) (cells : Cell → Bool) (c : Cell) → ShowsCells b Clear cells → IsInBlock b c → cells c ≡ false
+pub clear_shown : (b : Block) (cells : Cell → Bool) (c : Cell) → ShowsCells b Clear cells
+    → IsInBlock b c → cells c ≡ false
 clear_shown b cells c h i = sym (h.each c i) ∙ has-clear b.level _ _ _
 
 -- two shapes that show the same cells in a block are the same on it
-pub show_same : (b : Block) (s t : Shape) (cells : Cell → Bool) → ShowsCells b s cells → ShowsCells b t cells → SameCells b.level s t
+pub show_same : (b : Block) (s t : Shape) (cells : Cell → Bool) → ShowsCells b s cells
+    → ShowsCells b t cells → SameCells b.level s t
 show_same b s t cells p q = record {
   each = λ x y z lx ly lz.
       let c : Cell = record { x = b.at.x + x; y = b.at.y + y; z = b.at.z + z } in
-      let i : IsInBlock b c = record { x = (omega arith, omega arith); y = (omega arith, omega arith); z = (omega arith, omega arith) } in
+      let i : IsInBlock b c =
+      record {
+        x = (omega arith, omega arith);
+        y = (omega arith, omega arith);
+        z =
+            (omega arith, omega arith);
+      } in
       let ex : c.x - b.at.x ≡ x = omega arith in
       let ey : c.y - b.at.y ≡ y = omega arith in
       let ez : c.z - b.at.z ≡ z = omega arith in
-      sym (has_same b.level s _ _ _ _ _ _ ex ey ez) ∙ p.each c i ∙ sym (q.each c i) ∙ has_same b.level t _ _ _ _ _ _ ex ey ez;
+      sym (has_same b.level s _ _ _ _ _ _ ex ey ez) ∙ p.each c i ∙ sym (q.each c i)
+      ∙ has_same b.level t _ _ _ _ _ _ ex ey ez;
 }
 
 -- canonical shapes that show the same cells in a block are equal
-pub shown_once : (b : Block) (s t : Shape) (cells : Cell → Bool) → IsCanonical b.level s → IsCanonical b.level t → ShowsCells b s cells → ShowsCells b t cells → s ≡ t
+pub shown_once : (b : Block) (s t : Shape) (cells : Cell → Bool) → IsCanonical b.level s
+    → IsCanonical b.level t → ShowsCells b s cells → ShowsCells b t cells → s ≡ t
 shown_once b s t cells cs ct p q = same_shape b.level s t cs ct (show_same b s t cells p q)

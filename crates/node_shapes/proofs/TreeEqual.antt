@@ -1,4 +1,5 @@
--- Whether two trees are one, as a weight: who has a list of trees can tell by it whether one stands in the list.
+-- Whether two trees are one, as a weight: who has a list of trees can tell by it whether one stands
+-- in the list.
 use Rattle.std.proofs.Common.{◌≡◌, ℕ, ◌≤◌, refl, ◌∙◌, ap, arith, inl, inr}
 use Rattle.std.proofs.lemmas.Bool.{cases_eq}
 use Rattle.node_shapes.specs.declared.names.Name.{Name}
@@ -9,7 +10,9 @@ made_name l b s = record { level = l; bucket = b; slot = s }
 
 pub same_name : (m n : Name) → m.level ≡ n.level → m.bucket ≡ n.bucket → m.slot ≡ n.slot → m ≡ n
 unfolding made_name
-same_name m n l b s = ap (λ (x : ℕ). made_name x m.bucket m.slot) l ∙ ap (λ (x : ℕ). made_name n.level x m.slot) b ∙ ap (λ (x : ℕ). made_name n.level n.bucket x) s
+same_name m n l b s =
+    ap (λ (x : ℕ). made_name x m.bucket m.slot) l ∙ ap (λ (x : ℕ). made_name n.level x m.slot) b
+    ∙ ap (λ (x : ℕ). made_name n.level n.bucket x) s
 
 pub Name-discrete : (m n : Name) → Dec (m ≡ n)
 Name-discrete m n = elim (cases_eq m.level n.level) [

@@ -6,7 +6,8 @@ use Rattle.node_shapes.specs.Shape.{Shape, Clear, Leaf, octant_shape, branch_of,
 use Rattle.node_shapes.specs.Tree.{Tree, Gone, LeafAt, NodeAt, node_at, root_of, child_of, shape_of, bits_in, StandsIn, itself, below, IsTreeAt}
 
 -- the root's name has the tree's level
-pub level_of : (level : ℕ) (t : Tree) (n : Name) → IsTreeAt level t → root_of t ≡ Some n → n.level ≡ level
+pub level_of : (level : ℕ) (t : Tree) (n : Name) → IsTreeAt level t → root_of t ≡ Some n
+    → n.level ≡ level
 unfolding IsTreeAt
 level_of l Gone n h e = cc
 level_of zero (LeafAt m b) n h e = let f : m ≡ n = cc in rw f at h
@@ -15,11 +16,13 @@ level_of (suc l) (LeafAt m b) n h e = absurd h.0
 level_of (suc l) (NodeAt m a b c d e f g i) n h r = let j : m ≡ n = cc in rw j at h.0
 
 -- the trees of a tree's octants are of the level below
-pub IsTreeAt-child : (level : ℕ) (t : Tree) (k : ℕ) → IsTreeAt (suc level) t → IsTreeAt level (child_of t k)
+pub IsTreeAt-child : (level : ℕ) (t : Tree) (k : ℕ) → IsTreeAt (suc level) t
+    → IsTreeAt level (child_of t k)
 unfolding IsTreeAt
 IsTreeAt-child level t k h = h.1 k
 
-pub IsTreeAt-below : (level : ℕ) (t : Tree) (k : ℕ) → 1 ≤ level → IsTreeAt level t → IsTreeAt (level - 1) (child_of t k)
+pub IsTreeAt-below : (level : ℕ) (t : Tree) (k : ℕ) → 1 ≤ level → IsTreeAt level t
+    → IsTreeAt (level - 1) (child_of t k)
 IsTreeAt-below level t k h a =
     let e : level ≡ suc (level - 1) = omega arith in
     let P : ℕ → Type 0 = λ l. IsTreeAt l t in
@@ -40,7 +43,8 @@ pub leaf_at : (n : Name) (bits : ℕ) → n.level ≡ 0 → IsTreeAt 0 (LeafAt n
 unfolding IsTreeAt
 leaf_at n bits e = e
 
-pub child_of-node_at : (n : Name) (row : ℕ → Tree) (k : ℕ) → k < 8 → child_of (node_at n row) k ≡ row k
+pub child_of-node_at : (n : Name) (row : ℕ → Tree) (k : ℕ) → k < 8
+    → child_of (node_at n row) k ≡ row k
 child_of-node_at n u zero h = refl
 child_of-node_at n u (suc zero) h = refl
 child_of-node_at n u (suc (suc zero)) h = refl
@@ -51,12 +55,14 @@ child_of-node_at n u (suc (suc (suc (suc (suc (suc zero)))))) h = refl
 child_of-node_at n u (suc (suc (suc (suc (suc (suc (suc zero))))))) h = refl
 child_of-node_at n u (suc (suc (suc (suc (suc (suc (suc (suc k)))))))) h = absurd (omega arith)
 
-pub child_of-node_at_past : (n : Name) (row : ℕ → Tree) (k : ℕ) → 8 ≤ k → child_of (node_at n row) k ≡ Gone
+pub child_of-node_at_past : (n : Name) (row : ℕ → Tree) (k : ℕ) → 8 ≤ k
+    → child_of (node_at n row) k ≡ Gone
 child_of-node_at_past n u (suc (suc (suc (suc (suc (suc (suc (suc k)))))))) h = refl
 child_of-node_at_past n u _ h = absurd (omega arith)
 
 -- a node over trees of one level is a tree of the next
-pub node_levels : (level : ℕ) (n : Name) (row : ℕ → Tree) → n.level ≡ suc level → ((k : ℕ) → k < 8 → IsTreeAt level (row k)) → IsTreeAt (suc level) (node_at n row)
+pub node_levels : (level : ℕ) (n : Name) (row : ℕ → Tree) → n.level ≡ suc level
+    → ((k : ℕ) → k < 8 → IsTreeAt level (row k)) → IsTreeAt (suc level) (node_at n row)
 unfolding IsTreeAt
 node_levels level n u e h = (
   e,
@@ -91,7 +97,8 @@ pub shape_of-leaf : (n : Name) (bits : ℕ) → shape_of (LeafAt n bits) ≡ Lea
 unfolding shape_of
 shape_of-leaf n bits = refl
 
-pub shape_of-node : (n : Name) (row : ℕ → Tree) → shape_of (node_at n row) ≡ branch_of (λ k. shape_of (row k))
+pub shape_of-node : (n : Name) (row : ℕ → Tree)
+    → shape_of (node_at n row) ≡ branch_of (λ k. shape_of (row k))
 unfolding shape_of
 shape_of-node n row = refl
 
@@ -108,14 +115,16 @@ gone_from_root Gone e = refl
 gone_from_root (LeafAt n b) e = cc
 gone_from_root (NodeAt m a b c d e f g h) q = cc
 
-pub root_from_child : (t : Tree) (k : ℕ) (n : Name) → root_of (child_of t k) ≡ Some n → (m : Name) × (root_of t ≡ Some m)
+pub root_from_child : (t : Tree) (k : ℕ) (n : Name) → root_of (child_of t k) ≡ Some n
+    → (m : Name) × (root_of t ≡ Some m)
 root_from_child Gone zero n e = cc
 root_from_child Gone (suc k) n e = cc
 root_from_child (LeafAt m b) k n e = (m, refl)
 root_from_child (NodeAt m a b c d e f g h) k n q = (m, refl)
 
 -- a tree of level 0 with a name is a leaf
-pub leaf_from_root : (t : Tree) (n : Name) → IsTreeAt 0 t → root_of t ≡ Some n → t ≡ LeafAt n (bits_in t)
+pub leaf_from_root : (t : Tree) (n : Name) → IsTreeAt 0 t → root_of t ≡ Some n
+    → t ≡ LeafAt n (bits_in t)
 unfolding IsTreeAt
 leaf_from_root Gone n h e = cc
 leaf_from_root (LeafAt m b) n h e = let f : m ≡ n = cc in rw f refl
@@ -138,9 +147,11 @@ shape_of-some (LeafAt n b) ne e = cc
 shape_of-some (NodeAt m a b c d e f g h) ne q = cc
 
 -- the shape of a node that stands in a tree is part of the tree's
-pub part_from_stands : {t u : Tree} → root_of t ≢ None → StandsIn t u → IsPart (shape_of t) (shape_of u)
+pub part_from_stands : {t u : Tree} → root_of t ≢ None → StandsIn t u
+    → IsPart (shape_of t) (shape_of u)
 part_from_stands ne (itself {t}) = whole (shape_of-some t ne)
-part_from_stands ne (below {u} {t} k s) = within k (subst (λ p. IsPart (shape_of u) p) (shape_of-child t k) (part_from_stands ne s))
+part_from_stands ne (below {u} {t} k s) =
+    within k (subst (λ p. IsPart (shape_of u) p) (shape_of-child t k) (part_from_stands ne s))
 
 -- a part of a part is a part
 pub part_further : {p q s : Shape} → IsPart p q → IsPart q s → IsPart p s

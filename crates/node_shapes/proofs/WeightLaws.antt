@@ -25,7 +25,8 @@ unfolding weigh
 weigh-replicate f n t = sum_by-replicate f n t
 
 -- a tree with a name weighs itself
-pub weight_of-there : (f : Tree → ℕ) (t : Tree) (n : Name) → root_of t ≡ Some n → weight_of f t ≡ f t
+pub weight_of-there : (f : Tree → ℕ) (t : Tree) (n : Name) → root_of t ≡ Some n
+    → weight_of f t ≡ f t
 unfolding weight_of
 weight_of-there f Gone n e = cc
 weight_of-there f (LeafAt m b) n e = refl
@@ -49,14 +50,28 @@ weight_below-one row zero = omega arith
 weight_below-one row (suc k) = omega (arith, weight_below-one row k, weight_of-one (row k))
 
 -- the weight of one of a row, besides those before it
-pub weight_below-part : (f : Tree → ℕ) (row : ℕ → Tree) (k n : ℕ) → k < n → weight_of f (row k) + weight_below f row k ≤ weight_below f row n
+pub weight_below-part : (f : Tree → ℕ) (row : ℕ → Tree) (k n : ℕ) → k < n
+    → weight_of f (row k) + weight_below f row k ≤ weight_below f row n
 weight_below-part f row k zero h = absurd (omega arith)
-weight_below-part f row k (suc n) h = elim (cases_lt k n) [ inl l ↦ omega (arith, weight_below-part f row k n l) | inr r ↦ let e : k ≡ n = omega arith in rw e (omega arith) ]
+weight_below-part f row k (suc n) h =
+    elim
+    (cases_lt k n) [
+      | inl l ↦ omega (arith, weight_below-part f row k n l)
+      | inr r ↦ let e : k
+          ≡ n = omega arith in rw e (omega arith)
+    ]
 
 -- rows that agree weigh the same
-pub weight_below-same : (f : Tree → ℕ) (row other : ℕ → Tree) (n : ℕ) → ((k : ℕ) → k < n → row k ≡ other k) → weight_below f row n ≡ weight_below f other n
+pub weight_below-same : (f : Tree → ℕ) (row other : ℕ → Tree) (n : ℕ)
+    → ((k : ℕ) → k < n → row k ≡ other k) → weight_below f row n ≡ weight_below f other n
 weight_below-same f row other zero h = refl
-weight_below-same f row other (suc n) h = omega (arith, weight_below-same f row other n (λ k lt. h k (omega arith)), ap (weight_of f) (h n (omega arith)))
+weight_below-same f row other (suc n) h =
+    omega (
+      arith,
+      weight_below-same f row other n (λ k lt. h k (omega arith)),
+      ap (weight_of f)
+          (h n (omega arith)),
+    )
 
 pub put_row-same : (row : ℕ → Tree) (k : ℕ) (t : Tree) → put_row row k t k ≡ t
 put_row-same row zero t = refl
@@ -69,15 +84,22 @@ put_row-other row (suc k) t zero ne = refl
 put_row-other row (suc k) t (suc j) ne = put_row-other (λ i. row (suc i)) k t j (λ e. ne (ap suc e))
 
 -- what a row weighs up to a place doesn't depend on what stands from there on
-pub weight_below-put_after : (f : Tree → ℕ) (row : ℕ → Tree) (k : ℕ) (t : Tree) (n : ℕ) → n ≤ k → weight_below f (put_row row k t) n ≡ weight_below f row n
+pub weight_below-put_after : (f : Tree → ℕ) (row : ℕ → Tree) (k : ℕ) (t : Tree) (n : ℕ) → n ≤ k
+    → weight_below f (put_row row k t) n ≡ weight_below f row n
 weight_below-put_after f row k t zero h = refl
 weight_below-put_after f row k t (suc n) h =
     let ne : n ≢ k = omega arith in
-    rw (put_row-other row k t n ne) (ap (λ (w : ℕ). weight_of f (row n) + w) (weight_below-put_after f row k t n (omega arith)))
+    rw (put_row-other row k t n ne)
+    (ap (λ (w : ℕ). weight_of f (row n) + w) (weight_below-put_after f row k t n (omega arith)))
 
-pub weight_below-put : (f : Tree → ℕ) (row : ℕ → Tree) (k : ℕ) (t : Tree) (n : ℕ) → k < n → weight_below f (put_row row k t) n + weight_of f (row k) ≡ weight_below f row n + weight_of f t
+pub weight_below-put : (f : Tree → ℕ) (row : ℕ → Tree) (k : ℕ) (t : Tree) (n : ℕ) → k < n
+    → weight_below f (put_row row k t) n + weight_of f
+    (row k) ≡ weight_below f row n + weight_of f t
 weight_below-put f row k t zero h = absurd (omega arith)
 weight_below-put f row k t (suc n) h = elim (cases_lt k n) [
-  | inl l ↦ let ne : n ≢ k = omega arith in rw (put_row-other row k t n ne) (omega (arith, weight_below-put f row k t n l))
-  | inr r ↦ let e : n ≡ k = omega arith in rw (e, put_row-same row k t) (omega (arith, weight_below-put_after f row k t k (omega arith)))
+  | inl l ↦ let ne : n ≢ k = omega arith in rw (put_row-other row k t n ne)
+      (omega (arith, weight_below-put f row k t n l))
+  | inr r ↦ let e : n
+      ≡ k = omega arith in rw (e, put_row-same row k t)
+      (omega (arith, weight_below-put_after f row k t k (omega arith)))
 ]

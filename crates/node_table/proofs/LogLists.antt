@@ -46,7 +46,8 @@ no_records mem = refl
 -- a version with a mark
 pub mark_more : (mem : Spot → ℕ) (v m word at : ℕ) (items now : List Mark) (mark : Mark)
     → items ≡ marks_in mem v → m ≡ v + 1 → word ≡ mem (Version v 6) → word ≡ suc at
-    → mark ≡ mark_of_words v at (mem (Version v 7)) → now ≡ items ++ mark ∷ [] → now ≡ marks_in mem m
+    → mark ≡ mark_of_words v at (mem (Version v 7)) → now ≡ items ++ mark ∷ []
+    → now ≡ marks_in mem m
 mark_more mem v m word at items now mark is next read e made new =
     let s : m ≡ suc v = omega (arith, next) in
     new ∙ (λ j. is j ++ made j ∷ [])
@@ -84,7 +85,8 @@ root_none p mem v m word at items is next read e =
     ∙ sym (roots_suc p mem v) ∙ ap (λ (k : ℕ). roots_in p mem k) (sym s)
 
 pub root_same : (v : ℕ) (name other : Option Name) → name ≡ other
-    → record { version = v; name = name } ≡ (let r : Root = record { version = v; name = other } in r)
+    → record { version = v; name = name } ≡
+    (let r : Root = record { version = v; name = other } in r)
 root_same v name other e = λ i. record { version = v; name = e i }
 
 pub mark_word_small : (mem : Spot → ℕ) (long v : ℕ) → IsLogSmall mem long → v ≤ long

@@ -34,7 +34,8 @@ length_else u i n ws =
 some_else : (x y : Spot) (n : ℕ) (ws : List (Spot × ℕ)) → known_at y ws ≢ None
     → known_at y ((x, n) ∷ ws) ≢ None
 some_else x y n ws some = elim (spot_same y x) [
-  | yes e ↦ (λ none. none-some n (sym none ∙ ap (λ z. known_at z ((x, n) ∷ ws)) e ∙ known_now x n ws))
+  | yes e ↦ (λ none. none-some n
+      (sym none ∙ ap (λ z. known_at z ((x, n) ∷ ws)) e ∙ known_now x n ws))
   | no ne ↦ (λ none. some (sym (known_else x y n ws ne) ∙ none))
 ]
 
@@ -175,7 +176,8 @@ takes_log_on v m u w busy turned s = record {
       ∙ ap (λ (x : SeatView). (let z : SeatView = with_log x (record x.log {
         words = w.log.words;
         seen = record x.log.seen { records = x.log.seen.records ++ s.more };
-      }) in z)) (turned ∙ ap (λ (x : SeatView). (let z : SeatView = log_turned x true in z)) busy.is);
+      }) in z)) (turned
+      ∙ ap (λ (x : SeatView). (let z : SeatView = log_turned x true in z)) busy.is);
 }
 
 -- at once: whoever met nobody notes nobody
@@ -372,7 +374,10 @@ sees_mark_of v w u at who is comes again =
       is = is
           ∙ ap (λ ws. (let z : SeatView = with_log v (record v.log {
             words = ws;
-            seen = record v.log.seen { marks = marks_with (mark_of_words u at who) v.log.seen.marks };
+            seen = record v.log.seen {
+              marks = marks_with
+                  (mark_of_words u at who) v.log.seen.marks;
+            };
           }) in z)) (sym words);
     }
 
@@ -409,7 +414,8 @@ root_small p w u (suc at) plan same tells s known =
     let bucket = is.bucket_in in
     let few = few_buckets w.plan (top w.plan.side)
     (subst (λ (q : Layout). IsPlan q) (sym same) plan) in
-    let all = div-add-mod at 256 in let low : at % 256 < 256 = mod-lt at (omega arith) in omega arith
+    let all =
+    div-add-mod at 256 in let low : at % 256 < 256 = mod-lt at (omega arith) in omega arith
 
 pub word_small : (word seen : ℕ) → ((at : ℕ) → word ≡ suc at → at ≤ seen) → seen ≤ 65535
     → word < 2 ^ 32

@@ -27,7 +27,8 @@ learn_counted s t b cap k same c =
     let words : t.view.words ≡ c.words = ap (λ (v : SeatView). v.words) c.is in record {
       same = same;
       grows = subst (λ ws. WordsStay s.view.words ws) (sym words) (record { stays = c.stays });
-      else_is = c.is ∙ ap (λ ws. (let v : SeatView = record s.view { words = ws } in v)) (sym words);
+      else_is = c.is
+          ∙ ap (λ ws. (let v : SeatView = record s.view { words = ws } in v)) (sym words);
     }
 
 pub counted_known : (v w : SeatView) (b : BucketAt) (cap k : ℕ) → Counted v b cap k w

@@ -34,7 +34,8 @@ moves_spare old new m = record {
   plan = same_plan old new m;
   roots = m.roots;
   trees = λ place.
-      ap (λ (w : Written). tree_at (key_in w) (top w.plan.side) (stored_root old.roots place)) m.words;
+      ap (λ (w : Written). tree_at (key_in w) (top w.plan.side)
+      (stored_root old.roots place)) m.words;
 }
 
 pub raise_spares : (old new : Known) (n : Name) → RaisesShare old n new → SparesRoots old new
@@ -99,7 +100,8 @@ meets_spare old new s m = record {
   plan = ap (λ (w : Written). w.plan) m.words;
   roots = m.roots;
   trees = λ place.
-      ap (λ (w : Written). tree_at (key_in w) (top w.plan.side) (stored_root old.roots place)) m.words;
+      ap (λ (w : Written). tree_at (key_in w) (top w.plan.side)
+      (stored_root old.roots place)) m.words;
 }
 
 -- where an entry was added or a full bucket met

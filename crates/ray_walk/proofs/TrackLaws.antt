@@ -35,7 +35,9 @@ one_way_ahead t i h = elim i.one_way [ inl none ↦ absurd (omega arith) | inr n
 one_way_behind : (t : Track) → IsTrack t → 0 < t.behind → t.ahead ≡ 0
 one_way_behind t i h = elim i.one_way [ inl none ↦ none | inr none ↦ absurd (omega arith) ]
 
-pub ahead_stays : (t : Track) (low high k c way next : ℕ) → IsTrack t → 0 < t.ahead → IsTrackIn t k c → low ≤ c → c < high → way ≡ t.unit * high - t.start → next ≡ (way + t.ahead - 1) / t.ahead → StaysUntil t low high k next
+pub ahead_stays : (t : Track) (low high k c way next : ℕ) → IsTrack t → 0 < t.ahead
+    → IsTrackIn t k c → low ≤ c → c < high → way ≡ t.unit * high - t.start
+    → next ≡ (way + t.ahead - 1) / t.ahead → StaysUntil t low high k next
 ahead_stays t low high k c way next i moves p above below e n =
     let a = t.ahead in
     let still = one_way_ahead t i moves in
@@ -48,12 +50,24 @@ ahead_stays t low high k c way next i moves p above below e n =
     let under = div_under (way + a - 1) a in
     let q : next * a ≡ (way + a - 1) / a * a = ap (λ (m : ℕ). m * a) n in
     record {
-      later = λ _. elim (cases_lt k next) [ inl lt ↦ lt | inr ge ↦ (let far = grows_left next k a ge in absurd (omega (arith, far, over, q, p1, to_high, kb, e))) ];
-      above = λ j from to. (let jb = no_factor j t.behind still in let more = grows_left k j a from in omega (arith, jb, more, from_low, p0, kb));
-      below = λ j from to. (let near = grows_left (j + 1) next a (omega arith) in omega (arith, near, under, q, p1, to_high, kb, e));
+      later = λ _. elim
+          (cases_lt k next) [
+            | inl lt ↦ lt
+            | inr ge ↦
+                (let far = grows_left next k a ge in absurd
+                (omega (arith, far, over, q, p1, to_high, kb, e)))
+          ];
+      above = λ j from to.
+          (let jb = no_factor j t.behind still in let more = grows_left k j a from in omega
+          (arith, jb, more, from_low, p0, kb));
+      below = λ j from to.
+          (let near = grows_left (j + 1) next a (omega arith) in omega
+          (arith, near, under, q, p1, to_high, kb, e));
     }
 
-pub behind_stays : (t : Track) (low high k c way next : ℕ) → IsTrack t → 0 < t.behind → IsTrackIn t k c → low ≤ c → c < high → way ≡ t.start - t.unit * low → next ≡ way / t.behind + 1 → StaysUntil t low high k next
+pub behind_stays : (t : Track) (low high k c way next : ℕ) → IsTrack t → 0 < t.behind
+    → IsTrackIn t k c → low ≤ c → c < high → way ≡ t.start - t.unit * low
+    → next ≡ way / t.behind + 1 → StaysUntil t low high k next
 behind_stays t low high k c way next i moves p above below e n =
     let b = t.behind in
     let still = one_way_behind t i moves in
@@ -66,13 +80,24 @@ behind_stays t low high k c way next i moves p above below e n =
     let under = div_under way b in
     let q : next * b ≡ way / b * b + b = ap (λ (m : ℕ). m * b) n ∙ omega arith in
     record {
-      later = λ _. elim (cases_lt k next) [ inl lt ↦ lt | inr ge ↦ (let far = grows_left next k b ge in absurd (omega (arith, far, over, q, p0, from_low, ka, e))) ];
-      above = λ j from to. (let near = grows_left (j + 1) next b (omega arith) in omega (arith, near, under, q, p0, from_low, ka, e));
-      below = λ j from to. (let ja = no_factor j t.ahead still in let more = grows_left k j b from in omega (arith, ja, more, to_high, p1, ka));
+      later = λ _. elim
+          (cases_lt k next) [
+            | inl lt ↦ lt
+            | inr ge ↦
+                (let far = grows_left next k b ge in absurd
+                (omega (arith, far, over, q, p0, from_low, ka, e)))
+          ];
+      above = λ j from to.
+          (let near = grows_left (j + 1) next b (omega arith) in omega
+          (arith, near, under, q, p0, from_low, ka, e));
+      below = λ j from to.
+          (let ja = no_factor j t.ahead still in let more = grows_left k j b from in omega
+          (arith, ja, more, to_high, p1, ka));
     }
 
 -- a track that is past the side stays there
-pub past_side : (t : Track) (side k : ℕ) → IsTrack t → t.start < t.unit * side → side ≤ (t.start + k * t.ahead - k * t.behind) / t.unit → IsOut t side k
+pub past_side : (t : Track) (side k : ℕ) → IsTrack t → t.start < t.unit * side
+    → side ≤ (t.start + k * t.ahead - k * t.behind) / t.unit → IsOut t side k
 past_side t side k i begins past = record {
   each = λ j c from p below.
       let some = i.some in
@@ -83,16 +108,19 @@ past_side t side k i begins past = record {
       let p1 = p.1 in
       elim i.one_way [
         | inl none ↦ (let ka = no_factor k t.ahead none in omega (arith, under, reach, begins, ka))
-        | inr none ↦ (let jb = no_factor j t.behind none in omega (arith, under, reach, more, jb, ends, p1))
+        | inr none ↦
+            (let jb = no_factor j t.behind none in omega (arith, under, reach, more, jb, ends, p1))
       ];
 }
 
 -- products tell which factor is less
 less_factor : (u a b : ℕ) → u * a < u * b → a < b
-less_factor u a b h = elim (cases_lt a b) [ inl lt ↦ lt | inr ge ↦ (let g = grows u b a ge in absurd (omega arith)) ]
+less_factor u a b h =
+    elim (cases_lt a b) [ inl lt ↦ lt | inr ge ↦ (let g = grows u b a ge in absurd (omega arith)) ]
 
 -- what lies between two cells' beginnings stands in a cell between
-between : (t : Track) (low high k next j c : ℕ) → StaysUntil t low high k next → k ≤ j → j < next → IsTrackIn t j c → (low ≤ c) × (c < high)
+between : (t : Track) (low high k next j c : ℕ) → StaysUntil t low high k next → k ≤ j → j < next
+    → IsTrackIn t j c → (low ≤ c) × (c < high)
 between t low high k next j c s from to p =
     let above = s.above j from to in
     let below = s.below j from to in
@@ -102,7 +130,9 @@ between t low high k next j c s from to p =
     let down : c < high = less_factor t.unit c high (omega (arith, below, p0)) in
     (omega arith, down)
 
-pub in_box_until : (r : Course) (b : Boxed) (k x y z next : ℕ) → k < 2 ^ 45 → StaysUntil r.x b.at.x (b.at.x + b.size.x) k x → StaysUntil r.y b.at.y (b.at.y + b.size.y) k y → StaysUntil r.z b.at.z (b.at.z + b.size.z) k z
+pub in_box_until : (r : Course) (b : Boxed) (k x y z next : ℕ) → k < 2 ^ 45
+    → StaysUntil r.x b.at.x (b.at.x + b.size.x) k x → StaysUntil r.y b.at.y (b.at.y + b.size.y) k y
+    → StaysUntil r.z b.at.z (b.at.z + b.size.z) k z
     → k < next → next ≤ x → next ≤ y → next ≤ z → InBoxUntil r b k next
 in_box_until r b k x y z next small sx sy sz later lx ly lz = record {
   later = later;

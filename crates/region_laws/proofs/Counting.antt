@@ -32,29 +32,41 @@ no_misfit : (b : Bool) → ((if b then 0 else 1) == 0) ≡ b
 no_misfit true = refl
 no_misfit false = refl
 
-suit_all : (models : List Content) (p : Cell) (session most : ℕ) (items : List Accepted) → list_all (λ c. misfit models p session most c == 0) items ≡ true → list_all (suits models p session most) items ≡ true
+suit_all : (models : List Content) (p : Cell) (session most : ℕ) (items : List Accepted)
+    → list_all (λ c. misfit models p session most c == 0) items ≡ true
+    → list_all (suits models p session most) items ≡ true
 suit_all models p session most [] all = refl
 suit_all models p session most (c ∷ more) all =
     let parts = and_parts _ _ all in
-    and_from _ _ (sym (no_misfit (suits models p session most c)) ∙ parts.0) (suit_all models p session most more parts.1)
+    and_from _ _ (sym (no_misfit (suits models p session most c)) ∙ parts.0)
+    (suit_all models p session most more parts.1)
 
 zero_is : (n : ℕ) → n ≡ 0 → (n == 0) ≡ true
 zero_is n is = grind (arith, nat_tests)
 
-pub all_suit : (models : List Content) (p : Cell) (session most : ℕ) (items : List Accepted) → sum_by (misfit models p session most) items ≡ 0 → list_all (suits models p session most) items ≡ true
-all_suit models p session most items none = suit_all models p session most items (sym (sum_by-zero (misfit models p session most) items) ∙ zero_is _ none)
+pub all_suit : (models : List Content) (p : Cell) (session most : ℕ) (items : List Accepted)
+    → sum_by (misfit models p session most) items ≡ 0
+    → list_all (suits models p session most) items ≡ true
+all_suit models p session most items none =
+    suit_all models p session most items
+    (sym (sum_by-zero (misfit models p session most) items) ∙ zero_is _ none)
 
 -- the changes of a region suit every cell of another, and up to the last moment those of its own
-pub own_suits : (models : List Content) (p : Cell) (session most : ℕ) (x : ℕ) (act : Act) (n at : ℕ) → EditLiesIn x act → at ≤ most
-    → misfit models p session most (record { at = at; entry = record { session = session; line = n; act = act } }) ≡ 0
+pub own_suits : (models : List Content) (p : Cell) (session most : ℕ) (x : ℕ) (act : Act) (n at : ℕ)
+    → EditLiesIn x act → at ≤ most
+    → misfit models p session most
+    (record { at = at; entry = record { session = session; line = n; act = act } }) ≡ 0
 own_suits models p session most x act n at lies few =
     let local = region_local x act lies in
     let same : (session == session) ≡ true = grind (arith, nat_tests) in
     let early = le-leb at most few in
     rw (local, same, early) refl
 
-pub other_suits : (model : Content) (p : Cell) (session other most : ℕ) (x : ℕ) (act : Act) (n at : ℕ) → model.size ≡ record { x = 32; y = 32; z = 32 } → EditLiesIn x act → (IsInRegion x p → ⊥) → (other ≡ session → ⊥)
-    → misfit (model ∷ []) p session most (record { at = at; entry = record { session = other; line = n; act = act } }) ≡ 0
+pub other_suits : (model : Content) (p : Cell) (session other most : ℕ) (x : ℕ) (act : Act)
+    (n at : ℕ) → model.size ≡ record { x = 32; y = 32; z = 32 } → EditLiesIn x act
+    → (IsInRegion x p → ⊥) → (other ≡ session → ⊥)
+    → misfit (model ∷ []) p session most
+    (record { at = at; entry = record { session = other; line = n; act = act } }) ≡ 0
 other_suits model p session other most x act n at size lies apart differ =
     let local = region_local x act lies in
     let left = region_left model x p act size lies apart in
@@ -63,18 +75,24 @@ other_suits model p session other most x act n at size lies apart differ =
 
 -- ---- one cell of a region
 
-pub region_cell : (models : List Content) (session n line : ℕ) (p : Cell) (records : List Record) (b : Boxed) (acts : List Act) (t : List LineAnswer)
+pub region_cell : (models : List Content) (session n line : ℕ) (p : Cell) (records : List Record)
+    (b : Boxed) (acts : List Act) (t : List LineAnswer)
     → sum_by (misfit models p session n) (numbered 1 records) ≡ 0 → n ≤ length records
-    → SameItems (own_of (λ c. c.entry.session) session (numbered 1 records)) (accepted_in session (script_of 1 acts (asks line b)) t)
-    → length (accepted_in session (script_of 1 acts (asks line b)) t) ≡ length acts → AllPairs InOrder t → All (λ act. is_local act ≡ true) acts
+    → SameItems (own_of (λ c. c.entry.session) session (numbered 1 records))
+    (accepted_in session (script_of 1 acts (asks line b)) t)
+    → length (accepted_in session (script_of 1 acts (asks line b)) t) ≡ length acts
+    → AllPairs InOrder t → All (λ act. is_local act ≡ true) acts
     → world_has models records n p ≡ made_alone models acts p
 region_cell models session n line p records b acts t none few same all pairs local =
     let shown = accepted_in session (script_of 1 acts (asks line b)) t in
     let own = own_of (λ (c : Accepted). c.entry.session) session (numbered 1 records) in
     let suits_all = all_suit models p session n (numbered 1 records) none in
-    let rises = filter_rises (λ (c : Accepted). c.entry.session == session) 1 (numbered 1 records) (numbered_rises 1 records) in
+    let rises =
+    filter_rises (λ (c : Accepted). c.entry.session == session) 1 (numbered 1 records)
+    (numbered_rises 1 records) in
     run_has models p session n [] records suits_all (omega arith) (omega (arith, few))
     ∙ ap (λ v. set_by models p v own) (has_at_0 models [] p)
-    ∙ same_set models p 1 0 own shown rises (shown_rises session 1 line 0 b acts t pairs (λ k d within done. omega arith)) same false
+    ∙ same_set models p 1 0 own shown rises
+    (shown_rises session 1 line 0 b acts t pairs (λ k d within done. omega arith)) same false
     ∙ all_shown models p session 1 line b acts t false all
     ∙ sym (made_local models p acts nothing local)

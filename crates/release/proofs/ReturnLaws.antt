@@ -90,7 +90,8 @@ gave_freed v m w t n steps middle now root h e one r =
             loses = loses;
             freed = shape_of t ∷ r.freed;
             lost = lost_on (λ p. IsPart p (shape_of t)) v.held m.held w.held (shape_of t ∷ [])
-                r.freed (freed_lost v.held m.held t n root h weighs (freed_unheld v m t e) branch) rest;
+                r.freed (freed_lost v.held m.held t n root h weighs
+                (freed_unheld v m t e) branch) rest;
             turns = omega arith;
           })
       | inr none ↦

@@ -21,7 +21,8 @@ use Rattle.reporting.specs.Numbers.{AreNumbers}
 not_less : (a b : ℕ) → 2 ^ a ≡ 2 ^ b → a < b → ⊥
 not_less a b same less = (let grows = pow-lt less in omega arith)
 
-pub log_side : (p : Layout) (models : List Content) (log : Log) → IsLegal (2 ^ p.side) models log → log.side ≡ p.side
+pub log_side : (p : Layout) (models : List Content) (log : Log) → IsLegal (2 ^ p.side) models log
+    → log.side ≡ p.side
 log_side p models log legal = elim (cases_lt log.side p.side) [
   | inl less ↦ absurd (not_less log.side p.side legal.same_side less)
   | inr high ↦ elim (cases_lt p.side log.side) [
@@ -30,7 +31,8 @@ log_side p models log legal = elim (cases_lt log.side p.side) [
   ]
 ]
 
-module _ (p : Layout) (models : List Content) (state : State) (low : 2 ≤ p.side) (s : Sound p models state) where
+module _ (p : Layout) (models : List Content) (state : State) (low : 2 ≤ p.side)
+    (s : Sound p models state) where
   at_log : (P : ℕ → Type 0) → P (2 ^ p.side) → P (2 ^ state.log.side)
   at_log P here = subst P (sym s.versions.legal.same_side) here
 
@@ -39,17 +41,27 @@ module _ (p : Layout) (models : List Content) (state : State) (low : 2 ≤ p.sid
 
   pub roots_told : RootsTellWorlds models state.log state.root
   roots_told = record {
-    no_cell = λ v kept none. at_log (λ n. HasNoCell n (stored_in n models state.log.records v)) (record { each = no_root_no_cell p models state low s v kept none });
-    no_root = λ v kept clear. no_cell_no_root p models state low s v kept (at_plan (λ n. HasNoCell n (stored_in n models state.log.records v)) clear).each;
-    same_cells = λ v w of_v of_w same. at_log (λ n. SameWorld n (stored_in n models state.log.records v) (stored_in n models state.log.records w)) (same_cells p models state low s v w of_v of_w same);
-    same_root = λ v w of_v of_w same. same_root p models state low s v w of_v of_w (at_plan (λ n. SameWorld n (stored_in n models state.log.records v) (stored_in n models state.log.records w)) same);
+    no_cell = λ v kept none. at_log (λ n. HasNoCell n (stored_in n models state.log.records v))
+        (record { each = no_root_no_cell p models state low s v kept none });
+    no_root = λ v kept clear. no_cell_no_root p models state low s v kept
+        (at_plan (λ n. HasNoCell n (stored_in n models state.log.records v)) clear).each;
+    same_cells = λ v w of_v of_w same. at_log
+        (λ n. SameWorld n (stored_in n models state.log.records v)
+        (stored_in n models state.log.records w))
+        (same_cells p models state low s v w of_v of_w same);
+    same_root = λ v w of_v of_w same. same_root p models state low s v w of_v of_w
+        (at_plan (λ n. SameWorld n (stored_in n models state.log.records v)
+        (stored_in n models state.log.records w)) same);
   }
 
-pub sound_roots : (p : Layout) (models : List Content) (state : State) → 2 ≤ p.side → Sound p models state → RootsTellWorlds models state.log state.root
+pub sound_roots : (p : Layout) (models : List Content) (state : State) → 2 ≤ p.side
+    → Sound p models state → RootsTellWorlds models state.log state.root
 sound_roots p models state low s = roots_told p models state low s
 
 -- what is told of a version by its root is what the report says of it
-pub told_fits : (models : List Content) (log : Log) (root : ℕ → Option Name) → RootsTellWorlds models log root → (v : ℕ) (first : Option ℕ) → IsKept log v → FirstTold log root v first → FirstFits models log v first
+pub told_fits : (models : List Content) (log : Log) (root : ℕ → Option Name)
+    → RootsTellWorlds models log root → (v : ℕ) (first : Option ℕ) → IsKept log v
+    → FirstTold log root v first → FirstFits models log v first
 told_fits models log root tell v None kept told = tell.no_cell v kept told
 told_fits models log root tell v (Some w) kept told = (
   λ none. told.some (tell.no_root v kept none),
@@ -61,21 +73,34 @@ told_fits models log root tell v (Some w) kept told = (
   },
 )
 
-pub report_told : (models : List Content) (log : Log) (root : ℕ → Option Name) (rows : List ReportRow) (numbers text : List ℕ) → RowsBelow log root (length log.records + 1) rows → text ≡ report_of log rows numbers
+pub report_told : (models : List Content) (log : Log) (root : ℕ → Option Name)
+    (rows : List ReportRow) (numbers text : List ℕ)
+    → RowsBelow log root (length log.records + 1) rows → text ≡ report_of log rows numbers
     → RootsTellWorlds models log root → AreNumbers models log numbers → IsReport models log text
 report_told models log root rows numbers text below is tell are = record {
   rows = rows;
-  held = record { rising = below.rising; kept = below.kept; all = λ v kept. below.all v (let there = kept.there in omega arith) kept };
-  fit = λ i d lt. told_fits models log root tell (get_or rows i d).version (get_or rows i d).first (below.kept i d lt) (below.told i d lt);
+  held = record {
+    rising = below.rising;
+    kept = below.kept;
+    all = λ v kept. below.all v
+        (let there = kept.there in omega arith) kept;
+  };
+  fit = λ i d lt. told_fits models log root tell (get_or rows i d).version (get_or rows i d).first
+      (below.kept i d lt) (below.told i d lt);
   numbers = numbers;
   are = are;
   is = is;
 }
 
 -- the parts of the text, one after another
-pub text_told : (head rowed all text : List ℕ) (log : Log) (rows seen : List ReportRow) (numbers : List ℕ) → head ≡ head_lines log → seen ≡ rows → rowed ≡ head ++ flat_map row_line seen → all ≡ rowed ++ level_lines 0 numbers → text ≡ all
+pub text_told : (head rowed all text : List ℕ) (log : Log) (rows seen : List ReportRow)
+    (numbers : List ℕ) → head ≡ head_lines log → seen ≡ rows
+    → rowed ≡ head ++ flat_map row_line seen → all ≡ rowed ++ level_lines 0 numbers → text ≡ all
     → text ≡ report_of log rows numbers
 text_told head rowed all text log rows seen numbers first same second third is =
-    is ∙ third ∙ ap (λ (xs : List ℕ). xs ++ level_lines 0 numbers) second ∙ append_assoc head (flat_map row_line seen) (level_lines 0 numbers)
+    is ∙ third ∙ ap (λ (xs : List ℕ). xs ++ level_lines 0 numbers) second
+    ∙ append_assoc head (flat_map row_line seen) (level_lines 0 numbers)
     ∙ ap (λ (xs : List ℕ). xs ++ (flat_map row_line seen ++ level_lines 0 numbers)) first
-    ∙ ap (λ (rs : List ReportRow). head_lines log ++ (flat_map row_line rs ++ level_lines 0 numbers)) same
+    ∙ ap
+    (λ (rs : List ReportRow). head_lines log ++
+    (flat_map row_line rs ++ level_lines 0 numbers)) same

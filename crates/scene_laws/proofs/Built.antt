@@ -21,7 +21,8 @@ use Rattle.scene_laws.proofs.Unions.{stamps_tell, stamps_hold}
 sound_of : (bytes : List ℕ) (stands : List Stand) → HasStands bytes (Ok stands) → All IsSound stands
 sound_of bytes stands has =
     sound_stands has.models has.nodes stands (models_of_file bytes has.models has.has).each
-    (subst AllTurn (sym has.are.are) (all_turn bytes has.are.main.first has.are.children)) has.walked
+    (subst AllTurn (sym has.are.are)
+    (all_turn bytes has.are.main.first has.are.children)) has.walked
 
 -- one model at its place
 fits_one : (least : Vector) (side : ℕ) (s : Stand) (m : Content) (at : Cell) → IsModel m

@@ -117,7 +117,8 @@ unfolding act_spelled
 stamp_said i at low short = let read = stamp_read i at low short in rw read refl
 
 fits_is : (side at size : ℕ) → 1 ≤ size → at + size ≤ side → fits at size side ≡ true
-fits_is side at size some within = and_from _ _ (le-leb 1 size some) (le-leb (at + size) side within)
+fits_is side at size some within =
+    and_from _ _ (le-leb 1 size some) (le-leb (at + size) side within)
 
 box_placed : (side : ℕ) (at size : Cell) → FitsAt at size side
     → box_in side at size ≡ Ok (record { at = at; size = size })
@@ -228,7 +229,8 @@ later all i m models are k n is =
 
 pub first_of : (all : List Content) (i : ℕ) (m : Content) (models : List Content)
     → Numbered all i (m ∷ models) → slice_get all i ≡ Some m
-first_of all i m models are = subst (λ (j : ℕ). slice_get all j ≡ Some m) (omega arith) (are 0 m refl)
+first_of all i m models are =
+    subst (λ (j : ℕ). slice_get all j ≡ Some m) (omega arith) (are 0 m refl)
 
 stamps_taken : (side : ℕ) (all : List Content) (i : ℕ) (models : List Content) (places : List Cell)
     → side ≤ 4096 → i + length models ≤ 1024 → Numbered all i models

@@ -58,9 +58,12 @@ by_axes X Y Z r size at of_x of_y of_z ab ac bc below =
       y = back_to r.y size at.y;
       z = back_to r.z size at.z;
     } in
-    let by_x = row_back r.x size from at.x below.x (ap (λ (axis : Axis). extent_at axis from) of_x) in
-    let by_y = row_back r.y size from at.y below.y (ap (λ (axis : Axis). extent_at axis from) of_y) in
-    let by_z = row_back r.z size from at.z below.z (ap (λ (axis : Axis). extent_at axis from) of_z) in (
+    let by_x =
+    row_back r.x size from at.x below.x (ap (λ (axis : Axis). extent_at axis from) of_x) in
+    let by_y =
+    row_back r.y size from at.y below.y (ap (λ (axis : Axis). extent_at axis from) of_y) in
+    let by_z =
+    row_back r.z size from at.z below.z (ap (λ (axis : Axis). extent_at axis from) of_z) in (
       from,
       record {
         inside = record {
@@ -80,9 +83,12 @@ by_axes X Z Y r size at of_x of_y of_z ab ac bc below =
       y = back_to r.z size at.z;
       z = back_to r.y size at.y;
     } in
-    let by_x = row_back r.x size from at.x below.x (ap (λ (axis : Axis). extent_at axis from) of_x) in
-    let by_y = row_back r.y size from at.y below.y (ap (λ (axis : Axis). extent_at axis from) of_y) in
-    let by_z = row_back r.z size from at.z below.z (ap (λ (axis : Axis). extent_at axis from) of_z) in (
+    let by_x =
+    row_back r.x size from at.x below.x (ap (λ (axis : Axis). extent_at axis from) of_x) in
+    let by_y =
+    row_back r.y size from at.y below.y (ap (λ (axis : Axis). extent_at axis from) of_y) in
+    let by_z =
+    row_back r.z size from at.z below.z (ap (λ (axis : Axis). extent_at axis from) of_z) in (
       from,
       record {
         inside = record {
@@ -104,9 +110,12 @@ by_axes Y X Z r size at of_x of_y of_z ab ac bc below =
       y = back_to r.x size at.x;
       z = back_to r.z size at.z;
     } in
-    let by_x = row_back r.x size from at.x below.x (ap (λ (axis : Axis). extent_at axis from) of_x) in
-    let by_y = row_back r.y size from at.y below.y (ap (λ (axis : Axis). extent_at axis from) of_y) in
-    let by_z = row_back r.z size from at.z below.z (ap (λ (axis : Axis). extent_at axis from) of_z) in (
+    let by_x =
+    row_back r.x size from at.x below.x (ap (λ (axis : Axis). extent_at axis from) of_x) in
+    let by_y =
+    row_back r.y size from at.y below.y (ap (λ (axis : Axis). extent_at axis from) of_y) in
+    let by_z =
+    row_back r.z size from at.z below.z (ap (λ (axis : Axis). extent_at axis from) of_z) in (
       from,
       record {
         inside = record {
@@ -128,9 +137,12 @@ by_axes Y Z X r size at of_x of_y of_z ab ac bc below =
       y = back_to r.x size at.x;
       z = back_to r.y size at.y;
     } in
-    let by_x = row_back r.x size from at.x below.x (ap (λ (axis : Axis). extent_at axis from) of_x) in
-    let by_y = row_back r.y size from at.y below.y (ap (λ (axis : Axis). extent_at axis from) of_y) in
-    let by_z = row_back r.z size from at.z below.z (ap (λ (axis : Axis). extent_at axis from) of_z) in (
+    let by_x =
+    row_back r.x size from at.x below.x (ap (λ (axis : Axis). extent_at axis from) of_x) in
+    let by_y =
+    row_back r.y size from at.y below.y (ap (λ (axis : Axis). extent_at axis from) of_y) in
+    let by_z =
+    row_back r.z size from at.z below.z (ap (λ (axis : Axis). extent_at axis from) of_z) in (
       from,
       record {
         inside = record {
@@ -152,9 +164,12 @@ by_axes Z X Y r size at of_x of_y of_z ab ac bc below =
       y = back_to r.z size at.z;
       z = back_to r.x size at.x;
     } in
-    let by_x = row_back r.x size from at.x below.x (ap (λ (axis : Axis). extent_at axis from) of_x) in
-    let by_y = row_back r.y size from at.y below.y (ap (λ (axis : Axis). extent_at axis from) of_y) in
-    let by_z = row_back r.z size from at.z below.z (ap (λ (axis : Axis). extent_at axis from) of_z) in (
+    let by_x =
+    row_back r.x size from at.x below.x (ap (λ (axis : Axis). extent_at axis from) of_x) in
+    let by_y =
+    row_back r.y size from at.y below.y (ap (λ (axis : Axis). extent_at axis from) of_y) in
+    let by_z =
+    row_back r.z size from at.z below.z (ap (λ (axis : Axis). extent_at axis from) of_z) in (
       from,
       record {
         inside = record {
@@ -174,9 +189,12 @@ by_axes Z Y X r size at of_x of_y of_z ab ac bc below =
       y = back_to r.y size at.y;
       z = back_to r.x size at.x;
     } in
-    let by_x = row_back r.x size from at.x below.x (ap (λ (axis : Axis). extent_at axis from) of_x) in
-    let by_y = row_back r.y size from at.y below.y (ap (λ (axis : Axis). extent_at axis from) of_y) in
-    let by_z = row_back r.z size from at.z below.z (ap (λ (axis : Axis). extent_at axis from) of_z) in (
+    let by_x =
+    row_back r.x size from at.x below.x (ap (λ (axis : Axis). extent_at axis from) of_x) in
+    let by_y =
+    row_back r.y size from at.y below.y (ap (λ (axis : Axis). extent_at axis from) of_y) in
+    let by_z =
+    row_back r.z size from at.z below.z (ap (λ (axis : Axis). extent_at axis from) of_z) in (
       from,
       record {
         inside = record {

@@ -129,8 +129,10 @@ stamps_tell least all i [] (m ∷ models) places before p are sound turned place
 stamps_tell least all i (s ∷ stands) [] places before p are sound turned placed is = absurd turned
 stamps_tell least all i (s ∷ stands) (m ∷ models) [] before p are sound turned placed is =
     absurd placed
-stamps_tell least all i (s ∷ stands) (m ∷ models) (at ∷ places) before p are sound turned placed is =
-    next (stamps_tell least all (i + 1) stands models places (λ q. at_number all i at q || before q) p
+stamps_tell least all i (s ∷ stands) (m ∷ models)
+    (at ∷ places) before p are sound turned placed is =
+    next (stamps_tell least all (i + 1) stands models places
+    (λ q. at_number all i at q || before q) p
     (later all i m models are) (All-tail IsSound s stands sound) turned.1 placed.1 is)
   where
     here : (at_number all i at p ≡ true) ⊎ (before p ≡ true)

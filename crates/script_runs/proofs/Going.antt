@@ -56,7 +56,8 @@ goes_to log Undo to other e =
 goes_to log Redo to other e =
     let at = position_after log.records in
     let first : first_of at.future ≡ Some to = sym (redo_target log.records) ∙ e in
-    let lt = first_below at.future to (length log.records + 1) first (names_below log.records).future
+    let lt =
+    first_below at.future to (length log.records + 1) first (names_below log.records).future
     in
     record {
       there = omega arith;

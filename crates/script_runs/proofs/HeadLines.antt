@@ -18,8 +18,15 @@ empty_log side = record { side = side; coloured = false; records = []; marks = [
 abbrev nothing : MadeAndMet
 nothing = record { made = []; met = [] }
 
-pub head_goes_on : (p : Layout) (session : ℕ) (l : ScriptLine) → l.command ≡ commands.Head → GoesOnWith p [] session l (record { side = p.side; coloured = false; records = []; marks = [] }) (record { side = p.side; coloured = false; records = []; marks = [] }) (record { made = []; met = [] }) (record { made = []; met = [] }) (record { line = l.line; at = 0; answer = answers.Head })
+pub head_goes_on : (p : Layout) (session : ℕ) (l : ScriptLine) → l.command ≡ commands.Head
+    → GoesOnWith p [] session l
+    (record { side = p.side; coloured = false; records = []; marks = [] })
+    (record { side = p.side; coloured = false; records = []; marks = [] })
+    (record { made = []; met = [] }) (record { made = []; met = [] })
+    (record { line = l.line; at = 0; answer = answers.Head })
 head_goes_on p session l is scripts transcripts script transcript r number after =
-    resting_arm p [] session (last_moment 0 transcript) l (empty_log p.side) answers.Head nothing r.so_far.legal refl
+    resting_arm p [] session (last_moment 0 transcript) l
+    (empty_log p.side) answers.Head nothing r.so_far.legal refl
     (subst (λ (c : Command). refused_by c 0 answers.Head ≡ []) (sym is) refl)
-    (subst (λ (c : Command). Answers p [] (empty_log p.side) (IsStanding [] session l.line 0) session l.line 0 c answers.Head) (sym is) head)
+    (subst (λ (c : Command). Answers p [] (empty_log p.side)
+    (IsStanding [] session l.line 0) session l.line 0 c answers.Head) (sym is) head)

@@ -26,7 +26,8 @@ one_part (Tint t) plain = absurd (let no : ⊥ = cc in no)
 one_part Undo plain = refl
 one_part Redo plain = refl
 
-pub made_at_once : (side : ℕ) (models : List Content) (act : Act) (w : World) → suits_tints false act ≡ true
+pub made_at_once : (side : ℕ) (models : List Content) (act : Act) (w : World)
+    → suits_tints false act ≡ true
     → made_by_parts side models act 1 w ≡ edited models act w
 made_at_once side models (Fill b) w plain = refl
 made_at_once side models (Erase b) w plain = refl
@@ -38,7 +39,8 @@ made_at_once side models (Tint t) w plain = absurd (let no : ⊥ = cc in no)
 made_at_once side models Undo w plain = refl
 made_at_once side models Redo w plain = refl
 
-module _ (p : Layout) (models : List Content) (records : List Record) (act : Act) (version : ℕ) (target : Shape)
+module _ (p : Layout) (models : List Content) (records : List Record) (act : Act) (version : ℕ)
+    (target : Shape)
     (of : IsPlainTarget p models records act version target) where
   pub plain_target_wanted : (s : Shape) → IsPart s target → IsWanted p models records act version s
   plain_target_wanted s part =
@@ -52,18 +54,23 @@ module _ (p : Layout) (models : List Content) (records : List Record) (act : Act
         part = record {
           all = target;
           canonical = of.canonical;
-          shows = subst (λ (w : World). ShowsCells (world_block p.side) target w) (sym (made_at_once (2 ^ p.side) models act before of.plain)) of.shows;
+          shows = subst (λ (w : World). ShowsCells (world_block p.side) target w)
+              (sym (made_at_once (2 ^ p.side) models act before of.plain)) of.shows;
           part = part;
         };
       }
 
   -- what was made for it
-  pub plain_growth_wanted : (old new : List Shape) → Grew (λ s. IsPart s target) old new → Grew (IsWanted p models records act version) old new
+  pub plain_growth_wanted : (old new : List Shape) → Grew (λ s. IsPart s target) old new
+      → Grew (IsWanted p models records act version) old new
   plain_growth_wanted old _ unchanged = unchanged
-  plain_growth_wanted old _ (one {a} {new = before} part rest) = one (plain_target_wanted a part) (plain_growth_wanted old before rest)
+  plain_growth_wanted old _ (one {a} {new = before} part rest) = one (plain_target_wanted a part)
+      (plain_growth_wanted old before rest)
 
   -- and what of it met a full bucket
-  pub plain_failure_meets_full : (level bucket : ℕ) (old new : Seen) → Fails target level bucket old new → MeetsFull (IsWanted p models records act version) level bucket old new
+  pub plain_failure_meets_full : (level bucket : ℕ) (old new : Seen)
+      → Fails target level bucket old new
+      → MeetsFull (IsWanted p models records act version) level bucket old new
   plain_failure_meets_full level bucket old new fails = record {
     plan = fails.plan;
     made = plain_growth_wanted old.made new.made fails.made;

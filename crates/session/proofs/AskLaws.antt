@@ -95,7 +95,8 @@ tints_told more held n side root question answer told same is =
 -- what is told of a root is told of the world that the cells keep which it shows
 pub kept_told : (tint : Bool) (held : List Tree) (side : ℕ) (root : Option Name) (cells : World)
     (question : Question) (answer : Answer) → ShowsWorld held (side - 2) root cells
-    → TellsHeld tint held side root question answer → TellsKept tint (2 ^ side) cells question answer
+    → TellsHeld tint held side root question answer
+    → TellsKept tint (2 ^ side) cells question answer
 kept_told false held side root cells question answer shows told =
     told cells (plainly_tinted cells) shows (λ c inside. refl)
 kept_told true held side root cells question answer shows told =
@@ -106,7 +107,8 @@ asked_as None n = refl
 asked_as (Some version) n = refl
 
 -- why nothing is told
-pub refused : (asked : Option ℕ) (v w : SeatView) (e : PinRefused) → LooksOn v w → RefusesPin asked e w
+pub refused : (asked : Option ℕ) (v w : SeatView) (e : PinRefused) → LooksOn v w
+    → RefusesPin asked e w
     → PinIsRefused asked (session_seen v) (session_seen w) e
 refused None v w (NoVersion at) looks is = absurd (let l = is.1 in omega arith)
 refused (Some u) v w (NoVersion at) looks is =
@@ -144,8 +146,10 @@ module _ (t : WorldSeen) (number : ℕ) (asked : Option ℕ) (question : Questio
   tells_version : TellsKept t.tint (2 ^ t.table.plan.side) (seen_has w.view p.version) question
       answer
   tells_version =
-      kept_told t.tint w.view.held t.table.plan.side p.root (seen_has w.view p.version) question answer
-      (subst (λ (n : ℕ). ShowsWorld w.view.held (n - 2) p.root (seen_has w.view p.version)) plan_side
+      kept_told t.tint w.view.held t.table.plan.side p.root
+      (seen_has w.view p.version) question answer
+      (subst (λ (n : ℕ). ShowsWorld w.view.held (n - 2) p.root
+      (seen_has w.view p.version)) plan_side
       (shows_world w.view p.root (seen_has w.view p.version) is.pinned.root))
       (subst (λ (x : Option Name). TellsHeld t.tint w.view.held t.table.plan.side x question answer)
       same tells)
@@ -159,7 +163,8 @@ module _ (t : WorldSeen) (number : ℕ) (asked : Option ℕ) (question : Questio
   cells_by side models =
       stored_in (2 ^ side) models w.view.log.seen.records (asked_version asked p.moment)
 
-  asked_here : WasAsked (of_world t number) asked question (session_seen v.view) (session_seen w.view)
+  asked_here : WasAsked (of_world t number) asked question (session_seen v.view)
+      (session_seen w.view)
       (record { at = p.moment; answer = answer })
   asked_here = record {
     at_is = is.moment;
@@ -185,13 +190,15 @@ module _ (t : WorldSeen) (number : ℕ) (asked : Option ℕ) (question : Questio
       → WasAsked (of_world t number) asked question (session_seen v.view) (session_seen z.view)
       (record { at = p.moment; answer = answer })
   asked_told x z read seen back only =
-      subst (λ (s : SessionSeen). WasAsked (of_world t number) asked question (session_seen v.view) s
+      subst (λ (s : SessionSeen). WasAsked (of_world t number) asked question
+      (session_seen v.view) s
       (record { at = p.moment; answer = answer }))
       (sym (same_seen w.view z.view (back.log ∙ read.log)
       (only.made ∙ ap (λ (s : Seen). s.made) seen) (only.met ∙ ap (λ (s : Seen). s.met) seen)))
       asked_here
 
-  pub knows_asked : (x z : PassSeen) → StaysLendable t.table w x → StaysLendable t.table x z → ViewTells z.view
+  pub knows_asked : (x z : PassSeen) → StaysLendable t.table w x → StaysLendable t.table x z
+      → ViewTells z.view
       → KnowsItself z.view
   knows_asked x z read back view_tells =
       knows_itself z.view view_tells

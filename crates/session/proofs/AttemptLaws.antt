@@ -79,7 +79,8 @@ refused_as base root e d x same h =
     subst (λ (y : CommitRefused). RefusesCommit base root y x) same h
 
 module _ (t : WorldSeen) (line : ℕ) (act : Act) (tint : Bool) (models : List Content)
-    (base : Pinned) (v w : PassSeen) (maker : IsMaker t.table tint models act) (head : HasPinnedHead v.view base)
+    (base : Pinned) (v w : PassSeen) (maker : IsMaker t.table tint models act)
+    (head : HasPinnedHead v.view base)
     (stays : StaysLendable t.table v w) where
   pub full_comes : (full : Full) → FailsToMake t.table act full v.view w.view
       → SameHeld v.view.held w.view.held
@@ -138,7 +139,8 @@ module _ (t : WorldSeen) (line : ℕ) (act : Act) (tint : Bool) (models : List C
         → IsLate t.table act base (record { at = now; root = back }) v.view x
     stale_comes x now back looks kept refused =
         record {
-          works = works_on t.table act v.view w.view x makes.works (looks_work t.table act w.view x looks);
+          works = works_on t.table act v.view w.view x makes.works
+              (looks_work t.table act w.view x looks);
           gains = subst (λ (r : Option Name). GetsRoot v.view.held r x.held) (sym refused.0)
               (subst (λ (ts : List Tree). GetsRoot v.view.held root ts) (sym kept) makes.gains);
           at_is = refused.1;

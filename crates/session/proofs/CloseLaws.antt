@@ -40,17 +40,22 @@ all_there P xs each = All-weaker (Contains xs) P each xs (All-contains_itself xs
 
 all_mapped : {X : Type 0} (P : X → Type 0) (f : PassSeen → X) (passes : List PassSeen)
     → ((k : ℕ) (s : PassSeen) → slice_get passes k ≡ Some s → P (f s)) → All P (map f passes)
-all_mapped P f passes each = All-map P f passes (λ k d lt. each k (get_or passes k d) (get_there passes k d lt))
+all_mapped P f passes each =
+    All-map P f passes (λ k d lt. each k (get_or passes k d) (get_there passes k d lt))
 
-records_same : (passes : List PassSeen) → records_of_all (sessions_seen passes) ≡ closing.all_records (views_of passes)
+records_same : (passes : List PassSeen)
+    → records_of_all (sessions_seen passes) ≡ closing.all_records (views_of passes)
 records_same [] = refl
-records_same (s ∷ passes) = ap (λ (rs : List Accepted). s.view.log.records ++ rs) (records_same passes)
+records_same (s ∷ passes) =
+    ap (λ (rs : List Accepted). s.view.log.records ++ rs) (records_same passes)
 
-marks_same : (passes : List PassSeen) → marks_of_all (sessions_seen passes) ≡ closing.all_marks (views_of passes)
+marks_same : (passes : List PassSeen)
+    → marks_of_all (sessions_seen passes) ≡ closing.all_marks (views_of passes)
 marks_same [] = refl
 marks_same (s ∷ passes) = ap (λ (ms : List Mark). s.view.log.marks ++ ms) (marks_same passes)
 
-made_same : (passes : List PassSeen) → made_of_all (sessions_seen passes) ≡ knowing.all_made (views_of passes)
+made_same : (passes : List PassSeen)
+    → made_of_all (sessions_seen passes) ≡ knowing.all_made (views_of passes)
 made_same [] = refl
 made_same (s ∷ passes) = ap (λ (ss : List Shape). s.view.made ++ ss) (made_same passes)
 
@@ -59,12 +64,14 @@ unfolding numbered_from
 numbered_same n [] = refl
 numbered_same n (r ∷ more) =
     ap (λ (rs : List Accepted). record { at = n; entry = r } ∷ rs)
-    (numbered_same (suc n) more ∙ ap (λ (k : ℕ). numbered k more) (let e : suc n ≡ n + 1 = omega arith in e))
+    (numbered_same (suc n) more
+    ∙ ap (λ (k : ℕ). numbered k more) (let e : suc n ≡ n + 1 = omega arith in e))
 
 -- ---- what met full buckets
 
 met_of : (P : Wanted → Type 0) (passes : List PassSeen)
-    → ((k : ℕ) (s : PassSeen) → slice_get passes k ≡ Some s → (m : Wanted) → Contains s.view.met m → P m)
+    → ((k : ℕ) (s : PassSeen) → slice_get passes k ≡ Some s → (m : Wanted) → Contains s.view.met m
+    → P m)
     → All P (met_of_all (sessions_seen passes))
 met_of P [] each = All-nil P
 met_of P (s ∷ passes) each =
@@ -155,7 +162,8 @@ ends_as coloured t closed ends =
 
 module _ (tint : Bool) (w : TableSeen) (may : MayTint tint w.plan w.models)
     (passes : List PassSeen) (closed : Closed) (rest : All (IsAtRest w) passes)
-    (ends : EndsTable w closed) (tells : TellsAll closed.history passes) (had : HadEnough w.plan passes) where
+    (ends : EndsTable w closed) (tells : TellsAll closed.history passes)
+    (had : HadEnough w.plan passes) where
   -- the history that the world leaves
   abbrev history : Log
   history = (coloured_as tint closed).history
@@ -163,9 +171,11 @@ module _ (tint : Bool) (w : TableSeen) (may : MayTint tint w.plan w.models)
   legal : IsLegal (2 ^ w.plan.side) w.models history
   legal =
       let e = ends_as tint w closed ends in
-      subst (λ (log : Log). IsLegal (2 ^ w.plan.side) w.models log) (sym e.history) e.sound.versions.legal
+      subst (λ (log : Log). IsLegal (2 ^ w.plan.side) w.models log)
+      (sym e.history) e.sound.versions.legal
 
-  goes_on_to : (k : ℕ) (d : PassSeen) → k < length passes → GoesOn (log_as tint (log_seen (get_or passes k d).view.log)) history
+  goes_on_to : (k : ℕ) (d : PassSeen) → k < length passes
+      → GoesOn (log_as tint (log_seen (get_or passes k d).view.log)) history
   goes_on_to k d lt =
       let s = get_or passes k d in
       let b = tells.seen k s (get_there passes k d lt) in
@@ -180,16 +190,20 @@ module _ (tint : Bool) (w : TableSeen) (may : MayTint tint w.plan w.models)
   was_found : (f : Found) → WasFound closed.history f → StillFound history f
   was_found f was = record { there = was.at; still = was.held }
 
-  found_of : (k : ℕ) (s : PassSeen) → slice_get passes k ≡ Some s → All (StillFound history) s.view.log.found
-  found_of k s is = all_there (StillFound history) s.view.log.found (λ f there. was_found f (tells.found k s is f there))
+  found_of : (k : ℕ) (s : PassSeen) → slice_get passes k ≡ Some s
+      → All (StillFound history) s.view.log.found
+  found_of k s is = all_there (StillFound history) s.view.log.found
+      (λ f there. was_found f (tells.found k s is f there))
 
   pub closes_world : ClosesWorld tint w.plan w.models (sessions_seen passes) history
   closes_world = record {
     legal = legal;
     may = may;
     coloured = refl;
-    seen = All-map (λ (s : SessionSeen). GoesOn (log_as tint s.log) history) (λ (s : PassSeen). session_seen s.view) passes goes_on_to;
-    found = all_mapped (λ (s : SessionSeen). All (StillFound history) s.found) (λ (s : PassSeen). session_seen s.view) passes found_of;
+    seen = All-map (λ (s : SessionSeen). GoesOn (log_as tint s.log) history)
+        (λ (s : PassSeen). session_seen s.view) passes goes_on_to;
+    found = all_mapped (λ (s : SessionSeen). All (StillFound history) s.found)
+        (λ (s : PassSeen). session_seen s.view) passes found_of;
     records = record {
       weighs = λ f.
           ap (sum_by f) (sym (numbered_same 1 closed.history.records)) ∙ sym (tells.records f)
@@ -198,6 +212,9 @@ module _ (tint : Bool) (w : TableSeen) (may : MayTint tint w.plan w.models)
     marks = record {
       weighs = λ f. sym (tells.marks f) ∙ ap (sum_by f) (sym (marks_same passes));
     };
-    enough = met_of (λ (m : Wanted). HasEnough w.plan (made_of_all (sessions_seen passes)) m.level m.bucket) passes
-        (λ k s is m there. subst (λ (ss : List Shape). HasEnough w.plan ss m.level m.bucket) (sym (made_same passes)) (had.each k s is m there));
+    enough = met_of
+        (λ (m : Wanted). HasEnough w.plan
+        (made_of_all (sessions_seen passes)) m.level m.bucket) passes
+        (λ k s is m there. subst (λ (ss : List Shape). HasEnough w.plan ss m.level m.bucket)
+        (sym (made_same passes)) (had.each k s is m there));
   }

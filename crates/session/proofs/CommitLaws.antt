@@ -97,7 +97,8 @@ head_root v p root same h =
     (subst (λ (n : ℕ). HoldsRootOf v p.root (seen_has v n)) (h.head ∙ h.now) h.pinned.root)
 
 -- a root of a version stays one while nothing is seen
-pub holds_stays : (v w : SeatView) (root : Option Name) (n : ℕ) → w.plan ≡ v.plan → w.models ≡ v.models
+pub holds_stays : (v w : SeatView) (root : Option Name) (n : ℕ) → w.plan ≡ v.plan
+    → w.models ≡ v.models
     → w.log ≡ v.log → (h : HoldsRootOf v root (seen_has v n)) → MayHold w.held h.tree
     → HoldsRootOf w root (seen_has w n)
 holds_stays v w root n plan models log h held =

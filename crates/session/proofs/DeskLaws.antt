@@ -37,7 +37,8 @@ use Rattle.session_runs.specs.Seen.{SessionOf, SessionSeen}
 use Rattle.session_runs.specs.Told.{ActTold, AskTold, ForgetTold, HeadTold, OnceTold, PinIsRefused, SameTold, SaveTold}
 
 module _ (of : SessionOf) (old new : SessionSeen) where
-  pub act_sees : (line : ℕ) (act : Act) (answer : ActAnswer) → ActTold of line act old new answer → FollowsHistory old new
+  pub act_sees : (line : ℕ) (act : Act) (answer : ActAnswer) → ActTold of line act old new answer
+      → FollowsHistory old new
   act_sees line act (acts.Done n) told = told.appends.sees
   act_sees line act (acts.Full at full) told = told.nothing.sees
   act_sees line act acts.LogFull told = told.nothing.sees
@@ -45,31 +46,37 @@ module _ (of : SessionOf) (old new : SessionSeen) where
   act_sees line act (acts.NothingToRedo at) told = told.nothing.sees
   act_sees line act (acts.Forgotten at mark) told = told.nothing.sees
 
-  pub once_sees : (line : ℕ) (act : Act) (answer : OnceAnswer) → OnceTold of line act old new answer → FollowsHistory old new
+  pub once_sees : (line : ℕ) (act : Act) (answer : OnceAnswer) → OnceTold of line act old new answer
+      → FollowsHistory old new
   once_sees line act (onces.Done n) told = told.appends.sees
   once_sees line act (onces.Full at full) told = told.nothing.sees
   once_sees line act onces.LogFull told = told.nothing.sees
   once_sees line act (onces.Stale at base) told = told.nothing.sees
 
-  refused_sees : (version : Option ℕ) (refused : PinRefused) → PinIsRefused version old new refused → FollowsHistory old new
+  refused_sees : (version : Option ℕ) (refused : PinRefused) → PinIsRefused version old new refused
+      → FollowsHistory old new
   refused_sees version (pins.NoVersion at) told = told.only.nothing.sees
   refused_sees version (pins.Forgotten at mark) told = told.only.nothing.sees
 
-  pub ask_sees : (version : Option ℕ) (question : Question) (answer : Result AskedAt PinRefused) → AskTold of version question old new answer → FollowsHistory old new
+  pub ask_sees : (version : Option ℕ) (question : Question) (answer : Result AskedAt PinRefused)
+      → AskTold of version question old new answer → FollowsHistory old new
   ask_sees version question (Ok a) told = told.only.nothing.sees
   ask_sees version question (Err refused) told = refused_sees version refused told
 
-  pub save_sees : (version : Option ℕ) (part : Boxed) (answer : Result SavedAt PinRefused) → SaveTold of version part old new answer → FollowsHistory old new
+  pub save_sees : (version : Option ℕ) (part : Boxed) (answer : Result SavedAt PinRefused)
+      → SaveTold of version part old new answer → FollowsHistory old new
   save_sees version part (Ok a) told = told.only.nothing.sees
   save_sees version part (Err refused) told = refused_sees version refused told
 
-  pub forget_sees : (line version : ℕ) (answer : Result ℕ ForgetRefused) → ForgetTold of line version old new answer → FollowsHistory old new
+  pub forget_sees : (line version : ℕ) (answer : Result ℕ ForgetRefused)
+      → ForgetTold of line version old new answer → FollowsHistory old new
   forget_sees line version (Ok at) told = told.forgets.sees
   forget_sees line version (Err (forgets.NoVersion at)) told = told.only.nothing.sees
   forget_sees line version (Err (forgets.IsHead at)) told = told.only.nothing.sees
   forget_sees line version (Err (forgets.Forgotten at mark)) told = told.only.nothing.sees
 
-  pub same_sees : (v w : ℕ) (answer : Result SameAt SameRefused) → SameTold of v w old new answer → FollowsHistory old new
+  pub same_sees : (v w : ℕ) (answer : Result SameAt SameRefused) → SameTold of v w old new answer
+      → FollowsHistory old new
   same_sees v w (Ok a) told = told.only.nothing.sees
   same_sees v w (Err (sames.NoVersion at version)) told = told.only.nothing.sees
   same_sees v w (Err (sames.Forgotten at mark)) told = told.only.nothing.sees
@@ -79,7 +86,8 @@ module _ (of : SessionOf) (old new : SessionSeen) where
 
 -- ---- what holds of the desk between two lines
 
-module _ (w : TableSeen) (number most : ℕ) (s : PassSeen) (saves : List Pinned) (capacity : ℕ) (d : DeskStands w number most s saves capacity) where
+module _ (w : TableSeen) (number most : ℕ) (s : PassSeen) (saves : List Pinned) (capacity : ℕ)
+    (d : DeskStands w number most s saves capacity) where
   -- there is room for the shares of one call
   pub few_shares : number_of_trees s.view.held ≤ 3900
   few_shares =
@@ -91,23 +99,28 @@ module _ (w : TableSeen) (number most : ℕ) (s : PassSeen) (saves : List Pinned
   same_number : (z : PassSeen) → SamePass s z → z.view.numbers ≡ number ∷ []
   same_number z same = same.session.numbers ∙ d.mine
 
-  pub desk_goes_on : (z : PassSeen) → IsAtRest w z → SamePass s z → SameHeld s.view.held z.view.held → FollowsHistory (session_seen s.view) (session_seen z.view)
+  pub desk_goes_on : (z : PassSeen) → IsAtRest w z → SamePass s z → SameHeld s.view.held z.view.held
+      → FollowsHistory (session_seen s.view) (session_seen z.view)
       → DeskStands w number most z saves capacity
   desk_goes_on z rest same held sees = record {
     rest = rest;
     mine = same_number z same;
-    holds = still_held w (session_seen s.view) (session_seen z.view) s.view.held z.view.held saves d.holds held sees;
+    holds = still_held w (session_seen s.view)
+        (session_seen z.view) s.view.held z.view.held saves d.holds held sees;
     few = d.few;
     fewer = d.fewer;
     room = d.room;
   }
 
-  pub desk_saves : (z : PassSeen) (p : Pinned) (more : List Pinned) → 1 ≤ most - length saves → IsAtRest w z → SamePass s z → AddsPin w (session_seen z.view) s.view.held z.view.held p
-      → FollowsHistory (session_seen s.view) (session_seen z.view) → more ≡ saves ++ p ∷ [] → (wide : ℕ) → wide ≡ capacity → DeskStands w number most z more wide
+  pub desk_saves : (z : PassSeen) (p : Pinned) (more : List Pinned) → 1 ≤ most - length saves
+      → IsAtRest w z → SamePass s z → AddsPin w (session_seen z.view) s.view.held z.view.held p
+      → FollowsHistory (session_seen s.view) (session_seen z.view) → more ≡ saves ++ p ∷ []
+      → (wide : ℕ) → wide ≡ capacity → DeskStands w number most z more wide
   desk_saves z p more room rest same adds sees is wide as_wide = record {
     rest = rest;
     mine = same_number z same;
-    holds = one_more w (session_seen s.view) (session_seen z.view) s.view.held z.view.held saves more p d.holds sees adds is;
+    holds = one_more w (session_seen s.view)
+        (session_seen z.view) s.view.held z.view.held saves more p d.holds sees adds is;
     few = (let long = ap length is in let one = length-append saves (p ∷ []) in omega arith);
     fewer = d.fewer;
     room = (let all = d.room in omega arith);
@@ -118,7 +131,9 @@ same_if old new e = record { weighs = λ f. ap (weigh f) e }
 
 -- ---- a session that begins, and what it saves
 
-pub desk_begins : (w : TableSeen) (number most : ℕ) (s : PassSeen) (saves : List Pinned) (capacity : ℕ) → IsAtRest w s → s.view.numbers ≡ number ∷ [] → s.view.held ≡ [] → saves ≡ [] → most ≤ 3900 → most ≤ capacity
+pub desk_begins : (w : TableSeen) (number most : ℕ) (s : PassSeen) (saves : List Pinned)
+    (capacity : ℕ) → IsAtRest w s → s.view.numbers ≡ number ∷ [] → s.view.held ≡ [] → saves ≡ []
+    → most ≤ 3900 → most ≤ capacity
     → DeskStands w number most s saves capacity
 desk_begins w number most s saves capacity rest mine held none fewer room = record {
   rest = rest;
@@ -129,7 +144,8 @@ desk_begins w number most s saves capacity rest mine held none fewer room = reco
   room = room;
 }
 
-pub pins_more : (saves more : List Pinned) (p : Pinned) (version : Option ℕ) (a : SavedAt) → more ≡ saves ++ p ∷ [] → p.version ≡ asked_version version a.at
+pub pins_more : (saves more : List Pinned) (p : Pinned) (version : Option ℕ) (a : SavedAt)
+    → more ≡ saves ++ p ∷ [] → p.version ≡ asked_version version a.at
     → pinned_versions more ≡ pinned_versions saves ++ version_saved version (Ok a)
 pins_more saves more p version a is asked =
     ap pinned_versions is ∙ map_push (λ (q : Pinned). q.version) saves p
@@ -140,25 +156,42 @@ pub one_number : (ns : List ℕ) (m n : ℕ) → ns ≡ m ∷ [] → ns ≡ n �
 one_number ns m n first second = cc
 
 -- what the lines made of the session, as the lender of session and list sees it
-pub script_ran : (w : WorldSeen) (mine : ℕ) (script lines : List ScriptLine) (before after : List LineAnswer) (old : PassSeen) (new last : SessionSeen) (were are saved : List Pinned) → lines ≡ script → were ≡ [] → last ≡ new → saved ≡ are
-    → old.view.numbers ≡ mine ∷ [] → RunsScript (of_world w mine) lines before after (session_seen old.view) new (pinned_versions were) (pinned_versions are)
-    → (number : ℕ) → old.view.numbers ≡ number ∷ [] → RunsScript (of_world w number) script before after (session_seen old.view) last [] (pinned_versions saved)
+pub script_ran : (w : WorldSeen) (mine : ℕ) (script lines : List ScriptLine)
+    (before after : List LineAnswer) (old : PassSeen) (new last : SessionSeen)
+    (were are saved : List Pinned) → lines ≡ script → were ≡ [] → last ≡ new → saved ≡ are
+    → old.view.numbers ≡ mine ∷ []
+    → RunsScript (of_world w mine) lines before after (session_seen old.view) new
+    (pinned_versions were) (pinned_versions are)
+    → (number : ℕ) → old.view.numbers ≡ number ∷ []
+    → RunsScript (of_world w number) script before after (session_seen old.view) last []
+    (pinned_versions saved)
 script_ran w mine script lines before after old new last were are saved of none session list one ran number other =
-    subst (λ (n : ℕ). RunsScript (of_world w n) script before after (session_seen old.view) last [] (pinned_versions saved)) (one_number old.view.numbers mine number one other)
-    (subst (λ (ls : List ScriptLine). RunsScript (of_world w mine) ls before after (session_seen old.view) last [] (pinned_versions saved)) of
-    (subst (λ (ps : List Pinned). RunsScript (of_world w mine) lines before after (session_seen old.view) last (pinned_versions ps) (pinned_versions saved)) none
-    (subst (λ (ps : List Pinned). RunsScript (of_world w mine) lines before after (session_seen old.view) last (pinned_versions were) (pinned_versions ps)) (sym list)
-    (subst (λ (z : SessionSeen). RunsScript (of_world w mine) lines before after (session_seen old.view) z (pinned_versions were) (pinned_versions are)) (sym session) ran))))
+    subst (λ (n : ℕ). RunsScript (of_world w n) script before after (session_seen old.view) last []
+    (pinned_versions saved)) (one_number old.view.numbers mine number one other)
+    (subst (λ (ls : List ScriptLine). RunsScript (of_world w mine) ls before after
+    (session_seen old.view) last [] (pinned_versions saved)) of
+    (subst (λ (ps : List Pinned). RunsScript (of_world w mine) lines before after
+    (session_seen old.view) last (pinned_versions ps) (pinned_versions saved)) none
+    (subst (λ (ps : List Pinned). RunsScript (of_world w mine) lines before after
+    (session_seen old.view) last (pinned_versions were) (pinned_versions ps)) (sym list)
+    (subst (λ (z : SessionSeen). RunsScript (of_world w mine) lines before after
+    (session_seen old.view) z (pinned_versions were) (pinned_versions are))
+    (sym session) ran))))
 
-pub script_holds : (w x : TableSeen) (new last : SessionSeen) (are_held held : List Tree) (are saved : List Pinned) → x ≡ w → last ≡ new → held ≡ are_held → saved ≡ are → HoldsSaves x new are_held are → HoldsSaves w last held saved
+pub script_holds : (w x : TableSeen) (new last : SessionSeen) (are_held held : List Tree)
+    (are saved : List Pinned) → x ≡ w → last ≡ new → held ≡ are_held → saved ≡ are
+    → HoldsSaves x new are_held are → HoldsSaves w last held saved
 script_holds w x new last are_held held are saved world session trees list holds =
     subst (λ (t : TableSeen). HoldsSaves t last held saved) world
     (subst (λ (ps : List Pinned). HoldsSaves x last held ps) (sym list)
     (subst (λ (ts : List Tree). HoldsSaves x last ts are) (sym trees)
     (subst (λ (z : SessionSeen). HoldsSaves x z are_held are) (sym session) holds)))
 
-pub script_rests : (w x : TableSeen) (new last : PassSeen) → x ≡ w → last ≡ new → IsAtRest x new → IsAtRest w last
-script_rests w x new last world session rest = subst (λ (t : TableSeen). IsAtRest t last) world (subst (λ (z : PassSeen). IsAtRest x z) (sym session) rest)
+pub script_rests : (w x : TableSeen) (new last : PassSeen) → x ≡ w → last ≡ new → IsAtRest x new
+    → IsAtRest w last
+script_rests w x new last world session rest =
+    subst (λ (t : TableSeen). IsAtRest t last) world
+    (subst (λ (z : PassSeen). IsAtRest x z) (sym session) rest)
 
 pub script_same : (old new last : PassSeen) → last ≡ new → SamePass old new → SamePass old last
 script_same old new last session same = subst (λ (z : PassSeen). SamePass old z) (sym session) same

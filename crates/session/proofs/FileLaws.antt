@@ -14,12 +14,15 @@ use Rattle.extract.specs.Listing.{voxels_joined, voxel_if, box_row, box_layer, v
 
 abbrev pub SameIn : Boxed → (Cell → Bool) → (Cell → Bool) → Type 0
 SameIn b f g = (x y z : ℕ) → x < b.size.x → y < b.size.y → z < b.size.z
-    → f (cell_at (b.at.x + x) (b.at.y + y) (b.at.z + z)) ≡ g (cell_at (b.at.x + x) (b.at.y + y) (b.at.z + z))
+    → f (cell_at (b.at.x + x) (b.at.y + y) (b.at.z + z)) ≡ g
+    (cell_at (b.at.x + x) (b.at.y + y) (b.at.z + z))
 
-joined-same : (n : ℕ) (f g : ℕ → List Voxel) → ((i : ℕ) → i < n → f i ≡ g i) → voxels_joined n f ≡ voxels_joined n g
+joined-same : (n : ℕ) (f g : ℕ → List Voxel) → ((i : ℕ) → i < n → f i ≡ g i)
+    → voxels_joined n f ≡ voxels_joined n g
 unfolding voxels_joined
 joined-same zero f g same = refl
-joined-same (suc n) f g same = rw (joined-same n f g (λ i lt. same i (omega arith)), same n (omega arith)) refl
+joined-same (suc n) f g same =
+    rw (joined-same n f g (λ i lt. same i (omega arith)), same n (omega arith)) refl
 
 pub same_voxels : (b : Boxed) (f g : Cell → Bool) → SameIn b f g
     → voxels_of_box b f ≡ voxels_of_box b g
@@ -33,7 +36,8 @@ world_within : (side : ℕ) → 2 ^ side ≤ block_side (side - 2)
 world_within zero = omega arith
 world_within (suc zero) = omega arith
 world_within (suc (suc n)) =
-    let same : 2 ^ (suc (suc n)) ≡ block_side n = root_side n (suc (suc n)) (omega arith) (omega arith) in
+    let same : 2 ^ (suc (suc n)) ≡ block_side n =
+    root_side n (suc (suc n)) (omega arith) (omega arith) in
     let level : suc (suc n) - 2 ≡ n = omega arith in
     let sides : block_side (suc (suc n) - 2) ≡ block_side n = ap block_side level in
     omega (arith, same, sides)
@@ -42,7 +46,8 @@ from_origin : (x : ℕ) → x - 0 ≡ x
 from_origin x = omega arith
 
 -- a shape has the cells of the world that it shows
-pub shown_at : (side : ℕ) (s : Shape) (w : World) → ShowsCells (world_block side) s w → (c : Cell) → IsInWorld (2 ^ side) c
+pub shown_at : (side : ℕ) (s : Shape) (w : World) → ShowsCells (world_block side) s w → (c : Cell)
+    → IsInWorld (2 ^ side) c
     → cells_of (side - 2) s c ≡ w c
 shown_at side s w shows c i =
     let wide = world_within side in
@@ -53,4 +58,5 @@ shown_at side s w shows c i =
       z = (omega arith, omega (arith, wide, i.z));
     }
     in
-    (λ t. has (side - 2) s (sym (from_origin c.x) t) (sym (from_origin c.y) t) (sym (from_origin c.z) t)) ∙ shows.each c there
+    (λ t. has (side - 2) s (sym (from_origin c.x) t) (sym (from_origin c.y) t)
+    (sym (from_origin c.z) t)) ∙ shows.each c there

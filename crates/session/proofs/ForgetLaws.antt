@@ -49,7 +49,8 @@ own_mark v version at line number m one own =
     ∙ ap (λ (x : ℕ). made_mark version at number x) own.line_is
 
 -- what came with the mark goes back, and the same trees are held
-comes_held : (v w : SeatView) (version line : ℕ) (f : Forgot) (is : ForgetsVersion v version line f w)
+comes_held : (v w : SeatView) (version line : ℕ) (f : Forgot)
+    (is : ForgetsVersion v version line f w)
     → MayHold w.held is.tree
 comes_held v w version line f is = record {
   weighs = λ g. (let e = is.loses.weighs g in omega arith);
@@ -66,7 +67,8 @@ few_held v w version line f is few =
     let one = weight_of-one is.tree in
     omega arith
 
-pub same_held : (v w z : SeatView) (version line : ℕ) (f : Forgot) → ForgetsVersion v version line f w
+pub same_held : (v w z : SeatView) (version line : ℕ) (f : Forgot)
+    → ForgetsVersion v version line f w
     → GoesBack f.root w.held z.held → SameHeld v.held z.held
 same_held v w z version line f is back =
     let gone = back is.tree is.name (comes_held v w version line f is) in
@@ -145,7 +147,8 @@ module _ (t : WorldSeen) (number line version : ℕ) where
 
 -- a session is at rest once its share went back
 pub rests_back : (t : TableSeen) (s w z : PassSeen) (version line : ℕ) (f : Forgot)
-    → IsAtRest t s → ForgetsVersion s.view version line f w.view → HasNoTurn w.view → StaysLendable t w z
+    → IsAtRest t s → ForgetsVersion s.view version line f w.view → HasNoTurn w.view
+    → StaysLendable t w z
     → IsAtRest t z
 rests_back t s w z version line f r is idle stays =
     record {

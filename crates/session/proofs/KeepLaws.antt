@@ -83,7 +83,8 @@ has_mark n u marks m there version by_then =
 module _ (t : WorldSeen) (number line : ℕ) (act : Act) (root : Option Name) (n : ℕ)
     (v b x : SeatView) (one : v.numbers ≡ number ∷ []) (appends : AppendsNext v line act root n b)
   where
-    alone : ActDone (of_session t.table.plan t.table.models number) line act (session_seen v) (session_seen b) n
+    alone : ActDone (of_session t.table.plan t.table.models number) line act (session_seen v)
+        (session_seen b) n
     alone = done_alone t line act root n v b appends number one
 
     still_one : b.numbers ≡ number ∷ []
@@ -263,7 +264,8 @@ fallen_room keep line act root c v w x gains made few =
 
 -- the same of an act that is equal
 pub commits_as : (keep : ℕ) (v w : SeatView) (line : ℕ) (a b : Act) (root : Option Name)
-    (c : Committed) → a ≡ b → CommitsNext v keep line a root c w → CommitsNext v keep line b root c w
+    (c : Committed) → a ≡ b → CommitsNext v keep line a root c w
+    → CommitsNext v keep line b root c w
 commits_as keep v w line a b root c same h =
     subst (λ (x : Act). CommitsNext v keep line x root c w) same h
 

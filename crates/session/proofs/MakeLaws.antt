@@ -268,7 +268,8 @@ module _ (t : TableSeen) (act : Act) (tint : Bool) (models : List Content) (v w 
           shape = g.wanted;
           listed = (0, omega arith, refl);
           sought = subst (λ (p : Layout). IsSought p x) ready.of.plan g.sought;
-          wanted = subst (λ (n : ℕ). IsWanted t.plan t.models w.view.log.seen.records act n g.wanted)
+          wanted = subst
+              (λ (n : ℕ). IsWanted t.plan t.models w.view.log.seen.records act n g.wanted)
               (sym same_number) (wanted_by g.wanted g.wants);
         };
         held = record { weighs = g.held };

@@ -32,7 +32,8 @@ record HasPinTree (of : TableSeen) (s : SessionSeen) (trees : List Tree) (p : Pi
   is : IsSavedRoot of s p tree
   weighs : (f : Tree → ℕ) → weight_of f tree ≤ sum_by (weight_of f) trees
 
-pin_there : (of : TableSeen) (s : SessionSeen) (pins : List Pinned) (trees : List Tree) (k : ℕ) (p : Pinned) → AllZip (IsSavedRoot of s) pins trees
+pin_there : (of : TableSeen) (s : SessionSeen) (pins : List Pinned) (trees : List Tree) (k : ℕ)
+    (p : Pinned) → AllZip (IsSavedRoot of s) pins trees
     → slice_get pins k ≡ Some p → HasPinTree of s trees p
 pin_there of s [] [] k p are here = absurd (none-some p here)
 pin_there of s [] (u ∷ trees) k p are here = absurd are
@@ -47,10 +48,12 @@ pin_there of s (q ∷ pins) (u ∷ trees) (suc k) p are here =
     record {
       tree = h.tree;
       is = h.is;
-      weighs = λ f. (let both = sum_by-cons (weight_of f) u trees in let w = h.weighs f in omega arith);
+      weighs = λ f.
+          (let both = sum_by-cons (weight_of f) u trees in let w = h.weighs f in omega arith);
     }
 
-module _ (of : TableSeen) (s : SessionSeen) (held : List Tree) (pins : List Pinned) (k : ℕ) (p : Pinned) (holds : HoldsSaves of s held pins)
+module _ (of : TableSeen) (s : SessionSeen) (held : List Tree) (pins : List Pinned) (k : ℕ)
+    (p : Pinned) (holds : HoldsSaves of s held pins)
     (lt : k < length pins) (read : p ≡ get_or pins k p) where
   here : slice_get pins k ≡ Some p
   here = slice_get-get_or pins k p lt ∙ ap Some (sym read)
@@ -60,15 +63,20 @@ module _ (of : TableSeen) (s : SessionSeen) (held : List Tree) (pins : List Pinn
 
   is_held : (n : Name) → p.root ≡ Some n → IsHeld held h.tree
   is_held n e = record {
-    weighs = λ f. (let a = holds.weighs f in let b = h.weighs f in let c = weight_of-there f h.tree n (h.is.name ∙ e) in omega arith);
+    weighs = λ f.
+        (let a = holds.weighs f in let b = h.weighs f in let c = weight_of-there f h.tree n
+        (h.is.name ∙ e) in omega arith);
   }
 
-  pub pin_root : (side : ℕ) (root : Option Name) → side ≡ of.plan.side → root ≡ p.root → HoldsRoot held side root
-  pin_root side root of_side is = subst (λ (n : ℕ). HoldsRoot held n root) (sym of_side) (subst (λ (r : Option Name). HoldsRoot held of.plan.side r) (sym is) (go p.root refl))
+  pub pin_root : (side : ℕ) (root : Option Name) → side ≡ of.plan.side → root ≡ p.root
+      → HoldsRoot held side root
+  pin_root side root of_side is = subst (λ (n : ℕ). HoldsRoot held n root) (sym of_side)
+      (subst (λ (r : Option Name). HoldsRoot held of.plan.side r) (sym is) (go p.root refl))
     where
       go : (r : Option Name) → p.root ≡ r → HoldsRoot held of.plan.side r
       go None e = tt
-      go (Some n) e = (record { tree = h.tree; is_held = is_held n e; root = h.is.name ∙ e }, h.is.level n e)
+      go (Some n) e =
+          (record { tree = h.tree; is_held = is_held n e; root = h.is.name ∙ e }, h.is.level n e)
 
   block : IsBlockOf held (of.plan.side - 2) p.root h.tree
   block = record {
@@ -98,5 +106,7 @@ module _ (of : TableSeen) (s : SessionSeen) (held : List Tree) (pins : List Pinn
           ∙ file_same tint of.plan.side part (cells_of (of.plan.side - 2) (shape_of h.tree))
           (store_has of.models s.log p.version) fits
           (shown_at of.plan.side (shape_of h.tree) (store_has of.models s.log p.version) h.is.shows)
-          ∙ ap (λ (r : Pinned). file_kept tint of.plan.side part (store_has of.models s.log r.version))
+          ∙ ap
+          (λ (r : Pinned). file_kept tint of.plan.side part
+          (store_has of.models s.log r.version))
           (same_Some p q (sym here ∙ at))

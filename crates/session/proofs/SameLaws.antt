@@ -52,7 +52,8 @@ module _ (t : WorldSeen) (number v w : ℕ) (a b : SeatView) (looks : LooksOn a 
             (equal_told s.equal _ _ is.equal (λ same. same) (λ same. same)));
       }
 
-  refuses : (e : SameRefused) (u : ℕ) → ((version : ℕ) → u ≡ version → NamesVersion v w (session_seen b) version)
+  refuses : (e : SameRefused) (u : ℕ)
+      → ((version : ℕ) → u ≡ version → NamesVersion v w (session_seen b) version)
       → RefusesVersion u e b
       → SameTold (of_world t number) v w (session_seen a) (session_seen b) (Err e)
   refuses (NoVersion at version) u named is =
@@ -79,7 +80,8 @@ module _ (t : WorldSeen) (number v w : ℕ) (a b : SeatView) (looks : LooksOn a 
       → SameTold (of_world t number) v w (session_seen a) (session_seen b) (Err e)
   refuses_same e (inl first) = refuses e v (λ version same. inl same) first
   refuses_same e (inr both) =
-      refuses e w (λ version same. inr (same, finds b v (length_told e) (told_here e w both.1) both.0)) both.1
+      refuses e w (λ version same. inr
+      (same, finds b v (length_told e) (told_here e w both.1) both.0)) both.1
 
   pub same_told : (r : Result SameAt SameRefused) → IfOk r (λ s. TellsSame v w s b)
       → IfErr r (λ e. RefusesSame v w e b)

@@ -37,7 +37,8 @@ use Rattle.session.specs.Resting.{IsAtRest}
 use Rattle.session.specs.Saves.{AddsPin, HoldsSaves, IsSavedRoot}
 use Rattle.session.specs.Seen.{WorldSeen, of_world, session_seen}
 
-module _ (t : WorldSeen) (asked : Option ℕ) (v w : PassSeen) (p : Pinned) (r : IsAtRest t.table v) (looks : LooksOn v.view w.view) (is : PinsVersion v.view asked p w.view) where
+module _ (t : WorldSeen) (asked : Option ℕ) (v w : PassSeen) (p : Pinned) (r : IsAtRest t.table v)
+    (looks : LooksOn v.view w.view) (is : PinsVersion v.view asked p w.view) where
   plan_is : w.view.plan ≡ t.table.plan
   plan_is = looks.session.plan ∙ r.of.plan
 
@@ -52,21 +53,30 @@ module _ (t : WorldSeen) (asked : Option ℕ) (v w : PassSeen) (p : Pinned) (r :
   version_is = is.version ∙ asked_as asked p.moment
 
   -- the version that was saved was found, and its cells were counted
-  pub save_told : (number : ℕ) (x : PassSeen) (part : Boxed) (cells : ℕ) → session_seen x.view ≡ session_seen w.view
+  pub save_told : (number : ℕ) (x : PassSeen) (part : Boxed) (cells : ℕ)
+      → session_seen x.view ≡ session_seen w.view
       → cells ≡ number_in part (seen_has w.view p.version)
-      → Saved (of_world t number) asked part (session_seen v.view) (session_seen x.view) (record { at = p.moment; cells = cells })
+      → Saved (of_world t number) asked part (session_seen v.view) (session_seen x.view)
+      (record { at = p.moment; cells = cells })
   save_told number x part cells same counted =
-      subst (λ (s : SessionSeen). Saved (of_world t number) asked part (session_seen v.view) s (record { at = p.moment; cells = cells })) (sym same)
+      subst (λ (s : SessionSeen). Saved (of_world t number) asked part (session_seen v.view) s
+      (record { at = p.moment; cells = cells })) (sym same)
       (record {
         at_is = is.moment;
         only = only_sees v.view w.view looks;
         finds = subst (λ (u : ℕ). FindsVersion (session_seen w.view) u) version_is
-            (finds w.view p.version p.moment is.moment (record { there = is.pinned.version; unmarked = is.unmarked; found = is.pinned.found }));
+            (finds w.view p.version p.moment is.moment
+            (record { there = is.pinned.version; unmarked = is.unmarked; found = is.pinned.found }));
         cells =
             counted
-            ∙ ap (λ (ms : List Content). number_in part (stored_in (2 ^ w.view.plan.side) ms w.view.log.seen.records p.version)) models_is
-            ∙ ap (λ (n : ℕ). number_in part (stored_in (2 ^ n) t.table.models w.view.log.seen.records p.version)) side_is
-            ∙ ap (λ (u : ℕ). number_in part (store_has t.table.models w.view.log.seen u)) version_is;
+            ∙ ap
+            (λ (ms : List Content). number_in part
+            (stored_in (2 ^ w.view.plan.side) ms w.view.log.seen.records p.version)) models_is
+            ∙ ap
+            (λ (n : ℕ). number_in part
+            (stored_in (2 ^ n) t.table.models w.view.log.seen.records p.version)) side_is
+            ∙ ap
+            (λ (u : ℕ). number_in part (store_has t.table.models w.view.log.seen u)) version_is;
       })
 
   may_have : MayHold w.view.held is.gains.tree
@@ -75,15 +85,22 @@ module _ (t : WorldSeen) (asked : Option ℕ) (v w : PassSeen) (p : Pinned) (r :
   module _ (tells : ViewTells w.view) where
     tree_is : is.pinned.root.tree ≡ is.gains.tree
     tree_is =
-        one_tree w.view is.pinned.root.tree is.gains.tree tells (held_or_gone w.view.held is.pinned.root.tree is.pinned.root.held)
+        one_tree w.view is.pinned.root.tree is.gains.tree tells
+        (held_or_gone w.view.held is.pinned.root.tree is.pinned.root.held)
         (held_or_gone w.view.held is.gains.tree may_have) (is.pinned.root.name ∙ sym is.gains.name)
 
-    shows_here : ShowsCells (world_block t.table.plan.side) (shape_of is.gains.tree) (store_has t.table.models w.view.log.seen p.version)
+    shows_here : ShowsCells (world_block t.table.plan.side) (shape_of is.gains.tree)
+        (store_has t.table.models w.view.log.seen p.version)
     shows_here =
-        subst (λ (q : Layout). ShowsCells (world_block q.side) (shape_of is.gains.tree) (store_has t.table.models w.view.log.seen p.version)) plan_is
-        (subst (λ (n : ℕ). ShowsCells (world_block w.view.plan.side) (shape_of is.gains.tree) (stored_in (2 ^ n) t.table.models w.view.log.seen.records p.version)) side_is
-        (subst (λ (ms : List Content). ShowsCells (world_block w.view.plan.side) (shape_of is.gains.tree) (stored_in (2 ^ w.view.plan.side) ms w.view.log.seen.records p.version)) models_is
-        (subst (λ (u : Tree). ShowsCells (world_block w.view.plan.side) (shape_of u) (seen_has w.view p.version)) tree_is is.pinned.root.shows)))
+        subst (λ (q : Layout). ShowsCells (world_block q.side) (shape_of is.gains.tree)
+        (store_has t.table.models w.view.log.seen p.version)) plan_is
+        (subst (λ (n : ℕ). ShowsCells (world_block w.view.plan.side) (shape_of is.gains.tree)
+        (stored_in (2 ^ n) t.table.models w.view.log.seen.records p.version)) side_is
+        (subst (λ (ms : List Content). ShowsCells (world_block w.view.plan.side)
+        (shape_of is.gains.tree)
+        (stored_in (2 ^ w.view.plan.side) ms w.view.log.seen.records p.version)) models_is
+        (subst (λ (u : Tree). ShowsCells (world_block w.view.plan.side) (shape_of u)
+        (seen_has w.view p.version)) tree_is is.pinned.root.shows)))
 
     pin_here : IsSavedRoot t.table (session_seen w.view) p is.gains.tree
     pin_here = record {
@@ -95,17 +112,21 @@ module _ (t : WorldSeen) (asked : Option ℕ) (v w : PassSeen) (p : Pinned) (r :
       shows = shows_here;
     }
 
-    pub adds_pin : (x : PassSeen) → session_seen x.view ≡ session_seen w.view → x.view.held ≡ w.view.held → AddsPin t.table (session_seen x.view) v.view.held x.view.held p
+    pub adds_pin : (x : PassSeen) → session_seen x.view ≡ session_seen w.view
+        → x.view.held ≡ w.view.held
+        → AddsPin t.table (session_seen x.view) v.view.held x.view.held p
     adds_pin x same held = record {
       tree = is.gains.tree;
       is = subst (λ (s : SessionSeen). IsSavedRoot t.table s p is.gains.tree) (sym same) pin_here;
-      gains = subst (λ (ts : List Tree). Loses ts is.gains.tree v.view.held) (sym held) is.gains.loses;
+      gains = subst (λ (ts : List Tree). Loses ts is.gains.tree v.view.held)
+          (sym held) is.gains.loses;
     }
 
 -- ---- pins with their trees
 
 module _ (of : TableSeen) (s : SessionSeen) where
-  pub pin_added : (pins : List Pinned) (trees : List Tree) (p : Pinned) (t : Tree) → AllZip (IsSavedRoot of s) pins trees → IsSavedRoot of s p t
+  pub pin_added : (pins : List Pinned) (trees : List Tree) (p : Pinned) (t : Tree)
+      → AllZip (IsSavedRoot of s) pins trees → IsSavedRoot of s p t
       → AllZip (IsSavedRoot of s) (pins ++ p ∷ []) (trees ++ t ∷ [])
   pin_added [] [] p t are is = (is, tt)
   pin_added [] (u ∷ trees) p t are is = absurd are
@@ -113,7 +134,8 @@ module _ (of : TableSeen) (s : SessionSeen) where
   pin_added (q ∷ pins) (u ∷ trees) p t are is = (are.0, pin_added pins trees p t are.1 is)
 
   -- no more trees are held than there are pins
-  pub pins_few : (pins : List Pinned) (trees : List Tree) → AllZip (IsSavedRoot of s) pins trees → sum_by (weight_of (λ _. 1)) trees ≤ length pins
+  pub pins_few : (pins : List Pinned) (trees : List Tree) → AllZip (IsSavedRoot of s) pins trees
+      → sum_by (weight_of (λ _. 1)) trees ≤ length pins
   pins_few [] [] are = omega arith
   pins_few [] (u ∷ trees) are = absurd are
   pins_few (q ∷ pins) [] are = absurd are
@@ -129,16 +151,20 @@ module _ (of : TableSeen) (s : SessionSeen) where
     pub tree : Tree
     pub are : AllZip (IsSavedRoot of s) pins rest
     pub is : IsSavedRoot of s p tree
-    pub weighs : (f : Tree → ℕ) → sum_by (weight_of f) trees ≡ weight_of f tree + sum_by (weight_of f) rest
+    pub weighs : (f : Tree → ℕ)
+        → sum_by (weight_of f) trees ≡ weight_of f tree + sum_by (weight_of f) rest
 
-  pub last_pin : (pins : List Pinned) (p : Pinned) (trees : List Tree) → AllZip (IsSavedRoot of s) (pins ++ p ∷ []) trees → HasLastPin pins p trees
+  pub last_pin : (pins : List Pinned) (p : Pinned) (trees : List Tree)
+      → AllZip (IsSavedRoot of s) (pins ++ p ∷ []) trees → HasLastPin pins p trees
   last_pin [] p [] are = absurd are
   last_pin [] p (t ∷ []) are = record {
     rest = [];
     tree = t;
     are = tt;
     is = are.0;
-    weighs = λ f. (let one = sum_by-cons (weight_of f) t [] in let none : sum_by (weight_of f) [] ≡ 0 = refl in omega arith);
+    weighs = λ f.
+        (let one = sum_by-cons (weight_of f) t [] in let none : sum_by (weight_of f) []
+        ≡ 0 = refl in omega arith);
   }
   last_pin [] p (t ∷ u ∷ trees) are = absurd are.1
   last_pin (q ∷ pins) p [] are = absurd are
@@ -157,7 +183,9 @@ module _ (of : TableSeen) (s : SessionSeen) where
       }
 
 -- a session that has seen more keeps its pins
-pub pins_later : (of : TableSeen) (s z : SessionSeen) (pins : List Pinned) (trees : List Tree) → FollowsHistory s z → AllZip (IsSavedRoot of s) pins trees → AllZip (IsSavedRoot of z) pins trees
+pub pins_later : (of : TableSeen) (s z : SessionSeen) (pins : List Pinned) (trees : List Tree)
+    → FollowsHistory s z → AllZip (IsSavedRoot of s) pins trees
+    → AllZip (IsSavedRoot of z) pins trees
 pins_later of s z [] [] more are = tt
 pins_later of s z [] (u ∷ trees) more are = absurd are
 pins_later of s z (p ∷ pins) [] more are = absurd are
@@ -169,7 +197,8 @@ pins_later of s z (p ∷ pins) (u ∷ trees) more are = (
     name = are.0.name;
     level = are.0.level;
     shows = subst (λ (w : World). ShowsCells (world_block of.plan.side) (shape_of u) w)
-        (sym (store_stays of.models s.log z.log p.version more.goes_on (let v = are.0.version in let m = are.0.moment in omega arith))) are.0.shows;
+        (sym (store_stays of.models s.log z.log p.version more.goes_on
+        (let v = are.0.version in let m = are.0.moment in omega arith))) are.0.shows;
   },
   pins_later of s z pins trees more are.1,
 )
@@ -179,35 +208,44 @@ pins_later of s z (p ∷ pins) (u ∷ trees) more are = (
 
 -- ---- what is held for them
 
-pub no_pins : (of : TableSeen) (s : SessionSeen) (held : List Tree) (pins : List Pinned) → held ≡ [] → pins ≡ [] → HoldsSaves of s held pins
+pub no_pins : (of : TableSeen) (s : SessionSeen) (held : List Tree) (pins : List Pinned) → held ≡ []
+    → pins ≡ [] → HoldsSaves of s held pins
 unfolding weigh
 no_pins of s held pins none no_pin =
     subst (λ (ps : List Pinned). HoldsSaves of s held ps) (sym no_pin)
-    (subst (λ (ts : List Tree). HoldsSaves of s ts []) (sym none) (record { trees = []; are = tt; weighs = λ f. refl }))
+    (subst (λ (ts : List Tree). HoldsSaves of s ts []) (sym none)
+    (record { trees = []; are = tt; weighs = λ f. refl }))
 
-pub few_held : (of : TableSeen) (s : SessionSeen) (held : List Tree) (pins : List Pinned) → HoldsSaves of s held pins → number_of_trees held ≤ length pins
-few_held of s held pins h = (let few = pins_few of s pins h.trees h.are in let w = h.weighs (λ _. 1) in omega arith)
+pub few_held : (of : TableSeen) (s : SessionSeen) (held : List Tree) (pins : List Pinned)
+    → HoldsSaves of s held pins → number_of_trees held ≤ length pins
+few_held of s held pins h =
+    (let few = pins_few of s pins h.trees h.are in let w = h.weighs (λ _. 1) in omega arith)
 
-pub still_held : (of : TableSeen) (s z : SessionSeen) (held more : List Tree) (pins : List Pinned) → HoldsSaves of s held pins → SameHeld held more → FollowsHistory s z → HoldsSaves of z more pins
+pub still_held : (of : TableSeen) (s z : SessionSeen) (held more : List Tree) (pins : List Pinned)
+    → HoldsSaves of s held pins → SameHeld held more → FollowsHistory s z
+    → HoldsSaves of z more pins
 still_held of s z held more pins h same sees = record {
   trees = h.trees;
   are = pins_later of s z pins h.trees sees h.are;
   weighs = λ f. same.weighs f ∙ h.weighs f;
 }
 
-pub one_more : (of : TableSeen) (s z : SessionSeen) (held more : List Tree) (pins now : List Pinned) (p : Pinned) → HoldsSaves of s held pins → FollowsHistory s z → AddsPin of z held more p → now ≡ pins ++ p ∷ []
+pub one_more : (of : TableSeen) (s z : SessionSeen) (held more : List Tree) (pins now : List Pinned)
+    (p : Pinned) → HoldsSaves of s held pins → FollowsHistory s z → AddsPin of z held more p
+    → now ≡ pins ++ p ∷ []
     → HoldsSaves of z more now
-one_more of s z held more pins now p h sees adds is = subst (λ (ps : List Pinned). HoldsSaves of z more ps) (sym is) (record {
-  trees = h.trees ++ adds.tree ∷ [];
-  are = pin_added of z pins h.trees p adds.tree (pins_later of s z pins h.trees sees h.are) adds.is;
-  weighs = λ f. (
-      let a = adds.gains.weighs f in
-      let b = h.weighs f in
-      let c = sum_by-append (weight_of f) h.trees (adds.tree ∷ []) in
-      let d = sum_by-cons (weight_of f) adds.tree [] in
-      let e : sum_by (weight_of f) [] ≡ 0 = refl in
-      omega arith);
-})
+one_more of s z held more pins now p h sees adds is =
+    subst (λ (ps : List Pinned). HoldsSaves of z more ps) (sym is) (record {
+      trees = h.trees ++ adds.tree ∷ [];
+      are = pin_added of z pins h.trees p adds.tree (pins_later of s z pins h.trees sees h.are) adds.is;
+      weighs = λ f. (
+          let a = adds.gains.weighs f in
+          let b = h.weighs f in
+          let c = sum_by-append (weight_of f) h.trees (adds.tree ∷ []) in
+          let d = sum_by-cons (weight_of f) adds.tree [] in
+          let e : sum_by (weight_of f) [] ≡ 0 = refl in
+          omega arith);
+    })
 
 -- ---- the last pin goes back
 
@@ -215,15 +253,18 @@ none_held : (held : List Tree) → weigh (λ _. 1) held ≡ 0 → held ≡ []
 none_held [] e = refl
 none_held (t ∷ held) e = absurd (let more = weigh-cons (λ _. 1) t held in omega arith)
 
-pub all_back : (of : TableSeen) (s : SessionSeen) (held : List Tree) (pins : List Pinned) → HoldsSaves of s held pins → pins ≡ [] → held ≡ []
+pub all_back : (of : TableSeen) (s : SessionSeen) (held : List Tree) (pins : List Pinned)
+    → HoldsSaves of s held pins → pins ≡ [] → held ≡ []
 all_back of s held pins h none =
     let few = few_held of s held pins h in
     let long = ap length none in
     none_held held (omega arith)
 
-module _ (of : TableSeen) (s : SessionSeen) (held : List Tree) (pins all : List Pinned) (p : Pinned) (h : HoldsSaves of s held all) (is : all ≡ pins ++ p ∷ []) where
+module _ (of : TableSeen) (s : SessionSeen) (held : List Tree) (pins all : List Pinned)
+    (p : Pinned) (h : HoldsSaves of s held all) (is : all ≡ pins ++ p ∷ []) where
   last : HasLastPin of s pins p h.trees
-  last = last_pin of s pins p h.trees (subst (λ (ps : List Pinned). AllZip (IsSavedRoot of s) ps h.trees) is h.are)
+  last = last_pin of s pins p h.trees
+      (subst (λ (ps : List Pinned). AllZip (IsSavedRoot of s) ps h.trees) is h.are)
 
   may_last : MayHold held last.tree
   may_last = record { weighs = λ f. (let a = h.weighs f in let b = last.weighs f in omega arith) }
@@ -231,13 +272,15 @@ module _ (of : TableSeen) (s : SessionSeen) (held : List Tree) (pins all : List 
   pub last_may_go : (root : Option Name) → root ≡ p.root → MayGoBack held root
   last_may_go root same = (last.tree, last.is.name ∙ sym same, may_last)
 
-  pub last_gone : (root : Option Name) (more : List Tree) → root ≡ p.root → GoesBack root held more → HoldsSaves of s more pins
+  pub last_gone : (root : Option Name) (more : List Tree) → root ≡ p.root → GoesBack root held more
+      → HoldsSaves of s more pins
   last_gone root more same goes =
       let l = goes last.tree (last.is.name ∙ sym same) may_last in
       record {
         trees = last.rest;
         are = last.are;
-        weighs = λ f. (let a = h.weighs f in let b = last.weighs f in let c = l.weighs f in omega arith);
+        weighs = λ f.
+            (let a = h.weighs f in let b = last.weighs f in let c = l.weighs f in omega arith);
       }
 
 -- the same pass over two calls
@@ -247,5 +290,11 @@ passes_on s t u f g =
     let z = g.session in
     record {
       table = g.table ∙ f.table;
-      session = record { alive = z.alive ∙ v.alive; plan = z.plan ∙ v.plan; models = z.models ∙ v.models; numbers = z.numbers ∙ v.numbers };
+      session = record {
+        alive = z.alive ∙ v.alive;
+        plan = z.plan ∙ v.plan;
+        models = z.models
+            ∙ v.models;
+        numbers = z.numbers ∙ v.numbers;
+      };
     }

@@ -64,7 +64,8 @@ module _ (t : WorldSeen) (line : ℕ) (act : Act) (root : Option Name) (v w : Se
 
   pub done_room : (x : SeatView) (c : Committed) → CommitsNext w t.keep line act root c x
       → number_of_trees v.held ≤ 3909 → number_of_trees x.held ≤ 4008
-  done_room x c made few = fallen_room t.keep line act root c v.held w x makes.gains made (omega arith)
+  done_room x c made few = fallen_room t.keep line act root c v.held w x makes.gains made
+      (omega arith)
 
   pub late_room : (x : SeatView) → x.held ≡ w.held → number_of_trees v.held ≤ 3909
       → number_of_trees x.held ≤ 4008

@@ -79,7 +79,8 @@ tint_same n f g p i same =
 abbrev coloured_voxel : Voxel → ℕ → Voxel
 coloured_voxel v c = record { x = v.x; y = v.y; z = v.z; colour = c }
 
-mapped_same : (f g : Voxel → Voxel) (vs : List Voxel) → All (λ v. f v ≡ g v) vs → map f vs ≡ map g vs
+mapped_same : (f g : Voxel → Voxel) (vs : List Voxel) → All (λ v. f v ≡ g v) vs
+    → map f vs ≡ map g vs
 mapped_same f g [] all = refl
 mapped_same f g (v ∷ vs) all =
     ap (λ (u : Voxel). u ∷ map f vs) (All-head (λ u. f u ≡ g u) v vs all)
@@ -168,7 +169,8 @@ module _ (tint : Bool) (held : List Tree) (side : ℕ) (root : Option Name) (b :
   pub told_inside : HoldsRoot held side root → All (StandsInside b.size) voxels
   told_inside holds =
       let block = root_block held side root holds in
-      subst (λ (vs : List Voxel). All (StandsInside b.size) vs) (sym (told block.tree block.is_block))
+      subst (λ (vs : List Voxel). All (StandsInside b.size) vs)
+      (sym (told block.tree block.is_block))
       (kept_inside tint side b (cells_of (side - 2) (shape_of block.tree)))
 
   pub told_few : HoldsRoot held side root

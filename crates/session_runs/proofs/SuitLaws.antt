@@ -87,7 +87,8 @@ module _ (p : Layout) (models : List Content) (log : Log) (suits : SuitsWorld tr
         subst (λ (n : ℕ). All (λ r. FitsWorld n models r.act) log.records) (sym suits.keeps.side)
         suits.keeps.fit
 
-    stored : (v : ℕ) → StoresTints quarter (world_tint models log.records v) (store_has models log v)
+    stored : (v : ℕ)
+        → StoresTints quarter (world_tint models log.records v) (store_has models log v)
     stored v = versions_stored models log suits.coloured suits.acts fit_here v
 
     small : (v : ℕ) (c : Cell) → world_tint models log.records v c < 2 ^ 8

@@ -50,22 +50,30 @@ use Rattle.store_run.proofs.Targets.{Wants, grew_wanted, meets_full}
 moment_as : (old new : Versions) → log_of new ≡ log_of old → moment_of new ≡ moment_of old
 moment_as old new log = ap (λ (l : Log). length l.records) log
 
-noted_as : (old new : Versions) → new.store.told.made ≡ old.store.told.made → new.store.told.met ≡ old.store.told.met → noted_of new ≡ noted_of old
+noted_as : (old new : Versions) → new.store.told.made ≡ old.store.told.made
+    → new.store.told.met ≡ old.store.told.met → noted_of new ≡ noted_of old
 noted_as old new made met = λ i. record { made = made i; met = met i }
 
-records_as : (old new : Versions) → log_of new ≡ log_of old → new.records.items ≡ old.records.items ++ []
+records_as : (old new : Versions) → log_of new ≡ log_of old
+    → new.records.items ≡ old.records.items ++ []
 records_as old new log = ap (λ (l : Log). l.records) log ∙ sym (append-nil old.records.items)
 
 -- what fits, whatever has run so far
 abbrev pub FitsSoFar : Versions → ℕ → ScriptLine → Answer → Type 0
 FitsSoFar v session l answer =
-    (scripts : List (List ScriptLine)) (transcripts : List (List LineAnswer)) (script : List ScriptLine) (transcript : List LineAnswer)
-    → IsSoFar (plan_of v) v.models.models scripts transcripts script transcript (log_of v) → length scripts ≡ session → IsAfter script l
-    → Answers (plan_of v) v.models.models (log_of v) (IsStanding (log_of v).marks session l.line (moment_of v)) session l.line (moment_of v) l.command answer
+    (scripts : List (List ScriptLine)) (transcripts : List (List LineAnswer))
+    (script : List ScriptLine) (transcript : List LineAnswer)
+    → IsSoFar (plan_of v) v.models.models scripts transcripts script transcript (log_of v)
+    → length scripts ≡ session → IsAfter script l
+    → Answers (plan_of v) v.models.models (log_of v)
+    (IsStanding (log_of v).marks session l.line (moment_of v)) session l.line
+    (moment_of v) l.command answer
 
 -- an answer that changes nothing
-pub rests : (v w : Versions) (session : ℕ) (l : ScriptLine) (answer : Answer) → AreVersions v → LeavesAll v w
-    → is_resting answer ≡ true → refused_by l.command (moment_of v) answer ≡ [] → FitsSoFar v session l answer
+pub rests : (v w : Versions) (session : ℕ) (l : ScriptLine) (answer : Answer) → AreVersions v
+    → LeavesAll v w
+    → is_resting answer ≡ true → refused_by l.command (moment_of v) answer ≡ []
+    → FitsSoFar v session l answer
     → GoesOnBy v session l answer w
 rests v w session l answer are leaves resting none fits = record {
   models = leaves.stay.models;
@@ -76,28 +84,39 @@ rests v w session l answer are leaves resting none fits = record {
       let p = plan_of v in
       let models = v.models.models in
       let first = last_moment 0 transcript in
-      let line = resting_arm p models session first l (log_of v) answer (noted_of v) are.stored.sound.legal resting none
+      let line =
+      resting_arm p models session first l (log_of v) answer
+      (noted_of v) are.stored.sound.legal resting none
       (fits scripts transcripts script transcript running.so_far number after) in
-      subst (λ (new : Log). TakesLine p models session first l (log_of v) new (noted_of v) (noted_of w) (answer_at l (length new.records) answer)) (sym leaves.stay.log)
-      (subst (λ (now : MadeAndMet). TakesLine p models session first l (log_of v) (log_of v) (noted_of v) now (answer_at l (moment_of v) answer))
+      subst (λ (new : Log). TakesLine p models session first l (log_of v) new (noted_of v)
+      (noted_of w) (answer_at l (length new.records) answer)) (sym leaves.stay.log)
+      (subst (λ (now : MadeAndMet). TakesLine p models session first l (log_of v) (log_of v)
+      (noted_of v) now (answer_at l (moment_of v) answer))
       (sym (noted_as v w leaves.only.made leaves.only.met)) line));
 }
 
 -- ---- a version that is named can't be read
 
-pub names_missing : (v : Versions) (session : ℕ) (l : ScriptLine) (version : ℕ) → moment_of v < version
-    → Names (IsStanding (log_of v).marks session l.line (moment_of v)) (moment_of v) l.command version
+pub names_missing : (v : Versions) (session : ℕ) (l : ScriptLine) (version : ℕ)
+    → moment_of v < version
+    → Names (IsStanding (log_of v).marks session l.line (moment_of v))
+    (moment_of v) l.command version
     → FitsSoFar v session l (answers.NoVersion version)
-names_missing v session l version past names scripts transcripts script transcript so_far number after = no_version l.command version names past
+names_missing v session l version past names scripts transcripts script transcript so_far number after =
+    no_version l.command version names past
 
-forgotten_now : (v : Versions) (session : ℕ) (l : ScriptLine) (version : ℕ) (mark : IsVersionMarked v version)
-    (scripts : List (List ScriptLine)) (transcripts : List (List LineAnswer)) (script : List ScriptLine) (transcript : List LineAnswer)
-    → IsSoFar (plan_of v) v.models.models scripts transcripts script transcript (log_of v) → length scripts ≡ session → IsAfter script l
+forgotten_now : (v : Versions) (session : ℕ) (l : ScriptLine) (version : ℕ)
+    (mark : IsVersionMarked v version)
+    (scripts : List (List ScriptLine)) (transcripts : List (List LineAnswer))
+    (script : List ScriptLine) (transcript : List LineAnswer)
+    → IsSoFar (plan_of v) v.models.models scripts transcripts script transcript (log_of v)
+    → length scripts ≡ session → IsAfter script l
     → IsForgotten (log_of v).marks session l.line (moment_of v) version
 forgotten_now v session l version mark scripts transcripts script transcript so_far number after =
     subst (λ (n : ℕ). IsForgotten (log_of v).marks session l.line (moment_of v) n) mark.same
     (subst (λ (k : ℕ). IsForgotten (log_of v).marks k l.line (moment_of v) mark.mark.version) number
-    (marked_forgotten (plan_of v) v.models.models scripts transcripts script transcript l (log_of v) mark.mark so_far after mark.listed))
+    (marked_forgotten (plan_of v) v.models.models scripts transcripts script transcript l
+    (log_of v) mark.mark so_far after mark.listed))
 
 pub readable_now : (v : Versions) (session line version : ℕ) → IsKept (log_of v) version
     → IsReadable (IsStanding (log_of v).marks session line (moment_of v)) (moment_of v) version
@@ -105,7 +124,8 @@ readable_now v session line version kept = kept_readable (log_of v) session line
 
 -- ---- edits
 
-module _ (v w : Versions) (session line : ℕ) (act : Act) (once : Bool) (are : AreVersions v) (edit : is_edit act ≡ true) where
+module _ (v w : Versions) (session line : ℕ) (act : Act) (once : Bool) (are : AreVersions v)
+    (edit : is_edit act ≡ true) where
   p : Layout
   p = plan_of v
 
@@ -113,7 +133,8 @@ module _ (v w : Versions) (session line : ℕ) (act : Act) (once : Bool) (are : 
   ms = v.models.models
 
   pub edit_full : (full : Full) → MeetsBucket v act full w
-      → GoesOnBy v session (record { line = line; command = Edit act once }) (answers.Full full.level full.bucket) w
+      → GoesOnBy v session (record { line = line; command = Edit act once })
+      (answers.Full full.level full.bucket) w
   edit_full full meets = record {
     models = meets.stay.models;
     plan = meets.stay.spares.plan;
@@ -121,15 +142,24 @@ module _ (v w : Versions) (session line : ℕ) (act : Act) (once : Bool) (are : 
     records = records_as v w meets.stay.log;
     goes_on = λ scripts transcripts script transcript running number after. (
         let first = last_moment 0 transcript in
-        let low = before_within (plan_of v) v.models.models scripts transcripts script transcript (log_of v) (noted_of v) running in
+        let low =
+        before_within (plan_of v) v.models.models scripts transcripts script transcript
+        (log_of v) (noted_of v) running in
         let l : ScriptLine = record { line = line; command = Edit act once } in
-        let done = full_arm (plan_of v) v.models.models session first line act once full.level full.bucket (log_of v) (known_seen v.store) (known_seen w.store)
-        are.stored.sound.legal refl low (meets_full v act are.stored edit full.level full.bucket (known_seen v.store) (known_seen w.store) meets.fails) in
-        subst (λ (new : Log). TakesLine (plan_of v) v.models.models session first l (log_of v) new (noted_of v) (noted_of w) (answer_at l (length new.records) (answers.Full full.level full.bucket)))
+        let done =
+        full_arm (plan_of v) v.models.models session first line act once full.level full.bucket
+        (log_of v) (known_seen v.store) (known_seen w.store)
+        are.stored.sound.legal refl low
+        (meets_full v act are.stored edit full.level full.bucket (known_seen v.store)
+        (known_seen w.store) meets.fails) in
+        subst (λ (new : Log). TakesLine (plan_of v) v.models.models session first l (log_of v) new
+        (noted_of v) (noted_of w)
+        (answer_at l (length new.records) (answers.Full full.level full.bucket)))
         (sym meets.stay.log) done);
   }
 
-  pub edit_done : (u : Versions) (root : Option Rattle.node_shapes.specs.declared.names.Name.Name) → MakesRoot v act root u
+  pub edit_done : (u : Versions) (root : Option Rattle.node_shapes.specs.declared.names.Name.Name)
+      → MakesRoot v act root u
       → GainsRecord u (record { session = session; line = line; act = act }) w
       → GoesOnBy v session (record { line = line; command = Edit act once }) answers.Done w
   edit_done u root makes appends = record {
@@ -137,26 +167,40 @@ module _ (v w : Versions) (session line : ℕ) (act : Act) (once : Bool) (are : 
     plan = appends.only.plan ∙ makes.stay.spares.plan;
     more = record { session = session; line = line; act = act } ∷ [];
     records = appends.grows.records
-        ∙ ap (λ (l : Log). l.records ++ record { session = session; line = line; act = act } ∷ []) makes.stay.log;
+        ∙ ap
+        (λ (l : Log). l.records ++
+        record { session = session; line = line; act = act } ∷ []) makes.stay.log;
     goes_on = λ scripts transcripts script transcript running number after. (
         let first = last_moment 0 transcript in
-        let low = before_within (plan_of v) v.models.models scripts transcripts script transcript (log_of v) (noted_of v) running in
+        let low =
+        before_within (plan_of v) v.models.models scripts transcripts script transcript
+        (log_of v) (noted_of v) running in
         let l : ScriptLine = record { line = line; command = Edit act once } in
         let r : Record = record { session = session; line = line; act = act } in
         let grows : GrowsByRecord (plan_of v) v.models.models r (log_of v) (log_of w) =
-        subst (λ (q : Layout). GrowsByRecord q v.models.models r (log_of v) (log_of w)) makes.stay.spares.plan
-        (subst (λ (models : List Content). GrowsByRecord (plan_of u) models r (log_of v) (log_of w)) makes.stay.models
-        (subst (λ (log : Log). GrowsByRecord (plan_of u) u.models.models r log (log_of w)) makes.stay.log appends.grows)) in
+        subst (λ (q : Layout). GrowsByRecord q v.models.models r (log_of v)
+        (log_of w)) makes.stay.spares.plan
+        (subst (λ (models : List Content). GrowsByRecord (plan_of u) models r (log_of v)
+        (log_of w)) makes.stay.models
+        (subst (λ (log : Log). GrowsByRecord (plan_of u) u.models.models r log
+        (log_of w)) makes.stay.log appends.grows)) in
         let grew : Grew (Wants v act) v.store.told.made w.store.told.made =
-        subst (λ (list : List Shape). Grew (Wants v act) v.store.told.made list) (sym appends.only.only.made)
+        subst (λ (list : List Shape). Grew (Wants v act) v.store.told.made list)
+        (sym appends.only.only.made)
         (grew_wanted v act are.stored edit v.store.told.made u.store.told.made makes.grows.made) in
-        let done = rebuilt_arm (plan_of v) v.models.models session first line act once (log_of v) (log_of w) (noted_of v) (noted_of w)
+        let done =
+        rebuilt_arm (plan_of v) v.models.models session first line act once (log_of v)
+        (log_of w) (noted_of v) (noted_of w)
         grows low grew (appends.only.only.met ∙ makes.grows.met) in
-        let longer : moment_of w ≡ moment_of v + 1 = ap (λ (rs : List Record). length rs) grows.records ∙ length-append v.records.items (r ∷ []) in
-        subst (λ (n : ℕ). TakesLine (plan_of v) v.models.models session first l (log_of v) (log_of w) (noted_of v) (noted_of w) (answer_at l n answers.Done)) (sym longer) done);
+        let longer : moment_of w ≡ moment_of v + 1 =
+        ap (λ (rs : List Record). length rs) grows.records
+        ∙ length-append v.records.items (r ∷ []) in
+        subst (λ (n : ℕ). TakesLine (plan_of v) v.models.models session first l (log_of v)
+        (log_of w) (noted_of v) (noted_of w) (answer_at l n answers.Done)) (sym longer) done);
   }
 
-  pub edit_late : (u : Versions) (root : Option Rattle.node_shapes.specs.declared.names.Name.Name) → MakesRoot v act root u
+  pub edit_late : (u : Versions) (root : Option Rattle.node_shapes.specs.declared.names.Name.Name)
+      → MakesRoot v act root u
       → moment_of u ≡ 65535 → LeavesAll u w
       → GoesOnBy v session (record { line = line; command = Edit act once }) answers.LogFull w
   edit_late u root makes all leaves = record {
@@ -166,57 +210,84 @@ module _ (v w : Versions) (session line : ℕ) (act : Act) (once : Bool) (are : 
     records = records_as v w (leaves.stay.log ∙ makes.stay.log);
     goes_on = λ scripts transcripts script transcript running number after. (
         let first = last_moment 0 transcript in
-        let low = before_within (plan_of v) v.models.models scripts transcripts script transcript (log_of v) (noted_of v) running in
+        let low =
+        before_within (plan_of v) v.models.models scripts transcripts script transcript
+        (log_of v) (noted_of v) running in
         let l : ScriptLine = record { line = line; command = Edit act once } in
         let grew : Grew (Wants v act) v.store.told.made w.store.told.made =
-        subst (λ (list : List Shape). Grew (Wants v act) v.store.told.made list) (sym leaves.only.made)
+        subst (λ (list : List Shape). Grew (Wants v act) v.store.told.made list)
+        (sym leaves.only.made)
         (grew_wanted v act are.stored edit v.store.told.made u.store.told.made makes.grows.made) in
-        let done = late_arm (plan_of v) v.models.models session first line act once (log_of v) (noted_of v) (noted_of w)
-        are.stored.sound.legal (sym (moment_as v u makes.stay.log) ∙ all) edit low grew (leaves.only.met ∙ makes.grows.met) in
-        subst (λ (new : Log). TakesLine (plan_of v) v.models.models session first l (log_of v) new (noted_of v) (noted_of w) (answer_at l (length new.records) answers.LogFull))
+        let done =
+        late_arm (plan_of v) v.models.models session first line act once (log_of v)
+        (noted_of v) (noted_of w)
+        are.stored.sound.legal (sym (moment_as v u makes.stay.log) ∙ all) edit low grew
+        (leaves.only.met ∙ makes.grows.met) in
+        subst (λ (new : Log). TakesLine (plan_of v) v.models.models session first l (log_of v) new
+        (noted_of v) (noted_of w) (answer_at l (length new.records) answers.LogFull))
         (sym (leaves.stay.log ∙ makes.stay.log)) done);
   }
 
 -- nothing more is held
-pub full_same : (v w : Versions) (act : Act) (full : Full) → MeetsBucket v act full w → HoldsSame v.store w.store
+pub full_same : (v w : Versions) (act : Act) (full : Full) → MeetsBucket v act full w
+    → HoldsSame v.store w.store
 full_same v w act full meets = record { weighs = meets.fails.held }
 
-pub went_same : (v u w : Versions) (to : ℕ) (root : Option Rattle.node_shapes.specs.declared.names.Name.Name)
+pub went_same : (v u w : Versions) (to : ℕ)
+    (root : Option Rattle.node_shapes.specs.declared.names.Name.Name)
     → SharesRootOfVersion v to root u → LosesTree u.store root w.store → HoldsSame v.store w.store
 went_same v u w to root shares loses = same_again v.store u.store w.store root shares.gains loses
 
 -- ---- undos and redos
 
-pub go_done : (v u w : Versions) (session line : ℕ) (act : Act) (once : Bool) (to : ℕ) (root : Option Rattle.node_shapes.specs.declared.names.Name.Name)
-    → SharesRootOfVersion v to root u → GainsRecord u (record { session = session; line = line; act = act }) w
+pub go_done : (v u w : Versions) (session line : ℕ) (act : Act) (once : Bool) (to : ℕ)
+    (root : Option Rattle.node_shapes.specs.declared.names.Name.Name)
+    → SharesRootOfVersion v to root u
+    → GainsRecord u (record { session = session; line = line; act = act }) w
     → GoesOnBy v session (record { line = line; command = Edit act once }) answers.Done w
 go_done v u w session line act once to root shares appends = record {
   models = appends.only.models ∙ shares.stay.models;
   plan = appends.only.plan ∙ shares.stay.spares.plan;
   more = record { session = session; line = line; act = act } ∷ [];
   records = appends.grows.records
-      ∙ ap (λ (l : Log). l.records ++ record { session = session; line = line; act = act } ∷ []) shares.stay.log;
+      ∙ ap
+      (λ (l : Log). l.records ++
+      record { session = session; line = line; act = act } ∷ []) shares.stay.log;
   goes_on = λ scripts transcripts script transcript running number after. (
       let first = last_moment 0 transcript in
       let l : ScriptLine = record { line = line; command = Edit act once } in
       let r : Record = record { session = session; line = line; act = act } in
       let grows : GrowsByRecord (plan_of v) v.models.models r (log_of v) (log_of w) =
-      subst (λ (q : Layout). GrowsByRecord q v.models.models r (log_of v) (log_of w)) shares.stay.spares.plan
-      (subst (λ (models : List Content). GrowsByRecord (plan_of u) models r (log_of v) (log_of w)) shares.stay.models
-      (subst (λ (log : Log). GrowsByRecord (plan_of u) u.models.models r log (log_of w)) shares.stay.log appends.grows)) in
-      let done = undone_arm (plan_of v) v.models.models session first line act once (log_of v) (log_of w) (noted_of v) grows in
-      let longer : moment_of w ≡ moment_of v + 1 = ap (λ (rs : List Record). length rs) grows.records ∙ length-append v.records.items (r ∷ []) in
-      subst (λ (now : MadeAndMet). TakesLine (plan_of v) v.models.models session first l (log_of v) (log_of w) (noted_of v) now (answer_at l (moment_of w) answers.Done))
-      (sym (noted_as v w (appends.only.only.made ∙ shares.only.made) (appends.only.only.met ∙ shares.only.met)))
-      (subst (λ (n : ℕ). TakesLine (plan_of v) v.models.models session first l (log_of v) (log_of w) (noted_of v) (noted_of v) (answer_at l n answers.Done)) (sym longer) done));
+      subst (λ (q : Layout). GrowsByRecord q v.models.models r (log_of v)
+      (log_of w)) shares.stay.spares.plan
+      (subst (λ (models : List Content). GrowsByRecord (plan_of u) models r (log_of v)
+      (log_of w)) shares.stay.models
+      (subst (λ (log : Log). GrowsByRecord (plan_of u) u.models.models r log
+      (log_of w)) shares.stay.log appends.grows)) in
+      let done =
+      undone_arm (plan_of v) v.models.models session first line act once (log_of v) (log_of w)
+      (noted_of v) grows in
+      let longer : moment_of w ≡ moment_of v + 1 =
+      ap (λ (rs : List Record). length rs) grows.records
+      ∙ length-append v.records.items (r ∷ []) in
+      subst (λ (now : MadeAndMet). TakesLine (plan_of v) v.models.models session first l (log_of v)
+      (log_of w) (noted_of v) now (answer_at l (moment_of w) answers.Done))
+      (sym (noted_as v w (appends.only.only.made ∙ shares.only.made)
+      (appends.only.only.met ∙ shares.only.met)))
+      (subst (λ (n : ℕ). TakesLine (plan_of v) v.models.models session first l (log_of v)
+      (log_of w) (noted_of v) (noted_of v) (answer_at l n answers.Done)) (sym longer) done));
 }
 
-module _ (v : Versions) (session line : ℕ) (act : Act) (once : Bool) (are : AreVersions v) (other : is_edit act ≡ false) where
-  nothing_fits : target_at v.records.items (moment_of v) act ≡ None → FitsSoFar v session (record { line = line; command = Edit act once }) (nothing_to_go_to act)
+module _ (v : Versions) (session line : ℕ) (act : Act) (once : Bool) (are : AreVersions v)
+    (other : is_edit act ≡ false) where
+  nothing_fits : target_at v.records.items (moment_of v) act ≡ None
+      → FitsSoFar v session (record { line = line; command = Edit act once }) (nothing_to_go_to act)
   nothing_fits none scripts transcripts script transcript so_far number after = go act other none
     where
       go : (a : Act) → is_edit a ≡ false → target_at v.records.items (moment_of v) a ≡ None
-          → Answers (plan_of v) v.models.models (log_of v) (IsStanding (log_of v).marks session line (moment_of v)) session line (moment_of v) (Edit a once) (nothing_to_go_to a)
+          → Answers (plan_of v) v.models.models (log_of v)
+          (IsStanding (log_of v).marks session line (moment_of v)) session line (moment_of v)
+          (Edit a once) (nothing_to_go_to a)
       go Undo o n = nothing_to_undo once n
       go Redo o n = nothing_to_redo once n
       go (Fill b) o n = absurd (let no : ⊥ = cc in no)
@@ -255,34 +326,49 @@ module _ (v : Versions) (session line : ℕ) (act : Act) (once : Bool) (are : Ar
       go (Stamp b c) = refl
       go (Tint t) = refl
 
-  pub go_nowhere : target_at v.records.items (moment_of v) act ≡ None → GoesOnBy v session (record { line = line; command = Edit act once }) (nothing_to_go_to act) v
-  go_nowhere none = rests v v session (record { line = line; command = Edit act once }) (nothing_to_go_to act) are (gave_nothing v) nothing_rests nothing_refused (nothing_fits none)
+  pub go_nowhere : target_at v.records.items (moment_of v) act ≡ None
+      → GoesOnBy v session (record { line = line; command = Edit act once })
+      (nothing_to_go_to act) v
+  go_nowhere none = rests v v session (record { line = line; command = Edit act once })
+      (nothing_to_go_to act) are (gave_nothing v) nothing_rests nothing_refused (nothing_fits none)
 
-  pub go_forgotten : (to : ℕ) → target_at v.records.items (moment_of v) act ≡ Some to → (to ≤ moment_of v) × IsVersionMarked v to
-      → GoesOnBy v session (record { line = line; command = Edit act once }) (answers.Forgotten to) v
+  pub go_forgotten : (to : ℕ) → target_at v.records.items (moment_of v) act ≡ Some to
+      → (to ≤ moment_of v) × IsVersionMarked v to
+      → GoesOnBy v session (record { line = line; command = Edit act once })
+      (answers.Forgotten to) v
   go_forgotten to goes mark =
-      rests v v session (record { line = line; command = Edit act once }) (answers.Forgotten to) are (gave_nothing v) refl refl
-      (λ scripts transcripts script transcript so_far number after. forgotten (Edit act once) to goes
-      (forgotten_now v session (record { line = line; command = Edit act once }) to mark.1 scripts transcripts script transcript so_far number after))
+      rests v v session (record { line = line; command = Edit act once })
+      (answers.Forgotten to) are (gave_nothing v) refl refl
+      (λ scripts transcripts script transcript so_far number after. forgotten
+      (Edit act once) to goes
+      (forgotten_now v session
+      (record { line = line; command = Edit act once }) to mark.1 scripts transcripts script transcript so_far number after))
 
-  pub go_past : (to : ℕ) (answer : Answer) → target_at v.records.items (moment_of v) act ≡ Some to → moment_of v < to
+  pub go_past : (to : ℕ) (answer : Answer) → target_at v.records.items (moment_of v) act ≡ Some to
+      → moment_of v < to
       → GoesOnBy v session (record { line = line; command = Edit act once }) answer v
-  go_past to answer goes past = absurd (let g = goes_to (log_of v) act to other goes in let le = g.there in omega arith)
+  go_past to answer goes past = absurd
+      (let g = goes_to (log_of v) act to other goes in let le = g.there in omega arith)
 
-  pub go_late : (to : ℕ) → target_at v.records.items (moment_of v) act ≡ Some to → IsKept (log_of v) to → moment_of v ≡ 65535
+  pub go_late : (to : ℕ) → target_at v.records.items (moment_of v) act ≡ Some to
+      → IsKept (log_of v) to → moment_of v ≡ 65535
       → GoesOnBy v session (record { line = line; command = Edit act once }) answers.LogFull v
   go_late to goes kept all =
-      rests v v session (record { line = line; command = Edit act once }) answers.LogFull are (gave_nothing v) refl refl
-      (λ scripts transcripts script transcript so_far number after. log_full act once all (λ _. (to, goes, readable_now v session line to kept)))
+      rests v v session (record { line = line; command = Edit act once }) answers.LogFull are
+      (gave_nothing v) refl refl
+      (λ scripts transcripts script transcript so_far number after. log_full act once all
+      (λ _. (to, goes, readable_now v session line to kept)))
 
 -- ---- forgetting
 
-pub kept_earlier : (v : Versions) (version at : ℕ) → IsKept (log_of v) version → at ≡ moment_of v → version ≢ at → version < moment_of v
+pub kept_earlier : (v : Versions) (version at : ℕ) → IsKept (log_of v) version → at ≡ moment_of v
+    → version ≢ at → version < moment_of v
 kept_earlier v version at kept now other = let le = kept.there in omega (arith, other, now)
 
 pub forgot_version : (v w : Versions) (session line version at : ℕ) → at ≡ moment_of v
     → GainsMark v (record { version = version; at = at; session = session; line = line }) w
-    → GoesOnBy v session (record { line = line; command = Forget version }) (answers.Forgot version) w
+    → GoesOnBy v session (record { line = line; command = Forget version })
+    (answers.Forgot version) w
 forgot_version v w session line version at now marks = record {
   models = marks.only.models;
   plan = marks.only.plan;
@@ -292,49 +378,74 @@ forgot_version v w session line version at now marks = record {
       let first = last_moment 0 transcript in
       let l : ScriptLine = record { line = line; command = Forget version } in
       let mark : Mark = record { version = version; at = at; session = session; line = line } in
-      let done = forgot_arm (plan_of v) v.models.models first mark (log_of v) (log_of w) (noted_of v) marks.forgets in
-      let same : moment_of w ≡ moment_of v = ap (λ (rs : List Record). length rs) marks.forgets.records in
-      subst (λ (now : MadeAndMet). TakesLine (plan_of v) v.models.models session first l (log_of v) (log_of w) (noted_of v) now (answer_at l (moment_of w) (answers.Forgot version)))
+      let done =
+      forgot_arm (plan_of v) v.models.models first mark (log_of v) (log_of w)
+      (noted_of v) marks.forgets in
+      let same : moment_of w ≡ moment_of v =
+      ap (λ (rs : List Record). length rs) marks.forgets.records in
+      subst (λ (now : MadeAndMet). TakesLine (plan_of v) v.models.models session first l (log_of v)
+      (log_of w) (noted_of v) now (answer_at l (moment_of w) (answers.Forgot version)))
       (sym (noted_as v w marks.only.only.made marks.only.only.met))
-      (subst (λ (n : ℕ). TakesLine (plan_of v) v.models.models session first l (log_of v) (log_of w) (noted_of v) (noted_of v) (answer_at l n (answers.Forgot version))) (sym same) done));
+      (subst (λ (n : ℕ). TakesLine (plan_of v) v.models.models session first l (log_of v)
+      (log_of w) (noted_of v) (noted_of v) (answer_at l n (answers.Forgot version)))
+      (sym same) done));
 }
 
 module _ (v : Versions) (session line : ℕ) (are : AreVersions v) where
-  pub forgets_head : (version : ℕ) → version ≡ moment_of v → GoesOnBy v session (record { line = line; command = Forget version }) answers.IsHead v
+  pub forgets_head : (version : ℕ) → version ≡ moment_of v
+      → GoesOnBy v session (record { line = line; command = Forget version }) answers.IsHead v
   forgets_head version is =
-      rests v v session (record { line = line; command = Forget version }) answers.IsHead are (gave_nothing v) refl refl
+      rests v v session (record { line = line; command = Forget version }) answers.IsHead are
+      (gave_nothing v) refl refl
       (λ scripts transcripts script transcript so_far number after.
-      subst (λ (n : ℕ). Answers (plan_of v) v.models.models (log_of v) (IsStanding (log_of v).marks session line (moment_of v)) session line (moment_of v) (Forget n) answers.IsHead) (sym is) is_head)
+      subst (λ (n : ℕ). Answers (plan_of v) v.models.models (log_of v)
+      (IsStanding (log_of v).marks session line (moment_of v)) session line (moment_of v)
+      (Forget n) answers.IsHead) (sym is) is_head)
 
-  pub forget_missing : (version : ℕ) → moment_of v < version → GoesOnBy v session (record { line = line; command = Forget version }) (answers.NoVersion version) v
+  pub forget_missing : (version : ℕ) → moment_of v < version
+      → GoesOnBy v session (record { line = line; command = Forget version })
+      (answers.NoVersion version) v
   forget_missing version past =
-      rests v v session (record { line = line; command = Forget version }) (answers.NoVersion version) are (gave_nothing v) refl refl
+      rests v v session (record { line = line; command = Forget version })
+      (answers.NoVersion version) are (gave_nothing v) refl refl
       (names_missing v session (record { line = line; command = Forget version }) version past refl)
 
-  pub forget_marked : (version : ℕ) → (version ≤ moment_of v) × IsVersionMarked v version → GoesOnBy v session (record { line = line; command = Forget version }) (answers.Forgotten version) v
+  pub forget_marked : (version : ℕ) → (version ≤ moment_of v) × IsVersionMarked v version
+      → GoesOnBy v session (record { line = line; command = Forget version })
+      (answers.Forgotten version) v
   forget_marked version mark =
-      rests v v session (record { line = line; command = Forget version }) (answers.Forgotten version) are (gave_nothing v) refl refl
-      (λ scripts transcripts script transcript so_far number after. forgotten (Forget version) version refl
-      (forgotten_now v session (record { line = line; command = Forget version }) version mark.1 scripts transcripts script transcript so_far number after))
+      rests v v session (record { line = line; command = Forget version })
+      (answers.Forgotten version) are (gave_nothing v) refl refl
+      (λ scripts transcripts script transcript so_far number after. forgotten
+      (Forget version) version refl
+      (forgotten_now v session
+      (record { line = line; command = Forget version }) version mark.1 scripts transcripts script transcript so_far number after))
 
   pub tells_head : GoesOnBy v session (record { line = line; command = Head }) answers.Head v
   tells_head =
-      rests v v session (record { line = line; command = Head }) answers.Head are (gave_nothing v) refl refl
+      rests v v session (record { line = line; command = Head }) answers.Head are
+      (gave_nothing v) refl refl
       (λ scripts transcripts script transcript so_far number after. head)
 
   -- ---- questions
 
-  ask_names : (version : Option ℕ) (question : Question) → moment_of v < asked_version version (moment_of v)
-      → Names (IsStanding (log_of v).marks session line (moment_of v)) (moment_of v) (Ask version question) (asked_version version (moment_of v))
+  ask_names : (version : Option ℕ) (question : Question)
+      → moment_of v < asked_version version (moment_of v)
+      → Names (IsStanding (log_of v).marks session line (moment_of v)) (moment_of v)
+      (Ask version question) (asked_version version (moment_of v))
   ask_names None question past = absurd (omega arith)
   ask_names (Some u) question past = refl
 
-  pub ask_missing : (version : Option ℕ) (question : Question) (asked : ℕ) → asked ≡ asked_version version (moment_of v) → moment_of v < asked
-      → GoesOnBy v session (record { line = line; command = Ask version question }) (answers.NoVersion asked) v
+  pub ask_missing : (version : Option ℕ) (question : Question) (asked : ℕ)
+      → asked ≡ asked_version version (moment_of v) → moment_of v < asked
+      → GoesOnBy v session (record { line = line; command = Ask version question })
+      (answers.NoVersion asked) v
   ask_missing version question asked is past =
-      rests v v session (record { line = line; command = Ask version question }) (answers.NoVersion asked) are (gave_nothing v) refl refl
+      rests v v session (record { line = line; command = Ask version question })
+      (answers.NoVersion asked) are (gave_nothing v) refl refl
       (names_missing v session (record { line = line; command = Ask version question }) asked past
-      (subst (λ (n : ℕ). Names (IsStanding (log_of v).marks session line (moment_of v)) (moment_of v) (Ask version question) n) (sym is)
+      (subst (λ (n : ℕ). Names (IsStanding (log_of v).marks session line (moment_of v))
+      (moment_of v) (Ask version question) n) (sym is)
       (ask_names version question (subst (λ (n : ℕ). moment_of v < n) is past))))
 
   -- the newest version has no mark
@@ -343,99 +454,140 @@ module _ (v : Versions) (session line : ℕ) (are : AreVersions v) where
     where
       go : (m : Mark) → m.version ≡ moment_of v → Contains (log_of v).marks m → ⊥
       go m is listed =
-          let dated = Rattle.std.proofs.lemmas.List.Elements.All-contains (λ k. (k.version < k.at) × (k.at ≤ moment_of v)) (log_of v).marks m are.stored.sound.legal.marked listed in
+          let dated =
+          Rattle.std.proofs.lemmas.List.Elements.All-contains
+          (λ k. (k.version < k.at) × (k.at ≤ moment_of v))
+          (log_of v).marks m are.stored.sound.legal.marked listed in
           omega (arith, is, dated.0, dated.1)
 
-  ask_marked_names : (version : Option ℕ) (question : Question) → IsVersionMarked v (asked_version version (moment_of v))
-      → Names (IsStanding (log_of v).marks session line (moment_of v)) (moment_of v) (Ask version question) (asked_version version (moment_of v))
+  ask_marked_names : (version : Option ℕ) (question : Question)
+      → IsVersionMarked v (asked_version version (moment_of v))
+      → Names (IsStanding (log_of v).marks session line (moment_of v)) (moment_of v)
+      (Ask version question) (asked_version version (moment_of v))
   ask_marked_names None question mark = absurd (newest_unmarked mark)
   ask_marked_names (Some u) question mark = refl
 
-  pub ask_marked : (version : Option ℕ) (question : Question) (asked : ℕ) → asked ≡ asked_version version (moment_of v) → (asked ≤ moment_of v) × IsVersionMarked v asked
-      → GoesOnBy v session (record { line = line; command = Ask version question }) (answers.Forgotten asked) v
+  pub ask_marked : (version : Option ℕ) (question : Question) (asked : ℕ)
+      → asked ≡ asked_version version (moment_of v)
+      → (asked ≤ moment_of v) × IsVersionMarked v asked
+      → GoesOnBy v session (record { line = line; command = Ask version question })
+      (answers.Forgotten asked) v
   ask_marked version question asked is mark =
       let l : ScriptLine = record { line = line; command = Ask version question } in
       rests v v session l (answers.Forgotten asked) are (gave_nothing v) refl refl
-      (λ scripts transcripts script transcript so_far number after. forgotten (Ask version question) asked
-      (subst (λ (n : ℕ). Names (IsStanding (log_of v).marks session line (moment_of v)) (moment_of v) (Ask version question) n) (sym is)
+      (λ scripts transcripts script transcript so_far number after. forgotten
+      (Ask version question) asked
+      (subst (λ (n : ℕ). Names (IsStanding (log_of v).marks session line (moment_of v))
+      (moment_of v) (Ask version question) n) (sym is)
       (ask_marked_names version question (subst (λ (n : ℕ). IsVersionMarked v n) is mark.1)))
       (forgotten_now v session l asked mark.1 scripts transcripts script transcript so_far number after))
 
-  save_names : (version : Option ℕ) (name : SaveName) (part : Boxed) → (moment_of v < asked_version version (moment_of v)) ⊎ IsVersionMarked v (asked_version version (moment_of v))
-      → Names (IsStanding (log_of v).marks session line (moment_of v)) (moment_of v) (Save version name part) (asked_version version (moment_of v))
+  save_names : (version : Option ℕ) (name : SaveName) (part : Boxed)
+      → (moment_of v < asked_version version (moment_of v))
+      ⊎ IsVersionMarked v (asked_version version (moment_of v))
+      → Names (IsStanding (log_of v).marks session line (moment_of v)) (moment_of v)
+      (Save version name part) (asked_version version (moment_of v))
   save_names None name part (inl past) = absurd (omega arith)
   save_names None name part (inr mark) = absurd (newest_unmarked mark)
   save_names (Some u) name part why = refl
 
-  pub save_missing : (version : Option ℕ) (name : SaveName) (part : Boxed) (asked : ℕ) → asked ≡ asked_version version (moment_of v) → moment_of v < asked
-      → GoesOnBy v session (record { line = line; command = Save version name part }) (answers.NoVersion asked) v
+  pub save_missing : (version : Option ℕ) (name : SaveName) (part : Boxed) (asked : ℕ)
+      → asked ≡ asked_version version (moment_of v) → moment_of v < asked
+      → GoesOnBy v session (record { line = line; command = Save version name part })
+      (answers.NoVersion asked) v
   save_missing version name part asked is past =
-      rests v v session (record { line = line; command = Save version name part }) (answers.NoVersion asked) are (gave_nothing v) refl refl
+      rests v v session (record { line = line; command = Save version name part })
+      (answers.NoVersion asked) are (gave_nothing v) refl refl
       (names_missing v session (record { line = line; command = Save version name part }) asked past
-      (subst (λ (n : ℕ). Names (IsStanding (log_of v).marks session line (moment_of v)) (moment_of v) (Save version name part) n) (sym is)
+      (subst (λ (n : ℕ). Names (IsStanding (log_of v).marks session line (moment_of v))
+      (moment_of v) (Save version name part) n) (sym is)
       (save_names version name part (inl (subst (λ (n : ℕ). moment_of v < n) is past)))))
 
-  pub save_marked : (version : Option ℕ) (name : SaveName) (part : Boxed) (asked : ℕ) → asked ≡ asked_version version (moment_of v) → (asked ≤ moment_of v) × IsVersionMarked v asked
-      → GoesOnBy v session (record { line = line; command = Save version name part }) (answers.Forgotten asked) v
+  pub save_marked : (version : Option ℕ) (name : SaveName) (part : Boxed) (asked : ℕ)
+      → asked ≡ asked_version version (moment_of v)
+      → (asked ≤ moment_of v) × IsVersionMarked v asked
+      → GoesOnBy v session (record { line = line; command = Save version name part })
+      (answers.Forgotten asked) v
   save_marked version name part asked is mark =
       let l : ScriptLine = record { line = line; command = Save version name part } in
       rests v v session l (answers.Forgotten asked) are (gave_nothing v) refl refl
-      (λ scripts transcripts script transcript so_far number after. forgotten (Save version name part) asked
-      (subst (λ (n : ℕ). Names (IsStanding (log_of v).marks session line (moment_of v)) (moment_of v) (Save version name part) n) (sym is)
+      (λ scripts transcripts script transcript so_far number after. forgotten
+      (Save version name part) asked
+      (subst (λ (n : ℕ). Names (IsStanding (log_of v).marks session line (moment_of v))
+      (moment_of v) (Save version name part) n) (sym is)
       (save_names version name part (inr (subst (λ (n : ℕ). IsVersionMarked v n) is mark.1))))
       (forgotten_now v session l asked mark.1 scripts transcripts script transcript so_far number after))
 
   -- ---- two versions
 
-  pub same_first_missing : (a b : ℕ) → moment_of v < a → GoesOnBy v session (record { line = line; command = Same a b }) (answers.NoVersion a) v
+  pub same_first_missing : (a b : ℕ) → moment_of v < a
+      → GoesOnBy v session (record { line = line; command = Same a b }) (answers.NoVersion a) v
   same_first_missing a b past =
-      rests v v session (record { line = line; command = Same a b }) (answers.NoVersion a) are (gave_nothing v) refl refl
+      rests v v session (record { line = line; command = Same a b }) (answers.NoVersion a) are
+      (gave_nothing v) refl refl
       (names_missing v session (record { line = line; command = Same a b }) a past (inl refl))
 
-  pub same_missing : (a b : ℕ) → IsKept (log_of v) a → moment_of v < b → GoesOnBy v session (record { line = line; command = Same a b }) (answers.NoVersion b) v
+  pub same_missing : (a b : ℕ) → IsKept (log_of v) a → moment_of v < b
+      → GoesOnBy v session (record { line = line; command = Same a b }) (answers.NoVersion b) v
   same_missing a b kept past =
-      rests v v session (record { line = line; command = Same a b }) (answers.NoVersion b) are (gave_nothing v) refl refl
-      (names_missing v session (record { line = line; command = Same a b }) b past (inr (refl, readable_now v session line a kept)))
+      rests v v session (record { line = line; command = Same a b }) (answers.NoVersion b) are
+      (gave_nothing v) refl refl
+      (names_missing v session (record { line = line; command = Same a b }) b past
+      (inr (refl, readable_now v session line a kept)))
 
-  pub same_first_marked : (a b : ℕ) → (a ≤ moment_of v) × IsVersionMarked v a → GoesOnBy v session (record { line = line; command = Same a b }) (answers.Forgotten a) v
+  pub same_first_marked : (a b : ℕ) → (a ≤ moment_of v) × IsVersionMarked v a
+      → GoesOnBy v session (record { line = line; command = Same a b }) (answers.Forgotten a) v
   same_first_marked a b mark =
       let l : ScriptLine = record { line = line; command = Same a b } in
       rests v v session l (answers.Forgotten a) are (gave_nothing v) refl refl
-      (λ scripts transcripts script transcript so_far number after. forgotten (Same a b) a (inl refl)
+      (λ scripts transcripts script transcript so_far number after. forgotten (Same a b) a
+      (inl refl)
       (forgotten_now v session l a mark.1 scripts transcripts script transcript so_far number after))
 
-  pub same_marked : (a b : ℕ) → IsKept (log_of v) a → (b ≤ moment_of v) × IsVersionMarked v b → GoesOnBy v session (record { line = line; command = Same a b }) (answers.Forgotten b) v
+  pub same_marked : (a b : ℕ) → IsKept (log_of v) a → (b ≤ moment_of v) × IsVersionMarked v b
+      → GoesOnBy v session (record { line = line; command = Same a b }) (answers.Forgotten b) v
   same_marked a b kept mark =
       let l : ScriptLine = record { line = line; command = Same a b } in
       rests v v session l (answers.Forgotten b) are (gave_nothing v) refl refl
-      (λ scripts transcripts script transcript so_far number after. forgotten (Same a b) b (inr (refl, readable_now v session line a kept))
+      (λ scripts transcripts script transcript so_far number after. forgotten (Same a b) b
+      (inr (refl, readable_now v session line a kept))
       (forgotten_now v session l b mark.1 scripts transcripts script transcript so_far number after))
 
-  pub same_told : (a b number : ℕ) → IsStore v.store number → IsKept (log_of v) a → IsKept (log_of v) b → (is : Bool)
+  pub same_told : (a b number : ℕ) → IsStore v.store number → IsKept (log_of v) a
+      → IsKept (log_of v) b → (is : Bool)
       → (IsTrue is ↔ (stored_root v.store.roots a ≡ stored_root v.store.roots b))
       → GoesOnBy v session (record { line = line; command = Same a b }) (answers.Same is) v
   same_told a b number st of_a of_b is roots =
-      rests v v session (record { line = line; command = Same a b }) (answers.Same is) are (gave_nothing v) refl refl
+      rests v v session (record { line = line; command = Same a b }) (answers.Same is) are
+      (gave_nothing v) refl refl
       (λ scripts transcripts script transcript so_far k after. told is roots)
     where
       told : (r : Bool) → (IsTrue r ↔ (stored_root v.store.roots a ≡ stored_root v.store.roots b))
-          → Answers (plan_of v) v.models.models (log_of v) (IsStanding (log_of v).marks session line (moment_of v)) session line (moment_of v) (Same a b) (answers.Same r)
+          → Answers (plan_of v) v.models.models (log_of v)
+          (IsStanding (log_of v).marks session line (moment_of v)) session line (moment_of v)
+          (Same a b) (answers.Same r)
       told true e =
           same a b (readable_now v session line a of_a) (readable_now v session line b of_b)
           (tints_by_cells v a b are.stored
-          (same_cells (plan_of v) v.models.models _ st.plan.side_low (versions_sound v number are.stored st) a b of_a of_b (e.0 refl)))
+          (same_cells (plan_of v) v.models.models _ st.plan.side_low
+          (versions_sound v number are.stored st) a b of_a of_b (e.0 refl)))
       told false e =
           different a b (readable_now v session line a of_a) (readable_now v session line b of_b)
-          (λ tints. false≢true (e.1 (same_root (plan_of v) v.models.models _ st.plan.side_low (versions_sound v number are.stored st) a b of_a of_b
+          (λ tints. false≢true
+          (e.1 (same_root (plan_of v) v.models.models _ st.plan.side_low
+          (versions_sound v number are.stored st) a b of_a of_b
           (cells_by_tints v a b are.stored tints))))
 
 -- a question that is answered
 telling_rests : (side : ℕ) (world : World) (tints : Tints) (question : Question) (answer : Answer)
     → Tells side world tints question answer
-    → (is_resting answer ≡ true) × ((n : ℕ) (version : Option ℕ) → refused_by (Ask version question) n answer ≡ [])
+    → (is_resting answer ≡ true)
+    × ((n : ℕ) (version : Option ℕ) → refused_by (Ask version question) n answer ≡ [])
 telling_rests side world tints question answer t = go question answer t
   where
-    go : (q : Question) (a : Answer) → Tells side world tints q a → (is_resting a ≡ true) × ((n : ℕ) (version : Option ℕ) → refused_by (Ask version q) n a ≡ [])
+    go : (q : Question) (a : Answer) → Tells side world tints q a
+        → (is_resting a ≡ true)
+        × ((n : ℕ) (version : Option ℕ) → refused_by (Ask version q) n a ≡ [])
     go _ _ (Rattle.conformance.specs.Telling.is c set e) = (refl, λ n version. refl)
     go _ _ (colour c tint e) = (refl, λ n version. refl)
     go _ _ (count b cells e) = (refl, λ n version. refl)
@@ -443,28 +595,39 @@ telling_rests side world tints question answer t = go question answer t
     go _ _ (Rattle.conformance.specs.Telling.extent least e) = (refl, λ n version. refl)
     go _ _ (Rattle.conformance.specs.Telling.hit from h found e) = (refl, λ n version. refl)
 
-pub asks : (v w : Versions) (session line : ℕ) (version : Option ℕ) (question : Question) (asked : ℕ) (answer : Answer)
-    → AreVersions v → asked ≡ asked_version version (moment_of v) → IsKept (log_of v) asked → LeavesAll v w
+pub asks : (v w : Versions) (session line : ℕ) (version : Option ℕ) (question : Question)
+    (asked : ℕ) (answer : Answer)
+    → AreVersions v → asked ≡ asked_version version (moment_of v) → IsKept (log_of v) asked
+    → LeavesAll v w
     → TellsHeldVersion v asked question answer
     → GoesOnBy v session (record { line = line; command = Ask version question }) answer w
 asks v w session line version question asked answer are is kept leaves told =
     let r = telling_rests (side_of v) (world_of v asked) (tints_of v asked) question answer told in
-    rests v w session (record { line = line; command = Ask version question }) answer are leaves r.0 (r.1 (moment_of v) version)
+    rests v w session
+    (record { line = line; command = Ask version question }) answer are leaves r.0
+    (r.1 (moment_of v) version)
     (λ scripts transcripts script transcript so_far number after. tells version question answer
-    (subst (λ (n : ℕ). IsReadable (IsStanding (log_of v).marks session line (moment_of v)) (moment_of v) n) is (readable_now v session line asked kept))
+    (subst (λ (n : ℕ). IsReadable (IsStanding (log_of v).marks session line (moment_of v))
+    (moment_of v) n) is (readable_now v session line asked kept))
     (subst (λ (n : ℕ). TellsHeldVersion v n question answer) is told))
 
 -- a save whose cells were counted
-pub saves_count : (v w : Versions) (session line : ℕ) (version : Option ℕ) (name : SaveName) (part : Boxed) (asked : ℕ) (answer : Answer)
-    → AreVersions v → asked ≡ asked_version version (moment_of v) → IsKept (log_of v) asked → LeavesAll v w
+pub saves_count : (v w : Versions) (session line : ℕ) (version : Option ℕ) (name : SaveName)
+    (part : Boxed) (asked : ℕ) (answer : Answer)
+    → AreVersions v → asked ≡ asked_version version (moment_of v) → IsKept (log_of v) asked
+    → LeavesAll v w
     → TellsHeldVersion v asked (questions.Count part) answer
-    → GoesOnBy v session (record { line = line; command = Save version name part }) (saved_as answer) w
+    → GoesOnBy v session (record { line = line; command = Save version name part })
+    (saved_as answer) w
 saves_count v w session line version name part asked answer are is kept leaves told = go answer told
   where
     go : (a : Answer) → TellsHeldVersion v asked (questions.Count part) a
-        → GoesOnBy v session (record { line = line; command = Save version name part }) (saved_as a) w
+        → GoesOnBy v session (record { line = line; command = Save version name part })
+        (saved_as a) w
     go _ (count _ cells e) =
-        rests v w session (record { line = line; command = Save version name part }) (answers.Saved cells) are leaves refl refl
+        rests v w session (record { line = line; command = Save version name part })
+        (answers.Saved cells) are leaves refl refl
         (λ scripts transcripts script transcript so_far number after. saves version name part cells
-        (subst (λ (n : ℕ). IsReadable (IsStanding (log_of v).marks session line (moment_of v)) (moment_of v) n) is (readable_now v session line asked kept))
+        (subst (λ (n : ℕ). IsReadable (IsStanding (log_of v).marks session line (moment_of v))
+        (moment_of v) n) is (readable_now v session line asked kept))
         (e ∙ ap (λ (n : ℕ). number_in part (world_of v n)) is))

@@ -49,15 +49,26 @@ recoloured p models log s tint sound = record {
   shown = λ v kept. sound.shown v (record { there = kept.there; unmarked = kept.unmarked });
 }
 
-module _ (v : Versions) (p : Layout) (side : v.side ≡ p.side) (plan : plan_of v ≡ p) (free : (n : Name) → book_in v.store.words n ≡ 0)
+module _ (v : Versions) (p : Layout) (side : v.side ≡ p.side) (plan : plan_of v ≡ p)
+    (free : (n : Name) → book_in v.store.words n ≡ 0)
     (tint : Bool) (is : v.models.tint ≡ tint)
-    (roots : (place : ℕ) → stored_root v.store.roots place ≡ None) (told : v.store.told ≡ nothing_told)
-    (records : v.records.items ≡ []) (marks : v.marks.items ≡ replicate versions None) (trail : trail_position v.trail ≡ beginning) where
+    (roots : (place : ℕ) → stored_root v.store.roots place ≡ None)
+    (told : v.store.told ≡ nothing_told)
+    (records : v.records.items ≡ []) (marks : v.marks.items ≡ replicate versions None)
+    (trail : trail_position v.trail ≡ beginning) where
   none_marked : (version : ℕ) → mark_in v.marks.items version ≡ None
-  none_marked version = ap (λ (ms : List (Option Mark)). mark_in ms version) marks ∙ no_mark versions version
+  none_marked version = ap (λ (ms : List (Option Mark)). mark_in ms version) marks
+      ∙ no_mark versions version
 
   pub begun_log : log_of v ≡ record { side = p.side; coloured = tint; records = []; marks = [] }
-  begun_log = λ i. record { side = side i; coloured = is i; records = records i; marks = none_listed (mark_in v.marks.items) versions none_marked i }
+  begun_log = λ i.
+      record {
+        side = side i;
+        coloured = is i;
+        records = records i;
+        marks = none_listed
+            (mark_in v.marks.items) versions none_marked i;
+      }
 
   -- the same history, not coloured
   abbrev plain_begun : Log
@@ -87,12 +98,14 @@ module _ (v : Versions) (p : Layout) (side : v.side ≡ p.side) (plan : plan_of 
           };
           held = λ f. ap (λ (t : Told). holdings f (root_names t.held ∷ [])) told ∙ no_holdings f;
         })).versions;
-    suits = subst (λ (rs : List Record). All (λ r. suits_tints v.models.tint r.act ≡ true) rs) (sym records) (All-nil _);
+    suits = subst (λ (rs : List Record). All (λ r. suits_tints v.models.tint r.act ≡ true) rs)
+        (sym records) (All-nil _);
     large =
         subst (λ (b : Bool). IsLargeStore b (plan_of v).side) (sym is)
         (subst (λ (q : Layout). IsLargeStore tint q.side) (sym plan) large);
     colours = subst (λ (b : Bool). HaveTints b v.models.models) (sym is) colours;
-    places = ap (λ (ms : List (Option Mark)). length ms) marks ∙ length-replicate {A = Option Mark} versions None;
+    places = ap (λ (ms : List (Option Mark)). length ms) marks
+        ∙ length-replicate {A = Option Mark} versions None;
     of_versions = record { each = λ n m e. absurd (none-some m (sym (none_marked n) ∙ e)) };
     position = trail ∙ sym (ap position_after records);
   }

@@ -33,12 +33,15 @@ use Rattle.store_run.proofs.Pinning.{HasTree, pin_here}
 
 abbrev pub SameIn : Boxed → (Cell → Bool) → (Cell → Bool) → Type 0
 SameIn b f g = (x y z : ℕ) → x < b.size.x → y < b.size.y → z < b.size.z
-    → f (cell_at (b.at.x + x) (b.at.y + y) (b.at.z + z)) ≡ g (cell_at (b.at.x + x) (b.at.y + y) (b.at.z + z))
+    → f (cell_at (b.at.x + x) (b.at.y + y) (b.at.z + z)) ≡ g
+    (cell_at (b.at.x + x) (b.at.y + y) (b.at.z + z))
 
-joined-same : (n : ℕ) (f g : ℕ → List Voxel) → ((i : ℕ) → i < n → f i ≡ g i) → voxels_joined n f ≡ voxels_joined n g
+joined-same : (n : ℕ) (f g : ℕ → List Voxel) → ((i : ℕ) → i < n → f i ≡ g i)
+    → voxels_joined n f ≡ voxels_joined n g
 unfolding voxels_joined
 joined-same zero f g same = refl
-joined-same (suc n) f g same = rw (joined-same n f g (λ i lt. same i (omega arith)), same n (omega arith)) refl
+joined-same (suc n) f g same =
+    rw (joined-same n f g (λ i lt. same i (omega arith)), same n (omega arith)) refl
 
 pub same_file : (b : Boxed) (f g : Cell → Bool) → SameIn b f g → file_of_box b f ≡ file_of_box b g
 same_file b f g same =
@@ -52,7 +55,8 @@ world_within : (side : ℕ) → 2 ^ side ≤ block_side (side - 2)
 world_within zero = omega arith
 world_within (suc zero) = omega arith
 world_within (suc (suc n)) =
-    let same : 2 ^ (suc (suc n)) ≡ block_side n = root_side n (suc (suc n)) (omega arith) (omega arith) in
+    let same : 2 ^ (suc (suc n)) ≡ block_side n =
+    root_side n (suc (suc n)) (omega arith) (omega arith) in
     let level : suc (suc n) - 2 ≡ n = omega arith in
     let sides : block_side (suc (suc n) - 2) ≡ block_side n = ap block_side level in
     omega (arith, same, sides)
@@ -61,24 +65,34 @@ from_origin : (x : ℕ) → x - 0 ≡ x
 from_origin x = omega arith
 
 -- a shape has the cells of the world that it shows
-pub shown_in : (side : ℕ) (b : Boxed) (s : Shape) (w : World) → ShowsCells (world_block side) s w → FitsAt b.at b.size (2 ^ side)
+pub shown_in : (side : ℕ) (b : Boxed) (s : Shape) (w : World) → ShowsCells (world_block side) s w
+    → FitsAt b.at b.size (2 ^ side)
     → SameIn b (cells_of (side - 2) s) w
 shown_in side b s w shows fits x y z of_x of_y of_z =
     let c = cell_at (b.at.x + x) (b.at.y + y) (b.at.z + z) in
     let wide = world_within side in
     let fx = fits.x in let fy = fits.y in let fz = fits.z in
-    let there : IsInBlock (world_block side) c = record { x = (omega arith, omega arith); y = (omega arith, omega arith); z = (omega arith, omega arith) } in
-    (λ t. has (side - 2) s (sym (from_origin c.x) t) (sym (from_origin c.y) t) (sym (from_origin c.z) t)) ∙ shows.each c there
+    let there : IsInBlock (world_block side) c =
+    record {
+      x = (omega arith, omega arith);
+      y = (omega arith, omega arith);
+      z =
+          (omega arith, omega arith);
+    } in
+    (λ t. has (side - 2) s (sym (from_origin c.x) t) (sym (from_origin c.y) t)
+    (sym (from_origin c.z) t)) ∙ shows.each c there
 
 -- ---- the pin in a place
 
 saved_at : (pins : List Pin) (k : ℕ) (pin : Pin) (s : SavedBox) → slice_get pins k ≡ Some pin
     → slice_get (saves_of pins) k ≡ Some s → pin.save ≡ s
 saved_at [] k pin s here of = absurd (none-some pin here)
-saved_at (p ∷ pins) zero pin s here of = ap (λ (q : Pin). q.save) (sym (same_Some p pin here)) ∙ same_Some p.save s of
+saved_at (p ∷ pins) zero pin s here of =
+    ap (λ (q : Pin). q.save) (sym (same_Some p pin here)) ∙ same_Some p.save s of
 saved_at (p ∷ pins) (suc k) pin s here of = saved_at pins k pin s here of
 
-module _ (v : Versions) (pins : List Pin) (k : ℕ) (pin : Pin) (p : ArePinned v pins) (lt : k < length pins)
+module _ (v : Versions) (pins : List Pin) (k : ℕ) (pin : Pin) (p : ArePinned v pins)
+    (lt : k < length pins)
     (read : pin ≡ get_or pins k pin) where
   here : slice_get pins k ≡ Some pin
   here = slice_get-get_or pins k pin lt ∙ ap Some (sym read)
@@ -88,7 +102,8 @@ module _ (v : Versions) (pins : List Pin) (k : ℕ) (pin : Pin) (p : ArePinned v
 
   is_held : (n : Name) → pin.root ≡ Some n → IsHeld v.store.told.held h.tree
   is_held n e = record {
-    weighs = λ f. omega (arith, p.holds.weighs f, h.weighs f, weight_of-there f h.tree n (h.is.root ∙ e));
+    weighs = λ f. omega
+        (arith, p.holds.weighs f, h.weighs f, weight_of-there f h.tree n (h.is.root ∙ e));
   }
 
   pub pin_root : HoldsRoot v.store.told.held v.side pin.root
@@ -96,12 +111,14 @@ module _ (v : Versions) (pins : List Pin) (k : ℕ) (pin : Pin) (p : ArePinned v
     where
       go : (r : Option Name) → pin.root ≡ r → HoldsRoot v.store.told.held v.side r
       go None e = tt
-      go (Some n) e = (record { tree = h.tree; is_held = is_held n e; root = h.is.root ∙ e }, h.is.level n e)
+      go (Some n) e =
+          (record { tree = h.tree; is_held = is_held n e; root = h.is.root ∙ e }, h.is.level n e)
 
   pub pin_inside : FitsAt pin.save.part.at pin.save.part.size (2 ^ v.side)
   pin_inside = h.is.fits.inside
 
-  pub pin_small : (pin.save.part.size.x ≤ 256) × (pin.save.part.size.y ≤ 256) × (pin.save.part.size.z ≤ 256)
+  pub pin_small : (pin.save.part.size.x ≤ 256) × (pin.save.part.size.y ≤ 256)
+      × (pin.save.part.size.z ≤ 256)
   pin_small = h.is.fits.small
 
   block : IsBlockOf v.store.told.held (v.side - 2) pin.root h.tree
@@ -115,17 +132,30 @@ module _ (v : Versions) (pins : List Pin) (k : ℕ) (pin : Pin) (p : ArePinned v
   pin_named = h.is.fits.is_name
 
   pub pin_file : {E Z : Type 0} (result : Result (Vec ℕ Z) E) (root : Option Name) → root ≡ pin.root
-      → IfOk result (λ file. ForWorld v.store.told.held v.side root (λ cells. file.items ≡ file_of_box pin.save.part cells))
+      → IfOk result
+      (λ file. ForWorld v.store.told.held v.side root
+      (λ cells. file.items ≡ file_of_box pin.save.part cells))
       → IfOk result (λ file. (s : SavedBox) → slice_get (saves_of pins) k ≡ Some s
       → file.items ≡ file_of_box s.part (world_of v s.version))
   pin_file {E} {Z} result root is told =
-      go result (subst (λ (r : Option Name). IfOk result (λ file. ForWorld v.store.told.held v.side r (λ cells. file.items ≡ file_of_box pin.save.part cells))) is told)
+      go result (subst
+      (λ (r : Option Name). IfOk result
+      (λ file. ForWorld v.store.told.held v.side r
+      (λ cells. file.items ≡ file_of_box pin.save.part cells))) is told)
     where
-      go : (r : Result (Vec ℕ Z) E) → IfOk r (λ file. ForWorld v.store.told.held v.side pin.root (λ cells. file.items ≡ file_of_box pin.save.part cells))
-          → IfOk r (λ file. (s : SavedBox) → slice_get (saves_of pins) k ≡ Some s → file.items ≡ file_of_box s.part (world_of v s.version))
+      go : (r : Result (Vec ℕ Z) E)
+          → IfOk r
+          (λ file. ForWorld v.store.told.held v.side pin.root
+          (λ cells. file.items ≡ file_of_box pin.save.part cells))
+          → IfOk r
+          (λ file. (s : SavedBox) → slice_get (saves_of pins) k ≡ Some s → file.items
+          ≡ file_of_box s.part (world_of v s.version))
       go (Err e) told = tt
       go (Ok file) told = λ s of.
           told h.tree block
-          ∙ same_file pin.save.part (cells_of (v.side - 2) (shape_of h.tree)) (world_of v pin.save.version)
-          (shown_in v.side pin.save.part (shape_of h.tree) (world_of v pin.save.version) h.is.shows h.is.fits.inside)
-          ∙ ap (λ (q : SavedBox). file_of_box q.part (world_of v q.version)) (saved_at pins k pin s here of)
+          ∙ same_file pin.save.part (cells_of (v.side - 2) (shape_of h.tree))
+          (world_of v pin.save.version)
+          (shown_in v.side pin.save.part (shape_of h.tree)
+          (world_of v pin.save.version) h.is.shows h.is.fits.inside)
+          ∙ ap (λ (q : SavedBox). file_of_box q.part (world_of v q.version))
+          (saved_at pins k pin s here of)

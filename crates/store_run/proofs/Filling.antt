@@ -45,25 +45,30 @@ goes_behind records more =
 
 module _ (p : Layout) (models : List Content) (records : List Record) (r : Record) where
   -- the spans of one record more
-  pushed : spans_from 0 (records ++ r ∷ []) ≡ spans_from 0 records ++ span_of (length records) r ∷ []
+  pushed : spans_from 0 (records ++ r ∷ []) ≡ spans_from 0 records ++ span_of
+      (length records) r ∷ []
   pushed = spans_push 0 (length records) records r (omega arith)
 
   abbrev Made : Shape → Type 0
   Made s = IsMadeInRun p models (records ++ r ∷ []) (spans_from 0 (records ++ r ∷ [])) s
 
   -- what was made before was made
-  stays : (made : List Shape) → All (IsMadeInRun p models records (spans_from 0 records)) made → All Made made
+  stays : (made : List Shape) → All (IsMadeInRun p models records (spans_from 0 records)) made
+      → All Made made
   stays made all =
-      subst (λ (ss : List Span). All (IsMadeInRun p models (records ++ r ∷ []) ss) made) (sym pushed)
+      subst (λ (ss : List Span). All (IsMadeInRun p models (records ++ r ∷ []) ss) made)
+      (sym pushed)
       (All-weaker (IsMadeInRun p models records (spans_from 0 records)) _
       (λ s m. made_in_stays p models (log_with records) (log_with (records ++ r ∷ []))
-      (goes_behind records (r ∷ [])) (spans_from 0 records) (span_of (length records) r ∷ []) s m) made all)
+      (goes_behind records (r ∷ [])) (spans_from 0 records)
+      (span_of (length records) r ∷ []) s m) made all)
 
   -- and so is each shape that the record wants
   wanted_made : (s : Shape) → IsWanted p models records r.act (length records) s → Made s
   wanted_made s wanted =
       let both = length-append records (r ∷ []) in
-      subst (λ (ss : List Span). IsMadeInRun p models (records ++ r ∷ []) ss s) (sym pushed) (record {
+      subst (λ (ss : List Span). IsMadeInRun p models (records ++ r ∷ []) ss s) (sym pushed)
+      (record {
         made = record {
           span = span_of (length records) r;
           listed = Contains-append_right (spans_from 0 records) (span_of (length records) r ∷ [])
@@ -77,7 +82,8 @@ module _ (p : Layout) (models : List Content) (records : List Record) (r : Recor
         there = omega arith;
       })
 
-  grown_parts : (old new : List Shape) → Grew (IsWanted p models records r.act (length records)) old new
+  grown_parts : (old new : List Shape)
+      → Grew (IsWanted p models records r.act (length records)) old new
       → All (IsMadeInRun p models records (spans_from 0 records)) old → All Made new
   grown_parts old _ unchanged all = stays old all
   grown_parts old _ (one {a} {new = before} wanted rest) all =
@@ -89,16 +95,20 @@ module _ (p : Layout) (models : List Content) (records : List Record) (r : Recor
       → All (IsMadeInRun p models records (spans_from 0 records)) old
       → HasEnough p new full.level full.bucket → MayFillReplay p models (records ++ r ∷ []) full
   may_fill old new full grew all enough =
-      enough_possible p models (records ++ r ∷ []) (spans_from 0 (records ++ r ∷ [])) full.level full.bucket new
-      (All-weaker Made (IsMadeFor p models (records ++ r ∷ []) (spans_from 0 (records ++ r ∷ []))) (λ s m. m.made)
+      enough_possible p models (records ++ r ∷ [])
+      (spans_from 0 (records ++ r ∷ [])) full.level full.bucket new
+      (All-weaker Made (IsMadeFor p models (records ++ r ∷ []) (spans_from 0 (records ++ r ∷ [])))
+      (λ s m. m.made)
       new (grown_parts old new grew all)) enough
 
 -- ---- versions
 
-pub nothing_made : (v : Versions) → noted_of v ≡ record { made = []; met = [] } → MakesOnlyParts (replay_state v)
+pub nothing_made : (v : Versions) → noted_of v ≡ record { made = []; met = [] }
+    → MakesOnlyParts (replay_state v)
 nothing_made v none = record {
   parts = subst (λ (m : MadeAndMet).
-      All (IsMadeInRun (plan_of v) v.models.models v.records.items (spans_from 0 v.records.items)) m.made)
+      All (IsMadeInRun (plan_of v) v.models.models v.records.items
+      (spans_from 0 v.records.items)) m.made)
       (sym none) (All-nil _);
 }
 
@@ -119,52 +129,65 @@ fills_bucket v w act full meets enough = record {
 }
 
 -- the same said of what these parts are equal to
-parts_as : (p q : Layout) (models others : List Content) (records more : List Record) (made : List Shape)
+parts_as : (p q : Layout) (models others : List Content) (records more : List Record)
+    (made : List Shape)
     → q ≡ p → others ≡ models → more ≡ records
     → All (IsMadeInRun p models records (spans_from 0 records)) made
     → All (IsMadeInRun q others more (spans_from 0 more)) made
 parts_as p q models others records more made plan same list all =
     subst (λ (x : Layout). All (IsMadeInRun x others more (spans_from 0 more)) made) (sym plan)
     (subst (λ (x : List Content). All (IsMadeInRun p x more (spans_from 0 more)) made) (sym same)
-    (subst (λ (x : List Record). All (IsMadeInRun p models x (spans_from 0 x)) made) (sym list) all))
+    (subst (λ (x : List Record). All (IsMadeInRun p models x (spans_from 0 x)) made)
+    (sym list) all))
 
-pub edit_parts : (s : ReplayState) (u w : Versions) (r : Record) → replay_state u ≡ s → AreStoredVersions u
+pub edit_parts : (s : ReplayState) (u w : Versions) (r : Record) → replay_state u ≡ s
+    → AreStoredVersions u
     → is_edit r.act ≡ true → MakesOnlyParts s → TakesEdit u r w
     → MakesOnlyParts (replay_state w)
 edit_parts s u w r is are edit only takes =
-    let here : MakesOnlyParts (replay_state u) = subst (λ (t : ReplayState). MakesOnlyParts t) (sym is) only in
+    let here : MakesOnlyParts (replay_state u) =
+    subst (λ (t : ReplayState). MakesOnlyParts t) (sym is) only in
     record {
-      parts = parts_as (plan_of u) (plan_of w) u.models.models w.models.models (u.records.items ++ r ∷ [])
+      parts = parts_as (plan_of u) (plan_of w) u.models.models w.models.models
+          (u.records.items ++ r ∷ [])
           w.records.items w.store.told.made takes.takes.plan takes.takes.models takes.takes.records
-          (grown_parts (plan_of u) u.models.models u.records.items r u.store.told.made w.store.told.made
+          (grown_parts
+          (plan_of u) u.models.models u.records.items r u.store.told.made w.store.told.made
           (grew_wanted u r.act are edit u.store.told.made w.store.told.made takes.made) here.parts);
     }
 
-pub way_parts : (s : ReplayState) (u w : Versions) (r : Record) → replay_state u ≡ s → MakesOnlyParts s
+pub way_parts : (s : ReplayState) (u w : Versions) (r : Record) → replay_state u ≡ s
+    → MakesOnlyParts s
     → TakesWay u r w → MakesOnlyParts (replay_state w)
 way_parts s u w r is only takes =
-    let here : MakesOnlyParts (replay_state u) = subst (λ (t : ReplayState). MakesOnlyParts t) (sym is) only in
+    let here : MakesOnlyParts (replay_state u) =
+    subst (λ (t : ReplayState). MakesOnlyParts t) (sym is) only in
     record {
       parts = subst (λ (made : List Shape).
-          All (IsMadeInRun (plan_of w) w.models.models w.records.items (spans_from 0 w.records.items)) made)
+          All (IsMadeInRun (plan_of w) w.models.models w.records.items
+          (spans_from 0 w.records.items)) made)
           (sym takes.only.made)
-          (parts_as (plan_of u) (plan_of w) u.models.models w.models.models (u.records.items ++ r ∷ [])
+          (parts_as (plan_of u) (plan_of w) u.models.models w.models.models
+          (u.records.items ++ r ∷ [])
           w.records.items u.store.told.made takes.takes.plan takes.takes.models takes.takes.records
           (stays (plan_of u) u.models.models u.records.items r u.store.told.made here.parts));
     }
 
-pub edit_fills : (s : ReplayState) (u w : Versions) (r : Record) (full : Full) → replay_state u ≡ s → AreStoredVersions u
+pub edit_fills : (s : ReplayState) (u w : Versions) (r : Record) (full : Full) → replay_state u ≡ s
+    → AreStoredVersions u
     → is_edit r.act ≡ true → MakesOnlyParts s
     → FillsBucket u r.act full w → MayFillReplay s.plan s.models (s.records ++ r ∷ []) full
 edit_fills s u w r full is are edit only fills =
-    let here : MakesOnlyParts (replay_state u) = subst (λ (t : ReplayState). MakesOnlyParts t) (sym is) only in
+    let here : MakesOnlyParts (replay_state u) =
+    subst (λ (t : ReplayState). MakesOnlyParts t) (sym is) only in
     subst (λ (t : ReplayState). MayFillReplay t.plan t.models (t.records ++ r ∷ []) full) is
     (may_fill (plan_of u) u.models.models u.records.items r u.store.told.made w.store.told.made full
     (grew_wanted u r.act are edit u.store.told.made w.store.told.made fills.made) here.parts fills.enough)
 
 -- ---- the state of versions that only got room
 
-pub state_as : (s : ReplayState) (v u : Versions) → replay_state v ≡ s → u.models.models ≡ v.models.models
+pub state_as : (s : ReplayState) (v u : Versions) → replay_state v ≡ s
+    → u.models.models ≡ v.models.models
     → log_of u ≡ log_of v → u.store ≡ v.store → replay_state u ≡ s
 state_as s v u is models log store =
     (λ i. record {

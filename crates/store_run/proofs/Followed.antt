@@ -44,12 +44,14 @@ follows_held marks n (Stamp b c) records to other is may = absurd (let no : ⊥ 
 follows_held marks n (Tint t) records to other is may = absurd (let no : ⊥ = cc in no)
 
 -- no mark of a legal history is of a later moment, so the version has none
-pub followed_kept : (v : Versions) (r : Record) (to : ℕ) → AreStoredVersions v → is_edit r.act ≡ false
+pub followed_kept : (v : Versions) (r : Record) (to : ℕ) → AreStoredVersions v
+    → is_edit r.act ≡ false
     → Some to ≡ target_at v.records.items (moment_of v) r.act
     → MayFollow (log_of v).marks (moment_of v + 1) r.act (position_after v.records.items)
     → IsKept (log_of v) to
 followed_kept v r to are other goes may =
-    let held = follows_held (log_of v).marks (moment_of v + 1) r.act v.records.items to other goes may in
+    let held =
+    follows_held (log_of v).marks (moment_of v + 1) r.act v.records.items to other goes may in
     record {
       there = (goes_to (log_of v) r.act to other (sym goes)).there;
       unmarked = λ k m lt same.
@@ -58,7 +60,8 @@ followed_kept v r to are other goes may =
           omega (arith, late, at);
     }
 
-none_held : (marks : List Mark) (n : ℕ) (vs : List ℕ) → first_of vs ≡ None → HasTarget marks n vs → ⊥
+none_held : (marks : List Mark) (n : ℕ) (vs : List ℕ) → first_of vs ≡ None → HasTarget marks n vs
+    → ⊥
 none_held marks n [] is has = has
 none_held marks n (v ∷ more) is has = let no : ⊥ = cc in no
 
@@ -80,7 +83,8 @@ target_there marks records n (Tint t) other is may = let no : ⊥ = cc in no
 
 -- ---- what is seen of a replay
 
-pub log_taken : (w : WorldState) (u v : Versions) (r : Record) → world_state u ≡ w → AreStoredVersions u
+pub log_taken : (w : WorldState) (u v : Versions) (r : Record) → world_state u ≡ w
+    → AreStoredVersions u
     → AreStoredVersions v → TakesRecord u r v → log_of v ≡ log_with_record w.log r
 log_taken w u v r is of_u of_v takes =
     let side : v.side ≡ u.side =
@@ -89,7 +93,8 @@ log_taken w u v r is of_u of_v takes =
     ∙ ap (λ (s : WorldState). log_with_record s.log r) is
 
 -- the same of the parts that are seen of versions that only got room
-pub world_as : (w : WorldState) (v u : Versions) → world_state v ≡ w → u.models.models ≡ v.models.models
+pub world_as : (w : WorldState) (v u : Versions) → world_state v ≡ w
+    → u.models.models ≡ v.models.models
     → log_of u ≡ log_of v → u.store ≡ v.store → world_state u ≡ w
 world_as w v u is models log store =
     (λ i. record {
@@ -103,7 +108,8 @@ pub follows_as : (w : WorldState) (u : Versions) (act : Act) → world_state u �
     → MayFollow w.log.marks (length w.log.records + 1) act (position_after w.log.records)
     → MayFollow (log_of u).marks (moment_of u + 1) act (position_after u.records.items)
 follows_as w u act is may =
-    subst (λ (s : WorldState). MayFollow s.log.marks (length s.log.records + 1) act (position_after s.log.records))
+    subst (λ (s : WorldState). MayFollow s.log.marks (length s.log.records + 1) act
+    (position_after s.log.records))
     (sym is) may
 
 pub replayed_as : (w : WorldState) (u : Versions) → world_state u ≡ w → replay_state u ≡ replayed w

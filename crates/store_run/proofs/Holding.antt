@@ -30,7 +30,8 @@ pub some_weighs : (s : Known) (n : Name) (f : Tree → ℕ)
 some_weighs s n f = weight_of-there f (root_tree s (Some n)) n (root_is s (Some n))
 
 -- a share that came is held, and is one
-pub gained_tree : (old : Known) (root : Option Name) (new : Known) → GainsTree old root new → HoldsTree new root
+pub gained_tree : (old : Known) (root : Option Name) (new : Known) → GainsTree old root new
+    → HoldsTree new root
 gained_tree old root new gains = record {
   each = λ n e. record {
     weighs = λ f. (
@@ -39,16 +40,19 @@ gained_tree old root new gains = record {
   };
 }
 
-pub gained_few : (old : Known) (root : Option Name) (new : Known) (most : ℕ) → GainsTree old root new
+pub gained_few : (old : Known) (root : Option Name) (new : Known) (most : ℕ)
+    → GainsTree old root new
     → number_of_trees old.told.held ≤ most → number_of_trees new.told.held ≤ most + 1
-gained_few old root new most gains few = omega (arith, gains.weighs (λ _. 1), weight_of-one (root_tree new root), few)
+gained_few old root new most gains few =
+    omega (arith, gains.weighs (λ _. 1), weight_of-one (root_tree new root), few)
 
 pub gained_room : (old : Known) (root : Option Name) (new : Known) → GainsTree old root new
     → number_of_trees old.told.held ≤ 2048 → number_of_trees new.told.held ≤ 4008
 gained_room old root new gains few = let one = gained_few old root new 2048 gains few in omega arith
 
 pub tree_name : (s : Known) (n : Name) → HoldsTree s (Some n) → HoldsName s.told.held n
-tree_name s n holds = record { tree = root_tree s (Some n); is_held = holds.each n refl; root = root_is s (Some n) }
+tree_name s n holds =
+    record { tree = root_tree s (Some n); is_held = holds.each n refl; root = root_is s (Some n) }
 
 -- such a share may be read from
 pub holds_root : (s : Known) (side : ℕ) (root : Option Name) → HoldsTree s root
@@ -64,18 +68,22 @@ holds_shows s side root world holds level shows = record {
   tree = root_tree s root;
   is_root = record {
     root = root_is s root;
-    is_held = λ n e. subst (λ (r : Option Name). IsHeld s.told.held (root_tree s r)) (sym e) (holds.each n e);
+    is_held = λ n e. subst (λ (r : Option Name). IsHeld s.told.held (root_tree s r)) (sym e)
+        (holds.each n e);
     at = level;
   };
   shows = shows;
 }
 
-pub holds_some : (s : Known) (root : Option Name) → HoldsTree s root → ForSome root (λ n. HoldsName s.told.held n)
+pub holds_some : (s : Known) (root : Option Name) → HoldsTree s root
+    → ForSome root (λ n. HoldsName s.told.held n)
 holds_some s root holds = λ n e. tree_name s n (subst (λ (r : Option Name). HoldsTree s r) e holds)
 
 pub same_held : (s : Known) → HoldsSame s s
 same_held s = record { weighs = λ f. refl }
 
 -- what came went again
-pub same_again : (a v w : Known) (root : Option Name) → GainsTree a root v → LosesTree v root w → HoldsSame a w
-same_again a v w root gains loses = record { weighs = λ f. omega (arith, gains.weighs f, loses.weighs f) }
+pub same_again : (a v w : Known) (root : Option Name) → GainsTree a root v → LosesTree v root w
+    → HoldsSame a w
+same_again a v w root gains loses =
+    record { weighs = λ f. omega (arith, gains.weighs f, loses.weighs f) }

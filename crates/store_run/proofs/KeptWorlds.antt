@@ -43,7 +43,8 @@ way_suits tint Redo other = refl
 pub plain_acts : (v : Versions) → AreStoredVersions v → v.models.tint ≡ false → IsPlain (log_of v)
 plain_acts v are plain = record {
   coloured = plain;
-  acts = subst (λ (b : Bool). All (λ r. suits_tints b r.act ≡ true) v.records.items) plain are.suits;
+  acts = subst
+      (λ (b : Bool). All (λ r. suits_tints b r.act ≡ true) v.records.items) plain are.suits;
 }
 
 pub plain_log : (v : Versions) → AreVersions v → IsPlain (log_of v)
@@ -83,11 +84,13 @@ pub keeps_tints : (v : Versions) → AreStoredVersions v → v.models.tint ≡ t
 keeps_tints v are tinted version =
     versions_stored v.models.models (log_of v) tinted are.suits (fit_here v are) version
 
-pub small_tints : (v : Versions) → AreStoredVersions v → v.models.tint ≡ true → (version : ℕ) (c : Cell)
+pub small_tints : (v : Versions) → AreStoredVersions v → v.models.tint ≡ true
+    → (version : ℕ) (c : Cell)
     → tints_of v version c < 2 ^ 8
 small_tints v are tinted version c =
     versions_small (2 ^ v.side) v.models.models v.records.items
-    (subst (λ (b : Bool). HaveTints b v.models.models) tinted are.colours) (fit_here v are) version c
+    (subst (λ (b : Bool). HaveTints b v.models.models) tinted are.colours)
+    (fit_here v are) version c
 
 pub set_tints : (v : Versions) → AreStoredVersions v → (version : ℕ) (c : Cell)
     → tells 0 (tints_of v version c) ≡ world_of v version c
@@ -162,7 +165,8 @@ module _ (v : Versions) (a b : ℕ) (are : AreStoredVersions v) where
   abbrev SameHere : Bool → Type 0
   SameHere tint = SameTints (kept_side tint (2 ^ v.side)) (tints_of v a) (tints_of v b)
 
-  pub tints_by_cells : SameStored (plan_of v).side → SameTints (side_of v) (tints_of v a) (tints_of v b)
+  pub tints_by_cells : SameStored (plan_of v).side
+      → SameTints (side_of v) (tints_of v a) (tints_of v b)
   tints_by_cells same = go v.models.tint refl
     where
       here : SameStored v.side
@@ -172,7 +176,8 @@ module _ (v : Versions) (a b : ℕ) (are : AreStoredVersions v) where
       go true e = subst SameHere (sym e) (tints_coloured e here)
       go false e = subst SameHere (sym e) (tints_plainly e here)
 
-  pub cells_by_tints : SameTints (side_of v) (tints_of v a) (tints_of v b) → SameStored (plan_of v).side
+  pub cells_by_tints : SameTints (side_of v) (tints_of v a) (tints_of v b)
+      → SameStored (plan_of v).side
   cells_by_tints same = subst SameStored are.side (go v.models.tint refl)
     where
       go : (t : Bool) → v.models.tint ≡ t → SameStored v.side
@@ -184,7 +189,8 @@ module _ (v : Versions) (a b : ℕ) (are : AreVersions v) where
   pub same_in_world : SameStored v a b are.stored (plan_of v).side
       → SameWorld (2 ^ (plan_of v).side) (world_of v a) (world_of v b)
   same_in_world same =
-      subst (λ (w : World). SameWorld (2 ^ (plan_of v).side) w (world_of v b)) (store_plainly v are a)
+      subst (λ (w : World). SameWorld (2 ^ (plan_of v).side) w (world_of v b))
+      (store_plainly v are a)
       (subst (λ (w : World). SameWorld (2 ^ (plan_of v).side) (stored_in (2 ^ (plan_of v).side)
       v.models.models v.records.items a) w) (store_plainly v are b) same)
 
@@ -193,4 +199,5 @@ module _ (v : Versions) (a b : ℕ) (are : AreVersions v) where
   same_in_store same =
       subst (λ (w : World). SameWorld (2 ^ (plan_of v).side) w (stored_in (2 ^ (plan_of v).side)
       v.models.models v.records.items b)) (sym (store_plainly v are a))
-      (subst (λ (w : World). SameWorld (2 ^ (plan_of v).side) (world_of v a) w) (sym (store_plainly v are b)) same)
+      (subst (λ (w : World). SameWorld (2 ^ (plan_of v).side) (world_of v a) w)
+      (sym (store_plainly v are b)) same)

@@ -36,24 +36,35 @@ use Rattle.transcript.specs.declared.answers.Answer.TheVariants.{Done}
 use Rattle.history_model.specs.declared.histories.Record.{Record}
 
 -- room for one more changes nothing that is seen
-pub room_same : (u v : Versions) (s : WorldState) → world_state u ≡ s → v.models.models ≡ u.models.models → log_of v ≡ log_of u
+pub room_same : (u v : Versions) (s : WorldState) → world_state u ≡ s
+    → v.models.models ≡ u.models.models → log_of v ≡ log_of u
     → v.store ≡ u.store → world_state v ≡ s
 room_same u v s is models log store =
-    (λ i. record { plan = (store i).words.plan; models = models i; log = log i; noted = record { made = (store i).told.made; met = (store i).told.met } })
+    (λ i. record {
+      plan = (store i).words.plan;
+      models = models i;
+      log = log i;
+      noted =
+          record { made = (store i).told.made; met = (store i).told.met };
+    })
     ∙ is
 
-module _ (v w : Versions) (s : WorldState) (is : world_state v ≡ s) (session : ℕ) (l : ScriptLine) (answer : Answer) (g : GoesOnBy v session l answer w) where
+module _ (v w : Versions) (s : WorldState) (is : world_state v ≡ s) (session : ℕ) (l : ScriptLine)
+    (answer : Answer) (g : GoesOnBy v session l answer w) where
   pub changed_plan : plan_of w ≡ s.plan
   changed_plan = g.plan ∙ ap (λ (t : WorldState). t.plan) is
 
   pub changed_models : w.models.models ≡ s.models
   changed_models = g.models ∙ ap (λ (t : WorldState). t.models) is
 
-  pub changed_goes : GoesOnWith s.plan s.models session l s.log (log_of w) s.noted (noted_of w) (answer_at l (moment_of w) answer)
+  pub changed_goes : GoesOnWith s.plan s.models session l s.log (log_of w) s.noted (noted_of w)
+      (answer_at l (moment_of w) answer)
   changed_goes =
-      subst (λ (t : WorldState). GoesOnWith t.plan t.models session l t.log (log_of w) t.noted (noted_of w) (answer_at l (moment_of w) answer)) is g.goes_on
+      subst (λ (t : WorldState). GoesOnWith t.plan t.models session l t.log (log_of w) t.noted
+      (noted_of w) (answer_at l (moment_of w) answer)) is g.goes_on
 
-module _ (v w : Versions) (s : WorldState) (is : world_state v ≡ s) (r : Record) (answer : Answer) (logs : Changes (log_of v) r answer (log_of w)) where
+module _ (v w : Versions) (s : WorldState) (is : world_state v ≡ s) (r : Record) (answer : Answer)
+    (logs : Changes (log_of v) r answer (log_of w)) where
   pub changed_logs : Changes s.log r answer (log_of w)
   changed_logs = subst (λ (t : WorldState). Changes t.log r answer (log_of w)) is logs
 
@@ -62,20 +73,28 @@ module _ (v w : Versions) (s : WorldState) (is : world_state v ≡ s) (r : Recor
 
 -- ---- a question about a version
 
-pub asked_told : (v : Versions) (s : WorldState) (version : ℕ) (question : Question) (answer : Answer) → world_state v ≡ s → AreVersions v
+pub asked_told : (v : Versions) (s : WorldState) (version : ℕ) (question : Question)
+    (answer : Answer) → world_state v ≡ s → AreVersions v
     → TellsHeldVersion v version question answer
-    → Tells (2 ^ s.plan.side) (world_has s.models s.log.records version) (world_tint s.models s.log.records version) question answer
+    → Tells (2 ^ s.plan.side) (world_has s.models s.log.records version)
+    (world_tint s.models s.log.records version) question answer
 asked_told v s version question answer is are told =
     subst (λ (t : WorldState). Tells (2 ^ t.plan.side) (world_has t.models t.log.records version)
     (world_tint t.models t.log.records version) question answer) is
-    (subst (λ (l : ℕ). Tells (2 ^ l) (world_of v version) (tints_of v version) question answer) are.stored.side
-    (subst (λ (b : Bool). Tells (kept_side b (2 ^ v.side)) (world_of v version) (tints_of v version) question answer) are.plain told))
+    (subst (λ (l : ℕ). Tells (2 ^ l) (world_of v version)
+    (tints_of v version) question answer) are.stored.side
+    (subst (λ (b : Bool). Tells (kept_side b (2 ^ v.side)) (world_of v version)
+    (tints_of v version) question answer) are.plain told))
 
 -- ---- the file of a box of a version
 
-pub root_file : {E Z : Type 0} (v : Versions) (version : ℕ) (base : Option Name) (part : Boxed) (result : Result (Vec ℕ Z) E) → AreVersions v
-    → IsKept (log_of v) version → HoldsTree v.store base → base ≡ stored_root v.store.roots version → FitsAt part.at part.size (2 ^ v.side)
-    → IfOk result (λ file. ForWorld v.store.told.held v.side base (λ cells. file.items ≡ file_of_box part cells))
+pub root_file : {E Z : Type 0} (v : Versions) (version : ℕ) (base : Option Name) (part : Boxed)
+    (result : Result (Vec ℕ Z) E) → AreVersions v
+    → IsKept (log_of v) version → HoldsTree v.store base → base ≡ stored_root v.store.roots version
+    → FitsAt part.at part.size (2 ^ v.side)
+    → IfOk result
+    (λ file. ForWorld v.store.told.held v.side base
+    (λ cells. file.items ≡ file_of_box part cells))
     → IfOk result (λ file. file.items ≡ file_of_box part (world_of v version))
 root_file v version base part (Err e) are kept holds is fits told = tt
 root_file v version base part (Ok file) are kept holds is fits told =
@@ -89,22 +108,31 @@ root_file v version base part (Ok file) are kept holds is fits told =
     ∙ same_file part (cells_of (v.side - 2) (shape_of s.tree)) (world_of v version)
     (shown_in v.side part (shape_of s.tree) (world_of v version) s.shows fits)
 
-pub file_still : {E Z : Type 0} (a v : Versions) (version : ℕ) (part : Boxed) (result : Result (Vec ℕ Z) E) → StayVersions a v
+pub file_still : {E Z : Type 0} (a v : Versions) (version : ℕ) (part : Boxed)
+    (result : Result (Vec ℕ Z) E) → StayVersions a v
     → IfOk result (λ file. file.items ≡ file_of_box part (world_of v version))
     → IfOk result (λ file. file.items ≡ file_of_box part (world_of a version))
 file_still {E} {Z} a v version part result stay told =
-    subst (λ (l : Log). IfOk result (λ file. file.items ≡ file_of_box part (world_has a.models.models l.records version))) stay.log
-    (subst (λ (ms : List Content). IfOk result (λ file. file.items ≡ file_of_box part (world_has ms v.records.items version))) stay.models told)
+    subst (λ (l : Log). IfOk result
+    (λ file. file.items
+    ≡ file_of_box part (world_has a.models.models l.records version))) stay.log
+    (subst (λ (ms : List Content). IfOk result
+    (λ file. file.items
+    ≡ file_of_box part (world_has ms v.records.items version))) stay.models told)
 
 -- ---- two versions
 
 -- they have the same cells exactly where they have one root
-pub same_by_roots : (v : Versions) (number a b : ℕ) (is : Bool) → AreVersions v → IsStore v.store number → IsKept (log_of v) a → IsKept (log_of v) b
+pub same_by_roots : (v : Versions) (number a b : ℕ) (is : Bool) → AreVersions v
+    → IsStore v.store number → IsKept (log_of v) a → IsKept (log_of v) b
     → (IsTrue is ↔ (stored_root v.store.roots a ≡ stored_root v.store.roots b))
     → (IsTrue is ↔ SameWorld (2 ^ (plan_of v).side) (world_of v a) (world_of v b))
 same_by_roots v number a b is are st of_a of_b roots = (
   (λ yes. same_in_world v a b are
-      (same_cells (plan_of v) v.models.models _ st.plan.side_low (versions_sound v number are.stored st) a b of_a of_b (roots.0 yes))),
-  (λ cells. roots.1 (same_root (plan_of v) v.models.models _ st.plan.side_low (versions_sound v number are.stored st) a b of_a of_b
+      (same_cells (plan_of v) v.models.models _ st.plan.side_low
+      (versions_sound v number are.stored st) a b of_a of_b (roots.0 yes))),
+  (λ cells. roots.1
+      (same_root (plan_of v) v.models.models _ st.plan.side_low
+      (versions_sound v number are.stored st) a b of_a of_b
       (same_in_store v a b are cells))),
 )

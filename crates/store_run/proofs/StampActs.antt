@@ -49,19 +49,23 @@ module _ (old new : Seen) (side : ℕ) (root : Option Name) (models : List Conte
   pub no_stamp_rebuilds : RebuildsEdit old side root (edited [] act) result new
       → RebuildsEdit old side root (edited models act) result new
   no_stamp_rebuilds h =
-      subst (λ (f : World → World). IfOk result (λ r. ForEdited old side root f (λ world. Rebuilt (side - 2) world r old new)))
+      subst (λ (f : World → World). IfOk result
+      (λ r. ForEdited old side root f (λ world. Rebuilt (side - 2) world r old new)))
       (same_edit models act e is) h
 
   pub no_stamp_grows : GrowsByEdit old side root (edited [] act) result new
       → GrowsByEdit old side root (edited models act) result new
   no_stamp_grows h =
-      subst (λ (f : World → World). OnOk result (ForEdited old side root f (λ world. Grows (world_shape (side - 2) world) old new)))
+      subst (λ (f : World → World). OnOk result
+      (ForEdited old side root f (λ world. Grows (world_shape (side - 2) world) old new)))
       (same_edit models act e is) h
 
   pub no_stamp_refuses : RefusesEdit old side root (edited [] act) result new
       → RefusesEdit old side root (edited models act) result new
   no_stamp_refuses h =
-      subst (λ (f : World → World). IfErr result (λ e. ForEdited old side root f (λ world. Fails (world_shape (side - 2) world) e.level e.bucket old new)))
+      subst (λ (f : World → World). IfErr result
+      (λ e. ForEdited old side root f
+      (λ world. Fails (world_shape (side - 2) world) e.level e.bucket old new)))
       (same_edit models act e is) h
 
 -- the act of a stamp

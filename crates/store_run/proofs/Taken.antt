@@ -47,7 +47,8 @@ weight_in : (f : Tree → ℕ) (s : Known) (roots : List Rooted) (x : Rooted) �
     → weight_of f (root_tree s x.1) ≤ rooted_weight f s roots
 weight_in f s [] x (i, lt, is) = absurd (omega (arith, lt))
 weight_in f s (y ∷ roots) x (zero, lt, is) =
-    subst (λ (z : Rooted). weight_of f (root_tree s z.1) ≤ rooted_weight f s (y ∷ roots)) is (omega arith)
+    subst (λ (z : Rooted). weight_of f (root_tree s z.1) ≤ rooted_weight f s (y ∷ roots)) is
+    (omega arith)
 weight_in f s (y ∷ roots) x (suc i, lt, is) =
     let rest = weight_in f s roots x (i, omega (arith, lt), is) in omega (arith, rest)
 
@@ -75,7 +76,8 @@ none_taken v free = record {
   all = λ p lt kept. absurd (omega (arith, lt));
 }
 
-module _ (v : Versions) (n : ℕ) (s : Known) (roots : List Rooted) (are : AreTakenRoots v n s roots) where
+module _ (v : Versions) (n : ℕ) (s : Known) (roots : List Rooted)
+    (are : AreTakenRoots v n s roots) where
   pub one_marked : (IsKept (log_of v) n → ⊥) → AreTakenRoots v (n + 1) s roots
   one_marked gone = record {
     words = are.words;
@@ -123,7 +125,8 @@ module _ (v : Versions) (n : ℕ) (s : Known) (roots : List Rooted) (are : AreTa
         (are.all p (omega (arith, lt, other)) kept_p)
 
     tree_is : root_tree s (stored_root s.roots n) ≡ root_tree v.store root
-    tree_is = tree_of_words v.store s (stored_root s.roots n) are.words ∙ ap (root_tree v.store) (sym is)
+    tree_is = tree_of_words v.store s (stored_root s.roots n) are.words
+        ∙ ap (root_tree v.store) (sym is)
 
     pub one_taken : AreTakenRoots v (n + 1) t (roots ++ (n, root) ∷ [])
     one_taken = record {
@@ -133,11 +136,20 @@ module _ (v : Versions) (n : ℕ) (s : Known) (roots : List Rooted) (are : AreTa
           ∙ are.places p (omega (arith, le));
       weighs = λ f. (
           let tree = ap (λ (x : Tree). weight_of f x) tree_is in
-          omega (arith, gives.gains.weighs f, are.weighs f, weight_added f v.store roots (n, root), tree));
-      few = let few = are.few in let long = length-append roots ((n, root) ∷ []) in omega (arith, few, long);
+          omega (
+            arith,
+            gives.gains.weighs f,
+            are.weighs f,
+            weight_added f v.store roots
+                (n, root),
+            tree,
+          ));
+      few = let few = are.few in let long = length-append roots ((n, root) ∷ []) in omega
+          (arith, few, long);
       rising = all_pairs_push (λ a b. a.0 < b.0) roots (n, root) are.rising
           (λ k d lt. are.below (get_or roots k d) (Contains-get_or roots k d lt));
-      below = each (λ x. x.0 < n + 1) (λ x has. (let lt = are.below x has in omega (arith, lt))) (omega arith);
+      below = each (λ x. x.0 < n + 1) (λ x has. (let lt = are.below x has in omega (arith, lt)))
+          (omega arith);
       listed = each (λ x. IsKept (log_of v) x.0) are.listed kept;
       roots_are = each (λ x. x.1 ≡ stored_root v.store.roots x.0) are.roots_are of_old;
       all = λ p lt kept_p. all_more p lt kept_p (cases_eq p n);
@@ -158,7 +170,8 @@ module _ (v : Versions) (s : Known) (roots : List Rooted) (of_v : AreStoredVersi
     };
   }
 
-  of_top : (x : Rooted) → Contains roots x → (n : Name) → x.1 ≡ Some n → n.level ≡ top (plan_of v).side
+  of_top : (x : Rooted) → Contains roots x → (n : Name) → x.1 ≡ Some n
+      → n.level ≡ top (plan_of v).side
   of_top x has n e = of_v.sound.level x.0 n (sym (are.roots_are x has) ∙ e)
 
   shown : (x : Rooted) → Contains roots x
@@ -169,7 +182,8 @@ module _ (v : Versions) (s : Known) (roots : List Rooted) (of_v : AreStoredVersi
       (stored_in (2 ^ l) v.models.models v.records.items x.0)) (sym of_v.side)
       (subst (λ (t : Tree). ShowsCells (world_block (plan_of v).side) (shape_of t)
       (stored_in (2 ^ (plan_of v).side) v.models.models v.records.items x.0))
-      (ap (root_tree v.store) (sym (are.roots_are x has)) ∙ sym (tree_of_words v.store s x.1 are.words))
+      (ap (root_tree v.store) (sym (are.roots_are x has))
+      ∙ sym (tree_of_words v.store s x.1 are.words))
       (of_v.sound.shown x.0 (are.listed x has)))
 
   pub all_taken : HoldsKept (plan_of v).side v.models.models (log_of v) s.told.held roots
@@ -193,7 +207,8 @@ module _ (v : Versions) (s : Known) (roots : List Rooted) (of_v : AreStoredVersi
 
 module _ (v : Versions) (n : ℕ) (s : Known) (roots : List Rooted) (are : AreTakenRoots v n s roots)
     (of_v : AreStoredVersions v) (le : n ≤ moment_of v) where
-  pub version_passed : (mark : Mark) → mark_in v.marks.items n ≡ Some mark → AreTakenRoots v (n + 1) s roots
+  pub version_passed : (mark : Mark) → mark_in v.marks.items n ≡ Some mark
+      → AreTakenRoots v (n + 1) s roots
   version_passed mark some =
       one_marked v n s roots are (marked_gone v n (marked_at v n mark of_v le some).1)
 

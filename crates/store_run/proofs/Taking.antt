@@ -44,7 +44,8 @@ edit_taken v u w r root makes appends = record {
       (sym appends.only.only.made) makes.grows.made;
 }
 
-pub way_taken : (v u w : Versions) (r : Record) (to : ℕ) (root : Option Name) → SharesRootOfVersion v to root u
+pub way_taken : (v u w : Versions) (r : Record) (to : ℕ) (root : Option Name)
+    → SharesRootOfVersion v to root u
     → GainsRecord u r w → TakesWay v r w
 way_taken v u w r to root shares appends = record {
   takes = record {
@@ -79,7 +80,8 @@ pub target_follows : (v : Versions) (r : Record) (to : ℕ) → (log_of v).marks
     → is_edit r.act ≡ false → Some to ≡ target_at v.records.items (moment_of v) r.act
     → CanFollow v.records.items r
 target_follows v r to none other goes =
-    subst (λ (ms : List Mark). MayFollow ms (moment_of v + 1) r.act (position_after v.records.items)) none
+    subst (λ (ms : List Mark). MayFollow ms (moment_of v + 1) r.act
+    (position_after v.records.items)) none
     ((goes_to (log_of v) r.act to other (sym goes)).may
     (subst (λ (ms : List Mark). IsUnmarked ms to) (sym none) (All-nil _)))
 
@@ -125,17 +127,21 @@ way_replays old u w r false same other takes follows stays lacks = (
 pub same_roots_same : (v : Versions) (number a b : ℕ) → IsReplay v → IsStore v.store number
     → a ≤ moment_of v → b ≤ moment_of v → (is : Bool)
     → (IsTrue is ↔ (stored_root v.store.roots a ≡ stored_root v.store.roots b))
-    → IsTrue is ↔ SameTints (kept_side v.models.tint (2 ^ (plan_of v).side)) (tints_of v a) (tints_of v b)
+    → IsTrue is ↔ SameTints (kept_side v.models.tint (2 ^ (plan_of v).side)) (tints_of v a)
+    (tints_of v b)
 same_roots_same v number a b replay st low high is roots =
     let of_a = unmarked_kept v a replay.unmarked low in
     let of_b = unmarked_kept v b replay.unmarked high in
     let sound = versions_sound v number replay.are st in (
-      λ t. subst (λ (l : ℕ). SameTints (kept_side v.models.tint (2 ^ l)) (tints_of v a) (tints_of v b)) replay.are.side
+      λ t. subst (λ (l : ℕ). SameTints (kept_side v.models.tint (2 ^ l)) (tints_of v a)
+          (tints_of v b)) replay.are.side
           (tints_by_cells v a b replay.are
-          (same_cells (plan_of v) v.models.models _ st.plan.side_low sound a b of_a of_b (roots.0 t))),
+          (same_cells (plan_of v) v.models.models _ st.plan.side_low sound a b of_a of_b
+          (roots.0 t))),
       λ same. roots.1 (same_root (plan_of v) v.models.models _ st.plan.side_low sound a b of_a of_b
           (cells_by_tints v a b replay.are
-          (subst (λ (l : ℕ). SameTints (kept_side v.models.tint (2 ^ l)) (tints_of v a) (tints_of v b)) (sym replay.are.side) same))),
+          (subst (λ (l : ℕ). SameTints (kept_side v.models.tint (2 ^ l)) (tints_of v a)
+          (tints_of v b)) (sym replay.are.side) same))),
     )
 
 -- ---- nothing is held between two calls

@@ -47,13 +47,15 @@ from_origin c =
     let z : c.z - 0 ≡ c.z = omega arith in
     λ i. record { x = x i; y = y i; z = z i }
 
-world_shows : (level : ℕ) (world : World) → ShowsCells (block_at_origin level) (world_shape level world) world
+world_shows : (level : ℕ) (world : World)
+    → ShowsCells (block_at_origin level) (world_shape level world) world
 world_shows level world = record {
   each = λ c i.
       let x : c.x - 0 < block_side level = omega (arith, i.x.1) in
       let y : c.y - 0 < block_side level = omega (arith, i.y.1) in
       let z : c.z - 0 < block_side level = omega (arith, i.z.1) in
-      (shape_with-has level (world_cells world)).each (c.x - 0) (c.y - 0) (c.z - 0) x y z ∙ ap world (from_origin c);
+      (shape_with-has level (world_cells world)).each (c.x - 0) (c.y - 0) (c.z - 0) x y z
+      ∙ ap world (from_origin c);
 }
 
 -- what an edit wants of the newest version
@@ -66,7 +68,8 @@ module _ (v : Versions) (act : Act) (are : AreStoredVersions v) (edit : is_edit 
   after side k = made_of (2 ^ side) v.models.models v.records.items act (moment_of v) k
 
   wanted_at : (side : ℕ) → side ≡ (plan_of v).side → (s : Shape)
-      → IsOfAct side v.models.models act (stored_in (2 ^ side) v.models.models v.records.items (moment_of v)) s
+      → IsOfAct side v.models.models act
+      (stored_in (2 ^ side) v.models.models v.records.items (moment_of v)) s
       → Wants v act s
   wanted_at side same s of = record {
     edit = edit;
@@ -75,9 +78,11 @@ module _ (v : Versions) (act : Act) (are : AreStoredVersions v) (edit : is_edit 
     few_parts = of.few;
     part = subst (λ (l : ℕ). IsPartOfWorld (plan_of v) (after l of.after) s) same (record {
       all = world_shape (side - 2) (after side of.after);
-      canonical = subst (λ (l : ℕ). IsCanonical (top l) (world_shape (side - 2) (after side of.after))) same
+      canonical = subst
+          (λ (l : ℕ). IsCanonical (top l) (world_shape (side - 2) (after side of.after))) same
           (shape_with-canonical (side - 2) (world_cells (after side of.after)));
-      shows = subst (λ (l : ℕ). ShowsCells (world_block l) (world_shape (side - 2) (after side of.after))
+      shows = subst
+          (λ (l : ℕ). ShowsCells (world_block l) (world_shape (side - 2) (after side of.after))
           (after side of.after)) same (world_shows (side - 2) (after side of.after));
       part = of.is_part;
     });
@@ -86,10 +91,12 @@ module _ (v : Versions) (act : Act) (are : AreStoredVersions v) (edit : is_edit 
   pub wanted_by : (s : Shape) → WantsFor v act s → Wants v act s
   wanted_by s of = wanted_at v.side are.side s of
 
-  pub grew_wanted : (old new : List Shape) → Grew (WantsFor v act) old new → Grew (Wants v act) old new
+  pub grew_wanted : (old new : List Shape) → Grew (WantsFor v act) old new
+      → Grew (Wants v act) old new
   grew_wanted old new grew = grew_into wanted_by grew
 
-  pub meets_full : (level bucket : ℕ) (old new : Seen) → FailsBy (WantsFor v act) level bucket old new
+  pub meets_full : (level bucket : ℕ) (old new : Seen)
+      → FailsBy (WantsFor v act) level bucket old new
       → MeetsFull (Wants v act) level bucket old new
   meets_full level bucket old new fails = record {
     plan = fails.plan;
@@ -101,8 +108,10 @@ module _ (v : Versions) (act : Act) (are : AreStoredVersions v) (edit : is_edit 
   }
 
 -- the edit may become the next record, with the root that it made
-pub may_edit : (v u : Versions) (r : Record) (root : Option Name) → AreStoredVersions v → AreStoredVersions u → MakesRoot v r.act root u
-    → is_edit r.act ≡ true → FitsWorld (2 ^ v.side) v.models.models r.act → moment_of u ≢ 65535 → moment_of u ≤ 65535
+pub may_edit : (v u : Versions) (r : Record) (root : Option Name) → AreStoredVersions v
+    → AreStoredVersions u → MakesRoot v r.act root u
+    → is_edit r.act ≡ true → FitsWorld (2 ^ v.side) v.models.models r.act → moment_of u ≢ 65535
+    → moment_of u ≤ 65535
     → MayAppend (plan_of u) u.models.models r root (core_with (log_of u) u.store)
 may_edit v u r root are now makes edit fits late few =
     let plan = makes.stay.spares.plan in
@@ -111,13 +120,18 @@ may_edit v u r root are now makes edit fits late few =
       room = omega (arith, late);
       fits =
           subst (λ (l : ℕ). FitsWorld (2 ^ l) u.models.models r.act) (sym side)
-          (subst (λ (ms : List Content). FitsWorld (2 ^ v.side) ms r.act) (sym makes.stay.models) fits);
-      follows = edit_follows (log_of u).marks (moment_of u + 1) r.act (position_after u.records.items) edit;
+          (subst (λ (ms : List Content). FitsWorld (2 ^ v.side) ms r.act)
+          (sym makes.stay.models) fits);
+      follows = edit_follows (log_of u).marks (moment_of u + 1) r.act
+          (position_after u.records.items) edit;
       level = λ n e. makes.level n e ∙ ap (λ (p : Layout). top p.side) (sym plan);
       cells = edited_world u r.act;
       shows =
-          subst (λ (p : Layout). ShowsCells (world_block p.side) (shape_of (root_tree u.store root)) (edited_world u r.act)) (sym plan)
-          (subst (λ (x : World). ShowsCells (world_block (plan_of v).side) (shape_of (root_tree u.store root)) x) (sym (edited_same v u r.act makes.stay)) makes.shows);
+          subst (λ (p : Layout). ShowsCells (world_block p.side)
+          (shape_of (root_tree u.store root)) (edited_world u r.act)) (sym plan)
+          (subst (λ (x : World). ShowsCells (world_block (plan_of v).side)
+          (shape_of (root_tree u.store root)) x)
+          (sym (edited_same v u r.act makes.stay)) makes.shows);
       makes = record {
         edit = λ _. record {
           each = λ q inside.
@@ -130,22 +144,35 @@ may_edit v u r root are now makes edit fits late few =
 
 -- ---- where an undo or a redo goes
 
-pub may_go_to : (v u : Versions) (r : Record) (to number : ℕ) (root : Option Name) → AreStoredVersions u → IsStore u.store number → SharesRootOfVersion v to root u
-    → is_edit r.act ≡ false → target_at v.records.items (moment_of v) r.act ≡ Some to → IsKept (log_of v) to → moment_of v ≢ 65535 → moment_of v ≤ 65535
+pub may_go_to : (v u : Versions) (r : Record) (to number : ℕ) (root : Option Name)
+    → AreStoredVersions u → IsStore u.store number → SharesRootOfVersion v to root u
+    → is_edit r.act ≡ false → target_at v.records.items (moment_of v) r.act ≡ Some to
+    → IsKept (log_of v) to → moment_of v ≢ 65535 → moment_of v ≤ 65535
     → MayAppend (plan_of u) u.models.models r root (core_with (log_of u) u.store)
 may_go_to v u r to number root are st shares other goes kept late few =
     let log = shares.stay.log in
     let now : moment_of u ≡ moment_of v = ap (λ (l : Log). length l.records) log in
-    let goes_now : target_at u.records.items (moment_of u) r.act ≡ Some to = (λ i. target_at ((log i).records) (length ((log i).records)) r.act) ∙ goes in
+    let goes_now : target_at u.records.items (moment_of u) r.act ≡ Some to =
+    (λ i. target_at ((log i).records) (length ((log i).records)) r.act) ∙ goes in
     let g = goes_to (log_of u) r.act to other goes_now in
-    let kept_now : IsUnmarked (log_of u).marks to = subst (λ (l : Log). IsUnmarked l.marks to) (sym log) kept.unmarked in
-    let may = may_go (plan_of u) u.models.models r (core_with (log_of u) u.store) (versions_sound u number are st) (omega (arith, late, now)) other (g.may kept_now) in
-    subst (λ (o : Option Name). MayAppend (plan_of u) u.models.models r o (core_with (log_of u) u.store))
+    let kept_now : IsUnmarked (log_of u).marks to =
+    subst (λ (l : Log). IsUnmarked l.marks to) (sym log) kept.unmarked in
+    let may =
+    may_go (plan_of u) u.models.models r (core_with (log_of u) u.store)
+    (versions_sound u number are st) (omega (arith, late, now)) other (g.may kept_now) in
+    subst (λ (o : Option Name). MayAppend (plan_of u) u.models.models r o
+    (core_with (log_of u) u.store))
     (ap (stored_root u.store.roots) g.goes ∙ sym shares.is) may
 
 -- what the trail tells
-pub target_undo : (v : Versions) → AreStoredVersions v → first_of (trail_position v.trail).past ≡ target_at v.records.items (moment_of v) Undo
-target_undo v are = ap (λ (at : Rattle.history_model.specs.Positions.Position). first_of at.past) are.position ∙ sym (undo_target v.records.items)
+pub target_undo : (v : Versions) → AreStoredVersions v
+    → first_of (trail_position v.trail).past ≡ target_at v.records.items (moment_of v) Undo
+target_undo v are =
+    ap (λ (at : Rattle.history_model.specs.Positions.Position). first_of at.past) are.position
+    ∙ sym (undo_target v.records.items)
 
-pub target_redo : (v : Versions) → AreStoredVersions v → first_of (trail_position v.trail).future ≡ target_at v.records.items (moment_of v) Redo
-target_redo v are = ap (λ (at : Rattle.history_model.specs.Positions.Position). first_of at.future) are.position ∙ sym (redo_target v.records.items)
+pub target_redo : (v : Versions) → AreStoredVersions v
+    → first_of (trail_position v.trail).future ≡ target_at v.records.items (moment_of v) Redo
+target_redo v are =
+    ap (λ (at : Rattle.history_model.specs.Positions.Position). first_of at.future) are.position
+    ∙ sym (redo_target v.records.items)

@@ -78,7 +78,8 @@ tree_same n (Node children) row other same = node_at-same n row other same
 
 -- an entry is added, for whatever trees the children have
 pub publishes_any : (p : Layout) (seat : ℕ) (v : SeatView) (n : Name) (key : keys.Key)
-    (row : ℕ → Tree) → ViewTells v → AreHeld v.held (children_of_key key) row → MayPublish p v n key row
+    (row : ℕ → Tree) → ViewTells v → AreHeld v.held (children_of_key key) row
+    → MayPublish p v n key row
     → MayWrite p seat v (book_of n) (λ _. 1) (Adds p seat n key)
     (λ _ w. (other : ℕ → Tree) → AreHeld v.held (children_of_key key) other
     → Published v n key other w)
@@ -98,7 +99,8 @@ publishes_any p seat v n key row tells are may =
     (publishes p seat v n key row may)
 
 -- a share goes, for whatever tree it has
-pub lowers_any : (p : Layout) (seat : ℕ) (v : SeatView) (t : Tree) (n : Name) (book : ℕ) → ViewTells v
+pub lowers_any : (p : Layout) (seat : ℕ) (v : SeatView) (t : Tree) (n : Name) (book : ℕ)
+    → ViewTells v
     → v.turn ≡ Some (bucket_of n) → IsHeld v.held t → root_of t ≡ Some n
     → known_at (book_of n) v.words ≡ Some (book + 1) → 0 < book
     → MayWrite p seat v (book_of n) (λ _. book) (Lowers p seat n)
@@ -142,7 +144,8 @@ may_publish p v n key turn slot r = record {
   room = r.room;
 }
 
-pub publishes_ready : (p : Layout) (seat : ℕ) (v : SeatView) (n : Name) (key : keys.Key) → ViewTells v
+pub publishes_ready : (p : Layout) (seat : ℕ) (v : SeatView) (n : Name) (key : keys.Key)
+    → ViewTells v
     → v.turn ≡ Some (bucket_of n) → n.slot < p.cap → IsReady p v n key
     → MayWrite p seat v (book_of n) (λ _. 1) (Adds p seat n key)
     (λ _ w. (row : ℕ → Tree) → AreHeld v.held (children_of_key key) row

@@ -150,7 +150,8 @@ module _ (p : Layout) (seat : ℕ) (v : SeatView) (r : Record) (root : Tree) (ol
       ∙ gone_tree c.key (top p.side) ∙ sym e)
       (λ (s : Stands p c root). (let name = root_stands p c root s in
       ap (λ (o : Option Name). tree_at c.key (top p.side) o) name
-      ∙ ap (λ (l : ℕ). tree_at c.key l (Some s.name)) (sym (may.level s.name name)) ∙ s.tree)) stands
+      ∙ ap (λ (l : ℕ). tree_at c.key l (Some s.name)) (sym (may.level s.name name))
+      ∙ s.tree)) stands
 
   is_child : IsChildAt (top p.side) (root_of root)
   is_child = ⊎_elim
@@ -174,7 +175,8 @@ module _ (p : Layout) (seat : ℕ) (v : SeatView) (r : Record) (root : Tree) (ol
       absurd (no_mark old versions u (log_known p v.models old views seat v k at u 6 0 open_at.turn
       open_at.unmarked) i d lt same)
 
-  follows_seen : (act : Act) → HasOpenTarget v act → MayFollow log.marks (length log.records + 1) act
+  follows_seen : (act : Act) → HasOpenTarget v act
+      → MayFollow log.marks (length log.records + 1) act
       (position_after v.log.seen.records)
   follows_seen Undo h = has_target (position_after v.log.seen.records).past h
   follows_seen Redo h = has_target (position_after v.log.seen.records).future h
@@ -309,11 +311,13 @@ module _ (p : Layout) (seat : ℕ) (v : SeatView) (r : Record) (root : Tree) (ol
     }
       where
         known_words : (u i : ℕ) → u < suc n → i < 5 → old (Version (suc u) i)
-            ≡ slice_index (log_words (records_in old (suc u)) (record_of_words (word_in old (suc u)))) i
+            ≡ slice_index
+            (log_words (records_in old (suc u)) (record_of_words (word_in old (suc u)))) i
         known_words u i lt low = elim (cases_eq u n) [
           | inl same ↦
               subst (λ (x : ℕ). old (Version (suc x) i)
-              ≡ slice_index (log_words (records_in old (suc x)) (record_of_words (word_in old (suc x)))) i)
+              ≡ slice_index
+              (log_words (records_in old (suc x)) (record_of_words (word_in old (suc x)))) i)
               (sym same)
               (next_words i low
               ∙ (let rs : v.log.seen.records ++ r ∷ [] ≡ records_in old (suc n) =
@@ -363,7 +367,8 @@ module _ (p : Layout) (seat : ℕ) (v : SeatView) (r : Record) (root : Tree) (ol
 pub appends_record : (p : Layout) (seat : ℕ) (v : SeatView) (r : Record) (root : Tree)
     → v.alive ≡ true → SeesAll v → Contains v.numbers r.session → HasNextWords v r (root_of root)
     → IsAppendable p v r root
-    → MayWrite p seat v LogLength (λ _. suc (number_seen v)) (Appends p v.models seat r (root_of root))
+    → MayWrite p seat v LogLength (λ _. suc (number_seen v))
+    (Appends p v.models seat r (root_of root))
     (λ k w. Appended v r root w)
 appends_record p seat v r root alive sees own words may models old views rule at =
     let same : v.models ≡ models = rule.knows.same_models seat v at alive in

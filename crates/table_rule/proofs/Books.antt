@@ -100,7 +100,8 @@ module _ (p : Layout) (models : List Content) (old new : Spot → ℕ) (views : 
 
   -- Part A where the book of n is written under its turn, in a used slot or with 0
   pub book_turns : (n : Name) (k : ℕ) → v.turn ≡ Some (bucket_of n) → Wrote old (book_of n) k new
-      → (k ≡ 0) ⊎ (n.slot < old (used_of (bucket_of n))) → w.numbers ≡ v.numbers → w.right ≡ v.right → w.next ≡ v.next → w.turn ≡ v.turn
+      → (k ≡ 0) ⊎ (n.slot < old (used_of (bucket_of n))) → w.numbers ≡ v.numbers → w.right ≡ v.right
+      → w.next ≡ v.next → w.turn ≡ v.turn
       → w.words ≡ (book_of n, k) ∷ v.words → KeepsTurns p new (set views seat w)
   book_turns n k has wrote used numbers right next turn words =
       word_step p old views r.turns seat v at new w
@@ -111,7 +112,8 @@ module _ (p : Layout) (models : List Content) (old new : Spot → ℕ) (views : 
 
   -- the rule where a book is written and no entry is new
   book_ruled : (n : Name) (k : ℕ) → v.turn ≡ Some (bucket_of n) → Wrote old (book_of n) k new
-      → (k ≡ 0) ⊎ (n.slot < old (used_of (bucket_of n))) → StoreStep p seat c d → ((m : Name) → IsLive p d m → IsLive p c m) → (held : List Tree)
+      → (k ≡ 0) ⊎ (n.slot < old (used_of (bucket_of n))) → StoreStep p seat c d
+      → ((m : Name) → IsLive p d m → IsLive p c m) → (held : List Tree)
       → w ≡ holding v n k held → ((t : Tree) → IsHeld held t → Stands p c t)
       → number_of_trees held ≤ 4096 → KeepsRule p models new (set views seat w)
   book_ruled n k has wrote used step before held is stands few =

@@ -245,7 +245,8 @@ module _ (p : Layout) (models : List Content) (mem : Spot → ℕ) (views : List
   deals = record {
     plan = r.plan;
     turns = deal_turns;
-    sound = reseats_sound p models (table_state p mem views) (table_state p mem all) r.sound dealt_event;
+    sound = reseats_sound p models (table_state p mem views)
+        (table_state p mem all) r.sound dealt_event;
     knows = deal_knows;
     log = deal_log;
   }

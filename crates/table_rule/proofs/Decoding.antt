@@ -44,7 +44,8 @@ in_world_cell : (side : ℕ) (c : Cell) → side ≤ 2 ^ 16 → IsInWorld side c
 in_world_cell side c le is =
     let x = is.x in let y = is.y in let z = is.z in (omega arith, omega arith, omega arith)
 
-at_cell : (side : ℕ) (at size : Cell) → side < 2 ^ 16 → FitsAt at size side → IsCell at × IsCell size
+at_cell : (side : ℕ) (at size : Cell) → side < 2 ^ 16 → FitsAt at size side
+    → IsCell at × IsCell size
 at_cell side at size le is =
     let x = is.x in let y = is.y in let z = is.z in
     let x0 = x.0 in let x1 = x.1 in let y0 = y.0 in let y1 = y.1 in let z0 = z.0 in
@@ -75,7 +76,8 @@ model_cell side (Some model) at le is = (at_cell side at model.size le is).0
 -- the first word of an act that isn't looked at
 kind_back : (kind now last : ℕ) → kind < 2 ^ 8 → (kind + 2 ^ 8 * now + 2 ^ 32 * last) % 2 ^ 8 ≡ kind
 kind_back kind now last lt =
-    low_part (kind + 2 ^ 8 * now + 2 ^ 32 * last) kind (now + 2 ^ 24 * last) (2 ^ 8) (omega arith) lt
+    low_part (kind + 2 ^ 8 * now + 2 ^ 32 * last) kind (now + 2 ^ 24 * last) (2 ^ 8)
+    (omega arith) lt
 
 -- the tint of a fill and of a ball
 tint_back : (c : ℕ) → c ≤ 255 → c % 2 ^ 8 ≡ c
@@ -87,18 +89,22 @@ tinted_back : (side : ℕ) (models : List Content) (t : TintAct) (now last : ℕ
     (slice_index (tint_packed t) 1) (slice_index (tint_packed t) 2) (slice_index (tint_packed t) 3)
     ≡ Tint t
 tinted_back side models (tints.Fill b c) now last le is small =
-    ap (λ (k : ℕ). act_of_words k (cell_word b.at) (cell_word b.size) c) (kind_back 8 now last (omega arith))
+    ap (λ (k : ℕ). act_of_words k (cell_word b.at) (cell_word b.size) c)
+    (kind_back 8 now last (omega arith))
     ∙ (let box = box_back side b le is.0 in let tint = tint_back c is.1.1 in
     λ i. Tint (tints.Fill (box i) (tint i)))
 tinted_back side models (tints.Erase b) now last le is small =
-    ap (λ (k : ℕ). act_of_words k (cell_word b.at) (cell_word b.size) 0) (kind_back 9 now last (omega arith))
+    ap (λ (k : ℕ). act_of_words k (cell_word b.at) (cell_word b.size) 0)
+    (kind_back 9 now last (omega arith))
     ∙ (let box = box_back side b le is in λ i. Tint (tints.Erase (box i)))
 tinted_back side models (tints.Ball b c) now last le is small =
-    ap (λ (k : ℕ). act_of_words k (cell_word b.centre) b.radius c) (kind_back 10 now last (omega arith))
+    ap (λ (k : ℕ). act_of_words k (cell_word b.centre) b.radius c)
+    (kind_back 10 now last (omega arith))
     ∙ (let ball = ball_back side b le is.0 is.1 in let tint = tint_back c is.2.1 in
     λ i. Tint (tints.Ball (ball i) (tint i)))
 tinted_back side models (tints.Carve b) now last le is small =
-    ap (λ (k : ℕ). act_of_words k (cell_word b.centre) b.radius 0) (kind_back 11 now last (omega arith))
+    ap (λ (k : ℕ). act_of_words k (cell_word b.centre) b.radius 0)
+    (kind_back 11 now last (omega arith))
     ∙ (let ball = ball_back side b le is.0 is.1 in λ i. Tint (tints.Carve (ball i)))
 tinted_back side models (tints.Copy b to) now last le is small =
     ap (λ (k : ℕ). act_of_words k (cell_word b.at) (cell_word b.size) (cell_word to))
@@ -117,16 +123,20 @@ pub act_back : (side : ℕ) (models : List Content) (act : Act) (now last : ℕ)
     → act_of_words ((slice_index (packed act) 0 + 2 ^ 8 * now + 2 ^ 32 * last) % 2 ^ 8)
     (slice_index (packed act) 1) (slice_index (packed act) 2) (slice_index (packed act) 3) ≡ act
 act_back side models (Fill b) now last le is small =
-    ap (λ (k : ℕ). act_of_words k (cell_word b.at) (cell_word b.size) 0) (kind_back 0 now last (omega arith))
+    ap (λ (k : ℕ). act_of_words k (cell_word b.at) (cell_word b.size) 0)
+    (kind_back 0 now last (omega arith))
     ∙ ap Fill (box_back side b le is)
 act_back side models (Erase b) now last le is small =
-    ap (λ (k : ℕ). act_of_words k (cell_word b.at) (cell_word b.size) 0) (kind_back 1 now last (omega arith))
+    ap (λ (k : ℕ). act_of_words k (cell_word b.at) (cell_word b.size) 0)
+    (kind_back 1 now last (omega arith))
     ∙ ap Erase (box_back side b le is)
 act_back side models (Ball b) now last le is small =
-    ap (λ (k : ℕ). act_of_words k (cell_word b.centre) b.radius 0) (kind_back 2 now last (omega arith))
+    ap (λ (k : ℕ). act_of_words k (cell_word b.centre) b.radius 0)
+    (kind_back 2 now last (omega arith))
     ∙ ap Ball (ball_back side b le is.0 is.1)
 act_back side models (Carve b) now last le is small =
-    ap (λ (k : ℕ). act_of_words k (cell_word b.centre) b.radius 0) (kind_back 3 now last (omega arith))
+    ap (λ (k : ℕ). act_of_words k (cell_word b.centre) b.radius 0)
+    (kind_back 3 now last (omega arith))
     ∙ ap Carve (ball_back side b le is.0 is.1)
 act_back side models (Copy b to) now last le is small =
     ap (λ (k : ℕ). act_of_words k (cell_word b.at) (cell_word b.size) (cell_word to))
@@ -150,7 +160,9 @@ pub record_back : (side : ℕ) (models : List Content) (records : List Record) (
     → side < 2 ^ 16 → FitsWorld side models r.act → r.session < 2 ^ 16 → FitsFields r
     → record_of_words (slice_index (log_words records r)) ≡ r
 record_back side models records r le fits small is =
-    let act = act_back side models r.act (position_after records).now (last_edit records) le fits is.numbers in
+    let act =
+    act_back side models r.act (position_after records).now
+    (last_edit records) le fits is.numbers in
     let session : (r.session + 2 ^ 16 * r.line) % 2 ^ 16 ≡ r.session =
     low_part (r.session + 2 ^ 16 * r.line) r.session r.line (2 ^ 16) (omega arith) small in
     let line : (r.session + 2 ^ 16 * r.line) / 2 ^ 16 % 2 ^ 32 ≡ r.line =

@@ -53,7 +53,8 @@ use Rattle.table_rule.proofs.Shares.{held_cons}
 pub record Taken (held : List Tree) (t : Tree) : Type 0 where
   pub all : List Tree
   pub weighs : (f : Tree → ℕ) → weigh f all ≡ weight_of f t + weigh f held
-  pub each : (u : Tree) → IsHeld all u → ((u ≡ t) × ((n : Name) × (root_of t ≡ Some n))) ⊎ IsHeld held u
+  pub each : (u : Tree) → IsHeld all u
+      → ((u ≡ t) × ((n : Name) × (root_of t ≡ Some n))) ⊎ IsHeld held u
 
 taken : (held : List Tree) (t : Tree) (o : Option Name) → root_of t ≡ o → Taken held t
 taken held t None e = record {
@@ -104,7 +105,8 @@ module _ (seat : ℕ) (v : SeatView) (m : Mark) (root : Option Name) (old : Spot
       let s = small in
       let up : m.session + 2 ^ 16 * m.line ≡ m.line * 2 ^ 16 + m.session = omega arith in
       let session : old (Version u 7) % 2 ^ 16 ≡ m.session =
-      ap (λ (n : ℕ). n % 2 ^ 16) (word ∙ up) ∙ mod-mul-add m.line (2 ^ 16) m.session (omega arith) in
+      ap (λ (n : ℕ). n % 2 ^ 16) (word ∙ up)
+      ∙ mod-mul-add m.line (2 ^ 16) m.session (omega arith) in
       let line : old (Version u 7) / 2 ^ 16 % 2 ^ 32 ≡ m.line =
       ap (λ (n : ℕ). n / 2 ^ 16 % 2 ^ 32) (word ∙ up)
       ∙ ap (λ (n : ℕ). n % 2 ^ 32) (div-mul-add m.line (2 ^ 16) m.session (omega arith))

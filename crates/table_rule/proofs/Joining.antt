@@ -330,7 +330,8 @@ module _ (p : Layout) (models : List Content) (mem : Spot → ℕ) (views : List
     plan = r.plan;
     turns = join_turns;
     sound =
-        reseats_sound p models (table_state p mem views) (table_state p mem all) r.sound joined_event;
+        reseats_sound p models (table_state p mem views)
+        (table_state p mem all) r.sound joined_event;
     knows = join_knows;
     log = record {
       turn = join_log_turn;

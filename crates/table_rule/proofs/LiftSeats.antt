@@ -75,7 +75,8 @@ joins_allowed p models seat v other w bare idle calm s r at apart there =
     }
 
 -- a view that holds nothing and has seen no record tells little
-pub nothing_tells : (v : SeatView) (side : ℕ) → v.held ≡ [] → v.log ≡ log_starting side → ViewTells v
+pub nothing_tells : (v : SeatView) (side : ℕ) → v.held ≡ [] → v.log ≡ log_starting side
+    → ViewTells v
 nothing_tells v side none new = record {
   trees = record { each = λ t h. no t h; named = λ t u h k e. unreached t h };
   canonical = record { each = λ t n h e. no t h };

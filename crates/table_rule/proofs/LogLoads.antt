@@ -176,7 +176,8 @@ marked_there p models mem views u at r lt is =
     let there = mark_stands mem versions u at lt is in
     let of =
     All-contains (λ m. (m.version < m.at) × (m.at ≤ length (records_in mem (mem LogLength))))
-    (marks_in mem versions) (mark_of_words u at (mem (Version u 7))) r.sound.versions.legal.marked there in
+    (marks_in mem versions)
+    (mark_of_words u at (mem (Version u 7))) r.sound.versions.legal.marked there in
     let long = length_records mem (mem LogLength) in
     let a = of.0 in let b = of.1 in (there, (a, omega arith))
 

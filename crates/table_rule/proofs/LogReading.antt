@@ -18,7 +18,8 @@ pub record LogStays (old new : Spot → ℕ) : Type 0 where
   pub length : new LogLength ≡ old LogLength
   pub version : (v i : ℕ) → new (Version v i) ≡ old (Version v i)
 
-pub record_same : (a b : ℕ → ℕ) → ((i : ℕ) → i < 5 → a i ≡ b i) → record_of_words a ≡ record_of_words b
+pub record_same : (a b : ℕ → ℕ) → ((i : ℕ) → i < 5 → a i ≡ b i)
+    → record_of_words a ≡ record_of_words b
 record_same a b same =
     let e0 = same 0 (omega arith) in let e1 = same 1 (omega arith) in
     let e2 = same 2 (omega arith) in let e3 = same 3 (omega arith) in
@@ -198,7 +199,8 @@ mark_stands mem (suc n) v at lt e = elim (cases_eq v n) [
   | inl same ↦
       Contains-append_right (marks_in mem n) _ _
       (subst (λ (k : ℕ). Contains (if_marked n k (mem (Version n 7)))
-      (mark_of_words v at (mem (Version v 7)))) (sym (ap (λ (u : ℕ). mem (Version u 6)) (sym same) ∙ e))
+      (mark_of_words v at (mem (Version v 7))))
+      (sym (ap (λ (u : ℕ). mem (Version u 6)) (sym same) ∙ e))
       (subst (λ (u : ℕ). Contains (mark_of_words u at (mem (Version u 7)) ∷ [])
       (mark_of_words v at (mem (Version v 7)))) same (0, omega arith, refl)))
   | inr other ↦

@@ -126,7 +126,8 @@ readies_next p seat v i word sees low models old views r at =
     (λ u. next_roots old new u n i word wrote all low (top p.side))
     (λ m k lt few. wrote.others (Version (suc m) k)
     (λ e. (let same = same_version (suc m) (suc n) k i e in omega arith)))
-    (λ m lt. wrote.others (Version m 6) (λ e. (let same = same_word m (suc n) 6 i e in omega arith)))
+    (λ m lt. wrote.others (Version m 6)
+    (λ e. (let same = same_word m (suc n) 6 i e in omega arith)))
     (λ m lt ne. wrote.others (Version m 7)
     (λ e. (let same = same_word m (suc n) 7 i e in omega arith))) in
     record {

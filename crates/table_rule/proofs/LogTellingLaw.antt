@@ -99,7 +99,8 @@ module _ (p : Layout) (models : List Content) (mem : Spot → ℕ) (views : List
 
   -- the cells of a version are the same by what is seen
   pub same_has : (u : ℕ) → u ≤ number_seen v → (q : Cell)
-      → stored_in (2 ^ p.side) models log.records u q ≡ stored_in (2 ^ p.side) models v.log.seen.records u q
+      → stored_in (2 ^ p.side) models log.records u q ≡ stored_in
+      (2 ^ p.side) models v.log.seen.records u q
   same_has u le q =
       let b = seen_begins in
       ap (λ (rs : List Record). stored_in (2 ^ p.side) models rs u q) b.records

@@ -49,7 +49,8 @@ module _ {A : Type 0} where
   all_end P (x ∷ xs) y all last (suc k) d lt =
       all_end P xs y (all_tail P x xs all) last k d (omega arith)
 
-  again : (xs : List A) (k : ℕ) (d : A) → k < length xs → get_or xs k (get_or xs k d) ≡ get_or xs k d
+  again : (xs : List A) (k : ℕ) (d : A) → k < length xs
+      → get_or xs k (get_or xs k d) ≡ get_or xs k d
   again [] k d lt = absurd (omega arith)
   again (x ∷ xs) zero d lt = refl
   again (x ∷ xs) (suc k) d lt = again xs k d (omega arith)
@@ -67,7 +68,8 @@ all_numbered P n (r ∷ rs) all (suc k) d lt =
     all_numbered P (suc n) rs (all_tail P r rs all) k d (omega arith)
 
 pub numbered_end : (n : ℕ) (rs : List Record) (r : Record)
-    → numbered_from n (rs ++ r ∷ []) ≡ numbered_from n rs ++ record { at = n + length rs; entry = r } ∷ []
+    → numbered_from n (rs ++ r ∷ []) ≡ numbered_from n rs ++ record
+    { at = n + length rs; entry = r } ∷ []
 unfolding numbered_from
 numbered_end n [] r = let e : n ≡ n + 0 = omega arith in
     λ i. record { at = e i; entry = r } ∷ []
@@ -177,7 +179,8 @@ own_both log xs ys rs ss ms ns apart a b = record {
 }
 
 -- a prefix has records and marks of the same sessions
-pub of_sessions : (made : ℕ) (a b : Log) → IsPrefix a b → AreOfSessions made b → AreOfSessions made a
+pub of_sessions : (made : ℕ) (a b : Log) → IsPrefix a b → AreOfSessions made b
+    → AreOfSessions made a
 of_sessions made a b is of = record {
   records =
       all_front (λ r. r.session < made) a.records is.more
@@ -189,7 +192,12 @@ of_sessions made a b is of = record {
 -- nothing begins each log
 pub nothing_begins : (side : ℕ) (log : Log) → IsPrefix (no_log side) log
 nothing_begins side log =
-    record { more = log.records; records = refl; marks = λ m c. absurd (let k = c.1 in omega arith) }
+    record {
+      more = log.records;
+      records = refl;
+      marks = λ m c. absurd
+          (let k = c.1 in omega arith);
+    }
 
 pub nothing_numbered : (f : Accepted → ℕ) → 0 ≡ sum_by f (numbered_from 1 [])
 unfolding numbered_from

@@ -32,7 +32,8 @@ nothing_written p models old new views seat v x r at wrote =
     × Rests p (table_state p old views) (table_state p m (set views seat v)))
     (sym (same_mem old new x wrote))
     (subst (λ after. KeepsRule p models old after
-    × Rests p (table_state p old views) (table_state p old after)) (sym (set_again views seat v at)) (
+    × Rests p (table_state p old views)
+    (table_state p old after)) (sym (set_again views seat v at)) (
       r,
       record {
         entries = record { book = λ m is. refl; key = λ m live. refl };

@@ -129,7 +129,8 @@ module _ (p : Layout) (models : List Content) (old : Spot → ℕ) (views : List
   abbrev after : List SeatView
   after = set views seat w
 
-  rested : KeepsRule p models old after × Rests p (table_state p old views) (table_state p old after)
+  rested : KeepsRule p models old after
+      × Rests p (table_state p old views) (table_state p old after)
   rested =
       quiet p models old old views seat v w r at (entries_rest p old views after) (log_rests old)
       refl (same_log v w refl refl)
@@ -147,7 +148,8 @@ counts_used p seat v b has models old views r at =
     let all = rested p models old views seat v b has r at in
     record {
       view = u;
-      rule = λ new wrote. subst (λ m. KeepsRule p models m (set views seat u)) (same new wrote) all.0;
+      rule = λ new wrote. subst (λ m. KeepsRule p models m (set views seat u))
+          (same new wrote) all.0;
       event = λ new wrote. subst (λ m. Rests p (table_state p old views)
           (table_state p m (set views seat u))) (same new wrote) all.1;
       same = record { alive = refl; plan = refl; models = refl; numbers = refl };

@@ -9,4 +9,5 @@ pub fits_store : (tint : Bool) (n m : ℕ) (models : List Content) (script : Lis
     → All (λ l. CommandFits tint (2 ^ n) models l.command) script
     → All (λ l. CommandFits tint (2 ^ m) models l.command) script
 fits_store tint n m models script same fit =
-    subst (λ (k : ℕ). All (λ (l : ScriptLine). CommandFits tint (2 ^ k) models l.command) script) same fit
+    subst (λ (k : ℕ). All
+    (λ (l : ScriptLine). CommandFits tint (2 ^ k) models l.command) script) same fit

@@ -79,7 +79,8 @@ unpinned_free t s z w x root free g same back rest =
     let none : number_of_trees s.view.held ≡ 0 = ap number_of_trees free.held ∙ no_trees in
     record { rest = rest; held = none_held x.view.held (omega arith) }
 
-pub all_free : (t : WorldSeen) (passes : List PassSeen) → AreNewPasses t.table.id (terms_of t.table) passes
+pub all_free : (t : WorldSeen) (passes : List PassSeen)
+    → AreNewPasses t.table.id (terms_of t.table) passes
     → All (IsAtRest t.table) passes → All (IsFree t) passes
 all_free t passes new rest = λ k d lt.
     record {

@@ -18,7 +18,8 @@ third_weighs : (f : Tree → ℕ) (t : Tree) → weight_below f (only_third t) 8
 unfolding weight_of only_third
 third_weighs f t = omega arith
 
-third_names : (t : Tree) (n : Name) (k : ℕ) → root_of t ≡ Some n → root_of (only_third t k) ≡ name_in (third n) k
+third_names : (t : Tree) (n : Name) (k : ℕ) → root_of t ≡ Some n
+    → root_of (only_third t k) ≡ name_in (third n) k
 unfolding only_third
 third_names t n zero e = refl
 third_names t n (suc zero) e = refl
@@ -35,7 +36,8 @@ holds_third held n h = record {
   row = only_third h.tree;
   are_held = record {
     names = λ k lt. third_names h.tree n k h.root;
-    weighs = λ f. omega (arith, third_weighs f h.tree, weight_of-there f h.tree n h.root, h.is_held.weighs f);
+    weighs = λ f. omega
+        (arith, third_weighs f h.tree, weight_of-there f h.tree n h.root, h.is_held.weighs f);
   };
 }
 
@@ -43,7 +45,9 @@ child_below : (n m : Name) (k : ℕ) → n.level ≡ 0 → name_in (third n) k �
 child_below n m zero z e = absurd (none-some m e)
 child_below n m (suc zero) z e = absurd (none-some m e)
 child_below n m (suc (suc zero)) z e = absurd (none-some m e)
-child_below n m (suc (suc (suc zero))) z e = let same : m.level ≡ n.level = ap (λ (x : Name). x.level) (sym (same_Some n m e)) in omega (arith, same, z)
+child_below n m (suc (suc (suc zero))) z e =
+    let same : m.level ≡ n.level = ap (λ (x : Name). x.level) (sym (same_Some n m e)) in omega
+    (arith, same, z)
 child_below n m (suc (suc (suc (suc zero)))) z e = absurd (none-some m e)
 child_below n m (suc (suc (suc (suc (suc zero))))) z e = absurd (none-some m e)
 child_below n m (suc (suc (suc (suc (suc (suc zero)))))) z e = absurd (none-some m e)

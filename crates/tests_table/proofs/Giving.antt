@@ -75,7 +75,10 @@ came_number v m n bits k came le = let e = came.gains.weighs (λ _. 1) in omega 
 pub still_held : (a b : List Tree) (n : Name) → SameHeld a b → HoldsName a n → HoldsName b n
 still_held a b n same h = record {
   tree = h.tree;
-  is_held = record { weighs = λ f. (let e = same.weighs f in let w = h.is_held.weighs f in omega arith) };
+  is_held = record {
+    weighs = λ f.
+        (let e = same.weighs f in let w = h.is_held.weighs f in omega arith);
+  };
   root = h.root;
 }
 
@@ -85,7 +88,8 @@ still_few a b k same le = let e = same.weighs (λ _. 1) in omega arith
 
 -- what is given after nothing else changed
 pub given_later : (a b c : List Tree) (t : Tree) → SameHeld a b → Gains c t b → Gains c t a
-given_later a b c t same g = record { weighs = λ f. (let e = same.weighs f in let w = g.weighs f in omega arith) }
+given_later a b c t same g =
+    record { weighs = λ f. (let e = same.weighs f in let w = g.weighs f in omega arith) }
 
 pub nothing_held : (held : List Tree) → SameHeld [] held → held ≡ []
 nothing_held [] same = refl
@@ -125,7 +129,8 @@ pub gone_again : (u v w : SeatView) (t : Tree) (n : Name) (end : Lowering) → V
     → EndsLowered v t w end → Gains w.held t u.held
 gone_again u v w t n end tells same held root level e =
     subst (λ ts. Gains w.held t ts) same
-    (leaf_given u v w t n end tells (sym same) (subst (λ ts. IsHeld ts t) (sym same) held) root level
+    (leaf_given u v w t n end tells (sym same)
+    (subst (λ ts. IsHeld ts t) (sym same) held) root level
     e)
 
 -- a loan left the shares that its last call left

@@ -49,9 +49,11 @@ others_none n m (suc (suc (suc (suc (suc (suc k)))))) = refl
 pair_level : (n m x : Name) (k : ℕ) → n.level ≡ 0 → m.level ≡ 0
     → name_in (pair_names n m) k ≡ Some x → x.level + 1 ≡ 1
 pair_level n m x zero low high e =
-    let same : x.level ≡ n.level = ap (λ (y : Name). y.level) (sym (same_Some n x e)) in omega (arith, same, low)
+    let same : x.level ≡ n.level =
+    ap (λ (y : Name). y.level) (sym (same_Some n x e)) in omega (arith, same, low)
 pair_level n m x (suc zero) low high e =
-    let same : x.level ≡ m.level = ap (λ (y : Name). y.level) (sym (same_Some m x e)) in omega (arith, same, high)
+    let same : x.level ≡ m.level =
+    ap (λ (y : Name). y.level) (sym (same_Some m x e)) in omega (arith, same, high)
 pair_level n m x (suc (suc k)) low high e = absurd (none-some x (sym (others_none n m k) ∙ e))
 
 pub pair_below : (n m : Name) → n.level ≡ 0 → m.level ≡ 0 → AreBelow 1 (pair_names n m)
@@ -94,7 +96,10 @@ pub joined_name : (old mid later : List Tree) (row : ℕ → Tree) (children : L
     → HoldsName later n
 joined_name old mid later row children n are j same = record {
   tree = node_at n row;
-  is_held = record { weighs = λ f. (let a = are.weighs f in let b = j.weighs f in let s = same.weighs f in omega arith) };
+  is_held = record {
+    weighs = λ f.
+        (let a = are.weighs f in let b = j.weighs f in let s = same.weighs f in omega arith);
+  };
   root = refl;
 }
 
@@ -105,9 +110,11 @@ pub node_went : (old mid later new : List Tree) (row : ℕ → Tree) (children :
     → LosesAll old row 8 new
 node_went old mid later new row children n are j same gone =
     let held : IsHeld later (node_at n row) = record {
-      weighs = λ f. (let a = are.weighs f in let b = j.weighs f in let s = same.weighs f in omega arith);
+      weighs = λ f.
+          (let a = are.weighs f in let b = j.weighs f in let s = same.weighs f in omega arith);
     } in
     let g = gone (node_at n row) held refl in
     record {
-      weighs = λ f. (let b = j.weighs f in let s = same.weighs f in let w = g.weighs f in omega arith);
+      weighs = λ f.
+          (let b = j.weighs f in let s = same.weighs f in let w = g.weighs f in omega arith);
     }

@@ -102,7 +102,8 @@ module _ (v : SeatView) (root : Option Name) (side : v.plan.side ≡ 2)
       held = whole_held v.held (uniform_tree root) is;
       level = λ n e. low n e ∙ sym (ap top side);
       shows = subst
-          (λ (k : ℕ). ShowsCells (world_block k) (shape_of (uniform_tree root)) (uniform_cells root))
+          (λ (k : ℕ). ShowsCells (world_block k) (shape_of (uniform_tree root))
+          (uniform_cells root))
           (sym side) (shows_uniform root);
     }
 

@@ -109,7 +109,8 @@ commits_held v z w keep line n act root a is left = record {
 }
 
 -- with 0 none falls out
-pub commits_alone : (v w : SeatView) (keep line : ℕ) (act : Act) (root : Option Name) (c : Committed)
+pub commits_alone : (v w : SeatView) (keep line : ℕ) (act : Act) (root : Option Name)
+    (c : Committed)
     → CommitsNext v keep line act root c w → keep ≡ 0 → CommitsAlone v line act root c w
 commits_alone v w keep line act root c made all =
     let falls = subst (λ (k : ℕ). FallsOut (falls_out c.n k) line c.n c.fallen made.behind w) all

@@ -16,16 +16,21 @@ use Rattle.versions.proofs.Merging.{falls, falls_not}
 
 -- ---- a record
 
-fallen_push : (keep n : ℕ) (records : List Record) (r : Record) → fallen_from keep n (records ++ r ∷ [])
-    ≡ fallen_from keep n records ++ fallen_by (n + length records) r (falls_out (n + length records) keep)
+fallen_push : (keep n : ℕ) (records : List Record) (r : Record)
+    → fallen_from keep n (records ++ r ∷ [])
+    ≡ fallen_from keep n records ++ fallen_by (n + length records) r
+    (falls_out (n + length records) keep)
 fallen_push keep n [] r =
     let here : n ≡ n + length {A = Record} [] = omega arith in
-    append-nil (fallen_by n r (falls_out n keep)) ∙ ap (λ (k : ℕ). fallen_by k r (falls_out k keep)) here
+    append-nil (fallen_by n r (falls_out n keep))
+    ∙ ap (λ (k : ℕ). fallen_by k r (falls_out k keep)) here
 fallen_push keep n (x ∷ more) r =
     let by : List Mark = fallen_by n x (falls_out n keep) in
     let at : n + 1 + length more ≡ n + length (x ∷ more) = omega arith in
     ap (λ (xs : List Mark). by ++ xs) (fallen_push keep (n + 1) more r)
-    ∙ sym (append_assoc by (fallen_from keep (n + 1) more) (fallen_by (n + 1 + length more) r (falls_out (n + 1 + length more) keep)))
+    ∙ sym
+    (append_assoc by (fallen_from keep (n + 1) more)
+    (fallen_by (n + 1 + length more) r (falls_out (n + 1 + length more) keep)))
     ∙ ap (λ (k : ℕ). (by ++ fallen_from keep (n + 1) more) ++ fallen_by k r (falls_out k keep)) at
 
 pub one_more_record : OneMoreRecord
@@ -34,9 +39,11 @@ one_more_record (suc k) records r forgot =
     let test : Mark → Bool = λ m. not (list_any (λ o. o.version == m.version) forgot) in
     let fallen : List Mark = fallen_from (suc k) 1 records in
     let number : 1 + length records ≡ length records + 1 = omega arith in
-    let last : List Mark = fallen_by (length records + 1) r (falls_out (length records + 1) (suc k)) in
+    let last : List Mark =
+    fallen_by (length records + 1) r (falls_out (length records + 1) (suc k)) in
     let pushed : fallen_from (suc k) 1 (records ++ r ∷ []) ≡ fallen ++ last =
-    fallen_push (suc k) 1 records r ∙ ap (λ (n : ℕ). fallen ++ fallen_by n r (falls_out n (suc k))) number in
+    fallen_push (suc k) 1 records r
+    ∙ ap (λ (n : ℕ). fallen ++ fallen_by n r (falls_out n (suc k))) number in
     ap (λ (xs : List Mark). forgot ++ filter test xs) pushed
     ∙ ap (λ (xs : List Mark). forgot ++ xs) (filter-append test fallen last)
     ∙ sym (append_assoc forgot (filter test fallen) (filter test last))
@@ -52,22 +59,32 @@ fallen_low keep n count (r ∷ more) some long =
       | inl early ↦ let none = falls_not n keep early in rw none rest
       | inr late ↦
           let one = falls n keep some late in
-          let m : Mark = record { version = n - keep; at = n; session = r.session; line = r.line } in
-          rw one (All-cons (λ m. m.version + keep ≤ count) m (fallen_from keep (n + 1) more) (omega (arith, late, long)) rest)
+          let m : Mark =
+          record { version = n - keep; at = n; session = r.session; line = r.line } in
+          rw one (All-cons (λ m. m.version + keep ≤ count) m (fallen_from keep (n + 1) more)
+          (omega (arith, late, long)) rest)
     ]
 
-unnamed_still : (keep count : ℕ) (forgot marks : List Mark) (mark : Mark) → count < mark.version + keep
-    → All (λ m. m.version + keep ≤ count) marks → unnamed_by (forgot ++ mark ∷ []) marks ≡ unnamed_by forgot marks
+unnamed_still : (keep count : ℕ) (forgot marks : List Mark) (mark : Mark)
+    → count < mark.version + keep
+    → All (λ m. m.version + keep ≤ count) marks
+    → unnamed_by (forgot ++ mark ∷ []) marks ≡ unnamed_by forgot marks
 unnamed_still keep count forgot [] mark later low = refl
 unnamed_still keep count forgot (m ∷ more) mark later low =
     let here = low 0 m (omega arith) in
     let other : (mark.version == m.version) ≡ false = ne_eqb mark.version m.version (λ same. omega (arith, here, later, same)) in
     let both = list_any-append (λ o. o.version == m.version) forgot (mark ∷ []) in
-    let rest = unnamed_still keep count forgot more mark later (All-tail (λ x. x.version + keep ≤ count) m more low) in
+    let rest =
+    unnamed_still keep count forgot more mark later
+    (All-tail (λ x. x.version + keep ≤ count) m more low) in
     let named : list_any (λ o. o.version == m.version) (forgot ++ mark ∷ []) ≡ list_any (λ o. o.version == m.version) forgot =
-    both ∙ none_more (mark.version == m.version) (list_any (λ o. o.version == m.version) forgot) other in
-    ap (λ (b : Bool). cond (not b) (m ∷ unnamed_by (forgot ++ mark ∷ []) more) (unnamed_by (forgot ++ mark ∷ []) more)) named
-    ∙ ap (λ (xs : List Mark). cond (not (list_any (λ o. o.version == m.version) forgot)) (m ∷ xs) xs) rest
+    both ∙ none_more (mark.version == m.version)
+    (list_any (λ o. o.version == m.version) forgot) other in
+    ap (λ (b : Bool). cond (not b) (m ∷ unnamed_by (forgot ++ mark ∷ []) more)
+    (unnamed_by (forgot ++ mark ∷ []) more)) named
+    ∙ ap
+    (λ (xs : List Mark). cond (not (list_any (λ o. o.version == m.version) forgot))
+    (m ∷ xs) xs) rest
   where
     none_more : (b a : Bool) → b ≡ false → (a || (b || false)) ≡ a
     none_more b false off = rw off refl
@@ -79,11 +96,15 @@ one_more_by_hand (suc k) records forgot mark later =
     let fallen : List Mark = fallen_from (suc k) 1 records in
     let others : List Mark = unnamed_by forgot fallen in
     let low = fallen_low (suc k) 1 (length records) records (omega arith) (omega arith) in
-    let same = unnamed_still (suc k) (length records) forgot fallen mark (later (omega arith)) low in
+    let same =
+    unnamed_still (suc k) (length records) forgot fallen mark (later (omega arith)) low in
     let moved : IsPermutation (forgot ++ (others ++ mark ∷ [])) (forgot ++ mark ∷ others) =
-    IsPermutation-append_right forgot (others ++ mark ∷ []) (mark ∷ others) (IsPermutation-to_front others mark) in
+    IsPermutation-append_right forgot (others ++ mark ∷ []) (mark ∷ others)
+    (IsPermutation-to_front others mark) in
     let first : IsPermutation ((forgot ++ others) ++ mark ∷ []) (forgot ++ mark ∷ others) =
-    subst (λ (xs : List Mark). IsPermutation xs (forgot ++ mark ∷ others)) (sym (append_assoc forgot others (mark ∷ []))) moved in
+    subst (λ (xs : List Mark). IsPermutation xs (forgot ++ mark ∷ others))
+    (sym (append_assoc forgot others (mark ∷ []))) moved in
     let last : forgot ++ mark ∷ others ≡ (forgot ++ mark ∷ []) ++ unnamed_by (forgot ++ mark ∷ []) fallen =
-    sym (append_assoc forgot (mark ∷ []) others) ∙ ap (λ (xs : List Mark). (forgot ++ mark ∷ []) ++ xs) (sym same) in
+    sym (append_assoc forgot (mark ∷ []) others)
+    ∙ ap (λ (xs : List Mark). (forgot ++ mark ∷ []) ++ xs) (sym same) in
     subst (λ (xs : List Mark). IsPermutation ((forgot ++ others) ++ mark ∷ []) xs) last first

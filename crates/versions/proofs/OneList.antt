@@ -13,7 +13,8 @@ first_or_later x z xs (suc k, lt, e) = inr (k, omega arith, e)
 
 above : (x z : Mark) (xs : List Mark) → AreRising (x ∷ xs) → Contains xs z → x.version < z.version
 above x z xs rising (k, lt, e) =
-    let less : x.version < (get_or xs k z).version = rising 0 (suc k) z (omega arith) (omega arith) in
+    let less : x.version < (get_or xs k z).version =
+    rising 0 (suc k) z (omega arith) (omega arith) in
     subst (λ (y : Mark). x.version < y.version) e less
 
 rest_rises : (x : Mark) (xs : List Mark) → AreRising (x ∷ xs) → AreRising xs
@@ -23,39 +24,53 @@ later : (x z : Mark) (xs : List Mark) → Contains xs z → Contains (x ∷ xs) 
 later x z xs (k, lt, e) = (suc k, omega arith, e)
 
 rest_has : (x y : Mark) (xs ys : List Mark) → x ≡ y → AreRising (x ∷ xs)
-    → ((z : Mark) → Contains (x ∷ xs) z → Contains (y ∷ ys) z) → (z : Mark) → Contains xs z → Contains ys z
-rest_has x y xs ys same rising into z there = elim (first_or_later y z ys (into z (later x z xs there))) [
-  | inl first ↦ absurd (
-      let high = above x z xs rising there in
-      let one : x.version ≡ z.version = ap (λ (m : Mark). m.version) (same ∙ first) in omega (arith, high, one))
-  | inr rest ↦ rest
-]
+    → ((z : Mark) → Contains (x ∷ xs) z → Contains (y ∷ ys) z) → (z : Mark) → Contains xs z
+    → Contains ys z
+rest_has x y xs ys same rising into z there =
+    elim (first_or_later y z ys (into z (later x z xs there))) [
+      | inl first ↦ absurd (
+          let high = above x z xs rising there in
+          let one : x.version ≡ z.version =
+          ap (λ (m : Mark). m.version) (same ∙ first) in omega (arith, high, one))
+      | inr rest ↦ rest
+    ]
 
-same_first : (x y : Mark) (xs ys : List Mark) → AreRising (x ∷ xs) → AreRising (y ∷ ys) → Contains (y ∷ ys) x
+same_first : (x y : Mark) (xs ys : List Mark) → AreRising (x ∷ xs) → AreRising (y ∷ ys)
+    → Contains (y ∷ ys) x
     → Contains (x ∷ xs) y → x ≡ y
 same_first x y xs ys rx ry a b = elim (first_or_later y x ys a) [
   | inl e ↦ sym e
   | inr low ↦ elim (first_or_later x y xs b) [
     | inl e ↦ e
-    | inr high ↦ absurd (let p = above y x ys ry low in let q = above x y xs rx high in omega (arith, p, q))
+    | inr high ↦ absurd
+        (let p = above y x ys ry low in let q = above x y xs rx high in omega (arith, p, q))
   ]
 ]
 
 -- what both have, each has at the same place
-pub same_marks : (xs ys : List Mark) → AreRising xs → AreRising ys → ((z : Mark) → Contains xs z → Contains ys z)
+pub same_marks : (xs ys : List Mark) → AreRising xs → AreRising ys
+    → ((z : Mark) → Contains xs z → Contains ys z)
     → ((z : Mark) → Contains ys z → Contains xs z) → xs ≡ ys
 same_marks [] [] rx ry into back = refl
-same_marks [] (y ∷ ys) rx ry into back = absurd (let c = back y (0, omega arith, refl) in let lt = c.1 in omega arith)
-same_marks (x ∷ xs) [] rx ry into back = absurd (let c = into x (0, omega arith, refl) in let lt = c.1 in omega arith)
+same_marks [] (y ∷ ys) rx ry into back =
+    absurd (let c = back y (0, omega arith, refl) in let lt = c.1 in omega arith)
+same_marks (x ∷ xs) [] rx ry into back =
+    absurd (let c = into x (0, omega arith, refl) in let lt = c.1 in omega arith)
 same_marks (x ∷ xs) (y ∷ ys) rx ry into back =
-    let first : x ≡ y = same_first x y xs ys rx ry (into x (0, omega arith, refl)) (back y (0, omega arith, refl)) in
-    let rest : xs ≡ ys = same_marks xs ys (rest_rises x xs rx) (rest_rises y ys ry) (rest_has x y xs ys first rx into) (rest_has y x ys xs (sym first) ry back) in
+    let first : x ≡ y =
+    same_first x y xs ys rx ry (into x (0, omega arith, refl))
+    (back y (0, omega arith, refl)) in
+    let rest : xs ≡ ys =
+    same_marks xs ys (rest_rises x xs rx) (rest_rises y ys ry)
+    (rest_has x y xs ys first rx into) (rest_has y x ys xs (sym first) ry back) in
     λ t. first t ∷ rest t
 
-one_rising : (all a b : List Mark) → AreRising a → AreRising b → IsPermutation all a → IsPermutation all b → a ≡ b
+one_rising : (all a b : List Mark) → AreRising a → AreRising b → IsPermutation all a
+    → IsPermutation all b → a ≡ b
 one_rising all a b ra rb pa pb =
     let ab : IsPermutation a b = IsPermutation-trans a all b (IsPermutation-sym all a pa) pb in
-    same_marks a b ra rb (λ z. Contains-permutation a b z ab) (λ z. Contains-permutation b a z (IsPermutation-sym a b ab))
+    same_marks a b ra rb (λ z. Contains-permutation a b z ab)
+    (λ z. Contains-permutation b a z (IsPermutation-sym a b ab))
 
 pub one_list : AllMarksAreOne
 one_list keep records forgot a b of_a of_b =

@@ -20,14 +20,17 @@ pub alike_turned : (models : List Content) (a b : StandingModel) (m : Content) �
     → IsTurned (stand_at models b).model (stand_at models b).turning m
 alike_turned models a b m same turned is =
     subst (λ (r : Turning). IsTurned (stand_at models b).model r m) turned
-    (subst (λ (n : ℕ). IsTurned (stand_at models (record { model = n; turning = a.turning; corner = a.corner })).model a.turning m) same is)
+    (subst (λ (n : ℕ). IsTurned
+    (stand_at models
+    (record { model = n; turning = a.turning; corner = a.corner })).model a.turning m) same is)
 
 -- as many stands as turned models are known
 pub known_first : (f : StandingModel → Stand) (standing : List StandingModel) (i : ℕ)
     (known : List Content) → i < length standing → AreTurned (map f (take i standing)) known
     → AreTurned (map f (take (length known) standing)) known
 known_first f standing i known lt are =
-    let long = AllZip-long (λ s m. IsTurned s.model s.turning m) (map f (take i standing)) known are in
+    let long =
+    AllZip-long (λ s m. IsTurned s.model s.turning m) (map f (take i standing)) known are in
     let mapped = length-map (take i standing) f in
     let taken = length-take i standing in
     let same : i ≡ length known = omega (arith, long, mapped, taken, lt) in

@@ -19,7 +19,8 @@ pub record NodesCome (bytes : List ℕ) (cursor : Cursor) (found : Nodes) : Type
   pub main : Bounds
   pub header : header_of bytes ≡ Ok main
   pub children : ℕ
-  pub at : cursor ≡ record { bytes = bytes; at = place_of bytes main.first children; end = main.end }
+  pub at : cursor ≡ record
+      { bytes = bytes; at = place_of bytes main.first children; end = main.end }
   pub read : NodesAreRead bytes main children
   pub finds : FindsNodes (nodes_before bytes main.first children) found
 
@@ -31,7 +32,11 @@ come_none bytes cursor found same header finds = record {
   header = header;
   children = 0;
   at = rw same refl;
-  read = record { frames = λ k lt. absurd (omega (arith, lt)); fine = λ k lt. absurd (omega (arith, lt)) };
+  read = record {
+    frames = λ k lt. absurd (omega (arith, lt));
+    fine = λ k lt. absurd
+        (omega (arith, lt));
+  };
   finds = finds;
 }
 
@@ -53,7 +58,8 @@ come_all bytes old new found come walks = (
 
 -- ---- a file whose models can be read has no frame that doesn't fit
 
-same_main : (bytes : List ℕ) {a b : Bounds} → header_of bytes ≡ Ok a → header_of bytes ≡ Ok b → a ≡ b
+same_main : (bytes : List ℕ) {a b : Bounds} → header_of bytes ≡ Ok a → header_of bytes ≡ Ok b
+    → a ≡ b
 same_main bytes of_a of_b = cc
 
 frame_at : (bytes : List ℕ) (main : Bounds) (i j : ℕ)
@@ -168,10 +174,19 @@ come_more bytes old new found now chunk come walks takes =
       main = come.main;
       header = come.header;
       children = suc come.children;
-      at = walks.3 ∙ ap (λ c. record { bytes = c.bytes; at = end_of c.bytes c.at; end = c.end }) come.at;
+      at = walks.3
+          ∙ ap (λ c. record { bytes = c.bytes; at = end_of c.bytes c.at; end = c.end }) come.at;
       read = record {
-        frames = subst (λ n. (k : ℕ) → k < n → FrameFits bytes come.main.end (place_of bytes come.main.first k)) (add-one come.children) (below_more (λ k. FrameFits bytes come.main.end (place_of bytes come.main.first k)) come.children come.read.frames here.fits);
-        fine = subst (λ n. (k : ℕ) → k < n → scene_fault_at bytes come.main.first k ≡ None) (add-one come.children) (below_more (λ k. scene_fault_at bytes come.main.first k ≡ None) come.children come.read.fine fine);
+        frames = subst
+            (λ n. (k : ℕ) → k < n
+            → FrameFits bytes come.main.end (place_of bytes come.main.first k))
+            (add-one come.children)
+            (below_more (λ k. FrameFits bytes come.main.end
+            (place_of bytes come.main.first k)) come.children come.read.frames here.fits);
+        fine = subst (λ n. (k : ℕ) → k < n → scene_fault_at bytes come.main.first k ≡ None)
+            (add-one come.children)
+            (below_more (λ k. scene_fault_at bytes come.main.first k
+            ≡ None) come.children come.read.fine fine);
       };
       finds = subst (λ (nodes : List Node). FindsNodes nodes now)
           (same_nodes before _ _ _ _ here.id here.content) taken.1;

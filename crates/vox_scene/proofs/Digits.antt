@@ -25,7 +25,8 @@ digits_step n i word less low high =
     rw (drop-cons word i 0, add-one) (digits-cons n b (drop (suc i) word) digit)
 
 -- a byte that is no digit
-pub digits_stop : (n i : ℕ) (word : List ℕ) → i < length word → is_digit_byte (get_or word i 0) ≡ false
+pub digits_stop : (n i : ℕ) (word : List ℕ) → i < length word
+    → is_digit_byte (get_or word i 0) ≡ false
     → digits_onto n (drop i word) ≡ None
 digits_stop n i word less other =
     rw (drop-cons word i 0) (digits-fail n (get_or word i 0) (drop (suc i) word) other)

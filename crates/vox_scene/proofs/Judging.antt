@@ -199,7 +199,8 @@ one_faulty bytes a b (inr (is, of_a)) (inl (inr of_b)) =
     absurd (ok_or_err of_a.stands b (one_stands bytes (Ok of_a.stands) (Err b) of_a.has of_b))
 one_faulty bytes a b (inr (is_a, of_a)) (inr (is_b, of_b)) = is_a ∙ sym is_b
 
-placed_or_faulty : (bytes : List ℕ) (fault : SceneFault) → IsPlaceable bytes → Faulty bytes fault → ⊥
+placed_or_faulty : (bytes : List ℕ) (fault : SceneFault) → IsPlaceable bytes → Faulty bytes fault
+    → ⊥
 placed_or_faulty bytes fault placed (inl (inl first)) =
     stands_or_fault bytes (Ok placed.stands) fault placed.has first
 placed_or_faulty bytes fault placed (inl (inr has)) =
@@ -301,7 +302,8 @@ least_of entry [] = (pos 0, least_none entry (pos 0))
 least_of entry (s ∷ []) = (
   entry s,
   record {
-    below = All-cons (λ x. entry s ≤ℤ entry x) s [] (≤ℤ_refl (entry s)) (All-nil (λ x. entry s ≤ℤ entry x));
+    below = All-cons (λ x. entry s ≤ℤ entry x) s [] (≤ℤ_refl (entry s))
+        (All-nil (λ x. entry s ≤ℤ entry x));
     met = inr (s, (0, omega arith, refl), refl);
   },
 )
@@ -330,11 +332,14 @@ ends_or_not least side s = next
     (order (s.corner.y +ℤ pos (turned_size s.turning s.model.size).y) (least.y +ℤ pos side))
     (order (s.corner.z +ℤ pos (turned_size s.turning s.model.size).z) (least.z +ℤ pos side)) where
       next : ((s.corner.x +ℤ pos (turned_size s.turning s.model.size).x) ≤ℤ (least.x +ℤ pos side))
-          ⊎ (((s.corner.x +ℤ pos (turned_size s.turning s.model.size).x) ≤ℤ (least.x +ℤ pos side)) → ⊥)
+          ⊎ (((s.corner.x +ℤ pos (turned_size s.turning s.model.size).x) ≤ℤ (least.x +ℤ pos side))
+          → ⊥)
           → ((s.corner.y +ℤ pos (turned_size s.turning s.model.size).y) ≤ℤ (least.y +ℤ pos side))
-          ⊎ (((s.corner.y +ℤ pos (turned_size s.turning s.model.size).y) ≤ℤ (least.y +ℤ pos side)) → ⊥)
+          ⊎ (((s.corner.y +ℤ pos (turned_size s.turning s.model.size).y) ≤ℤ (least.y +ℤ pos side))
+          → ⊥)
           → ((s.corner.z +ℤ pos (turned_size s.turning s.model.size).z) ≤ℤ (least.z +ℤ pos side))
-          ⊎ (((s.corner.z +ℤ pos (turned_size s.turning s.model.size).z) ≤ℤ (least.z +ℤ pos side)) → ⊥)
+          ⊎ (((s.corner.z +ℤ pos (turned_size s.turning s.model.size).z) ≤ℤ (least.z +ℤ pos side))
+          → ⊥)
           → EndsWithin least side s ⊎ (EndsWithin least side s → ⊥)
       next (inr never) y z = inr (λ e. never e.x)
       next (inl x) (inr never) z = inr (λ e. never e.y)
@@ -343,7 +348,8 @@ ends_or_not least side s = next
 
 large_or_not : (least : Vector) (stands : List Stand)
     → IsTooLarge least stands ⊎ (IsTooLarge least stands → ⊥)
-large_or_not least stands = next (all_or_not (EndsWithin least 4096) (ends_or_not least 4096) stands)
+large_or_not least stands =
+    next (all_or_not (EndsWithin least 4096) (ends_or_not least 4096) stands)
     (cases_lt 268435456 (file_length stands)) where
       next : AllEndWithin least stands 4096 ⊎ (AllEndWithin least stands 4096 → ⊥)
           → (268435456 < file_length stands) ⊎ (file_length stands ≤ 268435456)

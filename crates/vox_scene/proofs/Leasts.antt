@@ -21,7 +21,8 @@ le_itself : (a : ℤ) → a ≤ℤ a
 le_itself a = omega (arith, ints)
 
 -- a new one that is no greater
-pub least_lower : (entry : Stand → ℤ) (xs : List Stand) (least : ℤ) (s : Stand) → IsLeast entry xs least
+pub least_lower : (entry : Stand → ℤ) (xs : List Stand) (least : ℤ) (s : Stand)
+    → IsLeast entry xs least
     → entry s ≤ℤ least → IsLeast entry (xs ++ s ∷ []) (entry s)
 least_lower entry xs least s is lower = record {
   below = All-push (λ t. entry s ≤ℤ entry t) xs s
@@ -40,7 +41,8 @@ least_first entry xs s none = record {
 }
 
 -- a new one that is no less, behind some
-pub least_stays : (entry : Stand → ℤ) (xs : List Stand) (least : ℤ) (s : Stand) → IsLeast entry xs least
+pub least_stays : (entry : Stand → ℤ) (xs : List Stand) (least : ℤ) (s : Stand)
+    → IsLeast entry xs least
     → least ≤ℤ entry s → (length xs ≡ 0 → ⊥) → IsLeast entry (xs ++ s ∷ []) least
 least_stays entry xs least s is higher some = record {
   below = All-push (λ t. least ≤ℤ entry t) xs s is.below higher;
@@ -57,43 +59,56 @@ chosen : (entry : Stand → ℤ) (xs : List Stand) (least now : ℤ) (s : Stand)
     → ((now ≡ entry s) × (entry s ≤ℤ least)) ⊎ ((now ≡ least) × (least ≤ℤ entry s))
     → IsLeast entry (xs ++ s ∷ []) now
 chosen entry xs least now s is some (inl low) =
-    subst (λ (d : ℤ). IsLeast entry (xs ++ s ∷ []) d) (sym low.0) (least_lower entry xs least s is low.1)
+    subst (λ (d : ℤ). IsLeast entry (xs ++ s ∷ []) d) (sym low.0)
+    (least_lower entry xs least s is low.1)
 chosen entry xs least now s is some (inr high) =
-    subst (λ (d : ℤ). IsLeast entry (xs ++ s ∷ []) d) (sym high.0) (least_stays entry xs least s is high.1 some)
+    subst (λ (d : ℤ). IsLeast entry (xs ++ s ∷ []) d) (sym high.0)
+    (least_stays entry xs least s is high.1 some)
 
 least_next : (entry : Stand → ℤ) (xs : List Stand) (least now : ℤ) (s : Stand) (any : Bool)
     → (any ≡ false → length xs ≡ 0) → (any ≡ true → 1 ≤ length xs) → IsLeast entry xs least
     → IsLesser any least (entry s) now → IsLeast entry (xs ++ s ∷ []) now
 least_next entry xs least now s false none some is lesser =
-    subst (λ (d : ℤ). IsLeast entry (xs ++ s ∷ []) d) (sym lesser) (least_first entry xs s (none refl))
+    subst (λ (d : ℤ). IsLeast entry (xs ++ s ∷ []) d) (sym lesser)
+    (least_first entry xs s (none refl))
 least_next entry xs least now s true none some is lesser =
-    chosen entry xs least now s is (λ zero. (let more = some refl in omega (arith, zero, more))) lesser
+    chosen entry xs least now s is
+    (λ zero. (let more = some refl in omega (arith, zero, more))) lesser
 
-pub mapped_more : (f : StandingModel → Stand) (l : List StandingModel) (i : ℕ) (d : StandingModel) → i < length l
+pub mapped_more : (f : StandingModel → Stand) (l : List StandingModel) (i : ℕ) (d : StandingModel)
+    → i < length l
     → map f (take (i + 1) l) ≡ map f (take i l) ++ f (get_or l i d) ∷ []
-mapped_more f l i d lt = ap (λ (ys : List StandingModel). map f ys) (take_more l i d lt) ∙ map-append f (take i l) (get_or l i d ∷ [])
+mapped_more f l i d lt =
+    ap (λ (ys : List StandingModel). map f ys) (take_more l i d lt)
+    ∙ map-append f (take i l) (get_or l i d ∷ [])
 
 -- one more of the stands
 pub least_taken : (axis : Axis) (models : List Content) (standing : List StandingModel) (i : ℕ)
-    (one : StandingModel) (least now : ℤ) (any : Bool) → i < length standing → one ≡ get_or standing i one
+    (one : StandingModel) (least now : ℤ) (any : Bool) → i < length standing → one
+    ≡ get_or standing i one
     → (any ≡ false → i ≡ 0) → (any ≡ true → 1 ≤ i)
     → IsLeast (λ s. entry_on axis s.corner) (map (stand_at models) (take i standing)) least
     → IsLesser any least (entry_on axis one.corner) now
     → IsLeast (λ s. entry_on axis s.corner) (map (stand_at models) (take (i + 1) standing)) now
 least_taken axis models standing i one least now any lt is none some so_far lesser =
     let long : length (map (stand_at models) (take i standing)) ≡ i =
-    length-map (take i standing) (stand_at models) ∙ (let h = length-take i standing in omega (arith, h, lt)) in
+    length-map (take i standing) (stand_at models)
+    ∙ (let h = length-take i standing in omega (arith, h, lt)) in
     subst (λ (xs : List Stand). IsLeast (λ s. entry_on axis s.corner) xs now)
-    (ap (λ (x : StandingModel). map (stand_at models) (take i standing) ++ stand_at models x ∷ []) is
+    (ap (λ (x : StandingModel). map (stand_at models)
+    (take i standing) ++ stand_at models x ∷ []) is
     ∙ sym (mapped_more (stand_at models) standing i one lt))
     (least_next (λ s. entry_on axis s.corner) (map (stand_at models) (take i standing)) least now
-    (stand_at models one) any (λ e. long ∙ none e) (λ e. let one_more = some e in omega (arith, long, one_more))
+    (stand_at models one) any (λ e. long ∙ none e)
+    (λ e. let one_more = some e in omega (arith, long, one_more))
     so_far lesser)
 
-pub least_all : (axis : Axis) (models : List Content) (standing : List StandingModel) (i : ℕ) (least : ℤ)
+pub least_all : (axis : Axis) (models : List Content) (standing : List StandingModel) (i : ℕ)
+    (least : ℤ)
     → length standing ≤ i
     → IsLeast (λ s. entry_on axis s.corner) (map (stand_at models) (take i standing)) least
     → IsLeast (λ s. entry_on axis s.corner) (map (stand_at models) standing) least
 least_all axis models standing i least far so_far =
-    subst (λ (l : List StandingModel). IsLeast (λ s. entry_on axis s.corner) (map (stand_at models) l) least)
+    subst (λ (l : List StandingModel). IsLeast (λ s. entry_on axis s.corner)
+    (map (stand_at models) l) least)
     (take_all i standing far) so_far

@@ -15,11 +15,13 @@ pub pairs_more : (n k : ℕ) (bytes : List ℕ) → n ≡ k + 1
 unfolding dict_pairs
 pairs_more n k bytes is = rw (is, add-one) refl
 
-pub pairs_next : (n k : ℕ) (bytes : List ℕ) (first : PairCut) → n ≡ k + 1 → pair_in bytes ≡ Some first
+pub pairs_next : (n k : ℕ) (bytes : List ℕ) (first : PairCut) → n ≡ k + 1
+    → pair_in bytes ≡ Some first
     → dict_pairs n bytes ≡ with_pair first (dict_pairs k first.rest)
 pairs_next n k bytes first is cut = pairs_more n k bytes is ∙ rw cut refl
 
-pub pairs_stop : (n k : ℕ) (bytes : List ℕ) → n ≡ k + 1 → pair_in bytes ≡ None → dict_pairs n bytes ≡ None
+pub pairs_stop : (n k : ℕ) (bytes : List ℕ) → n ≡ k + 1 → pair_in bytes ≡ None
+    → dict_pairs n bytes ≡ None
 pairs_stop n k bytes is cut = pairs_more n k bytes is ∙ rw cut refl
 
 -- behind the first pair there are the others
@@ -28,7 +30,8 @@ others_are : (first : PairCut) (more : Option Pairs) → is_some (with_pair firs
 others_are first None is = is
 others_are first (Some more) is = refl
 
-other_value : (key : List ℕ) (first : PairCut) (more : Option Pairs) → bytes_eq first.key key ≡ false
+other_value : (key : List ℕ) (first : PairCut) (more : Option Pairs)
+    → bytes_eq first.key key ≡ false
     → value_of key (pairs_of (with_pair first more)) ≡ value_of key (pairs_of more)
 other_value key first None apart = refl
 other_value key first (Some more) apart = rw apart refl
@@ -45,8 +48,10 @@ pub record IsSought (key : List ℕ) (all : List Pair) (left : ℕ) (bytes : Lis
   pub same : value_of key (pairs_of (dict_pairs left bytes)) ≡ value_of key all
 
 pub sought_first : (key : List ℕ) (all : List Pair) (n : ℕ) (bytes : List ℕ)
-    → is_some (dict_pairs n bytes) ≡ true → all ≡ pairs_of (dict_pairs n bytes) → IsSought key all n bytes
-sought_first key all n bytes there are = record { there = there; same = ap (value_of key) (sym are) }
+    → is_some (dict_pairs n bytes) ≡ true → all ≡ pairs_of (dict_pairs n bytes)
+    → IsSought key all n bytes
+sought_first key all n bytes there are =
+    record { there = there; same = ap (value_of key) (sym are) }
 
 pub sought_next : (key : List ℕ) (all : List Pair) (n k : ℕ) (bytes : List ℕ) (first : PairCut)
     → IsSought key all n bytes → n ≡ k + 1 → pair_in bytes ≡ Some first
@@ -67,7 +72,8 @@ sought_found key all n k bytes first so_far is cut same =
     sym so_far.same ∙ ap (λ p. value_of key (pairs_of p)) next
     ∙ first_value key first (dict_pairs k first.rest) (ap is_some (sym next) ∙ so_far.there) same
 
-pub sought_all : (key : List ℕ) (all : List Pair) (n : ℕ) (bytes : List ℕ) → IsSought key all n bytes
+pub sought_all : (key : List ℕ) (all : List Pair) (n : ℕ) (bytes : List ℕ)
+    → IsSought key all n bytes
     → n ≡ 0 → value_of key all ≡ None
 sought_all key all n bytes so_far is =
     sym so_far.same ∙ ap (λ m. value_of key (pairs_of (dict_pairs m bytes))) is

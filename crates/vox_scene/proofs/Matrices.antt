@@ -1,5 +1,5 @@
--- What a file's nodes tell are matrices, and so each stand's turning is one; its model is one of the
--- file's, and there are at most 1,024 stands.
+-- What a file's nodes tell are matrices, and so each stand's turning is one; its model is one of
+-- the file's, and there are at most 1,024 stands.
 use Rattle.std.proofs.Common.{◌≡◌, ◌≢◌, ℕ, zero, suc, ◌+◌, ◌<◌, ◌≤◌, ◌&&◌, Bool, true, false, List, [], ◌∷◌, ◌++◌, length, map, get_or, Option, Some, None, Result, Ok, Err, refl, sym, ap, ◌∙◌, arith, All}
 use Rattle.std.specs.Prelude.{nat_le, is_some, ◌||◌, ◌==◌, ◌%◌, ◌/◌, ◌*◌, drop, take, codes, option_to_list, if◌then◌else◌}
 use Rattle.std.specs.List.{flat_map}
@@ -50,7 +50,8 @@ not_over models s id model fine = by (is_over s model) refl where
   by false is = is
   by true is = absurd (let no : ⊥ = grind arith in no)
 
-few_behind : (models : ℕ) (s : Progress) (id : ℕ) (kind : Option Kind) (is_deep : Bool) (pose : Pose)
+few_behind : (models : ℕ) (s : Progress) (id : ℕ) (kind : Option Kind) (is_deep : Bool)
+    (pose : Pose)
     → length s.placed ≤ 1024
     → visit_fault models s (record { id = id; kind = kind; is_deep = is_deep; pose = pose }) ≡ None
     → length (behind_one s pose (shown_by kind)).placed ≤ 1024
@@ -88,9 +89,11 @@ pub few_stands : (models : List Content) (nodes : List Node) (stands : List Stan
 few_stands models [] stands few is =
     let e : map alone models ≡ stands = cc in rw (← e, length-map models alone) few
 few_stands models (first ∷ more) stands few is =
-    few_by models (walked (length models) (record { visited = 0; placed = [] }) (all_visits (first ∷ more)))
+    few_by models
+    (walked (length models) (record { visited = 0; placed = [] }) (all_visits (first ∷ more)))
     stands
-    (λ t walks. few_walked (length models) (record { visited = 0; placed = [] }) (all_visits (first ∷ more)) t
+    (λ t walks. few_walked (length models) (record { visited = 0; placed = [] })
+    (all_visits (first ∷ more)) t
     (omega arith) walks) is
 
 -- ---- what a number or a text tells is a matrix
@@ -109,13 +112,49 @@ MatrixIfAny (Some r) = IsMatrix r
 
 distinct_rows : (bits : ℕ) (a b : Axis) → MatrixIfAny (rows_of bits a b (remaining a b))
 distinct_rows bits X X = tt
-distinct_rows bits X Y = record { first = λ e. (let no : ⊥ = cc in no); second = λ e. (let no : ⊥ = cc in no); third = λ e. (let no : ⊥ = cc in no) }
-distinct_rows bits X Z = record { first = λ e. (let no : ⊥ = cc in no); second = λ e. (let no : ⊥ = cc in no); third = λ e. (let no : ⊥ = cc in no) }
-distinct_rows bits Y X = record { first = λ e. (let no : ⊥ = cc in no); second = λ e. (let no : ⊥ = cc in no); third = λ e. (let no : ⊥ = cc in no) }
+distinct_rows bits X Y =
+    record {
+      first = λ e. (let no : ⊥ = cc in no);
+      second = λ e. (let no : ⊥ = cc in no);
+      third =
+          λ e. (let no : ⊥ = cc in no);
+    }
+distinct_rows bits X Z =
+    record {
+      first = λ e. (let no : ⊥ = cc in no);
+      second = λ e. (let no : ⊥ = cc in no);
+      third =
+          λ e. (let no : ⊥ = cc in no);
+    }
+distinct_rows bits Y X =
+    record {
+      first = λ e. (let no : ⊥ = cc in no);
+      second = λ e. (let no : ⊥ = cc in no);
+      third =
+          λ e. (let no : ⊥ = cc in no);
+    }
 distinct_rows bits Y Y = tt
-distinct_rows bits Y Z = record { first = λ e. (let no : ⊥ = cc in no); second = λ e. (let no : ⊥ = cc in no); third = λ e. (let no : ⊥ = cc in no) }
-distinct_rows bits Z X = record { first = λ e. (let no : ⊥ = cc in no); second = λ e. (let no : ⊥ = cc in no); third = λ e. (let no : ⊥ = cc in no) }
-distinct_rows bits Z Y = record { first = λ e. (let no : ⊥ = cc in no); second = λ e. (let no : ⊥ = cc in no); third = λ e. (let no : ⊥ = cc in no) }
+distinct_rows bits Y Z =
+    record {
+      first = λ e. (let no : ⊥ = cc in no);
+      second = λ e. (let no : ⊥ = cc in no);
+      third =
+          λ e. (let no : ⊥ = cc in no);
+    }
+distinct_rows bits Z X =
+    record {
+      first = λ e. (let no : ⊥ = cc in no);
+      second = λ e. (let no : ⊥ = cc in no);
+      third =
+          λ e. (let no : ⊥ = cc in no);
+    }
+distinct_rows bits Z Y =
+    record {
+      first = λ e. (let no : ⊥ = cc in no);
+      second = λ e. (let no : ⊥ = cc in no);
+      third =
+          λ e. (let no : ⊥ = cc in no);
+    }
 distinct_rows bits Z Z = tt
 
 by_columns : (bits : ℕ) (a b : Option Axis) → MatrixIfAny (with_columns bits a b)
@@ -152,7 +191,8 @@ apart_at Z X r is other same = is.second (sym same)
 apart_at Z Y r is other same = is.third (sym same)
 apart_at Z Z r is other same = other refl
 
-both_are : (outer inner : Turning) → IsMatrix outer → IsMatrix inner → IsMatrix (both_turnings outer inner)
+both_are : (outer inner : Turning) → IsMatrix outer → IsMatrix inner
+    → IsMatrix (both_turnings outer inner)
 both_are outer inner o i = record {
   first = apart_at outer.x.column outer.y.column inner i o.first;
   second = apart_at outer.x.column outer.z.column inner i o.second;
@@ -178,11 +218,13 @@ abbrev pub NodeIfAny : Option Node → Type 0
 NodeIfAny None = Unit {0}
 NodeIfAny (Some node) = TurnsByMatrix node.kind
 
-kind_if : (test : Bool) (a b : Option Kind) → KindIfAny a → KindIfAny b → KindIfAny (if test then a else b)
+kind_if : (test : Bool) (a b : Option Kind) → KindIfAny a → KindIfAny b
+    → KindIfAny (if test then a else b)
 kind_if true a b of_a of_b = of_a
 kind_if false a b of_a of_b = of_b
 
-behind_kind : {A : Type 0} (first : Option A) (more : A → Option Kind) → ((a : A) → KindIfAny (more a))
+behind_kind : {A : Type 0} (first : Option A) (more : A → Option Kind)
+    → ((a : A) → KindIfAny (more a))
     → KindIfAny (if_found first more)
 behind_kind None more is = tt
 behind_kind (Some a) more is = is a
@@ -194,7 +236,8 @@ mover_is bytes = kind_if (nat_le 16 (length bytes)) _ None
     (λ end. told_is (value_of (codes "_r") (first_frame (number_at bytes 12) (drop 16 bytes))))) tt
 
 group_is : (bytes : List ℕ) → KindIfAny (group_in bytes)
-group_is bytes = kind_if (nat_le 4 (length bytes) && nat_le (4 + 4 * number_at bytes 0) (length bytes))
+group_is bytes =
+    kind_if (nat_le 4 (length bytes) && nat_le (4 + 4 * number_at bytes 0) (length bytes))
     (Some (Groups (numbers_of (take (4 * number_at bytes 0) (drop 4 bytes))))) None tt tt
 
 shape_is : (bytes : List ℕ) → KindIfAny (shape_kind_in bytes)
@@ -216,7 +259,8 @@ node_if false a is = tt
 
 node_is : (id content : List ℕ) → NodeIfAny (node_in id content)
 node_is id content = node_if (nat_le 4 (length content)) _
-    (with_id_is (number_at content 0) _ (behind_kind (dict_in (drop 4 content)) (λ d. kind_in id d.rest)
+    (with_id_is (number_at content 0) _
+    (behind_kind (dict_in (drop 4 content)) (λ d. kind_in id d.rest)
     (λ d. kind_is id d.rest)))
 
 -- each kind that is found turns by a matrix
@@ -228,7 +272,8 @@ turn_one : (test : Bool) (first : Kind) (more : Option Kind) → TurnsByMatrix f
 turn_one true first more a b = a
 turn_one false first more a b = b
 
-turn_first : (test : Bool) (kind : Kind) (a b : Option Kind) → KindIfAny (if test then Some kind else a)
+turn_first : (test : Bool) (kind : Kind) (a b : Option Kind)
+    → KindIfAny (if test then Some kind else a)
     → (KindIfAny a → KindIfAny b) → KindIfAny (if test then Some kind else b)
 turn_first true kind a b all more = all
 turn_first false kind a b all more = more all
@@ -238,14 +283,16 @@ turn_at : (nodes : List Node) (option : Option Node) (id : ℕ) → KindIfAny (k
 turn_at [] None id all is = tt
 turn_at [] (Some node) id all is = turn_one (node.id == id) node.kind None is tt
 turn_at (first ∷ more) option id all is =
-    turn_first (first.id == id) first.kind (kind_with id more) (kind_with id (more ++ option_to_list option)) all
+    turn_first (first.id == id) first.kind (kind_with id more)
+    (kind_with id (more ++ option_to_list option)) all
     (λ found. turn_at more option id found is)
 
 turn_push : (nodes : List Node) (option : Option Node) → AllTurn nodes → NodeIfAny option
     → AllTurn (nodes ++ option_to_list option)
 turn_push nodes option all is id = turn_at nodes option id (all id) is
 
-turn_in : (nodes : List Node) (id content : List ℕ) → AllTurn nodes → AllTurn (nodes ++ nodes_in id content)
+turn_in : (nodes : List Node) (id content : List ℕ) → AllTurn nodes
+    → AllTurn (nodes ++ nodes_in id content)
 turn_in nodes id content all = by (is_node id) where
   by : (test : Bool) → AllTurn (nodes ++ (if test then option_to_list (node_in id content) else []))
   by true = turn_push nodes (node_in id content) all (node_is id content)
@@ -253,7 +300,8 @@ turn_in nodes id content all = by (is_node id) where
 
 pub all_turn : (bytes : List ℕ) (first children : ℕ) → AllTurn (nodes_before bytes first children)
 all_turn bytes first zero = λ id. tt
-all_turn bytes first (suc i) = turn_in (nodes_before bytes first i) (id_at bytes (place_of bytes first i))
+all_turn bytes first (suc i) =
+    turn_in (nodes_before bytes first i) (id_at bytes (place_of bytes first i))
     (content_at bytes (place_of bytes first i)) (all_turn bytes first i)
 
 -- ---- visits and what they place
@@ -266,7 +314,8 @@ posed_both : (a b : List Visit) → AllPosed a → AllPosed b → AllPosed (a ++
 posed_both [] b of_a of_b = of_b
 posed_both (v ∷ more) b of_a of_b = (of_a.0, posed_both more b of_a.1 of_b)
 
-posed_children : (of_child : ℕ → List Visit) (children : List ℕ) → ((id : ℕ) → AllPosed (of_child id))
+posed_children : (of_child : ℕ → List Visit) (children : List ℕ)
+    → ((id : ℕ) → AllPosed (of_child id))
     → AllPosed (flat_map of_child children)
 posed_children of_child [] each = tt
 posed_children of_child (id ∷ more) each =
@@ -284,13 +333,15 @@ posed_below (Some (Groups children)) pose of_child is matrix each =
     posed_children (of_child pose) children (λ id. each pose id matrix)
 posed_below (Some (Shows model)) pose of_child is matrix each = tt
 
-all_posed : (nodes : List Node) (room : ℕ) (pose : Pose) (id : ℕ) → AllTurn nodes → IsMatrix pose.turning
+all_posed : (nodes : List Node) (room : ℕ) (pose : Pose) (id : ℕ) → AllTurn nodes
+    → IsMatrix pose.turning
     → AllPosed (visits nodes room pose id)
 unfolding visits
 all_posed nodes zero pose id turn matrix = (matrix, tt)
 all_posed nodes (suc room) pose id turn matrix = (
   matrix,
-  posed_below (kind_with id nodes) pose (λ inner child. visits nodes room inner child) (turn id) matrix
+  posed_below (kind_with id nodes) pose (λ inner child. visits nodes room inner child)
+      (turn id) matrix
       (λ inner child is. all_posed nodes room inner child turn is),
 )
 
@@ -304,7 +355,8 @@ model_there models id model fine = by (nat_le models model) refl where
   by : (test : Bool) → nat_le models model ≡ test → model < models
   by false is = grind (arith, nat_tests)
   by true is = absurd (
-      let e : Some (NoModel id) ≡ None = sym (ap (λ (t : Bool). if t then Some (NoModel id) else None) is) ∙ fine in
+      let e : Some (NoModel id) ≡ None =
+      sym (ap (λ (t : Bool). if t then Some (NoModel id) else None) is) ∙ fine in
       let no : ⊥ = cc in no)
 
 within_room : (models : ℕ) (s : Progress) (id : ℕ) (model : Option ℕ)
@@ -322,14 +374,16 @@ soundly_placed models id placed pose (Some model) fine matrix all =
     All-push (IsSoundly models) placed (record { model = model; pose = pose }) all
     (record { model = model_there models id model fine; matrix = matrix })
 
-soundly_behind : (models : ℕ) (s : Progress) (id : ℕ) (kind : Option Kind) (is_deep : Bool) (pose : Pose)
+soundly_behind : (models : ℕ) (s : Progress) (id : ℕ) (kind : Option Kind) (is_deep : Bool)
+    (pose : Pose)
     → visit_fault models s (record { id = id; kind = kind; is_deep = is_deep; pose = pose }) ≡ None
     → IsMatrix pose.turning → All (IsSoundly models) s.placed
     → All (IsSoundly models) (behind_one s pose (shown_by kind)).placed
 soundly_behind models s id None is_deep pose fine matrix all = absurd (let no : ⊥ = cc in no)
 soundly_behind models s id (Some kind) true pose fine matrix all = absurd (let no : ⊥ = cc in no)
 soundly_behind models s id (Some kind) false pose fine matrix all =
-    soundly_placed models id s.placed pose (shown kind) (within_room models s id (shown kind) fine) matrix all
+    soundly_placed models id s.placed pose (shown kind)
+    (within_room models s id (shown kind) fine) matrix all
 
 soundly_walked : (models : ℕ) (s : Progress) (vs : List Visit) (t : Progress) → AllPosed vs
     → All (IsSoundly models) s.placed → walked models s vs ≡ Ok t → All (IsSoundly models) t.placed
@@ -344,7 +398,8 @@ soundly_walked models s (v ∷ more) t poses all is =
 
 stand_is_sound : (models : List Content) (p : PlacedModel) → All IsModel models
     → IsSoundly (length models) p → IsSound (stand_of models p)
-stand_is_sound models p all is = record { model = all p.model no_model is.model; matrix = is.matrix }
+stand_is_sound models p all is =
+    record { model = all p.model no_model is.model; matrix = is.matrix }
 
 all_stands_sound : (models : List Content) (placed : List PlacedModel) → All IsModel models
     → All (IsSoundly (length models)) placed → All IsSound (map (stand_of models) placed)
@@ -353,7 +408,8 @@ all_stands_sound models placed all is =
     (λ k d lt. stand_is_sound models (get_or placed k d) all (is k d lt))
 
 sound_by : (models : List Content) (answer : Result Progress SceneFault) (stands : List Stand)
-    → All IsModel models → ((t : Progress) → answer ≡ Ok t → All (IsSoundly (length models)) t.placed)
+    → All IsModel models
+    → ((t : Progress) → answer ≡ Ok t → All (IsSoundly (length models)) t.placed)
     → stands_by models answer ≡ Ok stands → All IsSound stands
 sound_by models (Ok t) stands all sound is =
     let e : map (stand_of models) t.placed ≡ stands = cc in
@@ -364,9 +420,13 @@ pub sound_stands : (models : List Content) (nodes : List Node) (stands : List St
     → All IsModel models → AllTurn nodes → stands_of models nodes ≡ Ok stands → All IsSound stands
 sound_stands models [] stands all turn is =
     let e : map alone models ≡ stands = cc in
-    rw (← e) (All-map IsSound alone models (λ k d lt. record { model = all k d lt; matrix = unturned_is }))
+    rw (← e) (All-map IsSound alone models
+    (λ k d lt. record { model = all k d lt; matrix = unturned_is }))
 sound_stands models (first ∷ more) stands all turn is =
-    sound_by models (walked (length models) (record { visited = 0; placed = [] }) (all_visits (first ∷ more)))
+    sound_by models
+    (walked (length models) (record { visited = 0; placed = [] }) (all_visits (first ∷ more)))
     stands all
-    (λ t walks. soundly_walked (length models) (record { visited = 0; placed = [] }) (all_visits (first ∷ more)) t
-    (all_posed (first ∷ more) 64 at_rest 0 turn unturned_is) (All-nil (IsSoundly (length models))) walks) is
+    (λ t walks. soundly_walked (length models) (record { visited = 0; placed = [] })
+    (all_visits (first ∷ more)) t
+    (all_posed (first ∷ more) 64 at_rest 0 turn unturned_is)
+    (All-nil (IsSoundly (length models))) walks) is

@@ -246,7 +246,8 @@ size_read : (bytes : List ℕ) (end k p : ℕ) (before : List Content) (m : Cont
     → p + (40 + 4 * length m.voxels) ≤ end → SizeRead bytes end k p before m
 size_read bytes end k p before m more place models read at is fits =
     let ends : end_of bytes p ≡ p + 24 = omega (arith, at.size_length, at.size_children) in
-    let id : id_at bytes (place_of bytes 20 k) ≡ codes "SIZE" = ap (id_at bytes) place ∙ at.size_id in
+    let id : id_at bytes (place_of bytes 20 k) ≡ codes "SIZE" =
+    ap (id_at bytes) place ∙ at.size_id in
     let content : content_at bytes (place_of bytes 20 k) ≡ size_bytes m.size =
     ap (content_at bytes) place ∙ size_content bytes p m more at in
     record {

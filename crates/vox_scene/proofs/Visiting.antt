@@ -23,7 +23,8 @@ unfolding walked
 walked_none models s = refl
 
 walked_one : (models : ℕ) (s : Progress) (v : Visit) (more : List Visit)
-    → walked models s (v ∷ more) ≡ unless (visit_fault models s v) (walked models (behind_visit s v) more)
+    → walked models s (v ∷ more) ≡ unless (visit_fault models s v)
+    (walked models (behind_visit s v) more)
 unfolding walked
 walked_one models s v more = refl
 
@@ -33,13 +34,15 @@ walked_stop models s v more fault broken = walked_one models s v more
     ∙ ap (λ f. unless f (walked models (behind_visit s v) more)) broken
 
 walked_on : (models : ℕ) (s : Progress) (v : Visit) (more : List Visit)
-    → visit_fault models s v ≡ None → walked models s (v ∷ more) ≡ walked models (behind_visit s v) more
+    → visit_fault models s v ≡ None
+    → walked models s (v ∷ more) ≡ walked models (behind_visit s v) more
 walked_on models s v more fine = walked_one models s v more
     ∙ ap (λ f. unless f (walked models (behind_visit s v) more)) fine
 
 -- ---- more visits behind some
 
-abbrev pub then : Result Progress SceneFault → (Progress → Result Progress SceneFault) → Result Progress SceneFault
+abbrev pub then : Result Progress SceneFault → (Progress → Result Progress SceneFault)
+    → Result Progress SceneFault
 then (Ok s) goes_on = goes_on s
 then (Err fault) goes_on = Err fault
 
@@ -55,32 +58,42 @@ walked_both models s [] b = ap (λ r. then r (λ t. walked models t b)) (sym (wa
 walked_both models s (v ∷ more) b =
     walked_one models s v (more ++ b)
     ∙ ap (λ r. unless (visit_fault models s v) r) (walked_both models (behind_visit s v) more b)
-    ∙ sym (unless_then (visit_fault models s v) (walked models (behind_visit s v) more) (λ t. walked models t b))
+    ∙ sym
+    (unless_then (visit_fault models s v) (walked models (behind_visit s v) more)
+    (λ t. walked models t b))
     ∙ ap (λ r. then r (λ t. walked models t b)) (sym (walked_one models s v more))
 
 -- ---- the visits of a node
 
 deepest : (nodes : List Node) (pose : Pose) (id : ℕ)
-    → visits nodes 0 pose id ≡ record { id = id; kind = kind_with id nodes; is_deep = true; pose = pose } ∷ []
+    → visits nodes 0 pose id ≡ record
+    { id = id; kind = kind_with id nodes; is_deep = true; pose = pose } ∷ []
 unfolding visits
 deepest nodes pose id = refl
 
 others : (nodes : List Node) (n k : ℕ) (pose : Pose) (id : ℕ) → n ≡ k + 1
-    → visits nodes n pose id ≡ record { id = id; kind = kind_with id nodes; is_deep = false; pose = pose }
+    → visits nodes n pose id ≡ record
+    { id = id; kind = kind_with id nodes; is_deep = false; pose = pose }
     ∷ visits_below (kind_with id nodes) pose (λ inner child. visits nodes k inner child)
 unfolding visits
 others nodes n k pose id is = rw (is, add-one) refl
 
-none_fault : (models : ℕ) (s : Progress) (id : ℕ) (kind : Option Kind) (is_deep : Bool) (pose : Pose)
-    → kind ≡ None → visit_fault models s (record { id = id; kind = kind; is_deep = is_deep; pose = pose }) ≡ Some (NoNode id)
+none_fault : (models : ℕ) (s : Progress) (id : ℕ) (kind : Option Kind) (is_deep : Bool)
+    (pose : Pose)
+    → kind ≡ None
+    → visit_fault models s (record { id = id; kind = kind; is_deep = is_deep; pose = pose }) ≡ Some
+    (NoNode id)
 none_fault models s id kind is_deep pose is = rw is refl
 
 deep_fault : (models : ℕ) (s : Progress) (id : ℕ) (kind : Option Kind) (found : Kind) (pose : Pose)
-    → kind ≡ Some found → visit_fault models s (record { id = id; kind = kind; is_deep = true; pose = pose }) ≡ Some (TooDeep id)
+    → kind ≡ Some found
+    → visit_fault models s (record { id = id; kind = kind; is_deep = true; pose = pose }) ≡ Some
+    (TooDeep id)
 deep_fault models s id kind found pose is = rw is refl
 
 some_fault : (models : ℕ) (s : Progress) (id : ℕ) (kind : Option Kind) (found : Kind) (pose : Pose)
-    → kind ≡ Some found → visit_fault models s (record { id = id; kind = kind; is_deep = false; pose = pose })
+    → kind ≡ Some found
+    → visit_fault models s (record { id = id; kind = kind; is_deep = false; pose = pose })
     ≡ room_fault models s id (shown found)
 some_fault models s id kind found pose is = rw is refl
 
@@ -89,17 +102,22 @@ pub no_node_there : (nodes : List Node) (models n : ℕ) (s : Progress) (pose : 
     → kind_with id nodes ≡ None → walked models s (visits nodes n pose id) ≡ Err (NoNode id)
 no_node_there nodes models zero s pose id is =
     ap (walked models s) (deepest nodes pose id)
-    ∙ walked_stop models s _ [] (NoNode id) (none_fault models s id (kind_with id nodes) true pose is)
+    ∙ walked_stop models s _ [] (NoNode id)
+    (none_fault models s id (kind_with id nodes) true pose is)
 no_node_there nodes models (suc k) s pose id is =
     ap (walked models s) (others nodes (suc k) k pose id (sym (add-one k)))
-    ∙ walked_stop models s _ _ (NoNode id) (none_fault models s id (kind_with id nodes) false pose is)
+    ∙ walked_stop models s _ _ (NoNode id)
+    (none_fault models s id (kind_with id nodes) false pose is)
 
-pub node_too_deep : (nodes : List Node) (models n : ℕ) (s : Progress) (pose : Pose) (id : ℕ) (kind : Kind)
-    → n ≡ 0 → kind_with id nodes ≡ Some kind → walked models s (visits nodes n pose id) ≡ Err (TooDeep id)
+pub node_too_deep : (nodes : List Node) (models n : ℕ) (s : Progress) (pose : Pose) (id : ℕ)
+    (kind : Kind)
+    → n ≡ 0 → kind_with id nodes ≡ Some kind
+    → walked models s (visits nodes n pose id) ≡ Err (TooDeep id)
 node_too_deep nodes models n s pose id kind is there =
     ap (λ (m : ℕ). walked models s (visits nodes m pose id)) is
     ∙ ap (walked models s) (deepest nodes pose id)
-    ∙ walked_stop models s _ [] (TooDeep id) (deep_fault models s id (kind_with id nodes) kind pose there)
+    ∙ walked_stop models s _ [] (TooDeep id)
+    (deep_fault models s id (kind_with id nodes) kind pose there)
 
 pub node_refused : (nodes : List Node) (models n k : ℕ) (s : Progress) (pose : Pose) (id : ℕ)
     (kind : Kind) (fault : SceneFault) → n ≡ k + 1 → kind_with id nodes ≡ Some kind
@@ -107,10 +125,13 @@ pub node_refused : (nodes : List Node) (models n k : ℕ) (s : Progress) (pose :
     → walked models s (visits nodes n pose id) ≡ Err fault
 node_refused nodes models n k s pose id kind fault is there broken =
     ap (walked models s) (others nodes n k pose id is)
-    ∙ walked_stop models s _ _ fault (some_fault models s id (kind_with id nodes) kind pose there ∙ broken)
+    ∙ walked_stop models s _ _ fault
+    (some_fault models s id (kind_with id nodes) kind pose there ∙ broken)
 
-same_behind : (s : Progress) (id : ℕ) (kind : Option Kind) (found : Kind) (is_deep : Bool) (pose : Pose)
-    → kind ≡ Some found → behind_visit s (record { id = id; kind = kind; is_deep = is_deep; pose = pose })
+same_behind : (s : Progress) (id : ℕ) (kind : Option Kind) (found : Kind) (is_deep : Bool)
+    (pose : Pose)
+    → kind ≡ Some found
+    → behind_visit s (record { id = id; kind = kind; is_deep = is_deep; pose = pose })
     ≡ behind_one s pose (shown found)
 same_behind s id kind found is_deep pose is = rw is refl
 
@@ -119,17 +140,23 @@ pub node_entered : (nodes : List Node) (models n k : ℕ) (s : Progress) (pose :
     (kind : Kind) → n ≡ k + 1 → kind_with id nodes ≡ Some kind
     → room_fault models s id (shown kind) ≡ None
     → walked models s (visits nodes n pose id)
-    ≡ walked models (behind_one s pose (shown kind)) (visits_below (Some kind) pose (λ inner child. visits nodes k inner child))
+    ≡ walked models (behind_one s pose (shown kind))
+    (visits_below (Some kind) pose (λ inner child. visits nodes k inner child))
 node_entered nodes models n k s pose id kind is there fine =
     ap (walked models s) (others nodes n k pose id is)
     ∙ walked_on models s _ _ (some_fault models s id (kind_with id nodes) kind pose there ∙ fine)
-    ∙ ap (λ t. walked models t (visits_below (kind_with id nodes) pose (λ inner child. visits nodes k inner child)))
+    ∙ ap
+    (λ t. walked models t
+    (visits_below (kind_with id nodes) pose (λ inner child. visits nodes k inner child)))
     (same_behind s id (kind_with id nodes) kind false pose there)
-    ∙ ap (λ found. walked models (behind_one s pose (shown kind)) (visits_below found pose (λ inner child. visits nodes k inner child))) there
+    ∙ ap
+    (λ found. walked models (behind_one s pose (shown kind))
+    (visits_below found pose (λ inner child. visits nodes k inner child))) there
 
 -- ---- what a walk answers
 
-pub walks_along : (a b : Result Progress SceneFault) (r : Result (Unit {0}) SceneFault) (new : Progress)
+pub walks_along : (a b : Result Progress SceneFault) (r : Result (Unit {0}) SceneFault)
+    (new : Progress)
     → a ≡ b → AnswersWalk b r new → AnswersWalk a r new
 walks_along a b r new same walks = subst (λ w. AnswersWalk w r new) (sym same) walks
 
@@ -147,7 +174,8 @@ walks_refused a TooLarge new is = is
 walks_refused a Memory new is = tt
 
 -- what was refused at the visit
-pub enter_refused : (a : Result Progress SceneFault) (broken : Option SceneFault) (fault : SceneFault)
+pub enter_refused : (a : Result Progress SceneFault) (broken : Option SceneFault)
+    (fault : SceneFault)
     (behind new : Progress) → Enters broken (Err fault) behind new
     → ((f : SceneFault) → broken ≡ Some f → a ≡ Err f) → AnswersWalk a (Err fault) new
 enter_refused a broken (ShortNode at) behind new says stops = stops (ShortNode at) says
@@ -161,10 +189,11 @@ enter_refused a broken (TooMany at) behind new says stops = stops (TooMany at) s
 enter_refused a broken TooLarge behind new says stops = stops TooLarge says
 enter_refused a broken Memory behind new says stops = tt
 
--- what a walk over a beginning answers for the whole: where it stops there the whole does, and where
--- it comes through the rest decides
+-- what a walk over a beginning answers for the whole: where it stops there the whole does, and
+-- where it comes through the rest decides
 pub walks_first : (a : Result Progress SceneFault) (goes_on : Progress → Result Progress SceneFault)
-    (fault : SceneFault) (new : Progress) → AnswersWalk a (Err fault) new → AnswersWalk (then a goes_on) (Err fault) new
+    (fault : SceneFault) (new : Progress) → AnswersWalk a (Err fault) new
+    → AnswersWalk (then a goes_on) (Err fault) new
 walks_first a goes_on (ShortNode at) new walks = rw walks refl
 walks_first a goes_on (TwoNodes at) new walks = rw walks refl
 walks_first a goes_on (BadRotation at) new walks = rw walks refl
@@ -203,7 +232,8 @@ children_walked models s of_child bytes = walked models s (flat_map of_child (nu
 first_child : (models : ℕ) (s : Progress) (of_child : ℕ → List Visit) (rest front more : List ℕ)
     → rest ≡ front ++ more → length front ≡ 4
     → children_walked models s of_child rest
-    ≡ then (walked models s (of_child (number_at front 0))) (λ t. children_walked models t of_child more)
+    ≡ then (walked models s (of_child (number_at front 0)))
+    (λ t. children_walked models t of_child more)
 first_child models s of_child rest front more parts long =
     ap (λ bytes. children_walked models s of_child bytes) parts
     ∙ ap (λ numbers. walked models s (flat_map of_child numbers)) (child_first front more long)
@@ -229,27 +259,39 @@ child_refused models s new of_child rest front more fault parts long walks =
 pub children_done : (models : ℕ) (s : Progress) (of_child : ℕ → List Visit) (rest : List ℕ)
     → length rest < 4 → children_walked models s of_child rest ≡ Ok s
 children_done models s of_child rest short =
-    ap (λ numbers. walked models s (flat_map of_child numbers)) (no_child rest short) ∙ walked_none models s
+    ap (λ numbers. walked models s (flat_map of_child numbers)) (no_child rest short)
+    ∙ walked_none models s
 
 -- ---- the three kinds of nodes
 
-module _ (nodes : List Node) (models n k : ℕ) (s new : Progress) (pose : Pose) (id : ℕ) (found : Kind) (less : n ≡ k + 1) (there : kind_with id nodes ≡ Some found) (enters : (room_fault models s id (shown found) ≡ None) × (new ≡ behind_one s pose (shown found))) where
+module _ (nodes : List Node) (models n k : ℕ) (s new : Progress) (pose : Pose) (id : ℕ)
+    (found : Kind) (less : n ≡ k + 1) (there : kind_with id nodes ≡ Some found)
+    (enters : (room_fault models s id (shown found) ≡ None)
+    × (new ≡ behind_one s pose (shown found))) where
   onward : (kind : Kind) → found ≡ kind → walked models s (visits nodes n pose id)
-      ≡ walked models new (visits_below (Some kind) pose (λ inner child. visits nodes k inner child))
+      ≡ walked models new
+      (visits_below (Some kind) pose (λ inner child. visits nodes k inner child))
   onward kind is =
       node_entered nodes models n k s pose id found less there enters.0
-      ∙ ap (λ t. walked models t (visits_below (Some found) pose (λ inner child. visits nodes k inner child))) (sym enters.1)
-      ∙ ap (λ f. walked models new (visits_below (Some f) pose (λ inner child. visits nodes k inner child))) is
+      ∙ ap
+      (λ t. walked models t
+      (visits_below (Some found) pose (λ inner child. visits nodes k inner child)))
+      (sym enters.1)
+      ∙ ap
+      (λ f. walked models new
+      (visits_below (Some f) pose (λ inner child. visits nodes k inner child))) is
 
   pub mover_entered : (child : ℕ) (turning : Option Turning) (shift : Option Vector) (inner : Pose)
-      → found ≡ Moves child turning shift → inner ≡ posed pose (turning_or turning) (vector_or shift)
+      → found ≡ Moves child turning shift
+      → inner ≡ posed pose (turning_or turning) (vector_or shift)
       → walked models s (visits nodes n pose id) ≡ walked models new (visits nodes k inner child)
   mover_entered child turning shift inner is posed_is = onward (Moves child turning shift) is
       ∙ ap (λ p. walked models new (visits nodes k p child)) (sym posed_is)
 
   pub group_entered : (children : List ℕ) (bytes : List ℕ) → found ≡ Groups children
       → numbers_of bytes ≡ children
-      → walked models s (visits nodes n pose id) ≡ children_walked models new (visits nodes k pose) bytes
+      → walked models s (visits nodes n pose id) ≡ children_walked models new
+      (visits nodes k pose) bytes
   group_entered children bytes is are = onward (Groups children) is
       ∙ ap (λ numbers. walked models new (flat_map (visits nodes k pose) numbers)) (sym are)
 

@@ -43,5 +43,6 @@ models_put models n old x y long is_x is_y =
     is_y ∙ ap (λ (t : List ℕ). t ++ flat_map model_chunks models)
     (is_x ∙ ap (λ (k : ℕ). old ++ codes "VOX " ++ number_bytes 150
     ++ chunk_head (codes "MAIN") 0 k) long)
-    ∙ four old (codes "VOX ") (number_bytes 150) (chunk_head (codes "MAIN") 0 (chunks_length models))
+    ∙ four old (codes "VOX ") (number_bytes 150)
+    (chunk_head (codes "MAIN") 0 (chunks_length models))
     (flat_map model_chunks models)

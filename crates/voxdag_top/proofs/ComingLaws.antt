@@ -36,13 +36,17 @@ EndFollows v (Completed done) = v ≡ Fine
 EndFollows v Usage = ⊥
 EndFollows v (Refused r) = Follows v (Err r)
 
-read_status : (v : Verdict) (why : ReadRefused) (name : List ℕ) (result : ℕ) → FollowsRead v why name → IsOr (input_status why) result → IsOr (status_for v) result
-read_status v reads.Missing name result follows is = by_status (status_for v) 2 result (ap status_for (sym follows)) is
-read_status v reads.TooLong name result follows is = by_status (status_for v) 9 result (ap status_for (sym follows)) is
+read_status : (v : Verdict) (why : ReadRefused) (name : List ℕ) (result : ℕ)
+    → FollowsRead v why name → IsOr (input_status why) result → IsOr (status_for v) result
+read_status v reads.Missing name result follows is =
+    by_status (status_for v) 2 result (ap status_for (sym follows)) is
+read_status v reads.TooLong name result follows is =
+    by_status (status_for v) 9 result (ap status_for (sym follows)) is
 read_status v reads.Failed name result follows is = absurd follows
 read_status v reads.Memory name result follows is = memory_or (status_for v) result is
 
-write_status : (v : Verdict) (why : WriteRefused) (result : ℕ) → FollowsWrite why → IsOr (output_status why) result → IsOr (status_for v) result
+write_status : (v : Verdict) (why : WriteRefused) (result : ℕ) → FollowsWrite why
+    → IsOr (output_status why) result → IsOr (status_for v) result
 write_status v writes.Failed result follows is = absurd follows
 write_status v writes.Memory result follows is = memory_or (status_for v) result is
 
@@ -95,16 +99,26 @@ status_follows a v (Refused (Output r)) result old new ends follows is =
 status_follows a v (Refused (Text Memory)) result old new ends follows is =
     inl (memory_or (status_for v) result is)
 
-command_follows : (a : Request) (e : Ending) (old new : ShelfState) (files : Files) (v : Verdict) → CommandEnds e a old new → old.files ≡ Some files → (Rose old.faults new.faults → ⊥) → JudgesWords (Some a) files v → EndFollows v e
-command_follows a (Completed c) old new files v ends told calm judges = outcome_follows (Ok c) a old new ends files v told calm judges
+command_follows : (a : Request) (e : Ending) (old new : ShelfState) (files : Files) (v : Verdict)
+    → CommandEnds e a old new → old.files ≡ Some files → (Rose old.faults new.faults → ⊥)
+    → JudgesWords (Some a) files v → EndFollows v e
+command_follows a (Completed c) old new files v ends told calm judges =
+    outcome_follows (Ok c) a old new ends files v told calm judges
 command_follows a Usage old new files v ends told calm judges = absurd ends
-command_follows a (Refused r) old new files v ends told calm judges = outcome_follows (Err r) a old new ends files v told calm judges
+command_follows a (Refused r) old new files v ends told calm judges =
+    outcome_follows (Err r) a old new ends files v told calm judges
 
-end_follows : (a : Option Request) (e : Ending) (old new : ShelfState) (files : Files) (v : Verdict) → EndsAs a e old new → old.files ≡ Some files → (Rose old.faults new.faults → ⊥) → JudgesWords a files v → EndFollows v e
+end_follows : (a : Option Request) (e : Ending) (old new : ShelfState) (files : Files) (v : Verdict)
+    → EndsAs a e old new → old.files ≡ Some files → (Rose old.faults new.faults → ⊥)
+    → JudgesWords a files v → EndFollows v e
 end_follows None e old new files v ends told calm judges = absurd judges
-end_follows (Some a) e old new files v ends told calm judges = command_follows a e old new files v ends told calm judges
+end_follows (Some a) e old new files v ends told calm judges =
+    command_follows a e old new files v ends told calm judges
 
-pub comes_by : (a : Option Request) (old new : Outside) (result : ℕ) (left : Option Closed) → Runs a old new result left → (files : Files) (v : Verdict) → old.shelf.files ≡ Some files → (Rose old.shelf.faults new.shelf.faults → ⊥) → JudgesWords a files v → MayCome a v (status_for v) result
+pub comes_by : (a : Option Request) (old new : Outside) (result : ℕ) (left : Option Closed)
+    → Runs a old new result left → (files : Files) (v : Verdict) → old.shelf.files ≡ Some files
+    → (Rose old.shelf.faults new.shelf.faults → ⊥) → JudgesWords a files v
+    → MayCome a v (status_for v) result
 comes_by a old new result left run files v told calm judges =
     status_follows a v run.ending result old.shelf new.shelf run.ends
     (end_follows a run.ending old.shelf new.shelf files v run.ends told calm judges)
@@ -115,9 +129,13 @@ unread_comes : (s result : ℕ) → IsEither s → IsOr s result → IsOr 1 resu
 unread_comes s result (inl one) is = by_status 1 s result one is
 unread_comes s result (inr eight) is = memory_or 1 result (by_status 8 s result eight is)
 
-usage_at : (a : Option Request) (e : Ending) (old new : ShelfState) (result : ℕ) → EndsAs a e old new → IsOr (status_of e) result → a ≡ None → IsOr 1 result
-usage_at None e old new result ends is none = unread_comes (status_of e) result (unread_status e ends.0) is
+usage_at : (a : Option Request) (e : Ending) (old new : ShelfState) (result : ℕ)
+    → EndsAs a e old new → IsOr (status_of e) result → a ≡ None → IsOr 1 result
+usage_at None e old new result ends is none =
+    unread_comes (status_of e) result (unread_status e ends.0) is
 usage_at (Some a) e old new result ends is none = absurd (let no : ⊥ = cc in no)
 
-pub usage_by : (a : Option Request) (old new : Outside) (result : ℕ) (left : Option Closed) → Runs a old new result left → a ≡ None → IsOr 1 result
-usage_by a old new result left run none = usage_at a run.ending old.shelf new.shelf result run.ends (comes run.ending run.finish) none
+pub usage_by : (a : Option Request) (old new : Outside) (result : ℕ) (left : Option Closed)
+    → Runs a old new result left → a ≡ None → IsOr 1 result
+usage_by a old new result left run none =
+    usage_at a run.ending old.shelf new.shelf result run.ends (comes run.ending run.finish) none

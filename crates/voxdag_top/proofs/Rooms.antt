@@ -34,22 +34,32 @@ use Rattle.voxdag_top.specs.Finishing.{FitsRoom, NamesFit, OutputsFit, WriteHasR
 abbrev pub NameFits : ℕ → Named → Type 0
 NameFits room output = FitsRoom room output.name
 
-middle : (first others : List Named) (output : Named) (room : ℕ) → All (NameFits room) (first ++ output ∷ others) → FitsRoom room output.name
+middle : (first others : List Named) (output : Named) (room : ℕ)
+    → All (NameFits room) (first ++ output ∷ others) → FitsRoom room output.name
 middle [] others output room fit = All-head (NameFits room) output others fit
-middle (o ∷ first) others output room fit = middle first others output room (All-tail (NameFits room) o (first ++ output ∷ others) fit)
+middle (o ∷ first) others output room fit =
+    middle first others output room (All-tail (NameFits room) o (first ++ output ∷ others) fit)
 
-one_fits : (outputs first others : List Named) (output : Named) (room : ℕ) → All (NameFits room) outputs → outputs ≡ first ++ output ∷ others → FitsRoom room output.name
-one_fits outputs first others output room fit parts = middle first others output room (subst (All (NameFits room)) parts fit)
+one_fits : (outputs first others : List Named) (output : Named) (room : ℕ)
+    → All (NameFits room) outputs → outputs ≡ first ++ output ∷ others → FitsRoom room output.name
+one_fits outputs first others output room fit parts =
+    middle first others output room (subst (All (NameFits room)) parts fit)
 
-named_fit : (names texts : List (List ℕ)) (room : ℕ) → All (FitsRoom room) names → All (NameFits room) (named_texts names texts)
+named_fit : (names texts : List (List ℕ)) (room : ℕ) → All (FitsRoom room) names
+    → All (NameFits room) (named_texts names texts)
 named_fit [] texts room fit = All-nil (NameFits room)
 named_fit (name ∷ names) [] room fit = All-nil (NameFits room)
 named_fit (name ∷ names) (text ∷ texts) room fit =
-    All-cons (NameFits room) (record { name = name; bytes = text }) (named_texts names texts) (All-head (FitsRoom room) name names fit) (named_fit names texts room (All-tail (FitsRoom room) name names fit))
+    All-cons (NameFits room) (record { name = name; bytes = text }) (named_texts names texts)
+    (All-head (FitsRoom room) name names fit)
+    (named_fit names texts room (All-tail (FitsRoom room) name names fit))
 
-wanted_fits : (name : Option (List ℕ)) (text : List ℕ) (room : ℕ) → IfSome name (FitsRoom room) → All (NameFits room) (wanted_output name text)
+wanted_fits : (name : Option (List ℕ)) (text : List ℕ) (room : ℕ) → IfSome name (FitsRoom room)
+    → All (NameFits room) (wanted_output name text)
 wanted_fits None text room fits = All-nil (NameFits room)
-wanted_fits (Some name) text room fits = All-cons (NameFits room) (record { name = name; bytes = text }) [] fits (All-nil (NameFits room))
+wanted_fits (Some name) text room fits =
+    All-cons (NameFits room) (record { name = name; bytes = text }) [] fits
+    (All-nil (NameFits room))
 
 -- a name of a saved file has at most 64 bytes
 save_fits : (name : SaveName) (room : ℕ) → 85 ≤ room → FitsRoom room (name_bytes name)
@@ -223,7 +233,8 @@ command_write why name (Look asked) old new room breaks fit =
     absurd (look_write why name asked old new breaks)
 command_write why name (Audit asked) old new room breaks fit = absurd (breaks.begins.begins)
 
-command_refusal : (r : CommandRefused) (a : Request) (old new : ShelfState) (room : ℕ) → HasOutputName r
+command_refusal : (r : CommandRefused) (a : Request) (old new : ShelfState) (room : ℕ)
+    → HasOutputName r
     → Outcome (Err r) a old new → OutputsFit a room → RefusalHasRoom r room
 command_refusal (Output r) a old new room named outcome fit =
     (command_write r.why (output_name r.name) a old new room outcome fit, named)

@@ -119,6 +119,8 @@ pub not_without_verdict : Readings → (a : Request) (files : Files)
 not_without_verdict readings a files none =
     inputs_not_lacking readings a (inputs_at files (inputs_of a)) none
 
-pub one_verdict : (a : Option Request) (files : Files) (v w : Verdict) → JudgesWords a files v → JudgesWords a files w → v ≡ w
+pub one_verdict : (a : Option Request) (files : Files) (v w : Verdict) → JudgesWords a files v
+    → JudgesWords a files w → v ≡ w
 one_verdict None files v w of_v of_w = absurd of_v
-one_verdict (Some a) files v w of_v of_w = inputs_once a (inputs_at files (inputs_of a)) v w of_v of_w
+one_verdict (Some a) files v w of_v of_w =
+    inputs_once a (inputs_at files (inputs_of a)) v w of_v of_w

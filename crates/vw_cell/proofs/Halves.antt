@@ -18,7 +18,8 @@ pub block_side-suc : (n : ℕ) → block_side (suc n) ≡ 2 * block_side n
 block_side-suc n = let twice : 2 ^ suc n ≡ 2 ^ n * 2 = pow-suc 2 n in omega (arith, twice)
 
 pub block_side_halves : (n : ℕ) → 1 ≤ n → block_side n ≡ 2 * block_side (n - 1)
-block_side_halves n h = let e : n ≡ suc (n - 1) = omega arith in (ap block_side e ∙ block_side-suc (n - 1))
+block_side_halves n h =
+    let e : n ≡ suc (n - 1) = omega arith in (ap block_side e ∙ block_side-suc (n - 1))
 
 -- the side of a block past level 15 is cut
 pub large_side : (n : ℕ) → 16 ≤ n → 2 ^ 18 ≤ block_side n

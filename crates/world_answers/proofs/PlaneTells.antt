@@ -89,7 +89,8 @@ module _ (n whole : ℕ) (four : whole ≡ 4 * n) (cells stored w : World) (t : 
   pub kept_here : StoresTints n t cells
   kept_here = record {
     each = λ plane p lt i.
-        same.each (plus (plane_at n plane) p) (in_whole (plus (plane_at n plane) p) (in_store n plane p i))
+        same.each (plus (plane_at n plane) p)
+        (in_whole (plus (plane_at n plane) p) (in_store n plane p i))
         ∙ keeps.each plane p lt i;
     rest = λ q i out. same.each q (in_whole q i) ∙ keeps.rest q i out;
   }
@@ -99,7 +100,8 @@ module _ (n whole : ℕ) (four : whole ≡ 4 * n) (cells stored w : World) (t : 
       → cells q ≡ false
   outside q low i out = kept_here.rest q i (planes_later n q low out)
 
-  next_here : (d : Direction) (c : Cell) → IsInWorld n c → has_next d whole cells c ≡ has_next d n w c
+  next_here : (d : Direction) (c : Cell) → IsInWorld n c
+      → has_next d whole cells c ≡ has_next d n w c
   next_here LowX c i =
       where_passed (nat_lt 0 c.x) _ _ (λ e.
       here.each (cell_at (c.x - 1) c.y c.z) (record { x = omega (arith, i.x); y = i.y; z = i.z }))

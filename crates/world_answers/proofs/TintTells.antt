@@ -45,7 +45,8 @@ pub cell_quarter : (side : ℕ) (c : Cell) → 4 ≤ side → IsInWorld (2 ^ sid
     → IsInWorld (2 ^ (side - 2)) c
 cell_quarter side c large i = subst (λ (n : ℕ). IsInWorld n c) (quarter_same side large) i
 
-pub box_within : (side : ℕ) (b : Boxed) → FitsAt b.at b.size (2 ^ side / 4) → FitsAt b.at b.size (2 ^ side)
+pub box_within : (side : ℕ) (b : Boxed) → FitsAt b.at b.size (2 ^ side / 4)
+    → FitsAt b.at b.size (2 ^ side)
 box_within side b f = record {
   x = (f.x.0, omega (arith, f.x.1));
   y = (f.y.0, omega (arith, f.y.1));
@@ -87,7 +88,8 @@ module _ (held : List Tree) (side : ℕ) (root : Option Name) (large : 4 ≤ sid
   count_tinted b number fits told stored w t s keeps small tells =
       let same = cells_same stored w t s keeps tells in
       count b number (told s.tree (root_block held side root stored s)
-      ∙ number_same (2 ^ side / 4) (cells_of (side - 2) (shape_of s.tree)) w same b _ _ fits same.each)
+      ∙ number_same (2 ^ side / 4)
+      (cells_of (side - 2) (shape_of s.tree)) w same b _ _ fits same.each)
 
   pub bounds_tinted : (least : Option Boxed)
       → ForWorld held side root (λ cells. IsExtent (2 ^ (side - 2)) cells least)
@@ -112,6 +114,7 @@ module _ (held : List Tree) (side : ℕ) (root : Option Name) (large : 4 ≤ sid
       → TellsTinted held side root (Ray from h) (answers.Hit found)
   ray_tinted from h found told stored w t s keeps small tells =
       let cells : World = cells_of (side - 2) (shape_of s.tree) in
-      hit from h found (hits_same (2 ^ side / 4) cells w (cells_same stored w t s keeps tells) from h
+      hit from h found
+      (hits_same (2 ^ side / 4) cells w (cells_same stored w t s keeps tells) from h
       found (subst (λ (n : ℕ). Hits from h n cells found) (sym (quarter_same side large))
       (told s.tree (root_block held side root stored s))))

@@ -33,7 +33,8 @@ key_there : (e : Option (Entry Key)) (key : Key) → HasKey key e → key_or_non
 key_there None key has = absurd has
 key_there (Some e) key has = has
 
-has_there : (e : Option (Entry Key)) (key : Key) → 0 < book_of_slot e → key_or_none e ≡ key → HasKey key e
+has_there : (e : Option (Entry Key)) (key : Key) → 0 < book_of_slot e → key_or_none e ≡ key
+    → HasKey key e
 has_there None key some same = absurd (omega arith)
 has_there (Some e) key some same = same
 
@@ -61,16 +62,24 @@ module _ (s : Stored) (level bucket : ℕ) (key : Key) (is : IsStored s) (low : 
   slots = bucket_at s.entries level bucket
 
   -- no slot of the key's bucket has it, and so no live entry
-  pub none_found : HasNone (bucket_at s.entries level bucket) key (length (bucket_at s.entries level bucket))
+  pub none_found : HasNone (bucket_at s.entries level bucket) key
+      (length (bucket_at s.entries level bucket))
       → IsNowhere s level bucket key
   none_found none = record {
     missing = missing_in_bucket s.plan (stored_state s) level key is.sound.entries
-        (λ slot lt some it. subst (λ (b : ℕ). HasNone (bucket_at s.entries level b) key (length (bucket_at s.entries level b)) → ⊥) same
-        (λ no. no.each slot (let w = is.laid.slots level bucket low (bucket_in s level bucket key is low same) in omega arith)
+        (λ slot lt some it. subst
+        (λ (b : ℕ). HasNone (bucket_at s.entries level b) key
+        (length (bucket_at s.entries level b)) → ⊥) same
+        (λ no. no.each slot
+        (let w = is.laid.slots level bucket low
+        (bucket_in s level bucket key is low same) in omega arith)
         (has_there (entry_at s.entries (named level bucket slot)) key
-        (subst (λ (b : ℕ). 0 < book_of_slot (entry_at s.entries (named level b slot))) (sym same) some)
-        (subst (λ (b : ℕ). key_or_none (entry_at s.entries (named level b slot)) ≡ key) (sym same) it)))
-        (subst (λ (b : ℕ). HasNone (bucket_at s.entries level b) key (length (bucket_at s.entries level b))) same none));
+        (subst (λ (b : ℕ). 0 < book_of_slot (entry_at s.entries (named level b slot)))
+        (sym same) some)
+        (subst (λ (b : ℕ). key_or_none (entry_at s.entries (named level b slot)) ≡ key)
+        (sym same) it)))
+        (subst (λ (b : ℕ). HasNone (bucket_at s.entries level b) key
+        (length (bucket_at s.entries level b))) same none));
     absent = none;
   }
 
@@ -85,19 +94,23 @@ module _ (s : Stored) (level bucket : ℕ) (key : Key) (is : IsStored s) (low : 
       name = record {
         level_in = low;
         bucket_in = bucket_in s level bucket key is low same;
-        slot_in = (let w = is.laid.slots level bucket low (bucket_in s level bucket key is low same) in let b = found.below in omega arith);
+        slot_in = (let w = is.laid.slots level bucket low
+            (bucket_in s level bucket key is low same) in let b = found.below in omega arith);
       };
       book = live;
     };
   }
 
   -- each slot of the bucket is taken
-  pub all_taken : AreLive (bucket_at s.entries level bucket) (length (bucket_at s.entries level bucket))
+  pub all_taken : AreLive (bucket_at s.entries level bucket)
+      (length (bucket_at s.entries level bucket))
       → IsFull s.plan (stored_state s) level bucket
   all_taken taken = record {
     level_in = low;
     bucket_in = bucket_in s level bucket key is low same;
-    each = λ slot lt. taken.each slot (let w = is.laid.slots level bucket low (bucket_in s level bucket key is low same) in omega arith);
+    each = λ slot lt. taken.each slot
+        (let w = is.laid.slots level bucket low
+        (bucket_in s level bucket key is low same) in omega arith);
   }
 
   -- an entry is made in the lowest free slot
@@ -116,21 +129,30 @@ module _ (s : Stored) (level bucket : ℕ) (key : Key) (is : IsStored s) (low : 
       let name : IsName s.plan n = record {
         level_in = low;
         bucket_in = bucket_in s level bucket key is low same;
-        slot_in = (let w = is.laid.slots level bucket low (bucket_in s level bucket key is low same) in let b = free.below in omega arith);
+        slot_in = (let w = is.laid.slots level bucket low
+            (bucket_in s level bucket key is low same) in let b = free.below in omega arith);
       } in
       let has = has_of s session children names held at in
       let all_trade : TradesNames names children (Some n ∷ []) after = record {
-        weighs = λ f. (let w = trade.weighs f in let one = one_weight (Some n) f in let none = no_weights f in
-            let more = ap (λ (ns : List Name). sum_by f ns) is_after ∙ sum_by-append f rest (n ∷ []) in
+        weighs = λ f.
+            (let w = trade.weighs f in let one = one_weight (Some n) f in let none = no_weights f in
+            let more =
+            ap (λ (ns : List Name). sum_by f ns) is_after ∙ sum_by-append f rest (n ∷ []) in
             let last = sum_by-cons f n [] in omega arith);
       } in
-      let trades = trades_as s session names after children (Some n ∷ []) at has all_trade (children_named key) (one_name n) weigh (one_weight (Some n)) in
-      let few = few_after s session names after children (Some n ∷ []) at has all_trade 4095 room (omega (arith, one_weight (Some n) (λ _. 1))) in
+      let trades =
+      trades_as s session names after children (Some n ∷ []) at has all_trade
+      (children_named key) (one_name n) weigh (one_weight (Some n)) in
+      let few =
+      few_after s session names after children (Some n ∷ []) at has all_trade 4095 room
+      (omega (arith, one_weight (Some n) (λ _. 1))) in
       let all : List Level = put_at s.entries n (Some (record { key = key; book = 1 })) in
       let step : Adds s.plan session n key (stored_state s) (stored_state (moved s all session after)) =
-      adds_slot s.plan s.entries n key session (root_in s.roots) s.log s.held (set s.held session after)
+      adds_slot s.plan s.entries n key session (root_in s.roots) s.log s.held
+      (set s.held session after)
       is.laid name free.at fits same nowhere.missing trades in
-      subst (λ (x : List Level). AddsEntry s session level key n (moved s x session after)) (sym put) (record {
+      subst (λ (x : List Level). AddsEntry s session level key n (moved s x session after))
+      (sym put) (record {
         same_level = refl;
         lowest = record { each = lower.each };
         adds = step;

@@ -20,7 +20,8 @@ no_name = None
 no_root : (v : ℕ) → get_or (replicate 65536 no_name) v no_name ≡ no_name
 no_root v = elim (cases_lt v 65536) [
   | inl lt ↦ get_or-replicate 65536 v no_name no_name lt
-  | inr ge ↦ get_or_past (replicate 65536 no_name) v no_name (let e = length-replicate 65536 no_name in omega arith)
+  | inr ge ↦ get_or_past (replicate 65536 no_name) v no_name
+      (let e = length-replicate 65536 no_name in omega arith)
 ]
 
 abbrev nobody : List Name
@@ -28,9 +29,11 @@ nobody = []
 
 no_holdings : (sessions : ℕ) (f : Name → ℕ) → holdings f (replicate sessions nobody) ≡ 0
 unfolding holdings
-no_holdings sessions f = let e = sum_by-replicate (λ (names : List Name). sum_by f names) sessions nobody in omega arith
+no_holdings sessions f =
+    let e = sum_by-replicate (λ (names : List Name). sum_by f names) sessions nobody in omega arith
 
-abbrev pub begun : Layout → List Content → List Level → List (Option Name) → List (List Name) → Stored
+abbrev pub begun : Layout → List Content → List Level → List (Option Name) → List (List Name)
+    → Stored
 begun p models entries roots held = record {
   plan = p;
   models = models;
@@ -67,7 +70,9 @@ module _ (p : Layout) (models : List Content) (entries : List Level) (roots : Li
       held = λ f. ap (λ (h : List (List Name)). holdings f h) nobody_holds ∙ no_holdings sessions f;
     });
     sessions = let e = ap length nobody_holds ∙ length-replicate sessions nobody in omega arith;
-    few = subst (λ (h : List (List Name)). Rattle.std.specs.Prelude.All (λ names. length names ≤ 4096) h) (sym nobody_holds)
+    few = subst (λ (h : List (List Name)). Rattle.std.specs.Prelude.All
+        (λ names. length names ≤ 4096) h) (sym nobody_holds)
         (λ k d lt. subst (λ (names : List Name). length names ≤ 4096)
-        (sym (get_or-replicate sessions k nobody d (let w = length-replicate sessions nobody in omega arith))) (omega arith));
+        (sym (get_or-replicate sessions k nobody d
+        (let w = length-replicate sessions nobody in omega arith))) (omega arith));
   }

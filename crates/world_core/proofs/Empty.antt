@@ -21,7 +21,8 @@ pub record AreEmpty (p : Layout) (all : List Level) : Type 0 where
 bucket_empty : (p : Layout) (all : List Level) (level bucket : ℕ) → AreEmpty p all
     → level < levels p → bucket < buckets_at p level
     → bucket_at all level bucket ≡ replicate p.cap None
-bucket_empty p all level bucket e low inside = ap (λ (l : Level). get_or l bucket []) (e.each level low)
+bucket_empty p all level bucket e low inside =
+    ap (λ (l : Level). get_or l bucket []) (e.each level low)
     ∙ get_or-replicate (buckets_at p level) bucket (replicate p.cap no_entry) [] inside
 
 pub empty_laid : (p : Layout) (all : List Level) → AreEmpty p all → IsLaidOut p all
@@ -46,11 +47,14 @@ empty_free p all e n = elim (cases_lt n.level (levels p)) [
   | inr high ↦ ap (λ (l : Level). get_or (get_or l n.bucket []) n.slot None)
       (get_or_past all n.level [] (let h = e.heights in omega arith))
   | inl low ↦ elim (cases_lt n.bucket (buckets_at p n.level)) [
-    | inl inside ↦ ap (λ (b : Bucket). get_or b n.slot None) (bucket_empty p all n.level n.bucket e low inside)
+    | inl inside ↦ ap (λ (b : Bucket). get_or b n.slot None)
+        (bucket_empty p all n.level n.bucket e low inside)
         ∙ none_in p.cap n.slot
     | inr past ↦ ap (λ (b : Bucket). get_or b n.slot None)
         (ap (λ (l : Level). get_or l n.bucket []) (e.each n.level low)
-        ∙ get_or_past _ n.bucket [] (let w = length-replicate (buckets_at p n.level) (replicate p.cap no_entry) in omega arith))
+        ∙ get_or_past _ n.bucket []
+        (let w = length-replicate (buckets_at p n.level)
+        (replicate p.cap no_entry) in omega arith))
   ]
 ]
 

@@ -45,7 +45,9 @@ pub book_low : (s : Stored) (n : Name) → IsStored s → IsLive s.plan (stored_
     → book_of_slot (entry_at s.entries n) < 1099511627776
 book_low s n is live =
     let p = s.plan in
-    let small = book_small p (stored_state s) n 4096 is.sound.entries (λ level lt. few_buckets p level is.plan) live in
+    let small =
+    book_small p (stored_state s) n 4096 is.sound.entries
+    (λ level lt. few_buckets p level is.plan) live in
     let cap : p.cap * 8 ≤ 2048 = omega (arith, is.plan.cap_high) in
     let one : 4096 * (p.cap * 8) ≤ 8388608 = omega (arith, cap) in
     let high = is.plan.side_high in
@@ -54,7 +56,8 @@ book_low s n is live =
     let held = few_held s.held 64 is.sessions is.few in
     omega arith
 
-pub live_there : (s : Stored) (n : Name) → IsLive s.plan (stored_state s) n → entry_at s.entries n ≡ None → ⊥
+pub live_there : (s : Stored) (n : Name) → IsLive s.plan (stored_state s) n
+    → entry_at s.entries n ≡ None → ⊥
 live_there s n live none =
     let zero : book_of_slot (entry_at s.entries n) ≡ 0 = ap book_of_slot none in
     let some = live.book in omega arith
@@ -78,8 +81,10 @@ traded held session names after gives takes g t at has trade of_g of_t = record 
 pub kept : (s : Stored) (entries : List Level) (roots : List (Option Name)) (log : Log)
     (session : ℕ) (after : List Name) → IsStored s → IsLaidOut s.plan entries
     → length roots ≡ versions → length after ≤ 4096
-    → Step s.plan s.models session (stored_state s) (read_lists entries (root_in roots) log (set s.held session after))
-    → IsStored (record { plan = s.plan; models = s.models; entries = entries; roots = roots; log = log; held = set s.held session after })
+    → Step s.plan s.models session (stored_state s)
+    (read_lists entries (root_in roots) log (set s.held session after))
+    → IsStored
+    (record { plan = s.plan; models = s.models; entries = entries; roots = roots; log = log; held = set s.held session after })
 kept s entries roots log session after is laid places few step = record {
   plan = is.plan;
   laid = laid;

@@ -33,11 +33,17 @@ use Rattle.world_core.proofs.ShareLaws.{moved, few_after, trades_as}
 pub held_live : (s : Stored) (session : ℕ) (n : Name) → IsStored s
     → HoldsShares (stored_state s) session (Some n ∷ []) → IsLive s.plan (stored_state s) n
 held_live s session n is held = held_lives s.plan (stored_state s) session n is.sound.entries
-    (record { names = held.names; at = held.at; weighs = λ f. (let h = held.has.weighs f in let one = one_weight (Some n) f in omega arith) })
+    (record {
+      names = held.names;
+      at = held.at;
+      weighs = λ f.
+          (let h = held.has.weighs f in let one = one_weight (Some n) f in omega arith);
+    })
 
 -- what a session holds of the list is there
 pub has_of : (s : Stored) (session : ℕ) (some : List (Option Name)) (names : List Name)
-    → HoldsShares (stored_state s) session some → slice_get s.held session ≡ Some names → HasAll names some
+    → HoldsShares (stored_state s) session some → slice_get s.held session ≡ Some names
+    → HasAll names some
 has_of s session some names held at = subst (λ (ns : List Name). HasAll ns some)
     (sym (Rattle.std.proofs.lemmas.Option.same_Some names held.names (sym at ∙ held.at))) held.has
 
@@ -48,7 +54,8 @@ row_sum g xs zero le = sym (sum_below-zero (λ k. g (name_in xs k)))
 row_sum g xs (suc n) le =
     let more = sum_by_more g xs n None (omega arith) in
     let up : suc n ≡ n + 1 = omega arith in
-    let same : sum_by g (take (suc n) xs) ≡ sum_by g (take (n + 1) xs) = ap (λ (k : ℕ). sum_by g (take k xs)) up in
+    let same : sum_by g (take (suc n) xs) ≡ sum_by g (take (n + 1) xs) =
+    ap (λ (k : ℕ). sum_by g (take k xs)) up in
     let rest = row_sum g xs n (omega arith) in
     let last = sum_below-suc n (λ k. g (name_in xs k)) in
     omega arith
@@ -57,14 +64,16 @@ pub children_weigh : (children : List (Option Name)) (f : Name → ℕ) → leng
     → weights children f ≡ children_weight f (Node children)
 unfolding children_weight
 children_weigh children f eight =
-    ap (λ (xs : List (Option Name)). sum_by (weight f) xs) (sym (Rattle.std.proofs.lemmas.List.take_all 8 children (omega arith)))
+    ap (λ (xs : List (Option Name)). sum_by (weight f) xs)
+    (sym (Rattle.std.proofs.lemmas.List.take_all 8 children (omega arith)))
     ∙ row_sum (weight f) children 8 (omega arith)
 
 pub no_children : (bits : ℕ) (f : Name → ℕ) → 0 ≡ children_weight f (Leaf bits)
 unfolding children_weight sum_below
 no_children bits f = refl
 
-leaf_weighs : (bits : ℕ) (f : Name → ℕ) → weights (children_in (Leaf bits)) f ≡ children_weight f (Leaf bits)
+leaf_weighs : (bits : ℕ) (f : Name → ℕ)
+    → weights (children_in (Leaf bits)) f ≡ children_weight f (Leaf bits)
 unfolding children_weight sum_below
 leaf_weighs bits f = refl
 
@@ -76,10 +85,12 @@ key_weighs zero (Node children) f fits = absurd fits
 key_weighs (suc level) (Node children) f fits = children_weigh children f fits.0
 
 -- a list of eight weighs at most eight
-pub few_children : (level : ℕ) (key : Key) → FitsLevel level key → weights (children_in key) (λ _. 1) ≤ 8
+pub few_children : (level : ℕ) (key : Key) → FitsLevel level key
+    → weights (children_in key) (λ _. 1) ≤ 8
 few_children level (Leaf bits) fits = omega arith
 few_children zero (Node children) fits = absurd fits
-few_children (suc level) (Node children) fits = let le = row children in let eight = fits.0 in omega arith
+few_children (suc level) (Node children) fits =
+    let le = row children in let eight = fits.0 in omega arith
   where
     one : (o : Option Name) → weight (λ _. 1) o ≤ 1
     one None = omega arith
@@ -87,7 +98,8 @@ few_children (suc level) (Node children) fits = let le = row children in let eig
 
     row : (xs : List (Option Name)) → weights xs (λ _. 1) ≤ length xs
     row [] = omega arith
-    row (o ∷ os) = let first = one o in let rest = row os in let all = sum_by-cons (weight (λ _. 1)) o os in omega arith
+    row (o ∷ os) = let first = one o in let rest = row os in let all = sum_by-cons
+        (weight (λ _. 1)) o os in omega arith
 
 module _ (s : Stored) (session : ℕ) (n : Name) (names after : List Name) (entries : List Level)
     (is : IsStored s) (may : MayLower (stored_state s) session n)
@@ -102,26 +114,37 @@ module _ (s : Stored) (session : ℕ) (n : Name) (names after : List Name) (entr
   pub lowered : (result : Lowered Key) → 1 < (stored_state s).book n
       → TradesNames names (Some n ∷ []) [] after → LowersEntryAt s.entries n result entries
       → LowersEntry s session n (moved s entries session after)
-  lowered (Last key) more trade put = absurd (let one : book_of_slot (entry_at s.entries n) ≡ 1 = ap book_of_slot put.entry.0 in omega arith)
+  lowered (Last key) more trade put = absurd
+      (let one : book_of_slot (entry_at s.entries n)
+      ≡ 1 = ap book_of_slot put.entry.0 in omega arith)
   lowered (Left left) more trade put =
-      let trades = trades_as s session names after (Some n ∷ []) [] at has trade (one_name n) no_weight (one_weight (Some n)) no_weights in
-      let few = few_after s session names after (Some n ∷ []) [] at has trade 4089 may.room (omega (arith, no_weights (λ _. 1), one_weight (Some n) (λ _. 1))) in
+      let trades =
+      trades_as s session names after (Some n ∷ []) [] at has trade (one_name n) no_weight
+      (one_weight (Some n)) no_weights in
+      let few =
+      few_after s session names after (Some n ∷ []) [] at has trade 4089 may.room
+      (omega (arith, no_weights (λ _. 1), one_weight (Some n) (λ _. 1))) in
       go (entry_at s.entries n) refl trades few
     where
       go : (e : Option (Entry Key)) → entry_at s.entries n ≡ e
-          → events.Trades s.held session (one_name n) no_weight (set s.held session after) → length after ≤ 4096
+          → events.Trades s.held session (one_name n) no_weight (set s.held session after)
+          → length after ≤ 4096
           → LowersEntry s session n (moved s entries session after)
       go None none trades few = absurd (live_there s n (held_live s session n is may.held) none)
       go (Some e) some trades few =
           let all : List Level = put_at s.entries n (Some (record { key = e.key; book = left })) in
           let book : e.book ≡ left + 1 = sym (ap book_of_slot some) ∙ put.entry.1 in
-          let is_all : entries ≡ all = put.others ∙ ap (λ (x : Option (Entry Key)). put_at s.entries n x)
+          let is_all : entries ≡ all =
+          put.others ∙ ap (λ (x : Option (Entry Key)). put_at s.entries n x)
           (put.entry.2 ∙ ap (λ (x : Option (Entry Key)). with_book x left) some) in
           let name = (held_live s session n is may.held).name in
           let step : Lowers s.plan session n (stored_state s) (stored_state (moved s all session after)) =
-          lowers_slot s.plan s.entries n e.key left session (root_in s.roots) s.log s.held (set s.held session after)
-          is.laid name (some ∙ ap (λ (b : ℕ). Some (record { key = e.key; book = b })) book) (omega (arith, put.entry.0)) trades in
-          subst (λ (x : List Level). LowersEntry s session n (moved s x session after)) (sym is_all) (record {
+          lowers_slot s.plan s.entries n e.key left session (root_in s.roots) s.log s.held
+          (set s.held session after)
+          is.laid name (some ∙ ap (λ (b : ℕ). Some (record { key = e.key; book = b })) book)
+          (omega (arith, put.entry.0)) trades in
+          subst (λ (x : List Level). LowersEntry s session n (moved s x session after))
+          (sym is_all) (record {
             lowers = step;
             stays = record {
               plan = refl;
@@ -138,24 +161,37 @@ module _ (s : Stored) (session : ℕ) (n : Name) (names after : List Name) (entr
       → children ≡ children_in ((stored_state s).key n)
       → TradesNames names (Some n ∷ []) children after → LowersEntryAt s.entries n result entries
       → FreesEntry s session n (moved s entries session after)
-  freed (Left left) children last same trade put = absurd (omega (arith, last, put.entry.0, put.entry.1))
+  freed (Left left) children last same trade put = absurd
+      (omega (arith, last, put.entry.0, put.entry.1))
   freed (Last key) children last same trade put =
       let name = (held_live s session n is may.held).name in
-      let fits : FitsLevel n.level ((stored_state s).key n) = is.sound.entries.fits n (held_live s session n is may.held) in
+      let fits : FitsLevel n.level ((stored_state s).key n) =
+      is.sound.entries.fits n (held_live s session n is may.held) in
       let its : (stored_state s).key n ≡ key = ap key_or_none put.entry.0 in
       let weigh : (f : Name → ℕ) → weights children f ≡ children_named key f =
-      λ f. ap (λ (cs : List (Option Name)). weights cs f) same ∙ key_weighs n.level ((stored_state s).key n) f fits
+      λ f. ap (λ (cs : List (Option Name)). weights cs f) same
+      ∙ key_weighs n.level ((stored_state s).key n) f fits
       ∙ ap (λ (k : Key). children_weight f k) its in
-      let eight : weights children (λ _. 1) ≤ 8 = subst (λ (cs : List (Option Name)). weights cs (λ _. 1) ≤ 8) (sym same)
+      let eight : weights children (λ _. 1) ≤ 8 =
+      subst (λ (cs : List (Option Name)). weights cs (λ _. 1) ≤ 8) (sym same)
       (few_children n.level ((stored_state s).key n) fits) in
-      let trades = trades_as s session names after (Some n ∷ []) children at (has_of s session (Some n ∷ []) names may.held at) trade (one_name n) (children_named key) (one_weight (Some n)) weigh in
-      let few = few_after s session names after (Some n ∷ []) children at (has_of s session (Some n ∷ []) names may.held at) trade 4089 may.room (omega (arith, eight, one_weight (Some n) (λ _. 1))) in
+      let trades =
+      trades_as s session names after (Some n ∷ []) children at
+      (has_of s session (Some n ∷ []) names may.held at) trade (one_name n)
+      (children_named key) (one_weight (Some n)) weigh in
+      let few =
+      few_after s session names after (Some n ∷ []) children at
+      (has_of s session (Some n ∷ []) names may.held at) trade 4089 may.room
+      (omega (arith, eight, one_weight (Some n) (λ _. 1))) in
       let all : List Level = put_at s.entries n None in
-      let is_all : entries ≡ all = put.others ∙ ap (λ (x : Option (Entry Key)). put_at s.entries n x) put.entry.1 in
+      let is_all : entries ≡ all =
+      put.others ∙ ap (λ (x : Option (Entry Key)). put_at s.entries n x) put.entry.1 in
       let step : Frees s.plan session n (stored_state s) (stored_state (moved s all session after)) =
-      frees_slot s.plan s.entries n key session (root_in s.roots) s.log s.held (set s.held session after)
+      frees_slot s.plan s.entries n key session (root_in s.roots) s.log s.held
+      (set s.held session after)
       is.laid name put.entry.0 trades in
-      subst (λ (x : List Level). FreesEntry s session n (moved s x session after)) (sym is_all) (record {
+      subst (λ (x : List Level). FreesEntry s session n (moved s x session after)) (sym is_all)
+      (record {
         frees = step;
         stays = record {
           plan = refl;

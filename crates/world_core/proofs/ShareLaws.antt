@@ -20,7 +20,8 @@ use Rattle.world_core.proofs.Keeping.{traded, kept, no_weights, one_weight, ones
 
 -- the lists with other entries, and with another holding of a session
 abbrev pub moved : Stored → List Level → ℕ → List Name → Stored
-moved s entries session after = record { plan = s.plan; models = s.models; entries = entries; roots = s.roots; log = s.log; held = set s.held session after }
+moved s entries session after =
+    record { plan = s.plan; models = s.models; entries = entries; roots = s.roots; log = s.log; held = set s.held session after }
 
 -- what is found of a session in the lists is what it holds
 pub same_names : (s : Stored) (session most : ℕ) (names : List Name)
@@ -29,7 +30,8 @@ pub same_names : (s : Stored) (session most : ℕ) (names : List Name)
 same_names s session most names room found =
     room.at ∙ ap Some (sym (found ∙ get_or_from_slice_get s.held session room.names names room.at))
 
-few_names : (s : Stored) (session most : ℕ) (names : List Name) → HoldsAtMost (stored_state s) session most
+few_names : (s : Stored) (session most : ℕ) (names : List Name)
+    → HoldsAtMost (stored_state s) session most
     → slice_get s.held session ≡ Some names → length names ≤ most
 few_names s session most names room at =
     let same = Rattle.std.proofs.lemmas.Option.same_Some names room.names (sym at ∙ room.at) in
@@ -39,7 +41,8 @@ few_names s session most names room at =
 pub raised : (s : Stored) (session : ℕ) (n : Name) (names after : List Name) (entries : List Level)
     → IsStored s → IsLive s.plan (stored_state s) n → HoldsAtMost (stored_state s) session 4095
     → slice_get s.held session ≡ Some names → TradesNames names [] (Some n ∷ []) after
-    → entries ≡ put_at s.entries n (with_book (entry_at s.entries n) (book_of_slot (entry_at s.entries n) + 1))
+    → entries ≡ put_at s.entries n
+    (with_book (entry_at s.entries n) (book_of_slot (entry_at s.entries n) + 1))
     → RaisesEntry s session n (moved s entries session after)
 raised s session n names after entries is live room at trade put =
     subst (λ (all : List Level). RaisesEntry s session n (moved s all session after)) (sym put)
@@ -55,15 +58,22 @@ raised s session n names after entries is live room at trade put =
         let low = few_names s session 4095 names room at in omega arith
 
     go : (e : Option (Entry Key)) → entry_at s.entries n ≡ e
-        → RaisesEntry s session n (moved s (put_at s.entries n (with_book (entry_at s.entries n) (book_of_slot (entry_at s.entries n) + 1))) session after)
+        → RaisesEntry s session n
+        (moved s (put_at s.entries n
+        (with_book (entry_at s.entries n)
+        (book_of_slot (entry_at s.entries n) + 1))) session after)
     go None none = absurd (live_there s n live none)
     go (Some e) some =
-        let P : Option (Entry Key) → Type 0 = λ o. RaisesEntry s session n (moved s (put_at s.entries n (with_book o (book_of_slot o + 1))) session after) in
-        let all : List Level = put_at s.entries n (Some (record { key = e.key; book = e.book + 1 })) in
+        let P : Option (Entry Key) → Type 0 =
+        λ o. RaisesEntry s session n
+        (moved s (put_at s.entries n (with_book o (book_of_slot o + 1))) session after) in
+        let all : List Level =
+        put_at s.entries n (Some (record { key = e.key; book = e.book + 1 })) in
         let book : book_of_slot (entry_at s.entries n) ≡ e.book = ap book_of_slot some in
         let low = live.book in
         let step : Raises s.plan session n (stored_state s) (stored_state (moved s all session after)) =
-        raises_slot s.plan s.entries n e.key e.book session (root_in s.roots) s.log s.held (set s.held session after)
+        raises_slot s.plan s.entries n e.key e.book session (root_in s.roots) s.log s.held
+        (set s.held session after)
         is.laid live.name some (omega arith) trades in
         subst P (sym some) (record {
           raises = step;
@@ -84,10 +94,12 @@ pub names_at : (s : Stored) (session at most : ℕ) (names : List Name) → at �
 names_at s session at most names same room found =
     same_names s session most names room (found ∙ ap (λ (k : ℕ). get_or s.held k names) same)
 
-pub seat_in : (s : Stored) (session at most : ℕ) → at ≡ session → HoldsAtMost (stored_state s) session most
+pub seat_in : (s : Stored) (session at most : ℕ) → at ≡ session
+    → HoldsAtMost (stored_state s) session most
     → at < length s.held
 seat_in s session at most same room =
-    let lt = Rattle.std.proofs.lemmas.Option.slice_get_within s.held session room.names room.at in omega arith
+    let lt =
+    Rattle.std.proofs.lemmas.Option.slice_get_within s.held session room.names room.at in omega arith
 
 -- a holding of a session becomes another
 module _ (s : Stored) (session : ℕ) (names after : List Name) (gives takes : List (Option Name))

@@ -29,19 +29,23 @@ row_child (suc level) (Node children) k fits le = refl
 pub under_same : (key : Name → Key) (m n : Name) → m ≡ n → IsUnder key m n
 under_same key m n same = subst (λ (x : Name). IsUnder key m x) same itself
 
-module _ (s : Stored) (n : Name) (level : ℕ) (is : IsStored s) (live : IsLive s.plan (stored_state s) n)
+module _ (s : Stored) (n : Name) (level : ℕ) (is : IsStored s)
+    (live : IsLive s.plan (stored_state s) n)
     (same : n.level ≡ level) where
   pub leaf_alone : (m : Name) → level ≡ 0 → m ≢ n → IsUnder (stored_state s).key m n → ⊥
   leaf_alone m low other itself = other refl
   leaf_alone m low other (below k child lt at more) =
-      let up = child_level n.level ((stored_state s).key n) child k (is.sound.entries.fits n live) lt at in omega arith
+      let up =
+      child_level n.level ((stored_state s).key n) child k
+      (is.sound.entries.fits n live) lt at in omega arith
 
   -- the children's names as a row
   its_child : (children : List (Option Name)) (k : ℕ) (child : Name) → 1 ≤ level
       → children ≡ children_in ((stored_state s).key n) → name_in children k ≡ Some child
       → key_child ((stored_state s).key n) k ≡ Some child
   its_child children k child le row at =
-      sym (row_child n.level ((stored_state s).key n) k (is.sound.entries.fits n live) (omega arith))
+      sym (row_child n.level ((stored_state s).key n) k (is.sound.entries.fits n live)
+      (omega arith))
       ∙ ap (λ (cs : List (Option Name)). name_in cs k) (sym row) ∙ at
 
   pub child_live : (children : List (Option Name)) (k : ℕ) (child : Name) → 1 ≤ level → k < 8
@@ -49,22 +53,27 @@ module _ (s : Stored) (n : Name) (level : ℕ) (is : IsStored s) (live : IsLive 
       → IsLive s.plan (stored_state s) child × (child.level ≡ level - 1)
   child_live children k child le lt row at =
       let it = its_child children k child le row at in
-      let up = child_level n.level ((stored_state s).key n) child k (is.sound.entries.fits n live) lt it in
+      let up =
+      child_level n.level ((stored_state s).key n) child k
+      (is.sound.entries.fits n live) lt it in
       (child_lives s.plan (stored_state s) n child k is.sound.entries live lt it, omega arith)
 
   pub under_child : (children : List (Option Name)) (k : ℕ) (child m : Name) → 1 ≤ level → k < 8
       → children ≡ children_in ((stored_state s).key n) → name_in children k ≡ Some child
       → IsUnder (stored_state s).key m child → IsUnder (stored_state s).key m n
-  under_child children k child m le lt row at more = below k child lt (its_child children k child le row at) more
+  under_child children k child m le lt row at more = below k child lt
+      (its_child children k child le row at) more
 
   pub not_under : (children : List (Option Name)) (m : Name) → 1 ≤ level → m ≢ n
       → children ≡ children_in ((stored_state s).key n)
-      → ((j : ℕ) (child : Name) → j < 8 → name_in children j ≡ Some child → IsUnder (stored_state s).key m child → ⊥)
+      → ((j : ℕ) (child : Name) → j < 8 → name_in children j ≡ Some child
+      → IsUnder (stored_state s).key m child → ⊥)
       → IsUnder (stored_state s).key m n → ⊥
   not_under children m le other row none itself = other refl
   not_under children m le other row none (below k child lt at more) =
       none k child lt (ap (λ (cs : List (Option Name)). name_in cs k) row
-      ∙ row_child n.level ((stored_state s).key n) k (is.sound.entries.fits n live) (omega arith) ∙ at) more
+      ∙ row_child n.level ((stored_state s).key n) k (is.sound.entries.fits n live) (omega arith)
+      ∙ at) more
 
 -- each name that a session holds is held once
 pub one_held : (s : Stored) (session : ℕ) (names : List Name) (k : ℕ) (d : Name)
@@ -73,7 +82,11 @@ pub one_held : (s : Stored) (session : ℕ) (names : List Name) (k : ℕ) (d : N
 one_held s session names k d at lt = record {
   names = names;
   at = at;
-  has = record { weighs = λ f. (let one = one_weight (Some (get_or names k d)) f in let le = get_or-le-sum_by f names k d lt in omega arith) };
+  has = record {
+    weighs = λ f.
+        (let one = one_weight
+        (Some (get_or names k d)) f in let le = get_or-le-sum_by f names k d lt in omega arith);
+  };
 }
 
 -- where a name is in a list that has it
@@ -101,7 +114,8 @@ seat_names held session at names same lt found =
 -- a share that a session holds, or one above it, is of one of its names
 pub not_reached : (s : Stored) (session : ℕ) (names : List Name) (n : Name)
     → slice_get s.held session ≡ Some names
-    → ((j : ℕ) (d : Name) → j < length names → IsUnder (stored_state s).key n (get_or names j d) → ⊥)
+    → ((j : ℕ) (d : Name) → j < length names → IsUnder (stored_state s).key n (get_or names j d)
+    → ⊥)
     → Reaches (stored_state s) session n → ⊥
 not_reached s session names n at none reached =
     let f : Name → ℕ = is_name reached.over in
@@ -110,4 +124,5 @@ not_reached s session names n at none reached =
     let one = one_weight (Some reached.over) f in
     let self = is_name-self reached.over in
     let place = place_of reached.over names (omega arith) in
-    none place.at n place.below (subst (λ (x : Name). IsUnder (stored_state s).key n x) (sym (place.is n)) reached.under)
+    none place.at n place.below
+    (subst (λ (x : Name). IsUnder (stored_state s).key n x) (sym (place.is n)) reached.under)

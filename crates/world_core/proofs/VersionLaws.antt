@@ -43,9 +43,11 @@ no_root s v is past = go (root_in s.roots v) refl
 
 -- the lists with another log, with another root of a version and another holding of a session
 abbrev pub logged : Stored → List (Option Name) → Log → ℕ → List Name → Stored
-logged s roots log session after = record { plan = s.plan; models = s.models; entries = s.entries; roots = roots; log = log; held = set s.held session after }
+logged s roots log session after =
+    record { plan = s.plan; models = s.models; entries = s.entries; roots = roots; log = log; held = set s.held session after }
 
-pub recorded : (s : Stored) (r : Record) (root : Option Name) (names after : List Name) (version : ℕ)
+pub recorded : (s : Stored) (r : Record) (root : Option Name) (names after : List Name)
+    (version : ℕ)
     → IsStored s → MayAppend s.plan s.models r root (stored_state s)
     → HoldsShares (stored_state s) r.session (root ∷ []) → slice_get s.held r.session ≡ Some names
     → TradesNames names (root ∷ []) [] after → version ≡ length s.log.records + 1
@@ -53,14 +55,21 @@ pub recorded : (s : Stored) (r : Record) (root : Option Name) (names after : Lis
     (record { side = s.log.side; coloured = s.log.coloured; records = s.log.records ++ r ∷ []; marks = s.log.marks }) r.session after)
 recorded s r root names after version is may held at trade same =
     let next : ℕ = length s.log.records + 1 in
-    let log : Log = record { side = s.log.side; coloured = s.log.coloured; records = s.log.records ++ r ∷ []; marks = s.log.marks } in
+    let log : Log =
+    record { side = s.log.side; coloured = s.log.coloured; records = s.log.records ++ r ∷ []; marks = s.log.marks } in
     let room = may.room in
     let places = is.places in
     let has = has_of s r.session (root ∷ []) names held at in
-    let trades = trades_as s r.session names after (root ∷ []) [] at has trade (at_most_one root) no_weight (one_weight root) no_weights in
-    let few = few_after s r.session names after (root ∷ []) [] at has trade 4096 (all_room s r.session names is at) (omega (arith, no_weights (λ _. 1))) in
-    subst (λ (v : ℕ). AppendsRoot s r root (logged s (set s.roots v root) log r.session after)) (sym same)
-    (let puts : PutsRoot s.plan r.session next root (stored_state s) (stored_state (logged s (set s.roots next root) log r.session after)) = record {
+    let trades =
+    trades_as s r.session names after (root ∷ []) [] at has trade (at_most_one root) no_weight
+    (one_weight root) no_weights in
+    let few =
+    few_after s r.session names after (root ∷ []) [] at has trade 4096
+    (all_room s r.session names is at) (omega (arith, no_weights (λ _. 1))) in
+    subst (λ (v : ℕ). AppendsRoot s r root (logged s (set s.roots v root) log r.session after))
+    (sym same)
+    (let puts : PutsRoot s.plan r.session next root (stored_state s)
+    (stored_state (logged s (set s.roots next root) log r.session after)) = record {
       in_range = omega arith;
       free = no_root s next is (omega arith);
       new_root = get_or-set_same s.roots next root None (omega arith);
@@ -82,10 +91,12 @@ recorded s r root names after version is may held at trade same =
 
 -- the log with one more record, and with a mark at a place
 abbrev pub longer : Log → Record → Log
-longer log r = record { side = log.side; coloured = log.coloured; records = log.records ++ r ∷ []; marks = log.marks }
+longer log r =
+    record { side = log.side; coloured = log.coloured; records = log.records ++ r ∷ []; marks = log.marks }
 
 abbrev pub with_mark : Log → ℕ → Mark → Log
-with_mark log place mark = record { side = log.side; coloured = log.coloured; records = log.records; marks = take place log.marks ++ mark ∷ drop place log.marks }
+with_mark log place mark =
+    record { side = log.side; coloured = log.coloured; records = log.records; marks = take place log.marks ++ mark ∷ drop place log.marks }
 
 -- a mark in its place among marks by rising version
 mark_comes : (marks : List Mark) (mark : Mark) (place : ℕ) → place ≤ length marks
@@ -99,23 +110,27 @@ mark_comes marks mark place le rising unmarked lower higher = record {
   was = sym (take-append-drop place marks);
   is = refl;
   lower = λ k m lt. (
-      let wide : length (take place marks) ≡ place = Rattle.std.proofs.lemmas.List.length-take-le place marks le in
+      let wide : length (take place marks) ≡ place =
+      Rattle.std.proofs.lemmas.List.length-take-le place marks le in
       let here = Rattle.std.proofs.lemmas.List.get_or-take place marks k m (omega arith) in
       let low = lower k m (omega arith) in
       let other = unmarked k m (omega arith) in
       subst (λ (x : Mark). x.version < mark.version) (sym here) (omega arith));
   higher = λ k m lt. (
-      let wide : length (drop place marks) ≡ length marks - place = Rattle.std.proofs.lemmas.List.length-drop place marks in
+      let wide : length (drop place marks) ≡ length marks - place =
+      Rattle.std.proofs.lemmas.List.length-drop place marks in
       let here = Rattle.std.proofs.lemmas.List.get_or-drop place marks k m in
       let first = higher m (omega arith) in
       subst (λ (x : Mark). mark.version < x.version) (sym here) (go k m (omega arith) first));
 }
   where
-    go : (k : ℕ) (m : Mark) → place + k < length marks → mark.version < (get_or marks place m).version
+    go : (k : ℕ) (m : Mark) → place + k < length marks
+        → mark.version < (get_or marks place m).version
         → mark.version < (get_or marks (place + k) m).version
     go zero m lt first = let same : place ≡ place + 0 = omega arith in
         subst (λ (j : ℕ). mark.version < (get_or marks j m).version) same first
-    go (suc k) m lt first = let up = rising place (place + suc k) m (omega arith) (omega arith) in omega arith
+    go (suc k) m lt first = let up = rising place (place + suc k) m (omega arith)
+        (omega arith) in omega arith
 
 pub marked : (s : Stored) (mark : Mark) (root : Option Name) (names after : List Name) (place : ℕ)
     → IsStored s → mark.version < length s.log.records → mark.at ≡ length s.log.records
@@ -123,19 +138,24 @@ pub marked : (s : Stored) (mark : Mark) (root : Option Name) (names after : List
     → slice_get s.held mark.session ≡ Some names → root ≡ root_in s.roots mark.version
     → TradesNames names [] (root ∷ []) after → place ≤ length s.log.marks
     → ((k : ℕ) (m : Mark) → k < place → (get_or s.log.marks k m).version ≤ mark.version)
-    → ((m : Mark) → place < length s.log.marks → mark.version < (get_or s.log.marks place m).version)
+    → ((m : Mark) → place < length s.log.marks
+    → mark.version < (get_or s.log.marks place m).version)
     → MarksRoot s mark root (logged s (set s.roots mark.version None)
     (record { side = s.log.side; coloured = s.log.coloured; records = s.log.records; marks = take place s.log.marks ++ mark ∷ drop place s.log.marks }) mark.session after)
 marked s mark root names after place is earlier now unmarked room at its trade le lower higher =
     let few_records = is.sound.versions.legal.few in
     let places = is.places in
     let v : ℕ = mark.version in
-    let log : Log = record { side = s.log.side; coloured = s.log.coloured; records = s.log.records; marks = take place s.log.marks ++ mark ∷ drop place s.log.marks } in
+    let log : Log =
+    record { side = s.log.side; coloured = s.log.coloured; records = s.log.records; marks = take place s.log.marks ++ mark ∷ drop place s.log.marks } in
     let has : HasAll names [] = record { weighs = λ f. omega arith } in
-    let trades = trades_as s mark.session names after [] (root ∷ []) at has trade no_weight (at_most_one (root_in s.roots v)) no_weights
+    let trades =
+    trades_as s mark.session names after [] (root ∷ []) at has trade no_weight
+    (at_most_one (root_in s.roots v)) no_weights
     (λ f. one_weight root f ∙ ap (weight f) its) in
     let few = few_after s mark.session names after [] (root ∷ []) at has trade 4095 room
-    (let one = one_weight root (λ _. 1) in let small = few_root root in omega (arith, no_weights (λ _. 1))) in
+    (let one = one_weight root (λ _. 1) in let small = few_root root in omega
+    (arith, no_weights (λ _. 1))) in
     let takes : TakesRoot s.plan mark.session v (stored_state s) (stored_state (logged s (set s.roots v None) log mark.session after)) = record {
       in_range = omega arith;
       no_root = get_or-set_same s.roots v None None (omega arith);
@@ -166,4 +186,5 @@ marked s mark root names after place is earlier now unmarked room at its trade l
 -- what is found at a place that is there is there with any default
 pub found_root : (roots : List (Option Name)) (v : ℕ) (root : Option Name) → v < length roots
     → root ≡ get_or roots v root → root ≡ root_in roots v
-found_root roots v root lt found = found ∙ Rattle.std.proofs.lemmas.List.get_or_default roots v root None lt
+found_root roots v root lt found =
+    found ∙ Rattle.std.proofs.lemmas.List.get_or_default roots v root None lt

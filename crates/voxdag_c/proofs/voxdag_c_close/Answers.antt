@@ -5,4 +5,5 @@ pub returns-in-None : goal.returns-in-None
 returns-in-None c = closes_none _ _ c.in-None.ensures.taken c.take.ensures.gone
 
 pub returns-in-Some : goal.returns-in-Some
-returns-in-Some c = closes_some _ _ c.in-Some.world.value c.in-Some.ensures.taken c.take.ensures.gone
+returns-in-Some c =
+    closes_some _ _ c.in-Some.world.value c.in-Some.ensures.taken c.take.ensures.gone

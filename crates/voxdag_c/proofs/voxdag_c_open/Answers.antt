@@ -2,7 +2,8 @@ use Rattle.voxdag_c.proofs.Through.{opens_again, opens_begun, opens_not}
 use Rattle.voxdag_c.proofs.voxdag_c_open.Goals as goal
 
 pub returns-in-Some : goal.returns-in-Some
-returns-in-Some c = opens_again c.args.side c.args.cap c.args.file.now _ _ c.in-Some.world.value c.in-Some.ensures.taken c.put.ensures
+returns-in-Some c =
+    opens_again c.args.side c.args.cap c.args.file.now _ _ c.in-Some.world.value c.in-Some.ensures.taken c.put.ensures
 
 pub returns-in-Ok : goal.returns-in-Ok
 returns-in-Ok c =

@@ -9,19 +9,26 @@ pub returns-in-Ok-clause-ok : goal.returns-in-Ok-clause-ok
 returns-in-Ok-clause-ok g c models m e =
     let old = g.N.Blocks.seen c.args.store.now in
     let new = g.N.Blocks.seen c.rebuild_stamp.new.store in
-    for_act old c.args.side (option_copied c.args.old) models m c.model.inside.model.now c.model.inside.stencil c.args.at
-    (λ world. Rebuilt (c.args.side - 2) world c.in-Ok.share old new) (e ∙ ap Some (sym c.model.view_is)) c.model.invariant c.in-Ok.ensures.ok
+    for_act old c.args.side
+    (option_copied c.args.old) models m c.model.inside.model.now c.model.inside.stencil c.args.at
+    (λ world. Rebuilt (c.args.side - 2) world c.in-Ok.share old new)
+    (e ∙ ap Some (sym c.model.view_is)) c.model.invariant c.in-Ok.ensures.ok
 
 pub returns-in-Ok-clause-grows : goal.returns-in-Ok-clause-grows
 returns-in-Ok-clause-grows g c models m e =
     let old = g.N.Blocks.seen c.args.store.now in
     let new = g.N.Blocks.seen c.rebuild_stamp.new.store in
-    for_act old c.args.side (option_copied c.args.old) models m c.model.inside.model.now c.model.inside.stencil c.args.at
-    (λ world. Grows (world_shape (c.args.side - 2) world) old new) (e ∙ ap Some (sym c.model.view_is)) c.model.invariant c.in-Ok.ensures.grows
+    for_act old c.args.side
+    (option_copied c.args.old) models m c.model.inside.model.now c.model.inside.stencil c.args.at
+    (λ world. Grows (world_shape (c.args.side - 2) world) old new)
+    (e ∙ ap Some (sym c.model.view_is)) c.model.invariant c.in-Ok.ensures.grows
 
 pub returns-in-Err-clause-full : goal.returns-in-Err-clause-full
 returns-in-Err-clause-full g c models m e =
     let old = g.N.Blocks.seen c.args.store.now in
     let new = g.N.Blocks.seen c.rebuild_stamp.new.store in
-    for_act old c.args.side (option_copied c.args.old) models m c.model.inside.model.now c.model.inside.stencil c.args.at
-    (λ world. Fails (world_shape (c.args.side - 2) world) c.in-Err.e.level c.in-Err.e.bucket old new) (e ∙ ap Some (sym c.model.view_is)) c.model.invariant c.in-Err.ensures.full
+    for_act old c.args.side
+    (option_copied c.args.old) models m c.model.inside.model.now c.model.inside.stencil c.args.at
+    (λ world. Fails
+    (world_shape (c.args.side - 2) world) c.in-Err.e.level c.in-Err.e.bucket old new)
+    (e ∙ ap Some (sym c.model.view_is)) c.model.invariant c.in-Err.ensures.full

@@ -29,7 +29,8 @@ rebuild_with-requires-clause-tinted g c =
 
 pub rebuild_with-requires-clause-fits : goal.rebuild_with-requires-clause-fits
 rebuild_with-requires-clause-fits g c =
-    let row = c.as_slice-in-Tints.ensures.value ∙ tints_models _ _ c.models.view_is _ c.in-Tints.is in
+    let row =
+    c.as_slice-in-Tints.ensures.value ∙ tints_models _ _ c.models.view_is _ c.in-Tints.is in
     subst (λ (ms : List Content). FitsWorld (2 ^ c.args.side) ms c.args.act) (sym row)
     c.requires.fits
 
@@ -50,7 +51,8 @@ returns-in-Tints-clause-ok g c =
     let old = g.N.Blocks.seen c.args.store.now in
     let new = g.N.Blocks.seen c.rebuild_with.new.store in
     let root = option_copied c.args.old in
-    let row = c.as_slice-in-Tints.ensures.value ∙ tints_models _ _ c.models.view_is _ c.in-Tints.is in
+    let row =
+    c.as_slice-in-Tints.ensures.value ∙ tints_models _ _ c.models.view_is _ c.in-Tints.is in
     subst (λ (ms : List Content). RebuildsAct old c.args.side root ms c.args.act c.rebuild_with.result new)
     row c.rebuild_with.ensures.ok
 
@@ -71,7 +73,8 @@ returns-in-Tints-clause-grows g c =
     let old = g.N.Blocks.seen c.args.store.now in
     let new = g.N.Blocks.seen c.rebuild_with.new.store in
     let root = option_copied c.args.old in
-    let row = c.as_slice-in-Tints.ensures.value ∙ tints_models _ _ c.models.view_is _ c.in-Tints.is in
+    let row =
+    c.as_slice-in-Tints.ensures.value ∙ tints_models _ _ c.models.view_is _ c.in-Tints.is in
     subst (λ (ms : List Content). GrowsByAct old c.args.side root ms c.args.act c.rebuild_with.result new)
     row c.rebuild_with.ensures.grows
 
@@ -92,6 +95,7 @@ returns-in-Tints-clause-full g c =
     let old = g.N.Blocks.seen c.args.store.now in
     let new = g.N.Blocks.seen c.rebuild_with.new.store in
     let root = option_copied c.args.old in
-    let row = c.as_slice-in-Tints.ensures.value ∙ tints_models _ _ c.models.view_is _ c.in-Tints.is in
+    let row =
+    c.as_slice-in-Tints.ensures.value ∙ tints_models _ _ c.models.view_is _ c.in-Tints.is in
     subst (λ (ms : List Content). RefusesAct old c.args.side root ms c.args.act c.rebuild_with.result new)
     row c.rebuild_with.ensures.full

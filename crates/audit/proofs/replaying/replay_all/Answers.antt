@@ -19,14 +19,16 @@ returns-in-Ok-false-clause-all g c = λ marks tells. (
     (steps_as p q models others marks c.loop-record.replay.records c.step.new.replay.records r false
     c.loop-record.invariant.plan c.loop-record.invariant.models
     (subst (λ (b : Bool). Steps (2 ^ q.side) others marks c.loop-record.replay.records r (Ok b)
-    c.step.new.replay.records) c.in-Ok-false.field-0-test (c.in-Ok-false.ensures.steps marks tells))))
+    c.step.new.replay.records) c.in-Ok-false.field-0-test
+    (c.in-Ok-false.ensures.steps marks tells))))
 
 pub returns-in-Err-clause-refused : goal.returns-in-Err-clause-refused
 returns-in-Err-clause-refused g c =
     let r : Record = get_or c.args.records.now c.loop-record.record-index any_record in
     refused_along c.args.replay.now.plan c.loop-record.replay c.args.replay.now.models c.args.records.now
     c.loop-record.record-index r any_record c.in-Err.refused c.loop-record.invariant.plan
-    c.loop-record.invariant.models c.loop-record.invariant.are (omega arith) refl c.in-Err.ensures.refused
+    c.loop-record.invariant.models c.loop-record.invariant.are
+    (omega arith) refl c.in-Err.ensures.refused
 
 pub loop-record-preserved : goal.loop-record-preserved
 loop-record-preserved g c =
@@ -37,12 +39,14 @@ loop-record-preserved g c =
     let r : Record = get_or c.args.records.now c.loop-record.record-index any_record in
     let came : c.step.new.replay.records ≡ c.loop-record.replay.records ++ r ∷ [] =
     c.in-Ok-true.ensures.more (ap Ok c.in-Ok-true.field-0-test) in
-    let pushed : c.push.new.self.items ≡ c.loop-record.ways.items ++ c.ways_now.result ∷ [] = search rules in
+    let pushed : c.push.new.self.items ≡ c.loop-record.ways.items ++ c.ways_now.result ∷ [] =
+    search rules in
     record {
       plan = c.in-Ok-true.ensures.plan ∙ c.loop-record.invariant.plan;
       tint = c.in-Ok-true.ensures.tint ∙ c.loop-record.invariant.tint;
       models = c.in-Ok-true.ensures.models ∙ c.loop-record.invariant.models;
-      number = ap (λ (rs : List Record). length rs) came ∙ length-append c.loop-record.replay.records (r ∷ [])
+      number = ap (λ (rs : List Record). length rs) came
+          ∙ length-append c.loop-record.replay.records (r ∷ [])
           ∙ ap (λ k. k + 1) c.loop-record.invariant.number;
       are = came ∙ ap (λ (rs : List Record). rs ++ r ∷ []) c.loop-record.invariant.are
           ∙ sym (take_more c.args.records.now c.loop-record.record-index any_record (omega arith));
@@ -51,11 +55,13 @@ loop-record-preserved g c =
           let steps =
           steps_as p q models others marks c.loop-record.replay.records c.step.new.replay.records r true
           c.loop-record.invariant.plan c.loop-record.invariant.models
-          (subst (λ (b : Bool). Steps (2 ^ q.side) others marks c.loop-record.replay.records r (Ok b)
+          (subst (λ (b : Bool). Steps (2 ^ q.side) others marks c.loop-record.replay.records r
+          (Ok b)
           c.step.new.replay.records)
           c.in-Ok-true.field-0-test (c.in-Ok-true.ensures.steps marks tells)) in
           subst (λ (ws : List Ways). HasReplayed (2 ^ p.side) models marks
-          c.args.records.now (c.loop-record.record-index + 1) c.step.new.replay.records ws) (sym pushed)
+          c.args.records.now (c.loop-record.record-index + 1) c.step.new.replay.records ws)
+          (sym pushed)
           (replayed_more (2 ^ p.side) models marks c.args.records.now
           c.loop-record.replay.records c.step.new.replay.records c.loop-record.record-index
           c.loop-record.ways.items c.ways_now.result r any_record

@@ -11,7 +11,8 @@ invariant-loop-at g l =
     record {
       level : l.at ≤ l.fn.level;
       lands : (t : Tree) → IsBlockOf (seen l.fn.store).held l.fn.level (Some l.fn.n) t
-          → LandsAt (seen l.fn.store).held l.fn.level l.fn.c (record { level = l.at; block = block; inner = inner_place l.at l.fn.c }) t;
+          → LandsAt (seen l.fn.store).held l.fn.level l.fn.c
+          (record { level = l.at; block = block; inner = inner_place l.at l.fn.c }) t;
       block : HasBlock (seen l.fn.store).held l.at block;
       same : seen l.store ≡ seen l.fn.store;
       rests : g.B.Blocks.rests l.fn.store l.store;

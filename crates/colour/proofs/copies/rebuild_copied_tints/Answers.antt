@@ -7,11 +7,13 @@ pub returns-in-Err-clause-full : goal.returns-in-Err-clause-full
 returns-in-Err-clause-full g c =
     fails_of_more _ _ c.args.side 1 9 _ (copy_parts c.args.side c.args.b c.args.to) _ _
     (omega arith)
-    (first_fails _ _ c.args.side _ (copy_parts c.args.side c.args.b c.args.to) _ _ c.in-Err.ensures.full)
+    (first_fails _ _ c.args.side _
+    (copy_parts c.args.side c.args.b c.args.to) _ _ c.in-Err.ensures.full)
 
 pub loop-plane-init : goal.loop-plane-init
 loop-plane-init g c = record {
-  made = first_made _ _ c.args.side _ _ (copy_parts c.args.side c.args.b c.args.to) c.in-Ok.ensures.ok c.in-Ok.ensures.grows;
+  made = first_made _ _ c.args.side _ _
+      (copy_parts c.args.side c.args.b c.args.to) c.in-Ok.ensures.ok c.in-Ok.ensures.grows;
   rests = c.in-Ok.ensures.rests;
 }
 
@@ -36,13 +38,15 @@ next_part-requires-clause-room g c =
 pub returns-in-Err-next_part-clause-full : goal.returns-in-Err-next_part-clause-full
 returns-in-Err-next_part-clause-full g c =
     let more : suc c.loop-plane.plane ≤ 9 = omega arith in
-    fails_of_more _ _ c.args.side (suc c.loop-plane.plane) 9 _ (copy_parts c.args.side c.args.b c.args.to) _ _ more
+    fails_of_more _ _ c.args.side (suc c.loop-plane.plane) 9 _
+    (copy_parts c.args.side c.args.b c.args.to) _ _ more
     (c.in-Err-next_part.ensures.full _ _ c.loop-plane.invariant.made)
 
 pub loop-plane-preserved : goal.loop-plane-preserved
 loop-plane-preserved g c = record {
   made = (let next : suc c.loop-plane.plane ≡ c.loop-plane.plane + 1 = omega arith in
-      made_as _ _ c.args.side (suc c.loop-plane.plane) (c.loop-plane.plane + 1) _ _ (copy_parts c.args.side c.args.b c.args.to) next
+      made_as _ _ c.args.side (suc c.loop-plane.plane) (c.loop-plane.plane + 1) _ _
+      (copy_parts c.args.side c.args.b c.args.to) next
       (c.in-Ok-next_part.ensures.made _ _ c.loop-plane.invariant.made));
   rests = g.met.N.Blocks.rests_on _ _ _ c.loop-plane.invariant.rests c.next_part.ensures.rests;
 }

@@ -8,7 +8,8 @@ use Rattle.colour.proofs.FillLaws.{ball_planes}
 use Rattle.colour.proofs.fills.rebuild_ball_tint.Goals as goal
 
 pub rebuild_planes-requires-clause-memo : goal.rebuild_planes-requires-clause-memo
-rebuild_planes-requires-clause-memo g c = recalls_none (makes_tint ball_task makes_ball) _ _ c.new-memo.ensures
+rebuild_planes-requires-clause-memo g c =
+    recalls_none (makes_tint ball_task makes_ball) _ _ c.new-memo.ensures
 
 pub rebuild_planes-requires-clause-planes : goal.rebuild_planes-requires-clause-planes
 rebuild_planes-requires-clause-planes g c =
@@ -16,12 +17,15 @@ rebuild_planes-requires-clause-planes g c =
 
 pub returns-clause-ok : goal.returns-clause-ok
 returns-clause-ok g c =
-    c.rebuild_planes.ensures.ok (fill_edit (is_in_ball c.args.ball) c.args.tint) (ball_planes _ c.args.side _ (omega arith))
+    c.rebuild_planes.ensures.ok (fill_edit (is_in_ball c.args.ball) c.args.tint)
+    (ball_planes _ c.args.side _ (omega arith))
 
 pub returns-clause-grows : goal.returns-clause-grows
 returns-clause-grows g c =
-    c.rebuild_planes.ensures.grows (fill_edit (is_in_ball c.args.ball) c.args.tint) (ball_planes _ c.args.side _ (omega arith))
+    c.rebuild_planes.ensures.grows (fill_edit (is_in_ball c.args.ball) c.args.tint)
+    (ball_planes _ c.args.side _ (omega arith))
 
 pub returns-clause-full : goal.returns-clause-full
 returns-clause-full g c =
-    c.rebuild_planes.ensures.full (fill_edit (is_in_ball c.args.ball) c.args.tint) (ball_planes _ c.args.side _ (omega arith))
+    c.rebuild_planes.ensures.full (fill_edit (is_in_ball c.args.ball) c.args.tint)
+    (ball_planes _ c.args.side _ (omega arith))

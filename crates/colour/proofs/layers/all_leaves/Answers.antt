@@ -15,8 +15,10 @@ loop-bit-init g c = record {
 pub loop-bit-preserved : goal.loop-bit-preserved
 loop-bit-preserved g c = record {
   so_far = λ t block.
-      more_bits c.loop-bit.rows _ c.bit_leaves-leaves.result c.args.b ((c.args.b.at.z + c.args.z) / 4)
-      c.args.side t _ c.loop-bit.bit c.loop-bit.invariant.eight c.loop-bit-test.true (search rules) refl
+      more_bits c.loop-bit.rows _ c.bit_leaves-leaves.result c.args.b
+      ((c.args.b.at.z + c.args.z) / 4)
+      c.args.side t _ c.loop-bit.bit c.loop-bit.invariant.eight c.loop-bit-test.true
+      (search rules) refl
       (c.loop-bit.invariant.so_far t block)
       (c.bit_leaves-leaves.ensures.leaves t (block_as _ _ _ _ t c.loop-bit.invariant.same block));
   eight = length-set c.loop-bit.rows _ _ ∙ c.loop-bit.invariant.eight;

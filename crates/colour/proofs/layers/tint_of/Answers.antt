@@ -17,7 +17,8 @@ loop-bit-preserved c =
     record {
       so_far = λ side t held.
           one_read (λ bit. bit_cells side t bit
-          (cell_at (b.at.x + c.args.c.x) (b.at.y + c.args.c.y) (b.at.z + c.args.c.z))) c.loop-bit.bit
+          (cell_at (b.at.x + c.args.c.x) (b.at.y + c.args.c.y)
+          (b.at.z + c.args.c.z))) c.loop-bit.bit
           c.loop-bit.tint c.with_bit-tint.result c.leaf_has-set.result
           (c.loop-bit.invariant.so_far side t held)
           (c.leaf_has-set.ensures
@@ -25,7 +26,8 @@ loop-bit-preserved c =
           c.requires.c.1
           (run_index _ _ _ _ c.row_start-start.ensures.start c.from-right.ensures)
           (run_inside b c.args.c.y c.args.c.x c.row_start-start.result m c.requires.b c.requires.c.1
-          c.requires.c.0 c.row_start-start.ensures.inside (run_index _ _ _ _ refl c.from-right.ensures))
+          c.requires.c.0 c.row_start-start.ensures.inside
+          (run_index _ _ _ _ refl c.from-right.ensures))
           (leaf_read c.args.rows.now _ c.loop-bit.bit m _ eight c.loop-bit-test.true c.from.ensures)
           (held.each c.loop-bit.bit c.loop-bit-test.true))
           c.with_bit-tint.ensures;

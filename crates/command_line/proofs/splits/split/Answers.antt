@@ -13,5 +13,8 @@ returns-in-Ok c =
     let command : app_of c.in_ok-command.command ≡ run_app = c.in_ok-command.ensures in
     let words = texts c.args.words.now in
     let found : rows_of (found_of c.in-Ok.matches) ≡ matches_of run_app words =
-    (c.in-Ok.ensures.matches (ap is_simple command ∙ simple)).0 ∙ ap (λ a. matches_of a words) command in
-    IfOk-weaker c.line.result _ _ (λ line is. is ∙ line_found words (rows_of (found_of c.in-Ok.matches)) c.requires found) c.line.ensures
+    (c.in-Ok.ensures.matches (ap is_simple command ∙ simple)).0
+    ∙ ap (λ a. matches_of a words) command in
+    IfOk-weaker c.line.result _ _
+    (λ line is. is
+    ∙ line_found words (rows_of (found_of c.in-Ok.matches)) c.requires found) c.line.ensures

@@ -13,5 +13,6 @@ returns-clause-tells c =
     low (c.in_ok-root.ensures.has.0 refl) c.in_ok-root.ensures.root
     (subst (λ (r : Option Name). TellsRoot (opened_seen c.args.view.now).held c.args.view.now.side r
     c.args.question c.tell-answer.result) c.as_ref.ensures.value
-    (subst (λ (s : ℕ). TellsRoot (opened_seen c.args.view.now).held s (option_copied c.as_ref.result)
+    (subst (λ (s : ℕ). TellsRoot (opened_seen c.args.view.now).held s
+    (option_copied c.as_ref.result)
     c.args.question c.tell-answer.result) c.side-side.ensures c.tell-answer.ensures.tells))

@@ -19,7 +19,8 @@ returns-then-not-can_come c = λ coloured marks tells.
     c.loop-record.record-index c.loop-record.number any_record (trail_position c.loop-record.trail)
     (omega arith) c.loop-record.invariant.number c.loop-record.invariant.position
     (c.loop-record.invariant.legal marks tells)
-    (λ come. (let yes : IsTrue c.can_come.result = (c.can_come.ensures.exactly marks tells).1 come in search rules))
+    (λ come. (let yes : IsTrue c.can_come.result =
+    (c.can_come.ensures.exactly marks tells).1 come in search rules))
 
 pub loop-record-preserved : goal.loop-record-preserved
 loop-record-preserved c =
@@ -30,19 +31,23 @@ loop-record-preserved c =
       position =
           next_at (2 ^ c.args.side) c.args.models.now
           (record { side = c.args.side; coloured = false; records = c.args.records.now; marks = [] })
-          c.loop-record.record-index c.loop-record.number any_record (trail_position c.loop-record.trail)
+          c.loop-record.record-index c.loop-record.number any_record
+          (trail_position c.loop-record.trail)
           (omega arith) c.loop-record.invariant.number c.loop-record.invariant.position
           (trail_position c.take.new.self) (search rules);
       legal = λ marks tells.
           one_more (2 ^ c.args.side) c.args.models.now
           (record { side = c.args.side; coloured = false; records = c.args.records.now; marks = marks })
-          c.loop-record.record-index c.loop-record.number any_record (trail_position c.loop-record.trail)
+          c.loop-record.record-index c.loop-record.number any_record
+          (trail_position c.loop-record.trail)
           (omega arith) c.loop-record.invariant.number c.loop-record.invariant.position
-          (c.loop-record.invariant.legal marks tells) ((c.can_come.ensures.exactly marks tells).0 yes);
+          (c.loop-record.invariant.legal marks tells)
+          ((c.can_come.ensures.exactly marks tells).0 yes);
     }
 
 pub returns : goal.returns
 returns c = λ coloured marks tells.
     let past : length c.args.records.now ≤ c.loop-record.record-index = search rules in
     subst (λ (rs : List Record). AreLegalRecords (2 ^ c.args.side) c.args.models.now marks rs)
-    (take_all c.loop-record.record-index c.args.records.now past) (c.loop-record.invariant.legal marks tells)
+    (take_all c.loop-record.record-index c.args.records.now past)
+    (c.loop-record.invariant.legal marks tells)

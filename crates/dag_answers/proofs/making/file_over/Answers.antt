@@ -8,7 +8,8 @@ pub file_of_roots-requires-clause-roots : goal.file_of_roots-requires-clause-roo
 file_of_roots-requires-clause-roots g c =
     let of_due : AreDue c.args.history.now.marks c.as_slice-2.result.now = search rules in
     let same : c.args.history.now.side ≡ c.history.inside.side = search rules in
-    subst (λ (s : ℕ). HoldsList c.in_ok-held.held.store.told.held (s - 1) c.in_ok-held.held.roots.items) same
+    subst (λ (s : ℕ). HoldsList c.in_ok-held.held.store.told.held
+    (s - 1) c.in_ok-held.held.roots.items) same
     (list_held c.args.models c.args.history.now c.as_slice-2.result.now c.in_ok-replay.replay.models
     c.replay_all.new.replay c.in_ok-held.held.store.told.held c.in_ok-held.held.roots.items of_due
     c.requires.marks c.in_ok-replay.ensures.models c.in_ok-replay_all.ensures.all (search rules)

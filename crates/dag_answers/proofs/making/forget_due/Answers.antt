@@ -24,13 +24,15 @@ loop-next-preserved g c =
       so_far =
           due_comes c.args.replay.now.models c.args.history.now c.args.due.now c.requires.due
           c.number-now.result c.loop-next.next c.loop-next.replay c.forget.new.self any_mark
-          c.loop-next.invariant.so_far lt (search rules) c.forget.ensures.plan c.forget.ensures.models
+          c.loop-next.invariant.so_far lt
+          (search rules) c.forget.ensures.plan c.forget.ensures.models
           c.forget.ensures.marks c.forget.ensures.made;
     }
 
 pub returns-else-due-next-clause-later : goal.returns-else-due-next-clause-later
 returns-else-due-next-clause-later g c =
-    let same : c.number-now.result ≡ length c.args.replay.now.log.records = c.number-now.ensures.value in
+    let same : c.number-now.result ≡ length c.args.replay.now.log.records =
+    c.number-now.ensures.value in
     subst (λ (n : ℕ). All (λ (m : Mark). n < m.at) (drop c.loop-next.next c.args.due.now)) same
     (none_now c.args.replay.now.models c.args.history.now c.args.due.now c.requires.due
     c.number-now.result c.loop-next.next c.loop-next.replay any_mark c.loop-next.invariant.so_far

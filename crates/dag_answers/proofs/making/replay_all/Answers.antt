@@ -34,9 +34,11 @@ take-requires-clause-follows g c =
 pub take-requires-clause-suits : goal.take-requires-clause-suits
 take-requires-clause-suits g c =
     let is : c.deref-record-items.result.now ≡ c.args.history.now.records = search rules in
-    subst (λ (b : Bool). suits_tints b (get_or c.deref-record-items.result.now c.loop-record.record-index any_record).act ≡ true)
+    subst (λ (b : Bool). suits_tints b
+    (get_or c.deref-record-items.result.now c.loop-record.record-index any_record).act ≡ true)
     (sym c.loop-record.invariant.so_far.coloured)
-    (subst (λ (rs : List Record). suits_tints c.args.history.now.coloured (get_or rs c.loop-record.record-index any_record).act ≡ true)
+    (subst (λ (rs : List Record). suits_tints c.args.history.now.coloured
+    (get_or rs c.loop-record.record-index any_record).act ≡ true)
     (sym is) (c.requires.suits c.loop-record.record-index any_record (search rules)))
 
 pub returns-in-Err-clause-refused : goal.returns-in-Err-clause-refused
@@ -61,9 +63,11 @@ forget_due-next-requires-clause-so_far g c =
     has_next models c.args.history.now c.args.due.now c.requires.due c.loop-record.record-index
     c.loop-record.next now new any_record c.loop-record.invariant.so_far (search rules)
     c.loop-record.invariant.later c.take.ensures.plan c.take.ensures.models
-    (subst (λ (rs : List Record). new.log ≡ log_with_record now.log (get_or rs c.loop-record.record-index any_record)) is came)
+    (subst (λ (rs : List Record). new.log
+    ≡ log_with_record now.log (get_or rs c.loop-record.record-index any_record)) is came)
     (search rules) in
-    subst (λ (ms : List Content). HasReplayed ms c.args.history.now c.args.due.now (length new.log.records) c.loop-record.next new)
+    subst (λ (ms : List Content). HasReplayed ms c.args.history.now c.args.due.now
+    (length new.log.records) c.loop-record.next new)
     (sym next.models_are)
     (subst (λ (m : ℕ). HasReplayed models c.args.history.now c.args.due.now m c.loop-record.next new) (sym next.many) next)
 
@@ -82,7 +86,8 @@ returns-clause-all g c =
     let later =
     subst (λ (n : ℕ). All (λ (m : Mark). n < m.at) (drop c.loop-record.next c.args.due.now)) end
     c.loop-record.invariant.later in
-    let le = all_due models log c.args.due.now c.requires.due c.loop-record.next now of_end c.requires.marks later in
+    let le =
+    all_due models log c.args.due.now c.requires.due c.loop-record.next now of_end c.requires.marks later in
     let within = c.loop-record.invariant.next in
     let all : c.loop-record.next ≡ length c.args.due.now = omega (arith, le, within) in
     subst (λ (k : ℕ). HasReplayed models log c.args.due.now (length log.records) k now) all of_end

@@ -12,6 +12,7 @@ returns c =
     record {
       rises = rw is (IsStrictlyIncreasing-dedup _ c.sort_unstable.ensures.sorted);
       keeps = λ x h. rw is (Contains-dedup_nat _ x (Contains-permutation _ _ x moved h));
-      adds_none = λ x h. Contains-permutation _ _ x (IsPermutation-sym _ _ moved) (Contains-from_dedup _ _ x (rw is at h));
+      adds_none = λ x h. Contains-permutation _ _ x (IsPermutation-sym _ _ moved)
+          (Contains-from_dedup _ _ x (rw is at h));
       few = filtered_shorter _ _ _ _ c.dedup.ensures.filtered moved;
     }

@@ -12,8 +12,13 @@ returns c =
     let is = dedup_is _ _ _ c.dedup.ensures.filtered in
     let moved = c.sort_unstable.ensures.permutation in
     record {
-      rises = rw is (IsStrictlySortedBy-dedup (on_texts (λ x. x)) (λ x y. texts_ties x y) _ c.sort_unstable.ensures.sorted);
-      keeps = λ x h. rw is (Contains-dedup nat_list_eq_equiv (λ xs ys e. same_text xs ys (sym e)) _ x (Contains-permutation _ _ x moved h));
-      adds_none = λ x h. Contains-permutation _ _ x (IsPermutation-sym _ _ moved) (Contains-from_dedup _ _ x (rw is at h));
+      rises = rw is
+          (IsStrictlySortedBy-dedup (on_texts (λ x. x))
+          (λ x y. texts_ties x y) _ c.sort_unstable.ensures.sorted);
+      keeps = λ x h. rw is
+          (Contains-dedup nat_list_eq_equiv (λ xs ys e. same_text xs ys (sym e)) _ x
+          (Contains-permutation _ _ x moved h));
+      adds_none = λ x h. Contains-permutation _ _ x (IsPermutation-sym _ _ moved)
+          (Contains-from_dedup _ _ x (rw is at h));
       few = filtered_shorter _ _ _ _ c.dedup.ensures.filtered moved;
     }

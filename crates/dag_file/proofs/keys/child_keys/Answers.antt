@@ -11,10 +11,12 @@ loop-key-preserved g c = record {
 }
 
 pub returns-clause-children : goal.returns-clause-children
-returns-clause-children g c = children_sorted _ _ c.loop-key.key-index _ _ _ c.loop-key.invariant.adds c.loop-key.auto.key-index-end c.loop-key-test.false c.sort_once.ensures.rises c.sort_once.ensures.keeps c.sort_once.ensures.adds_none
+returns-clause-children g c =
+    children_sorted _ _ c.loop-key.key-index _ _ _ c.loop-key.invariant.adds c.loop-key.auto.key-index-end c.loop-key-test.false c.sort_once.ensures.rises c.sort_once.ensures.keeps c.sort_once.ensures.adds_none
 
 pub returns-clause-reached : goal.returns-clause-reached
-returns-clause-reached g c = children_reached _ _ c.args.keys.now _ c.requires.keys (returns-clause-children g c)
+returns-clause-reached g c =
+    children_reached _ _ c.args.keys.now _ c.requires.keys (returns-clause-children g c)
 
 pub returns-clause-few : goal.returns-clause-few
 returns-clause-few g c = few_keys _ _ _ c.sort_once.ensures.rises (returns-clause-reached g c)

@@ -9,16 +9,31 @@ pub full_name-requires : goal.full_name-requires
 full_name-requires g t c κs within =
     let (u, f) = c.requires.full in
     let e = sym (c.in-Some.ensures.child u f.reached f.root) in
-    let l = (full_below _ u _ _ f (omega arith) e).0 in
-    (omega (arith, l), (within, ((child_of u 0, full_next _ _ u _ _ c.in-Some.ensures.seen f (omega arith) e), omega (arith, l))))
+    let l = (full_below _ u _ _ f (omega arith) e).0 in (
+      omega (arith, l),
+      (
+        within,
+        (
+          (
+            child_of u 0,
+            full_next _ _ u _ _ c.in-Some.ensures.seen f
+                (omega arith) e,
+          ),
+          omega (arith, l),
+        ),
+      ),
+    )
 
 pub unreachable-requires : goal.unreachable-requires
 unreachable-requires g t c =
     let (u, f) = c.requires.full in
-    full_child_there _ u _ f (omega arith) (sym (c.child_at.ensures.child u f.reached f.root) ∙ c.in-None.is)
+    full_child_there _ u _ f (omega arith)
+    (sym (c.child_at.ensures.child u f.reached f.root) ∙ c.in-None.is)
 
 pub returns-clause-full : goal.returns-clause-full
 returns-clause-full g t c u f =
     let e = sym (c.in-Some.ensures.child u f.reached f.root) in
-    let (v, h) = c.full_name.ensures.full (child_of u 0) (full_next _ _ u _ _ c.in-Some.ensures.seen f (omega arith) e) in
+    let (v, h) =
+    c.full_name.ensures.full (child_of u 0)
+    (full_next _ _ u _ _ c.in-Some.ensures.seen f (omega arith) e) in
     (v, subst (λ (s : Seen). IsFullBlock s.held v c.full_name.result) c.in-Some.ensures.seen h)

@@ -32,7 +32,9 @@ pub loop-k-preserved : goal.loop-k-preserved
 loop-k-preserved g c = record {
   gathers = λ rest n e a.
       let x = c.loop-k.invariant.gathers rest n e a in
-      full_gathers rest _ _ _ _ n.level _ _ c.loop-k.k c.more_of-share.result (omega arith) c.loop-k.invariant.long x (c.more_of-share.ensures.came x.now n e x.aside) c.put.ensures;
+      full_gathers rest _ _ _ _ n.level _ _ c.loop-k.k c.more_of-share.result
+      (omega arith) c.loop-k.invariant.long x
+      (c.more_of-share.ensures.came x.now n e x.aside) c.put.ensures;
   long = c.put.auto.children ∙ c.loop-k.invariant.long;
   number = omega arith;
   only = only_on _ _ _ c.loop-k.invariant.only c.more_of-share.ensures.only;
@@ -49,5 +51,9 @@ put-requires-2-clause-empty g c =
 pub returns-clause-gathers : goal.returns-clause-gathers
 returns-clause-gathers g c rest n e a =
     let seven : c.loop-k.k ≡ 7 = omega arith in
-    let x = subst (λ (k : ℕ). Gathers rest n.level (full_shape (n.level + 1)) c.loop-k.children k (g.N.Blocks.seen c.loop-k.store).held c.args.below) seven (c.loop-k.invariant.gathers rest n e a) in
-    full_gathers rest _ _ _ None n.level _ _ 7 c.args.below (omega arith) c.loop-k.invariant.long x (aside_came _ x.now _ n e x.aside) c.put-2.ensures
+    let x =
+    subst (λ (k : ℕ). Gathers rest n.level (full_shape (n.level + 1)) c.loop-k.children k
+    (g.N.Blocks.seen c.loop-k.store).held c.args.below) seven
+    (c.loop-k.invariant.gathers rest n e a) in
+    full_gathers rest _ _ _ None n.level _ _ 7 c.args.below (omega arith) c.loop-k.invariant.long x
+    (aside_came _ x.now _ n e x.aside) c.put-2.ensures

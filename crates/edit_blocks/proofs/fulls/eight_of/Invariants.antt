@@ -11,7 +11,10 @@ abbrev pub invariant-loop-k : goal.invariant-loop-k
 invariant-loop-k g l =
     let seen = g.N.Blocks.seen in
     record {
-      gathers : (rest : List Tree) (n : Name) → l.fn.below ≡ Some n → Aside (seen l.fn.store).held l.fn.below rest → Gathers rest n.level (full_shape (n.level + 1)) l.children l.k (seen l.store).held l.fn.below;
+      gathers : (rest : List Tree) (n : Name) → l.fn.below ≡ Some n
+          → Aside (seen l.fn.store).held l.fn.below rest
+          → Gathers rest n.level (full_shape (n.level + 1)) l.children l.k
+          (seen l.store).held l.fn.below;
       long : length l.children ≡ 8;
       number : number_of_trees (seen l.store).held ≡ number_of_trees (seen l.fn.store).held + l.k;
       only : OnlyHeldChanges (seen l.fn.store) (seen l.store);

@@ -10,8 +10,12 @@ pub join-requires-clause-octants : goal.join-requires-clause-octants
 join-requires-clause-octants g c =
     let (n, e, l) = c.requires.full in
     let (rest, a) = c.requires.aside in
-    let f = subst (λ (m : Option Name). Aside (g.N.Blocks.seen c.args.store.now).held m rest) (sym c.replace-below.ensures.value) a in
-    let x = eight_gathers rest _ _ n.level c.args.level l (c.eight_of-children.ensures.gathers rest n (c.replace-below.ensures.value ∙ e) f) in
+    let f =
+    subst (λ (m : Option Name). Aside (g.N.Blocks.seen c.args.store.now).held m rest)
+    (sym c.replace-below.ensures.value) a in
+    let x =
+    eight_gathers rest _ _ n.level c.args.level l
+    (c.eight_of-children.ensures.gathers rest n (c.replace-below.ensures.value ∙ e) f) in
     (rest, None, full_shape c.args.level, full_canonical c.args.level, x)
 
 pub join-requires-clause-room : goal.join-requires-clause-room
@@ -21,38 +25,70 @@ pub returns-in-Ok-clause-reaches : goal.returns-in-Ok-clause-reaches
 returns-in-Ok-clause-reaches g c =
     let (n, e, l) = c.requires.full in
     let (rest, a) = c.requires.aside in
-    let f = subst (λ (m : Option Name). Aside (g.N.Blocks.seen c.args.store.now).held m rest) (sym c.replace-below.ensures.value) a in
-    let x = eight_gathers rest _ _ n.level c.args.level l (c.eight_of-children.ensures.gathers rest n (c.replace-below.ensures.value ∙ e) f) in
-    let q = next_aside rest _ c.args.level c.in-Ok.share (c.in-Ok.ensures.ok rest None (full_shape c.args.level) (full_canonical c.args.level) x).came in
+    let f =
+    subst (λ (m : Option Name). Aside (g.N.Blocks.seen c.args.store.now).held m rest)
+    (sym c.replace-below.ensures.value) a in
+    let x =
+    eight_gathers rest _ _ n.level c.args.level l
+    (c.eight_of-children.ensures.gathers rest n (c.replace-below.ensures.value ∙ e) f) in
+    let q =
+    next_aside rest _ c.args.level c.in-Ok.share
+    (c.in-Ok.ensures.ok rest None (full_shape c.args.level)
+    (full_canonical c.args.level) x).came in
     (q.name, c.set_aside.ensures ∙ q.is, q.at)
 
 pub returns-in-Ok-clause-rest : goal.returns-in-Ok-clause-rest
 returns-in-Ok-clause-rest g c rest a =
     let (n, e, l) = c.requires.full in
-    let f = subst (λ (m : Option Name). Aside (g.N.Blocks.seen c.args.store.now).held m rest) (sym c.replace-below.ensures.value) a in
-    let x = eight_gathers rest _ _ n.level c.args.level l (c.eight_of-children.ensures.gathers rest n (c.replace-below.ensures.value ∙ e) f) in
-    let q = next_aside rest _ c.args.level c.in-Ok.share (c.in-Ok.ensures.ok rest None (full_shape c.args.level) (full_canonical c.args.level) x).came in
-    subst (λ (m : Option Name). Aside (g.N.Blocks.seen c.join.new.store).held m rest) (sym c.set_aside.ensures) q.aside
+    let f =
+    subst (λ (m : Option Name). Aside (g.N.Blocks.seen c.args.store.now).held m rest)
+    (sym c.replace-below.ensures.value) a in
+    let x =
+    eight_gathers rest _ _ n.level c.args.level l
+    (c.eight_of-children.ensures.gathers rest n (c.replace-below.ensures.value ∙ e) f) in
+    let q =
+    next_aside rest _ c.args.level c.in-Ok.share
+    (c.in-Ok.ensures.ok rest None (full_shape c.args.level)
+    (full_canonical c.args.level) x).came in
+    subst (λ (m : Option Name). Aside (g.N.Blocks.seen c.join.new.store).held m rest)
+    (sym c.set_aside.ensures) q.aside
 
 pub returns-in-Ok-clause-grows : goal.returns-in-Ok-clause-grows
 returns-in-Ok-clause-grows g c =
     let (n, e, l) = c.requires.full in
     let (rest, a) = c.requires.aside in
-    let f = subst (λ (m : Option Name). Aside (g.N.Blocks.seen c.args.store.now).held m rest) (sym c.replace-below.ensures.value) a in
-    let x = eight_gathers rest _ _ n.level c.args.level l (c.eight_of-children.ensures.gathers rest n (c.replace-below.ensures.value ∙ e) f) in
-    only_grows _ _ _ _ c.eight_of-children.ensures.only (c.in-Ok.ensures.grows rest None (full_shape c.args.level) (full_canonical c.args.level) x)
+    let f =
+    subst (λ (m : Option Name). Aside (g.N.Blocks.seen c.args.store.now).held m rest)
+    (sym c.replace-below.ensures.value) a in
+    let x =
+    eight_gathers rest _ _ n.level c.args.level l
+    (c.eight_of-children.ensures.gathers rest n (c.replace-below.ensures.value ∙ e) f) in
+    only_grows _ _ _ _ c.eight_of-children.ensures.only
+    (c.in-Ok.ensures.grows rest None (full_shape c.args.level) (full_canonical c.args.level) x)
 
 pub returns-in-Err-clause-rest : goal.returns-in-Err-clause-rest
 returns-in-Err-clause-rest g c rest a =
     let (n, e, l) = c.requires.full in
-    let f = subst (λ (m : Option Name). Aside (g.N.Blocks.seen c.args.store.now).held m rest) (sym c.replace-below.ensures.value) a in
-    let x = eight_gathers rest _ _ n.level c.args.level l (c.eight_of-children.ensures.gathers rest n (c.replace-below.ensures.value ∙ e) f) in
-    subst (λ (m : Option Name). Aside (g.N.Blocks.seen c.join.new.store).held m rest) (sym c.replace-below.ensures.after) (c.in-Err.ensures.back rest None (full_shape c.args.level) (full_canonical c.args.level) x)
+    let f =
+    subst (λ (m : Option Name). Aside (g.N.Blocks.seen c.args.store.now).held m rest)
+    (sym c.replace-below.ensures.value) a in
+    let x =
+    eight_gathers rest _ _ n.level c.args.level l
+    (c.eight_of-children.ensures.gathers rest n (c.replace-below.ensures.value ∙ e) f) in
+    subst (λ (m : Option Name). Aside (g.N.Blocks.seen c.join.new.store).held m rest)
+    (sym c.replace-below.ensures.after)
+    (c.in-Err.ensures.back rest None (full_shape c.args.level)
+    (full_canonical c.args.level) x)
 
 pub returns-in-Err-clause-full : goal.returns-in-Err-clause-full
 returns-in-Err-clause-full g c =
     let (n, e, l) = c.requires.full in
     let (rest, a) = c.requires.aside in
-    let f = subst (λ (m : Option Name). Aside (g.N.Blocks.seen c.args.store.now).held m rest) (sym c.replace-below.ensures.value) a in
-    let x = eight_gathers rest _ _ n.level c.args.level l (c.eight_of-children.ensures.gathers rest n (c.replace-below.ensures.value ∙ e) f) in
-    only_refuses _ _ _ _ _ _ c.eight_of-children.ensures.only (c.in-Err.ensures.full rest None (full_shape c.args.level) (full_canonical c.args.level) x)
+    let f =
+    subst (λ (m : Option Name). Aside (g.N.Blocks.seen c.args.store.now).held m rest)
+    (sym c.replace-below.ensures.value) a in
+    let x =
+    eight_gathers rest _ _ n.level c.args.level l
+    (c.eight_of-children.ensures.gathers rest n (c.replace-below.ensures.value ∙ e) f) in
+    only_refuses _ _ _ _ _ _ c.eight_of-children.ensures.only
+    (c.in-Err.ensures.full rest None (full_shape c.args.level) (full_canonical c.args.level) x)

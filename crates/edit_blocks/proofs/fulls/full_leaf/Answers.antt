@@ -7,7 +7,8 @@ use Rattle.edit_blocks.proofs.fulls.full_leaf.Goals as goal
 
 pub returns-in-Ok-clause-rest : goal.returns-in-Ok-clause-rest
 returns-in-Ok-clause-rest g c rest a =
-    subst (λ (m : Option Name). Aside (g.N.Blocks.seen c.leaf.new.self).held m rest) (sym c.set_aside.ensures)
+    subst (λ (m : Option Name). Aside (g.N.Blocks.seen c.leaf.new.self).held m rest)
+    (sym c.set_aside.ensures)
     (first_aside _ _ rest _ c.in-Ok.share _ refl c.requires.none c.in-Ok.ensures.level c.in-Ok.ensures.held a)
 
 pub returns-in-Ok-clause-grows : goal.returns-in-Ok-clause-grows

@@ -4,7 +4,8 @@ use Rattle.edit_blocks.proofs.AsideLaws.{more_came, full_held, full_holds}
 use Rattle.edit_blocks.proofs.fulls.more_of.Goals as goal
 
 pub more-requires-clause-held : goal.more-requires-clause-held
-more-requires-clause-held g c = let (rest, a) = c.requires.aside in full_holds _ rest _ _ c.in-Some.is a
+more-requires-clause-held g c =
+    let (rest, a) = c.requires.aside in full_holds _ rest _ _ c.in-Some.is a
 
 pub returns-clause-came : goal.returns-clause-came
 returns-clause-came g c rest n e a =
@@ -14,4 +15,5 @@ returns-clause-came g c rest n e a =
 pub returns-clause-number : goal.returns-clause-number
 returns-clause-number g c =
     let (rest, a) = c.requires.aside in
-    gains_number _ _ _ (c.more.ensures.held a.tree (full_held _ rest _ _ c.in-Some.is a) (a.root ∙ c.in-Some.is))
+    gains_number _ _ _
+    (c.more.ensures.held a.tree (full_held _ rest _ _ c.in-Some.is a) (a.root ∙ c.in-Some.is))

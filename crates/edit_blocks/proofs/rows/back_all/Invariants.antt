@@ -9,7 +9,8 @@ abbrev pub invariant-loop-k : goal.invariant-loop-k
 invariant-loop-k g l =
     let seen = g.N.Blocks.seen in
     record {
-      gone : (row : ℕ → Tree) → AreHeld (seen l.fn.store).held l.fn.children row → LosesAll (seen l.fn.store).held row l.k (seen l.store).held;
+      gone : (row : ℕ → Tree) → AreHeld (seen l.fn.store).held l.fn.children row
+          → LosesAll (seen l.fn.store).held row l.k (seen l.store).held;
       emptied : Emptied l.fn.children l.rest l.k;
       long : length l.rest ≡ 8;
       only : OnlyHeldChanges (seen l.fn.store) (seen l.store);

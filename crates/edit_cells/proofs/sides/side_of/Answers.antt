@@ -6,4 +6,6 @@ pub returns-clause-value : goal.returns-clause-value
 returns-clause-value c = side_exact c.args.level c.requires
 
 pub returns-clause-bound : goal.returns-clause-bound
-returns-clause-bound c = subst (λ (n : ℕ). (1 ≤ n) × (n ≤ 4096)) (sym (side_exact c.args.level c.requires)) (side_bound c.args.level c.requires)
+returns-clause-bound c =
+    subst (λ (n : ℕ). (1 ≤ n) × (n ≤ 4096)) (sym (side_exact c.args.level c.requires))
+    (side_bound c.args.level c.requires)

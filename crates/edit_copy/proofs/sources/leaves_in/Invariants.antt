@@ -8,7 +8,8 @@ abbrev pub invariant-loop-j : goal.invariant-loop-j
 invariant-loop-j g l =
     let seen = g.B.Blocks.seen in
     record {
-      leaves : (row : ℕ → Tree) → AreBlocks (seen l.fn.store).held 0 l.sources row → (i : ℕ) → i < l.j → slice_index l.leaves i ≡ bits_of (shape_of (row i));
+      leaves : (row : ℕ → Tree) → AreBlocks (seen l.fn.store).held 0 l.sources row → (i : ℕ)
+          → i < l.j → slice_index l.leaves i ≡ bits_of (shape_of (row i));
       long : length l.leaves ≡ 8;
       seen_is : seen l.store ≡ seen l.fn.store;
       rests : g.B.Blocks.rests l.fn.store l.store;

@@ -14,7 +14,9 @@ returns-clause-sources g c row are =
     let after5 = c.source_in-5.ensures.seen ∙ after4 in
     let after6 = c.source_in-6.ensures.seen ∙ after5 in
     let after7 = c.source_in-7.ensures.seen ∙ after6 in
-    each_of_eight (λ j. IsSource was.held (c.args.level - 1) row c.args.at c.args.offset j (name_in (c.source_in.result ∷ c.source_in-2.result ∷ c.source_in-3.result ∷ c.source_in-4.result ∷ c.source_in-5.result ∷ c.source_in-6.result ∷ c.source_in-7.result ∷ c.source_in-8.result ∷ []) j))
+    each_of_eight
+    (λ j. IsSource was.held (c.args.level - 1) row c.args.at c.args.offset j
+    (name_in (c.source_in.result ∷ c.source_in-2.result ∷ c.source_in-3.result ∷ c.source_in-4.result ∷ c.source_in-5.result ∷ c.source_in-6.result ∷ c.source_in-7.result ∷ c.source_in-8.result ∷ []) j))
     (c.source_in.ensures.source row are)
     (source_before was _ c.args.level c.args.sources.now row c.args.at c.args.offset 1 c.source_in-2.result after1 are c.source_in-2.ensures.source)
     (source_before was _ c.args.level c.args.sources.now row c.args.at c.args.offset 2 c.source_in-3.result after2 are c.source_in-3.ensures.source)

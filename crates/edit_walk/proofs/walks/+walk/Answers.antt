@@ -19,31 +19,42 @@ use Rattle.edit_walk.proofs.walks.+walk.Goals as goal
 
 pub build-returns-in-Ok-clause-ok : goal.build-returns-in-Ok-clause-ok
 build-returns-in-Ok-clause-ok g t c base rest cells b =
-    came_built _ base rest _ _ _ _ b.recalls (c.in-Ok.ensures.ok base rest cells b.starts (c.whole-whole.ensures.whole base cells b.made))
+    came_built _ base rest _ _ _ _ b.recalls
+    (c.in-Ok.ensures.ok base rest cells b.starts
+    (c.whole-whole.ensures.whole base cells b.made))
 
 pub build-returns-in-Ok-clause-grows : goal.build-returns-in-Ok-clause-grows
-build-returns-in-Ok-clause-grows g t c base rest cells b = c.in-Ok.ensures.grows base rest cells b.starts (c.whole-whole.ensures.whole base cells b.made)
+build-returns-in-Ok-clause-grows g t c base rest cells b =
+    c.in-Ok.ensures.grows base rest cells b.starts (c.whole-whole.ensures.whole base cells b.made)
 
 pub build-returns-in-Err-clause-full : goal.build-returns-in-Err-clause-full
-build-returns-in-Err-clause-full g t c base rest cells b = c.in-Err.ensures.full base rest cells b.starts (c.whole-whole.ensures.whole base cells b.made)
+build-returns-in-Err-clause-full g t c base rest cells b =
+    c.in-Err.ensures.full base rest cells b.starts (c.whole-whole.ensures.whole base cells b.made)
 
 pub build-again-requires-clause-reached : goal.build-again-requires-clause-reached
 build-again-requires-clause-reached g t c =
     let (base, rest, cells, b) = c.requires.task in
-    let d = b.recalls.each c.args.level c.in-Some.kept c.in-Some.ensures.kept in
-    (c.args.level, d.tree, tree_of-more rest _ c.args.level d.tree _ (aside_keeps _ rest _ b.starts.aside) d.of)
+    let d = b.recalls.each c.args.level c.in-Some.kept c.in-Some.ensures.kept in (
+      c.args.level,
+      d.tree,
+      tree_of-more rest _ c.args.level d.tree _
+          (aside_keeps _ rest _ b.starts.aside) d.of,
+    )
 
 pub build-returns-in-Some-clause-ok : goal.build-returns-in-Some-clause-ok
 build-returns-in-Some-clause-ok g t c base rest cells b =
     let d = b.recalls.each c.args.level c.in-Some.kept c.in-Some.ensures.kept in
-    hit_built _ base rest c.args.level cells c.in-Some.kept _ _ b.recalls d (c.in-Some.ensures.same base c.args.level cells d.cells b.made d.made)
+    hit_built _ base rest c.args.level cells c.in-Some.kept _ _ b.recalls d
+    (c.in-Some.ensures.same base c.args.level cells d.cells b.made d.made)
     (c.again.ensures.came rest _ c.args.level d.tree b.starts.aside d.of)
 
 pub build-returns-in-Some-clause-grows : goal.build-returns-in-Some-clause-grows
-build-returns-in-Some-clause-grows g t c base rest cells b = grows_held _ _ _ _ (grows_none _ _) c.again.ensures.only
+build-returns-in-Some-clause-grows g t c base rest cells b =
+    grows_held _ _ _ _ (grows_none _ _) c.again.ensures.only
 
 pub build-returns-in-Err-clause-rest : goal.build-returns-in-Err-clause-rest
-build-returns-in-Err-clause-rest g t c base rest cells b = c.in-Err.ensures.rest base rest cells b.starts (c.whole-whole.ensures.whole base cells b.made)
+build-returns-in-Err-clause-rest g t c base rest cells b =
+    c.in-Err.ensures.rest base rest cells b.starts (c.whole-whole.ensures.whole base cells b.made)
 
 pub fresh-returns-in-Ok-clause-ok : goal.fresh-returns-in-Ok-clause-ok
 fresh-returns-in-Ok-clause-ok g t c base rest cells b =
@@ -56,8 +67,11 @@ made-returns-in-Ok-clause-ok g t c base rest cells b =
     let small : c.bits-bits.result < 2 ^ 64 = omega arith in
     let same = c.bits-bits.ensures.bits base cells (starts_held base rest _ _ b.starts) z in
     came_built _ base rest _ _ _ _ b.recalls
-    (leaf_done c.args.level c.bits-bits.result cells rest _ _ _ e (leaf_target c.args.level c.bits-bits.result cells e small same)
-    (c.in-Ok.ensures.ok rest _ (subst (λ (v : Seen). Aside v.held c.args.full.now rest) (sym c.bits-bits.ensures.seen) b.starts.aside)))
+    (leaf_done c.args.level c.bits-bits.result cells rest _ _ _ e
+    (leaf_target c.args.level c.bits-bits.result cells e small same)
+    (c.in-Ok.ensures.ok rest _
+    (subst (λ (v : Seen). Aside v.held c.args.full.now rest)
+    (sym c.bits-bits.ensures.seen) b.starts.aside)))
 
 pub made-returns-in-Ok-clause-grows : goal.made-returns-in-Ok-clause-grows
 made-returns-in-Ok-clause-grows g t c base rest cells b =
@@ -65,7 +79,8 @@ made-returns-in-Ok-clause-grows g t c base rest cells b =
     let z = subst (λ (l : ℕ). g.T.Task.makes c.args.task.now base l cells) e b.made in
     let small : c.bits-bits.result < 2 ^ 64 = omega arith in
     let same = c.bits-bits.ensures.bits base cells (starts_held base rest _ _ b.starts) z in
-    target_grows _ _ _ _ _ (leaf_target c.args.level c.bits-bits.result cells e small same) c.bits-bits.ensures.seen c.in-Ok.ensures.grows
+    target_grows _ _ _ _ _
+    (leaf_target c.args.level c.bits-bits.result cells e small same) c.bits-bits.ensures.seen c.in-Ok.ensures.grows
 
 pub made-returns-in-Err-clause-full : goal.made-returns-in-Err-clause-full
 made-returns-in-Err-clause-full g t c base rest cells b =
@@ -73,11 +88,15 @@ made-returns-in-Err-clause-full g t c base rest cells b =
     let z = subst (λ (l : ℕ). g.T.Task.makes c.args.task.now base l cells) e b.made in
     let small : c.bits-bits.result < 2 ^ 64 = omega arith in
     let same = c.bits-bits.ensures.bits base cells (starts_held base rest _ _ b.starts) z in
-    target_refuses _ _ _ _ _ _ _ refl c.bits-bits.ensures.seen (meets_refuses _ _ _ _ _ _ (leaf_target c.args.level c.bits-bits.result cells e small same) c.in-Err.ensures.full)
+    target_refuses _ _ _ _ _ _ _ refl c.bits-bits.ensures.seen
+    (meets_refuses _ _ _ _ _ _
+    (leaf_target c.args.level c.bits-bits.result cells e small same) c.in-Err.ensures.full)
 
 pub made-returns-in-Err-clause-rest : goal.made-returns-in-Err-clause-rest
 made-returns-in-Err-clause-rest g t c base rest cells b =
-    aside_same _ _ _ rest (c.in-Err.ensures.full.held ∙ ap (λ (v : Seen). v.held) c.bits-bits.ensures.seen) b.starts.aside
+    aside_same _ _ _ rest
+    (c.in-Err.ensures.full.held
+    ∙ ap (λ (v : Seen). v.held) c.bits-bits.ensures.seen) b.starts.aside
 
 pub made-join-requires-clause-level : goal.made-join-requires-clause-level
 made-join-requires-clause-level g t c =
@@ -94,25 +113,37 @@ pub made-join-requires-clause-room : goal.made-join-requires-clause-room
 made-join-requires-clause-room g t c =
     let (base, rest, cells, b) = c.requires.task in
     let one : 1 ≤ c.args.level = omega arith in
-    omega (arith, gathers_number rest _ _ _ _ _ 8 (c.in-Ok-gather.ensures.ok base rest cells b).gathers, (aside_numbers _ rest _ b.starts.aside).least, c.requires.room)
+    omega (
+      arith,
+      gathers_number rest _ _ _ _ _ 8
+          (c.in-Ok-gather.ensures.ok base rest cells b).gathers,
+      (aside_numbers _ rest _ b.starts.aside).least,
+      c.requires.room,
+    )
 
 pub made-returns-in-Ok-join-clause-ok : goal.made-returns-in-Ok-join-clause-ok
 made-returns-in-Ok-join-clause-ok g t c base rest cells b =
     let p = c.in-Ok-gather.ensures.ok base rest cells b in
-    joined_built _ base rest _ _ _ _ _ p.recalls (c.in-Ok-join.ensures.ok rest _ _ (shape_with-canonical c.args.level cells) p.gathers)
+    joined_built _ base rest _ _ _ _ _ p.recalls
+    (c.in-Ok-join.ensures.ok rest _ _ (shape_with-canonical c.args.level cells) p.gathers)
 
 pub made-returns-in-Ok-join-clause-grows : goal.made-returns-in-Ok-join-clause-grows
 made-returns-in-Ok-join-clause-grows g t c base rest cells b =
-    grows_on _ _ _ _ (c.in-Ok-gather.ensures.grows base rest cells b) (c.in-Ok-join.ensures.grows rest _ _ (shape_with-canonical c.args.level cells) (c.in-Ok-gather.ensures.ok base rest cells b).gathers)
+    grows_on _ _ _ _ (c.in-Ok-gather.ensures.grows base rest cells b)
+    (c.in-Ok-join.ensures.grows rest _ _ (shape_with-canonical c.args.level cells)
+    (c.in-Ok-gather.ensures.ok base rest cells b).gathers)
 
 pub made-returns-in-Err-join-clause-full : goal.made-returns-in-Err-join-clause-full
 made-returns-in-Err-join-clause-full g t c base rest cells b =
-    let r = c.in-Err-join.ensures.full rest _ _ (shape_with-canonical c.args.level cells) (c.in-Ok-gather.ensures.ok base rest cells b).gathers in
+    let r =
+    c.in-Err-join.ensures.full rest _ _ (shape_with-canonical c.args.level cells)
+    (c.in-Ok-gather.ensures.ok base rest cells b).gathers in
     refuses_after _ _ _ _ _ _ (c.in-Ok-gather.ensures.grows base rest cells b) r
 
 pub made-returns-in-Err-join-clause-rest : goal.made-returns-in-Err-join-clause-rest
 made-returns-in-Err-join-clause-rest g t c base rest cells b =
-    c.in-Err-join.ensures.back rest _ _ (shape_with-canonical c.args.level cells) (c.in-Ok-gather.ensures.ok base rest cells b).gathers
+    c.in-Err-join.ensures.back rest _ _ (shape_with-canonical c.args.level cells)
+    (c.in-Ok-gather.ensures.ok base rest cells b).gathers
 
 pub made-returns-in-Ok-join-clause-turns : goal.made-returns-in-Ok-join-clause-turns
 made-returns-in-Ok-join-clause-turns g t c =
@@ -124,7 +155,10 @@ gather-loop-k-init g t c = record {
   turns = omega (arith, sum_below-zero (g.T.Task.mixed_in c.args.level c.args.task.now));
   height_is = omega arith;
   partway = λ base rest cells b.
-      subst (λ (row : List (Option Name)). Partway g.T.Task.makes base rest c.args.level c.args.task.now cells row 0 (walk_at (g.N.Blocks.seen c.args.store.now) c.args.full.now (g.M.Memo.has c.args.memo.now))) (sym c.requires.empty)
+      subst (λ (row : List
+      (Option Name)). Partway g.T.Task.makes base rest c.args.level c.args.task.now cells row 0
+      (walk_at (g.N.Blocks.seen c.args.store.now) c.args.full.now
+      (g.M.Memo.has c.args.memo.now))) (sym c.requires.empty)
       (partway_none _ base rest _ _ cells _ b);
   grows = λ base rest cells b. grows_none _ _;
   long = ap length c.requires.empty;
@@ -137,7 +171,8 @@ gather-octant-requires g t c κs within =
     let p = c.loop-k.invariant.partway base rest cells b in
     let x = ap (λ (p : Layout). p.side) (c.loop-k.invariant.grows base rest cells b).plan in
     let one : 1 ≤ c.args.level = omega arith in
-    let side : c.args.level + 2 ≤ (g.N.Blocks.seen c.loop-k.store).plan.side = omega (arith, x, c.requires.level.1) in
+    let side : c.args.level + 2 ≤ (g.N.Blocks.seen c.loop-k.store).plan.side =
+    omega (arith, x, c.requires.level.1) in
     let lt : c.loop-k.k < 8 = omega arith in (
       omega (arith, c.decreases),
       (
@@ -156,7 +191,13 @@ gather-octant-requires g t c κs within =
                     lt,
                     (
                       (base, rest, cells, p),
-                      omega (arith, gathers_number rest _ _ _ _ _ _ p.gathers, (aside_numbers _ rest _ b.starts.aside).least, c.requires.room, one),
+                      omega (
+                        arith,
+                        gathers_number rest _ _ _ _ _ _ p.gathers,
+                        (aside_numbers _ rest _ b.starts.aside).least,
+                        c.requires.room,
+                        one,
+                      ),
                     ),
                   ),
                 ),
@@ -170,47 +211,66 @@ gather-octant-requires g t c κs within =
 pub gather-put-requires-clause-empty : goal.gather-put-requires-clause-empty
 gather-put-requires-clause-empty g t c =
     let (base, rest, cells, b) = c.requires.task in
-    gathers_empty rest _ _ _ _ _ _ c.loop-k.k (omega arith) (c.loop-k.invariant.partway base rest cells b).gathers
+    gathers_empty rest _ _ _ _ _ _ c.loop-k.k (omega arith)
+    (c.loop-k.invariant.partway base rest cells b).gathers
 
 pub gather-back_all-requires-clause-held : goal.gather-back_all-requires-clause-held
 gather-back_all-requires-clause-held g t c =
     let (base, rest, cells, b) = c.requires.task in
     let p = c.loop-k.invariant.partway base rest cells b in
     let a = met_gathers rest _ _ _ _ _ _ _ _ p.gathers (c.in-Err.ensures.rest base rest cells p) in
-    record { row = a.gathered.row; are_held = rw c.taken.ensures.row (gathers_held rest _ _ _ _ _ _ _ a (keeps_itself _)) }
+    record {
+      row = a.gathered.row;
+      are_held = rw c.taken.ensures.row
+          (gathers_held rest _ _ _ _ _ _ _ a (keeps_itself _));
+    }
 
 pub gather-back_all-requires-clause-room : goal.gather-back_all-requires-clause-room
 gather-back_all-requires-clause-room g t c =
     let (base, rest, cells, b) = c.requires.task in
     let p = c.loop-k.invariant.partway base rest cells b in
     let a = met_gathers rest _ _ _ _ _ _ _ _ p.gathers (c.in-Err.ensures.rest base rest cells p) in
-    omega (arith, gathers_number rest _ _ _ _ _ _ a, (aside_numbers _ rest _ b.starts.aside).least, c.requires.room, c.requires.level.0)
+    omega (
+      arith,
+      gathers_number rest _ _ _ _ _ _ a,
+      (aside_numbers _ rest _ b.starts.aside).least,
+      c.requires.room,
+      c.requires.level.0,
+    )
 
 pub gather-returns-in-Err-clause-full : goal.gather-returns-in-Err-clause-full
 gather-returns-in-Err-clause-full g t c base rest cells b =
     let p = c.loop-k.invariant.partway base rest cells b in
     let q = c.in-Err.ensures.full base rest cells p in
-    refuses_held _ _ _ _ _ _ (refuses_after _ _ _ _ _ _ (c.loop-k.invariant.grows base rest cells b) (refuses_octant _ c.loop-k.k _ _ _ _ q)) c.back_all.ensures.only
+    refuses_held _ _ _ _ _ _
+    (refuses_after _ _ _ _ _ _ (c.loop-k.invariant.grows base rest cells b)
+    (refuses_octant _ c.loop-k.k _ _ _ _ q)) c.back_all.ensures.only
 
 pub gather-returns-in-Err-clause-rest : goal.gather-returns-in-Err-clause-rest
 gather-returns-in-Err-clause-rest g t c base rest cells b =
     let p = c.loop-k.invariant.partway base rest cells b in
     let a = met_gathers rest _ _ _ _ _ _ _ _ p.gathers (c.in-Err.ensures.rest base rest cells p) in
-    back_aside rest _ _ _ _ _ _ _ _ a (λ f. refl) (c.back_all.ensures.gone p.gathers.gathered.row (rw c.taken.ensures.row (gathers_held rest _ _ _ _ _ _ _ a (keeps_itself _))))
+    back_aside rest _ _ _ _ _ _ _ _ a (λ f. refl)
+    (c.back_all.ensures.gone p.gathers.gathered.row
+    (rw c.taken.ensures.row (gathers_held rest _ _ _ _ _ _ _ a (keeps_itself _))))
 
 pub gather-loop-k-preserved : goal.gather-loop-k-preserved
 gather-loop-k-preserved g t c =
     let f : ℕ → ℕ = g.T.Task.mixed_in c.args.level c.args.task.now in
-    let e : sum_below (c.loop-k.k + 1) f ≡ sum_below c.loop-k.k f + f c.loop-k.k = rw add-one (sum_below-suc c.loop-k.k f) in
+    let e : sum_below (c.loop-k.k + 1) f ≡ sum_below c.loop-k.k f + f c.loop-k.k =
+    rw add-one (sum_below-suc c.loop-k.k f) in
     record {
       turns = omega (arith, e, c.loop-k.invariant.turns, c.in-Ok.ensures.turns);
       height_is = omega (arith, c.loop-k.invariant.height_is, c.in-Ok.ensures.height);
       partway = λ base rest cells b.
           let p = c.loop-k.invariant.partway base rest cells b in
-          partway_one _ base rest _ _ cells _ _ c.loop-k.k c.in-Ok.share _ _ (omega arith) c.loop-k.invariant.long p (c.in-Ok.ensures.ok base rest cells p) c.put.ensures;
+          partway_one _ base rest _ _ cells _ _ c.loop-k.k c.in-Ok.share _ _
+          (omega arith) c.loop-k.invariant.long p
+          (c.in-Ok.ensures.ok base rest cells p) c.put.ensures;
       grows = λ base rest cells b.
           let p = c.loop-k.invariant.partway base rest cells b in
-          grows_on _ _ _ _ (c.loop-k.invariant.grows base rest cells b) (grows_in _ c.loop-k.k _ _ (c.in-Ok.ensures.grows base rest cells p));
+          grows_on _ _ _ _ (c.loop-k.invariant.grows base rest cells b)
+          (grows_in _ c.loop-k.k _ _ (c.in-Ok.ensures.grows base rest cells p));
       long = c.put.auto.children ∙ c.loop-k.invariant.long;
       rests = g.met.N.Blocks.rests_on _ _ _ c.loop-k.invariant.rests c.octant.ensures.rests;
     }
@@ -220,7 +280,8 @@ octant-build-requires g t c κs within =
     let (base, rest, cells, p) = c.requires.task in
     let one : 1 ≤ c.args.level = omega arith in
     let e = c.octant-part.ensures.seen in
-    let part = c.octant-part.ensures.task base cells (part_keeps _ base rest _ _ _ _ _ _ p) p.made in
+    let part =
+    c.octant-part.ensures.task base cells (part_keeps _ base rest _ _ _ _ _ _ p) p.made in
     let at = octant_cells (c.args.level - 1) cells c.args.k in
     let begins = part_begins _ base rest c.args.level _ _ cells at _ c.args.k _ _ _ _ e p part in
     let low : c.args.level - 1 ≤ 10 = omega (arith, c.requires.level.0) in (
@@ -249,39 +310,53 @@ octant-build-requires g t c κs within =
 pub octant-returns-in-Ok-clause-ok : goal.octant-returns-in-Ok-clause-ok
 octant-returns-in-Ok-clause-ok g t c base rest cells p =
     let one : 1 ≤ c.args.level = omega arith in
-    let part = c.octant-part.ensures.task base cells (part_keeps _ base rest _ _ _ _ _ _ p) p.made in
+    let part =
+    c.octant-part.ensures.task base cells (part_keeps _ base rest _ _ _ _ _ _ p) p.made in
     let at = octant_cells (c.args.level - 1) cells c.args.k in
-    let begins = part_begins _ base rest c.args.level _ _ cells at _ c.args.k _ _ _ _ c.octant-part.ensures.seen p part in
-    target_built _ base p.gathers.now _ _ _ _ _ (sym (octant_target c.args.level cells c.args.k one c.requires.octant)) (c.in-Ok.ensures.ok base p.gathers.now at begins)
+    let begins =
+    part_begins _ base rest c.args.level _ _ cells at _ c.args.k _ _ _ _ c.octant-part.ensures.seen p part in
+    target_built _ base p.gathers.now _ _ _ _ _
+    (sym (octant_target c.args.level cells c.args.k one c.requires.octant))
+    (c.in-Ok.ensures.ok base p.gathers.now at begins)
 
 pub octant-returns-in-Ok-clause-grows : goal.octant-returns-in-Ok-clause-grows
 octant-returns-in-Ok-clause-grows g t c base rest cells p =
     let one : 1 ≤ c.args.level = omega arith in
-    let part = c.octant-part.ensures.task base cells (part_keeps _ base rest _ _ _ _ _ _ p) p.made in
+    let part =
+    c.octant-part.ensures.task base cells (part_keeps _ base rest _ _ _ _ _ _ p) p.made in
     let at = octant_cells (c.args.level - 1) cells c.args.k in
-    let begins = part_begins _ base rest c.args.level _ _ cells at _ c.args.k _ _ _ _ c.octant-part.ensures.seen p part in
-    target_grows _ _ _ _ _ (sym (octant_target c.args.level cells c.args.k one c.requires.octant)) c.octant-part.ensures.seen (c.in-Ok.ensures.grows base p.gathers.now at begins)
+    let begins =
+    part_begins _ base rest c.args.level _ _ cells at _ c.args.k _ _ _ _ c.octant-part.ensures.seen p part in
+    target_grows _ _ _ _ _
+    (sym (octant_target c.args.level cells c.args.k one c.requires.octant)) c.octant-part.ensures.seen (c.in-Ok.ensures.grows base p.gathers.now at begins)
 
 pub octant-returns-in-Ok-clause-rests : goal.octant-returns-in-Ok-clause-rests
-octant-returns-in-Ok-clause-rests g t c = g.met.N.Blocks.rests_on _ _ _ c.octant-part.ensures.rests c.in-Ok.ensures.rests
+octant-returns-in-Ok-clause-rests g t c =
+    g.met.N.Blocks.rests_on _ _ _ c.octant-part.ensures.rests c.in-Ok.ensures.rests
 
 pub octant-returns-in-Err-clause-rests : goal.octant-returns-in-Err-clause-rests
-octant-returns-in-Err-clause-rests g t c = g.met.N.Blocks.rests_on _ _ _ c.octant-part.ensures.rests c.in-Err.ensures.rests
+octant-returns-in-Err-clause-rests g t c =
+    g.met.N.Blocks.rests_on _ _ _ c.octant-part.ensures.rests c.in-Err.ensures.rests
 
 pub octant-returns-in-Err-clause-full : goal.octant-returns-in-Err-clause-full
 octant-returns-in-Err-clause-full g t c base rest cells p =
     let one : 1 ≤ c.args.level = omega arith in
-    let part = c.octant-part.ensures.task base cells (part_keeps _ base rest _ _ _ _ _ _ p) p.made in
+    let part =
+    c.octant-part.ensures.task base cells (part_keeps _ base rest _ _ _ _ _ _ p) p.made in
     let at = octant_cells (c.args.level - 1) cells c.args.k in
-    let begins = part_begins _ base rest c.args.level _ _ cells at _ c.args.k _ _ _ _ c.octant-part.ensures.seen p part in
-    target_refuses _ _ _ _ _ _ _ (sym (octant_target c.args.level cells c.args.k one c.requires.octant)) c.octant-part.ensures.seen (c.in-Err.ensures.full base p.gathers.now at begins)
+    let begins =
+    part_begins _ base rest c.args.level _ _ cells at _ c.args.k _ _ _ _ c.octant-part.ensures.seen p part in
+    target_refuses _ _ _ _ _ _ _
+    (sym (octant_target c.args.level cells c.args.k one c.requires.octant)) c.octant-part.ensures.seen (c.in-Err.ensures.full base p.gathers.now at begins)
 
 pub octant-returns-in-Err-clause-rest : goal.octant-returns-in-Err-clause-rest
 octant-returns-in-Err-clause-rest g t c base rest cells p =
     let one : 1 ≤ c.args.level = omega arith in
-    let part = c.octant-part.ensures.task base cells (part_keeps _ base rest _ _ _ _ _ _ p) p.made in
+    let part =
+    c.octant-part.ensures.task base cells (part_keeps _ base rest _ _ _ _ _ _ p) p.made in
     let at = octant_cells (c.args.level - 1) cells c.args.k in
-    let begins = part_begins _ base rest c.args.level _ _ cells at _ c.args.k _ _ _ _ c.octant-part.ensures.seen p part in
+    let begins =
+    part_begins _ base rest c.args.level _ _ cells at _ c.args.k _ _ _ _ c.octant-part.ensures.seen p part in
     c.in-Err.ensures.rest base p.gathers.now at begins
 
 pub gather-returns-clause-ok : goal.gather-returns-clause-ok

@@ -26,8 +26,15 @@ abbrev pub invariant-gather-loop-k : goal.invariant-gather-loop-k
 invariant-gather-loop-k g l =
     let seen = g.N.Blocks.seen in
     record {
-      partway : (base rest : List Tree) (cells : Cells) → Begins g.T.Task.makes base rest l.level l.task cells (walk_at (seen l.fn.store) l.fn.full (g.M.Memo.has l.fn.memo)) → Partway g.T.Task.makes base rest l.level l.task cells l.children l.k (walk_at (seen l.store) l.full (g.M.Memo.has l.memo));
-      grows : (base rest : List Tree) (cells : Cells) → Begins g.T.Task.makes base rest l.level l.task cells (walk_at (seen l.fn.store) l.fn.full (g.M.Memo.has l.fn.memo)) → Grows (shape_with l.level cells) (seen l.fn.store) (seen l.store);
+      partway : (base rest : List Tree) (cells : Cells)
+          → Begins g.T.Task.makes base rest l.level l.task cells
+          (walk_at (seen l.fn.store) l.fn.full (g.M.Memo.has l.fn.memo))
+          → Partway g.T.Task.makes base rest l.level l.task cells l.children l.k
+          (walk_at (seen l.store) l.full (g.M.Memo.has l.memo));
+      grows : (base rest : List Tree) (cells : Cells)
+          → Begins g.T.Task.makes base rest l.level l.task cells
+          (walk_at (seen l.fn.store) l.fn.full (g.M.Memo.has l.fn.memo))
+          → Grows (shape_with l.level cells) (seen l.fn.store) (seen l.store);
       turns : l.steps + 16 * height l.fn.full ≤ l.fn.steps + 16 * height l.full + l.k + 25 * sum_below l.k (g.T.Task.mixed_in l.level l.task);
       height_is : height l.full ≤ max (height l.fn.full) l.level;
       long : length l.children ≡ 8;

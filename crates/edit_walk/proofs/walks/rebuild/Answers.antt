@@ -7,53 +7,91 @@ use Rattle.edit_walk.proofs.MemoLaws.{begins_held, recalls_after}
 use Rattle.edit_walk.proofs.walks.rebuild.Goals as goal
 
 pub build-requires-clause-task : goal.build-requires-clause-task
-build-requires-clause-task g c = let (base, cells, k, m) = c.requires.task in (_, _, cells, begins_held _ base _ _ _ cells _ g.T.Task.lasts c.held-held.ensures.trees.named k c.requires.memo m)
+build-requires-clause-task g c =
+    let (base, cells, k, m) = c.requires.task in
+    (_, _, cells, begins_held _ base _ _ _ cells _ g.T.Task.lasts c.held-held.ensures.trees.named k c.requires.memo m)
 
 pub back_if-requires-clause-held : goal.back_if-requires-clause-held
 back_if-requires-clause-held g c =
     let (base, cells, k, m) = c.requires.task in
-    let w = (c.in-Ok.ensures.ok _ _ cells (begins_held _ base _ _ _ cells _ g.T.Task.lasts c.held-held.ensures.trees.named k c.requires.memo m)).came in
+    let w =
+    (c.in-Ok.ensures.ok _ _ cells
+    (begins_held _ base _ _ _ cells _ g.T.Task.lasts c.held-held.ensures.trees.named k c.requires.memo m)).came in
     (w.aside.tree, w.aside.root, aside_may _ _ _ w.aside)
 
 pub back_if-requires-clause-room : goal.back_if-requires-clause-room
 back_if-requires-clause-room g c =
     let (base, cells, k, m) = c.requires.task in
-    omega (arith, came_number _ _ _ _ _ _ (c.in-Ok.ensures.ok _ _ cells (begins_held _ base _ _ _ cells _ g.T.Task.lasts c.held-held.ensures.trees.named k c.requires.memo m)).came, c.requires.room)
+    omega (
+      arith,
+      came_number _ _ _ _ _ _
+          (c.in-Ok.ensures.ok _ _ cells
+          (begins_held _ base _ _ _ cells _ g.T.Task.lasts c.held-held.ensures.trees.named k c.requires.memo m)).came,
+      c.requires.room,
+    )
 
 pub back_if-requires-in-Err-clause-held : goal.back_if-requires-in-Err-clause-held
 back_if-requires-in-Err-clause-held g c =
     let (base, cells, k, m) = c.requires.task in
-    let a = (c.in-Err.ensures.rest _ _ cells (begins_held _ base _ _ _ cells _ g.T.Task.lasts c.held-held.ensures.trees.named k c.requires.memo m)) in
+    let a =
+    (c.in-Err.ensures.rest _ _ cells
+    (begins_held _ base _ _ _ cells _ g.T.Task.lasts c.held-held.ensures.trees.named k c.requires.memo m)) in
     (a.tree, a.root, aside_may _ _ _ a)
 
 pub back_if-requires-in-Err-clause-room : goal.back_if-requires-in-Err-clause-room
 back_if-requires-in-Err-clause-room g c =
     let (base, cells, k, m) = c.requires.task in
-    omega (arith, (aside_numbers _ _ _ (c.in-Err.ensures.rest _ _ cells (begins_held _ base _ _ _ cells _ g.T.Task.lasts c.held-held.ensures.trees.named k c.requires.memo m))).most, c.requires.room)
+    omega (
+      arith,
+      (aside_numbers _ _ _
+          (c.in-Err.ensures.rest _ _ cells
+          (begins_held _ base _ _ _ cells _ g.T.Task.lasts c.held-held.ensures.trees.named k c.requires.memo m))).most,
+      c.requires.room,
+    )
 
 pub returns-in-Ok-clause-ok : goal.returns-in-Ok-clause-ok
 returns-in-Ok-clause-ok g c base cells k m =
-    let w = (c.in-Ok.ensures.ok _ _ cells (begins_held _ base _ _ _ cells _ g.T.Task.lasts c.held-held.ensures.trees.named k c.requires.memo m)).came in
-    rebuilt_comes _ _ _ _ _ _ _ w (c.back_if.ensures.gone w.aside.tree w.aside.root (aside_may _ _ _ w.aside))
+    let w =
+    (c.in-Ok.ensures.ok _ _ cells
+    (begins_held _ base _ _ _ cells _ g.T.Task.lasts c.held-held.ensures.trees.named k c.requires.memo m)).came in
+    rebuilt_comes _ _ _ _ _ _ _ w
+    (c.back_if.ensures.gone w.aside.tree w.aside.root (aside_may _ _ _ w.aside))
 
 pub returns-in-Ok-clause-grows : goal.returns-in-Ok-clause-grows
-returns-in-Ok-clause-grows g c base cells k m = grows_held _ _ _ _ (c.in-Ok.ensures.grows _ _ cells (begins_held _ base _ _ _ cells _ g.T.Task.lasts c.held-held.ensures.trees.named k c.requires.memo m)) c.back_if.ensures.only
+returns-in-Ok-clause-grows g c base cells k m =
+    grows_held _ _ _ _
+    (c.in-Ok.ensures.grows _ _ cells
+    (begins_held _ base _ _ _ cells _ g.T.Task.lasts c.held-held.ensures.trees.named k c.requires.memo m)) c.back_if.ensures.only
 
 pub returns-in-Err-clause-full : goal.returns-in-Err-clause-full
 returns-in-Err-clause-full g c base cells k m =
-    let r = c.in-Err.ensures.full _ _ cells (begins_held _ base _ _ _ cells _ g.T.Task.lasts c.held-held.ensures.trees.named k c.requires.memo m) in
-    let a = c.in-Err.ensures.rest _ _ cells (begins_held _ base _ _ _ cells _ g.T.Task.lasts c.held-held.ensures.trees.named k c.requires.memo m) in
-    rebuilt_fails _ _ _ _ _ _ _ r c.back_if-in-Err.ensures.only a (c.back_if-in-Err.ensures.gone a.tree a.root (aside_may _ _ _ a))
+    let r =
+    c.in-Err.ensures.full _ _ cells
+    (begins_held _ base _ _ _ cells _ g.T.Task.lasts c.held-held.ensures.trees.named k c.requires.memo m) in
+    let a =
+    c.in-Err.ensures.rest _ _ cells
+    (begins_held _ base _ _ _ cells _ g.T.Task.lasts c.held-held.ensures.trees.named k c.requires.memo m) in
+    rebuilt_fails _ _ _ _ _ _ _ r c.back_if-in-Err.ensures.only a
+    (c.back_if-in-Err.ensures.gone a.tree a.root (aside_may _ _ _ a))
 
 pub returns-in-Ok-clause-turns : goal.returns-in-Ok-clause-turns
 returns-in-Ok-clause-turns g c =
     let (base, cells, k, m) = c.requires.task in
-    let w = (c.in-Ok.ensures.ok _ _ cells (begins_held _ base _ _ _ cells _ g.T.Task.lasts c.held-held.ensures.trees.named k c.requires.memo m)).came in
-    let b = back_turns _ c.build.new.full w.aside.tree _ _ c.back_if.ensures.none (λ n e. c.back_if.ensures.turns w.aside.tree n e w.aside.root (aside_may _ _ _ w.aside)) w.aside.shape in
+    let w =
+    (c.in-Ok.ensures.ok _ _ cells
+    (begins_held _ base _ _ _ cells _ g.T.Task.lasts c.held-held.ensures.trees.named k c.requires.memo m)).came in
+    let b =
+    back_turns _ c.build.new.full w.aside.tree _ _ c.back_if.ensures.none
+    (λ n e. c.back_if.ensures.turns w.aside.tree n e w.aside.root
+    (aside_may _ _ _ w.aside)) w.aside.shape in
     omega (arith, b, c.in-Ok.ensures.turns, c.in-Ok.ensures.height)
 
 pub returns-in-Ok-clause-memo : goal.returns-in-Ok-clause-memo
 returns-in-Ok-clause-memo g c =
     let (base, cells, k, m) = c.requires.task in
-    let b = c.in-Ok.ensures.ok _ _ cells (begins_held _ base _ _ _ cells _ g.T.Task.lasts c.held-held.ensures.trees.named k c.requires.memo m) in
-    recalls_after _ _ _ _ _ _ _ _ _ b.came (c.back_if.ensures.gone b.came.aside.tree b.came.aside.root (aside_may _ _ _ b.came.aside)) b.recalls
+    let b =
+    c.in-Ok.ensures.ok _ _ cells
+    (begins_held _ base _ _ _ cells _ g.T.Task.lasts c.held-held.ensures.trees.named k c.requires.memo m) in
+    recalls_after _ _ _ _ _ _ _ _ _ b.came
+    (c.back_if.ensures.gone b.came.aside.tree b.came.aside.root
+    (aside_may _ _ _ b.came.aside)) b.recalls

@@ -4,7 +4,8 @@ use Rattle.entry_words.proofs.rows.reach.Given as goal
 
 abbrev pub invariant-loop-empty : goal.invariant-loop-empty
 invariant-loop-empty g l = record {
-  same : (j : ℕ) → slice_index_or l.row.items j l.empty ≡ slice_index_or l.initial.row.items j l.empty;
+  same : (j : ℕ)
+      → slice_index_or l.row.items j l.empty ≡ slice_index_or l.initial.row.items j l.empty;
   room : vec_capacity l.row ≡ vec_capacity l.initial.row;
 }
 

@@ -9,7 +9,9 @@ invariant-loop-z g l =
     let seen = g.B.Blocks.seen in
     record {
       within : l.z ≤ l.fn.b.size.z;
-      appended : ForBlock (seen l.fn.store).held l.fn.level l.fn.block (λ s. AppendsVoxels (voxels_joined l.z (box_layer (cells_of l.fn.level s) l.fn.b)) l.fn.into l.into);
+      appended : ForBlock (seen l.fn.store).held l.fn.level l.fn.block
+          (λ s. AppendsVoxels
+          (voxels_joined l.z (box_layer (cells_of l.fn.level s) l.fn.b)) l.fn.into l.into);
       same : seen l.store ≡ seen l.fn.store;
       rests : g.B.Blocks.rests l.fn.store l.store;
     }

@@ -12,7 +12,9 @@ write_model-requires-clause-inside g c =
     let held = (g.B.Blocks.seen c.args.store.now).held in
     told_inside held c.args.side (option_copied c.args.root) c.args.b c.as_slice.result.now
     (λ t block. c.as_slice.ensures.value ∙ c.in_ok-cells_in.ensures.voxels t block
-    ∙ ap (λ (old : List Voxel). old ++ voxels_of_box c.args.b (cells_of (c.args.side - 2) (shape_of t))) c.new-voxels.ensures.items)
+    ∙ ap
+    (λ (old : List Voxel). old ++ voxels_of_box c.args.b
+    (cells_of (c.args.side - 2) (shape_of t))) c.new-voxels.ensures.items)
     c.requires.root
 
 pub write_model-requires-clause-few : goal.write_model-requires-clause-few
@@ -20,5 +22,7 @@ write_model-requires-clause-few g c =
     let held = (g.B.Blocks.seen c.args.store.now).held in
     told_few held c.args.side (option_copied c.args.root) c.args.b c.as_slice.result.now
     (λ t block. c.as_slice.ensures.value ∙ c.in_ok-cells_in.ensures.voxels t block
-    ∙ ap (λ (old : List Voxel). old ++ voxels_of_box c.args.b (cells_of (c.args.side - 2) (shape_of t))) c.new-voxels.ensures.items)
+    ∙ ap
+    (λ (old : List Voxel). old ++ voxels_of_box c.args.b
+    (cells_of (c.args.side - 2) (shape_of t))) c.new-voxels.ensures.items)
     c.requires.root c.requires.small

@@ -15,7 +15,10 @@ abbrev pub invariant-fill-loop-octant : goal.invariant-fill-loop-octant
 invariant-fill-loop-octant g l =
     let seen = g.B.Blocks.seen in
     record {
-      fills : ForPlace (seen l.fn.store).held l.fn.block l.fn.place (λ cells. Fills (λ m. IsInFirst l.fn.place l.octant (leaf_corner l.fn.b l.fn.layer m)) l.fn.b l.fn.layer cells l.fn.leaves l.leaves);
+      fills : ForPlace (seen l.fn.store).held l.fn.block l.fn.place
+          (λ cells. Fills
+          (λ m. IsInFirst l.fn.place l.octant
+          (leaf_corner l.fn.b l.fn.layer m)) l.fn.b l.fn.layer cells l.fn.leaves l.leaves);
       block : HasBlock (seen l.store).held l.fn.place.level l.fn.block;
       same : seen l.store ≡ seen l.fn.store;
       rests : g.B.Blocks.rests l.fn.store l.store;

@@ -7,4 +7,5 @@ pub fill-requires-clause-inside : goal.fill-requires-clause-inside
 fill-requires-clause-inside g c = root_lies c.args.level c.requires.level
 
 pub returns-clause-layer : goal.returns-clause-layer
-returns-clause-layer g c = layer_filled _ c.args.level _ c.args.z c.args.block c.args.b _ _ c.requires.b c.requires.ends c.requires.z refl (λ m. all_zero m) c.fill.ensures.fills
+returns-clause-layer g c =
+    layer_filled _ c.args.level _ c.args.z c.args.block c.args.b _ _ c.requires.b c.requires.ends c.requires.z refl (λ m. all_zero m) c.fill.ensures.fills

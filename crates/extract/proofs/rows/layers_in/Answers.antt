@@ -12,19 +12,33 @@ layer_in-requires-clause-room c =
     let cells = c.requires.room.0 in
     let held = c.requires.room.1 in (
       cells,
-      subst (λ (q : ℕ). HoldsLayer c.args.leaves.now c.args.b q (leaves_in c.args.b) cells) (sym (c.requires.layer c.loop-k.k c.loop-k-test.true)) held,
-      room_one c.loop-k.k c.args.n (λ k. box_layer cells c.args.b (c.args.z + k)) c.args.into.now c.loop-k.into c.loop-k-test.true c.requires.room.2 (c.loop-k.invariant.appended cells held),
+      subst (λ (q : ℕ). HoldsLayer c.args.leaves.now c.args.b q (leaves_in c.args.b) cells)
+          (sym (c.requires.layer c.loop-k.k c.loop-k-test.true)) held,
+      room_one c.loop-k.k c.args.n
+          (λ k. box_layer cells c.args.b
+          (c.args.z + k)) c.args.into.now c.loop-k.into c.loop-k-test.true c.requires.room.2
+          (c.loop-k.invariant.appended cells held),
     )
 
 pub loop-k-preserved : goal.loop-k-preserved
 loop-k-preserved c = record {
-  appended = λ cells held. appends_one c.loop-k.k (λ k. box_layer cells c.args.b (c.args.z + k)) c.args.into.now c.loop-k.into c.layer_in.new.into (c.loop-k.invariant.appended cells held)
-      (c.layer_in.ensures.appended cells (subst (λ (q : ℕ). HoldsLayer c.args.leaves.now c.args.b q (leaves_in c.args.b) cells) (sym (c.requires.layer c.loop-k.k c.loop-k-test.true)) held));
+  appended = λ cells held. appends_one c.loop-k.k
+      (λ k. box_layer cells c.args.b
+      (c.args.z + k)) c.args.into.now c.loop-k.into c.layer_in.new.into
+      (c.loop-k.invariant.appended cells held)
+      (c.layer_in.ensures.appended cells
+      (subst (λ (q : ℕ). HoldsLayer c.args.leaves.now c.args.b q (leaves_in c.args.b) cells)
+      (sym (c.requires.layer c.loop-k.k c.loop-k-test.true)) held));
 }
 
 pub returns : goal.returns
 returns c =
     let all : c.loop-k.k ≡ c.args.n = omega arith in
     record {
-      appended = λ cells held. subst (λ (n : ℕ). AppendsVoxels (voxels_joined n (λ k. box_layer cells c.args.b (c.args.z + k))) c.args.into.now c.loop-k.into) all (c.loop-k.invariant.appended cells held);
+      appended = λ cells held. subst
+          (λ (n : ℕ). AppendsVoxels
+          (voxels_joined n
+          (λ k. box_layer cells c.args.b
+          (c.args.z + k))) c.args.into.now c.loop-k.into) all
+          (c.loop-k.invariant.appended cells held);
     }

@@ -6,5 +6,8 @@ use Rattle.extract.proofs.rows.layers_in.Given as goal
 
 abbrev pub invariant-loop-k : goal.invariant-loop-k
 invariant-loop-k l = record {
-  appended : (cells : Cell → Bool) → HoldsLayer l.fn.leaves l.fn.b ((l.fn.b.at.z + l.fn.z) / 4) (leaves_in l.fn.b) cells → AppendsVoxels (voxels_joined l.k (λ k. box_layer cells l.fn.b (l.fn.z + k))) l.fn.into l.into;
+  appended : (cells : Cell → Bool)
+      → HoldsLayer l.fn.leaves l.fn.b ((l.fn.b.at.z + l.fn.z) / 4) (leaves_in l.fn.b) cells
+      → AppendsVoxels
+      (voxels_joined l.k (λ k. box_layer cells l.fn.b (l.fn.z + k))) l.fn.into l.into;
 }

@@ -8,32 +8,45 @@ use Rattle.extract.proofs.LeafLaws.{run_is_row, run_inside, run_index}
 use Rattle.extract.proofs.rows.row_in.Goals as goal
 
 pub loop-p-init : goal.loop-p-init
-loop-p-init c = record { within = omega arith; appended = λ cells held. none_joined _ c.args.into.now }
+loop-p-init c =
+    record { within = omega arith; appended = λ cells held. none_joined _ c.args.into.now }
 
 pub run_in-requires-clause-room : goal.run_in-requires-clause-room
 run_in-requires-clause-room c =
     let cells = c.requires.room.0 in
     let held = c.requires.room.1 in
     let b = c.args.b in
-    let fits : c.loop-p.p + c.run_length-n.result ≤ b.size.x = omega (arith, c.run_length-n.ensures.within, c.loop-p-test.true) in
+    let fits : c.loop-p.p + c.run_length-n.result ≤ b.size.x =
+    omega (arith, c.run_length-n.ensures.within, c.loop-p-test.true) in
     let run =
-    run_is_row c.args.leaves.now b c.args.z c.args.y c.loop-p.p c.run_length-n.result (c.row_start-row.result + c.from.result) _ cells c.requires.b c.requires.y fits c.run_length-n.ensures.leaf
-    (run_index _ _ _ _ c.row_start-row.ensures.start c.from.ensures) (run_inside b c.args.y c.loop-p.p c.row_start-row.result _ c.requires.b c.requires.y c.loop-p-test.true c.row_start-row.ensures.inside (run_index _ _ _ _ refl c.from.ensures)) refl c.run_length-n.ensures.some held
+    run_is_row c.args.leaves.now b c.args.z c.args.y c.loop-p.p c.run_length-n.result
+    (c.row_start-row.result + c.from.result) _ cells c.requires.b c.requires.y fits c.run_length-n.ensures.leaf
+    (run_index _ _ _ _ c.row_start-row.ensures.start c.from.ensures)
+    (run_inside b c.args.y c.loop-p.p c.row_start-row.result _ c.requires.b c.requires.y c.loop-p-test.true c.row_start-row.ensures.inside (run_index _ _ _ _ refl c.from.ensures)) refl c.run_length-n.ensures.some held
     in
     subst (λ (xs : List Voxel). HasRoom c.loop-p.into (length xs)) (sym run)
-    (room_run c.loop-p.p c.run_length-n.result b.size.x (λ i. voxel_if (cells (cell_at (b.at.x + i) (b.at.y + c.args.y) (b.at.z + c.args.z))) (0 + i) c.args.y c.args.z) c.args.into.now c.loop-p.into fits c.requires.room.2 (c.loop-p.invariant.appended cells held))
+    (room_run c.loop-p.p c.run_length-n.result b.size.x
+    (λ i. voxel_if (cells (cell_at (b.at.x + i) (b.at.y + c.args.y) (b.at.z + c.args.z)))
+    (0 + i) c.args.y c.args.z) c.args.into.now c.loop-p.into fits c.requires.room.2
+    (c.loop-p.invariant.appended cells held))
 
 pub loop-p-preserved : goal.loop-p-preserved
 loop-p-preserved c =
     let b = c.args.b in
-    let fits : c.loop-p.p + c.run_length-n.result ≤ b.size.x = omega (arith, c.run_length-n.ensures.within, c.loop-p-test.true) in
+    let fits : c.loop-p.p + c.run_length-n.result ≤ b.size.x =
+    omega (arith, c.run_length-n.ensures.within, c.loop-p-test.true) in
     record {
       within = fits;
       appended = λ cells held.
           let run =
-          run_is_row c.args.leaves.now b c.args.z c.args.y c.loop-p.p c.run_length-n.result (c.row_start-row.result + c.from.result) _ cells c.requires.b c.requires.y fits c.run_length-n.ensures.leaf
-          (run_index _ _ _ _ c.row_start-row.ensures.start c.from.ensures) (run_inside b c.args.y c.loop-p.p c.row_start-row.result _ c.requires.b c.requires.y c.loop-p-test.true c.row_start-row.ensures.inside (run_index _ _ _ _ refl c.from.ensures)) refl c.run_length-n.ensures.some held
+          run_is_row c.args.leaves.now b c.args.z c.args.y c.loop-p.p c.run_length-n.result
+          (c.row_start-row.result + c.from.result) _ cells c.requires.b c.requires.y fits c.run_length-n.ensures.leaf
+          (run_index _ _ _ _ c.row_start-row.ensures.start c.from.ensures)
+          (run_inside b c.args.y c.loop-p.p c.row_start-row.result _ c.requires.b c.requires.y c.loop-p-test.true c.row_start-row.ensures.inside (run_index _ _ _ _ refl c.from.ensures)) refl c.run_length-n.ensures.some held
           in
-          appends_run c.loop-p.p c.run_length-n.result (λ i. voxel_if (cells (cell_at (b.at.x + i) (b.at.y + c.args.y) (b.at.z + c.args.z))) (0 + i) c.args.y c.args.z) c.args.into.now c.loop-p.into c.run_in.new.into (c.loop-p.invariant.appended cells held)
+          appends_run c.loop-p.p c.run_length-n.result
+          (λ i. voxel_if (cells (cell_at (b.at.x + i) (b.at.y + c.args.y) (b.at.z + c.args.z)))
+          (0 + i) c.args.y c.args.z) c.args.into.now c.loop-p.into c.run_in.new.into
+          (c.loop-p.invariant.appended cells held)
           (subst (λ (xs : List Voxel). AppendsVoxels xs c.loop-p.into c.run_in.new.into) run c.run_in.ensures);
     }

@@ -7,7 +7,9 @@ use Rattle.extract.proofs.rows.row_in.Given as goal
 abbrev pub invariant-loop-p : goal.invariant-loop-p
 invariant-loop-p l = record {
   within : l.p ≤ l.fn.b.size.x;
-  appended : (cells : Cell → Bool) → HoldsLayer l.fn.leaves l.fn.b ((l.fn.b.at.z + l.fn.z) / 4) (leaves_in l.fn.b) cells → AppendsVoxels (box_row cells l.fn.b l.fn.z l.fn.y l.p) l.fn.into l.into;
+  appended : (cells : Cell → Bool)
+      → HoldsLayer l.fn.leaves l.fn.b ((l.fn.b.at.z + l.fn.z) / 4) (leaves_in l.fn.b) cells
+      → AppendsVoxels (box_row cells l.fn.b l.fn.z l.fn.y l.p) l.fn.into l.into;
 }
 
 abbrev pub decreases-loop-p : goal.decreases-loop-p

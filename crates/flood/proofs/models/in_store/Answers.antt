@@ -23,7 +23,8 @@ returns-in-Err-clause-refused g c =
     let plan : c.rebuild_stamp.new.store.words.plan ≡ flood_plan c.args.side = search rules in
     met_enough (known_seen c.args.store.now) (known_seen c.rebuild_stamp.new.store) c.args.side
     c.args.stencil.now c.args.b c.in-Err.full none_made none_met c.in-Err.ensures.full
-    (subst (λ (p : Layout). All (λ (w : Wanted). HasEnough p c.rebuild_stamp.new.store.told.made w.level w.bucket)
+    (subst (λ (p : Layout). All
+    (λ (w : Wanted). HasEnough p c.rebuild_stamp.new.store.told.made w.level w.bucket)
     c.rebuild_stamp.new.store.told.met) plan c.full_buckets_had_enough.ensures)
 
 pub region_file-region-requires-clause-root : goal.region_file-region-requires-clause-root

@@ -3,11 +3,13 @@ use Rattle.flood.proofs.SpreadLaws.{grows_itself, grows_on, step_up, longer_up, 
 use Rattle.flood.proofs.spreading.climb.Goals as goal
 
 pub loop-by-init : goal.loop-by-init
-loop-by-init c = record { some = omega arith; grows = grows_itself _ _; runs = clear_is_run true c.args.clear }
+loop-by-init c =
+    record { some = omega arith; grows = grows_itself _ _; runs = clear_is_run true c.args.clear }
 
 pub loop-by-preserved : goal.loop-by-preserved
 loop-by-preserved c = record {
   some = omega arith;
-  grows = grows_on _ _ _ _ c.loop-by.invariant.grows (step_up c.args.clear c.loop-by.word c.loop-by.runs c.loop-by.by c.loop-by.invariant.runs);
+  grows = grows_on _ _ _ _ c.loop-by.invariant.grows
+      (step_up c.args.clear c.loop-by.word c.loop-by.runs c.loop-by.by c.loop-by.invariant.runs);
   runs = longer_up c.args.clear c.loop-by.runs c.loop-by.by c.loop-by.invariant.runs;
 }

@@ -2,7 +2,9 @@ use Rattle.gen_load.proofs.Rows.{none_drawn, one_drawn}
 use Rattle.gen_load.proofs.voxels.next_voxels.Goals as goal
 
 pub loop-init : goal.loop-init
-loop-init c = rw c.in_ok-voxels.ensures.items (none_drawn (record { x = 32; y = 32; z = 32 }) c.args.numbers.now)
+loop-init c =
+    rw c.in_ok-voxels.ensures.items
+    (none_drawn (record { x = 32; y = 32; z = 32 }) c.args.numbers.now)
 
 pub loop-preserved : goal.loop-preserved
 loop-preserved c =

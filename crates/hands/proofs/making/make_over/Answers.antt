@@ -9,7 +9,8 @@ use Rattle.hands.proofs.making.make_over.Goals as goal
 pub returns-in-Ok-clause-ok : goal.returns-in-Ok-clause-ok
 returns-in-Ok-clause-ok g c =
     lent (λ side old new. RebuildsAct old side (option_copied c.args.old)
-    (g.M.ActMaker.models c.args.maker.now) (g.M.ActMaker.act c.args.maker.now) (Ok c.in-Ok.root) new)
+    (g.M.ActMaker.models c.args.maker.now) (g.M.ActMaker.act c.args.maker.now)
+    (Ok c.in-Ok.root) new)
     c.args.table.now.plan.side c.side-side.result (seen_of c.args.session.now.view)
     (seen_of c.new-hand.result.session.now.view) (seen_of c.make.new.store.session.now.view) _
     (ap (λ (s : PassSeen). seen_of s.view) c.new-hand.ensures.session) (search rules)
@@ -18,7 +19,8 @@ returns-in-Ok-clause-ok g c =
 pub returns-in-Ok-clause-grows : goal.returns-in-Ok-clause-grows
 returns-in-Ok-clause-grows g c =
     lent (λ side old new. GrowsByAct old side (option_copied c.args.old)
-    (g.M.ActMaker.models c.args.maker.now) (g.M.ActMaker.act c.args.maker.now) (Ok c.in-Ok.root) new)
+    (g.M.ActMaker.models c.args.maker.now) (g.M.ActMaker.act c.args.maker.now)
+    (Ok c.in-Ok.root) new)
     c.args.table.now.plan.side c.side-side.result (seen_of c.args.session.now.view)
     (seen_of c.new-hand.result.session.now.view) (seen_of c.make.new.store.session.now.view) _
     (ap (λ (s : PassSeen). seen_of s.view) c.new-hand.ensures.session) (search rules)
@@ -27,7 +29,8 @@ returns-in-Ok-clause-grows g c =
 pub returns-in-Err-clause-full : goal.returns-in-Err-clause-full
 returns-in-Err-clause-full g c =
     lent (λ side old new. RefusesAct old side (option_copied c.args.old)
-    (g.M.ActMaker.models c.args.maker.now) (g.M.ActMaker.act c.args.maker.now) (Err c.in-Err.full) new)
+    (g.M.ActMaker.models c.args.maker.now) (g.M.ActMaker.act c.args.maker.now)
+    (Err c.in-Err.full) new)
     c.args.table.now.plan.side c.side-side.result (seen_of c.args.session.now.view)
     (seen_of c.new-hand.result.session.now.view) (seen_of c.make.new.store.session.now.view) _
     (ap (λ (s : PassSeen). seen_of s.view) c.new-hand.ensures.session) (search rules)

@@ -3,7 +3,8 @@ use Rattle.held_world.specs.Calls.{PutsBytes}
 use Rattle.held_world.proofs.outputs.put_bytes.Goals as goal
 
 pub returns-then-bytes-out-clause-writes : goal.returns-then-bytes-out-clause-writes
-returns-then-bytes-out-clause-writes c = record { puts = PutsBytes.too_small (omega (arith, c.if-bytes-out.true)) refl; number = refl }
+returns-then-bytes-out-clause-writes c =
+    record { puts = PutsBytes.too_small (omega (arith, c.if-bytes-out.true)) refl; number = refl }
 
 pub returns-clause-writes : goal.returns-clause-writes
 returns-clause-writes c = record {

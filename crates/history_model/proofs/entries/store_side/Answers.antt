@@ -8,4 +8,6 @@ returns-in-Some c =
     let low = c.exponent-world.ensures.bounds in
     let side = c.exponent-exponent.ensures.value in
     let few = c.exponent-exponent.ensures.bounds in
-    store_side_is c.args.world c.in-Some.side c.cells.result (omega (arith, world, low)) (omega (arith, side, few)) (omega (arith, side, few)) c.cells.ensures.value c.in-Some.ensures.value
+    store_side_is c.args.world c.in-Some.side c.cells.result (omega (arith, world, low))
+    (omega (arith, side, few))
+    (omega (arith, side, few)) c.cells.ensures.value c.in-Some.ensures.value

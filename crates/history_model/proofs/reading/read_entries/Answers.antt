@@ -15,16 +15,21 @@ returns-in_default-clause-refused c =
 pub returns-then-is_empty-clause-read : goal.returns-then-is_empty-clause-read
 returns-then-is_empty-clause-read c = (
   c.loop-line.invariant.told,
-  all_lines_read c.loop-line.history _ (lines c.loop-line.rest.now) c.in-Some.line.now c.in-Some.after.now c.loop-line.invariant.lined c.in-Some.ensures.lines (sym c.eq.ensures ∙ c.if-eq.true) (sym c.is_empty.ensures ∙ c.if-is_empty.true),
+  all_lines_read c.loop-line.history _
+      (lines c.loop-line.rest.now) c.in-Some.line.now c.in-Some.after.now c.loop-line.invariant.lined c.in-Some.ensures.lines (sym c.eq.ensures ∙ c.if-eq.true) (sym c.is_empty.ensures ∙ c.if-is_empty.true),
 )
 
 pub returns-then-eq-clause-refused : goal.returns-then-eq-clause-refused
 returns-then-eq-clause-refused c =
-    more_behind c.loop-line.history _ (lines c.loop-line.rest.now) c.in-Some.line.now c.in-Some.after.now c.line_number-then-eq.result c.loop-line.invariant.told c.loop-line.invariant.lined c.in-Some.ensures.lines (sym c.eq.ensures ∙ c.if-eq.true) (sym c.is_empty.ensures ∙ c.if-is_empty.false) c.line_number-then-eq.ensures.number
+    more_behind c.loop-line.history _
+    (lines c.loop-line.rest.now) c.in-Some.line.now c.in-Some.after.now c.line_number-then-eq.result c.loop-line.invariant.told c.loop-line.invariant.lined c.in-Some.ensures.lines (sym c.eq.ensures ∙ c.if-eq.true) (sym c.is_empty.ensures ∙ c.if-is_empty.false) c.line_number-then-eq.ensures.number
 
 pub returns-in_err-add_entry-clause-refused : goal.returns-in_err-add_entry-clause-refused
 returns-in_err-add_entry-clause-refused c =
     let p = err_from_is_err_and c.from_residual.result c.from_residual.ensures.1 in
     let fact : RefusesLines c.in_err-add_entry.field-0.0 (begun c.args.coloured c.args.side ++ lines c.args.entries.now) =
-    entry_unfit c.in_err-add_entry.field-0.0 c.loop-line.history _ (lines c.loop-line.rest.now) c.in-Some.line.now c.in-Some.after.now c.loop-line.invariant.told c.loop-line.invariant.lined c.in-Some.ensures.lines (sym c.eq.ensures ∙ c.if-eq.false) c.in_err-add_entry.ensures in
-    rw p.1 (subst (λ (fault : JournalFault). RefusesLines fault (begun c.args.coloured c.args.side ++ lines c.args.entries.now)) (sym p.2) fact)
+    entry_unfit c.in_err-add_entry.field-0.0 c.loop-line.history _
+    (lines c.loop-line.rest.now) c.in-Some.line.now c.in-Some.after.now c.loop-line.invariant.told c.loop-line.invariant.lined c.in-Some.ensures.lines (sym c.eq.ensures ∙ c.if-eq.false) c.in_err-add_entry.ensures in
+    rw p.1 (subst
+    (λ (fault : JournalFault). RefusesLines fault
+    (begun c.args.coloured c.args.side ++ lines c.args.entries.now)) (sym p.2) fact)

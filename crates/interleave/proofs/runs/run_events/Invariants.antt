@@ -7,5 +7,6 @@ abbrev pub invariant-loop-event : goal.invariant-loop-event
 invariant-loop-event l = record {
   plan : l.core.plan ≡ l.plan;
   models : l.core.models ≡ l.models;
-  run : HasRun l.plan l.models l.sessions (take l.event-index l.events) l.replies.items (stored_state l.core);
+  run : HasRun l.plan l.models l.sessions (take l.event-index l.events) l.replies.items
+      (stored_state l.core);
 }

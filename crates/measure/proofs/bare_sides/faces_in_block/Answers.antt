@@ -13,13 +13,20 @@ returns-clause-number g c t o =
     let e5 = c.bare_towards-low_z.ensures.seen ∙ e4 in
     all_six _ _ _ _ _ _ _ _ _ _ _ _
     (c.bare_towards-low_x.ensures.number t o)
-    (c.bare_towards-high_x.ensures.number t (block_still (seen c.args.store.now) (seen c.bare_towards-low_x.new.store) _ _ t e1 o))
-    (c.bare_towards-low_y.ensures.number t (block_still (seen c.args.store.now) (seen c.bare_towards-high_x.new.store) _ _ t e2 o))
-    (c.bare_towards-high_y.ensures.number t (block_still (seen c.args.store.now) (seen c.bare_towards-low_y.new.store) _ _ t e3 o))
-    (c.bare_towards-low_z.ensures.number t (block_still (seen c.args.store.now) (seen c.bare_towards-high_y.new.store) _ _ t e4 o))
-    (c.bare_towards-high_z.ensures.number t (block_still (seen c.args.store.now) (seen c.bare_towards-low_z.new.store) _ _ t e5 o))
+    (c.bare_towards-high_x.ensures.number t
+    (block_still (seen c.args.store.now) (seen c.bare_towards-low_x.new.store) _ _ t e1 o))
+    (c.bare_towards-low_y.ensures.number t
+    (block_still (seen c.args.store.now) (seen c.bare_towards-high_x.new.store) _ _ t e2 o))
+    (c.bare_towards-high_y.ensures.number t
+    (block_still (seen c.args.store.now) (seen c.bare_towards-low_y.new.store) _ _ t e3 o))
+    (c.bare_towards-low_z.ensures.number t
+    (block_still (seen c.args.store.now) (seen c.bare_towards-high_y.new.store) _ _ t e4 o))
+    (c.bare_towards-high_z.ensures.number t
+    (block_still (seen c.args.store.now) (seen c.bare_towards-low_z.new.store) _ _ t e5 o))
 
 pub returns-clause-rests : goal.returns-clause-rests
 returns-clause-rests g c =
     let on = g.met.B.Blocks.rests_on in
-    on _ _ _ (on _ _ _ (on _ _ _ (on _ _ _ (on _ _ _ c.bare_towards-low_x.ensures.rests c.bare_towards-high_x.ensures.rests) c.bare_towards-low_y.ensures.rests) c.bare_towards-high_y.ensures.rests) c.bare_towards-low_z.ensures.rests) c.bare_towards-high_z.ensures.rests
+    on _ _ _ (on _ _ _
+    (on _ _ _ (on _ _ _
+    (on _ _ _ c.bare_towards-low_x.ensures.rests c.bare_towards-high_x.ensures.rests) c.bare_towards-low_y.ensures.rests) c.bare_towards-high_y.ensures.rests) c.bare_towards-low_z.ensures.rests) c.bare_towards-high_z.ensures.rests

@@ -6,19 +6,37 @@ use Rattle.measure.proofs.BareLeaves.{low_x_tells, high_x_tells, low_y_tells, hi
 use Rattle.measure.proofs.bare_sides.next_bits.Goals as goal
 
 pub returns-in-LowX-clause-next : goal.returns-in-LowX-clause-next
-returns-in-LowX-clause-next c s u p q = subst (λ (d : Direction). TellsCells c.window_bits.result (is_next_set d 0 s u)) (sym c.in-LowX.is) (low_x_tells c.args.bits c.args.beside _ s u c.window_bits.ensures.bits p q)
+returns-in-LowX-clause-next c s u p q =
+    subst (λ (d : Direction). TellsCells c.window_bits.result (is_next_set d 0 s u))
+    (sym c.in-LowX.is)
+    (low_x_tells c.args.bits c.args.beside _ s u c.window_bits.ensures.bits p q)
 
 pub returns-in-HighX-clause-next : goal.returns-in-HighX-clause-next
-returns-in-HighX-clause-next c s u p q = subst (λ (d : Direction). TellsCells c.window_bits-in-HighX.result (is_next_set d 0 s u)) (sym c.in-HighX.is) (high_x_tells c.args.bits c.args.beside _ s u c.window_bits-in-HighX.ensures.bits p q)
+returns-in-HighX-clause-next c s u p q =
+    subst (λ (d : Direction). TellsCells c.window_bits-in-HighX.result (is_next_set d 0 s u))
+    (sym c.in-HighX.is)
+    (high_x_tells c.args.bits c.args.beside _ s u c.window_bits-in-HighX.ensures.bits p q)
 
 pub returns-in-LowY-clause-next : goal.returns-in-LowY-clause-next
-returns-in-LowY-clause-next c s u p q = subst (λ (d : Direction). TellsCells c.window_bits-in-LowY.result (is_next_set d 0 s u)) (sym c.in-LowY.is) (low_y_tells c.args.bits c.args.beside _ s u c.window_bits-in-LowY.ensures.bits p q)
+returns-in-LowY-clause-next c s u p q =
+    subst (λ (d : Direction). TellsCells c.window_bits-in-LowY.result (is_next_set d 0 s u))
+    (sym c.in-LowY.is)
+    (low_y_tells c.args.bits c.args.beside _ s u c.window_bits-in-LowY.ensures.bits p q)
 
 pub returns-in-HighY-clause-next : goal.returns-in-HighY-clause-next
-returns-in-HighY-clause-next c s u p q = subst (λ (d : Direction). TellsCells c.window_bits-in-HighY.result (is_next_set d 0 s u)) (sym c.in-HighY.is) (high_y_tells c.args.bits c.args.beside _ s u c.window_bits-in-HighY.ensures.bits p q)
+returns-in-HighY-clause-next c s u p q =
+    subst (λ (d : Direction). TellsCells c.window_bits-in-HighY.result (is_next_set d 0 s u))
+    (sym c.in-HighY.is)
+    (high_y_tells c.args.bits c.args.beside _ s u c.window_bits-in-HighY.ensures.bits p q)
 
 pub returns-in-LowZ-clause-next : goal.returns-in-LowZ-clause-next
-returns-in-LowZ-clause-next c s u p q = subst (λ (d : Direction). TellsCells c.window_bits-in-LowZ.result (is_next_set d 0 s u)) (sym c.in-LowZ.is) (low_z_tells c.args.bits c.args.beside _ s u c.window_bits-in-LowZ.ensures.bits p q)
+returns-in-LowZ-clause-next c s u p q =
+    subst (λ (d : Direction). TellsCells c.window_bits-in-LowZ.result (is_next_set d 0 s u))
+    (sym c.in-LowZ.is)
+    (low_z_tells c.args.bits c.args.beside _ s u c.window_bits-in-LowZ.ensures.bits p q)
 
 pub returns-in-HighZ-clause-next : goal.returns-in-HighZ-clause-next
-returns-in-HighZ-clause-next c s u p q = subst (λ (d : Direction). TellsCells c.window_bits-in-HighZ.result (is_next_set d 0 s u)) (sym c.in-HighZ.is) (high_z_tells c.args.bits c.args.beside _ s u c.window_bits-in-HighZ.ensures.bits p q)
+returns-in-HighZ-clause-next c s u p q =
+    subst (λ (d : Direction). TellsCells c.window_bits-in-HighZ.result (is_next_set d 0 s u))
+    (sym c.in-HighZ.is)
+    (high_z_tells c.args.bits c.args.beside _ s u c.window_bits-in-HighZ.ensures.bits p q)

@@ -22,4 +22,5 @@ tally-requires g c = (
 )
 
 pub returns-clause-number : goal.returns-clause-number
-returns-clause-number g c = set_in_root _ c.args.side _ _ _ c.args.b _ c.root_level-level.ensures.value c.name_of.ensures c.tally.ensures.number
+returns-clause-number g c =
+    set_in_root _ c.args.side _ _ _ c.args.b _ c.root_level-level.ensures.value c.name_of.ensures c.tally.ensures.number

@@ -33,9 +33,11 @@ widen_by_others-loop-octant-preserved g t c =
       widens = λ cells u o shows. others_more c.args.place cells c.args.corner c.loop-octant.octant c.args.found.now c.loop-octant.found _
           (c.loop-octant.invariant.widens cells u o shows)
           (c.widen_apart.ensures.widens cells u
-          (block_still (seen c.args.store.now) (seen c.loop-octant.store) _ c.args.block u c.loop-octant.invariant.same o) shows);
+          (block_still (seen c.args.store.now)
+          (seen c.loop-octant.store) _ c.args.block u c.loop-octant.invariant.same o) shows);
       ends = c.widen_apart.ensures.found;
-      right = right_still (seen c.args.store.now) (seen c.loop-octant.store) _ c.loop-octant.invariant.same c.widen_apart.ensures.answers;
+      right = right_still (seen c.args.store.now)
+          (seen c.loop-octant.store) _ c.loop-octant.invariant.same c.widen_apart.ensures.answers;
       block = c.widen_apart.ensures.block;
       same = c.widen_apart.ensures.seen ∙ c.loop-octant.invariant.same;
       rests = g.met.B.Blocks.rests_on _ _ _ c.loop-octant.invariant.rests c.widen_apart.ensures.rests;
@@ -50,7 +52,8 @@ widen_in-widen-requires g t c κs within =
         (
           omega (arith, c.requires.level.1, level),
           (
-            child_there (g.B.Blocks.seen c.args.store.now) (g.B.Blocks.seen c.octant_name-child.new.store) c.args.place c.child.result c.args.octant c.args.block _ c.octant_name-child.ensures.seen c.child.ensures c.requires.block c.octant_name-child.ensures.octant,
+            child_there (g.B.Blocks.seen c.args.store.now)
+                (g.B.Blocks.seen c.octant_name-child.new.store) c.args.place c.child.result c.args.octant c.args.block _ c.octant_name-child.ensures.seen c.child.ensures c.requires.block c.octant_name-child.ensures.octant,
             (octant_lies c.args.place c.child.result c.args.octant c.requires.level.0 c.requires.octant c.child.ensures c.requires.inside, (c.requires.octant, (c.requires.found, right_after (g.B.Blocks.seen c.args.store.now) (g.B.Blocks.seen c.octant_name-child.new.store) _ c.octant_name-child.ensures.seen c.requires.answers))),
           ),
         ),
@@ -59,7 +62,8 @@ widen_in-widen-requires g t c κs within =
 
 pub widen_in-returns-clause-widens : goal.widen_in-returns-clause-widens
 widen_in-returns-clause-widens g t c =
-    octant_widens (g.B.Blocks.seen c.args.store.now) (g.B.Blocks.seen c.octant_name-child.new.store) c.args.block _ c.args.place c.child.result c.args.octant c.args.found.now _ c.octant_name-child.ensures.seen c.requires.level.0 c.requires.octant c.child.ensures c.octant_name-child.ensures.octant c.widen.ensures.widens
+    octant_widens (g.B.Blocks.seen c.args.store.now)
+    (g.B.Blocks.seen c.octant_name-child.new.store) c.args.block _ c.args.place c.child.result c.args.octant c.args.found.now _ c.octant_name-child.ensures.seen c.requires.level.0 c.requires.octant c.child.ensures c.octant_name-child.ensures.octant c.widen.ensures.widens
 
 pub widen-returns-clause-answers : goal.widen-returns-clause-answers
 widen-returns-clause-answers g t c =

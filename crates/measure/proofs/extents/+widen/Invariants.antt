@@ -24,7 +24,9 @@ abbrev pub invariant-widen_by_others-loop-octant : goal.invariant-widen_by_other
 invariant-widen_by_others-loop-octant g l =
     let seen = g.B.Blocks.seen in
     record {
-      widens : ForPlace (seen l.fn.store).held l.fn.block l.fn.place (λ cells. Widens (IsSetInSome l.fn.place cells (IsOther l.fn.corner l.octant)) (IsSetIn l.fn.place cells) l.fn.found l.found);
+      widens : ForPlace (seen l.fn.store).held l.fn.block l.fn.place
+          (λ cells. Widens (IsSetInSome l.fn.place cells (IsOther l.fn.corner l.octant))
+          (IsSetIn l.fn.place cells) l.fn.found l.found);
       ends : EndsInside l.found;
       right : AreRight tells_within (seen l.fn.store).held l.answers.places;
       block : HasBlock (seen l.store).held l.fn.place.level l.fn.block;

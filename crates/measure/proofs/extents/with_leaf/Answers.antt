@@ -3,7 +3,12 @@ use Rattle.measure.proofs.WideningLaws.{bits_none, bits_more, bits_all}
 use Rattle.measure.proofs.extents.with_leaf.Goals as goal
 
 pub loop-bit-init : goal.loop-bit-init
-loop-bit-init c = record { widens = λ cells shows. bits_none c.args.place cells c.args.found; ends = c.requires.found }
+loop-bit-init c =
+    record {
+      widens =
+          λ cells shows. bits_none c.args.place cells c.args.found;
+      ends = c.requires.found;
+    }
 
 pub loop-bit-preserved : goal.loop-bit-preserved
 loop-bit-preserved c = record {
@@ -12,4 +17,6 @@ loop-bit-preserved c = record {
 }
 
 pub returns-clause-widens : goal.returns-clause-widens
-returns-clause-widens c cells shows = bits_all c.args.place cells c.loop-bit.bit c.args.found c.loop-bit.wide c.requires.level (omega arith) (c.loop-bit.invariant.widens cells shows)
+returns-clause-widens c cells shows =
+    bits_all c.args.place cells c.loop-bit.bit c.args.found c.loop-bit.wide c.requires.level
+    (omega arith) (c.loop-bit.invariant.widens cells shows)

@@ -22,7 +22,9 @@ invariant-tally_octants-loop-octant g l =
     let seen = g.B.Blocks.seen in
     let counts = g.S.Subject.counts in
     record {
-      number : (test : Cell → Bool) → counts (seen l.fn.store).held l.fn.of.level l.fn.of.subject test → l.number ≡ tallied l.fn.of.level l.fn.of.part test l.octant;
+      number : (test : Cell → Bool)
+          → counts (seen l.fn.store).held l.fn.of.level l.fn.of.subject test
+          → l.number ≡ tallied l.fn.of.level l.fn.of.part test l.octant;
       right : AreRight (IsTally counts) (seen l.fn.store).held l.answers.places;
       wholes : AreRight (IsWholeTally counts) (seen l.fn.store).held l.wholes.places;
       same : seen l.store ≡ seen l.fn.store;

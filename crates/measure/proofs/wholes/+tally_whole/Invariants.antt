@@ -20,7 +20,9 @@ invariant-tally_whole_octants-loop-octant g l =
     let seen = g.B.Blocks.seen in
     let counts = g.S.Subject.counts in
     record {
-      number : (test : Cell → Bool) → counts (seen l.fn.store).held l.fn.of.level l.fn.of.subject test → l.number ≡ tallied l.fn.of.level (whole_of l.fn.of.level) test l.octant;
+      number : (test : Cell → Bool)
+          → counts (seen l.fn.store).held l.fn.of.level l.fn.of.subject test
+          → l.number ≡ tallied l.fn.of.level (whole_of l.fn.of.level) test l.octant;
       right : AreRight (IsWholeTally counts) (seen l.fn.store).held l.answers.places;
       same : seen l.store ≡ seen l.fn.store;
       rests : g.B.Blocks.rests l.fn.store l.store;

@@ -8,8 +8,10 @@ use Rattle.node_kernels.proofs.balls.row.Goals as goal
 
 pub returns-clause-bits : goal.returns-clause-bits
 returns-clause-bits c =
-    row_shows _ c.args.x c.args.rest c.args.reach c.requires.x (omega arith) (bitmask_splat w64 leb c.args.x 4 (c.args.reach - c.args.rest) c.requires.x.four (lit≤ tt))
+    row_shows _ c.args.x c.args.rest c.args.reach c.requires.x (omega arith)
+    (bitmask_splat w64 leb c.args.x 4 (c.args.reach - c.args.rest) c.requires.x.four (lit≤ tt))
 
 pub returns-clause-bound : goal.returns-clause-bound
 returns-clause-bound c =
-    row_small _ c.args.x (c.args.reach - c.args.rest) c.requires.x (bitmask_splat w64 leb c.args.x 4 (c.args.reach - c.args.rest) c.requires.x.four (lit≤ tt))
+    row_small _ c.args.x (c.args.reach - c.args.rest) c.requires.x
+    (bitmask_splat w64 leb c.args.x 4 (c.args.reach - c.args.rest) c.requires.x.four (lit≤ tt))

@@ -4,4 +4,5 @@ use Rattle.node_places.proofs.Prefixes.{EndsTo}
 use Rattle.node_places.proofs.places.entries_of.Given as goal
 
 abbrev pub invariant-loop-level : goal.invariant-loop-level
-invariant-loop-level l = EndsTo l.level l.first (λ level. l.cap * entry_words level * get_or l.buckets level 0) l.ends
+invariant-loop-level l =
+    EndsTo l.level l.first (λ level. l.cap * entry_words level * get_or l.buckets level 0) l.ends

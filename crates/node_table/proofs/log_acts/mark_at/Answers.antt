@@ -20,7 +20,8 @@ returns-clause-turn c =
 pub returns-clause-seen : goal.returns-clause-seen
 returns-clause-seen c =
     let w = c.see_mark-who.new.seat.view in
-    subst (λ (x : PassSeen). SeesMark x.view (mark_of_words c.args.v c.args.at c.see_mark-who.result) w)
+    subst (λ (x : PassSeen). SeesMark x.view
+    (mark_of_words c.args.v c.args.at c.see_mark-who.result) w)
     c.pass.view_is
     (sees_mark_of c.pass.inside.seat.view w c.args.v c.args.at c.see_mark-who.result
     c.see_mark-who.ensures.view c.see_mark-who.ensures.comes c.see_mark-who.ensures.again)

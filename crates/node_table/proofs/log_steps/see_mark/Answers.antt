@@ -21,7 +21,12 @@ load_as-requires-clause-may c =
           ∙ ap (λ (q : Layout). place q (Version c.args.version 7))
           (c.table.invariant.1 ∙ ap (λ (t : TableSeen). t.plan) c.table.view_is);
       may = λ seat. rest_step p seat v (Version c.args.version 7) (λ (k : ℕ). k)
-          (λ (k : ℕ) (w : SeatView). (w ≡ with_seen_mark (log_knowing v (Version c.args.version 7) k) (mark_of_words c.args.version c.args.at k)) × Contains w.log.seen.marks (mark_of_words c.args.version c.args.at k) × ((n : ℕ) → known_at (Version c.args.version 7) v.log.words ≡ Some n → k ≡ n))
+          (λ (k : ℕ) (w : SeatView).
+          (w ≡ with_seen_mark (log_knowing v (Version c.args.version 7) k)
+          (mark_of_words c.args.version c.args.at k))
+          × Contains w.log.seen.marks (mark_of_words c.args.version c.args.at k)
+          × ((n : ℕ) → known_at (Version c.args.version 7) v.log.words ≡ Some n → k
+          ≡ n))
           (sees_mark p seat v c.args.version c.args.at r.turn.sees.turn r.there.0 r.marked);
     }
 

@@ -18,7 +18,8 @@ load_as-requires-clause-may c =
       is_spot = r.turn.there;
       there =
           c.used-at.ensures
-          ∙ ap (λ (q : Layout). place q (Used c.args.level c.args.bucket)) (c.table.invariant.1 ∙ ap (λ (t : TableSeen). t.plan) c.table.view_is);
+          ∙ ap (λ (q : Layout). place q (Used c.args.level c.args.bucket))
+          (c.table.invariant.1 ∙ ap (λ (t : TableSeen). t.plan) c.table.view_is);
       may = λ seat. rest_step p seat v (Used c.args.level c.args.bucket) (λ (k : ℕ). k)
           (λ (k : ℕ) (w : SeatView). Counted v b p.cap k w) (counts_used p seat v b r.turn.turn);
     }

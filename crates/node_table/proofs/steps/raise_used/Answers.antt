@@ -16,9 +16,12 @@ store_as-requires-clause-may c =
       is_spot = r.turn.there;
       there =
           c.used-place.ensures
-          ∙ ap (λ (q : Layout). place q (Used c.args.level c.args.bucket)) (c.table.invariant.1 ∙ ap (λ (t : TableSeen). t.plan) c.table.view_is);
+          ∙ ap (λ (q : Layout). place q (Used c.args.level c.args.bucket))
+          (c.table.invariant.1 ∙ ap (λ (t : TableSeen). t.plan) c.table.view_is);
       may = λ seat. rest_step p seat v (Used c.args.level c.args.bucket) (λ (k : ℕ). c.args.more)
-          (λ (k : ℕ) (w : SeatView). w ≡ knowing v (Used c.args.level c.args.bucket) c.args.more) (raises_used p seat v (bucket_named c.args.level c.args.bucket) c.args.used c.args.more r.turn.turn r.known r.more);
+          (λ (k : ℕ) (w : SeatView). w ≡ knowing v (Used c.args.level c.args.bucket) c.args.more)
+          (raises_used p seat v
+          (bucket_named c.args.level c.args.bucket) c.args.used c.args.more r.turn.turn r.known r.more);
     }
 
 pub store_as-requires-clause-behind : goal.store_as-requires-clause-behind

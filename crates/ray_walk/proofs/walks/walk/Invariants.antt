@@ -11,7 +11,9 @@ invariant-loop-clear g l =
     record {
       at : IsCourseIn l.course l.instant l.cell;
       in_world : IsInWorld (block_side l.fn.level) l.cell;
-      before : (t : Tree) → IsBlockOf (seen l.fn.store).held l.fn.level l.fn.block t → CourseClearBefore l.course (block_side l.fn.level) (cells_of l.fn.level (shape_of t)) l.instant;
+      before : (t : Tree) → IsBlockOf (seen l.fn.store).held l.fn.level l.fn.block t
+          → CourseClearBefore l.course (block_side l.fn.level)
+          (cells_of l.fn.level (shape_of t)) l.instant;
       near : l.instant < 2 ^ 45;
       same : seen l.store ≡ seen l.fn.store;
       rests : g.B.Blocks.rests l.fn.store l.store;

@@ -10,6 +10,7 @@ pub returns : goal.returns
 returns c = record {
   roots = sound_roots;
   numbers = numbers_told;
-  one_number = λ models log level a b. one_number (world_block log.side) (λ v. store_has models log v) (IsKept log) level a b;
+  one_number = λ models log level a b. one_number (world_block log.side)
+      (λ v. store_has models log v) (IsKept log) level a b;
   one_report = one_report;
 }

@@ -5,4 +5,5 @@ use Rattle.reporting.specs.Reports.{row_line}
 use Rattle.reporting.proofs.texts.put_rows.Given as goal
 
 abbrev pub invariant-loop-row : goal.invariant-loop-row
-invariant-loop-row l = string_bytes l.text ≡ string_bytes l.initial.text ++ flat_map row_line (take l.row-index l.rows)
+invariant-loop-row l =
+    string_bytes l.text ≡ string_bytes l.initial.text ++ flat_map row_line (take l.row-index l.rows)

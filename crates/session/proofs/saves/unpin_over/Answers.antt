@@ -13,14 +13,16 @@ give_root-requires-clause-held g c =
 
 pub give_root-requires-clause-room : goal.give_root-requires-clause-room
 give_root-requires-clause-room g c =
-    let few = few_held c.args.world.now.table (session_seen c.loop-pin.s.view) c.loop-pin.s.view.held
+    let few =
+    few_held c.args.world.now.table (session_seen c.loop-pin.s.view) c.loop-pin.s.view.held
     c.loop-pin.saves.items c.loop-pin.invariant.holds in
     let all = c.loop-pin.invariant.few in
     omega arith
 
 pub loop-pin-preserved : goal.loop-pin-preserved
 loop-pin-preserved g c =
-    let last = last_gone c.args.world.now.table (session_seen c.loop-pin.s.view) c.loop-pin.s.view.held
+    let last =
+    last_gone c.args.world.now.table (session_seen c.loop-pin.s.view) c.loop-pin.s.view.held
     c.pop.new.self.items c.loop-pin.saves.items c.in-Some.pin c.loop-pin.invariant.holds
     c.in-Some.ensures.items c.in-Some.pin.root c.give_root.new.s.view.held refl
     c.give_root.ensures.gone in
@@ -29,7 +31,8 @@ loop-pin-preserved g c =
       same = passes_on c.args.s.now c.loop-pin.s c.give_root.new.s c.loop-pin.invariant.same
           c.give_root.ensures.same;
       seen = c.give_root.ensures.seen ∙ c.loop-pin.invariant.seen;
-      holds = subst (λ (z : SessionSeen). HoldsSaves c.args.world.now.table z c.give_root.new.s.view.held
+      holds = subst
+          (λ (z : SessionSeen). HoldsSaves c.args.world.now.table z c.give_root.new.s.view.held
           c.pop.new.self.items) (sym c.give_root.ensures.seen) last;
       few = (let long = ap length c.in-Some.ensures.items in
           let both = length-append c.pop.new.self.items (c.in-Some.pin ∷ []) in

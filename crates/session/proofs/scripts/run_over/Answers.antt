@@ -15,15 +15,19 @@ returns-clause-rest g c =
 
 pub returns-clause-same : goal.returns-clause-same
 returns-clause-same g c =
-    script_same c.args.s.now c.run_lines.new.desk.session.now _ (search rules) c.run_lines.ensures.rests.same
+    script_same c.args.s.now c.run_lines.new.desk.session.now _
+    (search rules) c.run_lines.ensures.rests.same
 
 pub returns-clause-ran : goal.returns-clause-ran
 returns-clause-ran g c =
     script_ran c.args.world.now c.number-number.result c.args.script.now c.as_slice.result.now c.args.answers.now.items c.run_lines.new.answers.items c.args.s.now (session_seen c.run_lines.new.desk.session.now.view) _
-    c.args.saves.now.items c.run_lines.new.desk.saves.now.items _ (search rules) c.requires.none (search rules) (search rules) c.number-number.ensures c.run_lines.ensures.ran
+    c.args.saves.now.items c.run_lines.new.desk.saves.now.items _ (search rules) c.requires.none
+    (search rules) (search rules) c.number-number.ensures c.run_lines.ensures.ran
 
 pub returns-clause-holds : goal.returns-clause-holds
 returns-clause-holds g c =
-    script_holds c.args.world.now.table c.run_lines.new.desk.world.now.table (session_seen c.run_lines.new.desk.session.now.view) _ c.run_lines.new.desk.session.now.view.held _ c.run_lines.new.desk.saves.now.items _
-    (ap (λ (w : WorldSeen). w.table) c.run_lines.ensures.rests.world) (search rules) (search rules) (search rules)
+    script_holds c.args.world.now.table c.run_lines.new.desk.world.now.table
+    (session_seen c.run_lines.new.desk.session.now.view) _ c.run_lines.new.desk.session.now.view.held _ c.run_lines.new.desk.saves.now.items _
+    (ap (λ (w : WorldSeen). w.table) c.run_lines.ensures.rests.world) (search rules) (search rules)
+    (search rules)
     c.run_lines.ensures.stands.holds

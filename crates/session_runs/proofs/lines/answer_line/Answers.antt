@@ -10,7 +10,8 @@ returns-then-is_edit-clause-takes g c =
     let of = g.C.SessionCalls.of c.args.calls.now in
     let old = g.C.SessionCalls.seen c.args.calls.now in
     let new = g.C.SessionCalls.seen c.act_once-answer.new.self in
-    tried_is of old new c.args.l c.in-Edit.act c.in-Edit.once _ _ c.in-Edit.is (search rules) c.once_line.ensures
+    tried_is of old new c.args.l c.in-Edit.act c.in-Edit.once _ _ c.in-Edit.is
+    (search rules) c.once_line.ensures
     (once_takes of old new c.act_once-answer.ensures.knows c.args.l.line c.in-Edit.act c.act_once-answer.result c.requires.earlier c.act_once-answer.ensures.told)
 
 pub returns-else-once-clause-takes : goal.returns-else-once-clause-takes
@@ -47,7 +48,8 @@ returns-in-Save-clause-takes g c =
     let new = g.C.SessionCalls.seen c.save-answer.new.self in
     line_is of old new c.args.l _ _ _ c.in-Save.is c.save_line.ensures
     (save_takes of old new c.save-answer.ensures.knows c.args.l.line c.in-Save.version c.in-Save.name c.in-Save.part c.save-answer.result
-    (subst (λ (command : Command). CommandFits of.tint (2 ^ of.plan.side) of.models command) c.in-Save.is c.requires.fits)
+    (subst (λ (command : Command). CommandFits of.tint
+    (2 ^ of.plan.side) of.models command) c.in-Save.is c.requires.fits)
     c.requires.earlier c.save-answer.ensures.told)
 
 pub returns-in-Same-clause-takes : goal.returns-in-Same-clause-takes

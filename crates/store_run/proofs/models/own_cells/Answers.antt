@@ -2,7 +2,8 @@ use Rattle.store_run.proofs.OwnModels.{first_model, other_models, drawn_more}
 use Rattle.store_run.proofs.models.own_cells.Goals as goal
 
 pub new-requires : goal.new-requires
-new-requires c = first_model c.in-Some.model _ _ c.in-Some.ensures.items c.loop-model.invariant.models
+new-requires c =
+    first_model c.in-Some.model _ _ c.in-Some.ensures.items c.loop-model.invariant.models
 
 pub loop-model-preserved : goal.loop-model-preserved
 loop-model-preserved c = record {

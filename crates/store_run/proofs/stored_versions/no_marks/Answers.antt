@@ -4,13 +4,16 @@ use Rattle.history_model.specs.declared.histories.Mark.{Mark}
 use Rattle.store_run.proofs.stored_versions.no_marks.Goals as goal
 
 -- a copy of no mark is no mark
-only_none : (R : Option Mark → Type 0) → ((n : Mark) → R (Some n) → ⊥) → (o : Option Mark) → R o → o ≡ None
+only_none : (R : Option Mark → Type 0) → ((n : Mark) → R (Some n) → ⊥) → (o : Option Mark) → R o
+    → o ≡ None
 only_none R never None r = refl
 only_none R never (Some n) r = absurd (never n r)
 
-if_ok : {A E : Type 0} {P Q : A → Type 0} (r : Result A E) → ((a : A) → P a → Q a) → IfOk r P → IfOk r Q
+if_ok : {A E : Type 0} {P Q : A → Type 0} (r : Result A E) → ((a : A) → P a → Q a) → IfOk r P
+    → IfOk r Q
 if_ok (Ok a) h p = h a p
 if_ok (Err e) h p = tt
 
 pub returns : goal.returns
-returns c = if_ok c.vec.result (λ v f. f (only_none _ (λ n h. h))) c.vec.ensures.items_if_clones_equal
+returns c =
+    if_ok c.vec.result (λ v f. f (only_none _ (λ n h. h))) c.vec.ensures.items_if_clones_equal

@@ -13,7 +13,9 @@ pub returns-in-Ok-clause-ok : goal.returns-in-Ok-clause-ok
 returns-in-Ok-clause-ok g c = rebuilt_two _ _ c.args.side _ _ _ c.requires.only c.in-Ok.ensures.ok
 
 pub returns-in-Ok-clause-plan : goal.returns-in-Ok-clause-plan
-returns-in-Ok-clause-plan g c = let (before, w) = root_shown _ c.args.side _ (only_root _ c.args.side _ c.requires.only) in (c.in-Ok.ensures.grows before w).plan
+returns-in-Ok-clause-plan g c =
+    let (before, w) = root_shown _ c.args.side _ (only_root _ c.args.side _ c.requires.only) in
+    (c.in-Ok.ensures.grows before w).plan
 
 pub returns-in-Err-clause-refused : goal.returns-in-Err-clause-refused
 returns-in-Err-clause-refused g c =
@@ -21,4 +23,6 @@ returns-in-Err-clause-refused g c =
     same_only _ _ _ _ (c.in-Err.ensures.full before w).held c.requires.only
 
 pub returns-in-Err-clause-plan : goal.returns-in-Err-clause-plan
-returns-in-Err-clause-plan g c = let (before, w) = root_shown _ c.args.side _ (only_root _ c.args.side _ c.requires.only) in (c.in-Err.ensures.full before w).plan
+returns-in-Err-clause-plan g c =
+    let (before, w) = root_shown _ c.args.side _ (only_root _ c.args.side _ c.requires.only) in
+    (c.in-Err.ensures.full before w).plan

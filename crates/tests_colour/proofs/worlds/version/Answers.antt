@@ -15,7 +15,8 @@ rebuild_tint-requires-clause-room g c = omega (arith, only_number _ _ _ c.requir
 pub returns-in-Ok-clause-ok : goal.returns-in-Ok-clause-ok
 returns-in-Ok-clause-ok g c =
     rebuilt_two _ _ c.args.side _ _
-    (after_parts (parts_in (2 ^ (c.args.side - 2)) c.args.act.now (option_copied c.args.stencil)) (part_number c.args.act.now))
+    (after_parts (parts_in (2 ^ (c.args.side - 2)) c.args.act.now (option_copied c.args.stencil))
+    (part_number c.args.act.now))
     c.requires.only c.in-Ok.ensures.made.came
 
 pub returns-in-Ok-clause-plan : goal.returns-in-Ok-clause-plan

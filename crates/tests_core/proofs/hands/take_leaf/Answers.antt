@@ -6,5 +6,6 @@ use Rattle.tests_core.proofs.hands.take_leaf.Goals as goal
 
 pub returns-in-Ok-clause-hand : goal.returns-in-Ok-clause-hand
 returns-in-Ok-clause-hand g c =
-    subst (λ (n : Name). HoldsLeaves c.leaf.new.self.told.held (Some n) c.args.second) (sym c.spend.ensures)
+    subst (λ (n : Name). HoldsLeaves c.leaf.new.self.told.held (Some n) c.args.second)
+    (sym c.spend.ensures)
     (first_taken _ _ c.in-Ok.share c.args.bits _ c.requires.hand c.in-Ok.ensures.level c.in-Ok.ensures.held)

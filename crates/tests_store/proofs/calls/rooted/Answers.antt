@@ -7,4 +7,5 @@ use Rattle.tests_store.proofs.calls.rooted.Goals as goal
 
 pub keep_root-requires-clause-held : goal.keep_root-requires-clause-held
 keep_root-requires-clause-held g c x e =
-    subst (λ (n : Name). HoldsName c.leaf.new.self.told.held n) (same_Some c.in-Ok.share x e) (gains_holds _ _ _ c.in-Ok.share c.in-Ok.ensures.held refl)
+    subst (λ (n : Name). HoldsName c.leaf.new.self.told.held n) (same_Some c.in-Ok.share x e)
+    (gains_holds _ _ _ c.in-Ok.share c.in-Ok.ensures.held refl)

@@ -6,5 +6,7 @@ use Rattle.tests_store.proofs.under.read_under.Goals as goal
 pub returns-clause-bits : goal.returns-clause-bits
 returns-clause-bits g c t h e =
     let s = ap (λ b. (g.N.Blocks.seen b).held) (sym c.of-under.ensures.store.1) in
-    let r = subst (λ held. IsReached held t) s (held_reached (g.N.Blocks.seen c.args.store.now).held t h) in
+    let r =
+    subst (λ held. IsReached held t) s
+    (held_reached (g.N.Blocks.seen c.args.store.now).held t h) in
     c.bits.ensures.bits t r (e ∙ ap Some (sym c.of-under.ensures.name))

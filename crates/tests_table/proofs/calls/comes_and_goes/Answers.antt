@@ -6,7 +6,13 @@ give-freed-requires-clause-held g c =
     came_held c.args.pass.now.view c.leaf.new.pass.view c.in-Ok.share c.args.bits c.in-Ok.ensures.taken
 
 pub returns-then-slot-at-clause-held : goal.returns-then-slot-at-clause-held
-returns-then-slot-at-clause-held g c = kept_and_given (c.args.pass.now.view) (c.leaf.new.pass.view) (c.leaf.new.pass.view) (c.give-freed.new.pass.view) c.in-Ok.share c.args.bits c.in-Ok.ensures.taken (same_itself _) c.give-freed.ensures.given
+returns-then-slot-at-clause-held g c =
+    kept_and_given (c.args.pass.now.view) (c.leaf.new.pass.view) (c.leaf.new.pass.view)
+    (c.give-freed.new.pass.view) c.in-Ok.share c.args.bits c.in-Ok.ensures.taken
+    (same_itself _) c.give-freed.ensures.given
 
 pub returns-else-slot-at-clause-held : goal.returns-else-slot-at-clause-held
-returns-else-slot-at-clause-held g c = kept_and_given (c.args.pass.now.view) (c.leaf.new.pass.view) (c.leaf.new.pass.view) (c.give-freed.new.pass.view) c.in-Ok.share c.args.bits c.in-Ok.ensures.taken (same_itself _) c.give-freed.ensures.given
+returns-else-slot-at-clause-held g c =
+    kept_and_given (c.args.pass.now.view) (c.leaf.new.pass.view) (c.leaf.new.pass.view)
+    (c.give-freed.new.pass.view) c.in-Ok.share c.args.bits c.in-Ok.ensures.taken
+    (same_itself _) c.give-freed.ensures.given

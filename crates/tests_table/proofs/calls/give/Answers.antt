@@ -9,7 +9,8 @@ use Rattle.tests_table.proofs.calls.give.Goals as goal
 
 pub turn-turn-requires-clause-there : goal.turn-turn-requires-clause-there
 turn-turn-requires-clause-there g c =
-    subst (λ (n : Name). IsSpot c.args.table.now.plan (Turn n.level n.bucket)) (sym c.name-n.ensures)
+    subst (λ (n : Name). IsSpot c.args.table.now.plan (Turn n.level n.bucket))
+    (sym c.name-n.ensures)
     (held_bucket c.args.table.now c.args.pass.now c.args.share c.requires.of c.tell.ensures
     c.requires.held)
 

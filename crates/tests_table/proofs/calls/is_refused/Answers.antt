@@ -6,4 +6,7 @@ give-freed-requires-clause-held g c =
     came_held c.args.pass.now.view c.leaf.new.pass.view c.in-Ok.share c.args.bits c.in-Ok.ensures.taken
 
 pub returns-in-Ok-clause-held : goal.returns-in-Ok-clause-held
-returns-in-Ok-clause-held g c = kept_and_given (c.args.pass.now.view) (c.leaf.new.pass.view) (c.leaf.new.pass.view) (c.give-freed.new.pass.view) c.in-Ok.share c.args.bits c.in-Ok.ensures.taken (same_itself _) c.give-freed.ensures.given
+returns-in-Ok-clause-held g c =
+    kept_and_given (c.args.pass.now.view) (c.leaf.new.pass.view) (c.leaf.new.pass.view)
+    (c.give-freed.new.pass.view) c.in-Ok.share c.args.bits c.in-Ok.ensures.taken
+    (same_itself _) c.give-freed.ensures.given

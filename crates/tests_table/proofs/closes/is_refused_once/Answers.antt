@@ -17,7 +17,8 @@ closes_later-closed-requires-clause-passes c =
     c.in-Err-Count.field-0-is c.in-Err-Count.ensures.refused in
     back_spare c.args.table c.in-Err-Count.table c.pop.new.self.items c.in-Err-Count.passes.items
     (all_front (IsSpare c.args.table) c.pop.new.self.items c.in-Some.kept
-    (subst (λ (l : List PassSeen). All (IsSpare c.args.table) l) c.in-Some.ensures.items c.requires))
+    (subst (λ (l : List PassSeen). All
+    (IsSpare c.args.table) l) c.in-Some.ensures.items c.requires))
     r.2 r.3
 
 pub closes_later-closed-requires-clause-kept : goal.closes_later-closed-requires-clause-kept
@@ -26,7 +27,8 @@ closes_later-closed-requires-clause-kept c =
     c.in-Err-Count.field-0-is c.in-Err-Count.ensures.refused in
     subst (λ (t : TableSeen). IsSpare t c.in-Some.kept) (sym r.2)
     (all_end (IsSpare c.args.table) c.pop.new.self.items c.in-Some.kept
-    (subst (λ (l : List PassSeen). All (IsSpare c.args.table) l) c.in-Some.ensures.items c.requires))
+    (subst (λ (l : List PassSeen). All
+    (IsSpare c.args.table) l) c.in-Some.ensures.items c.requires))
 
 pub ended-requires-in-Err-Memory : goal.ended-requires-in-Err-Memory
 ended-requires-in-Err-Memory c =
@@ -34,23 +36,27 @@ ended-requires-in-Err-Memory c =
     c.in-Err-Memory.field-0-is c.in-Err-Memory.ensures.refused in
     back_spare c.args.table c.in-Err-Memory.table c.pop.new.self.items c.in-Err-Memory.passes.items
     (all_front (IsSpare c.args.table) c.pop.new.self.items c.in-Some.kept
-    (subst (λ (l : List PassSeen). All (IsSpare c.args.table) l) c.in-Some.ensures.items c.requires))
+    (subst (λ (l : List PassSeen). All
+    (IsSpare c.args.table) l) c.in-Some.ensures.items c.requires))
     r.1 r.2
 
 pub end-requires-in-Ok-clause-held : goal.end-requires-in-Ok-clause-held
 end-requires-in-Ok-clause-held c =
     let s = all_end (IsSpare c.args.table) c.pop.new.self.items c.in-Some.kept
-    (subst (λ (l : List PassSeen). All (IsSpare c.args.table) l) c.in-Some.ensures.items c.requires) in
+    (subst (λ (l : List PassSeen). All
+    (IsSpare c.args.table) l) c.in-Some.ensures.items c.requires) in
     s.held
 
 pub end-requires-in-Ok-clause-turn : goal.end-requires-in-Ok-clause-turn
 end-requires-in-Ok-clause-turn c =
     let s = all_end (IsSpare c.args.table) c.pop.new.self.items c.in-Some.kept
-    (subst (λ (l : List PassSeen). All (IsSpare c.args.table) l) c.in-Some.ensures.items c.requires) in
+    (subst (λ (l : List PassSeen). All
+    (IsSpare c.args.table) l) c.in-Some.ensures.items c.requires) in
     s.turn
 
 pub end-requires-in-Ok-clause-log_turn : goal.end-requires-in-Ok-clause-log_turn
 end-requires-in-Ok-clause-log_turn c =
     let s = all_end (IsSpare c.args.table) c.pop.new.self.items c.in-Some.kept
-    (subst (λ (l : List PassSeen). All (IsSpare c.args.table) l) c.in-Some.ensures.items c.requires) in
+    (subst (λ (l : List PassSeen). All
+    (IsSpare c.args.table) l) c.in-Some.ensures.items c.requires) in
     s.log_turn

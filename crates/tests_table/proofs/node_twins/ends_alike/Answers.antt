@@ -10,5 +10,6 @@ nest-alike-requires-clause-first_room g c =
 
 pub nest-alike-requires-clause-second_room : goal.nest-alike-requires-clause-second_room
 nest-alike-requires-clause-second_room g c =
-    let none = ap (λ (s : PassSeen). s.view.held) c.new-b.ensures.session ∙ c.requires.second.held in
+    let none =
+    ap (λ (s : PassSeen). s.view.held) c.new-b.ensures.session ∙ c.requires.second.held in
     let few = none_held _ none in omega arith

@@ -12,6 +12,7 @@ returns g c = record {
   of = c.make_often.ensures.of;
   turn = c.make_often.ensures.idle;
   log_turn = ap (λ (l : LogView). l.turn) c.make_often.ensures.log ∙ c.requires.spare.log_turn;
-  held = nothing_held _ (subst (λ ts. SameHeld ts c.make_often.new.pass.view.held) c.requires.spare.held
+  held = nothing_held _
+      (subst (λ ts. SameHeld ts c.make_often.new.pass.view.held) c.requires.spare.held
       c.make_often.ensures.held);
 }

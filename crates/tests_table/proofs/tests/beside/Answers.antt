@@ -9,7 +9,15 @@ give-freed-requires-clause-held g c =
     (came_held c.args.pass.now.view c.leaf.new.pass.view c.in-Ok.share 2 c.in-Ok.ensures.taken)
 
 pub returns-then-refused-clause-held : goal.returns-then-refused-clause-held
-returns-then-refused-clause-held g c = kept_and_given (c.args.pass.now.view) (c.leaf.new.pass.view) (c.is_refused-refused.new.pass.view) (c.give-freed.new.pass.view) c.in-Ok.share 2 c.in-Ok.ensures.taken (same_on _ _ _ c.comes_and_goes-shared.ensures.held c.is_refused-refused.ensures.held) c.give-freed.ensures.given
+returns-then-refused-clause-held g c =
+    kept_and_given (c.args.pass.now.view) (c.leaf.new.pass.view)
+    (c.is_refused-refused.new.pass.view)
+    (c.give-freed.new.pass.view) c.in-Ok.share 2 c.in-Ok.ensures.taken
+    (same_on _ _ _ c.comes_and_goes-shared.ensures.held c.is_refused-refused.ensures.held) c.give-freed.ensures.given
 
 pub returns-else-refused-clause-held : goal.returns-else-refused-clause-held
-returns-else-refused-clause-held g c = kept_and_given (c.args.pass.now.view) (c.leaf.new.pass.view) (c.is_refused-refused.new.pass.view) (c.give-freed.new.pass.view) c.in-Ok.share 2 c.in-Ok.ensures.taken (same_on _ _ _ c.comes_and_goes-shared.ensures.held c.is_refused-refused.ensures.held) c.give-freed.ensures.given
+returns-else-refused-clause-held g c =
+    kept_and_given (c.args.pass.now.view) (c.leaf.new.pass.view)
+    (c.is_refused-refused.new.pass.view)
+    (c.give-freed.new.pass.view) c.in-Ok.share 2 c.in-Ok.ensures.taken
+    (same_on _ _ _ c.comes_and_goes-shared.ensures.held c.is_refused-refused.ensures.held) c.give-freed.ensures.given

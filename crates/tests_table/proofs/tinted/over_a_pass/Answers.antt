@@ -5,4 +5,5 @@ use Rattle.tests_table.proofs.tinted.over_a_pass.Goals as goal
 
 pub tint_after_both-tint-requires-clause-room : goal.tint_after_both-tint-requires-clause-room
 tint_after_both-tint-requires-clause-room g c =
-    few_held _ (ap (λ (s : PassSeen). s.view.held) c.new-hand.ensures.session ∙ c.requires.spare.held)
+    few_held _ (ap (λ (s : PassSeen). s.view.held) c.new-hand.ensures.session
+    ∙ c.requires.spare.held)

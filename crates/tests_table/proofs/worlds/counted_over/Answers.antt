@@ -5,4 +5,5 @@ use Rattle.tests_table.proofs.worlds.counted_over.Goals as goal
 
 pub counted-number-requires-clause-room : goal.counted-number-requires-clause-room
 counted-number-requires-clause-room g c =
-    few_held _ (ap (λ (s : PassSeen). s.view.held) c.new-hand.ensures.session ∙ c.requires.spare.held)
+    few_held _ (ap (λ (s : PassSeen). s.view.held) c.new-hand.ensures.session
+    ∙ c.requires.spare.held)

@@ -14,15 +14,20 @@ returns-in_default-clause-refused c =
 
 pub returns-in-Err-clause-refused : goal.returns-in-Err-clause-refused
 returns-in-Err-clause-refused c =
-    line_unfit (lines c.args.bytes.now) (lines c.loop-line.rest.now) c.in-Some.line.now c.in-Some.after.now c.loop-line.answers.items c.in-Err.field-0 c.loop-line.number c.loop-line.invariant.read c.in-Some.ensures.lines c.in-Err.ensures
+    line_unfit (lines c.args.bytes.now)
+    (lines c.loop-line.rest.now) c.in-Some.line.now c.in-Some.after.now c.loop-line.answers.items c.in-Err.field-0 c.loop-line.number c.loop-line.invariant.read c.in-Some.ensures.lines c.in-Err.ensures
     c.loop-line.invariant.number
 
 pub loop-line-preserved : goal.loop-line-preserved
 loop-line-preserved c =
-    let more : length c.push.new.self.items ≡ length c.loop-line.answers.items + 1 = ap length c.in_ok-push-in-Ok.ensures.items ∙ length_push c.loop-line.answers.items c.in-Ok.answer in
+    let more : length c.push.new.self.items ≡ length c.loop-line.answers.items + 1 =
+    ap length c.in_ok-push-in-Ok.ensures.items
+    ∙ length_push c.loop-line.answers.items c.in-Ok.answer in
     record {
-      read = one_more (lines c.args.bytes.now) (lines c.loop-line.rest.now) c.in-Some.line.now c.in-Some.after.now c.loop-line.answers.items c.push.new.self.items c.in-Ok.answer c.loop-line.invariant.read c.in-Some.ensures.lines c.in-Ok.ensures
+      read = one_more (lines c.args.bytes.now)
+          (lines c.loop-line.rest.now) c.in-Some.line.now c.in-Some.after.now c.loop-line.answers.items c.push.new.self.items c.in-Ok.answer c.loop-line.invariant.read c.in-Some.ensures.lines c.in-Ok.ensures
           c.in_ok-push-in-Ok.ensures.items;
       number = (let n = c.loop-line.invariant.number in omega (arith, n, more));
-      small = (let s = c.loop-line.invariant.small in let less = c.in-Some.ensures.shorter in omega (arith, s, less));
+      small = (let s = c.loop-line.invariant.small in let less = c.in-Some.ensures.shorter in omega
+          (arith, s, less));
     }

@@ -8,7 +8,8 @@ returns-then-not-stands_in-clause-refused c =
 
 pub loop-rest-preserved : goal.loop-rest-preserved
 loop-rest-preserved c =
-    rw (c.in_ok-push.ensures.items) (read_more c.args.size c.loop-rest.voxels.items c.loop-rest.rest.now c.split_at.result.0.now c.split_at.result.1.now c.args.bytes.now c.voxel_of-voxel.result c.loop-rest.invariant (omega arith) c.split_at.ensures.front c.split_at.ensures.back c.voxel_of-voxel.ensures (sym c.stands_in.ensures ∙ c.if-not-stands_in.false))
+    rw (c.in_ok-push.ensures.items)
+    (read_more c.args.size c.loop-rest.voxels.items c.loop-rest.rest.now c.split_at.result.0.now c.split_at.result.1.now c.args.bytes.now c.voxel_of-voxel.result c.loop-rest.invariant (omega arith) c.split_at.ensures.front c.split_at.ensures.back c.voxel_of-voxel.ensures (sym c.stands_in.ensures ∙ c.if-not-stands_in.false))
 
 pub returns-clause-read : goal.returns-clause-read
 returns-clause-read c = read_all _ _ c.loop-rest.rest.now _ c.loop-rest.invariant (omega arith)

@@ -3,7 +3,9 @@ use Rattle.vox_read.proofs.Sound.{models_of_file}
 use Rattle.vox_read.proofs.reading.read_models.Goals as goal
 
 pub loop-next-init : goal.loop-next-init
-loop-next-init c = rw (c.new-list.ensures.items) (come_none c.args.bytes.now c.in_ok-chunks.chunks c.in_ok-chunks.ensures.0 c.in_ok-chunks.ensures.1)
+loop-next-init c =
+    rw (c.new-list.ensures.items)
+    (come_none c.args.bytes.now c.in_ok-chunks.chunks c.in_ok-chunks.ensures.0 c.in_ok-chunks.ensures.1)
 
 pub loop-next-preserved : goal.loop-next-preserved
 loop-next-preserved c =
@@ -11,7 +13,9 @@ loop-next-preserved c =
     c.in_ok-waiting-in-Ok.ensures.fine c.in_ok-waiting-in-Ok.ensures.waits c.in_ok-waiting-in-Ok.ensures.models
 
 pub returns-clause-read : goal.returns-clause-read
-returns-clause-read c = come_all c.args.bytes.now c.loop-next.chunks c.next.new.self c.loop-next.waiting c.loop-next.list.items c.loop-next.invariant c.in_default.ensures
+returns-clause-read c =
+    come_all c.args.bytes.now c.loop-next.chunks c.next.new.self c.loop-next.waiting c.loop-next.list.items c.loop-next.invariant c.in_default.ensures
 
 pub returns-clause-models : goal.returns-clause-models
-returns-clause-models c = models_of_file c.args.bytes.now c.loop-next.list.items (returns-clause-read c)
+returns-clause-models c =
+    models_of_file c.args.bytes.now c.loop-next.list.items (returns-clause-read c)

@@ -52,7 +52,9 @@ visit-returns-in-Moves t c = λ list finds.
     c.in-Moves.child c.in-Moves.turning c.in-Moves.shift c.of_child-inner.result c.in-Moves.is
     (c.of_child-inner.ensures.value
     ∙ ap (λ r. posed c.args.pose.now r c.vector_or-vector.result) c.turning_or-turning.ensures
-    ∙ ap (λ v. posed c.args.pose.now (turning_or c.in-Moves.turning) v) c.vector_or-vector.ensures.value))
+    ∙ ap
+    (λ v. posed c.args.pose.now
+    (turning_or c.in-Moves.turning) v) c.vector_or-vector.ensures.value))
     (c.visit.ensures list finds)
 
 pub visit-returns-in-Groups : goal.visit-returns-in-Groups
@@ -76,8 +78,10 @@ visit_all-returns-in-Err t c = λ list finds.
     walks_along _ _ (Err c.in-Err.fault) c.visit.new.walk (c.loop-rest.invariant list finds)
     (child_refused c.args.models c.loop-rest.walk c.visit.new.walk
     (visits list c.args.room c.args.pose.now) c.loop-rest.rest.now c.split_at.result.0.now
-    c.split_at.result.1.now c.in-Err.fault (grind (arith, common_steps)) c.split_at.ensures.front_len
-    (subst (λ (x : ℕ). AnswersWalk (walked c.args.models c.loop-rest.walk (visits list c.args.room c.args.pose.now x))
+    c.split_at.result.1.now c.in-Err.fault
+    (grind (arith, common_steps)) c.split_at.ensures.front_len
+    (subst (λ (x : ℕ). AnswersWalk
+    (walked c.args.models c.loop-rest.walk (visits list c.args.room c.args.pose.now x))
     (Err c.in-Err.fault) c.visit.new.walk) c.number.ensures (c.in-Err.ensures list finds)))
 
 pub visit_all-loop-rest-preserved : goal.visit_all-loop-rest-preserved

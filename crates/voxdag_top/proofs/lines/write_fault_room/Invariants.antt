@@ -5,7 +5,8 @@ use Rattle.voxdag_top.proofs.lines.write_fault_room.Given as goal
 
 abbrev pub invariant-loop-transcript : goal.invariant-loop-transcript
 invariant-loop-transcript l = record {
-  transcripts : All (λ name. length name ≤ l.longest) (map string_bytes (take l.transcript-index l.transcripts));
+  transcripts : All (λ name. length name ≤ l.longest)
+      (map string_bytes (take l.transcript-index l.transcripts));
   journal : IfSome l.order.journal (λ name. length name ≤ l.longest);
   report : IfSome l.order.report (λ name. length name ≤ l.longest);
   saved : 64 ≤ l.longest;

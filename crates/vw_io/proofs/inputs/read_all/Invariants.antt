@@ -5,7 +5,8 @@ use Rattle.vw_io.proofs.inputs.read_all.Given as goal
 
 abbrev pub invariant-loop-input : goal.invariant-loop-input
 invariant-loop-input g l = record {
-  taken : AreTaken (g.S.Shelf.state l.initial.shelf).files (take l.input-index l.inputs) l.texts.items;
+  taken : AreTaken (g.S.Shelf.state l.initial.shelf).files
+      (take l.input-index l.inputs) l.texts.items;
   unchanged : (g.S.Shelf.state l.shelf).files ≡ (g.S.Shelf.state l.initial.shelf).files;
   calm : (g.S.Shelf.state l.shelf).faults ≡ (g.S.Shelf.state l.initial.shelf).faults;
 }

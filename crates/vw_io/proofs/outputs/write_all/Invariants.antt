@@ -5,6 +5,7 @@ use Rattle.vw_io.proofs.outputs.write_all.Given as goal
 
 abbrev pub invariant-loop-output : goal.invariant-loop-output
 invariant-loop-output g l = record {
-  whole : AreWritten (take l.output-index l.outputs) (g.S.Shelf.state l.initial.shelf).files (g.S.Shelf.state l.shelf).files;
+  whole : AreWritten (take l.output-index l.outputs) (g.S.Shelf.state l.initial.shelf).files
+      (g.S.Shelf.state l.shelf).files;
   calm : (g.S.Shelf.state l.shelf).faults ≡ (g.S.Shelf.state l.initial.shelf).faults;
 }

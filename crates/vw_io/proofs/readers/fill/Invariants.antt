@@ -7,5 +7,6 @@ abbrev pub invariant-pieces : goal.invariant-pieces
 invariant-pieces g l = record {
   held : l.filled ≤ vec_len l.into;
   within : l.filled ≤ l.limit;
-  bytes : Consumes (g.F.Read.remaining l.initial.from) (g.F.Read.remaining l.from) (take l.filled l.into.items);
+  bytes : Consumes (g.F.Read.remaining l.initial.from) (g.F.Read.remaining l.from)
+      (take l.filled l.into.items);
 }

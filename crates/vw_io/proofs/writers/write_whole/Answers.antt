@@ -7,6 +7,14 @@ pieces-preserved g c =
     let wrote = c.in-Ok.ensures in
     let before = c.pieces.invariant in
     record {
-      within = omega (arith, wrote.within, before.within, length-take (length c.args.bytes.now - c.pieces.done) (drop c.pieces.done c.args.bytes.now), length-drop c.pieces.done c.args.bytes.now);
+      within = omega (
+        arith,
+        wrote.within,
+        before.within,
+        length-take
+            (length c.args.bytes.now - c.pieces.done)
+            (drop c.pieces.done c.args.bytes.now),
+        length-drop c.pieces.done c.args.bytes.now,
+      );
       sent = piece_written _ _ _ c.args.bytes.now _ _ before.sent wrote.taken;
     }

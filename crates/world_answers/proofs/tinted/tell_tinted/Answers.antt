@@ -38,7 +38,8 @@ returns-in-Get-clause-tells g c =
     let fits = subst (QuestionFits (2 ^ c.args.side / 4)) c.in-Get.is c.requires.fits in
     subst (λ (q : Question). TellsTinted held c.args.side (option_copied c.args.root) q
     (answers.Is c.get.result)) (sym c.in-Get.is)
-    (get_tinted held c.args.side (option_copied c.args.root) c.requires.large c.in-Get.c c.get.result fits
+    (get_tinted held c.args.side
+    (option_copied c.args.root) c.requires.large c.in-Get.c c.get.result fits
     c.get.ensures.value)
 
 pub returns-in-Colour-clause-tells : goal.returns-in-Colour-clause-tells
@@ -47,7 +48,8 @@ returns-in-Colour-clause-tells g c =
     let fits = subst (QuestionFits (2 ^ c.args.side / 4)) c.in-Colour.is c.requires.fits in
     subst (λ (q : Question). TellsTinted held c.args.side (option_copied c.args.root) q
     (answers.Colour c.tint_at.result)) (sym c.in-Colour.is)
-    (colour_tinted held c.args.side (option_copied c.args.root) c.requires.large c.in-Colour.c c.tint_at.result fits
+    (colour_tinted held c.args.side
+    (option_copied c.args.root) c.requires.large c.in-Colour.c c.tint_at.result fits
     c.tint_at.ensures.value)
 
 pub returns-in-Count-clause-tells : goal.returns-in-Count-clause-tells
@@ -56,7 +58,8 @@ returns-in-Count-clause-tells g c =
     let fits = subst (QuestionFits (2 ^ c.args.side / 4)) c.in-Count.is c.requires.fits in
     subst (λ (q : Question). TellsTinted held c.args.side (option_copied c.args.root) q
     (answers.Count c.count.result)) (sym c.in-Count.is)
-    (count_tinted held c.args.side (option_copied c.args.root) c.requires.large c.in-Count.b c.count.result fits
+    (count_tinted held c.args.side
+    (option_copied c.args.root) c.requires.large c.in-Count.b c.count.result fits
     c.count.ensures.number)
 
 pub returns-in-Bounds-clause-tells : goal.returns-in-Bounds-clause-tells
@@ -64,7 +67,8 @@ returns-in-Bounds-clause-tells g c =
     let held = (g.B.Blocks.seen c.args.store.now).held in
     subst (λ (q : Question). TellsTinted held c.args.side (option_copied c.args.root) q
     (answers.Extent c.tint_bounds.result)) (sym c.in-Bounds.is)
-    (bounds_tinted held c.args.side (option_copied c.args.root) c.requires.large c.tint_bounds.result
+    (bounds_tinted held c.args.side
+    (option_copied c.args.root) c.requires.large c.tint_bounds.result
     c.tint_bounds.ensures.extent)
 
 pub returns-in-Faces-clause-tells : goal.returns-in-Faces-clause-tells
@@ -73,7 +77,8 @@ returns-in-Faces-clause-tells g c =
     let fits = subst (QuestionFits (2 ^ c.args.side / 4)) c.in-Faces.is c.requires.fits in
     subst (λ (q : Question). TellsTinted held c.args.side (option_copied c.args.root) q
     (answers.Faces c.faces.result)) (sym c.in-Faces.is)
-    (faces_tinted held c.args.side (option_copied c.args.root) c.requires.large c.in-Faces.b c.faces.result fits
+    (faces_tinted held c.args.side
+    (option_copied c.args.root) c.requires.large c.in-Faces.b c.faces.result fits
     c.faces.ensures.number)
 
 pub returns-in-Ray-clause-tells : goal.returns-in-Ray-clause-tells
@@ -81,5 +86,6 @@ returns-in-Ray-clause-tells g c =
     let held = (g.B.Blocks.seen c.args.store.now).held in
     subst (λ (q : Question). TellsTinted held c.args.side (option_copied c.args.root) q
     (answers.Hit c.tint_ray.result)) (sym c.in-Ray.is)
-    (ray_tinted held c.args.side (option_copied c.args.root) c.requires.large c.in-Ray.from c.in-Ray.way c.tint_ray.result
+    (ray_tinted held c.args.side
+    (option_copied c.args.root) c.requires.large c.in-Ray.from c.in-Ray.way c.tint_ray.result
     c.tint_ray.ensures.first)

@@ -27,7 +27,8 @@ loop-i-preserved g c =
     record {
       same = c.one_fits.ensures.same ∙ c.loop-i.invariant.same;
       so_far = sessions_more c.args.judged.now c.args.self.now.replay.models c.args.log.now c.loop-i.i
-          c.args.scripts.now c.args.transcripts.now s t c.loop-i.invariant.so_far (omega arith) c.requires.as_many
+          c.args.scripts.now c.args.transcripts.now s t c.loop-i.invariant.so_far
+          (omega arith) c.requires.as_many
           (agrees_as c.args.judged.now c.loop-i.self.replay.models c.args.self.now.replay.models c.args.log.now c.loop-i.i
           s (get_or c.args.scripts.now c.loop-i.i s) t (get_or c.args.transcripts.now c.loop-i.i t)
           models c.index-scripts-i.is c.index-transcripts-i.is (c.one_fits.ensures.fits.0 fits));

@@ -3,7 +3,9 @@ use Rattle.bit_set.specs.Bits.{number_set}
 use Rattle.bit_set.proofs.bits.BitSet.count.Given as goal
 
 abbrev pub invariant-loop-at : goal.invariant-loop-at
-invariant-loop-at l = (l.from ≤ l.at) × (l.at ≤ l.to) × (l.set ≡ number_set l.self l.from l.at) × (l.set ≤ l.at - l.from)
+invariant-loop-at l =
+    (l.from ≤ l.at) × (l.at ≤ l.to) × (l.set ≡ number_set l.self l.from l.at)
+    × (l.set ≤ l.at - l.from)
 
 abbrev pub decreases-loop-at : goal.decreases-loop-at
 decreases-loop-at l = l.to - l.at

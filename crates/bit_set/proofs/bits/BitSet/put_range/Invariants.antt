@@ -3,7 +3,9 @@ use Rattle.bit_set.specs.Bits.{PutsRange}
 use Rattle.bit_set.proofs.bits.BitSet.put_range.Given as goal
 
 abbrev pub invariant-loop-at : goal.invariant-loop-at
-invariant-loop-at l = (l.from ≤ l.at) × (l.at ≤ l.to) × PutsRange l.from l.at l.value l.fn.self l.self-inside.words.items
+invariant-loop-at l =
+    (l.from ≤ l.at) × (l.at ≤ l.to)
+    × PutsRange l.from l.at l.value l.fn.self l.self-inside.words.items
 
 abbrev pub decreases-loop-at : goal.decreases-loop-at
 decreases-loop-at l = l.to - l.at

@@ -22,7 +22,8 @@ returns-clause-task g c base cells keeps m =
     let child = sym (c.octant_name-old.ensures.octant m.tree
     (old_block base _ c.args.level m.tree _ keeps m.is_old)).root in
     subst (λ (b : Block). MakesInk c.octant_name-old.result c.args.self.now.stencil.now c.args.self.now.place.now b.at c.args.self.now.plane
-    (c.args.level - 1) base (c.args.level - 1) (octant_cells (c.args.level - 1) cells c.args.octant))
+    (c.args.level - 1) base (c.args.level - 1)
+    (octant_cells (c.args.level - 1) cells c.args.octant))
     (sym c.child-part.ensures)
     (ink_octant base c.args.level c.args.self.now.level c.args.self.now.old
     c.octant_name-old.result c.args.self.now.stencil.now c.args.self.now.place.now c.args.self.now.at c.args.self.now.plane cells c.args.octant

@@ -12,22 +12,32 @@ use Rattle.edit_copy.proofs.WindowLaws.{step_begins}
 use Rattle.edit_copy.proofs.copies.CopyTaskTask.octant.Goals as goal
 
 pub half_side-half-requires : goal.half_side-half-requires
-half_side-half-requires g c = let (base, cells, keeps, m) = c.requires.task in (c.requires.level, m.small)
+half_side-half-requires g c =
+    let (base, cells, keeps, m) = c.requires.task in (c.requires.level, m.small)
 
 pub kept_old-old-requires-clause-block : goal.kept_old-old-requires-clause-block
-kept_old-old-requires-clause-block g c = let (base, cells, keeps, m) = c.requires.task in old_has base _ _ _ _ keeps m.is_old
+kept_old-old-requires-clause-block g c =
+    let (base, cells, keeps, m) = c.requires.task in old_has base _ _ _ _ keeps m.is_old
 
 pub sources_in-sources-requires-clause-sources : goal.sources_in-sources-requires-clause-sources
 sources_in-sources-requires-clause-sources g c =
-    let (base, cells, keeps, m) = c.requires.task in
-    (m.row, subst (λ (s : Seen). AreBlocks s.held c.args.level c.args.self.now.sources m.row) (sym c.kept_old-old.ensures.seen) (record { each = λ i l. old_block base _ c.args.level (m.row i) _ keeps (m.sources.each i l) }))
+    let (base, cells, keeps, m) = c.requires.task in (
+      m.row,
+      subst (λ (s : Seen). AreBlocks s.held c.args.level c.args.self.now.sources m.row)
+          (sym c.kept_old-old.ensures.seen)
+          (record {
+            each = λ i l. old_block base _ c.args.level (m.row i) _ keeps
+                (m.sources.each i l);
+          }),
+    )
 
 pub sources_in-sources-requires-clause-at : goal.sources_in-sources-requires-clause-at
 sources_in-sources-requires-clause-at g c =
     let (base, cells, keeps, m) = c.requires.task in
     let up : c.args.level ≡ suc (c.args.level - 1) = omega (arith, c.requires.level) in
     let o = subst (λ (l : ℕ). IsOffset l c.args.self.now.offset) up m.offset in
-    subst (λ (at : Cell). IsBegin at) (sym c.step_to-step.ensures.at) (step_begins (c.args.level - 1) c.args.octant c.args.self.now.offset c.requires.octant o)
+    subst (λ (at : Cell). IsBegin at) (sym c.step_to-step.ensures.at)
+    (step_begins (c.args.level - 1) c.args.octant c.args.self.now.offset c.requires.octant o)
 
 pub returns-clause-task : goal.returns-clause-task
 returns-clause-task g c base cells keeps m =
@@ -35,18 +45,41 @@ returns-clause-task g c base cells keeps m =
     let below : ℕ = c.args.level - 1 in
     let sources = c.sources_in-sources.result in
     let held = (g.B.Blocks.seen c.kept_old-old.new.store).held in
-    let part = c.part_of-part.ensures.part ∙ ap (λ (h : ℕ). part_in h c.args.self.now.part k) c.half_side-half.ensures.half in
-    let rows = subst (λ (s : Seen). AreBlocks s.held c.args.level c.args.self.now.sources m.row) (sym c.kept_old-old.ensures.seen) (record { each = λ i l. old_block base _ c.args.level (m.row i) _ keeps (m.sources.each i l) }) in
+    let part =
+    c.part_of-part.ensures.part
+    ∙ ap (λ (h : ℕ). part_in h c.args.self.now.part k) c.half_side-half.ensures.half in
+    let rows =
+    subst (λ (s : Seen). AreBlocks s.held c.args.level c.args.self.now.sources m.row)
+    (sym c.kept_old-old.ensures.seen)
+    (record {
+      each = λ i l. old_block base _ c.args.level (m.row i) _ keeps
+          (m.sources.each i l);
+    }) in
     let source = λ (j : ℕ) (l : j < 8).
-    subst (λ (at : Cell). IsSource held below m.row at (rest_of below k c.args.self.now.offset) j (name_in sources j)) c.step_to-step.ensures.at
-    (subst (λ (o : Cell). IsSource held below m.row c.step_to-step.result.at o j (name_in sources j)) c.step_to-step.ensures.rest (c.sources_in-sources.ensures.sources m.row rows j l))
+    subst (λ (at : Cell). IsSource held below m.row at (rest_of below k c.args.self.now.offset) j
+    (name_in sources j)) c.step_to-step.ensures.at
+    (subst (λ (o : Cell). IsSource held below m.row c.step_to-step.result.at o j
+    (name_in sources j)) c.step_to-step.ensures.rest
+    (c.sources_in-sources.ensures.sources m.row rows j l))
     in
-    let made = makes_octant base c.args.level c.args.self.now cells k c.kept_old-old.result sources c.requires.level c.requires.octant m
-    (kept_part _ c.args.level _ k _ _ _ m.tree part (old_block base _ c.args.level m.tree _ keeps m.is_old) c.kept_old-old.ensures.old)
+    let made =
+    makes_octant base c.args.level c.args.self.now cells k c.kept_old-old.result sources c.requires.level c.requires.octant m
+    (kept_part _ c.args.level _ k _ _ _ m.tree part
+    (old_block base _ c.args.level m.tree _ keeps m.is_old) c.kept_old-old.ensures.old)
     (λ j l e. sym ((source j l).read e).root) (λ j l e. (source j l).unread e)
     in
-    subst (λ (b : Boxed). MakesCopy (record { old = c.kept_old-old.result; sources = sources; offset = c.step_to-step.result.rest; part = b }) base below (octant_cells below cells k)) (sym part)
-    (subst (λ (o : Cell). MakesCopy (record { old = c.kept_old-old.result; sources = sources; offset = o; part = part_in (block_side below) c.args.self.now.part k }) base below (octant_cells below cells k)) (sym c.step_to-step.ensures.rest) made)
+    subst (λ (b : Boxed). MakesCopy
+    (record { old = c.kept_old-old.result; sources = sources; offset = c.step_to-step.result.rest; part = b }) base below (octant_cells below cells k)) (sym part)
+    (subst (λ (o : Cell). MakesCopy
+    (record {
+      old = c.kept_old-old.result;
+      sources = sources;
+      offset = o;
+      part = part_in
+          (block_side below) c.args.self.now.part k;
+    }) base below (octant_cells below cells k))
+    (sym c.step_to-step.ensures.rest) made)
 
 pub returns-clause-rests : goal.returns-clause-rests
-returns-clause-rests g c = g.met.B.Blocks.rests_on _ _ _ c.kept_old-old.ensures.rests c.sources_in-sources.ensures.rests
+returns-clause-rests g c =
+    g.met.B.Blocks.rests_on _ _ _ c.kept_old-old.ensures.rests c.sources_in-sources.ensures.rests

@@ -8,14 +8,21 @@ use Rattle.edit_copy.proofs.copies.CopyTaskTask.whole.Goals as goal
 
 pub returns-then-not-meets-clause-whole : goal.returns-then-not-meets-clause-whole
 returns-then-not-meets-clause-whole c base cells m =
-    subst (λ (w : Whole). IsWhole base c.args.level cells w) (sym c.old_whole.ensures) (copy_missed base c.args.level c.args.self.now cells (λ h. false≢true (c.if-not-meets.ensures.1 h)) m)
+    subst (λ (w : Whole). IsWhole base c.args.level cells w) (sym c.old_whole.ensures)
+    (copy_missed base c.args.level c.args.self.now cells
+    (λ h. false≢true (c.if-not-meets.ensures.1 h)) m)
 
 pub returns-then-same_cells-clause-whole : goal.returns-then-same_cells-clause-whole
 returns-then-same_cells-clause-whole c base cells m =
-    subst (λ (w : Whole). IsWhole base c.args.level cells w) (sym c.old_whole-then-same_cells.ensures) (copy_shared base c.args.level c.args.self.now cells (c.if-holds_block.ensures.0 refl) (c.if-same_cells.ensures.0 refl) m)
+    subst (λ (w : Whole). IsWhole base c.args.level cells w)
+    (sym c.old_whole-then-same_cells.ensures)
+    (copy_shared base c.args.level c.args.self.now cells (c.if-holds_block.ensures.0 refl)
+    (c.if-same_cells.ensures.0 refl) m)
 
 pub returns-then-are_none-clause-whole : goal.returns-then-are_none-clause-whole
-returns-then-are_none-clause-whole c base cells m = copy_none base c.args.level c.args.self.now cells (c.if-holds_block.ensures.0 refl) (c.if-are_none.ensures refl) m
+returns-then-are_none-clause-whole c base cells m =
+    copy_none base c.args.level c.args.self.now cells (c.if-holds_block.ensures.0 refl)
+    (c.if-are_none.ensures refl) m
 
 pub returns-else-are_none-clause-mixed : goal.returns-else-are_none-clause-mixed
 returns-else-are_none-clause-mixed c e h = blocks_some c.args.level h

@@ -11,12 +11,14 @@ side_of-side-requires c = let (base, cells, m) = c.requires.task in m.small
 pub returns-then-is_outside-clause-whole : goal.returns-then-is_outside-clause-whole
 returns-then-is_outside-clause-whole c base cells m =
     subst (λ (w : Whole). IsWhole base c.args.level cells w) (sym c.old_whole.ensures)
-    (paints_missed base c.args.level c.args.self.now.old _ _ cells (in_side _ _ _ _ c.side_of-side.ensures.value (c.if-is_outside.ensures refl)) m.paints)
+    (paints_missed base c.args.level c.args.self.now.old _ _ cells
+    (in_side _ _ _ _ c.side_of-side.ensures.value (c.if-is_outside.ensures refl)) m.paints)
 
 pub returns-then-is_inside-clause-whole : goal.returns-then-is_inside-clause-whole
 returns-then-is_inside-clause-whole c base cells m =
     subst (λ (w : Whole). IsWhole base c.args.level cells w) (sym c.filled.ensures)
-    (paints_held base c.args.level _ c.args.self.now.set _ cells (in_side _ _ _ _ c.side_of-side.ensures.value (c.if-is_inside.ensures refl)) m.paints)
+    (paints_held base c.args.level _ c.args.self.now.set _ cells
+    (in_side _ _ _ _ c.side_of-side.ensures.value (c.if-is_inside.ensures refl)) m.paints)
 
 pub returns-then-clears_nothing-clause-whole : goal.returns-then-clears_nothing-clause-whole
 returns-then-clears_nothing-clause-whole c base cells m =
@@ -24,10 +26,12 @@ returns-then-clears_nothing-clause-whole c base cells m =
     paints_nothing base c.args.level c.args.self.now.old c.args.self.now.set _ cells e.1 e.0 m.paints
 
 pub returns-then-is_outside-clause-mixed : goal.returns-then-is_outside-clause-mixed
-returns-then-is_outside-clause-mixed c e h = absurd (old_not_mixed c.args.self.now.old (sym c.old_whole.ensures ∙ e))
+returns-then-is_outside-clause-mixed c e h =
+    absurd (old_not_mixed c.args.self.now.old (sym c.old_whole.ensures ∙ e))
 
 pub returns-then-is_inside-clause-mixed : goal.returns-then-is_inside-clause-mixed
-returns-then-is_inside-clause-mixed c e h = absurd (filled_not_mixed c.args.self.now.set (sym c.filled.ensures ∙ e))
+returns-then-is_inside-clause-mixed c e h =
+    absurd (filled_not_mixed c.args.self.now.set (sym c.filled.ensures ∙ e))
 
 pub returns-clause-mixed : goal.returns-clause-mixed
 returns-clause-mixed c e h = blocks_some c.args.level h

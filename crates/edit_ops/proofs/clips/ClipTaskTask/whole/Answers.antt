@@ -19,7 +19,8 @@ returns-then-not-meets-clause-whole c base cells m =
 
 pub returns-then-is_outside-clause-whole : goal.returns-then-is_outside-clause-whole
 returns-then-is_outside-clause-whole c base cells m =
-    subst (λ (w : Whole). IsWhole base c.args.level cells w) (sym c.old_whole-then-is_outside.ensures)
+    subst (λ (w : Whole). IsWhole base c.args.level cells w)
+    (sym c.old_whole-then-is_outside.ensures)
     (paints_missed base c.args.level c.args.self.now.old _ _ cells
     (clip_outside c.args.self.now.ball.now c.args.self.now.within.now c.args.level
     c.args.self.now.at
@@ -39,13 +40,16 @@ returns-then-is_inside-clause-whole c base cells m =
     (in_side _ _ _ _ c.side_of-side.ensures.value (c.if-is_inside.ensures refl))) m.paints)
 
 pub returns-then-not-meets-clause-mixed : goal.returns-then-not-meets-clause-mixed
-returns-then-not-meets-clause-mixed c e h = absurd (old_not_mixed c.args.self.now.old (sym c.old_whole.ensures ∙ e))
+returns-then-not-meets-clause-mixed c e h =
+    absurd (old_not_mixed c.args.self.now.old (sym c.old_whole.ensures ∙ e))
 
 pub returns-then-is_outside-clause-mixed : goal.returns-then-is_outside-clause-mixed
-returns-then-is_outside-clause-mixed c e h = absurd (old_not_mixed c.args.self.now.old (sym c.old_whole-then-is_outside.ensures ∙ e))
+returns-then-is_outside-clause-mixed c e h =
+    absurd (old_not_mixed c.args.self.now.old (sym c.old_whole-then-is_outside.ensures ∙ e))
 
 pub returns-then-is_inside-clause-mixed : goal.returns-then-is_inside-clause-mixed
-returns-then-is_inside-clause-mixed c e h = absurd (filled_not_mixed c.args.self.now.set (sym c.filled.ensures ∙ e))
+returns-then-is_inside-clause-mixed c e h =
+    absurd (filled_not_mixed c.args.self.now.set (sym c.filled.ensures ∙ e))
 
 pub returns-then-not-holds_block-clause-mixed : goal.returns-then-not-holds_block-clause-mixed
 returns-then-not-holds_block-clause-mixed c e h = blocks_some c.args.level h

@@ -13,8 +13,13 @@ pub returns-then-not-meets-clause-whole : goal.returns-then-not-meets-clause-who
 returns-then-not-meets-clause-whole c base cells m =
     subst (λ (w : Whole). IsWhole base c.args.level cells w) (sym c.old_whole.ensures)
     (paints_missed base c.args.level c.args.self.now.old _ _ cells
-    (stamp_missed c.args.self.now.stencil.now c.args.self.now.place.now (record { level = c.args.level; at = c.args.self.now.at })
-    (λ h. false≢true (c.if-not-meets.ensures.1 (subst (λ (s : Cell). Meets (record { at = c.args.self.now.place.now; size = s }) (record { level = c.args.level; at = c.args.self.now.at })) (sym c.size.ensures.value) h)))) m.paints)
+    (stamp_missed c.args.self.now.stencil.now c.args.self.now.place.now
+    (record { level = c.args.level; at = c.args.self.now.at })
+    (λ h. false≢true
+    (c.if-not-meets.ensures.1
+    (subst (λ (s : Cell). Meets (record { at = c.args.self.now.place.now; size = s })
+    (record { level = c.args.level; at = c.args.self.now.at }))
+    (sym c.size.ensures.value) h)))) m.paints)
 
 pub is_all-requires : goal.is_all-requires
 is_all-requires c = let (base, cells, m) = c.requires.task in record { level = m.small }
@@ -25,14 +30,17 @@ is_all-requires-2 c = let (base, cells, m) = c.requires.task in record { level =
 pub returns-then-is_all-clause-whole : goal.returns-then-is_all-clause-whole
 returns-then-is_all-clause-whole c base cells m =
     subst (λ (w : Whole). IsWhole base c.args.level cells w) (sym c.old_whole-then-is_all.ensures)
-    (paints_missed base c.args.level c.args.self.now.old _ _ cells (stamp_empty c.args.self.now.stencil.now c.args.self.now.place.now c.args.self.now.at c.args.level _ refl (c.if-is_all.ensures refl)) m.paints)
+    (paints_missed base c.args.level c.args.self.now.old _ _ cells
+    (stamp_empty c.args.self.now.stencil.now c.args.self.now.place.now c.args.self.now.at c.args.level _ refl (c.if-is_all.ensures refl)) m.paints)
 
 pub returns-then-is_all-2-clause-whole : goal.returns-then-is_all-2-clause-whole
 returns-then-is_all-2-clause-whole c base cells m =
     subst (λ (w : Whole). IsWhole base c.args.level cells w) (sym c.filled.ensures)
     (paints_held base c.args.level _ c.args.self.now.set _ cells
     (stamp_full c.args.self.now.stencil.now c.args.self.now.place.now c.args.self.now.at c.args.level _ refl (c.if-is_all-2.ensures refl)
-    (subst (λ (s : Cell). HoldsBlock (record { at = c.args.self.now.place.now; size = s }) (record { level = c.args.level; at = c.args.self.now.at })) c.size.ensures.value (c.if-not-holds_block.ensures.0 refl))) m.paints)
+    (subst (λ (s : Cell). HoldsBlock (record { at = c.args.self.now.place.now; size = s })
+    (record { level = c.args.level; at = c.args.self.now.at })) c.size.ensures.value
+    (c.if-not-holds_block.ensures.0 refl))) m.paints)
 
 pub returns-clause-mixed : goal.returns-clause-mixed
 returns-clause-mixed c e h = blocks_some c.args.level h
@@ -46,4 +54,5 @@ returns-then-clears_nothing-clause-whole c base cells m =
     paints_nothing base c.args.level c.args.self.now.old c.args.self.now.set _ cells e.1 e.0 m.paints
 
 pub returns-then-is_all-2-clause-mixed : goal.returns-then-is_all-2-clause-mixed
-returns-then-is_all-2-clause-mixed c e h = absurd (filled_not_mixed c.args.self.now.set (sym c.filled.ensures ∙ e))
+returns-then-is_all-2-clause-mixed c e h =
+    absurd (filled_not_mixed c.args.self.now.set (sym c.filled.ensures ∙ e))

@@ -12,7 +12,9 @@ returns-clause-value c =
     ∙ ap (λ (q : Layout). bucket_place q c.args.level c.args.bucket) p
 
 pub returns-clause-inside : goal.returns-clause-inside
-returns-clause-inside c = subst (λ (k : ℕ). k < number_of_buckets c.args.self.now.plan) (sym (returns-clause-value c)) (bucket_in c.args.self.now.plan c.args.level c.args.bucket c.requires)
+returns-clause-inside c =
+    subst (λ (k : ℕ). k < number_of_buckets c.args.self.now.plan) (sym (returns-clause-value c))
+    (bucket_in c.args.self.now.plan c.args.level c.args.bucket c.requires)
 
 pub returns-clause-small : goal.returns-clause-small
 returns-clause-small c =

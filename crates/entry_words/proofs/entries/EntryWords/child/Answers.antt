@@ -16,4 +16,5 @@ pub returns : goal.returns
 returns c =
     let w = c.args.self.now in
     let e = c.half_of.ensures ∙ ap (λ (x : ℕ). half (c.args.octant % 2) x) c.word-word.ensures in
-    c.child_in.ensures.child ∙ child_read_at c.args.n.level _ _ c.args.octant c.half_of.result c.requires.level c.requires.octant e
+    c.child_in.ensures.child
+    ∙ child_read_at c.args.n.level _ _ c.args.octant c.half_of.result c.requires.level c.requires.octant e

@@ -6,7 +6,8 @@ use Rattle.entry_words.proofs.entries.EntryWords.find_in.Given as goal
 abbrev pub invariant-loop-k : goal.invariant-loop-k
 invariant-loop-k l = record {
   high : l.from ≤ 16;
-  lacks : LacksKeyIn l.self l.level l.bucket (l.block * 16) (l.block * 16 + l.from) (key_of l.level l.words);
+  lacks : LacksKeyIn l.self l.level l.bucket (l.block * 16) (l.block * 16 + l.from)
+      (key_of l.level l.words);
 }
 
 abbrev pub decreases-loop-k : goal.decreases-loop-k

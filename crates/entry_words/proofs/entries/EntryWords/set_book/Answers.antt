@@ -13,6 +13,9 @@ returns c =
     let at = c.place-i.ensures.value ∙ ap (λ (w : Written). slot_place w.plan c.args.n) e in
     let name = subst (λ (w : Written). IsName w.plan c.args.n) e c.requires.name in
     let s = c.self.inside in
-    let was : Written = record { plan = s.plan; books = items_of s.books.items; bits = s.bits.items; pairs = items_of s.pairs.items } in
-    subst (λ (w : Written). SetsBook w c.args.n c.args.book (with_book was (items_of c.put_in.new.rows.items))) c.self.view_is
-    (sets_book was c.args.n c.from.result c.place-i.result c.args.book (items_of c.put_in.new.rows.items) name c.from.ensures at c.put_in.ensures.puts)
+    let was : Written =
+    record { plan = s.plan; books = items_of s.books.items; bits = s.bits.items; pairs = items_of s.pairs.items } in
+    subst (λ (w : Written). SetsBook w c.args.n c.args.book
+    (with_book was (items_of c.put_in.new.rows.items))) c.self.view_is
+    (sets_book was c.args.n c.from.result c.place-i.result c.args.book
+    (items_of c.put_in.new.rows.items) name c.from.ensures at c.put_in.ensures.puts)

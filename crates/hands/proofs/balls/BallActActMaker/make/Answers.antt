@@ -9,33 +9,40 @@ use Rattle.hands.proofs.balls.BallActActMaker.make.Goals as goal
 pub rebuild_ball_with-requires : goal.rebuild_ball_with-requires
 rebuild_ball_with-requires g c =
     let b = c.args.self.now.ball.now in
-    let inside = ball_inside (2 ^ c.args.side) c.args.self.now.models.now.models c.args.self.now.set b c.requires.fits in
+    let inside =
+    ball_inside (2 ^ c.args.side) c.args.self.now.models.now.models c.args.self.now.set b c.requires.fits in
     let room = most_room (ball_act c.args.self.now.set b) _ c.requires.room in
     λ k. ((refl, tt), (c.requires.side, (c.requires.recalls, (inside, (c.requires.old, room)))))
 
 pub returns-in-Ok-clause-ok : goal.returns-in-Ok-clause-ok
 returns-in-Ok-clause-ok g c =
-    made_plainly (g.N.Blocks.seen c.args.store.now) (g.N.Blocks.seen c.rebuild_ball_with.new.store) c.args.side
+    made_plainly (g.N.Blocks.seen c.args.store.now)
+    (g.N.Blocks.seen c.rebuild_ball_with.new.store) c.args.side
     (option_copied c.args.old) c.args.self.now.models.now.models
     (ball_act c.args.self.now.set c.args.self.now.ball.now)
     (ball_plain c.args.self.now.set c.args.self.now.ball.now)
-    (ball_same c.args.self.now.models.now.models c.args.self.now.set c.args.self.now.ball.now) (Ok c.in-Ok.root)
+    (ball_same c.args.self.now.models.now.models c.args.self.now.set c.args.self.now.ball.now)
+    (Ok c.in-Ok.root)
     c.in-Ok.ensures.ok
 
 pub returns-in-Ok-clause-grows : goal.returns-in-Ok-clause-grows
 returns-in-Ok-clause-grows g c =
-    grown_plainly (g.N.Blocks.seen c.args.store.now) (g.N.Blocks.seen c.rebuild_ball_with.new.store) c.args.side
+    grown_plainly (g.N.Blocks.seen c.args.store.now)
+    (g.N.Blocks.seen c.rebuild_ball_with.new.store) c.args.side
     (option_copied c.args.old) c.args.self.now.models.now.models
     (ball_act c.args.self.now.set c.args.self.now.ball.now)
     (ball_plain c.args.self.now.set c.args.self.now.ball.now)
-    (ball_same c.args.self.now.models.now.models c.args.self.now.set c.args.self.now.ball.now) (Ok c.in-Ok.root)
+    (ball_same c.args.self.now.models.now.models c.args.self.now.set c.args.self.now.ball.now)
+    (Ok c.in-Ok.root)
     c.in-Ok.ensures.grows
 
 pub returns-in-Err-clause-full : goal.returns-in-Err-clause-full
 returns-in-Err-clause-full g c =
-    refused_plainly (g.N.Blocks.seen c.args.store.now) (g.N.Blocks.seen c.rebuild_ball_with.new.store) c.args.side
+    refused_plainly (g.N.Blocks.seen c.args.store.now)
+    (g.N.Blocks.seen c.rebuild_ball_with.new.store) c.args.side
     (option_copied c.args.old) c.args.self.now.models.now.models
     (ball_act c.args.self.now.set c.args.self.now.ball.now)
     (ball_plain c.args.self.now.set c.args.self.now.ball.now)
-    (ball_same c.args.self.now.models.now.models c.args.self.now.set c.args.self.now.ball.now) (Err c.in-Err.full)
+    (ball_same c.args.self.now.models.now.models c.args.self.now.set c.args.self.now.ball.now)
+    (Err c.in-Err.full)
     c.in-Err.ensures.full

@@ -7,31 +7,38 @@ use Rattle.hands.proofs.PlainLaws.{made_plainly, grown_plainly, refused_plainly}
 use Rattle.hands.proofs.boxes.BoxActActMaker.make.Goals as goal
 
 pub rebuild_box_with-requires-clause-room : goal.rebuild_box_with-requires-clause-room
-rebuild_box_with-requires-clause-room g c = most_room (box_act c.args.self.now.set c.args.self.now.part) _ c.requires.room
+rebuild_box_with-requires-clause-room g c =
+    most_room (box_act c.args.self.now.set c.args.self.now.part) _ c.requires.room
 
 pub returns-in-Ok-clause-ok : goal.returns-in-Ok-clause-ok
 returns-in-Ok-clause-ok g c =
-    made_plainly (g.N.Blocks.seen c.args.store.now) (g.N.Blocks.seen c.rebuild_box_with.new.store) c.args.side
+    made_plainly (g.N.Blocks.seen c.args.store.now)
+    (g.N.Blocks.seen c.rebuild_box_with.new.store) c.args.side
     (option_copied c.args.old) c.args.self.now.models.now.models
     (box_act c.args.self.now.set c.args.self.now.part)
     (box_plain c.args.self.now.set c.args.self.now.part)
-    (box_same c.args.self.now.models.now.models c.args.self.now.set c.args.self.now.part) (Ok c.in-Ok.root)
+    (box_same c.args.self.now.models.now.models c.args.self.now.set c.args.self.now.part)
+    (Ok c.in-Ok.root)
     c.in-Ok.ensures.ok
 
 pub returns-in-Ok-clause-grows : goal.returns-in-Ok-clause-grows
 returns-in-Ok-clause-grows g c =
-    grown_plainly (g.N.Blocks.seen c.args.store.now) (g.N.Blocks.seen c.rebuild_box_with.new.store) c.args.side
+    grown_plainly (g.N.Blocks.seen c.args.store.now)
+    (g.N.Blocks.seen c.rebuild_box_with.new.store) c.args.side
     (option_copied c.args.old) c.args.self.now.models.now.models
     (box_act c.args.self.now.set c.args.self.now.part)
     (box_plain c.args.self.now.set c.args.self.now.part)
-    (box_same c.args.self.now.models.now.models c.args.self.now.set c.args.self.now.part) (Ok c.in-Ok.root)
+    (box_same c.args.self.now.models.now.models c.args.self.now.set c.args.self.now.part)
+    (Ok c.in-Ok.root)
     c.in-Ok.ensures.grows
 
 pub returns-in-Err-clause-full : goal.returns-in-Err-clause-full
 returns-in-Err-clause-full g c =
-    refused_plainly (g.N.Blocks.seen c.args.store.now) (g.N.Blocks.seen c.rebuild_box_with.new.store) c.args.side
+    refused_plainly (g.N.Blocks.seen c.args.store.now)
+    (g.N.Blocks.seen c.rebuild_box_with.new.store) c.args.side
     (option_copied c.args.old) c.args.self.now.models.now.models
     (box_act c.args.self.now.set c.args.self.now.part)
     (box_plain c.args.self.now.set c.args.self.now.part)
-    (box_same c.args.self.now.models.now.models c.args.self.now.set c.args.self.now.part) (Err c.in-Err.full)
+    (box_same c.args.self.now.models.now.models c.args.self.now.set c.args.self.now.part)
+    (Err c.in-Err.full)
     c.in-Err.ensures.full

@@ -6,11 +6,13 @@ use Rattle.hands.proofs.PlainLaws.{made_plainly, grown_plainly, refused_plainly}
 use Rattle.hands.proofs.copies.CopyActActMaker.make.Goals as goal
 
 pub rebuild_copy_with-requires-clause-room : goal.rebuild_copy_with-requires-clause-room
-rebuild_copy_with-requires-clause-room g c = most_room (Copy c.args.self.now.from c.args.self.now.to) _ c.requires.room
+rebuild_copy_with-requires-clause-room g c =
+    most_room (Copy c.args.self.now.from c.args.self.now.to) _ c.requires.room
 
 pub returns-in-Ok-clause-ok : goal.returns-in-Ok-clause-ok
 returns-in-Ok-clause-ok g c =
-    made_plainly (g.N.Blocks.seen c.args.store.now) (g.N.Blocks.seen c.rebuild_copy_with.new.store) c.args.side
+    made_plainly (g.N.Blocks.seen c.args.store.now)
+    (g.N.Blocks.seen c.rebuild_copy_with.new.store) c.args.side
     (option_copied c.args.old) c.args.self.now.models.now.models
     (Copy c.args.self.now.from c.args.self.now.to)
     refl
@@ -19,7 +21,8 @@ returns-in-Ok-clause-ok g c =
 
 pub returns-in-Ok-clause-grows : goal.returns-in-Ok-clause-grows
 returns-in-Ok-clause-grows g c =
-    grown_plainly (g.N.Blocks.seen c.args.store.now) (g.N.Blocks.seen c.rebuild_copy_with.new.store) c.args.side
+    grown_plainly (g.N.Blocks.seen c.args.store.now)
+    (g.N.Blocks.seen c.rebuild_copy_with.new.store) c.args.side
     (option_copied c.args.old) c.args.self.now.models.now.models
     (Copy c.args.self.now.from c.args.self.now.to)
     refl
@@ -28,7 +31,8 @@ returns-in-Ok-clause-grows g c =
 
 pub returns-in-Err-clause-full : goal.returns-in-Err-clause-full
 returns-in-Err-clause-full g c =
-    refused_plainly (g.N.Blocks.seen c.args.store.now) (g.N.Blocks.seen c.rebuild_copy_with.new.store) c.args.side
+    refused_plainly (g.N.Blocks.seen c.args.store.now)
+    (g.N.Blocks.seen c.rebuild_copy_with.new.store) c.args.side
     (option_copied c.args.old) c.args.self.now.models.now.models
     (Copy c.args.self.now.from c.args.self.now.to)
     refl

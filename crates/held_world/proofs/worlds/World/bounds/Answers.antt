@@ -11,7 +11,8 @@ returns-in-Ok-clause-asks c =
     asked c.args.self.now c.args.version questions.Bounds questions.Bounds _ _ refl c.in-Ok.answer c.in-Ok.ensures.told (
       tells_extent (held_side c.args.self.now) (cells_told c.args.self.now c.args.version)
           (tints_at c.args.self.now c.args.version) c.in-Ok.answer c.in-Ok.ensures.told.tells
-          ∙ ap (λ (o : Option Boxed). answers.Extent o) (sym c.extent_in.ensures ∙ sym c.put_extent.ensures.found),
+          ∙ ap (λ (o : Option Boxed). answers.Extent o)
+          (sym c.extent_in.ensures ∙ sym c.put_extent.ensures.found),
       c.put_extent.ensures.none,
     )
 

@@ -10,7 +10,8 @@ use Rattle.held_world.proofs.worlds.World.count.Goals as goal
 
 pub returns-in-Ok-clause-asks : goal.returns-in-Ok-clause-asks
 returns-in-Ok-clause-asks c =
-    asked c.args.self.now c.args.version (questions.Count c.in-Some.b) (questions.Count (box_of c.args.part)) _ _
+    asked c.args.self.now c.args.version (questions.Count c.in-Some.b)
+    (questions.Count (box_of c.args.part)) _ _
     (ap (λ (x : Boxed). questions.Count x) c.in-Some.ensures.value) c.in-Ok.answer c.in-Ok.ensures.told
     (tells_count (held_side c.args.self.now) (cells_told c.args.self.now c.args.version)
     (tints_at c.args.self.now c.args.version) c.in-Some.b c.in-Ok.answer c.in-Ok.ensures.told.tells
@@ -18,8 +19,11 @@ returns-in-Ok-clause-asks c =
 
 pub returns-in-Err-clause-asks : goal.returns-in-Err-clause-asks
 returns-in-Err-clause-asks c =
-    not_asked c.args.self.now c.args.version (questions.Count c.in-Some.b) (questions.Count (box_of c.args.part)) _ _
+    not_asked c.args.self.now c.args.version (questions.Count c.in-Some.b)
+    (questions.Count (box_of c.args.part)) _ _
     (ap (λ (x : Boxed). questions.Count x) c.in-Some.ensures.value) c.in-Err.status c.in-Err.ensures.gone refl
 
 pub returns-in-None-clause-asks : goal.returns-in-None-clause-asks
-returns-in-None-clause-asks c = WorldAsks.outside (box_leaves c.side.result _ c.side.ensures c.args.part c.in-None.ensures.exactly) refl
+returns-in-None-clause-asks c =
+    WorldAsks.outside
+    (box_leaves c.side.result _ c.side.ensures c.args.part c.in-None.ensures.exactly) refl

@@ -10,7 +10,8 @@ use Rattle.held_world.proofs.worlds.World.get.Goals as goal
 
 pub returns-in-Ok-clause-asks : goal.returns-in-Ok-clause-asks
 returns-in-Ok-clause-asks c =
-    asked c.args.self.now c.args.version (questions.Get c.in-Some.c) (questions.Get (cell_of_place c.args.place)) _ _
+    asked c.args.self.now c.args.version (questions.Get c.in-Some.c)
+    (questions.Get (cell_of_place c.args.place)) _ _
     (ap (λ (x : Cell). questions.Get x) c.in-Some.ensures.value) c.in-Ok.answer c.in-Ok.ensures.told
     (tells_is (held_side c.args.self.now) (cells_told c.args.self.now c.args.version)
     (tints_at c.args.self.now c.args.version) c.in-Some.c c.in-Ok.answer c.in-Ok.ensures.told.tells
@@ -18,8 +19,11 @@ returns-in-Ok-clause-asks c =
 
 pub returns-in-Err-clause-asks : goal.returns-in-Err-clause-asks
 returns-in-Err-clause-asks c =
-    not_asked c.args.self.now c.args.version (questions.Get c.in-Some.c) (questions.Get (cell_of_place c.args.place)) _ _
+    not_asked c.args.self.now c.args.version (questions.Get c.in-Some.c)
+    (questions.Get (cell_of_place c.args.place)) _ _
     (ap (λ (x : Cell). questions.Get x) c.in-Some.ensures.value) c.in-Err.status c.in-Err.ensures.gone refl
 
 pub returns-in-None-clause-asks : goal.returns-in-None-clause-asks
-returns-in-None-clause-asks c = WorldAsks.outside (cell_leaves c.side.result _ c.side.ensures c.args.place c.in-None.ensures.exactly) refl
+returns-in-None-clause-asks c =
+    WorldAsks.outside
+    (cell_leaves c.side.result _ c.side.ensures c.args.place c.in-None.ensures.exactly) refl

@@ -3,4 +3,5 @@ use Rattle.held_world.specs.Calls.{TellsNewest}
 use Rattle.held_world.proofs.worlds.World.put_newest.Goals as goal
 
 pub returns : goal.returns
-returns c = subst (λ (n : ℕ). TellsNewest c.args.self.now 0 n) (sym c.moment.ensures) TellsNewest.told
+returns c =
+    subst (λ (n : ℕ). TellsNewest c.args.self.now 0 n) (sym c.moment.ensures) TellsNewest.told

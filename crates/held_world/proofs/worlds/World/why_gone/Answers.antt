@@ -3,7 +3,9 @@ use Rattle.held_world.specs.Calls.{IsGone}
 use Rattle.held_world.proofs.worlds.World.why_gone.Goals as goal
 
 pub returns-then-version-moment : goal.returns-then-version-moment
-returns-then-version-moment c = IsGone.no_version (omega (arith, c.moment.ensures, c.if-version-moment.true))
+returns-then-version-moment c =
+    IsGone.no_version (omega (arith, c.moment.ensures, c.if-version-moment.true))
 
 pub returns-else-version-moment : goal.returns-else-version-moment
-returns-else-version-moment c = IsGone.forgotten (omega (arith, c.moment.ensures, c.if-version-moment.false)) c.requires
+returns-else-version-moment c =
+    IsGone.forgotten (omega (arith, c.moment.ensures, c.if-version-moment.false)) c.requires

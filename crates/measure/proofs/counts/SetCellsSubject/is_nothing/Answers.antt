@@ -5,4 +5,5 @@ use Rattle.measure.proofs.SubjectLaws.{nothing_set}
 use Rattle.measure.proofs.counts.SetCellsSubject.is_nothing.Goals as goal
 
 pub returns : goal.returns
-returns c none held level test p = nothing_set held level _ test (is_nothing _ (c.is_none.ensures ∙ ap not none)) p
+returns c none held level test p =
+    nothing_set held level _ test (is_nothing _ (c.is_none.ensures ∙ ap not none)) p

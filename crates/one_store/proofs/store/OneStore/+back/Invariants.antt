@@ -15,4 +15,7 @@ abbrev pub decreases-release_some : goal.decreases-release_some
 decreases-release_some g l = 3 * l.level - 2
 
 abbrev pub invariant-release_row-loop-k : goal.invariant-release_row-loop-k
-invariant-release_row-loop-k g l = ReleasesRow l.initial.self (trees_below (key_in l.initial.self.words) (l.level - 1) (Node l.children)) l.k l.self l.initial.steps l.steps
+invariant-release_row-loop-k g l =
+    ReleasesRow l.initial.self
+    (trees_below (key_in l.initial.self.words) (l.level - 1)
+    (Node l.children)) l.k l.self l.initial.steps l.steps

@@ -11,10 +11,17 @@ invariant_of-result c =
     let w = c.in_ok-begin.field-0 in
     let roots = c.in_ok-no_roots.field-0.items in
     let e = c.in_ok-no_roots.ensures in
-    let long = ap (λ (r : List (Option Name)). length r) e ∙ length-replicate {A = Option Name} 65536 None in
-    let empty = λ (place : ℕ). ap (λ (r : List (Option Name)). stored_root r place) e ∙ no_roots 65536 place in
-    subst (λ (t : Told). IsStore (record { words = w; roots = roots; told = t }) 0) (sym c.in_ok-new.ensures)
+    let long =
+    ap (λ (r : List (Option Name)). length r) e
+    ∙ length-replicate {A = Option Name} 65536 None in
+    let empty =
+    λ (place : ℕ). ap (λ (r : List (Option Name)). stored_root r place) e
+    ∙ no_roots 65536 place in
+    subst (λ (t : Told). IsStore (record { words = w; roots = roots; told = t }) 0)
+    (sym c.in_ok-new.ensures)
     (begun_store w roots c.in_ok-begin.ensures.is_plan c.in_ok-begin.ensures.free long empty)
 
 pub returns-clause-roots : goal.returns-clause-roots
-returns-clause-roots c place = ap (λ (r : List (Option Name)). stored_root r place) c.in_ok-no_roots.ensures ∙ no_roots 65536 place
+returns-clause-roots c place =
+    ap (λ (r : List (Option Name)). stored_root r place) c.in_ok-no_roots.ensures
+    ∙ no_roots 65536 place

@@ -6,4 +6,8 @@ use Rattle.one_store.specs.Known.{trees_below}
 use Rattle.one_store.proofs.store.OneStore.free.Given as goal
 
 abbrev pub ghosts-tell_freeing : goal.ghosts-tell_freeing
-ghosts-tell_freeing a = record { next = freed a.notes.now (tree_at (key_in a.words.now) a.n.level (Some a.n)) (trees_below (key_in a.words.now) (a.n.level - 1) (key_in a.words.now a.n)) }
+ghosts-tell_freeing a =
+    record {
+      next = freed a.notes.now (tree_at (key_in a.words.now) a.n.level (Some a.n))
+          (trees_below (key_in a.words.now) (a.n.level - 1) (key_in a.words.now a.n));
+    }

@@ -8,8 +8,11 @@ use Rattle.one_store.proofs.store.OneStore.keep_root.Goals as goal
 
 pub returns-in-None-clause-keeps : goal.returns-in-None-clause-keeps
 returns-in-None-clause-keeps c =
-    subst (λ (o : Option Name). KeepsRoot c.args.self.now c.args.place o c.args.self.now) (sym c.in-None.is) (keeps_none c.args.self.now c.args.place c.requires.empty)
+    subst (λ (o : Option Name). KeepsRoot c.args.self.now c.args.place o c.args.self.now)
+    (sym c.in-None.is) (keeps_none c.args.self.now c.args.place c.requires.empty)
 
 pub returns-in-None-clause-event : goal.returns-in-None-clause-event
 returns-in-None-clause-event c =
-    subst (λ (o : Option Name). PutsRoot c.args.self.now.words.plan 0 c.args.place o (core_of c.args.self.now) (core_of c.args.self.now)) (sym c.in-None.is) (none_event c.args.self.now c.args.place c.requires.place c.requires.empty)
+    subst (λ (o : Option Name). PutsRoot c.args.self.now.words.plan 0 c.args.place o
+    (core_of c.args.self.now) (core_of c.args.self.now)) (sym c.in-None.is)
+    (none_event c.args.self.now c.args.place c.requires.place c.requires.empty)

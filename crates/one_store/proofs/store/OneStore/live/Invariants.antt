@@ -6,6 +6,7 @@ use Rattle.one_store.proofs.store.OneStore.live.Given as goal
 
 abbrev pub invariant-loop-bucket : goal.invariant-loop-bucket
 invariant-loop-bucket l = record {
-  number_is : l.number ≡ sum_below l.bucket (λ bucket. live_in l.self.words.plan (core_of l.self) l.level bucket);
+  number_is : l.number ≡ sum_below l.bucket
+      (λ bucket. live_in l.self.words.plan (core_of l.self) l.level bucket);
   few : l.number ≤ 256 * l.bucket;
 }

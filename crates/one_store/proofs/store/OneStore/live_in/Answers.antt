@@ -16,7 +16,10 @@ loop-slot-preserved c =
     let n = named c.args.level c.args.bucket c.loop-slot.slot in
     let book = c.book.ensures ∙ ap (λ (v : Known). book_in v.words n) c.self.view_is in
     record {
-      number_is = counted_next (λ slot. if_live (book_in c.args.self.now.words (named c.args.level c.args.bucket slot)) 1) c.loop-slot.slot _ _ c.loop-slot.invariant.number_is
+      number_is = counted_next
+          (λ slot. if_live
+          (book_in c.args.self.now.words
+          (named c.args.level c.args.bucket slot)) 1) c.loop-slot.slot _ _ c.loop-slot.invariant.number_is
           (c.one_where_live-number.ensures.value ∙ ap (λ (b : ℕ). if_live b 1) book);
       few = omega (arith, c.loop-slot.invariant.few, c.one_where_live-number.ensures.one);
     }
@@ -26,8 +29,12 @@ returns-clause-number c =
     let v = c.args.self.now in
     let used = c.used_of-slot-end.result in
     let f : ℕ → ℕ = λ slot. if_live (book_in v.words (named c.args.level c.args.bucket slot)) 1 in
-    let free = subst (λ (w : Known). IsUnusedFrom w.words c.args.level c.args.bucket used) c.self.view_is c.used_of-slot-end.ensures.free in
-    let within = subst (λ (w : Known). used ≤ w.words.plan.cap) c.self.view_is c.used_of-slot-end.ensures.within in
-    let all : c.loop-slot.slot ≡ used = omega (arith, c.loop-slot.auto.slot-end, c.loop-slot-test.false) in
+    let free =
+    subst (λ (w : Known). IsUnusedFrom w.words c.args.level c.args.bucket used) c.self.view_is c.used_of-slot-end.ensures.free in
+    let within =
+    subst (λ (w : Known). used ≤ w.words.plan.cap) c.self.view_is c.used_of-slot-end.ensures.within in
+    let all : c.loop-slot.slot ≡ used =
+    omega (arith, c.loop-slot.auto.slot-end, c.loop-slot-test.false) in
     c.loop-slot.invariant.number_is ∙ ap (λ (n : ℕ). sum_below n f) all
-    ∙ counted_all f used v.words.plan.cap within (λ k lt le. ap (λ (b : ℕ). if_live b 1) (free k lt le))
+    ∙ counted_all f used v.words.plan.cap within
+    (λ k lt le. ap (λ (b : ℕ). if_live b 1) (free k lt le))

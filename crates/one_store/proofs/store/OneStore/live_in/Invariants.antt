@@ -7,6 +7,7 @@ use Rattle.one_store.proofs.store.OneStore.live_in.Given as goal
 
 abbrev pub invariant-loop-slot : goal.invariant-loop-slot
 invariant-loop-slot l = record {
-  number_is : l.number ≡ sum_below l.slot (λ slot. if_live (book_in l.self.words (named l.level l.bucket slot)) 1);
+  number_is : l.number ≡ sum_below l.slot
+      (λ slot. if_live (book_in l.self.words (named l.level l.bucket slot)) 1);
   few : l.number ≤ l.slot;
 }

@@ -5,4 +5,5 @@ use Rattle.store_notes.proofs.Picks.{lost}
 use Rattle.one_store.proofs.store.OneStore.lower.Given as goal
 
 abbrev pub ghosts-tell_loss : goal.ghosts-tell_loss
-ghosts-tell_loss a = record { next = lost a.notes.now (tree_at (key_in a.words.now) a.n.level (Some a.n)) }
+ghosts-tell_loss a =
+    record { next = lost a.notes.now (tree_at (key_in a.words.now) a.n.level (Some a.n)) }

@@ -10,7 +10,11 @@ use Rattle.one_store.proofs.RootLaws.{keep_event, keep_store, keeps_root, with_r
 use Rattle.one_store.proofs.store.OneStore.place_root.Goals as goal
 
 pub tell_loss-requires : goal.tell_loss-requires
-tell_loss-requires c = lost-notes _ _ (held_tree _ _ c.args.n c.self.invariant (subst (λ (v : Known). HoldsName v.told.held c.args.n) (sym c.self.view_is) c.requires.held))
+tell_loss-requires c =
+    lost-notes _ _
+    (held_tree _ _ c.args.n c.self.invariant
+    (subst (λ (v : Known). HoldsName v.told.held c.args.n)
+    (sym c.self.view_is) c.requires.held))
 
 pub invariant_of-self : goal.invariant_of-self
 invariant_of-self c =
@@ -24,8 +28,11 @@ pub returns-clause-keeps : goal.returns-clause-keeps
 returns-clause-keeps c =
     let e = sym c.self.view_is in
     let level = subst (λ (v : Known). c.args.n.level ≡ top v.words.plan.side) e c.requires.top in
-    let was : Known = record { words = c.self.inside.words; roots = c.self.inside.roots.items; told = c.self.inside.notes } in
-    subst (λ (v : Known). KeepsRoot v c.args.place (Some c.args.n) (with_roots was (set was.roots c.args.place (Some c.args.n)) c.tell_loss.new.notes)) c.self.view_is
+    let was : Known =
+    record { words = c.self.inside.words; roots = c.self.inside.roots.items; told = c.self.inside.notes } in
+    subst (λ (v : Known). KeepsRoot v c.args.place (Some c.args.n)
+    (with_roots was
+    (set was.roots c.args.place (Some c.args.n)) c.tell_loss.new.notes)) c.self.view_is
     (keeps_root was c.tell_loss.new.notes c.args.place c.args.n _ c.self.invariant c.requires.place level c.tell_loss.ensures)
 
 pub returns-clause-event : goal.returns-clause-event
@@ -33,6 +40,9 @@ returns-clause-event c =
     let e = sym c.self.view_is in
     let h = subst (λ (v : Known). HoldsName v.told.held c.args.n) e c.requires.held in
     let none = subst (λ (v : Known). stored_root v.roots c.args.place ≡ None) e c.requires.empty in
-    let was : Known = record { words = c.self.inside.words; roots = c.self.inside.roots.items; told = c.self.inside.notes } in
-    subst (λ (v : Known). PutsRoot v.words.plan 0 c.args.place (Some c.args.n) (core_of v) (core_of (with_roots was (set was.roots c.args.place (Some c.args.n)) c.tell_loss.new.notes))) c.self.view_is
+    let was : Known =
+    record { words = c.self.inside.words; roots = c.self.inside.roots.items; told = c.self.inside.notes } in
+    subst (λ (v : Known). PutsRoot v.words.plan 0 c.args.place (Some c.args.n) (core_of v)
+    (core_of (with_roots was
+    (set was.roots c.args.place (Some c.args.n)) c.tell_loss.new.notes))) c.self.view_is
     (keep_event was c.tell_loss.new.notes c.args.place c.args.n _ c.self.invariant c.requires.place none h c.tell_loss.ensures)

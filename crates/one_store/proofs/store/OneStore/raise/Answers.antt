@@ -22,4 +22,10 @@ invariant_of-self c =
     let e = sym c.self.view_is in
     let live = subst (λ (v : Known). IsLive v.words.plan (core_of v) c.args.n) e c.requires.live in
     raise_store _ _ c.args.n _ c.self.invariant live
-    (record { words = subst (λ (b : ℕ). Rattle.entry_words.specs.Changes.SetsBook c.self.inside.words c.args.n (b + 1) c.set_book.new.self) c.book-book.ensures c.set_book.ensures; roots = Rattle.std.proofs.Common.refl; told = c.tell_gain.ensures })
+    (record {
+      words = subst
+          (λ (b : ℕ). Rattle.entry_words.specs.Changes.SetsBook c.self.inside.words c.args.n
+          (b + 1) c.set_book.new.self) c.book-book.ensures c.set_book.ensures;
+      roots = Rattle.std.proofs.Common.refl;
+      told = c.tell_gain.ensures;
+    })

@@ -5,4 +5,5 @@ use Rattle.store_notes.proofs.Picks.{gained}
 use Rattle.one_store.proofs.store.OneStore.raise.Given as goal
 
 abbrev pub ghosts-tell_gain : goal.ghosts-tell_gain
-ghosts-tell_gain a = record { next = gained a.notes.now (tree_at (key_in a.words.now) a.n.level (Some a.n)) }
+ghosts-tell_gain a =
+    record { next = gained a.notes.now (tree_at (key_in a.words.now) a.n.level (Some a.n)) }

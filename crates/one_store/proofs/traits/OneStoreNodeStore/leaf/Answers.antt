@@ -11,16 +11,22 @@ pub add-requires-clause-children : goal.add-requires-clause-children
 add-requires-clause-children g c = leaf_count _ c.args.bits c.seek-sought.ensures.key
 
 pub returns-in-Some-clause-held : goal.returns-in-Some-clause-held
-returns-in-Some-clause-held g c = leaf_found c.args.self.now c.raise.new.self c.seek-sought.result c.in-Some.n c.raise.result c.args.bits _ c.number-number.ensures.store c.seek-sought.ensures.level c.seek-sought.ensures.key c.in-Some.ensures.found c.raise.ensures.raises c.raise.ensures.share
+returns-in-Some-clause-held g c =
+    leaf_found c.args.self.now c.raise.new.self c.seek-sought.result c.in-Some.n c.raise.result c.args.bits _ c.number-number.ensures.store c.seek-sought.ensures.level c.seek-sought.ensures.key c.in-Some.ensures.found c.raise.ensures.raises c.raise.ensures.share
 
 pub returns-in-Some-clause-hit : goal.returns-in-Some-clause-hit
-returns-in-Some-clause-hit g c m r = leaf_hit c.args.self.now c.raise.new.self c.seek-sought.result c.in-Some.n m c.raise.result c.args.bits _ c.number-number.ensures.store c.seek-sought.ensures.level c.seek-sought.ensures.key c.in-Some.ensures.found c.raise.ensures.raises c.raise.ensures.share r
+returns-in-Some-clause-hit g c m r =
+    leaf_hit c.args.self.now c.raise.new.self c.seek-sought.result c.in-Some.n m c.raise.result c.args.bits _ c.number-number.ensures.store c.seek-sought.ensures.level c.seek-sought.ensures.key c.in-Some.ensures.found c.raise.ensures.raises c.raise.ensures.share r
 
 pub returns-in-None-clause-held : goal.returns-in-None-clause-held
-returns-in-None-clause-held g c = if_ok c.add.result (λ n a. leaf_added c.args.self.now c.add.new.self c.seek-sought.result n c.args.bits c.seek-sought.ensures.level c.seek-sought.ensures.key a) c.add.ensures.adds
+returns-in-None-clause-held g c =
+    if_ok c.add.result
+    (λ n a. leaf_added c.args.self.now c.add.new.self c.seek-sought.result n c.args.bits c.seek-sought.ensures.level c.seek-sought.ensures.key a) c.add.ensures.adds
 
 pub returns-in-None-clause-hit : goal.returns-in-None-clause-hit
-returns-in-None-clause-hit g c m r = absurd (leaf_missed c.args.self.now c.seek-sought.result m c.args.bits _ c.number-number.ensures.store c.seek-sought.ensures.level c.seek-sought.ensures.key (c.in-None.ensures.none refl) r)
+returns-in-None-clause-hit g c m r =
+    absurd
+    (leaf_missed c.args.self.now c.seek-sought.result m c.args.bits _ c.number-number.ensures.store c.seek-sought.ensures.level c.seek-sought.ensures.key (c.in-None.ensures.none refl) r)
 
 pub returns-in-None-clause-full : goal.returns-in-None-clause-full
 returns-in-None-clause-full g c =
@@ -34,7 +40,9 @@ returns-in-Some-clause-shared g c m h =
     shares_found c.args.self.now c.raise.new.self c.seek-sought.result c.in-Some.n m c.raise.result _ 0 _ st c.seek-sought.ensures.level c.seek-sought.ensures.key c.in-Some.ensures.found c.raise.ensures.raises c.raise.ensures.share h (leaf_level_of c.args.self.now _ c.args.bits m st h)
 
 pub returns-in-Some-clause-added : goal.returns-in-Some-clause-added
-returns-in-Some-clause-added g c missing = absurd (found_not_missing c.args.self.now c.seek-sought.result c.in-Some.n 0 _ c.seek-sought.ensures.level c.seek-sought.ensures.key c.in-Some.ensures.found missing)
+returns-in-Some-clause-added g c missing =
+    absurd
+    (found_not_missing c.args.self.now c.seek-sought.result c.in-Some.n 0 _ c.seek-sought.ensures.level c.seek-sought.ensures.key c.in-Some.ensures.found missing)
 
 pub returns-in-None-clause-shared : goal.returns-in-None-clause-shared
 returns-in-None-clause-shared g c m h =

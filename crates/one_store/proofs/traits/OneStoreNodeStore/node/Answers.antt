@@ -11,7 +11,8 @@ seek-sought-requires-clause-fits g c =
     let names = c.names_of-names.result in
     let e = c.names_of-names.ensures in
     let len : length c.args.children ≡ 8 = omega arith in
-    let q = asks c.args.self.now c.args.level names c.args.children e len c.requires.level.0 c.requires.level.1 c.requires.some c.requires.below c.requires.held in
+    let q =
+    asks c.args.self.now c.args.level names c.args.children e len c.requires.level.0 c.requires.level.1 c.requires.some c.requires.below c.requires.held in
     node_fits c.args.self.now c.args.level names q
 
 pub seek-sought-requires-clause-names : goal.seek-sought-requires-clause-names
@@ -20,7 +21,8 @@ seek-sought-requires-clause-names g c =
     let names = c.names_of-names.result in
     let e = c.names_of-names.ensures in
     let len : length c.args.children ≡ 8 = omega arith in
-    let q = asks c.args.self.now c.args.level names c.args.children e len c.requires.level.0 c.requires.level.1 c.requires.some c.requires.below c.requires.held in
+    let q =
+    asks c.args.self.now c.args.level names c.args.children e len c.requires.level.0 c.requires.level.1 c.requires.some c.requires.below c.requires.held in
     node_names c.args.self.now _ c.args.level names st q
 
 pub release_row-requires-clause-held : goal.release_row-requires-clause-held
@@ -29,7 +31,8 @@ release_row-requires-clause-held g c =
     let names = c.names_of-names.result in
     let e = c.names_of-names.ensures in
     let len : length c.args.children ≡ 8 = omega arith in
-    let q = asks c.args.self.now c.args.level names c.args.children e len c.requires.level.0 c.requires.level.1 c.requires.some c.requires.below c.requires.held in
+    let q =
+    asks c.args.self.now c.args.level names c.args.children e len c.requires.level.0 c.requires.level.1 c.requires.some c.requires.below c.requires.held in
     raised_holds c.args.self.now c.raise-share.new.self c.in-Some.n _ c.args.level names st q c.raise-share.ensures.raises
 
 pub add-requires-clause-held : goal.add-requires-clause-held
@@ -38,7 +41,8 @@ add-requires-clause-held g c =
     let names = c.names_of-names.result in
     let e = c.names_of-names.ensures in
     let len : length c.args.children ≡ 8 = omega arith in
-    let q = asks c.args.self.now c.args.level names c.args.children e len c.requires.level.0 c.requires.level.1 c.requires.some c.requires.below c.requires.held in
+    let q =
+    asks c.args.self.now c.args.level names c.args.children e len c.requires.level.0 c.requires.level.1 c.requires.some c.requires.below c.requires.held in
     sought_holds c.args.self.now _ c.seek-sought.result c.args.level names st q c.seek-sought.ensures.level c.seek-sought.ensures.key
 
 pub returns-in-Some-clause-held : goal.returns-in-Some-clause-held
@@ -47,7 +51,8 @@ returns-in-Some-clause-held g c row a =
     let names = c.names_of-names.result in
     let e = c.names_of-names.ensures in
     let len : length c.args.children ≡ 8 = omega arith in
-    let q = asks c.args.self.now c.args.level names c.args.children e len c.requires.level.0 c.requires.level.1 c.requires.some c.requires.below c.requires.held in
+    let q =
+    asks c.args.self.now c.args.level names c.args.children e len c.requires.level.0 c.requires.level.1 c.requires.some c.requires.below c.requires.held in
     let r = held_under c.args.self.now.told.held names c.args.children row e a in
     node_joined c.args.self.now c.raise-share.new.self c.release_row.new.self c.seek-sought.result c.in-Some.n c.raise-share.result _ c.args.level c.tick.new.self c.release_row.new.steps names row st q c.seek-sought.ensures.level c.seek-sought.ensures.key c.in-Some.ensures.found c.raise-share.ensures.raises c.release_row.ensures c.raise-share.ensures.share r
 
@@ -57,7 +62,8 @@ returns-in-Some-clause-hit g c row a m h =
     let names = c.names_of-names.result in
     let e = c.names_of-names.ensures in
     let len : length c.args.children ≡ 8 = omega arith in
-    let q = asks c.args.self.now c.args.level names c.args.children e len c.requires.level.0 c.requires.level.1 c.requires.some c.requires.below c.requires.held in
+    let q =
+    asks c.args.self.now c.args.level names c.args.children e len c.requires.level.0 c.requires.level.1 c.requires.some c.requires.below c.requires.held in
     let r = held_under c.args.self.now.told.held names c.args.children row e a in
     node_hit c.args.self.now c.raise-share.new.self c.release_row.new.self c.seek-sought.result c.in-Some.n m c.raise-share.result _ c.args.level c.tick.new.self c.release_row.new.steps names row st q c.seek-sought.ensures.level c.seek-sought.ensures.key c.in-Some.ensures.found c.raise-share.ensures.raises c.release_row.ensures c.raise-share.ensures.share r h
 
@@ -67,7 +73,8 @@ returns-in-Some-clause-turns g c =
     let names = c.names_of-names.result in
     let e = c.names_of-names.ensures in
     let len : length c.args.children ≡ 8 = omega arith in
-    let q = asks c.args.self.now c.args.level names c.args.children e len c.requires.level.0 c.requires.level.1 c.requires.some c.requires.below c.requires.held in
+    let q =
+    asks c.args.self.now c.args.level names c.args.children e len c.requires.level.0 c.requires.level.1 c.requires.some c.requires.below c.requires.held in
     node_turns c.args.self.now c.raise-share.new.self c.release_row.new.self c.seek-sought.result c.in-Some.n _ _ c.args.level c.args.steps.now c.tick.new.self c.release_row.new.steps names st c.number-left.ensures.store q c.seek-sought.ensures.level c.seek-sought.ensures.key c.in-Some.ensures.found c.raise-share.ensures.raises c.release_row.ensures c.tick.ensures
 
 pub returns-in-Ok-clause-held : goal.returns-in-Ok-clause-held
@@ -76,7 +83,8 @@ returns-in-Ok-clause-held g c row a =
     let names = c.names_of-names.result in
     let e = c.names_of-names.ensures in
     let len : length c.args.children ≡ 8 = omega arith in
-    let q = asks c.args.self.now c.args.level names c.args.children e len c.requires.level.0 c.requires.level.1 c.requires.some c.requires.below c.requires.held in
+    let q =
+    asks c.args.self.now c.args.level names c.args.children e len c.requires.level.0 c.requires.level.1 c.requires.some c.requires.below c.requires.held in
     let r = held_under c.args.self.now.told.held names c.args.children row e a in
     node_added c.args.self.now c.add.new.self c.seek-sought.result c.in-Ok.share _ c.args.level names row st q c.seek-sought.ensures.level c.seek-sought.ensures.key c.in-Ok.ensures.adds r
 
@@ -86,7 +94,8 @@ returns-in-Ok-clause-grants g c row a =
     let names = c.names_of-names.result in
     let e = c.names_of-names.ensures in
     let len : length c.args.children ≡ 8 = omega arith in
-    let q = asks c.args.self.now c.args.level names c.args.children e len c.requires.level.0 c.requires.level.1 c.requires.some c.requires.below c.requires.held in
+    let q =
+    asks c.args.self.now c.args.level names c.args.children e len c.requires.level.0 c.requires.level.1 c.requires.some c.requires.below c.requires.held in
     let r = held_under c.args.self.now.told.held names c.args.children row e a in
     node_grants c.args.self.now c.add.new.self c.seek-sought.result c.in-Ok.share _ c.args.level names row st q c.seek-sought.ensures.level c.seek-sought.ensures.key c.in-Ok.ensures.adds r
 
@@ -96,7 +105,8 @@ returns-in-Ok-clause-hit g c row a m h =
     let names = c.names_of-names.result in
     let e = c.names_of-names.ensures in
     let len : length c.args.children ≡ 8 = omega arith in
-    let q = asks c.args.self.now c.args.level names c.args.children e len c.requires.level.0 c.requires.level.1 c.requires.some c.requires.below c.requires.held in
+    let q =
+    asks c.args.self.now c.args.level names c.args.children e len c.requires.level.0 c.requires.level.1 c.requires.some c.requires.below c.requires.held in
     let r = held_under c.args.self.now.told.held names c.args.children row e a in
     absurd (node_missed c.args.self.now c.seek-sought.result m _ c.args.level names row st q c.seek-sought.ensures.level c.seek-sought.ensures.key (c.in-None.ensures.none refl) r h)
 
@@ -106,7 +116,8 @@ returns-in-Err-clause-hit g c row a m h =
     let names = c.names_of-names.result in
     let e = c.names_of-names.ensures in
     let len : length c.args.children ≡ 8 = omega arith in
-    let q = asks c.args.self.now c.args.level names c.args.children e len c.requires.level.0 c.requires.level.1 c.requires.some c.requires.below c.requires.held in
+    let q =
+    asks c.args.self.now c.args.level names c.args.children e len c.requires.level.0 c.requires.level.1 c.requires.some c.requires.below c.requires.held in
     let r = held_under c.args.self.now.told.held names c.args.children row e a in
     absurd (node_missed c.args.self.now c.seek-sought.result m _ c.args.level names row st q c.seek-sought.ensures.level c.seek-sought.ensures.key (c.in-None.ensures.none refl) r h)
 
@@ -116,7 +127,8 @@ returns-in-Err-clause-full g c row a =
     let names = c.names_of-names.result in
     let e = c.names_of-names.ensures in
     let len : length c.args.children ≡ 8 = omega arith in
-    let q = asks c.args.self.now c.args.level names c.args.children e len c.requires.level.0 c.requires.level.1 c.requires.some c.requires.below c.requires.held in
+    let q =
+    asks c.args.self.now c.args.level names c.args.children e len c.requires.level.0 c.requires.level.1 c.requires.some c.requires.below c.requires.held in
     let r = held_under c.args.self.now.told.held names c.args.children row e a in
     node_met c.args.self.now c.add.new.self c.seek-sought.result _ c.args.level _ _ names row st c.seek-sought.ensures.sought q c.seek-sought.ensures.level c.seek-sought.ensures.key c.in-Err.ensures.meets c.in-Err.ensures.full.0 c.in-Err.ensures.full.1 r
 
@@ -124,7 +136,8 @@ pub returns-in-Some-clause-shared : goal.returns-in-Some-clause-shared
 returns-in-Some-clause-shared g c m h =
     let st = c.number-number.ensures.store in
     let key = c.seek-sought.ensures.key ∙ ap Node c.names_of-names.ensures in
-    let level = node_level_of c.args.self.now _ c.args.level c.args.children m st c.requires.below c.requires.some h in
+    let level =
+    node_level_of c.args.self.now _ c.args.level c.args.children m st c.requires.below c.requires.some h in
     joins_found c.args.self.now c.raise-share.new.self c.release_row.new.self c.seek-sought.result c.in-Some.n m c.raise-share.result _ c.args.level c.tick.new.self c.release_row.new.steps _ _ st c.seek-sought.ensures.level key c.in-Some.ensures.found c.raise-share.ensures.raises c.release_row.ensures c.raise-share.ensures.share h level
 
 pub returns-in-Some-clause-added : goal.returns-in-Some-clause-added
@@ -136,14 +149,16 @@ pub returns-in-Ok-clause-shared : goal.returns-in-Ok-clause-shared
 returns-in-Ok-clause-shared g c m h =
     let st = c.number-number.ensures.store in
     let key = c.seek-sought.ensures.key ∙ ap Node c.names_of-names.ensures in
-    let level = node_level_of c.args.self.now _ c.args.level c.args.children m st c.requires.below c.requires.some h in
+    let level =
+    node_level_of c.args.self.now _ c.args.level c.args.children m st c.requires.below c.requires.some h in
     absurd (missing_no_entry c.args.self.now c.seek-sought.result m c.args.level _ c.seek-sought.ensures.level key (c.in-None.ensures.none refl) h level)
 
 pub returns-in-Err-clause-shared : goal.returns-in-Err-clause-shared
 returns-in-Err-clause-shared g c m h =
     let st = c.number-number.ensures.store in
     let key = c.seek-sought.ensures.key ∙ ap Node c.names_of-names.ensures in
-    let level = node_level_of c.args.self.now _ c.args.level c.args.children m st c.requires.below c.requires.some h in
+    let level =
+    node_level_of c.args.self.now _ c.args.level c.args.children m st c.requires.below c.requires.some h in
     absurd (missing_no_entry c.args.self.now c.seek-sought.result m c.args.level _ c.seek-sought.ensures.level key (c.in-None.ensures.none refl) h level)
 
 pub returns-in-Ok-clause-added : goal.returns-in-Ok-clause-added
@@ -162,6 +177,8 @@ returns-in-Ok-clause-rests g c =
     let names = c.names_of-names.result in
     let e = c.names_of-names.ensures in
     let len : length c.args.children ≡ 8 = omega arith in
-    let q = asks c.args.self.now c.args.level names c.args.children e len c.requires.level.0 c.requires.level.1 c.requires.some c.requires.below c.requires.held in
-    let holds = sought_holds c.args.self.now _ c.seek-sought.result c.args.level names st q c.seek-sought.ensures.level c.seek-sought.ensures.key in
+    let q =
+    asks c.args.self.now c.args.level names c.args.children e len c.requires.level.0 c.requires.level.1 c.requires.some c.requires.below c.requires.held in
+    let holds =
+    sought_holds c.args.self.now _ c.seek-sought.result c.args.level names st q c.seek-sought.ensures.level c.seek-sought.ensures.key in
     adds_spare c.args.self.now c.add.new.self c.seek-sought.result c.in-Ok.share _ st c.seek-sought.ensures.sought (c.in-None.ensures.none refl) holds c.in-Ok.ensures.adds

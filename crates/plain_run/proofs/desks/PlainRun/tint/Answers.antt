@@ -5,4 +5,5 @@ use Rattle.plain_run.proofs.desks.PlainRun.tint.Goals as goal
 
 pub returns : goal.returns
 returns c =
-    subst (λ (s : PlainState). c.tint.result ≡ world_tint s.models s.log.records c.args.version c.args.c) c.self.view_is c.tint.ensures
+    subst (λ (s : PlainState). c.tint.result
+    ≡ world_tint s.models s.log.records c.args.version c.args.c) c.self.view_is c.tint.ensures

@@ -7,7 +7,9 @@ use Rattle.plain_run.proofs.histories.PlainHistory.go.Goals as goal
 
 pub returns-in-None-clause-runs_on : goal.returns-in-None-clause-runs_on
 returns-in-None-clause-runs_on c =
-    λ once. subst (λ (a : Answer). RunsOn c.args.self.now c.args.next.session (record { line = c.args.next.line; command = Edit c.args.next.act once }) a c.args.self.now)
+    λ once. subst
+    (λ (a : Answer). RunsOn c.args.self.now c.args.next.session
+    (record { line = c.args.next.line; command = Edit c.args.next.act once }) a c.args.self.now)
     (sym c.nowhere_to_go.ensures)
     (go_nowhere c.args.self.now c.args.next.session c.args.next.line c.args.next.act once c.requires.are c.requires.other (search rules))
 
@@ -19,7 +21,11 @@ returns-then-is_marked-clause-runs_on c =
 pub returns-then-moment-eq-RECORDS-clause-runs_on : goal.returns-then-moment-eq-RECORDS-clause-runs_on
 returns-then-moment-eq-RECORDS-clause-runs_on c =
     λ once. go_late c.args.self.now c.args.next.session c.args.next.line c.args.next.act once c.requires.are c.in-Some.to (search rules)
-    (record { there = goes_there c.args.self.now c.args.next.act c.in-Some.to c.requires.other (search rules); unmarked = c.is_marked.ensures.free c.if-is_marked.false })
+    (record {
+      there = goes_there c.args.self.now c.args.next.act c.in-Some.to c.requires.other
+          (search rules);
+      unmarked = c.is_marked.ensures.free c.if-is_marked.false;
+    })
     (search rules)
 
 pub returns-clause-runs_on : goal.returns-clause-runs_on

@@ -3,4 +3,5 @@ use Rattle.history_model.specs.Rays.{ClearBefore}
 use Rattle.plain_run.proofs.histories.PlainHistory.ray.Given as goal
 
 abbrev pub invariant-loop-k : goal.invariant-loop-k
-invariant-loop-k l = ClearBefore l.fn.from l.fn.way (plain_side l.fn.self) (plain_world l.fn.self l.fn.version) l.k
+invariant-loop-k l =
+    ClearBefore l.fn.from l.fn.way (plain_side l.fn.self) (plain_world l.fn.self l.fn.version) l.k

@@ -10,4 +10,5 @@ returns-clause-within c k c' at i small =
     let lx = x.later small in
     let ly = y.later small in
     let lz = z.later small in
-    in_box_until c.args.self.now c.args.b k _ _ _ c.min-2.result small x y z (omega arith) (omega arith) (omega arith) (omega arith)
+    in_box_until c.args.self.now c.args.b k _ _ _ c.min-2.result small x y z (omega arith)
+    (omega arith) (omega arith) (omega arith)

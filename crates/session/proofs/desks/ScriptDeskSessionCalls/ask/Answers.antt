@@ -10,7 +10,9 @@ pub returns-clause-stands : goal.returns-clause-stands
 returns-clause-stands g c =
     desk_goes_on c.args.self.now.world.now.table c.args.self.now.number c.args.self.now.most c.args.self.now.session.now c.args.self.now.saves.now.items _ c.requires.stands c.ask_version.new.s c.ask_version.ensures.rest c.ask_version.ensures.same
     c.ask_version.ensures.held
-    (ask_sees (of_world c.args.self.now.world.now c.args.self.now.number) (session_seen c.args.self.now.session.now.view) (session_seen c.ask_version.new.s.view) c.args.version c.args.question c.ask_version.result (c.ask_version.ensures.told c.args.self.now.number))
+    (ask_sees (of_world c.args.self.now.world.now c.args.self.now.number)
+    (session_seen c.args.self.now.session.now.view)
+    (session_seen c.ask_version.new.s.view) c.args.version c.args.question c.ask_version.result (c.ask_version.ensures.told c.args.self.now.number))
 
 pub returns-clause-told : goal.returns-clause-told
 returns-clause-told g c = c.ask_version.ensures.told c.args.self.now.number

@@ -15,19 +15,32 @@ pin_box-requires-clause-room g c =
 pub returns-in-Ok-clause-stands : goal.returns-in-Ok-clause-stands
 returns-in-Ok-clause-stands g c =
     desk_saves c.args.self.now.world.now.table c.args.self.now.number c.args.self.now.most c.args.self.now.session.now c.args.self.now.saves.now.items _ c.requires.stands c.pin_box.new.s c.in-Ok.field-0.pin c.push_reserved.new.self.items c.requires.room c.pin_box.ensures.rest c.pin_box.ensures.same c.in-Ok.ensures.pinned
-    (save_sees (of_world c.args.self.now.world.now c.args.self.now.number) (session_seen c.args.self.now.session.now.view) (session_seen c.pin_box.new.s.view) c.args.version c.args.part (saved_told c.pin_box.result) (c.pin_box.ensures.told c.args.self.now.number)) c.push_reserved.ensures.items _ c.push_reserved.ensures.capacity
+    (save_sees (of_world c.args.self.now.world.now c.args.self.now.number)
+    (session_seen c.args.self.now.session.now.view)
+    (session_seen c.pin_box.new.s.view) c.args.version c.args.part
+    (saved_told c.pin_box.result)
+    (c.pin_box.ensures.told c.args.self.now.number)) c.push_reserved.ensures.items _ c.push_reserved.ensures.capacity
 
 pub returns-in-Ok-clause-told : goal.returns-in-Ok-clause-told
 returns-in-Ok-clause-told g c =
-    subst (λ (r : Result PinnedSave PinRefused). SaveTold (of_world c.args.self.now.world.now c.args.self.now.number) c.args.version c.args.part (session_seen c.args.self.now.session.now.view) (session_seen c.pin_box.new.s.view) (saved_told r))
+    subst (λ (r : Result PinnedSave PinRefused). SaveTold
+    (of_world c.args.self.now.world.now c.args.self.now.number) c.args.version c.args.part
+    (session_seen c.args.self.now.session.now.view) (session_seen c.pin_box.new.s.view)
+    (saved_told r))
     c.in-Ok.is (c.pin_box.ensures.told c.args.self.now.number)
 
 pub returns-in-Err-clause-stands : goal.returns-in-Err-clause-stands
 returns-in-Err-clause-stands g c =
     desk_goes_on c.args.self.now.world.now.table c.args.self.now.number c.args.self.now.most c.args.self.now.session.now c.args.self.now.saves.now.items _ c.requires.stands c.pin_box.new.s c.pin_box.ensures.rest c.pin_box.ensures.same c.in-Err.ensures.held
-    (save_sees (of_world c.args.self.now.world.now c.args.self.now.number) (session_seen c.args.self.now.session.now.view) (session_seen c.pin_box.new.s.view) c.args.version c.args.part (saved_told c.pin_box.result) (c.pin_box.ensures.told c.args.self.now.number))
+    (save_sees (of_world c.args.self.now.world.now c.args.self.now.number)
+    (session_seen c.args.self.now.session.now.view)
+    (session_seen c.pin_box.new.s.view) c.args.version c.args.part
+    (saved_told c.pin_box.result) (c.pin_box.ensures.told c.args.self.now.number))
 
 pub returns-in-Err-clause-told : goal.returns-in-Err-clause-told
 returns-in-Err-clause-told g c =
-    subst (λ (r : Result PinnedSave PinRefused). SaveTold (of_world c.args.self.now.world.now c.args.self.now.number) c.args.version c.args.part (session_seen c.args.self.now.session.now.view) (session_seen c.pin_box.new.s.view) (saved_told r))
+    subst (λ (r : Result PinnedSave PinRefused). SaveTold
+    (of_world c.args.self.now.world.now c.args.self.now.number) c.args.version c.args.part
+    (session_seen c.args.self.now.session.now.view) (session_seen c.pin_box.new.s.view)
+    (saved_told r))
     c.in-Err.is (c.pin_box.ensures.told c.args.self.now.number)

@@ -69,4 +69,5 @@ give_root-requires-clause-room g c =
     c.commit_root.new.s.view
     c.in-Ok-commit_root.field-0
     (commits_as _ _ _ _ c.act.result (g.M.ActMaker.act c.args.maker.now) _ _
-    (c.act.ensures.value ∙ c.make_next.ensures.act) c.in-Ok-commit_root.ensures.commits) c.requires.room
+    (c.act.ensures.value
+    ∙ c.make_next.ensures.act) c.in-Ok-commit_root.ensures.commits) c.requires.room

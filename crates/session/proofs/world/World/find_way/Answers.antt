@@ -7,7 +7,8 @@ use Rattle.session.proofs.world.World.find_way.Goals as goal
 
 pub length-at-requires : goal.length-at-requires
 length-at-requires g c =
-    has_turn c.args.self.now.table _ c.args.s.now _ (ap (λ (w : WorldSeen). w.table) c.self.view_is) refl c.requires.turn
+    has_turn c.args.self.now.table _ c.args.s.now _
+    (ap (λ (w : WorldSeen). w.table) c.self.view_is) refl c.requires.turn
 
 pub mark-requires-clause-there : goal.mark-requires-clause-there
 mark-requires-clause-there g c =
@@ -25,7 +26,8 @@ keep_version-root-requires-clause-unmarked g c =
 
 pub keep_version-root-requires-clause-room : goal.keep_version-root-requires-clause-room
 keep_version-root-requires-clause-room g c =
-    room_still _ _ (found_held c.args.self.now c.args.act.now c.requires.other c.args.s.now c.length-at.new.pass
+    room_still _ _
+    (found_held c.args.self.now c.args.act.now c.requires.other c.args.s.now c.length-at.new.pass
     c.target-lead.new.pass c.length-at.result c.target-lead.result.to c.length-at.ensures.same
     c.length-at.ensures.number c.target-lead.ensures.target c.target-lead.ensures.learns
     c.in-Some.to c.in-Some.is c.mark.new.pass c.mark.result c.mark.ensures.looks)
@@ -33,7 +35,8 @@ keep_version-root-requires-clause-room g c =
 
 pub returns-in-None-clause-turn : goal.returns-in-None-clause-turn
 returns-in-None-clause-turn g c =
-    log_stays c.args.self.now.table _ c.args.s.now c.target-lead.new.pass (ap (λ (w : WorldSeen). w.table) c.self.view_is)
+    log_stays c.args.self.now.table _ c.args.s.now c.target-lead.new.pass
+    (ap (λ (w : WorldSeen). w.table) c.self.view_is)
     c.requires.turn c.target-lead.ensures.turn
     (asked_looks c.args.self.now c.args.act.now c.requires.other c.args.s.now c.length-at.new.pass
     c.target-lead.new.pass c.length-at.result c.target-lead.result.to c.length-at.ensures.same
@@ -41,7 +44,8 @@ returns-in-None-clause-turn g c =
 
 pub returns-in-None-clause-same : goal.returns-in-None-clause-same
 returns-in-None-clause-same g c =
-    log_same c.args.self.now.table _ c.args.s.now c.target-lead.new.pass (ap (λ (w : WorldSeen). w.table) c.self.view_is)
+    log_same c.args.self.now.table _ c.args.s.now c.target-lead.new.pass
+    (ap (λ (w : WorldSeen). w.table) c.self.view_is)
     c.requires.turn c.target-lead.ensures.turn.of
     (asked_looks c.args.self.now c.args.act.now c.requires.other c.args.s.now c.length-at.new.pass
     c.target-lead.new.pass c.length-at.result c.target-lead.result.to c.length-at.ensures.same
@@ -68,7 +72,8 @@ returns-in-None-clause-told g c =
 
 pub returns-in-Some-mark-clause-turn : goal.returns-in-Some-mark-clause-turn
 returns-in-Some-mark-clause-turn g c =
-    log_stays c.args.self.now.table _ c.args.s.now c.mark.new.pass (ap (λ (w : WorldSeen). w.table) c.self.view_is)
+    log_stays c.args.self.now.table _ c.args.s.now c.mark.new.pass
+    (ap (λ (w : WorldSeen). w.table) c.self.view_is)
     c.requires.turn c.mark.ensures.turn
     (found_on c.args.self.now c.args.act.now c.requires.other c.args.s.now c.length-at.new.pass
     c.target-lead.new.pass c.length-at.result c.target-lead.result.to c.length-at.ensures.same
@@ -77,7 +82,8 @@ returns-in-Some-mark-clause-turn g c =
 
 pub returns-in-Some-mark-clause-same : goal.returns-in-Some-mark-clause-same
 returns-in-Some-mark-clause-same g c =
-    log_same c.args.self.now.table _ c.args.s.now c.mark.new.pass (ap (λ (w : WorldSeen). w.table) c.self.view_is)
+    log_same c.args.self.now.table _ c.args.s.now c.mark.new.pass
+    (ap (λ (w : WorldSeen). w.table) c.self.view_is)
     c.requires.turn c.mark.ensures.turn.of
     (found_on c.args.self.now c.args.act.now c.requires.other c.args.s.now c.length-at.new.pass
     c.target-lead.new.pass c.length-at.result c.target-lead.result.to c.length-at.ensures.same
@@ -108,7 +114,8 @@ returns-in-Some-mark-clause-told g c =
 
 pub returns-in-None-mark-clause-turn : goal.returns-in-None-mark-clause-turn
 returns-in-None-mark-clause-turn g c =
-    log_stays c.args.self.now.table _ c.args.s.now c.keep_version-root.new.pass (ap (λ (w : WorldSeen). w.table) c.self.view_is)
+    log_stays c.args.self.now.table _ c.args.s.now c.keep_version-root.new.pass
+    (ap (λ (w : WorldSeen). w.table) c.self.view_is)
     c.requires.turn c.keep_version-root.ensures.turn
     (way_looks c.args.self.now c.args.act.now c.requires.other c.args.s.now c.length-at.new.pass
     c.target-lead.new.pass c.length-at.result c.target-lead.result.to c.length-at.ensures.same
@@ -118,7 +125,8 @@ returns-in-None-mark-clause-turn g c =
 
 pub returns-in-None-mark-clause-same : goal.returns-in-None-mark-clause-same
 returns-in-None-mark-clause-same g c =
-    log_same c.args.self.now.table _ c.args.s.now c.keep_version-root.new.pass (ap (λ (w : WorldSeen). w.table) c.self.view_is)
+    log_same c.args.self.now.table _ c.args.s.now c.keep_version-root.new.pass
+    (ap (λ (w : WorldSeen). w.table) c.self.view_is)
     c.requires.turn c.keep_version-root.ensures.turn.of
     (way_looks c.args.self.now c.args.act.now c.requires.other c.args.s.now c.length-at.new.pass
     c.target-lead.new.pass c.length-at.result c.target-lead.result.to c.length-at.ensures.same

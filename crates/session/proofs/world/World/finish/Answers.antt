@@ -6,7 +6,8 @@ use Rattle.session.proofs.world.World.finish.Goals as goal
 
 pub finish-requires-clause-turn : goal.finish-requires-clause-turn
 finish-requires-clause-turn c =
-    has_turn c.args.self.now.table _ c.args.s.now _ (ap (λ (w : WorldSeen). w.table) c.self.view_is) refl c.requires.turn
+    has_turn c.args.self.now.table _ c.args.s.now _
+    (ap (λ (w : WorldSeen). w.table) c.self.view_is) refl c.requires.turn
 
 pub returns-in-Ok-clause-commits : goal.returns-in-Ok-clause-commits
 returns-in-Ok-clause-commits c =
@@ -28,13 +29,16 @@ returns-in-Ok-clause-same c =
 
 pub returns-in-Err-clause-rest : goal.returns-in-Err-clause-rest
 returns-in-Err-clause-rest c =
-    log_rests c.args.self.now.table _ c.args.s.now c.finish.new.pass (ap (λ (w : WorldSeen). w.table) c.self.view_is) c.requires.turn
+    log_rests c.args.self.now.table _ c.args.s.now c.finish.new.pass
+    (ap (λ (w : WorldSeen). w.table) c.self.view_is) c.requires.turn
     c.in-Err.ensures.of c.in-Err.ensures.idle c.in-Err.ensures.looks.sees
 
 pub returns-in-Err-clause-same : goal.returns-in-Err-clause-same
 returns-in-Err-clause-same c =
-    log_same c.args.self.now.table _ c.args.s.now c.finish.new.pass (ap (λ (w : WorldSeen). w.table) c.self.view_is) c.requires.turn
+    log_same c.args.self.now.table _ c.args.s.now c.finish.new.pass
+    (ap (λ (w : WorldSeen). w.table) c.self.view_is) c.requires.turn
     c.in-Err.ensures.of c.in-Err.ensures.looks.session
 
 pub returns-in-Err-clause-seen : goal.returns-in-Err-clause-seen
-returns-in-Err-clause-seen c = left_seen c.args.s.now.view c.finish.new.pass.view c.in-Err.ensures.left
+returns-in-Err-clause-seen c =
+    left_seen c.args.s.now.view c.finish.new.pass.view c.in-Err.ensures.left

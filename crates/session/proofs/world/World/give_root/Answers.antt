@@ -6,7 +6,8 @@ use Rattle.session.proofs.world.World.give_root.Goals as goal
 
 pub returns-clause-rest : goal.returns-clause-rest
 returns-clause-rest g c =
-    rests_lent c.args.self.now.table _ c.args.s.now c.give_back.new.session (ap (λ (w : WorldSeen). w.table) c.self.view_is)
+    rests_lent c.args.self.now.table _ c.args.s.now c.give_back.new.session
+    (ap (λ (w : WorldSeen). w.table) c.self.view_is)
     c.requires.rest c.give_back.ensures.stays
 
 pub returns-clause-seen : goal.returns-clause-seen

@@ -5,7 +5,8 @@ use Rattle.session.proofs.world.World.keep_head.Goals as goal
 
 pub length-at-requires : goal.length-at-requires
 length-at-requires g c =
-    has_turn c.args.self.now.table _ c.args.s.now _ (ap (λ (w : WorldSeen). w.table) c.self.view_is) refl c.requires.turn
+    has_turn c.args.self.now.table _ c.args.s.now _
+    (ap (λ (w : WorldSeen). w.table) c.self.view_is) refl c.requires.turn
 
 pub keep_version-requires-clause-unmarked : goal.keep_version-requires-clause-unmarked
 keep_version-requires-clause-unmarked g c =
@@ -28,7 +29,8 @@ returns-clause-turn g c =
 
 pub returns-clause-same : goal.returns-clause-same
 returns-clause-same g c =
-    log_same c.args.self.now.table _ c.args.s.now c.keep_version.new.pass (ap (λ (w : WorldSeen). w.table) c.self.view_is)
+    log_same c.args.self.now.table _ c.args.s.now c.keep_version.new.pass
+    (ap (λ (w : WorldSeen). w.table) c.self.view_is)
     c.requires.turn c.keep_version.ensures.turn.of
     (head_looks c.args.s.now c.length-at.new.pass c.mark-mark.new.pass
     c.length-at.result c.mark-mark.result c.length-at.ensures.same c.length-at.ensures.number

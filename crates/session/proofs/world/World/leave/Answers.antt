@@ -5,7 +5,8 @@ use Rattle.session.proofs.world.World.leave.Goals as goal
 
 pub length-at-requires : goal.length-at-requires
 length-at-requires c =
-    has_turn c.args.self.now.table _ c.args.s.now _ (ap (λ (w : WorldSeen). w.table) c.self.view_is) refl c.requires.turn
+    has_turn c.args.self.now.table _ c.args.s.now _
+    (ap (λ (w : WorldSeen). w.table) c.self.view_is) refl c.requires.turn
 
 pub returns-clause-rest : goal.returns-clause-rest
 returns-clause-rest c =

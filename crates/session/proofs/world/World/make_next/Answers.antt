@@ -6,11 +6,13 @@ use Rattle.session.proofs.world.World.make_next.Goals as goal
 
 pub make_over-requires-clause-fits : goal.make_over-requires-clause-fits
 make_over-requires-clause-fits g c =
-    maker_own_fits c.args.self.now.table c.self.inside.table _ _ _ (ap (λ (w : WorldSeen). w.table) c.self.view_is) c.requires.maker
+    maker_own_fits c.args.self.now.table c.self.inside.table _ _ _
+    (ap (λ (w : WorldSeen). w.table) c.self.view_is) c.requires.maker
 
 pub make_over-requires-clause-large : goal.make_over-requires-clause-large
 make_over-requires-clause-large g c =
-    maker_own_large c.args.self.now.table c.self.inside.table _ _ _ (ap (λ (w : WorldSeen). w.table) c.self.view_is) c.requires.maker
+    maker_own_large c.args.self.now.table c.self.inside.table _ _ _
+    (ap (λ (w : WorldSeen). w.table) c.self.view_is) c.requires.maker
 
 pub make_over-requires-clause-room : goal.make_over-requires-clause-room
 make_over-requires-clause-room g c =
@@ -18,7 +20,8 @@ make_over-requires-clause-room g c =
 
 pub make_over-requires-clause-old : goal.make_over-requires-clause-old
 make_over-requires-clause-old g c =
-    next_walk c.args.self.now.table c.self.inside.table c.args.s.now _ _ (ap (λ (w : WorldSeen). w.table) c.self.view_is)
+    next_walk c.args.self.now.table c.self.inside.table c.args.s.now _ _
+    (ap (λ (w : WorldSeen). w.table) c.self.view_is)
     c.requires.ready c.requires.base
 
 pub returns-in-Ok-clause-root : goal.returns-in-Ok-clause-root

@@ -7,12 +7,14 @@ use Rattle.session.proofs.world.World.take.Goals as goal
 
 pub returns-clause-turn : goal.returns-clause-turn
 returns-clause-turn g c =
-    log_came c.args.self.now.table _ c.args.s.now c.take.new.pass (ap (λ (w : WorldSeen). w.table) c.self.view_is) c.requires.rest
+    log_came c.args.self.now.table _ c.args.s.now c.take.new.pass
+    (ap (λ (w : WorldSeen). w.table) c.self.view_is) c.requires.rest
     c.take.ensures.turn (takes_looks _ _ c.take.ensures.takes)
 
 pub returns-clause-same : goal.returns-clause-same
 returns-clause-same g c =
-    same_looked c.args.self.now.table _ c.args.s.now c.take.new.pass (ap (λ (w : WorldSeen). w.table) c.self.view_is) c.requires.rest
+    same_looked c.args.self.now.table _ c.args.s.now c.take.new.pass
+    (ap (λ (w : WorldSeen). w.table) c.self.view_is) c.requires.rest
     c.take.ensures.turn.of (takes_looks _ _ c.take.ensures.takes)
 
 pub returns-clause-looks : goal.returns-clause-looks

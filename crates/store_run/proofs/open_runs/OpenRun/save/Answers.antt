@@ -9,5 +9,6 @@ pub returns-clause-is_name : goal.returns-clause-is_name
 returns-clause-is_name c =
     let here = ap (λ (s : StoreRunState). length s.saved) c.self.view_is in
     let as_many = length-map c.self.inside.pinned.pins.items (λ (pin : Pin). pin.save) in
-    let lt : c.args.k < length c.self.inside.pinned.pins.items = omega (arith, c.requires, here, as_many) in
+    let lt : c.args.k < length c.self.inside.pinned.pins.items =
+    omega (arith, c.requires, here, as_many) in
     pin_named c.self.inside.pinned.versions c.self.inside.pinned.pins.items c.args.k c.index.result.now c.self.invariant lt c.index.ensures

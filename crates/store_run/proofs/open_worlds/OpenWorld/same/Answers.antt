@@ -9,10 +9,12 @@ use Rattle.store_run.proofs.open_worlds.OpenWorld.same.Goals as goal
 pub returns : goal.returns
 returns c =
     subst
-    (λ (s : WorldState). IsTrue c.has_same_roots.result ↔ SameWorld (2 ^ s.plan.side) (world_has s.models s.log.records c.args.v)
+    (λ (s : WorldState). IsTrue c.has_same_roots.result
+    ↔ SameWorld (2 ^ s.plan.side) (world_has s.models s.log.records c.args.v)
     (world_has s.models s.log.records c.args.w))
     c.self.view_is
     (same_by_roots c.self.inside.versions c.number-number.result c.args.v c.args.w c.has_same_roots.result c.self.invariant.are
     c.number-number.ensures.store
     (subst (λ (s : WorldState). IsKept s.log c.args.v) (sym c.self.view_is) c.requires.first)
-    (subst (λ (s : WorldState). IsKept s.log c.args.w) (sym c.self.view_is) c.requires.second) c.has_same_roots.ensures)
+    (subst (λ (s : WorldState). IsKept s.log c.args.w)
+    (sym c.self.view_is) c.requires.second) c.has_same_roots.ensures)

@@ -13,7 +13,8 @@ give_back-requires-clause-holds g c =
     c.pop.ensures.items c.in-Some.is c.number-number.result c.number-number.ensures.store)
 
 pub give_back-requires-clause-few : goal.give_back-requires-clause-few
-give_back-requires-clause-few g c = popped_few c.loop-pin.versions c.loop-pin.pins.items c.loop-pin.invariant.pinned
+give_back-requires-clause-few g c =
+    popped_few c.loop-pin.versions c.loop-pin.pins.items c.loop-pin.invariant.pinned
 
 pub loop-pin-preserved : goal.loop-pin-preserved
 loop-pin-preserved g c = record {

@@ -34,8 +34,12 @@ returns-in-Kept-clause-saved c =
     subst (λ (a : Answer). saves_of c.pin.new.self.pins.items ≡ saves_of c.args.self.now.pins.items
     ++ saved_by (Save c.args.version c.args.name c.args.part) (moment_of c.pin.new.self.versions) a)
     (sym c.saved.ensures)
-    (save_listed (side_of c.args.self.now.versions) (world_of c.args.self.now.versions c.asked-asked.result)
+    (save_listed (side_of c.args.self.now.versions)
+    (world_of c.args.self.now.versions c.asked-asked.result)
     (tints_of c.args.self.now.versions c.asked-asked.result) c.args.version c.args.name c.args.part
-    (moment_of c.pin.new.self.versions) c.asked-asked.result c.pin.result (saves_of c.args.self.now.pins.items) (saves_of c.pin.new.self.pins.items)
-    (c.asked-asked.ensures ∙ ap (asked_version c.args.version) (moment_left c.args.self.now.versions c.pin.new.self.versions c.pin.ensures.leaves))
+    (moment_of c.pin.new.self.versions) c.asked-asked.result c.pin.result
+    (saves_of c.args.self.now.pins.items) (saves_of c.pin.new.self.pins.items)
+    (c.asked-asked.ensures
+    ∙ ap (asked_version c.args.version)
+    (moment_left c.args.self.now.versions c.pin.new.self.versions c.pin.ensures.leaves))
     c.pin.ensures.tells c.pin.ensures.pinned)

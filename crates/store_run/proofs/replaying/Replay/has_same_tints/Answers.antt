@@ -8,10 +8,14 @@ use Rattle.store_run.proofs.replaying.Replay.has_same_tints.Goals as goal
 
 pub returns : goal.returns
 returns g c =
-    subst (λ (s : ReplayState). IsTrue c.has_same_roots.result ↔ SameTints (kept_side s.tint (2 ^ s.plan.side))
-    (world_tint s.models s.records c.args.v) (world_tint s.models s.records c.args.w)) c.self.view_is
+    subst (λ (s : ReplayState). IsTrue c.has_same_roots.result
+    ↔ SameTints (kept_side s.tint (2 ^ s.plan.side))
+    (world_tint s.models s.records c.args.v)
+    (world_tint s.models s.records c.args.w)) c.self.view_is
     (same_roots_same c.self.inside.versions c.number-number.result c.args.v c.args.w
     c.self.invariant c.number-number.ensures.store
-    (subst (λ (s : ReplayState). c.args.v ≤ length s.records) (sym c.self.view_is) c.requires.there.0)
-    (subst (λ (s : ReplayState). c.args.w ≤ length s.records) (sym c.self.view_is) c.requires.there.1)
+    (subst (λ (s : ReplayState). c.args.v ≤ length s.records)
+    (sym c.self.view_is) c.requires.there.0)
+    (subst (λ (s : ReplayState). c.args.w ≤ length s.records)
+    (sym c.self.view_is) c.requires.there.1)
     c.has_same_roots.result c.has_same_roots.ensures)

@@ -9,7 +9,8 @@ pub returns-then-not-is_edit-clause-replays : goal.returns-then-not-is_edit-clau
 returns-then-not-is_edit-clause-replays g c =
     way_replays c.args.self.now.records c.reserve.new.self c.take_way.new.self c.args.next
     c.take_way.result
-    (ap (λ (l : Log). l.records) c.reserve.ensures.log ∙ ap (λ (s : ReplayState). s.records) c.self.view_is)
+    (ap (λ (l : Log). l.records) c.reserve.ensures.log
+    ∙ ap (λ (s : ReplayState). s.records) c.self.view_is)
     (sym c.is_edit.ensures ∙ c.if-not-is_edit.true) c.take_way.ensures.takes
     c.take_way.ensures.follows c.take_way.ensures.stays c.take_way.ensures.target
 

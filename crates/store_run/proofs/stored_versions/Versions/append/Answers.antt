@@ -26,4 +26,5 @@ returns-clause-plain c plainly =
 
 pub returns-clause-loses : goal.returns-clause-loses
 returns-clause-loses c =
-    keeps_loses c.args.self.now.store c.keep_root.new.self (c.moment-version.result + 1) c.args.root c.keep_root.ensures.keeps
+    keeps_loses c.args.self.now.store c.keep_root.new.self
+    (c.moment-version.result + 1) c.args.root c.keep_root.ensures.keeps

@@ -10,7 +10,8 @@ returns-clause-are c =
     begun_are _ c.args.plan.now c.side.ensures.value c.in_ok-begin.ensures.plan c.in_ok-begin.ensures.free c.args.tint own.ensures.tint
     c.in_ok-begin.ensures.roots c.in_ok-begin.ensures.told
     c.in_ok-with_capacity.ensures.items c.in_ok-no_marks.ensures c.in_ok-begin-2.ensures c.requires.large
-    (subst (λ (ms : List Content). HaveTints c.args.tint ms) (sym own.ensures.models) own.ensures.colours)
+    (subst (λ (ms : List Content). HaveTints c.args.tint ms)
+    (sym own.ensures.models) own.ensures.colours)
 
 pub returns-clause-empty : goal.returns-clause-empty
 returns-clause-empty c =

@@ -10,7 +10,8 @@ returns-in-Err-clause-goes_on g c once =
 pub returns-then-moment-eq-RECORDS-clause-goes_on : goal.returns-then-moment-eq-RECORDS-clause-goes_on
 returns-then-moment-eq-RECORDS-clause-goes_on g c once =
     edit_late c.args.self.now c.give_back.new.self c.args.session c.args.line c.args.act once c.requires.are c.requires.edit c.rebuild.new.self c.in-Ok.root
-    c.in-Ok.ensures.makes (omega (arith, c.moment.ensures.value, c.if-moment-eq-RECORDS.true)) c.give_back.ensures.puts.leaves
+    c.in-Ok.ensures.makes
+    (omega (arith, c.moment.ensures.value, c.if-moment-eq-RECORDS.true)) c.give_back.ensures.puts.leaves
 
 pub returns-clause-goes_on : goal.returns-clause-goes_on
 returns-clause-goes_on g c once =
@@ -24,10 +25,12 @@ returns-in-Err-clause-logs g c =
 pub returns-then-moment-eq-RECORDS-clause-logs : goal.returns-then-moment-eq-RECORDS-clause-logs
 returns-then-moment-eq-RECORDS-clause-logs g c =
     edit_late_logs c.args.self.now c.give_back.new.self c.args.session c.args.line c.args.act c.requires.edit c.rebuild.new.self c.in-Ok.root
-    c.in-Ok.ensures.makes (omega (arith, c.moment.ensures.value, c.if-moment-eq-RECORDS.true)) c.give_back.ensures.puts.leaves
+    c.in-Ok.ensures.makes
+    (omega (arith, c.moment.ensures.value, c.if-moment-eq-RECORDS.true)) c.give_back.ensures.puts.leaves
 
 pub returns-clause-logs : goal.returns-clause-logs
 returns-clause-logs g c =
     edit_done_logs c.args.self.now c.append.new.self c.args.session c.args.line c.args.act c.requires.edit c.rebuild.new.self c.in-Ok.root
-    c.in-Ok.ensures.makes c.append.ensures.appends (λ e. omega (arith, c.moment.ensures.value, c.if-moment-eq-RECORDS.false, e))
+    c.in-Ok.ensures.makes c.append.ensures.appends
+    (λ e. omega (arith, c.moment.ensures.value, c.if-moment-eq-RECORDS.false, e))
     (omega (arith, c.moment.ensures.value, c.moment.ensures.few))

@@ -28,21 +28,29 @@ returns-else-version-at-clause-goes_on g c =
 
 pub returns-then-version-at-clause-logs : goal.returns-then-version-at-clause-logs
 returns-then-version-at-clause-logs g c =
-    forgets_head_logs c.args.self.now (mark_of c.args.version (moment_of c.args.self.now) c.args.session c.args.line)
+    forgets_head_logs c.args.self.now
+    (mark_of c.args.version (moment_of c.args.self.now) c.args.session c.args.line)
     (omega (arith, c.if-version-at.true, c.moment-at.ensures.value))
 
 pub returns-in-NotThere-clause-logs : goal.returns-in-NotThere-clause-logs
 returns-in-NotThere-clause-logs g c =
-    forget_missing_logs c.args.self.now (mark_of c.args.version (moment_of c.args.self.now) c.args.session c.args.line) c.in-NotThere.ensures
+    forget_missing_logs c.args.self.now
+    (mark_of c.args.version
+    (moment_of c.args.self.now) c.args.session c.args.line) c.in-NotThere.ensures
 
 pub returns-in-Marked-clause-logs : goal.returns-in-Marked-clause-logs
 returns-in-Marked-clause-logs g c =
-    forget_marked_logs c.args.self.now (mark_of c.args.version (moment_of c.args.self.now) c.args.session c.args.line) c.in-Marked.ensures
+    forget_marked_logs c.args.self.now
+    (mark_of c.args.version
+    (moment_of c.args.self.now) c.args.session c.args.line) c.in-Marked.ensures
 
 pub returns-else-version-at-clause-logs : goal.returns-else-version-at-clause-logs
 returns-else-version-at-clause-logs g c =
-    subst (λ (n : ℕ). AnswersForget (log_of c.args.self.now) (mark_of c.args.version n c.args.session c.args.line) (Forgot c.args.version) (log_of c.forget.new.self))
+    subst (λ (n : ℕ). AnswersForget (log_of c.args.self.now)
+    (mark_of c.args.version n c.args.session c.args.line) (Forgot c.args.version)
+    (log_of c.forget.new.self))
     c.moment-at.ensures.value
-    (forgot_logs c.args.self.now (mark_of c.args.version c.moment-at.result c.args.session c.args.line) c.forget.new.self c.in-Kept.ensures
+    (forgot_logs c.args.self.now
+    (mark_of c.args.version c.moment-at.result c.args.session c.args.line) c.forget.new.self c.in-Kept.ensures
     (kept_earlier c.args.self.now c.args.version c.moment-at.result c.in-Kept.ensures c.moment-at.ensures.value (λ e. omega (arith, c.if-version-at.false, e)))
     c.forget.ensures.marks)

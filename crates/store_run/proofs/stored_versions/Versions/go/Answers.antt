@@ -11,7 +11,8 @@ use Rattle.store_run.proofs.stored_versions.Versions.go.Goals as goal
 
 pub returns-in-None-clause-goes_on : goal.returns-in-None-clause-goes_on
 returns-in-None-clause-goes_on c once =
-    subst (λ (a : Answer). GoesOnBy c.args.self.now c.args.session (record { line = c.args.line; command = Edit c.args.act once }) a c.args.self.now)
+    subst (λ (a : Answer). GoesOnBy c.args.self.now c.args.session
+    (record { line = c.args.line; command = Edit c.args.act once }) a c.args.self.now)
     (sym c.nothing_to_go_to.ensures)
     (go_nowhere c.args.self.now c.args.session c.args.line c.args.act once c.requires.are c.requires.other
     (sym c.target.ensures ∙ c.in-None.is))
@@ -29,13 +30,16 @@ returns-in-NotThere-clause-goes_on c once =
 pub returns-then-moment-eq-RECORDS-clause-goes_on : goal.returns-then-moment-eq-RECORDS-clause-goes_on
 returns-then-moment-eq-RECORDS-clause-goes_on c once =
     go_late c.args.self.now c.args.session c.args.line c.args.act once c.requires.are c.requires.other c.in-Some.to
-    (sym c.target.ensures ∙ c.in-Some.is) c.in-Kept.ensures (omega (arith, c.moment.ensures.value, c.if-moment-eq-RECORDS.true))
+    (sym c.target.ensures ∙ c.in-Some.is) c.in-Kept.ensures
+    (omega (arith, c.moment.ensures.value, c.if-moment-eq-RECORDS.true))
 
 pub append-requires-clause-may : goal.append-requires-clause-may
 append-requires-clause-may c =
-    may_go_to c.args.self.now c.share-root.new.self (record { session = c.args.session; line = c.args.line; act = c.args.act }) c.in-Some.to c.number-number.result
+    may_go_to c.args.self.now c.share-root.new.self
+    (record { session = c.args.session; line = c.args.line; act = c.args.act }) c.in-Some.to c.number-number.result
     c.share-root.result c.share-root.ensures.are c.number-number.ensures.store c.share-root.ensures.shares c.requires.other
-    (sym c.target.ensures ∙ c.in-Some.is) c.in-Kept.ensures (λ e. omega (arith, c.moment.ensures.value, c.if-moment-eq-RECORDS.false, e))
+    (sym c.target.ensures ∙ c.in-Some.is) c.in-Kept.ensures
+    (λ e. omega (arith, c.moment.ensures.value, c.if-moment-eq-RECORDS.false, e))
     (omega (arith, c.moment.ensures.value, c.moment.ensures.few))
 
 pub returns-clause-goes_on : goal.returns-clause-goes_on
@@ -45,9 +49,12 @@ returns-clause-goes_on c once =
 
 pub returns-in-None-clause-logs : goal.returns-in-None-clause-logs
 returns-in-None-clause-logs c =
-    subst (λ (a : Answer). Changes (log_of c.args.self.now) (record { session = c.args.session; line = c.args.line; act = c.args.act }) a (log_of c.args.self.now))
+    subst (λ (a : Answer). Changes (log_of c.args.self.now)
+    (record { session = c.args.session; line = c.args.line; act = c.args.act }) a
+    (log_of c.args.self.now))
     (sym c.nothing_to_go_to.ensures)
-    (go_nowhere_logs c.args.self.now c.args.session c.args.line c.args.act c.requires.other (sym c.target.ensures ∙ c.in-None.is))
+    (go_nowhere_logs c.args.self.now c.args.session c.args.line c.args.act c.requires.other
+    (sym c.target.ensures ∙ c.in-None.is))
 
 pub returns-in-Marked-clause-logs : goal.returns-in-Marked-clause-logs
 returns-in-Marked-clause-logs c =
@@ -62,10 +69,12 @@ returns-in-NotThere-clause-logs c =
 pub returns-then-moment-eq-RECORDS-clause-logs : goal.returns-then-moment-eq-RECORDS-clause-logs
 returns-then-moment-eq-RECORDS-clause-logs c =
     go_late_logs c.args.self.now c.args.session c.args.line c.args.act c.requires.other c.in-Some.to
-    (sym c.target.ensures ∙ c.in-Some.is) c.in-Kept.ensures (omega (arith, c.moment.ensures.value, c.if-moment-eq-RECORDS.true))
+    (sym c.target.ensures ∙ c.in-Some.is) c.in-Kept.ensures
+    (omega (arith, c.moment.ensures.value, c.if-moment-eq-RECORDS.true))
 
 pub returns-clause-logs : goal.returns-clause-logs
 returns-clause-logs c =
     go_done_logs c.args.self.now c.args.session c.args.line c.args.act c.requires.other c.share-root.new.self c.append.new.self c.in-Some.to c.share-root.result
-    (sym c.target.ensures ∙ c.in-Some.is) c.in-Kept.ensures (λ e. omega (arith, c.moment.ensures.value, c.if-moment-eq-RECORDS.false, e))
+    (sym c.target.ensures ∙ c.in-Some.is) c.in-Kept.ensures
+    (λ e. omega (arith, c.moment.ensures.value, c.if-moment-eq-RECORDS.false, e))
     (omega (arith, c.moment.ensures.value, c.moment.ensures.few)) c.share-root.ensures.shares c.append.ensures.appends

@@ -16,7 +16,8 @@ loop-version-preserved c =
     let there = in_places c.args.self c.loop-version.version c.requires.are le in
     let places = c.requires.are.places in
     let is =
-    mark_read c.args.self.marks.items c.loop-version.version c.index.result.now (omega (arith, there, places))
+    mark_read c.args.self.marks.items c.loop-version.version c.index.result.now
+    (omega (arith, there, places))
     c.index.ensures in
     record {
       taken = c.take.ensures.taken c.args.self c.requires.are le is c.loop-version.invariant.taken;

@@ -8,5 +8,6 @@ use Rattle.store_run.proofs.stored_versions.Versions.numbers.Given as goal
 abbrev pub invariant-loop-level : goal.invariant-loop-level
 invariant-loop-level l = record {
   many : length l.numbers.items ≡ l.level;
-  each : (k : ℕ) → k < l.level → slice_index l.numbers.items k ≡ live_number (plan_of l.self) (core_of l.self.store) k;
+  each : (k : ℕ) → k < l.level
+      → slice_index l.numbers.items k ≡ live_number (plan_of l.self) (core_of l.self.store) k;
 }

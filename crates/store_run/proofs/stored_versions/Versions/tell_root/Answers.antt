@@ -5,5 +5,7 @@ use Rattle.store_run.proofs.stored_versions.Versions.tell_root.Goals as goal
 
 pub returns-then-tint-clause-tells : goal.returns-then-tint-clause-tells
 returns-then-tint-clause-tells c =
-    tints_told c.args.self.now c.args.version (option_copied c.args.root) c.args.question c.tell_tinted.result c.requires.are
-    c.requires.kept c.requires.holds c.requires.is (sym c.tint.ensures ∙ c.if-tint.true) c.tell_tinted.ensures.tells
+    tints_told c.args.self.now c.args.version
+    (option_copied c.args.root) c.args.question c.tell_tinted.result c.requires.are
+    c.requires.kept c.requires.holds c.requires.is
+    (sym c.tint.ensures ∙ c.if-tint.true) c.tell_tinted.ensures.tells

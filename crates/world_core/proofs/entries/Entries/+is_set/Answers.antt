@@ -11,22 +11,26 @@ pub returns-in-None : goal.returns-in-None
 returns-in-None t c =
     let key : Name → Key = keys_in c.args.self.now in
     none_set key c.args.level c.args.q.x c.args.q.y c.args.q.z
-    ∙ ap (λ (o : Option Name). set_at key c.args.level o c.args.q.x c.args.q.y c.args.q.z) (sym c.in-None.is)
+    ∙ ap (λ (o : Option Name). set_at key c.args.level o c.args.q.x c.args.q.y c.args.q.z)
+    (sym c.in-None.is)
 
 pub returns-then-level-eq0 : goal.returns-then-level-eq0
 returns-then-level-eq0 t c =
     let key : Name → Key = keys_in c.args.self.now in
     c.is_bit_set.ensures
-    ∙ ap (λ (b : ℕ). has 0 (Leaf b) c.args.q.x c.args.q.y c.args.q.z) (c.bits_in.ensures ∙ ap key_bits c.key_or_empty-key.ensures)
+    ∙ ap (λ (b : ℕ). has 0 (Leaf b) c.args.q.x c.args.q.y c.args.q.z)
+    (c.bits_in.ensures ∙ ap key_bits c.key_or_empty-key.ensures)
     ∙ leaf_set key c.args.level c.in-Some.n c.args.q.x c.args.q.y c.args.q.z c.if-level-eq0.true
-    ∙ ap (λ (o : Option Name). set_at key c.args.level o c.args.q.x c.args.q.y c.args.q.z) (sym c.in-Some.is)
+    ∙ ap (λ (o : Option Name). set_at key c.args.level o c.args.q.x c.args.q.y c.args.q.z)
+    (sym c.in-Some.is)
 
 pub returns-then-octant-gt7 : goal.returns-then-octant-gt7
 returns-then-octant-gt7 t c =
     let key : Name → Key = keys_in c.args.self.now in
     past_set key c.args.side c.args.level c.in-Some.n c.args.q.x c.args.q.y c.args.q.z c.octant_with-octant.result
     c.requires (let h = c.if-level-eq0.false in omega arith) c.octant_with-octant.ensures c.if-octant-gt7.true
-    ∙ ap (λ (o : Option Name). set_at key c.args.level o c.args.q.x c.args.q.y c.args.q.z) (sym c.in-Some.is)
+    ∙ ap (λ (o : Option Name). set_at key c.args.level o c.args.q.x c.args.q.y c.args.q.z)
+    (sym c.in-Some.is)
 
 pub is_set-requires : goal.is_set-requires
 is_set-requires t c =
@@ -38,6 +42,10 @@ returns t c =
     below_set key c.args.side c.args.level c.in-Some.n c.args.q.x c.args.q.y c.args.q.z c.octant_with-octant.result c.is_set.result
     c.requires (let h = c.if-level-eq0.false in omega arith) c.octant_with-octant.ensures c.if-octant-gt7.false
     (c.is_set.ensures
-    ∙ ap (λ (o : Option Name). set_at key (c.args.level - 1) o (c.args.q.x % (c.args.side / 2)) (c.args.q.y % (c.args.side / 2)) (c.args.q.z % (c.args.side / 2)))
-    (c.child_in.ensures ∙ ap (λ (k : Key). key_child k c.octant_with-octant.result) c.key_or_empty-key.ensures))
-    ∙ ap (λ (o : Option Name). set_at key c.args.level o c.args.q.x c.args.q.y c.args.q.z) (sym c.in-Some.is)
+    ∙ ap
+    (λ (o : Option Name). set_at key (c.args.level - 1) o (c.args.q.x % (c.args.side / 2))
+    (c.args.q.y % (c.args.side / 2)) (c.args.q.z % (c.args.side / 2)))
+    (c.child_in.ensures
+    ∙ ap (λ (k : Key). key_child k c.octant_with-octant.result) c.key_or_empty-key.ensures))
+    ∙ ap (λ (o : Option Name). set_at key c.args.level o c.args.q.x c.args.q.y c.args.q.z)
+    (sym c.in-Some.is)

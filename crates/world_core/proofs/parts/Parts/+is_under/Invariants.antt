@@ -10,4 +10,6 @@ abbrev pub decreases-is_under : goal.decreases-is_under
 decreases-is_under l = l.level
 
 abbrev pub invariant-loop-k : goal.invariant-loop-k
-invariant-loop-k l = (j : ℕ) (child : Name) → j < l.k → name_in l.children j ≡ Some child → IsUnder (stored_state (stored l.self)).key l.m child → ⊥
+invariant-loop-k l =
+    (j : ℕ) (child : Name) → j < l.k → name_in l.children j ≡ Some child
+    → IsUnder (stored_state (stored l.self)).key l.m child → ⊥

@@ -16,8 +16,13 @@ returns c =
     let there = gone_below s act c.requires.stored c.requires.other v at in
     let goes = target_goes s.log.records act v at in (
       λ t. (let h = c.is_kept_root.ensures.0 t in
-          other_made s act c.args.root c.requires.stored v c.requires.other (record { there = there; unmarked = h.0 })
+          other_made s act c.args.root c.requires.stored v c.requires.other
+          (record { there = there; unmarked = h.0 })
           (gone_follows s act c.requires.stored c.requires.other v at h.0) goes h.1),
       λ made. (let free = follows_unmarked s act c.requires.stored c.requires.other v at made.follows in
-          c.is_kept_root.ensures.1 (free, made_other s act c.args.root c.requires.stored v c.requires.other (record { there = there; unmarked = free }) goes c.requires.live made)),
+          c.is_kept_root.ensures.1 (
+            free,
+            made_other s act c.args.root c.requires.stored v c.requires.other
+                (record { there = there; unmarked = free }) goes c.requires.live made,
+          )),
     )

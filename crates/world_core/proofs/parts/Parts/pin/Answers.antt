@@ -10,4 +10,5 @@ keep-requires-clause-live c =
     let root = c.index-root.result.now in
     λ n some. root_live s c.asked-asked.result root n c.requires.stored
     (omega (arith, c.moment-at.ensures.small, c.if-asked-at.false))
-    (found_root s.roots c.asked-asked.result root (omega (arith, c.requires.stored.places, c.moment-at.ensures.small, c.if-asked-at.false)) c.index-root.ensures) some
+    (found_root s.roots c.asked-asked.result root
+    (omega (arith, c.requires.stored.places, c.moment-at.ensures.small, c.if-asked-at.false)) c.index-root.ensures) some

@@ -6,4 +6,6 @@ use Rattle.world_core.specs.Stored.{stored_state}
 use Rattle.world_core.proofs.parts.Parts.reaches.Given as goal
 
 abbrev pub invariant-loop-over : goal.invariant-loop-over
-invariant-loop-over l = (j : ℕ) (d : Name) → j < l.over-index → IsUnder (stored_state (stored l.self)).key l.n (get_or l.held j d) → ⊥
+invariant-loop-over l =
+    (j : ℕ) (d : Name) → j < l.over-index
+    → IsUnder (stored_state (stored l.self)).key l.n (get_or l.held j d) → ⊥
