@@ -64,14 +64,14 @@ pub fn rebuild_box<N: NodeStore, L: Ledger>(
     }
 }
 
-/// Whether many blocks of a box may be alike, so that it pays to remember them. Where the box is the
-/// whole world, nothing is walked.
+/// Whether many blocks of a box may be alike, so that it pays to remember them. Where the box is
+/// the whole world, nothing is walked.
 pub fn box_may_repeat(size: Cell, side: Side) -> bool {
     is_large(size) && u32::from(size.x.min(size.y).min(size.z)) < side.cells()
 }
 
-/// The same with a memo of blocks that such edits made before, of trees that are still held: a block
-/// that is remembered is shared and not walked again. What is made joins the memo.
+/// The same with a memo of blocks that such edits made before, of trees that are still held: a
+/// block that is remembered is shared and not walked again. What is made joins the memo.
 pub fn rebuild_box_with<M: Memo<BoxTask>, N: NodeStore, L: Ledger>(
     store: &mut N,
     old: Option<&Share>,

@@ -46,8 +46,8 @@ pub fn rebuild_stamp<N: NodeStore, L: Ledger>(
     }
 }
 
-/// A share of the root of the world with the cells of a model cleared, whose least corner is at this
-/// place, where a cell is set then. A store that met a full bucket holds what it held.
+/// A share of the root of the world with the cells of a model cleared, whose least corner is at
+/// this place, where a cell is set then. A store that met a full bucket holds what it held.
 pub fn rebuild_unstamp<N: NodeStore, L: Ledger>(
     store: &mut N,
     old: Option<&Share>,

@@ -6,9 +6,9 @@ use node_shapes::Name;
 use node_words::Blocks;
 use vw_cell::{Block, Boxed, Cell};
 
-/// Sets or clears the cells of a model, whose least corner is at `place`, in the block at `at`. What
-/// all blocks have in common is borrowed, and stands between what differs: side by side, places
-/// would be written in other widths than they are read in, and the processor would wait.
+/// Sets or clears the cells of a model, whose least corner is at `place`, in the block at `at`.
+/// What all blocks have in common is borrowed, and stands between what differs: side by side,
+/// places would be written in other widths than they are read in, and the processor would wait.
 #[derive(Clone, Copy)]
 pub struct StampTask<'s> {
     pub(crate) old: Option<Name>,

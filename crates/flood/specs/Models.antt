@@ -1,4 +1,5 @@
--- The region of a place of a model, which is stamped at the origin of the least world that holds it.
+-- The region of a place of a model, which is stamped at the origin of the least world that holds
+-- it.
 use Rattle.std.specs.Prelude.{◌≡◌, ℕ, ◌^◌, ◌<◌, ◌≤◌, ◌∷◌, [], false, ◌||◌, Bool, List, Option, Some, None, All, replicate, IsTrue, ⊤}
 use Rattle.std.specs.List.{slice_get}
 use Rattle.vw_cell.specs.declared.cells.Cell.{Cell}

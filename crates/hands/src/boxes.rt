@@ -53,7 +53,8 @@ impl<'w, 'm> ActMaker for BoxAct<'w, 'm> {
 
     ghost recalls = { λ m held. RecallsHeld MakesBox held (IsKeptIn m.memo.places) };
 
-    ghost recalls_more = { λ m held more k r. recalls_more MakesBox held more (IsKeptIn m.memo.places)
+    ghost recalls_more = { λ m held more k r. recalls_more MakesBox held more
+        (IsKeptIn m.memo.places)
         k r };
 
     fn act(&self) -> Act {

@@ -21,7 +21,8 @@ pub struct Ran<'m> {
 /// Answers the events one after another, beginning with a core in which nothing was done.
 ///
 /// What holds of all states on the way is said for whatever states the events can have led
-/// through. The core that comes back is of the same plan and models, so it may be given more events.
+/// through. The core that comes back is of the same plan and models, so it may be given more
+/// events.
 pub fn run_events<'m>(
     alloc: Global,
     plan: &Plan,

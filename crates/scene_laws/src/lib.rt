@@ -12,9 +12,9 @@ pub fn stamps_are_read()
     ensures { StampsAreRead }
 {}
 
-/// A law: the file of a scene's turned models gives these models, the script of their stamps is read
-/// as such in the scene's world, and the cells that they make of the empty world are those that the
-/// scene places.
+/// A law: the file of a scene's turned models gives these models, the script of their stamps is
+/// read as such in the scene's world, and the cells that they make of the empty world are those
+/// that the scene places.
 pub fn scenes_are_built()
     ensures { ScenesAreBuilt }
 {}

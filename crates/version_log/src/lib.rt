@@ -1,8 +1,8 @@
 //! One history of all sessions over a table's log turn: versions are pinned, records appended and
 //! versions forgotten, each by one step of the log. It touches the table, and may wait.
 //!
-//! What a pin answers is said in `specs/Pins.antt`, a commit in `specs/Commits.antt`, what forgetting
-//! leaves in `specs/Forgets.antt`, and where undos and redos go in `specs/Targets.antt`.
+//! What a pin answers is said in `specs/Pins.antt`, a commit in `specs/Commits.antt`, what
+//! forgetting leaves in `specs/Forgets.antt`, and where undos and redos go in `specs/Targets.antt`.
 //!
 //! All sessions share the turn, so each call loads and stores little under it. Besides the length,
 //! and five words of each record that the session hasn't seen yet:
