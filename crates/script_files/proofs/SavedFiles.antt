@@ -19,8 +19,8 @@ use Rattle.extract.specs.Listing.{voxel_if, box_row, box_layer, voxels_of_box}
 use Rattle.extract.specs.Saved.{file_of_box}
 use Rattle.extract.proofs.ListingLaws.{joined-same}
 use Rattle.extract.proofs.SavedLaws.{voxels_inside}
-use Rattle.colour.specs.Reading.{tinted_voxels, with_tint}
-use Rattle.colour.proofs.Quarters.{quarter_is}
+use Rattle.world_run.specs.Reading.{tinted_voxels, with_tint}
+use Rattle.world_run.proofs.Quarters.{quarter_is}
 use Rattle.tints.proofs.TintLaws.{stored_tint}
 use Rattle.tints.proofs.VersionLaws.{versions_plain, versions_stored}
 use Rattle.vox_scene.proofs.Ends.{same_exponent}
@@ -32,7 +32,7 @@ use Rattle.session_runs.specs.Kept.{kept_at}
 use Rattle.session_runs.specs.Seen.{SuitsWorld, log_as}
 use Rattle.session_runs.proofs.SuitLaws.{store_keeps}
 use Rattle.tints.proofs.TintBounds.{versions_small}
-use Rattle.session.specs.Roots.{file_kept}
+use Rattle.world_run.specs.Roots.{file_kept}
 use Rattle.world_run.specs.Open.{saved_in_world}
 use Rattle.script_files.specs.Requests.{save_file}
 use Rattle.script_files.specs.TintFiles.{file_of_tints, with_its_tint}

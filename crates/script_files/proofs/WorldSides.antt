@@ -2,7 +2,7 @@
 use Rattle.std.proofs.Common.{◌≡◌, ℕ, ◌+◌, ◌-◌, ◌/◌, ◌≤◌, ◌^◌, Bool, true, List, Option, Some, None, Ok, map, ap, sym, subst, ◌∙◌, arith}
 use Rattle.std.proofs.lemmas.List.{map-id}
 use Rattle.std.specs.Prelude.{IfSome}
-use Rattle.colour.proofs.Quarters.{quarter_is}
+use Rattle.world_run.proofs.Quarters.{quarter_is}
 use Rattle.vox_scene.proofs.Ends.{same_exponent}
 use Rattle.vox_read.specs.Contents.{Content}
 use Rattle.vox_read.specs.Files.{ReadsModels}

@@ -21,3 +21,4 @@ mod PinFiles
 mod ActLaws
 mod SaveLaws
 mod DeskLaws
+pub use Rattle.world_answers.proofs.Quarters

@@ -21,7 +21,7 @@ use Rattle.block_walk.specs.Roots as walks
 use Rattle.edit_cells.specs.Worlds.{Rebuilt, ShowsWorld, world_cells, world_shape}
 use Rattle.edit_cells.proofs.WorldLaws.{shape_shows}
 use Rattle.hands.specs.Acts.{GrowsByAct, IsLargeFor, IsOfAct, RebuildsAct, RefusesAct}
-use Rattle.colour.specs.Made.{FailsBy, GrowsBy}
+use Rattle.hands.specs.Made.{FailsBy, GrowsBy}
 use Rattle.block_contents.specs.Aligned.{top, world_block}
 use Rattle.session_runs.specs.Keeping.{IsWanted, MakesPart}
 use Rattle.conformance.specs.Needed.{made_of}

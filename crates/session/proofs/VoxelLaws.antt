@@ -20,8 +20,8 @@ use Rattle.history_model.specs.Worlds.{World, plus}
 use Rattle.tints.specs.Planes.{tint_in}
 use Rattle.extract.specs.Listing.{voxels_of_box}
 use Rattle.extract.proofs.SavedLaws.{few_voxels, is_size, voxels_inside}
-use Rattle.colour.specs.Reading.{voxel_cell, with_tint}
-use Rattle.colour.proofs.Quarters.{four_quarters, quarter_is}
+use Rattle.world_answers.specs.Reading.{voxel_cell, with_tint}
+use Rattle.world_answers.proofs.Quarters.{four_quarters, quarter_is}
 use Rattle.world_answers.proofs.TintTells.{box_within}
 use Rattle.session.proofs.FileLaws.{SameIn, same_voxels}
 use Rattle.session.specs.Roots.{file_kept, voxels_kept}

@@ -10,7 +10,7 @@ use Rattle.transcript.specs.declared.answers.Answer.{Answer}
 use Rattle.node_shapes.specs.declared.names.Name.{Name}
 use Rattle.node_shapes.specs.Tree.{Tree}
 use Rattle.extract.specs.Listing.{voxels_of_box}
-use Rattle.colour.specs.Reading.{tinted_voxels}
+use Rattle.world_answers.specs.Reading.{tinted_voxels}
 use Rattle.world_answers.specs.TellsRoots.{TellsRoot, TellsTinted}
 
 -- the answer tells what the question asks of the worlds that the root shows, or of those whose

@@ -13,7 +13,6 @@ ghost use Rattle.session.specs.Roots.{file_kept, voxels_kept};
 ghost use Rattle.session.specs.Seen.{KnowsItself, session_seen, side_seen};
 
 use crate::world::{Session, World};
-use colour::tints_in;
 use extract::cells_in;
 use node_words::Share;
 use std::alloc::Global;
@@ -21,6 +20,7 @@ use version_log::Pinned;
 use vox_read::Voxel;
 use vox_write::write_model;
 use vw_cell::{Boxed, Memory};
+use world_answers::tints_in;
 
 impl<'m> World<'m> {
     // The set cells of a box, each with its tint, of the world whose tints the store of a root

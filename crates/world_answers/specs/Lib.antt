@@ -1,1 +1,2 @@
 pub mod TellsRoots
+pub use Rattle.colour.specs.Reading

@@ -24,6 +24,7 @@ use vw_cell::Side;
 mod tests;
 mod tinted;
 
+pub use colour::tints_in;
 pub use tinted::tell_tinted;
 
 /// Answers what is asked of the root's world, the empty one where there is no root.

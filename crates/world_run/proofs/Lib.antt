@@ -5,3 +5,4 @@ mod OpenLaws
 mod RoomLaws
 mod Telling
 mod Working
+pub use Rattle.session.proofs.Quarters
