@@ -12,7 +12,7 @@ use Rattle.node_shapes.specs.Places.{is_within, is_in_box}
 use Rattle.node_shapes.specs.Shape.{bit_number}
 use Rattle.node_kernels.specs.Leaves.{LeafShows}
 use Rattle.node_kernels.specs.Parts.{AxisShows, is_from_below, x_of, y_of, z_of}
-use Rattle.sums.specs.Runs.{mask_is}
+use Rattle.node_shapes.specs.Runs.{mask_is}
 use Rattle.node_kernels.proofs.BitRuns.{run_has, rows_have, layers_have, and_has}
 
 pub run_within : (low size at from to i : ℕ) → to ≡ min (low + size - at) 4

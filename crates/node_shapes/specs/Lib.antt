@@ -11,3 +11,4 @@ pub use Rattle.vw_cell.specs.declared.balls.Ball
 pub use Rattle.vw_cell.specs.Counts
 pub use Rattle.vw_cell.specs.declared.boxes.Boxed
 pub use Rattle.vw_cell.specs.Sums
+pub use Rattle.vw_cell.specs.Runs

@@ -5,3 +5,4 @@ pub mod Tests
 pub mod Faces
 pub mod Extents
 pub use Rattle.sums.specs.Sums
+pub use Rattle.sums.specs.Runs
