@@ -69,7 +69,9 @@ def main(folder):
         write(folder, "apart.%d.txt" % k, small_edits(11 + k, 8000, k * slab, slab))
         write(folder, "large.%d.txt" % k, large_edits(21 + k, 24, k * slab, slab))
         write(folder, "together.%d.txt" % k, small_edits(31 + k, 8000, 0, 64))
-        write(folder, "reader.%d.txt" % k, list(middle_balls(41 + k, 60, k * slab, slab)) + list(questions(51 + k, 6000, k * slab, slab)))
+        balls = list(middle_balls(41 + k, 60, k * slab, slab))
+        write(folder, "balls.%d.txt" % k, balls)
+        write(folder, "reader.%d.txt" % k, balls + list(questions(51 + k, 6000, k * slab, slab)))
     write(folder, "editor.txt", small_edits(61, 4000, 0, SIDE))
 
 

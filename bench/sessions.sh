@@ -3,7 +3,8 @@
 #
 # It runs scripts that edit apart, edit one place, and ask while another one edits, once by one session and once
 # by four, and prints how many times the work of one session four do in the same time. What a run with nothing to do
-# takes is taken off each time. It needs four cores with nothing else on them.
+# takes is taken off each time; of readers, what drawing the balls that they ask of takes. It needs four cores with nothing
+# else on them.
 #
 # Beside them stand what bounds two of the figures: what a plain C program takes for the memory of the opening alone, and
 # how much four processes that share nothing do of the readers' work in the time of one.
@@ -29,10 +30,22 @@ best() {
     seconds=$least
 }
 
-# times NAME ONE FOUR: how many times the work of one session four do in the same time, opening apart.
+# alone NAME: what the four scripts of this name take by one session each, divided by four.
+alone() {
+    local sum=0 k
+    for k in 0 1 2 3; do
+        best "$1.$k.txt"
+        sum=$(awk -v sum="$sum" -v seconds="$seconds" 'BEGIN { print sum + seconds / 4 }')
+    done
+    seconds=$sum
+}
+
+# times NAME ONE FOUR [ONE_BEFORE FOUR_BEFORE]: how many times the work of one session four do in the same time, apart from
+# what comes before it: the opening, where nothing is said.
 times() {
-    awk -v name="$1" -v one="$2" -v four="$3" -v opening="$opening" 'BEGIN {
-        printf "%-34s one %.3f s, four %.3f s: %.2f times\n", name, one - opening, four - opening, 4 * (one - opening) / (four - opening) }'
+    awk -v name="$1" -v one="$2" -v four="$3" -v before="${4:-$opening}" -v before_four="${5:-$opening}" 'BEGIN {
+        one -= before; four -= before_four
+        printf "%-34s one %.3f s, four %.3f s: %.2f times\n", name, one, four, 4 * one / four }'
 }
 
 echo "load at the start: $(cut -d' ' -f1-3 /proc/loadavg)"
@@ -44,17 +57,22 @@ echo "one row of it: $("$work/touch" 9125887 1)"
 best nothing.txt
 opening=$seconds
 for name in apart large together; do
-    best "$name.0.txt"
+    alone "$name"
     one=$seconds
     best "$name".[0-3].txt
     times "$name" "$one" "$seconds"
 done
-best reader.0.txt
+alone balls
+one_drawn=$seconds
+best balls.[0-3].txt
+four_drawn=$seconds
+times "balls of middle size, apart" "$one_drawn" "$four_drawn"
+alone reader
 one=$seconds
 best reader.[0-3].txt editor.txt
-times "readers, while a fifth edits" "$one" "$seconds"
+times "readers, while a fifth edits" "$one" "$seconds" "$one_drawn" "$four_drawn"
 best reader.[0-3].txt
-times "readers alone" "$one" "$seconds"
+times "readers alone" "$one" "$seconds" "$one_drawn" "$four_drawn"
 
 # apart SCRIPT..: the least time of four processes at once, each with one of these scripts in a folder of its own.
 apart() {
@@ -78,10 +96,7 @@ apart() {
     seconds=$least
 }
 
-alone=$opening
-apart nothing.txt nothing.txt nothing.txt nothing.txt
-opening=$seconds
+apart balls.[0-3].txt
+four_drawn=$seconds
 apart reader.[0-3].txt
-awk -v one="$one" -v alone="$alone" -v four="$seconds" -v opening="$opening" 'BEGIN {
-    printf "%-34s one %.3f s, four %.3f s: %.2f times\n", "readers in processes of their own", one - alone, four - opening,
-           4 * (one - alone) / (four - opening) }'
+times "readers in processes of their own" "$one" "$seconds" "$one_drawn" "$four_drawn"
