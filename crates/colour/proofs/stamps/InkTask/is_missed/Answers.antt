@@ -1,4 +1,6 @@
-use Rattle.std.proofs.Common.{sym, subst}
+use Rattle.std.proofs.Common.{sym, ◌∙◌, ap, subst}
+use Rattle.std.specs.Prelude.{not}
+use Rattle.std.proofs.lemmas.Bool.{false≢true}
 use Rattle.vw_cell.specs.declared.cells.Cell.{Cell}
 use Rattle.vw_cell.specs.Places.{Meets}
 use Rattle.colour.proofs.StampBlocks.{ink_missed}
@@ -11,4 +13,4 @@ returns c e =
     let met = c.meets.ensures.1
     (subst (λ (s : Cell). Meets (record { at = c.args.self.now.place.now; size = s })
     (record { level = c.args.level; at = c.args.self.now.at })) (sym c.size.ensures.value) h) in
-    cc)
+    false≢true (sym (ap not met) ∙ e))
