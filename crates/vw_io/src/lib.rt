@@ -40,5 +40,3 @@ pub use std_sink::StdSink;
 mod file_tests;
 #[cfg(test)]
 mod stream_tests;
-#[cfg(test)]
-mod tests;

@@ -82,22 +82,45 @@ impl Write for Target<'_> {
     }
 }
 
+/// What the first calls of a reader answer, the most bytes, the room for them at first, and the
+/// answer.
+type Reading = (&'static [Call], usize, usize, Result<(), ReadRefused>);
+
+const READINGS: &[Reading] = &[
+    (&[Moves(9), Moves(9), Moves(9), Moves(9)], 5, 5, Ok(())),
+    (&[CUT, CUT, CUT, Moves(1)], 5, 0, Ok(())),
+    (&[Moves(1), Moves(1), Moves(1), CUT], 9, 2, Ok(())),
+    (
+        &[Moves(1), CUT, Moves(2), CUT],
+        4,
+        4,
+        Err(ReadRefused::TooLong),
+    ),
+    (
+        &[Moves(1), CUT, BROKEN, Moves(9)],
+        5,
+        5,
+        Err(ReadRefused::Failed),
+    ),
+    (
+        &[BROKEN, Moves(9), Moves(9), Moves(9)],
+        5,
+        0,
+        Err(ReadRefused::Failed),
+    ),
+    (
+        &[Moves(1), NO_MEMORY, Moves(9), Moves(9)],
+        5,
+        5,
+        Err(ReadRefused::Memory),
+    ),
+];
+
 #[test]
 fn readers_are_read_to_their_end(rt: HostRuntime) -> Result<(), Fail> {
-    let too_long = Err(ReadRefused::TooLong);
-    let failed = Err(ReadRefused::Failed);
-    let memory = Err(ReadRefused::Memory);
-    for (calls, limit, room, want) in [
-        ([Moves(9), Moves(9), Moves(9), Moves(9)], 5, 5, Ok(())),
-        ([CUT, CUT, CUT, Moves(1)], 5, 0, Ok(())),
-        ([Moves(1), Moves(1), Moves(1), CUT], 9, 2, Ok(())),
-        ([Moves(1), CUT, Moves(2), CUT], 4, 4, too_long),
-        ([Moves(1), CUT, BROKEN, Moves(9)], 5, 5, failed),
-        ([BROKEN, Moves(9), Moves(9), Moves(9)], 5, 0, failed),
-        ([Moves(1), NO_MEMORY, Moves(9), Moves(9)], 5, 5, memory),
-    ] {
+    for &(calls, limit, room, want) in READINGS {
         let mut from = Source {
-            calls: Calls { calls: &calls },
+            calls: Calls { calls },
             left: b"bytes",
         };
         let mut into = Vec::from_slice(rt.alloc(), b"older bytes")?;
@@ -110,23 +133,50 @@ fn readers_are_read_to_their_end(rt: HostRuntime) -> Result<(), Fail> {
     Ok(())
 }
 
+/// What the first calls of a writer answer, the answer, and what the writer holds.
+type Writing = (&'static [Call], Result<(), PutRefused>, &'static str);
+
+const WRITINGS: &[Writing] = &[
+    (&[Moves(9), Moves(9), Moves(9), Moves(9)], Ok(()), "bytes"),
+    (&[CUT, CUT, CUT, Moves(1)], Ok(()), "bytes"),
+    (&[Moves(1), Moves(1), Moves(1), CUT], Ok(()), "bytes"),
+    (
+        &[Moves(0), Moves(9), Moves(9), Moves(9)],
+        Err(PutRefused::Failed),
+        "",
+    ),
+    (
+        &[Moves(1), CUT, Moves(0), Moves(9)],
+        Err(PutRefused::Failed),
+        "b",
+    ),
+    (
+        &[BROKEN, Moves(9), Moves(9), Moves(9)],
+        Err(PutRefused::Failed),
+        "",
+    ),
+    (
+        &[Moves(2), BROKEN, Moves(9), Moves(9)],
+        Err(PutRefused::Failed),
+        "by",
+    ),
+    (
+        &[NO_MEMORY, Moves(9), Moves(9), Moves(9)],
+        Err(PutRefused::Memory),
+        "",
+    ),
+    (
+        &[Moves(2), NO_MEMORY, Moves(9), Moves(9)],
+        Err(PutRefused::Failed),
+        "by",
+    ),
+];
+
 #[test]
 fn writers_get_all_bytes(rt: HostRuntime) -> Result<(), Fail> {
-    let failed = Err(PutRefused::Failed);
-    let memory = Err(PutRefused::Memory);
-    for (calls, want, held) in [
-        ([Moves(9), Moves(9), Moves(9), Moves(9)], Ok(()), "bytes"),
-        ([CUT, CUT, CUT, Moves(1)], Ok(()), "bytes"),
-        ([Moves(1), Moves(1), Moves(1), CUT], Ok(()), "bytes"),
-        ([Moves(0), Moves(9), Moves(9), Moves(9)], failed, ""),
-        ([Moves(1), CUT, Moves(0), Moves(9)], failed, "b"),
-        ([BROKEN, Moves(9), Moves(9), Moves(9)], failed, ""),
-        ([Moves(2), BROKEN, Moves(9), Moves(9)], failed, "by"),
-        ([NO_MEMORY, Moves(9), Moves(9), Moves(9)], memory, ""),
-        ([Moves(2), NO_MEMORY, Moves(9), Moves(9)], failed, "by"),
-    ] {
+    for &(calls, want, held) in WRITINGS {
         let mut to = Target {
-            calls: Calls { calls: &calls },
+            calls: Calls { calls },
             held: Vec::new(rt.alloc()),
         };
         assert_eq!(rt; write_whole(&mut to, b"bytes"), want, "at {held}");
