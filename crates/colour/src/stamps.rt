@@ -328,7 +328,7 @@ pub(crate) fn rebuild_ink_stamp<N: NodeStore, L: Ledger>(
     rebuild_planes(store, old, side, planes, &mut memo, steps)
 }
 
-// Whether the blocks of a model have each a place among 256.
+// Whether the model has so few blocks above the leaves that 256 places are enough for most.
 fn is_small(size: Cell) -> bool {
     size.x.max(size.y).max(size.z) <= 32
 }

@@ -65,10 +65,11 @@ listed_from bytes levels v (suc d) =
 abbrev pub list_in : List ℕ → ℕ → List Listed
 list_in bytes levels = listed_from bytes levels 0 (versions_in bytes)
 
--- the file is that of its own list, whose roots stand in it
+-- the roots of a file's versions
 abbrev pub file_roots : List ℕ → ℕ → List Tree
 file_roots bytes levels = roots_below bytes levels (versions_in bytes)
 
+-- the file is that of its own list, whose roots stand in it
 pub record IsOfItsList (bytes : List ℕ) (levels : ℕ) : Type 0 where
   pub roots : HoldsList (file_roots bytes levels) levels (list_in bytes levels)
   pub rise : DoNumbersRise (list_in bytes levels)

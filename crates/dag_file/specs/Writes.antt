@@ -47,7 +47,7 @@ abbrev pub keys_of : Option Name → List ℕ
 keys_of None = []
 keys_of (Some n) = named_index n ∷ []
 
--- a name's slot is a byte
+-- a name's slot is a byte, and its index has 24 bits
 abbrev pub HasByteSlot : Option Name → Type 0
 HasByteSlot None = Unit {0}
 HasByteSlot (Some n) = (n.slot < 256) × (named_index n < 2 ^ 24)

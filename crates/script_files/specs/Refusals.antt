@@ -35,7 +35,7 @@ abbrev pub IsOutputName : OutputName → Type 0
 IsOutputName (Given name) = ⊤
 IsOutputName (Saved name) = is_save_name name ≡ true
 
--- so can the output that was not written
+-- where an output was not written, a file can have its name
 abbrev pub HasOutputName : CommandRefused → Type 0
 HasOutputName (Output r) = IsOutputName r.name
 HasOutputName _ = ⊤

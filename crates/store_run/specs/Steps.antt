@@ -28,7 +28,7 @@ use Rattle.store_run.specs.declared.stored_versions.VersionFound.{VersionFound}
 use Rattle.store_run.specs.declared.stored_versions.VersionFound.TheVariants.{Kept, NotThere, Marked}
 use Rattle.store_run.specs.Kept.{plan_of, log_of, moment_of, stored_of, world_of, tints_of, GainsTree, LosesTree}
 
--- whether a version can be read
+-- a mark of the version is listed, so it can't be read
 pub record IsVersionMarked (v : Versions) (version : ℕ) : Type 0 where
   pub mark : Mark
   pub listed : Contains (log_of v).marks mark

@@ -1,6 +1,6 @@
 //! Tests of single crates of the lower layers, over their public calls: cells, rows of bits,
-//! kernels of leaves, plans and keys, places in a table, and files on shelves. It holds tests alone,
-//! a module for each of these; those over real files remove what they made.
+//! kernels of leaves, plans and keys, places in a table, files on shelves, and real files. It holds
+//! tests alone, a module for each of these; those over real files remove what they made.
 #![tactic(auto)]
 
 #[cfg(test)]

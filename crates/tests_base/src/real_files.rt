@@ -20,17 +20,25 @@ fn numbered(alloc: Global, length: usize) -> Result<Vec<u8>, Fail> {
 const READS: &[(usize, u64, bool)] = &[
     (0, 0, true),
     (0, 1, true),
+    (0, 2 * LONG as u64, true),
     (1, 0, false),
     (1, 1, true),
     (1, 2, true),
+    (1, 2 * LONG as u64, true),
     (64, 32, false),
     (64, 63, false),
     (64, 64, true),
+    (64, 65, true),
+    (64, 2 * LONG as u64, true),
+    (65, 32, false),
     (65, 64, false),
     (65, 65, true),
+    (65, 66, true),
+    (65, 2 * LONG as u64, true),
     (LONG, LONG as u64 / 2, false),
     (LONG, LONG as u64 - 1, false),
     (LONG, LONG as u64, true),
+    (LONG, LONG as u64 + 1, true),
     (LONG, 2 * LONG as u64, true),
 ];
 
@@ -90,6 +98,8 @@ fn files_are_written(rt: HostRuntime) -> Result<(), Fail> {
         let found = fs::read(&rt, name)?;
         assert_eq!(rt; found.as_slice(), bytes.as_slice(), "at {length}");
     }
+    // later writes leave it alone
+    assert_eq!(rt; fs::read(&rt, "b")?.as_slice(), b"\0".as_slice());
     for name in ["a", "b", "c"] {
         fs::remove_file(&rt, name)?;
     }

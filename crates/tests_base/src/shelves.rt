@@ -155,15 +155,27 @@ fn lists_of_files(rt: HostRuntime) -> Result<(), Fail> {
     Ok(())
 }
 
-/// Names of two outputs, and whether they collide with each other or with an input of name `b`.
-const NAMES: &[([&str; 2], bool)] = &[(["c", "d"], false), (["c", "b"], true), (["c", "c"], true)];
+/// Names of two outputs, and whether they collide with each other or with an input of name `a` or
+/// `b`.
+const NAMES: &[([&str; 2], bool)] = &[
+    (["c", "d"], false),
+    (["a", "d"], true),
+    (["c", "b"], true),
+    (["c", "c"], true),
+];
 
 #[test]
 fn names_collide(rt: HostRuntime) -> Result<(), Fail> {
-    let inputs = [Input {
-        name: "b",
-        limit: 1,
-    }];
+    let inputs = [
+        Input {
+            name: "a",
+            limit: 5,
+        },
+        Input {
+            name: "b",
+            limit: 1,
+        },
+    ];
     for (names, want) in NAMES {
         assert_eq!(rt; collide(names, &inputs), *want);
     }
@@ -194,7 +206,7 @@ fn lists_stop_at_the_first_refusal(rt: HostRuntime) -> Result<(), Fail> {
         (5, "no", ReadRefused::Missing),
     ] {
         let want = InputRefused { name, why };
-        assert!(rt; stops_at(rt.alloc(), &mut shelf, limit, want));
+        assert!(rt; stops_at(rt.alloc(), &mut shelf, limit, want), "at {name}");
     }
     Ok(())
 }

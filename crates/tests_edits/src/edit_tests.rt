@@ -175,8 +175,8 @@ const AROUND: Act = Act::Fill(Boxed {
     size: Cell { x: 2, y: 2, z: 2 },
 });
 
-/// Edits of a world of side 8, how many cells are set when then the model's are cleared, and whether
-/// these are.
+/// Edits of a world of side 8, how many cells are set once the model's are cleared, and of some cells
+/// whether they are.
 const CLEARED: &[(&[Act], u64, &[(Cell, bool)])] = &[
     (&[], 0, &[(Cell { x: 5, y: 3, z: 3 }, false)]),
     (

@@ -58,9 +58,9 @@ const STAMPED_JOURNAL: &str =
     "voxdag journal 2\nside 8\n1 0 1 fill 0 0 0 2 1 1 3\n2 0 2 fill 2 0 0 2 1 1 4\n\
      3 0 3 stamp 1 1 0 0\nend\n";
 
-// The planes of all cells and of bits 0 to 3 have these x set: 01, 01, 01 in version 1; 0123, 01, 01,
-// 23 in version 2; 0123, 013, 01, 12, 3 in version 3. So there are six leaves, each in a block of
-// side 8; of side 16 two blocks of all cells and three of the bits; and three roots.
+// The planes of all cells and of bits 0 to 3 have these x set: 01, 01, 01 in version 1; 0123, 01,
+// 01, 23 in version 2; 0123, 013, 01, 12, 3 in version 3. So there are six leaves, each in a block
+// of side 8; of side 16 two blocks of all cells and three of the bits; and three roots.
 const STAMPED_LINE: &str = "scripts 1 records 3 marks 0 nodes 20\n";
 
 // A shelf after a run of this script with tints at side 8, which puts this line.

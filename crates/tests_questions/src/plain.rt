@@ -46,7 +46,8 @@ fn bare_sides(grid: &Grid, c: Cell) -> u64 {
     number
 }
 
-/// The cell beside this one in one of six directions. A place before the first is none of a world's.
+/// The cell beside this one in one of six directions. A place before the first is none of a
+/// world's.
 pub fn beside(at: Cell, direction: u8) -> Cell {
     let Cell { x, y, z } = at;
     match direction {

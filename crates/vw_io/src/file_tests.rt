@@ -22,6 +22,9 @@ fn system_errors_are_faults(rt: HostRuntime) -> Result<(), Fail> {
         Err(ReadRefused::Failed)
     );
     assert_eq!(rt; shelf.faults(), 1);
+    assert_eq!(rt; shelf.write("whole", b"bytes"), Ok(()));
+    assert_eq!(rt; shelf.faults(), 1);
+    fs::remove_file(&rt, "whole")?;
     for &(name, faults) in FAILING {
         let answer = shelf.write(name, b"bytes");
         assert_eq!(rt; answer, Err(WriteRefused::Failed), "at {name}");

@@ -1,7 +1,8 @@
 //! The questions of scripts, asked of the root of one version in any store of nodes that can be
 //! read, and answered in a transcript's terms.
 //!
-//! It reads a store, changes nothing in it and takes no memory. Which answer tells what is asked
+//! It reads a store, changes nothing in it and takes no memory; `tints_in` of `colour`, which takes
+//! memory for a list, is passed on. Which answer tells what is asked
 //! of a root, with tints or without, is said in `specs/TellsRoots.antt`, in the terms of
 //! `conformance` (`specs/Telling.antt` there).
 #![tactic(auto)]

@@ -7,7 +7,7 @@ use std::alloc::{AllocError, Global};
 use vox_read::Models;
 use vw_cell::Memory;
 
-// What the core keeps: `specs/Held.antt` sees it as plain lists.
+// What the core keeps: `specs/Kept.antt` sees it as plain lists.
 #[derive(Drop)]
 pub(crate) struct Parts<'m> {
     pub(crate) plan: Plan,
