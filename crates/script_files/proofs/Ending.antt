@@ -28,7 +28,7 @@ use Rattle.session_runs.proofs.Closing.{are_a_run}
 use Rattle.session_runs.proofs.KeptWorlds.{saved_stay}
 use Rattle.session_runs.proofs.SuitLaws.{history_suits}
 use Rattle.world_run.specs.Ends.{IsEndOf}
-use Rattle.world_run.specs.Open.{RunState, saved_in_world}
+use Rattle.world_run.specs.Open.{RunState, file_of_save}
 use Rattle.script_files.specs.declared.tallies.RunWritten.{RunWritten}
 use Rattle.reporting.specs.Numbers.{AreNumbers}
 use Rattle.reporting.specs.Roots.{RootsTellWorlds, listed_root}
@@ -360,10 +360,10 @@ pub saved_same : (keep : ℕ) (tint : Bool) (p : Layout) (models : List Content)
     → AreFitScripts tint p.side models lines
     → SessionsRanKeeping keep tint p models 0 lines transcripts sessions
     → ClosesWorld tint p models sessions log
-    → map (saved_output (saved_in_world tint models)) (kept_of lines transcripts sessions)
+    → map (saved_output (file_of_save tint models)) (kept_of lines transcripts sessions)
     ≡ map (saved_output (save_file tint models)) (kept_by lines transcripts log)
 saved_same keep tint p models lines transcripts sessions log fits ran closes =
-    saved_stay (saved_output (saved_in_world tint models)) (saved_output (save_file tint models))
+    saved_stay (saved_output (file_of_save tint models)) (saved_output (save_file tint models))
     (IsGood tint p) tint p models log
     (λ save s suits g le good.
     ap (named_file save)
@@ -401,7 +401,7 @@ module _ (asked : Asked) (models : List Content) (lines : List (List ScriptLine)
     models = models_are i;
     transcripts = run.transcripts.items;
     kept = kept i;
-    file = saved_in_world (tint_is i) (models_are i);
+    file = file_of_save (tint_is i) (models_are i);
   }
 
   module _ (closed : Closed) (closes : ClosesRun run.run closed) where

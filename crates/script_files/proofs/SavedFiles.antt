@@ -33,7 +33,7 @@ use Rattle.session_runs.specs.Seen.{SuitsWorld, log_as}
 use Rattle.session_runs.proofs.SuitLaws.{store_keeps}
 use Rattle.tints.proofs.TintBounds.{versions_small}
 use Rattle.world_run.specs.Roots.{file_kept}
-use Rattle.world_run.specs.Open.{saved_in_world}
+use Rattle.world_run.specs.Open.{file_of_save}
 use Rattle.script_files.specs.Requests.{save_file}
 use Rattle.script_files.specs.TintFiles.{file_of_tints, with_its_tint}
 
@@ -139,7 +139,7 @@ plain_acts p models log suits = record {
 pub save_same : (tint : Bool) (p : Layout) (models : List Content) (log : Log) (save : SavedBox)
     (s : Log) → SuitsWorld tint p models (log_as tint s) → GoesOn (log_as tint s) log
     → save.version ≤ length s.records → IsGood tint p save
-    → saved_in_world tint models (kept_at s save) ≡ save_file tint models (kept_at log save)
+    → file_of_save tint models (kept_at s save) ≡ save_file tint models (kept_at log save)
 save_same false p models log save s suits g le good =
     let plain = plain_acts p models (log_as false s) suits in
     let cells : store_has models s save.version ≡ world_has models s.records save.version =

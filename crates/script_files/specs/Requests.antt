@@ -16,7 +16,7 @@ use Rattle.script.specs.Commands.{name_bytes}
 use Rattle.vox_read.specs.Contents.{Content}
 use Rattle.session_runs.specs.Kept.{KeptSave, kept_of, kept_by}
 use Rattle.session_runs.specs.Seen.{SessionSeen}
-use Rattle.world_run.specs.Open.{saved_in_world}
+use Rattle.world_run.specs.Open.{file_of_save}
 use Rattle.vw_cell.specs.declared.boxes.Boxed.{Boxed}
 use Rattle.history_model.specs.Moments.{world_has, world_tint}
 use Rattle.history_model.specs.Tints.{Tints}
@@ -122,7 +122,7 @@ given_seen tint models lines transcripts sessions = record {
   models = models;
   transcripts = transcripts;
   kept = kept_of lines transcripts sessions;
-  file = saved_in_world tint models;
+  file = file_of_save tint models;
 }
 
 abbrev pub given_by : Bool → List Content → List (List ScriptLine) → Log → List (List LineAnswer)

@@ -26,7 +26,7 @@ use Rattle.script_files.specs.declared.scripts.Read.{Read}
 use Rattle.script_files.specs.Meanings.{file_in, scripts_in, AreApart, TalliesRun}
 use Rattle.script_files.specs.Refusals.{output_name}
 use Rattle.script_files.specs.Reports.{ReportIs, BeginsFirst, BeginsTexts}
-use Rattle.world_run.specs.Open.{saved_in_world}
+use Rattle.world_run.specs.Open.{file_of_save}
 use Rattle.script_files.specs.Requests.{RunOutputs, written_last, texts_written}
 
 -- the bytes give these models, and the number is that of their cells
@@ -52,7 +52,7 @@ given_of r = record {
   models = r.run.models;
   transcripts = r.transcripts.items;
   kept = r.run.kept;
-  file = saved_in_world r.run.tint r.run.models;
+  file = file_of_save r.run.tint r.run.models;
 }
 
 -- its world was closed with this history, and left this

@@ -3,7 +3,7 @@ ghost use Rattle.std.specs.Prelude.{◌≡◌, ◌≤◌, ◌<◌, ◌++◌, All
 ghost use Rattle.std.specs.Option.{option_map};
 ghost use Rattle.transcript.specs.Lines.{transcript_of};
 ghost use Rattle.script_files.specs.Refusals.{IsOutputName};
-ghost use Rattle.world_run.specs.Open.{saved_in_world};
+ghost use Rattle.world_run.specs.Open.{file_of_save};
 ghost use Rattle.script_files.specs.Requests.{named_texts, saved_output, transcript_name, wanted_output};
 ghost use Rattle.world_run.specs.Open.{RunState};
 ghost use Rattle.script_files.specs.Stages.{TellsClosedRun, Writes, WritesClosed, WritesHistory, WritesRun};
@@ -74,7 +74,7 @@ fn write_saves<'w, S: Shelf>(
     shelf: &mut S,
 ) -> Result<(), OutputRefused<'w>>
     ensures writes { Writes result
-        (map (saved_output (saved_in_world run.old.tint run.old.models)) run.old.kept)
+        (map (saved_output (file_of_save run.old.tint run.old.models)) run.old.kept)
         (S.state shelf.old) (S.state shelf.new) }
     ensures same { run.new ≡ run.old }
     ensures named { IfErr result (λ refused. IsOutputName refused.name) }
@@ -97,7 +97,7 @@ fn write_save<'w, S: Shelf>(
     requires { k < length run.old.kept }
     ensures writes { Writes result
         (take 1 (drop k
-        (map (saved_output (saved_in_world run.old.tint run.old.models)) run.old.kept)))
+        (map (saved_output (file_of_save run.old.tint run.old.models)) run.old.kept)))
         (S.state shelf.old) (S.state shelf.new) }
     ensures same { run.new ≡ run.old }
     ensures named { IfErr result (λ refused. IsOutputName refused.name) }

@@ -56,8 +56,8 @@ abbrev pub IsActOf : WorldSeen → Act → Type 0
 IsActOf w act = EditFits w.tint (2 ^ w.table.plan.side) w.table.models act
 
 -- what these lines ask for lies in the world, and so does each model
-abbrev pub AreScriptLines : WorldSeen → List ScriptLine → Type 0
-AreScriptLines w lines =
+abbrev pub AreLinesOfWorld : WorldSeen → List ScriptLine → Type 0
+AreLinesOfWorld w lines =
     All (λ l. CommandFits w.tint (2 ^ w.table.plan.side) w.table.models l.command) lines
 
 -- the session of this number in this world

@@ -7,7 +7,7 @@ ghost use Rattle.session_runs.specs.Saves.{saves_asked_in};
 ghost use Rattle.session.specs.Resting.{IsAtRest};
 ghost use Rattle.session.specs.Saves.{SeatHoldsPins, pinned_versions};
 ghost use Rattle.session.specs.Scripts.{IsFresh};
-ghost use Rattle.session.specs.Seen.{AreScriptLines, of_world, session_seen};
+ghost use Rattle.session.specs.Seen.{AreLinesOfWorld, of_world, session_seen};
 
 use crate::desks::ScriptDesk;
 use crate::world::{Session, World};
@@ -38,7 +38,7 @@ pub fn run_script<R: Wait, G: Gate>(
     requires rest { IsAtRest world.now.table s.old }
     requires fresh { IsFresh s.old.view }
     requires rises { RisesFrom 1 script.now }
-    requires fit { AreScriptLines world.now script.now }
+    requires fit { AreLinesOfWorld world.now script.now }
     requires room { vec_len answers.old + length script.now ≤ vec_capacity answers.old }
     requires none { saves.old.items ≡ [] }
     requires few { saves_asked_in script.now ≤ 3900 }
@@ -67,7 +67,7 @@ fn run_over<R: Wait, G: Gate, L: Ledger>(
     requires rest { IsAtRest world.now.table s.old }
     requires fresh { IsFresh s.old.view }
     requires rises { RisesFrom 1 script.now }
-    requires fit { AreScriptLines world.now script.now }
+    requires fit { AreLinesOfWorld world.now script.now }
     requires room { vec_len answers.old + length script.now ≤ vec_capacity answers.old }
     requires none { saves.old.items ≡ [] }
     requires few { saves_asked_in script.now ≤ 3900 }

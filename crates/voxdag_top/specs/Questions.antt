@@ -39,9 +39,9 @@ abbrev pub way_with : Option ℤ → Option ℤ → Option ℤ → Option Headin
 way_with (Some dx) (Some dy) (Some dz) = Some (heading_of dx dy dz)
 way_with dx dy dz = None
 
-abbrev pub asked_way : List (List ℕ) → Option Heading
-asked_way (dx ∷ dy ∷ dz ∷ []) = way_with (step_in dx) (step_in dy) (step_in dz)
-asked_way _ = None
+abbrev pub asked_heading : List (List ℕ) → Option Heading
+asked_heading (dx ∷ dy ∷ dz ∷ []) = way_with (step_in dx) (step_in dy) (step_in dz)
+asked_heading _ = None
 
 abbrev pub ray_with : Option Cell → Option Heading → Option Question
 ray_with (Some from) (Some way) = Some (Ray from way)
@@ -56,7 +56,7 @@ bounds_in [] = Some Bounds
 bounds_in _ = None
 
 abbrev pub ray_in : List (List ℕ) → Option Question
-ray_in (x ∷ y ∷ z ∷ steps) = ray_with (place_in x y z) (asked_way steps)
+ray_in (x ∷ y ∷ z ∷ steps) = ray_with (place_in x y z) (asked_heading steps)
 ray_in _ = None
 
 abbrev pub question_in : List ℕ → List (List ℕ) → Option Question

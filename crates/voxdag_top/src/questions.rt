@@ -5,7 +5,7 @@ ghost use Rattle.command_line.specs.Texts.{texts};
 ghost use Rattle.history_model.specs.Worlds.{box_at};
 ghost use Rattle.script.specs.Numbers.{loose};
 ghost use Rattle.script_files.specs.Questions.{question_spelled, step_spelled, heading_spelled};
-ghost use Rattle.voxdag_top.specs.Questions.{place_in, asked_box, signed_digits, step_in, asked_way, get_in, bounds_in, ray_in, question_in};
+ghost use Rattle.voxdag_top.specs.Questions.{place_in, asked_box, signed_digits, step_in, asked_heading, get_in, bounds_in, ray_in, question_in};
 
 use history_model::Three;
 use script::number;
@@ -87,7 +87,7 @@ fn place_in(x: &str, y: &str, z: &str) -> Option<Three>
 }
 
 fn way_in(words: &[String]) -> Option<SpelledWay>
-    ensures { option_map heading_spelled result ≡ asked_way (texts words.now) }
+    ensures { option_map heading_spelled result ≡ asked_heading (texts words.now) }
 {
     let [dx, dy, dz] = words else {
         return None;

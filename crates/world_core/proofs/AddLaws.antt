@@ -17,7 +17,7 @@ use Rattle.core_laws.specs.Soundness.{FitsLevel, IsFull}
 use Rattle.core_laws.specs.Events.{one_name, children_named, Adds, adds}
 use Rattle.core_laws.specs.LogEvents.{stores}
 use Rattle.core_laws.proofs.Bounds.{missing_in_bucket}
-use Rattle.world_core.specs.Slots.{Bucket, Level, bucket_at, entry_at, key_or_none, put_at}
+use Rattle.world_core.specs.Slots.{SlotRow, BucketRow, bucket_at, entry_at, key_or_none, put_at}
 use Rattle.world_core.proofs.SlotLaws.{adds_slot, stays_laid_out}
 use Rattle.world_core.specs.Changes.{AreLive}
 use Rattle.world_core.specs.Trading.{TradesNames, weights}
@@ -58,7 +58,7 @@ module _ (s : Stored) (level bucket : ℕ) (key : Key) (is : IsStored s) (low : 
   wide : length (bucket_at s.entries level bucket) ≡ s.plan.cap
   wide = is.laid.slots level bucket low (bucket_in s level bucket key is low same)
 
-  slots : Bucket
+  slots : SlotRow
   slots = bucket_at s.entries level bucket
 
   -- no slot of the key's bucket has it, and so no live entry
@@ -115,7 +115,7 @@ module _ (s : Stored) (level bucket : ℕ) (key : Key) (is : IsStored s) (low : 
 
   -- an entry is made in the lowest free slot
   pub added : (session slot : ℕ) (names rest after : List Name) (children : List (Option Name))
-      (entries : List Level) → IsNowhere s level bucket key → FitsLevel level key
+      (entries : List BucketRow) → IsNowhere s level bucket key → FitsLevel level key
       → ((f : Name → ℕ) → weights children f ≡ children_weight f key)
       → HoldsShares (stored_state s) session children → HoldsAtMost (stored_state s) session 4095
       → slice_get s.held session ≡ Some names → TradesNames names children [] rest
@@ -146,12 +146,12 @@ module _ (s : Stored) (level bucket : ℕ) (key : Key) (is : IsStored s) (low : 
       let few =
       few_after s session names after children (Some n ∷ []) at has all_trade 4095 room
       (omega (arith, one_weight (Some n) (λ _. 1))) in
-      let all : List Level = put_at s.entries n (Some (record { key = key; book = 1 })) in
+      let all : List BucketRow = put_at s.entries n (Some (record { key = key; book = 1 })) in
       let step : Adds s.plan session n key (stored_state s) (stored_state (moved s all session after)) =
       adds_slot s.plan s.entries n key session (root_in s.roots) s.log s.held
       (set s.held session after)
       is.laid name free.at fits same nowhere.missing trades in
-      subst (λ (x : List Level). AddsEntry s session level key n (moved s x session after))
+      subst (λ (x : List BucketRow). AddsEntry s session level key n (moved s x session after))
       (sym put) (record {
         same_level = refl;
         lowest = record { each = lower.each };

@@ -10,7 +10,7 @@ use Rattle.node_words.specs.Plans.{Layout, IsPlan}
 use Rattle.world_core.specs.Buckets.{book_of_slot}
 use Rattle.core_laws.specs.Counting.{holdings}
 use Rattle.core_laws.proofs.RootCells.{empty_sound}
-use Rattle.world_core.specs.Slots.{Level, IsLaidOut, entry_at}
+use Rattle.world_core.specs.Slots.{BucketRow, IsLaidOut, entry_at}
 use Rattle.world_core.specs.Beginning.{HasBegun}
 use Rattle.world_core.specs.Stored.{Stored, IsStored, root_in, stored_state}
 
@@ -32,7 +32,7 @@ unfolding holdings
 no_holdings sessions f =
     let e = sum_by-replicate (λ (names : List Name). sum_by f names) sessions nobody in omega arith
 
-abbrev pub begun : Layout → List Content → List Level → List (Option Name) → List (List Name)
+abbrev pub begun : Layout → List Content → List BucketRow → List (Option Name) → List (List Name)
     → Stored
 begun p models entries roots held = record {
   plan = p;
@@ -43,7 +43,7 @@ begun p models entries roots held = record {
   held = held;
 }
 
-module _ (p : Layout) (models : List Content) (entries : List Level) (roots : List (Option Name))
+module _ (p : Layout) (models : List Content) (entries : List BucketRow) (roots : List (Option Name))
     (held : List (List Name)) (sessions : ℕ) (plan : IsPlan p) (laid : IsLaidOut p entries)
     (free : (n : Name) → entry_at entries n ≡ None) (none : roots ≡ replicate 65536 None)
     (nobody_holds : held ≡ replicate sessions []) (few : sessions ≤ 64) where

@@ -7,25 +7,25 @@ use Rattle.node_words.specs.declared.keys.Key.{Key}
 use Rattle.node_words.specs.Plans.{Layout}
 use Rattle.node_places.specs.Spots.{levels, buckets_at}
 use Rattle.world_core.specs.declared.counted.Entry.{Entry}
-use Rattle.world_core.specs.Slots.{Bucket, Level, IsLaidOut, bucket_at, entry_at}
+use Rattle.world_core.specs.Slots.{SlotRow, BucketRow, IsLaidOut, bucket_at, entry_at}
 
 abbrev no_entry : Option (Entry Key)
 no_entry = None
 
 -- each level has its buckets of empty slots
-pub record AreEmpty (p : Layout) (all : List Level) : Type 0 where
+pub record AreEmpty (p : Layout) (all : List BucketRow) : Type 0 where
   pub heights : length all ≡ levels p
   pub each : (k : ℕ) → k < levels p
       → get_or all k [] ≡ replicate (buckets_at p k) (replicate p.cap None)
 
-bucket_empty : (p : Layout) (all : List Level) (level bucket : ℕ) → AreEmpty p all
+bucket_empty : (p : Layout) (all : List BucketRow) (level bucket : ℕ) → AreEmpty p all
     → level < levels p → bucket < buckets_at p level
     → bucket_at all level bucket ≡ replicate p.cap None
 bucket_empty p all level bucket e low inside =
-    ap (λ (l : Level). get_or l bucket []) (e.each level low)
+    ap (λ (l : BucketRow). get_or l bucket []) (e.each level low)
     ∙ get_or-replicate (buckets_at p level) bucket (replicate p.cap no_entry) [] inside
 
-pub empty_laid : (p : Layout) (all : List Level) → AreEmpty p all → IsLaidOut p all
+pub empty_laid : (p : Layout) (all : List BucketRow) → AreEmpty p all → IsLaidOut p all
 empty_laid p all e = record {
   heights = e.heights;
   buckets = λ level low. ap length (e.each level low)
@@ -41,17 +41,17 @@ none_in n k = elim (cases_lt k n) [
       (let e = length-replicate n no_entry in omega arith)
 ]
 
-pub empty_free : (p : Layout) (all : List Level) → AreEmpty p all → (n : Name)
+pub empty_free : (p : Layout) (all : List BucketRow) → AreEmpty p all → (n : Name)
     → entry_at all n ≡ None
 empty_free p all e n = elim (cases_lt n.level (levels p)) [
-  | inr high ↦ ap (λ (l : Level). get_or (get_or l n.bucket []) n.slot None)
+  | inr high ↦ ap (λ (l : BucketRow). get_or (get_or l n.bucket []) n.slot None)
       (get_or_past all n.level [] (let h = e.heights in omega arith))
   | inl low ↦ elim (cases_lt n.bucket (buckets_at p n.level)) [
-    | inl inside ↦ ap (λ (b : Bucket). get_or b n.slot None)
+    | inl inside ↦ ap (λ (b : SlotRow). get_or b n.slot None)
         (bucket_empty p all n.level n.bucket e low inside)
         ∙ none_in p.cap n.slot
-    | inr past ↦ ap (λ (b : Bucket). get_or b n.slot None)
-        (ap (λ (l : Level). get_or l n.bucket []) (e.each n.level low)
+    | inr past ↦ ap (λ (b : SlotRow). get_or b n.slot None)
+        (ap (λ (l : BucketRow). get_or l n.bucket []) (e.each n.level low)
         ∙ get_or_past _ n.bucket []
         (let w = length-replicate (buckets_at p n.level)
         (replicate p.cap no_entry) in omega arith))
@@ -59,7 +59,7 @@ empty_free p all e n = elim (cases_lt n.level (levels p)) [
 ]
 
 -- levels that were made one after another with the plan's numbers are empty
-pub all_empty : (p : Layout) (all : List Level) (level cap : ℕ) (buckets : List ℕ)
+pub all_empty : (p : Layout) (all : List BucketRow) (level cap : ℕ) (buckets : List ℕ)
     → level ≡ levels p → cap ≡ p.cap → buckets ≡ p.buckets → length all ≡ level
     → ((k : ℕ) → k < level → get_or all k [] ≡ replicate (get_or buckets k 0) (replicate cap None))
     → AreEmpty p all

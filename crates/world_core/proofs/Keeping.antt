@@ -17,7 +17,7 @@ use Rattle.core_laws.specs.LogEvents.{Step}
 use Rattle.core_laws.specs.States.{IsLive}
 use Rattle.core_laws.proofs.Bounds.{book_small}
 use Rattle.core_laws.proofs.StepLaws.{step_sound}
-use Rattle.world_core.specs.Slots.{Level, IsLaidOut, entry_at, read_lists}
+use Rattle.world_core.specs.Slots.{BucketRow, IsLaidOut, entry_at, read_lists}
 use Rattle.world_core.specs.Trading.{HasAll, TradesNames, weights}
 use Rattle.world_core.specs.Stored.{Stored, IsStored, stored_state, root_in}
 
@@ -78,7 +78,7 @@ traded held session names after gives takes g t at has trade of_g of_t = record 
 }
 
 -- lists that took a step are sound
-pub kept : (s : Stored) (entries : List Level) (roots : List (Option Name)) (log : Log)
+pub kept : (s : Stored) (entries : List BucketRow) (roots : List (Option Name)) (log : Log)
     (session : ℕ) (after : List Name) → IsStored s → IsLaidOut s.plan entries
     → length roots ≡ versions → length after ≤ 4096
     → Step s.plan s.models session (stored_state s)

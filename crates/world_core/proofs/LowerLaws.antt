@@ -18,7 +18,7 @@ use Rattle.core_laws.specs.Events.{no_weight, one_name, children_named, Lowers, 
 use Rattle.core_laws.specs.LogEvents.{stores}
 use Rattle.core_laws.specs.States.{IsLive}
 use Rattle.core_laws.proofs.Lives.{held_lives}
-use Rattle.world_core.specs.Slots.{Level, entry_at, key_or_none, put_at}
+use Rattle.world_core.specs.Slots.{BucketRow, entry_at, key_or_none, put_at}
 use Rattle.world_core.proofs.SlotLaws.{lowers_slot, frees_slot, stays_laid_out}
 use Rattle.world_core.specs.Changes.{LowersEntryAt}
 use Rattle.world_core.specs.Trading.{HasAll, TradesNames, weights}
@@ -101,7 +101,7 @@ few_children (suc level) (Node children) fits =
     row (o ∷ os) = let first = one o in let rest = row os in let all = sum_by-cons
         (weight (λ _. 1)) o os in omega arith
 
-module _ (s : Stored) (session : ℕ) (n : Name) (names after : List Name) (entries : List Level)
+module _ (s : Stored) (session : ℕ) (n : Name) (names after : List Name) (entries : List BucketRow)
     (is : IsStored s) (may : MayLower (stored_state s) session n)
     (at : slice_get s.held session ≡ Some names) where
   live : IsLive s.plan (stored_state s) n
@@ -132,7 +132,7 @@ module _ (s : Stored) (session : ℕ) (n : Name) (names after : List Name) (entr
           → LowersEntry s session n (moved s entries session after)
       go None none trades few = absurd (live_there s n (held_live s session n is may.held) none)
       go (Some e) some trades few =
-          let all : List Level = put_at s.entries n (Some (record { key = e.key; book = left })) in
+          let all : List BucketRow = put_at s.entries n (Some (record { key = e.key; book = left })) in
           let book : e.book ≡ left + 1 = sym (ap book_of_slot some) ∙ put.entry.1 in
           let is_all : entries ≡ all =
           put.others ∙ ap (λ (x : Option (Entry Key)). put_at s.entries n x)
@@ -143,7 +143,7 @@ module _ (s : Stored) (session : ℕ) (n : Name) (names after : List Name) (entr
           (set s.held session after)
           is.laid name (some ∙ ap (λ (b : ℕ). Some (record { key = e.key; book = b })) book)
           (omega (arith, put.entry.0)) trades in
-          subst (λ (x : List Level). LowersEntry s session n (moved s x session after))
+          subst (λ (x : List BucketRow). LowersEntry s session n (moved s x session after))
           (sym is_all) (record {
             lowers = step;
             stays = record {
@@ -183,14 +183,14 @@ module _ (s : Stored) (session : ℕ) (n : Name) (names after : List Name) (entr
       few_after s session names after (Some n ∷ []) children at
       (has_of s session (Some n ∷ []) names may.held at) trade 4089 may.room
       (omega (arith, eight, one_weight (Some n) (λ _. 1))) in
-      let all : List Level = put_at s.entries n None in
+      let all : List BucketRow = put_at s.entries n None in
       let is_all : entries ≡ all =
       put.others ∙ ap (λ (x : Option (Entry Key)). put_at s.entries n x) put.entry.1 in
       let step : Frees s.plan session n (stored_state s) (stored_state (moved s all session after)) =
       frees_slot s.plan s.entries n key session (root_in s.roots) s.log s.held
       (set s.held session after)
       is.laid name put.entry.0 trades in
-      subst (λ (x : List Level). FreesEntry s session n (moved s x session after)) (sym is_all)
+      subst (λ (x : List BucketRow). FreesEntry s session n (moved s x session after)) (sym is_all)
       (record {
         frees = step;
         stays = record {

@@ -10,7 +10,7 @@ use Rattle.core_laws.specs.Events as events
 use Rattle.core_laws.specs.Events.{no_weight, one_name, Raises, raises}
 use Rattle.core_laws.specs.LogEvents.{stores}
 use Rattle.core_laws.specs.States.{IsLive}
-use Rattle.world_core.specs.Slots.{Level, entry_at, put_at}
+use Rattle.world_core.specs.Slots.{BucketRow, entry_at, put_at}
 use Rattle.world_core.proofs.SlotLaws.{raises_slot, stays_laid_out}
 use Rattle.world_core.specs.Trading.{HasAll, TradesNames, weights}
 use Rattle.world_core.specs.Lawful.{HoldsAtMost}
@@ -19,7 +19,7 @@ use Rattle.world_core.specs.Steps.{RaisesEntry}
 use Rattle.world_core.proofs.Keeping.{traded, kept, no_weights, one_weight, ones, live_there}
 
 -- the lists with other entries, and with another holding of a session
-abbrev pub moved : Stored → List Level → ℕ → List Name → Stored
+abbrev pub moved : Stored → List BucketRow → ℕ → List Name → Stored
 moved s entries session after =
     record { plan = s.plan; models = s.models; entries = entries; roots = s.roots; log = s.log; held = set s.held session after }
 
@@ -38,14 +38,14 @@ few_names s session most names room at =
     let few = room.few in
     subst (λ (ns : List Name). length ns ≤ most) (sym same) few
 
-pub raised : (s : Stored) (session : ℕ) (n : Name) (names after : List Name) (entries : List Level)
+pub raised : (s : Stored) (session : ℕ) (n : Name) (names after : List Name) (entries : List BucketRow)
     → IsStored s → IsLive s.plan (stored_state s) n → HoldsAtMost (stored_state s) session 4095
     → slice_get s.held session ≡ Some names → TradesNames names [] (Some n ∷ []) after
     → entries ≡ put_at s.entries n
     (with_book (entry_at s.entries n) (book_of_slot (entry_at s.entries n) + 1))
     → RaisesEntry s session n (moved s entries session after)
 raised s session n names after entries is live room at trade put =
-    subst (λ (all : List Level). RaisesEntry s session n (moved s all session after)) (sym put)
+    subst (λ (all : List BucketRow). RaisesEntry s session n (moved s all session after)) (sym put)
     (go (entry_at s.entries n) refl)
   where
     trades : events.Trades s.held session no_weight (one_name n) (set s.held session after)
@@ -67,7 +67,7 @@ raised s session n names after entries is live room at trade put =
         let P : Option (Entry Key) → Type 0 =
         λ o. RaisesEntry s session n
         (moved s (put_at s.entries n (with_book o (book_of_slot o + 1))) session after) in
-        let all : List Level =
+        let all : List BucketRow =
         put_at s.entries n (Some (record { key = e.key; book = e.book + 1 })) in
         let book : book_of_slot (entry_at s.entries n) ≡ e.book = ap book_of_slot some in
         let low = live.book in

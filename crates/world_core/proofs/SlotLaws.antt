@@ -15,14 +15,14 @@ use Rattle.core_laws.specs.Soundness.{FitsLevel}
 use Rattle.core_laws.specs.Events.{Trades, OthersStay, Raises, Adds, Lowers, Frees, no_weight, one_name, children_named}
 use Rattle.world_core.specs.declared.counted.Entry.{Entry}
 use Rattle.world_core.specs.Buckets.{book_of_slot}
-use Rattle.world_core.specs.Slots.{Bucket, Level, bucket_at, entry_at, put_at, IsLaidOut, key_or_none, read_lists}
+use Rattle.world_core.specs.Slots.{SlotRow, BucketRow, bucket_at, entry_at, put_at, IsLaidOut, key_or_none, read_lists}
 
 -- the new content is there
-pub put_here : (p : Layout) (all : List Level) (n : Name) (e : Option (Entry Key))
+pub put_here : (p : Layout) (all : List BucketRow) (n : Name) (e : Option (Entry Key))
     → IsLaidOut p all → IsName p n → entry_at (put_at all n e) n ≡ e
 put_here p all n e laid is =
-    let level : Level = get_or all n.level [] in
-    let bucket : Bucket = get_or level n.bucket [] in
+    let level : BucketRow = get_or all n.level [] in
+    let bucket : SlotRow = get_or level n.bucket [] in
     let low = is.level_in in let in_level = is.bucket_in in let in_bucket = is.slot_in in
     let heights = laid.heights in
     let wide = laid.buckets n.level low in
@@ -33,21 +33,21 @@ put_here p all n e laid is =
     ≡ set bucket n.slot e = get_or-set_same level n.bucket _ [] (omega arith) in
     let last : get_or (set bucket n.slot e) n.slot None ≡ e =
     get_or-set_same bucket n.slot e None (omega arith) in
-    ap (λ (l : Level). get_or (get_or l n.bucket []) n.slot None) outer
-    ∙ ap (λ (b : Bucket). get_or b n.slot None) inner ∙ last
+    ap (λ (l : BucketRow). get_or (get_or l n.bucket []) n.slot None) outer
+    ∙ ap (λ (b : SlotRow). get_or b n.slot None) inner ∙ last
 
 -- every other slot has what it had
-pub put_there : (p : Layout) (all : List Level) (n m : Name) (e : Option (Entry Key))
+pub put_there : (p : Layout) (all : List BucketRow) (n m : Name) (e : Option (Entry Key))
     → IsLaidOut p all → IsName p n → m ≢ n → entry_at (put_at all n e) m ≡ entry_at all m
 put_there p all n m e laid is other =
-    let level : Level = get_or all n.level [] in
-    let bucket : Bucket = get_or level n.bucket [] in
+    let level : BucketRow = get_or all n.level [] in
+    let bucket : SlotRow = get_or level n.bucket [] in
     let low = is.level_in in let in_level = is.bucket_in in
     let heights = laid.heights in
     let wide = laid.buckets n.level low in
     elim (cases_eq m.level n.level) [
       | inr apart ↦
-          ap (λ (l : Level). get_or (get_or l m.bucket []) m.slot None)
+          ap (λ (l : BucketRow). get_or (get_or l m.bucket []) m.slot None)
           (get_or-set_other all n.level m.level _ [] apart)
       | inl of_level ↦
           (let outer : get_or (put_at all n e) m.level []
@@ -56,10 +56,10 @@ put_there p all n m e laid is other =
           ∙ get_or-set_same all n.level _ [] (omega arith) in
           let was : level ≡ get_or all m.level [] =
           ap (λ (k : ℕ). get_or all k []) (sym of_level) in
-          ap (λ (l : Level). get_or (get_or l m.bucket []) m.slot None) outer
+          ap (λ (l : BucketRow). get_or (get_or l m.bucket []) m.slot None) outer
           ∙ elim (cases_eq m.bucket n.bucket) [
             | inr apart ↦
-                ap (λ (b : Bucket). get_or b m.slot None)
+                ap (λ (b : SlotRow). get_or b m.slot None)
                 (get_or-set_other level n.bucket m.bucket _ [] apart)
             | inl of_bucket ↦
                 (let inner : get_or (set level n.bucket (set bucket n.slot e)) m.bucket []
@@ -67,15 +67,15 @@ put_there p all n m e laid is other =
                 ap (λ (k : ℕ). get_or
                 (set level n.bucket (set bucket n.slot e)) k []) of_bucket
                 ∙ get_or-set_same level n.bucket _ [] (omega arith) in
-                ap (λ (b : Bucket). get_or b m.slot None) inner
+                ap (λ (b : SlotRow). get_or b m.slot None) inner
                 ∙ get_or-set_other bucket n.slot m.slot e None
                 (λ of_slot. other (same_name m n of_level of_bucket of_slot))
                 ∙ ap (λ (k : ℕ). get_or (get_or level k []) m.slot None) (sym of_bucket))
           ]
-          ∙ ap (λ (l : Level). get_or (get_or l m.bucket []) m.slot None) was)
+          ∙ ap (λ (l : BucketRow). get_or (get_or l m.bucket []) m.slot None) was)
     ]
 
-module _ (p : Layout) (all : List Level) (n : Name) (e : Option (Entry Key))
+module _ (p : Layout) (all : List BucketRow) (n : Name) (e : Option (Entry Key))
     (laid : IsLaidOut p all) (is : IsName p n) (root : ℕ → Option Name) (log : Log)
     (held new : List (List Name)) where
   others_stay : OthersStay p n (read_lists all root log held)
@@ -86,7 +86,7 @@ module _ (p : Layout) (all : List Level) (n : Name) (e : Option (Entry Key))
   }
 
 -- the book of a slot's entry is raised
-pub raises_slot : (p : Layout) (all : List Level) (n : Name) (key : Key) (book holder : ℕ)
+pub raises_slot : (p : Layout) (all : List BucketRow) (n : Name) (key : Key) (book holder : ℕ)
     (root : ℕ → Option Name) (log : Log) (held new : List (List Name)) → IsLaidOut p all
     → IsName p n
     → entry_at all n ≡ Some (record { key = key; book = book }) → 0 < book
@@ -106,7 +106,7 @@ raises_slot p all n key book holder root log held new laid is at some trade =
     }
 
 -- an empty slot gets an entry
-pub adds_slot : (p : Layout) (all : List Level) (n : Name) (key : Key) (holder : ℕ)
+pub adds_slot : (p : Layout) (all : List BucketRow) (n : Name) (key : Key) (holder : ℕ)
     (root : ℕ → Option Name) (log : Log) (held new : List (List Name)) → IsLaidOut p all
     → IsName p n
     → entry_at all n ≡ None → FitsLevel n.level key
@@ -131,7 +131,7 @@ adds_slot p all n key holder root log held new laid is at fits bucket missing tr
     }
 
 -- the book of a slot's entry falls
-pub lowers_slot : (p : Layout) (all : List Level) (n : Name) (key : Key) (left holder : ℕ)
+pub lowers_slot : (p : Layout) (all : List BucketRow) (n : Name) (key : Key) (left holder : ℕ)
     (root : ℕ → Option Name) (log : Log) (held new : List (List Name)) → IsLaidOut p all
     → IsName p n
     → entry_at all n ≡ Some (record { key = key; book = left + 1 }) → 0 < left
@@ -153,7 +153,7 @@ lowers_slot p all n key left holder root log held new laid is at some trade =
     }
 
 -- the entry of a slot is removed
-pub frees_slot : (p : Layout) (all : List Level) (n : Name) (key : Key) (holder : ℕ)
+pub frees_slot : (p : Layout) (all : List BucketRow) (n : Name) (key : Key) (holder : ℕ)
     (root : ℕ → Option Name) (log : Log) (held new : List (List Name)) → IsLaidOut p all
     → IsName p n
     → entry_at all n ≡ Some (record { key = key; book = 1 })
@@ -171,9 +171,9 @@ frees_slot p all n key holder root log held new laid is at trade =
           (sym (ap key_or_none at)) trade;
     }
 
-module _ (p : Layout) (all : List Level) (n : Name) (e : Option (Entry Key))
+module _ (p : Layout) (all : List BucketRow) (n : Name) (e : Option (Entry Key))
     (laid : IsLaidOut p all) (is : IsName p n) where
-  own_level : List Bucket
+  own_level : List SlotRow
   own_level = set (get_or all n.level []) n.bucket (set (bucket_at all n.level n.bucket) n.slot e)
 
   level_wide : (level : ℕ) → level < levels p
@@ -195,7 +195,7 @@ module _ (p : Layout) (all : List Level) (n : Name) (e : Option (Entry Key))
   unfolding own_level
   bucket_wide level bucket low in_level = elim (cases_eq level n.level) [
     | inr apart ↦
-        ap (λ (l : Level). length (get_or l bucket []))
+        ap (λ (l : BucketRow). length (get_or l bucket []))
         (get_or-set_other all n.level level _ [] apart)
     | inl same ↦
         (let heights = laid.heights in
@@ -204,7 +204,7 @@ module _ (p : Layout) (all : List Level) (n : Name) (e : Option (Entry Key))
         ap (λ (k : ℕ). get_or (put_at all n e) k []) same
         ∙ get_or-set_same all n.level own_level [] (omega arith) in
         let was = ap (λ (k : ℕ). length (get_or (get_or all k []) bucket [])) same in
-        ap (λ (l : Level). length (get_or l bucket [])) here
+        ap (λ (l : BucketRow). length (get_or l bucket [])) here
         ∙ elim (cases_eq bucket n.bucket) [
           | inr apart ↦
               ap length (get_or-set_other (get_or all n.level []) n.bucket bucket _ [] apart)

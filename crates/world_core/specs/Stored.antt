@@ -7,14 +7,14 @@ use Rattle.node_places.specs.Spots.{versions}
 use Rattle.history_model.specs.Logs.{Log}
 use Rattle.core_laws.specs.States.{State}
 use Rattle.core_laws.specs.Soundness.{Sound}
-use Rattle.world_core.specs.Slots.{Level, IsLaidOut, read_lists}
+use Rattle.world_core.specs.Slots.{BucketRow, IsLaidOut, read_lists}
 
 -- the plan, the models that stamps name, the entries by level, bucket and slot, a root for each
 -- version, the log, and the names that each session holds
 pub record Stored : Type 0 where
   pub plan : Layout
   pub models : List Content
-  pub entries : List Level
+  pub entries : List BucketRow
   pub roots : List (Option Name)
   pub log : Log
   pub held : List (List Name)

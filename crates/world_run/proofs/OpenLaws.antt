@@ -28,7 +28,7 @@ use Rattle.session.specs.Saves.{SeatHoldsPins, HoldsSaves, pinned_versions}
 use Rattle.session.specs.Seen.{WorldSeen, log_seen, session_seen}
 use Rattle.world_run.specs.declared.open_runs.SavedSession.{SavedSession}
 use Rattle.world_run.specs.declared.open_runs.SavePlace.{SavePlace}
-use Rattle.world_run.specs.Open.{HasSave, IsSaved, RunState, SavesAt, kept_in, saved_in_world, saved_seen}
+use Rattle.world_run.specs.Open.{HasSave, IsSaved, RunState, SavesAt, kept_in, file_of_save, saved_seen}
 
 -- there are as many pins as saves
 pub pins_of_saves : (tint : Bool) (t : TableSeen) (s : SavedSession) → IsSaved tint t s
@@ -114,7 +114,7 @@ one_file : (tint : Bool) (t : TableSeen) (s : SavedSession) (k : ℕ) (at : Save
     ≡ file_kept tint t.plan.side at.part
     (store_has t.models (log_seen s.session.view.log) p.version))
     → (b : SavedBox) → slice_get s.saves.items k ≡ Some b
-    → file ≡ saved_in_world tint t.models (kept_at (log_seen s.session.view.log) b)
+    → file ≡ file_of_save tint t.models (kept_at (log_seen s.session.view.log) b)
 one_file tint t s k at file saved lt is told b here =
     let same : at ≡ b = is ∙ get_or_from_slice_get s.saves.items k b at here in
     elim (slice_get_cases s.pins.items k).1 [
@@ -143,7 +143,7 @@ pub file_told : {E Z : Type 0} (tint : Bool) (t : TableSeen) (s : SavedSession) 
     (store_has t.models (log_seen s.session.view.log) p.version))
     → IfOk result
     (λ file. (b : SavedBox) → slice_get s.saves.items k ≡ Some b → file.items
-    ≡ saved_in_world tint t.models (kept_at (session_seen s.session.view).log b))
+    ≡ file_of_save tint t.models (kept_at (session_seen s.session.view).log b))
 file_told tint t s k at pins (Ok file) saved lt is of told =
     one_file tint t s k at file.items saved lt is
     (λ p here. told p (ap (λ (ps : List Pinned). slice_get ps k) of ∙ here))
@@ -224,18 +224,18 @@ module _ (sessions : List SavedSession) (k : ℕ) (p : SavePlace) (s : SavedSess
       (kept : List KeptSave) (file : List ℕ)
       → kept ≡ kept_in sessions → asked ≡ tint → models ≡ t.models
       → ((b : SavedBox) → slice_get s.saves.items p.save ≡ Some b → file
-      ≡ saved_in_world tint t.models (kept_at (log_seen s.session.view.log) b)) → (q : KeptSave)
-      → slice_get kept k ≡ Some q → file ≡ saved_in_world asked models q
+      ≡ file_of_save tint t.models (kept_at (log_seen s.session.view.log) b)) → (q : KeptSave)
+      → slice_get kept k ≡ Some q → file ≡ file_of_save asked models q
   one_run_file tint t asked models kept file is alike same told q at =
       elim (slice_get_cases s.saves.items p.save).1 [
         | inl (b, within, here, read) ↦
             told b here
-            ∙ ap (λ (x : KeptSave). saved_in_world tint t.models x)
+            ∙ ap (λ (x : KeptSave). file_of_save tint t.models x)
             (same_Some (kept_at (log_seen s.session.view.log) b) q
             (sym ((has.each s session_at).1 b here)
             ∙ sym (ap (λ (ks : List KeptSave). slice_get ks k) is) ∙ at))
-            ∙ ap (λ (ms : List Content). saved_in_world tint ms q) (sym same)
-            ∙ ap (λ (b : Bool). saved_in_world b models q) (sym alike)
+            ∙ ap (λ (ms : List Content). file_of_save tint ms q) (sym same)
+            ∙ ap (λ (b : Bool). file_of_save b models q) (sym alike)
         | inr (past, none) ↦ absurd (let less = save_less in omega arith)
       ]
 
@@ -244,10 +244,10 @@ module _ (sessions : List SavedSession) (k : ℕ) (p : SavePlace) (s : SavedSess
       (result : Result (Vec ℕ Z) E) → kept ≡ kept_in sessions → asked ≡ tint → models ≡ t.models
       → IfOk result
       (λ file. (b : SavedBox) → slice_get s.saves.items p.save ≡ Some b → file.items
-      ≡ saved_in_world tint t.models (kept_at (session_seen s.session.view).log b))
+      ≡ file_of_save tint t.models (kept_at (session_seen s.session.view).log b))
       → IfOk result
       (λ file. (q : KeptSave) → slice_get kept k ≡ Some q
-      → file.items ≡ saved_in_world asked models q)
+      → file.items ≡ file_of_save asked models q)
   run_file tint t asked models kept (Ok file) is alike same told =
       one_run_file tint t asked models kept file.items is alike same told
   run_file tint t asked models kept (Err e) is alike same told = tt

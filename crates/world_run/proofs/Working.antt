@@ -28,7 +28,7 @@ use Rattle.session_runs.specs.Saves.{saves_asked_in, versions_of}
 use Rattle.session_runs.specs.Seen.{SessionSeen, none_noted, session_keeping}
 use Rattle.session.specs.Resting.{IsAtRest}
 use Rattle.session.specs.Saves.{SeatHoldsPins, pinned_versions}
-use Rattle.session.specs.Seen.{AreScriptLines, WorldSeen, of_world, session_seen}
+use Rattle.session.specs.Seen.{AreLinesOfWorld, WorldSeen, of_world, session_seen}
 use Rattle.world_run.specs.declared.open_runs.SavedSession.{SavedSession}
 use Rattle.world_run.specs.declared.rooms.ScriptRoom.{ScriptRoom}
 use Rattle.world_run.specs.declared.works.SessionWork.{SessionWork}
@@ -76,7 +76,7 @@ all_may t first (s ∷ scripts) (v ∷ works) are =
 pub is_work : (t : WorldSeen) (number : ℕ) (w : SessionWork) → w.world.now ≡ t
     → IsNewPass t.table.id (terms_of t.table) number w.session
     → IsAtRest w.world.now.table w.session → RisesFrom 1 w.script.now
-    → AreScriptLines w.world.now w.script.now
+    → AreLinesOfWorld w.world.now w.script.now
     → IsRoomFor w.script.now w.room → IsWorkOf t w.script.now number w
 is_work t number w world new rest rises fit room = record {
   world = world;
@@ -330,7 +330,7 @@ done_left t scripts i script works more w lt is works_are done =
 -- the session with its accepted saves
 pub is_saved : (t : WorldSeen) (script : List ScriptLine) (number : ℕ) (w : SessionWork)
     (s : SavedSession) → IsDoneOf t script number w
-    → AreScriptLines t script
+    → AreLinesOfWorld t script
     → s.session ≡ w.session → s.pins.items ≡ w.room.pins.items
     → s.saves.items ≡ saved_in script w.room.answers.items → IsSaved t.tint t.table s
 is_saved t script number w s done fit session pins saves = record {

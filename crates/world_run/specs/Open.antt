@@ -29,8 +29,8 @@ pub record RunState : Type 0 where
 
 -- the file of a save: that of its box at its version, by the store's cells in the history that its
 -- session saw, with tints where cells have them
-abbrev pub saved_in_world : Bool → List Content → KeptSave → List ℕ
-saved_in_world tint models k =
+abbrev pub file_of_save : Bool → List Content → KeptSave → List ℕ
+file_of_save tint models k =
     file_kept tint k.seen.side k.save.part (store_has models k.seen k.save.version)
 
 -- the save stands at this place

@@ -10,7 +10,7 @@ use Rattle.session_runs.specs.Seen.{none_noted}
 use Rattle.session.specs.Resting.{IsAtRest}
 use Rattle.session.specs.Saves.{SeatHoldsPins, pinned_versions}
 use Rattle.session.specs.Scripts.{IsFresh}
-use Rattle.session.specs.Seen.{AreScriptLines, WorldSeen, of_world, session_seen}
+use Rattle.session.specs.Seen.{AreLinesOfWorld, WorldSeen, of_world, session_seen}
 use Rattle.world_run.specs.declared.rooms.ScriptRoom.{ScriptRoom}
 use Rattle.world_run.specs.declared.works.SessionWork.{SessionWork}
 
@@ -33,7 +33,7 @@ pub record MayWork (w : SessionWork) : Type 0 where
   pub rest : IsAtRest w.world.now.table w.session
   pub fresh : IsFresh w.session.view
   pub rises : RisesFrom 1 w.script.now
-  pub fit : AreScriptLines w.world.now w.script.now
+  pub fit : AreLinesOfWorld w.world.now w.script.now
   pub room : IsRoomFor w.script.now w.room
 
 -- the session ran its script, and holds what it saved

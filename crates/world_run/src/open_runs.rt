@@ -9,7 +9,7 @@ ghost use Rattle.session_runs.specs.Kept.{KeptSave, kept_at};
 ghost use Rattle.session_runs.specs.Ran.{ClosesWorld};
 ghost use Rattle.session.specs.Seen.{session_seen};
 ghost use Rattle.world_run.specs.Ends.{IsEndOf};
-ghost use Rattle.world_run.specs.Open.{HasSave, IsSaved, SavesAt, kept_in, saved_in_world};
+ghost use Rattle.world_run.specs.Open.{HasSave, IsSaved, SavesAt, kept_in, file_of_save};
 
 use crate::endings::{WorldRan, close_over, give_up_over};
 use conformance::SavedBox;
@@ -109,7 +109,7 @@ fn file_in(
     ensures same { s.new.saves ≡ s.old.saves }
     ensures seen { session_seen s.new.session.view ≡ session_seen s.old.session.view }
     ensures file { IfOk result (λ file. (b : SavedBox) → slice_get s.old.saves.items k ≡ Some b
-        → file.items ≡ saved_in_world world.now.tint world.now.table.models
+        → file.items ≡ file_of_save world.now.tint world.now.table.models
         (kept_at (session_seen s.old.session.view).log b)) }
 {
     let part = s.saves[k].part;
@@ -138,7 +138,7 @@ impl<'m> OpenRun<'m> {
     pub fn file(&mut self, alloc: Global, k: usize) -> Result<Vec<u8>, Memory>
         requires { k < length self.old.kept }
         ensures file { IfOk result (λ file. (s : KeptSave) → slice_get self.old.kept k ≡ Some s
-            → file.items ≡ saved_in_world self.old.tint self.old.models s) }
+            → file.items ≡ file_of_save self.old.tint self.old.models s) }
         ensures same { self.new ≡ self.old }
     {
         let place = place_of(self.sessions.as_slice(), k);

@@ -7,7 +7,7 @@ ghost use Rattle.node_table.specs.Begins.{AreNewPasses, terms_of};
 ghost use Rattle.session_runs.specs.Kept.{kept_of};
 ghost use Rattle.session_runs.specs.Ran.{SessionsRanKeeping};
 ghost use Rattle.session.specs.Resting.{IsAtRest};
-ghost use Rattle.session.specs.Seen.{AreScriptLines};
+ghost use Rattle.session.specs.Seen.{AreLinesOfWorld};
 ghost use Rattle.std.specs.List.{AllZip};
 ghost use Rattle.world_run.specs.Open.{IsSaved, kept_in, saved_seen};
 ghost use Rattle.world_run.specs.Works.{AreDone, AreWorks, IsRoomFor};
@@ -129,7 +129,7 @@ fn run_in<'m, R: Threads + Wait + Sync, G: Gate + Sync>(
     requires begun { StartsScripts world.table scripts.now start }
     requires few { length scripts.now ≤ 64 }
     requires rise { All (RisesFrom 1) scripts.now }
-    requires fit { All (AreScriptLines world) scripts.now }
+    requires fit { All (AreLinesOfWorld world) scripts.now }
     ensures ran { IfOk result (λ r. SessionsRanKeeping world.entry.keep world.entry.tint
         world.entry.table.plan world.entry.table.models 0 scripts.now r.transcripts.items
         r.run.sessions) }
@@ -177,7 +177,7 @@ fn give_out<'a, 'm>(
     requires rooms { AllZip IsRoomFor scripts.now rooms.items }
     requires rest { All (IsAtRest world.now.table) sessions.items }
     requires rise { All (RisesFrom 1) scripts.now }
-    requires fit { All (AreScriptLines world.now) scripts.now }
+    requires fit { All (AreLinesOfWorld world.now) scripts.now }
     requires empty { room.items ≡ [] }
     requires capacity { length scripts.now ≤ vec_capacity room }
     ensures works { AreWorks world.now 0 scripts.now result.items }
@@ -228,7 +228,7 @@ fn take_in(
 ) -> Outcomes
     requires done { AreDone _world.now 0 scripts.now works.items }
     requires many { length works.items ≡ length scripts.now }
-    requires fit { All (AreScriptLines _world.now) scripts.now }
+    requires fit { All (AreLinesOfWorld _world.now) scripts.now }
     requires no_session { outcomes.sessions.items ≡ [] }
     requires no_transcript { outcomes.transcripts.items ≡ [] }
     requires sessions { length scripts.now ≤ vec_capacity outcomes.sessions }

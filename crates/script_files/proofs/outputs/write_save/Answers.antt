@@ -1,7 +1,7 @@
 use Rattle.std.proofs.Common.{ℕ, List, Ok, Err, subst, ◌∙◌}
 use Rattle.vw_io.specs.Write.{WriteTold}
 use Rattle.session_runs.specs.Kept.{KeptSave}
-use Rattle.world_run.specs.Open.{saved_in_world}
+use Rattle.world_run.specs.Open.{file_of_save}
 use Rattle.script_files.specs.Requests.{saved_output}
 use Rattle.script_files.proofs.Writing.{output_written, output_stops}
 use Rattle.script_files.proofs.outputs.write_save.Goals as goal
@@ -14,7 +14,7 @@ returns-in-Ok-clause-writes g c =
     let old = g.S.Shelf.state c.args.shelf.now in
     let new = g.S.Shelf.state c.write.new.self in
     output_written
-    (saved_output (saved_in_world run.tint run.models)) run.kept c.args.k s
+    (saved_output (file_of_save run.tint run.models)) run.kept c.args.k s
     c.as_slice.result.now old new c.in-Ok.field-0 at.at
     (c.as_slice.ensures.value ∙ c.in_ok-file.ensures.file s at.at)
     (subst (λ (n : List ℕ). WriteTold old.files new.files n c.as_slice.result.now
@@ -28,7 +28,7 @@ returns-clause-writes g c =
     let old = g.S.Shelf.state c.args.shelf.now in
     let new = g.S.Shelf.state c.write.new.self in
     output_stops
-    (saved_output (saved_in_world run.tint run.models)) run.kept c.args.k s
+    (saved_output (file_of_save run.tint run.models)) run.kept c.args.k s
     c.as_slice.result.now old new c.in-Err.why at.at
     (c.as_slice.ensures.value ∙ c.in_ok-file.ensures.file s at.at)
     (subst (λ (n : List ℕ). WriteTold old.files new.files n c.as_slice.result.now

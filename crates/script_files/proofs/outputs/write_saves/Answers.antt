@@ -2,7 +2,7 @@ use Rattle.std.proofs.Common.{Ok, map, take, drop, subst, ◌∙◌}
 use Rattle.vw_io.specs.Outputs.{StopsWith}
 use Rattle.world_run.specs.Open.{RunState}
 use Rattle.script_files.specs.Refusals.{output_name}
-use Rattle.world_run.specs.Open.{saved_in_world}
+use Rattle.world_run.specs.Open.{file_of_save}
 use Rattle.script_files.specs.Requests.{saved_output}
 use Rattle.script_files.specs.Stages.{Writes}
 use Rattle.script_files.proofs.Writing.{next_output, next_stops}
@@ -14,11 +14,11 @@ returns-in-Err-clause-writes g c =
     let r = c.in-Err.refused in
     let mid = g.S.Shelf.state c.loop-k.shelf in
     let new = g.S.Shelf.state c.write_save.new.shelf in
-    next_stops r (map (saved_output (saved_in_world run.tint run.models)) run.kept) c.loop-k.k
+    next_stops r (map (saved_output (file_of_save run.tint run.models)) run.kept) c.loop-k.k
     (g.S.Shelf.state c.args.shelf.now) mid new c.loop-k.invariant.0
     (subst (λ (s : RunState). StopsWith r.why (output_name r.name)
     (take 1 (drop c.loop-k.k
-    (map (saved_output (saved_in_world s.tint s.models)) s.kept))) mid.files new.files
+    (map (saved_output (file_of_save s.tint s.models)) s.kept))) mid.files new.files
     mid.faults new.faults) c.loop-k.invariant.1 c.in-Err.ensures.writes)
 
 pub loop-k-preserved : goal.loop-k-preserved
@@ -27,11 +27,11 @@ loop-k-preserved g c =
     let mid = g.S.Shelf.state c.loop-k.shelf in
     let new = g.S.Shelf.state c.write_save.new.shelf in (
       next_output (map
-          (saved_output (saved_in_world run.tint run.models)) run.kept) c.loop-k.k
+          (saved_output (file_of_save run.tint run.models)) run.kept) c.loop-k.k
           c.in_default.field-0 (g.S.Shelf.state c.args.shelf.now) mid new c.loop-k.invariant.0
           (subst (λ (s : RunState). Writes (Ok c.in_default.field-0)
           (take 1 (drop c.loop-k.k
-          (map (saved_output (saved_in_world s.tint s.models)) s.kept))) mid new)
+          (map (saved_output (file_of_save s.tint s.models)) s.kept))) mid new)
           c.loop-k.invariant.1 c.in_default.ensures.writes),
       c.in_default.ensures.same ∙ c.loop-k.invariant.1,
     )

@@ -4,7 +4,7 @@ use Rattle.node_table.specs.Begins.{terms_of}
 use Rattle.script.specs.Fitting.{RisesFrom}
 use Rattle.script.specs.declared.commands.ScriptLine.{ScriptLine}
 use Rattle.session.specs.Resting.{IsAtRest}
-use Rattle.session.specs.Seen.{AreScriptLines}
+use Rattle.session.specs.Seen.{AreLinesOfWorld}
 use Rattle.world_run.proofs.EndLaws.{first_of}
 use Rattle.world_run.proofs.Working.{is_work, new_here, new_later, rooms_left, works_next}
 use Rattle.world_run.proofs.runs.give_out.Goals as goal
@@ -15,8 +15,8 @@ loop-script-preserved c =
     let rises : RisesFrom 1 c.script-item.result =
     subst (λ (ls : List ScriptLine). RisesFrom 1 ls) (sym c.script-item.is)
     (c.requires.rise i c.script-item.result c.loop-script-test.true) in
-    let fit : AreScriptLines c.args.world.now c.script-item.result =
-    subst (AreScriptLines c.args.world.now) (sym c.script-item.is)
+    let fit : AreLinesOfWorld c.args.world.now c.script-item.result =
+    subst (AreLinesOfWorld c.args.world.now) (sym c.script-item.is)
     (c.requires.fit i c.script-item.result c.loop-script-test.true)
     in
     let rooms =

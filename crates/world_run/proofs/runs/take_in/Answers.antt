@@ -1,5 +1,5 @@
 use Rattle.std.proofs.Common.{◌∙◌, ap, arith, length, refl, subst, sym}
-use Rattle.session.specs.Seen.{AreScriptLines}
+use Rattle.session.specs.Seen.{AreLinesOfWorld}
 use Rattle.world_run.proofs.Working.{done_left, is_saved, many_answered, next_taken, saves_taken}
 use Rattle.world_run.proofs.runs.take_in.Goals as goal
 
@@ -18,8 +18,8 @@ loop-script-preserved c =
     let both =
     done_left c.args._world.now c.args.scripts.now c.loop-script.script-index c.script-item.result _ _ c.in-Some.work c.loop-script-test.true c.script-item.is c.in-Some.ensures.items c.loop-script.invariant.done
     in
-    let fit : AreScriptLines c.args._world.now c.script-item.result =
-    subst (AreScriptLines c.args._world.now) (sym c.script-item.is)
+    let fit : AreLinesOfWorld c.args._world.now c.script-item.result =
+    subst (AreLinesOfWorld c.args._world.now) (sym c.script-item.is)
     (c.requires.fit i c.script-item.result c.loop-script-test.true)
     in
     let saves =

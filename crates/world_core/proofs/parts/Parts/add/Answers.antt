@@ -1,5 +1,5 @@
 use Rattle.std.proofs.Common.{ℕ, sym, subst, arith, ap, List}
-use Rattle.world_core.specs.Slots.{Level}
+use Rattle.world_core.specs.Slots.{BucketRow}
 use Rattle.world_core.specs.Kept.{stored}
 use Rattle.world_core.specs.Steps.{AddsEntry}
 use Rattle.world_core.proofs.ShareLaws.{moved, names_at, seat_in}
@@ -17,7 +17,7 @@ pub returns-in-None-clause-adds : goal.returns-in-None-clause-adds
 returns-in-None-clause-adds c =
     let s = stored c.args.self.now in (
       all_taken s c.args.level c.args.bucket c.args.key c.requires.stored c.requires.level c.requires.bucket c.in-None.ensures.live,
-      ap (λ (all : List Level). record s { entries = all }) c.in-None.ensures.all,
+      ap (λ (all : List BucketRow). record s { entries = all }) c.in-None.ensures.all,
     )
 
 pub returns-in-Some-clause-adds : goal.returns-in-Some-clause-adds
