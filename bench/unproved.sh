@@ -4,7 +4,7 @@
 # The program is `voxdag` of this checkout; CRATE names another folder of crates/. `rt try` runs it once with the words, by a
 # kit in which every file is a link but the compiler, which keeps the module that it is given. Of that module the tests of sums and
 # indices are dropped, and what is left is compiled and linked as a proved program is. Nothing is proved of it: it is there to
-# be timed, beside a program built in the same way.
+# be timed, beside a program built in the same way. The sources' hints on inlining, which `rt try` drops, are put in again.
 set -eu
 here=$(cd "$(dirname "$0")" && pwd)
 root=$(dirname "$here")
@@ -38,7 +38,7 @@ clang="$kit/toolchain/bin/clang --target=x86_64-unknown-linux-gnu --no-default-c
 $clang -S -emit-llvm -Xclang -disable-llvm-passes -x ir "$module" -o "$work/tested.ll"
 awk '/^(define|declare)/ { print; next }
     /rattle-llvm-checks::/ || /llvm\.trap/ || (/memset/ && /i8 -86/) { next }
-    { print }' "$work/tested.ll" > "$work/plain.ll"
+    { print }' "$work/tested.ll" | python3 "$here/hints.py" "$root/crates" > "$work/plain.ll"
 $clang --sysroot="$kit/toolchain" -march=x86-64-v2 -mllvm -no-trap-after-noreturn -ffunction-sections -fdata-sections \
     -mllvm -trap-unreachable -O3 -fPIE -c -x ir "$work/plain.ll" -o "$work/plain.o"
 "$kit/bin/rattle-link" --target x86_64-unknown-linux-gnu --toolchain "$kit/toolchain" -o "$out" "$work/plain.o" \

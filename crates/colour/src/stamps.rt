@@ -1,11 +1,13 @@
 ghost use Rattle.std.specs.Prelude.{◌≡◌, ◌+◌, ◌-◌, ◌*◌, ◌^◌, ◌<◌, ◌≤◌, ◌==◌, ℕ, List, IsTrue, option_copied, if◌then◌else◌};
 ghost use Rattle.std.specs.Int.{bit_at};
-ghost use Rattle.vw_cell.specs.Places.{FitsAt};
+ghost use Rattle.vw_cell.specs.Places.{FitsAt, HoldsBlock};
 ghost use Rattle.node_shapes.specs.Tree.{Tree};
 ghost use Rattle.node_shapes.specs.Weights.{number_of_trees};
 ghost use Rattle.block_walk.specs.Roots.{HoldsRoot};
 ghost use Rattle.cell_shapes.specs.CellShapes.{Cells, SameIn, no_cells, all_cells};
 ghost use Rattle.edit_cells.specs.Tasks.{IsWhole};
+ghost use Rattle.edit_stamp.specs.declared.stencils.Shown.{Shown};
+ghost use Rattle.history_model.specs.Worlds.{box_at};
 ghost use Rattle.colour.specs.Edits.{RebuildsEdit, GrowsByEdit, RefusesEdit};
 ghost use Rattle.colour.specs.Inks.{ink_at};
 ghost use Rattle.colour.specs.Stamps.{ink_cells, makes_ink};
@@ -16,7 +18,8 @@ use crate::planes::quarter;
 use crate::stencils::TintStencil;
 use crate::walks::{Planes, rebuild_planes};
 use block_walk::{leaf_bits, octant_name, same_cells, same_names};
-use edit_cells::{Task, Whole, old_whole, side_of};
+use edit_cells::{Task, Whole, old_whole};
+use edit_stamp::Shown;
 use edit_walk::{Latest, Repeats};
 use node_shapes::Name;
 use node_words::{Blocks, Full, NodeStore, Share, Steps};
@@ -67,13 +70,11 @@ impl<'s> Task for InkTask<'s> {
         if self.is_missed(level) {
             return old_whole(self.old);
         }
-        if self.is_unset(level, self.plane) {
-            return self.cleared(level);
+        match self.told(level, self.plane) {
+            Shown::Unset => self.cleared(level),
+            Shown::Set => Whole::All,
+            Shown::Either => Whole::Mixed,
         }
-        if self.is_set(level, self.plane) {
-            return Whole::All;
-        }
-        Whole::Mixed
     }
 
     fn bits<B: Blocks>(&self, store: &mut B) -> u64 {
@@ -109,34 +110,35 @@ impl<'s> InkTask<'s> {
         !place.meets(block)
     }
 
-    // Whether no cell of the block has ink that tells in a plane. It may miss that.
-    fn is_unset(&self, level: u8, plane: u8) -> bool
+    // What ink tells in a plane of the block.
+    #[inline(always)]
+    fn told(&self, level: u8, plane: u8) -> Shown
         requires level { level ≤ 10 }
         requires plane { plane < 9 }
-        ensures { IsTrue result → SameIn level
+        ensures unset { result ≡ Shown.Unset → SameIn level
             (ink_cells self.now.stencil.now self.now.place.now plane self.now.at) no_cells }
+        ensures set { result ≡ Shown.Set → SameIn level
+            (ink_cells self.now.stencil.now self.now.place.now plane self.now.at) all_cells }
     {
         let drawn = self.stencil.plane(plane);
-        drawn.is_all(*self.place, self.at, level, false)
+        match drawn.shown(*self.place, self.at, level) {
+            Shown::Unset => Shown::Unset,
+            Shown::Set if self.holds(level) => Shown::Set,
+            _ => Shown::Either,
+        }
     }
 
-    // Whether each cell of the block has such ink. It may miss that.
-    fn is_set(&self, level: u8, plane: u8) -> bool
+    // Whether the model has a place in each cell of the block.
+    fn holds(&self, level: u8) -> bool
         requires level { level ≤ 10 }
-        requires plane { plane < 9 }
-        ensures { IsTrue result → SameIn level
-            (ink_cells self.now.stencil.now self.now.place.now plane self.now.at) all_cells }
+        ensures { IsTrue result → HoldsBlock (box_at self.now.place.now self.now.stencil.now.size)
+            (record { level = level; at = self.now.at }) }
     {
         let place = Boxed {
             at: *self.place,
             size: self.stencil.size(),
         };
-        let block = Block { level, at: self.at };
-        if !place.holds_block(block) {
-            return false;
-        }
-        let drawn = self.stencil.plane(plane);
-        drawn.is_all(*self.place, self.at, level, true)
+        place.holds_block(Block { level, at: self.at })
     }
 
     // What is known of the block where no ink tells in the plane.
@@ -151,13 +153,11 @@ impl<'s> InkTask<'s> {
         if self.old.is_none() {
             return Whole::Nothing;
         }
-        if self.is_unset(level, 0) {
-            return old_whole(self.old);
+        match self.told(level, 0) {
+            Shown::Unset => old_whole(self.old),
+            Shown::Set => Whole::Nothing,
+            Shown::Either => Whole::Mixed,
         }
-        if self.is_set(level, 0) {
-            return Whole::Nothing;
-        }
-        Whole::Mixed
     }
 }
 
@@ -258,10 +258,10 @@ fn place_of(level: u8, at: Cell) -> usize
     if level > 10 {
         return 0;
     }
-    let side = side_of(level);
-    let x = u32::from(at.x) / side;
-    let y = u32::from(at.y) / side;
-    let z = u32::from(at.z) / side;
+    let up = level + 2;
+    let x = u32::from(at.x >> up);
+    let y = u32::from(at.y >> up);
+    let z = u32::from(at.z >> up);
     ((x + 8 * y + 64 * z + 1000 * u32::from(level)) % 2048) as usize
 }
 

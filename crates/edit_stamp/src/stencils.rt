@@ -1,4 +1,4 @@
-ghost use Rattle.std.specs.Prelude.{IsTrue, All};
+ghost use Rattle.std.specs.Prelude.{IsTrue, All, true, false};
 ghost use Rattle.std.specs.Prelude.{◌≡◌, ◌+◌, ◌-◌, ◌*◌, ◌/◌, ◌%◌, ◌^◌, ◌<◌, ◌≤◌, ◌≢◌, ℕ, slice_index, bit_and};
 ghost use Rattle.std.specs.Prelude.{IfOk, ◌==◌, ◌&&◌, ◌||◌};
 ghost use Rattle.std.specs.Int.{bit_at};
@@ -10,6 +10,7 @@ ghost use Rattle.vw_cell.specs.Places.{block_side};
 ghost use Rattle.edit_stamp.specs.Drawings.{IsWord, Draws, DrawsBit, AllDrawn, Agree, AllWords, HasLeaves, leaves_of, leaf_number};
 ghost use Rattle.edit_stamp.specs.Tiers.{TellsTier};
 ghost use Rattle.edit_stamp.specs.Stamps.{is_stamped};
+ghost use Rattle.edit_stamp.specs.declared.stencils.Shown.{Shown};
 
 use crate::planes::bit_model;
 use crate::scans::{Leaves, are_all, are_same, part_of, touched};
@@ -19,6 +20,17 @@ use node_words::{box_bits, window_bits};
 use std::alloc::Global;
 use vox_read::{Model, Voxel, cells};
 use vw_cell::{Block, Boxed, Cell, Memory};
+
+/// What a stencil shows of the model's places in a block of the world.
+#[derive(Clone, Copy)]
+pub enum Shown {
+    /// None of them is set.
+    Unset,
+    /// Each of them is set.
+    Set,
+    /// Some may be set, and some unset.
+    Either,
+}
 
 /// The cells of a model as the bits of leaves. Contracts see the model's size and its cells.
 #[derive(Drop)]
@@ -97,7 +109,31 @@ impl Stencil {
         self.is_all_through(place, at, level, set)
     }
 
-    // The same, by a look at all these words.
+    /// Both at once: where the model's places in a block are all unset or all set, by the same words.
+    #[inline(always)]
+    pub fn shown(&self, place: Cell, at: Cell, level: u8) -> Shown
+        requires level { level ≤ 10 }
+        ensures unset { result ≡ Shown.Unset
+            → AllDrawn self.now place at (block_side level) false }
+        ensures set { result ≡ Shown.Set
+            → AllDrawn self.now place at (block_side level) true }
+    {
+        let word = self.first_word(place, at, level);
+        if word == 0 {
+            if self.is_all_through(place, at, level, false) {
+                return Shown::Unset;
+            }
+            return Shown::Either;
+        }
+        if word == u64::MAX {
+            if self.is_all_through(place, at, level, true) {
+                return Shown::Set;
+            }
+        }
+        Shown::Either
+    }
+
+    // Whether they are, by a look at all these words.
     #[inline(never)]
     fn is_all_through(&self, place: Cell, at: Cell, level: u8, set: bool) -> bool
         requires level { level ≤ 10 }
@@ -129,7 +165,7 @@ impl Stencil {
         are_same(size, &self.words, &other.words, leaves, inside)
     }
 
-    // The first of these words.
+    // The first of the words that are looked at for a block.
     #[inline(always)]
     fn first_word(&self, place: Cell, at: Cell, level: u8) -> u64
         requires { level ≤ 10 }

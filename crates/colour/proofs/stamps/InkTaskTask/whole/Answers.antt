@@ -14,30 +14,24 @@ returns-then-is_missed-clause-whole c base cells m =
 pub returns-then-is_missed-clause-mixed : goal.returns-then-is_missed-clause-mixed
 returns-then-is_missed-clause-mixed c e h = blocks_some c.args.level h
 
-pub is_unset-requires-clause-level : goal.is_unset-requires-clause-level
-is_unset-requires-clause-level c = let (base, cells, m) = c.requires.task in m.small
+pub told-requires-clause-level : goal.told-requires-clause-level
+told-requires-clause-level c = let (base, cells, m) = c.requires.task in m.small
 
-pub is_unset-requires-clause-plane : goal.is_unset-requires-clause-plane
-is_unset-requires-clause-plane c = let (base, cells, m) = c.requires.task in m.some
+pub told-requires-clause-plane : goal.told-requires-clause-plane
+told-requires-clause-plane c = let (base, cells, m) = c.requires.task in m.some
 
 pub cleared-requires-clause-level : goal.cleared-requires-clause-level
 cleared-requires-clause-level c = let (base, cells, m) = c.requires.task in m.small
 
-pub is_set-requires-clause-level : goal.is_set-requires-clause-level
-is_set-requires-clause-level c = let (base, cells, m) = c.requires.task in m.small
+pub returns-in-Unset-clause-whole : goal.returns-in-Unset-clause-whole
+returns-in-Unset-clause-whole c base cells m = c.cleared.ensures base cells m
 
-pub is_set-requires-clause-plane : goal.is_set-requires-clause-plane
-is_set-requires-clause-plane c = let (base, cells, m) = c.requires.task in m.some
+pub returns-in-Unset-clause-mixed : goal.returns-in-Unset-clause-mixed
+returns-in-Unset-clause-mixed c e h = blocks_some c.args.level h
 
-pub returns-then-is_unset-clause-whole : goal.returns-then-is_unset-clause-whole
-returns-then-is_unset-clause-whole c base cells m = c.cleared.ensures base cells m
+pub returns-in-Set-clause-whole : goal.returns-in-Set-clause-whole
+returns-in-Set-clause-whole c base cells m =
+    all_told _ _ _ _ _ _ base c.args.level cells m (c.in-Set.ensures.set refl)
 
-pub returns-then-is_unset-clause-mixed : goal.returns-then-is_unset-clause-mixed
-returns-then-is_unset-clause-mixed c e h = blocks_some c.args.level h
-
-pub returns-then-is_set-clause-whole : goal.returns-then-is_set-clause-whole
-returns-then-is_set-clause-whole c base cells m =
-    all_told _ _ _ _ _ _ base c.args.level cells m (c.if-is_set.ensures refl)
-
-pub returns-clause-mixed : goal.returns-clause-mixed
-returns-clause-mixed c e h = blocks_some c.args.level h
+pub returns-in-Either-clause-mixed : goal.returns-in-Either-clause-mixed
+returns-in-Either-clause-mixed c e h = blocks_some c.args.level h
