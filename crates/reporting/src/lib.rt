@@ -7,8 +7,6 @@
 
 mod laws;
 mod rows;
-#[cfg(test)]
-mod tests;
 mod texts;
 
 pub use laws::stores_tell_reports;

@@ -13,6 +13,3 @@ mod runs;
 pub use desks::Desk;
 pub use laws::{arms_take_lines, plain_edits_want_their_parts};
 pub use runs::{run_script, run_scripts};
-
-#[cfg(test)]
-mod tests;

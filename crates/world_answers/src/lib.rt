@@ -21,8 +21,6 @@ use ray_walk::ray;
 use transcript::Answer;
 use vw_cell::Side;
 
-#[cfg(test)]
-mod tests;
 mod tinted;
 
 pub use colour::tints_in;

@@ -1,9 +1,9 @@
-use crate::tell;
 use history_model::{Question, Way};
 use node_words::Plan;
 use one_store::OneStore;
 use std::alloc::Global;
 use std::test::Fail;
+use store_run::tell;
 use transcript::Answer;
 use vw_cell::{Boxed, Cell, Side};
 

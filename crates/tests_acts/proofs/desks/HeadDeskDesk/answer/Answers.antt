@@ -1,5 +1,5 @@
 use Rattle.script_runs.proofs.HeadLines.{head_goes_on}
-use Rattle.script_runs.proofs.tests.HeadDeskDesk.answer.Goals as goal
+use Rattle.tests_acts.proofs.desks.HeadDeskDesk.answer.Goals as goal
 
 pub returns-in-Head-clause-goes_on : goal.returns-in-Head-clause-goes_on
 returns-in-Head-clause-goes_on c =

@@ -1,14 +1,14 @@
 ghost use Rattle.std.specs.Prelude.{◌≡◌, ◌≤◌, length, All, IfOk};
 
-use crate::report_text;
 use history_model::{Act, History, Mark, Record};
-use node_shapes::Name;
+use node_words::Name;
+use reporting::report_text;
 use std::alloc::Global;
 use std::test::Fail;
 use vw_cell::Side;
 
 // Four changes, and the version of none forgotten.
-#[tactic(auto, using(crate::proofs::Singles::low_mark))]
+#[tactic(auto, using(reporting::proofs::Singles::low_mark))]
 fn forgetful(alloc: Global) -> Result<History, Fail>
     ensures records { IfOk result (λ h. length h.records ≡ 4) }
     ensures marks { IfOk result (λ h. All (λ m. m.version ≤ 4) h.marks) }

@@ -1,7 +1,7 @@
-use crate::{Desk, run_scripts};
 use conformance::Transcript;
 use node_words::Plan;
 use script::{Command, ScriptLine, read_script};
+use script_runs::{Desk, run_scripts};
 use std::alloc::Global;
 use std::test::Fail;
 use transcript::{Answer, LineAnswer};
@@ -27,7 +27,7 @@ impl Desk for HeadDesk {
 
     ghost saved = { λ d. [] };
 
-    #[tactic(auto, using(crate::proofs::HeadLines::head_goes_on))]
+    #[tactic(auto, using(script_runs::proofs::HeadLines::head_goes_on))]
     fn answer(&mut self, _session: u16, l: ScriptLine) -> Result<LineAnswer, Memory> {
         match l.command {
             Command::Head => Ok(LineAnswer {
@@ -51,7 +51,7 @@ fn answered(line: u32) -> LineAnswer {
 }
 
 // The answers to two scripts.
-#[tactic(auto, using(crate::proofs::Singles::all_of_two))]
+#[tactic(auto, using(script_runs::proofs::Singles::all_of_two))]
 fn run(alloc: Global, first: &[u8], second: &[u8]) -> Result<Vec<Transcript>, Fail> {
     let side = Side::new(8).ok_or("a side")?;
     let models = Models {
