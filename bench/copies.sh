@@ -48,7 +48,7 @@ build_unproved() {
     crates=$(below "$@")
     copy_crates $crates
     mkdir -p "$work/bench" "$work/crates/bench_$name/src"
-    cp "$here/unproved.sh" "$work/bench/"
+    cp "$here/unproved.sh" "$here/hints.py" "$work/bench/"
     cp "$here/$name/main.rt.in" "$work/crates/bench_$name/src/main.rt"
     list_crates "bench_$name: $*" $crates
     rm -f "$work/$name"
