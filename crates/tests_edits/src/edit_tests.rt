@@ -1,5 +1,5 @@
 use crate::plays::{Tally, acts_done, drawing, floor, number_of_cells, play};
-use edit_stamp::Stencil;
+use edit_stamp::{Shown, Stencil};
 use history_model::{Act, Question};
 use node_words::{Full, Plan};
 use std::alloc::Global;
@@ -320,6 +320,49 @@ fn stencils_of_two_sizes_never_agree(rt: HostRuntime) -> Result<(), Fail> {
     let one = stencil_of(rt.alloc(), [8, 4, 4], LEAVES)?;
     let higher = stencil_of(rt.alloc(), [8, 4, 5], LEAVES)?;
     assert!(rt; agree_as(&one, &higher, &[(PLACE, 0, false), (ORIGIN, 0, false)]));
+    Ok(())
+}
+
+/// Blocks of a world that has a model of two leaves at `PLACE`, of which the first is filled and the
+/// second empty, and what is shown of its places there.
+const HALVES: &[(Cell, u8, Shown)] = &[
+    (PLACE, 0, Shown::Set),
+    (Cell { x: 8, y: 4, z: 4 }, 0, Shown::Unset),
+    (Cell { x: 6, y: 4, z: 4 }, 0, Shown::Either),
+    (Cell { x: 2, y: 4, z: 4 }, 0, Shown::Set),
+    (Cell { x: 9, y: 5, z: 5 }, 0, Shown::Unset),
+    (ORIGIN, 1, Shown::Set),
+    (Cell { x: 8, y: 0, z: 0 }, 1, Shown::Unset),
+    (ORIGIN, 2, Shown::Either),
+];
+
+fn half_filled(alloc: Global) -> Result<Stencil, Fail> {
+    let mut voxels: Vec<[u8; 4]> = Vec::new(alloc);
+    for n in 0..64u8 {
+        voxels.push([n % 4, n / 4 % 4, n / 16, 1])?;
+    }
+    let model = Drawing {
+        size: [8, 4, 4],
+        voxels,
+    };
+    Ok(model.stencil(alloc).ok_or("a stencil")?)
+}
+
+fn is_shown(found: Shown, wanted: Shown) -> bool {
+    match (found, wanted) {
+        (Shown::Unset, Shown::Unset) => true,
+        (Shown::Set, Shown::Set) => true,
+        (Shown::Either, Shown::Either) => true,
+        _ => false,
+    }
+}
+
+#[test]
+fn stencils_show_blocks_that_are_filled_or_empty(rt: HostRuntime) -> Result<(), Fail> {
+    let stencil = half_filled(rt.alloc())?;
+    for &(at, level, wanted) in HALVES {
+        assert!(rt; level <= 10 && is_shown(stencil.shown(PLACE, at, level), wanted));
+    }
     Ok(())
 }
 
