@@ -109,7 +109,7 @@ impl Stencil {
         self.is_all_through(place, at, level, set)
     }
 
-    /// Both at once: where the model's places in a block are all unset or all set, by the same words.
+    /// Both at once: whether a block's places are all unset or all set, by the same words.
     #[inline(always)]
     pub fn shown(&self, place: Cell, at: Cell, level: u8) -> Shown
         requires level { level ≤ 10 }

@@ -323,8 +323,8 @@ fn stencils_of_two_sizes_never_agree(rt: HostRuntime) -> Result<(), Fail> {
     Ok(())
 }
 
-/// Blocks of a world that has a model of two leaves at `PLACE`, of which the first is filled and the
-/// second empty, and what is shown of its places there.
+/// Blocks of a world that has a model of two leaves at `PLACE`, the first filled and the second
+/// empty, and what is shown of its places there.
 const HALVES: &[(Cell, u8, Shown)] = &[
     (PLACE, 0, Shown::Set),
     (Cell { x: 8, y: 4, z: 4 }, 0, Shown::Unset),
