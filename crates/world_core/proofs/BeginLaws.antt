@@ -43,7 +43,8 @@ begun p models entries roots held = record {
   held = held;
 }
 
-module _ (p : Layout) (models : List Content) (entries : List BucketRow) (roots : List (Option Name))
+module _ (p : Layout) (models : List Content) (entries : List BucketRow)
+    (roots : List (Option Name))
     (held : List (List Name)) (sessions : ℕ) (plan : IsPlan p) (laid : IsLaidOut p entries)
     (free : (n : Name) → entry_at entries n ≡ None) (none : roots ≡ replicate 65536 None)
     (nobody_holds : held ≡ replicate sessions []) (few : sessions ≤ 64) where

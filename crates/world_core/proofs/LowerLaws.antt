@@ -132,7 +132,8 @@ module _ (s : Stored) (session : ℕ) (n : Name) (names after : List Name) (entr
           → LowersEntry s session n (moved s entries session after)
       go None none trades few = absurd (live_there s n (held_live s session n is may.held) none)
       go (Some e) some trades few =
-          let all : List BucketRow = put_at s.entries n (Some (record { key = e.key; book = left })) in
+          let all : List BucketRow =
+          put_at s.entries n (Some (record { key = e.key; book = left })) in
           let book : e.book ≡ left + 1 = sym (ap book_of_slot some) ∙ put.entry.1 in
           let is_all : entries ≡ all =
           put.others ∙ ap (λ (x : Option (Entry Key)). put_at s.entries n x)

@@ -38,7 +38,8 @@ few_names s session most names room at =
     let few = room.few in
     subst (λ (ns : List Name). length ns ≤ most) (sym same) few
 
-pub raised : (s : Stored) (session : ℕ) (n : Name) (names after : List Name) (entries : List BucketRow)
+pub raised : (s : Stored) (session : ℕ) (n : Name) (names after : List Name)
+    (entries : List BucketRow)
     → IsStored s → IsLive s.plan (stored_state s) n → HoldsAtMost (stored_state s) session 4095
     → slice_get s.held session ≡ Some names → TradesNames names [] (Some n ∷ []) after
     → entries ≡ put_at s.entries n

@@ -14,8 +14,8 @@ use Rattle.world_core.specs.Slots.{BucketRow, entry_at, put_at, IsLaidOut, read_
 
 -- a name's slot has what was put there
 abbrev pub SlotsHold : Type 0
-SlotsHold = (p : Layout) (all : List BucketRow) (n : Name) (e : Option (Entry Key)) → IsLaidOut p all
-    → IsName p n → entry_at (put_at all n e) n ≡ e
+SlotsHold = (p : Layout) (all : List BucketRow) (n : Name) (e : Option (Entry Key))
+    → IsLaidOut p all → IsName p n → entry_at (put_at all n e) n ≡ e
 
 -- and every other slot what it had
 abbrev pub OtherSlotsStay : Type 0
@@ -41,8 +41,9 @@ SlotsRaise =
 -- an entry in an empty slot is an addition
 abbrev pub SlotsAdd : Type 0
 SlotsAdd =
-    (p : Layout) (all : List BucketRow) (n : Name) (key : Key) (holder : ℕ) (root : ℕ → Option Name)
-    (log : Log) (held new : List (List Name)) → IsLaidOut p all → IsName p n
+    (p : Layout) (all : List BucketRow) (n : Name) (key : Key) (holder : ℕ)
+    (root : ℕ → Option Name) (log : Log) (held new : List (List Name))
+    → IsLaidOut p all → IsName p n
     → entry_at all n ≡ None → FitsLevel n.level key
     → n.bucket ≡ bucket_of_key key (buckets_at p n.level)
     → IsMissing p (read_lists all root log held) n.level key
@@ -64,8 +65,9 @@ SlotsLower =
 -- an entry that leaves its slot is freed
 abbrev pub SlotsFree : Type 0
 SlotsFree =
-    (p : Layout) (all : List BucketRow) (n : Name) (key : Key) (holder : ℕ) (root : ℕ → Option Name)
-    (log : Log) (held new : List (List Name)) → IsLaidOut p all → IsName p n
+    (p : Layout) (all : List BucketRow) (n : Name) (key : Key) (holder : ℕ)
+    (root : ℕ → Option Name) (log : Log) (held new : List (List Name))
+    → IsLaidOut p all → IsName p n
     → entry_at all n ≡ Some (record { key = key; book = 1 })
     → Trades held holder (one_name n) (children_named key) new
     → Frees p holder n (read_lists all root log held) (read_lists (put_at all n None) root log new)

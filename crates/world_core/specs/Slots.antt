@@ -48,7 +48,8 @@ key_or_none None = Leaf 0
 key_or_none (Some e) = e.key
 
 -- the state of nested lists, the roots by version or place, the log, and what each holder holds
-abbrev pub read_lists : List BucketRow → (ℕ → Option Name) → Log → List (List Name) → State
+abbrev pub read_lists : List BucketRow → (ℕ → Option Name) → Log → List (List Name)
+    → State
 read_lists all root log held = record {
   book = λ n. book_of_slot (entry_at all n);
   key = λ n. key_or_none (entry_at all n);
