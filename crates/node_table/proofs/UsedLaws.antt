@@ -1,5 +1,5 @@
 -- What the number of a bucket's used slots tells.
-use Rattle.std.proofs.Common.{◌≡◌, ◌≢◌, ℕ, ◌+◌, ◌<◌, ◌≤◌, Some, List, ◌∷◌, sym, ap, ◌∙◌, subst, inl, inr, arith}
+use Rattle.std.proofs.Common.{◌≡◌, ℕ, ◌<◌, ◌≤◌, Some, List, ◌∷◌, sym, ap, ◌∙◌, subst, inl, inr, arith}
 use Rattle.std.proofs.lemmas.Bool.{cases_lt}
 use Rattle.node_shapes.specs.declared.names.Name.{Name}
 use Rattle.node_shapes.specs.Tree.{Tree}
@@ -14,7 +14,7 @@ use Rattle.table_rule.specs.Reading.{book_of}
 use Rattle.table_rule.specs.Turning.{used_of}
 use Rattle.table_rule.specs.Views.{SeatView, BucketAt, bucket_of, key_spot, known_at}
 use Rattle.table_rule.proofs.KnownWords.{known_now, known_else}
-use Rattle.table_rule.specs.Changes.{AreFreeFrom, Counted, IsUsed, PassesEntry, PassesBelow, IsFullIn, children_of_key, knowing}
+use Rattle.table_rule.specs.Changes.{AreFreeFrom, Counted, PassesEntry, PassesBelow, IsFullIn, children_of_key, knowing}
 use Rattle.node_table.specs.Acts.{MayAdd}
 use Rattle.node_table.specs.Finding.{UsesSlot, ReadiesEntry, WritesKey}
 use Rattle.node_table.specs.Learning.{WordsStay, Learns, IsLowestKnownFree}
