@@ -3,6 +3,8 @@
 root=$(dirname "$here")
 work=$here/work
 product=${VOXDAG:-$root/.build/voxdag}
+# All that is timed asks for pages of 2 MB as the launcher does, the product and what stands beside it.
+export GLIBC_TUNABLES=${GLIBC_TUNABLES-glibc.malloc.hugetlb=1}
 . "$here/copies.sh"
 
 # build TOOL..: builds C programs of this folder.
