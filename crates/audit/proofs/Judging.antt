@@ -15,7 +15,7 @@ use Rattle.audit.specs.declared.audits.AuditRefused.{AuditRefused}
 use Rattle.audit.specs.Audits.{IsAudited, RefusesAlong}
 use Rattle.store_run.specs.Replaying.{ReplayState}
 use Rattle.audit.specs.declared.replaying.Ways.{Ways}
-use Rattle.audit.specs.Reruns.{IsRerun}
+use Rattle.audit.specs.Reruns.{IsRerun, MayRunAgain}
 use Rattle.store_run.specs.Marked.{AreLegalMarks}
 use Rattle.audit.specs.Marks.{TellsMarks}
 use Rattle.audit.specs.Replaying.{FollowEach, AreWays}
@@ -38,6 +38,13 @@ pub no_follow : (models : List Content) (log : Log)
     → (FollowEach (2 ^ log.side) models log.marks log.records → ⊥)
     → IsLegal (2 ^ log.side) models log → ⊥
 no_follow models log wrong legal = wrong (record { fit = legal.fit; follow = legal.follow })
+
+pub may_run : (models : List Content) (log : Log) (table : List (Option Mark))
+    → length log.records ≤ 65535 → AreLegalMarks (length log.records) log.marks
+    → TellsMarks log.marks table → All (λ r. FitsWorld (2 ^ log.side) models r.act) log.records
+    → MayRunAgain models log table
+may_run models log table few marks tells fit =
+    record { few = few; marks = marks; tells = tells; fit = fit }
 
 pub legal_by : (models : List Content) (log : Log) → length log.records ≤ 65535
     → AreLegalMarks (length log.records) log.marks

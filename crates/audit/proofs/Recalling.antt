@@ -1,5 +1,5 @@
 -- What a replayed history is asked.
-use Rattle.std.proofs.Common.{◌≡◌, ℕ, ◌^◌, Bool, IsTrue, ◌∙◌, List, Option, Some, None, ◌↔◌, refl, sym, ap, subst}
+use Rattle.std.proofs.Common.{◌≡◌, ℕ, ◌^◌, Bool, IsTrue, List, Option, Some, None, ◌↔◌, refl, sym, ap, subst}
 use Rattle.std.specs.Prelude.{slice_index_or}
 use Rattle.std.specs.List.{Contains}
 use Rattle.history_model.specs.declared.histories.Mark.{Mark}

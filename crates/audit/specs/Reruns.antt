@@ -1,11 +1,20 @@
 -- What an audit keeps of a replayed history.
-use Rattle.std.specs.Prelude.{◌≡◌, ◌≤◌, List, Option, length}
+use Rattle.std.specs.Prelude.{◌≡◌, ◌≤◌, ◌^◌, All, List, Option, length}
+use Rattle.history_model.specs.Contents.{Content}
 use Rattle.history_model.specs.declared.histories.Mark.{Mark}
-use Rattle.history_model.specs.Logs.{Log}
+use Rattle.history_model.specs.Logs.{FitsWorld, Log}
+use Rattle.store_run.specs.Marked.{AreLegalMarks}
 use Rattle.store_run.specs.Replaying.{ReplayState}
 use Rattle.audit.specs.declared.replaying.Ways.{Ways}
 use Rattle.audit.specs.Marks.{TellsMarks}
 use Rattle.audit.specs.Replaying.{AreWays}
+
+-- the records are few, the marks legal and told by the table, and each act lies in the world
+pub record MayRunAgain (models : List Content) (log : Log) (table : List (Option Mark)) : Type 0 where
+  pub few : length log.records ≤ 65535
+  pub marks : AreLegalMarks (length log.records) log.marks
+  pub tells : TellsMarks log.marks table
+  pub fit : All (λ r. FitsWorld (2 ^ log.side) models r.act) log.records
 
 -- all records are replayed, in a world of the history's kind, and where undos and redos go and the
 -- marks of versions are told

@@ -7,14 +7,14 @@ ghost use Rattle.script.specs.Fitting.{CommandFits, RisesFrom};
 ghost use Rattle.store_run.specs.Kept.{IsLargeStore};
 ghost use Rattle.store_run.specs.Replaying.{replay_plan};
 ghost use Rattle.audit.specs.Audits.{IsAudited, RefusesAlong, RefusesAudit, judged_by};
-ghost use Rattle.audit.specs.Reruns.{IsRerun};
+ghost use Rattle.audit.specs.Reruns.{IsRerun, MayRunAgain};
 
 use crate::audits::AuditRefused;
 use crate::marks::{RECORDS, mark_table};
 use crate::replaying::replay_all;
 use crate::reruns::Rerun;
 use conformance::Transcript;
-use history_model::{Act, History, Record};
+use history_model::{Act, History, Mark, Record};
 use node_words::Plan;
 use script::Script;
 use std::alloc::Global;
@@ -22,7 +22,7 @@ use std::marker::Brand;
 use std::sync::ledger::{Blank, Ledger};
 use store_run::Replay;
 use vox_read::Models;
-use vw_cell::Side;
+use vw_cell::{Memory, Side};
 
 /// Whether the history is legal, its acts are tinted exactly where it is coloured, and it agrees
 /// with the scripts and their transcripts, which show just it: script k and transcript k are those
@@ -133,8 +133,33 @@ fn audit_over<L: Ledger>(
     }
 }
 
+// The marks of the versions, where the records are few, the marks legal, and each act lies in the
+// world.
+#[tactic(auto, using(crate::proofs::Judging::may_run, crate::proofs::Judging::no_marks, crate::proofs::Judging::no_fit, crate::proofs::Judging::too_many))]
+fn marks_told(
+    alloc: Global,
+    log: &History,
+    models: &Models,
+) -> Result<Option<Vec<Option<Mark>>>, Memory>
+    ensures { IfOk result
+        (λ found. MatchOption found (IsLegal (2 ^ log.now.side) models.now log.now → ⊥)
+        (λ table. MayRunAgain models.now log.now table.items)) }
+{
+    let count = log.records.len();
+    if count > RECORDS {
+        return Ok(None);
+    }
+    if !acts_fit(log.records.as_slice(), log.side, models) {
+        return Ok(None);
+    }
+    match mark_table(alloc, log.marks.as_slice(), count) {
+        Ok(Some(table)) => Ok(Some(table)),
+        Ok(None) => Ok(None),
+        Err(memory) => Err(memory),
+    }
+}
+
 // The history replayed, where it is legal.
-#[tactic(auto, using(crate::proofs::Judging::legal_rerun, crate::proofs::Judging::no_marks, crate::proofs::Judging::no_fit, crate::proofs::Judging::no_follow, crate::proofs::Judging::too_many))]
 fn run_again<L: Ledger>(
     alloc: Global,
     log: &History,
@@ -156,20 +181,41 @@ fn run_again<L: Ledger>(
         × (r.replay.models ≡ models))) }
     ensures refused { IfErr result (RefusesAlong replayed.now models log.now.records) }
 {
-    let count = log.records.len();
-    if count > RECORDS {
-        return Ok(None);
+    match marks_told(alloc, log, &models) {
+        Ok(Some(table)) => run_over(alloc, log, models, replayed, blank, table),
+        Ok(None) => Ok(None),
+        Err(_) => Err(AuditRefused::Memory),
     }
-    let table = match mark_table(alloc, log.marks.as_slice(), count) {
-        Ok(Some(table)) => table,
-        Ok(None) => return Ok(None),
-        Err(_) => return Err(AuditRefused::Memory),
-    };
+}
+
+// The history replayed, where its records follow one another, with the marks of its versions.
+#[tactic(auto, using(crate::proofs::Judging::legal_rerun, crate::proofs::Judging::no_follow))]
+fn run_over<L: Ledger>(
+    alloc: Global,
+    log: &History,
+    models: Models,
+    replayed: &Plan,
+    blank: Blank,
+    table: Vec<Option<Mark>>,
+) -> Result<Option<Rerun<L>>, AuditRefused>
+    requires models { AreModels models }
+    requires suits { SuitsTints log.now }
+    requires large { IsLargeStore log.now.coloured log.now.side }
+    requires side { replayed.now.side ≡ log.now.side }
+    requires name { blank.name ≡ L.name }
+    requires parts { blank.parts ≡ L.parts }
+    requires some { 0 < L.parts }
+    requires may { MayRunAgain models log.now table.items }
+    ensures legal { IfOk result
+        (λ found. MatchOption found (IsLegal (2 ^ log.now.side) models log.now → ⊥)
+        (λ r. IsLegal (2 ^ log.now.side) models log.now
+        × IsRerun log.now r.replay r.ways.items r.table.items
+        × (r.replay.models ≡ models))) }
+    ensures refused { IfErr result (RefusesAlong replayed.now models log.now.records) }
+{
     let records = log.records.as_slice();
-    if !acts_fit(records, log.side, &models) {
-        return Ok(None);
-    }
     let tint = log.coloured;
+    let count = records.len();
     let mut replay: Replay<L> = match Replay::begin(alloc, replayed, models, tint, count, blank) {
         Ok(replay) => replay,
         Err(_) => return Err(AuditRefused::Memory),
