@@ -1,5 +1,5 @@
 -- A history is legal where its marks are, and its records follow one another.
-use Rattle.std.proofs.Common.{◌≡◌, ℕ, ◌^◌, ◌<◌, ◌≤◌, List, length, Option, refl, sym, arith}
+use Rattle.std.proofs.Common.{◌≡◌, ℕ, ◌^◌, ◌<◌, ◌≤◌, List, length, Option, sym, arith}
 use Rattle.std.specs.Prelude.{All, Bool, true, Result, IfErr}
 use Rattle.history_model.specs.Contents.{Content}
 use Rattle.history_model.specs.declared.histories.Mark.{Mark}
@@ -45,19 +45,6 @@ pub may_run : (models : List Content) (log : Log) (table : List (Option Mark))
     → MayRunAgain models log table
 may_run models log table few marks tells fit =
     record { few = few; marks = marks; tells = tells; fit = fit }
-
-pub legal_by : (models : List Content) (log : Log) → length log.records ≤ 65535
-    → AreLegalMarks (length log.records) log.marks
-    → FollowEach (2 ^ log.side) models log.marks log.records
-    → IsLegal (2 ^ log.side) models log
-legal_by models log few marks follow = record {
-  same_side = refl;
-  few = few;
-  fit = follow.fit;
-  follow = follow.follow;
-  rising = marks.rising;
-  marked = marks.marked;
-}
 
 pub legal_rerun : (log : Log) (replay : ReplayState) (ways : List Ways) (table : List (Option Mark))
     → replay.tint ≡ log.coloured → replay.records ≡ log.records → replay.plan.side ≡ log.side
