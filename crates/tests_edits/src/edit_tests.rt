@@ -3,7 +3,6 @@ use edit_stamp::{Shown, Stencil};
 use history_model::{Act, Question};
 use node_words::{Full, Plan};
 use std::alloc::Global;
-use std::test::Fail;
 use test_worlds::{Drawing, Draws, Found, StoredWorld};
 use vw_cell::{Ball, Boxed, Cell, Side};
 
@@ -95,41 +94,59 @@ const VOXELS: &[[u8; 4]] = &[
     [1, 1, 1, 255],
 ];
 
-fn stencil_of(alloc: Global, size: [u8; 3], voxels: &[[u8; 4]]) -> Result<Stencil, Fail> {
-    let voxels = Vec::from_slice(alloc, voxels)?;
-    let model = Drawing { size, voxels };
-    Ok(model.stencil(alloc).ok_or("a stencil")?)
-}
-
-// A stencil where none is stamped.
-fn any_stencil(alloc: Global) -> Result<Stencil, Fail> {
-    let model = drawing(alloc, &mut Draws::new(1), [1, 1, 1])?;
-    Ok(model.stencil(alloc).ok_or("a stencil")?)
-}
-
-fn world_of(alloc: Global, side: u32, buckets: u16, cap: u16) -> Result<StoredWorld, Fail> {
-    let side = Side::new(side).ok_or("a side")?;
-    let plan = Plan::even(side, buckets, cap).ok_or("a plan")?;
-    Ok(StoredWorld::empty(alloc, &plan)?)
-}
-
-// How many cells are set after these edits, where none met a full bucket and no share stays held.
-fn cells_after(world: &mut StoredWorld, acts: &[Act], stencil: &Stencil) -> Option<Found> {
-    if acts_done(world, acts, stencil).is_some() || world.held() > 0 {
-        return None;
+fn stencil_of(alloc: Global, size: [u8; 3], voxels: &[[u8; 4]]) -> Option<Stencil> {
+    match Vec::from_slice(alloc, voxels) {
+        Ok(voxels) => Drawing { size, voxels }.stencil(alloc),
+        Err(_) => None,
     }
-    number_of_cells(world)
+}
+
+fn world_of(alloc: Global, side: u32, buckets: u16, cap: u16) -> Option<StoredWorld> {
+    let Some(side) = Side::new(side) else {
+        return None;
+    };
+    match Plan::even(side, buckets, cap) {
+        Some(plan) => StoredWorld::empty(alloc, &plan).ok(),
+        None => None,
+    }
+}
+
+// The world after these edits, where none meets a full bucket and no share stays held.
+fn edited(alloc: Global, side: u32, acts: &[Act], stencil: &Stencil) -> Option<StoredWorld> {
+    match world_of(alloc, side, 16, 16) {
+        Some(mut world) => {
+            if acts_done(&mut world, acts, stencil).is_none() && world.held() == 0 {
+                Some(world)
+            } else {
+                None
+            }
+        }
+        None => None,
+    }
+}
+
+// How many cells are set after edits with this stencil.
+fn cells_with(alloc: Global, side: u32, acts: &[Act], stencil: &Stencil) -> Option<u64> {
+    match edited(alloc, side, acts, stencil) {
+        Some(mut world) => number_of_cells(&mut world),
+        None => None,
+    }
+}
+
+// How many cells are set after these edits of an empty world.
+fn cells_after(alloc: Global, side: u32, acts: &[Act]) -> Option<u64> {
+    match stencil_of(alloc, [5, 4, 3], VOXELS) {
+        Some(stencil) => cells_with(alloc, side, acts, &stencil),
+        None => None,
+    }
 }
 
 #[test]
-fn edits_set_so_many_cells(rt: HostRuntime) -> Result<(), Fail> {
-    let stencil = stencil_of(rt.alloc(), [5, 4, 3], VOXELS)?;
+fn edits_set_so_many_cells(rt: HostRuntime) {
     for &(side, acts, cells) in ROWS {
-        let mut world = world_of(rt.alloc(), side, 16, 16)?;
-        let found = cells_after(&mut world, acts, &stencil);
-        assert!(rt; found == Some(Found::Number(cells)), "{acts:?}");
+        let found = cells_after(rt.alloc(), side, acts);
+        assert!(rt; found == Some(cells), "{acts:?}");
     }
-    Ok(())
 }
 
 const MOVED: &[Act] = &[FIRST, THIRD, MOVE];
@@ -152,15 +169,28 @@ fn are_set(world: &mut StoredWorld, cells: &[(Cell, bool)]) -> bool {
     true
 }
 
+// Whether just these cells are set after the copy, and its least box is that of the first four.
+fn are_copied(alloc: Global, stencil: &Stencil) -> bool {
+    match edited(alloc, 8, MOVED, stencil) {
+        Some(mut world) => {
+            are_set(&mut world, SET)
+                && world.ask(&Question::Bounds) == Some(Found::Extent(Some(FOUR)))
+        }
+        None => false,
+    }
+}
+
+fn copies(alloc: Global) -> bool {
+    match stencil_of(alloc, [1, 1, 1], &[]) {
+        Some(stencil) => are_copied(alloc, &stencil),
+        None => false,
+    }
+}
+
 // The cells at x = 0, 1 and 3: those before the copy, and not the one that it wrote.
 #[test]
-fn copies_read_the_cells_before(rt: HostRuntime) -> Result<(), Fail> {
-    let stencil = any_stencil(rt.alloc())?;
-    let mut world = world_of(rt.alloc(), 8, 16, 16)?;
-    assert!(rt; acts_done(&mut world, MOVED, &stencil).is_none());
-    assert!(rt; are_set(&mut world, SET));
-    assert!(rt; world.ask(&Question::Bounds) == Some(Found::Extent(Some(FOUR))));
-    Ok(())
+fn copies_read_the_cells_before(rt: HostRuntime) {
+    assert!(rt; copies(rt.alloc()));
 }
 
 /// A model of three cells, which stand at 3 3 3, 5 3 3 and 4 4 4 of the world, and of a voxel of
@@ -175,8 +205,8 @@ const AROUND: Act = Act::Fill(Boxed {
     size: Cell { x: 2, y: 2, z: 2 },
 });
 
-/// Edits of a world of side 8, how many cells are set once the model's are cleared, and of some cells
-/// whether they are.
+/// Edits of a world of side 8, how many cells are set once the model's are cleared, and of some
+/// cells whether they are.
 const CLEARED: &[(&[Act], u64, &[(Cell, bool)])] = &[
     (&[], 0, &[(Cell { x: 5, y: 3, z: 3 }, false)]),
     (
@@ -206,28 +236,41 @@ const CLEARED: &[(&[Act], u64, &[(Cell, bool)])] = &[
     ),
 ];
 
-// Whether the edits, and then a stamp that clears, leave so many cells, and these as they are told.
-fn leave(
-    world: &mut StoredWorld,
+// Whether a stamp that clears leaves so many cells, and these as they are told.
+fn leaves(world: &mut StoredWorld, stencil: &Stencil, cells: u64, set: &[(Cell, bool)]) -> bool {
+    world.unstamp(stencil, SPREAD_AT).is_ok()
+        && world.held() == 0
+        && number_of_cells(world) == Some(cells)
+        && are_set(world, set)
+}
+
+// Whether it does so after these edits.
+fn leaves_after(
+    alloc: Global,
     acts: &[Act],
     stencil: &Stencil,
     cells: u64,
     set: &[(Cell, bool)],
 ) -> bool {
-    if acts_done(world, acts, stencil).is_some() || world.unstamp(stencil, SPREAD_AT).is_err() {
-        return false;
+    match edited(alloc, 8, acts, stencil) {
+        Some(mut world) => leaves(&mut world, stencil, cells, set),
+        None => false,
     }
-    world.held() == 0 && number_of_cells(world) == Some(Found::Number(cells)) && are_set(world, set)
+}
+
+// The same with the model's stencil.
+fn clears(alloc: Global, acts: &[Act], cells: u64, set: &[(Cell, bool)]) -> bool {
+    match stencil_of(alloc, [3, 2, 2], SPREAD) {
+        Some(stencil) => leaves_after(alloc, acts, &stencil, cells, set),
+        None => false,
+    }
 }
 
 #[test]
-fn models_are_cleared(rt: HostRuntime) -> Result<(), Fail> {
-    let stencil = stencil_of(rt.alloc(), [3, 2, 2], SPREAD)?;
+fn models_are_cleared(rt: HostRuntime) {
     for &(acts, cells, set) in CLEARED {
-        let mut world = world_of(rt.alloc(), 8, 16, 16)?;
-        assert!(rt; leave(&mut world, acts, &stencil, cells, set), "{acts:?}");
+        assert!(rt; clears(rt.alloc(), acts, cells, set), "{acts:?}");
     }
-    Ok(())
 }
 
 /// Edits one after another, and how many cells are set after each.
@@ -247,22 +290,49 @@ const FLOOR: Boxed = Boxed {
 };
 
 // The usual plan, whose buckets are enough for floors.
-fn usual_world(alloc: Global) -> Result<StoredWorld, Fail> {
-    let side = Side::new(256).ok_or("a side")?;
-    Ok(StoredWorld::empty(alloc, &Plan::usual(side))?)
+fn usual_world(alloc: Global) -> Option<StoredWorld> {
+    match Side::new(256) {
+        Some(side) => StoredWorld::empty(alloc, &Plan::usual(side)).ok(),
+        None => None,
+    }
+}
+
+// Whether each edit leaves so many cells, meets no full bucket and keeps no share.
+fn leave_cells(world: &mut StoredWorld, edits: &[(Act, u64)], stencil: &Stencil) -> bool {
+    for (act, cells) in edits {
+        let is_done = world.edit(act, stencil).is_ok() && world.held() == 0;
+        if !is_done || number_of_cells(world) != Some(*cells) {
+            return false;
+        }
+    }
+    true
+}
+
+fn lay_floors(alloc: Global, stencil: &Stencil) -> bool {
+    match usual_world(alloc) {
+        Some(mut world) => leave_cells(&mut world, FLOORS, stencil),
+        None => false,
+    }
+}
+
+fn floor_stencil(alloc: Global) -> Option<Stencil> {
+    match floor(alloc, 126) {
+        Some(model) => model.stencil(alloc),
+        None => None,
+    }
+}
+
+fn floors(alloc: Global) -> bool {
+    match floor_stencil(alloc) {
+        Some(stencil) => lay_floors(alloc, &stencil),
+        None => false,
+    }
 }
 
 // A floor of 126 by 126 voxels in a model of that height, twice, and then once more by a copy.
 #[test]
-fn floors_are_stamped(rt: HostRuntime) -> Result<(), Fail> {
-    let model = floor(rt.alloc(), 126)?;
-    let stencil = model.stencil(rt.alloc()).ok_or("a stencil")?;
-    let mut world = usual_world(rt.alloc())?;
-    for &(act, cells) in FLOORS {
-        let found = cells_after(&mut world, &[act], &stencil);
-        assert!(rt; found == Some(Found::Number(cells)), "{act:?}");
-    }
-    Ok(())
+fn floors_are_stamped(rt: HostRuntime) {
+    assert!(rt; floors(rt.alloc()));
 }
 
 /// Blocks of a world that has two models of two leaves at `PLACE`, and whether these are the same
@@ -305,22 +375,47 @@ fn agree_as(one: &Stencil, other: &Stencil, rows: &[(Cell, u8, bool)]) -> bool {
     true
 }
 
-#[test]
-fn stencils_agree_in_blocks_of_the_same_places(rt: HostRuntime) -> Result<(), Fail> {
-    let one = stencil_of(rt.alloc(), [8, 4, 4], LEAVES)?;
-    let other = stencil_of(rt.alloc(), [8, 4, 4], OTHER_LEAVES)?;
-    assert!(rt; agree_as(&one, &other, BESIDE));
-    assert!(rt; agree_as(&other, &one, BESIDE));
-    assert!(rt; agree_as(&one, &one, &[(ORIGIN, 10, true)]));
-    Ok(())
+// Whether it agrees with the stencil of this model in just these blocks, either way, and with
+// itself.
+fn agree_with(
+    alloc: Global,
+    one: &Stencil,
+    size: [u8; 3],
+    voxels: &[[u8; 4]],
+    rows: &[(Cell, u8, bool)],
+) -> bool {
+    match stencil_of(alloc, size, voxels) {
+        Some(other) => {
+            agree_as(one, &other, rows)
+                && agree_as(&other, one, rows)
+                && agree_as(one, one, &[(ORIGIN, 10, true)])
+        }
+        None => false,
+    }
+}
+
+// The same of the first model.
+fn leaves_agree(
+    alloc: Global,
+    size: [u8; 3],
+    voxels: &[[u8; 4]],
+    rows: &[(Cell, u8, bool)],
+) -> bool {
+    match stencil_of(alloc, [8, 4, 4], LEAVES) {
+        Some(one) => agree_with(alloc, &one, size, voxels, rows),
+        None => false,
+    }
 }
 
 #[test]
-fn stencils_of_two_sizes_never_agree(rt: HostRuntime) -> Result<(), Fail> {
-    let one = stencil_of(rt.alloc(), [8, 4, 4], LEAVES)?;
-    let higher = stencil_of(rt.alloc(), [8, 4, 5], LEAVES)?;
-    assert!(rt; agree_as(&one, &higher, &[(PLACE, 0, false), (ORIGIN, 0, false)]));
-    Ok(())
+fn stencils_agree_in_blocks_of_the_same_places(rt: HostRuntime) {
+    assert!(rt; leaves_agree(rt.alloc(), [8, 4, 4], OTHER_LEAVES, BESIDE));
+}
+
+#[test]
+fn stencils_of_two_sizes_never_agree(rt: HostRuntime) {
+    let rows = &[(PLACE, 0, false), (ORIGIN, 0, false)];
+    assert!(rt; leaves_agree(rt.alloc(), [8, 4, 5], LEAVES, rows));
 }
 
 /// Blocks of a world that has a model of two leaves at `PLACE`, the first filled and the second
@@ -336,16 +431,24 @@ const HALVES: &[(Cell, u8, Shown)] = &[
     (ORIGIN, 2, Shown::Either),
 ];
 
-fn half_filled(alloc: Global) -> Result<Stencil, Fail> {
-    let mut voxels: Vec<[u8; 4]> = Vec::new(alloc);
+// Appends the voxels of a leaf. Says whether there was memory.
+fn fill_leaf(voxels: &mut Vec<[u8; 4]>) -> bool {
     for n in 0..64u8 {
-        voxels.push([n % 4, n / 4 % 4, n / 16, 1])?;
+        if voxels.push([n % 4, n / 4 % 4, n / 16, 1]).is_err() {
+            return false;
+        }
     }
-    let model = Drawing {
-        size: [8, 4, 4],
-        voxels,
-    };
-    Ok(model.stencil(alloc).ok_or("a stencil")?)
+    true
+}
+
+fn half_filled(alloc: Global) -> Option<Stencil> {
+    let size = [8, 4, 4];
+    let mut voxels: Vec<[u8; 4]> = Vec::new(alloc);
+    if fill_leaf(&mut voxels) {
+        Drawing { size, voxels }.stencil(alloc)
+    } else {
+        None
+    }
 }
 
 fn is_shown(found: Shown, wanted: Shown) -> bool {
@@ -357,13 +460,25 @@ fn is_shown(found: Shown, wanted: Shown) -> bool {
     }
 }
 
-#[test]
-fn stencils_show_blocks_that_are_filled_or_empty(rt: HostRuntime) -> Result<(), Fail> {
-    let stencil = half_filled(rt.alloc())?;
-    for &(at, level, wanted) in HALVES {
-        assert!(rt; level <= 10 && is_shown(stencil.shown(PLACE, at, level), wanted));
+fn show_as(stencil: &Stencil, rows: &[(Cell, u8, Shown)]) -> bool {
+    for &(at, level, wanted) in rows {
+        if level > 10 || !is_shown(stencil.shown(PLACE, at, level), wanted) {
+            return false;
+        }
     }
-    Ok(())
+    true
+}
+
+fn halves_show(alloc: Global) -> bool {
+    match half_filled(alloc) {
+        Some(stencil) => show_as(&stencil, HALVES),
+        None => false,
+    }
+}
+
+#[test]
+fn stencils_show_blocks_that_are_filled_or_empty(rt: HostRuntime) {
+    assert!(rt; halves_show(rt.alloc()));
 }
 
 /// Sides, edits of which the second meets a full bucket, and the level of that bucket.
@@ -381,20 +496,33 @@ fn has_one_cell(world: &mut StoredWorld) -> bool {
             return false;
         }
     }
-    world.held() == 0 && number_of_cells(world) == Some(Found::Number(1))
+    world.held() == 0 && number_of_cells(world) == Some(1)
 }
 
-// One bucket of one node a level.
-#[test]
-fn full_buckets_are_told(rt: HostRuntime) -> Result<(), Fail> {
-    let stencil = any_stencil(rt.alloc())?;
-    for &(side, acts, level) in CROWDED {
-        let mut world = world_of(rt.alloc(), side, 1, 1)?;
-        let full = acts_done(&mut world, acts, &stencil);
-        assert!(rt; full == Some(Full { level, bucket: 0 }), "side {side}");
-        assert!(rt; has_one_cell(&mut world), "side {side}");
+// Whether the edits meet the full bucket of this level and leave one cell, in a world with one
+// bucket of one node a level.
+fn tell_full(alloc: Global, side: u32, acts: &[Act], level: u8, stencil: &Stencil) -> bool {
+    match world_of(alloc, side, 1, 1) {
+        Some(mut world) => {
+            acts_done(&mut world, acts, stencil) == Some(Full { level, bucket: 0 })
+                && has_one_cell(&mut world)
+        }
+        None => false,
     }
-    Ok(())
+}
+
+fn meet_full(alloc: Global, side: u32, acts: &[Act], level: u8) -> bool {
+    match stencil_of(alloc, [1, 1, 1], &[]) {
+        Some(stencil) => tell_full(alloc, side, acts, level, &stencil),
+        None => false,
+    }
+}
+
+#[test]
+fn full_buckets_are_told(rt: HostRuntime) {
+    for &(side, acts, level) in CROWDED {
+        assert!(rt; meet_full(rt.alloc(), side, acts, level), "side {side}");
+    }
 }
 
 /// Sides, the sizes of models, and numbers of edits.
@@ -414,44 +542,77 @@ fn tally(
     buckets: u16,
     cap: u16,
     number: u32,
-) -> Result<Tally, Fail> {
-    let mut world = world_of(alloc, side, buckets, cap)?;
-    play(alloc, &mut world, draws, model, number)
+) -> Option<Tally> {
+    match world_of(alloc, side, buckets, cap) {
+        Some(mut world) => play(alloc, &mut world, draws, model, number),
+        None => None,
+    }
+}
+
+// Whether so many random edits, with a random model of this size, are made, and each as of plain
+// cells.
+fn are_plain(alloc: Global, draws: &mut Draws, side: u32, size: [u8; 3], number: u32) -> bool {
+    let Some(model) = drawing(alloc, draws, size) else {
+        return false;
+    };
+    match tally(alloc, draws, &model, side, 64, 64, number) {
+        Some(came) => came.wrong == 0 && came.made == number,
+        None => false,
+    }
 }
 
 #[test]
-fn random_edits_are_those_of_plain_cells(rt: HostRuntime) -> Result<(), Fail> {
+fn random_edits_are_those_of_plain_cells(rt: HostRuntime) {
     let mut draws = Draws::new(7);
     for &(side, size, number) in DRAWN {
-        let model = drawing(rt.alloc(), &mut draws, size)?;
-        let came = tally(rt.alloc(), &mut draws, &model, side, 64, 64, number)?;
-        assert!(rt; came.wrong == 0 && came.made == number, "side {side}");
+        assert!(rt;
+            are_plain(rt.alloc(), &mut draws, side, size, number),
+            "side {side}"
+        );
     }
-    Ok(())
 }
 
 // Random edits in one bucket a level, for each number of nodes from 1 up.
-fn crowded(alloc: Global, draws: &mut Draws, model: &Drawing, side: u32) -> Result<Tally, Fail> {
+fn crowded(alloc: Global, draws: &mut Draws, model: &Drawing, side: u32) -> Option<Tally> {
     let mut sum = Tally {
         made: 0,
         full: 0,
         wrong: 0,
     };
     for cap in 1..=32u16 {
-        let came = tally(alloc, draws, model, side, 1, cap, 30)?;
+        let Some(came) = tally(alloc, draws, model, side, 1, cap, 30) else {
+            return None;
+        };
         sum.full = sum.full.saturating_add(came.full);
         sum.wrong = sum.wrong.saturating_add(came.wrong);
     }
-    Ok(sum)
+    Some(sum)
+}
+
+// Whether full buckets are met in worlds of each side, and change nothing.
+fn all_crowded(alloc: Global, draws: &mut Draws, model: &Drawing, sides: &[u32]) -> bool {
+    for &side in sides {
+        match crowded(alloc, draws, model, side) {
+            Some(came) => {
+                if came.wrong > 0 || came.full == 0 {
+                    return false;
+                }
+            }
+            None => return false,
+        }
+    }
+    true
+}
+
+fn crowds(alloc: Global) -> bool {
+    let mut draws = Draws::new(11);
+    match drawing(alloc, &mut draws, [4, 4, 3]) {
+        Some(model) => all_crowded(alloc, &mut draws, &model, &[4, 8, 16]),
+        None => false,
+    }
 }
 
 #[test]
-fn full_buckets_leave_the_store_as_it_was(rt: HostRuntime) -> Result<(), Fail> {
-    let mut draws = Draws::new(11);
-    let model = drawing(rt.alloc(), &mut draws, [4, 4, 3])?;
-    for &side in &[4, 8, 16] {
-        let came = crowded(rt.alloc(), &mut draws, &model, side)?;
-        assert!(rt; came.wrong == 0 && came.full > 0, "side {side}");
-    }
-    Ok(())
+fn full_buckets_leave_the_store_as_it_was(rt: HostRuntime) {
+    assert!(rt; crowds(rt.alloc()));
 }

@@ -2,13 +2,12 @@ use edit_stamp::Stencil;
 use history_model::{Act, Question};
 use node_words::Full;
 use std::alloc::Global;
-use std::test::Fail;
 use test_worlds::{Drawing, Draws, Found, Grid, Refusal, StoredWorld};
 use vw_cell::{Boxed, Cell};
 
 /// What came of some edits: how many were made, how many met a full bucket, and what differed from
 /// plain cells.
-#[derive(Clone, Copy, Debug, PartialEq, Eq)]
+#[derive(Clone, Copy)]
 pub struct Tally {
     pub made: u32,
     pub full: u32,
@@ -16,34 +15,56 @@ pub struct Tally {
 }
 
 /// A model of this size with about one voxel in three places, one in four of them of colour 0.
-pub fn drawing(alloc: Global, draws: &mut Draws, size: [u8; 3]) -> Result<Drawing, Fail> {
+pub fn drawing(alloc: Global, draws: &mut Draws, size: [u8; 3]) -> Option<Drawing> {
     let mut voxels: Vec<[u8; 4]> = Vec::new(alloc);
+    if draw_voxels(draws, size, &mut voxels) {
+        Some(Drawing { size, voxels })
+    } else {
+        None
+    }
+}
+
+// Appends the voxels. Says whether there was memory.
+fn draw_voxels(draws: &mut Draws, size: [u8; 3], voxels: &mut Vec<[u8; 4]>) -> bool {
+    let [x, y, z] = size;
+    let number = u32::from(x) * u32::from(y) * u32::from(z) / 3;
     let cells = Cell {
-        x: u16::from(size[0]),
-        y: u16::from(size[1]),
-        z: u16::from(size[2]),
+        x: u16::from(x),
+        y: u16::from(y),
+        z: u16::from(z),
     };
-    let number = u32::from(size[0]) * u32::from(size[1]) * u32::from(size[2]) / 3;
     for _ in 0..number {
         let c = draws.cell(cells);
         let colour = draws.below(4);
-        voxels.push([low(c.x), low(c.y), low(c.z), low(colour)])?;
+        let voxel = [low(c.x), low(c.y), low(c.z), low(colour)];
+        if voxels.push(voxel).is_err() {
+            return false;
+        }
     }
-    Ok(Drawing { size, voxels })
+    true
 }
 
 /// A model of this size on each axis, whose floor is set.
-pub fn floor(alloc: Global, side: u8) -> Result<Drawing, Fail> {
+pub fn floor(alloc: Global, side: u8) -> Option<Drawing> {
     let mut voxels: Vec<[u8; 4]> = Vec::new(alloc);
+    if lay_floor(side, &mut voxels) {
+        let size = [side, side, side];
+        Some(Drawing { size, voxels })
+    } else {
+        None
+    }
+}
+
+// Appends the voxels of a floor. Says whether there was memory.
+fn lay_floor(side: u8, voxels: &mut Vec<[u8; 4]>) -> bool {
     for x in 0..side {
         for y in 0..side {
-            voxels.push([x, y, 0, 1])?;
+            if voxels.push([x, y, 0, 1]).is_err() {
+                return false;
+            }
         }
     }
-    Ok(Drawing {
-        size: [side, side, side],
-        voxels,
-    })
+    true
 }
 
 fn low(n: u16) -> u8 {
@@ -58,33 +79,45 @@ struct Played {
 }
 
 impl Played {
-    fn begin(alloc: Global, side: u16) -> Result<Played, Fail> {
-        Ok(Played {
-            plain: Grid::empty(alloc, side).map_err(|_| "out of memory")?,
-            tally: Tally {
-                made: 0,
-                full: 0,
-                wrong: 0,
-            },
-        })
+    fn begin(alloc: Global, side: u16) -> Option<Played> {
+        match Grid::empty(alloc, side) {
+            Ok(plain) => Some(Played {
+                plain,
+                tally: Tally {
+                    made: 0,
+                    full: 0,
+                    wrong: 0,
+                },
+            }),
+            Err(_) => None,
+        }
     }
 
     fn differ(&mut self, wrong: u32) {
         self.tally.wrong = self.tally.wrong.saturating_add(wrong);
     }
 
-    fn made(&mut self, alloc: Global, act: &Act, model: &Drawing) -> Result<(), Fail> {
+    // Says whether there was memory.
+    fn made(&mut self, alloc: Global, act: &Act, model: &Drawing) -> bool {
         self.tally.made = self.tally.made.saturating_add(1);
-        self.plain = self
-            .plain
-            .after(alloc, act, model)
-            .map_err(|_| "out of memory")?;
-        Ok(())
+        match self.plain.after(alloc, act, model) {
+            Ok(plain) => {
+                self.plain = plain;
+                true
+            }
+            Err(_) => false,
+        }
     }
 
-    fn refused(&mut self, changed: bool) {
-        self.tally.full = self.tally.full.saturating_add(1);
-        self.differ(u32::from(changed));
+    // An act that fits and isn't made meets a full bucket, and changes nothing.
+    fn not_made(&mut self, refusal: Refusal, changed: bool) {
+        match refusal {
+            Refusal::Full(_) => {
+                self.tally.full = self.tally.full.saturating_add(1);
+                self.differ(u32::from(changed));
+            }
+            Refusal::Unfit => self.differ(1),
+        }
     }
 
     // Compares the world with the plain cells.
@@ -94,7 +127,7 @@ impl Played {
         self.differ(wrong);
     }
 
-    // Does the act to both.
+    // Does the act to both. Says whether there was memory.
     fn edit(
         &mut self,
         alloc: Global,
@@ -102,15 +135,58 @@ impl Played {
         act: &Act,
         stencil: &Stencil,
         model: &Drawing,
-    ) -> Result<(), Fail> {
+    ) -> bool {
         let before = lives(world);
-        match world.edit(act, stencil) {
-            Ok(()) => self.made(alloc, act, model)?,
-            Err(Refusal::Full(_)) => self.refused(lives(world) != before),
-            Err(Refusal::Unfit) => self.differ(1),
-        }
+        let memory = match world.edit(act, stencil) {
+            Ok(()) => self.made(alloc, act, model),
+            Err(refusal) => {
+                self.not_made(refusal, lives(world) != before);
+                true
+            }
+        };
         self.compare(world);
-        Ok(())
+        memory
+    }
+
+    // Does so many drawn acts to both. Says whether there was memory.
+    fn edits(
+        &mut self,
+        alloc: Global,
+        world: &mut StoredWorld,
+        draws: &mut Draws,
+        stencil: &Stencil,
+        model: &Drawing,
+        number: u32,
+    ) -> bool {
+        let side = world.side().cells() as u16;
+        for _ in 0..number {
+            let act = draws.act(side, model.cells());
+            if !self.edit(alloc, world, &act, stencil, model) {
+                return false;
+            }
+        }
+        true
+    }
+}
+
+// Plays with the model's stencil.
+fn play_with(
+    alloc: Global,
+    world: &mut StoredWorld,
+    draws: &mut Draws,
+    stencil: &Stencil,
+    model: &Drawing,
+    number: u32,
+) -> Option<Tally> {
+    match Played::begin(alloc, world.side().cells() as u16) {
+        Some(mut played) => {
+            if played.edits(alloc, world, draws, stencil, model, number) {
+                Some(played.tally)
+            } else {
+                None
+            }
+        }
+        None => None,
     }
 }
 
@@ -121,15 +197,11 @@ pub fn play(
     draws: &mut Draws,
     model: &Drawing,
     number: u32,
-) -> Result<Tally, Fail> {
-    let stencil = model.stencil(alloc).ok_or("a stencil")?;
-    let side = world.side().cells() as u16;
-    let mut played = Played::begin(alloc, side)?;
-    for _ in 0..number {
-        let act = draws.act(side, model.cells());
-        played.edit(alloc, world, &act, &stencil, model)?;
+) -> Option<Tally> {
+    match model.stencil(alloc) {
+        Some(stencil) => play_with(alloc, world, draws, &stencil, model, number),
+        None => None,
     }
-    Ok(played.tally)
 }
 
 // How many nodes of each level are live.
@@ -176,14 +248,16 @@ pub fn acts_done(world: &mut StoredWorld, acts: &[Act], stencil: &Stencil) -> Op
 }
 
 /// The number of set cells.
-pub fn number_of_cells(world: &mut StoredWorld) -> Option<Found> {
+pub fn number_of_cells(world: &mut StoredWorld) -> Option<u64> {
     let side = world.side().cells() as u16;
-    world.ask(&Question::Count(Boxed {
-        at: Cell { x: 0, y: 0, z: 0 },
-        size: Cell {
-            x: side,
-            y: side,
-            z: side,
-        },
-    }))
+    let at = Cell { x: 0, y: 0, z: 0 };
+    let size = Cell {
+        x: side,
+        y: side,
+        z: side,
+    };
+    match world.ask(&Question::Count(Boxed { at, size })) {
+        Some(Found::Number(number)) => Some(number),
+        _ => None,
+    }
 }
