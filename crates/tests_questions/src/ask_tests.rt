@@ -1,5 +1,5 @@
 use crate::asks::{
-    Twins, bounds_agree, drawn_twins, ray_agrees, start, touching, way, wrong_of_box,
+    Edits, Twins, bounds_agree, drawn_twins, ray_agrees, start, touching, way, wrong_of_box,
 };
 use std::alloc::Global;
 use std::test::Fail;
@@ -10,8 +10,7 @@ use vw_cell::{Boxed, Cell};
 #[derive(Clone, Copy)]
 struct Trial {
     side: u32,
-    edits: u32,
-    specks: u32,
+    edits: Edits,
     boxes: u32,
     rays: u32,
 }
@@ -19,64 +18,58 @@ struct Trial {
 const TRIALS: &[Trial] = &[
     Trial {
         side: 4,
-        edits: 0,
-        specks: 0,
+        edits: Edits { any: 0, specks: 0 },
         boxes: 4,
         rays: 20,
     },
     Trial {
         side: 4,
-        edits: 3,
-        specks: 0,
+        edits: Edits { any: 3, specks: 0 },
         boxes: 60,
         rays: 400,
     },
     Trial {
         side: 4,
-        edits: 0,
-        specks: 4,
+        edits: Edits { any: 0, specks: 4 },
         boxes: 60,
         rays: 400,
     },
     Trial {
         side: 8,
-        edits: 9,
-        specks: 0,
+        edits: Edits { any: 9, specks: 0 },
         boxes: 60,
         rays: 400,
     },
     Trial {
         side: 8,
-        edits: 0,
-        specks: 16,
+        edits: Edits { any: 0, specks: 16 },
         boxes: 60,
         rays: 400,
     },
     Trial {
         side: 16,
-        edits: 9,
-        specks: 0,
+        edits: Edits { any: 9, specks: 0 },
         boxes: 60,
         rays: 400,
     },
     Trial {
         side: 16,
-        edits: 0,
-        specks: 60,
+        edits: Edits { any: 0, specks: 60 },
         boxes: 60,
         rays: 400,
     },
     Trial {
         side: 32,
-        edits: 9,
-        specks: 0,
+        edits: Edits { any: 9, specks: 0 },
         boxes: 20,
         rays: 200,
     },
     Trial {
         side: 32,
-        edits: 0,
-        specks: 120,
+        edits: Edits {
+            any: 0,
+            specks: 120,
+        },
         boxes: 20,
         rays: 400,
     },
@@ -87,18 +80,28 @@ fn random_boxes_are_answered_by_plain_cells(rt: HostRuntime) -> Result<(), Fail>
     let mut draws = Draws::new(3);
     for &trial in TRIALS {
         let wrong = boxes_wrong(rt.alloc(), &mut draws, trial)?;
-        assert_eq!(rt; wrong, 0, "side {} edits {}", trial.side, trial.edits);
+        assert_eq!(rt; wrong, 0, "side {} edits {}", trial.side, trial.edits.any);
     }
     Ok(())
 }
 
 // How many questions of boxes are answered wrongly in a world.
 fn boxes_wrong(alloc: Global, draws: &mut Draws, trial: Trial) -> Result<u32, Fail> {
-    let mut twins = drawn_twins(alloc, draws, trial.side, trial.edits, trial.specks)?;
-    let bounds = u32::from(!bounds_agree(&mut twins));
+    let mut twins = drawn_twins(alloc, draws, trial.side, trial.edits)?;
+    boxes_wrong_in(alloc, draws, &mut twins, trial.boxes)
+}
+
+// The same of the whole of this world, and of so many of its boxes.
+fn boxes_wrong_in(
+    alloc: Global,
+    draws: &mut Draws,
+    twins: &mut Twins,
+    number: u32,
+) -> Result<u32, Fail> {
+    let bounds = u32::from(!bounds_agree(twins));
     let whole = whole(twins.plain.side());
-    let all = wrong_of_box(alloc, &mut twins, whole)?;
-    let parts = parts_wrong(alloc, draws, &mut twins, trial.boxes)?;
+    let all = wrong_of_box(alloc, twins, whole)?;
+    let parts = parts_wrong(alloc, draws, twins, number)?;
     Ok(bounds.saturating_add(all).saturating_add(parts))
 }
 
@@ -142,19 +145,23 @@ fn random_rays_hit_the_first_plain_cell(rt: HostRuntime) -> Result<(), Fail> {
     let mut draws = Draws::new(5);
     for &trial in TRIALS {
         let wrong = rays_wrong(rt.alloc(), &mut draws, trial)?;
-        assert_eq!(rt; wrong, 0, "side {} edits {}", trial.side, trial.edits);
+        assert_eq!(rt; wrong, 0, "side {} edits {}", trial.side, trial.edits.any);
     }
     Ok(())
 }
 
 // How many rays are answered wrongly in a world.
 fn rays_wrong(alloc: Global, draws: &mut Draws, trial: Trial) -> Result<u32, Fail> {
-    let mut twins = drawn_twins(alloc, draws, trial.side, trial.edits, trial.specks)?;
+    let mut twins = drawn_twins(alloc, draws, trial.side, trial.edits)?;
+    Ok(rays_wrong_in(draws, &mut twins, trial.rays))
+}
+
+fn rays_wrong_in(draws: &mut Draws, twins: &mut Twins, number: u32) -> u32 {
     let mut wrong: u32 = 0;
-    for _ in 0..trial.rays {
-        wrong = wrong.saturating_add(u32::from(!drawn_ray_agrees(draws, &mut twins)));
+    for _ in 0..number {
+        wrong = wrong.saturating_add(u32::from(!drawn_ray_agrees(draws, twins)));
     }
-    Ok(wrong)
+    wrong
 }
 
 fn drawn_ray_agrees(draws: &mut Draws, twins: &mut Twins) -> bool {

@@ -27,7 +27,7 @@ impl Twins {
     fn empty(alloc: Global, side: u32) -> Result<Twins, Fail> {
         let stored = empty_world(alloc, side, 64)?;
         let cells = stored.side().cells() as u16;
-        let plain = Grid::empty(alloc, cells).map_err(|_| "out of memory")?;
+        let plain = Grid::empty(alloc, cells)?;
         Ok(Twins { stored, plain })
     }
 
@@ -41,10 +41,41 @@ impl Twins {
         if self.stored.edit(act, stencil).is_err() {
             return Err(Fail::from("an edit"));
         }
-        let after = self.plain.after(alloc, act, model);
-        self.plain = after.map_err(|_| "out of memory")?;
+        self.plain = self.plain.after(alloc, act, model)?;
         Ok(())
     }
+
+    // Does random edits.
+    fn draw(&mut self, alloc: Global, draws: &mut Draws, number: Edits) -> Result<(), Fail> {
+        let model = small_model(alloc)?;
+        match model.stencil(alloc) {
+            Some(stencil) => self.draw_beside(alloc, draws, number, &model, &stencil),
+            None => Err(Fail::from("a stencil")),
+        }
+    }
+
+    fn draw_beside(
+        &mut self,
+        alloc: Global,
+        draws: &mut Draws,
+        number: Edits,
+        model: &Drawing,
+        stencil: &Stencil,
+    ) -> Result<(), Fail> {
+        let cells = self.plain.side();
+        for k in 0..number.any.saturating_add(number.specks) {
+            let act = drawn_act(draws, cells, model, k < number.any);
+            self.edit(alloc, &act, model, stencil)?;
+        }
+        Ok(())
+    }
+}
+
+/// How many random edits are done, and how many of a few cells after them.
+#[derive(Clone, Copy)]
+pub struct Edits {
+    pub any: u32,
+    pub specks: u32,
 }
 
 const VOXELS: &[[u8; 4]] = &[[0, 0, 0, 1], [2, 0, 3, 1], [1, 1, 1, 1], [0, 1, 2, 1]];
@@ -57,22 +88,15 @@ fn small_model(alloc: Global) -> Result<Drawing, Fail> {
     })
 }
 
-/// A world of this side after so many random edits, and then with so many boxes of a few cells.
+/// A world of this side after random edits.
 pub fn drawn_twins(
     alloc: Global,
     draws: &mut Draws,
     side: u32,
-    edits: u32,
-    specks: u32,
+    number: Edits,
 ) -> Result<Twins, Fail> {
     let mut twins = Twins::empty(alloc, side)?;
-    let model = small_model(alloc)?;
-    let stencil = model.stencil(alloc).ok_or("a stencil")?;
-    let cells = twins.plain.side();
-    for k in 0..edits.saturating_add(specks) {
-        let act = drawn_act(draws, cells, &model, k < edits);
-        twins.edit(alloc, &act, &model, &stencil)?;
-    }
+    twins.draw(alloc, draws, number)?;
     Ok(twins)
 }
 

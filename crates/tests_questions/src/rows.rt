@@ -65,15 +65,23 @@ const LAST: Boxed = Boxed {
 const SOME: &[Boxed] = &[FIRST, SECOND, FOURTH];
 
 // A stencil where none is stamped.
-fn any_stencil(alloc: Global) -> Result<Stencil, Fail> {
+fn any_stencil(alloc: Global) -> Option<Stencil> {
     let nothing = Drawing {
         size: [1, 1, 1],
         voxels: Vec::new(alloc),
     };
-    Ok(nothing.stencil(alloc).ok_or("a stencil")?)
+    nothing.stencil(alloc)
 }
 
-fn fill(world: &mut StoredWorld, boxes: &[Boxed], stencil: &Stencil) -> bool {
+// Sets the cells of some boxes; whether that went.
+fn fill(alloc: Global, world: &mut StoredWorld, boxes: &[Boxed]) -> bool {
+    match any_stencil(alloc) {
+        Some(stencil) => fill_beside(world, boxes, &stencil),
+        None => false,
+    }
+}
+
+fn fill_beside(world: &mut StoredWorld, boxes: &[Boxed], stencil: &Stencil) -> bool {
     for b in boxes {
         if world.edit(&Act::Fill(*b), stencil).is_err() {
             return false;
@@ -82,17 +90,8 @@ fn fill(world: &mut StoredWorld, boxes: &[Boxed], stencil: &Stencil) -> bool {
     true
 }
 
-// A world of this side with the cells of some boxes.
-fn filled(alloc: Global, side: u32, boxes: &[Boxed]) -> Result<StoredWorld, Fail> {
-    let stencil = any_stencil(alloc)?;
-    let mut world = empty_world(alloc, side, 16)?;
-    if !fill(&mut world, boxes, &stencil) {
-        return Err(Fail::from("an edit"));
-    }
-    Ok(world)
-}
-
-// Whether a world of this side with these cells gives this answer, and holds no share then.
+// Whether a world of this side with the cells of some boxes gives this answer, and holds no share
+// then.
 fn has_answer(
     alloc: Global,
     side: u32,
@@ -100,9 +99,13 @@ fn has_answer(
     question: &Question,
     answer: Found,
 ) -> Result<bool, Fail> {
-    let mut world = filled(alloc, side, boxes)?;
+    let mut world = empty_world(alloc, side, 16)?;
+    Ok(fill(alloc, &mut world, boxes) && answers(&mut world, question, answer))
+}
+
+fn answers(world: &mut StoredWorld, question: &Question, answer: Found) -> bool {
     let found = world.ask(question);
-    Ok(found == Some(answer) && world.held() == 0)
+    found == Some(answer) && world.held() == 0
 }
 
 // Sides, boxes that are set, a box, and how many of its cells are set. The largest world has 4,096
@@ -335,13 +338,18 @@ fn are_at(voxels: &[Voxel], places: &[[u8; 3]]) -> bool {
     true
 }
 
+// Whether the list of the box has these places.
+fn lists(alloc: Global, world: &mut StoredWorld, b: Boxed, places: &[[u8; 3]]) -> bool {
+    let mut voxels: Vec<Voxel> = Vec::new(alloc);
+    world.cells(b, &mut voxels) && are_at(voxels.as_slice(), places)
+}
+
 #[test]
 fn cells_are_listed_in_order(rt: HostRuntime) -> Result<(), Fail> {
-    let mut world = filled(rt.alloc(), 8, LISTED)?;
+    let mut world = empty_world(rt.alloc(), 8, 16)?;
+    assert!(rt; fill(rt.alloc(), &mut world, LISTED));
     for &(b, places) in LISTS {
-        let mut voxels: Vec<Voxel> = Vec::new(rt.alloc());
-        let listed = world.cells(b, &mut voxels);
-        assert!(rt; listed && are_at(voxels.as_slice(), places), "{b:?}");
+        assert!(rt; lists(rt.alloc(), &mut world, b, places), "{b:?}");
     }
     Ok(())
 }
