@@ -1,12 +1,13 @@
 -- Two leaves under a node of their own.
-use Rattle.std.proofs.Common.{◌≡◌, ℕ, zero, suc, ◌+◌, Option, Some, None, List, [], ◌∷◌, refl, sym, ◌∙◌, ap, arith}
+use Rattle.std.proofs.Common.{◌≡◌, ℕ, zero, suc, ◌+◌, Option, Some, None, List, [], ◌∷◌, ◌≤◌, refl, sym, ◌∙◌, ap, subst, arith}
 use Rattle.std.proofs.lemmas.Option.{none-some, same_Some}
 use Rattle.node_shapes.specs.declared.names.Name.{Name}
 use Rattle.node_shapes.specs.Tree.{Tree, Gone, node_at, root_of}
-use Rattle.node_shapes.specs.Weights.{weight_below}
-use Rattle.node_shapes.proofs.WeightLaws.{weight_of-gone, weight_of-there}
-use Rattle.node_words.specs.Gathering.{LosesAll}
+use Rattle.node_shapes.specs.Weights.{weigh, weight_below, number_of_trees}
+use Rattle.node_shapes.proofs.WeightLaws.{weight_of-gone, weight_of-there, weight_of-one}
+use Rattle.node_words.specs.Gathering.{Loses, LosesAll, MayHold}
 use Rattle.node_words.specs.Held.{AreBelow, AreHeld, Gains, HasChild, HoldsChildren, HoldsName, IsHeld, Joins, SameHeld, name_in}
+use Rattle.tests_table.specs.Made.{ComesFor}
 
 pub pair_row : Tree → Tree → ℕ → Tree
 pair_row t u zero = t
@@ -78,43 +79,119 @@ holds_pair old mid u n m h gains other = record {
   are_held = pair_held old mid h.tree u n m h.is_held h.root gains other;
 }
 
--- both went
-pub pair_went : (old mid new : List Tree) (t u : Tree) (n m : Name) → IsHeld old t
-    → root_of t ≡ Some n → Gains old u mid → root_of u ≡ Some m
-    → ((row : ℕ → Tree) → AreHeld mid (pair_names n m) row → LosesAll mid row 8 new)
-    → Gains new t old
-pair_went old mid new t u n m held root gains other gone =
-    let l = gone (pair_row t u) (pair_held old mid t u n m held root gains other) in
+-- nothing came where a leaf met a full bucket
+pub nothing_came : (old new : List Tree) → new ≡ old → ComesFor old (λ f. 0) None new
+nothing_came old new same = record {
+  tree = Gone;
+  root = refl;
+  weighs = λ f. (let z = weight_of-gone f Gone refl in
+      let s = ap (λ (ts : List Tree). weigh f ts) same in omega arith);
+}
+
+-- a leaf came, and what came then took it
+pub leaf_came : (old mid new : List Tree) (t : Tree) (came_as : Option Name) → Gains old t mid
+    → ComesFor mid (λ f. f t) came_as new → ComesFor old (λ f. 0) came_as new
+leaf_came old mid new t came_as gains came = record {
+  tree = came.tree;
+  root = came.root;
+  weighs = λ f. (let g = gains.weighs f in let c = came.weighs f in omega arith);
+}
+
+-- a leaf came to another one, and what came then took both
+pub pair_came : (old mid new : List Tree) (t u : Tree) (n m : Name) (came_as : Option Name)
+    → IsHeld old t → root_of t ≡ Some n → Gains old u mid → root_of u ≡ Some m
+    → ((row : ℕ → Tree) → AreHeld mid (pair_names n m) row
+    → ComesFor mid (λ f. weight_below f row 8) came_as new)
+    → ComesFor old (λ f. f t) came_as new
+pair_came old mid new t u n m came_as held root gains other came =
+    let c = came (pair_row t u) (pair_held old mid t u n m held root gains other) in
     record {
+      tree = c.tree;
+      root = c.root;
       weighs = λ f. (let w = pair_weighs f t u n m root other in let g = gains.weighs f in
-          let x = l.weighs f in omega arith);
+          let x = c.weighs f in omega arith);
     }
 
--- the node over a row is held
-pub joined_name : (old mid later : List Tree) (row : ℕ → Tree) (children : List (Option Name))
-    (n : Name) → AreHeld old children row → Joins old row n mid → SameHeld mid later
-    → HoldsName later n
-joined_name old mid later row children n are j same = record {
+-- a leaf went, since another one met a full bucket
+pub leaf_went : (old mid new : List Tree) (t : Tree) (n : Name) → mid ≡ old → IsHeld old t
+    → root_of t ≡ Some n → ((u : Tree) → IsHeld mid u → root_of u ≡ Some n → Gains new u mid)
+    → ComesFor old (λ f. f t) None new
+leaf_went old mid new t n same held root gone =
+    let g = gone t (subst (λ (ts : List Tree). IsHeld ts t) (sym same) held) root in
+    record {
+      tree = Gone;
+      root = refl;
+      weighs = λ f. (let z = weight_of-gone f Gone refl in let w = g.weighs f in
+          let s = ap (λ (ts : List Tree). weigh f ts) same in omega arith);
+    }
+
+-- a node came over a row
+pub node_came : (old new : List Tree) (row : ℕ → Tree) (n : Name) → Joins old row n new
+    → ComesFor old (λ f. weight_below f row 8) (Some n) new
+node_came old new row n joins = record {
   tree = node_at n row;
-  is_held = record {
-    weighs = λ f.
-        (let a = are.weighs f in let b = j.weighs f in let s = same.weighs f in omega arith);
-  };
   root = refl;
+  weighs = λ f. (let w = weight_of-there f (node_at n row) n refl in
+      let j = joins.weighs f in omega arith);
+}
+
+-- a row went, since the node met a full bucket
+pub row_went : (old mid new : List Tree) (row : ℕ → Tree) (children back : List (Option Name))
+    → mid ≡ old → back ≡ children → AreHeld old children row
+    → ((trees : ℕ → Tree) → AreHeld mid back trees → LosesAll mid trees 8 new)
+    → ComesFor old (λ f. weight_below f row 8) None new
+row_went old mid new row children back same given are gone =
+    let l = gone row (subst (λ (ts : List Tree). AreHeld ts back row) (sym same)
+    (subst (λ (cs : List (Option Name)). AreHeld old cs row) (sym given) are)) in
+    record {
+      tree = Gone;
+      root = refl;
+      weighs = λ f. (let z = weight_of-gone f Gone refl in let w = l.weighs f in
+          let s = ap (λ (ts : List Tree). weigh f ts) same in omega arith);
+    }
+
+pub came_number : (old mid : List Tree) (came_as : Option Name) → ComesFor old (λ f. 0) came_as mid
+    → number_of_trees mid ≤ number_of_trees old + 1
+came_number old mid came_as came =
+    let w = came.weighs (λ _. 1) in let one = weight_of-one came.tree in omega arith
+
+-- what came is held, while others came and went
+pub still_came : (old mid later : List Tree) (came_as : Option Name) (n : Name)
+    → ComesFor old (λ f. 0) came_as mid → SameHeld mid later → came_as ≡ Some n → HoldsName later n
+still_came old mid later came_as n came same is = record {
+  tree = came.tree;
+  is_held = record {
+    weighs = λ f. (let r = weight_of-there f came.tree n (came.root ∙ is) in
+        let w = came.weighs f in let s = same.weighs f in omega arith);
+  };
+  root = came.root ∙ is;
 }
 
 -- and went again
-pub node_went : (old mid later new : List Tree) (row : ℕ → Tree) (children : List (Option Name))
-    (n : Name) → AreHeld old children row → Joins old row n mid → SameHeld mid later
-    → ((t : Tree) → IsHeld later t → root_of t ≡ Some n → Gains new t later)
-    → LosesAll old row 8 new
-node_went old mid later new row children n are j same gone =
-    let held : IsHeld later (node_at n row) = record {
-      weighs = λ f.
-          (let a = are.weighs f in let b = j.weighs f in let s = same.weighs f in omega arith);
+pub came_and_gone : (old mid later new : List Tree) (came_as : Option Name)
+    → ComesFor old (λ f. 0) came_as mid → SameHeld mid later
+    → ((t : Tree) → root_of t ≡ came_as → MayHold later t → Loses later t new) → SameHeld old new
+came_and_gone old mid later new came_as came same gone =
+    let may : MayHold later came.tree = record {
+      weighs = λ f. (let w = came.weighs f in let s = same.weighs f in omega arith);
     } in
-    let g = gone (node_at n row) held refl in
+    let l = gone came.tree came.root may in
     record {
-      weighs = λ f.
-          (let b = j.weighs f in let s = same.weighs f in let w = g.weighs f in omega arith);
+      weighs = λ f. (let w = came.weighs f in let s = same.weighs f in let g = l.weighs f in
+          omega arith);
     }
+
+-- a node that is held goes
+pub node_gone : (old new : List Tree) (t : Tree) (n : Name) → root_of t ≡ Some n → MayHold old t
+    → ((u : Tree) → IsHeld old u → root_of u ≡ Some n → Gains new u old) → Loses old t new
+node_gone old new t n root may gone =
+    let held : IsHeld old t = record {
+      weighs = λ f. (let w = weight_of-there f t n root in let m = may.weighs f in omega arith);
+    } in
+    let g = gone t held root in
+    record {
+      weighs = λ f. (let s = weight_of-there f t n root in let w = g.weighs f in omega arith);
+    }
+
+pub none_gone : (old : List Tree) (t : Tree) → root_of t ≡ None → Loses old t old
+none_gone old t root = record { weighs = λ f. (let z = weight_of-gone f t root in omega arith) }

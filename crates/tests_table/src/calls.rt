@@ -1,4 +1,4 @@
-ghost use Rattle.std.specs.Prelude.{◌≡◌, ◌≢◌, ◌≤◌, ◌<◌, None, [], All, IfOk, false};
+ghost use Rattle.std.specs.Prelude.{◌≡◌, ◌≢◌, ◌≤◌, ◌<◌, None, [], All, IfSome, false};
 ghost use Rattle.node_shapes.specs.Weights.{number_of_trees};
 ghost use Rattle.node_words.specs.Held.{ForHeld, Gains, HoldsName, SameHeld};
 ghost use Rattle.node_table.specs.Seen.{BelongsTo};
@@ -9,8 +9,8 @@ use node_words::{Plan, Share, Steps, spend_all};
 use std::alloc::Global;
 use std::sync::Wait;
 use std::sync::ledger::Ledger;
-use std::test::Fail;
 use vox_read::Models;
+use vw_cell::Side;
 
 /// Gives the share of a leaf back, and says whether the leaf is freed.
 pub fn give<R: Wait, L: Ledger>(
@@ -121,15 +121,69 @@ pub fn ended(table: &NodeTable, mut passes: Vec<Pass>) -> u32
 
 /// A table by this plan, of a world with no model, and its passes.
 #[tactic(auto, using(crate::proofs::Giving::new_spare))]
-pub fn begun(alloc: Global, plan: &Plan, sessions: u16) -> Result<(NodeTable, Vec<Pass>), Fail>
+pub fn begun(alloc: Global, plan: &Plan, sessions: u16) -> Option<(NodeTable, Vec<Pass>)>
     requires { (1 ≤ sessions) × (sessions ≤ 64) }
-    ensures { IfOk result (λ r. All (IsSpare r.0) r.1.items) }
+    ensures { IfSome result (λ r. All (IsSpare r.0) r.1.items) }
 {
     let models = Models {
         list: Vec::new(alloc),
     };
     match NodeTable::begin(alloc, plan, &models, sessions) {
-        Ok(begun) => Ok(begun),
-        Err(_) => Err(Fail::from("memory")),
+        Ok(begun) => Some(begun),
+        Err(_) => None,
+    }
+}
+
+/// The plan of a world of side 8, with one bucket of so many slots on each level.
+pub fn one_bucket(cap: u16) -> Option<Plan> {
+    match Side::new(8) {
+        Some(side) => Plan::even(side, 1, cap),
+        None => None,
+    }
+}
+
+/// A table by that plan, and its passes.
+pub fn begun_small(alloc: Global, cap: u16, sessions: u16) -> Option<(NodeTable, Vec<Pass>)>
+    requires { (1 ≤ sessions) × (sessions ≤ 64) }
+    ensures { IfSome result (λ r. All (IsSpare r.0) r.1.items) }
+{
+    match one_bucket(cap) {
+        Some(plan) => begun(alloc, &plan, sessions),
+        None => None,
+    }
+}
+
+/// The pass of a table that has just one.
+pub fn only_one(table: &NodeTable, mut passes: Vec<Pass>) -> Option<Pass>
+    requires { All (IsSpare table.now) passes.items }
+    ensures { IfSome result (IsSpare table.now) }
+{
+    let Some(pass) = passes.pop() else {
+        passes.destroy_empty();
+        return None;
+    };
+    if ended(table, passes) > 0 {
+        pass.end();
+        return None;
+    }
+    Some(pass)
+}
+
+/// The passes of a table that has just two.
+pub fn only_two(table: &NodeTable, mut passes: Vec<Pass>) -> Option<(Pass, Pass)>
+    requires { All (IsSpare table.now) passes.items }
+    ensures first { IfSome result (λ r. IsSpare table.now r.0) }
+    ensures second { IfSome result (λ r. IsSpare table.now r.1) }
+{
+    let Some(second) = passes.pop() else {
+        passes.destroy_empty();
+        return None;
+    };
+    match only_one(table, passes) {
+        Some(first) => Some((first, second)),
+        None => {
+            second.end();
+            None
+        }
     }
 }

@@ -1,13 +1,14 @@
 //! What closing a table gives, and what comes back where it is refused.
-ghost use Rattle.std.specs.Prelude.{All, IfOk};
+ghost use Rattle.std.specs.Prelude.{All, IfSome};
 ghost use Rattle.node_table.specs.Closing.{IsSpare};
 
-use crate::calls::{begun, ended};
+use crate::calls::{begun, begun_small, ended};
 use crate::threads::all_take;
 use node_table::{Closed, NodeTable, Pass, Root, TableCloseRefused};
 use node_words::Plan;
 use std::alloc::{AllocFailed, Global};
-use std::test::Fail;
+use std::sync::Wait;
+use std::thread::Threads;
 use vw_cell::Side;
 
 // Whether nothing is live on any level.
@@ -131,52 +132,80 @@ fn outlive(table: NodeTable, mut passes: Vec<Pass>) -> u32
 }
 
 // A table of a world of side 8 by the usual plan, with two passes.
-fn begun_by_two(alloc: Global) -> Result<(NodeTable, Vec<Pass>), Fail>
-    ensures { IfOk result (λ r. All (IsSpare r.0) r.1.items) }
+fn begun_by_two(alloc: Global) -> Option<(NodeTable, Vec<Pass>)>
+    ensures { IfSome result (λ r. All (IsSpare r.0) r.1.items) }
 {
-    let side = Side::new(8).ok_or("a side")?;
-    begun(alloc, &Plan::usual(side), 2)
+    match Side::new(8) {
+        Some(side) => begun(alloc, &Plan::usual(side), 2),
+        None => None,
+    }
+}
+
+fn new_is_blank(alloc: Global) -> bool {
+    match begun_by_two(alloc) {
+        Some((table, passes)) => closes_blank(alloc, table, passes),
+        None => false,
+    }
 }
 
 #[test]
-fn a_new_table_is_blank(rt: HostRuntime) -> Result<(), Fail> {
-    let (table, passes) = begun_by_two(rt.alloc())?;
-    assert!(rt; closes_blank(rt.alloc(), table, passes));
-    Ok(())
+fn a_new_table_is_blank(rt: HostRuntime) {
+    assert!(rt; new_is_blank(rt.alloc()));
+}
+
+fn new_is_refused_once(alloc: Global) -> bool {
+    match begun_by_two(alloc) {
+        Some((table, passes)) => is_refused_once(alloc, table, passes),
+        None => false,
+    }
 }
 
 #[test]
-fn a_pass_too_few_is_refused(rt: HostRuntime) -> Result<(), Fail> {
-    let (table, passes) = begun_by_two(rt.alloc())?;
-    assert!(rt; is_refused_once(rt.alloc(), table, passes));
-    Ok(())
+fn a_pass_too_few_is_refused(rt: HostRuntime) {
+    assert!(rt; new_is_refused_once(rt.alloc()));
 }
 
 // Both passes are given up, so the table can only be dropped.
+fn none_is_refused(alloc: Global) -> bool {
+    match begun_by_two(alloc) {
+        Some((table, passes)) => {
+            let number = ended(&table, passes);
+            is_refused(alloc, table, Vec::new(alloc), (2, 0)) && number == 2
+        }
+        None => false,
+    }
+}
+
 #[test]
-fn no_pass_is_refused(rt: HostRuntime) -> Result<(), Fail> {
-    let (table, passes) = begun_by_two(rt.alloc())?;
-    let number = ended(&table, passes);
-    let refused = is_refused(rt.alloc(), table, Vec::new(rt.alloc()), (2, 0));
-    assert!(rt; number == 2 && refused);
-    Ok(())
+fn no_pass_is_refused(rt: HostRuntime) {
+    assert!(rt; none_is_refused(rt.alloc()));
+}
+
+fn two_outlive(alloc: Global) -> bool {
+    match begun_by_two(alloc) {
+        Some((table, passes)) => outlive(table, passes) == 2,
+        None => false,
+    }
 }
 
 // A table is dropped while its passes are out.
 #[test]
-fn passes_outlive_their_table(rt: HostRuntime) -> Result<(), Fail> {
-    let (table, passes) = begun_by_two(rt.alloc())?;
-    assert!(rt; outlive(table, passes) == 2);
-    Ok(())
+fn passes_outlive_their_table(rt: HostRuntime) {
+    assert!(rt; two_outlive(rt.alloc()));
+}
+
+fn four_close_blank<R: Threads + Wait + Sync>(rt: &R, alloc: Global) -> bool {
+    match begun_small(alloc, 4, 4) {
+        Some((table, passes)) => {
+            let passes = all_take(rt, &table, passes);
+            closes_blank(alloc, table, passes)
+        }
+        None => false,
+    }
 }
 
 // Whatever four threads took and gave back, nothing is left.
 #[test]
-fn four_threads_close_blank(rt: HostRuntime) -> Result<(), Fail> {
-    let side = Side::new(8).ok_or("a side")?;
-    let plan = Plan::even(side, 1, 4).ok_or("a plan")?;
-    let (table, passes) = begun(rt.alloc(), &plan, 4)?;
-    let passes = all_take(&rt, &table, passes);
-    assert!(rt; closes_blank(rt.alloc(), table, passes));
-    Ok(())
+fn four_threads_close_blank(rt: HostRuntime) {
+    assert!(rt; four_close_blank(&rt, rt.alloc()));
 }

@@ -1,7 +1,8 @@
 //! What the pure core answers to the calls of a table beside it.
 use node_shapes::Name;
-use node_words::Full;
+use node_words::{Full, Plan};
 use std::alloc::Global;
+use vox_read::Models;
 use world_core::{Core, Event, Reply};
 
 /// The pure core beside a table.
@@ -9,6 +10,14 @@ use world_core::{Core, Event, Reply};
 pub struct Twin<'m> {
     pub core: Core<'m>,
     pub alloc: Global,
+}
+
+/// The pure core of two sessions, by this plan.
+pub fn twin_by<'m>(alloc: Global, plan: &Plan, models: &'m Models) -> Option<Twin<'m>> {
+    match Core::begin(alloc, plan, models, 2) {
+        Ok(core) => Some(Twin { core, alloc }),
+        Err(_) => None,
+    }
 }
 
 fn is_held(reply: &Reply, name: Name) -> bool {
@@ -116,7 +125,7 @@ pub fn node_back(twin: &mut Twin<'_>, session: u16, name: Name) -> bool {
     }
 }
 
-/// Whether all three are so.
-pub fn all_three(a: bool, b: bool, c: bool) -> bool {
-    a && b && c
+/// Whether both are so.
+pub fn both(a: bool, b: bool) -> bool {
+    a && b
 }

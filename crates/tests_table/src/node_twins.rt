@@ -1,24 +1,25 @@
 //! Nodes of two passes on one thread come and go as in the pure core.
-ghost use Rattle.std.specs.Prelude.{◌≡◌, ◌≢◌, ◌<◌, ◌≤◌, ◌+◌, ◌*◌, All};
-ghost use Rattle.node_shapes.specs.Weights.{number_of_trees};
-ghost use Rattle.node_words.specs.Gathering.{LosesAll};
-ghost use Rattle.node_words.specs.Held.{AreBelow, ForChildren, ForHeld, Gains, HasChild};
+ghost use Rattle.std.specs.Prelude.{◌≡◌, ◌≢◌, ◌<◌, ◌≤◌, ◌+◌, Some, All};
+ghost use Rattle.node_shapes.specs.Tree.{Tree, root_of};
+ghost use Rattle.node_shapes.specs.Weights.{number_of_trees, weight_below};
+ghost use Rattle.node_shapes.specs.declared.names.Name.{Name};
+ghost use Rattle.node_words.specs.Gathering.{Loses, MayHold};
+ghost use Rattle.node_words.specs.Held.{AreBelow, ForChildren, ForHeld, HasChild};
 ghost use Rattle.node_words.specs.Held.{HoldsChildren, HoldsName, SameHeld};
+ghost use Rattle.tests_table.specs.Made.{ComesFor};
 ghost use Rattle.node_table.specs.Closing.{IsSpare};
 
-use crate::calls::{begun, end, ended};
-use crate::cores::{Twin, all_three, gives, joins, joins_not, node_back, refuses, row_back};
+use crate::calls::{begun, end, ended, one_bucket, only_two};
+use crate::cores::{Twin, both, gives, joins, joins_not, node_back, refuses, row_back, twin_by};
 use edit_blocks::back_all;
 use hands::Hand;
 use node_table::{NodeTable, Pass};
 use node_words::{NodeRefused, NodeStore, Plan, Share, Steps, names_of};
+use std::alloc::Global;
 use std::marker::Brand;
 use std::sync::Wait;
 use std::sync::ledger::{Blank, Ledger};
-use std::test::Fail;
 use vox_read::Models;
-use vw_cell::Side;
-use world_core::Core;
 
 // The bits of the two leaves of a node, by how many nodes are still to come. Three leaves and three
 // nodes have room. The second node is the other session's first one, and the last is its fourth;
@@ -39,9 +40,128 @@ fn leaves_of(more: u16) -> (u64, u64)
     }
 }
 
+// A node over these two leaves, where there is room for all three, and whether the core does alike.
+fn make<N: NodeStore, L: Ledger>(
+    store: &mut N,
+    twin: &mut Twin<'_>,
+    session: u16,
+    bits: (u64, u64),
+    steps: &mut Steps<L>,
+) -> (Option<Share>, bool)
+    requires low { bits.0 ≢ 0 }
+    requires high { bits.1 ≢ 0 }
+    requires side { 3 ≤ (N.seen store.old).plan.side }
+    requires room { number_of_trees (N.seen store.old).held ≤ 3000 }
+    ensures made { ComesFor (N.seen store.old).held (λ f. 0) result.0 (N.seen store.new).held }
+    ensures plan { (N.seen store.new).plan ≡ (N.seen store.old).plan }
+    ensures rests { N.rests store.old store.new }
+{
+    match store.leaf(bits.0, steps) {
+        Ok(leaf) => {
+            let came = gives(twin, session, bits.0, leaf.name());
+            let (node, alike) = over_leaf(store, twin, session, leaf, bits.1, steps);
+            (node, both(came, alike))
+        }
+        Err(full) => (None, refuses(twin, session, bits.0, full)),
+    }
+}
+
+// The same over this leaf and another one.
+fn over_leaf<N: NodeStore, L: Ledger>(
+    store: &mut N,
+    twin: &mut Twin<'_>,
+    session: u16,
+    leaf: Share,
+    bits: u64,
+    steps: &mut Steps<L>,
+) -> (Option<Share>, bool)
+    requires bits { bits ≢ 0 }
+    requires held { HoldsName (N.seen store.old).held leaf }
+    requires level { leaf.level ≡ 0 }
+    requires side { 3 ≤ (N.seen store.old).plan.side }
+    requires room { number_of_trees (N.seen store.old).held ≤ 3001 }
+    ensures made { ForHeld (N.seen store.old).held leaf
+        (λ t. ComesFor (N.seen store.old).held (λ f. f t) result.0 (N.seen store.new).held) }
+    ensures plan { (N.seen store.new).plan ≡ (N.seen store.old).plan }
+    ensures rests { N.rests store.old store.new }
+{
+    match store.leaf(bits, steps) {
+        Ok(other) => {
+            let came = gives(twin, session, bits, other.name());
+            let row = [Some(leaf), Some(other), None, None, None, None, None, None];
+            let (node, alike) = over_row(store, twin, session, row, steps);
+            (node, both(came, alike))
+        }
+        Err(full) => {
+            let same = refuses(twin, session, bits, full);
+            let back = [Some(leaf.name()), None, None, None, None, None, None, None];
+            store.back(leaf, steps);
+            (None, both(same, row_back(twin, session, back)))
+        }
+    }
+}
+
+// The same over this row.
+fn over_row<N: NodeStore, L: Ledger>(
+    store: &mut N,
+    twin: &mut Twin<'_>,
+    session: u16,
+    row: [Option<Share>; 8],
+    steps: &mut Steps<L>,
+) -> (Option<Share>, bool)
+    requires some { HasChild row }
+    requires below { AreBelow 1 row }
+    requires held { HoldsChildren (N.seen store.old).held row }
+    requires side { 3 ≤ (N.seen store.old).plan.side }
+    requires room { number_of_trees (N.seen store.old).held ≤ 3002 }
+    ensures made { ForChildren (N.seen store.old).held row
+        (λ trees. ComesFor (N.seen store.old).held (λ f. weight_below f trees 8) result.0
+        (N.seen store.new).held) }
+    ensures plan { (N.seen store.new).plan ≡ (N.seen store.old).plan }
+    ensures rests { N.rests store.old store.new }
+{
+    let names = names_of(&row);
+    match store.node(1, row, steps) {
+        Ok(node) => {
+            let came = joins(twin, session, names, node.name());
+            (Some(node), came)
+        }
+        Err(refused) => {
+            let NodeRefused { full, children } = refused;
+            let same = joins_not(twin, session, names, full);
+            back_all(store, children, steps);
+            (None, both(same, row_back(twin, session, names)))
+        }
+    }
+}
+
+// Gives back what was made, and says whether the core does alike.
+fn give_up<N: NodeStore, L: Ledger>(
+    store: &mut N,
+    twin: &mut Twin<'_>,
+    session: u16,
+    node: Option<Share>,
+    steps: &mut Steps<L>,
+) -> bool
+    requires held { (n : Name) → node ≡ Some n → HoldsName (N.seen store.old).held n }
+    requires room { number_of_trees (N.seen store.old).held ≤ 4008 }
+    ensures gone { (t : Tree) → root_of t ≡ node → MayHold (N.seen store.old).held t
+        → Loses (N.seen store.old).held t (N.seen store.new).held }
+    ensures plan { (N.seen store.new).plan ≡ (N.seen store.old).plan }
+    ensures rests { N.rests store.old store.new }
+{
+    match node {
+        Some(node) => {
+            let name = node.name();
+            store.back(node, steps);
+            node_back(twin, session, name)
+        }
+        None => true,
+    }
+}
+
 // Whether so many nodes come and go alike, each while those before are held, by the two stores in
 // turn.
-#[cycle(nest)]
 fn nest<N: NodeStore, L: Ledger>(
     a: &mut N,
     b: &mut N,
@@ -53,125 +173,20 @@ fn nest<N: NodeStore, L: Ledger>(
     requires more { more ≤ 9 }
     requires first_side { 3 ≤ (N.seen a.old).plan.side }
     requires second_side { 3 ≤ (N.seen b.old).plan.side }
-    requires first_room { number_of_trees (N.seen a.old).held + 3 * more ≤ 3000 }
-    requires second_room { number_of_trees (N.seen b.old).held + 3 * more ≤ 3000 }
-    ensures first_rests { N.rests a.old a.new }
-    ensures second_rests { N.rests b.old b.new }
-    ensures first_plan { (N.seen a.new).plan ≡ (N.seen a.old).plan }
-    ensures second_plan { (N.seen b.new).plan ≡ (N.seen b.old).plan }
+    requires first_room { number_of_trees (N.seen a.old).held + more ≤ 3000 }
+    requires second_room { number_of_trees (N.seen b.old).held + more ≤ 3000 }
     ensures first_held { SameHeld (N.seen a.old).held (N.seen a.new).held }
     ensures second_held { SameHeld (N.seen b.old).held (N.seen b.new).held }
+    ensures first_rests { N.rests a.old a.new }
+    ensures second_rests { N.rests b.old b.new }
 {
     if more == 0 {
         return true;
     }
-    let (low, high) = leaves_of(more);
-    match a.leaf(low, steps) {
-        Ok(leaf) => {
-            let came = gives(twin, sessions.0, low, leaf.name());
-            let rest = over_leaf(a, b, twin, sessions, leaf, high, more, steps);
-            all_three(came, rest, true)
-        }
-        Err(full) => {
-            let same = refuses(twin, sessions.0, low, full);
-            let rest = nest(b, a, twin, (sessions.1, sessions.0), more - 1, steps);
-            all_three(same, rest, true)
-        }
-    }
-}
-
-// The same with a node over this leaf and another one first.
-#[cycle(nest)]
-fn over_leaf<N: NodeStore, L: Ledger>(
-    a: &mut N,
-    b: &mut N,
-    twin: &mut Twin<'_>,
-    sessions: (u16, u16),
-    leaf: Share,
-    bits: u64,
-    more: u16,
-    steps: &mut Steps<L>,
-) -> bool
-    requires more { (1 ≤ more) × (more ≤ 9) }
-    requires bits { bits ≢ 0 }
-    requires held { HoldsName (N.seen a.old).held leaf }
-    requires level { leaf.level ≡ 0 }
-    requires first_side { 3 ≤ (N.seen a.old).plan.side }
-    requires second_side { 3 ≤ (N.seen b.old).plan.side }
-    requires first_room { number_of_trees (N.seen a.old).held + 3 * more ≤ 3001 }
-    requires second_room { number_of_trees (N.seen b.old).held + 3 * more ≤ 3000 }
-    ensures first_rests { N.rests a.old a.new }
-    ensures second_rests { N.rests b.old b.new }
-    ensures first_plan { (N.seen a.new).plan ≡ (N.seen a.old).plan }
-    ensures second_plan { (N.seen b.new).plan ≡ (N.seen b.old).plan }
-    ensures first_held { ForHeld (N.seen a.old).held leaf
-        (λ t. Gains (N.seen a.new).held t (N.seen a.old).held) }
-    ensures second_held { SameHeld (N.seen b.old).held (N.seen b.new).held }
-{
-    match a.leaf(bits, steps) {
-        Ok(other) => {
-            let came = gives(twin, sessions.0, bits, other.name());
-            let row = [Some(leaf), Some(other), None, None, None, None, None, None];
-            let rest = over_row(a, b, twin, sessions, row, more, steps);
-            all_three(came, rest, true)
-        }
-        Err(full) => {
-            let same = refuses(twin, sessions.0, bits, full);
-            let back = [Some(leaf.name()), None, None, None, None, None, None, None];
-            a.back(leaf, steps);
-            let gone = row_back(twin, sessions.0, back);
-            let rest = nest(b, a, twin, (sessions.1, sessions.0), more - 1, steps);
-            all_three(same, gone, rest)
-        }
-    }
-}
-
-// The same with a node over this row first.
-#[cycle(nest)]
-fn over_row<N: NodeStore, L: Ledger>(
-    a: &mut N,
-    b: &mut N,
-    twin: &mut Twin<'_>,
-    sessions: (u16, u16),
-    row: [Option<Share>; 8],
-    more: u16,
-    steps: &mut Steps<L>,
-) -> bool
-    requires more { (1 ≤ more) × (more ≤ 9) }
-    requires some { HasChild row }
-    requires below { AreBelow 1 row }
-    requires held { HoldsChildren (N.seen a.old).held row }
-    requires first_side { 3 ≤ (N.seen a.old).plan.side }
-    requires second_side { 3 ≤ (N.seen b.old).plan.side }
-    requires first_room { number_of_trees (N.seen a.old).held + 3 * more ≤ 3002 }
-    requires second_room { number_of_trees (N.seen b.old).held + 3 * more ≤ 3000 }
-    ensures first_rests { N.rests a.old a.new }
-    ensures second_rests { N.rests b.old b.new }
-    ensures first_plan { (N.seen a.new).plan ≡ (N.seen a.old).plan }
-    ensures second_plan { (N.seen b.new).plan ≡ (N.seen b.old).plan }
-    ensures first_held { ForChildren (N.seen a.old).held row
-        (λ trees. LosesAll (N.seen a.old).held trees 8 (N.seen a.new).held) }
-    ensures second_held { SameHeld (N.seen b.old).held (N.seen b.new).held }
-{
-    let names = names_of(&row);
-    match a.node(1, row, steps) {
-        Ok(node) => {
-            let name = node.name();
-            let came = joins(twin, sessions.0, names, name);
-            let rest = nest(b, a, twin, (sessions.1, sessions.0), more - 1, steps);
-            a.back(node, steps);
-            let gone = node_back(twin, sessions.0, name);
-            all_three(came, rest, gone)
-        }
-        Err(refused) => {
-            let NodeRefused { full, children } = refused;
-            let same = joins_not(twin, sessions.0, names, full);
-            back_all(a, children, steps);
-            let gone = row_back(twin, sessions.0, names);
-            let rest = nest(b, a, twin, (sessions.1, sessions.0), more - 1, steps);
-            all_three(same, gone, rest)
-        }
-    }
+    let (node, came) = make(a, twin, sessions.0, leaves_of(more), steps);
+    let rest = nest(b, a, twin, (sessions.1, sessions.0), more - 1, steps);
+    let gone = give_up(a, twin, sessions.0, node, steps);
+    both(came, both(rest, gone))
 }
 
 // The same of nine nodes by two passes, which are ended.
@@ -203,7 +218,7 @@ fn ends_alike<R: Wait, L: Ledger>(
 fn two_alike<R: Wait, L: Ledger>(
     rt: &R,
     table: &NodeTable,
-    mut passes: Vec<Pass>,
+    passes: Vec<Pass>,
     twin: &mut Twin<'_>,
     blank: Blank,
 ) -> bool
@@ -213,17 +228,10 @@ fn two_alike<R: Wait, L: Ledger>(
     requires side { 3 ≤ table.now.plan.side }
     requires passes { All (IsSpare table.now) passes.items }
 {
-    let Some(second) = passes.pop() else {
-        passes.destroy_empty();
-        return false;
-    };
-    let Some(first) = passes.pop() else {
-        second.end();
-        passes.destroy_empty();
-        return false;
-    };
-    let rest = ended(table, passes);
-    ends_alike::<R, L>(rt, table, (first, second), twin, blank) && rest == 0
+    match only_two(table, passes) {
+        Some(both) => ends_alike::<R, L>(rt, table, both, twin, blank),
+        None => false,
+    }
 }
 
 // The same over a table of side 8 or more.
@@ -237,23 +245,34 @@ fn all_alike<R: Wait>(rt: &R, table: &NodeTable, passes: Vec<Pass>, twin: &mut T
     two_alike::<R, Brand>(rt, table, passes, twin, Blank::new(1))
 }
 
-// One bucket of three slots on each level.
-#[test]
-fn a_table_makes_nodes_as_the_core(rt: HostRuntime) -> Result<(), Fail> {
-    let side = Side::new(8).ok_or("a side")?;
-    let plan = Plan::even(side, 1, 3).ok_or("a plan")?;
+// The same of a new table by this plan.
+fn new_alike<R: Wait>(rt: &R, alloc: Global, plan: &Plan, twin: &mut Twin<'_>) -> bool {
+    match begun(alloc, plan, 2) {
+        Some((table, passes)) => all_alike(rt, &table, passes, twin),
+        None => false,
+    }
+}
+
+// The same beside a new core.
+fn alike_by<R: Wait>(rt: &R, alloc: Global, plan: &Plan) -> bool {
     let models = Models {
-        list: Vec::new(rt.alloc()),
+        list: Vec::new(alloc),
     };
-    let Ok(core) = Core::begin(rt.alloc(), &plan, &models, 2) else {
-        return Err(Fail::from("memory"));
-    };
-    let mut twin = Twin {
-        core,
-        alloc: rt.alloc(),
-    };
-    let (table, passes) = begun(rt.alloc(), &plan, 2)?;
-    let alike = all_alike::<HostRuntime>(&rt, &table, passes, &mut twin);
-    assert!(rt; alike);
-    Ok(())
+    match twin_by(alloc, plan, &models) {
+        Some(mut twin) => new_alike(rt, alloc, plan, &mut twin),
+        None => false,
+    }
+}
+
+// One bucket of three slots on each level.
+fn nodes_alike<R: Wait>(rt: &R, alloc: Global) -> bool {
+    match one_bucket(3) {
+        Some(plan) => alike_by(rt, alloc, &plan),
+        None => false,
+    }
+}
+
+#[test]
+fn a_table_makes_nodes_as_the_core(rt: HostRuntime) {
+    assert!(rt; nodes_alike(&rt, rt.alloc()));
 }

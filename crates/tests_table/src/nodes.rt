@@ -8,18 +8,16 @@ ghost use Rattle.node_words.specs.Held.{ForHeld, Gains, HoldsName, SameHeld, nam
 ghost use Rattle.node_table.specs.Closing.{IsSpare};
 ghost use Rattle.node_table.specs.Seen.{BelongsTo};
 
-use crate::calls::{begun, ended};
+use crate::calls::{begun_small, ended};
 use crate::closes::closes_blank;
 use node_table::{NodeTable, Pass};
-use node_words::{NodeRefused, Plan, Share, Steps, end_all, take_at};
+use node_words::{NodeRefused, Share, Steps, end_all, take_at};
 use std::alloc::Global;
 use std::marker::Brand;
 use std::sync::Wait;
 use std::sync::ledger::{Blank, Ledger};
-use std::test::Fail;
 use std::thread;
 use std::thread::Threads;
-use vw_cell::Side;
 
 // Gives back the first of a row without others.
 fn back_first<R: Wait, L: Ledger>(
@@ -179,13 +177,16 @@ fn leaves_nothing<R: Threads + Wait + Sync>(
     closes_blank(alloc, table, passes)
 }
 
-// Four threads at once, over one bucket of four slots on each level.
+// The same of a new table, with one bucket of four slots on each level.
+fn four_leave_nothing<R: Threads + Wait + Sync>(rt: &R, alloc: Global) -> bool {
+    match begun_small(alloc, 4, 4) {
+        Some((table, passes)) => leaves_nothing(rt, alloc, table, passes),
+        None => false,
+    }
+}
+
+// Four threads at once.
 #[test]
-fn four_threads_make_nodes_and_leave_nothing(rt: HostRuntime) -> Result<(), Fail> {
-    let side = Side::new(8).ok_or("a side")?;
-    let plan = Plan::even(side, 1, 4).ok_or("a plan")?;
-    let (table, passes) = begun(rt.alloc(), &plan, 4)?;
-    let blank = leaves_nothing(&rt, rt.alloc(), table, passes);
-    assert!(rt; blank);
-    Ok(())
+fn four_threads_make_nodes_and_leave_nothing(rt: HostRuntime) {
+    assert!(rt; four_leave_nothing(&rt, rt.alloc()));
 }

@@ -5,16 +5,14 @@ ghost use Rattle.node_words.specs.Held.{HoldsName, SameHeld};
 ghost use Rattle.node_table.specs.Seen.{BelongsTo};
 ghost use Rattle.node_table.specs.Closing.{IsSpare};
 
-use crate::calls::{end, ended, give};
+use crate::calls::{begun_small, end, give, only_one};
 use node_shapes::Name;
 use node_table::{NodeTable, Pass};
-use node_words::{Plan, Share, Steps};
+use node_words::{Share, Steps};
+use std::alloc::Global;
 use std::marker::Brand;
 use std::sync::Wait;
 use std::sync::ledger::{Blank, Ledger};
-use std::test::Fail;
-use vox_read::Models;
-use vw_cell::Side;
 
 // Takes one more share and gives it back.
 fn more_and_back<R: Wait, L: Ledger>(
@@ -91,7 +89,7 @@ fn is_counted<R: Wait, L: Ledger>(rt: &R, table: &NodeTable, pass: &mut Pass, bl
 fn one_counts<R: Wait, L: Ledger>(
     rt: &R,
     table: &NodeTable,
-    mut passes: Vec<Pass>,
+    passes: Vec<Pass>,
     blank: Blank,
 ) -> bool
     requires name { blank.name ≡ L.name }
@@ -99,27 +97,25 @@ fn one_counts<R: Wait, L: Ledger>(
     requires some { 0 < L.parts }
     requires passes { All (IsSpare table.now) passes.items }
 {
-    let Some(mut pass) = passes.pop() else {
-        passes.destroy_empty();
-        return false;
-    };
-    let counted = is_counted::<R, L>(rt, table, &mut pass, blank);
-    end(pass);
-    ended(table, passes) == 0 && counted
+    match only_one(table, passes) {
+        Some(mut pass) => {
+            let counted = is_counted::<R, L>(rt, table, &mut pass, blank);
+            end(pass);
+            counted
+        }
+        None => false,
+    }
+}
+
+// The same of a new table, with one bucket of two slots.
+fn are_counted<R: Wait>(rt: &R, alloc: Global) -> bool {
+    match begun_small(alloc, 2, 1) {
+        Some((table, passes)) => one_counts::<R, Brand>(rt, &table, passes, Blank::new(1)),
+        None => false,
+    }
 }
 
 #[test]
-#[tactic(auto, using(crate::proofs::Giving::new_spare))]
-fn shares_are_counted(rt: HostRuntime) -> Result<(), Fail> {
-    let side = Side::new(8).ok_or("a side")?;
-    let plan = Plan::even(side, 1, 2).ok_or("a plan")?;
-    let models = Models {
-        list: Vec::new(rt.alloc()),
-    };
-    let Ok((table, passes)) = NodeTable::begin(rt.alloc(), &plan, &models, 1) else {
-        return Err(Fail::from("memory"));
-    };
-    let counted = one_counts::<HostRuntime, Brand>(&rt, &table, passes, Blank::new(1));
-    assert!(rt; counted);
-    Ok(())
+fn shares_are_counted(rt: HostRuntime) {
+    assert!(rt; are_counted(&rt, rt.alloc()));
 }

@@ -4,15 +4,13 @@ ghost use Rattle.node_words.specs.Held.{SameHeld};
 ghost use Rattle.node_table.specs.Seen.{BelongsTo};
 ghost use Rattle.node_table.specs.Closing.{IsSpare};
 
-use crate::calls::{comes_and_goes, end, ended, give, is_refused};
+use crate::calls::{begun_small, comes_and_goes, end, give, is_refused, only_two};
 use node_table::{NodeTable, Pass};
-use node_words::{Plan, Steps};
+use node_words::Steps;
+use std::alloc::Global;
 use std::marker::Brand;
 use std::sync::Wait;
 use std::sync::ledger::{Blank, Ledger};
-use std::test::Fail;
-use vox_read::Models;
-use vw_cell::Side;
 
 // Whether a pass finds what another holds in slot 0, takes the slot beside it, and meets the full
 // bucket.
@@ -101,43 +99,27 @@ fn share_leaves<R: Wait, L: Ledger>(
 }
 
 // The same of all passes that there are, which are to be two.
-fn two_share<R: Wait, L: Ledger>(
-    rt: &R,
-    table: &NodeTable,
-    mut passes: Vec<Pass>,
-    blank: Blank,
-) -> bool
+fn two_share<R: Wait, L: Ledger>(rt: &R, table: &NodeTable, passes: Vec<Pass>, blank: Blank) -> bool
     requires name { blank.name ≡ L.name }
     requires parts { blank.parts ≡ L.parts }
     requires some { 0 < L.parts }
     requires passes { All (IsSpare table.now) passes.items }
 {
-    let Some(b) = passes.pop() else {
-        passes.destroy_empty();
-        return false;
-    };
-    let Some(a) = passes.pop() else {
-        b.end();
-        passes.destroy_empty();
-        return false;
-    };
-    let rest = ended(table, passes);
-    share_leaves::<R, L>(rt, table, a, b, blank) && rest == 0
+    match only_two(table, passes) {
+        Some((a, b)) => share_leaves::<R, L>(rt, table, a, b, blank),
+        None => false,
+    }
 }
 
-// Two passes of a world of side 8, over one bucket of two slots on each level.
+// The same of a new table of a world of side 8, with one bucket of two slots on each level.
+fn new_share<R: Wait>(rt: &R, alloc: Global) -> bool {
+    match begun_small(alloc, 2, 2) {
+        Some((table, passes)) => two_share::<R, Brand>(rt, &table, passes, Blank::new(1)),
+        None => false,
+    }
+}
+
 #[test]
-#[tactic(auto, using(crate::proofs::Giving::new_spare))]
-fn two_passes_share_leaves(rt: HostRuntime) -> Result<(), Fail> {
-    let side = Side::new(8).ok_or("a side")?;
-    let plan = Plan::even(side, 1, 2).ok_or("a plan")?;
-    let models = Models {
-        list: Vec::new(rt.alloc()),
-    };
-    let Ok((table, passes)) = NodeTable::begin(rt.alloc(), &plan, &models, 2) else {
-        return Err(Fail::from("memory"));
-    };
-    let shared = two_share::<HostRuntime, Brand>(&rt, &table, passes, Blank::new(1));
-    assert!(rt; shared);
-    Ok(())
+fn two_passes_share_leaves(rt: HostRuntime) {
+    assert!(rt; new_share(&rt, rt.alloc()));
 }

@@ -5,16 +5,15 @@ ghost use Rattle.node_words.specs.Held.{SameHeld};
 ghost use Rattle.node_table.specs.Seen.{BelongsTo};
 ghost use Rattle.node_table.specs.Closing.{IsSpare};
 
-use crate::calls::{begun, comes_and_goes, end, ended};
+use crate::calls::{begun_small, comes_and_goes, end, ended};
 use node_table::{NodeTable, Pass};
-use node_words::{Plan, Steps};
+use node_words::Steps;
+use std::alloc::Global;
 use std::marker::Brand;
 use std::sync::Wait;
 use std::sync::ledger::{Blank, Ledger};
-use std::test::Fail;
 use std::thread;
 use std::thread::Threads;
-use vw_cell::Side;
 
 // Takes 10,000 leaves, of four that take turns, and gives each back.
 fn take_often<R: Wait, L: Ledger>(rt: &R, table: &NodeTable, pass: &mut Pass, blank: Blank)
@@ -115,14 +114,19 @@ fn left_nothing<R: Wait, L: Ledger>(
     ended(table, passes) == 3 && empty
 }
 
-// Four threads at once, over one bucket of four slots.
+// Whether four threads over one bucket of four slots left nothing.
+fn four_left_nothing<R: Threads + Wait + Sync>(rt: &R, alloc: Global) -> bool {
+    match begun_small(alloc, 4, 4) {
+        Some((table, passes)) => {
+            let passes = all_take(rt, &table, passes);
+            left_nothing::<R, Brand>(rt, &table, passes, Blank::new(1))
+        }
+        None => false,
+    }
+}
+
+// Four threads at once.
 #[test]
-fn four_threads_leave_nothing(rt: HostRuntime) -> Result<(), Fail> {
-    let side = Side::new(8).ok_or("a side")?;
-    let plan = Plan::even(side, 1, 4).ok_or("a plan")?;
-    let (table, passes) = begun(rt.alloc(), &plan, 4)?;
-    let passes = all_take(&rt, &table, passes);
-    let empty = left_nothing::<HostRuntime, Brand>(&rt, &table, passes, Blank::new(1));
-    assert!(rt; empty);
-    Ok(())
+fn four_threads_leave_nothing(rt: HostRuntime) {
+    assert!(rt; four_left_nothing(&rt, rt.alloc()));
 }

@@ -8,7 +8,7 @@ ghost use Rattle.node_words.specs.Held.{SameHeld};
 ghost use Rattle.history_model.specs.Logs.{TintFits};
 ghost use Rattle.node_table.specs.Closing.{IsSpare};
 
-use crate::calls::{begun, end, ended};
+use crate::calls::{begun, end, ended, only_one};
 use colour::tint_at;
 use edit_blocks::back_if;
 use hands::{ActMaker, AnyAct, DrawnModels, Hand, draw_models};
@@ -19,7 +19,6 @@ use std::alloc::Global;
 use std::marker::Brand;
 use std::sync::Wait;
 use std::sync::ledger::{Blank, Ledger};
-use std::test::Fail;
 use vox_read::{Models, read_models};
 use vw_cell::{Boxed, Cell, Side};
 
@@ -204,7 +203,7 @@ fn has_cell(side: Side, at: Cell) -> bool
 fn told<R: Wait, L: Ledger>(
     rt: &R,
     table: &NodeTable,
-    mut passes: Vec<Pass>,
+    passes: Vec<Pass>,
     models: &Models,
     drawn: &DrawnModels,
     row: Row,
@@ -225,15 +224,9 @@ fn told<R: Wait, L: Ledger>(
         let _ended = ended(table, passes);
         return None;
     }
-    let Some(pass) = passes.pop() else {
-        passes.destroy_empty();
-        return None;
-    };
-    let tint = over_a_pass::<R, L>(rt, table, pass, drawn, row, blank);
-    if ended(table, passes) == 0 {
-        tint
-    } else {
-        None
+    match only_one(table, passes) {
+        Some(pass) => over_a_pass::<R, L>(rt, table, pass, drawn, row, blank),
+        None => None,
     }
 }
 
@@ -246,20 +239,58 @@ fn small_models(alloc: Global) -> Option<Models>
     }
 }
 
+fn begun_tinted(alloc: Global) -> Option<(NodeTable, Vec<Pass>)>
+    ensures { IfSome result (λ r. All (IsSpare r.0) r.1.items) }
+{
+    let Some(side) = Side::new(32) else {
+        return None;
+    };
+    match Plan::even(side, 4, 16) {
+        Some(plan) => begun(alloc, &plan, 1),
+        None => None,
+    }
+}
+
+// The tint of the cell after both acts, over a new table.
+fn tint_told<R: Wait>(
+    rt: &R,
+    alloc: Global,
+    models: &Models,
+    drawn: &DrawnModels,
+    row: Row,
+) -> Option<u8>
+    requires tint { drawn.now.tint ≡ true }
+    requires drawn { drawn.now.models ≡ models.now }
+{
+    match begun_tinted(alloc) {
+        Some((table, passes)) => {
+            told::<R, Brand>(rt, &table, passes, models, drawn, row, Blank::new(1))
+        }
+        None => None,
+    }
+}
+
+// The same with the models drawn.
+fn tint_of_drawn<R: Wait>(rt: &R, alloc: Global, models: &Models, row: Row) -> Option<u8>
+    requires { AreModels models.now }
+{
+    match draw_models(alloc, models, true) {
+        Ok(drawn) => tint_told(rt, alloc, models, &drawn, row),
+        Err(_) => None,
+    }
+}
+
 // The tint of the cell after both acts on an empty world of side 8.
-fn tint_told<R: Wait>(rt: &R, alloc: Global, row: Row) -> Result<Option<u8>, Fail> {
-    let side = Side::new(32).ok_or("a side")?;
-    let plan = Plan::even(side, 4, 16).ok_or("a plan")?;
-    let models = small_models(alloc).ok_or("models")?;
-    let drawn = draw_models(alloc, &models, true)?;
-    let (table, passes) = begun(alloc, &plan, 1)?;
-    Ok(told::<R, Brand>(rt, &table, passes, &models, &drawn, row, Blank::new(1)))
+fn tint_of<R: Wait>(rt: &R, alloc: Global, row: Row) -> Option<u8> {
+    match small_models(alloc) {
+        Some(models) => tint_of_drawn(rt, alloc, &models, row),
+        None => None,
+    }
 }
 
 #[test]
-fn tinted_acts_run_over_a_pass(rt: HostRuntime) -> Result<(), Fail> {
+fn tinted_acts_run_over_a_pass(rt: HostRuntime) {
     for &(row, tint) in ROWS {
-        assert_eq!(rt; tint_told(&rt, rt.alloc(), row)?, Some(tint));
+        assert!(rt; tint_of(&rt, rt.alloc(), row) == Some(tint));
     }
-    Ok(())
 }

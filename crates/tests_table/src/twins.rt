@@ -5,17 +5,15 @@ ghost use Rattle.node_words.specs.Held.{SameHeld};
 ghost use Rattle.node_table.specs.Seen.{BelongsTo};
 ghost use Rattle.node_table.specs.Closing.{IsSpare};
 
-use crate::calls::{begun, end, ended, give};
-use crate::cores::{Twin, gives, refuses, takes_back};
+use crate::calls::{begun, end, give, one_bucket, only_two};
+use crate::cores::{Twin, gives, refuses, takes_back, twin_by};
 use node_table::{NodeTable, Pass};
 use node_words::{Plan, Steps};
+use std::alloc::Global;
 use std::marker::Brand;
 use std::sync::Wait;
 use std::sync::ledger::{Blank, Ledger};
-use std::test::Fail;
 use vox_read::Models;
-use vw_cell::Side;
-use world_core::Core;
 
 // Whether a leaf comes and goes alike.
 fn is_alike<R: Wait, L: Ledger>(
@@ -170,7 +168,7 @@ fn ends_alike<R: Wait, L: Ledger>(
 fn two_alike<R: Wait, L: Ledger>(
     rt: &R,
     table: &NodeTable,
-    mut passes: Vec<Pass>,
+    passes: Vec<Pass>,
     twin: &mut Twin<'_>,
     blank: Blank,
 ) -> bool
@@ -179,36 +177,40 @@ fn two_alike<R: Wait, L: Ledger>(
     requires some { 0 < L.parts }
     requires passes { All (IsSpare table.now) passes.items }
 {
-    let Some(b) = passes.pop() else {
-        passes.destroy_empty();
-        return false;
+    match only_two(table, passes) {
+        Some(both) => ends_alike::<R, L>(rt, table, both, twin, blank),
+        None => false,
+    }
+}
+
+// The same of a new table by this plan.
+fn new_alike<R: Wait>(rt: &R, alloc: Global, plan: &Plan, twin: &mut Twin<'_>) -> bool {
+    match begun(alloc, plan, 2) {
+        Some((table, passes)) => { two_alike::<R, Brand>(rt, &table, passes, twin, Blank::new(1)) }
+        None => false,
+    }
+}
+
+// The same beside a new core.
+fn alike_by<R: Wait>(rt: &R, alloc: Global, plan: &Plan) -> bool {
+    let models = Models {
+        list: Vec::new(alloc),
     };
-    let Some(a) = passes.pop() else {
-        b.end();
-        passes.destroy_empty();
-        return false;
-    };
-    let rest = ended(table, passes);
-    ends_alike::<R, L>(rt, table, (a, b), twin, blank) && rest == 0
+    match twin_by(alloc, plan, &models) {
+        Some(mut twin) => new_alike(rt, alloc, plan, &mut twin),
+        None => false,
+    }
 }
 
 // One bucket of two slots for leaves, in which one stays while six come and go.
+fn leaves_alike<R: Wait>(rt: &R, alloc: Global) -> bool {
+    match one_bucket(2) {
+        Some(plan) => alike_by(rt, alloc, &plan),
+        None => false,
+    }
+}
+
 #[test]
-fn a_table_answers_as_the_core(rt: HostRuntime) -> Result<(), Fail> {
-    let side = Side::new(8).ok_or("a side")?;
-    let plan = Plan::even(side, 1, 2).ok_or("a plan")?;
-    let models = Models {
-        list: Vec::new(rt.alloc()),
-    };
-    let Ok(core) = Core::begin(rt.alloc(), &plan, &models, 2) else {
-        return Err(Fail::from("memory"));
-    };
-    let mut twin = Twin {
-        core,
-        alloc: rt.alloc(),
-    };
-    let (table, passes) = begun(rt.alloc(), &plan, 2)?;
-    let alike = two_alike::<HostRuntime, Brand>(&rt, &table, passes, &mut twin, Blank::new(1));
-    assert!(rt; alike);
-    Ok(())
+fn a_table_answers_as_the_core(rt: HostRuntime) {
+    assert!(rt; leaves_alike(&rt, rt.alloc()));
 }

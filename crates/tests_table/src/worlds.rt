@@ -5,17 +5,17 @@ ghost use Rattle.node_shapes.specs.Weights.{number_of_trees};
 ghost use Rattle.node_words.specs.Held.{SameHeld};
 ghost use Rattle.node_table.specs.Closing.{IsSpare};
 
-use crate::calls::{begun, end, ended};
+use crate::calls::{begun_small, end, only_one};
 use edit_blocks::back_if;
 use edit_ops::rebuild_box;
 use hands::Hand;
 use measure::count;
 use node_table::{NodeTable, Pass};
-use node_words::{NodeStore, Plan, Steps};
+use node_words::{NodeStore, Steps};
+use std::alloc::Global;
 use std::marker::Brand;
 use std::sync::Wait;
 use std::sync::ledger::{Blank, Ledger};
-use std::test::Fail;
 use vw_cell::{Boxed, Cell, Side};
 
 // Fills a box of an empty world, tells how many cells of another one are set, and gives all back.
@@ -74,7 +74,7 @@ fn counted_over<R: Wait, L: Ledger>(
 fn part_of_a_box<R: Wait, L: Ledger>(
     rt: &R,
     table: &NodeTable,
-    mut passes: Vec<Pass>,
+    passes: Vec<Pass>,
     blank: Blank,
 ) -> Option<u64>
     requires name { blank.name ≡ L.name }
@@ -83,13 +83,12 @@ fn part_of_a_box<R: Wait, L: Ledger>(
     requires passes { All (IsSpare table.now) passes.items }
 {
     let side = table.plan().side();
-    let Some(pass) = passes.pop() else {
-        passes.destroy_empty();
+    let Some(pass) = only_one(table, passes) else {
         return None;
     };
     let filled = Boxed::new(Cell { x: 1, y: 0, z: 2 }, Cell { x: 5, y: 3, z: 4 }, side);
     let asked = Boxed::new(Cell { x: 0, y: 0, z: 0 }, Cell { x: 4, y: 8, z: 8 }, side);
-    let number = match (filled, asked) {
+    match (filled, asked) {
         (Some(filled), Some(asked)) => {
             counted_over::<R, L>(rt, table, pass, filled, asked, blank)
         }
@@ -97,20 +96,18 @@ fn part_of_a_box<R: Wait, L: Ledger>(
             pass.end();
             None
         }
-    };
-    if ended(table, passes) == 0 {
-        number
-    } else {
-        None
+    }
+}
+
+// The same over a new table, with one bucket of 16 slots on each level.
+fn part_over_a_pass<R: Wait>(rt: &R, alloc: Global) -> Option<u64> {
+    match begun_small(alloc, 16, 1) {
+        Some((table, passes)) => part_of_a_box::<R, Brand>(rt, &table, passes, Blank::new(1)),
+        None => None,
     }
 }
 
 #[test]
-fn edits_and_questions_run_over_a_pass(rt: HostRuntime) -> Result<(), Fail> {
-    let side = Side::new(8).ok_or("a side")?;
-    let plan = Plan::even(side, 1, 16).ok_or("a plan")?;
-    let (table, passes) = begun(rt.alloc(), &plan, 1)?;
-    let number = part_of_a_box::<HostRuntime, Brand>(&rt, &table, passes, Blank::new(1));
-    assert_eq!(rt; number, Some(36));
-    Ok(())
+fn edits_and_questions_run_over_a_pass(rt: HostRuntime) {
+    assert!(rt; part_over_a_pass(&rt, rt.alloc()) == Some(36));
 }
