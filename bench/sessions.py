@@ -66,9 +66,9 @@ def main(folder):
     slab = SIDE // 4
     write(folder, "nothing.txt", ["head"])
     for k in range(4):
-        write(folder, "apart.%d.txt" % k, small_edits(11 + k, 8000, k * slab, slab))
-        write(folder, "large.%d.txt" % k, large_edits(21 + k, 24, k * slab, slab))
-        write(folder, "together.%d.txt" % k, small_edits(31 + k, 8000, 0, 64))
+        write(folder, "apart.%d.txt" % k, small_edits(11 + k, 14000, k * slab, slab))
+        write(folder, "large.%d.txt" % k, large_edits(21 + k, 72, k * slab, slab))
+        write(folder, "together.%d.txt" % k, small_edits(31 + k, 14000, 0, 64))
         balls = list(middle_balls(41 + k, 60, k * slab, slab))
         write(folder, "balls.%d.txt" % k, balls)
         write(folder, "reader.%d.txt" % k, balls + list(questions(51 + k, 6000, k * slab, slab)))

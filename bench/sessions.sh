@@ -54,7 +54,8 @@ echo "opening, side 4,096, usual plan: $seconds s, peak $((peak / 1000000)) MB"
 # The words of that plan's table, touched as its beginning touches them, and once.
 echo "the same memory by C, a row and its copy: $("$work/touch" 9125887 2)"
 echo "one row of it: $("$work/touch" 9125887 1)"
-best nothing.txt
+# It is taken off every time, and short beside them.
+rounds=$((4 * rounds)) best nothing.txt
 opening=$seconds
 for name in apart large together; do
     alone "$name"
