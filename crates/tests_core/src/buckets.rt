@@ -51,27 +51,29 @@ fn does(bucket: &mut Bucket<u64>, call: &Call) -> bool {
     }
 }
 
+/// Calls of a bucket of two slots, one after another.
+const CALLS: &[Call] = &[
+    Call::Find(7, None),
+    Call::Add(7, Some(0)),
+    Call::Add(9, Some(1)),
+    Call::Add(5, None),
+    Call::Find(9, Some(1)),
+    Call::Raise(0),
+    Call::Book(0, 2),
+    Call::Lower(1, None),
+    Call::Book(1, 0),
+    Call::Find(9, None),
+    Call::Lower(0, Some(1)),
+    Call::Add(5, Some(1)),
+    Call::Lower(0, None),
+    Call::Add(9, Some(0)),
+    Call::Find(5, Some(1)),
+];
+
 #[test]
 fn a_bucket_of_two_slots_is_exact(rt: HostRuntime) -> Result<(), Fail> {
-    let mut bucket = Bucket::new(rt.alloc(), 2).map_err(|_| "out of memory")?;
-    let calls = [
-        Call::Find(7, None),
-        Call::Add(7, Some(0)),
-        Call::Add(9, Some(1)),
-        Call::Add(5, None),
-        Call::Find(9, Some(1)),
-        Call::Raise(0),
-        Call::Book(0, 2),
-        Call::Lower(1, None),
-        Call::Book(1, 0),
-        Call::Find(9, None),
-        Call::Lower(0, Some(1)),
-        Call::Add(5, Some(1)),
-        Call::Lower(0, None),
-        Call::Add(9, Some(0)),
-        Call::Find(5, Some(1)),
-    ];
-    for (index, call) in calls.iter().enumerate() {
+    let mut bucket = Bucket::new(rt.alloc(), 2)?;
+    for (index, call) in CALLS.iter().enumerate() {
         assert!(rt; does(&mut bucket, call), "call {index}");
     }
     Ok(())

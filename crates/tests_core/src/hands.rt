@@ -10,7 +10,7 @@ use std::alloc::{AllocError, Global};
 use std::sync::ledger::Ledger;
 
 /// A call, and what goes before it.
-#[derive(Clone, Copy, Debug)]
+#[derive(Clone, Copy)]
 pub enum Call {
     /// The leaves change places, the first is given back, and the leaf of these bits is taken for
     /// it.
@@ -24,7 +24,7 @@ pub enum Call {
 }
 
 /// What came of a call.
-#[derive(Clone, Copy, Debug, PartialEq, Eq)]
+#[derive(Clone, Copy, PartialEq, Eq)]
 pub enum Answer {
     Held(Name),
     Full(Full),

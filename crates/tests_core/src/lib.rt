@@ -11,6 +11,8 @@ mod mirrors;
 #[cfg(test)]
 mod pair_tests;
 #[cfg(test)]
+mod plans;
+#[cfg(test)]
 mod run_tests;
 #[cfg(test)]
 mod table_tests;

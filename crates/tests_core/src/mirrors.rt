@@ -5,7 +5,7 @@ use vw_cell::Memory;
 use world_core::{Core, Event, Reply};
 
 /// What calls came to: how often an entry was found, made and freed, and a full bucket was met.
-#[derive(Clone, Copy, Debug, PartialEq, Eq)]
+#[derive(Clone, Copy, Debug)]
 pub struct Tally {
     pub found: u32,
     pub made: u32,

@@ -3,13 +3,13 @@ ghost use Rattle.tests_core.specs.Hands.{HoldsLeaves};
 
 use crate::hands::{Call, Hand};
 use crate::mirrors::{Mirror, Tally};
+use crate::plans::{no_models, plan_of};
 use node_words::{Plan, Steps};
 use std::alloc::Global;
 use std::marker::Brand;
 use std::sync::ledger::{Blank, Ledger};
 use std::test::Fail;
-use vox_read::Models;
-use vw_cell::{Memory, Side};
+use vw_cell::Memory;
 use world_core::Core;
 
 // A call for this number, of four leaves and six places.
@@ -52,29 +52,37 @@ fn differing<L: Ledger>(
     Ok(differing)
 }
 
-// What random calls come to with so many buckets of so many slots on each level.
-fn tallies_of(alloc: Global, buckets: u16, cap: u16, seed: u64) -> Result<[Tally; 2], Fail> {
-    let side = Side::new(8).ok_or("a side")?;
-    if side.root_level() != 1 {
-        return Err(Fail::from("another side"));
-    }
-    let plan = Plan::even(side, buckets, cap).ok_or("a plan")?;
-    let models = Models {
-        list: Vec::new(alloc),
-    };
-    let mut hand = Hand::empty(alloc, &plan)?;
-    let mut mirror = Mirror::of(Core::begin(alloc, &plan, &models, 2)?);
-    let differing = differing::<Brand>(alloc, &mut hand, &mut mirror, seed, Blank::new(1))?;
-    if differing > 0 || mirror.unlawful > 0 {
-        return Err(Fail::from("the store and the core differ"));
-    }
-    let [leaves, nodes] = mirror.tallies;
+// Whether a hand on a store of this plan and a mirror give the same answers, and as many entries
+// are live then.
+fn agrees(alloc: Global, plan: &Plan, mirror: &mut Mirror, seed: u64) -> Result<bool, Fail>
+    requires side { plan.now.side ≡ 3 }
+{
+    let mut hand = Hand::empty(alloc, plan)?;
+    let differing = differing::<Brand>(alloc, &mut hand, mirror, seed, Blank::new(1))?;
+    Ok(differing == 0 && mirror.unlawful == 0 && hand.live() == live(&mirror.tallies))
+}
+
+// How many entries were made and not freed.
+fn live(tallies: &[Tally; 2]) -> u32 {
+    let [leaves, nodes] = *tallies;
     let made = leaves.made.saturating_add(nodes.made);
     let freed = leaves.freed.saturating_add(nodes.freed);
-    if hand.live() != made.saturating_sub(freed) {
-        return Err(Fail::from("other entries are live"));
+    made.saturating_sub(freed)
+}
+
+// What random calls come to with so many buckets of so many slots on each level.
+fn tallies_of(alloc: Global, buckets: u16, cap: u16, seed: u64) -> Result<[Tally; 2], Fail> {
+    let plan = plan_of(8, buckets, cap)?;
+    if plan.side().root_level() != 1 {
+        return Err(Fail::from("another side"));
     }
-    Ok(mirror.tallies)
+    let models = no_models(alloc);
+    let mut mirror = Mirror::of(Core::begin(alloc, &plan, &models, 2)?);
+    if agrees(alloc, &plan, &mut mirror, seed)? {
+        Ok(mirror.tallies)
+    } else {
+        Err(Fail::from("the store and the core differ"))
+    }
 }
 
 fn has_all(tally: &Tally) -> bool {

@@ -1,9 +1,10 @@
+use crate::plans::{no_models, plan_of};
 use history_model::{Act, Mark};
-use node_words::{Full, Name, Plan};
+use node_words::{Full, Name};
 use std::alloc::{AllocError, Global};
 use std::test::Fail;
 use vox_read::{Model, Models, Voxel};
-use vw_cell::{Boxed, Cell, Memory, Side};
+use vw_cell::{Boxed, Cell, Memory};
 use world_core::{Core, Event, Reply};
 
 /// Whether both replies are one.
@@ -28,146 +29,126 @@ pub fn is_same(a: &Reply, b: &Reply) -> bool {
     }
 }
 
-fn name(level: u8) -> Name {
-    Name {
-        level,
-        bucket: 0,
-        slot: 0,
-    }
-}
+const A: Name = Name {
+    level: 0,
+    bucket: 0,
+    slot: 0,
+};
 
-// The events of a world of one leaf, and a bucket of one slot, with their replies.
-fn small_events(one: Boxed) -> [(Event, Reply); 36] {
-    let a = name(0);
-    let mark = Mark {
-        version: 1,
-        at: 4,
-        session: 1,
-        line: 7,
-    };
-    let full = Full {
-        level: 0,
-        bucket: 0,
-    };
-    [
-        (Event::Leaf(0, 1), Reply::Held(a)),
-        (Event::Leaf(0, 2), Reply::Full(full)),
-        (Event::Leaf(0, 0), Reply::Unlawful),
-        (Event::Leaf(2, 1), Reply::Unlawful),
-        (Event::Leaf(1, 1), Reply::Held(a)),
-        (Event::Raise(0, a), Reply::Held(a)),
-        (Event::Lower(0, a), Reply::Left),
-        (Event::Lower(1, a), Reply::Left),
-        (Event::Lower(1, a), Reply::Unlawful),
-        (Event::Raise(1, a), Reply::Unlawful),
-        (Event::Append(0, 1, Act::Undo, 0, None), Reply::Unlawful),
-        (
-            Event::Append(0, 2, Act::Fill(one), 0, Some(a)),
-            Reply::Appended(1),
-        ),
-        (Event::Lower(0, a), Reply::Unlawful),
-        (
-            Event::Append(1, 3, Act::Fill(one), 0, None),
-            Reply::Stale(1),
-        ),
-        (
-            Event::Append(1, 3, Act::Fill(one), 2, None),
-            Reply::Unlawful,
-        ),
-        (
-            Event::Append(1, 3, Act::Fill(one), 1, None),
-            Reply::Unlawful,
-        ),
-        (
-            Event::Append(1, 3, Act::Erase(one), 1, None),
-            Reply::Appended(2),
-        ),
-        (Event::Pin(1, Some(1)), Reply::Pinned(1, 2, Some(a))),
-        (Event::Pin(1, None), Reply::Pinned(2, 2, None)),
-        (Event::Pin(1, Some(3)), Reply::NoVersion(2)),
-        (Event::Pin(2, None), Reply::Unlawful),
-        (Event::Append(1, 5, Act::Undo, 2, None), Reply::Unlawful),
-        (
-            Event::Append(1, 5, Act::Undo, 2, Some(a)),
-            Reply::Appended(3),
-        ),
-        (Event::Append(1, 6, Act::Redo, 3, None), Reply::Appended(4)),
-        (Event::Forget(1, 7, 1), Reply::Forgot(4, Some(a))),
-        (Event::Forget(1, 8, 1), Reply::Forgotten(4, mark)),
-        (Event::Forget(1, 8, 4), Reply::IsHead(4)),
-        (Event::Forget(1, 8, 5), Reply::NoVersion(4)),
-        (Event::Forget(2, 8, 0), Reply::Unlawful),
-        (Event::Pin(0, Some(1)), Reply::Forgotten(4, mark)),
-        (Event::Append(1, 9, Act::Undo, 4, Some(a)), Reply::Unlawful),
-        (Event::Lower(1, a), Reply::Left),
-        (Event::Forget(1, 10, 3), Reply::Forgot(4, Some(a))),
-        (Event::Lower(1, a), Reply::Freed([None; 8])),
-        (Event::Lower(1, a), Reply::Unlawful),
-        (Event::Leaf(1, 2), Reply::Held(a)),
-    ]
-}
+const B: Name = Name {
+    level: 1,
+    bucket: 0,
+    slot: 0,
+};
 
-// A world of one leaf, and a bucket of one slot.
-#[test]
-fn the_smallest_core_answers_by_its_table(rt: HostRuntime) -> Result<(), Fail> {
-    let side = Side::new(4).ok_or("a side")?;
-    let plan = Plan::even(side, 1, 1).ok_or("a plan")?;
-    let models = Models {
-        list: Vec::new(rt.alloc()),
-    };
-    let corner = Cell { x: 0, y: 0, z: 0 };
-    let one = Boxed::new(corner, Cell { x: 1, y: 1, z: 1 }, side).ok_or("a box")?;
-    let mut core = Core::begin(rt.alloc(), &plan, &models, 2)?;
-    for (event, reply) in small_events(one) {
-        let answer = core.apply(rt.alloc(), &event)?;
-        assert!(rt; is_same(&answer, &reply));
-    }
-    Ok(())
-}
+/// The box of the first cell.
+const ONE: Boxed = Boxed {
+    at: Cell { x: 0, y: 0, z: 0 },
+    size: Cell { x: 1, y: 1, z: 1 },
+};
 
-// A world of eight leaves, and buckets of one slot.
-#[test]
-fn nodes_are_answered_by_the_table(rt: HostRuntime) -> Result<(), Fail> {
-    let side = Side::new(8).ok_or("a side")?;
-    let plan = Plan::even(side, 1, 1).ok_or("a plan")?;
-    let models = Models {
-        list: Vec::new(rt.alloc()),
-    };
-    let a = name(0);
-    let b = name(1);
-    let first = [Some(a), None, None, None, None, None, None, None];
-    let second = [None, Some(a), None, None, None, None, None, None];
-    let full = Full {
-        level: 1,
-        bucket: 0,
-    };
-    let mut core = Core::begin(rt.alloc(), &plan, &models, 2)?;
-    for (event, reply) in [
-        (Event::Leaf(0, 1), Reply::Held(a)),
-        (Event::Node(0, 1, [None; 8]), Reply::Unlawful),
-        (Event::Node(0, 2, first), Reply::Unlawful),
-        (Event::Node(1, 1, first), Reply::Unlawful),
-        (Event::Node(0, 1, first), Reply::Held(b)),
-        (Event::Node(0, 1, first), Reply::Unlawful),
-        (Event::Leaf(0, 1), Reply::Held(a)),
-        (Event::Node(0, 1, first), Reply::Held(b)),
-        (Event::Node(0, 1, second), Reply::Full(full)),
-        (Event::Lower(0, a), Reply::Left),
-        (Event::Raise(0, a), Reply::Held(a)),
-        (Event::Raise(1, a), Reply::Unlawful),
-        (Event::Raise(0, b), Reply::Held(b)),
-        (Event::Raise(2, b), Reply::Unlawful),
-        (Event::Lower(0, b), Reply::Left),
-        (Event::Lower(0, b), Reply::Left),
-        (Event::Lower(0, b), Reply::Freed(first)),
-        (Event::Lower(0, a), Reply::Left),
-        (Event::Lower(0, a), Reply::Freed([None; 8])),
-    ] {
-        let answer = core.apply(rt.alloc(), &event)?;
-        assert!(rt; is_same(&answer, &reply));
-    }
-    Ok(())
-}
+const FULL: Full = Full {
+    level: 0,
+    bucket: 0,
+};
+
+const MARK: Mark = Mark {
+    version: 1,
+    at: 4,
+    session: 1,
+    line: 7,
+};
+
+/// Events of a world of one leaf, and a bucket of one slot, with their replies: the leaf and its
+/// shares, then versions, then what is forgotten.
+const SMALL: [(Event, Reply); 36] = [
+    (Event::Leaf(0, 1), Reply::Held(A)),
+    (Event::Leaf(0, 2), Reply::Full(FULL)),
+    (Event::Leaf(0, 0), Reply::Unlawful),
+    (Event::Leaf(2, 1), Reply::Unlawful),
+    (Event::Leaf(1, 1), Reply::Held(A)),
+    (Event::Raise(0, A), Reply::Held(A)),
+    (Event::Lower(0, A), Reply::Left),
+    (Event::Lower(1, A), Reply::Left),
+    (Event::Lower(1, A), Reply::Unlawful),
+    (Event::Raise(1, A), Reply::Unlawful),
+    (Event::Append(0, 1, Act::Undo, 0, None), Reply::Unlawful),
+    (
+        Event::Append(0, 2, Act::Fill(ONE), 0, Some(A)),
+        Reply::Appended(1),
+    ),
+    (Event::Lower(0, A), Reply::Unlawful),
+    (
+        Event::Append(1, 3, Act::Fill(ONE), 0, None),
+        Reply::Stale(1),
+    ),
+    (
+        Event::Append(1, 3, Act::Fill(ONE), 2, None),
+        Reply::Unlawful,
+    ),
+    (
+        Event::Append(1, 3, Act::Fill(ONE), 1, None),
+        Reply::Unlawful,
+    ),
+    (
+        Event::Append(1, 3, Act::Erase(ONE), 1, None),
+        Reply::Appended(2),
+    ),
+    (Event::Pin(1, Some(1)), Reply::Pinned(1, 2, Some(A))),
+    (Event::Pin(1, None), Reply::Pinned(2, 2, None)),
+    (Event::Pin(1, Some(3)), Reply::NoVersion(2)),
+    (Event::Pin(2, None), Reply::Unlawful),
+    (Event::Append(1, 5, Act::Undo, 2, None), Reply::Unlawful),
+    (
+        Event::Append(1, 5, Act::Undo, 2, Some(A)),
+        Reply::Appended(3),
+    ),
+    (Event::Append(1, 6, Act::Redo, 3, None), Reply::Appended(4)),
+    (Event::Forget(1, 7, 1), Reply::Forgot(4, Some(A))),
+    (Event::Forget(1, 8, 1), Reply::Forgotten(4, MARK)),
+    (Event::Forget(1, 8, 4), Reply::IsHead(4)),
+    (Event::Forget(1, 8, 5), Reply::NoVersion(4)),
+    (Event::Forget(2, 8, 0), Reply::Unlawful),
+    (Event::Pin(0, Some(1)), Reply::Forgotten(4, MARK)),
+    (Event::Append(1, 9, Act::Undo, 4, Some(A)), Reply::Unlawful),
+    (Event::Lower(1, A), Reply::Left),
+    (Event::Forget(1, 10, 3), Reply::Forgot(4, Some(A))),
+    (Event::Lower(1, A), Reply::Freed([None; 8])),
+    (Event::Lower(1, A), Reply::Unlawful),
+    (Event::Leaf(1, 2), Reply::Held(A)),
+];
+
+const FIRST: [Option<Name>; 8] = [Some(A), None, None, None, None, None, None, None];
+
+const SECOND: [Option<Name>; 8] = [None, Some(A), None, None, None, None, None, None];
+
+const FULL_ABOVE: Full = Full {
+    level: 1,
+    bucket: 0,
+};
+
+/// Events of a world of eight leaves, and buckets of one slot, with their replies.
+const NODES: [(Event, Reply); 19] = [
+    (Event::Leaf(0, 1), Reply::Held(A)),
+    (Event::Node(0, 1, [None; 8]), Reply::Unlawful),
+    (Event::Node(0, 2, FIRST), Reply::Unlawful),
+    (Event::Node(1, 1, FIRST), Reply::Unlawful),
+    (Event::Node(0, 1, FIRST), Reply::Held(B)),
+    (Event::Node(0, 1, FIRST), Reply::Unlawful),
+    (Event::Leaf(0, 1), Reply::Held(A)),
+    (Event::Node(0, 1, FIRST), Reply::Held(B)),
+    (Event::Node(0, 1, SECOND), Reply::Full(FULL_ABOVE)),
+    (Event::Lower(0, A), Reply::Left),
+    (Event::Raise(0, A), Reply::Held(A)),
+    (Event::Raise(1, A), Reply::Unlawful),
+    (Event::Raise(0, B), Reply::Held(B)),
+    (Event::Raise(2, B), Reply::Unlawful),
+    (Event::Lower(0, B), Reply::Left),
+    (Event::Lower(0, B), Reply::Left),
+    (Event::Lower(0, B), Reply::Freed(FIRST)),
+    (Event::Lower(0, A), Reply::Left),
+    (Event::Lower(0, A), Reply::Freed([None; 8])),
+];
 
 // One model of two cells, of which the second has no colour.
 fn two_cells(alloc: Global) -> Result<Models, AllocError> {
@@ -186,60 +167,101 @@ fn two_cells(alloc: Global) -> Result<Models, AllocError> {
     Ok(Models { list })
 }
 
-// The events of a world of one leaf, where the cell (1, 2, 3) is bit 57, with their replies.
-fn stamp_events() -> [(Event, Reply); 11] {
-    let a = name(0);
-    let b = Name {
-        level: 0,
-        bucket: 0,
-        slot: 1,
-    };
-    let at = Cell { x: 1, y: 2, z: 3 };
-    let edge = Cell { x: 3, y: 2, z: 3 };
-    [
-        (Event::Leaf(0, 1 << 57), Reply::Held(a)),
-        (Event::Leaf(0, 3 << 57), Reply::Held(b)),
-        (
-            Event::Append(0, 1, Act::Stamp(0, at), 0, None),
-            Reply::Unlawful,
-        ),
-        (
-            Event::Append(0, 1, Act::Stamp(0, at), 0, Some(b)),
-            Reply::Unlawful,
-        ),
-        (
-            Event::Append(0, 1, Act::Stamp(1, at), 0, Some(a)),
-            Reply::Unlawful,
-        ),
-        (
-            Event::Append(0, 1, Act::Stamp(0, edge), 0, Some(a)),
-            Reply::Unlawful,
-        ),
-        (
-            Event::Append(0, 1, Act::Stamp(0, at), 0, Some(a)),
-            Reply::Appended(1),
-        ),
-        (Event::Pin(1, None), Reply::Pinned(1, 1, Some(a))),
-        (
-            Event::Append(1, 2, Act::Stamp(0, at), 1, Some(a)),
-            Reply::Appended(2),
-        ),
-        (Event::Pin(0, Some(0)), Reply::Pinned(0, 2, None)),
-        (Event::Pin(0, Some(2)), Reply::Pinned(2, 2, Some(a))),
-    ]
+const OTHER: Name = Name {
+    level: 0,
+    bucket: 0,
+    slot: 1,
+};
+
+const AT: Cell = Cell { x: 1, y: 2, z: 3 };
+
+const EDGE: Cell = Cell { x: 3, y: 2, z: 3 };
+
+/// Events of a world of one leaf, where the cell (1, 2, 3) is bit 57, with their replies.
+const STAMPS: [(Event, Reply); 11] = [
+    (Event::Leaf(0, 1 << 57), Reply::Held(A)),
+    (Event::Leaf(0, 3 << 57), Reply::Held(OTHER)),
+    (
+        Event::Append(0, 1, Act::Stamp(0, AT), 0, None),
+        Reply::Unlawful,
+    ),
+    (
+        Event::Append(0, 1, Act::Stamp(0, AT), 0, Some(OTHER)),
+        Reply::Unlawful,
+    ),
+    (
+        Event::Append(0, 1, Act::Stamp(1, AT), 0, Some(A)),
+        Reply::Unlawful,
+    ),
+    (
+        Event::Append(0, 1, Act::Stamp(0, EDGE), 0, Some(A)),
+        Reply::Unlawful,
+    ),
+    (
+        Event::Append(0, 1, Act::Stamp(0, AT), 0, Some(A)),
+        Reply::Appended(1),
+    ),
+    (Event::Pin(1, None), Reply::Pinned(1, 1, Some(A))),
+    (
+        Event::Append(1, 2, Act::Stamp(0, AT), 1, Some(A)),
+        Reply::Appended(2),
+    ),
+    (Event::Pin(0, Some(0)), Reply::Pinned(0, 2, None)),
+    (Event::Pin(0, Some(2)), Reply::Pinned(2, 2, Some(A))),
+];
+
+// The number of the first event that has another reply, where there is one.
+fn first_wrong(
+    core: &mut Core,
+    alloc: Global,
+    rows: &[(Event, Reply)],
+) -> Result<Option<usize>, Memory> {
+    for (index, (event, reply)) in rows.iter().enumerate() {
+        let answer = core.apply(alloc, event)?;
+        if !is_same(&answer, reply) {
+            return Ok(Some(index));
+        }
+    }
+    Ok(None)
+}
+
+// The same of two sessions of a new core, which has a bucket of so many slots on each level.
+fn first_wrong_of(
+    alloc: Global,
+    side: u32,
+    cap: u16,
+    models: &Models,
+    rows: &[(Event, Reply)],
+) -> Result<Option<usize>, Fail> {
+    let plan = plan_of(side, 1, cap)?;
+    let mut core = Core::begin(alloc, &plan, models, 2)?;
+    Ok(first_wrong(&mut core, alloc, rows)?)
+}
+
+// A world of one leaf, and a bucket of one slot.
+#[test]
+fn the_smallest_core_answers_by_its_table(rt: HostRuntime) -> Result<(), Fail> {
+    let rows = SMALL;
+    let models = no_models(rt.alloc());
+    assert_eq!(rt; first_wrong_of(rt.alloc(), 4, 1, &models, &rows)?, None);
+    Ok(())
+}
+
+// A world of eight leaves, and buckets of one slot.
+#[test]
+fn nodes_are_answered_by_the_table(rt: HostRuntime) -> Result<(), Fail> {
+    let rows = NODES;
+    let models = no_models(rt.alloc());
+    assert_eq!(rt; first_wrong_of(rt.alloc(), 8, 1, &models, &rows)?, None);
+    Ok(())
 }
 
 // A world of one leaf, where the cell (1, 2, 3) is bit 57.
 #[test]
 fn a_stamp_makes_the_cells_of_its_model(rt: HostRuntime) -> Result<(), Fail> {
-    let side = Side::new(4).ok_or("a side")?;
-    let plan = Plan::even(side, 1, 2).ok_or("a plan")?;
+    let rows = STAMPS;
     let models = two_cells(rt.alloc())?;
-    let mut core = Core::begin(rt.alloc(), &plan, &models, 2)?;
-    for (event, reply) in stamp_events() {
-        let answer = core.apply(rt.alloc(), &event)?;
-        assert!(rt; is_same(&answer, &reply));
-    }
+    assert_eq!(rt; first_wrong_of(rt.alloc(), 4, 2, &models, &rows)?, None);
     Ok(())
 }
 
@@ -255,29 +277,31 @@ fn appended(core: &mut Core, alloc: Global, act: Act) -> Result<u32, Memory> {
     Ok(appended)
 }
 
+/// Events of a world of one leaf with 65,535 records, and their replies.
+const LAST: [(Event, Reply); 5] = [
+    (
+        Event::Append(0, 2, Act::Erase(ONE), 65_535, None),
+        Reply::LogFull,
+    ),
+    (
+        Event::Append(0, 2, Act::Erase(ONE), 7, None),
+        Reply::LogFull,
+    ),
+    (
+        Event::Append(0, 2, Act::Erase(ONE), 65_536, None),
+        Reply::Unlawful,
+    ),
+    (Event::Pin(0, None), Reply::Pinned(65_535, 65_535, None)),
+    (Event::Forget(0, 3, 65_535), Reply::IsHead(65_535)),
+];
+
 // A world of one leaf, in which nothing is erased as often as there is room.
 #[test]
 fn a_log_has_room_for_so_many_records(rt: HostRuntime) -> Result<(), Fail> {
-    let side = Side::new(4).ok_or("a side")?;
-    let plan = Plan::even(side, 1, 1).ok_or("a plan")?;
-    let models = Models {
-        list: Vec::new(rt.alloc()),
-    };
-    let corner = Cell { x: 0, y: 0, z: 0 };
-    let one = Boxed::new(corner, Cell { x: 1, y: 1, z: 1 }, side).ok_or("a box")?;
-    let act = Act::Erase(one);
-    let mut core = Core::begin(rt.alloc(), &plan, &models, 1)?;
-    let number = appended(&mut core, rt.alloc(), act)?;
-    assert_eq!(rt; number, 65_535);
-    for (event, reply) in [
-        (Event::Append(0, 2, act, 65_535, None), Reply::LogFull),
-        (Event::Append(0, 2, act, 7, None), Reply::LogFull),
-        (Event::Append(0, 2, act, 65_536, None), Reply::Unlawful),
-        (Event::Pin(0, None), Reply::Pinned(65_535, 65_535, None)),
-        (Event::Forget(0, 3, 65_535), Reply::IsHead(65_535)),
-    ] {
-        let answer = core.apply(rt.alloc(), &event)?;
-        assert!(rt; is_same(&answer, &reply));
-    }
+    let rows = LAST;
+    let models = no_models(rt.alloc());
+    let mut core = Core::begin(rt.alloc(), &plan_of(4, 1, 1)?, &models, 1)?;
+    assert_eq!(rt; appended(&mut core, rt.alloc(), Act::Erase(ONE))?, 65_535);
+    assert_eq!(rt; first_wrong(&mut core, rt.alloc(), &rows)?, None);
     Ok(())
 }

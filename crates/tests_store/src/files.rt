@@ -1,5 +1,5 @@
 //! The file of a box of a world that is one leaf.
-ghost use Rattle.std.specs.Prelude.{◌≡◌, ◌≢◌, ◌≤◌, ◌<◌, ◌-◌, ◌^◌};
+ghost use Rattle.std.specs.Prelude.{◌≡◌, ◌≢◌, ◌≤◌, ◌<◌, ◌-◌, ◌^◌, IfOk};
 ghost use Rattle.node_words.specs.Held.{HoldsName};
 ghost use Rattle.vw_cell.specs.Places.{FitsAt};
 ghost use Rattle.node_shapes.specs.Weights.{number_of_trees};
@@ -60,35 +60,54 @@ fn file_under<N: NodeStore>(
     box_file(alloc, store, Some(share), side, b)
 }
 
-// The same in a store of its own.
-fn file_of<L: Ledger>(
+// The same in this store, of which nothing is held.
+fn file_in<L: Ledger>(
     alloc: Global,
+    store: &mut OneStore,
     bits: u64,
-    at: Cell,
-    size: Cell,
+    side: Side,
+    b: Boxed,
     blank: Blank,
 ) -> Result<Vec<u8>, Fail>
     requires bits { bits ≢ 0 }
-    requires small { (size.x ≤ 256) × (size.y ≤ 256) × (size.z ≤ 256) }
+    requires side { side ≤ 2 }
+    requires inside { FitsAt b.at b.size (2 ^ side) }
+    requires small { (b.size.x ≤ 256) × (b.size.y ≤ 256) × (b.size.z ≤ 256) }
     requires name { blank.name ≡ L.name }
     requires parts { blank.parts ≡ L.parts }
     requires some { 0 < L.parts }
+{
+    if store.held() > 0 {
+        return Err("a store of which nothing is held".into());
+    }
+    let mut steps: Steps<L> = Steps::start(blank);
+    match leaf_file(alloc, store, bits, side, b, &mut steps) {
+        Ok(Ok(file)) => Ok(file),
+        Ok(Err(_)) => Err("out of memory".into()),
+        Err(_) => Err("a full bucket".into()),
+    }
+}
+
+// The side of a world that is one leaf.
+fn leaf_side() -> Result<Side, Fail>
+    ensures { IfOk result (λ side. side ≤ 2) }
 {
     let side = Side::new(4).ok_or("a side")?;
     if side.root_level() > 0 {
         return Err("a leaf".into());
     }
+    Ok(side)
+}
+
+// The same in a store of its own.
+fn file_of(alloc: Global, bits: u64, at: Cell, size: Cell) -> Result<Vec<u8>, Fail>
+    requires bits { bits ≢ 0 }
+    requires small { (size.x ≤ 256) × (size.y ≤ 256) × (size.z ≤ 256) }
+{
+    let side = leaf_side()?;
     let b = Boxed::new(at, size, side).ok_or("a box")?;
     let mut store = OneStore::begin(alloc, &Plan::usual(side))?;
-    if store.held() != 0 {
-        return Err("a store of which nothing is held".into());
-    }
-    let mut steps: Steps<L> = Steps::start(blank);
-    match leaf_file(alloc, &mut store, bits, side, b, &mut steps) {
-        Ok(Ok(file)) => Ok(file),
-        Ok(Err(_)) => Err("out of memory".into()),
-        Err(_) => Err("a full bucket".into()),
-    }
+    file_in::<Brand>(alloc, &mut store, bits, side, b, Blank::new(1))
 }
 
 // Whether this is the file.
@@ -96,7 +115,7 @@ fn has_file(alloc: Global, bits: u64, at: Cell, size: Cell, want: &[u8]) -> Resu
     requires bits { bits ≢ 0 }
     requires small { (size.x ≤ 256) × (size.y ≤ 256) × (size.z ≤ 256) }
 {
-    let file = file_of::<Brand>(alloc, bits, at, size, Blank::new(1))?;
+    let file = file_of(alloc, bits, at, size)?;
     Ok(file.as_slice() == want)
 }
 
