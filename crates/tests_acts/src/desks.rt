@@ -57,13 +57,12 @@ fn run(alloc: Global, first: &[u8], second: &[u8]) -> Result<Vec<Transcript>, Fa
     let models = Models {
         list: Vec::new(alloc),
     };
-    let first = read_script(alloc, first, side, &models, false).map_err(|_| "a script")?;
-    let second = read_script(alloc, second, side, &models, false).map_err(|_| "a script")?;
+    let first = read_script(alloc, first, side, &models, false)?;
+    let second = read_script(alloc, second, side, &models, false)?;
     let mut desk = HeadDesk {
         plan: Plan::usual(side),
     };
-    let transcripts = run_scripts(alloc, &mut desk, &[first, second]).map_err(|_| "out of memory")?;
-    Ok(transcripts)
+    Ok(run_scripts(alloc, &mut desk, &[first, second])?)
 }
 
 #[test]

@@ -54,7 +54,7 @@ fn root(bucket: u16, slot: u8) -> Option<Name> {
 fn kept_versions_are_told_by_their_first_likes(rt: HostRuntime) -> Result<(), Fail> {
     let history = forgetful(rt.alloc())?;
     let roots = [None, root(1, 0), None, root(1, 0), root(0, 1)];
-    let text = report_text(rt.alloc(), &history, &roots, &[2, 3]).map_err(|_| "out of memory")?;
+    let text = report_text(rt.alloc(), &history, &roots, &[2, 3])?;
     let lines = b"voxdag report 1\nside 8\nrecords 4\nmarks 1\nversion 1 root 1\nversion 2 empty\n\
 version 3 root 1\nversion 4 root 4\nlevel 0 nodes 2\nlevel 1 nodes 3\n";
     assert_eq!(rt; text.as_slice(), lines.as_slice());

@@ -20,10 +20,9 @@ fn run(alloc: Global, plan: &Plan, text: &[u8]) -> Result<Gave, Fail> {
     let models = Models {
         list: Vec::new(alloc),
     };
-    let script = read_script(alloc, text, plan.side(), &models, false).map_err(|_| "a script")?;
-    let run = run_scripts(alloc, plan, models, &[script]).map_err(|_| "out of memory")?;
-    let ScriptsRun { run, transcripts } = run;
-    let ran = run.close(alloc).map_err(|_| "out of memory")?;
+    let script = read_script(alloc, text, plan.side(), &models, false)?;
+    let ScriptsRun { run, transcripts } = run_scripts(alloc, plan, models, &[script])?;
+    let ran = run.close(alloc)?;
     Ok(Gave { transcripts, ran })
 }
 

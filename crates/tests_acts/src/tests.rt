@@ -4,7 +4,7 @@ ghost use Rattle.history_model.specs.Logs.{suits_tints};
 ghost use Rattle.history_model.specs.Worlds.{is_edit};
 
 use history_model::Act;
-use node_words::{NodeStore, Plan, Steps};
+use node_words::{NodeStore, Plan, Share, Steps};
 use one_store::OneStore;
 use std::alloc::Global;
 use std::marker::Brand;
@@ -31,34 +31,49 @@ fn is_plain_edit(act: &Act) -> bool
     }
 }
 
-// How many leaves the world of side 8 has once the act was done to the empty one.
-fn nodes_after<L: Ledger>(
+// How many leaves the store has, of which nothing was held, once the act was done to the empty
+// world.
+fn leaves_in<L: Ledger>(
     alloc: Global,
+    store: &mut OneStore,
+    side: Side,
     models: &Models,
     act: Act,
     blank: Blank,
 ) -> Result<u32, Fail>
+    requires side { side ≡ store.old.words.plan.side }
     requires models { AreModels models.now }
     requires name { blank.name ≡ L.name }
     requires parts { blank.parts ≡ L.parts }
     requires some { 0 < L.parts }
 {
-    let side = Side::new(8).ok_or("a side")?;
-    let plan = Plan::usual(side);
-    let drawn = draw_models(alloc, models, false).map_err(|_| "out of memory")?;
-    let mut store = OneStore::begin(alloc, &plan)?;
-    let mut steps: Steps<L> = Steps::start(blank);
     if store.held() > 0 || !is_plain_edit(&act) || !act.fits(side, models) {
         return Err(Fail::from("an edit that fits"));
     }
-    match rebuild_act(&mut store, None, side, &drawn, act, &mut steps) {
-        Ok(Some(share)) => {
-            let _name = share.spend();
+    let drawn = draw_models(alloc, models, false)?;
+    let mut steps: Steps<L> = Steps::start(blank);
+    match rebuild_act(store, None, side, &drawn, act, &mut steps) {
+        Ok(root) => {
+            let_go(root);
+            Ok(store.live(0))
         }
-        Ok(None) => {}
-        Err(_) => return Err(Fail::from("room")),
+        Err(_) => Err(Fail::from("room")),
     }
-    Ok(store.live(0))
+}
+
+fn let_go(root: Option<Share>) {
+    if let Some(share) = root {
+        let _name = share.spend();
+    }
+}
+
+// How many leaves the world of side 8 has once the act was done to the empty one.
+fn leaves_after(alloc: Global, models: &Models, act: Act) -> Result<u32, Fail>
+    requires { AreModels models.now }
+{
+    let side = Side::new(8).ok_or("a side")?;
+    let mut store = OneStore::begin(alloc, &Plan::usual(side))?;
+    leaves_in::<Brand>(alloc, &mut store, side, models, act, Blank::new(1))
 }
 
 // Two models: one cell, and a row of two.
@@ -105,33 +120,31 @@ fn voxel(x: u8) -> Voxel
     }
 }
 
-fn cell(x: u16, y: u16, z: u16) -> Cell {
-    Cell { x, y, z }
-}
+const ROW: Boxed = Boxed {
+    at: Cell { x: 3, y: 0, z: 0 },
+    size: Cell { x: 2, y: 1, z: 1 },
+};
 
-fn boxed(at: Cell, size: Cell) -> Boxed {
-    Boxed { at, size }
-}
+const BALL: Ball = Ball {
+    centre: Cell { x: 1, y: 1, z: 1 },
+    radius: 1,
+};
+
+/// A row over two leaves, a ball in one, nothing to clear or to copy, and the row as a model.
+const ACTS: &[(Act, u32)] = &[
+    (Act::Fill(ROW), 2),
+    (Act::Erase(ROW), 0),
+    (Act::Ball(BALL), 1),
+    (Act::Carve(BALL), 0),
+    (Act::Copy(ROW, Cell { x: 0, y: 0, z: 0 }), 0),
+    (Act::Stamp(1, Cell { x: 3, y: 0, z: 0 }), 2),
+];
 
 #[test]
 fn each_act_makes_its_nodes(rt: HostRuntime) -> Result<(), Fail> {
     let models = two_models(rt.alloc())?;
-    let row = boxed(cell(3, 0, 0), cell(2, 1, 1));
-    let ball = Ball {
-        centre: cell(1, 1, 1),
-        radius: 1,
-    };
-    // A row over two leaves, a ball in one, nothing to clear or to copy, and the row as a model.
-    for (act, want) in [
-        (Act::Fill(row), 2),
-        (Act::Erase(row), 0),
-        (Act::Ball(ball), 1),
-        (Act::Carve(ball), 0),
-        (Act::Copy(row, cell(0, 0, 0)), 0),
-        (Act::Stamp(1, cell(3, 0, 0)), 2),
-    ] {
-        let found = nodes_after::<Brand>(rt.alloc(), &models, act, Blank::new(1))?;
-        assert_eq!(rt; found, want);
+    for &(act, want) in ACTS {
+        assert_eq!(rt; leaves_after(rt.alloc(), &models, act)?, want);
     }
     Ok(())
 }

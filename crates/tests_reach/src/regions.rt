@@ -3,6 +3,7 @@ use crate::plain::plain_region;
 use std::alloc::Global;
 use std::test::Fail;
 use test_worlds::{Drawing, Draws};
+use vox_read::Voxel;
 use vw_cell::Cell;
 
 /// Where a model is stamped: past the corner of the world, and not at a block's corner.
@@ -16,10 +17,15 @@ fn at_place(c: Cell) -> Cell {
     }
 }
 
-// The number of cells of the region of a place of a model, and the length of its file.
-fn told(alloc: Global, model: &Drawing, from: Cell) -> Option<(u32, usize)> {
+// The region of a place of a model.
+fn region_of(alloc: Global, model: &Drawing, from: Cell) -> Option<Region> {
     let stencil = model.stencil(alloc)?;
-    let region = region_in(alloc, &stencil, AT, at_place(from))?;
+    region_in(alloc, &stencil, AT, at_place(from))
+}
+
+// The number of its cells, and the length of its file.
+fn told(alloc: Global, model: &Drawing, from: Cell) -> Option<(u32, usize)> {
+    let region = region_of(alloc, model, from)?;
     Some((region.cells, region.file.len()))
 }
 
@@ -72,38 +78,52 @@ fn a_hollow_is_a_region_of_its_own(rt: HostRuntime) -> Result<(), Fail> {
 
 // A model of up to 16 cells a side, of whose cells so many in eight are set, by chance.
 fn drawn(alloc: Global, draws: &mut Draws, filled: u16) -> Result<Drawing, Fail> {
-    let width = draws.below(16).min(15);
-    let depth = draws.below(16).min(15);
-    let height = draws.below(16).min(15);
+    let width = drawn_size(draws);
+    let depth = drawn_size(draws);
+    let height = drawn_size(draws);
+    let size = [width, depth, height];
+    let voxels = drawn_voxels(alloc, draws, filled, size)?;
+    Ok(Drawing { size, voxels })
+}
+
+fn drawn_size(draws: &mut Draws) -> u8 {
+    draws.below(16).min(15).saturating_add(1) as u8
+}
+
+fn drawn_voxels(
+    alloc: Global,
+    draws: &mut Draws,
+    filled: u16,
+    size: [u8; 3],
+) -> Result<Vec<[u8; 4]>, Fail> {
+    let [width, depth, height] = size;
     let mut voxels = Vec::new(alloc);
-    for z in 0..height.saturating_add(1) {
-        for y in 0..depth.saturating_add(1) {
-            for x in 0..width.saturating_add(1) {
+    for z in 0..height {
+        for y in 0..depth {
+            for x in 0..width {
                 if draws.below(8) < filled {
-                    voxels.push([x as u8, y as u8, z as u8, 1])?;
+                    voxels.push([x, y, z, 1])?;
                 }
             }
         }
     }
-    Ok(Drawing {
-        size: [
-            width.saturating_add(1) as u8,
-            depth.saturating_add(1) as u8,
-            height.saturating_add(1) as u8,
-        ],
-        voxels,
-    })
+    Ok(voxels)
 }
 
 // Whether the region of a place is that of plain steps, and its file has as many cells.
 fn agrees(alloc: Global, model: &Drawing, from: Cell) -> Result<bool, Fail> {
-    let stencil = model.stencil(alloc).ok_or("a stencil")?;
-    let region = region_in(alloc, &stencil, AT, at_place(from)).ok_or("a region")?;
     let plain = plain_region(alloc, model, from)?;
-    Ok(is_same(&region, plain.as_slice()))
+    Ok(has_region(alloc, model, from, plain.as_slice()))
 }
 
-fn is_same(region: &Region, plain: &[vox_read::Voxel]) -> bool {
+fn has_region(alloc: Global, model: &Drawing, from: Cell, plain: &[Voxel]) -> bool {
+    match region_of(alloc, model, from) {
+        Some(region) => is_same(&region, plain),
+        None => false,
+    }
+}
+
+fn is_same(region: &Region, plain: &[Voxel]) -> bool {
     region.voxels.as_slice() == plain
         && region.cells as usize == plain.len()
         && region.file.len().saturating_sub(60) / 4 == plain.len()

@@ -1,7 +1,7 @@
 use crate::nodes::{Chunks, Frame};
 use std::alloc::Global;
 use std::test::Fail;
-use vox_read::read_models;
+use vox_read::{Voxel, read_models};
 use vox_scene::{Scene, SceneFault, read_scene, stamp_text};
 use vw_cell::Cell;
 
@@ -20,7 +20,7 @@ fn scene_in(alloc: Global, bytes: &[u8]) -> Option<Result<Scene, SceneFault>> {
 fn scene_of(alloc: Global, chunks: &Chunks) -> Result<Scene, Fail> {
     let file = chunks.file()?;
     let found = scene_in(alloc, file.as_slice()).ok_or("models")?;
-    Ok(found.map_err(|_| "a scene")?)
+    Ok(found?)
 }
 
 // The number and the place of the fault of these chunks.
@@ -59,54 +59,54 @@ fn two_bars(alloc: Global) -> Result<Chunks, Fail> {
     Ok(chunks)
 }
 
-fn text_of(alloc: Global, scene: &Scene) -> Result<Vec<u8>, Fail> {
-    Ok(stamp_text(alloc, scene.places.as_slice()).map_err(|_| "a script")?)
+// Whether the scene has this side, and this script stamps it.
+fn is_told(alloc: Global, scene: &Scene, side: u32, script: &[u8]) -> Result<bool, Fail> {
+    let text = stamp_text(alloc, scene.places.as_slice())?;
+    Ok(scene.side.cells() == side && text.as_slice() == script)
 }
 
-// The places and colours of the voxels of a scene's model.
-fn voxels(alloc: Global, scene: &Scene, model: usize) -> Result<Vec<[u8; 4]>, Fail> {
-    let mut voxels = Vec::new(alloc);
-    for v in &scene.models.list.get(model).ok_or("a model")?.voxels {
-        voxels.push([v.x, v.y, v.z, v.colour])?;
+// Whether the model of this number has this size and these voxels, each a place and a colour.
+fn has_model(scene: &Scene, number: usize, size: Cell, voxels: &[[u8; 4]]) -> bool {
+    match scene.models.list.get(number) {
+        Some(model) => model.size == size && are_voxels(model.voxels.as_slice(), voxels),
+        None => false,
     }
-    Ok(voxels)
 }
 
-fn size(scene: &Scene, model: usize) -> Option<Cell> {
-    match scene.models.list.get(model) {
-        Some(model) => Some(model.size),
-        None => None,
+fn are_voxels(voxels: &[Voxel], want: &[[u8; 4]]) -> bool {
+    if voxels.len() != want.len() {
+        return false;
     }
+    for (voxel, &[x, y, z, colour]) in voxels.iter().zip(want) {
+        if *voxel != (Voxel { x, y, z, colour }) {
+            return false;
+        }
+    }
+    true
 }
 
 #[test]
 fn a_turned_bar_stands_beside_itself(rt: HostRuntime) -> Result<(), Fail> {
     let alloc = rt.alloc();
     let scene = scene_of(alloc, &two_bars(alloc)?)?;
-    assert_eq!(rt; scene.side.cells(), 16);
-    let script = text_of(alloc, &scene)?;
-    assert_eq!(rt;
-        script.as_slice(),
-        b"stamp 0 0 0 1\nstamp 1 11 0 0\n".as_slice()
-    );
-    assert_eq!(rt; size(&scene, 1), Some(Cell { x: 1, y: 1, z: 3 }));
-    let turned = voxels(alloc, &scene, 1)?;
-    assert_eq!(rt; turned.as_slice(), [[0, 0, 1, 8], [0, 0, 2, 7]].as_slice());
+    assert!(rt; is_told(alloc, &scene, 16, b"stamp 0 0 0 1\nstamp 1 11 0 0\n")?);
+    let turned = [[0, 0, 1, 8], [0, 0, 2, 7]];
+    assert!(rt; has_model(&scene, 1, Cell { x: 1, y: 1, z: 3 }, &turned));
     Ok(())
+}
+
+// The bar, and a model of another size, of one cell.
+fn bar_and_cell(alloc: Global) -> Result<Chunks, Fail> {
+    let mut chunks = bar(alloc)?;
+    chunks.model([5, 1, 2], &[[4, 0, 1, 9]])?;
+    Ok(chunks)
 }
 
 #[test]
 fn models_without_a_node_stand_at_the_corner(rt: HostRuntime) -> Result<(), Fail> {
     let alloc = rt.alloc();
-    let mut chunks = bar(alloc)?;
-    chunks.model([5, 1, 2], &[[4, 0, 1, 9]])?;
-    let scene = scene_of(alloc, &chunks)?;
-    assert_eq!(rt; scene.side.cells(), 8);
-    let script = text_of(alloc, &scene)?;
-    assert_eq!(rt;
-        script.as_slice(),
-        b"stamp 0 0 0 0\nstamp 1 0 0 0\n".as_slice()
-    );
+    let scene = scene_of(alloc, &bar_and_cell(alloc)?)?;
+    assert!(rt; is_told(alloc, &scene, 8, b"stamp 0 0 0 0\nstamp 1 0 0 0\n")?);
     Ok(())
 }
 
@@ -144,14 +144,17 @@ const FRAMES: &[(&[Frame<'_>], [u16; 3], &[[u8; 4]])] = &[
     ),
 ];
 
+// Whether these frames make a model of this size and these voxels of the bar.
+fn turns(alloc: Global, frames: &[Frame<'_>], size: Cell, want: &[[u8; 4]]) -> Result<bool, Fail> {
+    let scene = scene_of(alloc, &bar_in(alloc, frames)?)?;
+    Ok(has_model(&scene, 0, size, want))
+}
+
 #[test]
 fn frames_turn_a_model(rt: HostRuntime) -> Result<(), Fail> {
-    let alloc = rt.alloc();
     for &(frames, [x, y, z], want) in FRAMES {
-        let scene = scene_of(alloc, &bar_in(alloc, frames)?)?;
-        assert_eq!(rt; size(&scene, 0), Some(Cell { x, y, z }), "{frames:?}");
-        let turned = voxels(alloc, &scene, 0)?;
-        assert_eq!(rt; turned.as_slice(), want, "{frames:?}");
+        let same = turns(rt.alloc(), frames, Cell { x, y, z }, want)?;
+        assert!(rt; same, "{frames:?}");
     }
     Ok(())
 }
@@ -178,28 +181,34 @@ const BAD: &[(&[Frame<'_>], u8)] = &[
     (&[&[("_t", "-999999 0 0")]], 0),
 ];
 
+// The fault of the bar in these frames.
+fn fault_in(alloc: Global, frames: &[Frame<'_>]) -> Result<(u8, u32), Fail> {
+    fault_of(alloc, &bar_in(alloc, frames)?)
+}
+
 #[test]
 fn a_frame_that_is_none_is_refused(rt: HostRuntime) -> Result<(), Fail> {
-    let alloc = rt.alloc();
+    let place = bar(rt.alloc())?.next();
     for &(frames, kind) in BAD {
-        let place = bar(alloc)?.next();
         let want = if kind == 0 { (0, 0) } else { (kind, place) };
-        assert_eq!(rt;
-            fault_of(alloc, &bar_in(alloc, frames)?)?,
-            want,
-            "{frames:?}"
-        );
+        assert_eq!(rt; fault_in(rt.alloc(), frames)?, want, "{frames:?}");
     }
     Ok(())
 }
 
 #[test]
-fn nodes_that_are_short_or_twice_there(rt: HostRuntime) -> Result<(), Fail> {
+fn a_node_that_is_twice_there(rt: HostRuntime) -> Result<(), Fail> {
     let alloc = rt.alloc();
     let mut chunks = bar_in(alloc, UNMOVED)?;
     let twice = chunks.next();
     chunks.shape(1, &[0])?;
     assert_eq!(rt; fault_of(alloc, &chunks)?, (2, twice));
+    Ok(())
+}
+
+#[test]
+fn a_node_that_is_short(rt: HostRuntime) -> Result<(), Fail> {
+    let alloc = rt.alloc();
     let mut chunks = bar(alloc)?;
     let short = chunks.next();
     // an id, a DICT of one pair, and nothing behind it
@@ -219,50 +228,80 @@ fn path(alloc: Global, groups: u32) -> Result<Chunks, Fail> {
     Ok(chunks)
 }
 
+// Numbers of groups, and the fault.
+const PATHS: &[(u32, (u8, u32))] = &[(63, (0, 0)), (64, (6, 64))];
+
 #[test]
 fn paths_have_at_most_64_nodes(rt: HostRuntime) -> Result<(), Fail> {
     let alloc = rt.alloc();
-    assert_eq!(rt; fault_of(alloc, &path(alloc, 63)?)?, (0, 0));
-    assert_eq!(rt; fault_of(alloc, &path(alloc, 64)?)?, (6, 64));
+    for &(groups, fault) in PATHS {
+        assert_eq!(rt; fault_of(alloc, &path(alloc, groups)?)?, fault, "{groups}");
+    }
+    Ok(())
+}
+
+#[test]
+fn a_group_in_itself_is_refused(rt: HostRuntime) -> Result<(), Fail> {
+    let alloc = rt.alloc();
     let mut chunks = bar(alloc)?;
     chunks.group(0, &[0])?;
     assert_eq!(rt; fault_of(alloc, &chunks)?, (6, 0));
     Ok(())
 }
 
+// Node 0 is a group of these nodes, and node 1 shows these models.
+fn grouped(alloc: Global, children: &[u32], models: &[u32]) -> Result<Chunks, Fail> {
+    let mut chunks = bar(alloc)?;
+    chunks.group(0, children)?;
+    chunks.shape(1, models)?;
+    Ok(chunks)
+}
+
+// The models of node 1 beside a node that isn't there, and the fault.
+const MISSING: &[(u32, (u8, u32))] = &[(0, (5, 9)), (1, (7, 1))];
+
 #[test]
 fn what_is_not_there_is_refused(rt: HostRuntime) -> Result<(), Fail> {
     let alloc = rt.alloc();
+    for &(model, fault) in MISSING {
+        let chunks = grouped(alloc, &[1, 9], &[model])?;
+        assert_eq!(rt; fault_of(alloc, &chunks)?, fault, "{model}");
+    }
+    Ok(())
+}
+
+// A shape that shows these models alone.
+fn shape_alone(alloc: Global, models: &[u32]) -> Result<Chunks, Fail> {
     let mut chunks = bar(alloc)?;
-    chunks.group(0, &[1, 9])?;
-    chunks.shape(1, &[0])?;
-    assert_eq!(rt; fault_of(alloc, &chunks)?, (5, 9));
-    let mut chunks = bar(alloc)?;
-    chunks.group(0, &[1, 9])?;
-    chunks.shape(1, &[1])?;
-    assert_eq!(rt; fault_of(alloc, &chunks)?, (7, 1));
-    // a shape without a model places none
-    let mut chunks = bar(alloc)?;
-    chunks.shape(0, &[])?;
-    let scene = scene_of(alloc, &chunks)?;
+    chunks.shape(0, models)?;
+    Ok(chunks)
+}
+
+#[test]
+fn a_shape_without_a_model_places_none(rt: HostRuntime) -> Result<(), Fail> {
+    let alloc = rt.alloc();
+    let scene = scene_of(alloc, &shape_alone(alloc, &[])?)?;
     assert_eq!(rt; (scene.side.cells(), scene.places.len()), (4, 0));
     Ok(())
 }
 
 // The bar, placed so often.
 fn crowd(alloc: Global, number: usize) -> Result<Chunks, Fail> {
-    let mut chunks = bar(alloc)?;
     let children: Vec<u32> = vec![in alloc; 1; number]?;
-    chunks.group(0, children.as_slice())?;
-    chunks.shape(1, &[0])?;
-    Ok(chunks)
+    grouped(alloc, children.as_slice(), &[0])
 }
 
 #[test]
-fn at_most_1024_placements(rt: HostRuntime) -> Result<(), Fail> {
+fn there_are_1024_placements(rt: HostRuntime) -> Result<(), Fail> {
     let alloc = rt.alloc();
     let scene = scene_of(alloc, &crowd(alloc, 1024)?)?;
     assert_eq!(rt; (scene.places.len(), scene.models.list.len()), (1024, 1024));
+    Ok(())
+}
+
+#[test]
+fn one_placement_more_is_refused(rt: HostRuntime) -> Result<(), Fail> {
+    let alloc = rt.alloc();
     assert_eq!(rt; fault_of(alloc, &crowd(alloc, 1025)?)?, (8, 1));
     Ok(())
 }
@@ -276,12 +315,22 @@ fn apart(alloc: Global, far: &str) -> Result<Chunks, Fail> {
     Ok(chunks)
 }
 
+// Steps of the second bar, and the fault.
+const FAR: &[(&str, (u8, u32))] = &[("4094 0 0", (9, 0)), ("0 -4096 0", (9, 0))];
+
 #[test]
 fn a_scene_ends_within_4096(rt: HostRuntime) -> Result<(), Fail> {
     let alloc = rt.alloc();
+    for &(far, fault) in FAR {
+        assert_eq!(rt; fault_of(alloc, &apart(alloc, far)?)?, fault, "{far}");
+    }
+    Ok(())
+}
+
+#[test]
+fn a_scene_has_4096_cells_a_side(rt: HostRuntime) -> Result<(), Fail> {
+    let alloc = rt.alloc();
     let scene = scene_of(alloc, &apart(alloc, "4093 0 0")?)?;
     assert_eq!(rt; scene.side.cells(), 4096);
-    assert_eq!(rt; fault_of(alloc, &apart(alloc, "4094 0 0")?)?, (9, 0));
-    assert_eq!(rt; fault_of(alloc, &apart(alloc, "0 -4096 0")?)?, (9, 0));
     Ok(())
 }
