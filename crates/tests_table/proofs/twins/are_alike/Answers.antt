@@ -1,4 +1,4 @@
-use Rattle.std.proofs.Common.{refl, arith}
+use Rattle.std.proofs.Common.{refl}
 use Rattle.tests_table.proofs.Giving.{same_itself}
 use Rattle.tests_table.proofs.twins.are_alike.Goals as goal
 

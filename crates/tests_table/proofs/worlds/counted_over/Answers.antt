@@ -1,4 +1,4 @@
-use Rattle.std.proofs.Common.{◌∙◌, ap, arith}
+use Rattle.std.proofs.Common.{◌∙◌, ap}
 use Rattle.node_table.specs.Seen.{PassSeen}
 use Rattle.tests_table.proofs.Giving.{few_held}
 use Rattle.tests_table.proofs.worlds.counted_over.Goals as goal
