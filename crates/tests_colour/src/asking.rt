@@ -9,7 +9,7 @@ use vox_read::Voxel;
 use vw_cell::{Boxed, Cell, Side};
 
 /// A question of a world of tints.
-#[derive(Clone, Copy, Debug, PartialEq, Eq)]
+#[derive(Clone, Copy)]
 pub enum Asked {
     Tint(Cell),
     Count(Boxed),

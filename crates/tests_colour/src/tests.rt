@@ -10,7 +10,7 @@ use std::alloc::Global;
 use std::test::Fail;
 use test_worlds::Draws;
 use vox_read::{Models, Voxel, read_models};
-use vw_cell::{Ball, Boxed, Cell};
+use vw_cell::{Ball, Boxed, Cell, Memory};
 
 const ORIGIN: Cell = Cell { x: 0, y: 0, z: 0 };
 
@@ -192,12 +192,20 @@ fn answer_after(
     asked: &Asked,
 ) -> Result<Option<Told>, Fail> {
     let mut world = TintWorld::empty(alloc, side, 64, 64)?;
-    for act in acts {
-        if world.edit(act, None).is_err() {
-            return Ok(None);
-        }
+    if !are_done(&mut world, acts) {
+        return Ok(None);
     }
     Ok(world.ask(asked))
+}
+
+// Does the acts, up to the first one that is refused; whether there is none.
+fn are_done(world: &mut TintWorld, acts: &[TintAct]) -> bool {
+    for act in acts {
+        if world.edit(act, None).is_err() {
+            return false;
+        }
+    }
+    true
 }
 
 #[test]
@@ -219,15 +227,14 @@ fn tints_of_larger_worlds_are_told(rt: HostRuntime) -> Result<(), Fail> {
 #[test]
 fn two_versions_share_their_nodes(rt: HostRuntime) -> Result<(), Fail> {
     let mut world = TintWorld::empty(rt.alloc(), 8, 64, 64)?;
-    let first = world.edit(&TintAct::Fill(CORNER, 5), None);
+    assert!(rt; world.edit(&TintAct::Fill(CORNER, 5), None).is_ok());
     let second = world.edit(&TintAct::Fill(CORNER, 2), None);
-    assert!(rt; first.is_ok());
     assert_eq!(rt; second, Ok([1, 1, 3, 2]));
     assert_eq!(rt; world.held(), 0);
     Ok(())
 }
 
-/// Places of the model at 1 2 3, and their tints over a world of tint 3.
+/// The model at 1 2 3 in a world of tint 3, and the tints of its places then.
 const STAMPED: &[(Cell, u8)] = &[
     (Cell { x: 1, y: 2, z: 3 }, 5),
     (Cell { x: 2, y: 2, z: 3 }, 255),
@@ -236,45 +243,62 @@ const STAMPED: &[(Cell, u8)] = &[
     (Cell { x: 3, y: 2, z: 3 }, 3),
 ];
 
+const STAMP: TintAct = TintAct::Stamp(0, Cell { x: 1, y: 2, z: 3 });
+
+fn is_stamped(world: &mut TintWorld, stencil: &TintStencil) -> bool {
+    are_done(world, &[TintAct::Fill(WHOLE, 3)]) && done(world, &STAMP, stencil)
+}
+
+fn have_tints(world: &mut TintWorld, tints: &[(Cell, u8)]) -> bool {
+    for &(c, tint) in tints {
+        if world.ask(&Asked::Tint(c)) != Some(Told::Tint(tint)) {
+            return false;
+        }
+    }
+    true
+}
+
 #[test]
 fn stamps_give_the_tint_of_the_last_voxel(rt: HostRuntime) -> Result<(), Fail> {
     let stencil = small_stencil(rt.alloc())?;
     let mut world = TintWorld::empty(rt.alloc(), 8, 64, 64)?;
-    assert!(rt; world.edit(&TintAct::Fill(WHOLE, 3), None).is_ok());
-    let act = TintAct::Stamp(0, Cell { x: 1, y: 2, z: 3 });
-    assert!(rt; world.edit(&act, Some(&stencil)).is_ok());
-    for &(c, tint) in STAMPED {
-        assert_eq!(rt; world.ask(&Asked::Tint(c)), Some(Told::Tint(tint)));
-    }
+    assert!(rt; is_stamped(&mut world, &stencil));
+    assert!(rt; have_tints(&mut world, STAMPED));
     Ok(())
+}
+
+const FAR: Boxed = Boxed {
+    at: Cell { x: 1, y: 2, z: 0 },
+    size: ONE,
+};
+
+const TWO_CELLS: &[TintAct] = &[TintAct::Fill(CORNER, 6), TintAct::Fill(FAR, 200)];
+
+const TWO_VOXELS: &[Voxel] = &[
+    Voxel {
+        x: 0,
+        y: 0,
+        z: 0,
+        colour: 6,
+    },
+    Voxel {
+        x: 1,
+        y: 2,
+        z: 0,
+        colour: 200,
+    },
+];
+
+fn lists(alloc: Global, world: &mut TintWorld, b: Boxed, want: &[Voxel]) -> bool {
+    let mut voxels: Vec<Voxel> = Vec::new(alloc);
+    world.voxels(b, &mut voxels) && voxels.as_slice() == want
 }
 
 #[test]
 fn voxels_have_their_tints(rt: HostRuntime) -> Result<(), Fail> {
     let mut world = TintWorld::empty(rt.alloc(), 8, 64, 64)?;
-    assert!(rt; world.edit(&TintAct::Fill(CORNER, 6), None).is_ok());
-    let far = Boxed {
-        at: Cell { x: 1, y: 2, z: 0 },
-        size: ONE,
-    };
-    assert!(rt; world.edit(&TintAct::Fill(far, 200), None).is_ok());
-    let mut voxels: Vec<Voxel> = Vec::new(rt.alloc());
-    assert!(rt; world.voxels(WHOLE, &mut voxels));
-    let want = [
-        Voxel {
-            x: 0,
-            y: 0,
-            z: 0,
-            colour: 6,
-        },
-        Voxel {
-            x: 1,
-            y: 2,
-            z: 0,
-            colour: 200,
-        },
-    ];
-    assert_eq!(rt; voxels.as_slice(), want.as_slice());
+    assert!(rt; are_done(&mut world, TWO_CELLS));
+    assert!(rt; lists(rt.alloc(), &mut world, WHOLE, TWO_VOXELS));
     Ok(())
 }
 
@@ -294,42 +318,11 @@ fn differing(world: &mut TintWorld, plain: &TintGrid) -> u32 {
     wrong
 }
 
-// Draws so many acts, does them to a world of side 8 and to plain cells, and counts what differs
-// after each, and what was refused.
-fn play(alloc: Global, seed: u64, number: u32) -> Result<(u32, u32), Fail> {
-    let stencil = small_stencil(alloc)?;
-    let mut draws = Draws::new(seed);
-    let mut world = TintWorld::empty(alloc, 8, 256, 64)?;
-    let mut plain = TintGrid::empty(alloc, 8).map_err(|_| "out of memory")?;
-    let mut wrong: u32 = 0;
-    let mut refused: u32 = 0;
-    for _ in 0..number {
-        let act = draw_act(&mut draws, 8, SIZE);
-        if done(&mut world, &act, &stencil) {
-            plain = plain
-                .after(alloc, &act, &DRAWN)
-                .map_err(|_| "out of memory")?;
-        } else {
-            refused = refused.saturating_add(1);
-        }
-        wrong = wrong.saturating_add(differing(&mut world, &plain));
-    }
-    Ok((wrong, refused))
-}
-
 fn done(world: &mut TintWorld, act: &TintAct, stencil: &TintStencil) -> bool {
     match act {
         TintAct::Stamp(_, _) => world.edit(act, Some(stencil)).is_ok(),
         _ => world.edit(act, None).is_ok(),
     }
-}
-
-#[test]
-fn random_acts_give_each_cell_its_tint(rt: HostRuntime) -> Result<(), Fail> {
-    for seed in 1..4u64 {
-        assert_eq!(rt; play(rt.alloc(), seed, 24)?, (0, 0));
-    }
-    Ok(())
 }
 
 // Whether the voxel has this place and colour.
@@ -379,34 +372,117 @@ fn mislisted(alloc: Global, world: &mut TintWorld, plain: &TintGrid, b: Boxed) -
     }
 }
 
-// Draws so many acts, does them to a world of side 32 and to plain cells, and counts what is wrong
-// in the list of a box after each, and what was refused.
-fn listed(alloc: Global, seed: u64, number: u32) -> Result<(u32, u32), Fail> {
-    let stencil = small_stencil(alloc)?;
-    let mut draws = Draws::new(seed);
-    let mut world = TintWorld::empty(alloc, 32, 512, 64)?;
-    let mut plain = TintGrid::empty(alloc, 32).map_err(|_| "out of memory")?;
+/// Random acts on a world of this side in a store of so many buckets, and what is looked at after
+/// each of them.
+struct Trial {
+    side: u16,
+    buckets: u16,
+    acts: u32,
+    look: Look,
+}
+
+/// Each cell of a world of side 8, or the list of a box of the world.
+enum Look {
+    Cells,
+    List,
+}
+
+// How much is wrong of what is looked at.
+fn wrong_in(
+    alloc: Global,
+    trial: &Trial,
+    draws: &mut Draws,
+    world: &mut TintWorld,
+    plain: &TintGrid,
+) -> u32 {
+    match trial.look {
+        Look::Cells => differing(world, plain),
+        Look::List => mislisted(alloc, world, plain, draws.boxed(trial.side)),
+    }
+}
+
+// Does the act to the world, and then to plain cells; whether it was refused.
+fn is_refused(
+    alloc: Global,
+    world: &mut TintWorld,
+    plain: &mut TintGrid,
+    act: &TintAct,
+    stencil: &TintStencil,
+) -> Result<bool, Memory> {
+    if !done(world, act, stencil) {
+        return Ok(true);
+    }
+    *plain = plain.after(alloc, act, &DRAWN)?;
+    Ok(false)
+}
+
+// Does random acts to a world and to plain cells. Counts what is wrong after each, and what was
+// refused.
+fn score(
+    alloc: Global,
+    trial: &Trial,
+    draws: &mut Draws,
+    world: &mut TintWorld,
+    plain: &mut TintGrid,
+    stencil: &TintStencil,
+) -> Result<(u32, u32), Memory> {
     let mut wrong: u32 = 0;
     let mut refused: u32 = 0;
-    for _ in 0..number {
-        let act = draw_act(&mut draws, 32, SIZE);
-        if done(&mut world, &act, &stencil) {
-            plain = plain
-                .after(alloc, &act, &DRAWN)
-                .map_err(|_| "out of memory")?;
-        } else {
-            refused = refused.saturating_add(1);
-        }
-        let b = draws.boxed(32);
-        wrong = wrong.saturating_add(mislisted(alloc, &mut world, &plain, b));
+    for _ in 0..trial.acts {
+        let act = draw_act(draws, trial.side, SIZE);
+        let is_refused = is_refused(alloc, world, plain, &act, stencil)?;
+        refused = refused.saturating_add(u32::from(is_refused));
+        wrong = wrong.saturating_add(wrong_in(alloc, trial, draws, world, plain));
     }
     Ok((wrong, refused))
 }
 
+// The same of plain cells without a tint.
+fn score_of(
+    alloc: Global,
+    trial: &Trial,
+    seed: u64,
+    world: &mut TintWorld,
+    stencil: &TintStencil,
+) -> Result<(u32, u32), Memory> {
+    let mut draws = Draws::new(seed);
+    let mut plain = TintGrid::empty(alloc, trial.side)?;
+    score(alloc, trial, &mut draws, world, &mut plain, stencil)
+}
+
+// The same of a new world.
+fn play(alloc: Global, trial: &Trial, seed: u64) -> Result<(u32, u32), Fail> {
+    let stencil = small_stencil(alloc)?;
+    let mut world = TintWorld::empty(alloc, u32::from(trial.side), trial.buckets, 64)?;
+    Ok(score_of(alloc, trial, seed, &mut world, &stencil)?)
+}
+
+const SMALL: Trial = Trial {
+    side: 8,
+    buckets: 256,
+    acts: 24,
+    look: Look::Cells,
+};
+
+#[test]
+fn random_acts_give_each_cell_its_tint(rt: HostRuntime) -> Result<(), Fail> {
+    for seed in 1..4u64 {
+        assert_eq!(rt; play(rt.alloc(), &SMALL, seed)?, (0, 0));
+    }
+    Ok(())
+}
+
+const LARGE: Trial = Trial {
+    side: 32,
+    buckets: 512,
+    acts: 12,
+    look: Look::List,
+};
+
 #[test]
 fn lists_have_the_tint_of_each_cell(rt: HostRuntime) -> Result<(), Fail> {
     for seed in 1..3u64 {
-        assert_eq!(rt; listed(rt.alloc(), seed, 12)?, (0, 0));
+        assert_eq!(rt; play(rt.alloc(), &LARGE, seed)?, (0, 0));
     }
     Ok(())
 }

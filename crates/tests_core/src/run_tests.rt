@@ -3,7 +3,9 @@ use crate::table_tests::is_same;
 use history_model::Act;
 use interleave::{Ran, run_events};
 use node_words::Name;
+use std::alloc::Global;
 use std::test::Fail;
+use vox_read::Models;
 use vw_cell::{Boxed, Cell};
 use world_core::{Event, Reply};
 
@@ -95,13 +97,18 @@ fn are_wanted(replies: &[Reply]) -> bool {
     are_same(replies, &wanted)
 }
 
-// Two slots in a bucket; the core goes on afterwards, and has the version that was undone.
+// The core after the events, with two slots in a bucket.
+fn ran(alloc: Global, models: &Models) -> Result<Ran<'_>, Fail> {
+    let plan = plan_of(8, 1, 2)?;
+    let events = EVENTS;
+    Ok(run_events(alloc, &plan, models, 2, &events)?)
+}
+
+// The core goes on afterwards, and has the version that was undone.
 #[test]
 fn the_events_of_a_script_have_their_replies(rt: HostRuntime) -> Result<(), Fail> {
-    let events = EVENTS;
     let models = no_models(rt.alloc());
-    let ran = run_events(rt.alloc(), &plan_of(8, 1, 2)?, &models, 2, &events)?;
-    let Ran { mut core, replies } = ran;
+    let Ran { mut core, replies } = ran(rt.alloc(), &models)?;
     assert!(rt; are_wanted(replies.as_slice()));
     let kept = core.apply(rt.alloc(), &Event::Pin(1, Some(3)))?;
     assert!(rt; is_same(&kept, &Reply::Pinned(3, 4, Some(OTHER_NODE))));

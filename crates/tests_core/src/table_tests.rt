@@ -238,30 +238,42 @@ fn first_wrong_of(
     Ok(first_wrong(&mut core, alloc, rows)?)
 }
 
+fn wrong_of_small(alloc: Global, models: &Models) -> Result<Option<usize>, Fail> {
+    let rows = SMALL;
+    first_wrong_of(alloc, 4, 1, models, &rows)
+}
+
 // A world of one leaf, and a bucket of one slot.
 #[test]
 fn the_smallest_core_answers_by_its_table(rt: HostRuntime) -> Result<(), Fail> {
-    let rows = SMALL;
     let models = no_models(rt.alloc());
-    assert_eq!(rt; first_wrong_of(rt.alloc(), 4, 1, &models, &rows)?, None);
+    assert_eq!(rt; wrong_of_small(rt.alloc(), &models)?, None);
     Ok(())
+}
+
+fn wrong_of_nodes(alloc: Global, models: &Models) -> Result<Option<usize>, Fail> {
+    let rows = NODES;
+    first_wrong_of(alloc, 8, 1, models, &rows)
 }
 
 // A world of eight leaves, and buckets of one slot.
 #[test]
 fn nodes_are_answered_by_the_table(rt: HostRuntime) -> Result<(), Fail> {
-    let rows = NODES;
     let models = no_models(rt.alloc());
-    assert_eq!(rt; first_wrong_of(rt.alloc(), 8, 1, &models, &rows)?, None);
+    assert_eq!(rt; wrong_of_nodes(rt.alloc(), &models)?, None);
     Ok(())
+}
+
+fn wrong_of_stamps(alloc: Global, models: &Models) -> Result<Option<usize>, Fail> {
+    let rows = STAMPS;
+    first_wrong_of(alloc, 4, 2, models, &rows)
 }
 
 // A world of one leaf, where the cell (1, 2, 3) is bit 57.
 #[test]
 fn a_stamp_makes_the_cells_of_its_model(rt: HostRuntime) -> Result<(), Fail> {
-    let rows = STAMPS;
     let models = two_cells(rt.alloc())?;
-    assert_eq!(rt; first_wrong_of(rt.alloc(), 4, 2, &models, &rows)?, None);
+    assert_eq!(rt; wrong_of_stamps(rt.alloc(), &models)?, None);
     Ok(())
 }
 
@@ -295,13 +307,23 @@ const LAST: [(Event, Reply); 5] = [
     (Event::Forget(0, 3, 65_535), Reply::IsHead(65_535)),
 ];
 
+fn wrong_at_last(core: &mut Core, alloc: Global) -> Result<Option<usize>, Memory> {
+    let rows = LAST;
+    first_wrong(core, alloc, &rows)
+}
+
+// How many records a new core takes, and the first event then that has another reply.
+fn filled_log(alloc: Global, models: &Models) -> Result<(u32, Option<usize>), Fail> {
+    let plan = plan_of(4, 1, 1)?;
+    let mut core = Core::begin(alloc, &plan, models, 1)?;
+    let number = appended(&mut core, alloc, Act::Erase(ONE))?;
+    Ok((number, wrong_at_last(&mut core, alloc)?))
+}
+
 // A world of one leaf, in which nothing is erased as often as there is room.
 #[test]
 fn a_log_has_room_for_so_many_records(rt: HostRuntime) -> Result<(), Fail> {
-    let rows = LAST;
     let models = no_models(rt.alloc());
-    let mut core = Core::begin(rt.alloc(), &plan_of(4, 1, 1)?, &models, 1)?;
-    assert_eq!(rt; appended(&mut core, rt.alloc(), Act::Erase(ONE))?, 65_535);
-    assert_eq!(rt; first_wrong(&mut core, rt.alloc(), &rows)?, None);
+    assert_eq!(rt; filled_log(rt.alloc(), &models)?, (65_535, None));
     Ok(())
 }
