@@ -258,12 +258,16 @@ fn have_tints(world: &mut TintWorld, tints: &[(Cell, u8)]) -> bool {
     true
 }
 
+// Whether the stamp leaves these tints in a new world.
+fn leaves_tints(alloc: Global, stencil: &TintStencil, tints: &[(Cell, u8)]) -> Result<bool, Fail> {
+    let mut world = TintWorld::empty(alloc, 8, 64, 64)?;
+    Ok(is_stamped(&mut world, stencil) && have_tints(&mut world, tints))
+}
+
 #[test]
 fn stamps_give_the_tint_of_the_last_voxel(rt: HostRuntime) -> Result<(), Fail> {
     let stencil = small_stencil(rt.alloc())?;
-    let mut world = TintWorld::empty(rt.alloc(), 8, 64, 64)?;
-    assert!(rt; is_stamped(&mut world, &stencil));
-    assert!(rt; have_tints(&mut world, STAMPED));
+    assert!(rt; leaves_tints(rt.alloc(), &stencil, STAMPED)?);
     Ok(())
 }
 
@@ -451,10 +455,20 @@ fn score_of(
 }
 
 // The same of a new world.
+fn play_with(
+    alloc: Global,
+    trial: &Trial,
+    seed: u64,
+    stencil: &TintStencil,
+) -> Result<(u32, u32), Fail> {
+    let mut world = TintWorld::empty(alloc, u32::from(trial.side), trial.buckets, 64)?;
+    Ok(score_of(alloc, trial, seed, &mut world, stencil)?)
+}
+
+// The same with a stencil of the small model.
 fn play(alloc: Global, trial: &Trial, seed: u64) -> Result<(u32, u32), Fail> {
     let stencil = small_stencil(alloc)?;
-    let mut world = TintWorld::empty(alloc, u32::from(trial.side), trial.buckets, 64)?;
-    Ok(score_of(alloc, trial, seed, &mut world, &stencil)?)
+    play_with(alloc, trial, seed, &stencil)
 }
 
 const SMALL: Trial = Trial {
