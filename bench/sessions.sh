@@ -6,8 +6,8 @@
 # takes is taken off each time; of readers, what drawing the balls that they ask of takes. It needs four cores with nothing
 # else on them.
 #
-# Beside them stand what bounds two of the figures: what a plain C program takes for the memory of the opening alone, and
-# how much four processes that share nothing do of the readers' work in the time of one.
+# Beside them stand what bounds three of the figures: what a plain C program takes for the memory of the opening alone, and
+# how much four processes that share nothing do of the readers' work, and of the large edits, in the time of one.
 set -eu
 here=$(cd "$(dirname "$0")" && pwd)
 . "$here/timing.sh"
@@ -62,6 +62,7 @@ for name in apart large together; do
     one=$seconds
     best "$name".[0-3].txt
     times "$name" "$one" "$seconds"
+    [ "$name" = large ] && one_large=$one
 done
 alone balls
 one_drawn=$seconds
@@ -101,3 +102,7 @@ apart balls.[0-3].txt
 four_drawn=$seconds
 apart reader.[0-3].txt
 times "readers in processes of their own" "$one" "$seconds" "$one_drawn" "$four_drawn"
+apart nothing.txt nothing.txt nothing.txt nothing.txt
+four_opened=$seconds
+apart large.[0-3].txt
+times "large, in processes of their own" "$one_large" "$seconds" "$opening" "$four_opened"
