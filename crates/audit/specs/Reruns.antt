@@ -10,7 +10,8 @@ use Rattle.audit.specs.Marks.{TellsMarks}
 use Rattle.audit.specs.Replaying.{AreWays}
 
 -- the records are few, the marks legal and told by the table, and each act lies in the world
-pub record MayRunAgain (models : List Content) (log : Log) (table : List (Option Mark)) : Type 0 where
+pub record MayRunAgain (models : List Content) (log : Log)
+    (table : List (Option Mark)) : Type 0 where
   pub few : length log.records ≤ 65535
   pub marks : AreLegalMarks (length log.records) log.marks
   pub tells : TellsMarks log.marks table

@@ -11,4 +11,5 @@ replay_all-requires-clause-suits g c =
     let records : c.as_slice-records.result.now ≡ c.args.log.now.records = search rules in
     subst (λ (rs : List Record). All
     (λ (r : Record). suits_tints c.in-Ok.replay.tint r.act ≡ true) rs) (sym records)
-    (suits_begun c.in-Ok.replay c.args.log.now.coloured c.args.log.now.records tint c.requires.suits)
+    (suits_begun c.in-Ok.replay c.args.log.now.coloured c.args.log.now.records tint
+    c.requires.suits)
