@@ -54,7 +54,7 @@ echo "opening, side 4,096, usual plan: $seconds s, peak $((peak / 1000000)) MB"
 # The words of that plan's table, touched as its beginning touches them, and once.
 echo "the same memory by C, a row and its copy: $("$work/touch" 9125887 2)"
 echo "one row of it: $("$work/touch" 9125887 1)"
-# It is taken off every time, and short beside them.
+# It is taken off every time.
 rounds=$((4 * rounds)) best nothing.txt
 opening=$seconds
 for name in apart large together; do
@@ -62,7 +62,7 @@ for name in apart large together; do
     one=$seconds
     best "$name".[0-3].txt
     times "$name" "$one" "$seconds"
-    [ "$name" = large ] && one_large=$one
+    if [ "$name" = large ]; then one_large=$one; fi
 done
 alone balls
 one_drawn=$seconds
@@ -102,7 +102,7 @@ apart balls.[0-3].txt
 four_drawn=$seconds
 apart reader.[0-3].txt
 times "readers in processes of their own" "$one" "$seconds" "$one_drawn" "$four_drawn"
-apart nothing.txt nothing.txt nothing.txt nothing.txt
+rounds=$((4 * rounds)) apart nothing.txt nothing.txt nothing.txt nothing.txt
 four_opened=$seconds
 apart large.[0-3].txt
 times "large, in processes of their own" "$one_large" "$seconds" "$opening" "$four_opened"

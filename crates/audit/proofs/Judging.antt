@@ -1,5 +1,5 @@
 -- A history is legal where its marks are, and its records follow one another.
-use Rattle.std.proofs.Common.{◌≡◌, ℕ, ◌^◌, ◌<◌, ◌≤◌, List, length, Option, sym, arith}
+use Rattle.std.proofs.Common.{◌≡◌, ℕ, ◌^◌, ◌≤◌, List, length, Option, sym}
 use Rattle.std.specs.Prelude.{All, Bool, true, Result, IfErr}
 use Rattle.history_model.specs.Contents.{Content}
 use Rattle.history_model.specs.declared.histories.Mark.{Mark}
@@ -15,36 +15,14 @@ use Rattle.audit.specs.declared.audits.AuditRefused.{AuditRefused}
 use Rattle.audit.specs.Audits.{IsAudited, RefusesAlong}
 use Rattle.store_run.specs.Replaying.{ReplayState}
 use Rattle.audit.specs.declared.replaying.Ways.{Ways}
-use Rattle.audit.specs.Reruns.{IsRerun, MayRunAgain}
-use Rattle.store_run.specs.Marked.{AreLegalMarks}
+use Rattle.audit.specs.Reruns.{IsRerun}
 use Rattle.audit.specs.Marks.{TellsMarks}
 use Rattle.audit.specs.Replaying.{FollowEach, AreWays}
-
-pub too_many : (models : List Content) (log : Log) → 65535 < length log.records
-    → IsLegal (2 ^ log.side) models log → ⊥
-too_many models log over legal = let few = legal.few in omega (arith, over, few)
-
-pub no_marks : (models : List Content) (log : Log)
-    → (AreLegalMarks (length log.records) log.marks → ⊥)
-    → IsLegal (2 ^ log.side) models log → ⊥
-no_marks models log wrong legal = wrong (record { rising = legal.rising; marked = legal.marked })
-
-pub no_fit : (models : List Content) (log : Log)
-    → (All (λ r. FitsWorld (2 ^ log.side) models r.act) log.records → ⊥)
-    → IsLegal (2 ^ log.side) models log → ⊥
-no_fit models log wrong legal = wrong legal.fit
 
 pub no_follow : (models : List Content) (log : Log)
     → (FollowEach (2 ^ log.side) models log.marks log.records → ⊥)
     → IsLegal (2 ^ log.side) models log → ⊥
 no_follow models log wrong legal = wrong (record { fit = legal.fit; follow = legal.follow })
-
-pub may_run : (models : List Content) (log : Log) (table : List (Option Mark))
-    → length log.records ≤ 65535 → AreLegalMarks (length log.records) log.marks
-    → TellsMarks log.marks table → All (λ r. FitsWorld (2 ^ log.side) models r.act) log.records
-    → MayRunAgain models log table
-may_run models log table few marks tells fit =
-    record { few = few; marks = marks; tells = tells; fit = fit }
 
 pub legal_rerun : (log : Log) (replay : ReplayState) (ways : List Ways) (table : List (Option Mark))
     → replay.tint ≡ log.coloured → replay.records ≡ log.records → replay.plan.side ≡ log.side

@@ -135,7 +135,6 @@ fn audit_over<L: Ledger>(
 
 // The marks of the versions, where the records are few, the marks legal, and each act lies in the
 // world.
-#[tactic(auto, using(crate::proofs::Judging::may_run, crate::proofs::Judging::no_marks, crate::proofs::Judging::no_fit, crate::proofs::Judging::too_many))]
 fn marks_told(
     alloc: Global,
     log: &History,
@@ -152,11 +151,7 @@ fn marks_told(
     if !acts_fit(log.records.as_slice(), log.side, models) {
         return Ok(None);
     }
-    match mark_table(alloc, log.marks.as_slice(), count) {
-        Ok(Some(table)) => Ok(Some(table)),
-        Ok(None) => Ok(None),
-        Err(memory) => Err(memory),
-    }
+    mark_table(alloc, log.marks.as_slice(), count)
 }
 
 // The history replayed, where it is legal.
