@@ -5,3 +5,5 @@ pub mod TintedActs
 pub mod ListLaws
 pub mod Rooms
 pub mod Places
+pub mod OfQuestions
+pub use Rattle.colour.proofs.Quarters

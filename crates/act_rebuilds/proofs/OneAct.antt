@@ -2,7 +2,7 @@
 use Rattle.std.proofs.Common.{◌≡◌, ℕ, Option, List, sym, subst}
 use Rattle.std.specs.Prelude.{Result}
 use Rattle.vox_read.specs.Contents.{Content}
-use Rattle.node_shapes.specs.declared.names.Name.{Name}
+use Rattle.node_words.specs.declared.shapes.names.Name.{Name}
 use Rattle.node_words.specs.declared.shares.Full.{Full}
 use Rattle.node_words.specs.Held.{Seen}
 use Rattle.history_model.specs.declared.acts.Act.{Act}

@@ -2,7 +2,7 @@
 use Rattle.std.proofs.Common.{◌≡◌, ℕ, ◌+◌, ◌<◌, ◌^◌, ◌∷◌, List, [], ◌++◌, All, length, take, slice_index_or, sym, ◌∙◌, ap, subst}
 use Rattle.std.proofs.lemmas.List.{take_more}
 use Rattle.std.proofs.lemmas.List.Elements.{All-more}
-use Rattle.cell_shapes.proofs.LeafBits.{bits_below-small}
+use Rattle.node_words.proofs.OfContents.LeafBits.{bits_below-small}
 use Rattle.vox_read.specs.Contents.{Content}
 use Rattle.edit_stamp.specs.Drawings.{drawn_cells}
 use Rattle.colour.specs.Inks.{DrawsTints, Inked, bit_drawn}

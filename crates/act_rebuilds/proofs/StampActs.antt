@@ -3,7 +3,7 @@ use Rattle.std.proofs.Common.{◌≡◌, ℕ, zero, suc, ◌<◌, Bool, Some, Li
 use Rattle.std.specs.List.{slice_get}
 use Rattle.vw_cell.specs.declared.cells.Cell.{Cell}
 use Rattle.vox_read.specs.Contents.{Content}
-use Rattle.node_shapes.specs.declared.names.Name.{Name}
+use Rattle.node_words.specs.declared.shapes.names.Name.{Name}
 use Rattle.node_words.specs.Held.{Seen}
 use Rattle.history_model.specs.Logs.{FitsModel}
 use Rattle.history_model.specs.Worlds.{edited}

@@ -1,6 +1,7 @@
 pub mod Acts
 pub mod Drawn
 pub mod Lists
+pub mod questions
 pub use Rattle.edit_stamp.specs.Drawings
 pub use Rattle.edit_copy.specs.Copies
 pub use Rattle.edit_ops.specs.Balls
@@ -8,3 +9,4 @@ pub use Rattle.edit_ops.specs.Boxes
 pub use Rattle.colour.specs.Edits
 pub use Rattle.colour.specs.Inks
 pub use Rattle.colour.specs.Made
+pub use Rattle.colour.specs.Reading

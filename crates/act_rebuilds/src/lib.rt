@@ -8,6 +8,7 @@
 
 mod drawn;
 mod plain;
+mod questions;
 mod rebuild;
 mod tinted;
 
@@ -17,5 +18,6 @@ pub use edit_copy::{CopyTask, copy_may_repeat, rebuild_copy_with};
 pub use edit_ops::{BallTask, BoxTask, box_may_repeat, rebuild_ball_with, rebuild_box_with};
 pub use edit_stamp::{Stencil, rebuild_stamp};
 pub use plain::rebuild_plain;
+pub use questions::{tell, tell_tinted, tints_in};
 pub use rebuild::rebuild_act;
 pub use tinted::rebuild_tinted;

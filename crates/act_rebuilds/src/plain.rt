@@ -2,7 +2,7 @@ ghost use Rattle.std.specs.Prelude.{◌≡◌, ◌≤◌, ◌^◌, ℕ, true, fa
 ghost use Rattle.std.specs.List.{slice_get};
 ghost use Rattle.vw_cell.specs.Places.{FitsAt};
 ghost use Rattle.vox_read.specs.Contents.{Content};
-ghost use Rattle.node_shapes.specs.Weights.{number_of_trees};
+ghost use Rattle.node_words.specs.shapes.Weights.{number_of_trees};
 ghost use Rattle.history_model.specs.Worlds.{is_edit, edited};
 ghost use Rattle.history_model.specs.Logs.{FitsWorld, suits_tints};
 ghost use Rattle.history_model.specs.declared.acts.Act.TheVariants.{Stamp};

@@ -1,6 +1,6 @@
 ghost use Rattle.std.specs.Prelude.{◌≡◌, ◌-◌, ◌/◌, ◌≤◌, ◌^◌, ℕ, true, List, option_copied};
 ghost use Rattle.vox_read.specs.Contents.{Content};
-ghost use Rattle.node_shapes.specs.Weights.{number_of_trees};
+ghost use Rattle.node_words.specs.shapes.Weights.{number_of_trees};
 ghost use Rattle.history_model.specs.Logs.{TintFits};
 ghost use Rattle.history_model.specs.declared.acts.Act.TheVariants.{Tint};
 ghost use Rattle.edit_stamp.specs.Roots.{HoldsRoot};

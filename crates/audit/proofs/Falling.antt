@@ -9,9 +9,9 @@ use Rattle.std.proofs.lemmas.List.Sums.{sum_by-cons, sum_by-append}
 use Rattle.history_model.specs.declared.histories.Record.{Record}
 use Rattle.history_model.specs.declared.histories.Mark.{Mark}
 use Rattle.history_model.specs.Logs.{Log}
-use Rattle.versions.specs.Retained.{AreRising, KeepsLast, falls_out, fallen_by, fallen_from, unnamed_by, with_fallen}
-use Rattle.versions.proofs.Merging.{falls, falls_not, fallen_rises}
-use Rattle.versions.proofs.OneList.{same_marks}
+use Rattle.retain.specs.Retained.{AreRising, KeepsLast, falls_out, fallen_by, fallen_from, unnamed_by, with_fallen}
+use Rattle.retain.proofs.Merging.{falls, falls_not, fallen_rises}
+use Rattle.retain.proofs.OneList.{same_marks}
 use Rattle.conformance.specs.Shown.{SameItems}
 use Rattle.audit.specs.Counts.{is_of, is_by, fell_out, as_by_hand, number_by_hand}
 use Rattle.audit.proofs.Counting.{IsIn, in_either, listed, contained, any_of, one_of, any_same, in_filter, of_filter, weigh_parts, pairs_tail, pairs_head, all_of}

@@ -9,7 +9,7 @@ use Rattle.std.proofs.Common.{◌↔◌, subst}
 use Rattle.node_words.specs.Plans.{Layout}
 use Rattle.script.specs.declared.commands.ScriptLine.{ScriptLine}
 use Rattle.transcript.specs.declared.answers.LineAnswer.{LineAnswer}
-use Rattle.versions.specs.Retained.{KeepsLast}
+use Rattle.retain.specs.Retained.{KeepsLast}
 use Rattle.conformance.specs.Agreeing.{AgreesKeeping}
 use Rattle.audit.specs.declared.audits.AuditRefused.{AuditRefused}
 use Rattle.audit.specs.Audits.{IsAudited, RefusesAlong}

@@ -4,8 +4,8 @@ use Rattle.std.specs.Prelude.{nat_le, ◌==◌, slice_index_or}
 use Rattle.std.proofs.lemmas.Bool.{and_parts, cases_eq, eq-eqb, eqb-true, le-leb, leb-true}
 use Rattle.history_model.specs.declared.histories.Mark.{Mark}
 use Rattle.history_model.specs.Logs.{Log}
-use Rattle.versions.specs.Retained.{KeepsLast, is_marked_by}
-use Rattle.versions.proofs.Lasting.{keeps_all}
+use Rattle.retain.specs.Retained.{KeepsLast, is_marked_by}
+use Rattle.retain.proofs.Lasting.{keeps_all}
 use Rattle.audit.specs.Marks.{IsOnlyMarkOrNone, TellsMarks, MarkedBy}
 use Rattle.audit.proofs.Counting.{listed, contained, any_of, one_of}
 

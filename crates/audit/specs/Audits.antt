@@ -6,7 +6,7 @@ use Rattle.history_model.specs.Logs.{Log, IsLegal, SuitsTints}
 use Rattle.node_words.specs.Plans.{Layout, usual_buckets}
 use Rattle.script.specs.declared.commands.ScriptLine.{ScriptLine}
 use Rattle.transcript.specs.declared.answers.LineAnswer.{LineAnswer}
-use Rattle.versions.specs.Retained.{KeepsLast}
+use Rattle.retain.specs.Retained.{KeepsLast}
 use Rattle.conformance.specs.Agreeing.{AgreesKeeping}
 use Rattle.store_run.specs.Replaying.{MayFillAlong, replay_plan}
 use Rattle.audit.specs.declared.audits.AuditRefused.{AuditRefused}

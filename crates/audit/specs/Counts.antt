@@ -9,7 +9,7 @@ use Rattle.script.specs.declared.commands.ScriptLine.{ScriptLine}
 use Rattle.transcript.specs.declared.answers.Answer.{Answer}
 use Rattle.transcript.specs.declared.answers.Answer.TheVariants as answers
 use Rattle.transcript.specs.declared.answers.LineAnswer.{LineAnswer}
-use Rattle.versions.specs.Retained.{KeepsLast, falls_out}
+use Rattle.retain.specs.Retained.{KeepsLast, falls_out}
 use Rattle.conformance.specs.Agreeing.{SessionsAgree}
 use Rattle.conformance.specs.Shown.{IsShownKeeping, is_done}
 

@@ -10,7 +10,7 @@ use Rattle.history_model.specs.Logs.{Log, world_side}
 use Rattle.history_model.specs.Moments.{world_has, world_tint}
 use Rattle.history_model.specs.Worlds.{is_edit}
 use Rattle.node_words.specs.Plans.{Layout}
-use Rattle.block_contents.specs.Aligned.{top}
+use Rattle.core_laws.specs.contents.Aligned.{top}
 use Rattle.history_model.specs.Tints.{SameTints}
 use Rattle.script.specs.declared.commands.Command.{Command}
 use Rattle.script.specs.declared.commands.Command.TheVariants.{Edit, Forget, Ask, Save, Same, Head}

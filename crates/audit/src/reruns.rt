@@ -6,7 +6,7 @@ ghost use Rattle.history_model.specs.Logs.{world_side};
 ghost use Rattle.script.specs.Fitting.{QuestionFits};
 ghost use Rattle.vw_cell.specs.Places.{FitsAt};
 ghost use Rattle.conformance.specs.Answers.{IsStanding, IsReadable, IsForgotten, target_at, mark_of};
-ghost use Rattle.versions.specs.Retained.{KeepsLast};
+ghost use Rattle.retain.specs.Retained.{KeepsLast};
 ghost use Rattle.audit.specs.Fitting.{TellsVersion, AreSame};
 ghost use Rattle.audit.specs.Reruns.{IsRerun};
 

@@ -4,7 +4,7 @@ ghost use Rattle.std.specs.List.{AllZip};
 ghost use Rattle.script.specs.Fitting.{CommandFits, RisesFrom};
 ghost use Rattle.transcript.specs.declared.answers.Answer.TheVariants as answers;
 ghost use Rattle.conformance.specs.Answers.{LineFits};
-ghost use Rattle.versions.specs.Retained.{KeepsLast};
+ghost use Rattle.retain.specs.Retained.{KeepsLast};
 ghost use Rattle.conformance.specs.Agreeing.{InOrder, SessionAgrees, SessionsAgree, AgreesKeeping};
 ghost use Rattle.audit.specs.Reruns.{IsRerun};
 ghost use Rattle.audit.specs.Sessions.{IsAfterMoment, FollowsLast};

@@ -7,22 +7,22 @@ use Rattle.vw_cell.specs.declared.boxes.Boxed.{Boxed}
 use Rattle.vw_cell.specs.declared.balls.Ball.{Ball}
 use Rattle.vw_cell.specs.Counts.{cell_at}
 use Rattle.vw_cell.specs.Places.{IsInWorld, is_in_box, is_in_ball, block_side}
-use Rattle.node_shapes.specs.declared.names.Name.{Name}
-use Rattle.node_shapes.specs.Shape.{Shape, IsPart, has}
-use Rattle.node_shapes.specs.Tree.{Tree, shape_of}
+use Rattle.node_words.specs.declared.shapes.names.Name.{Name}
+use Rattle.node_words.specs.shapes.Shape.{Shape, IsPart, has}
+use Rattle.node_words.specs.shapes.Tree.{Tree, shape_of}
 use Rattle.node_words.specs.declared.shares.Full.{Full}
 use Rattle.node_words.specs.Held.{Seen, AreTrees, AreCanonical}
 use Rattle.node_words.proofs.GatherLaws.{grew_into}
-use Rattle.block_walk.proofs.LookLaws.{root_side}
-use Rattle.cell_shapes.specs.CellShapes.{Cells, SameIn}
-use Rattle.cell_shapes.proofs.SameCells.{same_on, same_itself}
-use Rattle.edit_cells.specs.Tasks.{Making}
-use Rattle.edit_cells.specs.Paints.{IsOld, Paints}
-use Rattle.edit_cells.specs.Worlds.{ShowsWorld, world_shape, world_cells, cells_from}
-use Rattle.edit_cells.proofs.WorldLaws.{root_shown, world_lies, from_nowhere}
-use Rattle.edit_cells.proofs.PaintLaws.{chosen}
+use Rattle.node_words.proofs.OfDescent.LookLaws.{root_side}
+use Rattle.node_words.specs.contents.CellShapes.{Cells, SameIn}
+use Rattle.node_words.proofs.OfContents.SameCells.{same_on, same_itself}
+use Rattle.edit_walk.specs.cells.Tasks.{Making}
+use Rattle.edit_walk.specs.cells.Paints.{IsOld, Paints}
+use Rattle.edit_walk.specs.cells.Worlds.{ShowsWorld, world_shape, world_cells, cells_from}
+use Rattle.edit_walk.proofs.OfCells.WorldLaws.{root_shown, world_lies, from_nowhere}
+use Rattle.edit_walk.proofs.OfCells.PaintLaws.{chosen}
 use Rattle.edit_walk.specs.Walks.{MakesWorld}
-use Rattle.block_walk.specs.Roots.{HoldsRoot}
+use Rattle.node_words.specs.descent.Roots.{HoldsRoot}
 use Rattle.edit_ops.specs.Boxes.{MakesBox}
 use Rattle.edit_ops.specs.Balls.{MakesBall, makes_ball}
 use Rattle.history_model.specs.Worlds.{World, plus}
@@ -32,8 +32,8 @@ use Rattle.history_model.specs.declared.acts.TintAct.{TintAct}
 use Rattle.history_model.specs.declared.acts.TintAct.TheVariants as acts
 use Rattle.history_model.specs.declared.acts.TintAct.TheVariants.{Fill, Erase, Carve}
 use Rattle.colour.specs.Inks.{Inked, parts_in}
-use Rattle.tints.proofs.PartLaws.{tells_none}
-use Rattle.tints.proofs.PlaneLaws.{made_in_own, planes_apart, left_outside}
+use Rattle.core_laws.proofs.OfTints.PartLaws.{tells_none}
+use Rattle.core_laws.proofs.OfTints.PlaneLaws.{made_in_own, planes_apart, left_outside}
 use Rattle.colour.specs.Edits.{RebuildsEdit, GrowsByEdit, RefusesEdit}
 use Rattle.colour.specs.declared.fills.BoxPlanes.{BoxPlanes}
 use Rattle.colour.specs.declared.fills.BallPlanes.{BallPlanes}

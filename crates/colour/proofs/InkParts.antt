@@ -7,7 +7,7 @@ use Rattle.history_model.specs.Worlds.{World, less, plus}
 use Rattle.history_model.specs.Tints.{Tints}
 use Rattle.history_model.specs.Planes.{tells, plane_at, cube_at}
 use Rattle.history_model.specs.Parts.{in_cube, without_ink, stamped_in, stamp_part, after_parts}
-use Rattle.tints.proofs.PartLaws.{tells_none, not_none}
+use Rattle.core_laws.proofs.OfTints.PartLaws.{tells_none, not_none}
 use Rattle.colour.specs.Walks.{in_cells, cell_parts, ink_edit}
 use Rattle.colour.proofs.CubeLaws.{back_in_cube}
 

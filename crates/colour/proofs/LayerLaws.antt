@@ -4,24 +4,24 @@ use Rattle.std.specs.Prelude.{slice_index, slice_index_or}
 use Rattle.std.specs.Int.{bit_at}
 use Rattle.std.proofs.lemmas.Bool.{cases_eq}
 use Rattle.std.proofs.lemmas.Nat.{mod-mul-add, div-mul-add}
-use Rattle.sums.specs.Sums.{one_if}
+use Rattle.vw_cell.specs.Sums.{one_if}
 use Rattle.vw_cell.specs.declared.cells.Cell.{Cell}
 use Rattle.vw_cell.specs.declared.boxes.Boxed.{Boxed}
 use Rattle.vw_cell.specs.Counts.{cell_at}
 use Rattle.vw_cell.specs.Places.{IsInWorld, FitsAt, block_side}
-use Rattle.node_shapes.specs.declared.names.Name.{Name}
-use Rattle.node_shapes.specs.Shape.{Shape, bit_number, octant_shape}
-use Rattle.node_shapes.specs.Tree.{Tree, child_of, shape_of}
-use Rattle.node_shapes.proofs.TreeLaws.{shape_of-child}
+use Rattle.node_words.specs.declared.shapes.names.Name.{Name}
+use Rattle.node_words.specs.shapes.Shape.{Shape, bit_number, octant_shape}
+use Rattle.node_words.specs.shapes.Tree.{Tree, child_of, shape_of}
+use Rattle.node_words.proofs.OfShapes.TreeLaws.{shape_of-child}
 use Rattle.node_words.specs.Held.{Seen}
-use Rattle.block_walk.specs.Roots.{IsBlockOf, IsOctantOf, ForBlock, cells_of}
-use Rattle.block_walk.specs.Parts.{EndsBy}
-use Rattle.block_walk.proofs.LookLaws.{root_side, same_cell}
-use Rattle.cell_shapes.specs.CellShapes.{bits_below}
+use Rattle.node_words.specs.descent.Roots.{IsBlockOf, IsOctantOf, ForBlock, cells_of}
+use Rattle.node_words.specs.descent.Parts.{EndsBy}
+use Rattle.node_words.proofs.OfDescent.LookLaws.{root_side, same_cell}
+use Rattle.node_words.specs.contents.CellShapes.{bits_below}
 use Rattle.extract.specs.Layers.{HoldsLayer, IsSmallLayer, leaves_along, leaves_in}
 use Rattle.history_model.specs.Worlds.{plus}
 use Rattle.history_model.specs.Planes.{plane_at}
-use Rattle.tints.specs.Planes.{tint_in}
+use Rattle.core_laws.specs.tints.Planes.{tint_in}
 use Rattle.colour.specs.Layers.{ForRoot, HoldsBits, IsRead, bit_cells}
 use Rattle.colour.proofs.PlaceLaws.{in_octants}
 

@@ -2,9 +2,9 @@
 use Rattle.std.proofs.Common.{◌≡◌, ℕ, zero, suc, ◌+◌, ◌*◌, ◌<◌, sym, ◌∙◌, ap, arith}
 use Rattle.vw_cell.specs.declared.cells.Cell.{Cell}
 use Rattle.vw_cell.specs.Places.{IsInWorld, block_side, half_x, half_y, half_z}
-use Rattle.node_shapes.specs.Shape.{Shape, has, octant_shape}
-use Rattle.node_shapes.proofs.ShapeLaws.{has-in_octant, block_side-suc, halves}
-use Rattle.block_walk.specs.Roots.{cells_of}
+use Rattle.node_words.specs.shapes.Shape.{Shape, has, octant_shape}
+use Rattle.node_words.proofs.OfShapes.ShapeLaws.{has-in_octant, block_side-suc, halves}
+use Rattle.node_words.specs.descent.Roots.{cells_of}
 use Rattle.history_model.specs.Worlds.{plus}
 use Rattle.history_model.specs.Planes.{plane_at}
 

@@ -8,27 +8,27 @@ use Rattle.vw_cell.specs.declared.blocks.Block.{Block}
 use Rattle.vw_cell.specs.Counts.{cell_at}
 use Rattle.vw_cell.specs.Places.{block_side, is_in_box, octant_of, half_x, half_y, half_z, Meets, HoldsBlock}
 use Rattle.vw_cell.specs.Tests.{is_in_box_tells}
-use Rattle.node_shapes.specs.declared.names.Name.{Name}
-use Rattle.node_shapes.specs.Shape.{Shape, Leaf, has, octant_shape, bit_number, bits_of}
-use Rattle.node_shapes.specs.Tree.{Tree, root_of, child_of, shape_of}
-use Rattle.node_shapes.proofs.ShapeLaws.{has-in_octant}
-use Rattle.node_shapes.proofs.TreeLaws.{shape_of-child}
-use Rattle.node_words.specs.Leaves.{LeafShows}
-use Rattle.cell_shapes.specs.CellShapes.{Cells, SameIn, no_cells, all_cells, octant_cells}
-use Rattle.cell_shapes.proofs.SameCells.{octant_same, same_on, same_back}
-use Rattle.edit_cells.specs.declared.tasks.Whole.{Whole}
-use Rattle.edit_cells.specs.declared.tasks.Whole.TheVariants.{Nothing, All}
-use Rattle.edit_cells.specs.Tasks.{IsWhole, MakeAlike}
-use Rattle.edit_cells.specs.Paints.{whole_of_old}
-use Rattle.edit_cells.specs.Worlds.{cells_from}
-use Rattle.edit_cells.proofs.PaintLaws.{old_child, old_gone, old_same, paints_missed}
-use Rattle.edit_cells.proofs.WorldLaws.{placed_octant, octant_lies, world_lies}
+use Rattle.node_words.specs.declared.shapes.names.Name.{Name}
+use Rattle.node_words.specs.shapes.Shape.{Shape, Leaf, has, octant_shape, bit_number, bits_of}
+use Rattle.node_words.specs.shapes.Tree.{Tree, root_of, child_of, shape_of}
+use Rattle.node_words.proofs.OfShapes.ShapeLaws.{has-in_octant}
+use Rattle.node_words.proofs.OfShapes.TreeLaws.{shape_of-child}
+use Rattle.node_words.specs.kernels.Leaves.{LeafShows}
+use Rattle.node_words.specs.contents.CellShapes.{Cells, SameIn, no_cells, all_cells, octant_cells}
+use Rattle.node_words.proofs.OfContents.SameCells.{octant_same, same_on, same_back}
+use Rattle.edit_walk.specs.declared.cells.tasks.Whole.{Whole}
+use Rattle.edit_walk.specs.declared.cells.tasks.Whole.TheVariants.{Nothing, All}
+use Rattle.edit_walk.specs.cells.Tasks.{IsWhole, MakeAlike}
+use Rattle.edit_walk.specs.cells.Paints.{whole_of_old}
+use Rattle.edit_walk.specs.cells.Worlds.{cells_from}
+use Rattle.edit_walk.proofs.OfCells.PaintLaws.{old_child, old_gone, old_same, paints_missed}
+use Rattle.edit_walk.proofs.OfCells.WorldLaws.{placed_octant, octant_lies, world_lies}
 use Rattle.edit_stamp.specs.Drawings.{Drawn, drawn_cells, AllDrawn, Agree}
 use Rattle.edit_stamp.specs.Stamps.{is_stamped}
 use Rattle.edit_stamp.proofs.StampLaws.{stamp_empty, stamp_full}
 use Rattle.history_model.specs.Worlds.{box_at, less}
 use Rattle.history_model.specs.Planes.{tells}
-use Rattle.tints.proofs.PartLaws.{tells_none, not_none}
+use Rattle.core_laws.proofs.OfTints.PartLaws.{tells_none, not_none}
 use Rattle.colour.specs.Inks.{Inked, inked_tints, ink_at, DrawsPlane}
 use Rattle.colour.specs.Stamps.{ink_cells, cells_inked, MakesInk, makes_ink, ink_task}
 use Rattle.colour.specs.Walks.{ink_edit, MakesPlanes}

@@ -1,16 +1,16 @@
 -- Blocks of a store of tints: their octants, and blocks of which nothing changes.
 use Rattle.std.proofs.Common.{◌≡◌, ◌≢◌, ℕ, zero, suc, ◌+◌, ◌-◌, ◌<◌, ◌≤◌, ◌==◌, false, Option, List, refl, sym, ◌∙◌, ap, subst, arith}
 use Rattle.std.specs.Int.{bit_at}
-use Rattle.node_shapes.specs.declared.names.Name.{Name}
-use Rattle.node_shapes.specs.Shape.{Leaf, bits_of, bit_number, has}
-use Rattle.node_shapes.specs.Tree.{Tree, shape_of}
+use Rattle.node_words.specs.declared.shapes.names.Name.{Name}
+use Rattle.node_words.specs.shapes.Shape.{Leaf, bits_of, bit_number, has}
+use Rattle.node_words.specs.shapes.Tree.{Tree, shape_of}
 use Rattle.node_words.proofs.HeldLaws.{Keeps}
-use Rattle.block_walk.specs.Roots.{HasBlock, IsOctantOf, ForBlock}
-use Rattle.cell_shapes.specs.CellShapes.{Cells, SameIn, no_cells, octant_cells}
-use Rattle.edit_cells.specs.declared.tasks.Whole.{Whole}
-use Rattle.edit_cells.specs.Tasks.{Making, MakesCells, IsWhole, MakeAlike}
-use Rattle.edit_cells.specs.Paints.{whole_of_old}
-use Rattle.edit_cells.proofs.PaintLaws.{old_block, old_has, paints_octant, paints_missed}
+use Rattle.node_words.specs.descent.Roots.{HasBlock, IsOctantOf, ForBlock}
+use Rattle.node_words.specs.contents.CellShapes.{Cells, SameIn, no_cells, octant_cells}
+use Rattle.edit_walk.specs.declared.cells.tasks.Whole.{Whole}
+use Rattle.edit_walk.specs.cells.Tasks.{Making, MakesCells, IsWhole, MakeAlike}
+use Rattle.edit_walk.specs.cells.Paints.{whole_of_old}
+use Rattle.edit_walk.proofs.OfCells.PaintLaws.{old_block, old_has, paints_octant, paints_missed}
 use Rattle.colour.specs.declared.walks.TintTask.{TintTask}
 use Rattle.colour.specs.declared.walks.TintTask.TheVariants.{Plane}
 use Rattle.colour.specs.Walks.{MakesKept, MakesRow, Octants, first_octants, bit_octants, root_octants, makes_tint}

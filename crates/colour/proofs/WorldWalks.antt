@@ -5,22 +5,22 @@ use Rattle.vw_cell.specs.declared.cells.Cell.{Cell}
 use Rattle.vw_cell.specs.Counts.{cell_at}
 use Rattle.vw_cell.specs.Places.{IsInWorld, is_in_box, block_side, half_x, half_y, half_z}
 use Rattle.vw_cell.specs.Tests.{is_in_box_tells}
-use Rattle.node_shapes.specs.declared.names.Name.{Name}
-use Rattle.node_shapes.specs.Shape.{Shape, has}
-use Rattle.node_shapes.specs.Tree.{Tree, root_of, child_of, shape_of}
-use Rattle.node_shapes.proofs.ShapeLaws.{has-in_octant, block_side-suc, halves}
-use Rattle.node_shapes.proofs.TreeLaws.{shape_of-child}
+use Rattle.node_words.specs.declared.shapes.names.Name.{Name}
+use Rattle.node_words.specs.shapes.Shape.{Shape, has}
+use Rattle.node_words.specs.shapes.Tree.{Tree, root_of, child_of, shape_of}
+use Rattle.node_words.proofs.OfShapes.ShapeLaws.{has-in_octant, block_side-suc, halves}
+use Rattle.node_words.proofs.OfShapes.TreeLaws.{shape_of-child}
 use Rattle.node_words.specs.Held.{AreTrees, AreCanonical}
-use Rattle.cell_shapes.specs.CellShapes.{Cells, SameIn, octant_cells}
-use Rattle.cell_shapes.proofs.SameCells.{octant_same}
-use Rattle.edit_cells.specs.Tasks.{Making}
-use Rattle.edit_cells.specs.Paints.{IsOld}
-use Rattle.edit_cells.specs.Worlds.{ShowsWorld, world_cells}
-use Rattle.edit_cells.proofs.PaintLaws.{old_child}
-use Rattle.edit_cells.proofs.WorldLaws.{root_old, world_places}
+use Rattle.node_words.specs.contents.CellShapes.{Cells, SameIn, octant_cells}
+use Rattle.node_words.proofs.OfContents.SameCells.{octant_same}
+use Rattle.edit_walk.specs.cells.Tasks.{Making}
+use Rattle.edit_walk.specs.cells.Paints.{IsOld}
+use Rattle.edit_walk.specs.cells.Worlds.{ShowsWorld, world_cells}
+use Rattle.edit_walk.proofs.OfCells.PaintLaws.{old_child}
+use Rattle.edit_walk.proofs.OfCells.WorldLaws.{root_old, world_places}
 use Rattle.history_model.specs.Worlds.{World, plus}
 use Rattle.history_model.specs.Planes.{plane_at, plane_box}
-use Rattle.tints.proofs.PlaneLaws.{bool_false}
+use Rattle.core_laws.proofs.OfTints.PlaneLaws.{bool_false}
 use Rattle.colour.specs.declared.walks.TintTask.TheVariants.{Root}
 use Rattle.colour.proofs.PlaceLaws.{inner_below}
 use Rattle.colour.specs.Walks.{MakesKept, MakesRow, first_octants, bit_octants, root_octants, makes_tint, CellEdit, MakesPlanes}

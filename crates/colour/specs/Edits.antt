@@ -1,11 +1,11 @@
 -- What one edit of the world of a root leaves, for each outcome.
 use Rattle.std.specs.Prelude.{ℕ, ◌-◌, ◌^◌, Option, Result, IfOk, IfErr, OnOk}
-use Rattle.node_shapes.specs.declared.names.Name.{Name}
+use Rattle.node_words.specs.declared.shapes.names.Name.{Name}
 use Rattle.node_words.specs.declared.shares.Full.{Full}
 use Rattle.node_words.specs.Held.{Seen}
 use Rattle.node_words.specs.Gathering.{Grows, Fails}
 use Rattle.history_model.specs.Worlds.{World}
-use Rattle.edit_cells.specs.Worlds.{ForEdited, Rebuilt, world_shape}
+use Rattle.edit_walk.specs.cells.Worlds.{ForEdited, Rebuilt, world_shape}
 use Rattle.history_model.specs.Planes.{plane_at}
 use Rattle.history_model.specs.Parts.{in_cube}
 

@@ -1,7 +1,7 @@
 -- What a fill with a tint makes of each plane.
 use Rattle.std.specs.Prelude.{ℕ, Option}
 use Rattle.vw_cell.specs.Counts.{cell_at}
-use Rattle.node_shapes.specs.declared.names.Name.{Name}
+use Rattle.node_words.specs.declared.shapes.names.Name.{Name}
 use Rattle.edit_ops.specs.declared.boxes.BoxTask.{BoxTask}
 use Rattle.edit_ops.specs.declared.balls.BallTask.{BallTask}
 use Rattle.history_model.specs.Planes.{tells}

@@ -5,7 +5,7 @@ use Rattle.vw_cell.specs.declared.cells.Cell.{Cell}
 use Rattle.vw_cell.specs.Counts.{cell_at, IsBelow}
 use Rattle.vw_cell.specs.Places.{FitsAt}
 use Rattle.vox_read.specs.Contents.{Content, colour_at}
-use Rattle.cell_shapes.specs.CellShapes.{bits_below}
+use Rattle.node_words.specs.contents.CellShapes.{bits_below}
 use Rattle.edit_stamp.specs.Drawings.{Drawn, drawn_cells}
 use Rattle.history_model.specs.Worlds.{World}
 use Rattle.history_model.specs.declared.acts.TintAct.{TintAct}

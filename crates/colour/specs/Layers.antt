@@ -2,9 +2,9 @@
 use Rattle.std.specs.Prelude.{◌≡◌, ℕ, ◌-◌, ◌<◌, ◌⊎◌, Bool, List, [], Option, slice_index_or}
 use Rattle.vw_cell.specs.declared.cells.Cell.{Cell}
 use Rattle.vw_cell.specs.declared.boxes.Boxed.{Boxed}
-use Rattle.node_shapes.specs.declared.names.Name.{Name}
-use Rattle.node_shapes.specs.Tree.{Tree, child_of, shape_of}
-use Rattle.block_walk.specs.Roots.{IsBlockOf, cells_of}
+use Rattle.node_words.specs.declared.shapes.names.Name.{Name}
+use Rattle.node_words.specs.shapes.Tree.{Tree, child_of, shape_of}
+use Rattle.node_words.specs.descent.Roots.{IsBlockOf, cells_of}
 use Rattle.extract.specs.Layers.{HoldsLayer, leaves_in}
 
 -- the cells of the plane of a bit, in the root's tree

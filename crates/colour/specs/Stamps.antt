@@ -3,13 +3,13 @@ use Rattle.std.specs.Prelude.{◌≡◌, ℕ, ◌+◌, ◌≤◌, ◌<◌, Optio
 use Rattle.vw_cell.specs.declared.cells.Cell.{Cell}
 use Rattle.vw_cell.specs.Counts.{cell_at}
 use Rattle.vw_cell.specs.Places.{LiesIn}
-use Rattle.node_shapes.specs.declared.names.Name.{Name}
-use Rattle.node_shapes.specs.Shape.{has}
-use Rattle.node_shapes.specs.Tree.{Tree, shape_of}
-use Rattle.cell_shapes.specs.CellShapes.{Cells, SameIn}
-use Rattle.edit_cells.specs.Paints.{IsOld, old_lasts}
-use Rattle.edit_cells.specs.Tasks.{Making, Lasts}
-use Rattle.edit_cells.specs.Worlds.{cells_from}
+use Rattle.node_words.specs.declared.shapes.names.Name.{Name}
+use Rattle.node_words.specs.shapes.Shape.{has}
+use Rattle.node_words.specs.shapes.Tree.{Tree, shape_of}
+use Rattle.node_words.specs.contents.CellShapes.{Cells, SameIn}
+use Rattle.edit_walk.specs.cells.Paints.{IsOld, old_lasts}
+use Rattle.edit_walk.specs.cells.Tasks.{Making, Lasts}
+use Rattle.edit_walk.specs.cells.Worlds.{cells_from}
 use Rattle.history_model.specs.Planes.{tells}
 use Rattle.colour.specs.declared.stamps.InkTask.{InkTask}
 use Rattle.colour.specs.declared.stamps.InkPlanes.{InkPlanes}

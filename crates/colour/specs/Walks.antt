@@ -4,13 +4,13 @@ use Rattle.std.specs.Prelude.{ℕ, ◌-◌, ◌^◌, ◌≤◌, ◌<◌, Bool, f
 use Rattle.std.proofs.Common.{zero, suc}
 use Rattle.vw_cell.specs.declared.cells.Cell.{Cell}
 use Rattle.vw_cell.specs.Counts.{cell_at}
-use Rattle.node_shapes.specs.declared.names.Name.{Name}
-use Rattle.node_shapes.specs.Shape.{has}
-use Rattle.node_shapes.specs.Tree.{Tree, root_of, child_of, shape_of}
-use Rattle.cell_shapes.specs.CellShapes.{Cells, SameIn, no_cells, octant_cells}
+use Rattle.node_words.specs.declared.shapes.names.Name.{Name}
+use Rattle.node_words.specs.shapes.Shape.{has}
+use Rattle.node_words.specs.shapes.Tree.{Tree, root_of, child_of, shape_of}
+use Rattle.node_words.specs.contents.CellShapes.{Cells, SameIn, no_cells, octant_cells}
 use Rattle.node_words.proofs.HeldLaws.{Keeps}
-use Rattle.edit_cells.specs.Tasks.{Making, Lasts, OneEach}
-use Rattle.edit_cells.specs.Paints.{IsOld, Paints, old_lasts, paints_last}
+use Rattle.edit_walk.specs.cells.Tasks.{Making, Lasts, OneEach}
+use Rattle.edit_walk.specs.cells.Paints.{IsOld, Paints, old_lasts, paints_last}
 use Rattle.history_model.specs.Worlds.{World}
 use Rattle.history_model.specs.Tints.{Tints}
 use Rattle.history_model.specs.Planes.{tells, plane_at}

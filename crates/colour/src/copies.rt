@@ -1,16 +1,16 @@
 ghost use Rattle.std.specs.Prelude.{◌≡◌, ◌+◌, ◌-◌, ◌^◌, ◌<◌, ◌≤◌, ℕ, suc, Option, IfOk, IfErr, option_copied};
 ghost use Rattle.vw_cell.specs.Places.{FitsAt};
-ghost use Rattle.node_shapes.specs.declared.names.Name.{Name};
-ghost use Rattle.node_shapes.specs.Weights.{number_of_trees};
+ghost use Rattle.node_words.specs.declared.shapes.names.Name.{Name};
+ghost use Rattle.node_words.specs.shapes.Weights.{number_of_trees};
 ghost use Rattle.node_words.specs.Held.{Seen};
-ghost use Rattle.block_walk.specs.Roots.{HoldsRoot};
+ghost use Rattle.node_words.specs.descent.Roots.{HoldsRoot};
 ghost use Rattle.history_model.specs.Worlds.{copied};
 ghost use Rattle.colour.specs.Edits.{RebuildsEdit, GrowsByEdit, RefusesEdit, made_at};
 ghost use Rattle.colour.specs.Made.{PartsMade, PartsFail, copy_parts};
 
 use crate::planes::{plane_at, plus};
-use edit_blocks::back_if;
 use edit_copy::rebuild_copy;
+use edit_walk::back_if;
 use node_words::{Full, NodeStore, Share, Steps};
 use std::sync::ledger::Ledger;
 use vw_cell::{Boxed, Cell, Side};

@@ -1,17 +1,15 @@
 ghost use Rattle.std.specs.Prelude.{◌≡◌, ◌-◌, ◌^◌, ◌≤◌, ℕ, Option, IfOk, IfErr, option_copied};
 ghost use Rattle.vw_cell.specs.Places.{is_in_box, is_in_ball};
-ghost use Rattle.node_shapes.specs.Weights.{number_of_trees};
-ghost use Rattle.block_walk.specs.Roots.{HoldsRoot};
+ghost use Rattle.node_words.specs.shapes.Weights.{number_of_trees};
+ghost use Rattle.node_words.specs.descent.Roots.{HoldsRoot};
 ghost use Rattle.colour.specs.Edits.{RebuildsEdit, GrowsByEdit, RefusesEdit};
 ghost use Rattle.colour.specs.Walks.{all_planes, fill_edit};
 
 use crate::planes::tells;
 use crate::walks::{Planes, rebuild_planes};
-use edit_cells::is_large;
 use edit_ops::{BallTask, BoxTask};
-use edit_walk::{Latest, Upper};
-use node_shapes::Name;
-use node_words::{Full, NodeStore, Share, Steps};
+use edit_walk::{Latest, Upper, is_large};
+use node_words::{Full, Name, NodeStore, Share, Steps};
 use std::sync::ledger::Ledger;
 use vw_cell::{Ball, Boxed, Cell, Side};
 

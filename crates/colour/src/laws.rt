@@ -2,10 +2,10 @@ ghost use Rattle.std.specs.Prelude.{◌≡◌, ◌-◌, ◌≤◌, ◌^◌, ℕ,
 ghost use Rattle.std.specs.List.{slice_get};
 ghost use Rattle.vw_cell.specs.declared.cells.Cell.{Cell};
 ghost use Rattle.vox_read.specs.Contents.{Content};
-ghost use Rattle.node_shapes.specs.declared.names.Name.{Name};
+ghost use Rattle.node_words.specs.declared.shapes.names.Name.{Name};
 ghost use Rattle.node_words.specs.Held.{Seen};
 ghost use Rattle.history_model.specs.Worlds.{World};
-ghost use Rattle.edit_cells.specs.Worlds.{ShowsWorld};
+ghost use Rattle.edit_walk.specs.cells.Worlds.{ShowsWorld};
 ghost use Rattle.history_model.specs.declared.acts.TintAct.{TintAct};
 ghost use Rattle.history_model.specs.Tints.{Tints, tinted, tints_from, stamp_tint};
 ghost use Rattle.history_model.specs.Logs.{TintFits};

@@ -1,16 +1,15 @@
 ghost use Rattle.std.specs.Prelude.{◌≡◌, ◌+◌, ◌-◌, ◌/◌, ◌^◌, ◌<◌, ◌≤◌, ℕ, option_copied};
 ghost use Rattle.vw_cell.specs.Counts.{cell_at};
 ghost use Rattle.vw_cell.specs.Places.{FitsAt};
-ghost use Rattle.node_shapes.specs.Tree.{Tree};
-ghost use Rattle.block_walk.specs.Roots.{HoldsRoot};
-ghost use Rattle.cell_shapes.specs.CellShapes.{bits_below};
+ghost use Rattle.node_words.specs.shapes.Tree.{Tree};
+ghost use Rattle.node_words.specs.descent.Roots.{HoldsRoot};
+ghost use Rattle.node_words.specs.contents.CellShapes.{bits_below};
 ghost use Rattle.extract.specs.Layers.{HoldsLayer, IsSmallLayer, leaves_in};
 ghost use Rattle.colour.specs.Layers.{ForRoot, HoldsBits, IsRead, bit_cells};
 
 use crate::reading::with_bit;
-use block_walk::{leaf_has, name_of, octant_name};
 use extract::{gather, row_start};
-use node_words::{Blocks, Share};
+use node_words::{Blocks, Share, leaf_has, name_of, octant_name};
 use vw_cell::{Boxed, Cell, Side};
 
 /// No layer of a box.

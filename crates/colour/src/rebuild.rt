@@ -1,6 +1,6 @@
 ghost use Rattle.std.specs.Prelude.{◌≡◌, ◌-◌, ◌^◌, ◌≤◌, ℕ, Option, IfOk, IfErr, option_copied};
-ghost use Rattle.node_shapes.specs.Weights.{number_of_trees};
-ghost use Rattle.block_walk.specs.Roots.{HoldsRoot};
+ghost use Rattle.node_words.specs.shapes.Weights.{number_of_trees};
+ghost use Rattle.node_words.specs.descent.Roots.{HoldsRoot};
 ghost use Rattle.history_model.specs.Parts.{part_number};
 ghost use Rattle.colour.specs.Inks.{FitsInk, parts_in};
 ghost use Rattle.colour.specs.Made.{PartsMade, PartsFail};

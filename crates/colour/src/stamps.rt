@@ -1,11 +1,11 @@
 ghost use Rattle.std.specs.Prelude.{◌≡◌, ◌+◌, ◌-◌, ◌*◌, ◌^◌, ◌<◌, ◌≤◌, ◌==◌, ℕ, List, IsTrue, option_copied, if◌then◌else◌};
 ghost use Rattle.std.specs.Int.{bit_at};
 ghost use Rattle.vw_cell.specs.Places.{FitsAt, HoldsBlock};
-ghost use Rattle.node_shapes.specs.Tree.{Tree};
-ghost use Rattle.node_shapes.specs.Weights.{number_of_trees};
-ghost use Rattle.block_walk.specs.Roots.{HoldsRoot};
-ghost use Rattle.cell_shapes.specs.CellShapes.{Cells, SameIn, no_cells, all_cells};
-ghost use Rattle.edit_cells.specs.Tasks.{IsWhole};
+ghost use Rattle.node_words.specs.shapes.Tree.{Tree};
+ghost use Rattle.node_words.specs.shapes.Weights.{number_of_trees};
+ghost use Rattle.node_words.specs.descent.Roots.{HoldsRoot};
+ghost use Rattle.node_words.specs.contents.CellShapes.{Cells, SameIn, no_cells, all_cells};
+ghost use Rattle.edit_walk.specs.cells.Tasks.{IsWhole};
 ghost use Rattle.edit_stamp.specs.declared.stencils.Shown.{Shown};
 ghost use Rattle.history_model.specs.Worlds.{box_at};
 ghost use Rattle.colour.specs.Edits.{RebuildsEdit, GrowsByEdit, RefusesEdit};
@@ -17,12 +17,11 @@ use crate::memos::Recent;
 use crate::planes::quarter;
 use crate::stencils::TintStencil;
 use crate::walks::{Planes, rebuild_planes};
-use block_walk::{leaf_bits, octant_name, same_cells, same_names};
-use edit_cells::{Task, Whole, old_whole};
 use edit_stamp::Shown;
-use edit_walk::{Latest, Repeats};
-use node_shapes::Name;
-use node_words::{Blocks, Full, NodeStore, Share, Steps};
+use edit_walk::{Latest, Repeats, Task, Whole, old_whole};
+use node_words::{
+    Blocks, Full, Name, NodeStore, Share, Steps, leaf_bits, octant_name, same_cells, same_names,
+};
 use std::sync::ledger::Ledger;
 use vw_cell::{Block, Boxed, Cell, Side};
 
@@ -40,7 +39,7 @@ pub(crate) struct InkTask<'s> {
 
 impl<'s> Task for InkTask<'s> {
     ghost use Rattle.std.specs.Prelude.{◌-◌};
-    ghost use Rattle.edit_cells.specs.Tasks.{blocks_in};
+    ghost use Rattle.edit_walk.specs.cells.Tasks.{blocks_in};
     ghost use Rattle.colour.specs.Stamps.{makes_ink, ink_lasts};
 
     ghost makes = { makes_ink };

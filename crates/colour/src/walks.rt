@@ -1,17 +1,17 @@
 ghost use Rattle.std.specs.Prelude.{◌≡◌, ◌-◌, ◌<◌, ◌≤◌, ℕ, Option, option_copied};
-ghost use Rattle.node_shapes.specs.declared.names.Name.{Name};
-ghost use Rattle.node_shapes.specs.Weights.{number_of_trees};
-ghost use Rattle.block_walk.specs.Roots.{HoldsRoot};
+ghost use Rattle.node_words.specs.declared.shapes.names.Name.{Name};
+ghost use Rattle.node_words.specs.shapes.Weights.{number_of_trees};
+ghost use Rattle.node_words.specs.descent.Roots.{HoldsRoot};
 ghost use Rattle.edit_walk.specs.Memos.{RecallsHeld};
 ghost use Rattle.colour.specs.Edits.{RebuildsEdit, GrowsByEdit, RefusesEdit};
-ghost use Rattle.cell_shapes.specs.CellShapes.{octant_cells};
-ghost use Rattle.edit_cells.specs.Tasks.{MakesCells, ForCells};
+ghost use Rattle.node_words.specs.contents.CellShapes.{octant_cells};
+ghost use Rattle.edit_walk.specs.cells.Tasks.{MakesCells, ForCells};
 ghost use Rattle.colour.specs.Walks.{MakesRow, root_octants, first_octants, bit_octants, makes_tint, CellEdit, all_planes, MakesPlanes};
 
-use edit_cells::{Task, Whole, leaf_bits, name_of, octant_name, old_whole};
-use edit_walk::{Memo, Repeats, rebuild_world};
-use node_shapes::Name;
-use node_words::{Blocks, Full, NodeStore, Share, Steps};
+use edit_walk::{
+    Memo, Repeats, Task, Whole, leaf_bits, name_of, octant_name, old_whole, rebuild_world,
+};
+use node_words::{Blocks, Full, Name, NodeStore, Share, Steps};
 use std::sync::ledger::Ledger;
 use vw_cell::Side;
 
@@ -41,7 +41,7 @@ pub(crate) enum TintTask<P, T> {
 }
 
 impl<P: Planes<T>, T: Task> Task for TintTask<P, T> {
-    ghost use Rattle.edit_cells.specs.Tasks.{blocks_in};
+    ghost use Rattle.edit_walk.specs.cells.Tasks.{blocks_in};
     ghost use Rattle.std.specs.Prelude.{◌-◌};
     ghost use Rattle.colour.specs.Walks.{makes_tint, tint_lasts};
 

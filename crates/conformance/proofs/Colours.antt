@@ -6,7 +6,7 @@ use Rattle.std.specs.List.{AllZip}
 use Rattle.std.proofs.lemmas.List.Elements.{All-nil, All-cons}
 use Rattle.vw_cell.specs.declared.cells.Cell.{Cell}
 use Rattle.vw_cell.specs.declared.boxes.Boxed.{Boxed}
-use Rattle.sums.specs.Sums.{sum_below}
+use Rattle.vw_cell.specs.Sums.{sum_below}
 use Rattle.vw_cell.specs.Counts.{cell_at, number_in}
 use Rattle.history_model.specs.declared.acts.Act.{Act}
 use Rattle.history_model.specs.declared.acts.Act.TheVariants.{Tint}
@@ -18,7 +18,7 @@ use Rattle.history_model.specs.Logs.{Log, SuitsTints, suits_tints}
 use Rattle.history_model.specs.Moments.{world_has}
 use Rattle.history_model.specs.Stores.{edit_part_number}
 use Rattle.node_words.specs.Plans.{Layout}
-use Rattle.possible.specs.Needed.{made_of}
+use Rattle.conformance.specs.possible.Needed.{made_of}
 use Rattle.script.specs.declared.commands.Command.{Command}
 use Rattle.script.specs.declared.commands.Command.TheVariants.{Edit, Ask, Same}
 use Rattle.script.specs.declared.commands.ScriptLine.{ScriptLine}

@@ -8,5 +8,7 @@ pub mod Seeing
 pub mod Moments
 pub mod Samples
 pub mod Rows
-pub use Rattle.possible.proofs.ContentBuckets
 pub mod Colours
+pub mod OfPossible
+pub mod OfScripts
+pub mod OfSessions

@@ -16,7 +16,7 @@ use Rattle.history_model.specs.Positions.{position_after, first_of}
 use Rattle.history_model.specs.Logs.{Log, IsLegal, suits_tints, kept_side, world_side}
 use Rattle.history_model.specs.Tints.{Tints, SameTints}
 use Rattle.node_words.specs.Plans.{Layout}
-use Rattle.possible.specs.Versions.{IsKept, MarkComes}
+use Rattle.conformance.specs.Versions.{IsKept, MarkComes}
 use Rattle.script.specs.declared.commands.Command.{Command}
 use Rattle.script.specs.declared.commands.Command.TheVariants.{Edit, Forget, Ask, Save, Same, Head}
 use Rattle.script.specs.declared.commands.ScriptLine.{ScriptLine}

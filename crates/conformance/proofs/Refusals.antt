@@ -3,7 +3,7 @@ use Rattle.std.proofs.Common.{◌≡◌, ℕ, List, [], ◌∷◌, All, refl, ar
 use Rattle.history_model.specs.Contents.{Content}
 use Rattle.history_model.specs.Logs.{Log}
 use Rattle.node_words.specs.Plans.{Layout}
-use Rattle.possible.specs.Needed.{IsPossible}
+use Rattle.conformance.specs.possible.Needed.{IsPossible}
 use Rattle.script.specs.declared.commands.ScriptLine.{ScriptLine}
 use Rattle.transcript.specs.declared.answers.LineAnswer.{LineAnswer}
 use Rattle.conformance.specs.Refusing.{spans_of, refused_of, WasPossible, FullOnlyWherePossible}

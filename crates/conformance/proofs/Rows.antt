@@ -4,7 +4,7 @@ use Rattle.std.specs.Prelude.{None, Some}
 use Rattle.std.specs.List.{AllZip}
 use Rattle.std.proofs.lemmas.List.Elements.{All-nil, All-cons}
 use Rattle.vw_cell.specs.declared.boxes.Boxed.{Boxed}
-use Rattle.sums.specs.Sums.{sum_below}
+use Rattle.vw_cell.specs.Sums.{sum_below}
 use Rattle.vw_cell.specs.Counts.{cell_at, number_in}
 use Rattle.history_model.specs.declared.acts.Act.{Act}
 use Rattle.history_model.specs.declared.acts.Act.TheVariants.{Fill, Undo, Redo}

@@ -6,7 +6,7 @@ use Rattle.std.proofs.lemmas.Bool.{false≢true}
 use Rattle.std.proofs.lemmas.List.Elements.{All-nil, All-cons, All-head}
 use Rattle.vw_cell.specs.declared.cells.Cell.{Cell}
 use Rattle.vw_cell.specs.declared.boxes.Boxed.{Boxed}
-use Rattle.sums.specs.Sums.{sum_below}
+use Rattle.vw_cell.specs.Sums.{sum_below}
 use Rattle.vw_cell.specs.Counts.{cell_at, number_in}
 use Rattle.history_model.specs.declared.acts.Act.TheVariants.{Fill, Erase, Undo}
 use Rattle.history_model.specs.declared.histories.Mark.{Mark}
@@ -14,7 +14,7 @@ use Rattle.history_model.specs.Worlds.{box_at}
 use Rattle.history_model.specs.Logs.{Log}
 use Rattle.history_model.specs.Moments.{world_has}
 use Rattle.node_words.specs.Plans.{Layout}
-use Rattle.possible.specs.Needed.{NeedsSome, made_of}
+use Rattle.conformance.specs.possible.Needed.{NeedsSome, made_of}
 use Rattle.script.specs.declared.commands.Command.{Command}
 use Rattle.script.specs.declared.commands.Command.TheVariants.{Edit, Forget, Ask}
 use Rattle.history_model.specs.declared.questions.Question.TheVariants as questions

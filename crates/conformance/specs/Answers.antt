@@ -12,7 +12,7 @@ use Rattle.history_model.specs.Logs.{Log, world_side}
 use Rattle.history_model.specs.Moments.{world_has, world_tint}
 use Rattle.history_model.specs.Tints.{SameTints}
 use Rattle.node_words.specs.Plans.{Layout}
-use Rattle.possible.specs.Aligned.{top}
+use Rattle.conformance.specs.Aligned.{top}
 use Rattle.script.specs.declared.commands.Command.{Command}
 use Rattle.script.specs.declared.commands.Command.TheVariants.{Edit, Forget, Ask, Save, Same, Head}
 use Rattle.history_model.specs.declared.questions.Question.{Question}

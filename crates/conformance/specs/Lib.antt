@@ -9,5 +9,9 @@ pub mod Saves
 pub mod Passes
 pub mod Statements
 pub mod Runs
-pub use Rattle.possible.specs.Needed
+pub mod possible
+pub mod scripts
+pub mod sessions
 pub use Rattle.script.specs.Fitting
+pub use Rattle.core_laws.specs.contents.Versions
+pub use Rattle.core_laws.specs.contents.Aligned

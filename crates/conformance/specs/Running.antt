@@ -4,7 +4,7 @@ use Rattle.std.specs.List.{AllZip, Contains}
 use Rattle.history_model.specs.Contents.{Content}
 use Rattle.history_model.specs.declared.histories.Record.{Record}
 use Rattle.history_model.specs.declared.histories.Mark.{Mark}
-use Rattle.possible.specs.Versions.{MarkComes}
+use Rattle.conformance.specs.Versions.{MarkComes}
 use Rattle.history_model.specs.Logs.{Log, IsLegal, SuitsTints, suits_tints}
 use Rattle.node_words.specs.Plans.{Layout}
 use Rattle.script.specs.declared.commands.ScriptLine.{ScriptLine}

@@ -5,7 +5,7 @@ use Rattle.history_model.specs.Logs.{Log, IsLegal, SuitsTints}
 use Rattle.node_words.specs.Plans.{Layout}
 use Rattle.script.specs.declared.commands.ScriptLine.{ScriptLine}
 use Rattle.transcript.specs.declared.answers.LineAnswer.{LineAnswer}
-use Rattle.versions.specs.Retained.{KeepsLast}
+use Rattle.retain.specs.Retained.{KeepsLast}
 use Rattle.conformance.specs.Agreeing.{AgreesKeeping}
 use Rattle.conformance.specs.Refusing.{FullOnlyWherePossible}
 

@@ -4,14 +4,14 @@ use Rattle.std.specs.List.{AllPairs}
 use Rattle.history_model.specs.declared.histories.Record.{Record}
 use Rattle.history_model.specs.declared.histories.Mark.{Mark}
 use Rattle.history_model.specs.Logs.{Log}
-pub use Rattle.versions.specs.Listing.{Accepted, numbered}
+pub use Rattle.retain.specs.Listing.{Accepted, numbered}
 use Rattle.script.specs.declared.commands.Command.{Command}
 use Rattle.script.specs.declared.commands.Command.TheVariants.{Edit}
 use Rattle.script.specs.declared.commands.ScriptLine.{ScriptLine}
 use Rattle.transcript.specs.declared.answers.Answer.{Answer}
 use Rattle.transcript.specs.declared.answers.Answer.TheVariants as answers
 use Rattle.transcript.specs.declared.answers.LineAnswer.{LineAnswer}
-use Rattle.versions.specs.Retained.{with_fallen}
+use Rattle.retain.specs.Retained.{with_fallen}
 use Rattle.conformance.specs.Answers.{mark_of}
 
 -- two lists have the same items, each as often: they weigh the same by every weight

@@ -10,8 +10,8 @@ use Rattle.history_model.specs.Worlds.{is_edit}
 use Rattle.history_model.specs.Positions.{position_after, first_of}
 use Rattle.history_model.specs.Logs.{Log, IsLegal, SuitsTints}
 use Rattle.node_words.specs.Plans.{Layout}
-use Rattle.possible.specs.Versions.{IsKept}
-use Rattle.possible.specs.Needed.{IsPossible}
+use Rattle.conformance.specs.Versions.{IsKept}
+use Rattle.conformance.specs.possible.Needed.{IsPossible}
 use Rattle.script.specs.declared.commands.Command.{Command}
 use Rattle.script.specs.declared.commands.Command.TheVariants.{Edit, Forget}
 use Rattle.script.specs.declared.commands.ScriptLine.{ScriptLine}

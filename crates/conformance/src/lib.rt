@@ -8,12 +8,21 @@
 #![tactic(auto)]
 
 mod laws;
+mod possible;
 mod runs;
 mod saves;
+mod scripts;
+mod sessions;
 
 pub use laws::{
     answers_go_on, each_answer_is_a_step, full_only_where_possible, runs_go_on,
     sessions_agree_beside_others, shown_records_are_accepted_once,
 };
+pub use possible::contents_have_buckets;
 pub use runs::{Ran, Transcript};
 pub use saves::SavedBox;
+pub use scripts::{Desk, arms_take_lines, plain_edits_want_their_parts, run_script, run_scripts};
+pub use sessions::{
+    ActAnswer, AskedAt, OnceAnswer, SavedAt, SessionCalls, SessionDesk, answer_line,
+    calls_take_lines, run_lines, sessions_are_a_run, sessions_go_on,
+};

@@ -2,15 +2,15 @@
 use Rattle.std.proofs.Common.{◌≡◌, ◌≢◌, ℕ, zero, suc, ◌+◌, ◌*◌, ◌<◌, ◌≤◌, sym, ◌∙◌, ap, subst, arith, Some, None, Option, List, sum_by}
 use Rattle.std.proofs.lemmas.List.Sums.{sum_by-le-sum_by}
 use native.Mathlib.Nat.{suc-mul}
-use Rattle.sums.specs.Sums.{sum_below, sum_below-le}
-use Rattle.node_shapes.specs.declared.names.Name.{Name}
+use Rattle.vw_cell.specs.Sums.{sum_below, sum_below-le}
+use Rattle.node_words.specs.declared.shapes.names.Name.{Name}
 use Rattle.node_words.specs.declared.keys.Key.{Key}
 use Rattle.node_words.specs.Keys.{bucket_of_key}
 use Rattle.node_words.specs.Plans.{Layout}
-use Rattle.node_places.specs.Spots.{levels, buckets_at, versions}
+use Rattle.core_laws.specs.places.Spots.{levels, buckets_at, versions}
 use Rattle.core_laws.specs.States.{State, IsLive}
-use Rattle.node_places.specs.Names.{key_child}
-use Rattle.node_places.specs.Names.{named}
+use Rattle.core_laws.specs.places.Names.{key_child}
+use Rattle.core_laws.specs.places.Names.{named}
 use Rattle.core_laws.specs.Counting.{sum_names, weight, children_weight, if_live, entry_weight, booked, parented, rooted, holdings}
 use Rattle.core_laws.specs.Soundness.{SoundEntries}
 use Rattle.core_laws.proofs.Sums.{sum_names-at, is_name, is_name-self, is_name-small}

@@ -9,24 +9,24 @@ use Rattle.vw_cell.specs.declared.cells.Cell.{Cell}
 use Rattle.vw_cell.specs.declared.blocks.Block.{Block}
 use Rattle.vw_cell.specs.Counts.{cell_at}
 use Rattle.vw_cell.specs.Places.{block_side, IsInBlock, IsInWorld}
-use Rattle.block_contents.specs.HistoryModelContents.{Content}
-use Rattle.node_shapes.specs.declared.names.Name.{Name}
-use Rattle.node_shapes.specs.Shape.{Shape, Clear, ShowsCells, HasCell, IsCanonical, has}
-use Rattle.node_shapes.proofs.ShapeLaws.{some_cell, same_shape}
+use Rattle.core_laws.specs.HistoryModelContents.{Content}
+use Rattle.node_words.specs.declared.shapes.names.Name.{Name}
+use Rattle.node_words.specs.shapes.Shape.{Shape, Clear, ShowsCells, HasCell, IsCanonical, has}
+use Rattle.node_words.proofs.OfShapes.ShapeLaws.{some_cell, same_shape}
 use Rattle.node_words.specs.Plans.{Layout}
-use Rattle.block_contents.specs.Worlds.{World}
-use Rattle.node_places.specs.Spots.{levels}
-use Rattle.block_contents.specs.Stores as history
+use Rattle.core_laws.specs.Worlds.{World}
+use Rattle.core_laws.specs.places.Spots.{levels}
+use Rattle.core_laws.specs.Stores as history
 use Rattle.core_laws.specs.Soundness.{Sound}
-use Rattle.block_contents.specs.Versions.{IsKept}
+use Rattle.core_laws.specs.contents.Versions.{IsKept}
 use Rattle.core_laws.proofs.LiveNumbers.{live_numbers}
 use Rattle.core_laws.proofs.Roots.{sound_roots}
 use Rattle.core_laws.proofs.RootCells.{no_root_no_cell}
-use Rattle.block_contents.proofs.WorldBlocks.{aligned_in_world}
+use Rattle.core_laws.proofs.OfContents.WorldBlocks.{aligned_in_world}
 use Rattle.core_laws.specs.States.{State}
-use Rattle.block_contents.specs.Aligned.{world_block}
+use Rattle.core_laws.specs.contents.Aligned.{world_block}
 use Rattle.core_laws.specs.Blocks.{IsSite, ShowsSomeBlock, Lists, HasBlocks, live_number, IsIdle}
-use Rattle.block_contents.specs.Contents.{HasCellIn, Site, SameContent, IsFilled, HasContents}
+use Rattle.core_laws.specs.contents.Contents.{HasCellIn, Site, SameContent, IsFilled, HasContents}
 
 has_same : (level : ℕ) (s : Shape) (x y z x' y' z' : ℕ) → x ≡ x' → y ≡ y' → z ≡ z'
     → has level s x y z ≡ has level s x' y' z'

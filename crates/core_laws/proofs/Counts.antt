@@ -3,12 +3,12 @@ use Rattle.std.proofs.Common.{◌≡◌, ◌≢◌, ℕ, zero, suc, ◌+◌, ◌
 use Rattle.std.specs.List.{slice_get}
 use Rattle.std.proofs.lemmas.List.Sums.{sum_by-cons}
 use Rattle.std.proofs.lemmas.Option.{same_Some, none-some}
-use Rattle.sums.specs.Sums.{sum_below-same, sum_below-change}
-use Rattle.node_shapes.specs.declared.names.Name.{Name}
+use Rattle.vw_cell.specs.Sums.{sum_below-same, sum_below-change}
+use Rattle.node_words.specs.declared.shapes.names.Name.{Name}
 use Rattle.node_words.specs.Plans.{Layout}
-use Rattle.node_places.specs.Spots.{versions}
+use Rattle.core_laws.specs.places.Spots.{versions}
 use Rattle.core_laws.specs.States.{State}
-use Rattle.node_places.specs.Names.{IsName}
+use Rattle.core_laws.specs.places.Names.{IsName}
 use Rattle.core_laws.specs.Counting.{weight, children_weight, entry_weight, booked, parented, rooted, holdings}
 use Rattle.core_laws.specs.Events.{Trades, EntriesStay, OthersStay, RootsStay}
 use Rattle.core_laws.proofs.Sums.{sum_names-same, sum_names-change, if_live-same}

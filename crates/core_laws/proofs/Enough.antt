@@ -5,12 +5,12 @@ use Rattle.std.specs.List.{AllPairs, Contains}
 use Rattle.std.proofs.lemmas.List.Elements.{All-nil, All-cons}
 use Rattle.std.proofs.lemmas.List.Kept.{AllPairs-cons}
 use Rattle.std.proofs.lemmas.Option.{same_Some}
-use Rattle.node_shapes.specs.declared.names.Name.{Name}
-use Rattle.node_shapes.specs.Shape.{Shape, Clear, IsCanonical}
-use Rattle.node_shapes.specs.Buckets.{bucket_of_shape}
+use Rattle.node_words.specs.declared.shapes.names.Name.{Name}
+use Rattle.node_words.specs.shapes.Shape.{Shape, Clear, IsCanonical}
+use Rattle.node_words.specs.shapes.Buckets.{bucket_of_shape}
 use Rattle.node_words.specs.Plans.{Layout}
 use Rattle.core_laws.specs.States.{State, shape_in}
-use Rattle.node_places.specs.Names.{named}
+use Rattle.core_laws.specs.places.Names.{named}
 use Rattle.node_words.specs.Enough.{HasEnough}
 use Rattle.core_laws.specs.Soundness.{SoundEntries, IsFull}
 use Rattle.core_laws.proofs.LiveShapes.{LivesAt, one_lives, shape_once, canonical_at, bucket_at, not_clear_at}

@@ -1,13 +1,13 @@
 -- Each step of a store keeps its entries sound.
 use Rattle.std.proofs.Common.{◌≡◌, ◌≢◌, ℕ, ◌+◌, ◌*◌, ◌<◌, sym, ◌∙◌, ap, subst, arith, Option, List}
-use Rattle.node_shapes.specs.declared.names.Name.{Name}
-use Rattle.node_shapes.proofs.TreeEqual.{Name-discrete}
+use Rattle.node_words.specs.declared.shapes.names.Name.{Name}
+use Rattle.node_words.proofs.OfShapes.TreeEqual.{Name-discrete}
 use Rattle.node_words.specs.declared.keys.Key.{Key}
 use Rattle.node_words.specs.Keys.{bucket_of_key}
 use Rattle.node_words.specs.Plans.{Layout}
-use Rattle.node_places.specs.Spots.{buckets_at}
+use Rattle.core_laws.specs.places.Spots.{buckets_at}
 use Rattle.core_laws.specs.States.{State, IsLive}
-use Rattle.node_places.specs.Names.{IsName}
+use Rattle.core_laws.specs.places.Names.{IsName}
 use Rattle.core_laws.specs.Counting.{weight, children_weight, if_live, entry_weight, rooted, holdings}
 use Rattle.core_laws.specs.Soundness.{FitsLevel, SoundEntries}
 use Rattle.core_laws.specs.Events.{Trades, EntriesStay, OthersStay, RootsStay, Rests, PutsRoot, TakesRoot, StoreStep, rests, raises, adds, lowers, frees, puts_root, takes_root, Raises, Adds, Lowers, Frees, no_weight, one_name, at_most_one, children_named}

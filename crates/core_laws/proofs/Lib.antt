@@ -19,4 +19,6 @@ pub mod SeenNodes
 pub mod Bounds
 pub mod Targets
 pub mod ContentLaws
-pub use Rattle.node_places.proofs.Apart
+pub mod OfPlaces
+pub mod OfContents
+pub mod OfTints

@@ -7,15 +7,15 @@ use Rattle.std.proofs.lemmas.Bool.{cases_eq}
 use Rattle.std.proofs.lemmas.List.Elements.{All-nil, All-cons, All-head, All-tail, All-append, Contains-append_left, Contains-append_right}
 use Rattle.std.proofs.lemmas.List.Kept.{AllPairs-cons}
 use Rattle.std.proofs.lemmas.Option.{same_Some}
-use Rattle.sums.specs.Sums.{sum_below, sum_below-suc, sum_below-zero}
-use Rattle.node_shapes.specs.declared.names.Name.{Name}
-use Rattle.node_shapes.specs.Shape.{Shape, Clear, IsCanonical}
-use Rattle.node_shapes.specs.Tree.{shape_of}
+use Rattle.vw_cell.specs.Sums.{sum_below, sum_below-suc, sum_below-zero}
+use Rattle.node_words.specs.declared.shapes.names.Name.{Name}
+use Rattle.node_words.specs.shapes.Shape.{Shape, Clear, IsCanonical}
+use Rattle.node_words.specs.shapes.Tree.{shape_of}
 use Rattle.node_words.specs.Plans.{Layout}
-use Rattle.node_places.specs.Spots.{levels, buckets_at}
-use Rattle.block_contents.specs.Worlds.{World}
+use Rattle.core_laws.specs.places.Spots.{levels, buckets_at}
+use Rattle.core_laws.specs.Worlds.{World}
 use Rattle.core_laws.specs.States.{State, shape_in, tree_at}
-use Rattle.node_places.specs.Names.{named}
+use Rattle.core_laws.specs.places.Names.{named}
 use Rattle.core_laws.specs.Counting.{if_live}
 use Rattle.core_laws.specs.Soundness.{SoundEntries}
 use Rattle.core_laws.specs.Blocks.{RootsShow, ShowsSomeBlock, Lists, HasBlocks, live_in, live_number, IsIdle}

@@ -5,20 +5,20 @@ use Rattle.std.specs.Prelude.{slice_index}
 use Rattle.std.proofs.lemmas.Bool.{cases_lt}
 use Rattle.std.proofs.lemmas.Option.{same_Some, none-some}
 use Rattle.std.proofs.lemmas.List.{ext_get_or}
-use Rattle.node_shapes.specs.declared.names.Name.{Name}
-use Rattle.node_shapes.specs.Shape.{Shape, Clear, Branch, octant_shape, IsCanonical, IsBranchShape}
-use Rattle.node_shapes.specs.Shape as shape
-use Rattle.node_shapes.specs.Buckets.{node_bucket, octant_term, bucket_of_shape}
-use Rattle.node_shapes.specs.Tree.{LeafAt, shape_of}
-use Rattle.node_shapes.proofs.TreeLaws.{shape_of-child, child_of-node_at}
-use Rattle.node_shapes.proofs.ShapeLaws.{octant_shape-past}
-use Rattle.node_shapes.proofs.BucketLaws.{node_bucket-same, octant_term-clear, octant_term-there, bucket_of_shape-leaf, bucket_of_shape-node}
+use Rattle.node_words.specs.declared.shapes.names.Name.{Name}
+use Rattle.node_words.specs.shapes.Shape.{Shape, Clear, Branch, octant_shape, IsCanonical, IsBranchShape}
+use Rattle.node_words.specs.shapes.Shape as shape
+use Rattle.node_words.specs.shapes.Buckets.{node_bucket, octant_term, bucket_of_shape}
+use Rattle.node_words.specs.shapes.Tree.{LeafAt, shape_of}
+use Rattle.node_words.proofs.OfShapes.TreeLaws.{shape_of-child, child_of-node_at}
+use Rattle.node_words.proofs.OfShapes.ShapeLaws.{octant_shape-past}
+use Rattle.node_words.proofs.OfShapes.BucketLaws.{node_bucket-same, octant_term-clear, octant_term-there, bucket_of_shape-leaf, bucket_of_shape-node}
 use Rattle.node_words.specs.declared.keys.Key.{Key}
 use Rattle.node_words.specs.declared.keys.Key.TheVariants.{Leaf, Node}
 use Rattle.node_words.specs.Keys.{child_term, bucket_of_key}
 use Rattle.node_words.specs.Plans.{Layout}
 use Rattle.core_laws.specs.States.{State, IsLive, tree_at}
-use Rattle.node_places.specs.Names.{key_bits, key_child}
+use Rattle.core_laws.specs.places.Names.{key_bits, key_child}
 use Rattle.core_laws.specs.Soundness.{FitsLevel, SoundEntries}
 use Rattle.core_laws.proofs.Lives.{child_lives, child_level}
 

@@ -3,14 +3,14 @@ use Rattle.std.proofs.Common.{◌≡◌, ℕ, zero, suc, ◌+◌, ◌*◌, ◌<�
 use Rattle.std.specs.List.{slice_get}
 use Rattle.std.proofs.lemmas.List.Sums.{sum_by-cons}
 use Rattle.std.proofs.lemmas.Option.{same_Some, none-some}
-use Rattle.sums.specs.Sums.{sum_below-at}
-use Rattle.node_shapes.specs.declared.names.Name.{Name}
+use Rattle.vw_cell.specs.Sums.{sum_below-at}
+use Rattle.node_words.specs.declared.shapes.names.Name.{Name}
 use Rattle.node_words.specs.declared.keys.Key.{Key}
 use Rattle.node_words.specs.declared.keys.Key.TheVariants.{Leaf, Node}
 use Rattle.node_words.specs.Plans.{Layout}
-use Rattle.node_places.specs.Spots.{versions}
+use Rattle.core_laws.specs.places.Spots.{versions}
 use Rattle.core_laws.specs.States.{State, IsLive, Holds, IsUnder, itself, below}
-use Rattle.node_places.specs.Names.{key_child}
+use Rattle.core_laws.specs.places.Names.{key_child}
 use Rattle.core_laws.specs.Counting.{weight, children_weight, entry_weight, booked, parented, rooted, holdings}
 use Rattle.core_laws.specs.Soundness.{FitsLevel, SoundEntries}
 use Rattle.core_laws.proofs.Sums.{sum_names-at, SomeName, sum_names_some, is_name, is_name-self, is_name-some, weight_there, factors, if_live_live}

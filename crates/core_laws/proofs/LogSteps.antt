@@ -6,23 +6,23 @@ use Rattle.std.proofs.lemmas.Bool.{cases_lt, cases_eq}
 use Rattle.std.proofs.lemmas.Option.{none-some}
 use Rattle.vw_cell.specs.declared.cells.Cell.{Cell}
 use Rattle.vw_cell.specs.Places.{IsInBlock}
-use Rattle.block_contents.specs.HistoryModelContents.{Content}
-use Rattle.node_shapes.specs.declared.names.Name.{Name}
-use Rattle.node_shapes.specs.Shape.{ShowsCells}
-use Rattle.node_shapes.specs.Tree.{Tree, shape_of}
+use Rattle.core_laws.specs.HistoryModelContents.{Content}
+use Rattle.node_words.specs.declared.shapes.names.Name.{Name}
+use Rattle.node_words.specs.shapes.Shape.{ShowsCells}
+use Rattle.node_words.specs.shapes.Tree.{Tree, shape_of}
 use Rattle.node_words.specs.Plans.{Layout}
-use Rattle.node_places.specs.Spots.{versions}
-use Rattle.block_contents.specs.Record.{Record}
-use Rattle.block_contents.specs.Mark.{Mark}
-use Rattle.block_contents.specs.Logs.{Log, FitsWorld, IsLegal, MayFollowFrom}
-use Rattle.block_contents.specs.Positions.{beginning}
-use Rattle.block_contents.specs.Stores.{stored_in}
-use Rattle.block_contents.specs.StoreLaws.{stored_stays}
-use Rattle.block_contents.specs.LegalLaws.{legal_next}
+use Rattle.core_laws.specs.places.Spots.{versions}
+use Rattle.core_laws.specs.Record.{Record}
+use Rattle.core_laws.specs.Mark.{Mark}
+use Rattle.core_laws.specs.Logs.{Log, FitsWorld, IsLegal, MayFollowFrom}
+use Rattle.core_laws.specs.Positions.{beginning}
+use Rattle.core_laws.specs.Stores.{stored_in}
+use Rattle.core_laws.specs.StoreLaws.{stored_stays}
+use Rattle.core_laws.specs.LegalLaws.{legal_next}
 use Rattle.core_laws.specs.States.{State, tree_at}
-use Rattle.block_contents.specs.Aligned.{top, world_block}
+use Rattle.core_laws.specs.contents.Aligned.{top, world_block}
 use Rattle.core_laws.specs.Soundness.{SoundEntries, SoundVersions, Sound}
-use Rattle.block_contents.specs.Versions.{IsUnmarked, IsKept}
+use Rattle.core_laws.specs.contents.Versions.{IsUnmarked, IsKept}
 use Rattle.core_laws.specs.Events.{RootsStay, no_weight, at_most_one, KeysStay}
 use Rattle.core_laws.specs.LogEvents.{Appends, Forgets}
 use Rattle.core_laws.proofs.Sums.{weight_there}
@@ -30,8 +30,8 @@ use Rattle.core_laws.proofs.Lives.{root_lives}
 use Rattle.core_laws.proofs.Trees.{tree_stays}
 use Rattle.core_laws.proofs.EntrySteps.{keys_stay, given_lives, put_root_entries, take_root_entries}
 use Rattle.core_laws.proofs.MadeCells.{made_cells}
-use Rattle.block_contents.proofs.WorldBlocks.{in_world}
-use Rattle.block_contents.proofs.MarkLaws.{each_mark, old_marks, new_mark, marks_rise, marks_follow}
+use Rattle.core_laws.proofs.OfContents.WorldBlocks.{in_world}
+use Rattle.core_laws.proofs.OfContents.MarkLaws.{each_mark, old_marks, new_mark, marks_rise, marks_follow}
 
 -- a root stands at a version that there is room for
 pub root_in_range : (p : Layout) (models : List Content) (state : State) (v : ℕ) (n : Name)

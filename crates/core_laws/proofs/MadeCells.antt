@@ -1,14 +1,14 @@
 -- The cells of the version that a record makes.
 use Rattle.std.proofs.Common.{ℕ, ◌+◌, sym, ◌∙◌, ap, inl, inr, List, [], ◌∷◌, ◌++◌, length}
 use Rattle.std.proofs.lemmas.Bool.{cases_Bool}
-use Rattle.block_contents.specs.HistoryModelContents.{Content}
-use Rattle.block_contents.specs.Record.{Record}
-use Rattle.block_contents.specs.Worlds.{World, is_edit}
-use Rattle.block_contents.specs.Positions.{Position}
-use Rattle.block_contents.specs.Stores.{stored_in}
-use Rattle.block_contents.specs.StoreLaws.{stored_of_edit, stored_of_other}
-use Rattle.block_contents.specs.Laws.{position_of_next}
-use Rattle.block_contents.specs.Versions.{SameWorld}
+use Rattle.core_laws.specs.HistoryModelContents.{Content}
+use Rattle.core_laws.specs.Record.{Record}
+use Rattle.core_laws.specs.Worlds.{World, is_edit}
+use Rattle.core_laws.specs.Positions.{Position}
+use Rattle.core_laws.specs.Stores.{stored_in}
+use Rattle.core_laws.specs.StoreLaws.{stored_of_edit, stored_of_other}
+use Rattle.core_laws.specs.Laws.{position_of_next}
+use Rattle.core_laws.specs.contents.Versions.{SameWorld}
 use Rattle.core_laws.specs.Making.{Makes}
 
 -- the version of the next record has the cells that its act makes

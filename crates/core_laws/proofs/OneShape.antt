@@ -3,13 +3,13 @@
 use Rattle.std.proofs.Common.{◌≡◌, ◌≢◌, ℕ, zero, suc, refl, sym, ◌∙◌, ap, subst, inl, inr, Some, None, Option}
 use Rattle.std.proofs.lemmas.Bool.{cases_lt}
 use Rattle.std.proofs.lemmas.Option.{same_Some}
-use Rattle.node_shapes.specs.declared.names.Name.{Name}
-use Rattle.node_shapes.specs.Shape.{Shape, Clear, octant_shape, IsCanonical, IsPart, whole, within}
-use Rattle.node_shapes.specs.Tree.{shape_of}
-use Rattle.node_shapes.proofs.ShapeLaws.{octant_shape-clear, octant_shape-past, one_level}
+use Rattle.node_words.specs.declared.shapes.names.Name.{Name}
+use Rattle.node_words.specs.shapes.Shape.{Shape, Clear, octant_shape, IsCanonical, IsPart, whole, within}
+use Rattle.node_words.specs.shapes.Tree.{shape_of}
+use Rattle.node_words.proofs.OfShapes.ShapeLaws.{octant_shape-clear, octant_shape-past, one_level}
 use Rattle.node_words.specs.declared.keys.Key.{Key}
 use Rattle.node_words.specs.Plans.{Layout}
-use Rattle.node_places.specs.Names.{key_child}
+use Rattle.core_laws.specs.places.Names.{key_child}
 use Rattle.core_laws.specs.States.{State, IsLive, tree_at, shape_in}
 use Rattle.core_laws.specs.Soundness.{SoundEntries}
 use Rattle.core_laws.specs.Returning.{IsShapeStored}

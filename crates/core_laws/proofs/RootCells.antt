@@ -1,27 +1,27 @@
 -- An empty state is sound, and roots tell the cells of their versions.
 use Rattle.std.proofs.Common.{◌≡◌, ℕ, ◌*◌, ◌^◌, ◌≤◌, refl, sym, ◌∙◌, ap, subst, arith, None, Option, List, length, false}
 use Rattle.std.proofs.lemmas.Option.{none-some}
-use Rattle.sums.specs.Sums.{sum_below-le}
+use Rattle.vw_cell.specs.Sums.{sum_below-le}
 use Rattle.vw_cell.specs.declared.cells.Cell.{Cell}
 use Rattle.vw_cell.specs.Places.{IsInWorld}
-use Rattle.block_contents.specs.HistoryModelContents.{Content}
-use Rattle.node_shapes.specs.declared.names.Name.{Name}
-use Rattle.node_shapes.specs.Shape.{Shape, Clear, ShowsCells}
-use Rattle.node_shapes.specs.Tree.{shape_of}
-use Rattle.node_shapes.proofs.ShowLaws.{clear_shows, clear_shown, shown_once}
+use Rattle.core_laws.specs.HistoryModelContents.{Content}
+use Rattle.node_words.specs.declared.shapes.names.Name.{Name}
+use Rattle.node_words.specs.shapes.Shape.{Shape, Clear, ShowsCells}
+use Rattle.node_words.specs.shapes.Tree.{shape_of}
+use Rattle.node_words.proofs.OfShapes.ShowLaws.{clear_shows, clear_shown, shown_once}
 use Rattle.node_words.specs.Plans.{Layout}
-use Rattle.node_places.specs.Spots.{versions}
-use Rattle.block_contents.specs.Logs.{Log, IsLegal}
-use Rattle.block_contents.specs.LegalLaws.{legal_empty}
-use Rattle.block_contents.specs.Stores.{stored_in}
-use Rattle.block_contents.specs.StoreLaws.{stored_at_0}
+use Rattle.core_laws.specs.places.Spots.{versions}
+use Rattle.core_laws.specs.Logs.{Log, IsLegal}
+use Rattle.core_laws.specs.LegalLaws.{legal_empty}
+use Rattle.core_laws.specs.Stores.{stored_in}
+use Rattle.core_laws.specs.StoreLaws.{stored_at_0}
 use Rattle.core_laws.specs.States.{State, IsLive, tree_at}
-use Rattle.block_contents.specs.Aligned.{top, world_block}
+use Rattle.core_laws.specs.contents.Aligned.{top, world_block}
 use Rattle.core_laws.specs.Counting.{weight, children_weight, if_live, booked, parented, rooted}
 use Rattle.core_laws.specs.Soundness.{Sound, IsUntouched}
-use Rattle.block_contents.specs.Versions.{IsKept, SameWorld}
+use Rattle.core_laws.specs.contents.Versions.{IsKept, SameWorld}
 use Rattle.core_laws.proofs.Sums.{sum_names-none}
-use Rattle.block_contents.proofs.WorldBlocks.{in_world, in_block}
+use Rattle.core_laws.proofs.OfContents.WorldBlocks.{in_world, in_block}
 use Rattle.core_laws.proofs.LiveShapes.{AreLive, shape_once, canonical_at, clear_at}
 use Rattle.core_laws.proofs.LogSteps.{root_in_range}
 use Rattle.core_laws.proofs.Lives.{root_lives}

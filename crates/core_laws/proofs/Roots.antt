@@ -6,25 +6,25 @@ use Rattle.std.proofs.lemmas.Option.{none-some}
 use Rattle.vw_cell.specs.declared.cells.Cell.{Cell}
 use Rattle.vw_cell.specs.declared.blocks.Block.{Block}
 use Rattle.vw_cell.specs.Places.{octant_of}
-use Rattle.block_contents.specs.HistoryModelContents.{Content}
-use Rattle.node_shapes.specs.declared.names.Name.{Name}
-use Rattle.node_shapes.specs.Shape.{Shape, ShowsCells, octant_shape}
-use Rattle.node_shapes.specs.Tree.{shape_of}
-use Rattle.node_shapes.proofs.ShowLaws.{octant_shows, clear_shown}
-use Rattle.node_shapes.proofs.ShapeLaws.{octant_shape-clear}
+use Rattle.core_laws.specs.HistoryModelContents.{Content}
+use Rattle.node_words.specs.declared.shapes.names.Name.{Name}
+use Rattle.node_words.specs.shapes.Shape.{Shape, ShowsCells, octant_shape}
+use Rattle.node_words.specs.shapes.Tree.{shape_of}
+use Rattle.node_words.proofs.OfShapes.ShowLaws.{octant_shows, clear_shown}
+use Rattle.node_words.proofs.OfShapes.ShapeLaws.{octant_shape-clear}
 use Rattle.node_words.specs.declared.keys.Key.{Key}
 use Rattle.node_words.specs.Plans.{Layout}
-use Rattle.node_places.specs.Spots.{versions}
-use Rattle.block_contents.specs.Worlds.{World}
-use Rattle.block_contents.specs.Stores.{stored_in}
+use Rattle.core_laws.specs.places.Spots.{versions}
+use Rattle.core_laws.specs.Worlds.{World}
+use Rattle.core_laws.specs.Stores.{stored_in}
 use Rattle.core_laws.specs.States.{State, IsLive, tree_at, shape_in, IsUnder, itself, below}
-use Rattle.node_places.specs.Names.{key_child}
-use Rattle.block_contents.specs.Aligned.{top, world_block, IsAligned, octant}
+use Rattle.core_laws.specs.places.Names.{key_child}
+use Rattle.core_laws.specs.contents.Aligned.{top, world_block, IsAligned, octant}
 use Rattle.core_laws.specs.Counting.{weight, children_weight, entry_weight, booked, parented, rooted}
 use Rattle.core_laws.specs.Soundness.{SoundEntries, SoundVersions}
 use Rattle.core_laws.specs.Blocks.{RootsShow, ShowsSomeBlock, IsIdle}
-use Rattle.block_contents.specs.Contents.{HasCellIn}
-use Rattle.block_contents.specs.Aligned as blocks
+use Rattle.core_laws.specs.contents.Contents.{HasCellIn}
+use Rattle.core_laws.specs.contents.Aligned as blocks
 use Rattle.core_laws.proofs.Sums.{SomeBelow, SomeName, sum_below_some, sum_names-at, sum_names_some, is_name, is_name-self, weight_some, if_live_some}
 use Rattle.core_laws.proofs.Lives.{child_level, root_lives}
 use Rattle.core_laws.proofs.LogSteps.{root_in_range}

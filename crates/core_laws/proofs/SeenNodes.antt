@@ -1,15 +1,15 @@
 -- A new node takes its children's trees in, and an entry that is freed gives them back.
 use Rattle.std.proofs.Common.{◌≡◌, ℕ, zero, suc, ◌<◌, ◌≤◌, refl, sym, ◌∙◌, ap, arith, Some, None, Option}
-use Rattle.sums.specs.Sums.{sum_below, sum_below-at, sum_below-le}
-use Rattle.node_shapes.specs.declared.names.Name.{Name}
-use Rattle.node_shapes.specs.Tree.{Tree, Gone, LeafAt, node_at}
-use Rattle.node_shapes.specs.Weights.{weight_of, weight_below}
+use Rattle.vw_cell.specs.Sums.{sum_below, sum_below-at, sum_below-le}
+use Rattle.node_words.specs.declared.shapes.names.Name.{Name}
+use Rattle.node_words.specs.shapes.Tree.{Tree, Gone, LeafAt, node_at}
+use Rattle.node_words.specs.shapes.Weights.{weight_of, weight_below}
 use Rattle.node_words.specs.declared.keys.Key.{Key}
 use Rattle.node_words.specs.declared.keys.Key.TheVariants.{Leaf}
 use Rattle.node_words.specs.Held.{Gains, Joins}
 use Rattle.node_words.specs.Plans.{Layout}
 use Rattle.core_laws.specs.States.{State, IsLive, tree_at, tree_of, trees_of}
-use Rattle.node_places.specs.Names.{key_bits, key_child}
+use Rattle.core_laws.specs.places.Names.{key_bits, key_child}
 use Rattle.core_laws.specs.Counting.{weight, children_weight}
 use Rattle.core_laws.specs.Soundness.{SoundEntries}
 use Rattle.core_laws.specs.Events.{Adds, Frees, children_named, one_name}

@@ -2,14 +2,14 @@
 use Rattle.std.proofs.Common.{◌≡◌, ℕ, zero, suc, ◌<◌, Some, None, Option, List, refl, sym, ◌∙◌, ap, subst, inl, inr, arith}
 use Rattle.std.proofs.lemmas.Bool.{cases_lt}
 use Rattle.std.proofs.lemmas.Option.{same_Some, none-some}
-use Rattle.node_shapes.specs.declared.names.Name.{Name}
-use Rattle.node_shapes.specs.Shape.{IsCanonical}
-use Rattle.node_shapes.specs.Tree.{Tree, root_of, child_of, shape_of, StandsIn, itself, below, IsTreeAt}
-use Rattle.node_shapes.proofs.TreeLaws.{child_of-gone, child_of-node_at, child_of-node_at_past, gone_at, leaf_at, node_levels}
+use Rattle.node_words.specs.declared.shapes.names.Name.{Name}
+use Rattle.node_words.specs.shapes.Shape.{IsCanonical}
+use Rattle.node_words.specs.shapes.Tree.{Tree, root_of, child_of, shape_of, StandsIn, itself, below, IsTreeAt}
+use Rattle.node_words.proofs.OfShapes.TreeLaws.{child_of-gone, child_of-node_at, child_of-node_at_past, gone_at, leaf_at, node_levels}
 use Rattle.node_words.specs.declared.keys.Key.{Key}
 use Rattle.node_words.specs.Plans.{Layout}
 use Rattle.node_words.specs.Held.{IsHeld, IsReached, IsTree, AreTrees, AreCanonical}
-use Rattle.node_places.specs.Names.{key_bits, key_child}
+use Rattle.core_laws.specs.places.Names.{key_bits, key_child}
 use Rattle.core_laws.specs.States.{State, IsLive, tree_at, tree_of}
 use Rattle.core_laws.specs.Standing.{Stands, StandsOrGone, AllStand}
 use Rattle.core_laws.specs.Soundness.{SoundEntries}

@@ -2,15 +2,15 @@
 use Rattle.std.proofs.Common.{◌≡◌, ◌≢◌, ℕ, zero, suc, ◌+◌, ◌<◌, ◌≤◌, refl, sym, ◌∙◌, ap, subst, arith, Some, None, Option, List, [], ◌∷◌, length, set, ◌^◌}
 use Rattle.std.specs.List.{slice_get}
 use Rattle.std.proofs.lemmas.Option.{same_Some}
-use Rattle.block_contents.specs.HistoryModelContents.{Content}
-use Rattle.node_shapes.specs.declared.names.Name.{Name}
-use Rattle.node_shapes.proofs.TreeEqual.{Name-discrete}
+use Rattle.core_laws.specs.HistoryModelContents.{Content}
+use Rattle.node_words.specs.declared.shapes.names.Name.{Name}
+use Rattle.node_words.proofs.OfShapes.TreeEqual.{Name-discrete}
 use Rattle.node_words.specs.Plans.{Layout}
 use Rattle.vw_cell.specs.declared.cells.Cell.{Cell}
-use Rattle.block_contents.specs.Record.{Record}
-use Rattle.block_contents.specs.Logs.{Log}
-use Rattle.block_contents.specs.Stores.{stored_in}
-use Rattle.block_contents.specs.StoreLaws.{stored_stays}
+use Rattle.core_laws.specs.Record.{Record}
+use Rattle.core_laws.specs.Logs.{Log}
+use Rattle.core_laws.specs.Stores.{stored_in}
+use Rattle.core_laws.specs.StoreLaws.{stored_stays}
 use Rattle.core_laws.specs.StepStatements.{IsSpared}
 use Rattle.core_laws.specs.States.{State, IsLive, tree_of, IsUnder, Holds}
 use Rattle.core_laws.specs.Soundness.{SoundEntries, Sound}

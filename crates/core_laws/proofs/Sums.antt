@@ -1,13 +1,13 @@
 -- Sums over the names of a plan, and what each term of them is.
 use Rattle.std.proofs.Common.{◌≡◌, ◌≢◌, ℕ, zero, suc, ◌+◌, ◌*◌, ◌<◌, ◌≤◌, refl, sym, ◌∙◌, ap, arith, inl, inr, Some, None, Option}
 use Rattle.std.proofs.lemmas.Bool.{cases_lt}
-use Rattle.sums.specs.Sums.{sum_below, sum_below-same, sum_below-change, sum_below-at}
-use Rattle.node_shapes.specs.declared.names.Name.{Name}
-use Rattle.node_shapes.proofs.TreeEqual.{Name-discrete}
+use Rattle.vw_cell.specs.Sums.{sum_below, sum_below-same, sum_below-change, sum_below-at}
+use Rattle.node_words.specs.declared.shapes.names.Name.{Name}
+use Rattle.node_words.proofs.OfShapes.TreeEqual.{Name-discrete}
 use Rattle.node_words.specs.Plans.{Layout}
-use Rattle.node_places.specs.Spots.{levels, buckets_at}
-use Rattle.node_places.specs.Names.{IsName}
-use Rattle.node_places.specs.Names.{named}
+use Rattle.core_laws.specs.places.Spots.{levels, buckets_at}
+use Rattle.core_laws.specs.places.Names.{IsName}
+use Rattle.core_laws.specs.places.Names.{named}
 use Rattle.core_laws.specs.Counting.{sum_names, weight, if_live}
 
 -- the sum of one bucket, and of one level

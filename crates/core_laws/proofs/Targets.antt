@@ -1,19 +1,19 @@
 -- The version that an undo or a redo goes to is kept, and its root may be appended again.
 use Rattle.std.proofs.Common.{◌≡◌, ℕ, ◌+◌, ◌<◌, ◌≤◌, ◌^◌, refl, arith, false, List, [], ◌∷◌, length}
 use Rattle.std.specs.Prelude.{All}
-use Rattle.block_contents.specs.HistoryModelContents.{Content}
+use Rattle.core_laws.specs.HistoryModelContents.{Content}
 use Rattle.node_words.specs.Plans.{Layout}
-use Rattle.block_contents.specs.Act.{Act}
-use Rattle.block_contents.specs.TheVariants.{Fill, Erase, Ball, Carve, Copy, Stamp, Tint, Undo, Redo}
-use Rattle.block_contents.specs.Record.{Record}
-use Rattle.block_contents.specs.Worlds.{is_edit}
-use Rattle.block_contents.specs.Positions.{Position, undone, redone, position_after}
-use Rattle.block_contents.specs.PositionLaws.{names_below}
-use Rattle.block_contents.specs.Logs.{Log, FitsWorld, HasTarget, MayFollow, IsVersionHeld}
-use Rattle.block_contents.specs.Stores.{stored_in}
+use Rattle.core_laws.specs.Act.{Act}
+use Rattle.core_laws.specs.ActVariants.{Fill, Erase, Ball, Carve, Copy, Stamp, Tint, Undo, Redo}
+use Rattle.core_laws.specs.Record.{Record}
+use Rattle.core_laws.specs.Worlds.{is_edit}
+use Rattle.core_laws.specs.Positions.{Position, undone, redone, position_after}
+use Rattle.core_laws.specs.PositionLaws.{names_below}
+use Rattle.core_laws.specs.Logs.{Log, FitsWorld, HasTarget, MayFollow, IsVersionHeld}
+use Rattle.core_laws.specs.Stores.{stored_in}
 use Rattle.core_laws.specs.States.{State}
 use Rattle.core_laws.specs.Soundness.{Sound}
-use Rattle.block_contents.specs.Versions.{IsKept}
+use Rattle.core_laws.specs.contents.Versions.{IsKept}
 use Rattle.core_laws.specs.Making.{version_gone_to}
 use Rattle.core_laws.specs.LogEvents.{MayAppend}
 

@@ -1,11 +1,11 @@
 -- Trees of names that stay live stay.
 use Rattle.std.proofs.Common.{◌≡◌, ℕ, zero, suc, ◌<◌, refl, ◌∙◌, ap, arith, Some, None, Option}
-use Rattle.node_shapes.specs.declared.names.Name.{Name}
-use Rattle.node_shapes.specs.Tree.{Tree, LeafAt, NodeAt, node_at}
+use Rattle.node_words.specs.declared.shapes.names.Name.{Name}
+use Rattle.node_words.specs.shapes.Tree.{Tree, LeafAt, NodeAt, node_at}
 use Rattle.node_words.specs.declared.keys.Key.{Key}
 use Rattle.node_words.specs.Plans.{Layout}
 use Rattle.core_laws.specs.States.{State, IsLive, tree_at, IsUnder, itself, below}
-use Rattle.node_places.specs.Names.{key_bits, key_child}
+use Rattle.core_laws.specs.places.Names.{key_bits, key_child}
 use Rattle.core_laws.specs.Soundness.{SoundEntries}
 use Rattle.core_laws.specs.Events.{KeysStay}
 use Rattle.core_laws.proofs.Lives.{child_lives, child_level}

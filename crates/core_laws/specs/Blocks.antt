@@ -1,18 +1,18 @@
 -- Which blocks the versions have, and how many of a level are different.
 use Rattle.std.specs.Prelude.{Bool, ◌≡◌, ◌≢◌, ℕ, ◌<◌, Some, None, List, length, All}
 use Rattle.std.specs.List.{AllPairs, Contains}
-use Rattle.sums.specs.Sums.{sum_below}
+use Rattle.vw_cell.specs.Sums.{sum_below}
 use Rattle.vw_cell.specs.declared.cells.Cell.{Cell}
 use Rattle.vw_cell.specs.declared.blocks.Block.{Block}
-use Rattle.block_contents.specs.Worlds.{World}
-use Rattle.node_shapes.specs.declared.names.Name.{Name}
-use Rattle.node_shapes.specs.Shape.{Shape, Clear, ShowsCells, IsCanonical}
-use Rattle.node_shapes.specs.Tree.{shape_of}
+use Rattle.core_laws.specs.Worlds.{World}
+use Rattle.node_words.specs.declared.shapes.names.Name.{Name}
+use Rattle.node_words.specs.shapes.Shape.{Shape, Clear, ShowsCells, IsCanonical}
+use Rattle.node_words.specs.shapes.Tree.{shape_of}
 use Rattle.node_words.specs.Plans.{Layout}
-use Rattle.node_places.specs.Names.{named}
-use Rattle.node_places.specs.Spots.{buckets_at, versions}
-use Rattle.block_contents.specs.Aligned.{top, world_block, IsAligned}
-use Rattle.block_contents.specs.Contents.{HasCellIn}
+use Rattle.core_laws.specs.places.Names.{named}
+use Rattle.core_laws.specs.places.Spots.{buckets_at, versions}
+use Rattle.core_laws.specs.contents.Aligned.{top, world_block, IsAligned}
+use Rattle.core_laws.specs.contents.Contents.{HasCellIn}
 use Rattle.core_laws.specs.States.{State, tree_at}
 use Rattle.core_laws.specs.Counting.{if_live, holdings}
 

@@ -1,12 +1,12 @@
 -- How often names are named. Each weight of names gives one number for each place where names
 -- stand, and two places name the same names as often where their numbers agree for every weight.
 use Rattle.std.specs.Prelude.{ℕ, zero, suc, ◌*◌, Option, Some, None, List, sum_by}
-use Rattle.sums.specs.Sums.{sum_below}
-use Rattle.node_shapes.specs.declared.names.Name.{Name}
+use Rattle.vw_cell.specs.Sums.{sum_below}
+use Rattle.node_words.specs.declared.shapes.names.Name.{Name}
 use Rattle.node_words.specs.declared.keys.Key.{Key}
 use Rattle.node_words.specs.Plans.{Layout}
-use Rattle.node_places.specs.Names.{named, key_child}
-use Rattle.node_places.specs.Spots.{levels, buckets_at, versions}
+use Rattle.core_laws.specs.places.Names.{named, key_child}
+use Rattle.core_laws.specs.places.Spots.{levels, buckets_at, versions}
 use Rattle.core_laws.specs.States.{State}
 
 -- the sum over all names of a plan

@@ -1,11 +1,11 @@
 -- What the laws say of entries that are named, of keys and of books.
 use Rattle.std.specs.Prelude.{◌≡◌, ◌≢◌, ℕ, ◌+◌, ◌*◌, ◌<◌, ◌≤◌, Some}
-use Rattle.node_shapes.specs.declared.names.Name.{Name}
+use Rattle.node_words.specs.declared.shapes.names.Name.{Name}
 use Rattle.node_words.specs.declared.keys.Key.{Key}
 use Rattle.node_words.specs.Keys.{bucket_of_key}
 use Rattle.node_words.specs.Plans.{Layout}
-use Rattle.node_places.specs.Names.{named, key_child}
-use Rattle.node_places.specs.Spots.{levels, buckets_at, versions}
+use Rattle.core_laws.specs.places.Names.{named, key_child}
+use Rattle.core_laws.specs.places.Spots.{levels, buckets_at, versions}
 use Rattle.core_laws.specs.States.{State, IsLive, IsUnder, Holds}
 use Rattle.core_laws.specs.Counting.{holdings}
 use Rattle.core_laws.specs.Soundness.{SoundEntries}

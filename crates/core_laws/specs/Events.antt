@@ -2,12 +2,12 @@
 -- stays, look-up by look-up. Keys of free entries may change with every event.
 use Rattle.std.specs.Prelude.{◌≡◌, ◌≢◌, ℕ, ◌+◌, ◌<◌, ◌≤◌, Option, Some, None, List, sum_by, slice_set}
 use Rattle.std.specs.List.{slice_get}
-use Rattle.node_shapes.specs.declared.names.Name.{Name}
+use Rattle.node_words.specs.declared.shapes.names.Name.{Name}
 use Rattle.node_words.specs.declared.keys.Key.{Key}
 use Rattle.node_words.specs.Keys.{bucket_of_key}
 use Rattle.node_words.specs.Plans.{Layout}
-use Rattle.node_places.specs.Names.{IsName}
-use Rattle.node_places.specs.Spots.{buckets_at, versions}
+use Rattle.core_laws.specs.places.Names.{IsName}
+use Rattle.core_laws.specs.places.Spots.{buckets_at, versions}
 use Rattle.core_laws.specs.States.{State, IsLive}
 use Rattle.core_laws.specs.Counting.{weight, children_weight}
 use Rattle.core_laws.specs.Soundness.{FitsLevel}

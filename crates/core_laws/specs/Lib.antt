@@ -14,13 +14,27 @@ pub mod SeenStatements
 pub mod ReturnStatements
 pub mod VersionStatements
 pub mod NumberStatements
-pub use Rattle.block_contents.specs.Aligned
-pub use Rattle.block_contents.specs.Versions
-pub use Rattle.block_contents.specs.Logs
-pub use Rattle.node_places.specs.Spots
-pub use Rattle.node_places.specs.Names
-pub use Rattle.node_places.specs.KeyWords
+pub mod places
+pub mod contents
+pub mod tints
 pub use Rattle.node_words.specs.declared.keys.Key
 pub use Rattle.node_words.specs.Keys
 pub use Rattle.node_words.specs.Plans
 pub use Rattle.node_words.specs.declared.keys.Key.TheVariants
+pub use Rattle.node_words.specs.Sums
+pub use Rattle.history_model.specs.Contents as HistoryModelContents
+pub use Rattle.history_model.specs.declared.acts.Act
+pub use Rattle.history_model.specs.declared.acts.TintAct
+pub use Rattle.history_model.specs.declared.histories.Record
+pub use Rattle.history_model.specs.Worlds
+pub use Rattle.history_model.specs.Moments
+pub use Rattle.history_model.specs.Stores
+pub use Rattle.history_model.specs.StoreLaws
+pub use Rattle.history_model.specs.declared.histories.Mark
+pub use Rattle.history_model.specs.Logs
+pub use Rattle.history_model.specs.Positions
+pub use Rattle.history_model.specs.Laws
+pub use Rattle.history_model.specs.LegalLaws
+pub use Rattle.history_model.specs.declared.acts.Act.TheVariants as ActVariants
+pub use Rattle.history_model.specs.PositionLaws
+pub use Rattle.history_model.specs.Making as MakingContents

@@ -1,17 +1,17 @@
 -- What may happen to the log, and all that may happen to a state.
 use Rattle.std.specs.Prelude.{◌≡◌, ℕ, ◌+◌, ◌^◌, ◌<◌, Option, Some, None, List, [], ◌∷◌, ◌++◌, length}
-use Rattle.block_contents.specs.HistoryModelContents.{Content}
-use Rattle.node_shapes.specs.declared.names.Name.{Name}
-use Rattle.node_shapes.specs.Shape.{ShowsCells}
-use Rattle.node_shapes.specs.Tree.{shape_of}
+use Rattle.core_laws.specs.HistoryModelContents.{Content}
+use Rattle.node_words.specs.declared.shapes.names.Name.{Name}
+use Rattle.node_words.specs.shapes.Shape.{ShowsCells}
+use Rattle.node_words.specs.shapes.Tree.{shape_of}
 use Rattle.node_words.specs.Plans.{Layout}
-use Rattle.block_contents.specs.Record.{Record}
-use Rattle.block_contents.specs.Mark.{Mark}
-use Rattle.block_contents.specs.Worlds.{World}
-use Rattle.block_contents.specs.Positions.{position_after}
-use Rattle.block_contents.specs.Logs.{FitsWorld, MayFollow}
-use Rattle.block_contents.specs.Aligned.{top, world_block}
-use Rattle.block_contents.specs.Versions.{IsKept, MarkComes}
+use Rattle.core_laws.specs.Record.{Record}
+use Rattle.core_laws.specs.Mark.{Mark}
+use Rattle.core_laws.specs.Worlds.{World}
+use Rattle.core_laws.specs.Positions.{position_after}
+use Rattle.core_laws.specs.Logs.{FitsWorld, MayFollow}
+use Rattle.core_laws.specs.contents.Aligned.{top, world_block}
+use Rattle.core_laws.specs.contents.Versions.{IsKept, MarkComes}
 use Rattle.core_laws.specs.States.{State, tree_at}
 use Rattle.core_laws.specs.Counting.{holdings}
 use Rattle.core_laws.specs.Making.{Makes}

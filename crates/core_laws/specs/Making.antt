@@ -1,13 +1,13 @@
 -- Which cells the next record may make.
 use Rattle.std.specs.Prelude.{◌≡◌, ℕ, ◌+◌, true, false, List, length}
-use Rattle.block_contents.specs.HistoryModelContents.{Content}
-use Rattle.block_contents.specs.Act.{Act}
-use Rattle.block_contents.specs.Record.{Record}
-use Rattle.block_contents.specs.Making.{MayMake}
-use Rattle.block_contents.specs.Stores.{stored_in}
-use Rattle.block_contents.specs.Positions.{next_position, position_after}
-use Rattle.block_contents.specs.Worlds.{World, is_edit}
-use Rattle.block_contents.specs.Versions.{SameWorld}
+use Rattle.core_laws.specs.HistoryModelContents.{Content}
+use Rattle.core_laws.specs.Act.{Act}
+use Rattle.core_laws.specs.Record.{Record}
+use Rattle.core_laws.specs.MakingContents.{MayMake}
+use Rattle.core_laws.specs.Stores.{stored_in}
+use Rattle.core_laws.specs.Positions.{next_position, position_after}
+use Rattle.core_laws.specs.Worlds.{World, is_edit}
+use Rattle.core_laws.specs.contents.Versions.{SameWorld}
 
 -- the version whose cells an undo or a redo after these records gives
 abbrev pub version_gone_to : List Record → Act → ℕ

@@ -3,14 +3,14 @@ use Rattle.std.specs.Prelude.{◌≡◌, ℕ, ◌+◌, ◌<◌, ◌≤◌, List}
 use Rattle.vw_cell.specs.Counts.{cell_at}
 use Rattle.vw_cell.specs.Places.{block_side}
 use Rattle.vw_cell.specs.declared.blocks.Block.{Block}
-use Rattle.block_contents.specs.HistoryModelContents.{Content}
-use Rattle.node_shapes.specs.Shape.{Shape, ShowsCells, has}
+use Rattle.core_laws.specs.HistoryModelContents.{Content}
+use Rattle.node_words.specs.shapes.Shape.{Shape, ShowsCells, has}
 use Rattle.node_words.specs.Plans.{Layout}
-use Rattle.node_places.specs.Spots.{levels}
-use Rattle.block_contents.specs.Worlds.{World}
-use Rattle.block_contents.specs.Aligned.{world_block}
-use Rattle.block_contents.specs.Contents.{HasContents}
-use Rattle.block_contents.specs.Versions.{IsKept}
+use Rattle.core_laws.specs.places.Spots.{levels}
+use Rattle.core_laws.specs.Worlds.{World}
+use Rattle.core_laws.specs.contents.Aligned.{world_block}
+use Rattle.core_laws.specs.contents.Contents.{HasContents}
+use Rattle.core_laws.specs.contents.Versions.{IsKept}
 use Rattle.core_laws.specs.States.{State}
 use Rattle.core_laws.specs.Soundness.{SoundEntries, SoundVersions, Sound}
 use Rattle.core_laws.specs.Blocks.{IsIdle, RootsShow, HasBlocks, live_number}

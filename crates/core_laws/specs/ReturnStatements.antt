@@ -1,12 +1,12 @@
 -- What the laws say of what is freed when a share is given back.
 use Rattle.std.specs.Prelude.{◌≡◌, ℕ, ◌+◌, ◌≤◌, List}
-use Rattle.node_shapes.specs.declared.names.Name.{Name}
-use Rattle.node_shapes.specs.Shape.{Shape, octant_shape, IsBranch}
-use Rattle.node_shapes.specs.Tree.{Tree, shape_of}
+use Rattle.node_words.specs.declared.shapes.names.Name.{Name}
+use Rattle.node_words.specs.shapes.Shape.{Shape, octant_shape, IsBranch}
+use Rattle.node_words.specs.shapes.Tree.{Tree, shape_of}
 use Rattle.node_words.specs.declared.keys.Key.{Key}
 use Rattle.node_words.specs.Held.{IsHeld, ReturnsWithin}
 use Rattle.node_words.specs.Plans.{Layout}
-use Rattle.node_places.specs.Names.{IsName}
+use Rattle.core_laws.specs.places.Names.{IsName}
 use Rattle.core_laws.specs.States.{State, shape_in}
 use Rattle.core_laws.specs.Standing.{AllStand}
 use Rattle.core_laws.specs.Soundness.{SoundEntries}

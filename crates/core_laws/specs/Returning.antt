@@ -1,11 +1,11 @@
 -- What giving a share back frees. The keys stay as they are, and the books fall.
 use Rattle.std.specs.Prelude.{◌≡◌, ◌≢◌, ℕ, ◌+◌, ◌*◌, ◌<◌, ◌≤◌, Some, List, All, AllPairs, length}
-use Rattle.node_shapes.specs.declared.names.Name.{Name}
-use Rattle.node_shapes.specs.Shape.{Shape, IsBranch, IsPart}
-use Rattle.node_shapes.specs.Tree.{shape_of}
+use Rattle.node_words.specs.declared.shapes.names.Name.{Name}
+use Rattle.node_words.specs.shapes.Shape.{Shape, IsBranch, IsPart}
+use Rattle.node_words.specs.shapes.Tree.{shape_of}
 use Rattle.node_words.specs.declared.keys.Key.{Key}
 use Rattle.node_words.specs.Plans.{Layout}
-use Rattle.node_places.specs.Names.{IsName}
+use Rattle.core_laws.specs.places.Names.{IsName}
 use Rattle.core_laws.specs.States.{tree_at}
 
 -- by these keys and books, the shape is that of a live entry

@@ -1,12 +1,12 @@
 -- What the laws say of the trees that a holder is seen to hold.
 use Rattle.std.specs.Prelude.{◌≡◌, ℕ, suc, List}
-use Rattle.node_shapes.specs.declared.names.Name.{Name}
-use Rattle.node_shapes.specs.Tree.{Tree, LeafAt}
+use Rattle.node_words.specs.declared.shapes.names.Name.{Name}
+use Rattle.node_words.specs.shapes.Tree.{Tree, LeafAt}
 use Rattle.node_words.specs.declared.keys.Key.{Key}
 use Rattle.node_words.specs.declared.keys.Key.TheVariants as keys
 use Rattle.node_words.specs.Held.{Gains, Joins, AreTrees, AreCanonical}
 use Rattle.node_words.specs.Plans.{Layout}
-use Rattle.node_places.specs.Names.{key_child}
+use Rattle.core_laws.specs.places.Names.{key_child}
 use Rattle.core_laws.specs.States.{State, tree_at, tree_of, trees_of}
 use Rattle.core_laws.specs.Standing.{AllStand}
 use Rattle.core_laws.specs.Soundness.{SoundEntries}

@@ -1,13 +1,13 @@
 -- What the laws say of trees and shapes of entries.
 use Rattle.std.specs.Prelude.{◌≡◌, ◌≢◌, ℕ, suc, ◌<◌, Some, None, List}
 use Rattle.std.specs.List.{Contains}
-use Rattle.node_shapes.specs.declared.names.Name.{Name}
-use Rattle.node_shapes.specs.Buckets.{bucket_of_shape}
-use Rattle.node_shapes.specs.Shape.{Shape, Clear, IsCanonical, IsPart}
-use Rattle.node_shapes.specs.Tree.{Tree, Gone, LeafAt, node_at, StandsIn, IsTreeAt}
+use Rattle.node_words.specs.declared.shapes.names.Name.{Name}
+use Rattle.node_words.specs.shapes.Buckets.{bucket_of_shape}
+use Rattle.node_words.specs.shapes.Shape.{Shape, Clear, IsCanonical, IsPart}
+use Rattle.node_words.specs.shapes.Tree.{Tree, Gone, LeafAt, node_at, StandsIn, IsTreeAt}
 use Rattle.node_words.specs.declared.keys.Key.{Key}
 use Rattle.node_words.specs.Plans.{Layout}
-use Rattle.node_places.specs.Names.{named, key_bits, key_child}
+use Rattle.core_laws.specs.places.Names.{named, key_bits, key_child}
 use Rattle.core_laws.specs.States.{State, IsLive, tree_at, tree_of, shape_in}
 use Rattle.core_laws.specs.Standing.{StandsOrGone}
 use Rattle.node_words.specs.Enough.{HasEnough}

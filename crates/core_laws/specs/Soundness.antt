@@ -1,22 +1,22 @@
 -- When a state is sound.
 use Rattle.std.specs.Prelude.{◌≡◌, ◌≢◌, ℕ, zero, suc, ◌+◌, ◌^◌, ◌<◌, Some, None, List, [], length, All, false}
 use Rattle.std.specs.List.{AllPairs, Contains}
-use Rattle.block_contents.specs.HistoryModelContents.{Content}
-use Rattle.node_shapes.specs.declared.names.Name.{Name}
-use Rattle.node_shapes.specs.Shape.{Shape, Clear, ShowsCells, IsCanonical}
-use Rattle.node_shapes.specs.Buckets.{bucket_of_shape}
-use Rattle.node_shapes.specs.Tree.{shape_of}
+use Rattle.core_laws.specs.HistoryModelContents.{Content}
+use Rattle.node_words.specs.declared.shapes.names.Name.{Name}
+use Rattle.node_words.specs.shapes.Shape.{Shape, Clear, ShowsCells, IsCanonical}
+use Rattle.node_words.specs.shapes.Buckets.{bucket_of_shape}
+use Rattle.node_words.specs.shapes.Tree.{shape_of}
 use Rattle.node_words.specs.declared.keys.Key.{Key}
 use Rattle.node_words.specs.declared.keys.Key.TheVariants.{Leaf, Node}
 use Rattle.node_words.specs.Held.{HasChild, AreBelow}
 use Rattle.node_words.specs.Keys.{bucket_of_key}
 use Rattle.node_words.specs.Plans.{Layout}
-use Rattle.node_places.specs.Names.{IsName, named}
-use Rattle.node_places.specs.Spots.{levels, buckets_at}
-use Rattle.block_contents.specs.Logs.{IsLegal}
-use Rattle.block_contents.specs.Stores.{stored_in}
-use Rattle.block_contents.specs.Aligned.{top, world_block}
-use Rattle.block_contents.specs.Versions.{IsKept}
+use Rattle.core_laws.specs.places.Names.{IsName, named}
+use Rattle.core_laws.specs.places.Spots.{levels, buckets_at}
+use Rattle.core_laws.specs.Logs.{IsLegal}
+use Rattle.core_laws.specs.Stores.{stored_in}
+use Rattle.core_laws.specs.contents.Aligned.{top, world_block}
+use Rattle.core_laws.specs.contents.Versions.{IsKept}
 use Rattle.core_laws.specs.States.{State, IsLive, tree_at}
 use Rattle.core_laws.specs.Counting.{booked, parented, rooted, holdings}
 

@@ -2,13 +2,13 @@
 -- each holder holds.
 use Rattle.std.specs.Prelude.{◌≡◌, ℕ, zero, suc, ◌<◌, ◌≤◌, Option, Some, None, List, map, sum_by}
 use Rattle.std.specs.List.{slice_get}
-use Rattle.node_shapes.specs.declared.names.Name.{Name}
-use Rattle.node_shapes.specs.Shape.{Shape}
-use Rattle.node_shapes.specs.Tree.{Tree, Gone, LeafAt, node_at, shape_of}
+use Rattle.node_words.specs.declared.shapes.names.Name.{Name}
+use Rattle.node_words.specs.shapes.Shape.{Shape}
+use Rattle.node_words.specs.shapes.Tree.{Tree, Gone, LeafAt, node_at, shape_of}
 use Rattle.node_words.specs.declared.keys.Key.{Key}
 use Rattle.node_words.specs.Plans.{Layout}
-use Rattle.node_places.specs.Names.{IsName, key_bits, key_child}
-use Rattle.block_contents.specs.Logs.{Log}
+use Rattle.core_laws.specs.places.Names.{IsName, key_bits, key_child}
+use Rattle.core_laws.specs.Logs.{Log}
 
 -- the book and the key of each name, the root that is kept for each version, the log, and the names
 -- that each holder holds, a holder being a place in that list. No root is kept of a version that

@@ -1,10 +1,10 @@
 -- What the laws say of steps.
 use Rattle.std.specs.Prelude.{◌≡◌, ◌≢◌, ℕ, ◌≤◌, List, length, ◌^◌}
 use Rattle.vw_cell.specs.declared.cells.Cell.{Cell}
-use Rattle.block_contents.specs.HistoryModelContents.{Content}
-use Rattle.node_shapes.specs.declared.names.Name.{Name}
+use Rattle.core_laws.specs.HistoryModelContents.{Content}
+use Rattle.node_words.specs.declared.shapes.names.Name.{Name}
 use Rattle.node_words.specs.Plans.{Layout}
-use Rattle.block_contents.specs.Stores.{stored_in}
+use Rattle.core_laws.specs.Stores.{stored_in}
 use Rattle.core_laws.specs.States.{State, IsLive, tree_of, IsUnder, Holds}
 use Rattle.core_laws.specs.Soundness.{SoundEntries, Sound}
 use Rattle.core_laws.specs.Events.{KeysStay, StoreStep, Frees}

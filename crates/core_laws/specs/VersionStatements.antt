@@ -2,14 +2,14 @@
 use Rattle.std.specs.Prelude.{◌≡◌, ℕ, ◌+◌, ◌^◌, ◌<◌, ◌≤◌, None, false, List, length}
 use Rattle.vw_cell.specs.declared.cells.Cell.{Cell}
 use Rattle.vw_cell.specs.Places.{IsInWorld}
-use Rattle.block_contents.specs.HistoryModelContents.{Content}
+use Rattle.core_laws.specs.HistoryModelContents.{Content}
 use Rattle.node_words.specs.Plans.{Layout}
-use Rattle.block_contents.specs.Record.{Record}
-use Rattle.block_contents.specs.Logs.{MayFollow}
-use Rattle.block_contents.specs.Stores.{stored_in}
-use Rattle.block_contents.specs.Positions.{position_after}
-use Rattle.block_contents.specs.Worlds.{World, is_edit}
-use Rattle.block_contents.specs.Versions.{IsKept, SameWorld}
+use Rattle.core_laws.specs.Record.{Record}
+use Rattle.core_laws.specs.Logs.{MayFollow}
+use Rattle.core_laws.specs.Stores.{stored_in}
+use Rattle.core_laws.specs.Positions.{position_after}
+use Rattle.core_laws.specs.Worlds.{World, is_edit}
+use Rattle.core_laws.specs.contents.Versions.{IsKept, SameWorld}
 use Rattle.core_laws.specs.States.{State}
 use Rattle.core_laws.specs.Soundness.{Sound, IsUntouched}
 use Rattle.core_laws.specs.Making.{version_gone_to}

@@ -9,13 +9,13 @@ use Rattle.vox_read.specs.Contents.{Content}
 use Rattle.history_model.specs.declared.histories.Record.{Record}
 use Rattle.history_model.specs.Logs.{Log}
 use Rattle.history_model.specs.Stores.{stored_in, store_has}
-use Rattle.node_shapes.specs.Shape.{Shape, has}
-use Rattle.node_shapes.specs.Tree.{Tree, shape_of}
+use Rattle.node_words.specs.shapes.Shape.{Shape, has}
+use Rattle.node_words.specs.shapes.Tree.{Tree, shape_of}
 use Rattle.node_words.proofs.HeldLaws.{held_reached}
-use Rattle.block_contents.specs.Versions.{IsKept, SameWorld}
-use Rattle.block_contents.proofs.WorldBlocks as blocks
-use Rattle.block_walk.specs.Roots.{HoldsRoot, IsBlockOf}
-use Rattle.edit_cells.specs.Worlds.{block_at_origin}
+use Rattle.core_laws.specs.contents.Versions.{IsKept, SameWorld}
+use Rattle.core_laws.proofs.OfContents.WorldBlocks as blocks
+use Rattle.node_words.specs.descent.Roots.{HoldsRoot, IsBlockOf}
+use Rattle.edit_walk.specs.cells.Worlds.{block_at_origin}
 use Rattle.store_run.specs.Marked.{Rooted, ShowsVersion, HoldsKept}
 use Rattle.dag_file.specs.Kept.{version_shape}
 use Rattle.dag_file.specs.Lists.{HoldsList, DoNumbersRise, AreNumbersSmall, IsFileOfList}

@@ -1,9 +1,9 @@
 -- What is told of the root of a version is told of its cells in the file.
 use Rattle.std.proofs.Common.{◌≡◌, ℕ, zero, suc, ◌-◌, ◌^◌, ◌<◌, ◌≤◌, inl, inr, List, Option, Ok, Err, refl, sym, subst, ◌∙◌, arith}
-use Rattle.node_shapes.specs.declared.names.Name.{Name}
-use Rattle.node_shapes.specs.Shape.{has}
-use Rattle.node_shapes.specs.Tree.{shape_of}
-use Rattle.edit_cells.specs.Worlds.{IsRoot, ShowsWorld}
+use Rattle.node_words.specs.declared.shapes.names.Name.{Name}
+use Rattle.node_words.specs.shapes.Shape.{has}
+use Rattle.node_words.specs.shapes.Tree.{shape_of}
+use Rattle.edit_walk.specs.cells.Worlds.{IsRoot, ShowsWorld}
 use Rattle.history_model.specs.declared.questions.Question.{Question}
 use Rattle.script.specs.declared.faults.ScriptKind.{ScriptKind}
 use Rattle.script.specs.Placing.{question_placed}

@@ -4,7 +4,7 @@ use Rattle.std.specs.Prelude.{All}
 use Rattle.vox_read.specs.Contents.{Content}
 use Rattle.history_model.specs.declared.histories.Mark.{Mark}
 use Rattle.history_model.specs.Logs.{Log}
-use Rattle.node_shapes.specs.Tree.{Tree}
+use Rattle.node_words.specs.shapes.Tree.{Tree}
 use Rattle.store_run.specs.Marked.{AreLegalMarks, Rooted, HoldsKept}
 use Rattle.store_run.specs.Worlds.{WorldState}
 use Rattle.dag_file.specs.Lists.{HoldsList, DoNumbersRise, AreNumbersSmall, IsFileOfList}

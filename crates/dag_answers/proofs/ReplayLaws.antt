@@ -13,7 +13,7 @@ use Rattle.history_model.specs.declared.histories.Mark.{Mark}
 use Rattle.history_model.specs.declared.histories.Record.{Record}
 use Rattle.history_model.specs.Logs.{Log, IsVersionHeld, HasTarget, MayFollow}
 use Rattle.history_model.specs.Positions.{Position, position_after}
-use Rattle.block_contents.specs.Versions.{IsKept, IsUnmarked}
+use Rattle.core_laws.specs.contents.Versions.{IsKept, IsUnmarked}
 use Rattle.store_run.specs.Changing.{LogGainsMark, log_with_record}
 use Rattle.store_run.specs.Marked.{AreLegalMarks, replayed}
 use Rattle.store_run.specs.declared.replaying.ReplayRefused.{ReplayRefused}

@@ -1,7 +1,7 @@
 -- What a file of many versions answers to a question of one of them.
 use Rattle.std.specs.Prelude.{◌≡◌, ℕ, ◌-◌, ◌^◌, ◌≤◌, ◌⊎◌, List, Option, Some, None, Ok, ⊤}
-use Rattle.sums.specs.Sums.{one_if}
-use Rattle.block_walk.specs.Roots.{cells_of}
+use Rattle.vw_cell.specs.Sums.{one_if}
+use Rattle.node_words.specs.descent.Roots.{cells_of}
 use Rattle.history_model.specs.Worlds.{World}
 use Rattle.history_model.specs.Tints.{Tints}
 use Rattle.history_model.specs.declared.questions.Question.{Question}

@@ -1,5 +1,5 @@
 ghost use Rattle.std.specs.Prelude.{◌≡◌, ◌-◌, ◌^◌, IfOk, IfErr, MatchOption, option_copied};
-ghost use Rattle.block_walk.specs.Roots.{HoldsRoot};
+ghost use Rattle.node_words.specs.descent.Roots.{HoldsRoot};
 ghost use Rattle.dag_file.specs.Rules.{IsDagFile};
 ghost use Rattle.dag_file.specs.Trees.{HasVersion, IsRootOfVersion, opened_seen};
 ghost use Rattle.script.specs.Fitting.{QuestionFits};

@@ -1,13 +1,13 @@
 -- Roots that a canonical store holds show canonical shapes.
 use Rattle.std.proofs.Common.{◌≡◌, ℕ, suc, ◌-◌, List, Option, Some, None, refl, sym, subst, ◌∙◌}
-use Rattle.node_shapes.specs.declared.names.Name.{Name}
-use Rattle.node_shapes.specs.Shape.{Shape, IsCanonical}
-use Rattle.node_shapes.specs.Tree.{Tree, shape_of}
-use Rattle.node_shapes.proofs.ShapeLaws.{clear_canonical}
+use Rattle.node_words.specs.declared.shapes.names.Name.{Name}
+use Rattle.node_words.specs.shapes.Shape.{Shape, IsCanonical}
+use Rattle.node_words.specs.shapes.Tree.{Tree, shape_of}
+use Rattle.node_words.proofs.OfShapes.ShapeLaws.{clear_canonical}
 use Rattle.node_words.specs.Held.{AreTrees, AreCanonical}
 use Rattle.node_words.proofs.HeldLaws.{held_reached}
-use Rattle.block_walk.specs.Roots.{HoldsRoot, IsBlockOf}
-use Rattle.block_walk.proofs.BlockLaws.{clear_block}
+use Rattle.node_words.specs.descent.Roots.{HoldsRoot, IsBlockOf}
+use Rattle.node_words.proofs.OfDescent.BlockLaws.{clear_block}
 use Rattle.dag_file.specs.Lists.{Listed, HoldsList, ShowCanonical}
 
 root_canonical : (world side : ℕ) (held : List Tree) (level : ℕ) (o : Option Name) (t : Tree)

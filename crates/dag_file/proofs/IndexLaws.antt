@@ -8,8 +8,8 @@ use Rattle.std.proofs.lemmas.List.Sorted.{searched}
 use Rattle.std.proofs.lemmas.List.{get_or-set_same, get_or-set_other, get_or_default}
 use Rattle.std.proofs.lemmas.Bool.{cases_lt}
 use Rattle.node_words.specs.Held.{Seen}
-use Rattle.block_walk.specs.Roots.{IsOctantOf}
-use Rattle.node_shapes.specs.declared.names.Name.{Name}
+use Rattle.node_words.specs.descent.Roots.{IsOctantOf}
+use Rattle.node_words.specs.declared.shapes.names.Name.{Name}
 use Rattle.dag_file.specs.Trees.{named_index}
 use Rattle.dag_file.specs.Writes.{IsWordOfName, IsOctantWord, AreOctantWords, HasByteSlot}
 

@@ -1,11 +1,11 @@
 -- A right file is the file of its own list.
 use Rattle.std.proofs.Common.{◌≡◌, ℕ, zero, suc, ◌+◌, ◌-◌, ◌<◌, ◌≤◌, List, length, Option, Some, None, refl, ap, sym, subst, ◌∙◌, arith}
 use Rattle.std.specs.Prelude.{slice_get}
-use Rattle.node_shapes.specs.declared.names.Name.{Name}
-use Rattle.node_shapes.specs.Tree.{Tree, shape_of}
+use Rattle.node_words.specs.declared.shapes.names.Name.{Name}
+use Rattle.node_words.specs.shapes.Tree.{Tree, shape_of}
 use Rattle.node_words.specs.Held.{AreTrees}
-use Rattle.block_walk.specs.Roots.{HoldsRoot, IsBlockOf, ForBlock}
-use Rattle.block_walk.proofs.BlockLaws.{clear_block}
+use Rattle.node_words.specs.descent.Roots.{HoldsRoot, IsBlockOf, ForBlock}
+use Rattle.node_words.proofs.OfDescent.BlockLaws.{clear_block}
 use Rattle.dag_file.specs.Places.{versions_in, version_number, version_root_word}
 use Rattle.dag_file.specs.Rules.{IsDagFile, IsRight}
 use Rattle.dag_file.specs.Trees.{word_name, version_tree}

@@ -7,11 +7,11 @@ use Rattle.std.proofs.lemmas.Bool.{cases_lt}
 use Rattle.std.proofs.lemmas.List.Elements.{Contains-get_or, Contains-append_left, Contains-append_right, Contains-append_cases}
 use Rattle.std.proofs.lemmas.List.{append-nil}
 use Rattle.std.proofs.lemmas.Option.{none-some}
-use Rattle.node_shapes.specs.declared.names.Name.{Name}
+use Rattle.node_words.specs.declared.shapes.names.Name.{Name}
 use Rattle.node_words.specs.Held.{Seen}
-use Rattle.node_shapes.specs.Tree.{Tree, root_of, child_of}
-use Rattle.block_walk.specs.Roots.{IsBlockOf, HasBlock, IsOctantOf}
-use Rattle.block_walk.proofs.BlockLaws.{root_block}
+use Rattle.node_words.specs.shapes.Tree.{Tree, root_of, child_of}
+use Rattle.node_words.specs.descent.Roots.{IsBlockOf, HasBlock, IsOctantOf}
+use Rattle.node_words.proofs.OfDescent.BlockLaws.{root_block}
 use Rattle.dag_file.specs.Lists.{HoldsList}
 use Rattle.dag_file.specs.Trees.{entry_name, named_index}
 use Rattle.dag_file.specs.Writes.{AddsKeys, AreReached, IsChildKey, IsChildOf, AreChildren, IsRootKey, AreRootKeys, HasByteSlot, keys_of}

@@ -6,13 +6,13 @@ use Rattle.std.proofs.lemmas.Bool.{cases_eq}
 use Rattle.std.proofs.lemmas.List.Elements.{Contains-get_or}
 use Rattle.std.proofs.lemmas.List.{get_or_default}
 use Rattle.std.proofs.lemmas.Option.{none-some}
-use Rattle.node_shapes.specs.declared.names.Name.{Name}
-use Rattle.node_shapes.specs.Shape.{Shape, Clear, Leaf, Branch, IsCanonical, bits_of, octant_shape, branch_of}
-use Rattle.node_shapes.specs.Tree.{Tree, child_of, shape_of}
-use Rattle.node_shapes.proofs.TreeLaws.{shape_of-child, shape_of-some, shape_of-node}
-use Rattle.node_shapes.proofs.ShapeLaws.{octant_canonical}
-use Rattle.block_walk.specs.Roots.{IsBlockOf, IsOctantOf}
-use Rattle.block_walk.proofs.BlockLaws.{clear_block}
+use Rattle.node_words.specs.declared.shapes.names.Name.{Name}
+use Rattle.node_words.specs.shapes.Shape.{Shape, Clear, Leaf, Branch, IsCanonical, bits_of, octant_shape, branch_of}
+use Rattle.node_words.specs.shapes.Tree.{Tree, child_of, shape_of}
+use Rattle.node_words.proofs.OfShapes.TreeLaws.{shape_of-child, shape_of-some, shape_of-node}
+use Rattle.node_words.proofs.OfShapes.ShapeLaws.{octant_canonical}
+use Rattle.node_words.specs.descent.Roots.{IsBlockOf, IsOctantOf}
+use Rattle.node_words.proofs.OfDescent.BlockLaws.{clear_block}
 use Rattle.dag_file.specs.Places.{leaf_at, node_word_at, count_in, entry_place}
 use Rattle.dag_file.specs.Rules.{IsLeafRight, IsNodeRight, IsEntryRight, AreEntriesRight, AreEntriesNamed, IsNamed, HasWord, ComesBefore}
 use Rattle.dag_file.specs.Trees.{entry_name, named_index, word_tree}

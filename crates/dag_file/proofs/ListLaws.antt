@@ -1,8 +1,8 @@
 -- A list of versions has one file.
 use Rattle.std.proofs.Common.{◌≡◌, ℕ, zero, suc, ◌<◌, List, [], ◌∷◌, length, Some, refl, sym, ◌∙◌, arith}
 use Rattle.std.specs.Prelude.{slice_get}
-use Rattle.node_shapes.specs.Tree.{Tree}
-use Rattle.block_walk.proofs.BlockLaws.{root_block}
+use Rattle.node_words.specs.shapes.Tree.{Tree}
+use Rattle.node_words.proofs.OfDescent.BlockLaws.{root_block}
 use Rattle.dag_file.specs.Places.{versions_in}
 use Rattle.dag_file.specs.Kept.{AreOfOneList}
 use Rattle.dag_file.specs.Lists.{Listed, HoldsList, IsFileOfList}

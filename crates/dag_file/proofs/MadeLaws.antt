@@ -8,11 +8,11 @@ use Rattle.std.specs.Ordering.{nat_cmp}
 use Rattle.std.proofs.lemmas.Bool.{cases_lt}
 use Rattle.std.proofs.lemmas.List.{length-append, get_or_append_left, get_or-append_right, get_or-append-add, get_or_default, get_or_push}
 use Rattle.std.proofs.lemmas.List.Elements.{Contains-get_or}
-use Rattle.node_shapes.specs.declared.names.Name.{Name}
-use Rattle.node_shapes.specs.Tree.{Tree}
+use Rattle.node_words.specs.declared.shapes.names.Name.{Name}
+use Rattle.node_words.specs.shapes.Tree.{Tree}
 use Rattle.dag_file.specs.Trees.{entry_name, named_index}
 use Rattle.dag_file.specs.Writes.{AreLeaves, AreNodeWords, AreIndices, AreNodeIndices, AreChildren, IsWordOfName, HasByteSlot}
-use Rattle.block_walk.specs.Roots.{IsOctantOf}
+use Rattle.node_words.specs.descent.Roots.{IsOctantOf}
 use Rattle.dag_file.specs.Layers.{first_node, AreEntriesUpTo, AreLayers}
 use Rattle.dag_file.proofs.FileLaws.{first_below}
 

@@ -7,11 +7,11 @@ use Rattle.std.proofs.lemmas.List.{length-append, get_or_append_left, get_or_pus
 use lib.Pow.{pow_mono}
 use Rattle.std.proofs.lemmas.List.Elements.{Contains-get_or}
 use Rattle.vw_cell.specs.Sides.{is_side}
-use Rattle.node_shapes.specs.declared.names.Name.{Name}
-use Rattle.node_shapes.specs.Shape.{IsCanonical}
-use Rattle.node_shapes.specs.Tree.{Tree, shape_of}
-use Rattle.block_walk.specs.Roots.{IsBlockOf}
-use Rattle.block_walk.proofs.BlockLaws.{root_block}
+use Rattle.node_words.specs.declared.shapes.names.Name.{Name}
+use Rattle.node_words.specs.shapes.Shape.{IsCanonical}
+use Rattle.node_words.specs.shapes.Tree.{Tree, shape_of}
+use Rattle.node_words.specs.descent.Roots.{IsBlockOf}
+use Rattle.node_words.proofs.OfDescent.BlockLaws.{root_block}
 use Rattle.dag_file.specs.Places.{number_at, versions_in, count_in, version_place, version_number, version_root_word}
 use Rattle.dag_file.specs.Rules.{IsRight, IsNumberRight, IsRootRight, IsNamed, AreLevelsNamed}
 use Rattle.dag_file.specs.Trees.{entry_name, named_index, word_tree}

@@ -5,8 +5,8 @@ use Rattle.std.specs.List.{Contains}
 use Rattle.std.specs.List.Sorted.{IsStrictlyIncreasing, IsStrictlySortedBy}
 use Rattle.std.specs.Cmp.Lexicographic.{slice_cmp}
 use Rattle.std.specs.Ordering.{nat_cmp}
-use Rattle.node_shapes.specs.declared.names.Name.{Name}
-use Rattle.node_shapes.specs.Tree.{Tree}
+use Rattle.node_words.specs.declared.shapes.names.Name.{Name}
+use Rattle.node_words.specs.shapes.Tree.{Tree}
 use Rattle.dag_file.specs.Writes.{AreLeaves, AreNodeWords, AreIndices, AreNodeIndices, AreChildren, IsWordOfName, HasByteSlot}
 
 -- where the nodes of the level above this one begin among the nodes of all levels

@@ -1,10 +1,10 @@
 -- The file of a list of versions: a right one, with their numbers and the shapes that their roots
 -- show.
 use Rattle.std.specs.Prelude.{◌≡◌, ℕ, zero, suc, ◌-◌, ◌<◌, ◌≤◌, List, [], ◌∷◌, length, ◌++◌, Option, Some, slice_get}
-use Rattle.node_shapes.specs.declared.names.Name.{Name}
-use Rattle.node_shapes.specs.Shape.{IsCanonical}
-use Rattle.node_shapes.specs.Tree.{Tree}
-use Rattle.block_walk.specs.Roots.{HoldsRoot, ForBlock}
+use Rattle.node_words.specs.declared.shapes.names.Name.{Name}
+use Rattle.node_words.specs.shapes.Shape.{IsCanonical}
+use Rattle.node_words.specs.shapes.Tree.{Tree}
+use Rattle.node_words.specs.descent.Roots.{HoldsRoot, ForBlock}
 use Rattle.dag_file.specs.Places.{versions_in, version_number, version_root_word}
 use Rattle.dag_file.specs.Trees.{word_name, roots_below}
 use Rattle.dag_file.specs.Rules.{IsDagFile}

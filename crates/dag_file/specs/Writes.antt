@@ -4,10 +4,10 @@ use Rattle.std.specs.Prelude.{◌≡◌, ℕ, ◌+◌, ◌^◌, ◌<◌, ◌⊎�
 use Rattle.std.specs.List.{Contains, flat_map}
 use Rattle.std.specs.List.Sorted.{IsStrictlyIncreasing}
 use Rattle.byteorder.specs.Endian.{little_bytes}
-use Rattle.node_shapes.specs.declared.names.Name.{Name}
-use Rattle.node_shapes.specs.Shape.{bits_of}
-use Rattle.node_shapes.specs.Tree.{Tree}
-use Rattle.block_walk.specs.Roots.{IsOctantOf, HasBlock, ForBlock}
+use Rattle.node_words.specs.declared.shapes.names.Name.{Name}
+use Rattle.node_words.specs.shapes.Shape.{bits_of}
+use Rattle.node_words.specs.shapes.Tree.{Tree}
+use Rattle.node_words.specs.descent.Roots.{IsOctantOf, HasBlock, ForBlock}
 use Rattle.dag_file.specs.Trees.{entry_name, named_index}
 
 -- ---- bytes

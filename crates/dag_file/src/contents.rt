@@ -4,11 +4,10 @@ ghost use Rattle.std.specs.List.Sorted.{IsStrictlyIncreasing, IsStrictlySortedBy
 ghost use Rattle.std.specs.Cmp.Lexicographic.{slice_cmp};
 ghost use Rattle.std.specs.Ordering.{nat_cmp};
 ghost use Rattle.dag_file.specs.Writes.{AreReached, AreLeaves, AreNodeWords, IsWordOfName, AreOctantWords, HasByteSlot, AreIndices, AreNodeIndices};
-ghost use Rattle.block_walk.specs.Roots.{HasBlock};
+ghost use Rattle.node_words.specs.descent.Roots.{HasBlock};
 
 use crate::keys::{key_of, name_at};
-use block_walk::{leaf_bits, octant_name};
-use node_words::{Blocks, Name};
+use node_words::{Blocks, Name, leaf_bits, octant_name};
 use std::alloc::Global;
 use vw_cell::Memory;
 

@@ -1,12 +1,11 @@
 ghost use Rattle.std.specs.Prelude.{◌≡◌, ℕ, ◌+◌, ◌-◌, ◌*◌, ◌^◌, ◌<◌, ◌≤◌, ◌/◌, ◌%◌, length, ◌++◌, IfOk, OnOk, Option, Some};
 ghost use Rattle.std.specs.List.{Contains};
 ghost use Rattle.std.specs.List.Sorted.{IsStrictlyIncreasing};
-ghost use Rattle.block_walk.specs.Roots.{HasBlock};
+ghost use Rattle.node_words.specs.descent.Roots.{HasBlock};
 ghost use Rattle.dag_file.specs.Trees.{entry_name, named_index};
 ghost use Rattle.dag_file.specs.Writes.{AddsKeys, AreReached, IsChildKey, AreChildren, AreRootKeys, HasByteSlot, keys_of};
 
-use block_walk::octant_name;
-use node_words::{Blocks, Name, Share};
+use node_words::{Blocks, Name, Share, octant_name};
 use std::alloc::Global;
 use vw_cell::Memory;
 

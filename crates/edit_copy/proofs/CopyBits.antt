@@ -4,15 +4,15 @@ use Rattle.std.specs.Prelude.{if◌then◌else◌}
 use Rattle.std.specs.Prelude.{bit_or, bit_and, slice_index}
 use Rattle.std.specs.Int.{bit_at, bit_not, w64}
 use Rattle.std.proofs.lemmas.Nat.Bits.{bit_at_or, bit_at_and, bit_at_not, bit_at-lt}
-use Rattle.node_kernels.specs.Leaves.{LeafShows, LiesAcross}
-use Rattle.node_kernels.proofs.LeafLaws.{across_has}
-use Rattle.edit_cells.proofs.WorldLaws.{leaf_places}
+use Rattle.node_words.specs.kernels.Leaves.{LeafShows, LiesAcross}
+use Rattle.node_words.proofs.OfKernels.LeafLaws.{across_has}
+use Rattle.edit_walk.proofs.OfCells.WorldLaws.{leaf_places}
 use Rattle.vw_cell.specs.Places.{is_in_box}
-use Rattle.node_shapes.specs.Shape.{Shape, Leaf, bits_of, bit_number, octant_number, branch_of, has}
-use Rattle.node_shapes.specs.Tree.{Tree, shape_of}
-use Rattle.node_shapes.proofs.ShapeLaws.{octant_shape-branch_of}
-use Rattle.cell_shapes.specs.CellShapes.{Cells, SameIn}
-use Rattle.edit_cells.specs.Worlds.{block_at_origin}
+use Rattle.node_words.specs.shapes.Shape.{Shape, Leaf, bits_of, bit_number, octant_number, branch_of, has}
+use Rattle.node_words.specs.shapes.Tree.{Tree, shape_of}
+use Rattle.node_words.proofs.OfShapes.ShapeLaws.{octant_shape-branch_of}
+use Rattle.node_words.specs.contents.CellShapes.{Cells, SameIn}
+use Rattle.edit_walk.specs.cells.Worlds.{block_at_origin}
 use Rattle.edit_copy.specs.declared.copies.CopyTask.{CopyTask}
 use Rattle.edit_copy.specs.Copies.{cube_of, moved, MakesCopy}
 

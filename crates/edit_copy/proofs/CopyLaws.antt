@@ -7,23 +7,23 @@ use Rattle.vw_cell.specs.declared.cells.Cell.{Cell}
 use Rattle.vw_cell.specs.declared.boxes.Boxed.{Boxed}
 use Rattle.vw_cell.specs.Counts.{cell_at}
 use Rattle.vw_cell.specs.Places.{block_side, Meets, HoldsBlock}
-use Rattle.node_shapes.specs.declared.names.Name.{Name}
-use Rattle.node_shapes.specs.Shape.{IsCanonical, Shape, Clear, octant_shape, has}
-use Rattle.node_shapes.specs.Tree.{Gone, Tree, root_of, child_of, shape_of}
-use Rattle.node_shapes.proofs.ShapeLaws.{clear_canonical, has-octant, has-in_octant, has-clear, octant_shape-branch_of, octant_shape-past}
-use Rattle.node_shapes.proofs.TreeLaws.{gone_at, shape_of-child, gone_from_root, shape_of-gone}
+use Rattle.node_words.specs.declared.shapes.names.Name.{Name}
+use Rattle.node_words.specs.shapes.Shape.{IsCanonical, Shape, Clear, octant_shape, has}
+use Rattle.node_words.specs.shapes.Tree.{Gone, Tree, root_of, child_of, shape_of}
+use Rattle.node_words.proofs.OfShapes.ShapeLaws.{clear_canonical, has-octant, has-in_octant, has-clear, octant_shape-branch_of, octant_shape-past}
+use Rattle.node_words.proofs.OfShapes.TreeLaws.{gone_at, shape_of-child, gone_from_root, shape_of-gone}
 use Rattle.node_words.specs.Held.{name_in}
-use Rattle.edit_cells.specs.declared.tasks.Whole.TheVariants.{Nothing}
-use Rattle.cell_shapes.specs.CellShapes.{Cells, SameIn, octant_cells}
-use Rattle.edit_cells.specs.Tasks.{IsWhole}
-use Rattle.edit_cells.specs.Paints.{IsOld, whole_of_old}
-use Rattle.edit_cells.specs.Worlds.{block_at_origin}
-use Rattle.block_walk.specs.Parts.{part_in}
-use Rattle.cell_shapes.proofs.SameCells.{octant_same, same_on, same_back}
-use Rattle.cell_shapes.proofs.CellShapeLaws.{shape_with-only}
-use Rattle.edit_cells.proofs.PaintLaws.{old_child, old_gone, old_same}
-use Rattle.edit_cells.proofs.PartLaws.{part_cells, box_missed, box_held}
-use Rattle.block_walk.specs.Roots.{IsBlockOf}
+use Rattle.edit_walk.specs.declared.cells.tasks.Whole.TheVariants.{Nothing}
+use Rattle.node_words.specs.contents.CellShapes.{Cells, SameIn, octant_cells}
+use Rattle.edit_walk.specs.cells.Tasks.{IsWhole}
+use Rattle.edit_walk.specs.cells.Paints.{IsOld, whole_of_old}
+use Rattle.edit_walk.specs.cells.Worlds.{block_at_origin}
+use Rattle.node_words.specs.descent.Parts.{part_in}
+use Rattle.node_words.proofs.OfContents.SameCells.{octant_same, same_on, same_back}
+use Rattle.node_words.proofs.OfContents.CellShapeLaws.{shape_with-only}
+use Rattle.edit_walk.proofs.OfCells.PaintLaws.{old_child, old_gone, old_same}
+use Rattle.edit_walk.proofs.OfCells.PartLaws.{part_cells, box_missed, box_held}
+use Rattle.node_words.specs.descent.Roots.{IsBlockOf}
 use Rattle.edit_copy.specs.declared.copies.CopyTask.{CopyTask}
 use Rattle.edit_copy.specs.Copies.{IsKeptOld, cube_of, moved, IsOffset, IsBegin, MakesCopy, begin_of, rest_of, source_from, source_octant, source_of, is_unread}
 use Rattle.edit_copy.proofs.WindowLaws.{same_has, branch_same, part_of, window_step, step_rests, step_begins, source_in_cube}

@@ -1,8 +1,8 @@
 -- The eight sources of an octant, each read from the store as it was.
 use Rattle.std.proofs.Common.{◌≡◌, ℕ, zero, suc, ◌-◌, ◌<◌, Option, List, sym, subst, arith}
 use Rattle.vw_cell.specs.declared.cells.Cell.{Cell}
-use Rattle.node_shapes.specs.declared.names.Name.{Name}
-use Rattle.node_shapes.specs.Tree.{Tree}
+use Rattle.node_words.specs.declared.shapes.names.Name.{Name}
+use Rattle.node_words.specs.shapes.Tree.{Tree}
 use Rattle.node_words.specs.Held.{Seen}
 use Rattle.edit_copy.specs.Copies.{AreBlocks, IsSource}
 

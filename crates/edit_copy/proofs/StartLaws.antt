@@ -8,16 +8,16 @@ use Rattle.vw_cell.specs.declared.boxes.Boxed.{Boxed}
 use Rattle.vw_cell.specs.Counts.{cell_at}
 use Rattle.vw_cell.specs.Places.{block_side, is_in_box, FitsAt}
 use Rattle.vw_cell.specs.Tests.{is_in_box_tells}
-use Rattle.node_shapes.specs.declared.names.Name.{Name}
-use Rattle.node_shapes.specs.Shape.{Shape, has}
-use Rattle.node_shapes.specs.Tree.{Tree, Gone, shape_of}
-use Rattle.node_shapes.proofs.ShapeLaws.{has-octant, octant_shape-branch_of}
+use Rattle.node_words.specs.declared.shapes.names.Name.{Name}
+use Rattle.node_words.specs.shapes.Shape.{Shape, has}
+use Rattle.node_words.specs.shapes.Tree.{Tree, Gone, shape_of}
+use Rattle.node_words.proofs.OfShapes.ShapeLaws.{has-octant, octant_shape-branch_of}
 use Rattle.node_words.specs.Held.{name_in, AreTrees, AreCanonical}
-use Rattle.cell_shapes.specs.CellShapes.{SameIn}
-use Rattle.edit_cells.specs.Paints.{IsOld}
-use Rattle.edit_cells.specs.Worlds.{world_cells, ShowsWorld, IsRoot}
-use Rattle.edit_walk.proofs.JoinLaws.{nones}
-use Rattle.edit_cells.proofs.WorldLaws.{root_old, world_places}
+use Rattle.node_words.specs.contents.CellShapes.{SameIn}
+use Rattle.edit_walk.specs.cells.Paints.{IsOld}
+use Rattle.edit_walk.specs.cells.Worlds.{world_cells, ShowsWorld, IsRoot}
+use Rattle.edit_walk.proofs.OfBlocks.JoinLaws.{nones}
+use Rattle.edit_walk.proofs.OfCells.WorldLaws.{root_old, world_places}
 use Rattle.history_model.specs.Worlds.{edited, box_at}
 use Rattle.history_model.specs.declared.acts.Act.TheVariants.{Copy}
 use Rattle.edit_copy.specs.declared.copies.CopyTask.{CopyTask}

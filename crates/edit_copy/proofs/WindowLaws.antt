@@ -7,8 +7,8 @@ use Rattle.std.proofs.Math.Nat.{add-mul, mul-le-mul, mul_assoc, mod-lt, div-lt_i
 use Rattle.vw_cell.specs.declared.cells.Cell.{Cell}
 use Rattle.vw_cell.specs.Counts.{cell_at}
 use Rattle.vw_cell.specs.Places.{block_side, half_x, half_y, half_z}
-use Rattle.node_shapes.specs.Shape.{Shape, octant_shape, branch_of, has}
-use Rattle.node_shapes.proofs.ShapeLaws.{block_side-suc, block_side_some, has-octant, half_in, octant_shape-branch_of, halves}
+use Rattle.node_words.specs.shapes.Shape.{Shape, octant_shape, branch_of, has}
+use Rattle.node_words.proofs.OfShapes.ShapeLaws.{block_side-suc, block_side_some, has-octant, half_in, octant_shape-branch_of, halves}
 use Rattle.edit_copy.specs.Copies.{IsOffset, IsBegin, step_at, step_rest, begin_of, rest_of, source_from, source_octant, is_unread_on, is_unread}
 
 -- one axis: a place in an octant, taken an offset further on, in blocks of the octant's size

@@ -5,15 +5,15 @@ use Rattle.vw_cell.specs.declared.cells.Cell.{Cell}
 use Rattle.vw_cell.specs.declared.boxes.Boxed.{Boxed}
 use Rattle.vw_cell.specs.Counts.{cell_at}
 use Rattle.vw_cell.specs.Places.{block_side, is_in_box, half_x, half_y, half_z, HoldsBlock}
-use Rattle.node_shapes.specs.declared.names.Name.{Name}
-use Rattle.node_shapes.specs.Shape.{Shape, branch_of, has}
-use Rattle.node_shapes.specs.Tree.{Tree, child_of, shape_of}
+use Rattle.node_words.specs.declared.shapes.names.Name.{Name}
+use Rattle.node_words.specs.shapes.Shape.{Shape, branch_of, has}
+use Rattle.node_words.specs.shapes.Tree.{Tree, child_of, shape_of}
 use Rattle.node_words.specs.Held.{name_in}
-use Rattle.block_walk.specs.Roots.{IsBlockOf, IsOctantOf}
-use Rattle.cell_shapes.specs.CellShapes.{Cells, SameIn}
-use Rattle.edit_cells.specs.Paints.{IsOld, old_lasts}
-use Rattle.edit_cells.specs.Tasks.{Lasts}
-use Rattle.edit_cells.specs.Worlds.{block_at_origin}
+use Rattle.node_words.specs.descent.Roots.{IsBlockOf, IsOctantOf}
+use Rattle.node_words.specs.contents.CellShapes.{Cells, SameIn}
+use Rattle.edit_walk.specs.cells.Paints.{IsOld, old_lasts}
+use Rattle.edit_walk.specs.cells.Tasks.{Lasts}
+use Rattle.edit_walk.specs.cells.Worlds.{block_at_origin}
 use Rattle.edit_copy.specs.declared.copies.CopyTask.{CopyTask}
 
 -- the block of eight blocks side by side, in octant order

@@ -2,7 +2,7 @@
 use Rattle.std.specs.Prelude.{◌≡◌, ◌≢◌, ℕ, ◌+◌, ◌*◌, ◌^◌, ◌<◌, Option, None}
 use Rattle.vw_cell.specs.declared.cells.Cell.{Cell}
 use Rattle.vw_cell.specs.declared.boxes.Boxed.{Boxed}
-use Rattle.node_shapes.specs.declared.names.Name.{Name}
+use Rattle.node_words.specs.declared.shapes.names.Name.{Name}
 use Rattle.node_words.specs.Held.{name_in}
 use Rattle.edit_copy.specs.declared.copies.CopyTask.{CopyTask}
 

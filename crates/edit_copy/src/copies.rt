@@ -2,11 +2,11 @@ ghost use Rattle.std.specs.Prelude.{◌≡◌, ◌+◌, ◌-◌, ◌*◌, ◌^�
 ghost use Rattle.std.specs.Int.{bit_not, w64};
 
 use crate::sources::{are_none, leaves_in, same_sources, sources_in, step_to};
-use block_walk::{half_side, leaf_bits, octant_name, part_of, same_boxes, same_cells, same_names};
-use edit_cells::{Task, Whole, old_whole};
-use edit_walk::Repeats;
-use node_shapes::Name;
-use node_words::{Blocks, box_bits, window_bits};
+use edit_walk::{Repeats, Task, Whole, old_whole};
+use node_words::{
+    Blocks, Name, box_bits, half_side, leaf_bits, octant_name, part_of, same_boxes, same_cells,
+    same_names, window_bits,
+};
 use vw_cell::{Block, Boxed, Cell};
 
 /// Copies into one block. The cells of a box, told by their places in the block, are taken from a
@@ -23,7 +23,7 @@ pub(crate) const ORIGIN: Cell = Cell { x: 0, y: 0, z: 0 };
 
 impl Task for CopyTask {
     ghost use Rattle.std.specs.Prelude.{◌-◌};
-    ghost use Rattle.edit_cells.specs.Tasks.{blocks_in};
+    ghost use Rattle.edit_walk.specs.cells.Tasks.{blocks_in};
     ghost use Rattle.edit_copy.specs.Copies.{MakesCopy, copy_lasts};
 
     ghost makes = { MakesCopy };
@@ -131,7 +131,7 @@ fn kept_old<B: Blocks>(
     octant_name(store, level, old, octant)
 }
 
-ghost use Rattle.block_walk.specs.Roots.{HasBlock};
+ghost use Rattle.node_words.specs.descent.Roots.{HasBlock};
 ghost use Rattle.edit_copy.specs.Copies.{IsKeptOld};
 
 // The bits that moved where those inside are set, and the old ones elsewhere.

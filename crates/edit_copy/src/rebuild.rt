@@ -1,19 +1,18 @@
 ghost use Rattle.std.specs.Prelude.{◌≡◌, ◌≤◌, ◌-◌, ◌^◌, ℕ, IfOk, IfErr, OnOk, [], option_copied};
 ghost use Rattle.vw_cell.specs.Places.{FitsAt};
-ghost use Rattle.node_shapes.specs.Weights.{number_of_trees};
+ghost use Rattle.node_words.specs.shapes.Weights.{number_of_trees};
 ghost use Rattle.node_words.specs.Gathering.{Grows, Fails};
 ghost use Rattle.history_model.specs.Worlds.{edited};
 ghost use Rattle.history_model.specs.declared.acts.Act.TheVariants.{Copy};
-ghost use Rattle.block_walk.specs.Roots.{HoldsRoot};
-ghost use Rattle.edit_cells.specs.Worlds.{ForEdited, Rebuilt, world_shape};
+ghost use Rattle.node_words.specs.descent.Roots.{HoldsRoot};
+ghost use Rattle.edit_walk.specs.cells.Worlds.{ForEdited, Rebuilt, world_shape};
 ghost use Rattle.edit_walk.specs.Memos.{RecallsHeld};
 ghost use Rattle.edit_copy.specs.Copies.{MakesCopy};
 
 use crate::copies::CopyTask;
 use crate::starts::whole_task;
-use block_walk::name_of;
 use edit_walk::{Latest, Memo, NoMemo, rebuild_world};
-use node_words::{Full, NodeStore, Share, Steps};
+use node_words::{Full, NodeStore, Share, Steps, name_of};
 use std::sync::ledger::Ledger;
 use vw_cell::{Boxed, Cell, Side};
 

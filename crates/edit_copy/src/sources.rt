@@ -1,15 +1,13 @@
 ghost use Rattle.std.specs.Prelude.{◌≡◌, ◌+◌, ◌-◌, ◌*◌, ◌/◌, ◌%◌, ◌<◌, ◌≤◌, ◌^◌, ◌↔◌, ℕ, None, IsTrue, true, slice_index, length};
 ghost use Rattle.vw_cell.specs.Counts.{cell_at};
-ghost use Rattle.node_shapes.specs.Shape.{bits_of};
-ghost use Rattle.node_shapes.specs.Tree.{shape_of};
+ghost use Rattle.node_words.specs.shapes.Shape.{bits_of};
+ghost use Rattle.node_words.specs.shapes.Tree.{shape_of};
 ghost use Rattle.node_words.specs.Held.{name_in};
-ghost use Rattle.block_walk.specs.Roots.{IsBlockOf};
+ghost use Rattle.node_words.specs.descent.Roots.{IsBlockOf};
 ghost use Rattle.edit_copy.specs.Copies.{begin_of, rest_of, source_from, source_octant, source_of, is_unread, IsOffset, IsSource, IsBegin, HoldsBlocks, ForBlocks};
 
-use block_walk::{leaf_bits, octant_name, same_names};
-use edit_cells::side_of;
-use node_shapes::Name;
-use node_words::Blocks;
+use edit_walk::side_of;
+use node_words::{Blocks, Name, leaf_bits, octant_name, same_names};
 use vw_cell::Cell;
 
 // Where the sources of an octant begin, in blocks of its size, and the offset in the first of them.

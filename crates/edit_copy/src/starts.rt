@@ -3,7 +3,7 @@ ghost use Rattle.vw_cell.specs.Places.{FitsAt};
 ghost use Rattle.edit_copy.specs.Starts.{IsWholeTask, IsShift};
 
 use crate::copies::CopyTask;
-use node_shapes::Name;
+use node_words::Name;
 use vw_cell::{Boxed, Cell, Side};
 
 // The task of the whole world, which is one of eight blocks round the place that its first cell

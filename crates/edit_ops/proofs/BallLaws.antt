@@ -8,15 +8,15 @@ use Rattle.vw_cell.specs.declared.cells.Cell.{Cell}
 use Rattle.vw_cell.specs.declared.balls.Ball.{Ball}
 use Rattle.vw_cell.specs.Counts.{cell_at}
 use Rattle.vw_cell.specs.Places.{is_in_ball, square, octant_of}
-use Rattle.node_shapes.specs.declared.names.Name.{Name}
-use Rattle.node_shapes.specs.Tree.{Tree, root_of, child_of}
+use Rattle.node_words.specs.declared.shapes.names.Name.{Name}
+use Rattle.node_words.specs.shapes.Tree.{Tree, root_of, child_of}
 use Rattle.node_words.specs.Held.{AreTrees, AreCanonical}
-use Rattle.cell_shapes.specs.CellShapes.{Cells, SameIn, octant_cells}
-use Rattle.cell_shapes.proofs.SameCells.{same_itself}
-use Rattle.edit_cells.specs.Worlds.{cells_from, world_cells, ShowsWorld}
-use Rattle.edit_cells.proofs.PaintLaws.{paints_octant, paints_same}
-use Rattle.edit_cells.proofs.WorldLaws.{placed_octant, octant_lies, world_lies, from_nowhere}
-use Rattle.edit_cells.proofs.WorldPaints.{world_paints}
+use Rattle.node_words.specs.contents.CellShapes.{Cells, SameIn, octant_cells}
+use Rattle.node_words.proofs.OfContents.SameCells.{same_itself}
+use Rattle.edit_walk.specs.cells.Worlds.{cells_from, world_cells, ShowsWorld}
+use Rattle.edit_walk.proofs.OfCells.PaintLaws.{paints_octant, paints_same}
+use Rattle.edit_walk.proofs.OfCells.WorldLaws.{placed_octant, octant_lies, world_lies, from_nowhere}
+use Rattle.edit_walk.proofs.OfCells.WorldPaints.{world_paints}
 use Rattle.history_model.specs.Worlds.{edited}
 use Rattle.edit_ops.specs.Balls.{MakesBall, ball_act}
 

@@ -7,18 +7,18 @@ use Rattle.std.proofs.lemmas.Bool.Decides.{nat_tests}
 use Rattle.vw_cell.specs.declared.cells.Cell.{Cell}
 use Rattle.vw_cell.specs.declared.blocks.Block.{Block}
 use Rattle.vw_cell.specs.declared.boxes.Boxed.{Boxed}
-use Rattle.block_walk.specs.Sums.{one_if, sum_below}
+use Rattle.node_words.specs.Sums.{one_if, sum_below}
 use Rattle.vw_cell.proofs.Overlaps.{meets_only, holds_when, meets_when, holds_only}
 use Rattle.vw_cell.specs.Places.{block_side, is_in_box, Meets, HoldsBlock, Touches, Covers}
-use Rattle.node_shapes.specs.declared.names.Name.{Name}
-use Rattle.node_shapes.specs.Tree.{Tree, root_of, child_of}
-use Rattle.block_walk.specs.Parts.{part_in}
-use Rattle.cell_shapes.specs.CellShapes.{Cells, SameIn, octant_cells}
-use Rattle.cell_shapes.proofs.SameCells.{same_itself}
-use Rattle.edit_cells.specs.Worlds.{block_at_origin, world_cells, ShowsWorld}
-use Rattle.edit_cells.proofs.PaintLaws.{paints_octant, paints_same}
-use Rattle.edit_cells.proofs.PartLaws.{part_cells}
-use Rattle.edit_cells.proofs.WorldPaints.{world_paints}
+use Rattle.node_words.specs.declared.shapes.names.Name.{Name}
+use Rattle.node_words.specs.shapes.Tree.{Tree, root_of, child_of}
+use Rattle.node_words.specs.descent.Parts.{part_in}
+use Rattle.node_words.specs.contents.CellShapes.{Cells, SameIn, octant_cells}
+use Rattle.node_words.proofs.OfContents.SameCells.{same_itself}
+use Rattle.edit_walk.specs.cells.Worlds.{block_at_origin, world_cells, ShowsWorld}
+use Rattle.edit_walk.proofs.OfCells.PaintLaws.{paints_octant, paints_same}
+use Rattle.edit_walk.proofs.OfCells.PartLaws.{part_cells}
+use Rattle.edit_walk.proofs.OfCells.WorldPaints.{world_paints}
 use Rattle.history_model.specs.Worlds.{edited}
 use Rattle.node_words.specs.Held.{AreTrees, AreCanonical}
 use Rattle.edit_ops.specs.declared.boxes.BoxTask.{BoxTask}

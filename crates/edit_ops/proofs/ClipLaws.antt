@@ -10,16 +10,16 @@ use Rattle.vw_cell.specs.declared.boxes.Boxed.{Boxed}
 use Rattle.vw_cell.specs.Counts.{cell_at}
 use Rattle.vw_cell.specs.Places.{is_in_ball, is_in_box, octant_of, Meets, HoldsBlock}
 use Rattle.vw_cell.specs.Tests.{is_in_box_tells, is_in_box_holds}
-use Rattle.node_shapes.specs.declared.names.Name.{Name}
-use Rattle.node_shapes.specs.Shape.{bit_number}
-use Rattle.node_shapes.specs.Tree.{Tree, root_of, child_of}
-use Rattle.node_kernels.specs.Leaves.{LeafShows}
+use Rattle.node_words.specs.declared.shapes.names.Name.{Name}
+use Rattle.node_words.specs.shapes.Shape.{bit_number}
+use Rattle.node_words.specs.shapes.Tree.{Tree, root_of, child_of}
+use Rattle.node_words.specs.kernels.Leaves.{LeafShows}
 use Rattle.node_words.specs.Held.{AreTrees, AreCanonical}
-use Rattle.cell_shapes.specs.CellShapes.{Cells, SameIn, octant_cells, no_cells, all_cells}
-use Rattle.edit_cells.specs.Worlds.{world_cells, cells_from, ShowsWorld}
-use Rattle.edit_cells.proofs.PaintLaws.{paints_octant}
-use Rattle.edit_cells.proofs.WorldLaws.{placed_octant, octant_lies, world_lies, from_nowhere}
-use Rattle.edit_cells.proofs.WorldPaints.{world_paints}
+use Rattle.node_words.specs.contents.CellShapes.{Cells, SameIn, octant_cells, no_cells, all_cells}
+use Rattle.edit_walk.specs.cells.Worlds.{world_cells, cells_from, ShowsWorld}
+use Rattle.edit_walk.proofs.OfCells.PaintLaws.{paints_octant}
+use Rattle.edit_walk.proofs.OfCells.WorldLaws.{placed_octant, octant_lies, world_lies, from_nowhere}
+use Rattle.edit_walk.proofs.OfCells.WorldPaints.{world_paints}
 use Rattle.edit_ops.specs.Clips.{is_in_clip, clipped, MakesClip}
 
 -- bits of two tests at once

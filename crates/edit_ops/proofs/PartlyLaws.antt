@@ -5,11 +5,11 @@ use Rattle.std.specs.Prelude.{◌&&◌, not}
 use Rattle.std.proofs.lemmas.Bool.{and_parts, and_from, leb-true, ltb-true, le-leb, lt-ltb}
 use Rattle.vw_cell.specs.declared.cells.Cell.{Cell}
 use Rattle.vw_cell.specs.declared.boxes.Boxed.{Boxed}
-use Rattle.block_walk.specs.Sums.{one_if, sum_below-same}
+use Rattle.node_words.specs.Sums.{one_if, sum_below-same}
 use Rattle.vw_cell.specs.Counts.{cell_at}
 use Rattle.vw_cell.specs.Places.{block_side, half_x, half_y, half_z, FitsAt}
-use Rattle.node_shapes.proofs.ShapeLaws.{block_side-suc, block_side_some, halves}
-use Rattle.block_walk.specs.Parts.{half_at, half_size, part_in}
+use Rattle.node_words.proofs.OfShapes.ShapeLaws.{block_side-suc, block_side_some, halves}
+use Rattle.node_words.specs.descent.Parts.{half_at, half_size, part_in}
 use Rattle.edit_ops.specs.Boxes.{touches_first, covers_first, is_partly, parts_met}
 use Rattle.edit_ops.specs.Partly.{touches_at, covers_at, is_partly_at, corner, blocks_partly}
 

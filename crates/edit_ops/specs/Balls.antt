@@ -3,15 +3,15 @@ use Rattle.std.specs.Prelude.{ℕ, ◌≤◌, Bool, List, Option, true, false}
 use Rattle.vw_cell.specs.declared.cells.Cell.{Cell}
 use Rattle.vw_cell.specs.declared.balls.Ball.{Ball}
 use Rattle.vw_cell.specs.Places.{is_in_ball, LiesIn}
-use Rattle.node_shapes.specs.declared.names.Name.{Name}
-use Rattle.node_shapes.specs.Tree.{Tree}
+use Rattle.node_words.specs.declared.shapes.names.Name.{Name}
+use Rattle.node_words.specs.shapes.Tree.{Tree}
 use Rattle.history_model.specs.declared.acts.Act.{Act}
 use Rattle.history_model.specs.declared.acts.Act.TheVariants.{Ball as Bulge, Carve}
 use Rattle.node_words.proofs.HeldLaws.{Keeps}
-use Rattle.cell_shapes.specs.CellShapes.{Cells}
-use Rattle.edit_cells.specs.Paints.{Paints, paints_last}
-use Rattle.edit_cells.specs.Tasks.{Making, OneEach}
-use Rattle.edit_cells.specs.Worlds.{cells_from}
+use Rattle.node_words.specs.contents.CellShapes.{Cells}
+use Rattle.edit_walk.specs.cells.Paints.{Paints, paints_last}
+use Rattle.edit_walk.specs.cells.Tasks.{Making, OneEach}
+use Rattle.edit_walk.specs.cells.Worlds.{cells_from}
 use Rattle.edit_ops.specs.declared.balls.BallTask.{BallTask}
 
 -- the act that sets or clears the cells of a ball

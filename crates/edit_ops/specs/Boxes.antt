@@ -2,16 +2,16 @@
 use Rattle.std.specs.Prelude.{ℕ, ◌+◌, ◌≤◌, Bool, List, true, false, nat_le, nat_lt, ◌&&◌, not}
 use Rattle.std.proofs.Common.{zero, suc}
 use Rattle.vw_cell.specs.declared.boxes.Boxed.{Boxed}
-use Rattle.block_walk.specs.Sums.{one_if, sum_below}
+use Rattle.node_words.specs.Sums.{one_if, sum_below}
 use Rattle.vw_cell.specs.Places.{block_side, is_in_box}
-use Rattle.node_shapes.specs.Tree.{Tree}
+use Rattle.node_words.specs.shapes.Tree.{Tree}
 use Rattle.history_model.specs.declared.acts.Act.{Act}
 use Rattle.history_model.specs.declared.acts.Act.TheVariants.{Fill, Erase}
-use Rattle.block_walk.specs.Parts.{part_in}
-use Rattle.cell_shapes.specs.CellShapes.{Cells}
-use Rattle.edit_cells.specs.Paints.{Paints, paints_last}
-use Rattle.edit_cells.specs.Tasks.{Lasts}
-use Rattle.edit_cells.specs.Worlds.{world_cells}
+use Rattle.node_words.specs.descent.Parts.{part_in}
+use Rattle.node_words.specs.contents.CellShapes.{Cells}
+use Rattle.edit_walk.specs.cells.Paints.{Paints, paints_last}
+use Rattle.edit_walk.specs.cells.Tasks.{Lasts}
+use Rattle.edit_walk.specs.cells.Worlds.{world_cells}
 use Rattle.edit_ops.specs.declared.boxes.BoxTask.{BoxTask}
 
 -- the act that sets or clears the cells of a box

@@ -4,13 +4,13 @@ use Rattle.vw_cell.specs.declared.cells.Cell.{Cell}
 use Rattle.vw_cell.specs.declared.balls.Ball.{Ball}
 use Rattle.vw_cell.specs.declared.boxes.Boxed.{Boxed}
 use Rattle.vw_cell.specs.Places.{is_in_ball, is_in_box, LiesIn}
-use Rattle.node_shapes.specs.declared.names.Name.{Name}
-use Rattle.node_shapes.specs.Tree.{Tree}
+use Rattle.node_words.specs.declared.shapes.names.Name.{Name}
+use Rattle.node_words.specs.shapes.Tree.{Tree}
 use Rattle.node_words.proofs.HeldLaws.{Keeps}
-use Rattle.cell_shapes.specs.CellShapes.{Cells}
-use Rattle.edit_cells.specs.Paints.{Paints, paints_last}
-use Rattle.edit_cells.specs.Tasks.{OneEach}
-use Rattle.edit_cells.specs.Worlds.{cells_from}
+use Rattle.node_words.specs.contents.CellShapes.{Cells}
+use Rattle.edit_walk.specs.cells.Paints.{Paints, paints_last}
+use Rattle.edit_walk.specs.cells.Tasks.{OneEach}
+use Rattle.edit_walk.specs.cells.Worlds.{cells_from}
 
 -- the cell is one of the ball's in the box
 abbrev pub is_in_clip : Ball → Boxed → Cell → Bool

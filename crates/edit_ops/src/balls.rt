@@ -4,11 +4,8 @@ ghost use Rattle.vw_cell.specs.Counts.{cell_at};
 ghost use Rattle.vw_cell.specs.Places.{square, is_in_ball};
 
 use crate::boxes::word_of;
-use block_walk::{leaf_bits, octant_name, same_cells, same_names};
-use edit_cells::{Task, Whole, clears_nothing, filled, old_whole, paint, side_of};
-use edit_walk::Repeats;
-use node_shapes::Name;
-use node_words::{Blocks, ball_bits};
+use edit_walk::{Repeats, Task, Whole, clears_nothing, filled, old_whole, paint, side_of};
+use node_words::{Blocks, Name, ball_bits, leaf_bits, octant_name, same_cells, same_names};
 use vw_cell::{Ball, Block, Cell};
 
 /// Sets or clears the cells of a ball in the block at a place of the world. The ball is borrowed
@@ -24,7 +21,7 @@ pub struct BallTask<'b> {
 
 impl<'b> Task for BallTask<'b> {
     ghost use Rattle.std.specs.Prelude.{◌-◌};
-    ghost use Rattle.edit_cells.specs.Tasks.{blocks_in};
+    ghost use Rattle.edit_walk.specs.cells.Tasks.{blocks_in};
     ghost use Rattle.edit_ops.specs.Balls.{MakesBall, ball_lasts};
 
     ghost makes = { λ t. MakesBall t.old t.ball.now t.at t.set };

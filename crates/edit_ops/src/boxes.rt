@@ -1,10 +1,9 @@
 ghost use Rattle.std.specs.Prelude.{◌≡◌, ◌+◌, ◌-◌, ◌*◌, ◌^◌, ◌<◌, ◌≤◌, ℕ, IsTrue};
 
-use block_walk::{half_side, leaf_bits, octant_name, part_of, same_boxes, same_names};
-use edit_cells::{Task, Whole, clears_nothing, filled, old_whole, paint};
-use edit_walk::Repeats;
-use node_shapes::Name;
-use node_words::{Blocks, box_bits};
+use edit_walk::{Repeats, Task, Whole, clears_nothing, filled, old_whole, paint};
+use node_words::{
+    Blocks, Name, box_bits, half_side, leaf_bits, octant_name, part_of, same_boxes, same_names,
+};
 use vw_cell::{Block, Boxed, Cell};
 
 /// Sets or clears the cells of a box in one block. The box is told by its places in the block.
@@ -20,7 +19,7 @@ const ORIGIN: Cell = Cell { x: 0, y: 0, z: 0 };
 impl Task for BoxTask {
     ghost use Rattle.std.specs.Prelude.{◌-◌};
     ghost use Rattle.vw_cell.specs.Places.{block_side};
-    ghost use Rattle.block_walk.specs.Parts.{part_in};
+    ghost use Rattle.node_words.specs.descent.Parts.{part_in};
     ghost use Rattle.edit_ops.specs.Boxes.{MakesBox, box_lasts, parts_met};
 
     ghost makes = { MakesBox };

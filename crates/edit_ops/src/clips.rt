@@ -1,12 +1,10 @@
 ghost use Rattle.std.specs.Prelude.{◌≡◌, ◌<◌, ◌^◌, bit_and};
-ghost use Rattle.node_kernels.specs.Leaves.{LeafShows};
+ghost use Rattle.node_words.specs.kernels.Leaves.{LeafShows};
 ghost use Rattle.edit_ops.specs.Clips.{is_in_clip};
 
 use crate::balls::{is_inside, is_outside};
-use block_walk::{leaf_bits, octant_name};
-use edit_cells::{Task, Whole, clears_nothing, filled, old_whole, paint, side_of};
-use node_shapes::Name;
-use node_words::{Blocks, ball_bits, box_bits};
+use edit_walk::{Task, Whole, clears_nothing, filled, old_whole, paint, side_of};
+use node_words::{Blocks, Name, ball_bits, box_bits, leaf_bits, octant_name};
 use vw_cell::{Ball, Block, Boxed, Cell};
 
 /// Sets or clears the cells of a ball that lie in a box, in the block at a place of the world. What
@@ -22,7 +20,7 @@ pub struct ClipTask<'b> {
 
 impl<'b> Task for ClipTask<'b> {
     ghost use Rattle.std.specs.Prelude.{◌-◌};
-    ghost use Rattle.edit_cells.specs.Tasks.{blocks_in};
+    ghost use Rattle.edit_walk.specs.cells.Tasks.{blocks_in};
     ghost use Rattle.edit_ops.specs.Clips.{MakesClip, clip_lasts};
 
     ghost makes = { λ t. MakesClip t.old t.ball.now t.within.now t.at t.set };

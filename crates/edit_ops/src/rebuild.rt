@@ -1,10 +1,10 @@
 ghost use Rattle.std.specs.Prelude.{◌≡◌, ◌+◌, ◌-◌, ◌*◌, ◌≤◌, ◌^◌, ℕ, IfOk, IfErr, OnOk, [], option_copied};
 ghost use Rattle.vw_cell.specs.Places.{FitsAt, IsInWorld};
-ghost use Rattle.node_shapes.specs.Weights.{number_of_trees};
+ghost use Rattle.node_words.specs.shapes.Weights.{number_of_trees};
 ghost use Rattle.node_words.specs.Gathering.{Grows, Fails};
 ghost use Rattle.history_model.specs.Worlds.{edited};
-ghost use Rattle.block_walk.specs.Roots.{HoldsRoot};
-ghost use Rattle.edit_cells.specs.Worlds.{ForEdited, Rebuilt, world_shape};
+ghost use Rattle.node_words.specs.descent.Roots.{HoldsRoot};
+ghost use Rattle.edit_walk.specs.cells.Worlds.{ForEdited, Rebuilt, world_shape};
 ghost use Rattle.edit_walk.specs.Memos.{RecallsHeld};
 ghost use Rattle.edit_ops.specs.Boxes.{MakesBox, box_act};
 ghost use Rattle.edit_ops.specs.Balls.{ball_act, makes_ball};
@@ -14,10 +14,8 @@ ghost use Rattle.edit_ops.specs.Partly.{world_partly};
 use crate::balls::BallTask;
 use crate::boxes::BoxTask;
 use crate::clips::ClipTask;
-use block_walk::name_of;
-use edit_cells::is_large;
-use edit_walk::{Latest, Memo, NoMemo, rebuild_world};
-use node_words::{Full, NodeStore, Share, Steps};
+use edit_walk::{Latest, Memo, NoMemo, is_large, rebuild_world};
+use node_words::{Full, NodeStore, Share, Steps, name_of};
 use std::sync::ledger::Ledger;
 use vw_cell::{Ball, Boxed, Cell, Side};
 

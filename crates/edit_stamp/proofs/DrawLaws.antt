@@ -20,7 +20,7 @@ use Rattle.vox_read.specs.declared.voxels.Voxel.{Voxel}
 use Rattle.vox_read.specs.Contents.{StandsInside, stands_at}
 use Rattle.vox_read.specs.Cells.{has_voxel}
 use Rattle.vox_read.proofs.Bounds.{same_place}
-use Rattle.node_shapes.specs.Shape.{bit_number}
+use Rattle.node_words.specs.shapes.Shape.{bit_number}
 use Rattle.edit_stamp.specs.Drawings.{cell_bit, leaves_of, leaf_number}
 
 -- the bits set below the size are those of these voxels

@@ -11,16 +11,16 @@ use Rattle.vw_cell.specs.Counts.{cell_at}
 use Rattle.vw_cell.specs.Places.{block_side, HoldsBlock, is_in_box, IsInBox, Meets, octant_of, half_x, half_y, half_z}
 use Rattle.vw_cell.specs.Tests.{is_in_box_tells, is_in_box_holds}
 use Rattle.vox_read.specs.Contents.{Content}
-use Rattle.node_shapes.specs.declared.names.Name.{Name}
-use Rattle.node_shapes.specs.Shape.{bit_number, octant_number}
-use Rattle.node_shapes.specs.Tree.{Tree, root_of, child_of}
-use Rattle.node_kernels.specs.Leaves.{LeafShows, LiesAcross}
+use Rattle.node_words.specs.declared.shapes.names.Name.{Name}
+use Rattle.node_words.specs.shapes.Shape.{bit_number, octant_number}
+use Rattle.node_words.specs.shapes.Tree.{Tree, root_of, child_of}
+use Rattle.node_words.specs.kernels.Leaves.{LeafShows, LiesAcross}
 use Rattle.node_words.specs.Held.{AreTrees, AreCanonical}
-use Rattle.cell_shapes.specs.CellShapes.{Cells, SameIn, octant_cells, no_cells, all_cells}
-use Rattle.edit_cells.specs.Worlds.{world_cells, cells_from, ShowsWorld}
-use Rattle.edit_cells.proofs.PaintLaws.{paints_octant}
-use Rattle.edit_cells.proofs.WorldLaws.{placed_octant, octant_lies, world_lies, from_nowhere}
-use Rattle.edit_cells.proofs.WorldPaints.{world_paints}
+use Rattle.node_words.specs.contents.CellShapes.{Cells, SameIn, octant_cells, no_cells, all_cells}
+use Rattle.edit_walk.specs.cells.Worlds.{world_cells, cells_from, ShowsWorld}
+use Rattle.edit_walk.proofs.OfCells.PaintLaws.{paints_octant}
+use Rattle.edit_walk.proofs.OfCells.WorldLaws.{placed_octant, octant_lies, world_lies, from_nowhere}
+use Rattle.edit_walk.proofs.OfCells.WorldPaints.{world_paints}
 use Rattle.std.specs.List.{slice_get}
 use Rattle.history_model.specs.Worlds.{box_at, less, is_in_stamp, edited}
 use Rattle.history_model.specs.declared.acts.Act.TheVariants.{Stamp}

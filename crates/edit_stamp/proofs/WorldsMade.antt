@@ -1,10 +1,10 @@
 -- What was rebuilt of one world was rebuilt of an equal one.
 use Rattle.std.proofs.Common.{◌≡◌, ℕ, Bool, Option, subst}
 use Rattle.vw_cell.specs.declared.cells.Cell.{Cell}
-use Rattle.node_shapes.specs.declared.names.Name.{Name}
+use Rattle.node_words.specs.declared.shapes.names.Name.{Name}
 use Rattle.node_words.specs.Held.{Seen}
 use Rattle.node_words.specs.Gathering.{Grows, Fails}
-use Rattle.edit_cells.specs.Worlds.{Rebuilt, world_shape}
+use Rattle.edit_walk.specs.cells.Worlds.{Rebuilt, world_shape}
 
 module _ (level : ℕ) (v w : Cell → Bool) (old new : Seen) (same : v ≡ w) where
   pub rebuilt_as : (name : Option Name) → Rebuilt level v name old new

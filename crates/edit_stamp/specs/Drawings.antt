@@ -7,7 +7,7 @@ use Rattle.vw_cell.specs.Counts.{cell_at, IsBelow}
 use Rattle.vw_cell.specs.Places.{is_in_box}
 use Rattle.vox_read.specs.declared.voxels.Voxel.{Voxel}
 use Rattle.vox_read.specs.Contents.{Content, IsSize, is_cell, colour_at}
-use Rattle.node_shapes.specs.Shape.{bit_number}
+use Rattle.node_words.specs.shapes.Shape.{bit_number}
 use Rattle.history_model.specs.Worlds.{box_at, less}
 
 -- how many leaves a size takes on one axis, and where the leaf of a place stands among them

@@ -1,5 +1,5 @@
 pub mod Drawings
 pub mod Stamps
 pub mod Tiers
-pub use Rattle.edit_cells.specs.Roots
-pub use Rattle.edit_cells.specs.Worlds
+pub use Rattle.edit_walk.specs.Roots
+pub use Rattle.edit_walk.specs.cells.Worlds

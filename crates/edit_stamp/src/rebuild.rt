@@ -1,15 +1,14 @@
 ghost use Rattle.std.specs.Prelude.{◌≡◌, ◌-◌, ◌≤◌, ◌^◌, IfOk, IfErr, OnOk, option_copied};
 ghost use Rattle.vw_cell.specs.Places.{FitsAt};
-ghost use Rattle.node_shapes.specs.Weights.{number_of_trees};
+ghost use Rattle.node_words.specs.shapes.Weights.{number_of_trees};
 ghost use Rattle.node_words.specs.Gathering.{Grows, Fails};
-ghost use Rattle.edit_cells.specs.Roots.{HoldsRoot};
-ghost use Rattle.edit_cells.specs.Worlds.{ForEdited, Rebuilt, world_shape};
+ghost use Rattle.edit_walk.specs.Roots.{HoldsRoot};
+ghost use Rattle.edit_walk.specs.cells.Worlds.{ForEdited, Rebuilt, world_shape};
 ghost use Rattle.edit_stamp.specs.Stamps.{stamped, unstamped, inked};
 
 use crate::stamps::StampTask;
 use crate::stencils::Stencil;
-use edit_cells::name_of;
-use edit_walk::{NoMemo, rebuild_world};
+use edit_walk::{NoMemo, name_of, rebuild_world};
 use node_words::{Full, NodeStore, Share, Steps};
 use std::sync::ledger::Ledger;
 use vw_cell::{Cell, Side};

@@ -1,9 +1,8 @@
 ghost use Rattle.std.specs.Prelude.{◌≡◌, ◌+◌, ◌-◌, ◌*◌, ◌^◌, ◌<◌, ◌≤◌, ℕ, IsTrue};
 
 use crate::stencils::Stencil;
-use edit_cells::{Task, Whole, clears_nothing, filled, leaf_bits, octant_name, old_whole, paint};
-use node_shapes::Name;
-use node_words::Blocks;
+use edit_walk::{Task, Whole, clears_nothing, filled, leaf_bits, octant_name, old_whole, paint};
+use node_words::{Blocks, Name};
 use vw_cell::{Block, Boxed, Cell};
 
 /// Sets or clears the cells of a model, whose least corner is at `place`, in the block at `at`.
@@ -20,7 +19,7 @@ pub struct StampTask<'s> {
 
 impl<'s> Task for StampTask<'s> {
     ghost use Rattle.std.specs.Prelude.{◌-◌};
-    ghost use Rattle.edit_cells.specs.Tasks.{blocks_in};
+    ghost use Rattle.edit_walk.specs.cells.Tasks.{blocks_in};
     ghost use Rattle.edit_stamp.specs.Stamps.{MakesStamp, stamp_lasts};
 
     ghost makes = { λ t. MakesStamp t.old t.stencil.now t.place.now t.at t.set };

@@ -1,3 +1,4 @@
 pub mod WalkLaws
 pub mod MemoLaws
-pub use Rattle.edit_blocks.proofs.JoinLaws
+pub mod OfCells
+pub mod OfBlocks

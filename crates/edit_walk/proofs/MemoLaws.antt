@@ -2,19 +2,19 @@
 use Rattle.std.proofs.Common.{◌≡◌, ℕ, zero, suc, refl, ◌+◌, ◌-◌, ◌<◌, ◌⊎◌, Some, None, Option, List, [], ◌∷◌, set, slice_index_or, length, sym, ◌∙◌, ap, subst, arith, inl, inr, get_or-set_other, get_or-set_same}
 use Rattle.std.proofs.Math.ListN.{replicate}
 use Rattle.std.proofs.lemmas.Bool.{cases_eq}
-use Rattle.node_shapes.specs.declared.names.Name.{Name}
-use Rattle.node_shapes.specs.Shape.{Shape, octant_shape}
-use Rattle.node_shapes.specs.Tree.{Tree, shape_of}
-use Rattle.node_shapes.proofs.WeightLaws.{weight_of-there}
+use Rattle.node_words.specs.declared.shapes.names.Name.{Name}
+use Rattle.node_words.specs.shapes.Shape.{Shape, octant_shape}
+use Rattle.node_words.specs.shapes.Tree.{Tree, shape_of}
+use Rattle.node_words.proofs.OfShapes.WeightLaws.{weight_of-there}
 use Rattle.node_words.specs.Held.{Seen, IsHeld}
 use Rattle.node_words.specs.Gathering.{Loses}
 use Rattle.node_words.proofs.HeldLaws.{Keeps, keeps_itself, held_reached}
-use Rattle.cell_shapes.specs.CellShapes.{Cells, SameIn, shape_with}
-use Rattle.cell_shapes.proofs.CellShapeLaws.{shape_with-same}
-use Rattle.edit_cells.specs.Tasks.{Making, Lasts, OneEach}
-use Rattle.edit_blocks.specs.Blocks.{Aside, Came, ReachesAll, Joined}
-use Rattle.edit_blocks.proofs.JoinLaws.{gathers_one, gathers_none}
-use Rattle.edit_blocks.proofs.ReachLaws.{keeps_reaches, came_keeps, tree_reached}
+use Rattle.node_words.specs.contents.CellShapes.{Cells, SameIn, shape_with}
+use Rattle.node_words.proofs.OfContents.CellShapeLaws.{shape_with-same}
+use Rattle.edit_walk.specs.cells.Tasks.{Making, Lasts, OneEach}
+use Rattle.edit_walk.specs.blocks.Blocks.{Aside, Came, ReachesAll, Joined}
+use Rattle.edit_walk.proofs.OfBlocks.JoinLaws.{gathers_one, gathers_none}
+use Rattle.edit_walk.proofs.OfBlocks.ReachLaws.{keeps_reaches, came_keeps, tree_reached}
 use Rattle.edit_walk.specs.declared.memos.Kept.{Kept}
 use Rattle.edit_walk.specs.Memos.{Keeping, IsKeptIn, IsMade, Recalls, RecallsHeld}
 use Rattle.edit_walk.specs.Walks.{Walk, walk_at, Begins, Built, Partway}

@@ -1,19 +1,19 @@
 -- One block of a walk: a leaf, an octant that is like an earlier one, and one that is built.
 use Rattle.std.proofs.Common.{◌≡◌, ℕ, suc, ◌+◌, ◌-◌, ◌^◌, ◌<◌, ◌≤◌, None, Option, List, sym, ◌∙◌, ap, subst, arith}
-use Rattle.node_shapes.specs.declared.names.Name.{Name}
-use Rattle.node_shapes.specs.Shape.{Shape, Leaf, octant_shape, has}
-use Rattle.node_shapes.specs.Tree.{Tree}
-use Rattle.node_shapes.specs.Weights.{number_of_trees}
-use Rattle.node_shapes.proofs.WeightLaws.{weight_below-part, weight_below-one}
+use Rattle.node_words.specs.declared.shapes.names.Name.{Name}
+use Rattle.node_words.specs.shapes.Shape.{Shape, Leaf, octant_shape, has}
+use Rattle.node_words.specs.shapes.Tree.{Tree}
+use Rattle.node_words.specs.shapes.Weights.{number_of_trees}
+use Rattle.node_words.proofs.OfShapes.WeightLaws.{weight_below-part, weight_below-one}
 use Rattle.node_words.specs.Held.{Seen, OnlyHeldChanges}
 use Rattle.node_words.specs.Gathering.{Comes, Loses, MayHold, Grows, Fails}
 use Rattle.node_words.proofs.HeldLaws.{Keeps, keeps_on}
-use Rattle.cell_shapes.specs.CellShapes.{Cells, SameIn, octant_cells, leaf_shape, shape_with}
-use Rattle.edit_blocks.specs.Blocks.{Aside, Came, Gathers, RefusesBlock}
+use Rattle.node_words.specs.contents.CellShapes.{Cells, SameIn, octant_cells, leaf_shape, shape_with}
+use Rattle.edit_walk.specs.blocks.Blocks.{Aside, Came, Gathers, RefusesBlock}
 use Rattle.edit_walk.specs.Walks.{Starts}
-use Rattle.cell_shapes.proofs.CellShapeLaws.{shape_with-leaf, shape_with-octant, shape_with-same}
-use Rattle.edit_blocks.proofs.AsideLaws.{aside_keeps, none_aside, aside_numbers}
-use Rattle.edit_blocks.proofs.JoinLaws.{refuses_held}
+use Rattle.node_words.proofs.OfContents.CellShapeLaws.{shape_with-leaf, shape_with-octant, shape_with-same}
+use Rattle.edit_walk.proofs.OfBlocks.AsideLaws.{aside_keeps, none_aside, aside_numbers}
+use Rattle.edit_walk.proofs.OfBlocks.JoinLaws.{refuses_held}
 
 pub starts_held : (base rest : List Tree) (seen : Seen) (full : Option Name)
     → Starts base rest seen full → Keeps base seen.held

@@ -1,2 +1,5 @@
 pub mod Memos
 pub mod Walks
+pub mod cells
+pub mod blocks
+pub use Rattle.node_words.specs.descent.Roots

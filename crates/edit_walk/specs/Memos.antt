@@ -1,9 +1,9 @@
 -- The blocks that a walk remembers, each with the task that made it.
 use Rattle.std.specs.Prelude.{◌≡◌, ℕ, Option, Some, None, List, slice_index_or}
-use Rattle.node_shapes.specs.Tree.{Tree, shape_of}
+use Rattle.node_words.specs.shapes.Tree.{Tree, shape_of}
 use Rattle.node_words.specs.Gathering.{IsTreeOf}
-use Rattle.cell_shapes.specs.CellShapes.{Cells, shape_with}
-use Rattle.edit_cells.specs.Tasks.{Making, MakeAlike}
+use Rattle.node_words.specs.contents.CellShapes.{Cells, shape_with}
+use Rattle.edit_walk.specs.cells.Tasks.{Making, MakeAlike}
 use Rattle.node_words.proofs.HeldLaws.{Keeps}
 use Rattle.edit_walk.specs.declared.memos.Kept.{Kept}
 

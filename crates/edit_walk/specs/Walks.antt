@@ -1,17 +1,17 @@
 -- What a walk over the blocks of a rebuild starts from, and what it leaves for each outcome.
 use Rattle.std.specs.Prelude.{ℕ, ◌-◌, Bool, Option, List}
 use Rattle.vw_cell.specs.declared.cells.Cell.{Cell}
-use Rattle.node_shapes.specs.declared.names.Name.{Name}
-use Rattle.node_shapes.specs.Shape.{Shape, octant_shape}
-use Rattle.node_shapes.specs.Tree.{Tree}
+use Rattle.node_words.specs.declared.shapes.names.Name.{Name}
+use Rattle.node_words.specs.shapes.Shape.{Shape, octant_shape}
+use Rattle.node_words.specs.shapes.Tree.{Tree}
 use Rattle.node_words.specs.Held.{Seen}
 use Rattle.node_words.specs.Gathering.{Grows}
 use Rattle.node_words.proofs.HeldLaws.{Keeps}
-use Rattle.cell_shapes.specs.CellShapes.{Cells, shape_with}
-use Rattle.edit_cells.specs.declared.tasks.Whole.{Whole}
-use Rattle.edit_cells.specs.Tasks.{Making, IsWhole}
-use Rattle.edit_cells.specs.Worlds.{world_cells}
-use Rattle.edit_blocks.specs.Blocks.{Aside, Came, Gathers, RefusesBlock}
+use Rattle.node_words.specs.contents.CellShapes.{Cells, shape_with}
+use Rattle.edit_walk.specs.declared.cells.tasks.Whole.{Whole}
+use Rattle.edit_walk.specs.cells.Tasks.{Making, IsWhole}
+use Rattle.edit_walk.specs.cells.Worlds.{world_cells}
+use Rattle.edit_walk.specs.blocks.Blocks.{Aside, Came, Gathers, RefusesBlock}
 use Rattle.edit_walk.specs.Memos.{Keeping, Recalls}
 
 -- the state of a walk: what the store is seen as, the full block kept aside, and what is remembered

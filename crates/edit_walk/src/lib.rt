@@ -7,11 +7,18 @@
 //! task makes of a block is said by cells, in `specs/Tasks.antt` of `edit_cells`.
 #![tactic(auto)]
 
+mod blocks;
+mod cells;
 mod memos;
 mod upper;
 mod walks;
 mod worlds;
 
+pub use blocks::{again, back_all, back_if, full_block, join, leaf, named, put};
+pub use cells::{
+    Task, Whole, clears_nothing, filled, is_large, leaf_bits, name_of, octant_name, old_whole,
+    paint, side_of,
+};
 pub use memos::{Kept, Latest, Memo, NoMemo, Repeats};
 pub use upper::Upper;
 pub use walks::rebuild;

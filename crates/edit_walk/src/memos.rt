@@ -1,10 +1,10 @@
 ghost use Rattle.std.specs.Prelude.{◌≡◌, ◌<◌, ◌⊎◌, ℕ, Option, Some, None, IfSome, IsTrue};
-ghost use Rattle.edit_cells.specs.Tasks.{MakeAlike};
+ghost use Rattle.edit_walk.specs.cells.Tasks.{MakeAlike};
 ghost use Rattle.edit_walk.specs.declared.memos.Kept.{Kept};
 ghost use Rattle.edit_walk.specs.Memos.{IsKeptIn, IsLike};
 
-use edit_cells::Task;
-use node_shapes::Name;
+use crate::cells::Task;
+use node_words::Name;
 
 /// A block of some level that a task made: its name, or none where nothing is set.
 #[derive(Clone, Copy)]

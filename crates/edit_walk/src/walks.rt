@@ -1,18 +1,18 @@
 ghost use Rattle.std.specs.Prelude.{◌≡◌, ◌≢◌, ◌+◌, ◌*◌, ◌-◌, ◌^◌, ◌<◌, ◌≤◌, ℕ, None, IfOk, OnOk, IfErr, OnErr, max, replicate};
-ghost use Rattle.sums.specs.Sums.{sum_below};
-ghost use Rattle.node_shapes.specs.Weights.{number_of_trees};
+ghost use Rattle.vw_cell.specs.Sums.{sum_below};
+ghost use Rattle.node_words.specs.shapes.Weights.{number_of_trees};
 ghost use Rattle.node_words.specs.Held.{name_in};
 ghost use Rattle.node_words.specs.Gathering.{Comes, Grows, Fails};
-ghost use Rattle.cell_shapes.specs.CellShapes.{shape_with};
-ghost use Rattle.edit_cells.specs.Tasks.{MakesCells, ForCells};
-ghost use Rattle.edit_blocks.specs.Blocks.{height, Aside, Came, RefusesBlock};
+ghost use Rattle.node_words.specs.contents.CellShapes.{shape_with};
+ghost use Rattle.edit_walk.specs.cells.Tasks.{MakesCells, ForCells};
+ghost use Rattle.edit_walk.specs.blocks.Blocks.{height, Aside, Came, RefusesBlock};
 ghost use Rattle.edit_walk.specs.declared.memos.Kept.{Kept};
 ghost use Rattle.edit_walk.specs.Memos.{RecallsHeld};
 ghost use Rattle.edit_walk.specs.Walks.{walk_at, Built, CanBuild, Builds, BuildsParts, StopsWalk, LeavesRest, GathersAll, CanGoOn, ForOctant, CanBeWhole, ForWhole};
 
+use crate::blocks::{again, back_all, back_if, full_block, join, leaf, named, put};
+use crate::cells::{Task, Whole};
 use crate::memos::{Kept, Memo};
-use edit_blocks::{again, back_all, back_if, full_block, join, leaf, named, put};
-use edit_cells::{Task, Whole};
 use node_words::{Full, NodeStore, Share, Steps, end_all};
 use std::sync::ledger::Ledger;
 

@@ -1,13 +1,13 @@
 ghost use Rattle.std.specs.Prelude.{◌≡◌, ◌+◌, ◌-◌, ◌*◌, ◌≤◌, ℕ, IfOk, IfErr, OnOk};
-ghost use Rattle.node_shapes.specs.Weights.{number_of_trees};
+ghost use Rattle.node_words.specs.shapes.Weights.{number_of_trees};
 ghost use Rattle.node_words.specs.Gathering.{Grows, Fails};
-ghost use Rattle.edit_cells.specs.Worlds.{world_shape, Rebuilt};
+ghost use Rattle.edit_walk.specs.cells.Worlds.{world_shape, Rebuilt};
 ghost use Rattle.edit_walk.specs.Memos.{RecallsHeld};
 ghost use Rattle.edit_walk.specs.Walks.{MakesWorld, ForWorlds};
 
+use crate::cells::Task;
 use crate::memos::Memo;
 use crate::walks::rebuild;
-use edit_cells::Task;
 use node_words::{Full, NodeStore, Share, Steps};
 use std::sync::ledger::Ledger;
 use vw_cell::Side;

@@ -11,18 +11,18 @@ use Rattle.vw_cell.specs.declared.boxes.Boxed.{Boxed}
 use Rattle.vw_cell.specs.declared.blocks.Block.{Block}
 use Rattle.vw_cell.specs.Counts.{cell_at}
 use Rattle.vw_cell.specs.Places.{block_side, half_x, half_y, half_z, IsWithin, IsInBlock, Touches, octant_of}
-use Rattle.node_shapes.specs.declared.names.Name.{Name}
-use Rattle.node_shapes.specs.Shape.{Shape, Clear, bits_of, bit_number, has, ShowsCells}
-use Rattle.node_shapes.specs.Tree.{Tree, shape_of, child_of}
-use Rattle.node_shapes.proofs.ShapeLaws.{has-clear}
-use Rattle.node_shapes.proofs.ShowLaws.{octant_shows}
-use Rattle.node_shapes.proofs.TreeLaws.{shape_of-child}
-use Rattle.node_kernels.specs.Leaves.{LeafShows}
+use Rattle.node_words.specs.declared.shapes.names.Name.{Name}
+use Rattle.node_words.specs.shapes.Shape.{Shape, Clear, bits_of, bit_number, has, ShowsCells}
+use Rattle.node_words.specs.shapes.Tree.{Tree, shape_of, child_of}
+use Rattle.node_words.proofs.OfShapes.ShapeLaws.{has-clear}
+use Rattle.node_words.proofs.OfShapes.ShowLaws.{octant_shows}
+use Rattle.node_words.proofs.OfShapes.TreeLaws.{shape_of-child}
+use Rattle.node_words.specs.kernels.Leaves.{LeafShows}
 use Rattle.node_words.specs.Held.{Seen}
-use Rattle.block_walk.specs.Roots.{IsBlockOf, IsOctantOf, ForBlock, cells_of}
-use Rattle.block_walk.specs.Parts.{EndsBy}
-use Rattle.block_walk.proofs.BlockLaws.{clear_block}
-use Rattle.block_walk.proofs.LookLaws.{block_still}
+use Rattle.node_words.specs.descent.Roots.{IsBlockOf, IsOctantOf, ForBlock, cells_of}
+use Rattle.node_words.specs.descent.Parts.{EndsBy}
+use Rattle.node_words.proofs.OfDescent.BlockLaws.{clear_block}
+use Rattle.node_words.proofs.OfDescent.LookLaws.{block_still}
 use Rattle.measure.specs.Widening.{ForPlace}
 use Rattle.measure.proofs.WideningLaws.{has_octant, shown_root}
 use Rattle.extract.specs.Layers.{leaves_met, leaves_along, leaves_in, leaf_block, leaf_corner, HoldsLayer, IsLeafCorner, IsSmallLayer}

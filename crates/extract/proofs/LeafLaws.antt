@@ -9,14 +9,14 @@ use Rattle.std.specs.declared.vec.Vec.{Vec}
 use Rattle.vw_cell.specs.Counts.{cell_at, number_in}
 use Rattle.vw_cell.specs.Places.{IsInWorld, FitsAt}
 use Rattle.vox_read.specs.declared.voxels.Voxel.{Voxel}
-use Rattle.node_shapes.specs.declared.names.Name.{Name}
-use Rattle.node_shapes.specs.Tree.{shape_of}
-use Rattle.node_kernels.specs.Leaves.{LeafShows}
+use Rattle.node_words.specs.declared.shapes.names.Name.{Name}
+use Rattle.node_words.specs.shapes.Tree.{shape_of}
+use Rattle.node_words.specs.kernels.Leaves.{LeafShows}
 use Rattle.node_words.specs.Held.{Seen}
-use Rattle.block_walk.specs.Roots.{IsBlockOf, HasBlock, HoldsRoot, ForBlock, ForWorld, cells_of}
-use Rattle.block_walk.specs.Parts.{EndsBy}
-use Rattle.block_walk.proofs.BlockLaws.{root_block}
-use Rattle.block_walk.proofs.LookLaws.{block_still, same_cell}
+use Rattle.node_words.specs.descent.Roots.{IsBlockOf, HasBlock, HoldsRoot, ForBlock, ForWorld, cells_of}
+use Rattle.node_words.specs.descent.Parts.{EndsBy}
+use Rattle.node_words.proofs.OfDescent.BlockLaws.{root_block}
+use Rattle.node_words.proofs.OfDescent.LookLaws.{block_still, same_cell}
 use Rattle.extract.specs.Listing.{voxels_joined, voxel_if, row_voxels, voxels_of_box}
 use Rattle.extract.specs.Layers.{leaves_met, leaves_along, leaves_in, leaf_block, leaf_corner, HoldsLayer, IsSmallLayer, HasRoom, bits_show}
 use Rattle.extract.proofs.ListingLaws.{joined-same, length-voxels}

@@ -2,11 +2,11 @@
 use Rattle.std.proofs.Common.{◌≡◌, ℕ, zero, suc, ◌+◌, ◌-◌, ◌<◌, ◌≤◌, Bool, true, false, List, [], ◌++◌, length, refl, sym, ap, subst, ◌∙◌, arith, append_assoc, append-nil, add-zero, add-suc, add-one, length-append}
 use Rattle.std.specs.Prelude.{◌==◌}
 use Rattle.std.proofs.lemmas.Nat.Bits.{bit_at-zero}
-use Rattle.node_shapes.specs.Shape.{bit_number}
+use Rattle.node_words.specs.shapes.Shape.{bit_number}
 use Rattle.std.specs.declared.vec.Vec.{Vec}
 use Rattle.vw_cell.specs.declared.cells.Cell.{Cell}
 use Rattle.vw_cell.specs.declared.boxes.Boxed.{Boxed}
-use Rattle.block_walk.specs.Sums.{sum_below, sum_below-same, one_if}
+use Rattle.node_words.specs.Sums.{sum_below, sum_below-same, one_if}
 use Rattle.vw_cell.specs.Counts.{cell_at, number_in}
 use Rattle.vox_read.specs.declared.voxels.Voxel.{Voxel}
 use Rattle.extract.specs.Listing.{voxels_joined, voxel_if, row_voxels, box_row, box_layer, voxels_of_box}

@@ -8,10 +8,10 @@ use Rattle.vw_cell.specs.Places.{IsInWorld, FitsAt}
 use Rattle.vox_read.specs.declared.voxels.Voxel.{Voxel}
 use Rattle.vox_read.specs.Contents.{IsSize, StandsInside}
 use Rattle.vox_write.specs.Written.{model_file}
-use Rattle.node_shapes.specs.declared.names.Name.{Name}
-use Rattle.node_shapes.specs.Tree.{Tree, shape_of}
-use Rattle.block_walk.specs.Roots.{HoldsRoot, ForWorld, cells_of}
-use Rattle.block_walk.proofs.BlockLaws.{root_block}
+use Rattle.node_words.specs.declared.shapes.names.Name.{Name}
+use Rattle.node_words.specs.shapes.Tree.{Tree, shape_of}
+use Rattle.node_words.specs.descent.Roots.{HoldsRoot, ForWorld, cells_of}
+use Rattle.node_words.proofs.OfDescent.BlockLaws.{root_block}
 use Rattle.extract.specs.Listing.{voxels_joined, voxel_if, box_row, box_layer, voxels_of_box}
 use Rattle.extract.specs.Saved.{file_of_box}
 use Rattle.extract.proofs.ListingLaws.{joined-same, length-voxels}

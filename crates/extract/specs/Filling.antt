@@ -4,7 +4,7 @@ use Rattle.vw_cell.specs.declared.cells.Cell.{Cell}
 use Rattle.vw_cell.specs.declared.boxes.Boxed.{Boxed}
 use Rattle.vw_cell.specs.declared.blocks.Block.{Block}
 use Rattle.vw_cell.specs.Places.{block_side, IsInBlock, Touches, octant_of}
-use Rattle.node_kernels.specs.Leaves.{LeafShows}
+use Rattle.node_words.specs.kernels.Leaves.{LeafShows}
 use Rattle.extract.specs.Layers.{leaf_block, leaf_corner, leaves_in}
 
 -- the block has a leaf of this layer of the box

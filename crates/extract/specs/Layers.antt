@@ -7,8 +7,8 @@ use Rattle.vw_cell.specs.declared.boxes.Boxed.{Boxed}
 use Rattle.vw_cell.specs.declared.blocks.Block.{Block}
 use Rattle.vw_cell.specs.Counts.{cell_at}
 use Rattle.vox_read.specs.declared.voxels.Voxel.{Voxel}
-use Rattle.node_shapes.specs.Shape.{bit_number}
-use Rattle.node_kernels.specs.Leaves.{LeafShows}
+use Rattle.node_words.specs.shapes.Shape.{bit_number}
+use Rattle.node_words.specs.kernels.Leaves.{LeafShows}
 
 -- how many leaves a stretch of an axis meets
 abbrev pub leaves_met : ℕ → ℕ → ℕ

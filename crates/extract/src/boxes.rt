@@ -1,16 +1,14 @@
 ghost use Rattle.std.specs.Prelude.{◌≡◌, ℕ, ◌+◌, ◌<◌, ◌≤◌, ◌^◌, ◌++◌, length, OnOk, OnErr, option_copied};
 ghost use Rattle.vw_cell.specs.Places.{FitsAt, block_side};
-ghost use Rattle.block_walk.specs.Roots.{HasBlock, HoldsRoot, ForBlock, ForWorld, cells_of};
-ghost use Rattle.block_walk.specs.Parts.{EndsBy};
+ghost use Rattle.node_words.specs.descent.Roots.{HasBlock, HoldsRoot, ForBlock, ForWorld, cells_of};
+ghost use Rattle.node_words.specs.descent.Parts.{EndsBy};
 ghost use Rattle.extract.specs.Listing.{voxels_of_box};
 ghost use Rattle.extract.specs.Layers.{IsSmallLayer, HasRoom, AppendsVoxels};
 
 use crate::leaves::gather;
 use crate::rows::{layers_in, run_length};
-use block_walk::name_of;
 use measure::count;
-use node_shapes::Name;
-use node_words::{Blocks, Share};
+use node_words::{Blocks, Name, Share, name_of};
 use vox_read::Voxel;
 use vw_cell::{Boxed, Memory, Side};
 

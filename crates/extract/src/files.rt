@@ -1,6 +1,6 @@
 ghost use Rattle.std.specs.Prelude.{◌≡◌, ◌≤◌, ◌^◌, IfOk, option_copied};
 ghost use Rattle.vw_cell.specs.Places.{FitsAt};
-ghost use Rattle.block_walk.specs.Roots.{HoldsRoot, ForWorld};
+ghost use Rattle.node_words.specs.descent.Roots.{HoldsRoot, ForWorld};
 ghost use Rattle.extract.specs.Saved.{file_of_box};
 
 use crate::boxes::cells_in;

@@ -1,14 +1,12 @@
 ghost use Rattle.std.specs.Prelude.{◌≡◌, ℕ, ◌+◌, ◌*◌, ◌<◌, ◌≤◌, ◌/◌, ◌↔◌, IsTrue};
 ghost use Rattle.vw_cell.specs.Places.{block_side, IsInBlock, LiesIn, octant_of};
-ghost use Rattle.block_walk.specs.Roots.{HasBlock, ForBlock, cells_of};
-ghost use Rattle.block_walk.specs.Parts.{EndsBy};
+ghost use Rattle.node_words.specs.descent.Roots.{HasBlock, ForBlock, cells_of};
+ghost use Rattle.node_words.specs.descent.Parts.{EndsBy};
 ghost use Rattle.measure.specs.Widening.{ForPlace};
 ghost use Rattle.extract.specs.Layers.{HoldsLayer, IsLeafCorner, IsSmallLayer, leaf_corner, leaves_in};
 ghost use Rattle.extract.specs.Filling.{Fills, MeetsLayer};
 
-use block_walk::{leaf_bits, octant_name};
-use node_shapes::Name;
-use node_words::Blocks;
+use node_words::{Blocks, Name, leaf_bits, octant_name};
 use vw_cell::{Block, Boxed, Cell};
 
 /// The leaves of the layer of a box that has its z-th layer of cells, row by row.
@@ -107,7 +105,7 @@ fn fill_octant<B: Blocks>(
 }
 
 // Whether a block has a leaf of a layer of the box.
-#[tactic(auto, using(block_walk::proofs::LookLaws::whole_side))]
+#[tactic(auto, using(node_words::proofs::OfDescent::LookLaws::whole_side))]
 fn meets(place: Block, b: Boxed, layer: u16) -> bool
     requires level { place.level ≤ 10 }
     requires inside { LiesIn 4096 place }

@@ -4,7 +4,7 @@ ghost use Rattle.vw_cell.specs.Counts.{cell_at};
 ghost use Rattle.extract.specs.Listing.{voxel_if, row_voxels, box_row, box_layer, voxels_joined};
 ghost use Rattle.extract.specs.Layers.{HoldsLayer, IsRow, IsSmallLayer, HasRoom, AppendsVoxels, bits_show, leaves_in, leaves_along};
 
-use block_walk::leaf_has;
+use node_words::leaf_has;
 use vox_read::Voxel;
 use vw_cell::{Boxed, Cell};
 

@@ -6,7 +6,7 @@ use Rattle.std.specs.declared.vec.Vec.{Vec}
 use Rattle.std.proofs.lemmas.Nat.{shr-shr}
 use Rattle.std.proofs.lemmas.Nat.Bits.{bit_at-zero}
 use native.Mathlib.Nat.{suc-mul, mod-eq_of_lt}
-use Rattle.block_walk.specs.Sums.{sum_below, one_if, sum_below-same, sum_below-add, sum_below-suc, sum_below-le, one_if-le}
+use Rattle.node_words.specs.Sums.{sum_below, one_if, sum_below-same, sum_below-add, sum_below-suc, sum_below-le, one_if-le}
 use Rattle.vw_cell.specs.declared.cells.Cell.{Cell}
 use Rattle.vw_cell.specs.declared.boxes.Boxed.{Boxed}
 use Rattle.vw_cell.specs.Counts.{cell_at, number_in}
@@ -16,7 +16,7 @@ use Rattle.vox_read.specs.declared.voxels.Voxel.{Voxel}
 use Rattle.extract.specs.Listing.{voxels_joined, voxel_if, voxels_of_box}
 use Rattle.extract.specs.Layers.{HasRoom, AppendsVoxels, IsSmallLayer}
 use Rattle.extract.proofs.ListingLaws.{joined-same, length-voxels, appends_none, no_voxels}
-use Rattle.bit_set.proofs.Masks.{ones_low}
+use Rattle.vw_cell.proofs.Masks.{ones_low}
 use Rattle.flood.specs.Words.{bit_at_place}
 use Rattle.flood.specs.Rows.{bit_is_set, set_in, word_voxels}
 

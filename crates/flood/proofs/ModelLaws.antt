@@ -12,29 +12,29 @@ use Rattle.vw_cell.specs.Counts.{cell_at}
 use Rattle.vw_cell.specs.Places.{FitsAt, IsInBox, IsInBlock, is_in_box, block_side}
 use Rattle.vw_cell.specs.Tests.{is_in_box_holds}
 use Rattle.vox_read.specs.Contents.{Content, is_cell}
-use Rattle.node_shapes.specs.declared.names.Name.{Name}
-use Rattle.node_shapes.specs.Shape.{Shape, has, IsPart, ShowsCells}
-use Rattle.node_shapes.specs.Tree.{Tree, Gone, shape_of}
-use Rattle.node_shapes.specs.Weights.{weigh, number_of_trees}
-use Rattle.node_shapes.proofs.ShapeLaws.{has-clear}
-use Rattle.node_shapes.proofs.TreeLaws.{level_of, shape_of-gone}
-use Rattle.node_shapes.proofs.WeightLaws.{weight_of-there}
+use Rattle.node_words.specs.declared.shapes.names.Name.{Name}
+use Rattle.node_words.specs.shapes.Shape.{Shape, has, IsPart, ShowsCells}
+use Rattle.node_words.specs.shapes.Tree.{Tree, Gone, shape_of}
+use Rattle.node_words.specs.shapes.Weights.{weigh, number_of_trees}
+use Rattle.node_words.proofs.OfShapes.ShapeLaws.{has-clear}
+use Rattle.node_words.proofs.OfShapes.TreeLaws.{level_of, shape_of-gone}
+use Rattle.node_words.proofs.OfShapes.WeightLaws.{weight_of-there}
 use Rattle.node_words.specs.declared.shares.Full.{Full}
 use Rattle.node_words.specs.Enough.{HasEnough}
 use Rattle.node_words.specs.Gathering.{Grew, unchanged, one, Fails}
 use Rattle.node_words.specs.Held.{Seen, Wanted}
 use Rattle.node_words.specs.Plans.{Layout}
 use Rattle.node_words.proofs.HeldLaws.{held_reached}
-use Rattle.block_walk.specs.Roots.{IsBlockOf, HoldsRoot, ForWorld, cells_of}
-use Rattle.block_walk.proofs.LookLaws.{root_side}
-use Rattle.cell_shapes.proofs.CellShapeLaws.{shape_with-has, shape_with-canonical}
-use Rattle.edit_cells.specs.Worlds.{ShowsWorld, ForEdited, Rebuilt, block_at_origin, world_shape, world_cells}
+use Rattle.node_words.specs.descent.Roots.{IsBlockOf, HoldsRoot, ForWorld, cells_of}
+use Rattle.node_words.proofs.OfDescent.LookLaws.{root_side}
+use Rattle.node_words.proofs.OfContents.CellShapeLaws.{shape_with-has, shape_with-canonical}
+use Rattle.edit_walk.specs.cells.Worlds.{ShowsWorld, ForEdited, Rebuilt, block_at_origin, world_shape, world_cells}
 use Rattle.edit_stamp.specs.Drawings.{Drawn, Draws}
 use Rattle.edit_stamp.specs.Stamps.{stamped}
 use Rattle.edit_stamp.proofs.StampLaws.{stamps_model}
 use Rattle.history_model.specs.Worlds.{World, is_in_stamp, less}
-use Rattle.script_runs.specs.Keeping.{IsPartOfWorld, IsMadeFor}
-use Rattle.script_runs.proofs.PossibleLaws.{enough_possible}
+use Rattle.conformance.specs.scripts.Keeping.{IsPartOfWorld, IsMadeFor}
+use Rattle.conformance.proofs.OfScripts.PossibleLaws.{enough_possible}
 use Rattle.flood.specs.Regions.{FilesRegion}
 use Rattle.flood.specs.Models.{whole_box, FloodsModel, stamped_alone, IsLeastHolding, flood_plan, the_stamp, MayFillStore, MetFull, RefusesStamp, RefusesFlood}
 use Rattle.flood.specs.declared.models.FloodRefused.{FloodRefused}

@@ -9,7 +9,7 @@ use Rattle.std.proofs.lemmas.Bool.{cases_eq, cases_lt}
 use Rattle.std.proofs.lemmas.Nat.{mod_below}
 use Rattle.std.proofs.lemmas.Nat.Bits.{bit_at-zero, bit_at_above}
 use Rattle.std.proofs.lemmas.List.Elements.{Contains-append_left, Contains-push, Contains-push_cases}
-use Rattle.sums.specs.Sums.{sum_below, sum_below-change}
+use Rattle.vw_cell.specs.Sums.{sum_below, sum_below-change}
 use Rattle.vw_cell.specs.declared.cells.Cell.{Cell}
 use Rattle.flood.specs.Ways.{IsJoined, IsWay}
 use Rattle.flood.specs.Words.{bit_at_place, place_at_bit, IsSet, IsClearAt, IsTowards, IsClosedAt, Spreads, AreJoined, IsRegionOf, room, IsBeyond, ReachesWord, ReachesBeyond, Spills, Visits, Settles}

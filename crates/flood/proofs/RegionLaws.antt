@@ -5,7 +5,7 @@ use Rattle.std.specs.Int.{bit_at}
 use Rattle.std.proofs.lemmas.Bool.{and_parts, and_from, cases_lt}
 use Rattle.std.proofs.Common.{eq-eqb, eqb-true}
 use Rattle.std.proofs.lemmas.Nat.{mod_below}
-use Rattle.block_walk.specs.Sums.{one_if}
+use Rattle.node_words.specs.Sums.{one_if}
 use Rattle.vw_cell.specs.declared.cells.Cell.{Cell}
 use Rattle.vw_cell.specs.declared.boxes.Boxed.{Boxed}
 use Rattle.vw_cell.specs.Counts.{cell_at}
@@ -15,9 +15,9 @@ use Rattle.vox_read.specs.declared.voxels.Voxel.{Voxel}
 use Rattle.extract.specs.Listing.{voxels_of_box}
 use Rattle.extract.specs.Layers.{IsSmallLayer}
 use Rattle.std.specs.Prelude.{Result, Ok, Err, OnOk}
-use Rattle.node_shapes.specs.declared.names.Name.{Name}
-use Rattle.node_shapes.specs.Tree.{Tree, shape_of}
-use Rattle.block_walk.specs.Roots.{IsBlockOf, ForBlock, ForWorld, cells_of}
+use Rattle.node_words.specs.declared.shapes.names.Name.{Name}
+use Rattle.node_words.specs.shapes.Tree.{Tree, shape_of}
+use Rattle.node_words.specs.descent.Roots.{IsBlockOf, ForBlock, ForWorld, cells_of}
 use Rattle.flood.specs.Ways.{AreBeside, on_x, on_y, on_z, IsJoined}
 use Rattle.flood.specs.Words.{bit_at_place, place_at_bit, IsSet, IsClearAt, IsRegionOf}
 use Rattle.flood.proofs.WayLaws.{joined_ends, place_of_bit, same_place, joined_maps}

@@ -6,14 +6,14 @@ use Rattle.std.proofs.lemmas.Bool.{cases_lt}
 use Rattle.std.proofs.lemmas.Nat.{mod-mul-add, div-mul-add}
 use Rattle.std.proofs.lemmas.Nat.Bits.{bit_at_or, bit_at_and, bit_at_not, bit_at-lt, bit_at_ones, bit_at_ones_above, bit_at_cat_high, bit_at_cat_low, bit_at-zero}
 use Rattle.std.proofs.lemmas.Nat.{pow_pos}
-use Rattle.sums.specs.Runs.{low_ones}
-use Rattle.block_walk.specs.Sums.{one_if}
+use Rattle.vw_cell.specs.Runs.{low_ones}
+use Rattle.node_words.specs.Sums.{one_if}
 use Rattle.vw_cell.specs.declared.cells.Cell.{Cell}
 use Rattle.vw_cell.specs.declared.boxes.Boxed.{Boxed}
 use Rattle.vw_cell.specs.Counts.{cell_at}
-use Rattle.node_shapes.specs.Shape.{bit_number}
-use Rattle.node_kernels.specs.Leaves.{LeafShows}
-use Rattle.block_walk.proofs.LookLaws.{same_cell}
+use Rattle.node_words.specs.shapes.Shape.{bit_number}
+use Rattle.node_words.specs.kernels.Leaves.{LeafShows}
+use Rattle.node_words.proofs.OfDescent.LookLaws.{same_cell}
 use Rattle.extract.specs.Layers.{leaves_along, leaves_in, leaf_block, leaf_corner, HoldsLayer, IsSmallLayer}
 use Rattle.flood.proofs.SpreadLaws.{bit_at_low, bit_at_down}
 use Rattle.std.specs.Prelude.{vec_len, vec_capacity}

@@ -7,15 +7,15 @@ use Rattle.vw_cell.specs.declared.boxes.Boxed.{Boxed}
 use Rattle.vw_cell.specs.Counts.{cell_at, number_in}
 use Rattle.vw_cell.specs.Places.{is_in_box}
 use Rattle.vox_read.specs.Contents.{Content, is_cell}
-use Rattle.node_shapes.specs.Shape.{Shape}
+use Rattle.node_words.specs.shapes.Shape.{Shape}
 use Rattle.node_words.specs.Plans.{Layout}
 use Rattle.node_words.specs.Enough.{HasEnough}
 use Rattle.node_words.specs.declared.shares.Full.{Full}
 use Rattle.history_model.specs.declared.acts.Act.TheVariants.{Stamp}
 use Rattle.history_model.specs.Worlds.{World, is_in_stamp}
 use Rattle.extract.specs.Saved.{file_of_box}
-use Rattle.possible.specs.Needed.{Span, IsPossible}
-use Rattle.script_runs.specs.Keeping.{IsPartOfWorld}
+use Rattle.conformance.specs.possible.Needed.{Span, IsPossible}
+use Rattle.conformance.specs.scripts.Keeping.{IsPartOfWorld}
 use Rattle.flood.specs.Regions.{IsRegion}
 use Rattle.flood.specs.declared.models.FloodRefused.{FloodRefused}
 use Rattle.flood.specs.declared.models.FloodRefused.TheVariants.{StoreFull, Memory}

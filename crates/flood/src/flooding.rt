@@ -1,14 +1,13 @@
 ghost use Rattle.std.specs.Prelude.{◌≡◌, ◌+◌, ◌-◌, ◌*◌, ◌<◌, ◌≤◌, ◌^◌, OnOk, OnErr, option_copied};
 ghost use Rattle.vw_cell.specs.Places.{FitsAt, IsInBox};
-ghost use Rattle.block_walk.specs.Roots.{HoldsRoot, ForWorld};
+ghost use Rattle.node_words.specs.descent.Roots.{HoldsRoot, ForWorld};
 ghost use Rattle.flood.specs.Regions.{AppendsRegion};
 ghost use Rattle.extract.specs.Layers.{IsSmallLayer};
 
 use crate::bit_regions::region_of;
 use crate::listing::list;
 use crate::reading::clear_words;
-use block_walk::name_of;
-use node_words::{Blocks, Share};
+use node_words::{Blocks, Share, name_of};
 use vox_read::Voxel;
 use vw_cell::{Boxed, Cell, Memory, Side};
 

@@ -2,9 +2,9 @@ ghost use Rattle.std.specs.Prelude.{◌≡◌, ◌⊎◌, ◌≤◌, ◌<◌, �
 ghost use Rattle.vw_cell.specs.Places.{FitsAt, IsInBox};
 ghost use Rattle.vw_cell.specs.Sides.{is_side};
 ghost use Rattle.vox_read.specs.Contents.{AreModels, IsModel, IsSize, is_cell};
-ghost use Rattle.store_notes.specs.Told.{nothing_told};
+ghost use Rattle.one_store.specs.notes.Told.{nothing_told};
 ghost use Rattle.one_store.specs.Known.{known_seen};
-ghost use Rattle.block_walk.specs.Roots.{HoldsRoot, ForWorld};
+ghost use Rattle.node_words.specs.descent.Roots.{HoldsRoot, ForWorld};
 ghost use Rattle.edit_stamp.specs.Stamps.{stamped};
 ghost use Rattle.flood.specs.Regions.{FilesRegion};
 ghost use Rattle.flood.specs.Models.{whole_box, has_place, FloodsModel, IsLeastHolding, flood_plan, stamped_alone, RefusesFlood, RefusesStamp};

@@ -5,7 +5,7 @@ use Rattle.vox_read.specs.Contents.{Content}
 use Rattle.history_model.specs.declared.acts.Act.{Act}
 use Rattle.history_model.specs.Worlds.{World, edited}
 use Rattle.history_model.specs.Logs.{suits_tints}
-use Rattle.node_shapes.specs.declared.names.Name.{Name}
+use Rattle.node_words.specs.declared.shapes.names.Name.{Name}
 use Rattle.node_words.specs.declared.shares.Full.{Full}
 use Rattle.node_words.specs.Held.{Seen}
 use Rattle.act_rebuilds.specs.Edits.{RebuildsEdit, GrowsByEdit, RefusesEdit}

@@ -1,8 +1,8 @@
 -- What is remembered of walks stays so while more is held.
 use Rattle.std.specs.Prelude.{List}
-use Rattle.node_shapes.specs.Tree.{Tree}
+use Rattle.node_words.specs.shapes.Tree.{Tree}
 use Rattle.node_words.proofs.HeldLaws.{Keeps, keeps_on, reached_more}
-use Rattle.edit_cells.specs.Tasks.{Making}
+use Rattle.edit_walk.specs.cells.Tasks.{Making}
 use Rattle.edit_walk.specs.Memos.{Keeping, RecallsHeld}
 
 pub recalls_more : {T : Type 0} (makes : T → Making) (held more : List Tree) (memo : Keeping T)

@@ -1,5 +1,5 @@
 ghost use Rattle.std.specs.Prelude.{◌≡◌, List};
-ghost use Rattle.node_shapes.specs.Tree.{Tree};
+ghost use Rattle.node_words.specs.shapes.Tree.{Tree};
 ghost use Rattle.act_rebuilds.specs.Boxes.{MakesBox, box_act};
 ghost use Rattle.edit_walk.specs.Memos.{IsKeptIn, RecallsHeld};
 

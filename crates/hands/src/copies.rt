@@ -1,5 +1,5 @@
 ghost use Rattle.std.specs.Prelude.{◌≡◌, List};
-ghost use Rattle.node_shapes.specs.Tree.{Tree};
+ghost use Rattle.node_words.specs.shapes.Tree.{Tree};
 ghost use Rattle.history_model.specs.declared.acts.Act.TheVariants.{Copy};
 ghost use Rattle.act_rebuilds.specs.Copies.{MakesCopy};
 ghost use Rattle.edit_walk.specs.Memos.{IsKeptIn, RecallsHeld};

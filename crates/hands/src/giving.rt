@@ -1,13 +1,13 @@
 // What a borrowed session gives back.
 ghost use Rattle.std.specs.Prelude.{◌≤◌};
-ghost use Rattle.node_shapes.specs.Weights.{number_of_trees};
+ghost use Rattle.node_words.specs.shapes.Weights.{number_of_trees};
 ghost use Rattle.node_words.specs.Held.{OnlyHeldChanges};
-ghost use Rattle.edit_blocks.specs.Blocks.{GoesBack, MayGoBack};
+ghost use Rattle.edit_walk.specs.blocks.Blocks.{GoesBack, MayGoBack};
 ghost use Rattle.intern.specs.Views.{seen_of};
 ghost use Rattle.hands.specs.Lendable.{IsLendable, StaysLendable};
 
 use crate::hand::Hand;
-use edit_blocks::back_if;
+use edit_walk::back_if;
 use node_words::{Share, Steps};
 use release::{NodeTable, Pass};
 use std::sync::Wait;

@@ -1,12 +1,12 @@
 ghost use Rattle.std.specs.Prelude.{◌≡◌, ◌≤◌, ◌^◌, Bool, true, OnOk, List, option_copied};
 ghost use Rattle.vox_read.specs.Contents.{Content};
-ghost use Rattle.node_shapes.specs.Tree.{Tree};
-ghost use Rattle.node_shapes.specs.Weights.{number_of_trees};
+ghost use Rattle.node_words.specs.shapes.Tree.{Tree};
+ghost use Rattle.node_words.specs.shapes.Weights.{number_of_trees};
 ghost use Rattle.node_words.proofs.HeldLaws.{Keeps};
 ghost use Rattle.history_model.specs.declared.acts.Act.{Act};
 ghost use Rattle.history_model.specs.Logs.{FitsWorld, suits_tints};
 ghost use Rattle.history_model.specs.Worlds.{is_edit};
-ghost use Rattle.block_walk.specs.Roots.{HoldsRoot};
+ghost use Rattle.node_words.specs.descent.Roots.{HoldsRoot};
 ghost use Rattle.act_rebuilds.specs.Acts.{IsLargeFor, room_for, RebuildsAct, GrowsByAct, RefusesAct};
 
 use act_rebuilds::{DrawnModels, rebuild_act};

@@ -1,9 +1,9 @@
 // Edits over borrowed sessions.
 ghost use Rattle.std.specs.Prelude.{◌≡◌, ◌≤◌, ◌^◌, true, OnOk, option_copied};
-ghost use Rattle.node_shapes.specs.Weights.{number_of_trees};
+ghost use Rattle.node_words.specs.shapes.Weights.{number_of_trees};
 ghost use Rattle.history_model.specs.Logs.{FitsWorld, suits_tints};
 ghost use Rattle.history_model.specs.Worlds.{is_edit};
-ghost use Rattle.block_walk.specs.Roots.{HoldsRoot};
+ghost use Rattle.node_words.specs.descent.Roots.{HoldsRoot};
 ghost use Rattle.act_rebuilds.specs.Acts.{IsLargeFor, room_for, RebuildsAct, GrowsByAct, RefusesAct};
 ghost use Rattle.intern.specs.Views.{seen_of};
 ghost use Rattle.hands.specs.Lendable.{IsLendable, StaysLendable};

@@ -3,8 +3,7 @@ ghost use Rattle.node_words.specs.Held.{ReachesName};
 ghost use Rattle.release.specs.Seen.{BelongsTo};
 
 use crate::hand::Hand;
-use node_shapes::Name;
-use node_words::{Blocks, Full, NodeRefused, NodeStore, Share, Steps};
+use node_words::{Blocks, Full, Name, NodeRefused, NodeStore, Share, Steps};
 use release::{NodeTable, Pass};
 use std::sync::Wait;
 use std::sync::ledger::Ledger;

@@ -2,10 +2,10 @@
 use Rattle.std.specs.Prelude.{◌≡◌, ◌≢◌, ℕ, ◌+◌, ◌^◌, ◌<◌, ◌≤◌, List, length}
 use Rattle.vw_cell.specs.declared.cells.Cell.{Cell}
 use Rattle.vox_read.specs.Contents.{Content}
-use Rattle.node_shapes.specs.declared.names.Name.{Name}
+use Rattle.node_words.specs.declared.shapes.names.Name.{Name}
 use Rattle.node_words.specs.Plans.{Layout}
 use Rattle.history_model.specs.Stores.{stored_in}
-use Rattle.block_contents.specs.Versions.{IsKept, SameWorld}
+use Rattle.core_laws.specs.contents.Versions.{IsKept, SameWorld}
 use Rattle.core_laws.specs.Events.{Frees}
 use Rattle.core_laws.specs.Soundness.{Sound}
 use Rattle.core_laws.specs.States.{State, Holds, IsLive, IsUnder, tree_of}

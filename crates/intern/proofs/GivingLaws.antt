@@ -1,11 +1,11 @@
 -- The shares of children of a node that is held besides go back, and none is the last.
 use Rattle.std.proofs.Common.{◌≡◌, ℕ, ◌<◌, Some, None, Option, List, sym, ◌∙◌, ap, subst, arith}
-use Rattle.node_shapes.specs.declared.names.Name.{Name}
-use Rattle.node_shapes.specs.Shape.{IsPart, whole, within}
-use Rattle.node_shapes.specs.Tree.{Tree, root_of, child_of, shape_of}
-use Rattle.node_shapes.specs.Weights.{weigh, weight_of}
-use Rattle.node_shapes.proofs.TreeLaws.{shape_of-child, shape_of-some}
-use Rattle.node_shapes.proofs.WeightLaws.{weight_of-there, weight_below-part}
+use Rattle.node_words.specs.declared.shapes.names.Name.{Name}
+use Rattle.node_words.specs.shapes.Shape.{IsPart, whole, within}
+use Rattle.node_words.specs.shapes.Tree.{Tree, root_of, child_of, shape_of}
+use Rattle.node_words.specs.shapes.Weights.{weigh, weight_of}
+use Rattle.node_words.proofs.OfShapes.TreeLaws.{shape_of-child, shape_of-some}
+use Rattle.node_words.proofs.OfShapes.WeightLaws.{weight_of-there, weight_below-part}
 use Rattle.node_words.specs.Gathering.{Loses, LosesAll, MayHold}
 use Rattle.node_words.specs.Held.{AreHeld, HoldsName, IsHeld, name_in}
 use Rattle.node_table.specs.Views.{SeatView}

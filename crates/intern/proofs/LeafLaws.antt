@@ -1,7 +1,7 @@
 use Rattle.node_table.specs.Seen.{bucket_named, PassSeen}
 use Rattle.std.specs.Prelude.{slice_index}
 use Rattle.node_table.proofs.PartA.{same_bucket}
-use Rattle.node_shapes.proofs.TreeEqual.{same_name}
+use Rattle.node_words.proofs.OfShapes.TreeEqual.{same_name}
 use Rattle.node_table.specs.Acts.{AreChildrenOf, RaisesUnderTurn, PublishesUnderTurn, MayAdd}
 -- What comes of asking for a leaf follows from what the view tells.
 use Rattle.node_table.specs.Names.{named}
@@ -14,15 +14,15 @@ use Rattle.node_table.specs.Learning.{IsLowestKnownFree}
 use Rattle.node_table.proofs.Answering.{Keeps, answers_keep}
 use Rattle.node_table.specs.Finding.{FindsPlace}
 use Rattle.std.proofs.Common.{◌≡◌, ℕ, zero, suc, ◌^◌, ◌<◌, ◌≤◌, Some, None, Option, List, [], ◌∷◌, refl, sym, ap, ◌∙◌, subst, inl, inr, arith}
-use Rattle.node_shapes.specs.declared.names.Name.{Name}
-use Rattle.node_shapes.specs.Shape as shape
-use Rattle.node_shapes.specs.Shape.{Shape}
-use Rattle.node_shapes.specs.Tree.{Tree, Gone, LeafAt, root_of, bits_in, shape_of, IsTreeAt}
-use Rattle.node_shapes.specs.Weights.{weigh, weight_below, number_of_trees}
-use Rattle.node_shapes.specs.Buckets.{bucket_of_shape, leaf_bucket}
-use Rattle.node_shapes.proofs.TreeLaws.{leaf_from_root, shape_of-leaf}
-use Rattle.node_shapes.proofs.WeightLaws.{weigh-cons, weight_of-gone}
-use Rattle.node_shapes.proofs.BucketLaws.{bucket_of_shape-leaf}
+use Rattle.node_words.specs.declared.shapes.names.Name.{Name}
+use Rattle.node_words.specs.shapes.Shape as shape
+use Rattle.node_words.specs.shapes.Shape.{Shape}
+use Rattle.node_words.specs.shapes.Tree.{Tree, Gone, LeafAt, root_of, bits_in, shape_of, IsTreeAt}
+use Rattle.node_words.specs.shapes.Weights.{weigh, weight_below, number_of_trees}
+use Rattle.node_words.specs.shapes.Buckets.{bucket_of_shape, leaf_bucket}
+use Rattle.node_words.proofs.OfShapes.TreeLaws.{leaf_from_root, shape_of-leaf}
+use Rattle.node_words.proofs.OfShapes.WeightLaws.{weigh-cons, weight_of-gone}
+use Rattle.node_words.proofs.OfShapes.BucketLaws.{bucket_of_shape-leaf}
 use Rattle.node_words.specs.declared.keys.Key as keys
 use Rattle.node_words.specs.declared.keys.Key.TheVariants.{Leaf}
 use Rattle.node_words.specs.declared.shares.Full.{Full}

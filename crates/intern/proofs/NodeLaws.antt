@@ -2,15 +2,15 @@
 use Rattle.std.proofs.Common.{◌≡◌, ℕ, zero, suc, ◌+◌, ◌-◌, ◌*◌, ◌^◌, ◌<◌, ◌≤◌, Some, None, Option, List, ◌∷◌, length, refl, sym, ap, ◌∙◌, subst, inl, inr, arith}
 use Rattle.std.specs.Prelude.{slice_index}
 use Rattle.std.proofs.lemmas.Option.{same_Some}
-use Rattle.node_shapes.specs.declared.names.Name.{Name}
-use Rattle.node_shapes.specs.Shape.{Shape, branch_of, octant_shape}
-use Rattle.node_shapes.specs.Tree.{Tree, Gone, LeafAt, NodeAt, root_of, child_of, shape_of, node_at, IsTreeAt}
-use Rattle.node_shapes.specs.Weights.{weigh, number_of_trees}
-use Rattle.node_shapes.specs.Buckets.{bucket_of_shape}
-use Rattle.node_shapes.proofs.ShapeLaws.{octant_shape-branch_of}
-use Rattle.node_shapes.proofs.TreeEqual.{same_name}
-use Rattle.node_shapes.proofs.TreeLaws.{child_of-node_at, gone_from_root, shape_of-node, shape_of-gone, shape_of-some}
-use Rattle.node_shapes.proofs.WeightLaws.{weigh-cons}
+use Rattle.node_words.specs.declared.shapes.names.Name.{Name}
+use Rattle.node_words.specs.shapes.Shape.{Shape, branch_of, octant_shape}
+use Rattle.node_words.specs.shapes.Tree.{Tree, Gone, LeafAt, NodeAt, root_of, child_of, shape_of, node_at, IsTreeAt}
+use Rattle.node_words.specs.shapes.Weights.{weigh, number_of_trees}
+use Rattle.node_words.specs.shapes.Buckets.{bucket_of_shape}
+use Rattle.node_words.proofs.OfShapes.ShapeLaws.{octant_shape-branch_of}
+use Rattle.node_words.proofs.OfShapes.TreeEqual.{same_name}
+use Rattle.node_words.proofs.OfShapes.TreeLaws.{child_of-node_at, gone_from_root, shape_of-node, shape_of-gone, shape_of-some}
+use Rattle.node_words.proofs.OfShapes.WeightLaws.{weigh-cons}
 use Rattle.node_words.specs.declared.keys.Key.{Key}
 use Rattle.node_words.specs.declared.keys.Key.TheVariants.{Node}
 use Rattle.node_words.specs.declared.shares.Full.{Full}
@@ -20,11 +20,11 @@ use Rattle.node_words.specs.Keys.{ChildFits, bucket_of_key, of_node}
 use Rattle.node_words.specs.Plans.{IsPlan, Layout, buckets_at}
 use Rattle.node_words.proofs.HeldLaws.{child_level, children_canonical, gains_held, gains_keeps, held_reached, reached_child, reached_levels, reached_more, row_held}
 use Rattle.node_words.proofs.KeyLaws.{key_bucket}
-use Rattle.node_places.specs.KeyWords.{key_word}
-use Rattle.node_places.specs.Names.{IsName, named}
-use Rattle.node_places.specs.Spots.{Spot, key_words}
-use Rattle.node_places.specs.Words.{IsChildAt, word_of_child}
-use Rattle.node_places.proofs.Children.{one_child}
+use Rattle.core_laws.specs.places.KeyWords.{key_word}
+use Rattle.core_laws.specs.places.Names.{IsName, named}
+use Rattle.core_laws.specs.places.Spots.{Spot, key_words}
+use Rattle.core_laws.specs.places.Words.{IsChildAt, word_of_child}
+use Rattle.core_laws.proofs.OfPlaces.Children.{one_child}
 use Rattle.node_table.proofs.PartA.{same_bucket}
 use Rattle.node_table.specs.Rules.{SameSession}
 use Rattle.node_table.specs.Telling.{ViewTells, tree_word, pair_of_children}

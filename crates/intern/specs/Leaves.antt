@@ -2,9 +2,9 @@
 use Rattle.node_table.specs.Views.{SeatView, seen_of}
 use Rattle.node_table.specs.Rules.{SameSession}
 use Rattle.std.specs.Prelude.{◌≡◌, ℕ, None}
-use Rattle.node_shapes.specs.declared.names.Name.{Name}
-use Rattle.node_shapes.specs.Shape.{Leaf}
-use Rattle.node_shapes.specs.Tree.{LeafAt}
+use Rattle.node_words.specs.declared.shapes.names.Name.{Name}
+use Rattle.node_words.specs.shapes.Shape.{Leaf}
+use Rattle.node_words.specs.shapes.Tree.{LeafAt}
 use Rattle.node_words.specs.declared.shares.Full.{Full}
 use Rattle.node_words.specs.Held.{IsReached, Gains, Grants, OnlyMeets}
 

@@ -1,9 +1,9 @@
 -- What comes of asking for a node.
 use Rattle.std.specs.Prelude.{◌≡◌, ◌+◌, ◌<◌, ◌≤◌, ℕ, Option, None, List}
-use Rattle.node_shapes.specs.declared.names.Name.{Name}
-use Rattle.node_shapes.specs.Shape.{branch_of}
-use Rattle.node_shapes.specs.Tree.{Tree, root_of, child_of, node_at, shape_of}
-use Rattle.node_shapes.specs.Weights.{weigh, weight_of, weight_below}
+use Rattle.node_words.specs.declared.shapes.names.Name.{Name}
+use Rattle.node_words.specs.shapes.Shape.{branch_of}
+use Rattle.node_words.specs.shapes.Tree.{Tree, root_of, child_of, node_at, shape_of}
+use Rattle.node_words.specs.shapes.Weights.{weigh, weight_of, weight_below}
 use Rattle.node_words.specs.Held.{AreHeld, IsReached, Joins, Grants, OnlyMeets}
 use Rattle.node_words.specs.declared.shares.Full.{Full}
 use Rattle.node_table.specs.Rules.{SameSession}

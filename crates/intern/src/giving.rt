@@ -1,7 +1,7 @@
 // The shares of children of a node that is held besides are given back.
 ghost use Rattle.std.specs.Prelude.{◌≡◌, ◌+◌, ◌≤◌, None};
-ghost use Rattle.node_shapes.specs.Tree.{Tree, root_of};
-ghost use Rattle.node_shapes.specs.Weights.{number_of_trees};
+ghost use Rattle.node_words.specs.shapes.Tree.{Tree, root_of};
+ghost use Rattle.node_words.specs.shapes.Weights.{number_of_trees};
 ghost use Rattle.node_words.specs.Gathering.{Loses, LosesAll, MayHold};
 ghost use Rattle.node_words.specs.Held.{ForChildren};
 ghost use Rattle.node_table.specs.Acts.{OnlySharesChange};

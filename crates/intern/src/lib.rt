@@ -9,7 +9,7 @@ mod giving;
 mod nodes;
 
 ghost use Rattle.std.specs.Prelude.{◌≡◌, ◌≢◌, ◌≤◌, ◌+◌, ℕ, None, MatchResult};
-ghost use Rattle.node_shapes.specs.Weights.{number_of_trees};
+ghost use Rattle.node_words.specs.shapes.Weights.{number_of_trees};
 ghost use Rattle.node_words.specs.Held.{name_in};
 ghost use Rattle.node_words.specs.Plans.{IsPlan, buckets_at};
 ghost use Rattle.node_table.specs.Seen.{BelongsTo};

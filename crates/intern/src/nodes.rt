@@ -1,6 +1,6 @@
 // A share of a node.
 ghost use Rattle.std.specs.Prelude.{◌≡◌, ◌+◌, ◌≤◌, None, IfErr, MatchResult};
-ghost use Rattle.node_shapes.specs.Weights.{number_of_trees};
+ghost use Rattle.node_words.specs.shapes.Weights.{number_of_trees};
 ghost use Rattle.node_words.specs.Held.{AreBelow, ForChildren, HasChild, HoldsChildren};
 ghost use Rattle.node_table.specs.Seen.{BelongsTo};
 ghost use Rattle.intern.specs.Nodes.{NodeCame, NodeIsRefused};

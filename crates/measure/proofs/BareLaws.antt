@@ -5,10 +5,10 @@ use Rattle.std.proofs.lemmas.Bool.{cases_Bool, ltb-true, lt-ltb, le-ltb, ltb-fal
 use Rattle.vw_cell.specs.declared.cells.Cell.{Cell}
 use Rattle.vw_cell.specs.Places.{block_side, half_x, half_y, half_z, IsInWorld}
 use Rattle.vw_cell.specs.Counts.{cell_at}
-use Rattle.node_shapes.specs.Shape.{Shape, octant_shape}
-use Rattle.node_shapes.proofs.ShapeLaws.{has-in_octant, block_side-suc, block_side_some}
-use Rattle.block_walk.specs.Roots.{cells_of}
-use Rattle.block_walk.specs.Parts.{placed}
+use Rattle.node_words.specs.shapes.Shape.{Shape, octant_shape}
+use Rattle.node_words.proofs.OfShapes.ShapeLaws.{has-in_octant, block_side-suc, block_side_some}
+use Rattle.node_words.specs.descent.Roots.{cells_of}
+use Rattle.node_words.specs.descent.Parts.{placed}
 use Rattle.vw_cell.specs.declared.directions.Direction.{Direction}
 use Rattle.vw_cell.specs.declared.directions.Direction.TheVariants.{LowX, HighX, LowY, HighY, LowZ, HighZ}
 use Rattle.measure.specs.Bare.{is_inside, next_place, place_beside, is_next_set, bare_of, other_half, is_low, across, stays, beside_shape}

@@ -6,10 +6,10 @@ use Rattle.std.proofs.lemmas.Bool.{cases_lt, lt-ltb, le-ltb}
 use Rattle.std.proofs.lemmas.Nat.Bits.{bit_at_and, bit_at_not, bit_at-lt}
 use Rattle.vw_cell.specs.declared.cells.Cell.{Cell}
 use Rattle.vw_cell.specs.Counts.{cell_at}
-use Rattle.node_shapes.specs.Shape.{Shape, bits_of, bit_number, octant_number, has}
-use Rattle.node_kernels.specs.Leaves.{LiesAcross}
-use Rattle.block_walk.specs.Roots.{cells_of}
-use Rattle.block_walk.proofs.LookLaws.{leaf_tells}
+use Rattle.node_words.specs.shapes.Shape.{Shape, bits_of, bit_number, octant_number, has}
+use Rattle.node_words.specs.kernels.Leaves.{LiesAcross}
+use Rattle.node_words.specs.descent.Roots.{cells_of}
+use Rattle.node_words.proofs.OfDescent.LookLaws.{leaf_tells}
 use Rattle.vw_cell.specs.declared.directions.Direction.{Direction}
 use Rattle.vw_cell.specs.declared.directions.Direction.TheVariants.{LowX, HighX, LowY, HighY, LowZ, HighZ}
 use Rattle.measure.specs.Leaves.{TellsCells}

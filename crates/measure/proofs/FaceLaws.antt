@@ -5,17 +5,17 @@ use Rattle.vw_cell.specs.declared.cells.Cell.{Cell}
 use Rattle.vw_cell.specs.declared.boxes.Boxed.{Boxed}
 use Rattle.vw_cell.specs.Places.{block_side}
 use Rattle.vw_cell.specs.Counts.{cell_at, number_in}
-use Rattle.node_shapes.specs.declared.names.Name.{Name}
-use Rattle.node_shapes.specs.Shape.{Shape, Clear, bits_of, octant_shape}
-use Rattle.node_shapes.specs.Tree.{Tree, Gone, shape_of, child_of}
-use Rattle.node_shapes.proofs.ShapeLaws.{has-clear}
-use Rattle.node_shapes.proofs.TreeLaws.{shape_of-child}
+use Rattle.node_words.specs.declared.shapes.names.Name.{Name}
+use Rattle.node_words.specs.shapes.Shape.{Shape, Clear, bits_of, octant_shape}
+use Rattle.node_words.specs.shapes.Tree.{Tree, Gone, shape_of, child_of}
+use Rattle.node_words.proofs.OfShapes.ShapeLaws.{has-clear}
+use Rattle.node_words.proofs.OfShapes.TreeLaws.{shape_of-child}
 use Rattle.node_words.specs.Held.{Seen}
-use Rattle.block_walk.specs.Roots.{IsBlockOf, IsOctantOf, HasBlock, ForBlock, ForWorld, cells_of}
-use Rattle.block_walk.specs.Parts.{EndsBy, placed}
-use Rattle.block_walk.proofs.BlockLaws.{clear_block, nothing_block}
-use Rattle.block_walk.proofs.LookLaws.{block_still, root_side}
-use Rattle.block_walk.proofs.PartLaws.{placed_in}
+use Rattle.node_words.specs.descent.Roots.{IsBlockOf, IsOctantOf, HasBlock, ForBlock, ForWorld, cells_of}
+use Rattle.node_words.specs.descent.Parts.{EndsBy, placed}
+use Rattle.node_words.proofs.OfDescent.BlockLaws.{clear_block, nothing_block}
+use Rattle.node_words.proofs.OfDescent.LookLaws.{block_still, root_side}
+use Rattle.node_words.proofs.OfDescent.PartLaws.{placed_in}
 use Rattle.vw_cell.specs.declared.directions.Direction.{Direction}
 use Rattle.vw_cell.specs.declared.directions.Direction.TheVariants.{LowX, HighX, LowY, HighY, LowZ, HighZ}
 use Rattle.vw_cell.specs.Faces.{has_next, is_bare, faces_in}

@@ -6,20 +6,20 @@ use Rattle.std.specs.Int.RustNames.{count_ones}
 use Rattle.std.proofs.lemmas.Bool.{cases_Bool}
 use Rattle.std.proofs.lemmas.Nat.Bits.{bit_at_and, bit_at-lt}
 use native.Mathlib.Nat.{suc-mul}
-use Rattle.bit_set.proofs.Masks.{ones_low}
+use Rattle.vw_cell.proofs.Masks.{ones_low}
 use Rattle.vw_cell.specs.declared.cells.Cell.{Cell}
 use Rattle.vw_cell.specs.declared.boxes.Boxed.{Boxed}
 use Rattle.vw_cell.specs.declared.blocks.Block.{Block}
 use Rattle.vw_cell.specs.Places.{is_within, is_in_box, IsWithin}
 use Rattle.vw_cell.specs.Tests.{is_within_holds, is_within_tells}
-use Rattle.block_walk.specs.Sums.{sum_below, sum_below-same, sum_below-add, one_if}
+use Rattle.node_words.specs.Sums.{sum_below, sum_below-same, sum_below-add, one_if}
 use Rattle.vw_cell.specs.Counts.{cell_at, number_in}
-use Rattle.node_shapes.specs.Shape.{bit_number}
-use Rattle.node_kernels.specs.Leaves.{LeafShows}
-use Rattle.block_walk.proofs.LookLaws.{same_cell}
+use Rattle.node_words.specs.shapes.Shape.{bit_number}
+use Rattle.node_words.specs.kernels.Leaves.{LeafShows}
+use Rattle.node_words.proofs.OfDescent.LookLaws.{same_cell}
 use lib.Bits.{and_le_l}
 use native.Mathlib.Nat.{mod-eq_of_lt}
-use Rattle.block_walk.specs.Parts.{EndsBy}
+use Rattle.node_words.specs.descent.Parts.{EndsBy}
 use Rattle.measure.specs.Leaves.{TellsCells}
 
 -- a sum of sums is one sum

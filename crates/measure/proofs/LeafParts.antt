@@ -10,12 +10,12 @@ use Rattle.vw_cell.specs.declared.blocks.Block.{Block}
 use Rattle.vw_cell.specs.Places.{block_side, is_in_box}
 use Rattle.vw_cell.specs.Tests.{is_in_box_holds}
 use Rattle.vw_cell.specs.Counts.{cell_at, number_in, number_below-same, number_below-none}
-use Rattle.node_kernels.specs.Leaves.{LeafShows}
+use Rattle.node_words.specs.kernels.Leaves.{LeafShows}
 use Rattle.node_words.specs.Held.{Seen}
-use Rattle.node_shapes.specs.Tree.{Tree}
-use Rattle.block_walk.specs.Parts.{EndsBy, part_in}
-use Rattle.block_walk.proofs.PartLaws.{part_has_cells}
-use Rattle.block_walk.proofs.LookLaws.{same_cell}
+use Rattle.node_words.specs.shapes.Tree.{Tree}
+use Rattle.node_words.specs.descent.Parts.{EndsBy, part_in}
+use Rattle.node_words.proofs.OfDescent.PartLaws.{part_has_cells}
+use Rattle.node_words.proofs.OfDescent.LookLaws.{same_cell}
 use Rattle.measure.specs.declared.tallies.Part.{Part}
 use Rattle.measure.specs.Leaves.{TellsCells, octant_leaf}
 use Rattle.measure.specs.Tallies.{Counting, in_octant, IsOctantTally}

@@ -6,13 +6,13 @@ use Rattle.vw_cell.specs.declared.boxes.Boxed.{Boxed}
 use Rattle.vw_cell.specs.declared.blocks.Block.{Block}
 use Rattle.vw_cell.specs.Counts.{cell_at}
 use Rattle.vw_cell.specs.Places.{IsInBox, IsInBlock, IsInWorld, block_side}
-use Rattle.node_shapes.specs.declared.names.Name.{Name}
-use Rattle.node_shapes.specs.Shape.{Shape, has}
-use Rattle.node_shapes.specs.Tree.{Tree, shape_of}
+use Rattle.node_words.specs.declared.shapes.names.Name.{Name}
+use Rattle.node_words.specs.shapes.Shape.{Shape, has}
+use Rattle.node_words.specs.shapes.Tree.{Tree, shape_of}
 use Rattle.node_words.specs.Held.{Seen}
-use Rattle.block_walk.specs.declared.answers.Known.{Known}
-use Rattle.block_walk.specs.Answers.{AreRight}
-use Rattle.block_walk.proofs.LookLaws.{same_cell}
+use Rattle.node_words.specs.declared.descent.answers.Known.{Known}
+use Rattle.node_words.specs.descent.Answers.{AreRight}
+use Rattle.node_words.proofs.OfDescent.LookLaws.{same_cell}
 use Rattle.measure.specs.Widening.{IsFound, WidensBy}
 use Rattle.measure.specs.declared.pruning.Within.{Within}
 use Rattle.measure.specs.Pruning.{from_corner, LiesWithinPart, tells_within}

@@ -4,16 +4,16 @@ use Rattle.vw_cell.specs.declared.cells.Cell.{Cell}
 use Rattle.vw_cell.specs.Places.{block_side}
 use Rattle.vw_cell.specs.declared.boxes.Boxed.{Boxed}
 use Rattle.vw_cell.specs.Counts.{cell_at, number_in}
-use Rattle.node_shapes.specs.declared.names.Name.{Name}
-use Rattle.node_shapes.specs.Shape.{Shape, bits_of}
-use Rattle.node_shapes.specs.Tree.{Tree, shape_of, child_of}
-use Rattle.node_shapes.proofs.ShapeLaws.{has-clear}
-use Rattle.node_shapes.proofs.TreeLaws.{shape_of-child}
-use Rattle.block_walk.specs.Roots.{IsBlockOf, IsOctantOf, ForBlock, HoldsRoot, ForWorld, cells_of}
-use Rattle.block_walk.specs.Parts.{placed}
-use Rattle.block_walk.proofs.BlockLaws.{clear_block, root_block}
-use Rattle.block_walk.proofs.PartLaws.{placed_in}
-use Rattle.block_walk.proofs.LookLaws.{leaf_tells, placed_set}
+use Rattle.node_words.specs.declared.shapes.names.Name.{Name}
+use Rattle.node_words.specs.shapes.Shape.{Shape, bits_of}
+use Rattle.node_words.specs.shapes.Tree.{Tree, shape_of, child_of}
+use Rattle.node_words.proofs.OfShapes.ShapeLaws.{has-clear}
+use Rattle.node_words.proofs.OfShapes.TreeLaws.{shape_of-child}
+use Rattle.node_words.specs.descent.Roots.{IsBlockOf, IsOctantOf, ForBlock, HoldsRoot, ForWorld, cells_of}
+use Rattle.node_words.specs.descent.Parts.{placed}
+use Rattle.node_words.proofs.OfDescent.BlockLaws.{clear_block, root_block}
+use Rattle.node_words.proofs.OfDescent.PartLaws.{placed_in}
+use Rattle.node_words.proofs.OfDescent.LookLaws.{leaf_tells, placed_set}
 use Rattle.measure.specs.Leaves.{TellsCells}
 use Rattle.measure.specs.Tallies.{in_octant, PassesNone}
 use Rattle.measure.specs.Subjects.{PassesSet}

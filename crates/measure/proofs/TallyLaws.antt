@@ -5,16 +5,16 @@ use lib.Pow.{pow_mono}
 use Rattle.vw_cell.specs.declared.cells.Cell.{Cell}
 use Rattle.vw_cell.specs.declared.boxes.Boxed.{Boxed}
 use Rattle.vw_cell.specs.Places.{block_side, half_x, half_y, half_z}
-use Rattle.block_walk.specs.Sums.{sum_below, sum_below-suc, sum_below-zero, sum_below-le}
+use Rattle.node_words.specs.Sums.{sum_below, sum_below-suc, sum_below-zero, sum_below-le}
 use Rattle.vw_cell.specs.Counts.{number_in, number_below-none, number_below-same, number_below-le, cell_at}
-use Rattle.block_walk.specs.Parts.{EndsBy, IsEmpty, part_in, half_at, half_size}
-use Rattle.block_walk.proofs.LookLaws.{twice}
-use Rattle.block_walk.proofs.Octants.{number_by_octants}
+use Rattle.node_words.specs.descent.Parts.{EndsBy, IsEmpty, part_in, half_at, half_size}
+use Rattle.node_words.proofs.OfDescent.LookLaws.{twice}
+use Rattle.node_words.proofs.OfDescent.Octants.{number_by_octants}
 use Rattle.std.specs.Prelude.{List, Option}
-use Rattle.node_shapes.specs.Tree.{Tree}
+use Rattle.node_words.specs.shapes.Tree.{Tree}
 use Rattle.node_words.specs.Held.{Seen}
-use Rattle.block_walk.specs.declared.answers.Known.{Known}
-use Rattle.block_walk.specs.Answers.{AreRight}
+use Rattle.node_words.specs.declared.descent.answers.Known.{Known}
+use Rattle.node_words.specs.descent.Answers.{AreRight}
 use Rattle.measure.specs.declared.tallies.Part.{Part}
 use Rattle.measure.specs.Tallies.{Counting, in_octant, PassesNone, IsTally, IsOctantTally}
 

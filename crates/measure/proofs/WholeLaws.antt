@@ -5,13 +5,13 @@ use Rattle.vw_cell.specs.declared.cells.Cell.{Cell}
 use Rattle.vw_cell.specs.declared.boxes.Boxed.{Boxed}
 use Rattle.vw_cell.specs.Places.{block_side, half_x, half_y, half_z}
 use Rattle.vw_cell.specs.Counts.{number_in, number_below-at, cell_at}
-use Rattle.block_walk.specs.Sums.{one_if}
-use Rattle.node_shapes.specs.Tree.{Tree}
+use Rattle.node_words.specs.Sums.{one_if}
+use Rattle.node_words.specs.shapes.Tree.{Tree}
 use Rattle.node_words.specs.Held.{Seen}
-use Rattle.block_walk.specs.declared.answers.Known.{Known}
-use Rattle.block_walk.specs.Answers.{AreRight}
-use Rattle.block_walk.specs.Parts.{EndsBy, part_in, whole_of, half_at, half_size}
-use Rattle.block_walk.proofs.LookLaws.{twice, same_cell}
+use Rattle.node_words.specs.declared.descent.answers.Known.{Known}
+use Rattle.node_words.specs.descent.Answers.{AreRight}
+use Rattle.node_words.specs.descent.Parts.{EndsBy, part_in, whole_of, half_at, half_size}
+use Rattle.node_words.proofs.OfDescent.LookLaws.{twice, same_cell}
 use Rattle.measure.specs.declared.tallies.Part.{Part}
 use Rattle.measure.specs.declared.wholes.Whole.{Whole}
 use Rattle.measure.specs.Leaves.{TellsCells}

@@ -10,18 +10,18 @@ use Rattle.vw_cell.specs.declared.blocks.Block.{Block}
 use Rattle.vw_cell.specs.Counts.{cell_at}
 use Rattle.vw_cell.specs.Places.{block_side, half_x, half_y, half_z, IsWithin, IsInBlock, LiesIn, octant_of, is_in_box}
 use Rattle.vw_cell.specs.Tests.{is_in_box_tells}
-use Rattle.node_shapes.specs.declared.names.Name.{Name}
-use Rattle.node_shapes.specs.Shape.{Shape, Clear, bits_of, bit_number, has, ShowsCells}
-use Rattle.node_shapes.specs.Tree.{Tree, shape_of, child_of}
-use Rattle.node_shapes.proofs.ShapeLaws.{has-clear, block_side_some}
-use Rattle.node_shapes.proofs.ShowLaws.{octant_shows, octant_has, half_below}
-use Rattle.node_shapes.proofs.TreeLaws.{shape_of-child}
-use Rattle.node_kernels.specs.Leaves.{LeafShows}
+use Rattle.node_words.specs.declared.shapes.names.Name.{Name}
+use Rattle.node_words.specs.shapes.Shape.{Shape, Clear, bits_of, bit_number, has, ShowsCells}
+use Rattle.node_words.specs.shapes.Tree.{Tree, shape_of, child_of}
+use Rattle.node_words.proofs.OfShapes.ShapeLaws.{has-clear, block_side_some}
+use Rattle.node_words.proofs.OfShapes.ShowLaws.{octant_shows, octant_has, half_below}
+use Rattle.node_words.proofs.OfShapes.TreeLaws.{shape_of-child}
+use Rattle.node_words.specs.kernels.Leaves.{LeafShows}
 use Rattle.node_words.specs.Held.{Seen}
 use Rattle.vw_cell.specs.Extents.{IsExtent}
-use Rattle.block_walk.specs.Roots.{IsBlockOf, IsOctantOf, HasBlock, ForBlock, ForWorld, cells_of}
-use Rattle.block_walk.proofs.BlockLaws.{clear_block}
-use Rattle.block_walk.proofs.LookLaws.{block_still, twice, root_side, same_cell}
+use Rattle.node_words.specs.descent.Roots.{IsBlockOf, IsOctantOf, HasBlock, ForBlock, ForWorld, cells_of}
+use Rattle.node_words.proofs.OfDescent.BlockLaws.{clear_block}
+use Rattle.node_words.proofs.OfDescent.LookLaws.{block_still, twice, root_side, same_cell}
 use Rattle.measure.proofs.LeafCounts.{both}
 use Rattle.measure.proofs.TallyLaws.{small_side}
 use Rattle.measure.specs.Widening.{IsFound, Widens, IsSetIn, IsSetInSome, IsOther, IsOtherAt, IsSetAt, ForPlace, WidensBy, leaf_cell, bit_of}

@@ -5,10 +5,10 @@ use Rattle.std.proofs.Common.{zero, suc}
 use Rattle.vw_cell.specs.declared.cells.Cell.{Cell}
 use Rattle.vw_cell.specs.Counts.{cell_at}
 use Rattle.vw_cell.specs.Places.{block_side, IsInWorld, half_x, half_y, half_z}
-use Rattle.node_shapes.specs.declared.names.Name.{Name}
-use Rattle.node_shapes.specs.Shape.{Shape, octant_shape}
-use Rattle.node_shapes.specs.Tree.{Tree, shape_of, child_of}
-use Rattle.block_walk.specs.Roots.{IsBlockOf, cells_of}
+use Rattle.node_words.specs.declared.shapes.names.Name.{Name}
+use Rattle.node_words.specs.shapes.Shape.{Shape, octant_shape}
+use Rattle.node_words.specs.shapes.Tree.{Tree, shape_of, child_of}
+use Rattle.node_words.specs.descent.Roots.{IsBlockOf, cells_of}
 use Rattle.vw_cell.specs.declared.directions.Direction.{Direction}
 use Rattle.vw_cell.specs.declared.directions.Direction.TheVariants.{LowX, HighX, LowY, HighY, LowZ, HighZ}
 

@@ -5,7 +5,7 @@ use Rattle.vw_cell.specs.declared.cells.Cell.{Cell}
 use Rattle.vw_cell.specs.declared.blocks.Block.{Block}
 use Rattle.vw_cell.specs.Places.{half_x, half_y, half_z}
 use Rattle.vw_cell.specs.Counts.{cell_at}
-use Rattle.node_shapes.specs.Shape.{bit_number}
+use Rattle.node_words.specs.shapes.Shape.{bit_number}
 
 -- the bits of a leaf are those of the cells that pass the test
 pub record TellsCells (bits : ℕ) (test : Cell → Bool) : Type 0 where

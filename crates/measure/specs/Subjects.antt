@@ -2,9 +2,9 @@
 use Rattle.std.specs.Prelude.{◌≡◌, ℕ, Bool, Option, List}
 use Rattle.vw_cell.specs.declared.cells.Cell.{Cell}
 use Rattle.vw_cell.specs.Places.{block_side, IsInWorld}
-use Rattle.node_shapes.specs.declared.names.Name.{Name}
-use Rattle.node_shapes.specs.Tree.{Tree, shape_of}
-use Rattle.block_walk.specs.Roots.{IsBlockOf, cells_of}
+use Rattle.node_words.specs.declared.shapes.names.Name.{Name}
+use Rattle.node_words.specs.shapes.Tree.{Tree, shape_of}
+use Rattle.node_words.specs.descent.Roots.{IsBlockOf, cells_of}
 
 -- the test passes the set cells of what stands in a block
 pub record PassesSet (held : List Tree) (level : ℕ) (block : Option Name)

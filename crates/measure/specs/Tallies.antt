@@ -3,8 +3,8 @@ use Rattle.std.specs.Prelude.{◌≡◌, ℕ, ◌-◌, Bool, false, List}
 use Rattle.vw_cell.specs.declared.cells.Cell.{Cell}
 use Rattle.vw_cell.specs.Places.{block_side, IsInWorld}
 use Rattle.vw_cell.specs.Counts.{number_in}
-use Rattle.node_shapes.specs.Tree.{Tree}
-use Rattle.block_walk.specs.Parts.{placed, part_in, whole_of}
+use Rattle.node_words.specs.shapes.Tree.{Tree}
+use Rattle.node_words.specs.descent.Parts.{placed, part_in, whole_of}
 use Rattle.measure.specs.declared.tallies.Part.{Part}
 use Rattle.measure.specs.declared.wholes.Whole.{Whole}
 

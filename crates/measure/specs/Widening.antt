@@ -5,11 +5,11 @@ use Rattle.vw_cell.specs.declared.boxes.Boxed.{Boxed}
 use Rattle.vw_cell.specs.declared.blocks.Block.{Block}
 use Rattle.vw_cell.specs.Places.{IsInBox, IsInBlock, octant_of}
 use Rattle.vw_cell.specs.Counts.{cell_at}
-use Rattle.node_shapes.specs.declared.names.Name.{Name}
-use Rattle.node_shapes.specs.Shape.{ShowsCells, bit_number}
-use Rattle.node_shapes.specs.Tree.{Tree, shape_of}
-use Rattle.block_walk.specs.Roots.{IsBlockOf}
-use Rattle.block_walk.specs.Parts.{EndsBy}
+use Rattle.node_words.specs.declared.shapes.names.Name.{Name}
+use Rattle.node_words.specs.shapes.Shape.{ShowsCells, bit_number}
+use Rattle.node_words.specs.shapes.Tree.{Tree, shape_of}
+use Rattle.node_words.specs.descent.Roots.{IsBlockOf}
+use Rattle.node_words.specs.descent.Parts.{EndsBy}
 use Rattle.vw_cell.specs.Extents.{LiesWithin}
 
 -- the cell lies in the box, where there is one

@@ -2,12 +2,12 @@ ghost use Rattle.std.specs.Prelude.{◌≡◌, ◌^◌, ◌<◌, ◌≤◌, ℕ,
 ghost use Rattle.vw_cell.specs.declared.cells.Cell.{Cell};
 ghost use Rattle.vw_cell.specs.Places.{FitsAt, block_side};
 ghost use Rattle.vw_cell.specs.Counts.{number_in};
-ghost use Rattle.node_shapes.specs.Shape.{Shape, bits_of};
-ghost use Rattle.node_shapes.specs.Tree.{Tree};
+ghost use Rattle.node_words.specs.shapes.Shape.{Shape, bits_of};
+ghost use Rattle.node_words.specs.shapes.Tree.{Tree};
 ghost use Rattle.vw_cell.specs.Faces.{faces_in, is_bare};
-ghost use Rattle.block_walk.specs.Roots.{HasBlock, HoldsRoot, ForBlock, ForWorld, cells_of};
-ghost use Rattle.block_walk.specs.Parts.{EndsBy};
-ghost use Rattle.block_walk.specs.Answers.{AreRight};
+ghost use Rattle.node_words.specs.descent.Roots.{HasBlock, HoldsRoot, ForBlock, ForWorld, cells_of};
+ghost use Rattle.node_words.specs.descent.Parts.{EndsBy};
+ghost use Rattle.node_words.specs.descent.Answers.{AreRight};
 ghost use Rattle.measure.specs.Leaves.{TellsCells};
 ghost use Rattle.measure.specs.Tallies.{IsTally, IsWholeTally};
 ghost use Rattle.measure.specs.Bare.{PassesBare, across, stays, is_next_set, bare_of};
@@ -15,9 +15,9 @@ ghost use Rattle.measure.specs.Bare.{PassesBare, across, stays, is_next_set, bar
 use crate::counts::name_mark;
 use crate::tallies::{Part, Subject, tally};
 use crate::wholes::Whole;
-use block_walk::{Answers, leaf_bits, name_of, octant_name, same_names};
-use node_shapes::Name;
-use node_words::{Blocks, Share, window_bits};
+use node_words::{
+    Answers, Blocks, Name, Share, leaf_bits, name_of, octant_name, same_names, window_bits,
+};
 use vw_cell::{Boxed, Direction, Side};
 
 /// The number of pairs of a set cell of a box of the root's world and one of its six sides, at

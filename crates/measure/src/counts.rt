@@ -1,13 +1,13 @@
 ghost use Rattle.std.specs.Prelude.{◌≡◌, ◌^◌, ◌≤◌, ℕ, option_copied};
 ghost use Rattle.vw_cell.specs.Places.{FitsAt, IsInWorld, block_side};
 ghost use Rattle.vw_cell.specs.Counts.{number_in};
-ghost use Rattle.block_walk.specs.Roots.{HasBlock, ForBlock, HoldsRoot, ForWorld, cells_of};
+ghost use Rattle.node_words.specs.descent.Roots.{HasBlock, ForBlock, HoldsRoot, ForWorld, cells_of};
 ghost use Rattle.measure.specs.Subjects.{PassesSet};
 
 use crate::tallies::{Part, Subject, tally};
-use block_walk::{Answers, descend, leaf_bits, leaf_has, name_of, octant_name, same_names};
-use node_shapes::Name;
-use node_words::{Blocks, Share};
+use node_words::{
+    Answers, Blocks, Name, Share, descend, leaf_bits, leaf_has, name_of, octant_name, same_names,
+};
 use vw_cell::{Boxed, Cell, Side};
 
 /// Whether the cell of the root's world is set.

@@ -1,18 +1,16 @@
 ghost use Rattle.std.specs.Prelude.{◌≡◌, ◌^◌, ◌<◌, ◌≤◌, ◌-◌, ◌+◌, ℕ, IsTrue, Bool, Some, option_copied};
 ghost use Rattle.vw_cell.specs.declared.cells.Cell.{Cell};
 ghost use Rattle.vw_cell.specs.Places.{IsInBlock, IsInWorld, LiesIn, block_side, octant_of};
-ghost use Rattle.node_kernels.specs.Leaves.{LeafShows};
+ghost use Rattle.node_words.specs.kernels.Leaves.{LeafShows};
 ghost use Rattle.vw_cell.specs.Extents.{IsExtent};
-ghost use Rattle.block_walk.specs.Roots.{HasBlock, HoldsRoot, ForBlock, ForWorld, cells_of};
-ghost use Rattle.block_walk.specs.Answers.{AreRight};
-ghost use Rattle.block_walk.specs.Parts.{EndsBy};
+ghost use Rattle.node_words.specs.descent.Roots.{HasBlock, HoldsRoot, ForBlock, ForWorld, cells_of};
+ghost use Rattle.node_words.specs.descent.Answers.{AreRight};
+ghost use Rattle.node_words.specs.descent.Parts.{EndsBy};
 ghost use Rattle.measure.specs.Pruning.{tells_within};
 ghost use Rattle.measure.specs.Widening.{IsFound, EndsInside, Widens, IsSetIn, IsSetInSome, IsOther, IsOtherAt, IsSetAt, ForPlace, WidensBy};
 
 use crate::pruning::{Within, is_known, note};
-use block_walk::{Answers, leaf_bits, name_of, octant_name};
-use node_shapes::Name;
-use node_words::{Blocks, Share, box_bits};
+use node_words::{Answers, Blocks, Name, Share, box_bits, leaf_bits, name_of, octant_name};
 use vw_cell::{Block, Boxed, Cell, Side};
 
 /// The least box of all set cells of the root's world. `None` exactly where no cell is set.

@@ -1,8 +1,8 @@
 ghost use Rattle.std.specs.Prelude.{◌≡◌, ◌<◌, ℕ, Bool, slice_index};
 ghost use Rattle.vw_cell.specs.declared.cells.Cell.{Cell};
 ghost use Rattle.vw_cell.specs.Places.{block_side, is_in_box};
-ghost use Rattle.node_kernels.specs.Leaves.{LeafShows};
-ghost use Rattle.block_walk.specs.Parts.{EndsBy};
+ghost use Rattle.node_words.specs.kernels.Leaves.{LeafShows};
+ghost use Rattle.node_words.specs.descent.Parts.{EndsBy};
 ghost use Rattle.measure.specs.Leaves.{octant_leaf};
 ghost use Rattle.measure.specs.Tallies.{IsTally, IsOctantTally};
 

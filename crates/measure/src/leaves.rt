@@ -1,7 +1,7 @@
 ghost use Rattle.std.specs.Prelude.{◌≡◌, Bool};
 ghost use Rattle.vw_cell.specs.declared.cells.Cell.{Cell};
 ghost use Rattle.vw_cell.specs.Counts.{number_in};
-ghost use Rattle.block_walk.specs.Parts.{EndsBy};
+ghost use Rattle.node_words.specs.descent.Parts.{EndsBy};
 ghost use Rattle.measure.specs.Leaves.{TellsCells};
 
 use node_words::box_bits;

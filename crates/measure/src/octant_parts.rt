@@ -1,5 +1,5 @@
 ghost use Rattle.std.specs.Prelude.{◌≡◌, ◌<◌, ℕ};
-ghost use Rattle.block_walk.specs.Parts.{part_in};
+ghost use Rattle.node_words.specs.descent.Parts.{part_in};
 
 use vw_cell::{Boxed, Cell};
 

@@ -1,15 +1,14 @@
 ghost use Rattle.std.specs.Prelude.{◌≡◌, ◌≤◌, ◌<◌, ◌+◌, ◌^◌, ℕ, IsTrue, Bool, List, Option};
 ghost use Rattle.vw_cell.specs.Places.{LiesIn, IsInBox, IsInWorld, IsWithin, block_side};
-ghost use Rattle.node_shapes.specs.Tree.{Tree};
-ghost use Rattle.block_walk.specs.Answers.{AreRight};
-ghost use Rattle.block_walk.specs.Parts.{EndsBy};
+ghost use Rattle.node_words.specs.shapes.Tree.{Tree};
+ghost use Rattle.node_words.specs.descent.Answers.{AreRight};
+ghost use Rattle.node_words.specs.descent.Parts.{EndsBy};
 ghost use Rattle.measure.specs.Widening.{EndsInside, WidensBy};
 ghost use Rattle.measure.specs.Pruning.{from_corner, tells_within};
 
 use crate::counts::name_mark;
 use crate::tallies::part_mark;
-use block_walk::{Answers, Query, same_boxes, same_names};
-use node_shapes::Name;
+use node_words::{Answers, Name, Query, same_boxes, same_names};
 use vw_cell::{Block, Boxed, Cell};
 
 /// What stands in a block, and a part of the block that has all of its set cells.
@@ -114,7 +113,7 @@ fn part_at(b: Boxed, place: Block) -> Boxed
     Boxed { at, size }
 }
 
-#[tactic(auto, using(block_walk::proofs::LookLaws::whole_side))]
+#[tactic(auto, using(node_words::proofs::OfDescent::LookLaws::whole_side))]
 fn side_of(level: u8) -> u16
     requires { level ≤ 10 }
     ensures { result ≡ block_side level }

@@ -2,9 +2,9 @@ ghost use Rattle.std.specs.Prelude.{◌≡◌, ◌-◌, ◌<◌, ◌≤◌, ℕ,
 ghost use Rattle.vw_cell.specs.declared.cells.Cell.{Cell};
 ghost use Rattle.vw_cell.specs.Places.{block_side};
 ghost use Rattle.vw_cell.specs.Counts.{number_in};
-ghost use Rattle.node_shapes.specs.Tree.{Tree};
-ghost use Rattle.block_walk.specs.Answers.{AreRight};
-ghost use Rattle.block_walk.specs.Parts.{EndsBy, part_in};
+ghost use Rattle.node_words.specs.shapes.Tree.{Tree};
+ghost use Rattle.node_words.specs.descent.Answers.{AreRight};
+ghost use Rattle.node_words.specs.descent.Parts.{EndsBy, part_in};
 ghost use Rattle.measure.specs.Leaves.{TellsCells};
 ghost use Rattle.measure.specs.Tallies.{in_octant, PassesNone, IsTally, IsWholeTally, IsOctantTally};
 
@@ -12,8 +12,7 @@ use crate::leaf_parts::tally_leaf_parts;
 use crate::leaves::count_leaf;
 use crate::octant_parts::either_part;
 use crate::wholes::{Whole, tally_whole};
-use block_walk::{Answers, Query, half_side, is_empty, part_of, same_boxes, whole_block};
-use node_words::Blocks;
+use node_words::{Answers, Blocks, Query, half_side, is_empty, part_of, same_boxes, whole_block};
 use vw_cell::Boxed;
 
 /// What stands in a block, and with it which of the block's cells count.

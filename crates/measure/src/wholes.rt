@@ -1,12 +1,11 @@
 ghost use Rattle.std.specs.Prelude.{◌≡◌, ◌≤◌, IsTrue, Bool};
 ghost use Rattle.vw_cell.specs.declared.cells.Cell.{Cell};
-ghost use Rattle.block_walk.specs.Answers.{AreRight};
+ghost use Rattle.node_words.specs.descent.Answers.{AreRight};
 ghost use Rattle.measure.specs.Tallies.{IsWholeTally};
 
 use crate::leaves::count_leaf;
 use crate::tallies::Subject;
-use block_walk::{Answers, Query, whole_block};
-use node_words::Blocks;
+use node_words::{Answers, Blocks, Query, whole_block};
 
 /// A whole block of some level, and what stands in it.
 #[derive(Clone, Copy)]

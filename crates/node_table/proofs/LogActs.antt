@@ -2,14 +2,14 @@
 use Rattle.std.proofs.Common.{◌≡◌, ◌⊎◌, ℕ, ◌^◌, ◌<◌, ◌≤◌, Option, Some, List, [], ◌∷◌, ◌++◌, sym, ap, ◌∙◌, subst, ⊎_elim, arith}
 use Rattle.std.specs.Prelude.{slice_index}
 use Rattle.std.specs.List.{Contains}
-use Rattle.node_shapes.specs.declared.names.Name.{Name}
-use Rattle.node_shapes.specs.Tree.{Tree, Gone, root_of}
-use Rattle.node_shapes.proofs.TreeLaws.{gone_from_root}
+use Rattle.node_words.specs.declared.shapes.names.Name.{Name}
+use Rattle.node_words.specs.shapes.Tree.{Tree, Gone, root_of}
+use Rattle.node_words.proofs.OfShapes.TreeLaws.{gone_from_root}
 use Rattle.node_words.specs.Held.{IsHeld}
 use Rattle.node_words.specs.Plans.{Layout}
 use Rattle.node_words.proofs.HeldLaws.{held_reached}
-use Rattle.node_places.specs.Spots.{Spot}
-use Rattle.node_places.specs.Words.{word_of_child}
+use Rattle.core_laws.specs.places.Spots.{Spot}
+use Rattle.core_laws.specs.places.Words.{word_of_child}
 use Rattle.history_model.specs.declared.histories.Record.{Record}
 use Rattle.core_laws.specs.LogEvents.{Appends, Forgets}
 use Rattle.core_laws.specs.Events.{StoreStep, puts_root, takes_root}

@@ -9,13 +9,13 @@ use Rattle.std.proofs.lemmas.List.Kept.{AllPairs-cons}
 use Rattle.table_rule.proofs.Containing.{contains_more}
 use Rattle.table_rule.proofs.OwnLaws.{first_or_more}
 use Rattle.vox_read.specs.Contents.{Content}
-use Rattle.node_shapes.specs.declared.names.Name.{Name}
+use Rattle.node_words.specs.declared.shapes.names.Name.{Name}
 use Rattle.node_words.specs.Plans.{Layout, IsPlan}
 use Rattle.node_words.proofs.PlanLaws.{few_buckets}
-use Rattle.node_places.specs.KeyWords.{child_of_word}
-use Rattle.node_places.specs.Spots.{Spot, LogLength, Version, versions}
-use Rattle.block_contents.specs.Aligned.{top}
-use Rattle.block_contents.specs.Versions.{IsKept}
+use Rattle.core_laws.specs.places.KeyWords.{child_of_word}
+use Rattle.core_laws.specs.places.Spots.{Spot, LogLength, Version, versions}
+use Rattle.core_laws.specs.contents.Aligned.{top}
+use Rattle.core_laws.specs.contents.Versions.{IsKept}
 use Rattle.core_laws.proofs.Lives.{root_lives}
 use Rattle.core_laws.proofs.LogSteps.{root_in_range}
 use Rattle.core_laws.specs.Soundness.{Sound}

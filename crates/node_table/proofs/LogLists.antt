@@ -1,12 +1,12 @@
 -- Records, marks and roots that are read one after another.
 use Rattle.std.proofs.Common.{◌≡◌, ℕ, zero, suc, ◌+◌, ◌≤◌, Option, List, [], ◌∷◌, ◌++◌, length, refl, sym, ap, ◌∙◌, arith, append-nil}
-use Rattle.node_shapes.specs.declared.names.Name.{Name}
+use Rattle.node_words.specs.declared.shapes.names.Name.{Name}
 use Rattle.node_words.specs.Plans.{Layout}
-use Rattle.node_places.specs.KeyWords.{child_of_word}
-use Rattle.node_places.specs.Spots.{Spot, Version}
+use Rattle.core_laws.specs.places.KeyWords.{child_of_word}
+use Rattle.core_laws.specs.places.Spots.{Spot, Version}
 use Rattle.history_model.specs.declared.histories.Mark.{Mark}
 use Rattle.history_model.specs.declared.histories.Record.{Record}
-use Rattle.block_contents.specs.Aligned.{top}
+use Rattle.core_laws.specs.contents.Aligned.{top}
 use Rattle.table_rule.specs.LogWords.{mark_of_words, if_marked, marks_in, record_of_words, records_in, word_in}
 use Rattle.table_rule.proofs.LogReading.{records_suc, marks_suc, length_records}
 use Rattle.node_table.specs.Roots.{IsLogSmall, if_kept, roots_in}

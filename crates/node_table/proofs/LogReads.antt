@@ -3,15 +3,15 @@ use Rattle.std.proofs.Common.{◌≡◌, ◌≢◌, ℕ, zero, suc, ◌+◌, ◌
 use Rattle.std.specs.Prelude.{slice_index}
 use Rattle.std.specs.List.{Contains, slice_get}
 use Rattle.std.proofs.lemmas.Option.{none-some}
-use Rattle.node_places.specs.Spots.{Spot, LogLength, Version}
+use Rattle.core_laws.specs.places.Spots.{Spot, LogLength, Version}
 use Rattle.history_model.specs.declared.histories.Mark.{Mark}
 use Rattle.history_model.specs.declared.histories.Record.{Record}
-use Rattle.node_shapes.specs.declared.names.Name.{Name}
+use Rattle.node_words.specs.declared.shapes.names.Name.{Name}
 use Rattle.node_words.specs.Plans.{Layout, IsPlan}
 use Rattle.node_words.proofs.PlanLaws.{few_buckets}
 use Rattle.std.proofs.Math.Nat.{div-add-mod, mod-lt}
-use Rattle.block_contents.specs.Aligned.{top}
-use Rattle.block_contents.specs.Versions.{IsUnmarked}
+use Rattle.core_laws.specs.contents.Aligned.{top}
+use Rattle.core_laws.specs.contents.Versions.{IsUnmarked}
 use Rattle.history_model.specs.Packing.{log_words}
 use Rattle.table_rule.specs.LogTelling.{number_seen, LogTells, RootsTell, IsShownUnmarked}
 use Rattle.table_rule.specs.Listing.{Found}

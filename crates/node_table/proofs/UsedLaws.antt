@@ -1,15 +1,15 @@
 -- What the number of a bucket's used slots tells.
 use Rattle.std.proofs.Common.{◌≡◌, ℕ, ◌<◌, ◌≤◌, Some, List, ◌∷◌, sym, ap, ◌∙◌, subst, inl, inr, arith}
 use Rattle.std.proofs.lemmas.Bool.{cases_lt}
-use Rattle.node_shapes.specs.declared.names.Name.{Name}
-use Rattle.node_shapes.specs.Tree.{Tree}
-use Rattle.node_shapes.specs.Weights.{number_of_trees}
+use Rattle.node_words.specs.declared.shapes.names.Name.{Name}
+use Rattle.node_words.specs.shapes.Tree.{Tree}
+use Rattle.node_words.specs.shapes.Weights.{number_of_trees}
 use Rattle.node_words.specs.declared.keys.Key as keys
 use Rattle.node_words.specs.Held.{HoldsChildren}
 use Rattle.node_words.specs.Plans.{Layout}
-use Rattle.node_places.specs.KeyWords.{key_word}
-use Rattle.node_places.specs.Names.{named}
-use Rattle.node_places.specs.Spots.{Spot, key_words}
+use Rattle.core_laws.specs.places.KeyWords.{key_word}
+use Rattle.core_laws.specs.places.Names.{named}
+use Rattle.core_laws.specs.places.Spots.{Spot, key_words}
 use Rattle.table_rule.specs.Reading.{book_of}
 use Rattle.table_rule.specs.Turning.{used_of}
 use Rattle.table_rule.specs.Views.{SeatView, BucketAt, bucket_of, key_spot, known_at}

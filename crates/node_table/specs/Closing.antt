@@ -8,8 +8,8 @@ use Rattle.table_rule.specs.Listing.{Accepted, Found}
 use Rattle.node_words.specs.Enough.{HasEnough}
 use Rattle.node_words.specs.Held.{Wanted}
 use Rattle.node_words.specs.Plans.{Layout}
-use Rattle.node_places.specs.Spots.{levels}
-use Rattle.block_contents.specs.Versions.{IsKept}
+use Rattle.core_laws.specs.places.Spots.{levels}
+use Rattle.core_laws.specs.contents.Versions.{IsKept}
 use Rattle.core_laws.specs.States.{State}
 use Rattle.core_laws.specs.Soundness.{Sound}
 use Rattle.core_laws.specs.Blocks.{IsIdle, live_number}

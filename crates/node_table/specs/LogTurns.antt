@@ -1,18 +1,18 @@
 -- What the calls of the log's turn promise, over the pass as it is seen.
 use Rattle.std.specs.Prelude.{◌≡◌, ℕ, suc, ◌+◌, ◌<◌, ◌≤◌, true, false, Option, Some, None, List, [], ◌∷◌, ◌++◌, take, slice_index}
 use Rattle.std.specs.List.{slice_get, Contains}
-use Rattle.node_shapes.specs.declared.names.Name.{Name}
-use Rattle.node_shapes.specs.Shape.{ShowsCells}
-use Rattle.node_shapes.specs.Tree.{Tree, root_of, shape_of}
-use Rattle.node_shapes.specs.Weights.{weigh, weight_of}
-use Rattle.node_places.specs.Spots.{LogLength, Version}
-use Rattle.node_places.specs.Words.{word_of_child}
+use Rattle.node_words.specs.declared.shapes.names.Name.{Name}
+use Rattle.node_words.specs.shapes.Shape.{ShowsCells}
+use Rattle.node_words.specs.shapes.Tree.{Tree, root_of, shape_of}
+use Rattle.node_words.specs.shapes.Weights.{weigh, weight_of}
+use Rattle.core_laws.specs.places.Spots.{LogLength, Version}
+use Rattle.core_laws.specs.places.Words.{word_of_child}
 use Rattle.node_words.specs.Plans.{Layout}
 use Rattle.history_model.specs.declared.histories.Record.{Record}
 use Rattle.history_model.specs.declared.histories.Mark.{Mark}
 use Rattle.history_model.specs.Packing.{log_words}
-use Rattle.block_contents.specs.Aligned.{world_block}
-use Rattle.block_contents.specs.Versions.{IsUnmarked}
+use Rattle.core_laws.specs.contents.Aligned.{world_block}
+use Rattle.core_laws.specs.contents.Versions.{IsUnmarked}
 use Rattle.table_rule.specs.LogTelling.{number_seen, seen_has, SeesAll, IsShownUnmarked}
 use Rattle.table_rule.specs.LogViews.{LogView}
 use Rattle.table_rule.specs.Views.{SeatView, known_at}

@@ -1,9 +1,9 @@
 // The history and the roots of a table that is no more, read from its words.
 ghost use Rattle.std.specs.Prelude.{◌≡◌, ◌<◌, ◌≤◌, ◌+◌, ◌-◌, ◌^◌, [], length};
 ghost use Rattle.std.specs.Slots.{slots_items, slots_len, IsFull};
-ghost use Rattle.node_places.specs.KeyWords.{child_of_word};
-ghost use Rattle.node_places.specs.Spots.{LogLength, Version, width};
-ghost use Rattle.block_contents.specs.Aligned.{top};
+ghost use Rattle.core_laws.specs.places.KeyWords.{child_of_word};
+ghost use Rattle.core_laws.specs.places.Spots.{LogLength, Version, width};
+ghost use Rattle.core_laws.specs.contents.Aligned.{top};
 ghost use Rattle.table_rule.specs.Reading.{word_at};
 ghost use Rattle.table_rule.specs.LogWords.{act_of_words, ball_of_words, box_of_words, cell_of_word, mark_of_words, marks_in, tint_of_words};
 ghost use Rattle.table_rule.specs.LogWords.{record_of_words, records_in, word_in};
@@ -11,10 +11,9 @@ ghost use Rattle.node_table.specs.Roots.{IsLogSmall, roots_in};
 
 use crate::closed::Root;
 use atomic_table::Closed;
+use core_laws::{Places, child_in};
 use history_model::{Act, Mark, Record, TintAct};
-use node_places::{Places, child_in};
-use node_shapes::Name;
-use node_words::Plan;
+use node_words::{Name, Plan};
 use std::alloc::Global;
 use vw_cell::{Ball, Boxed, Cell};
 

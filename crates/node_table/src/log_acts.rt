@@ -1,10 +1,10 @@
 // What a pass does under the log's turn.
 ghost use Rattle.std.specs.Prelude.{◌≡◌, ◌≢◌, ◌<◌, ◌≤◌, ◌+◌, ◌-◌, ◌^◌, ℕ, Some, None, true, false, [], ◌∷◌, suc, MatchBool};
-ghost use Rattle.node_shapes.specs.Tree.{Tree};
-ghost use Rattle.node_shapes.specs.Tree.{root_of as tree_root};
-ghost use Rattle.node_shapes.specs.Weights.{number_of_trees, weight_of};
-ghost use Rattle.node_places.specs.KeyWords.{child_of_word};
-ghost use Rattle.node_places.specs.Spots.{LogLength, Version};
+ghost use Rattle.node_words.specs.shapes.Tree.{Tree};
+ghost use Rattle.node_words.specs.shapes.Tree.{root_of as tree_root};
+ghost use Rattle.node_words.specs.shapes.Weights.{number_of_trees, weight_of};
+ghost use Rattle.core_laws.specs.places.KeyWords.{child_of_word};
+ghost use Rattle.core_laws.specs.places.Spots.{LogLength, Version};
 ghost use Rattle.table_rule.specs.LogTelling.{IsShownRoot, IsShownUnmarked, number_seen};
 ghost use Rattle.table_rule.specs.Views.{known_at};
 ghost use Rattle.table_rule.specs.LogChanges.{log_knowing, log_turned};
@@ -24,9 +24,9 @@ use crate::log_steps::{
 use crate::passes::{NumberedSeat, Pass, tell};
 use crate::steps::{MOST_YIELDS, yield_often};
 use crate::tables::NodeTable;
+use core_laws::{child_in, child_word};
 use history_model::Mark;
-use node_places::{child_in, child_word};
-use node_shapes::Name;
+use node_words::Name;
 use std::sync::Wait;
 
 // The next record is seen.

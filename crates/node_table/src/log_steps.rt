@@ -1,10 +1,10 @@
 // Single steps of a seat on the log.
 ghost use Rattle.std.specs.Prelude.{◌≡◌, ◌≢◌, ◌+◌, ◌<◌, ◌≤◌, ◌^◌, ◌*◌, ℕ, Option, Some, None, true, false, suc, [], ◌∷◌};
 ghost use Rattle.std.specs.List.{Contains};
-ghost use Rattle.node_shapes.specs.Tree.{root_of};
-ghost use Rattle.node_shapes.specs.Weights.{number_of_trees};
-ghost use Rattle.node_places.specs.Spots.{LogLength, Version};
-ghost use Rattle.block_contents.specs.Versions.{IsUnmarked};
+ghost use Rattle.node_words.specs.shapes.Tree.{root_of};
+ghost use Rattle.node_words.specs.shapes.Weights.{number_of_trees};
+ghost use Rattle.core_laws.specs.places.Spots.{LogLength, Version};
+ghost use Rattle.core_laws.specs.contents.Versions.{IsUnmarked};
 ghost use Rattle.table_rule.specs.LogTelling.{IsShownRoot, SeesAll, number_seen};
 ghost use Rattle.table_rule.specs.LogWords.{mark_of_words};
 ghost use Rattle.table_rule.specs.Views.{known_at};
@@ -18,7 +18,7 @@ ghost use Rattle.node_table.specs.Seen.{BelongsTo, SamePass};
 use crate::passes::NumberedSeat;
 use crate::steps::{exchange_as, load_as, store_as};
 use crate::tables::NodeTable;
-use node_shapes::Name;
+use node_words::Name;
 use std::marker::Brand;
 
 // The number of whoever has the log's turn, plus 1, or 0: then the seat has it now.

@@ -1,7 +1,7 @@
 // The log's turn.
 ghost use Rattle.std.specs.Prelude.{◌≡◌, ◌<◌, ◌≤◌, ◌+◌, ◌-◌, ℕ, Option, Some, None, [], ◌∷◌, IfSome};
 ghost use Rattle.std.specs.Borrow.{sem};
-ghost use Rattle.node_shapes.specs.Weights.{number_of_trees};
+ghost use Rattle.node_words.specs.shapes.Weights.{number_of_trees};
 ghost use Rattle.table_rule.specs.LogTelling.{IsShownRoot, IsShownUnmarked, number_seen};
 ghost use Rattle.node_table.specs.LogTurns.{AppendsInTurn, AppendsUnderTurn, AreWordsOf, ForAppended};
 ghost use Rattle.node_table.specs.Lending.{LendsPass, TriesLog};
@@ -15,8 +15,7 @@ use crate::log_acts;
 use crate::passes::Pass;
 use crate::tables::NodeTable;
 use history_model::Mark;
-use node_shapes::Name;
-use node_words::Share;
+use node_words::{Name, Share};
 use std::sync::Wait;
 
 /// The log's turn, which its pass has while this lives. It must be spent.

@@ -1,6 +1,6 @@
 // What a session steps with.
 ghost use Rattle.std.specs.Prelude.{◌≡◌, ◌≤◌, ◌∷◌, [], None, false};
-ghost use Rattle.node_shapes.specs.Weights.{number_of_trees};
+ghost use Rattle.node_words.specs.shapes.Weights.{number_of_trees};
 ghost use Rattle.node_words.specs.Held.{AreCanonical, AreTrees};
 ghost use Rattle.table_rule.specs.LogTelling.{number_seen};
 ghost use Rattle.table_rule.specs.Telling.{ViewTells};
@@ -19,8 +19,8 @@ impl Model for NumberedSeat {
     ghost use Rattle.std.specs.Coded.{codes};
     ghost use Rattle.std.specs.Prelude.{[], true, ◌<◌, ◌≡◌, ◌∷◌};
     ghost use Rattle.atomic_table.specs.Seated.{table_id_coded};
-    ghost use Rattle.node_shapes.specs.ShapeCode.{coded_shape};
-    ghost use Rattle.node_shapes.specs.TreeCode.{coded_tree};
+    ghost use Rattle.node_words.specs.shapes.ShapeCode.{coded_shape};
+    ghost use Rattle.node_words.specs.shapes.TreeCode.{coded_tree};
     ghost use Rattle.node_table.specs.Seen.{PassSeen};
     ghost use Rattle.table_rule.specs.Telling.{ViewTells};
 
@@ -45,9 +45,9 @@ impl Model for Pass {
     ghost use Rattle.std.specs.Coded.{codes};
     ghost use Rattle.std.specs.Prelude.{◌≡◌};
     ghost use Rattle.atomic_table.specs.Seated.{table_id_coded};
-    ghost use Rattle.node_shapes.specs.ShapeCode.{coded_shape};
-    ghost use Rattle.node_shapes.specs.TreeCode.{coded_tree};
-    ghost use Rattle.node_shapes.specs.Weights.{number_of_trees};
+    ghost use Rattle.node_words.specs.shapes.ShapeCode.{coded_shape};
+    ghost use Rattle.node_words.specs.shapes.TreeCode.{coded_tree};
+    ghost use Rattle.node_words.specs.shapes.Weights.{number_of_trees};
     ghost use Rattle.node_table.specs.Seen.{PassSeen};
     ghost use Rattle.table_rule.specs.LogTelling.{number_seen};
 

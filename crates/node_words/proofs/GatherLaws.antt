@@ -2,13 +2,13 @@
 -- back.
 use Rattle.std.proofs.Common.{◌≡◌, ◌≢◌, ℕ, suc, ◌+◌, ◌-◌, ◌<◌, ◌≤◌, Some, None, Option, List, ◌∷◌, length, set, refl, sym, ◌∙◌, ap, subst, arith, inl, inr, add-one, get_or-set_other, get_or-set_same}
 use Rattle.std.proofs.lemmas.Bool.{cases_eq}
-use Rattle.node_shapes.specs.declared.names.Name.{Name}
-use Rattle.node_shapes.specs.Shape.{Shape, Clear, octant_shape, branch_of, IsPart, whole, within}
-use Rattle.node_shapes.specs.Tree.{Tree, Gone, LeafAt, node_at, root_of, child_of, shape_of}
-use Rattle.node_shapes.specs.Weights.{weigh, number_of_trees, put_row}
-use Rattle.node_shapes.specs.Shape as shape
-use Rattle.node_shapes.proofs.TreeLaws.{root_from_child, IsTreeAt-below, level_of, gone_at, leaf_at, node_levels, shape_of-leaf, shape_of-node}
-use Rattle.node_shapes.proofs.WeightLaws.{weight_of-gone, weight_of-there, weight_below-part, weight_below-put, weight_below-one, put_row-same, put_row-other}
+use Rattle.node_words.specs.declared.shapes.names.Name.{Name}
+use Rattle.node_words.specs.shapes.Shape.{Shape, Clear, octant_shape, branch_of, IsPart, whole, within}
+use Rattle.node_words.specs.shapes.Tree.{Tree, Gone, LeafAt, node_at, root_of, child_of, shape_of}
+use Rattle.node_words.specs.shapes.Weights.{weigh, number_of_trees, put_row}
+use Rattle.node_words.specs.shapes.Shape as shape
+use Rattle.node_words.proofs.OfShapes.TreeLaws.{root_from_child, IsTreeAt-below, level_of, gone_at, leaf_at, node_levels, shape_of-leaf, shape_of-node}
+use Rattle.node_words.proofs.OfShapes.WeightLaws.{weight_of-gone, weight_of-there, weight_below-part, weight_below-put, weight_below-one, put_row-same, put_row-other}
 use Rattle.node_words.specs.Plans.{Layout}
 use Rattle.node_words.specs.Held.{Seen, IsSought, AreHeld, AreBelow, Gains, Joins, Grants, OnlyHeldChanges, OnlyMeets, name_in}
 use Rattle.node_words.specs.Gathering.{IsTreeOf, Comes, MayHold, Loses, LosesAll, Grew, unchanged, one, Grows, Fails, Gathered}

@@ -1,12 +1,12 @@
 -- Laws of what is held, and of what is reached from it.
 use Rattle.std.proofs.Common.{◌≡◌, ℕ, zero, suc, ◌+◌, ◌-◌, ◌<◌, ◌≤◌, Some, None, Option, List, refl, sym, ◌∙◌, ap, subst, arith}
-use Rattle.node_shapes.specs.declared.names.Name.{Name}
-use Rattle.node_shapes.specs.Shape.{IsCanonical, branch_of}
-use Rattle.node_shapes.specs.Tree.{Tree, Gone, root_of, child_of, shape_of, StandsIn, LeafAt, NodeAt, itself, below, IsTreeAt}
-use Rattle.node_shapes.specs.Weights.{weigh, number_of_trees}
-use Rattle.node_shapes.proofs.ShapeLaws.{branch_canonical, clear_canonical}
-use Rattle.node_shapes.proofs.WeightLaws.{weight_of-there, weight_below-part}
-use Rattle.node_shapes.proofs.TreeLaws.{stands_child, level_of, IsTreeAt-child, IsTreeAt-below, child_of-gone, gone_from_root, shape_of-some, shape_of-gone}
+use Rattle.node_words.specs.declared.shapes.names.Name.{Name}
+use Rattle.node_words.specs.shapes.Shape.{IsCanonical, branch_of}
+use Rattle.node_words.specs.shapes.Tree.{Tree, Gone, root_of, child_of, shape_of, StandsIn, LeafAt, NodeAt, itself, below, IsTreeAt}
+use Rattle.node_words.specs.shapes.Weights.{weigh, number_of_trees}
+use Rattle.node_words.proofs.OfShapes.ShapeLaws.{branch_canonical, clear_canonical}
+use Rattle.node_words.proofs.OfShapes.WeightLaws.{weight_of-there, weight_below-part}
+use Rattle.node_words.proofs.OfShapes.TreeLaws.{stands_child, level_of, IsTreeAt-child, IsTreeAt-below, child_of-gone, gone_from_root, shape_of-some, shape_of-gone}
 use Rattle.node_words.specs.Held.{SameHeld, Seen, IsHeld, IsReached, HoldsName, ReachesName, Gains, OnlyHeldChanges, AreTrees, AreCanonical, AreHeld, AreBelow, HasChild, name_in}
 
 -- all that a holds, b holds too, as often

@@ -1,10 +1,10 @@
 -- The bucket of a key is that of the node's shape.
 use Rattle.std.proofs.Common.{◌≡◌, ℕ, suc, ◌+◌, Some, None, Option, List, refl, sym, ◌∙◌, ap, add-one}
 use Rattle.std.specs.Prelude.{slice_index}
-use Rattle.node_shapes.specs.declared.names.Name.{Name}
-use Rattle.node_shapes.specs.Shape.{Shape, octant_shape}
-use Rattle.node_shapes.specs.Buckets.{octant_term, bucket_of_shape}
-use Rattle.node_shapes.proofs.BucketLaws.{node_bucket-same, octant_term-clear, octant_term-there, bucket_of_shape-leaf, bucket_of_shape-node}
+use Rattle.node_words.specs.declared.shapes.names.Name.{Name}
+use Rattle.node_words.specs.shapes.Shape.{Shape, octant_shape}
+use Rattle.node_words.specs.shapes.Buckets.{octant_term, bucket_of_shape}
+use Rattle.node_words.proofs.OfShapes.BucketLaws.{node_bucket-same, octant_term-clear, octant_term-there, bucket_of_shape-leaf, bucket_of_shape-node}
 use Rattle.node_words.specs.declared.keys.Key.{Key}
 use Rattle.node_words.specs.Held.{name_in}
 use Rattle.node_words.specs.Keys.{child_term, bucket_of_key, ChildFits, IsKeyOf, of_leaf, of_node}

@@ -4,3 +4,7 @@ pub mod GatherLaws
 pub mod PlanLaws
 pub mod WalkLaws
 pub mod RowLaws
+pub mod OfShapes
+pub mod OfContents
+pub mod OfKernels
+pub mod OfDescent

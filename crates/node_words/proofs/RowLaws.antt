@@ -1,7 +1,7 @@
 -- Rows of eight.
 use Rattle.std.proofs.Common.{◌≡◌, ℕ, zero, suc, ◌<◌, List, [], ◌∷◌, length, Option, refl, arith}
 use Rattle.std.specs.Prelude.{slice_index_or}
-use Rattle.node_shapes.specs.declared.names.Name.{Name}
+use Rattle.node_words.specs.declared.shapes.names.Name.{Name}
 use Rattle.node_words.specs.Held.{name_in}
 
 pub eight_names : (cs : List (Option Name)) → length cs ≡ 8

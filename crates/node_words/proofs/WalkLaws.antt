@@ -1,15 +1,15 @@
 -- A walk down from a node to the leaf of a cell.
 use Rattle.std.proofs.Common.{◌≡◌, ◌≢◌, ℕ, zero, suc, ◌+◌, ◌-◌, ◌*◌, ◌<◌, ◌≤◌, Some, None, Option, List, Bool, true, false, refl, sym, ◌∙◌, ap, subst, arith}
 use Rattle.std.specs.Prelude.{◌↔◌, IsTrue}
-use Rattle.node_shapes.specs.Cell.{Cell}
-use Rattle.node_shapes.specs.Block.{Block}
-use Rattle.node_shapes.specs.Places.{block_side, octant_of, half_x, half_y, half_z, IsInBlock, LiesIn}
-use Rattle.node_shapes.specs.declared.names.Name.{Name}
-use Rattle.node_shapes.specs.Shape.{Shape, Clear, Leaf, has, octant_shape}
-use Rattle.node_shapes.specs.Tree.{Tree, root_of, child_of, bits_in, shape_of, IsTreeAt}
-use Rattle.node_shapes.proofs.ShapeLaws.{block_side-suc, halves}
-use Rattle.node_shapes.proofs.ShowLaws.{octant_shows, clear_shown}
-use Rattle.node_shapes.proofs.TreeLaws.{shape_of-child, shape_of-gone, shape_of-leaf, gone_from_root, leaf_from_root}
+use Rattle.node_words.specs.Cell.{Cell}
+use Rattle.node_words.specs.Block.{Block}
+use Rattle.node_words.specs.Places.{block_side, octant_of, half_x, half_y, half_z, IsInBlock, LiesIn}
+use Rattle.node_words.specs.declared.shapes.names.Name.{Name}
+use Rattle.node_words.specs.shapes.Shape.{Shape, Clear, Leaf, has, octant_shape}
+use Rattle.node_words.specs.shapes.Tree.{Tree, root_of, child_of, bits_in, shape_of, IsTreeAt}
+use Rattle.node_words.proofs.OfShapes.ShapeLaws.{block_side-suc, halves}
+use Rattle.node_words.proofs.OfShapes.ShowLaws.{octant_shows, clear_shown}
+use Rattle.node_words.proofs.OfShapes.TreeLaws.{shape_of-child, shape_of-gone, shape_of-leaf, gone_from_root, leaf_from_root}
 use Rattle.node_words.specs.Held.{IsHeld, IsReached, HoldsName, ReachesName, AreTrees}
 use Rattle.node_words.specs.Walks.{TellsCell}
 use Rattle.node_words.proofs.HeldLaws.{holds_reaches, held_reached, reached_child, child_level, reached_levels}

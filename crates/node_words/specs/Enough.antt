@@ -2,8 +2,8 @@
 -- slots.
 use Rattle.std.specs.Prelude.{◌≡◌, ◌≢◌, ℕ, List, All, length}
 use Rattle.std.specs.List.{AllPairs, Contains}
-use Rattle.node_shapes.specs.Shape.{Shape, Clear, IsCanonical}
-use Rattle.node_shapes.specs.Buckets.{bucket_of_shape}
+use Rattle.node_words.specs.shapes.Shape.{Shape, Clear, IsCanonical}
+use Rattle.node_words.specs.shapes.Buckets.{bucket_of_shape}
 use Rattle.node_words.specs.Plans.{Layout}
 
 -- a list with as many different shapes of this level and bucket as a bucket has slots

@@ -1,9 +1,9 @@
 -- What a call that rebuilds a block over a store has gathered so far, for each outcome.
 use Rattle.std.specs.Prelude.{◌≡◌, ℕ, ◌+◌, ◌<◌, ◌≤◌, Option, Some, List, ◌∷◌}
-use Rattle.node_shapes.specs.declared.names.Name.{Name}
-use Rattle.node_shapes.specs.Shape.{Shape, octant_shape, IsPart}
-use Rattle.node_shapes.specs.Tree.{Tree, Gone, root_of, shape_of, IsTreeAt}
-use Rattle.node_shapes.specs.Weights.{weigh, weight_of, weight_below}
+use Rattle.node_words.specs.declared.shapes.names.Name.{Name}
+use Rattle.node_words.specs.shapes.Shape.{Shape, octant_shape, IsPart}
+use Rattle.node_words.specs.shapes.Tree.{Tree, Gone, root_of, shape_of, IsTreeAt}
+use Rattle.node_words.specs.shapes.Weights.{weigh, weight_of, weight_below}
 use Rattle.node_words.specs.Held.{Seen, IsSought, IsReached, name_in}
 
 -- t is the tree of a block of this level: of a name that is reached, or of no node

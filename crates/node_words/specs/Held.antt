@@ -1,11 +1,11 @@
 -- What a store holds, and how that changes. What is held is a list of trees, one for each share,
 -- and two lists are alike where they weigh the same by every weight.
 use Rattle.std.specs.Prelude.{◌≡◌, ◌≢◌, ℕ, ◌+◌, ◌*◌, ◌<◌, ◌≤◌, ◌⊎◌, Option, Some, None, List, ◌∷◌, slice_index_or, All, AllPairs, length}
-use Rattle.node_shapes.specs.declared.names.Name.{Name}
-use Rattle.node_shapes.specs.Shape.{Shape, Clear, IsBranch, IsCanonical, IsPart}
-use Rattle.node_shapes.specs.Buckets.{bucket_of_shape}
-use Rattle.node_shapes.specs.Tree.{Tree, root_of, shape_of, node_at, StandsIn, IsTreeAt}
-use Rattle.node_shapes.specs.Weights.{weigh, weight_below}
+use Rattle.node_words.specs.declared.shapes.names.Name.{Name}
+use Rattle.node_words.specs.shapes.Shape.{Shape, Clear, IsBranch, IsCanonical, IsPart}
+use Rattle.node_words.specs.shapes.Buckets.{bucket_of_shape}
+use Rattle.node_words.specs.shapes.Tree.{Tree, root_of, shape_of, node_at, StandsIn, IsTreeAt}
+use Rattle.node_words.specs.shapes.Weights.{weigh, weight_below}
 use Rattle.node_words.specs.Plans.{Layout, buckets_at}
 
 -- what a call that met a full bucket wanted

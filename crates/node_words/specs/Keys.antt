@@ -1,9 +1,9 @@
 -- The keys that tell a bucket's entries apart.
 use Rattle.std.specs.Prelude.{◌≡◌, ◌≢◌, ℕ, ◌+◌, ◌<◌, Option, Some, None, List}
-use Rattle.node_shapes.specs.declared.names.Name.{Name}
-use Rattle.node_shapes.specs.Shape.{Shape, Clear, octant_shape}
-use Rattle.node_shapes.specs.Shape as shape
-use Rattle.node_shapes.specs.Buckets.{leaf_bucket, node_hash, bucket_of_hash, bucket_of_shape}
+use Rattle.node_words.specs.declared.shapes.names.Name.{Name}
+use Rattle.node_words.specs.shapes.Shape.{Shape, Clear, octant_shape}
+use Rattle.node_words.specs.shapes.Shape as shape
+use Rattle.node_words.specs.shapes.Buckets.{leaf_bucket, node_hash, bucket_of_hash, bucket_of_shape}
 use Rattle.node_words.specs.declared.keys.Key.{Key}
 use Rattle.node_words.specs.declared.keys.Key.TheVariants.{Leaf, Node}
 use Rattle.node_words.specs.Held.{name_in}

@@ -1,8 +1,8 @@
 ghost use Rattle.std.specs.Prelude.{◌≡◌, ◌<◌, ◌≤◌, ◌+◌, ◌*◌, ◌^◌, ℕ, Option};
-ghost use Rattle.node_shapes.specs.declared.names.Name.{Name};
-ghost use Rattle.node_shapes.specs.Buckets.{mixed, finished, pair_word, hash_start};
+ghost use Rattle.node_words.specs.declared.shapes.names.Name.{Name};
+ghost use Rattle.node_words.specs.shapes.Buckets.{mixed, finished, pair_word, hash_start};
 
-use node_shapes::Name;
+use crate::shapes::Name;
 
 /// What tells a bucket's nodes apart: a leaf's bits, or the names of a node's children by octant.
 #[derive(Clone, Copy, Debug, PartialEq, Eq)]
@@ -65,7 +65,7 @@ fn child_term(child: Option<Name>) -> u32
     }
 }
 
-#[tactic(auto, unfolding(node_shapes::specs::Buckets::mixed))]
+#[tactic(auto, unfolding(crate::specs::shapes::Buckets::mixed))]
 fn mixed(hash: u64, word: u64) -> u64
     ensures { result ≡ mixed hash word }
 {
@@ -73,7 +73,7 @@ fn mixed(hash: u64, word: u64) -> u64
     hash ^ (hash >> 29)
 }
 
-#[tactic(auto, unfolding(node_shapes::specs::Buckets::finished))]
+#[tactic(auto, unfolding(crate::specs::shapes::Buckets::finished))]
 fn finished(hash: u64) -> u64
     ensures { result ≡ finished hash }
 {

@@ -1,8 +1,8 @@
 ghost use Rattle.std.specs.Prelude.{◌≡◌, ◌+◌, ◌≤◌, ℕ, List, Some, slice_index, Option};
-ghost use Rattle.node_shapes.specs.declared.names.Name.{Name};
-ghost use Rattle.node_shapes.specs.Shape.{Shape, IsCanonical, branch_of, octant_shape};
-ghost use Rattle.node_shapes.specs.Buckets.{bucket_of_shape};
-ghost use Rattle.node_shapes.specs.Tree.{Tree, root_of, child_of, shape_of};
+ghost use Rattle.node_words.specs.declared.shapes.names.Name.{Name};
+ghost use Rattle.node_words.specs.shapes.Shape.{Shape, IsCanonical, branch_of, octant_shape};
+ghost use Rattle.node_words.specs.shapes.Buckets.{bucket_of_shape};
+ghost use Rattle.node_words.specs.shapes.Tree.{Tree, root_of, child_of, shape_of};
 ghost use Rattle.node_words.specs.declared.keys.Key.{Key};
 ghost use Rattle.node_words.specs.Keys.{bucket_of_key, IsKeyOf};
 ghost use Rattle.node_words.specs.Plans.{Layout, IsPlan, buckets_at};

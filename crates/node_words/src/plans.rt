@@ -1,6 +1,6 @@
 ghost use Rattle.std.specs.Prelude.{◌≡◌, ◌↔◌, ℕ, ◌≤◌, IsSome, IfSome, IsTrue, replicate, length};
 
-use node_shapes::Side;
+use crate::shapes::Side;
 use std::marker::Model;
 
 /// How a store is laid out: the side of its world, the number of buckets on each of the levels 0 to

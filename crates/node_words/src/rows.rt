@@ -2,8 +2,8 @@
 ghost use Rattle.std.specs.Prelude.{◌≡◌, ◌<◌, ℕ, None, length, slice_set};
 ghost use Rattle.node_words.specs.Held.{name_in};
 
+use crate::shapes::Name;
 use crate::shares::Share;
-use node_shapes::Name;
 
 /// The name of each share of a row.
 #[inline(always)]

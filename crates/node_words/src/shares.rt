@@ -1,7 +1,7 @@
 ghost use Rattle.std.specs.Prelude.{◌≡◌};
-ghost use Rattle.node_shapes.specs.declared.names.Name.{Name};
+ghost use Rattle.node_words.specs.declared.shapes.names.Name.{Name};
 
-use node_shapes::Name;
+use crate::shapes::Name;
 use std::marker::Model;
 
 /// One reference to a live node of a store. It can't be copied, and it must be spent: given back,

@@ -1,13 +1,13 @@
 ghost use Rattle.std.specs.Prelude.{◌≡◌, ◌≢◌, ◌+◌, ◌<◌, ◌≤◌, ℕ, Some, IfOk, IfErr, OnOk, IsOkAnd};
-ghost use Rattle.node_shapes.specs.Shape.{Leaf, branch_of};
-ghost use Rattle.node_shapes.specs.Tree.{LeafAt, root_of, bits_in, child_of, shape_of, node_at};
-ghost use Rattle.node_shapes.specs.Weights.{number_of_trees};
-ghost use Rattle.node_shapes.specs.declared.names.Name.{Name};
+ghost use Rattle.node_words.specs.shapes.Shape.{Leaf, branch_of};
+ghost use Rattle.node_words.specs.shapes.Tree.{LeafAt, root_of, bits_in, child_of, shape_of, node_at};
+ghost use Rattle.node_words.specs.shapes.Weights.{number_of_trees};
+ghost use Rattle.node_words.specs.declared.shapes.names.Name.{Name};
 ghost use Rattle.node_words.specs.Held.{Seen, IsReached, HoldsName, ReachesName, ForHeld, ForReached, Gains, HoldsChildren, ForChildren, HasChild, AreBelow, Joins, OnlyHeldChanges, OnlyMeets, Grants, AreTrees, AreCanonical, ReturnsWithin};
 
+use crate::shapes::Name;
 use crate::shares::{Full, NodeRefused, Share};
 use crate::turns::Steps;
-use node_shapes::Name;
 use std::sync::ledger::Ledger;
 
 /// Nodes that can be read. A node may be read while a share of it, or of a node above it, is held.

@@ -1,15 +1,15 @@
 ghost use Rattle.std.specs.Prelude.{◌≡◌, ◌≢◌, ◌+◌, ◌<◌, ◌≤◌, ℕ, Some, None, IfSome, IsTrue, ◌↔◌};
-ghost use Rattle.node_shapes.specs.Cell.{Cell};
-ghost use Rattle.node_shapes.specs.Places.{IsInBlock, LiesIn};
-ghost use Rattle.node_shapes.specs.Tree.{root_of, bits_in, child_of, shape_of};
-ghost use Rattle.node_shapes.specs.Weights.{number_of_trees};
+ghost use Rattle.node_words.specs.Cell.{Cell};
+ghost use Rattle.node_words.specs.Places.{IsInBlock, LiesIn};
+ghost use Rattle.node_words.specs.shapes.Tree.{root_of, bits_in, child_of, shape_of};
+ghost use Rattle.node_words.specs.shapes.Weights.{number_of_trees};
 ghost use Rattle.node_words.specs.Walks.{TellsCell};
 ghost use Rattle.node_words.specs.Held.{HoldsName, ReachesName, ForHeld, ForReached, Gains, OnlyHeldChanges, AreTrees};
 
+use crate::shapes::{Block, Cell, Name, is_set, octant_with};
 use crate::shares::Share;
 use crate::stores::{Blocks, NodeStore};
 use crate::turns::Steps;
-use node_shapes::{Block, Cell, Name, is_set, octant_with};
 use std::sync::ledger::Ledger;
 
 /// A node at or below a held share, lent with its store. While it lives neither the share nor the

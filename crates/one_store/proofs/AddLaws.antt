@@ -4,21 +4,21 @@ use Rattle.std.specs.Prelude.{All, length}
 use Rattle.std.specs.List.{Contains}
 use Rattle.std.proofs.lemmas.Option.{none-some}
 use Rattle.std.proofs.lemmas.List.Elements.{All-nil, All-cons, All-weaker}
-use Rattle.node_shapes.specs.declared.names.Name.{Name}
-use Rattle.node_shapes.specs.Shape.{Shape}
-use Rattle.node_shapes.specs.Tree.{Tree, LeafAt, root_of, shape_of}
-use Rattle.node_shapes.specs.Weights.{number_of_trees}
-use Rattle.node_shapes.proofs.TreeEqual.{Name-discrete}
-use Rattle.node_shapes.proofs.WeightLaws.{weigh-nil}
-use Rattle.node_shapes.proofs.TreeLaws.{shape_of-node}
+use Rattle.node_words.specs.declared.shapes.names.Name.{Name}
+use Rattle.node_words.specs.shapes.Shape.{Shape}
+use Rattle.node_words.specs.shapes.Tree.{Tree, LeafAt, root_of, shape_of}
+use Rattle.node_words.specs.shapes.Weights.{number_of_trees}
+use Rattle.node_words.proofs.OfShapes.TreeEqual.{Name-discrete}
+use Rattle.node_words.proofs.OfShapes.WeightLaws.{weigh-nil}
+use Rattle.node_words.proofs.OfShapes.TreeLaws.{shape_of-node}
 use Rattle.node_words.specs.declared.keys.Key.{Key}
 use Rattle.node_words.specs.declared.keys.Key.TheVariants.{Leaf, Node}
 use Rattle.node_words.specs.Held.{Wanted, name_in}
 use Rattle.node_words.specs.Plans.{Layout, IsPlan}
 use Rattle.node_words.specs.Keys.{bucket_of_key}
-use Rattle.node_places.specs.Spots.{buckets_at, versions}
-use Rattle.node_places.specs.Names.{IsName, HasNames, named, key_bits, key_child}
-use Rattle.node_places.specs.KeyWords.{FitsHalf, IsKeyAt}
+use Rattle.core_laws.specs.places.Spots.{buckets_at, versions}
+use Rattle.core_laws.specs.places.Names.{IsName, HasNames, named, key_bits, key_child}
+use Rattle.core_laws.specs.places.KeyWords.{FitsHalf, IsKeyAt}
 use Rattle.node_words.proofs.PlanLaws.{few_buckets}
 use Rattle.core_laws.specs.States.{IsLive, tree_at, shape_in}
 use Rattle.core_laws.specs.Counting.{weight, children_weight}
@@ -34,11 +34,11 @@ use Rattle.core_laws.proofs.SeenNodes.{leaf_tree, node_tree}
 use Rattle.core_laws.proofs.StepLaws.{tree_kept}
 use Rattle.core_laws.proofs.Trees.{node_at-same, tree_stays}
 use Rattle.core_laws.proofs.Sums.{is_name}
-use Rattle.entry_words.specs.Words.{Written, book_in, key_in}
-use Rattle.entry_words.proofs.SlotLaws.{slot_name}
-use Rattle.store_notes.specs.Told.{nothing_told}
-use Rattle.store_notes.specs.Changes.{HoldsRow}
-use Rattle.store_notes.proofs.HeldLists.{held_closed}
+use Rattle.one_store.specs.entries.Words.{Written, book_in, key_in}
+use Rattle.one_store.proofs.OfEntries.SlotLaws.{slot_name}
+use Rattle.one_store.specs.notes.Told.{nothing_told}
+use Rattle.one_store.specs.notes.Changes.{HoldsRow}
+use Rattle.one_store.proofs.OfNotes.HeldLists.{held_closed}
 use Rattle.one_store.specs.declared.sought.SoughtKey.{SoughtKey}
 use Rattle.one_store.specs.Known.{Known, IsStore, IsStoreOf, core_of, tree_in, trees_below, stored_root}
 use Rattle.one_store.specs.Steps.{AddsNode, MeetsFull, IsSoughtKey, sought_key, tree_over, shape_over}

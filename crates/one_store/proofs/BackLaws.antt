@@ -1,18 +1,18 @@
 -- What is given back on the way down.
 use Rattle.std.proofs.Common.{◌≡◌, ℕ, zero, suc, ◌+◌, ◌-◌, ◌*◌, ◌≤◌, ◌<◌, Some, None, Option, List, refl, sym, ◌∙◌, ap, subst, arith}
-use Rattle.sums.specs.Sums.{sum_below}
-use Rattle.node_shapes.specs.declared.names.Name.{Name}
-use Rattle.node_shapes.specs.Shape.{Shape, branch_of, octant_shape, IsBranch}
-use Rattle.node_shapes.specs.Tree.{Tree, Gone, node_at, root_of, shape_of}
-use Rattle.node_shapes.specs.Weights.{weigh, number_of_trees, weight_of, weight_below}
-use Rattle.node_shapes.proofs.TreeEqual.{Name-discrete}
-use Rattle.node_shapes.proofs.TreeLaws.{shape_of-node}
-use Rattle.node_shapes.proofs.WeightLaws.{weight_of-there, weight_below-part, weight_below-same}
+use Rattle.vw_cell.specs.Sums.{sum_below}
+use Rattle.node_words.specs.declared.shapes.names.Name.{Name}
+use Rattle.node_words.specs.shapes.Shape.{Shape, branch_of, octant_shape, IsBranch}
+use Rattle.node_words.specs.shapes.Tree.{Tree, Gone, node_at, root_of, shape_of}
+use Rattle.node_words.specs.shapes.Weights.{weigh, number_of_trees, weight_of, weight_below}
+use Rattle.node_words.proofs.OfShapes.TreeEqual.{Name-discrete}
+use Rattle.node_words.proofs.OfShapes.TreeLaws.{shape_of-node}
+use Rattle.node_words.proofs.OfShapes.WeightLaws.{weight_of-there, weight_below-part, weight_below-same}
 use Rattle.node_words.specs.declared.keys.Key.{Key}
 use Rattle.node_words.specs.declared.keys.Key.TheVariants.{Leaf, Node}
 use Rattle.node_words.specs.Held.{HoldsName, AreBelow, name_in}
 use Rattle.node_words.specs.Plans.{Layout}
-use Rattle.node_places.specs.Names.{IsName, HasNames}
+use Rattle.core_laws.specs.places.Names.{IsName, HasNames}
 use Rattle.core_laws.specs.States.{IsLive, tree_at}
 use Rattle.core_laws.specs.Counting.{children_weight}
 use Rattle.core_laws.specs.Returning.{FreesParts}
@@ -20,10 +20,10 @@ use Rattle.core_laws.specs.Soundness.{FitsLevel}
 use Rattle.core_laws.proofs.Frees.{frees_nothing, frees_node, frees_octant}
 use Rattle.core_laws.proofs.Lives.{child_lives}
 use Rattle.core_laws.proofs.SeenNodes.{gone_tree}
-use Rattle.entry_words.specs.Words.{Written, book_in, key_in}
-use Rattle.entry_words.specs.Changes.{OtherBooksStay}
-use Rattle.store_notes.specs.Told.{Told}
-use Rattle.store_notes.specs.Changes.{MakesNothing, HoldsRow}
+use Rattle.one_store.specs.entries.Words.{Written, book_in, key_in}
+use Rattle.one_store.specs.entries.Changes.{OtherBooksStay}
+use Rattle.one_store.specs.notes.Told.{Told}
+use Rattle.one_store.specs.notes.Changes.{MakesNothing, HoldsRow}
 use Rattle.one_store.specs.Known.{Known, IsStore, core_of, tree_in, trees_below}
 use Rattle.one_store.specs.Steps.{Moves, LowersShare, FreesNode, Releases, ReleasesRow, HoldsChild, with_books}
 use Rattle.one_store.proofs.StateLaws.{tree_root, row_number, key_few}

@@ -1,21 +1,21 @@
 -- What each call did, by what the call met.
 use Rattle.std.proofs.Common.{◌≡◌, ℕ, zero, suc, ◌≤◌, Option, List, refl, sym, ◌∙◌, ap, subst, arith}
 use Rattle.std.specs.Prelude.{Result, Ok, Err, IfOk, IfErr, MatchResult}
-use Rattle.node_shapes.specs.declared.names.Name.{Name}
-use Rattle.node_shapes.specs.Tree.{Tree}
+use Rattle.node_words.specs.declared.shapes.names.Name.{Name}
+use Rattle.node_words.specs.shapes.Tree.{Tree}
 use Rattle.node_words.specs.Plans.{Layout}
-use Rattle.node_places.specs.Names.{IsName}
+use Rattle.core_laws.specs.places.Names.{IsName}
 use Rattle.node_words.specs.declared.keys.Key.{Key}
 use Rattle.node_words.specs.declared.keys.Key.TheVariants.{Leaf, Node}
 use Rattle.node_words.specs.Held.{AreBelow, HasChild, name_in}
 use Rattle.node_words.specs.Keys.{bucket_of_key}
-use Rattle.node_places.specs.Spots.{buckets_at}
+use Rattle.core_laws.specs.places.Spots.{buckets_at}
 use Rattle.core_laws.specs.States.{IsLive}
 use Rattle.core_laws.specs.Events.{IsMissing}
 use Rattle.core_laws.specs.Soundness.{FitsLevel, IsFull}
 use Rattle.core_laws.proofs.Lives.{child_level}
-use Rattle.entry_words.specs.Words.{Written, book_in, HasEntry, IsLowestFree}
-use Rattle.entry_words.specs.Changes.{PutsEntry}
+use Rattle.one_store.specs.entries.Words.{Written, book_in, HasEntry, IsLowestFree}
+use Rattle.one_store.specs.entries.Changes.{PutsEntry}
 use Rattle.one_store.specs.declared.sought.SoughtKey.{SoughtKey}
 use Rattle.one_store.specs.Known.{Known, IsStore, core_of}
 use Rattle.one_store.specs.Steps.{Moves, RaisesShare, LowersShare, FreesNode, ReleasesRow, AddsNode, MeetsFull, IsSoughtKey, sought_key}

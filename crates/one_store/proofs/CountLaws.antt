@@ -1,11 +1,11 @@
 -- Live nodes are counted slot by slot and bucket by bucket.
 use Rattle.std.proofs.Common.{◌≡◌, ℕ, zero, suc, ◌+◌, ◌-◌, ◌<◌, ◌≤◌, List, [], ◌∷◌, refl, sym, ◌∙◌, ap, arith}
-use Rattle.sums.specs.Sums.{sum_below, sum_below-suc, sum_below-zero}
-use Rattle.node_shapes.specs.Tree.{Tree}
-use Rattle.node_shapes.specs.Weights.{weigh, number_of_trees}
-use Rattle.node_shapes.proofs.WeightLaws.{weigh-nil, weigh-cons}
-use Rattle.block_contents.specs.Worlds.{World}
-use Rattle.node_places.specs.Spots.{levels}
+use Rattle.vw_cell.specs.Sums.{sum_below, sum_below-suc, sum_below-zero}
+use Rattle.node_words.specs.shapes.Tree.{Tree}
+use Rattle.node_words.specs.shapes.Weights.{weigh, number_of_trees}
+use Rattle.node_words.proofs.OfShapes.WeightLaws.{weigh-nil, weigh-cons}
+use Rattle.core_laws.specs.Worlds.{World}
+use Rattle.core_laws.specs.places.Spots.{levels}
 use Rattle.core_laws.specs.Blocks.{RootsShow, HasBlocks, live_number}
 use Rattle.core_laws.specs.Counting.{if_live}
 use Rattle.core_laws.proofs.LiveNumbers.{live_numbers}

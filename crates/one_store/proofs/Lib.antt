@@ -8,3 +8,5 @@ pub mod RootLaws
 pub mod CountLaws
 pub mod CallLaws
 pub mod SpareLaws
+pub mod OfNotes
+pub mod OfEntries

@@ -2,21 +2,21 @@
 use Rattle.std.proofs.Common.{◌≡◌, ◌≢◌, ℕ, zero, suc, ◌+◌, ◌-◌, ◌≤◌, ◌<◌, Some, None, Option, List, ◌∷◌, length, refl, sym, ◌∙◌, ap, subst, arith, inr}
 use Rattle.std.proofs.lemmas.List.{ext_get_or}
 use Rattle.std.proofs.lemmas.Option.{none-some, same_Some}
-use Rattle.node_shapes.specs.declared.names.Name.{Name}
-use Rattle.node_shapes.specs.Buckets.{bucket_of_shape}
-use Rattle.node_shapes.specs.Shape.{Shape, Clear, branch_of, octant_shape, IsCanonical}
-use Rattle.node_shapes.specs.Tree.{Tree, node_at, root_of, shape_of}
-use Rattle.node_shapes.specs.Weights.{weigh, weight_of, weight_below}
-use Rattle.node_shapes.proofs.WeightLaws.{weight_of-there, weight_below-part, weight_below-same}
-use Rattle.node_shapes.proofs.TreeLaws.{gone_from_root, shape_of-node, child_of-node_at}
+use Rattle.node_words.specs.declared.shapes.names.Name.{Name}
+use Rattle.node_words.specs.shapes.Buckets.{bucket_of_shape}
+use Rattle.node_words.specs.shapes.Shape.{Shape, Clear, branch_of, octant_shape, IsCanonical}
+use Rattle.node_words.specs.shapes.Tree.{Tree, node_at, root_of, shape_of}
+use Rattle.node_words.specs.shapes.Weights.{weigh, weight_of, weight_below}
+use Rattle.node_words.proofs.OfShapes.WeightLaws.{weight_of-there, weight_below-part, weight_below-same}
+use Rattle.node_words.proofs.OfShapes.TreeLaws.{gone_from_root, shape_of-node, child_of-node_at}
 use Rattle.node_words.specs.declared.keys.Key.{Key}
 use Rattle.node_words.specs.declared.keys.Key.TheVariants.{Leaf, Node}
 use Rattle.node_words.specs.Keys.{bucket_of_key, ChildFits, of_node}
 use Rattle.node_words.specs.Held.{name_in, IsHeld, IsReached, IsSought, Joins, OnlyMeets, Grants, AreHeld, HoldsChildren, HasChild, AreBelow}
 use Rattle.node_words.proofs.HeldLaws.{children_canonical}
 use Rattle.node_words.proofs.KeyLaws.{key_bucket}
-use Rattle.node_places.specs.Names.{HasNames, key_child}
-use Rattle.node_places.specs.Spots.{buckets_at}
+use Rattle.core_laws.specs.places.Names.{HasNames, key_child}
+use Rattle.core_laws.specs.places.Spots.{buckets_at}
 use Rattle.core_laws.specs.States.{IsLive, tree_at}
 use Rattle.core_laws.specs.Events.{IsMissing}
 use Rattle.core_laws.specs.Soundness.{FitsLevel}
@@ -25,8 +25,8 @@ use Rattle.core_laws.proofs.LiveShapes.{bucket_at, clear_at, not_clear_at}
 use Rattle.core_laws.proofs.Lives.{child_level}
 use Rattle.core_laws.proofs.SeenNodes.{gone_tree}
 use Rattle.core_laws.proofs.Trees.{node_at-same}
-use Rattle.entry_words.specs.Words.{book_in, key_in, HasEntry}
-use Rattle.store_notes.specs.Changes.{HoldsRow}
+use Rattle.one_store.specs.entries.Words.{book_in, key_in, HasEntry}
+use Rattle.one_store.specs.notes.Changes.{HoldsRow}
 use Rattle.one_store.specs.declared.sought.SoughtKey.{SoughtKey}
 use Rattle.one_store.specs.Known.{Known, IsStore, known_seen, core_of, tree_in, trees_below}
 use Rattle.one_store.specs.Steps.{RaisesShare, ReleasesRow, AddsNode, MeetsFull, IsSoughtKey, sought_key, tree_over, shape_over}

@@ -5,14 +5,14 @@ use Rattle.std.specs.List.{Contains}
 use Rattle.std.proofs.lemmas.Bool.{cases_eq}
 use Rattle.std.proofs.lemmas.Option.{none-some, same_Some}
 use Rattle.std.proofs.lemmas.List.{length-set}
-use Rattle.node_shapes.specs.declared.names.Name.{Name}
-use Rattle.node_shapes.specs.Shape.{Shape}
-use Rattle.node_shapes.specs.Weights.{weight_of, number_of_trees}
-use Rattle.node_shapes.proofs.WeightLaws.{weight_of-there}
+use Rattle.node_words.specs.declared.shapes.names.Name.{Name}
+use Rattle.node_words.specs.shapes.Shape.{Shape}
+use Rattle.node_words.specs.shapes.Weights.{weight_of, number_of_trees}
+use Rattle.node_words.proofs.OfShapes.WeightLaws.{weight_of-there}
 use Rattle.node_words.specs.Held.{HoldsName, Wanted}
 use Rattle.node_words.specs.Gathering.{Loses}
-use Rattle.node_places.specs.Spots.{versions}
-use Rattle.block_contents.specs.Aligned.{top}
+use Rattle.core_laws.specs.places.Spots.{versions}
+use Rattle.core_laws.specs.contents.Aligned.{top}
 use Rattle.core_laws.specs.States.{IsLive, tree_at, shape_in}
 use Rattle.core_laws.specs.Counting.{weight}
 use Rattle.core_laws.specs.Events.{PutsRoot, TakesRoot, EntriesStay, no_weight, at_most_one}
@@ -21,10 +21,10 @@ use Rattle.core_laws.specs.Soundness.{SoundEntries}
 use Rattle.core_laws.specs.Standing.{AllStand}
 use Rattle.core_laws.proofs.EntrySteps.{put_root_entries, take_root_entries, keys_stay}
 use Rattle.core_laws.proofs.Lives.{root_lives}
-use Rattle.entry_words.specs.Words.{key_in}
-use Rattle.store_notes.specs.Told.{Told}
-use Rattle.store_notes.specs.Changes.{MakesNothing, NotesGain, NotesLoss}
-use Rattle.store_notes.proofs.HeldLists.{held_gained, held_lost}
+use Rattle.one_store.specs.entries.Words.{key_in}
+use Rattle.one_store.specs.notes.Told.{Told}
+use Rattle.one_store.specs.notes.Changes.{MakesNothing, NotesGain, NotesLoss}
+use Rattle.one_store.proofs.OfNotes.HeldLists.{held_gained, held_lost}
 use Rattle.one_store.specs.Known.{Known, IsStore, core_of, tree_in, stored_root, root_tree}
 use Rattle.one_store.specs.Steps.{KeepsRoot, GivesRoot}
 use Rattle.one_store.proofs.StateLaws.{root_weight, trade, tree_root, stand_again}

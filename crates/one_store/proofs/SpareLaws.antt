@@ -4,21 +4,21 @@ use Rattle.std.specs.Prelude.{Result, Ok, Err, IfOk, IfErr}
 use Rattle.std.proofs.lemmas.Bool.{cases_lt}
 use Rattle.std.proofs.lemmas.List.{get_or_past}
 use Rattle.std.proofs.lemmas.Option.{none-some}
-use Rattle.node_shapes.specs.declared.names.Name.{Name}
-use Rattle.node_shapes.specs.Weights.{weight_of}
-use Rattle.node_shapes.proofs.WeightLaws.{weight_of-there}
+use Rattle.node_words.specs.declared.shapes.names.Name.{Name}
+use Rattle.node_words.specs.shapes.Weights.{weight_of}
+use Rattle.node_words.proofs.OfShapes.WeightLaws.{weight_of-there}
 use Rattle.node_words.specs.Gathering.{Loses}
 use Rattle.node_words.specs.Plans.{Layout}
-use Rattle.node_places.specs.Spots.{versions}
-use Rattle.block_contents.specs.Aligned.{top}
+use Rattle.core_laws.specs.places.Spots.{versions}
+use Rattle.core_laws.specs.contents.Aligned.{top}
 use Rattle.core_laws.specs.States.{IsLive, tree_at}
 use Rattle.core_laws.specs.Events.{Adds, IsMissing, KeysStay}
 use Rattle.core_laws.specs.Soundness.{SoundEntries}
 use Rattle.core_laws.proofs.EntrySteps.{add_entries, add_keys}
 use Rattle.core_laws.proofs.SeenNodes.{gone_tree}
 use Rattle.core_laws.proofs.StepLaws.{tree_kept}
-use Rattle.entry_words.specs.Words.{Written, book_in, key_in}
-use Rattle.store_notes.specs.Changes.{HoldsRow}
+use Rattle.one_store.specs.entries.Words.{Written, book_in, key_in}
+use Rattle.one_store.specs.notes.Changes.{HoldsRow}
 use Rattle.one_store.specs.declared.sought.SoughtKey.{SoughtKey}
 use Rattle.one_store.specs.Known.{Known, IsStore, core_of, tree_in, trees_below, stored_root, root_tree}
 use Rattle.one_store.specs.Steps.{Moves, RaisesShare, AddsNode, MeetsFull, IsSoughtKey, sought_key, SparesRoots, GainsRoot, spares_itself}

@@ -2,16 +2,16 @@
 use Rattle.std.proofs.Common.{◌≡◌, ◌≢◌, ℕ, zero, suc, ◌+◌, ◌-◌, ◌<◌, ◌≤◌, ◌⊎◌, Some, None, Option, List, [], ◌∷◌, refl, sym, ◌∙◌, ap, subst, arith, inl, inr, sum_by}
 use Rattle.std.proofs.lemmas.List.Sums.{sum_by-cons}
 use Rattle.std.proofs.lemmas.Option.{same_Some, none-some}
-use Rattle.sums.specs.Sums.{sum_below, sum_below-at, sum_below-suc, sum_below-zero, sum_below-le}
-use Rattle.node_shapes.specs.declared.names.Name.{Name}
-use Rattle.node_shapes.specs.Tree.{Tree, Gone, LeafAt, NodeAt, root_of}
-use Rattle.node_shapes.specs.Weights.{weigh, weight_of, weight_below}
-use Rattle.node_shapes.proofs.TreeEqual.{Name-discrete}
-use Rattle.node_shapes.proofs.WeightLaws.{weigh-nil, weigh-cons}
+use Rattle.vw_cell.specs.Sums.{sum_below, sum_below-at, sum_below-suc, sum_below-zero, sum_below-le}
+use Rattle.node_words.specs.declared.shapes.names.Name.{Name}
+use Rattle.node_words.specs.shapes.Tree.{Tree, Gone, LeafAt, NodeAt, root_of}
+use Rattle.node_words.specs.shapes.Weights.{weigh, weight_of, weight_below}
+use Rattle.node_words.proofs.OfShapes.TreeEqual.{Name-discrete}
+use Rattle.node_words.proofs.OfShapes.WeightLaws.{weigh-nil, weigh-cons}
 use Rattle.node_words.specs.declared.keys.Key.{Key}
 use Rattle.node_words.specs.Held.{IsHeld}
 use Rattle.node_words.specs.Plans.{Layout}
-use Rattle.node_places.specs.Names.{IsName, key_child}
+use Rattle.core_laws.specs.places.Names.{IsName, key_child}
 use Rattle.core_laws.specs.States.{State, IsLive, Holds, tree_at, tree_of}
 use Rattle.core_laws.specs.Counting.{weight, children_weight, holdings}
 use Rattle.core_laws.specs.Events.{Trades, KeysStay}

@@ -3,16 +3,16 @@ use Rattle.std.proofs.Common.{◌≡◌, ℕ, ◌+◌, ◌-◌, ◌*◌, ◌≤�
 use Rattle.std.specs.Prelude.{All, length}
 use Rattle.std.proofs.lemmas.Nat.{mul-le}
 use Rattle.std.specs.List.{Contains}
-use Rattle.node_shapes.specs.declared.names.Name.{Name}
-use Rattle.node_shapes.specs.Shape.{Shape}
-use Rattle.node_shapes.specs.Tree.{Tree, Gone, LeafAt, NodeAt, root_of, shape_of}
-use Rattle.node_shapes.proofs.WeightLaws.{weigh-nil, weigh-cons}
-use Rattle.node_shapes.specs.Weights.{number_of_trees, weigh}
+use Rattle.node_words.specs.declared.shapes.names.Name.{Name}
+use Rattle.node_words.specs.shapes.Shape.{Shape}
+use Rattle.node_words.specs.shapes.Tree.{Tree, Gone, LeafAt, NodeAt, root_of, shape_of}
+use Rattle.node_words.proofs.OfShapes.WeightLaws.{weigh-nil, weigh-cons}
+use Rattle.node_words.specs.shapes.Weights.{number_of_trees, weigh}
 use Rattle.node_words.specs.declared.keys.Key.{Key}
 use Rattle.node_words.specs.Held.{IsHeld, HoldsName, Wanted}
 use Rattle.node_words.specs.Plans.{Layout}
-use Rattle.node_places.specs.Names.{IsName}
-use Rattle.node_places.specs.Spots.{levels}
+use Rattle.core_laws.specs.places.Names.{IsName}
+use Rattle.core_laws.specs.places.Spots.{levels}
 use Rattle.core_laws.specs.States.{IsLive, tree_at, shape_in}
 use Rattle.core_laws.specs.Counting.{weight, children_weight}
 use Rattle.node_words.specs.Enough.{HasEnough}
@@ -21,11 +21,11 @@ use Rattle.core_laws.specs.Standing.{AllStand}
 use Rattle.core_laws.specs.Events.{Raises, Lowers, Frees, OthersStay, RootsStay, no_weight, one_name, children_named}
 use Rattle.core_laws.proofs.EntrySteps.{raise_entries, lower_entries, free_entries, raise_keys, lower_keys, free_keys}
 use Rattle.core_laws.proofs.Bounds.{book_small}
-use Rattle.entry_words.specs.Words.{Written, book_in, key_in}
-use Rattle.entry_words.specs.Changes.{SetsBook}
+use Rattle.one_store.specs.entries.Words.{Written, book_in, key_in}
+use Rattle.one_store.specs.entries.Changes.{SetsBook}
 use Rattle.node_words.proofs.PlanLaws.{few_buckets}
-use Rattle.store_notes.specs.Changes.{MakesNothing}
-use Rattle.store_notes.proofs.HeldLists.{held_gained, held_lost, held_parted}
+use Rattle.one_store.specs.notes.Changes.{MakesNothing}
+use Rattle.one_store.proofs.OfNotes.HeldLists.{held_gained, held_lost, held_parted}
 use Rattle.one_store.specs.Known.{Known, IsStore, IsStoreOf, core_of, tree_in, trees_below, stored_root}
 use Rattle.one_store.specs.Steps.{Moves, RaisesShare, LowersShare, FreesNode}
 use Rattle.one_store.proofs.StateLaws.{root_weight, trade, tree_root, row_weighs, row_number, holdings-one, live_held, standing_at, stand_again, octant_stands, was_live_too}

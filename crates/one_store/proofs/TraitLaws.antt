@@ -2,22 +2,22 @@
 use Rattle.std.proofs.Common.{◌≡◌, ◌≢◌, ℕ, zero, suc, ◌+◌, ◌-◌, ◌*◌, ◌^◌, ◌≤◌, ◌<◌, Some, ◌∷◌, refl, sym, ◌∙◌, ap, subst, arith, inl, inr}
 use Rattle.std.specs.Prelude.{Result, Ok, Err, IfOk, IfErr, OnOk}
 use Rattle.std.proofs.lemmas.Option.{none-some}
-use Rattle.node_shapes.specs.declared.names.Name.{Name}
-use Rattle.node_shapes.specs.Shape as shape
-use Rattle.node_shapes.specs.Shape.{Shape, Clear, branch_of, IsCanonical}
-use Rattle.node_shapes.specs.Buckets.{bucket_of_shape}
-use Rattle.node_shapes.specs.Tree.{Tree, LeafAt, node_at, root_of, child_of, shape_of, bits_in}
-use Rattle.node_shapes.specs.Weights.{number_of_trees, weight_of, weight_below}
-use Rattle.node_shapes.proofs.TreeLaws.{child_of-node_at}
-use Rattle.node_shapes.proofs.WeightLaws.{weight_of-there}
+use Rattle.node_words.specs.declared.shapes.names.Name.{Name}
+use Rattle.node_words.specs.shapes.Shape as shape
+use Rattle.node_words.specs.shapes.Shape.{Shape, Clear, branch_of, IsCanonical}
+use Rattle.node_words.specs.shapes.Buckets.{bucket_of_shape}
+use Rattle.node_words.specs.shapes.Tree.{Tree, LeafAt, node_at, root_of, child_of, shape_of, bits_in}
+use Rattle.node_words.specs.shapes.Weights.{number_of_trees, weight_of, weight_below}
+use Rattle.node_words.proofs.OfShapes.TreeLaws.{child_of-node_at}
+use Rattle.node_words.proofs.OfShapes.WeightLaws.{weight_of-there}
 use Rattle.node_words.specs.declared.keys.Key.{Key}
 use Rattle.node_words.specs.declared.keys.Key.TheVariants.{Leaf}
 use Rattle.node_words.specs.Plans.{Layout}
 use Rattle.node_words.specs.Held.{IsHeld, IsReached, HoldsName, ReachesName, AreTrees, AreCanonical, Gains, OnlyHeldChanges, OnlyMeets, Grants, ReturnsWithin, IsSought}
 use Rattle.node_words.specs.Keys.{bucket_of_key, of_leaf}
 use Rattle.node_words.proofs.KeyLaws.{key_bucket}
-use Rattle.node_places.specs.Spots.{levels, buckets_at}
-use Rattle.node_places.specs.Names.{HasNames, key_bits, key_child}
+use Rattle.core_laws.specs.places.Spots.{levels, buckets_at}
+use Rattle.core_laws.specs.places.Names.{HasNames, key_bits, key_child}
 use Rattle.core_laws.specs.States.{State, IsLive, tree_at}
 use Rattle.core_laws.specs.Counting.{children_weight}
 use Rattle.core_laws.specs.Events.{IsMissing}
@@ -26,8 +26,8 @@ use Rattle.core_laws.specs.Standing.{AllStand}
 use Rattle.core_laws.proofs.Frees.{returns_within}
 use Rattle.core_laws.proofs.SeenNodes.{leaf_tree}
 use Rattle.core_laws.proofs.Standings.{parts_stand, standing_trees, standing_canonical}
-use Rattle.entry_words.specs.Words.{Written, book_in, key_in, HasEntry}
-use Rattle.store_notes.specs.Changes.{HoldsRow}
+use Rattle.one_store.specs.entries.Words.{Written, book_in, key_in, HasEntry}
+use Rattle.one_store.specs.notes.Changes.{HoldsRow}
 use Rattle.one_store.specs.declared.sought.SoughtKey.{SoughtKey}
 use Rattle.one_store.specs.Known.{Known, IsStore, known_seen, core_of, tree_in, trees_below}
 use Rattle.one_store.specs.Steps.{Moves, RaisesShare, Releases, AddsNode, MeetsFull, IsSoughtKey, sought_key, tree_over, shape_over}

@@ -1,12 +1,12 @@
 -- What a call of a store for one thread did, where the traits of stores leave it open.
 use Rattle.std.specs.Prelude.{◌≡◌, ℕ, ◌+◌, ◌-◌, ◌≤◌}
-use Rattle.node_shapes.specs.declared.names.Name.{Name}
+use Rattle.node_words.specs.declared.shapes.names.Name.{Name}
 use Rattle.node_words.specs.declared.keys.Key.{Key}
 use Rattle.node_words.specs.Keys.{bucket_of_key}
-use Rattle.node_places.specs.Spots.{buckets_at}
+use Rattle.core_laws.specs.places.Spots.{buckets_at}
 use Rattle.core_laws.specs.Soundness.{IsFull}
-use Rattle.entry_words.specs.Words.{book_in, IsLowestFree}
-use Rattle.entry_words.specs.Changes.{SetsBook, PutsEntry}
+use Rattle.one_store.specs.entries.Words.{book_in, IsLowestFree}
+use Rattle.one_store.specs.entries.Changes.{SetsBook, PutsEntry}
 use Rattle.one_store.specs.Known.{Known, core_of}
 
 -- the live entry n got one more share, and nothing else changed

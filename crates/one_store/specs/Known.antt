@@ -2,17 +2,17 @@
 -- sound where the state of a core that these are read as is.
 use Rattle.std.specs.Prelude.{◌≡◌, ℕ, Option, Some, None, List, [], ◌∷◌, All, length, slice_index_or, false}
 use Rattle.std.specs.List.{Contains}
-use Rattle.node_shapes.specs.declared.names.Name.{Name}
-use Rattle.node_shapes.specs.Tree.{Tree, root_of}
-use Rattle.node_shapes.specs.Weights.{number_of_trees}
+use Rattle.node_words.specs.declared.shapes.names.Name.{Name}
+use Rattle.node_words.specs.shapes.Tree.{Tree, root_of}
+use Rattle.node_words.specs.shapes.Weights.{number_of_trees}
 use Rattle.node_words.specs.declared.keys.Key.{Key}
 use Rattle.node_words.specs.Held.{Seen}
 use Rattle.node_words.specs.Plans.{Layout, IsPlan}
-use Rattle.node_places.specs.Names.{key_child}
-use Rattle.node_places.specs.Spots.{versions}
-use Rattle.entry_words.specs.Words.{Written, book_in, key_in}
-use Rattle.store_notes.specs.Told.{Told}
-use Rattle.block_contents.specs.Aligned.{top}
+use Rattle.core_laws.specs.places.Names.{key_child}
+use Rattle.core_laws.specs.places.Spots.{versions}
+use Rattle.one_store.specs.entries.Words.{Written, book_in, key_in}
+use Rattle.one_store.specs.notes.Told.{Told}
+use Rattle.core_laws.specs.contents.Aligned.{top}
 use Rattle.core_laws.specs.States.{State, IsLive, tree_at, shape_in}
 use Rattle.node_words.specs.Enough.{HasEnough}
 use Rattle.core_laws.specs.Soundness.{SoundEntries}

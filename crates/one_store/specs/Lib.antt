@@ -1,5 +1,7 @@
 pub mod Known
 pub mod Steps
 pub mod Calls
-pub use Rattle.node_places.specs.Spots
-pub use Rattle.block_contents.specs.Versions
+pub mod notes
+pub mod entries
+pub use Rattle.core_laws.specs.places.Spots
+pub use Rattle.core_laws.specs.contents.Versions

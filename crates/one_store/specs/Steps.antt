@@ -1,23 +1,23 @@
 -- The steps of a store for one thread.
 use Rattle.std.specs.Prelude.{◌≡◌, ◌≢◌, ℕ, ◌+◌, ◌-◌, ◌<◌, Option, Some, None, List}
 use Rattle.std.proofs.Common.{zero, suc, refl, sym, ap, ◌∙◌}
-use Rattle.node_shapes.specs.declared.names.Name.{Name}
-use Rattle.node_shapes.specs.Shape.{Shape, Leaf, branch_of}
-use Rattle.node_shapes.specs.Tree.{Tree, LeafAt, node_at, shape_of}
+use Rattle.node_words.specs.declared.shapes.names.Name.{Name}
+use Rattle.node_words.specs.shapes.Shape.{Shape, Leaf, branch_of}
+use Rattle.node_words.specs.shapes.Tree.{Tree, LeafAt, node_at, shape_of}
 use Rattle.node_words.specs.declared.keys.Key.{Key}
 use Rattle.node_words.specs.Held.{HoldsName, Wanted}
 use Rattle.node_words.specs.Gathering.{Loses, LosesAll}
 use Rattle.node_words.specs.Keys.{bucket_of_key}
 use Rattle.node_words.specs.Plans.{Layout}
-use Rattle.node_places.specs.Names.{HasNames, named, key_bits}
-use Rattle.node_places.specs.Spots.{levels, buckets_at}
+use Rattle.core_laws.specs.places.Names.{HasNames, named, key_bits}
+use Rattle.core_laws.specs.places.Spots.{levels, buckets_at}
 use Rattle.core_laws.specs.Soundness.{FitsLevel}
 use Rattle.core_laws.specs.Returning.{FreesParts}
-use Rattle.entry_words.specs.Slots.{IsBucket}
-use Rattle.entry_words.specs.Coding.{key_of}
-use Rattle.entry_words.specs.Words.{Written, book_in, key_in, IsLowestFree, AreLiveBelow}
-use Rattle.entry_words.specs.Changes.{SetsBook, PutsEntry}
-use Rattle.store_notes.specs.Changes.{MakesNothing, NotesGain, NotesLoss, NotesFreeing, NotesEntry, NotesFull}
+use Rattle.one_store.specs.entries.Slots.{IsBucket}
+use Rattle.one_store.specs.entries.Coding.{key_of}
+use Rattle.one_store.specs.entries.Words.{Written, book_in, key_in, IsLowestFree, AreLiveBelow}
+use Rattle.one_store.specs.entries.Changes.{SetsBook, PutsEntry}
+use Rattle.one_store.specs.notes.Changes.{MakesNothing, NotesGain, NotesLoss, NotesFreeing, NotesEntry, NotesFull}
 use Rattle.one_store.specs.declared.sought.SoughtKey.{SoughtKey}
 use Rattle.one_store.specs.Known.{Known, tree_in, trees_below, stored_root, root_tree}
 

@@ -5,9 +5,13 @@
 //! core that every store keeps to.
 #![tactic(auto)]
 
+mod entries;
+mod notes;
 mod sought;
 mod store;
 mod telling;
 mod traits;
 
+pub use entries::{EntryWords, KeyWords, Pairs, slots_are_apart, words_of};
+pub use notes::{Note, Notes};
 pub use store::OneStore;

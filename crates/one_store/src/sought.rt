@@ -1,4 +1,4 @@
-use entry_words::KeyWords;
+use crate::entries::KeyWords;
 
 /// A key that is sought: its level, its bucket there and its words.
 #[derive(Clone, Copy)]

@@ -1,23 +1,23 @@
 ghost use Rattle.std.specs.Prelude.{◌≡◌, ◌+◌, ◌*◌, ◌-◌, ◌<◌, ◌≤◌, ◌^◌, ℕ, [], None, Some, Option, IfOk, IfErr, IfSome, All, replicate};
 ghost use Rattle.std.specs.Option.{ForSome};
-ghost use Rattle.node_shapes.specs.declared.names.Name.{Name};
-ghost use Rattle.node_shapes.specs.Weights.{number_of_trees};
+ghost use Rattle.node_words.specs.declared.shapes.names.Name.{Name};
+ghost use Rattle.node_words.specs.shapes.Weights.{number_of_trees};
 ghost use Rattle.node_words.specs.declared.keys.Key.TheVariants.{Node};
 ghost use Rattle.node_words.specs.Held.{HoldsName, AreBelow};
-ghost use Rattle.node_places.specs.Spots.{levels, versions};
-ghost use Rattle.node_places.specs.Names.{IsName, HasNames};
+ghost use Rattle.core_laws.specs.places.Spots.{levels, versions};
+ghost use Rattle.core_laws.specs.places.Names.{IsName, HasNames};
 ghost use Rattle.core_laws.specs.States.{IsLive, tree_at};
 ghost use Rattle.core_laws.specs.Counting.{weight, children_weight, if_live};
 ghost use Rattle.node_words.specs.Enough.{HasEnough};
 ghost use Rattle.core_laws.specs.Soundness.{FitsLevel};
 ghost use Rattle.core_laws.specs.Blocks.{RootsShow, HasBlocks, live_in, live_number};
 ghost use Rattle.core_laws.specs.Events.{IsMissing, PutsRoot, TakesRoot};
-ghost use Rattle.block_contents.specs.Worlds.{World};
-ghost use Rattle.block_contents.specs.Aligned.{top};
-ghost use Rattle.entry_words.specs.Slots.{IsBucket};
-ghost use Rattle.entry_words.specs.Words.{book_in, key_in, HasEntry};
-ghost use Rattle.store_notes.specs.Told.{nothing_told};
-ghost use Rattle.store_notes.specs.Changes.{HoldsRow};
+ghost use Rattle.core_laws.specs.Worlds.{World};
+ghost use Rattle.core_laws.specs.contents.Aligned.{top};
+ghost use Rattle.one_store.specs.entries.Slots.{IsBucket};
+ghost use Rattle.one_store.specs.entries.Words.{book_in, key_in, HasEntry};
+ghost use Rattle.one_store.specs.notes.Told.{nothing_told};
+ghost use Rattle.one_store.specs.notes.Changes.{HoldsRow};
 ghost use Rattle.one_store.specs.Known.{Known, IsStore, core_of, known_seen, tree_in, trees_below, stored_root};
 ghost use Rattle.one_store.specs.Steps.{
   RaisesShare,
@@ -36,14 +36,14 @@ ghost use Rattle.one_store.specs.Steps.{
 };
 ghost use Rattle.one_store.specs.Calls.{GivesBack};
 
+use crate::entries::{EntryWords, words_of};
+use crate::notes::Notes;
 use crate::sought::SoughtKey;
 use crate::telling::{tell_entry, tell_freeing, tell_full, tell_gain, tell_loss};
-use entry_words::{EntryWords, words_of};
 use node_words::{Full, Key, Name, Plan, Share, Steps};
 use std::alloc::{AllocError, Global};
 use std::marker::{Brand, Model};
 use std::sync::ledger::Ledger;
-use store_notes::Notes;
 
 /// How many places for roots there are.
 const PLACES: usize = 65_536;
@@ -59,7 +59,7 @@ pub struct OneStore {
 
 impl Model for OneStore {
     ghost use Rattle.std.specs.Coded.{codes};
-    ghost use Rattle.store_notes.specs.Told.{coded_told};
+    ghost use Rattle.one_store.specs.notes.Told.{coded_told};
     ghost use Rattle.one_store.specs.Known.{Known, IsStore};
 
     ghost Value = { Known };
@@ -417,7 +417,7 @@ fn no_roots(alloc: Global) -> Result<Vec<Option<Name>>, AllocError>
 }
 
 // How many names there are.
-#[tactic(auto, unfolding(core_laws::specs::Counting::children_weight, sums::specs::Sums::sum_below))]
+#[tactic(auto, unfolding(core_laws::specs::Counting::children_weight, vw_cell::specs::Sums::sum_below))]
 pub(crate) fn number_in(children: &[Option<Name>; 8]) -> u32
     ensures value { result ≡ children_weight (λ _. 1) (Node children.now) }
     ensures few { result ≤ 8 }

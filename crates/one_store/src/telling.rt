@@ -1,17 +1,17 @@
 // One note for each kind of step. What is noted is picked in the proof, from the words and the
 // name.
 ghost use Rattle.std.specs.Prelude.{◌≡◌, ◌-◌, ℕ, Some};
-ghost use Rattle.node_shapes.specs.declared.names.Name.{Name};
-ghost use Rattle.entry_words.specs.Words.{key_in};
+ghost use Rattle.node_words.specs.declared.shapes.names.Name.{Name};
+ghost use Rattle.one_store.specs.entries.Words.{key_in};
 ghost use Rattle.core_laws.specs.States.{tree_at};
-ghost use Rattle.store_notes.specs.Changes.{NotesGain, NotesLoss, NotesFreeing, NotesEntry, NotesFull};
+ghost use Rattle.one_store.specs.notes.Changes.{NotesGain, NotesLoss, NotesFreeing, NotesEntry, NotesFull};
 ghost use Rattle.one_store.specs.Known.{trees_below};
 ghost use Rattle.one_store.specs.Steps.{sought_key, tree_over, shape_over, met_by};
 
+use crate::entries::EntryWords;
+use crate::notes::{Note, Notes};
 use crate::sought::SoughtKey;
-use entry_words::EntryWords;
 use node_words::Name;
-use store_notes::{Note, Notes};
 
 pub(crate) fn tell_gain<N: Note>(notes: &mut Notes, words: &EntryWords, n: Name)
     requires { NotesGain notes.old (tree_at (key_in words.now) n.level (Some n)) N.next }

@@ -1,5 +1,5 @@
 ghost use Rattle.std.specs.Prelude.{◌≡◌, ◌<◌, ◌≤◌, Some, length};
-ghost use Rattle.node_shapes.specs.declared.names.Name.{Name};
+ghost use Rattle.node_words.specs.declared.shapes.names.Name.{Name};
 
 use crate::store::{OneStore, number_in};
 use node_words::{
@@ -32,16 +32,16 @@ impl Blocks for OneStore {
 
 impl NodeStore for OneStore {
     ghost use Rattle.std.specs.Prelude.{◌≢◌, ◌+◌, ◌≤◌, ℕ, IfOk, IfErr, OnOk, IsOkAnd, MatchResult};
-    ghost use Rattle.node_shapes.specs.Shape as shape;
-    ghost use Rattle.node_shapes.specs.Shape.{branch_of};
-    ghost use Rattle.node_shapes.specs.Tree.{LeafAt, node_at, shape_of};
+    ghost use Rattle.node_words.specs.shapes.Shape as shape;
+    ghost use Rattle.node_words.specs.shapes.Shape.{branch_of};
+    ghost use Rattle.node_words.specs.shapes.Tree.{LeafAt, node_at, shape_of};
     ghost use Rattle.node_words.specs.declared.keys.Key.TheVariants.{Leaf, Node};
     ghost use Rattle.node_words.specs.Held.{IsReached, ForHeld, Gains, ForChildren, Joins, OnlyHeldChanges};
-    ghost use Rattle.node_shapes.specs.Weights.{number_of_trees};
+    ghost use Rattle.node_words.specs.shapes.Weights.{number_of_trees};
     ghost use Rattle.node_words.specs.Held.{HasChild, AreBelow, HoldsChildren, HoldsName};
     ghost use Rattle.node_words.specs.Held.{OnlyMeets, Grants, ReturnsWithin};
     ghost use Rattle.core_laws.specs.Events.{IsMissing};
-    ghost use Rattle.entry_words.specs.Words.{HasEntry};
+    ghost use Rattle.one_store.specs.entries.Words.{HasEntry};
     ghost use Rattle.one_store.specs.Known.{core_of, known_seen};
     ghost use Rattle.one_store.specs.Steps.{Moves, SparesRoots};
     ghost use Rattle.one_store.specs.Calls.{SharesEntry, MakesEntry, FindsFull, GivesBack};

@@ -17,8 +17,8 @@ use Rattle.history_model.specs.Logs.{Log, FitsWorld, MayFollow, IsLegal, suits_t
 use Rattle.history_model.specs.Positions.{Position, beginning, position_after, next_position, first_of}
 use Rattle.history_model.specs.Worlds.{is_edit}
 use Rattle.node_words.specs.Plans.{Layout}
-use Rattle.block_contents.specs.Versions.{IsKept, IsUnmarked, MarkComes}
-use Rattle.block_contents.proofs.MarkLaws.{each_mark, marks_rise, marks_follow}
+use Rattle.core_laws.specs.contents.Versions.{IsKept, IsUnmarked, MarkComes}
+use Rattle.core_laws.proofs.OfContents.MarkLaws.{each_mark, marks_rise, marks_follow}
 use Rattle.script.specs.declared.commands.Command.TheVariants.{Edit, Forget}
 use Rattle.script.specs.declared.commands.ScriptLine.{ScriptLine}
 use Rattle.transcript.specs.declared.answers.Answer.TheVariants as answers
@@ -26,10 +26,10 @@ use Rattle.conformance.specs.Answers.{target_at, nothing_to_undo, nothing_to_red
 use Rattle.conformance.specs.Kinds.{answer_at}
 use Rattle.conformance.specs.Running.{GrowsByRecord, ForgetsBy}
 use Rattle.conformance.proofs.LineKinds.{undo_target, redo_target, full_way}
-use Rattle.script_runs.specs.Keeping.{last_moment}
-use Rattle.script_runs.specs.Sessions.{TakesLine}
-use Rattle.script_runs.proofs.Going.{goes_to}
-use Rattle.script_runs.proofs.Arms.{undone_arm, forgot_arm}
+use Rattle.conformance.specs.scripts.Keeping.{last_moment}
+use Rattle.conformance.specs.scripts.Sessions.{TakesLine}
+use Rattle.conformance.proofs.OfScripts.Going.{goes_to}
+use Rattle.conformance.proofs.OfScripts.Arms.{undone_arm, forgot_arm}
 use Rattle.plain_run.specs.declared.histories.PlainHistory.{PlainHistory}
 use Rattle.plain_run.specs.Histories.{ArePlain, AreNows, HasMarkOf, plain_log, plain_marks, plain_moment}
 use Rattle.plain_run.specs.Plain.{RunsOn, nothing_noted, nowhere_to_go}

@@ -5,9 +5,9 @@ use Rattle.std.proofs.lemmas.Option.{get_or_from_slice_get}
 use Rattle.history_model.specs.declared.histories.Mark.{Mark}
 use Rattle.history_model.specs.declared.histories.Record.{Record}
 use Rattle.history_model.specs.Logs.{Log}
-use Rattle.block_contents.specs.Versions.{IsUnmarked, MarkComes}
-use Rattle.versions.specs.Retained.{falls_out, fallen_by}
-use Rattle.versions.proofs.Merging.{falls, falls_not}
+use Rattle.core_laws.specs.contents.Versions.{IsUnmarked, MarkComes}
+use Rattle.retain.specs.Retained.{falls_out, fallen_by}
+use Rattle.retain.proofs.Merging.{falls, falls_not}
 use Rattle.plain_run.specs.Falling.{LetsFall, MarkFalls}
 use Rattle.plain_run.specs.Histories.{HasMarkOf}
 

@@ -15,7 +15,7 @@ use Rattle.history_model.specs.PositionLaws.{names_below}
 use Rattle.history_model.specs.Positions.{Position, position_after, next_position, undone, redone}
 use Rattle.history_model.specs.Tints.{Tints, untinted, tints_by}
 use Rattle.history_model.specs.Worlds.{is_edit}
-use Rattle.tints.proofs.VersionLaws.{versions_set}
+use Rattle.core_laws.proofs.OfTints.VersionLaws.{versions_set}
 use Rattle.plain_run.specs.declared.histories.PlainHistory.{PlainHistory}
 use Rattle.plain_run.specs.declared.traces.Traced.TheVariants.{Is, As, Gone}
 use Rattle.plain_run.specs.Traces.{Traces}

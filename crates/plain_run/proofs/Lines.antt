@@ -7,7 +7,7 @@ use Rattle.vw_cell.specs.Counts.{number_in}
 use Rattle.history_model.specs.declared.questions.Question.{Question}
 use Rattle.history_model.specs.Tints.{Tints}
 use Rattle.history_model.specs.Worlds.{World}
-use Rattle.block_contents.specs.Versions.{IsKept}
+use Rattle.core_laws.specs.contents.Versions.{IsKept}
 use Rattle.script.specs.declared.commands.Command.TheVariants.{Forget, Ask, Save, Same, Head}
 use Rattle.script.specs.declared.commands.SaveName.{SaveName}
 use Rattle.script.specs.declared.commands.ScriptLine.{ScriptLine}
@@ -20,8 +20,8 @@ use Rattle.conformance.specs.Refusing.{refused_by}
 use Rattle.conformance.specs.Running.{IsSoFar}
 use Rattle.conformance.specs.Telling.{Tells}
 use Rattle.conformance.proofs.LineKinds.{kept_readable, marked_forgotten}
-use Rattle.script_runs.specs.Keeping.{last_moment}
-use Rattle.script_runs.proofs.Arms.{resting_arm}
+use Rattle.conformance.specs.scripts.Keeping.{last_moment}
+use Rattle.conformance.proofs.OfScripts.Arms.{resting_arm}
 use Rattle.plain_run.specs.declared.histories.PlainHistory.{PlainHistory}
 use Rattle.plain_run.specs.Counting.{NonePasses, SomePasses, passes}
 use Rattle.plain_run.specs.declared.counts.Test.TheVariants.{Differs}

@@ -12,7 +12,7 @@ use Rattle.history_model.specs.declared.acts.Act.TheVariants.{Fill, Erase, Ball,
 use Rattle.history_model.specs.declared.acts.TintAct.TheVariants as tinted
 use Rattle.history_model.specs.Tints.{Tints, tints_by, stamp_tint, over}
 use Rattle.history_model.specs.Worlds.{is_edit, is_in_stamp, box_at, less, plus}
-use Rattle.tints.proofs.PartLaws.{in_stamp_tells}
+use Rattle.core_laws.proofs.OfTints.PartLaws.{in_stamp_tells}
 use Rattle.plain_run.specs.declared.traces.Traced.TheVariants.{As}
 use Rattle.plain_run.specs.Traces.{Traces, goes_to, put_over, copied_from}
 

@@ -4,8 +4,8 @@ use Rattle.std.specs.List.{slice_get}
 use Rattle.history_model.specs.declared.histories.Mark.{Mark}
 use Rattle.history_model.specs.declared.histories.Record.{Record}
 use Rattle.history_model.specs.Logs.{Log}
-use Rattle.block_contents.specs.Versions.{IsUnmarked, MarkComes}
-use Rattle.versions.specs.Retained.{falls_out, fallen_by}
+use Rattle.core_laws.specs.contents.Versions.{IsUnmarked, MarkComes}
+use Rattle.retain.specs.Retained.{falls_out, fallen_by}
 use Rattle.plain_run.specs.Histories.{HasMarkOf}
 
 -- the mark of a version that fell out comes to the others, unless the version has one

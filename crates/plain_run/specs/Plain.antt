@@ -10,8 +10,8 @@ use Rattle.transcript.specs.declared.answers.Answer.{Answer}
 use Rattle.transcript.specs.declared.answers.Answer.TheVariants as answers
 use Rattle.conformance.specs.declared.saves.SavedBox.{SavedBox}
 use Rattle.conformance.specs.Kinds.{answer_at}
-use Rattle.script_runs.specs.Keeping.{MadeAndMet}
-use Rattle.script_runs.specs.Sessions.{GoesOnWith}
+use Rattle.conformance.specs.scripts.Keeping.{MadeAndMet}
+use Rattle.conformance.specs.scripts.Sessions.{GoesOnWith}
 use Rattle.plain_run.specs.declared.histories.PlainHistory.{PlainHistory}
 use Rattle.plain_run.specs.Histories.{HasMarkOf, plain_log, plain_marks, plain_moment}
 

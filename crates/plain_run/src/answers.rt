@@ -2,7 +2,7 @@ ghost use Rattle.std.specs.Prelude.{◌≡◌, ◌^◌, ℕ, Some, None, IfOk, I
 ghost use Rattle.vw_cell.specs.Places.{FitsAt};
 ghost use Rattle.script.specs.Fitting.{CommandFits, QuestionFits};
 ghost use Rattle.script.specs.declared.commands.Command.TheVariants.{Ask, Save, Same};
-ghost use Rattle.block_contents.specs.Versions.{IsKept};
+ghost use Rattle.core_laws.specs.contents.Versions.{IsKept};
 ghost use Rattle.conformance.specs.Answers.{asked_version};
 ghost use Rattle.plain_run.specs.Histories.{ArePlain, plain_log, plain_side, plain_moment};
 ghost use Rattle.plain_run.specs.Plain.{RunsOn, CantBeRead, IsNamedInVain};

@@ -5,7 +5,7 @@ ghost use Rattle.history_model.specs.Logs.{FitsWorld, MayFollow, suits_tints};
 ghost use Rattle.history_model.specs.Positions.{next_position, position_after};
 ghost use Rattle.history_model.specs.Worlds.{is_edit};
 ghost use Rattle.script.specs.declared.commands.Command.TheVariants.{Edit, Forget};
-ghost use Rattle.block_contents.specs.Versions.{MarkComes, IsUnmarked};
+ghost use Rattle.core_laws.specs.contents.Versions.{MarkComes, IsUnmarked};
 ghost use Rattle.conformance.specs.Answers.{target_at};
 ghost use Rattle.conformance.specs.Running.{GrowsByRecord};
 ghost use Rattle.plain_run.specs.Falling.{LetsFall};

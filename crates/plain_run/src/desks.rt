@@ -9,11 +9,10 @@ ghost use Rattle.plain_run.specs.Plain.{nothing_noted};
 
 use crate::histories::PlainHistory;
 use crate::traces::{Traced, trace};
-use conformance::SavedBox;
+use conformance::{Desk, SavedBox};
 use history_model::{Act, History};
 use node_words::Plan;
 use script::{Command, ScriptLine};
-use script_runs::Desk;
 use std::alloc::Global;
 use std::marker::Model;
 use transcript::{Answer, LineAnswer};

@@ -6,10 +6,10 @@ use Rattle.vw_cell.specs.declared.cells.Cell.{Cell}
 use Rattle.vw_cell.specs.Places.{IsInWorld, block_side}
 use Rattle.ray_walk.specs.declared.courses.Course.{Course}
 use Rattle.std.specs.Prelude.{List, Option}
-use Rattle.node_shapes.specs.declared.names.Name.{Name}
-use Rattle.node_shapes.specs.Tree.{Tree, shape_of}
-use Rattle.block_walk.specs.Roots.{IsBlockOf, cells_of}
-use Rattle.block_walk.proofs.LookLaws.{root_side}
+use Rattle.node_words.specs.declared.shapes.names.Name.{Name}
+use Rattle.node_words.specs.shapes.Tree.{Tree, shape_of}
+use Rattle.node_words.specs.descent.Roots.{IsBlockOf, cells_of}
+use Rattle.node_words.proofs.OfDescent.LookLaws.{root_side}
 use Rattle.ray_walk.specs.Courses.{IsTrackIn, IsCourseIn, BeginsBelow, CourseMeets}
 use Rattle.history_model.specs.Ways.{Heading, ahead, behind}
 use Rattle.history_model.specs.Rays.{factor, scale, IsAt, Hits}

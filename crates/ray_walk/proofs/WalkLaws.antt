@@ -5,13 +5,13 @@ use Rattle.std.proofs.lemmas.Bool.{cases_lt}
 use Rattle.vw_cell.specs.declared.cells.Cell.{Cell}
 use Rattle.vw_cell.specs.declared.boxes.Boxed.{Boxed}
 use Rattle.vw_cell.specs.Places.{block_side, IsInWorld, IsInBox}
-use Rattle.node_shapes.specs.declared.names.Name.{Name}
-use Rattle.node_shapes.specs.Tree.{Tree, shape_of}
+use Rattle.node_words.specs.declared.shapes.names.Name.{Name}
+use Rattle.node_words.specs.shapes.Tree.{Tree, shape_of}
 use Rattle.node_words.specs.Held.{Seen}
-use Rattle.block_walk.specs.Roots.{IsBlockOf, HasBlock, cells_of}
-use Rattle.block_walk.specs.Looks.{IsClearRound}
-use Rattle.block_walk.specs.Parts.{EndsBy}
-use Rattle.block_walk.proofs.LookLaws.{block_still}
+use Rattle.node_words.specs.descent.Roots.{IsBlockOf, HasBlock, cells_of}
+use Rattle.node_words.specs.descent.Looks.{IsClearRound}
+use Rattle.node_words.specs.descent.Parts.{EndsBy}
+use Rattle.node_words.proofs.OfDescent.LookLaws.{block_still}
 use Rattle.ray_walk.specs.declared.courses.Course.{Course}
 use Rattle.ray_walk.specs.Courses.{IsCourseIn, CourseClearBefore, InBoxUntil, HasLeft, CourseHits, CourseMisses}
 

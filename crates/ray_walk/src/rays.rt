@@ -2,15 +2,14 @@ ghost use Rattle.std.specs.Prelude.{◌≡◌, ℕ, ◌+◌, ◌*◌, ◌^◌, �
 ghost use Rattle.vw_cell.specs.Places.{IsInWorld};
 ghost use Rattle.history_model.specs.Ways.{IsStep, IsHeading, ahead, behind, heading_of};
 ghost use Rattle.history_model.specs.Rays.{Hits, factor, scale};
-ghost use Rattle.block_walk.specs.Roots.{HoldsRoot, ForWorld};
+ghost use Rattle.node_words.specs.descent.Roots.{HoldsRoot, ForWorld};
 ghost use Rattle.ray_walk.specs.Courses.{IsTrack, IsCourse};
 ghost use Rattle.ray_walk.specs.Rays.{track_of, course_of};
 
 use crate::courses::{Course, Track};
 use crate::walks::walk;
-use block_walk::name_of;
 use history_model::Way;
-use node_words::{Blocks, Share};
+use node_words::{Blocks, Share, name_of};
 use vw_cell::{Cell, Side};
 
 /// The set cell of the root's world that a ray meets first, which begins at the centre of a cell.

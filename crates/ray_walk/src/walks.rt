@@ -1,12 +1,10 @@
 ghost use Rattle.std.specs.Prelude.{◌≡◌, ℕ, ◌^◌, ◌≤◌, option_copied};
 ghost use Rattle.vw_cell.specs.Places.{block_side, IsInWorld};
-ghost use Rattle.block_walk.specs.Roots.{HasBlock, ForBlock, HoldsRoot, ForWorld, cells_of};
+ghost use Rattle.node_words.specs.descent.Roots.{HasBlock, ForBlock, HoldsRoot, ForWorld, cells_of};
 ghost use Rattle.ray_walk.specs.Courses.{IsCourse, IsCourseIn, CourseMeets, BeginsBelow};
 
 use crate::courses::Course;
-use block_walk::look;
-use node_shapes::Name;
-use node_words::Blocks;
+use node_words::{Blocks, Name, look};
 use vw_cell::Cell;
 
 /// The first set cell of a block that the ray meets, from clear box to clear box.
@@ -45,7 +43,7 @@ pub(crate) fn walk<B: Blocks>(
 }
 
 // The side of a block, in cells.
-#[tactic(auto, using(block_walk::proofs::LookLaws::whole_side))]
+#[tactic(auto, using(node_words::proofs::OfDescent::LookLaws::whole_side))]
 fn world_side(level: u8) -> u16
     requires { level ≤ 10 }
     ensures { result ≡ block_side level }

@@ -1,9 +1,9 @@
 -- One more share of what is reached.
 use Rattle.std.proofs.Common.{◌≡◌, Some, List, ◌∷◌, sym, ◌∙◌, ap, subst}
-use Rattle.node_shapes.specs.declared.names.Name.{Name}
-use Rattle.node_shapes.specs.Tree.{Tree, root_of}
-use Rattle.node_shapes.specs.Weights.{weigh}
-use Rattle.node_shapes.proofs.WeightLaws.{weigh-cons}
+use Rattle.node_words.specs.declared.shapes.names.Name.{Name}
+use Rattle.node_words.specs.shapes.Tree.{Tree, root_of}
+use Rattle.node_words.specs.shapes.Weights.{weigh}
+use Rattle.node_words.proofs.OfShapes.WeightLaws.{weigh-cons}
 use Rattle.node_words.specs.Held.{Gains, IsReached}
 use Rattle.node_words.proofs.HeldLaws.{gains_held, gains_keeps, held_reached, reached_more}
 use Rattle.node_table.specs.Telling.{ViewTells}

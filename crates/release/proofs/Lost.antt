@@ -4,12 +4,12 @@ use Rattle.std.proofs.Common.{◌≡◌, ◌≢◌, ◌⊎◌, ℕ, zero, suc, �
 use Rattle.std.specs.Prelude.{All, AllPairs}
 use Rattle.std.proofs.lemmas.List.Elements.{All-nil, All-cons, All-head, All-tail, All-append, All-weaker}
 use Rattle.std.proofs.lemmas.List.Kept.{AllPairs-cons}
-use Rattle.node_shapes.specs.declared.names.Name.{Name}
-use Rattle.node_shapes.specs.Shape.{Shape, IsBranch, IsPart, whole, within}
-use Rattle.node_shapes.specs.Tree.{Tree, Gone, LeafAt, NodeAt, root_of, child_of, shape_of}
-use Rattle.node_shapes.specs.Weights.{weigh, weight_below}
-use Rattle.node_shapes.proofs.TreeLaws.{shape_of-child, shape_of-some, child_of-gone}
-use Rattle.node_shapes.proofs.WeightLaws.{weigh-append, weight_of-gone}
+use Rattle.node_words.specs.declared.shapes.names.Name.{Name}
+use Rattle.node_words.specs.shapes.Shape.{Shape, IsBranch, IsPart, whole, within}
+use Rattle.node_words.specs.shapes.Tree.{Tree, Gone, LeafAt, NodeAt, root_of, child_of, shape_of}
+use Rattle.node_words.specs.shapes.Weights.{weigh, weight_below}
+use Rattle.node_words.proofs.OfShapes.TreeLaws.{shape_of-child, shape_of-some, child_of-gone}
+use Rattle.node_words.proofs.OfShapes.WeightLaws.{weigh-append, weight_of-gone}
 use Rattle.node_words.specs.Held.{IsHeld}
 use Rattle.node_table.proofs.Shares.{take_one, held_append, row_list, row_list-weighs, row_held, InRow}
 use Rattle.release.specs.Returns.{IsPartHeld, IsLost, AreLost}

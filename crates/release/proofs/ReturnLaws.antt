@@ -1,12 +1,12 @@
 -- Shares that go back, one after the other and with what only they kept.
 use Rattle.std.proofs.Common.{◌≡◌, ℕ, zero, suc, ◌+◌, ◌-◌, ◌*◌, ◌<◌, ◌≤◌, Some, None, Option, List, [], ◌∷◌, ◌++◌, refl, sym, ◌∙◌, ap, subst, inl, inr, arith, length-append}
 use Rattle.std.proofs.lemmas.List.Elements.{All-weaker}
-use Rattle.node_shapes.specs.declared.names.Name.{Name}
-use Rattle.node_shapes.specs.Shape.{Shape, IsPart, within}
-use Rattle.node_shapes.specs.Tree.{Tree, root_of, child_of, shape_of}
-use Rattle.node_shapes.specs.Weights.{weigh, weight_below, number_of_trees}
-use Rattle.node_shapes.proofs.TreeLaws.{shape_of-child}
-use Rattle.node_shapes.proofs.WeightLaws.{weight_of-there, weight_of-gone, weight_below-one}
+use Rattle.node_words.specs.declared.shapes.names.Name.{Name}
+use Rattle.node_words.specs.shapes.Shape.{Shape, IsPart, within}
+use Rattle.node_words.specs.shapes.Tree.{Tree, root_of, child_of, shape_of}
+use Rattle.node_words.specs.shapes.Weights.{weigh, weight_below, number_of_trees}
+use Rattle.node_words.proofs.OfShapes.TreeLaws.{shape_of-child}
+use Rattle.node_words.proofs.OfShapes.WeightLaws.{weight_of-there, weight_of-gone, weight_below-one}
 use Rattle.node_words.specs.Gathering.{Loses, LosesAll, MayHold}
 use Rattle.node_words.specs.Held.{AreBelow, AreHeld, Gains, HoldsName, IsHeld, IsUnheldBranch, ReturnsWithin, name_in}
 use Rattle.node_words.proofs.GatherLaws.{may_next}

@@ -1,8 +1,8 @@
 -- What shares that go back leave.
 use Rattle.std.specs.Prelude.{◌≢◌, ℕ, ◌+◌, ◌*◌, ◌≤◌, List, All, AllPairs, length}
-use Rattle.node_shapes.specs.Shape.{Shape, IsBranch, IsPart}
-use Rattle.node_shapes.specs.Tree.{Tree, shape_of}
-use Rattle.node_shapes.specs.Weights.{weight_of, weight_below}
+use Rattle.node_words.specs.shapes.Shape.{Shape, IsBranch, IsPart}
+use Rattle.node_words.specs.shapes.Tree.{Tree, shape_of}
+use Rattle.node_words.specs.shapes.Weights.{weight_of, weight_below}
 use Rattle.node_words.specs.Held.{IsHeld}
 use Rattle.node_words.specs.Gathering.{Loses, LosesAll}
 use Rattle.node_table.specs.Views.{SeatView}

@@ -6,9 +6,9 @@
 #![tactic(auto)]
 
 ghost use Rattle.std.specs.Prelude.{◌≡◌, ◌≤◌, ◌+◌, ◌-◌, ◌*◌, Some, None};
-ghost use Rattle.node_shapes.specs.Tree.{Tree, root_of, shape_of};
-ghost use Rattle.node_shapes.specs.Weights.{number_of_trees};
-ghost use Rattle.node_shapes.specs.declared.names.Name.{Name};
+ghost use Rattle.node_words.specs.shapes.Tree.{Tree, root_of, shape_of};
+ghost use Rattle.node_words.specs.shapes.Weights.{number_of_trees};
+ghost use Rattle.node_words.specs.declared.shapes.names.Name.{Name};
 ghost use Rattle.node_words.specs.Gathering.{MayHold};
 ghost use Rattle.node_words.specs.Held.{
   AreBelow,
@@ -25,10 +25,9 @@ ghost use Rattle.node_table.specs.Acts.{OnlySharesChange};
 ghost use Rattle.node_table.specs.Seen.{BelongsTo};
 ghost use Rattle.release.specs.Returns.{GaveBack, GaveRowBack};
 
-use node_shapes::Name;
 use node_table::Lowering;
 pub use node_table::{NodeTable, Pass};
-use node_words::{Share, Steps, end_all, take_at};
+use node_words::{Name, Share, Steps, end_all, take_at};
 use std::sync::Wait;
 use std::sync::ledger::Ledger;
 

@@ -21,17 +21,17 @@ use Rattle.script.specs.Commands.{name_bytes}
 use Rattle.script.specs.Fitting.{CommandFits, RisesFrom}
 use Rattle.script.specs.declared.commands.ScriptLine.{ScriptLine}
 use Rattle.transcript.specs.declared.answers.LineAnswer.{LineAnswer}
-use Rattle.session_runs.specs.Kept.{kept_of, kept_by}
-use Rattle.session_runs.specs.Ran.{SessionsRanKeeping, ClosesWorld}
-use Rattle.session_runs.specs.Seen.{SessionSeen}
-use Rattle.session_runs.proofs.Closing.{are_a_run}
-use Rattle.session_runs.proofs.KeptWorlds.{saved_stay}
-use Rattle.session_runs.proofs.SuitLaws.{history_suits}
+use Rattle.conformance.specs.sessions.Kept.{kept_of, kept_by}
+use Rattle.conformance.specs.sessions.Ran.{SessionsRanKeeping, ClosesWorld}
+use Rattle.conformance.specs.sessions.Seen.{SessionSeen}
+use Rattle.conformance.proofs.OfSessions.Closing.{are_a_run}
+use Rattle.conformance.proofs.OfSessions.KeptWorlds.{saved_stay}
+use Rattle.conformance.proofs.OfSessions.SuitLaws.{history_suits}
 use Rattle.world_run.specs.Ends.{IsEndOf}
 use Rattle.world_run.specs.Open.{RunState, file_of_save}
 use Rattle.script_files.specs.declared.tallies.RunWritten.{RunWritten}
-use Rattle.reporting.specs.Numbers.{AreNumbers}
-use Rattle.reporting.specs.Roots.{RootsTellWorlds, listed_root}
+use Rattle.report.specs.Numbers.{AreNumbers}
+use Rattle.report.specs.Roots.{RootsTellWorlds, listed_root}
 use Rattle.world_run.specs.declared.runs.ScriptsRun.{ScriptsRun}
 use Rattle.world_run.specs.declared.endings.WorldRan.{WorldRan}
 use Rattle.script_files.specs.declared.tallies.Done.TheVariants.{Counted, Ran}

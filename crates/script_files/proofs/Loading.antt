@@ -13,9 +13,9 @@ use Rattle.conformance.specs.Runs.{AllRan}
 use Rattle.conformance.specs.Agreeing.{Agrees}
 use Rattle.gen_load.specs.Draws.{state_after}
 use Rattle.gen_load.specs.Loads.{load_model, load_scripts, line_state, scripts_from}
-use Rattle.scene_laws.specs.ReadLaws.{scripts_are_read}
-use Rattle.region_laws.specs.LastCounts.{region_counts}
-use Rattle.region_laws.specs.Statements.{load_lines, own_counts, LoadsAreCounted}
+use Rattle.text_laws.specs.loads.ReadLaws.{scripts_are_read}
+use Rattle.text_laws.specs.regions.LastCounts.{region_counts}
+use Rattle.text_laws.specs.regions.Statements.{load_lines, own_counts, LoadsAreCounted}
 use Rattle.script_files.specs.declared.refusals.NumberedFault.{NumberedFault}
 use Rattle.script_files.specs.declared.tallies.Done.TheVariants.{Shown}
 use Rattle.script_files.specs.declared.tallies.LoadTally.{LoadTally}
@@ -23,8 +23,8 @@ use Rattle.script_files.specs.declared.refusals.CommandRefused.TheVariants.{Outp
 use Rattle.script_files.specs.declared.requests.Request.TheVariants.{Demo}
 use Rattle.script_files.specs.Scripts.{AreFitScripts, scripts_of}
 use Rattle.world_run.specs.Closed.{Closed}
-use Rattle.session_runs.specs.Kept.{kept_of}
-use Rattle.session_runs.specs.Ran.{SessionsRan}
+use Rattle.conformance.specs.sessions.Kept.{kept_of}
+use Rattle.conformance.specs.sessions.Ran.{SessionsRan}
 use Rattle.vw_io.specs.Outputs.{Named}
 use Rattle.world_run.specs.declared.runs.ScriptsRun.{ScriptsRun}
 use Rattle.script_files.specs.declared.tallies.Tally.{Tally}

@@ -11,8 +11,8 @@ use Rattle.vox_write.specs.Written.{chunks_length, models_file}
 use Rattle.vox_scene.specs.declared.faults.SceneFault.{SceneFault}
 use Rattle.vox_scene.specs.declared.faults.SceneFault.TheVariants as faults
 use Rattle.vox_scene.specs.Scenes.{SceneSeen, HasScene, RefusesScene}
-use Rattle.scene_laws.specs.Building.{BuildsScene}
-use Rattle.scene_laws.proofs.Built.{built}
+use Rattle.text_laws.specs.scenes.Building.{BuildsScene}
+use Rattle.text_laws.proofs.OfScenes.Built.{built}
 use Rattle.script_files.specs.declared.tallies.Done.TheVariants.{Placed}
 use Rattle.script_files.specs.declared.tallies.SceneTally.{SceneTally}
 use Rattle.script_files.specs.declared.refusals.CommandRefused.TheVariants.{Output}

@@ -21,17 +21,17 @@ use Rattle.extract.proofs.ListingLaws.{joined-same}
 use Rattle.extract.proofs.SavedLaws.{voxels_inside}
 use Rattle.world_run.specs.Reading.{tinted_voxels, with_tint}
 use Rattle.world_run.proofs.Quarters.{quarter_is}
-use Rattle.tints.proofs.TintLaws.{stored_tint}
-use Rattle.tints.proofs.VersionLaws.{versions_plain, versions_stored}
+use Rattle.core_laws.proofs.OfTints.TintLaws.{stored_tint}
+use Rattle.core_laws.proofs.OfTints.VersionLaws.{versions_plain, versions_stored}
 use Rattle.vox_scene.proofs.Ends.{same_exponent}
 use Rattle.script.specs.Fitting.{SaveFits}
 use Rattle.conformance.specs.declared.saves.SavedBox.{SavedBox}
 use Rattle.conformance.specs.Answers.{GoesOn}
 use Rattle.conformance.proofs.GoingOn.{tints_stay, world_stays}
-use Rattle.session_runs.specs.Kept.{kept_at}
-use Rattle.session_runs.specs.Seen.{SuitsWorld, log_as}
-use Rattle.session_runs.proofs.SuitLaws.{store_keeps}
-use Rattle.tints.proofs.TintBounds.{versions_small}
+use Rattle.conformance.specs.sessions.Kept.{kept_at}
+use Rattle.conformance.specs.sessions.Seen.{SuitsWorld, log_as}
+use Rattle.conformance.proofs.OfSessions.SuitLaws.{store_keeps}
+use Rattle.core_laws.proofs.OfTints.TintBounds.{versions_small}
 use Rattle.world_run.specs.Roots.{file_kept}
 use Rattle.world_run.specs.Open.{file_of_save}
 use Rattle.script_files.specs.Requests.{save_file}

@@ -6,13 +6,13 @@ use Rattle.node_words.specs.Plans.{Layout, usual_buckets}
 use Rattle.transcript.specs.declared.answers.LineAnswer.{LineAnswer}
 use Rattle.script.specs.declared.commands.ScriptLine.{ScriptLine}
 use Rattle.conformance.specs.Runs.{AllRan}
-use Rattle.session_runs.specs.Ran.{SessionsRan}
-use Rattle.session_runs.specs.Seen.{SessionSeen}
+use Rattle.conformance.specs.sessions.Ran.{SessionsRan}
+use Rattle.conformance.specs.sessions.Seen.{SessionSeen}
 use Rattle.world_run.specs.Closed.{Closed}
 use Rattle.world_run.specs.Ends.{IsEndOf}
 use Rattle.gen_load.specs.Loads.{load_model, load_scripts}
-use Rattle.region_laws.specs.LastCounts.{region_counts}
-use Rattle.region_laws.specs.Statements.{own_counts}
+use Rattle.text_laws.specs.regions.LastCounts.{region_counts}
+use Rattle.text_laws.specs.regions.Statements.{own_counts}
 use Rattle.script_files.specs.declared.tallies.LoadTally.{LoadTally}
 use Rattle.script_files.specs.Orders.{Asked}
 use Rattle.script_files.specs.Requests.{given_seen, given_by, texts_written}

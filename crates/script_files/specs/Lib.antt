@@ -20,5 +20,5 @@ pub mod Judging
 pub mod RunsAudited
 pub mod Commands
 pub use Rattle.dag_answers.specs.Questions
-pub use Rattle.session_runs.specs.Kept
+pub use Rattle.conformance.specs.sessions.Kept
 pub use Rattle.world_run.specs.Closed

@@ -11,11 +11,11 @@ use Rattle.transcript.specs.declared.answers.LineAnswer.{LineAnswer}
 use Rattle.script.specs.declared.commands.ScriptLine.{ScriptLine}
 use Rattle.script.specs.Fitting.{IsOfText}
 use Rattle.conformance.specs.Runs.{AllRanKeeping}
-use Rattle.session_runs.specs.Ran.{SessionsRanKeeping}
-use Rattle.session_runs.specs.Seen.{SessionSeen}
+use Rattle.conformance.specs.sessions.Ran.{SessionsRanKeeping}
+use Rattle.conformance.specs.sessions.Seen.{SessionSeen}
 use Rattle.world_run.specs.Closed.{Closed}
 use Rattle.world_run.specs.Ends.{IsEndOf}
-use Rattle.reporting.specs.Numbers.{IsTotal}
+use Rattle.report.specs.Numbers.{IsTotal}
 use Rattle.script_files.specs.declared.tallies.Done.{Done}
 use Rattle.script_files.specs.declared.tallies.Done.TheVariants.{Written, Counted, Ran, Shown, Placed, Looked, Answered}
 use Rattle.script_files.specs.declared.tallies.Tally.{Tally}

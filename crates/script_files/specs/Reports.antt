@@ -3,7 +3,7 @@ use Rattle.std.specs.Prelude.{◌≡◌, ℕ, [], ◌++◌, Option, Some, None, 
 use Rattle.vw_io.specs.Outputs.{Named}
 use Rattle.vox_read.specs.Contents.{Content}
 use Rattle.history_model.specs.Logs.{Log}
-use Rattle.reporting.specs.Reports.{IsReport}
+use Rattle.report.specs.Reports.{IsReport}
 use Rattle.script_files.specs.Orders.{Asked}
 use Rattle.script_files.specs.Requests.{RunOutputs, written_first, texts_written}
 

@@ -14,8 +14,8 @@ use Rattle.script.specs.declared.commands.Command.TheVariants.{Save}
 use Rattle.script.specs.declared.commands.ScriptLine.{ScriptLine}
 use Rattle.script.specs.Commands.{name_bytes}
 use Rattle.vox_read.specs.Contents.{Content}
-use Rattle.session_runs.specs.Kept.{KeptSave, kept_of, kept_by}
-use Rattle.session_runs.specs.Seen.{SessionSeen}
+use Rattle.conformance.specs.sessions.Kept.{KeptSave, kept_of, kept_by}
+use Rattle.conformance.specs.sessions.Seen.{SessionSeen}
 use Rattle.world_run.specs.Open.{file_of_save}
 use Rattle.vw_cell.specs.declared.boxes.Boxed.{Boxed}
 use Rattle.history_model.specs.Moments.{world_has, world_tint}

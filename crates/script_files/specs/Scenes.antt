@@ -7,7 +7,7 @@ use Rattle.vox_write.specs.Written.{models_file}
 use Rattle.vox_scene.specs.declared.faults.SceneFault.{SceneFault}
 use Rattle.vox_scene.specs.Scenes.{SceneSeen, HasScene, ReadsScene}
 use Rattle.vox_scene.specs.Written.{stamp_lines}
-use Rattle.scene_laws.specs.Building.{BuildsScene}
+use Rattle.text_laws.specs.scenes.Building.{BuildsScene}
 use Rattle.script_files.specs.declared.refusals.TextRefused.{TextRefused}
 use Rattle.script_files.specs.declared.refusals.TextRefused.TheVariants.{Vox, NoScene, Memory}
 use Rattle.script_files.specs.declared.tallies.SceneTally.{SceneTally}

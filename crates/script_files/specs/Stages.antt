@@ -9,12 +9,12 @@ use Rattle.history_model.specs.Logs.{Log, store_exponent}
 use Rattle.script.specs.declared.commands.ScriptLine.{ScriptLine}
 use Rattle.script.specs.Scripts.{commands_of}
 use Rattle.gen_load.specs.Loads.{load_model, load_scripts}
-use Rattle.session_runs.specs.Ran.{ClosesWorld}
+use Rattle.conformance.specs.sessions.Ran.{ClosesWorld}
 use Rattle.world_run.specs.Closed.{Closed}
 use Rattle.world_run.specs.Ends.{IsEndOf}
 use Rattle.world_run.specs.Open.{RunState}
-use Rattle.reporting.specs.Numbers.{AreNumbers}
-use Rattle.reporting.specs.Roots.{RootsTellWorlds, listed_root}
+use Rattle.report.specs.Numbers.{AreNumbers}
+use Rattle.report.specs.Roots.{RootsTellWorlds, listed_root}
 use Rattle.world_run.specs.declared.runs.ScriptsRun.{ScriptsRun}
 use Rattle.world_run.specs.declared.endings.WorldRan.{WorldRan}
 use Rattle.script_files.specs.declared.tallies.RunWritten.{RunWritten}

@@ -14,8 +14,8 @@ use Rattle.hands.proofs.Rooms.{large_for_all}
 use Rattle.hands.specs.Acts.{IsLargeFor}
 use Rattle.node_table.specs.Seen.{TableSeen}
 use Rattle.script.specs.Fitting.{QuestionFits}
-use Rattle.world_answers.proofs.TintTells.{quarter_same}
-use Rattle.session_runs.specs.Seen.{CanTint, MayTint}
+use Rattle.act_rebuilds.proofs.OfQuestions.TintTells.{quarter_same}
+use Rattle.conformance.specs.sessions.Seen.{CanTint, MayTint}
 use Rattle.session.specs.Attempts.{IsMaker}
 use Rattle.session.specs.Seen.{KeepsTableModels, IsActOf, WorldSeen}
 use Rattle.session.proofs.VoxelLaws.{IsLarge}

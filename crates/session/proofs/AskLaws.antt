@@ -5,17 +5,17 @@ use Rattle.history_model.specs.Stores.{stored_in}
 use Rattle.history_model.specs.Worlds.{World}
 use Rattle.history_model.specs.declared.questions.Question.{Question}
 use Rattle.transcript.specs.declared.answers.Answer.{Answer}
-use Rattle.node_shapes.proofs.WeightLaws.{weight_of-one, weight_of-there}
-use Rattle.node_shapes.specs.declared.names.Name.{Name}
-use Rattle.node_shapes.specs.Tree.{Tree, Gone, LeafAt, NodeAt, root_of}
-use Rattle.node_shapes.specs.Weights.{number_of_trees}
+use Rattle.node_words.proofs.OfShapes.WeightLaws.{weight_of-one, weight_of-there}
+use Rattle.node_words.specs.declared.shapes.names.Name.{Name}
+use Rattle.node_words.specs.shapes.Tree.{Tree, Gone, LeafAt, NodeAt, root_of}
+use Rattle.node_words.specs.shapes.Weights.{number_of_trees}
 use Rattle.node_words.specs.Gathering.{MayHold}
 use Rattle.node_words.specs.Held.{IsHeld, OnlyHeldChanges, Seen}
-use Rattle.block_walk.specs.Roots as walks
-use Rattle.edit_cells.specs.Worlds.{ShowsWorld}
+use Rattle.node_words.specs.descent.Roots as walks
+use Rattle.edit_walk.specs.cells.Worlds.{ShowsWorld}
 use Rattle.conformance.specs.Answers.{asked_version}
 use Rattle.conformance.specs.Kinds.{is_resting}
-use Rattle.world_answers.specs.TellsRoots.{TellsTinted}
+use Rattle.act_rebuilds.specs.questions.TellsRoots.{TellsTinted}
 use Rattle.table_rule.specs.LogTelling.{seen_has}
 use Rattle.table_rule.specs.Views.{SeatView, seen_of}
 use Rattle.version_log.specs.Pins.{PinsVersion, version_asked}
@@ -23,11 +23,11 @@ use Rattle.version_log.specs.Roots.{GetsRoot, HoldsRootOf}
 use Rattle.version_log.specs.Seeing.{IsDated, LooksOn}
 use Rattle.version_log.specs.Pins.{RefusesPin}
 use Rattle.version_log.specs.declared.pinned.Pinned.{Pinned}
-use Rattle.versions.specs.declared.refusals.PinRefused.{PinRefused}
-use Rattle.versions.specs.declared.refusals.PinRefused.TheVariants.{NoVersion, Forgotten}
-use Rattle.session_runs.specs.Calls.{FindsVersion}
-use Rattle.session_runs.specs.Seen.{SessionSeen}
-use Rattle.session_runs.specs.Told.{WasAsked, PinIsRefused, TellsKept, plainly_tinted}
+use Rattle.retain.specs.declared.refusals.PinRefused.{PinRefused}
+use Rattle.retain.specs.declared.refusals.PinRefused.TheVariants.{NoVersion, Forgotten}
+use Rattle.conformance.specs.sessions.Calls.{FindsVersion}
+use Rattle.conformance.specs.sessions.Seen.{SessionSeen}
+use Rattle.conformance.specs.sessions.Told.{WasAsked, PinIsRefused, TellsKept, plainly_tinted}
 use Rattle.hands.specs.Lendable.{StaysLendable}
 use Rattle.node_words.specs.Plans.{Layout}
 use Rattle.table_rule.specs.LogViews.{LogView}

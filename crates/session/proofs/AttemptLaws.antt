@@ -2,12 +2,12 @@
 use Rattle.std.proofs.Common.{◌≡◌, ◌≤◌, Bool, ℕ, Option, List, length, sym, ◌∙◌, ap, subst, arith}
 use Rattle.vox_read.specs.Contents.{Content}
 use Rattle.history_model.specs.declared.acts.Act.{Act}
-use Rattle.node_shapes.specs.declared.names.Name.{Name}
-use Rattle.node_shapes.specs.Tree.{Tree}
-use Rattle.node_shapes.specs.Weights.{number_of_trees}
+use Rattle.node_words.specs.declared.shapes.names.Name.{Name}
+use Rattle.node_words.specs.shapes.Tree.{Tree}
+use Rattle.node_words.specs.shapes.Weights.{number_of_trees}
 use Rattle.node_words.specs.declared.shares.Full.{Full}
 use Rattle.node_words.specs.Held.{SameHeld}
-use Rattle.edit_blocks.specs.Blocks.{GoesBack}
+use Rattle.edit_walk.specs.blocks.Blocks.{GoesBack}
 use Rattle.table_rule.specs.LogViews.{LogView}
 use Rattle.table_rule.specs.Views.{SeatView}
 use Rattle.node_table.specs.LogTurns.{HasNoTurn}
@@ -20,7 +20,7 @@ use Rattle.version_log.specs.Seeing.{IsDated, LooksOn}
 use Rattle.version_log.specs.declared.refusals.CommitRefused.{CommitRefused}
 use Rattle.version_log.specs.declared.refusals.CommitRefused.TheVariants.{LogFull, Stale}
 use Rattle.version_log.specs.declared.pinned.Pinned.{Pinned}
-use Rattle.session_runs.specs.declared.calls.ActAnswer.TheVariants as acts
+use Rattle.conformance.specs.declared.sessions.calls.ActAnswer.TheVariants as acts
 use Rattle.hands.specs.Lendable.{StaysLendable}
 use Rattle.session.specs.Attempts.{AnswersAct, FailsToMake, HasPinnedHead, IsLate, IsMaker, MakesNextRoot}
 use Rattle.session.specs.Resting.{IsAtRest}

@@ -5,13 +5,13 @@ use Rattle.vw_cell.specs.declared.boxes.Boxed.{Boxed}
 use Rattle.vw_cell.specs.Places.{FitsAt}
 use Rattle.vox_read.specs.declared.voxels.Voxel.{Voxel}
 use Rattle.history_model.specs.Worlds.{World}
-use Rattle.node_shapes.specs.declared.names.Name.{Name}
-use Rattle.node_shapes.specs.Shape.{ShowsCells}
-use Rattle.node_shapes.specs.Tree.{shape_of}
+use Rattle.node_words.specs.declared.shapes.names.Name.{Name}
+use Rattle.node_words.specs.shapes.Shape.{ShowsCells}
+use Rattle.node_words.specs.shapes.Tree.{shape_of}
 use Rattle.node_words.proofs.HeldLaws.{held_reached}
 use Rattle.node_words.specs.Plans.{Layout}
-use Rattle.block_contents.specs.Aligned.{top, world_block}
-use Rattle.block_walk.specs.Roots.{ForWorld, IsBlockOf, cells_of}
+use Rattle.core_laws.specs.contents.Aligned.{top, world_block}
+use Rattle.node_words.specs.descent.Roots.{ForWorld, IsBlockOf, cells_of}
 use Rattle.history_model.specs.Logs.{kept_side}
 use Rattle.table_rule.specs.LogTelling.{seen_has}
 use Rattle.node_table.specs.Seen.{TableSeen, PassSeen}

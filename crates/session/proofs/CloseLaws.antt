@@ -7,18 +7,18 @@ use Rattle.history_model.specs.declared.histories.Mark.{Mark}
 use Rattle.history_model.specs.declared.histories.Record.{Record}
 use Rattle.history_model.specs.Logs.{Log, IsLegal}
 use Rattle.vox_read.specs.Contents.{Content}
-use Rattle.node_shapes.specs.declared.names.Name.{Name}
-use Rattle.node_shapes.specs.Shape.{Shape}
+use Rattle.node_words.specs.declared.shapes.names.Name.{Name}
+use Rattle.node_words.specs.shapes.Shape.{Shape}
 use Rattle.node_words.specs.Enough.{HasEnough}
 use Rattle.node_words.specs.Held.{Wanted}
 use Rattle.node_words.specs.Plans.{Layout}
-use Rattle.block_contents.specs.Versions.{IsKept}
+use Rattle.core_laws.specs.contents.Versions.{IsKept}
 use Rattle.core_laws.specs.Counting.{booked, parented, rooted}
 use Rattle.core_laws.specs.Soundness.{SoundEntries, SoundVersions}
 use Rattle.core_laws.specs.States.{State, IsLive}
 use Rattle.conformance.specs.Answers.{GoesOn}
-use Rattle.versions.specs.Listing.{Accepted, Found, numbered}
-use Rattle.reporting.proofs.RootLaws.{log_side}
+use Rattle.retain.specs.Listing.{Accepted, Found, numbered}
+use Rattle.report.proofs.RootLaws.{log_side}
 use Rattle.table_rule.specs.Knowing as knowing
 use Rattle.table_rule.specs.LogKnowing.{WasFound, numbered_from}
 use Rattle.node_table.specs.Closing as closing
@@ -26,8 +26,8 @@ use Rattle.node_table.specs.Closing.{EndsTable, HadEnough, TellsAll, views_of}
 use Rattle.node_table.specs.Seen.{TableSeen, PassSeen}
 use Rattle.node_table.specs.declared.closed.Closed.{Closed}
 use Rattle.node_table.specs.declared.closed.Root.{Root}
-use Rattle.session_runs.specs.Ran.{ClosesWorld, StillFound, records_of_all, marks_of_all, made_of_all, met_of_all}
-use Rattle.session_runs.specs.Seen.{SessionSeen, MayTint, log_as}
+use Rattle.conformance.specs.sessions.Ran.{ClosesWorld, StillFound, records_of_all, marks_of_all, made_of_all, met_of_all}
+use Rattle.conformance.specs.sessions.Seen.{SessionSeen, MayTint, log_as}
 use Rattle.session.proofs.BeginLaws.{get_there}
 use Rattle.session.specs.Closes.{coloured_as, sessions_seen}
 use Rattle.session.specs.Resting.{IsAtRest}

@@ -6,18 +6,18 @@ use Rattle.history_model.specs.declared.histories.Record.{Record}
 use Rattle.history_model.specs.Logs.{FitsWorld}
 use Rattle.history_model.specs.Stores.{stored_in}
 use Rattle.history_model.specs.Worlds.{World, is_edit}
-use Rattle.node_shapes.proofs.WeightLaws.{weight_of-one}
-use Rattle.node_shapes.specs.declared.names.Name.{Name}
-use Rattle.node_shapes.specs.Shape.{ShowsCells}
-use Rattle.node_shapes.specs.Tree.{Tree, shape_of}
-use Rattle.node_shapes.specs.Weights.{number_of_trees, weigh}
+use Rattle.node_words.proofs.OfShapes.WeightLaws.{weight_of-one}
+use Rattle.node_words.specs.declared.shapes.names.Name.{Name}
+use Rattle.node_words.specs.shapes.Shape.{ShowsCells}
+use Rattle.node_words.specs.shapes.Tree.{Tree, shape_of}
+use Rattle.node_words.specs.shapes.Weights.{number_of_trees, weigh}
 use Rattle.node_words.specs.Gathering.{MayHold}
 use Rattle.node_words.specs.Held.{SameHeld}
 use Rattle.node_words.specs.Plans.{Layout}
-use Rattle.block_contents.specs.Aligned.{top, world_block}
+use Rattle.core_laws.specs.contents.Aligned.{top, world_block}
 use Rattle.node_words.specs.declared.shares.Full.{Full}
-use Rattle.edit_blocks.specs.Blocks.{GoesBack, MayGoBack}
-use Rattle.versions.specs.Listing.{Accepted}
+use Rattle.edit_walk.specs.blocks.Blocks.{GoesBack, MayGoBack}
+use Rattle.retain.specs.Listing.{Accepted}
 use Rattle.table_rule.specs.LogTelling.{number_seen, seen_has}
 use Rattle.table_rule.specs.Rules.{SameSession}
 use Rattle.table_rule.specs.Views.{SeatView}
@@ -28,9 +28,9 @@ use Rattle.version_log.specs.Pins.{PinsVersion}
 use Rattle.version_log.specs.Roots.{GetsRoot, HoldsRootOf}
 use Rattle.version_log.specs.Seeing.{KnowsMore}
 use Rattle.version_log.specs.declared.pinned.Pinned.{Pinned}
-use Rattle.session_runs.specs.declared.calls.ActAnswer.TheVariants as acts
-use Rattle.session_runs.specs.Seen.{of_session}
-use Rattle.session_runs.specs.Told.{ActDone}
+use Rattle.conformance.specs.declared.sessions.calls.ActAnswer.TheVariants as acts
+use Rattle.conformance.specs.sessions.Seen.{of_session}
+use Rattle.conformance.specs.sessions.Told.{ActDone}
 use Rattle.session.specs.Attempts.{AnswersAct, FailsToMake, HasPinnedHead, WorksOn}
 use Rattle.session.specs.Resting.{IsAtRest}
 use Rattle.session.specs.Seen.{WorldSeen, session_seen}

@@ -1,8 +1,8 @@
 -- What each call tells of its session, for the desk.
 use Rattle.std.proofs.Common.{◌≡◌, ℕ, ◌-◌, ◌≤◌, Option, Result, Ok, Err, List, [], ◌∷◌, ◌++◌, length, length-append, ap, sym, subst, ◌∙◌, arith}
 use Rattle.std.proofs.lemmas.List.{map_push}
-use Rattle.node_shapes.specs.Tree.{Tree}
-use Rattle.node_shapes.specs.Weights.{weigh, number_of_trees}
+use Rattle.node_words.specs.shapes.Tree.{Tree}
+use Rattle.node_words.specs.shapes.Weights.{weigh, number_of_trees}
 use Rattle.node_words.specs.Held.{SameHeld}
 use Rattle.node_table.specs.Seen.{TableSeen, PassSeen, SamePass}
 use Rattle.version_log.specs.declared.pinned.Pinned.{Pinned}
@@ -14,27 +14,27 @@ use Rattle.session.proofs.SaveLaws.{few_held, no_pins, one_more, still_held}
 use Rattle.history_model.specs.declared.acts.Act.{Act}
 use Rattle.history_model.specs.declared.questions.Question.{Question}
 use Rattle.vw_cell.specs.declared.boxes.Boxed.{Boxed}
-use Rattle.session_runs.specs.declared.calls.ActAnswer.{ActAnswer}
-use Rattle.session_runs.specs.declared.calls.ActAnswer.TheVariants as acts
-use Rattle.session_runs.specs.declared.calls.OnceAnswer.{OnceAnswer}
-use Rattle.session_runs.specs.declared.calls.OnceAnswer.TheVariants as onces
-use Rattle.session_runs.specs.declared.calls.AskedAt.{AskedAt}
-use Rattle.session_runs.specs.declared.calls.SavedAt.{SavedAt}
-use Rattle.versions.specs.declared.refusals.PinRefused.{PinRefused}
-use Rattle.versions.specs.declared.refusals.PinRefused.TheVariants as pins
-use Rattle.versions.specs.declared.refusals.ForgetRefused.{ForgetRefused}
-use Rattle.versions.specs.declared.refusals.ForgetRefused.TheVariants as forgets
-use Rattle.versions.specs.declared.comparing.SameAt.{SameAt}
-use Rattle.versions.specs.declared.comparing.SameRefused.{SameRefused}
-use Rattle.versions.specs.declared.comparing.SameRefused.TheVariants as sames
-use Rattle.session_runs.specs.Calls.{FollowsHistory}
+use Rattle.conformance.specs.declared.sessions.calls.ActAnswer.{ActAnswer}
+use Rattle.conformance.specs.declared.sessions.calls.ActAnswer.TheVariants as acts
+use Rattle.conformance.specs.declared.sessions.calls.OnceAnswer.{OnceAnswer}
+use Rattle.conformance.specs.declared.sessions.calls.OnceAnswer.TheVariants as onces
+use Rattle.conformance.specs.declared.sessions.calls.AskedAt.{AskedAt}
+use Rattle.conformance.specs.declared.sessions.calls.SavedAt.{SavedAt}
+use Rattle.retain.specs.declared.refusals.PinRefused.{PinRefused}
+use Rattle.retain.specs.declared.refusals.PinRefused.TheVariants as pins
+use Rattle.retain.specs.declared.refusals.ForgetRefused.{ForgetRefused}
+use Rattle.retain.specs.declared.refusals.ForgetRefused.TheVariants as forgets
+use Rattle.retain.specs.declared.comparing.SameAt.{SameAt}
+use Rattle.retain.specs.declared.comparing.SameRefused.{SameRefused}
+use Rattle.retain.specs.declared.comparing.SameRefused.TheVariants as sames
+use Rattle.conformance.specs.sessions.Calls.{FollowsHistory}
 use Rattle.conformance.specs.Answers.{asked_version}
 use Rattle.script.specs.declared.commands.ScriptLine.{ScriptLine}
 use Rattle.transcript.specs.declared.answers.LineAnswer.{LineAnswer}
-use Rattle.session_runs.specs.Runs.{RunsScript}
-use Rattle.session_runs.specs.Saves.{version_saved}
-use Rattle.session_runs.specs.Seen.{SessionOf, SessionSeen}
-use Rattle.session_runs.specs.Told.{ActTold, AskTold, ForgetTold, HeadTold, OnceTold, PinIsRefused, SameTold, SaveTold}
+use Rattle.conformance.specs.sessions.Runs.{RunsScript}
+use Rattle.conformance.specs.sessions.Saves.{version_saved}
+use Rattle.conformance.specs.sessions.Seen.{SessionOf, SessionSeen}
+use Rattle.conformance.specs.sessions.Told.{ActTold, AskTold, ForgetTold, HeadTold, OnceTold, PinIsRefused, SameTold, SaveTold}
 
 module _ (of : SessionOf) (old new : SessionSeen) where
   pub act_sees : (line : ℕ) (act : Act) (answer : ActAnswer) → ActTold of line act old new answer

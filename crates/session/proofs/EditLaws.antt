@@ -1,22 +1,22 @@
 -- An edit, by an attempt and, too late, by one under the log's turn.
 use Rattle.std.proofs.Common.{◌≡◌, ◌<◌, ◌≤◌, ◌+◌, ℕ, Option, List, [], ◌∷◌, ◌++◌, length, sym, ◌∙◌, ap, subst, arith, length-append}
 use Rattle.history_model.specs.declared.acts.Act.{Act}
-use Rattle.node_shapes.specs.declared.names.Name.{Name}
-use Rattle.node_shapes.specs.Tree.{Tree}
-use Rattle.node_shapes.specs.Weights.{number_of_trees}
+use Rattle.node_words.specs.declared.shapes.names.Name.{Name}
+use Rattle.node_words.specs.shapes.Tree.{Tree}
+use Rattle.node_words.specs.shapes.Weights.{number_of_trees}
 use Rattle.node_words.specs.Held.{SameHeld}
-use Rattle.edit_blocks.specs.Blocks.{GoesBack, MayGoBack}
+use Rattle.edit_walk.specs.blocks.Blocks.{GoesBack, MayGoBack}
 use Rattle.table_rule.specs.LogTelling.{number_seen}
 use Rattle.table_rule.specs.Views.{SeatView}
 use Rattle.version_log.specs.Roots.{GetsRoot}
 use Rattle.version_log.specs.Seeing.{LooksOn}
 use Rattle.version_log.specs.declared.pinned.Pinned.{Pinned}
-use Rattle.session_runs.specs.declared.calls.ActAnswer.{ActAnswer}
+use Rattle.conformance.specs.declared.sessions.calls.ActAnswer.{ActAnswer}
 use Rattle.session.specs.declared.attempts.Late.{Late}
-use Rattle.session_runs.specs.declared.calls.OnceAnswer.{OnceAnswer}
-use Rattle.session_runs.specs.declared.calls.OnceAnswer.TheVariants as once
-use Rattle.session_runs.specs.Seen.{SessionSeen}
-use Rattle.session_runs.specs.Told.{ActTold, OnceTold}
+use Rattle.conformance.specs.declared.sessions.calls.OnceAnswer.{OnceAnswer}
+use Rattle.conformance.specs.declared.sessions.calls.OnceAnswer.TheVariants as once
+use Rattle.conformance.specs.sessions.Seen.{SessionSeen}
+use Rattle.conformance.specs.sessions.Told.{ActTold, OnceTold}
 use Rattle.session.specs.declared.attempts.EditAnswer.{EditAnswer}
 use Rattle.session.specs.declared.attempts.EditAnswer.TheVariants as edits
 use Rattle.session.specs.Attempts.{AnswersAct, IsLate, act_answer, once_answer}

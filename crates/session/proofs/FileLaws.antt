@@ -6,10 +6,10 @@ use Rattle.vw_cell.specs.Counts.{cell_at}
 use Rattle.vw_cell.specs.Places.{IsInBlock, IsInWorld, block_side}
 use Rattle.vox_read.specs.declared.voxels.Voxel.{Voxel}
 use Rattle.history_model.specs.Worlds.{World}
-use Rattle.node_shapes.specs.Shape.{Shape, ShowsCells, has}
-use Rattle.block_contents.specs.Aligned.{world_block}
-use Rattle.block_walk.specs.Roots.{cells_of}
-use Rattle.block_walk.proofs.LookLaws.{root_side}
+use Rattle.node_words.specs.shapes.Shape.{Shape, ShowsCells, has}
+use Rattle.core_laws.specs.contents.Aligned.{world_block}
+use Rattle.node_words.specs.descent.Roots.{cells_of}
+use Rattle.node_words.proofs.OfDescent.LookLaws.{root_side}
 use Rattle.extract.specs.Listing.{voxels_joined, voxel_if, box_row, box_layer, voxels_of_box}
 
 abbrev pub SameIn : Boxed → (Cell → Bool) → (Cell → Bool) → Type 0

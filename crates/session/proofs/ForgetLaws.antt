@@ -2,12 +2,12 @@
 use Rattle.std.proofs.Common.{◌≡◌, ◌≤◌, List, [], ◌∷◌, ℕ, refl, sym, ◌∙◌, ap, subst, arith, Ok, Err, Some}
 use Rattle.std.specs.List.{Contains}
 use Rattle.history_model.specs.declared.histories.Mark.{Mark}
-use Rattle.node_shapes.proofs.WeightLaws.{weight_of-one}
-use Rattle.node_shapes.specs.Shape.{Shape}
-use Rattle.node_shapes.specs.Weights.{number_of_trees, weigh}
+use Rattle.node_words.proofs.OfShapes.WeightLaws.{weight_of-one}
+use Rattle.node_words.specs.shapes.Shape.{Shape}
+use Rattle.node_words.specs.shapes.Weights.{number_of_trees, weigh}
 use Rattle.node_words.specs.Gathering.{MayHold}
 use Rattle.node_words.specs.Held.{OnlyHeldChanges, SameHeld, Wanted}
-use Rattle.edit_blocks.specs.Blocks.{GoesBack, MayGoBack}
+use Rattle.edit_walk.specs.blocks.Blocks.{GoesBack, MayGoBack}
 use Rattle.conformance.specs.Answers.{mark_of}
 use Rattle.table_rule.specs.LogTelling.{number_seen}
 use Rattle.table_rule.specs.LogViews.{LogView}
@@ -18,10 +18,10 @@ use Rattle.node_table.specs.Seen.{TableSeen, PassSeen}
 use Rattle.version_log.specs.Forgets.{ForgetsVersion, IsOwnMark, RefusesForget}
 use Rattle.version_log.specs.Seeing.{IsDated, LooksOn}
 use Rattle.version_log.specs.declared.forgetting.Forgot.{Forgot}
-use Rattle.versions.specs.declared.refusals.ForgetRefused.{ForgetRefused}
-use Rattle.versions.specs.declared.refusals.ForgetRefused.TheVariants.{NoVersion, IsHead, Forgotten}
-use Rattle.session_runs.specs.Seen.{SessionSeen}
-use Rattle.session_runs.specs.Told.{ForgetTold}
+use Rattle.retain.specs.declared.refusals.ForgetRefused.{ForgetRefused}
+use Rattle.retain.specs.declared.refusals.ForgetRefused.TheVariants.{NoVersion, IsHead, Forgotten}
+use Rattle.conformance.specs.sessions.Seen.{SessionSeen}
+use Rattle.conformance.specs.sessions.Told.{ForgetTold}
 use Rattle.hands.specs.Lendable.{StaysLendable}
 use Rattle.session.specs.Resting.{IsAtRest}
 use Rattle.session.specs.Seen.{KnowsItself, WorldSeen, log_seen, of_world, session_seen}

@@ -7,34 +7,34 @@ use Rattle.history_model.specs.declared.histories.Mark.{Mark}
 use Rattle.history_model.specs.declared.histories.Record.{Record}
 use Rattle.history_model.specs.Positions.{first_of, position_after}
 use Rattle.history_model.specs.Worlds.{is_edit}
-use Rattle.node_shapes.specs.declared.names.Name.{Name}
-use Rattle.node_shapes.specs.Tree.{Tree}
-use Rattle.node_shapes.specs.Weights.{number_of_trees}
+use Rattle.node_words.specs.declared.shapes.names.Name.{Name}
+use Rattle.node_words.specs.shapes.Tree.{Tree}
+use Rattle.node_words.specs.shapes.Weights.{number_of_trees}
 use Rattle.node_words.specs.Held.{SameHeld}
-use Rattle.block_contents.specs.Versions.{IsUnmarked}
+use Rattle.core_laws.specs.contents.Versions.{IsUnmarked}
 use Rattle.conformance.specs.Answers.{target_at}
 use Rattle.conformance.proofs.LineKinds.{redo_target, undo_target}
-use Rattle.versions.specs.Listing.{Found}
+use Rattle.retain.specs.Listing.{Found}
 use Rattle.table_rule.specs.LogTelling.{IsShownUnmarked, number_seen, seen_has}
 use Rattle.table_rule.specs.LogViews.{LogView}
 use Rattle.table_rule.specs.Views.{SeatView}
 use Rattle.node_table.specs.LogChanges.{HasOpenTarget}
-use Rattle.node_places.specs.Spots.{Version}
+use Rattle.core_laws.specs.places.Spots.{Version}
 use Rattle.node_table.specs.LogTurns.{FoundMark, FoundOpen, LearnsLog, LooksForMark}
 use Rattle.node_table.specs.Seen.{PassSeen}
 use Rattle.version_log.proofs.LookLaws.{found_looks, learns_looks, looks_on}
 use Rattle.version_log.proofs.UndoLaws.{target_made, target_open}
 use Rattle.version_log.specs.declared.ahead.Ahead.{Ahead}
-use Rattle.edit_blocks.specs.Blocks.{GoesBack}
+use Rattle.edit_walk.specs.blocks.Blocks.{GoesBack}
 use Rattle.version_log.specs.Falling.{CommitsNext}
 use Rattle.version_log.specs.declared.committed.Committed.{Committed}
 use Rattle.version_log.specs.Keeping.{OnlyKeeps}
 use Rattle.version_log.specs.Roots.{GetsRoot, HoldsRootOf}
 use Rattle.version_log.specs.Seeing.{LooksOn}
 use Rattle.version_log.specs.Targets.{IsMadeNow, KnowsNext, act_target}
-use Rattle.session_runs.specs.declared.calls.ActAnswer.{ActAnswer}
-use Rattle.session_runs.specs.declared.calls.ActAnswer.TheVariants as acts
-use Rattle.session_runs.specs.Told.{ActTold, HasFoundWay}
+use Rattle.conformance.specs.declared.sessions.calls.ActAnswer.{ActAnswer}
+use Rattle.conformance.specs.declared.sessions.calls.ActAnswer.TheVariants as acts
+use Rattle.conformance.specs.sessions.Told.{ActTold, HasFoundWay}
 use Rattle.session.specs.Attempts.{AnswersAct, nothing_to}
 use Rattle.session.specs.Seen.{WorldSeen, of_world, session_seen}
 use Rattle.session.proofs.CommitLaws.{few_gained, held_by}

@@ -7,12 +7,12 @@ use Rattle.std.proofs.lemmas.Bool.{le-leb}
 use Rattle.history_model.specs.declared.acts.Act.{Act}
 use Rattle.history_model.specs.declared.histories.Mark.{Mark}
 use Rattle.history_model.specs.declared.histories.Record.{Record}
-use Rattle.node_shapes.specs.declared.names.Name.{Name}
-use Rattle.node_shapes.specs.Tree.{Tree}
-use Rattle.node_shapes.specs.Weights.{number_of_trees}
+use Rattle.node_words.specs.declared.shapes.names.Name.{Name}
+use Rattle.node_words.specs.shapes.Tree.{Tree}
+use Rattle.node_words.specs.shapes.Weights.{number_of_trees}
 use Rattle.node_words.specs.Held.{SameHeld}
-use Rattle.edit_blocks.specs.Blocks.{GoesBack, MayGoBack}
-use Rattle.versions.specs.Retained.{falls_out, is_marked_by}
+use Rattle.edit_walk.specs.blocks.Blocks.{GoesBack, MayGoBack}
+use Rattle.retain.specs.Retained.{falls_out, is_marked_by}
 use Rattle.conformance.specs.Answers.{IsRecordOf, mark_of}
 use Rattle.table_rule.specs.LogTelling.{number_seen}
 use Rattle.table_rule.specs.Rules.{SameSession}
@@ -24,12 +24,12 @@ use Rattle.version_log.specs.Roots.{GetsRoot}
 use Rattle.version_log.specs.Seeing.{KnowsMore}
 use Rattle.version_log.specs.declared.committed.Committed.{Committed}
 use Rattle.version_log.proofs.RootLaws.{no_root_gains}
-use Rattle.session_runs.specs.declared.calls.ActAnswer.TheVariants as acts
-use Rattle.session_runs.specs.Calls.{AppendsOwn, numbered_change}
-use Rattle.session_runs.specs.Fallen.{PushedOut, PushesOut}
-use Rattle.session_runs.specs.Seen.{SessionSeen, of_session}
-use Rattle.session_runs.specs.Told.{ActDone, ActTold}
-use Rattle.session_runs.proofs.Fallen.{any_there}
+use Rattle.conformance.specs.declared.sessions.calls.ActAnswer.TheVariants as acts
+use Rattle.conformance.specs.sessions.Calls.{AppendsOwn, numbered_change}
+use Rattle.conformance.specs.sessions.Fallen.{PushedOut, PushesOut}
+use Rattle.conformance.specs.sessions.Seen.{SessionSeen, of_session}
+use Rattle.conformance.specs.sessions.Told.{ActDone, ActTold}
+use Rattle.conformance.proofs.OfSessions.Fallen.{any_there}
 use Rattle.session.specs.Attempts.{AnswersAct}
 use Rattle.session.specs.Seen.{WorldSeen, of_world, session_seen}
 use Rattle.session.proofs.CommitLaws.{appended_held, appends_knows, appends_session, back_same, done_alone, few_gained, held_itself, held_on, may_back, same_number_held}

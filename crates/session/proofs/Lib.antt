@@ -21,4 +21,4 @@ mod PinFiles
 mod ActLaws
 mod SaveLaws
 mod DeskLaws
-pub use Rattle.world_answers.proofs.Quarters
+pub use Rattle.act_rebuilds.proofs.Quarters

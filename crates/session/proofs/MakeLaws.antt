@@ -8,29 +8,29 @@ use Rattle.history_model.specs.Logs.{FitsWorld}
 use Rattle.history_model.specs.Parts.{after_parts}
 use Rattle.history_model.specs.Stores.{edit_parts, edited_in, made_by_parts, stored_in}
 use Rattle.history_model.specs.Worlds.{World}
-use Rattle.node_shapes.specs.declared.names.Name.{Name}
-use Rattle.node_shapes.specs.Shape.{Shape, ShowsCells}
-use Rattle.node_shapes.specs.Tree.{shape_of}
-use Rattle.node_shapes.proofs.TreeLaws.{level_of}
+use Rattle.node_words.specs.declared.shapes.names.Name.{Name}
+use Rattle.node_words.specs.shapes.Shape.{Shape, ShowsCells}
+use Rattle.node_words.specs.shapes.Tree.{shape_of}
+use Rattle.node_words.proofs.OfShapes.TreeLaws.{level_of}
 use Rattle.node_words.specs.declared.shares.Full.{Full}
 use Rattle.node_words.specs.Gathering.{Grew, unchanged, one}
 use Rattle.node_words.specs.Held.{IsSought, Wanted}
 use Rattle.node_words.specs.Plans.{Layout}
-use Rattle.cell_shapes.proofs.CellShapeLaws.{shape_with-canonical}
-use Rattle.block_walk.specs.Roots as walks
-use Rattle.edit_cells.specs.Worlds.{Rebuilt, ShowsWorld, world_cells, world_shape}
-use Rattle.edit_cells.proofs.WorldLaws.{shape_shows}
+use Rattle.node_words.proofs.OfContents.CellShapeLaws.{shape_with-canonical}
+use Rattle.node_words.specs.descent.Roots as walks
+use Rattle.edit_walk.specs.cells.Worlds.{Rebuilt, ShowsWorld, world_cells, world_shape}
+use Rattle.edit_walk.proofs.OfCells.WorldLaws.{shape_shows}
 use Rattle.hands.specs.Acts.{GrowsByAct, IsLargeFor, IsOfAct, RebuildsAct, RefusesAct}
 use Rattle.hands.specs.Made.{FailsBy, GrowsBy}
-use Rattle.block_contents.specs.Aligned.{top, world_block}
-use Rattle.session_runs.specs.Keeping.{IsWanted, MakesPart}
-use Rattle.conformance.specs.Needed.{made_of}
+use Rattle.core_laws.specs.contents.Aligned.{top, world_block}
+use Rattle.conformance.specs.scripts.Keeping.{IsWanted, MakesPart}
+use Rattle.conformance.specs.possible.Needed.{made_of}
 use Rattle.table_rule.specs.LogTelling.{number_seen, seen_has}
 use Rattle.table_rule.specs.LogViews.{LogView}
 use Rattle.table_rule.specs.Views.{seen_of}
 use Rattle.node_table.specs.Seen.{TableSeen, PassSeen}
 use Rattle.version_log.specs.Roots.{HoldsRootOf}
-use Rattle.session_runs.specs.Calls.{AcceptsNothing, NotesFor}
+use Rattle.conformance.specs.sessions.Calls.{AcceptsNothing, NotesFor}
 use Rattle.hands.specs.Lendable.{IsLendable, StaysLendable}
 use Rattle.session.specs.Attempts.{FailsToMake, IsMaker, MakesNextRoot, WorksOn}
 use Rattle.session.specs.Seen.{session_seen}

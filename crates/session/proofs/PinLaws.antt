@@ -4,19 +4,19 @@ use Rattle.std.specs.List.{Contains}
 use Rattle.history_model.specs.declared.questions.Question.{Question}
 use Rattle.transcript.specs.declared.answers.Answer.{Answer}
 use Rattle.conformance.specs.Telling.{Tells, count}
-use Rattle.node_shapes.specs.declared.names.Name.{Name}
-use Rattle.node_shapes.specs.Weights.{weigh}
+use Rattle.node_words.specs.declared.shapes.names.Name.{Name}
+use Rattle.node_words.specs.shapes.Weights.{weigh}
 use Rattle.node_words.specs.Held.{Seen}
 use Rattle.node_words.specs.Plans.{Layout}
-use Rattle.edit_blocks.specs.Blocks.{MayGoBack}
-use Rattle.block_walk.specs.Roots as walks
-use Rattle.edit_cells.specs.Worlds.{ShowsWorld}
+use Rattle.edit_walk.specs.blocks.Blocks.{MayGoBack}
+use Rattle.node_words.specs.descent.Roots as walks
+use Rattle.edit_walk.specs.cells.Worlds.{ShowsWorld}
 use Rattle.history_model.specs.declared.questions.Question.TheVariants.{Count}
 use Rattle.history_model.specs.Tints.{Tints}
 use Rattle.history_model.specs.Worlds.{World}
 use Rattle.vw_cell.specs.declared.boxes.Boxed.{Boxed}
 use Rattle.vw_cell.specs.Counts.{number_in}
-use Rattle.world_answers.specs.TellsRoots.{TellsRoot}
+use Rattle.act_rebuilds.specs.questions.TellsRoots.{TellsRoot}
 use Rattle.table_rule.specs.LogTelling.{seen_has}
 use Rattle.table_rule.specs.LogViews.{LogView}
 use Rattle.table_rule.specs.Views.{SeatView, seen_of}
@@ -24,7 +24,7 @@ use Rattle.node_table.specs.Seen.{TableSeen, PassSeen}
 use Rattle.version_log.specs.declared.pinned.Pinned.{Pinned}
 use Rattle.version_log.specs.Pins.{IsPinned}
 use Rattle.hands.specs.Lendable.{StaysLendable}
-use Rattle.session_runs.specs.Told.{TellsKept, plainly_tinted}
+use Rattle.conformance.specs.sessions.Told.{TellsKept, plainly_tinted}
 use Rattle.session.specs.Roots.{TellsHeld}
 use Rattle.session.specs.Saves.{cells_counted}
 use Rattle.session.specs.Resting.{IsAtRest}

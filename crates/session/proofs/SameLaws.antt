@@ -3,16 +3,16 @@ use Rattle.std.proofs.Common.{◌≡◌, ◌^◌, ◌<◌, ◌↔◌, List, ℕ,
 use Rattle.std.specs.Prelude.{IfOk, IfErr, IsTrue, Result}
 use Rattle.vox_read.specs.Contents.{Content}
 use Rattle.history_model.specs.Stores.{stored_in}
-use Rattle.block_contents.specs.Versions.{SameWorld}
+use Rattle.core_laws.specs.contents.Versions.{SameWorld}
 use Rattle.table_rule.specs.LogTelling.{number_seen}
 use Rattle.table_rule.specs.Views.{SeatView}
 use Rattle.version_log.specs.Sames.{IsFoundOpen, RefusesVersion, RefusesSame, TellsSame, length_told}
 use Rattle.version_log.specs.Seeing.{LooksOn}
-use Rattle.versions.specs.declared.comparing.SameAt.{SameAt}
-use Rattle.versions.specs.declared.comparing.SameRefused.{SameRefused}
-use Rattle.versions.specs.declared.comparing.SameRefused.TheVariants.{NoVersion, Forgotten}
-use Rattle.session_runs.specs.Calls.{FindsVersion}
-use Rattle.session_runs.specs.Told.{IsEqual, NamesVersion, SameTold}
+use Rattle.retain.specs.declared.comparing.SameAt.{SameAt}
+use Rattle.retain.specs.declared.comparing.SameRefused.{SameRefused}
+use Rattle.retain.specs.declared.comparing.SameRefused.TheVariants.{NoVersion, Forgotten}
+use Rattle.conformance.specs.sessions.Calls.{FindsVersion}
+use Rattle.conformance.specs.sessions.Told.{IsEqual, NamesVersion, SameTold}
 use Rattle.session.specs.Seen.{WorldSeen, of_world, session_seen}
 use Rattle.session.proofs.SeenLaws.{only_sees}
 

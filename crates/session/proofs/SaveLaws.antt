@@ -8,16 +8,16 @@ use Rattle.vw_cell.specs.Counts.{number_in}
 use Rattle.vox_read.specs.Contents.{Content}
 use Rattle.history_model.specs.Stores.{store_has, stored_in}
 use Rattle.history_model.specs.Worlds.{World}
-use Rattle.node_shapes.proofs.WeightLaws.{weigh-cons, weight_of-one}
-use Rattle.node_shapes.specs.declared.names.Name.{Name}
-use Rattle.node_shapes.specs.Shape.{ShowsCells}
-use Rattle.node_shapes.specs.Tree.{Tree, shape_of}
-use Rattle.node_shapes.specs.Weights.{weigh, weight_of, number_of_trees}
+use Rattle.node_words.proofs.OfShapes.WeightLaws.{weigh-cons, weight_of-one}
+use Rattle.node_words.specs.declared.shapes.names.Name.{Name}
+use Rattle.node_words.specs.shapes.Shape.{ShowsCells}
+use Rattle.node_words.specs.shapes.Tree.{Tree, shape_of}
+use Rattle.node_words.specs.shapes.Weights.{weigh, weight_of, number_of_trees}
 use Rattle.node_words.specs.Gathering.{Loses, MayHold}
 use Rattle.node_words.specs.Held.{SameHeld}
 use Rattle.node_words.specs.Plans.{Layout}
-use Rattle.edit_blocks.specs.Blocks.{GoesBack, MayGoBack}
-use Rattle.block_contents.specs.Aligned.{top, world_block}
+use Rattle.edit_walk.specs.blocks.Blocks.{GoesBack, MayGoBack}
+use Rattle.core_laws.specs.contents.Aligned.{top, world_block}
 use Rattle.conformance.specs.Answers.{asked_version}
 use Rattle.table_rule.specs.LogTelling.{seen_has}
 use Rattle.table_rule.specs.Telling.{ViewTells}
@@ -26,10 +26,10 @@ use Rattle.node_table.specs.Seen.{TableSeen, PassSeen, SamePass}
 use Rattle.version_log.specs.Pins.{PinsVersion}
 use Rattle.version_log.specs.Seeing.{LooksOn}
 use Rattle.version_log.specs.declared.pinned.Pinned.{Pinned}
-use Rattle.session_runs.proofs.SuitLaws.{store_stays}
-use Rattle.session_runs.specs.Seen.{SessionSeen}
-use Rattle.session_runs.specs.Calls.{FindsVersion, FollowsHistory}
-use Rattle.session_runs.specs.Told.{Saved}
+use Rattle.conformance.proofs.OfSessions.SuitLaws.{store_stays}
+use Rattle.conformance.specs.sessions.Seen.{SessionSeen}
+use Rattle.conformance.specs.sessions.Calls.{FindsVersion, FollowsHistory}
+use Rattle.conformance.specs.sessions.Told.{Saved}
 use Rattle.session.proofs.AskLaws.{asked_as, held_or_gone}
 use Rattle.session.proofs.SameLaws.{finds}
 use Rattle.session.proofs.SeenLaws.{models_stay, only_sees}

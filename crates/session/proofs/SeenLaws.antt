@@ -4,11 +4,11 @@ use Rattle.std.specs.Prelude.{All, sum_by}
 use Rattle.std.specs.List.{Contains}
 use Rattle.std.proofs.lemmas.List.Elements.{All-contains_itself, All-weaker}
 use Rattle.history_model.specs.declared.histories.Mark.{Mark}
-use Rattle.node_shapes.specs.Shape.{Shape}
+use Rattle.node_words.specs.shapes.Shape.{Shape}
 use Rattle.node_words.specs.Held.{Wanted}
 use Rattle.node_words.specs.Plans.{Layout}
 use Rattle.conformance.specs.Answers.{GoesOn}
-use Rattle.session_runs.specs.Keeping.{MadeAndMet}
+use Rattle.conformance.specs.scripts.Keeping.{MadeAndMet}
 use Rattle.table_rule.specs.LogKnowing.{OwnsIn, if_among}
 use Rattle.table_rule.specs.LogTelling.{number_seen}
 use Rattle.table_rule.specs.Telling.{ViewTells}
@@ -16,9 +16,9 @@ use Rattle.table_rule.specs.Views.{SeatView}
 use Rattle.node_table.specs.LogTurns.{HasNoTurn}
 use Rattle.node_table.specs.Seen.{TableSeen, PassSeen, BelongsTo}
 use Rattle.version_log.specs.Seeing.{IsDated, KnowsMore, LooksOn}
-use Rattle.session_runs.proofs.Gathered.{ListsOwn, marks_own}
-use Rattle.session_runs.specs.Calls.{FollowsHistory, OnlySees}
-use Rattle.session_runs.specs.Told.{HeadTold}
+use Rattle.conformance.proofs.OfSessions.Gathered.{ListsOwn, marks_own}
+use Rattle.conformance.specs.sessions.Calls.{FollowsHistory, OnlySees}
+use Rattle.conformance.specs.sessions.Told.{HeadTold}
 use Rattle.session.specs.Resting.{IsAtRest}
 use Rattle.session.specs.Seen.{KnowsItself, log_seen, session_seen}
 

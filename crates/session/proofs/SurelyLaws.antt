@@ -1,23 +1,23 @@
 -- An edit under the log's turn, for each of its outcomes.
 use Rattle.std.proofs.Common.{◌≡◌, ◌≤◌, ℕ, Option, List, length, sym, ◌∙◌, ap, subst, arith}
 use Rattle.history_model.specs.declared.acts.Act.{Act}
-use Rattle.node_shapes.specs.declared.names.Name.{Name}
-use Rattle.node_shapes.specs.Tree.{Tree}
-use Rattle.node_shapes.specs.Weights.{number_of_trees}
+use Rattle.node_words.specs.declared.shapes.names.Name.{Name}
+use Rattle.node_words.specs.shapes.Tree.{Tree}
+use Rattle.node_words.specs.shapes.Weights.{number_of_trees}
 use Rattle.node_words.proofs.HeldLaws.{Keeps}
 use Rattle.node_words.specs.declared.shares.Full.{Full}
 use Rattle.node_words.specs.Held.{SameHeld}
 use Rattle.table_rule.specs.LogTelling.{number_seen}
 use Rattle.table_rule.specs.Views.{SeatView}
-use Rattle.edit_blocks.specs.Blocks.{GoesBack}
+use Rattle.edit_walk.specs.blocks.Blocks.{GoesBack}
 use Rattle.version_log.specs.Falling.{CommitsNext}
 use Rattle.version_log.specs.declared.committed.Committed.{Committed}
 use Rattle.version_log.specs.Finishing.{RefusesFinish}
 use Rattle.version_log.specs.Roots.{GetsRoot}
 use Rattle.version_log.specs.declared.refusals.SureRefused.{SureRefused}
 use Rattle.version_log.specs.declared.refusals.SureRefused.TheVariants.{LogFull}
-use Rattle.session_runs.specs.declared.calls.ActAnswer.TheVariants as acts
-use Rattle.session_runs.specs.Seen.{SessionSeen}
+use Rattle.conformance.specs.declared.sessions.calls.ActAnswer.TheVariants as acts
+use Rattle.conformance.specs.sessions.Seen.{SessionSeen}
 use Rattle.session.specs.Attempts.{AnswersAct, FailsToMake, MakesNextRoot}
 use Rattle.session.specs.Seen.{WorldSeen, session_seen}
 use Rattle.session.proofs.CommitLaws.{few_gained, full_answers, held_by, held_on, same_number_held}

@@ -5,10 +5,10 @@ use Rattle.history_model.specs.declared.histories.Mark.{Mark}
 use Rattle.history_model.specs.declared.histories.Record.{Record}
 use Rattle.history_model.specs.Stores.{stored_in}
 use Rattle.history_model.specs.Worlds.{World}
-use Rattle.node_shapes.specs.declared.names.Name.{Name}
-use Rattle.node_shapes.specs.Tree.{Tree}
-use Rattle.node_shapes.specs.Weights.{number_of_trees}
-use Rattle.node_places.specs.Spots.{LogLength}
+use Rattle.node_words.specs.declared.shapes.names.Name.{Name}
+use Rattle.node_words.specs.shapes.Tree.{Tree}
+use Rattle.node_words.specs.shapes.Weights.{number_of_trees}
+use Rattle.core_laws.specs.places.Spots.{LogLength}
 use Rattle.table_rule.specs.LogKnowing.{IsPrefix}
 use Rattle.table_rule.specs.LogTelling.{IsShownUnmarked, number_seen, seen_has}
 use Rattle.table_rule.specs.LogViews.{LogView}

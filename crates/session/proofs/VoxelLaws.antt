@@ -5,24 +5,24 @@ use Rattle.vw_cell.specs.declared.boxes.Boxed.{Boxed}
 use Rattle.vw_cell.specs.declared.cells.Cell.{Cell}
 use Rattle.vw_cell.specs.Counts.{cell_at}
 use Rattle.vw_cell.specs.Places.{FitsAt, IsInWorld, half_x, half_y, half_z}
-use Rattle.node_shapes.specs.Sums.{one_if}
+use Rattle.node_words.specs.Sums.{one_if}
 use Rattle.vox_read.specs.declared.voxels.Voxel.{Voxel}
 use Rattle.vox_read.specs.Contents.{IsSize, StandsInside}
 use Rattle.vox_write.specs.Written.{model_file}
-use Rattle.cell_shapes.specs.CellShapes.{bits_below}
-use Rattle.node_shapes.specs.declared.names.Name.{Name}
-use Rattle.node_shapes.specs.Tree.{Tree, shape_of}
-use Rattle.block_walk.specs.Roots.{ForWorld, HoldsRoot, cells_of}
-use Rattle.block_walk.proofs.BlockLaws.{root_block}
+use Rattle.node_words.specs.contents.CellShapes.{bits_below}
+use Rattle.node_words.specs.declared.shapes.names.Name.{Name}
+use Rattle.node_words.specs.shapes.Tree.{Tree, shape_of}
+use Rattle.node_words.specs.descent.Roots.{ForWorld, HoldsRoot, cells_of}
+use Rattle.node_words.proofs.OfDescent.BlockLaws.{root_block}
 use Rattle.history_model.specs.Logs.{kept_side}
 use Rattle.history_model.specs.Planes.{plane_at}
 use Rattle.history_model.specs.Worlds.{World, plus}
-use Rattle.tints.specs.Planes.{tint_in}
+use Rattle.core_laws.specs.tints.Planes.{tint_in}
 use Rattle.extract.specs.Listing.{voxels_of_box}
 use Rattle.extract.proofs.SavedLaws.{few_voxels, is_size, voxels_inside}
-use Rattle.world_answers.specs.Reading.{voxel_cell, with_tint}
-use Rattle.world_answers.proofs.Quarters.{four_quarters, quarter_is}
-use Rattle.world_answers.proofs.TintTells.{box_within}
+use Rattle.act_rebuilds.specs.Reading.{voxel_cell, with_tint}
+use Rattle.act_rebuilds.proofs.Quarters.{four_quarters, quarter_is}
+use Rattle.act_rebuilds.proofs.OfQuestions.TintTells.{box_within}
 use Rattle.session.proofs.FileLaws.{SameIn, same_voxels}
 use Rattle.session.specs.Roots.{file_kept, voxels_kept}
 

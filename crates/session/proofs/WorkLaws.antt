@@ -6,12 +6,12 @@ use Rattle.vox_read.specs.Contents.{Content}
 use Rattle.history_model.specs.declared.acts.Act.{Act}
 use Rattle.history_model.specs.declared.histories.Mark.{Mark}
 use Rattle.history_model.specs.Logs.{Log}
-use Rattle.node_shapes.specs.Shape.{Shape}
+use Rattle.node_words.specs.shapes.Shape.{Shape}
 use Rattle.node_words.specs.Plans.{Layout}
 use Rattle.conformance.specs.Answers.{GoesOn}
 use Rattle.conformance.specs.Shown.{Accepted}
-use Rattle.session_runs.specs.Keeping.{MadeAndMet, MakesPart}
-use Rattle.session_runs.proofs.Refusals.{wanted_stays}
+use Rattle.conformance.specs.scripts.Keeping.{MadeAndMet, MakesPart}
+use Rattle.conformance.proofs.OfScripts.Refusals.{wanted_stays}
 use Rattle.table_rule.specs.LogKnowing.{IsPrefix}
 use Rattle.table_rule.specs.LogViews.{LogView}
 use Rattle.table_rule.specs.Rules.{SameSession}
@@ -19,13 +19,13 @@ use Rattle.table_rule.specs.Views.{SeatView}
 use Rattle.node_table.specs.Seen.{TableSeen}
 use Rattle.version_log.proofs.LookLaws.{begins_itself, begins_on}
 use Rattle.version_log.specs.Seeing.{FoundStays, IsDated, KnowsMore, LooksOn}
-use Rattle.session_runs.specs.declared.calls.ActAnswer.{ActAnswer}
-use Rattle.session_runs.specs.declared.calls.ActAnswer.TheVariants as acts
-use Rattle.versions.specs.Retained.{falls_out}
-use Rattle.session_runs.specs.Calls.{AcceptsNothing, AppendsOwn, MeetsFullBucket, NotesFor, FollowsHistory, numbered_change}
-use Rattle.session_runs.specs.Fallen.{PushesOut}
-use Rattle.session_runs.specs.Seen.{SessionSeen}
-use Rattle.session_runs.specs.Told.{ActTold}
+use Rattle.conformance.specs.declared.sessions.calls.ActAnswer.{ActAnswer}
+use Rattle.conformance.specs.declared.sessions.calls.ActAnswer.TheVariants as acts
+use Rattle.retain.specs.Retained.{falls_out}
+use Rattle.conformance.specs.sessions.Calls.{AcceptsNothing, AppendsOwn, MeetsFullBucket, NotesFor, FollowsHistory, numbered_change}
+use Rattle.conformance.specs.sessions.Fallen.{PushesOut}
+use Rattle.conformance.specs.sessions.Seen.{SessionSeen}
+use Rattle.conformance.specs.sessions.Told.{ActTold}
 use Rattle.session.specs.Attempts.{AnswersAct, WorksOn}
 use Rattle.session.specs.Seen.{WorldSeen, of_world, session_seen}
 use Rattle.session.proofs.SeenLaws.{only_sees}

@@ -6,7 +6,7 @@ use Rattle.history_model.specs.declared.acts.Act.TheVariants.{Undo}
 use Rattle.history_model.specs.Logs.{FitsWorld, suits_tints}
 use Rattle.history_model.specs.Worlds.{is_edit}
 use Rattle.hands.specs.Acts.{IsLargeFor}
-use Rattle.node_shapes.specs.declared.names.Name.{Name}
+use Rattle.node_words.specs.declared.shapes.names.Name.{Name}
 use Rattle.node_words.specs.declared.shares.Full.{Full}
 use Rattle.node_words.specs.Held.{SameHeld}
 use Rattle.table_rule.specs.LogTelling.{number_seen}
@@ -18,12 +18,12 @@ use Rattle.version_log.specs.Commits.{IsMadeOver}
 use Rattle.version_log.specs.Pins.{IsPinned}
 use Rattle.version_log.specs.Roots.{GetsRoot}
 use Rattle.version_log.specs.Seeing.{KnowsMore}
-use Rattle.session_runs.specs.declared.calls.ActAnswer.{ActAnswer}
-use Rattle.session_runs.specs.declared.calls.ActAnswer.TheVariants as acts
-use Rattle.session_runs.specs.declared.calls.OnceAnswer.{OnceAnswer}
-use Rattle.session_runs.specs.declared.calls.OnceAnswer.TheVariants as once
-use Rattle.session_runs.specs.Calls.{AcceptsNothing, MeetsFullBucket, NotesFor}
-use Rattle.session_runs.specs.Told.{ActTold}
+use Rattle.conformance.specs.declared.sessions.calls.ActAnswer.{ActAnswer}
+use Rattle.conformance.specs.declared.sessions.calls.ActAnswer.TheVariants as acts
+use Rattle.conformance.specs.declared.sessions.calls.OnceAnswer.{OnceAnswer}
+use Rattle.conformance.specs.declared.sessions.calls.OnceAnswer.TheVariants as once
+use Rattle.conformance.specs.sessions.Calls.{AcceptsNothing, MeetsFullBucket, NotesFor}
+use Rattle.conformance.specs.sessions.Told.{ActTold}
 use Rattle.session.specs.declared.attempts.EditAnswer.{EditAnswer}
 use Rattle.session.specs.declared.attempts.EditAnswer.TheVariants as edits
 use Rattle.session.specs.declared.attempts.Late.{Late}

@@ -2,7 +2,7 @@
 use Rattle.std.specs.Prelude.{◌≡◌, ◌≢◌, Bool, List, length, map}
 use Rattle.node_table.specs.Seen.{PassSeen}
 use Rattle.node_table.specs.declared.closed.Closed.{Closed}
-use Rattle.session_runs.specs.Seen.{SessionSeen}
+use Rattle.conformance.specs.sessions.Seen.{SessionSeen}
 use Rattle.session.specs.Seen.{WorldSeen, session_seen}
 use Rattle.session.specs.declared.closes.CloseRefused.{CloseRefused}
 use Rattle.session.specs.declared.closes.CloseRefused.TheVariants.{Count, Memory}

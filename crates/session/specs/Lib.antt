@@ -10,4 +10,4 @@ pub use Rattle.hands.specs.Lendable
 pub use Rattle.version_log.specs.declared.pinned.Pinned
 pub use Rattle.version_log.specs.Seeing
 pub use Rattle.extract.specs.Saved
-pub use Rattle.world_answers.specs.Reading
+pub use Rattle.act_rebuilds.specs.Reading

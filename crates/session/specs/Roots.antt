@@ -7,11 +7,11 @@ use Rattle.vox_write.specs.Written.{model_file}
 use Rattle.history_model.specs.Worlds.{World}
 use Rattle.history_model.specs.declared.questions.Question.{Question}
 use Rattle.transcript.specs.declared.answers.Answer.{Answer}
-use Rattle.node_shapes.specs.declared.names.Name.{Name}
-use Rattle.node_shapes.specs.Tree.{Tree}
+use Rattle.node_words.specs.declared.shapes.names.Name.{Name}
+use Rattle.node_words.specs.shapes.Tree.{Tree}
 use Rattle.extract.specs.Listing.{voxels_of_box}
-use Rattle.world_answers.specs.Reading.{tinted_voxels}
-use Rattle.world_answers.specs.TellsRoots.{TellsRoot, TellsTinted}
+use Rattle.act_rebuilds.specs.Reading.{tinted_voxels}
+use Rattle.act_rebuilds.specs.questions.TellsRoots.{TellsRoot, TellsTinted}
 
 -- the answer tells what the question asks of the worlds that the root shows, or of those whose
 -- tints its store keeps

@@ -2,20 +2,20 @@
 use Rattle.std.specs.Prelude.{◌≡◌, ℕ, ◌≤◌, Some, List, length, map, Result, Ok, Err}
 use Rattle.std.specs.List.{AllZip, Contains, sum_by}
 use Rattle.history_model.specs.Stores.{store_has}
-use Rattle.node_shapes.specs.declared.names.Name.{Name}
-use Rattle.node_shapes.specs.Shape.{ShowsCells}
-use Rattle.node_shapes.specs.Tree.{Tree, root_of, shape_of}
-use Rattle.node_shapes.specs.Weights.{weigh, weight_of}
+use Rattle.node_words.specs.declared.shapes.names.Name.{Name}
+use Rattle.node_words.specs.shapes.Shape.{ShowsCells}
+use Rattle.node_words.specs.shapes.Tree.{Tree, root_of, shape_of}
+use Rattle.node_words.specs.shapes.Weights.{weigh, weight_of}
 use Rattle.node_words.specs.Gathering.{Loses}
-use Rattle.block_contents.specs.Aligned.{top, world_block}
+use Rattle.core_laws.specs.contents.Aligned.{top, world_block}
 use Rattle.transcript.specs.declared.answers.Answer.{Answer}
 use Rattle.transcript.specs.declared.answers.Answer.TheVariants as answers
 use Rattle.table_rule.specs.Views.{SeatView}
 use Rattle.node_table.specs.Seen.{TableSeen}
 use Rattle.version_log.specs.declared.pinned.Pinned.{Pinned}
-use Rattle.versions.specs.declared.refusals.PinRefused.{PinRefused}
-use Rattle.session_runs.specs.declared.calls.SavedAt.{SavedAt}
-use Rattle.session_runs.specs.Seen.{SessionSeen}
+use Rattle.retain.specs.declared.refusals.PinRefused.{PinRefused}
+use Rattle.conformance.specs.declared.sessions.calls.SavedAt.{SavedAt}
+use Rattle.conformance.specs.sessions.Seen.{SessionSeen}
 use Rattle.session.specs.Seen.{session_seen}
 use Rattle.session.specs.declared.saves.PinnedSave.{PinnedSave}
 

@@ -9,8 +9,8 @@ use Rattle.table_rule.specs.Views.{SeatView}
 use Rattle.node_table.specs.Seen.{TableSeen}
 use Rattle.script.specs.declared.commands.ScriptLine.{ScriptLine}
 use Rattle.script.specs.Fitting.{CommandFits, EditFits}
-use Rattle.session_runs.specs.Calls.{KnowsOwn}
-use Rattle.session_runs.specs.Seen.{SessionOf, SessionSeen, MayTint, session_keeping}
+use Rattle.conformance.specs.sessions.Calls.{KnowsOwn}
+use Rattle.conformance.specs.sessions.Seen.{SessionOf, SessionSeen, MayTint, session_keeping}
 
 -- the log that was seen, as a history; whether it is of a coloured one its world says
 abbrev pub log_seen : LogView → Log

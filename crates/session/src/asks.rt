@@ -1,7 +1,7 @@
 //! What is asked of a version.
 ghost use Rattle.std.specs.Prelude.{◌≡◌, ◌≤◌, ◌^◌, true, ℕ, option_copied};
-ghost use Rattle.node_shapes.specs.Weights.{number_of_trees};
-ghost use Rattle.block_walk.specs.Roots.{HoldsRoot};
+ghost use Rattle.node_words.specs.shapes.Weights.{number_of_trees};
+ghost use Rattle.node_words.specs.descent.Roots.{HoldsRoot};
 ghost use Rattle.node_words.specs.Held.{SameHeld};
 ghost use Rattle.table_rule.specs.Views.{seen_of};
 ghost use Rattle.hands.specs.Lendable.{IsLendable, StaysLendable};
@@ -11,21 +11,21 @@ ghost use Rattle.conformance.specs.Kinds.{is_resting};
 ghost use Rattle.table_rule.specs.LogTelling.{seen_has};
 ghost use Rattle.version_log.specs.declared.pinned.Pinned.{Pinned};
 ghost use Rattle.version_log.specs.Pins.{IsPinned};
-ghost use Rattle.session_runs.specs.Told.{AskTold, TellsKept};
-ghost use Rattle.world_answers.specs.TellsRoots.{TellsRoot};
+ghost use Rattle.conformance.specs.sessions.Told.{AskTold, TellsKept};
+ghost use Rattle.act_rebuilds.specs.questions.TellsRoots.{TellsRoot};
 ghost use Rattle.session.specs.Resting.{IsAtRest};
 ghost use Rattle.session.specs.Roots.{TellsHeld};
 ghost use Rattle.session.specs.Seen.{KnowsItself, of_world, session_seen, side_seen};
 
 use crate::world::{Session, World};
+use act_rebuilds::{tell, tell_tinted};
+use conformance::AskedAt;
 use history_model::Question;
 use node_words::{Share, Steps};
-use session_runs::AskedAt;
 use std::sync::Wait;
 use std::sync::ledger::Ledger;
 use transcript::Answer;
 use version_log::{PinRefused, Pinned};
-use world_answers::{tell, tell_tinted};
 
 impl<'m> World<'m> {
     // What is asked of the cells of the store, by a root that the session holds. It takes no turn

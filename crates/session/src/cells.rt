@@ -1,7 +1,7 @@
 //! The set cells of versions that are pinned, and their files.
 ghost use Rattle.std.specs.Prelude.{◌≡◌, ◌≤◌, ◌++◌, true, IfOk, OnErr, OnOk, option_copied};
 ghost use Rattle.vw_cell.specs.Places.{FitsAt};
-ghost use Rattle.block_walk.specs.Roots.{ForWorld, HoldsRoot};
+ghost use Rattle.node_words.specs.descent.Roots.{ForWorld, HoldsRoot};
 ghost use Rattle.table_rule.specs.LogTelling.{seen_has};
 ghost use Rattle.table_rule.specs.Views.{seen_of};
 ghost use Rattle.hands.specs.Lendable.{IsLendable, StaysLendable};
@@ -13,6 +13,7 @@ ghost use Rattle.session.specs.Roots.{file_kept, voxels_kept};
 ghost use Rattle.session.specs.Seen.{KnowsItself, session_seen, side_seen};
 
 use crate::world::{Session, World};
+use act_rebuilds::tints_in;
 use extract::cells_in;
 use node_words::Share;
 use std::alloc::Global;
@@ -20,7 +21,6 @@ use version_log::Pinned;
 use vox_read::Voxel;
 use vox_write::write_model;
 use vw_cell::{Boxed, Memory};
-use world_answers::tints_in;
 
 impl<'m> World<'m> {
     // The set cells of a box, each with its tint, of the world whose tints the store of a root

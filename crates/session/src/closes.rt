@@ -1,7 +1,7 @@
 //! A world is closed.
 ghost use Rattle.std.specs.Prelude.{◌≡◌, [], All, IfErr, IfOk, vec_len};
 ghost use Rattle.node_table.specs.Closing.{EndsTable};
-ghost use Rattle.session_runs.specs.Ran.{ClosesWorld};
+ghost use Rattle.conformance.specs.sessions.Ran.{ClosesWorld};
 ghost use Rattle.session.specs.Closes.{RefusesWorld, sessions_seen};
 ghost use Rattle.session.specs.Resting.{IsAtRest};
 

@@ -6,18 +6,18 @@ ghost use Rattle.session.specs.Seen.{of_world, session_seen};
 
 use crate::saves::PinnedSave;
 use crate::world::{Session, World};
+use conformance::{
+    ActAnswer, AskedAt, OnceAnswer, SavedAt, SessionCalls, SessionDesk, answer_line,
+};
 use gate_run::Gate;
 use history_model::{Act, Question};
 use node_words::Steps;
+use retain::{ForgetRefused, PinRefused, SameAt, SameRefused};
 use script::{SaveName, ScriptLine};
-use session_runs::{
-    ActAnswer, AskedAt, OnceAnswer, SavedAt, SessionCalls, SessionDesk, answer_line,
-};
 use std::sync::Wait;
 use std::sync::ledger::Ledger;
 use transcript::LineAnswer;
 use version_log::Pinned;
-use versions::{ForgetRefused, PinRefused, SameAt, SameRefused};
 use vw_cell::Boxed;
 
 /// A borrowed session with its world, the pins of what it saved, and the gate that it passes.

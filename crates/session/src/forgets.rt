@@ -1,12 +1,12 @@
 //! Versions are forgotten.
 ghost use Rattle.std.specs.Prelude.{◌≡◌, ◌≤◌, ◌∷◌, [], ℕ};
-ghost use Rattle.node_shapes.specs.Weights.{number_of_trees};
-ghost use Rattle.edit_blocks.specs.Blocks.{GoesBack, MayGoBack};
+ghost use Rattle.node_words.specs.shapes.Weights.{number_of_trees};
+ghost use Rattle.edit_walk.specs.blocks.Blocks.{GoesBack, MayGoBack};
 ghost use Rattle.node_words.specs.Held.{OnlyHeldChanges, SameHeld};
 ghost use Rattle.table_rule.specs.Views.{seen_of};
 ghost use Rattle.hands.specs.Lendable.{IsLendable, StaysLendable};
 ghost use Rattle.node_table.specs.Seen.{SamePass};
-ghost use Rattle.session_runs.specs.Told.{ForgetTold};
+ghost use Rattle.conformance.specs.sessions.Told.{ForgetTold};
 ghost use Rattle.session.specs.Resting.{IsAtRest};
 ghost use Rattle.session.specs.Seen.{KnowsItself, of_world, session_seen};
 

@@ -1,7 +1,7 @@
 //! Versions that are pinned, and what goes back.
 ghost use Rattle.std.specs.Prelude.{◌≡◌, ◌≤◌, None, IfOk, IfErr};
-ghost use Rattle.node_shapes.specs.Weights.{number_of_trees};
-ghost use Rattle.edit_blocks.specs.Blocks.{GoesBack, MayGoBack};
+ghost use Rattle.node_words.specs.shapes.Weights.{number_of_trees};
+ghost use Rattle.edit_walk.specs.blocks.Blocks.{GoesBack, MayGoBack};
 ghost use Rattle.node_table.specs.Seen.{SamePass};
 ghost use Rattle.version_log.specs.Pins.{IsPinned, PinsVersion, RefusesPin};
 ghost use Rattle.version_log.specs.Roots.{GetsRoot};

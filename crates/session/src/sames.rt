@@ -1,7 +1,7 @@
 //! Two versions are compared.
 ghost use Rattle.std.specs.Prelude.{◌≡◌, ℕ};
 ghost use Rattle.node_table.specs.Seen.{SamePass};
-ghost use Rattle.session_runs.specs.Told.{SameTold};
+ghost use Rattle.conformance.specs.sessions.Told.{SameTold};
 ghost use Rattle.session.specs.Resting.{IsAtRest};
 ghost use Rattle.session.specs.Seen.{KnowsItself, of_world, session_seen};
 

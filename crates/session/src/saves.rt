@@ -3,7 +3,7 @@ ghost use Rattle.std.specs.Prelude.{◌≡◌, ◌<◌, ◌≤◌, ℕ, Some, []
 ghost use Rattle.std.specs.List.{slice_get};
 ghost use Rattle.vw_cell.specs.Counts.{number_in};
 ghost use Rattle.vw_cell.specs.Places.{FitsAt};
-ghost use Rattle.node_shapes.specs.Weights.{number_of_trees};
+ghost use Rattle.node_words.specs.shapes.Weights.{number_of_trees};
 ghost use Rattle.node_words.specs.Held.{SameHeld};
 ghost use Rattle.history_model.specs.Stores.{store_has};
 ghost use Rattle.conformance.specs.Answers.{asked_version};
@@ -13,23 +13,23 @@ ghost use Rattle.hands.specs.Lendable.{IsLendable, StaysLendable};
 ghost use Rattle.node_table.specs.Seen.{SamePass};
 ghost use Rattle.version_log.specs.declared.pinned.Pinned.{Pinned};
 ghost use Rattle.version_log.specs.Pins.{IsPinned};
-ghost use Rattle.session_runs.specs.Told.{SaveTold};
+ghost use Rattle.conformance.specs.sessions.Told.{SaveTold};
 ghost use Rattle.session.specs.Resting.{IsAtRest};
 ghost use Rattle.session.specs.Roots.{file_kept};
 ghost use Rattle.session.specs.Saves.{AddsPin, SeatHoldsPins, cells_counted, saved_told};
 ghost use Rattle.session.specs.Seen.{KnowsItself, of_world, session_seen, side_seen};
 
 use crate::world::{Session, World};
+use conformance::SavedAt;
 use history_model::Question;
 use node_words::Steps;
-use session_runs::SavedAt;
+use retain::PinRefused;
 use std::alloc::Global;
 use std::marker::Brand;
 use std::sync::Wait;
 use std::sync::ledger::{Blank, Ledger};
 use transcript::Answer;
 use version_log::Pinned;
-use versions::PinRefused;
 use vw_cell::{Boxed, Memory};
 
 /// What was told of a save, and the pin of its version. It must be spent.

@@ -2,8 +2,8 @@
 ghost use Rattle.std.specs.Prelude.{◌≡◌, ◌+◌, ◌≤◌, ◌<◌, ◌∷◌, [], ℕ, length, vec_capacity, vec_len};
 ghost use Rattle.node_table.specs.Seen.{SamePass};
 ghost use Rattle.script.specs.Fitting.{RisesFrom};
-ghost use Rattle.session_runs.specs.Runs.{RunsScript};
-ghost use Rattle.session_runs.specs.Saves.{saves_asked_in};
+ghost use Rattle.conformance.specs.sessions.Runs.{RunsScript};
+ghost use Rattle.conformance.specs.sessions.Saves.{saves_asked_in};
 ghost use Rattle.session.specs.Resting.{IsAtRest};
 ghost use Rattle.session.specs.Saves.{SeatHoldsPins, pinned_versions};
 ghost use Rattle.session.specs.Scripts.{IsFresh};
@@ -11,10 +11,10 @@ ghost use Rattle.session.specs.Seen.{AreLinesOfWorld, of_world, session_seen};
 
 use crate::desks::ScriptDesk;
 use crate::world::{Session, World};
+use conformance::run_lines;
 use gate_run::Gate;
 use node_words::Steps;
 use script::Script;
-use session_runs::run_lines;
 use std::marker::Brand;
 use std::sync::Wait;
 use std::sync::ledger::{Blank, Ledger};

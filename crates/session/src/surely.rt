@@ -1,6 +1,6 @@
 // An edit under the log's turn, while no other session commits.
 ghost use Rattle.std.specs.Prelude.{◌≡◌, ◌≤◌, option_copied};
-ghost use Rattle.node_shapes.specs.Weights.{number_of_trees};
+ghost use Rattle.node_words.specs.shapes.Weights.{number_of_trees};
 ghost use Rattle.node_words.specs.Held.{SameHeld};
 ghost use Rattle.node_table.specs.Seen.{SamePass};
 ghost use Rattle.table_rule.specs.LogTelling.{number_seen, seen_has};

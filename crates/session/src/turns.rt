@@ -1,7 +1,7 @@
 // A session takes the log's turn, and gives it back.
 ghost use Rattle.std.specs.Prelude.{◌≡◌, ◌≤◌, ◌^◌, IfOk, IfErr};
 ghost use Rattle.history_model.specs.Logs.{FitsWorld};
-ghost use Rattle.node_shapes.specs.Weights.{number_of_trees};
+ghost use Rattle.node_words.specs.shapes.Weights.{number_of_trees};
 ghost use Rattle.table_rule.specs.LogTelling.{number_seen, seen_has};
 ghost use Rattle.node_table.specs.LogChanges.{HasOpenTarget};
 ghost use Rattle.node_table.specs.Seen.{SamePass};

@@ -1,22 +1,22 @@
 // Undos and redos: the version that they go to is looked at under the log's turn.
 ghost use Rattle.std.specs.Prelude.{◌≡◌, ◌≤◌, false, ℕ, IfErr, IfOk};
 ghost use Rattle.history_model.specs.Worlds.{is_edit};
-ghost use Rattle.node_shapes.specs.Weights.{number_of_trees};
+ghost use Rattle.node_words.specs.shapes.Weights.{number_of_trees};
 ghost use Rattle.node_words.specs.Held.{SameHeld};
 ghost use Rattle.node_table.specs.Seen.{SamePass};
 ghost use Rattle.node_table.specs.LogChanges.{HasOpenTarget};
 ghost use Rattle.version_log.specs.Roots.{GetsRoot};
 ghost use Rattle.version_log.specs.Seeing.{LooksOn};
 ghost use Rattle.version_log.specs.Targets.{IsMadeNow, KnowsNext};
-ghost use Rattle.session_runs.specs.Told.{HasFoundWay};
+ghost use Rattle.conformance.specs.sessions.Told.{HasFoundWay};
 ghost use Rattle.session.specs.Attempts.{AnswersAct, nothing_to};
 ghost use Rattle.session.specs.Resting.{HasLog, IsAtRest};
 ghost use Rattle.session.specs.Seen.{session_seen};
 
 use crate::world::{Session, World};
+use conformance::ActAnswer;
 use history_model::Act;
 use node_words::{Share, Steps};
-use session_runs::ActAnswer;
 use std::sync::Wait;
 use std::sync::ledger::Ledger;
 use version_log::{Ahead, Committed, SureRefused};

@@ -15,11 +15,11 @@ use Rattle.history_model.specs.declared.questions.Question.TheVariants as questi
 use Rattle.history_model.specs.Logs.{Log}
 use Rattle.history_model.specs.Tints.{Tints}
 use Rattle.history_model.specs.Worlds.{World, is_edit}
-use Rattle.node_shapes.specs.Shape.{Shape}
+use Rattle.node_words.specs.shapes.Shape.{Shape}
 use Rattle.node_words.specs.declared.shares.Full.{Full}
 use Rattle.node_words.specs.Gathering.{Grew}
 use Rattle.node_words.specs.Plans.{Layout}
-use Rattle.block_contents.specs.Versions.{IsKept}
+use Rattle.core_laws.specs.contents.Versions.{IsKept}
 use Rattle.core_laws.proofs.RootCells.{same_cells, same_root}
 use Rattle.script.specs.declared.commands.Command.TheVariants.{Edit, Forget, Ask, Save, Same, Head}
 use Rattle.script.specs.declared.commands.SaveName.{SaveName}
@@ -33,9 +33,9 @@ use Rattle.conformance.specs.Refusing.{refused_by}
 use Rattle.conformance.specs.Running.{IsSoFar, GrowsByRecord}
 use Rattle.conformance.specs.Telling.{Tells, colour, count}
 use Rattle.conformance.proofs.LineKinds.{kept_readable, marked_forgotten}
-use Rattle.script_runs.specs.Keeping.{MadeAndMet, last_moment}
-use Rattle.script_runs.specs.Sessions.{TakesLine}
-use Rattle.script_runs.proofs.Arms.{rebuilt_arm, undone_arm, forgot_arm, full_arm, late_arm, resting_arm, before_within}
+use Rattle.conformance.specs.scripts.Keeping.{MadeAndMet, last_moment}
+use Rattle.conformance.specs.scripts.Sessions.{TakesLine}
+use Rattle.conformance.proofs.OfScripts.Arms.{rebuilt_arm, undone_arm, forgot_arm, full_arm, late_arm, resting_arm, before_within}
 use Rattle.one_store.specs.Known.{IsStore, known_seen, stored_root}
 use Rattle.store_run.specs.declared.stored_versions.Versions.{Versions}
 use Rattle.store_run.specs.Kept.{plan_of, log_of, moment_of, world_of, tints_of, noted_of, AreVersions, LosesTree, HoldsSame}
@@ -44,7 +44,7 @@ use Rattle.store_run.specs.Answering.{GoesOnBy, nothing_to_go_to, saved_as}
 use Rattle.store_run.proofs.Holding.{same_again}
 use Rattle.store_run.proofs.KeptWorlds.{tints_by_cells, cells_by_tints}
 use Rattle.store_run.proofs.Sparing.{versions_sound, gave_nothing}
-use Rattle.script_runs.proofs.Going.{goes_to}
+use Rattle.conformance.proofs.OfScripts.Going.{goes_to}
 use Rattle.store_run.proofs.Targets.{Wants, grew_wanted, meets_full}
 
 moment_as : (old new : Versions) → log_of new ≡ log_of old → moment_of new ≡ moment_of old
@@ -158,7 +158,7 @@ module _ (v w : Versions) (session line : ℕ) (act : Act) (once : Bool) (are : 
         (sym meets.stay.log) done);
   }
 
-  pub edit_done : (u : Versions) (root : Option Rattle.node_shapes.specs.declared.names.Name.Name)
+  pub edit_done : (u : Versions) (root : Option Rattle.node_words.specs.declared.shapes.names.Name.Name)
       → MakesRoot v act root u
       → GainsRecord u (record { session = session; line = line; act = act }) w
       → GoesOnBy v session (record { line = line; command = Edit act once }) answers.Done w
@@ -199,7 +199,7 @@ module _ (v w : Versions) (session line : ℕ) (act : Act) (once : Bool) (are : 
         (log_of w) (noted_of v) (noted_of w) (answer_at l n answers.Done)) (sym longer) done);
   }
 
-  pub edit_late : (u : Versions) (root : Option Rattle.node_shapes.specs.declared.names.Name.Name)
+  pub edit_late : (u : Versions) (root : Option Rattle.node_words.specs.declared.shapes.names.Name.Name)
       → MakesRoot v act root u
       → moment_of u ≡ 65535 → LeavesAll u w
       → GoesOnBy v session (record { line = line; command = Edit act once }) answers.LogFull w
@@ -234,14 +234,14 @@ pub full_same : (v w : Versions) (act : Act) (full : Full) → MeetsBucket v act
 full_same v w act full meets = record { weighs = meets.fails.held }
 
 pub went_same : (v u w : Versions) (to : ℕ)
-    (root : Option Rattle.node_shapes.specs.declared.names.Name.Name)
+    (root : Option Rattle.node_words.specs.declared.shapes.names.Name.Name)
     → SharesRootOfVersion v to root u → LosesTree u.store root w.store → HoldsSame v.store w.store
 went_same v u w to root shares loses = same_again v.store u.store w.store root shares.gains loses
 
 -- ---- undos and redos
 
 pub go_done : (v u w : Versions) (session line : ℕ) (act : Act) (once : Bool) (to : ℕ)
-    (root : Option Rattle.node_shapes.specs.declared.names.Name.Name)
+    (root : Option Rattle.node_words.specs.declared.shapes.names.Name.Name)
     → SharesRootOfVersion v to root u
     → GainsRecord u (record { session = session; line = line; act = act }) w
     → GoesOnBy v session (record { line = line; command = Edit act once }) answers.Done w

@@ -6,19 +6,19 @@ use Rattle.std.proofs.lemmas.List.Elements.{All-nil}
 use Rattle.history_model.specs.declared.histories.Record.{Record}
 use Rattle.vox_read.specs.Contents.{Content}
 use Rattle.history_model.specs.Logs.{Log, suits_tints}
-use Rattle.block_contents.specs.MarkLists.{marks_below}
+use Rattle.core_laws.specs.contents.MarkLists.{marks_below}
 use Rattle.core_laws.specs.Soundness.{SoundVersions}
 use Rattle.history_model.specs.declared.histories.Mark.{Mark}
 use Rattle.history_model.specs.Positions.{beginning, position_after}
-use Rattle.node_shapes.specs.declared.names.Name.{Name}
-use Rattle.node_shapes.specs.Weights.{weigh}
-use Rattle.node_shapes.proofs.WeightLaws.{weigh-nil}
+use Rattle.node_words.specs.declared.shapes.names.Name.{Name}
+use Rattle.node_words.specs.shapes.Weights.{weigh}
+use Rattle.node_words.proofs.OfShapes.WeightLaws.{weigh-nil}
 use Rattle.node_words.specs.Plans.{Layout}
 use Rattle.one_store.specs.Spots.{versions}
 use Rattle.core_laws.specs.Counting.{holdings}
 use Rattle.core_laws.proofs.RootCells.{empty_sound}
-use Rattle.entry_words.specs.Words.{book_in}
-use Rattle.store_notes.specs.Told.{Told, nothing_told}
+use Rattle.one_store.specs.entries.Words.{book_in}
+use Rattle.one_store.specs.notes.Told.{Told, nothing_told}
 use Rattle.act_rebuilds.specs.Drawn.{HaveTints}
 use Rattle.undo.specs.Trails.{trail_position}
 use Rattle.one_store.specs.Known.{Known, root_names, stored_root}

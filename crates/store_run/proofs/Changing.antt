@@ -12,14 +12,14 @@ use Rattle.history_model.specs.Logs.{Log}
 use Rattle.history_model.specs.Moments.{world_has}
 use Rattle.history_model.specs.Positions.{Position}
 use Rattle.history_model.specs.Worlds.{is_edit}
-use Rattle.block_contents.specs.Versions.{IsKept}
-use Rattle.node_shapes.specs.declared.names.Name.{Name}
+use Rattle.core_laws.specs.contents.Versions.{IsKept}
+use Rattle.node_words.specs.declared.shapes.names.Name.{Name}
 use Rattle.std.specs.Prelude.{Option}
 use Rattle.node_words.specs.declared.shares.Full.{Full}
 use Rattle.transcript.specs.declared.answers.Answer.{Answer}
 use Rattle.transcript.specs.declared.answers.Answer.TheVariants as answers
 use Rattle.conformance.specs.Answers.{target_at}
-use Rattle.script_runs.proofs.Going.{goes_to}
+use Rattle.conformance.proofs.OfScripts.Going.{goes_to}
 use Rattle.store_run.specs.declared.stored_versions.Versions.{Versions}
 use Rattle.store_run.specs.Kept.{log_of, moment_of}
 use Rattle.store_run.specs.Steps.{IsVersionMarked, LeavesAll, SharesRootOfVersion, MakesRoot, MeetsBucket, GainsRecord, GainsMark}

@@ -2,14 +2,14 @@
 use Rattle.std.proofs.Common.{◌≡◌, ℕ, ◌+◌, ◌-◌, ◌<◌, ◌≤◌, Option, List, length, sym, ◌∙◌, ap, subst, arith}
 use Rattle.history_model.specs.declared.histories.Mark.{Mark}
 use Rattle.history_model.specs.Logs.{Log}
-use Rattle.block_contents.specs.MarkLists.{marks_below}
-use Rattle.node_shapes.specs.declared.names.Name.{Name}
+use Rattle.core_laws.specs.contents.MarkLists.{marks_below}
+use Rattle.node_words.specs.declared.shapes.names.Name.{Name}
 use Rattle.std.specs.Prelude.{slice_index}
 use Rattle.core_laws.specs.Blocks.{IsIdle, live_number}
-use Rattle.reporting.specs.Numbers.{AreNumbers}
-use Rattle.reporting.specs.Roots.{RootsTellWorlds, listed_root}
-use Rattle.reporting.proofs.RootLaws.{sound_roots}
-use Rattle.reporting.proofs.NumberLaws.{numbers_told}
+use Rattle.report.specs.Numbers.{AreNumbers}
+use Rattle.report.specs.Roots.{RootsTellWorlds, listed_root}
+use Rattle.report.proofs.RootLaws.{sound_roots}
+use Rattle.report.proofs.NumberLaws.{numbers_told}
 use Rattle.one_store.specs.Known.{Known, IsStore, core_of}
 use Rattle.one_store.proofs.StateLaws.{root_weight, holdings-one}
 use Rattle.store_run.specs.declared.stored_versions.Versions.{Versions}

@@ -10,15 +10,15 @@ use Rattle.vw_cell.specs.Places.{IsInBlock, FitsAt, block_side}
 use Rattle.vox_read.specs.declared.voxels.Voxel.{Voxel}
 use Rattle.vox_write.specs.Written.{model_file}
 use Rattle.history_model.specs.Worlds.{World}
-use Rattle.node_shapes.specs.declared.names.Name.{Name}
-use Rattle.node_shapes.specs.Shape.{Shape, ShowsCells, has}
-use Rattle.node_shapes.specs.Tree.{shape_of}
-use Rattle.node_shapes.proofs.WeightLaws.{weight_of-there}
+use Rattle.node_words.specs.declared.shapes.names.Name.{Name}
+use Rattle.node_words.specs.shapes.Shape.{Shape, ShowsCells, has}
+use Rattle.node_words.specs.shapes.Tree.{shape_of}
+use Rattle.node_words.proofs.OfShapes.WeightLaws.{weight_of-there}
 use Rattle.node_words.specs.Held.{IsHeld}
 use Rattle.node_words.proofs.HeldLaws.{held_reached}
-use Rattle.block_contents.specs.Aligned.{world_block}
-use Rattle.block_walk.specs.Roots.{IsBlockOf, HoldsRoot, ForWorld, cells_of}
-use Rattle.block_walk.proofs.LookLaws.{root_side}
+use Rattle.core_laws.specs.contents.Aligned.{world_block}
+use Rattle.node_words.specs.descent.Roots.{IsBlockOf, HoldsRoot, ForWorld, cells_of}
+use Rattle.node_words.proofs.OfDescent.LookLaws.{root_side}
 use Rattle.extract.specs.Listing.{voxels_joined, voxel_if, box_row, box_layer}
 use Rattle.extract.specs.Saved.{file_of_box}
 use Rattle.script.specs.Placing.{is_save_name}

@@ -7,17 +7,17 @@ use Rattle.history_model.specs.declared.acts.Act.{Act}
 use Rattle.history_model.specs.declared.histories.Record.{Record}
 use Rattle.history_model.specs.Logs.{Log}
 use Rattle.history_model.specs.Worlds.{is_edit}
-use Rattle.node_shapes.specs.Shape.{Shape}
+use Rattle.node_words.specs.shapes.Shape.{Shape}
 use Rattle.node_words.specs.declared.shares.Full.{Full}
 use Rattle.node_words.specs.Enough.{HasEnough}
 use Rattle.node_words.specs.Gathering.{Grew, unchanged, one}
 use Rattle.node_words.specs.Held.{Wanted}
 use Rattle.node_words.specs.Plans.{Layout}
-use Rattle.possible.specs.Needed.{Span}
+use Rattle.conformance.specs.possible.Needed.{Span}
 use Rattle.conformance.specs.Answers.{GoesOn}
-use Rattle.script_runs.specs.Keeping.{MadeAndMet, IsMadeFor, IsMadeInRun, IsWanted}
-use Rattle.script_runs.proofs.PossibleLaws.{enough_possible}
-use Rattle.script_runs.proofs.Refusals.{made_in_stays, wanted_stays}
+use Rattle.conformance.specs.scripts.Keeping.{MadeAndMet, IsMadeFor, IsMadeInRun, IsWanted}
+use Rattle.conformance.proofs.OfScripts.PossibleLaws.{enough_possible}
+use Rattle.conformance.proofs.OfScripts.Refusals.{made_in_stays, wanted_stays}
 use Rattle.store_run.specs.declared.stored_versions.Versions.{Versions}
 use Rattle.store_run.specs.Kept.{plan_of, log_of, noted_of, AreStoredVersions}
 use Rattle.store_run.specs.Steps.{MeetsBucket}

@@ -3,7 +3,7 @@ use Rattle.std.proofs.Common.{◌≡◌, ℕ, ◌<◌, ◌≤◌, Some, None, Op
 use Rattle.std.proofs.lemmas.List.{get_or_default}
 use Rattle.history_model.specs.declared.histories.Mark.{Mark}
 use Rattle.one_store.specs.Spots.{versions}
-use Rattle.block_contents.specs.Versions.{IsKept}
+use Rattle.core_laws.specs.contents.Versions.{IsKept}
 use Rattle.store_run.specs.declared.stored_versions.Versions.{Versions}
 use Rattle.store_run.specs.Kept.{log_of, moment_of, mark_in, AreStoredVersions}
 use Rattle.store_run.specs.Steps.{IsVersionMarked}

@@ -8,10 +8,10 @@ use Rattle.history_model.specs.Logs.{IsVersionHeld, HasTarget, MayFollow}
 use Rattle.history_model.specs.Positions.{position_after, first_of}
 use Rattle.history_model.specs.Worlds.{is_edit}
 use Rattle.node_words.specs.Plans.{Layout}
-use Rattle.block_contents.specs.Versions.{IsKept}
+use Rattle.core_laws.specs.contents.Versions.{IsKept}
 use Rattle.conformance.specs.Answers.{target_at}
 use Rattle.conformance.proofs.LineKinds.{undo_target, redo_target}
-use Rattle.script_runs.proofs.Going.{goes_to}
+use Rattle.conformance.proofs.OfScripts.Going.{goes_to}
 use Rattle.store_run.specs.declared.stored_versions.Versions.{Versions}
 use Rattle.store_run.specs.Changing.{LogGainsMark, log_with_record}
 use Rattle.store_run.specs.Kept.{log_of, moment_of, AreStoredVersions}

@@ -2,17 +2,17 @@
 use Rattle.std.proofs.Common.{◌≡◌, ℕ, ◌+◌, ◌-◌, ◌≤◌, Some, None, Option, refl, sym, ap, subst, arith}
 use Rattle.std.specs.Option.{ForSome}
 use Rattle.history_model.specs.Worlds.{World}
-use Rattle.node_shapes.specs.declared.names.Name.{Name}
-use Rattle.node_shapes.specs.Shape.{ShowsCells}
-use Rattle.node_shapes.specs.Tree.{Tree, root_of, shape_of}
-use Rattle.node_shapes.specs.Weights.{weight_of, number_of_trees}
-use Rattle.node_shapes.proofs.WeightLaws.{weight_of-there, weight_of-gone, weight_of-one}
+use Rattle.node_words.specs.declared.shapes.names.Name.{Name}
+use Rattle.node_words.specs.shapes.Shape.{ShowsCells}
+use Rattle.node_words.specs.shapes.Tree.{Tree, root_of, shape_of}
+use Rattle.node_words.specs.shapes.Weights.{weight_of, number_of_trees}
+use Rattle.node_words.proofs.OfShapes.WeightLaws.{weight_of-there, weight_of-gone, weight_of-one}
 use Rattle.node_words.specs.Held.{IsHeld, HoldsName}
-use Rattle.block_contents.specs.Aligned.{top, world_block}
-use Rattle.block_walk.specs.Roots.{HoldsRoot}
+use Rattle.core_laws.specs.contents.Aligned.{top, world_block}
+use Rattle.node_words.specs.descent.Roots.{HoldsRoot}
 use Rattle.core_laws.proofs.SeenNodes.{gone_tree}
-use Rattle.edit_cells.specs.Worlds.{ShowsWorld}
-use Rattle.entry_words.specs.Words.{key_in}
+use Rattle.edit_walk.specs.cells.Worlds.{ShowsWorld}
+use Rattle.one_store.specs.entries.Words.{key_in}
 use Rattle.one_store.specs.Known.{Known, root_tree}
 use Rattle.one_store.proofs.StateLaws.{tree_root}
 use Rattle.store_run.specs.Kept.{HoldsTree, GainsTree, LosesTree, HoldsSame}

@@ -1,7 +1,7 @@
 -- The worlds that the stores of versions keep: where cells have tints, those of a quarter of the
 -- side, and else of the store's own.
 use Rattle.std.proofs.Common.{◌≡◌, ℕ, ◌*◌, ◌/◌, ◌^◌, ◌<◌, ◌≤◌, Bool, true, false, All, refl, sym, ◌∙◌, ap, subst, arith}
-use Rattle.sums.specs.Sums.{one_if}
+use Rattle.vw_cell.specs.Sums.{one_if}
 use Rattle.vw_cell.specs.declared.cells.Cell.{Cell}
 use Rattle.vw_cell.specs.Places.{IsInWorld}
 use Rattle.history_model.specs.declared.acts.Act.{Act}
@@ -12,15 +12,15 @@ use Rattle.history_model.specs.Stores.{stored_in}
 use Rattle.history_model.specs.Tints.{SameTints}
 use Rattle.history_model.specs.Worlds.{World, is_edit}
 use Rattle.history_model.proofs.MarkLaws.{whole_again}
-use Rattle.node_shapes.specs.Shape.{ShowsCells}
-use Rattle.node_shapes.specs.Tree.{shape_of}
-use Rattle.block_contents.specs.Aligned.{world_block}
-use Rattle.block_contents.specs.Versions.{IsKept, SameWorld}
+use Rattle.node_words.specs.shapes.Shape.{ShowsCells}
+use Rattle.node_words.specs.shapes.Tree.{shape_of}
+use Rattle.core_laws.specs.contents.Aligned.{world_block}
+use Rattle.core_laws.specs.contents.Versions.{IsKept, SameWorld}
 use Rattle.one_store.specs.Known.{root_tree, stored_root}
 use Rattle.act_rebuilds.specs.Drawn.{HaveTints}
-use Rattle.tints.proofs.AgreeLaws.{stored_same, tints_same}
-use Rattle.tints.proofs.TintBounds.{versions_small}
-use Rattle.tints.proofs.VersionLaws.{versions_plain, versions_plainly_tinted, versions_set, versions_stored}
+use Rattle.core_laws.proofs.OfTints.AgreeLaws.{stored_same, tints_same}
+use Rattle.core_laws.proofs.OfTints.TintBounds.{versions_small}
+use Rattle.core_laws.proofs.OfTints.VersionLaws.{versions_plain, versions_plainly_tinted, versions_set, versions_stored}
 use Rattle.store_run.specs.declared.stored_versions.Versions.{Versions}
 use Rattle.store_run.specs.Kept.{plan_of, log_of, stored_of, world_of, tints_of, AreStoredVersions, AreVersions, IsLargeStore}
 use Rattle.store_run.specs.Steps.{side_of}

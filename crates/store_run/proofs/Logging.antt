@@ -9,20 +9,20 @@ use Rattle.history_model.specs.declared.histories.Record.{Record}
 use Rattle.history_model.specs.Logs.{Log, suits_tints}
 use Rattle.history_model.specs.Positions.{position_after, next_position}
 use Rattle.history_model.specs.Laws.{position_of_next}
-use Rattle.node_shapes.specs.declared.names.Name.{Name}
-use Rattle.node_shapes.specs.Weights.{weight_of, number_of_trees}
+use Rattle.node_words.specs.declared.shapes.names.Name.{Name}
+use Rattle.node_words.specs.shapes.Weights.{weight_of, number_of_trees}
 use Rattle.node_words.specs.Plans.{Layout}
 use Rattle.one_store.specs.Spots.{versions}
-use Rattle.block_contents.specs.MarkLists.{marks_below, AreOfVersions}
-use Rattle.block_contents.specs.Versions.{IsKept, MarkComes}
-use Rattle.block_contents.proofs.MarkReadings.{mark_comes}
+use Rattle.core_laws.specs.contents.MarkLists.{marks_below, AreOfVersions}
+use Rattle.core_laws.specs.contents.Versions.{IsKept, MarkComes}
+use Rattle.core_laws.proofs.OfContents.MarkReadings.{mark_comes}
 use Rattle.core_laws.specs.Events.{PutsRoot, TakesRoot}
 use Rattle.core_laws.specs.LogEvents.{MayAppend, appends, forgets}
 use Rattle.core_laws.specs.Soundness.{SoundVersions, Sound}
 use Rattle.core_laws.proofs.StepLaws.{step_sound}
 use Rattle.conformance.specs.Running.{GrowsByRecord, ForgetsBy}
 use Rattle.act_rebuilds.specs.Drawn.{HaveTints}
-use Rattle.entry_words.specs.Words.{Written}
+use Rattle.one_store.specs.entries.Words.{Written}
 use Rattle.undo.specs.Trails.{trail_position}
 use Rattle.one_store.specs.Known.{Known, IsStore, core_of, root_tree, stored_root}
 use Rattle.one_store.specs.Steps.{KeepsRoot, GivesRoot}
@@ -265,8 +265,8 @@ module _ (v : Versions) (s : Known) (mark : Mark) (root : Option Name) (number :
           let tree = ap (λ (r : Option Name). weight_of f (root_tree s r)) is in
           let same =
           ap (λ (x : Written). weight_of f
-          (Rattle.core_laws.specs.States.tree_at (Rattle.entry_words.specs.Words.key_in x)
-          (Rattle.block_contents.specs.Aligned.top x.plan.side)
+          (Rattle.core_laws.specs.States.tree_at (Rattle.one_store.specs.entries.Words.key_in x)
+          (Rattle.core_laws.specs.contents.Aligned.top x.plan.side)
           (stored_root v.store.roots mark.version))) gives.words in
           omega (arith, gives.gains.weighs f, tree, same));
     })

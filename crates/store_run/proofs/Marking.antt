@@ -6,8 +6,8 @@ use Rattle.std.proofs.lemmas.List.{get_or_default}
 use Rattle.std.proofs.lemmas.Option.{none-some, same_Some}
 use Rattle.std.proofs.lemmas.List.Elements.{All-nil, All-push, All-contains, Contains-append_left, Contains-append_right}
 use Rattle.history_model.specs.declared.histories.Mark.{Mark}
-use Rattle.block_contents.specs.Versions.{IsUnmarked}
-use Rattle.block_contents.specs.MarkLists.{with_mark, marks_below, AreOfVersions, GetsMark}
+use Rattle.core_laws.specs.contents.Versions.{IsUnmarked}
+use Rattle.core_laws.specs.contents.MarkLists.{with_mark, marks_below, AreOfVersions, GetsMark}
 use Rattle.store_run.specs.Kept.{mark_in}
 
 -- no marks, no list

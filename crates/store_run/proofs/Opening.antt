@@ -8,19 +8,19 @@ use Rattle.vox_read.specs.Contents.{Content}
 use Rattle.history_model.specs.declared.questions.Question.{Question}
 use Rattle.history_model.specs.Logs.{Log, kept_side}
 use Rattle.history_model.specs.Moments.{world_has, world_tint}
-use Rattle.node_shapes.specs.declared.names.Name.{Name}
-use Rattle.node_shapes.specs.Tree.{shape_of}
+use Rattle.node_words.specs.declared.shapes.names.Name.{Name}
+use Rattle.node_words.specs.shapes.Tree.{shape_of}
 use Rattle.node_words.proofs.HeldLaws.{held_reached}
-use Rattle.block_contents.specs.Versions.{IsKept, SameWorld}
+use Rattle.core_laws.specs.contents.Versions.{IsKept, SameWorld}
 use Rattle.core_laws.proofs.RootCells.{same_cells, same_root}
-use Rattle.block_walk.specs.Roots.{IsBlockOf, ForWorld, cells_of}
+use Rattle.node_words.specs.descent.Roots.{IsBlockOf, ForWorld, cells_of}
 use Rattle.extract.specs.Saved.{file_of_box}
 use Rattle.one_store.specs.Known.{IsStore, stored_root}
 use Rattle.script.specs.declared.commands.ScriptLine.{ScriptLine}
 use Rattle.transcript.specs.declared.answers.Answer.{Answer}
 use Rattle.conformance.specs.Kinds.{answer_at}
 use Rattle.conformance.specs.Telling.{Tells}
-use Rattle.script_runs.specs.Sessions.{GoesOnWith}
+use Rattle.conformance.specs.scripts.Sessions.{GoesOnWith}
 use Rattle.store_run.specs.declared.stored_versions.Versions.{Versions}
 use Rattle.store_run.specs.Kept.{plan_of, log_of, moment_of, noted_of, world_of, tints_of, AreVersions, HoldsTree}
 use Rattle.store_run.specs.Steps.{StayVersions, TellsHeldVersion}

@@ -4,7 +4,7 @@ use Rattle.std.specs.Prelude.{All}
 use Rattle.std.proofs.lemmas.List.{append_assoc}
 use Rattle.std.proofs.lemmas.List.Elements.{All-head, All-push, All-rest}
 use Rattle.vox_read.specs.Contents.{Content, IsModel}
-use Rattle.tints.specs.Planes.{TintsPlaces}
+use Rattle.core_laws.specs.tints.Planes.{TintsPlaces}
 
 pub first_model : (model : Content) (rest all : List Content) → all ≡ model ∷ rest → All IsModel all
     → IsModel model

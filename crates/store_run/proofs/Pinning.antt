@@ -13,16 +13,16 @@ use Rattle.vw_cell.specs.Places.{FitsAt}
 use Rattle.history_model.specs.Logs.{Log, kept_side, world_side}
 use Rattle.history_model.specs.Tints.{Tints}
 use Rattle.history_model.specs.Worlds.{World}
-use Rattle.node_shapes.specs.declared.names.Name.{Name}
-use Rattle.node_shapes.specs.Shape.{ShowsCells}
-use Rattle.node_shapes.specs.Tree.{Tree, shape_of}
-use Rattle.node_shapes.specs.Weights.{weigh, weight_of, number_of_trees}
-use Rattle.node_shapes.proofs.TreeLaws.{gone_from_root}
-use Rattle.node_shapes.proofs.WeightLaws.{weight_of-there, weight_of-one}
+use Rattle.node_words.specs.declared.shapes.names.Name.{Name}
+use Rattle.node_words.specs.shapes.Shape.{ShowsCells}
+use Rattle.node_words.specs.shapes.Tree.{Tree, shape_of}
+use Rattle.node_words.specs.shapes.Weights.{weigh, weight_of, number_of_trees}
+use Rattle.node_words.proofs.OfShapes.TreeLaws.{gone_from_root}
+use Rattle.node_words.proofs.OfShapes.WeightLaws.{weight_of-there, weight_of-one}
 use Rattle.node_words.specs.Held.{Seen, IsHeld}
 use Rattle.node_words.specs.Plans.{Layout}
-use Rattle.block_contents.specs.Aligned.{top, world_block}
-use Rattle.block_contents.specs.Versions.{IsKept}
+use Rattle.core_laws.specs.contents.Aligned.{top, world_block}
+use Rattle.core_laws.specs.contents.Versions.{IsKept}
 use Rattle.core_laws.proofs.SeenNodes.{gone_tree}
 use Rattle.script.specs.declared.commands.Command.{Command}
 use Rattle.script.specs.declared.commands.Command.TheVariants.{Save}
@@ -34,7 +34,7 @@ use Rattle.conformance.specs.declared.saves.SavedBox.{SavedBox}
 use Rattle.conformance.specs.Answers.{asked_version}
 use Rattle.conformance.specs.Saves.{saved_by}
 use Rattle.conformance.specs.Telling.{Tells, count}
-use Rattle.entry_words.specs.Words.{key_in}
+use Rattle.one_store.specs.entries.Words.{key_in}
 use Rattle.one_store.specs.Known.{Known, IsStore, root_tree, stored_root}
 use Rattle.one_store.proofs.RootLaws.{top_tree}
 use Rattle.one_store.proofs.StoreLaws.{held_is}

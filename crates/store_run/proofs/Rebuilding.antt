@@ -7,34 +7,34 @@ use Rattle.history_model.specs.Logs.{Log, IsLegal, kept_side, suits_tints, world
 use Rattle.history_model.specs.Stores.{edited_in, stored_in}
 use Rattle.history_model.specs.Worlds.{World}
 use Rattle.history_model.specs.Moments.{world_has, world_tint}
-use Rattle.node_shapes.specs.declared.names.Name.{Name}
-use Rattle.node_shapes.specs.Shape.{Shape, ShowsCells}
-use Rattle.node_shapes.specs.Tree.{Tree, shape_of}
+use Rattle.node_words.specs.declared.shapes.names.Name.{Name}
+use Rattle.node_words.specs.shapes.Shape.{Shape, ShowsCells}
+use Rattle.node_words.specs.shapes.Tree.{Tree, shape_of}
 use Rattle.std.specs.Prelude.{IfOk, IfErr}
 use Rattle.history_model.specs.declared.questions.Question.{Question}
 use Rattle.history_model.specs.Logs.{FitsWorld}
 use Rattle.script.specs.Fitting.{QuestionFits}
 use Rattle.transcript.specs.declared.answers.Answer.{Answer}
 use Rattle.conformance.specs.Telling.{Tells}
-use Rattle.tints.proofs.VersionLaws.{versions_plainly_tinted}
-use Rattle.world_answers.specs.TellsRoots.{TellsRoot, TellsTinted}
-use Rattle.block_walk.specs.Roots.{HoldsRoot}
-use Rattle.node_shapes.specs.Weights.{weigh, weight_of, number_of_trees}
-use Rattle.node_shapes.proofs.TreeLaws.{level_of, gone_from_root}
-use Rattle.node_shapes.proofs.WeightLaws.{weight_of-there, weight_of-one}
+use Rattle.core_laws.proofs.OfTints.VersionLaws.{versions_plainly_tinted}
+use Rattle.act_rebuilds.specs.questions.TellsRoots.{TellsRoot, TellsTinted}
+use Rattle.node_words.specs.descent.Roots.{HoldsRoot}
+use Rattle.node_words.specs.shapes.Weights.{weigh, weight_of, number_of_trees}
+use Rattle.node_words.proofs.OfShapes.TreeLaws.{level_of, gone_from_root}
+use Rattle.node_words.proofs.OfShapes.WeightLaws.{weight_of-there, weight_of-one}
 use Rattle.node_words.specs.declared.shares.Full.{Full}
 use Rattle.node_words.specs.Held.{Seen, IsHeld, Wanted, IsSought}
 use Rattle.node_words.specs.Gathering.{Grew}
 use Rattle.node_words.proofs.GatherLaws.{grew_into}
 use Rattle.node_words.specs.Plans.{Layout}
-use Rattle.block_contents.specs.Aligned.{top, world_block}
-use Rattle.block_contents.specs.Versions.{IsKept}
+use Rattle.core_laws.specs.contents.Aligned.{top, world_block}
+use Rattle.core_laws.specs.contents.Versions.{IsKept}
 use Rattle.core_laws.proofs.SeenNodes.{gone_tree}
-use Rattle.edit_cells.specs.Worlds.{ShowsWorld, Rebuilt}
+use Rattle.edit_walk.specs.cells.Worlds.{ShowsWorld, Rebuilt}
 use Rattle.act_rebuilds.specs.Acts.{IsLargeFor, room_for, IsOfAct, RebuildsAct, GrowsByAct, RefusesAct}
 use Rattle.act_rebuilds.proofs.Rooms.{large_for_all, least_room}
 use Rattle.act_rebuilds.specs.Made.{FailsBy}
-use Rattle.entry_words.specs.Words.{key_in}
+use Rattle.one_store.specs.entries.Words.{key_in}
 use Rattle.one_store.specs.Known.{Known, IsStore, known_seen, root_tree, stored_root}
 use Rattle.one_store.specs.Steps.{SparesRoots, spares_on}
 use Rattle.one_store.proofs.RootLaws.{top_tree}
@@ -232,7 +232,7 @@ module _ (v u w : Versions) (base root : Option Name) (act : Act) (number : ℕ)
         coloured = (over.models i).tint;
         records =
             (over.records i).items;
-        marks = Rattle.block_contents.specs.MarkLists.marks_below
+        marks = Rattle.core_laws.specs.contents.MarkLists.marks_below
             (Rattle.store_run.specs.Kept.mark_in
             ((over.marks i).items)) Rattle.one_store.specs.Spots.versions;
       }

@@ -2,13 +2,13 @@
 use Rattle.std.proofs.Common.{◌≡◌, ℕ, ◌^◌, Some, None, Option, List, refl, sym, ◌∙◌, ap, subst, arith}
 use Rattle.vox_read.specs.Contents.{Content}
 use Rattle.history_model.specs.Logs.{Log}
-use Rattle.node_shapes.specs.declared.names.Name.{Name}
-use Rattle.node_shapes.specs.Shape.{ShowsCells}
-use Rattle.node_shapes.specs.Tree.{Tree, shape_of}
-use Rattle.node_shapes.specs.Weights.{weight_of}
+use Rattle.node_words.specs.declared.shapes.names.Name.{Name}
+use Rattle.node_words.specs.shapes.Shape.{ShowsCells}
+use Rattle.node_words.specs.shapes.Tree.{Tree, shape_of}
+use Rattle.node_words.specs.shapes.Weights.{weight_of}
 use Rattle.node_words.specs.Held.{ForHeld, Gains, OnlyHeldChanges}
 use Rattle.node_words.specs.Plans.{Layout}
-use Rattle.block_contents.specs.Aligned.{top, world_block}
+use Rattle.core_laws.specs.contents.Aligned.{top, world_block}
 use Rattle.core_laws.specs.Counting.{booked, parented, rooted}
 use Rattle.core_laws.specs.States.{State}
 use Rattle.core_laws.specs.Soundness.{SoundEntries, SoundVersions, Sound}
@@ -68,11 +68,11 @@ sound_spared p models log old new spares sound plan is = record {
       (Rattle.history_model.specs.Stores.stored_in (2 ^ p.side) models log.records v))
       (let same = ap (root_tree new) (stored_same old new v spares) ∙ spares.trees v in
       sym (ap (λ (l : ℕ). Rattle.core_laws.specs.States.tree_at
-      (Rattle.entry_words.specs.Words.key_in new.words) (top l) (stored_root new.roots v))
+      (Rattle.one_store.specs.entries.Words.key_in new.words) (top l) (stored_root new.roots v))
       (sym side) ∙ same
       ∙ ap
       (λ (l : ℕ). Rattle.core_laws.specs.States.tree_at
-      (Rattle.entry_words.specs.Words.key_in old.words) (top l)
+      (Rattle.one_store.specs.entries.Words.key_in old.words) (top l)
       (stored_root old.roots v)) old_side))
       (sound.shown v kept);
 }

@@ -4,7 +4,7 @@ use Rattle.std.specs.Prelude.{Result, IfOk, IfErr, OnOk, ◌-◌}
 use Rattle.std.proofs.lemmas.Option.{none-some, same_Some}
 use Rattle.vw_cell.specs.declared.cells.Cell.{Cell}
 use Rattle.vox_read.specs.Contents.{Content}
-use Rattle.node_shapes.specs.declared.names.Name.{Name}
+use Rattle.node_words.specs.declared.shapes.names.Name.{Name}
 use Rattle.node_words.specs.declared.shares.Full.{Full}
 use Rattle.node_words.specs.Held.{Seen}
 use Rattle.node_words.specs.Gathering.{Grows, Fails}
@@ -12,7 +12,7 @@ use Rattle.history_model.specs.declared.acts.Act.{Act}
 use Rattle.history_model.specs.declared.acts.Act.TheVariants.{Fill, Erase, Ball, Carve, Copy, Stamp, Tint, Undo, Redo}
 use Rattle.history_model.specs.Logs.{FitsWorld, suits_tints}
 use Rattle.history_model.specs.Worlds.{World, edited}
-use Rattle.edit_cells.specs.Worlds.{ForEdited, Rebuilt, world_shape}
+use Rattle.edit_walk.specs.cells.Worlds.{ForEdited, Rebuilt, world_shape}
 use Rattle.act_rebuilds.specs.Edits.{RebuildsEdit, GrowsByEdit, RefusesEdit}
 use Rattle.store_run.specs.Stamps.{stamp_in}
 

@@ -6,15 +6,15 @@ use Rattle.std.proofs.lemmas.List.Elements.{Contains-get_or, Contains-append_lef
 use Rattle.std.proofs.lemmas.List.Quantifiers.{all_pairs_push}
 use Rattle.history_model.specs.declared.histories.Mark.{Mark}
 use Rattle.history_model.specs.Stores.{stored_in, store_has}
-use Rattle.node_shapes.specs.declared.names.Name.{Name}
-use Rattle.node_shapes.specs.Shape.{ShowsCells}
-use Rattle.node_shapes.specs.Tree.{Tree, shape_of}
-use Rattle.node_shapes.specs.Weights.{weight_of, number_of_trees}
-use Rattle.node_shapes.proofs.WeightLaws.{weight_of-one}
-use Rattle.block_contents.specs.Aligned.{top, world_block}
-use Rattle.block_contents.specs.Versions.{IsKept}
+use Rattle.node_words.specs.declared.shapes.names.Name.{Name}
+use Rattle.node_words.specs.shapes.Shape.{ShowsCells}
+use Rattle.node_words.specs.shapes.Tree.{Tree, shape_of}
+use Rattle.node_words.specs.shapes.Weights.{weight_of, number_of_trees}
+use Rattle.node_words.proofs.OfShapes.WeightLaws.{weight_of-one}
+use Rattle.core_laws.specs.contents.Aligned.{top, world_block}
+use Rattle.core_laws.specs.contents.Versions.{IsKept}
 use Rattle.core_laws.specs.States.{tree_at}
-use Rattle.entry_words.specs.Words.{Written, key_in}
+use Rattle.one_store.specs.entries.Words.{Written, key_in}
 use Rattle.one_store.specs.Known.{Known, stored_root, root_tree}
 use Rattle.one_store.specs.Steps.{GivesRoot}
 use Rattle.store_run.specs.declared.stored_versions.Versions.{Versions}

@@ -6,16 +6,16 @@ use Rattle.history_model.specs.declared.histories.Record.{Record}
 use Rattle.history_model.specs.declared.histories.Mark.{Mark}
 use Rattle.history_model.specs.Logs.{Log}
 use Rattle.history_model.specs.Worlds.{is_edit}
-use Rattle.node_shapes.specs.declared.names.Name.{Name}
-use Rattle.block_contents.specs.Versions.{IsKept, IsUnmarked}
+use Rattle.node_words.specs.declared.shapes.names.Name.{Name}
+use Rattle.core_laws.specs.contents.Versions.{IsKept, IsUnmarked}
 use Rattle.conformance.specs.Answers.{target_at}
-use Rattle.script_runs.proofs.Going.{goes_to}
+use Rattle.conformance.proofs.OfScripts.Going.{goes_to}
 use Rattle.store_run.specs.declared.stored_versions.Versions.{Versions}
-use Rattle.node_shapes.specs.Weights.{number_of_trees}
+use Rattle.node_words.specs.shapes.Weights.{number_of_trees}
 use Rattle.one_store.specs.Known.{Known}
 use Rattle.store_run.specs.Kept.{plan_of, log_of, moment_of, HoldsNothing, HoldsSame}
 use Rattle.store_run.specs.Steps.{MakesRoot, SharesRootOfVersion, GainsRecord, WantsFor}
-use Rattle.node_shapes.specs.Shape.{Shape}
+use Rattle.node_words.specs.shapes.Shape.{Shape}
 use Rattle.node_words.specs.Gathering.{Grew}
 use Rattle.history_model.specs.declared.acts.Act.{Act}
 use Rattle.history_model.specs.declared.acts.Act.TheVariants.{Fill, Erase, Ball, Carve, Copy, Stamp, Tint, Undo, Redo}

@@ -12,26 +12,26 @@ use Rattle.history_model.specs.Logs.{Log, FitsWorld}
 use Rattle.history_model.specs.Stores.{edited_in, stored_in}
 use Rattle.history_model.specs.Positions.{position_after, first_of, undone, redone}
 use Rattle.history_model.specs.Worlds.{World, is_edit}
-use Rattle.node_shapes.specs.declared.names.Name.{Name}
-use Rattle.node_shapes.specs.Shape.{Shape, ShowsCells, IsCanonical}
-use Rattle.node_shapes.specs.Tree.{shape_of}
+use Rattle.node_words.specs.declared.shapes.names.Name.{Name}
+use Rattle.node_words.specs.shapes.Shape.{Shape, ShowsCells, IsCanonical}
+use Rattle.node_words.specs.shapes.Tree.{shape_of}
 use Rattle.node_words.specs.Gathering.{Grew}
 use Rattle.node_words.proofs.GatherLaws.{grew_into}
 use Rattle.node_words.specs.Held.{Seen}
 use Rattle.node_words.specs.Plans.{Layout}
-use Rattle.cell_shapes.proofs.CellShapeLaws.{shape_with-has, shape_with-canonical}
-use Rattle.block_contents.specs.Aligned.{top, world_block}
-use Rattle.block_contents.specs.Versions.{IsKept, IsUnmarked}
+use Rattle.node_words.proofs.OfContents.CellShapeLaws.{shape_with-has, shape_with-canonical}
+use Rattle.core_laws.specs.contents.Aligned.{top, world_block}
+use Rattle.core_laws.specs.contents.Versions.{IsKept, IsUnmarked}
 use Rattle.core_laws.specs.LogEvents.{MayAppend}
 use Rattle.core_laws.proofs.Targets.{may_go}
-use Rattle.edit_cells.specs.Worlds.{world_shape, world_cells, block_at_origin}
+use Rattle.edit_walk.specs.cells.Worlds.{world_shape, world_cells, block_at_origin}
 use Rattle.conformance.specs.Answers.{target_at}
 use Rattle.conformance.proofs.LineKinds.{undo_target, redo_target}
-use Rattle.possible.specs.Needed.{made_of}
+use Rattle.conformance.specs.possible.Needed.{made_of}
 use Rattle.act_rebuilds.specs.Acts.{IsOfAct}
 use Rattle.act_rebuilds.specs.Made.{FailsBy}
-use Rattle.script_runs.specs.Keeping.{IsPartOfWorld, IsWanted, MeetsFull}
-use Rattle.script_runs.proofs.Going.{goes_to}
+use Rattle.conformance.specs.scripts.Keeping.{IsPartOfWorld, IsWanted, MeetsFull}
+use Rattle.conformance.proofs.OfScripts.Going.{goes_to}
 use Rattle.undo.specs.Trails.{trail_position}
 use Rattle.one_store.specs.Known.{IsStore, root_tree, stored_root}
 use Rattle.store_run.specs.declared.stored_versions.Versions.{Versions}

@@ -7,7 +7,7 @@ use Rattle.script.specs.declared.commands.ScriptLine.{ScriptLine}
 use Rattle.transcript.specs.declared.answers.Answer.{Answer}
 use Rattle.transcript.specs.declared.answers.Answer.TheVariants as answers
 use Rattle.conformance.specs.Kinds.{answer_at}
-use Rattle.script_runs.specs.Sessions.{GoesOnWith}
+use Rattle.conformance.specs.scripts.Sessions.{GoesOnWith}
 use Rattle.store_run.specs.declared.stored_versions.Versions.{Versions}
 use Rattle.store_run.specs.Kept.{plan_of, log_of, moment_of, noted_of}
 

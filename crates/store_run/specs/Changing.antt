@@ -8,7 +8,7 @@ use Rattle.history_model.specs.declared.histories.Mark.{Mark}
 use Rattle.history_model.specs.Logs.{Log}
 use Rattle.history_model.specs.Worlds.{is_edit, edited}
 use Rattle.history_model.specs.Moments.{world_has}
-use Rattle.block_contents.specs.Versions.{IsKept, MarkComes}
+use Rattle.core_laws.specs.contents.Versions.{IsKept, MarkComes}
 use Rattle.transcript.specs.declared.answers.Answer.{Answer}
 use Rattle.transcript.specs.declared.answers.Answer.TheVariants as answers
 use Rattle.conformance.specs.Answers.{target_at}

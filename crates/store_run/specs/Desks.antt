@@ -4,7 +4,7 @@ use Rattle.vox_read.specs.Contents.{Content}
 use Rattle.history_model.specs.Logs.{Log}
 use Rattle.node_words.specs.Plans.{Layout}
 use Rattle.conformance.specs.declared.saves.SavedBox.{SavedBox}
-use Rattle.script_runs.specs.Keeping.{MadeAndMet}
+use Rattle.conformance.specs.scripts.Keeping.{MadeAndMet}
 use Rattle.store_run.specs.declared.pins.Pinned.{Pinned}
 use Rattle.store_run.specs.Kept.{plan_of, log_of, noted_of}
 use Rattle.store_run.specs.Pins.{saves_of}

@@ -8,19 +8,19 @@ use Rattle.history_model.specs.Worlds.{World}
 use Rattle.history_model.specs.Moments.{world_has, world_tint}
 use Rattle.history_model.specs.Stores.{stored_in}
 use Rattle.history_model.specs.Tints.{Tints}
-use Rattle.node_shapes.specs.declared.names.Name.{Name}
-use Rattle.node_shapes.specs.Tree.{Tree}
-use Rattle.node_shapes.specs.Weights.{weigh, weight_of}
+use Rattle.node_words.specs.declared.shapes.names.Name.{Name}
+use Rattle.node_words.specs.shapes.Tree.{Tree}
+use Rattle.node_words.specs.shapes.Weights.{weigh, weight_of}
 use Rattle.node_words.specs.Held.{IsHeld}
 use Rattle.node_words.specs.Plans.{Layout}
 use Rattle.one_store.specs.Spots.{versions}
-use Rattle.block_contents.specs.MarkLists.{marks_below, AreOfVersions}
+use Rattle.core_laws.specs.contents.MarkLists.{marks_below, AreOfVersions}
 use Rattle.core_laws.specs.States.{State}
 use Rattle.core_laws.specs.Soundness.{SoundVersions}
 use Rattle.act_rebuilds.specs.Drawn.{HaveTints}
 use Rattle.undo.specs.Trails.{trail_position, HasSlack}
 use Rattle.one_store.specs.Known.{Known, core_of, root_tree}
-use Rattle.script_runs.specs.Keeping.{MadeAndMet}
+use Rattle.conformance.specs.scripts.Keeping.{MadeAndMet}
 use Rattle.store_run.specs.declared.stored_versions.Versions.{Versions}
 
 abbrev pub plan_of : Versions → Layout

@@ -6,11 +6,11 @@ use Rattle.vox_read.specs.Contents.{Content}
 use Rattle.history_model.specs.declared.histories.Mark.{Mark}
 use Rattle.history_model.specs.Logs.{Log}
 use Rattle.history_model.specs.Stores.{store_has}
-use Rattle.node_shapes.specs.declared.names.Name.{Name}
-use Rattle.node_shapes.specs.Tree.{Tree}
-use Rattle.edit_cells.specs.Worlds.{ShowsWorld}
-use Rattle.block_walk.specs.Roots.{HoldsRoot}
-use Rattle.block_contents.specs.Versions.{IsKept}
+use Rattle.node_words.specs.declared.shapes.names.Name.{Name}
+use Rattle.node_words.specs.shapes.Tree.{Tree}
+use Rattle.edit_walk.specs.cells.Worlds.{ShowsWorld}
+use Rattle.node_words.specs.descent.Roots.{HoldsRoot}
+use Rattle.core_laws.specs.contents.Versions.{IsKept}
 use Rattle.store_run.specs.Replaying.{ReplayState}
 use Rattle.store_run.specs.Worlds.{WorldState}
 

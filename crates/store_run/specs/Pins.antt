@@ -3,11 +3,11 @@ use Rattle.std.specs.Prelude.{◌≡◌, ℕ, ◌+◌, ◌^◌, ◌<◌, ◌≤�
 use Rattle.vox_read.specs.Contents.{Content}
 use Rattle.history_model.specs.declared.histories.Record.{Record}
 use Rattle.history_model.specs.Moments.{world_has}
-use Rattle.node_shapes.specs.declared.names.Name.{Name}
-use Rattle.node_shapes.specs.Shape.{ShowsCells}
-use Rattle.node_shapes.specs.Tree.{Tree, root_of, shape_of}
-use Rattle.node_shapes.specs.Weights.{weigh, weight_of}
-use Rattle.block_contents.specs.Aligned.{top, world_block}
+use Rattle.node_words.specs.declared.shapes.names.Name.{Name}
+use Rattle.node_words.specs.shapes.Shape.{ShowsCells}
+use Rattle.node_words.specs.shapes.Tree.{Tree, root_of, shape_of}
+use Rattle.node_words.specs.shapes.Weights.{weigh, weight_of}
+use Rattle.core_laws.specs.contents.Aligned.{top, world_block}
 use Rattle.script.specs.Fitting.{SaveFits}
 use Rattle.conformance.specs.declared.saves.SavedBox.{SavedBox}
 use Rattle.store_run.specs.declared.pins.Pin.{Pin}

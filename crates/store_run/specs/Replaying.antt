@@ -9,9 +9,9 @@ use Rattle.node_words.specs.declared.shares.Full.{Full}
 use Rattle.node_words.specs.Enough.{HasEnough}
 use Rattle.node_words.specs.Gathering.{Grew}
 use Rattle.node_words.specs.Plans.{Layout}
-use Rattle.possible.specs.Needed.{Span, IsPossible}
-use Rattle.script_runs.specs.Keeping.{MadeAndMet, IsMadeInRun}
-use Rattle.store_notes.specs.Changes.{MakesNothing}
+use Rattle.conformance.specs.possible.Needed.{Span, IsPossible}
+use Rattle.conformance.specs.scripts.Keeping.{MadeAndMet, IsMadeInRun}
+use Rattle.one_store.specs.notes.Changes.{MakesNothing}
 use Rattle.store_run.specs.declared.stored_versions.Versions.{Versions}
 use Rattle.store_run.specs.declared.replaying.ReplayRefused.{ReplayRefused}
 use Rattle.store_run.specs.declared.replaying.ReplayRefused.TheVariants as refusals

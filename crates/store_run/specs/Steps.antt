@@ -8,16 +8,16 @@ use Rattle.history_model.specs.declared.questions.Question.{Question}
 use Rattle.history_model.specs.Logs.{kept_side}
 use Rattle.history_model.specs.Stores.{edited_in}
 use Rattle.history_model.specs.Worlds.{World}
-use Rattle.node_shapes.specs.declared.names.Name.{Name}
-use Rattle.node_shapes.specs.Shape.{Shape, ShowsCells}
-use Rattle.node_shapes.specs.Tree.{shape_of}
+use Rattle.node_words.specs.declared.shapes.names.Name.{Name}
+use Rattle.node_words.specs.shapes.Shape.{Shape, ShowsCells}
+use Rattle.node_words.specs.shapes.Tree.{shape_of}
 use Rattle.node_words.specs.declared.shares.Full.{Full}
 use Rattle.act_rebuilds.specs.Acts.{IsOfAct}
 use Rattle.act_rebuilds.specs.Made.{GrowsBy as MadeBy, FailsBy}
-use Rattle.block_contents.specs.Aligned.{top, world_block}
-use Rattle.block_contents.specs.Versions.{IsKept}
-use Rattle.edit_cells.specs.Worlds.{Rebuilt}
-use Rattle.store_notes.specs.Changes.{MakesNothing}
+use Rattle.core_laws.specs.contents.Aligned.{top, world_block}
+use Rattle.core_laws.specs.contents.Versions.{IsKept}
+use Rattle.edit_walk.specs.cells.Worlds.{Rebuilt}
+use Rattle.one_store.specs.notes.Changes.{MakesNothing}
 use Rattle.one_store.specs.Known.{known_seen, root_tree, stored_root}
 use Rattle.one_store.specs.Steps.{SparesRoots}
 use Rattle.conformance.specs.Running.{GrowsByRecord, ForgetsBy}

@@ -1,9 +1,9 @@
 -- Roots that are taken out of their places, one after the other, with a share of each.
 use Rattle.std.specs.Prelude.{◌≡◌, ℕ, ◌+◌, ◌<◌, ◌≤◌, List, [], ◌∷◌, length}
 use Rattle.std.specs.List.{AllPairs, Contains}
-use Rattle.node_shapes.specs.Tree.{Tree}
-use Rattle.node_shapes.specs.Weights.{weigh, weight_of}
-use Rattle.block_contents.specs.Versions.{IsKept}
+use Rattle.node_words.specs.shapes.Tree.{Tree}
+use Rattle.node_words.specs.shapes.Weights.{weigh, weight_of}
+use Rattle.core_laws.specs.contents.Versions.{IsKept}
 use Rattle.one_store.specs.Known.{Known, root_tree, stored_root}
 use Rattle.store_run.specs.Kept.{log_of}
 use Rattle.store_run.specs.declared.stored_versions.Versions.{Versions}

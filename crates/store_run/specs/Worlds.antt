@@ -4,7 +4,7 @@ use Rattle.vw_cell.specs.declared.cells.Cell.{Cell}
 use Rattle.vox_read.specs.Contents.{Content}
 use Rattle.history_model.specs.Logs.{Log}
 use Rattle.node_words.specs.Plans.{Layout}
-use Rattle.script_runs.specs.Keeping.{MadeAndMet}
+use Rattle.conformance.specs.scripts.Keeping.{MadeAndMet}
 use Rattle.store_run.specs.declared.stored_versions.Versions.{Versions}
 use Rattle.store_run.specs.Kept.{plan_of, log_of, noted_of, AreStoredVersions, AreVersions, HoldsNothing}
 

@@ -4,9 +4,9 @@ ghost use Rattle.store_run.specs.Desks.{desk_state};
 ghost use Rattle.store_run.specs.Pins.{ArePinned};
 
 use crate::pins::Pinned;
+use conformance::Desk;
 use node_words::{Plan, Steps};
 use script::ScriptLine;
-use script_runs::Desk;
 use std::alloc::Global;
 use std::marker::Model;
 use std::sync::ledger::{Blank, Ledger};
@@ -24,8 +24,8 @@ pub(crate) struct StoreDesk<L: Ledger> {
 
 impl<L: Ledger> Model for StoreDesk<L> {
     ghost use Rattle.std.specs.Coded.{codes};
-    ghost use Rattle.node_shapes.specs.ShapeCode.{coded_shape};
-    ghost use Rattle.store_notes.specs.Told.{coded_wanted};
+    ghost use Rattle.node_words.specs.shapes.ShapeCode.{coded_shape};
+    ghost use Rattle.one_store.specs.notes.Told.{coded_wanted};
     ghost use Rattle.store_run.specs.Desks.{DeskState, desk_state};
     ghost use Rattle.store_run.specs.Pins.{ArePinned};
 

@@ -1,12 +1,12 @@
 ghost use Rattle.std.specs.Prelude.{◌≡◌, ◌<◌, None, IfOk, OnOk, length};
-ghost use Rattle.block_contents.specs.MarkLists.{marks_below, with_mark};
+ghost use Rattle.core_laws.specs.contents.MarkLists.{marks_below, with_mark};
 ghost use Rattle.store_run.specs.Kept.{log_of, mark_in, AreStoredVersions, HoldsNothing};
-ghost use Rattle.reporting.specs.Numbers.{AreNumbers};
-ghost use Rattle.reporting.specs.Roots.{RootsTellWorlds, listed_root};
+ghost use Rattle.report.specs.Numbers.{AreNumbers};
+ghost use Rattle.report.specs.Roots.{RootsTellWorlds, listed_root};
 
 use crate::stored_versions::Versions;
 use history_model::{History, Mark};
-use node_shapes::Name;
+use node_words::Name;
 use std::alloc::Global;
 use vw_cell::Memory;
 

@@ -1,6 +1,6 @@
 //! The roots of versions, each with a share that is held.
 ghost use Rattle.std.specs.Prelude.{◌≡◌, ◌+◌, ◌<◌, ◌≤◌, IfOk, vec_capacity, vec_len};
-ghost use Rattle.node_shapes.specs.Weights.{number_of_trees};
+ghost use Rattle.node_words.specs.shapes.Weights.{number_of_trees};
 ghost use Rattle.one_store.specs.Known.{known_seen};
 ghost use Rattle.store_run.specs.Kept.{log_of, moment_of, plan_of, mark_in, AreStoredVersions, HoldsNothing};
 ghost use Rattle.store_run.specs.Marked.{HoldsKept};

@@ -19,11 +19,10 @@ mod replays;
 mod runs;
 mod stored_versions;
 
-pub use act_rebuilds::{draw_models, rebuild_act};
+pub use act_rebuilds::{draw_models, rebuild_act, tell};
 pub use held_roots::HeldRoots;
 pub use marked::MarkedReplay;
 pub use open_runs::{OpenRun, StoreRan};
 pub use open_worlds::OpenWorld;
 pub use replaying::{Replay, ReplayRefused};
 pub use runs::{ScriptsRun, run_scripts};
-pub use world_answers::tell;

@@ -2,7 +2,7 @@ ghost use Rattle.std.specs.Prelude.{◌≡◌, ◌+◌, ◌<◌, ◌≤◌, ◌^
 ghost use Rattle.vox_read.specs.Contents.{AreModels};
 ghost use Rattle.history_model.specs.Logs.{FitsWorld, MayFollow, suits_tints};
 ghost use Rattle.history_model.specs.Positions.{position_after};
-ghost use Rattle.block_contents.specs.Versions.{IsKept};
+ghost use Rattle.core_laws.specs.contents.Versions.{IsKept};
 ghost use Rattle.one_store.specs.Known.{known_seen};
 ghost use Rattle.store_run.specs.Changing.{LogGainsMark, log_with_record};
 ghost use Rattle.store_run.specs.Kept.{IsLargeStore};
@@ -31,8 +31,8 @@ pub struct MarkedReplay<L: Ledger> {
 
 impl<L: Ledger> Model for MarkedReplay<L> {
     ghost use Rattle.std.specs.Coded.{codes};
-    ghost use Rattle.node_shapes.specs.ShapeCode.{coded_shape};
-    ghost use Rattle.store_notes.specs.Told.{coded_wanted};
+    ghost use Rattle.node_words.specs.shapes.ShapeCode.{coded_shape};
+    ghost use Rattle.one_store.specs.notes.Told.{coded_wanted};
     ghost use Rattle.store_run.specs.Worlds.{WorldState, world_state, AreStoredAtRest};
 
     ghost Value = { WorldState };

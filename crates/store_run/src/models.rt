@@ -3,14 +3,14 @@ ghost use Rattle.std.specs.Prelude.{◌≡◌, ◌≤◌, ◌^◌, ℕ, true, fa
 ghost use Rattle.std.specs.List.{slice_get};
 ghost use Rattle.vw_cell.specs.Places.{FitsAt};
 ghost use Rattle.vox_read.specs.Contents.{Content, IsModel, AreModels};
-ghost use Rattle.node_shapes.specs.Weights.{number_of_trees};
+ghost use Rattle.node_words.specs.shapes.Weights.{number_of_trees};
 ghost use Rattle.history_model.specs.Worlds.{is_edit, edited};
 ghost use Rattle.history_model.specs.Logs.{FitsWorld, TintFits, suits_tints};
 ghost use Rattle.history_model.specs.declared.acts.Act.TheVariants.{Stamp};
-ghost use Rattle.block_walk.specs.Roots.{HoldsRoot};
+ghost use Rattle.node_words.specs.descent.Roots.{HoldsRoot};
 ghost use Rattle.act_rebuilds.specs.Acts.{IsLargeFor, room_for, RebuildsAct, GrowsByAct, RefusesAct};
 ghost use Rattle.act_rebuilds.specs.Drawn.{HaveTints};
-ghost use Rattle.tints.specs.Planes.{TintsPlaces};
+ghost use Rattle.core_laws.specs.tints.Planes.{TintsPlaces};
 ghost use Rattle.act_rebuilds.specs.Edits.{RebuildsEdit, GrowsByEdit, RefusesEdit};
 ghost use Rattle.act_rebuilds.specs.Inks.{HasInk};
 ghost use Rattle.store_run.specs.Stamps.{stamp_in};

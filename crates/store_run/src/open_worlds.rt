@@ -6,7 +6,7 @@ ghost use Rattle.vox_read.specs.Contents.{AreModels};
 ghost use Rattle.history_model.specs.Journal.{journal_of};
 ghost use Rattle.history_model.specs.Logs.{FitsWorld, suits_tints};
 ghost use Rattle.history_model.specs.Moments.{world_has, world_tint};
-ghost use Rattle.block_contents.specs.Versions.{IsKept, SameWorld};
+ghost use Rattle.core_laws.specs.contents.Versions.{IsKept, SameWorld};
 ghost use Rattle.extract.specs.Saved.{file_of_box};
 ghost use Rattle.script.specs.Fitting.{QuestionFits};
 ghost use Rattle.script.specs.declared.commands.Command.TheVariants.{Edit, Forget};
@@ -14,7 +14,7 @@ ghost use Rattle.transcript.specs.declared.answers.Answer.TheVariants.{Done};
 ghost use Rattle.conformance.specs.Answers.{mark_of};
 ghost use Rattle.conformance.specs.Kinds.{answer_at};
 ghost use Rattle.conformance.specs.Telling.{Tells};
-ghost use Rattle.script_runs.specs.Sessions.{GoesOnWith};
+ghost use Rattle.conformance.specs.scripts.Sessions.{GoesOnWith};
 ghost use Rattle.one_store.specs.Known.{stored_root};
 ghost use Rattle.store_run.specs.Answering.{GoesOnBy};
 ghost use Rattle.store_run.specs.Changing.{Changes, AnswersForget, MakesVersion};
@@ -49,8 +49,8 @@ pub struct OpenWorld {
 
 impl Model for OpenWorld {
     ghost use Rattle.std.specs.Coded.{codes};
-    ghost use Rattle.node_shapes.specs.ShapeCode.{coded_shape};
-    ghost use Rattle.store_notes.specs.Told.{coded_wanted};
+    ghost use Rattle.node_words.specs.shapes.ShapeCode.{coded_shape};
+    ghost use Rattle.one_store.specs.notes.Told.{coded_wanted};
     ghost use Rattle.store_run.specs.Worlds.{WorldState, world_state, AreVersionsAtRest};
 
     ghost Value = { WorldState };

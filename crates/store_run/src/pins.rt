@@ -3,7 +3,7 @@ ghost use Rattle.std.specs.Prelude.{◌≡◌, ◌++◌, ◌^◌, ◌<◌, Some,
 ghost use Rattle.std.specs.List.{slice_get};
 ghost use Rattle.vox_read.specs.Contents.{AreModels};
 ghost use Rattle.history_model.specs.declared.questions.Question.TheVariants.{Count};
-ghost use Rattle.block_contents.specs.Versions.{IsKept};
+ghost use Rattle.core_laws.specs.contents.Versions.{IsKept};
 ghost use Rattle.script.specs.declared.commands.Command.TheVariants.{Save};
 ghost use Rattle.script.specs.Fitting.{CommandFits, SaveFits};
 ghost use Rattle.conformance.specs.declared.saves.SavedBox.{SavedBox};
@@ -19,8 +19,7 @@ use crate::stored_versions::{VersionFound, Versions};
 use conformance::SavedBox;
 use extract::box_file;
 use history_model::Question;
-use node_shapes::Name;
-use node_words::{Plan, Share, Steps};
+use node_words::{Name, Plan, Share, Steps};
 use script::{Command, SaveName};
 use std::alloc::Global;
 use std::sync::ledger::Ledger;

@@ -39,8 +39,8 @@ pub struct Replay<L: Ledger> {
 
 impl<L: Ledger> Model for Replay<L> {
     ghost use Rattle.std.specs.Coded.{codes};
-    ghost use Rattle.node_shapes.specs.ShapeCode.{coded_shape};
-    ghost use Rattle.store_notes.specs.Told.{coded_wanted};
+    ghost use Rattle.node_words.specs.shapes.ShapeCode.{coded_shape};
+    ghost use Rattle.one_store.specs.notes.Told.{coded_wanted};
     ghost use Rattle.store_run.specs.Replaying.{ReplayState, IsReplay, replay_state};
 
     ghost Value = { ReplayState };

@@ -3,7 +3,7 @@ ghost use Rattle.std.specs.Prelude.{◌≡◌, ◌+◌, ◌<◌, ◌≤◌, ◌^
 ghost use Rattle.history_model.specs.Worlds.{is_edit};
 ghost use Rattle.history_model.specs.Logs.{FitsWorld, MayFollow, suits_tints};
 ghost use Rattle.history_model.specs.Positions.{position_after};
-ghost use Rattle.node_shapes.specs.Weights.{number_of_trees};
+ghost use Rattle.node_words.specs.shapes.Weights.{number_of_trees};
 ghost use Rattle.conformance.specs.Answers.{target_at};
 ghost use Rattle.store_run.specs.Kept.{moment_of, log_of, AreStoredVersions, HoldsSame, HasRecordRoom};
 ghost use Rattle.store_run.specs.Replaying.{TakesEdit, TakesWay, FillsBucket, CanFollow};

@@ -75,7 +75,7 @@ fn run_over<L: Ledger>(
     let records = most_records(scripts);
     let saves = most_saves(scripts);
     let mut desk: StoreDesk<L> = StoreDesk::begin(alloc, plan, models, records, saves, blank)?;
-    let transcripts = script_runs::run_scripts(alloc, &mut desk, scripts)?;
+    let transcripts = conformance::run_scripts(alloc, &mut desk, scripts)?;
     let run = OpenRun {
         pinned: desk.into_pinned(),
     };

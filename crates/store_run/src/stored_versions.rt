@@ -1,6 +1,7 @@
 ghost use Rattle.std.specs.Prelude.{◌≡◌, ◌+◌, ◌<◌, ◌≤◌, ◌^◌, ◌↔◌, true, None, IfOk, IfErr, OnOk, IsTrue, [], length, replicate, option_copied, false};
 
 use crate::models::{OwnModels, own_models, rebuild_own};
+use act_rebuilds::{tell, tell_tinted};
 use history_model::{Act, History, Mark, Question, Record};
 use node_words::{Full, Name, NodeStore, Plan, Share, Steps};
 use one_store::OneStore;
@@ -10,7 +11,6 @@ use transcript::Answer;
 use undo::Trail;
 use vox_read::Models;
 use vw_cell::{Memory, Side};
-use world_answers::{tell, tell_tinted};
 
 /// The most records of a history.
 pub(crate) const RECORDS: u32 = 65_535;
@@ -40,10 +40,10 @@ pub(crate) enum VersionFound {
 }
 
 ghost use Rattle.vox_read.specs.Contents.{AreModels};
-ghost use Rattle.node_shapes.specs.Weights.{number_of_trees};
+ghost use Rattle.node_words.specs.shapes.Weights.{number_of_trees};
 ghost use Rattle.history_model.specs.Worlds.{is_edit};
 ghost use Rattle.history_model.specs.Logs.{FitsWorld, suits_tints};
-ghost use Rattle.block_contents.specs.Versions.{IsKept, IsUnmarked};
+ghost use Rattle.core_laws.specs.contents.Versions.{IsKept, IsUnmarked};
 ghost use Rattle.core_laws.specs.LogEvents.{MayAppend};
 ghost use Rattle.act_rebuilds.specs.Made.{FailsBy};
 ghost use Rattle.one_store.specs.Known.{known_seen, stored_root};

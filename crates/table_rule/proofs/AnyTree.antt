@@ -1,17 +1,17 @@
 -- What steps tell for whatever trees the names of a view have: each name has one.
 use Rattle.std.proofs.Common.{◌≡◌, ℕ, ◌+◌, ◌<◌, ◌≤◌, Some, None, Option, List, refl, sym, ap, ◌∙◌, subst, arith}
-use Rattle.node_shapes.specs.declared.names.Name.{Name}
-use Rattle.node_shapes.specs.Tree.{Tree, root_of, shape_of}
-use Rattle.node_shapes.specs.Weights.{number_of_trees}
-use Rattle.node_shapes.proofs.TreeLaws.{gone_from_root}
-use Rattle.node_shapes.proofs.WeightLaws.{weight_of-there, weight_below-part, weight_below-same}
+use Rattle.node_words.specs.declared.shapes.names.Name.{Name}
+use Rattle.node_words.specs.shapes.Tree.{Tree, root_of, shape_of}
+use Rattle.node_words.specs.shapes.Weights.{number_of_trees}
+use Rattle.node_words.proofs.OfShapes.TreeLaws.{gone_from_root}
+use Rattle.node_words.proofs.OfShapes.WeightLaws.{weight_of-there, weight_below-part, weight_below-same}
 use Rattle.node_words.specs.declared.keys.Key as keys
 use Rattle.node_words.specs.declared.keys.Key.TheVariants.{Leaf, Node}
 use Rattle.node_words.specs.Held.{IsHeld, IsReached, AreHeld, HoldsChildren, ReachesName, name_in}
 use Rattle.node_words.specs.Plans.{Layout}
 use Rattle.node_words.proofs.HeldLaws.{held_reached}
-use Rattle.node_places.specs.Spots.{Spot, key_words}
-use Rattle.node_places.specs.Names.{key_child}
+use Rattle.core_laws.specs.places.Spots.{Spot, key_words}
+use Rattle.core_laws.specs.places.Names.{key_child}
 use Rattle.core_laws.specs.States.{State}
 use Rattle.core_laws.specs.Events.{Rests, Adds, Lowers, Frees}
 use Rattle.core_laws.proofs.Trees.{node_at-same}

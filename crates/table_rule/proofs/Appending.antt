@@ -6,25 +6,25 @@ use Rattle.std.proofs.Math.Nat.{pow-le-pow_right, mod-lt}
 use Rattle.std.proofs.lemmas.Bool.{cases_eq}
 use Rattle.std.proofs.lemmas.List.{take_all, append-nil}
 use Rattle.vox_read.specs.Contents.{Content}
-use Rattle.node_shapes.specs.declared.names.Name.{Name}
-use Rattle.node_shapes.specs.Shape.{ShowsCells}
-use Rattle.node_shapes.specs.Tree.{Tree, Gone, root_of, shape_of}
-use Rattle.node_shapes.specs.Weights.{weigh, weight_of}
-use Rattle.node_shapes.proofs.WeightLaws.{weight_of-there, weight_of-gone}
+use Rattle.node_words.specs.declared.shapes.names.Name.{Name}
+use Rattle.node_words.specs.shapes.Shape.{ShowsCells}
+use Rattle.node_words.specs.shapes.Tree.{Tree, Gone, root_of, shape_of}
+use Rattle.node_words.specs.shapes.Weights.{weigh, weight_of}
+use Rattle.node_words.proofs.OfShapes.WeightLaws.{weight_of-there, weight_of-gone}
 use Rattle.node_words.specs.Held.{IsHeld}
 use Rattle.node_words.specs.Plans.{Layout}
-use Rattle.node_places.specs.KeyWords.{child_of_word}
-use Rattle.node_places.specs.Spots.{Spot, Sessions, LogLength, Version, versions}
-use Rattle.node_places.specs.Words.{word_of_child, IsChildAt}
-use Rattle.node_places.proofs.Children.{one_child}
-use Rattle.node_places.proofs.KeyLaws.{word_back}
+use Rattle.core_laws.specs.places.KeyWords.{child_of_word}
+use Rattle.core_laws.specs.places.Spots.{Spot, Sessions, LogLength, Version, versions}
+use Rattle.core_laws.specs.places.Words.{word_of_child, IsChildAt}
+use Rattle.core_laws.proofs.OfPlaces.Children.{one_child}
+use Rattle.core_laws.proofs.OfPlaces.KeyLaws.{word_back}
 use Rattle.history_model.specs.Logs.{Log, HasTarget, MayFollow}
 use Rattle.history_model.specs.Packing.{log_words}
 use Rattle.history_model.specs.Positions.{position_after}
 use Rattle.history_model.specs.declared.acts.Act.{Act}
 use Rattle.history_model.specs.declared.acts.Act.TheVariants.{Fill, Erase, Ball, Carve, Copy, Stamp, Tint, Undo, Redo}
 use Rattle.history_model.specs.declared.histories.Record.{Record}
-use Rattle.block_contents.specs.Aligned.{top, world_block}
+use Rattle.core_laws.specs.contents.Aligned.{top, world_block}
 use Rattle.core_laws.proofs.EntrySteps.{was_live}
 use Rattle.core_laws.proofs.SeenNodes.{gone_tree}
 use Rattle.core_laws.specs.Events.{Trades, PutsRoot, no_weight, at_most_one}

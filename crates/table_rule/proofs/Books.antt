@@ -2,21 +2,21 @@
 use Rattle.std.proofs.Common.{◌≡◌, ◌⊎◌, ℕ, zero, suc, ◌+◌, ◌<◌, ◌≤◌, Option, Some, None, List, ◌∷◌, ◌++◌, set, refl, sym, ap, ◌∙◌, subst, ⊎_elim, inl, inr, arith, sum_by}
 use Rattle.std.specs.Prelude.{map}
 use Rattle.std.specs.List.{slice_get, Contains}
-use Rattle.node_places.specs.Sums.{sum_below}
+use Rattle.core_laws.specs.Sums.{sum_below}
 use Rattle.vox_read.specs.Contents.{Content}
-use Rattle.node_shapes.specs.declared.names.Name.{Name}
-use Rattle.node_shapes.specs.Tree.{Tree, root_of, child_of}
-use Rattle.node_shapes.specs.Weights.{weigh, weight_of, weight_below, number_of_trees}
-use Rattle.node_shapes.proofs.TreeEqual.{Name-discrete}
-use Rattle.node_shapes.proofs.TreeLaws.{child_of-node_at}
-use Rattle.node_shapes.proofs.WeightLaws.{weigh-cons, weigh-append, weight_of-there, weight_of-gone, weight_below-one}
+use Rattle.node_words.specs.declared.shapes.names.Name.{Name}
+use Rattle.node_words.specs.shapes.Tree.{Tree, root_of, child_of}
+use Rattle.node_words.specs.shapes.Weights.{weigh, weight_of, weight_below, number_of_trees}
+use Rattle.node_words.proofs.OfShapes.TreeEqual.{Name-discrete}
+use Rattle.node_words.proofs.OfShapes.TreeLaws.{child_of-node_at}
+use Rattle.node_words.proofs.OfShapes.WeightLaws.{weigh-cons, weigh-append, weight_of-there, weight_of-gone, weight_below-one}
 use Rattle.node_words.specs.declared.keys.Key as keys
 use Rattle.node_words.specs.declared.keys.Key.TheVariants.{Leaf, Node}
 use Rattle.node_words.specs.Plans.{Layout}
 use Rattle.node_words.specs.Held.{IsHeld}
-use Rattle.node_places.specs.Names.{key_child}
-use Rattle.node_places.specs.Spots.{Spot, LogTurn, LogLength, Version, Sessions}
-use Rattle.node_places.proofs.KeyLaws.{key_back}
+use Rattle.core_laws.specs.places.Names.{key_child}
+use Rattle.core_laws.specs.places.Spots.{Spot, LogTurn, LogLength, Version, Sessions}
+use Rattle.core_laws.proofs.OfPlaces.KeyLaws.{key_back}
 use Rattle.core_laws.specs.States.{State, IsLive, tree_at, tree_of}
 use Rattle.core_laws.specs.Standing.{Stands, StandsOrGone}
 use Rattle.core_laws.specs.Soundness.{FitsLevel}

@@ -7,14 +7,14 @@ use Rattle.std.proofs.lemmas.List.{map-set, length-append}
 use Rattle.std.proofs.lemmas.List.Sums.{sum_by-cons}
 use Rattle.std.proofs.lemmas.Option.{slice_get-map, same_Some, none-some}
 use Rattle.vox_read.specs.Contents.{Content}
-use Rattle.node_shapes.specs.declared.names.Name.{Name}
-use Rattle.node_shapes.specs.Shape.{Shape}
-use Rattle.node_shapes.specs.Tree.{Tree}
-use Rattle.node_shapes.specs.Weights.{number_of_trees}
-use Rattle.node_shapes.proofs.WeightLaws.{weigh-nil}
+use Rattle.node_words.specs.declared.shapes.names.Name.{Name}
+use Rattle.node_words.specs.shapes.Shape.{Shape}
+use Rattle.node_words.specs.shapes.Tree.{Tree}
+use Rattle.node_words.specs.shapes.Weights.{number_of_trees}
+use Rattle.node_words.proofs.OfShapes.WeightLaws.{weigh-nil}
 use Rattle.node_words.specs.Plans.{Layout}
 use Rattle.node_words.specs.Held.{IsHeld, Wanted}
-use Rattle.node_places.specs.Spots.{Spot, Sessions, LogTurn, IsSpot}
+use Rattle.core_laws.specs.places.Spots.{Spot, Sessions, LogTurn, IsSpot}
 use Rattle.core_laws.specs.Counting.{holdings}
 use Rattle.node_words.specs.Enough.{HasEnough, enough_stays}
 use Rattle.core_laws.specs.LogEvents.{Reseats}
@@ -28,7 +28,7 @@ use Rattle.history_model.specs.Logs.{Log}
 use Rattle.table_rule.specs.LogKnowing.{IsPrefix, OwnsIn, WasFound}
 use Rattle.table_rule.specs.LogTurning.{IsOfLog}
 use Rattle.table_rule.specs.LogViews.{no_log}
-use Rattle.versions.specs.Listing.{Found}
+use Rattle.retain.specs.Listing.{Found}
 use Rattle.table_rule.specs.LogWords.{log_in}
 use Rattle.table_rule.specs.Rules.{KeepsRule, KeepsLog, table_state}
 use Rattle.table_rule.specs.Seating.{handing, handed}

@@ -8,14 +8,14 @@ use Rattle.vw_cell.specs.declared.boxes.Boxed.{Boxed}
 use Rattle.vw_cell.specs.declared.balls.Ball as balls
 use Rattle.vw_cell.specs.Places.{FitsAt, IsInWorld, IsCell}
 use Rattle.vox_read.specs.Contents.{Content}
-use Rattle.versions.specs.Act.{Act}
-use Rattle.versions.specs.TheVariants.{Fill, Erase, Ball, Carve, Copy, Stamp, Tint, Undo, Redo}
-use Rattle.versions.specs.TintAct.{TintAct}
-use Rattle.versions.specs.TintVariants as tints
-use Rattle.versions.specs.Record.{Record}
-use Rattle.versions.specs.Logs.{FitsWorld, FitsModel, TintFits}
-use Rattle.versions.specs.Packing.{cell_word, packed, tint_packed, log_words, last_edit}
-use Rattle.versions.specs.Positions.{position_after}
+use Rattle.retain.specs.Act.{Act}
+use Rattle.retain.specs.TheVariants.{Fill, Erase, Ball, Carve, Copy, Stamp, Tint, Undo, Redo}
+use Rattle.retain.specs.TintAct.{TintAct}
+use Rattle.retain.specs.TintVariants as tints
+use Rattle.retain.specs.Record.{Record}
+use Rattle.retain.specs.Logs.{FitsWorld, FitsModel, TintFits}
+use Rattle.retain.specs.Packing.{cell_word, packed, tint_packed, log_words, last_edit}
+use Rattle.retain.specs.Positions.{position_after}
 use Rattle.table_rule.specs.LogWords.{HasModel, HasNumbers, FitsFields, cell_of_word, box_of_words, ball_of_words, act_of_words, record_of_words}
 
 low_part : (word a b n : ℕ) → word ≡ b * n + a → a < n → word % n ≡ a

@@ -6,19 +6,19 @@ use Rattle.std.proofs.lemmas.List.Elements.{All-contains}
 use Rattle.std.proofs.lemmas.List.Sums.{sum_by-cons}
 use Rattle.std.proofs.lemmas.Nat.{div-mul-add, mod-mul-add}
 use Rattle.vox_read.specs.Contents.{Content}
-use Rattle.node_shapes.specs.declared.names.Name.{Name}
-use Rattle.node_shapes.specs.Shape.{ShowsCells}
-use Rattle.node_shapes.specs.Tree.{Tree, root_of, shape_of}
-use Rattle.node_shapes.specs.Weights.{weigh, weight_of, number_of_trees}
-use Rattle.node_shapes.proofs.WeightLaws.{weigh-cons, weight_of-there, weight_of-gone, weight_of-one}
+use Rattle.node_words.specs.declared.shapes.names.Name.{Name}
+use Rattle.node_words.specs.shapes.Shape.{ShowsCells}
+use Rattle.node_words.specs.shapes.Tree.{Tree, root_of, shape_of}
+use Rattle.node_words.specs.shapes.Weights.{weigh, weight_of, number_of_trees}
+use Rattle.node_words.proofs.OfShapes.WeightLaws.{weigh-cons, weight_of-there, weight_of-gone, weight_of-one}
 use Rattle.node_words.specs.Held.{IsHeld}
 use Rattle.node_words.specs.Plans.{Layout}
-use Rattle.node_places.specs.Spots.{Spot, Sessions, LogLength, Version, versions}
+use Rattle.core_laws.specs.places.Spots.{Spot, Sessions, LogLength, Version, versions}
 use Rattle.history_model.specs.Logs.{Log}
 use Rattle.history_model.specs.declared.histories.Mark.{Mark}
-use Rattle.block_contents.specs.Aligned.{top, world_block}
-use Rattle.block_contents.specs.Versions.{IsUnmarked, MarkComes}
-use Rattle.block_contents.proofs.MarkLaws.{each_mark}
+use Rattle.core_laws.specs.contents.Aligned.{top, world_block}
+use Rattle.core_laws.specs.contents.Versions.{IsUnmarked, MarkComes}
+use Rattle.core_laws.proofs.OfContents.MarkLaws.{each_mark}
 use Rattle.core_laws.proofs.EntrySteps.{was_live}
 use Rattle.core_laws.specs.Events.{Trades, TakesRoot, no_weight, at_most_one}
 use Rattle.core_laws.specs.LogEvents.{Forgets, forgets}
@@ -28,7 +28,7 @@ use Rattle.table_rule.specs.Reading.{Wrote}
 use Rattle.table_rule.proofs.Readings.{traded, forgets_root}
 use Rattle.table_rule.specs.LogKnowing.{IsPrefix, WasFound, KnowsLog, ListsOwn, if_among}
 use Rattle.table_rule.specs.LogTelling.{number_seen, seen_has, SeesAll, IsShownRoot}
-use Rattle.versions.specs.Listing.{Accepted, Found}
+use Rattle.retain.specs.Listing.{Accepted, Found}
 use Rattle.table_rule.specs.LogWords.{log_in, records_in, mark_of_words, marks_in}
 use Rattle.table_rule.specs.Rules.{KeepsRule, KeepsOn, KeepsLog, table_state, MayWrite}
 use Rattle.table_rule.specs.Turning.{turn_of}

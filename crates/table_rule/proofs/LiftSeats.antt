@@ -2,11 +2,11 @@
 use Rattle.std.proofs.Common.{◌≡◌, ⊎_elim, Some, None, false, ◌≢◌, ℕ, ◌+◌, ◌<◌, true, List, [], length, set, refl, sym, ap, ◌∙◌, subst, length-set, arith}
 use Rattle.std.specs.List.{slice_get}
 use Rattle.atomic_table.specs.Table.{Me, keeps, Allows, Splits, Joins}
-use Rattle.node_shapes.proofs.WeightLaws.{weigh-nil}
-use Rattle.node_shapes.specs.Tree.{Tree}
+use Rattle.node_words.proofs.OfShapes.WeightLaws.{weigh-nil}
+use Rattle.node_words.specs.shapes.Tree.{Tree}
 use Rattle.node_words.specs.Plans.{Layout}
 use Rattle.node_words.specs.Held.{IsHeld, IsReached}
-use Rattle.node_places.specs.Spots.{Spot, Sessions}
+use Rattle.core_laws.specs.places.Spots.{Spot, Sessions}
 use Rattle.table_rule.specs.Reading.{Wrote, word_at}
 use Rattle.table_rule.proofs.Rows.{row_written}
 use Rattle.vox_read.specs.Contents.{Content}
@@ -81,7 +81,7 @@ nothing_tells v side none new = record {
   trees = record { each = λ t h. no t h; named = λ t u h k e. unreached t h };
   canonical = record { each = λ t n h e. no t h };
   few = (let n = weigh-nil (λ _. 1) in
-      let e = ap (λ (ts : List Tree). Rattle.node_shapes.specs.Weights.number_of_trees ts) none in
+      let e = ap (λ (ts : List Tree). Rattle.node_words.specs.shapes.Weights.number_of_trees ts) none in
       omega arith);
   names = λ t n h e. unreached t h;
   buckets = λ t n h e. unreached t h;
@@ -110,7 +110,7 @@ nothing_tells v side none new = record {
     no : {A : Type 0} (t : Tree) → IsHeld v.held t → A
     no t h =
         absurd (let e = h.weighs (λ _. 1) in let n = weigh-nil (λ _. 1) in
-        let s = ap (λ (ts : List Tree). Rattle.node_shapes.specs.Weights.number_of_trees ts) none in
+        let s = ap (λ (ts : List Tree). Rattle.node_words.specs.shapes.Weights.number_of_trees ts) none in
         omega arith)
 
     unreached : {A : Type 0} (t : Tree) → IsReached v.held t → A

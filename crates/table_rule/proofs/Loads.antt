@@ -3,12 +3,12 @@ use Rattle.std.proofs.Common.{◌≡◌, ◌⊎◌, ℕ, zero, suc, ◌<◌, Som
 use Rattle.std.specs.Prelude.{map}
 use Rattle.std.specs.List.{slice_get, Contains}
 use Rattle.vox_read.specs.Contents.{Content}
-use Rattle.node_shapes.specs.declared.names.Name.{Name}
-use Rattle.node_shapes.specs.Tree.{Tree, root_of}
+use Rattle.node_words.specs.declared.shapes.names.Name.{Name}
+use Rattle.node_words.specs.shapes.Tree.{Tree, root_of}
 use Rattle.node_words.specs.Held.{IsReached, Wanted}
 use Rattle.node_words.specs.Plans.{Layout}
-use Rattle.node_places.specs.Names.{named}
-use Rattle.node_places.specs.Spots.{Spot, LogTurn, LogLength, Version, Sessions, Book, key_words}
+use Rattle.core_laws.specs.places.Names.{named}
+use Rattle.core_laws.specs.places.Spots.{Spot, LogTurn, LogLength, Version, Sessions, Book, key_words}
 use Rattle.core_laws.specs.Events.{EntriesStay, Rests}
 use Rattle.node_words.specs.Enough.{HasEnough}
 use Rattle.core_laws.proofs.Enough.{enough}

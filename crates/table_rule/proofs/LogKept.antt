@@ -2,12 +2,12 @@
 use Rattle.std.proofs.Common.{◌≡◌, ℕ, true, Some, List, [], set, refl, sym, ap, ◌∙◌, subst, arith}
 use Rattle.std.specs.List.{slice_get, Contains}
 use Rattle.node_words.specs.Plans.{Layout}
-use Rattle.node_places.specs.Spots.{Spot, Sessions, LogTurn, LogLength, Version}
-use Rattle.versions.specs.Logs.{Log}
+use Rattle.core_laws.specs.places.Spots.{Spot, Sessions, LogTurn, LogLength, Version}
+use Rattle.retain.specs.Logs.{Log}
 use Rattle.table_rule.specs.LogKnowing.{IsPrefix, ListsOwn, OwnsIn, WasFound, KnowsLog}
 use Rattle.table_rule.specs.LogTurning.{IsOfLog, KeepsLogTurn}
 use Rattle.table_rule.specs.LogViews.{LogView}
-use Rattle.versions.specs.Listing.{Found}
+use Rattle.retain.specs.Listing.{Found}
 use Rattle.table_rule.specs.LogWords.{log_in}
 use Rattle.table_rule.specs.Rules.{KeepsLog}
 use Rattle.table_rule.specs.Turning.{IsTurnWord}

@@ -4,18 +4,18 @@ use Rattle.std.specs.List.{slice_get, Contains}
 use Rattle.std.proofs.lemmas.List.Elements.{All-contains}
 use Rattle.vox_read.specs.Contents.{Content}
 use Rattle.node_words.specs.Plans.{Layout}
-use Rattle.node_places.specs.Spots.{Spot, Sessions, LogLength, Version, versions}
+use Rattle.core_laws.specs.places.Spots.{Spot, Sessions, LogLength, Version, versions}
 use Rattle.history_model.specs.Logs.{Log}
 use Rattle.history_model.specs.declared.histories.Mark.{Mark}
 use Rattle.history_model.specs.declared.histories.Record.{Record}
-use Rattle.block_contents.specs.Versions.{IsUnmarked}
+use Rattle.core_laws.specs.contents.Versions.{IsUnmarked}
 use Rattle.core_laws.specs.Events.{EntriesStay, Rests}
 use Rattle.table_rule.specs.Reading.{Wrote}
 use Rattle.table_rule.specs.LogKnowing.{WasFound}
 use Rattle.table_rule.specs.LogTelling.{number_seen, SeesAll}
 use Rattle.table_rule.specs.LogTurning.{IsOfLog}
 use Rattle.table_rule.specs.LogViews.{LogView}
-use Rattle.versions.specs.Listing.{Found}
+use Rattle.retain.specs.Listing.{Found}
 use Rattle.table_rule.specs.LogWords.{log_in, records_in, record_of_words, word_in, mark_of_words, marks_in}
 use Rattle.table_rule.specs.Rules.{KeepsRule, table_state, MayWrite}
 use Rattle.table_rule.specs.Views.{SeatView, known_at}

@@ -5,12 +5,12 @@ use Rattle.std.specs.List.{slice_get, Contains}
 use Rattle.std.proofs.lemmas.Bool.{cases_eq}
 use Rattle.std.proofs.lemmas.List.Sums.{sum_by-cons}
 use Rattle.std.proofs.lemmas.Option.{none-some, same_Some}
-use Rattle.versions.specs.Logs.{Log}
-use Rattle.versions.specs.Mark.{Mark}
-use Rattle.versions.specs.Record.{Record}
+use Rattle.retain.specs.Logs.{Log}
+use Rattle.retain.specs.Mark.{Mark}
+use Rattle.retain.specs.Record.{Record}
 use Rattle.table_rule.specs.LogKnowing.{IsPrefix, ListsOwn, OwnsIn, WasFound, AreOfSessions, KnowsLog, if_among, numbered_from}
 use Rattle.table_rule.specs.LogViews.{LogView}
-use Rattle.versions.specs.Listing.{Accepted, Found}
+use Rattle.retain.specs.Listing.{Accepted, Found}
 use Rattle.table_rule.specs.Views.{SeatView}
 use Rattle.table_rule.proofs.Lookups.{each}
 use Rattle.table_rule.proofs.OwnLaws.{among_in, among_out, sum_same, sum_none}

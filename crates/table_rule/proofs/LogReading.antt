@@ -5,11 +5,11 @@ use Rattle.std.specs.List.{slice_get, Contains}
 use Rattle.std.proofs.lemmas.Bool.{cases_eq}
 use Rattle.std.proofs.lemmas.List.{take-append-le, take_all}
 use Rattle.std.proofs.lemmas.List.Elements.{Contains-append_left, Contains-append_right, Contains-append_cases}
-use Rattle.core_laws.specs.Versions.{IsUnmarked}
+use Rattle.core_laws.specs.contents.Versions.{IsUnmarked}
 use Rattle.node_words.specs.Plans.{Layout}
-use Rattle.node_places.specs.Spots.{Spot, LogTurn, LogLength, Version, versions}
-use Rattle.versions.specs.Mark.{Mark}
-use Rattle.versions.specs.Packing.{log_words}
+use Rattle.core_laws.specs.places.Spots.{Spot, LogTurn, LogLength, Version, versions}
+use Rattle.retain.specs.Mark.{Mark}
+use Rattle.retain.specs.Packing.{log_words}
 use Rattle.table_rule.specs.LogWords.{record_of_words, word_in, mark_of_words, records_in, if_marked, marks_in, log_in, act_of_words, IsLogWritten}
 
 -- the words of the log are as before

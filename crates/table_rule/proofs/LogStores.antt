@@ -4,12 +4,12 @@ use Rattle.std.specs.Prelude.{nat_lt}
 use Rattle.std.specs.List.{slice_get}
 use Rattle.std.proofs.lemmas.Bool.{cases_eq, lt-ltb}
 use Rattle.vox_read.specs.Contents.{Content}
-use Rattle.node_shapes.specs.declared.names.Name.{Name}
+use Rattle.node_words.specs.declared.shapes.names.Name.{Name}
 use Rattle.node_words.specs.Plans.{Layout}
-use Rattle.node_places.specs.KeyWords.{child_of_word}
-use Rattle.node_places.specs.Spots.{Spot, Sessions, LogLength, Version, versions}
+use Rattle.core_laws.specs.places.KeyWords.{child_of_word}
+use Rattle.core_laws.specs.places.Spots.{Spot, Sessions, LogLength, Version, versions}
 use Rattle.history_model.specs.Logs.{Log}
-use Rattle.block_contents.specs.Aligned.{top}
+use Rattle.core_laws.specs.contents.Aligned.{top}
 use Rattle.core_laws.specs.Events.{RootsStay, Rests}
 use Rattle.table_rule.specs.Reading.{Wrote, kept_root}
 use Rattle.table_rule.specs.LogKnowing.{KnowsLog}

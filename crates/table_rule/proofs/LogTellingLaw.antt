@@ -7,20 +7,20 @@ use Rattle.std.proofs.lemmas.List.{take-append-le}
 use Rattle.std.proofs.lemmas.Option.{same_Some, slice_get_within}
 use Rattle.vw_cell.specs.declared.cells.Cell.{Cell}
 use Rattle.vox_read.specs.Contents.{Content}
-use Rattle.node_shapes.specs.declared.names.Name.{Name}
-use Rattle.node_shapes.specs.Shape.{ShowsCells}
-use Rattle.node_shapes.specs.Tree.{Tree, root_of, shape_of}
+use Rattle.node_words.specs.declared.shapes.names.Name.{Name}
+use Rattle.node_words.specs.shapes.Shape.{ShowsCells}
+use Rattle.node_words.specs.shapes.Tree.{Tree, root_of, shape_of}
 use Rattle.node_words.specs.Held.{IsReached}
 use Rattle.node_words.specs.Plans.{Layout}
-use Rattle.node_places.specs.KeyWords.{child_of_word}
-use Rattle.node_places.specs.Spots.{Spot, LogLength, Version, versions}
-use Rattle.versions.specs.StoreLaws.{stored_stays}
-use Rattle.versions.specs.Logs.{Log}
-use Rattle.versions.specs.Stores.{stored_in}
-use Rattle.versions.specs.Packing.{log_words}
-use Rattle.versions.specs.Record.{Record}
-use Rattle.core_laws.specs.Aligned.{top, world_block}
-use Rattle.core_laws.specs.Versions.{IsKept, SameWorld}
+use Rattle.core_laws.specs.places.KeyWords.{child_of_word}
+use Rattle.core_laws.specs.places.Spots.{Spot, LogLength, Version, versions}
+use Rattle.retain.specs.StoreLaws.{stored_stays}
+use Rattle.retain.specs.Logs.{Log}
+use Rattle.retain.specs.Stores.{stored_in}
+use Rattle.retain.specs.Packing.{log_words}
+use Rattle.retain.specs.Record.{Record}
+use Rattle.core_laws.specs.contents.Aligned.{top, world_block}
+use Rattle.core_laws.specs.contents.Versions.{IsKept, SameWorld}
 use Rattle.core_laws.proofs.Lives.{root_lives}
 use Rattle.core_laws.proofs.LogSteps.{root_in_range}
 use Rattle.core_laws.proofs.RootCells.{same_cells, same_root, no_root_no_cell}

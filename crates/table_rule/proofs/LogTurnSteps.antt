@@ -4,7 +4,7 @@ use Rattle.std.specs.List.{slice_get, Contains}
 use prog.Atomic.{either}
 use Rattle.vox_read.specs.Contents.{Content}
 use Rattle.node_words.specs.Plans.{Layout}
-use Rattle.node_places.specs.Spots.{Spot, Sessions, LogTurn, LogLength, Version}
+use Rattle.core_laws.specs.places.Spots.{Spot, Sessions, LogTurn, LogLength, Version}
 use Rattle.history_model.specs.Logs.{Log}
 use Rattle.core_laws.specs.Events.{Rests}
 use Rattle.table_rule.specs.Reading.{Wrote}

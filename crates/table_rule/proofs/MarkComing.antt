@@ -4,9 +4,9 @@ use Rattle.std.specs.List.{Contains}
 use Rattle.std.proofs.lemmas.Bool.{cases_eq}
 use Rattle.std.proofs.lemmas.List.Elements.{All-append, Contains-append_left, Contains-append_right, Contains-append_cases}
 use Rattle.std.proofs.lemmas.List.Sums.{sum_by-cons, sum_by-append}
-use Rattle.node_places.specs.Spots.{Spot, Version}
+use Rattle.core_laws.specs.places.Spots.{Spot, Version}
 use Rattle.history_model.specs.declared.histories.Mark.{Mark}
-use Rattle.block_contents.specs.Versions.{MarkComes}
+use Rattle.core_laws.specs.contents.Versions.{MarkComes}
 use Rattle.table_rule.specs.LogWords.{mark_of_words, if_marked, marks_in}
 use Rattle.table_rule.proofs.Containing.{contains_more}
 use Rattle.table_rule.proofs.LogReading.{marks_kept, marks_suc, mark_read}

@@ -7,7 +7,7 @@ use Rattle.std.proofs.lemmas.List.Sums.{sum_by-cons}
 use Rattle.history_model.specs.Logs.{Log}
 use Rattle.history_model.specs.declared.histories.Mark.{Mark}
 use Rattle.table_rule.specs.LogKnowing.{IsPrefix, ListsOwn, if_among}
-use Rattle.versions.specs.Listing.{Accepted}
+use Rattle.retain.specs.Listing.{Accepted}
 use Rattle.table_rule.proofs.Containing.{contains_more}
 use Rattle.table_rule.proofs.LogPartC.{sum_has, among_zero}
 use Rattle.table_rule.proofs.OwnLaws.{among_in, among_out, sum_same, sum_none, first_or_more}

@@ -4,7 +4,7 @@ use Rattle.std.proofs.lemmas.Bool.{cases_eq}
 use Rattle.std.specs.List.{slice_get, Contains}
 use Rattle.vox_read.specs.Contents.{Content}
 use Rattle.node_words.specs.Plans.{Layout}
-use Rattle.node_places.specs.Spots.{Spot, LogTurn, LogLength, Version, Sessions, IsSpot}
+use Rattle.core_laws.specs.places.Spots.{Spot, LogTurn, LogLength, Version, Sessions, IsSpot}
 use Rattle.table_rule.specs.Reading.{Wrote}
 use Rattle.table_rule.specs.Views.{SeatView, BucketAt, number_dec, known_at}
 use Rattle.table_rule.specs.Turning.{IsOf, turn_of, IsTurnWord, KeepsTurns}
@@ -12,7 +12,7 @@ use Rattle.core_laws.specs.Events.{Rests}
 use Rattle.history_model.specs.Logs.{Log}
 use Rattle.table_rule.specs.LogKnowing.{IsPrefix, OwnsIn, WasFound, KnowsLog}
 use Rattle.table_rule.specs.LogTurning.{IsOfLog, KeepsLogTurn}
-use Rattle.versions.specs.Listing.{Found}
+use Rattle.retain.specs.Listing.{Found}
 use Rattle.table_rule.specs.LogWords.{log_in}
 use Rattle.table_rule.specs.Rules.{KeepsRule, KeepsLog, table_state}
 use Rattle.table_rule.specs.Seating.{seat_numbered}

@@ -5,17 +5,17 @@ use Rattle.std.specs.List.{slice_get, Contains}
 use Rattle.std.proofs.lemmas.List.{length-replicate}
 use Rattle.std.proofs.lemmas.Option.{same_Some, none-some}
 use Rattle.atomic_table.specs.Table.{opening}
-use Rattle.node_shapes.specs.declared.names.Name.{Name}
-use Rattle.node_shapes.proofs.WeightLaws.{weigh-nil}
+use Rattle.node_words.specs.declared.shapes.names.Name.{Name}
+use Rattle.node_words.proofs.OfShapes.WeightLaws.{weigh-nil}
 use Rattle.node_words.specs.Plans.{Layout, IsPlan}
 use Rattle.node_words.specs.Held.{IsHeld, Wanted}
-use Rattle.node_places.specs.Spots.{Spot, LogTurn, LogLength, Version, Sessions, IsSpot, place, width}
-use Rattle.node_places.proofs.SpotTests.{spot_dec}
-use Rattle.block_contents.specs.Aligned.{top}
-use Rattle.node_places.specs.KeyWords.{child_of_word}
+use Rattle.core_laws.specs.places.Spots.{Spot, LogTurn, LogLength, Version, Sessions, IsSpot, place, width}
+use Rattle.core_laws.proofs.OfPlaces.SpotTests.{spot_dec}
+use Rattle.core_laws.specs.contents.Aligned.{top}
+use Rattle.core_laws.specs.places.KeyWords.{child_of_word}
 use Rattle.core_laws.specs.Standing.{Stands}
 use Rattle.vox_read.specs.Contents.{Content}
-use Rattle.node_shapes.specs.Weights.{number_of_trees}
+use Rattle.node_words.specs.shapes.Weights.{number_of_trees}
 use Rattle.core_laws.specs.Counting.{holdings}
 use Rattle.core_laws.specs.Soundness.{IsUntouched}
 use Rattle.core_laws.proofs.RootCells.{empty_sound}
@@ -27,7 +27,7 @@ use Rattle.history_model.specs.Logs.{Log}
 use Rattle.table_rule.specs.LogKnowing.{IsPrefix, OwnsIn, WasFound, KnowsLog}
 use Rattle.table_rule.specs.LogTurning.{IsOfLog}
 use Rattle.table_rule.specs.LogViews.{no_log}
-use Rattle.versions.specs.Listing.{Found}
+use Rattle.retain.specs.Listing.{Found}
 use Rattle.table_rule.specs.Rules.{KeepsLog, IsRuled, table_state}
 use Rattle.table_rule.proofs.LogReading.{empty_log}
 use Rattle.table_rule.proofs.OwnLaws.{own_nothing, nothing_begins}

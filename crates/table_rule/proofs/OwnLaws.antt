@@ -5,12 +5,12 @@ use Rattle.std.specs.List.{Contains}
 use Rattle.std.proofs.lemmas.Bool.{cases_eq}
 use Rattle.std.proofs.lemmas.List.Elements.{All-contains}
 use Rattle.std.proofs.lemmas.List.Sums.{sum_by-cons, sum_by-append}
-use Rattle.versions.specs.Mark.{Mark}
-use Rattle.versions.specs.Record.{Record}
-use Rattle.versions.specs.Logs.{Log}
+use Rattle.retain.specs.Mark.{Mark}
+use Rattle.retain.specs.Record.{Record}
+use Rattle.retain.specs.Logs.{Log}
 use Rattle.table_rule.specs.LogKnowing.{IsPrefix, if_among, numbered_from, ListsOwn, AreOfSessions}
 use Rattle.table_rule.specs.LogViews.{no_log}
-use Rattle.versions.specs.Listing.{Accepted}
+use Rattle.retain.specs.Listing.{Accepted}
 use Rattle.table_rule.proofs.Containing.{contains_more}
 
 module _ {A : Type 0} where

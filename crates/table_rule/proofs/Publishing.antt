@@ -3,22 +3,22 @@ use Rattle.std.proofs.Common.{◌≡◌, ◌≢◌, ◌⊎◌, ℕ, zero, suc, �
 use Rattle.std.specs.Prelude.{map}
 use Rattle.std.specs.List.{slice_get, Contains}
 use Rattle.vox_read.specs.Contents.{Content}
-use Rattle.node_shapes.specs.declared.names.Name.{Name}
-use Rattle.node_shapes.specs.Tree.{Tree, LeafAt, node_at, root_of, shape_of}
-use Rattle.node_shapes.specs.Weights.{weigh, weight_below, number_of_trees}
-use Rattle.node_shapes.proofs.TreeEqual.{Name-discrete}
-use Rattle.node_shapes.proofs.TreeLaws.{gone_from_root}
-use Rattle.node_shapes.proofs.WeightLaws.{weigh-cons, weight_of-there, weight_below-part}
+use Rattle.node_words.specs.declared.shapes.names.Name.{Name}
+use Rattle.node_words.specs.shapes.Tree.{Tree, LeafAt, node_at, root_of, shape_of}
+use Rattle.node_words.specs.shapes.Weights.{weigh, weight_below, number_of_trees}
+use Rattle.node_words.proofs.OfShapes.TreeEqual.{Name-discrete}
+use Rattle.node_words.proofs.OfShapes.TreeLaws.{gone_from_root}
+use Rattle.node_words.proofs.OfShapes.WeightLaws.{weigh-cons, weight_of-there, weight_below-part}
 use Rattle.node_words.specs.declared.keys.Key as keys
 use Rattle.node_words.specs.declared.keys.Key.TheVariants.{Leaf, Node}
 use Rattle.node_words.specs.Keys.{bucket_of_key}
 use Rattle.node_words.specs.Plans.{Layout}
 use Rattle.node_words.specs.Held.{IsHeld}
 use Rattle.node_words.proofs.PlanLaws.{few_buckets}
-use Rattle.node_places.specs.KeyWords.{key_word, FitsHalf, IsKeyAt}
-use Rattle.node_places.specs.Names.{IsName, named, key_bits, key_child}
-use Rattle.node_places.specs.Spots.{Spot, buckets_at, Sessions}
-use Rattle.node_places.proofs.KeyLaws.{key_back, words_key}
+use Rattle.core_laws.specs.places.KeyWords.{key_word, FitsHalf, IsKeyAt}
+use Rattle.core_laws.specs.places.Names.{IsName, named, key_bits, key_child}
+use Rattle.core_laws.specs.places.Spots.{Spot, buckets_at, Sessions}
+use Rattle.core_laws.proofs.OfPlaces.KeyLaws.{key_back, words_key}
 use Rattle.core_laws.specs.States.{State, IsLive, tree_at, tree_of, shape_in}
 use Rattle.core_laws.specs.Soundness.{SoundEntries, FitsLevel}
 use Rattle.core_laws.specs.Events.{Trades, Adds, adds, one_name, children_named}

@@ -6,17 +6,17 @@ use Rattle.std.proofs.lemmas.Bool.{cases_lt, lt-ltb, le-ltb}
 use Rattle.std.proofs.lemmas.List.{map-set}
 use Rattle.std.proofs.lemmas.Option.{slice_get-map}
 use Rattle.std.specs.Option.{option_map}
-use Rattle.node_shapes.specs.Tree.{Tree}
-use Rattle.node_shapes.specs.declared.names.Name.{Name}
-use Rattle.node_shapes.proofs.TreeEqual.{same_name}
+use Rattle.node_words.specs.shapes.Tree.{Tree}
+use Rattle.node_words.specs.declared.shapes.names.Name.{Name}
+use Rattle.node_words.proofs.OfShapes.TreeEqual.{same_name}
 use Rattle.core_laws.specs.Key as keys
 use Rattle.core_laws.specs.Keys.{bucket_of_key}
 use Rattle.core_laws.specs.Plans.{Layout}
-use Rattle.core_laws.specs.Names.{IsName}
-use Rattle.core_laws.specs.Spots.{Spot, LogLength, Version, Key, buckets_at, versions}
-use Rattle.core_laws.specs.KeyWords.{child_of_word, key_of_words}
+use Rattle.core_laws.specs.places.Names.{IsName}
+use Rattle.core_laws.specs.places.Spots.{Spot, LogLength, Version, Key, buckets_at, versions}
+use Rattle.core_laws.specs.places.KeyWords.{child_of_word, key_of_words}
 use Rattle.core_laws.specs.Logs.{Log}
-use Rattle.core_laws.specs.Aligned.{top}
+use Rattle.core_laws.specs.contents.Aligned.{top}
 use Rattle.core_laws.specs.Soundness.{FitsLevel}
 use Rattle.core_laws.specs.Events.{Trades, EntriesStay, OthersStay, RootsStay, IsMissing, Raises, Adds, Lowers, Frees, PutsRoot, TakesRoot, no_weight, one_name, at_most_one, children_named}
 use Rattle.table_rule.specs.Reading.{names_of, kept_root, root_word, read, Wrote, book_of}

@@ -2,9 +2,9 @@
 use Rattle.std.proofs.Common.{◌≡◌, ℕ, ◌∙◌, arith, List, length, set, get_or}
 use Rattle.std.proofs.lemmas.List.{get_or-set_same, get_or-set_other}
 use Rattle.core_laws.specs.Plans.{Layout}
-use Rattle.core_laws.specs.Spots.{Spot, IsSpot, place, width}
-use Rattle.node_places.proofs.SpotTests.{spot_dec}
-use Rattle.core_laws.proofs.Apart.{place_low, place_one}
+use Rattle.core_laws.specs.places.Spots.{Spot, IsSpot, place, width}
+use Rattle.core_laws.proofs.OfPlaces.SpotTests.{spot_dec}
+use Rattle.core_laws.proofs.OfPlaces.Apart.{place_low, place_one}
 use Rattle.table_rule.specs.Reading.{Wrote, where_there, word_at}
 
 there : {A : Type 0} (d : Dec A) (n : ℕ) → A → where_there d n ≡ n

@@ -6,12 +6,12 @@ use Rattle.std.proofs.Math.Nat.{mul-le-mul}
 use Rattle.std.proofs.lemmas.Bool.{cases_lt}
 use Rattle.std.proofs.lemmas.List.Sums.{sum_by-cons}
 use Rattle.vox_read.specs.Contents.{Content}
-use Rattle.node_shapes.specs.declared.names.Name.{Name}
-use Rattle.node_shapes.specs.Weights.{number_of_trees}
+use Rattle.node_words.specs.declared.shapes.names.Name.{Name}
+use Rattle.node_words.specs.shapes.Weights.{number_of_trees}
 use Rattle.node_words.specs.Plans.{Layout}
-use Rattle.node_places.specs.Spots.{Spot, levels}
+use Rattle.core_laws.specs.places.Spots.{Spot, levels}
 use Rattle.core_laws.specs.Events.{Rests}
-use Rattle.node_places.specs.Names.{IsName}
+use Rattle.core_laws.specs.places.Names.{IsName}
 use Rattle.core_laws.specs.Counting.{holdings}
 use Rattle.core_laws.proofs.Bounds.{book_small}
 use Rattle.table_rule.specs.Reading.{book_of}

@@ -5,7 +5,7 @@ use Rattle.std.proofs.lemmas.Bool.{cases_eq}
 use prog.Atomic.{either}
 use Rattle.vox_read.specs.Contents.{Content}
 use Rattle.node_words.specs.Plans.{Layout}
-use Rattle.node_places.specs.Spots.{Spot, LogTurn, LogLength, Version, Sessions, IsSpot}
+use Rattle.core_laws.specs.places.Spots.{Spot, LogTurn, LogLength, Version, Sessions, IsSpot}
 use Rattle.core_laws.specs.Events.{EntriesStay, Rests}
 use Rattle.table_rule.specs.Reading.{Wrote}
 use Rattle.table_rule.specs.Views.{SeatView, BucketAt}

@@ -1,8 +1,8 @@
 -- Slots that were never used stay free, whatever word is written.
 use Rattle.std.proofs.Common.{◌≡◌, ◌≢◌, ◌⊎◌, ℕ, ◌<◌, ◌≤◌, ap, ◌∙◌, inl, inr, arith}
 use Rattle.std.proofs.lemmas.Bool.{cases_lt}
-use Rattle.node_shapes.specs.declared.names.Name.{Name}
-use Rattle.node_places.specs.Spots.{Spot, Used, Book}
+use Rattle.node_words.specs.declared.shapes.names.Name.{Name}
+use Rattle.core_laws.specs.places.Spots.{Spot, Used, Book}
 use Rattle.table_rule.specs.Reading.{Wrote, book_of}
 use Rattle.table_rule.specs.Views.{BucketAt, bucket_of, spot_same}
 use Rattle.table_rule.specs.Turning.{used_of, UnusedAreFree}

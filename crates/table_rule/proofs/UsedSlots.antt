@@ -4,7 +4,7 @@ use Rattle.std.specs.List.{slice_get}
 use Rattle.std.proofs.lemmas.Bool.{cases_eq}
 use Rattle.vox_read.specs.Contents.{Content}
 use Rattle.node_words.specs.Plans.{Layout}
-use Rattle.node_places.specs.Spots.{Spot, LogTurn, LogLength, Version, Sessions, Book}
+use Rattle.core_laws.specs.places.Spots.{Spot, LogTurn, LogLength, Version, Sessions, Book}
 use Rattle.core_laws.specs.Events.{Rests}
 use Rattle.table_rule.specs.Reading.{Wrote}
 use Rattle.table_rule.specs.Views.{SeatView, BucketAt, known_at, spot_same}

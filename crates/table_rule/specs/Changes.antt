@@ -1,17 +1,17 @@
 -- What each kind of step makes of a view.
 use Rattle.std.specs.Prelude.{◌≡◌, ◌≢◌, ℕ, ◌+◌, ◌<◌, ◌≤◌, ◌⊎◌, Option, Some, List, [], ◌∷◌}
-use Rattle.node_shapes.specs.declared.names.Name.{Name}
-use Rattle.node_shapes.specs.Shape.{Shape, IsPart}
-use Rattle.node_shapes.specs.Tree.{Tree, LeafAt, node_at, root_of, child_of, shape_of}
-use Rattle.node_shapes.specs.Weights.{weigh, weight_below, number_of_trees}
+use Rattle.node_words.specs.declared.shapes.names.Name.{Name}
+use Rattle.node_words.specs.shapes.Shape.{Shape, IsPart}
+use Rattle.node_words.specs.shapes.Tree.{Tree, LeafAt, node_at, root_of, child_of, shape_of}
+use Rattle.node_words.specs.shapes.Weights.{weigh, weight_below, number_of_trees}
 use Rattle.node_words.specs.declared.keys.Key as keys
 use Rattle.node_words.specs.declared.keys.Key.TheVariants.{Leaf, Node}
 use Rattle.node_words.specs.Held.{Wanted, HoldsChildren, IsHeld}
 use Rattle.node_words.specs.Keys.{bucket_of_key}
 use Rattle.node_words.specs.Plans.{Layout}
-use Rattle.node_places.specs.KeyWords.{key_word}
-use Rattle.node_places.specs.Names.{named}
-use Rattle.node_places.specs.Spots.{Spot, Book, key_words, buckets_at}
+use Rattle.core_laws.specs.places.KeyWords.{key_word}
+use Rattle.core_laws.specs.places.Names.{named}
+use Rattle.core_laws.specs.places.Spots.{Spot, Book, key_words, buckets_at}
 use Rattle.core_laws.specs.Soundness.{FitsLevel}
 use Rattle.table_rule.specs.Reading.{book_of}
 use Rattle.table_rule.specs.Views.{SeatView, BucketAt, bucket_of, key_spot, known_at}

@@ -1,14 +1,14 @@
 -- What each kind of step on the log makes of a view.
 use Rattle.std.specs.Prelude.{◌≡◌, ℕ, suc, ◌+◌, ◌^◌, ◌<◌, ◌⊎◌, ⊤, Bool, true, false, Option, Some, List, [], ◌∷◌, ◌++◌, if◌then◌else◌, eqb, nat_lt, slice_index}
 use Rattle.std.specs.List.{Contains}
-use Rattle.node_shapes.specs.declared.names.Name.{Name}
-use Rattle.node_shapes.specs.Shape.{ShowsCells}
-use Rattle.node_shapes.specs.Tree.{Tree, Gone, root_of, shape_of}
-use Rattle.node_shapes.specs.Weights.{weigh, weight_of}
+use Rattle.node_words.specs.declared.shapes.names.Name.{Name}
+use Rattle.node_words.specs.shapes.Shape.{ShowsCells}
+use Rattle.node_words.specs.shapes.Tree.{Tree, Gone, root_of, shape_of}
+use Rattle.node_words.specs.shapes.Weights.{weigh, weight_of}
 use Rattle.node_words.specs.Held.{IsHeld}
 use Rattle.node_words.specs.Plans.{Layout}
-use Rattle.node_places.specs.Spots.{Spot, LogLength, Version}
-use Rattle.node_places.specs.Words.{word_of_child}
+use Rattle.core_laws.specs.places.Spots.{Spot, LogLength, Version}
+use Rattle.core_laws.specs.places.Words.{word_of_child}
 use Rattle.history_model.specs.declared.acts.Act.{Act}
 use Rattle.history_model.specs.declared.acts.Act.TheVariants.{Undo, Redo}
 use Rattle.history_model.specs.declared.histories.Record.{Record}
@@ -17,7 +17,7 @@ use Rattle.history_model.specs.Logs.{FitsWorld}
 use Rattle.history_model.specs.Packing.{log_words}
 use Rattle.history_model.specs.Positions.{position_after}
 use Rattle.history_model.specs.Worlds.{World}
-use Rattle.block_contents.specs.Aligned.{top, world_block}
+use Rattle.core_laws.specs.contents.Aligned.{top, world_block}
 use Rattle.core_laws.specs.Making.{Makes}
 use Rattle.table_rule.specs.LogWords.{FitsFields}
 use Rattle.table_rule.specs.LogTelling.{number_seen, seen_has, IsShownUnmarked}

@@ -1,10 +1,10 @@
 -- Part C of the rule for the log: what the seats know of it.
 use Rattle.std.specs.Prelude.{◌≡◌, ℕ, suc, eqb, ◌<◌, ◌≤◌, if◌then◌else◌, List, [], ◌∷◌, ◌++◌, length, sum_by, All}
 use Rattle.std.specs.List.{Contains}
-use Rattle.versions.specs.Record.{Record}
-use Rattle.versions.specs.Mark.{Mark}
-use Rattle.versions.specs.Logs.{Log, IsVersionHeld}
-use Rattle.versions.specs.Listing.{Accepted, Found}
+use Rattle.retain.specs.Record.{Record}
+use Rattle.retain.specs.Mark.{Mark}
+use Rattle.retain.specs.Logs.{Log, IsVersionHeld}
+use Rattle.retain.specs.Listing.{Accepted, Found}
 use Rattle.table_rule.specs.Views.{SeatView, Each}
 
 -- one log is a prefix of another: its records begin the other's, and each mark of it is one of the

@@ -3,19 +3,19 @@ use Rattle.std.specs.Prelude.{◌≡◌, ℕ, suc, ◌^◌, ◌<◌, ◌≤◌, 
 use Rattle.std.specs.List.{slice_get}
 use Rattle.vw_cell.specs.declared.cells.Cell.{Cell}
 use Rattle.vw_cell.specs.Places.{IsInWorld}
-use Rattle.node_shapes.specs.declared.names.Name.{Name}
-use Rattle.node_shapes.specs.Shape.{ShowsCells}
-use Rattle.node_shapes.specs.Tree.{Tree, root_of, shape_of}
+use Rattle.node_words.specs.declared.shapes.names.Name.{Name}
+use Rattle.node_words.specs.shapes.Shape.{ShowsCells}
+use Rattle.node_words.specs.shapes.Tree.{Tree, root_of, shape_of}
 use Rattle.node_words.specs.Held.{IsReached}
-use Rattle.node_places.specs.KeyWords.{child_of_word}
-use Rattle.node_places.specs.Names.{IsName}
-use Rattle.node_places.specs.Spots.{LogLength, Version}
-use Rattle.versions.specs.Record.{Record}
-use Rattle.versions.specs.Stores.{stored_in}
-use Rattle.versions.specs.Packing.{log_words}
-use Rattle.versions.specs.Worlds.{World}
-use Rattle.core_laws.specs.Aligned.{top, world_block}
-use Rattle.core_laws.specs.Versions.{SameWorld}
+use Rattle.core_laws.specs.places.KeyWords.{child_of_word}
+use Rattle.core_laws.specs.places.Names.{IsName}
+use Rattle.core_laws.specs.places.Spots.{LogLength, Version}
+use Rattle.retain.specs.Record.{Record}
+use Rattle.retain.specs.Stores.{stored_in}
+use Rattle.retain.specs.Packing.{log_words}
+use Rattle.retain.specs.Worlds.{World}
+use Rattle.core_laws.specs.contents.Aligned.{top, world_block}
+use Rattle.core_laws.specs.contents.Versions.{SameWorld}
 use Rattle.table_rule.specs.Reading.{book_of}
 use Rattle.table_rule.specs.LogKnowing.{OwnsIn}
 use Rattle.table_rule.specs.Views.{SeatView, bucket_of, known_at}

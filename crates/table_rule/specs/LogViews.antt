@@ -1,9 +1,9 @@
 -- What a seat of the table knows of the log.
 use Rattle.std.specs.Prelude.{ℕ, Bool, false, List, []}
-use Rattle.node_places.specs.Spots.{Spot}
-use Rattle.versions.specs.Mark.{Mark}
-use Rattle.versions.specs.Logs.{Log}
-use Rattle.versions.specs.Listing.{Accepted, Found}
+use Rattle.core_laws.specs.places.Spots.{Spot}
+use Rattle.retain.specs.Mark.{Mark}
+use Rattle.retain.specs.Logs.{Log}
+use Rattle.retain.specs.Listing.{Accepted, Found}
 
 -- what one seat knows of the log: whether it has the log's turn, the words that it has loaded or
 -- stored under that turn (newest first), the longest log that it has seen, the logs that it took

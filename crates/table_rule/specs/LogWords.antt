@@ -4,15 +4,15 @@ use Rattle.vw_cell.specs.declared.cells.Cell.{Cell}
 use Rattle.vw_cell.specs.declared.boxes.Boxed.{Boxed}
 use Rattle.vw_cell.specs.declared.balls.Ball as balls
 use Rattle.node_words.specs.Plans.{Layout}
-use Rattle.node_places.specs.Spots.{Spot, LogLength, Version, versions}
-use Rattle.versions.specs.Act.{Act}
-use Rattle.versions.specs.TheVariants.{Fill, Erase, Ball, Carve, Copy, Stamp, Tint, Undo, Redo}
-use Rattle.versions.specs.TintAct.{TintAct}
-use Rattle.versions.specs.TintVariants as tints
-use Rattle.versions.specs.Record.{Record}
-use Rattle.versions.specs.Mark.{Mark}
-use Rattle.versions.specs.Logs.{Log}
-use Rattle.versions.specs.Packing.{log_words}
+use Rattle.core_laws.specs.places.Spots.{Spot, LogLength, Version, versions}
+use Rattle.retain.specs.Act.{Act}
+use Rattle.retain.specs.TheVariants.{Fill, Erase, Ball, Carve, Copy, Stamp, Tint, Undo, Redo}
+use Rattle.retain.specs.TintAct.{TintAct}
+use Rattle.retain.specs.TintVariants as tints
+use Rattle.retain.specs.Record.{Record}
+use Rattle.retain.specs.Mark.{Mark}
+use Rattle.retain.specs.Logs.{Log}
+use Rattle.retain.specs.Packing.{log_words}
 
 -- the cell, the box and the ball of words, whatever words they are
 abbrev pub cell_of_word : ℕ → Cell

@@ -1,14 +1,14 @@
 -- The core's state as the words of one table and what each seat holds show it.
 use Rattle.std.specs.Prelude.{◌≡◌, ◌≢◌, ℕ, zero, suc, Bool, true, false, nat_lt, Option, Some, None, List, map, slice_index}
-use Rattle.node_shapes.specs.declared.names.Name.{Name}
-use Rattle.node_shapes.specs.Tree.{Tree, root_of}
+use Rattle.node_words.specs.declared.shapes.names.Name.{Name}
+use Rattle.node_words.specs.shapes.Tree.{Tree, root_of}
 use Rattle.core_laws.specs.Plans.{Layout}
-use Rattle.node_places.proofs.SpotTests.{spot_dec}
-use Rattle.core_laws.specs.Names.{named}
-use Rattle.core_laws.specs.Spots.{Spot, LogLength, Version, Key, Book, place}
-use Rattle.core_laws.specs.KeyWords.{child_of_word, key_of_words}
+use Rattle.core_laws.proofs.OfPlaces.SpotTests.{spot_dec}
+use Rattle.core_laws.specs.places.Names.{named}
+use Rattle.core_laws.specs.places.Spots.{Spot, LogLength, Version, Key, Book, place}
+use Rattle.core_laws.specs.places.KeyWords.{child_of_word, key_of_words}
 use Rattle.core_laws.specs.Logs.{Log}
-use Rattle.core_laws.specs.Aligned.{top}
+use Rattle.core_laws.specs.contents.Aligned.{top}
 use Rattle.core_laws.specs.States.{State}
 
 -- the name that a tree begins with, and names of the trees that a seat holds

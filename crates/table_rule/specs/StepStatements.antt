@@ -5,14 +5,14 @@ use Rattle.std.specs.List.{slice_get, Contains}
 use prog.Atomic.{either}
 use Rattle.atomic_table.specs.Table.{opening}
 use Rattle.vox_read.specs.Contents.{Content}
-use Rattle.node_shapes.specs.declared.names.Name.{Name}
-use Rattle.node_shapes.specs.Tree.{Tree, root_of}
-use Rattle.node_shapes.specs.Weights.{number_of_trees}
+use Rattle.node_words.specs.declared.shapes.names.Name.{Name}
+use Rattle.node_words.specs.shapes.Tree.{Tree, root_of}
+use Rattle.node_words.specs.shapes.Weights.{number_of_trees}
 use Rattle.node_words.specs.declared.keys.Key.{Key}
 use Rattle.node_words.specs.Held.{IsHeld, HoldsChildren, ReachesName, ForHeld, ForReached, ForChildren}
 use Rattle.node_words.specs.Plans.{Layout, IsPlan}
-use Rattle.node_places.specs.Names.{IsName}
-use Rattle.node_places.specs.Spots.{Spot, Sessions, IsSpot, key_words, width}
+use Rattle.core_laws.specs.places.Names.{IsName}
+use Rattle.core_laws.specs.places.Spots.{Spot, Sessions, IsSpot, key_words, width}
 use Rattle.core_laws.specs.Events.{Rests, Raises, Adds, Lowers, Frees}
 use Rattle.core_laws.specs.LogEvents.{Reseats}
 use Rattle.table_rule.specs.Reading.{Wrote, book_of}

@@ -1,13 +1,13 @@
 -- What a view tells by itself, with no look at a word.
 use Rattle.std.specs.Prelude.{◌≡◌, ℕ, ◌+◌, ◌*◌, ◌^◌, ◌<◌, ◌≤◌, true, Some}
-use Rattle.node_shapes.specs.declared.names.Name.{Name}
-use Rattle.node_shapes.specs.Buckets.{bucket_of_shape}
-use Rattle.node_shapes.specs.Tree.{Tree, Gone, LeafAt, NodeAt, root_of, child_of, shape_of}
-use Rattle.node_shapes.specs.Weights.{number_of_trees}
+use Rattle.node_words.specs.declared.shapes.names.Name.{Name}
+use Rattle.node_words.specs.shapes.Buckets.{bucket_of_shape}
+use Rattle.node_words.specs.shapes.Tree.{Tree, Gone, LeafAt, NodeAt, root_of, child_of, shape_of}
+use Rattle.node_words.specs.shapes.Weights.{number_of_trees}
 use Rattle.node_words.specs.Held.{IsReached, AreTrees, AreCanonical}
-use Rattle.node_places.specs.Names.{IsName}
-use Rattle.node_places.specs.Spots.{key_words}
-use Rattle.node_places.specs.Words.{word_of_child}
+use Rattle.core_laws.specs.places.Names.{IsName}
+use Rattle.core_laws.specs.places.Spots.{key_words}
+use Rattle.core_laws.specs.places.Words.{word_of_child}
 use Rattle.table_rule.specs.Reading.{book_of}
 use Rattle.table_rule.specs.LogTelling.{LogTells, RootsTell}
 use Rattle.table_rule.specs.Views.{SeatView, bucket_of, key_spot, known_at}

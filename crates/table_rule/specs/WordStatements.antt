@@ -1,12 +1,12 @@
 -- What the laws say of words that are written.
 use Rattle.std.specs.Prelude.{◌≡◌, ℕ, suc, ◌+◌, ◌<◌, ◌≤◌, Some, List, slice_set, sum_by, map, length}
 use Rattle.std.specs.List.{slice_get}
-use Rattle.node_shapes.specs.Tree.{Tree}
-use Rattle.node_shapes.specs.declared.names.Name.{Name}
+use Rattle.node_words.specs.shapes.Tree.{Tree}
+use Rattle.node_words.specs.declared.shapes.names.Name.{Name}
 use Rattle.core_laws.specs.Keys.{bucket_of_key}
 use Rattle.core_laws.specs.Plans.{Layout}
-use Rattle.core_laws.specs.Names.{IsName}
-use Rattle.core_laws.specs.Spots.{Spot, LogLength, Version, Key, IsSpot, buckets_at, versions, place, width}
+use Rattle.core_laws.specs.places.Names.{IsName}
+use Rattle.core_laws.specs.places.Spots.{Spot, LogLength, Version, Key, IsSpot, buckets_at, versions, place, width}
 use Rattle.core_laws.specs.Key as keys
 use Rattle.core_laws.specs.Logs.{Log}
 use Rattle.core_laws.specs.Soundness.{FitsLevel}

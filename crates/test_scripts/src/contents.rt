@@ -3,8 +3,7 @@
 ghost use Rattle.std.specs.Prelude.{◌≤◌};
 
 use crate::worlds::World;
-use node_shapes::Name;
-use node_words::{Key, Plan, bucket_of};
+use node_words::{Key, Name, Plan, bucket_of};
 use std::alloc::{AllocError, Global};
 use vw_cell::Cell;
 

@@ -7,11 +7,11 @@ ghost use Rattle.script.specs.Fitting.{CommandFits};
 
 use crate::contents::Contents;
 use crate::worlds::World;
+use conformance::Desk;
 use history_model::Act;
 use node_words::Plan;
 use plain_run::PlainRun;
 use script::{Command, ScriptLine};
-use script_runs::Desk;
 use std::alloc::{AllocError, Global};
 use std::test::Fail;
 use transcript::{Answer, LineAnswer};

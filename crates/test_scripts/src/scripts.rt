@@ -2,7 +2,7 @@
 
 use history_model::Act;
 use std::alloc::{AllocError, Global};
-use test_worlds::Draws;
+use testkit::Draws;
 use vw_cell::Cell;
 
 const STEPS: [i16; 7] = [-3, -2, -1, 0, 1, 2, 3];

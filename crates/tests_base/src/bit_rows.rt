@@ -1,5 +1,5 @@
-use bit_set::BitSet;
 use std::test::Fail;
+use vw_cell::BitSet;
 
 #[test]
 fn bits_are_kept_apart(rt: HostRuntime) -> Result<(), Fail> {

@@ -1,7 +1,7 @@
 ghost use Rattle.std.specs.Prelude.{◌≡◌, ◌<◌};
 ghost use Rattle.vw_cell.specs.Counts.{cell_at};
 
-use node_kernels::{ball_bits, box_bits, window_bits};
+use node_words::{ball_bits, box_bits, window_bits};
 use std::test::Fail;
 use vw_cell::{Ball, Block, Boxed, Cell};
 

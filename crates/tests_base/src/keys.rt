@@ -1,6 +1,5 @@
 // Buckets computed outside, by bench/buckets.py from the rule's text.
-use node_shapes::Name;
-use node_words::{Key, Plan, Share, bucket_of};
+use node_words::{Key, Name, Plan, Share, bucket_of};
 use std::process::Abort;
 use std::test::Fail;
 use vw_cell::Side;

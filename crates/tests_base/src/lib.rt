@@ -8,6 +8,8 @@ mod bit_rows;
 #[cfg(test)]
 mod cells;
 #[cfg(test)]
+mod formats;
+#[cfg(test)]
 mod kernels;
 #[cfg(test)]
 mod keys;

@@ -1,6 +1,5 @@
-use node_places::{Places, child_in, child_word, halves, pair_word};
-use node_shapes::Name;
-use node_words::Plan;
+use core_laws::{Places, child_in, child_word, halves, pair_word};
+use node_words::{Name, Plan};
 use std::test::Fail;
 use vw_cell::Side;
 

@@ -1,10 +1,10 @@
 -- Laws of up to two leaves that are held.
 use Rattle.std.proofs.Common.{◌≡◌, ℕ, zero, suc, ◌+◌, ◌≤◌, Some, None, Option, List, refl, sym, ◌∙◌, ap, arith}
 use Rattle.std.proofs.lemmas.Option.{none-some, same_Some}
-use Rattle.node_shapes.specs.declared.names.Name.{Name}
-use Rattle.node_shapes.specs.Tree.{Tree, Gone, LeafAt, root_of, node_at}
-use Rattle.node_shapes.specs.Weights.{weight_of, weight_below, number_of_trees}
-use Rattle.node_shapes.proofs.WeightLaws.{weight_of-there, weight_of-gone, weight_of-one}
+use Rattle.node_words.specs.declared.shapes.names.Name.{Name}
+use Rattle.node_words.specs.shapes.Tree.{Tree, Gone, LeafAt, root_of, node_at}
+use Rattle.node_words.specs.shapes.Weights.{weight_of, weight_below, number_of_trees}
+use Rattle.node_words.proofs.OfShapes.WeightLaws.{weight_of-there, weight_of-gone, weight_of-one}
 use Rattle.node_words.specs.Held.{IsHeld, HoldsName, HoldsChildren, AreHeld, AreBelow, HasChild, Gains, Joins, SameHeld, name_in}
 use Rattle.one_store.specs.Known.{Known, stored_root, root_tree}
 use Rattle.one_store.specs.Steps.{GivesRoot}

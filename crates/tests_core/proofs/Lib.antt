@@ -1,1 +1,3 @@
 pub mod HandLaws
+pub mod OfStores
+pub mod OfReach

@@ -1,9 +1,9 @@
 -- What a test holds of a store: up to two leaves.
 use Rattle.std.specs.Prelude.{◌≡◌, ℕ, ◌+◌, ◌≤◌}
 use Rattle.std.specs.Prelude.{Option, Some, None, List, [], ◌∷◌}
-use Rattle.node_shapes.specs.declared.names.Name.{Name}
-use Rattle.node_shapes.specs.Tree.{Tree, root_of}
-use Rattle.node_shapes.specs.Weights.{weigh, weight_of}
+use Rattle.node_words.specs.declared.shapes.names.Name.{Name}
+use Rattle.node_words.specs.shapes.Tree.{Tree, root_of}
+use Rattle.node_words.specs.shapes.Weights.{weigh, weight_of}
 
 -- t is the tree of this leaf, where there is one
 pub record IsLeafOf (name : Option Name) (t : Tree) : Type 0 where

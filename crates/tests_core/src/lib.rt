@@ -13,6 +13,11 @@ mod pair_tests;
 #[cfg(test)]
 mod plans;
 #[cfg(test)]
+mod questions;
+#[cfg(test)]
+mod reach;
+#[cfg(test)]
 mod run_tests;
+mod stores;
 #[cfg(test)]
 mod table_tests;

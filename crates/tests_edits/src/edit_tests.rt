@@ -3,7 +3,7 @@ use edit_stamp::{Shown, Stencil};
 use history_model::{Act, Question};
 use node_words::{Full, Plan};
 use std::alloc::Global;
-use test_worlds::{Drawing, Draws, Found, StoredWorld};
+use testkit::{Drawing, Draws, Found, StoredWorld};
 use vw_cell::{Ball, Boxed, Cell, Side};
 
 const ORIGIN: Cell = Cell { x: 0, y: 0, z: 0 };

@@ -4,6 +4,10 @@
 #![tactic(auto)]
 
 #[cfg(test)]
+mod acts;
+#[cfg(test)]
+mod colours;
+#[cfg(test)]
 mod edit_tests;
 #[cfg(test)]
 mod plays;

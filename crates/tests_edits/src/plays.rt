@@ -2,7 +2,7 @@ use edit_stamp::Stencil;
 use history_model::{Act, Question};
 use node_words::Full;
 use std::alloc::Global;
-use test_worlds::{Drawing, Draws, Found, Grid, Refusal, StoredWorld};
+use testkit::{Drawing, Draws, Found, Grid, Refusal, StoredWorld};
 use vw_cell::{Boxed, Cell};
 
 /// What came of some edits: how many were made, how many met a full bucket, and what differed from

@@ -1,8 +1,8 @@
 //! Audits of what runs left, and of such texts with a piece changed.
 
+use crate::calls::{ends, has, shelf_with};
 use std::alloc::Global;
 use std::test::Fail;
-use test_calls::{ends, has, shelf_with};
 use vw_io::{MemoryShelf, Shelf};
 
 const SCRIPT: &str =

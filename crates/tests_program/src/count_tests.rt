@@ -1,8 +1,8 @@
+use crate::calls::{ONE, ends, one_fault, voxdag, words_of};
 use std::alloc::{AllocError, Global};
 use std::sync::Wait;
 use std::test::Fail;
 use std::thread::Threads;
-use test_calls::{ONE, ends, one_fault, voxdag, words_of};
 use vw_io::{FaultyShelf, FaultySink, MemoryShelf, MemorySink, Shelf};
 
 /// Size 2 1 1 under version 200. At x = 0 a colour and then none; at x = 1 a colour twice.

@@ -1,8 +1,8 @@
 //! Files of the versions of journals, made by the program.
 
+use crate::calls::{ONE, ends, holds};
 use std::alloc::Global;
 use std::test::Fail;
-use test_calls::{ONE, ends, holds};
 use vw_io::{MemoryShelf, Shelf};
 
 /// The file of a world of 8 cells: version 0 is empty, and all cells of version 1 are set.

@@ -1,10 +1,10 @@
 //! The load of a number, run by the program.
 
+use crate::calls::{ends, has, holds_last, one_fault};
 use std::alloc::Global;
 use std::sync::Wait;
 use std::test::Fail;
 use std::thread::Threads;
-use test_calls::{ends, has, holds_last, one_fault};
 use vw_io::{FaultyShelf, MemoryShelf};
 
 // What `demo 7` prints: a program in Python, written from the load's rules alone, prints it too.

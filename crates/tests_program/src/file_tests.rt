@@ -1,7 +1,7 @@
 //! The top call over real files, in the folder that a test runs in. The test removes what it made.
+use crate::calls::{ANSWERS, GOOD, JOURNAL, ONE, REPORT, TWO, ends};
 use std::fs;
 use std::test::Fail;
-use test_calls::{ANSWERS, GOOD, JOURNAL, ONE, REPORT, TWO, ends};
 use vw_io::FileShelf;
 
 #[test]

@@ -1,8 +1,8 @@
 //! Floods of models, run by the program.
 
+use crate::calls::{ends, has, holds};
 use std::alloc::Global;
 use std::test::Fail;
-use test_calls::{ends, has, holds};
 use vw_io::{MemoryShelf, Shelf};
 
 /// A model of 3 x 1 x 1 cells whose middle one is set.

@@ -1,7 +1,7 @@
 //! The examples of `docs/SCRIPTS.md`, in their order, with the answers that it gives.
 
+use crate::calls::{ends, has, shelf_with};
 use std::test::Fail;
-use test_calls::{ends, has, shelf_with};
 
 const EXAMPLES: &str =
     "fill 0 0 0 4 1 1\nerase 1 0 0 1 1 1\ncopy 0 0 0 2 1 1 to 0 2 0\nball 7 7 7 1\n\

@@ -6,6 +6,9 @@
 #[cfg(test)]
 mod audit_tests;
 #[cfg(test)]
+mod audits;
+mod calls;
+#[cfg(test)]
 mod count_tests;
 #[cfg(test)]
 mod dag_tests;
@@ -23,3 +26,8 @@ mod look_tests;
 mod scene_tests;
 #[cfg(test)]
 mod word_tests;
+
+pub use calls::{
+    ANSWERS, GOOD, Gated, JOURNAL, ONE, REPORT, TWO, ask, ask_gated, ends, ends_by, has, holds,
+    holds_last, is_refused, one_fault, repeated, shelf_with, voxdag, voxdag_gated, words_of,
+};

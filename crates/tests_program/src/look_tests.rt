@@ -1,8 +1,8 @@
 //! Questions of files of many versions, asked by the program, and the same ones asked in a run.
 
+use crate::calls::{ONE, ends, has};
 use std::alloc::Global;
 use std::test::Fail;
-use test_calls::{ONE, ends, has};
 use vw_io::{MemoryShelf, Shelf};
 
 /// A file of a world of 8 cells: version 0 is empty, and all cells of version 1 are set.

@@ -1,9 +1,9 @@
 //! Scenes of VOX files, run by the program, and what it makes of what was written.
 
+use crate::calls::{ONE, ends, ends_by, has, holds};
 use std::alloc::Global;
 use std::test::Fail;
-use test_calls::{ONE, ends, ends_by, has, holds};
-use test_gates::{Place, Rule};
+use testkit::{Place, Rule};
 use vw_io::{MemoryShelf, Shelf};
 
 /// A model of 3 x 1 x 1 cells whose first two are set, in a group of two movers: the first moves it

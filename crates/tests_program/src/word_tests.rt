@@ -1,10 +1,10 @@
 //! The words that the program takes, and those that it refuses.
 
+use crate::calls::{ANSWERS, GOOD, TWO, ask, ends, has, is_refused, shelf_with};
 use std::alloc::Global;
 use std::sync::Wait;
 use std::test::Fail;
 use std::thread::Threads;
-use test_calls::{ANSWERS, GOOD, TWO, ask, ends, has, is_refused, shelf_with};
 
 const USAGE: &str = "voxdag: usage\n";
 

@@ -5,4 +5,8 @@
 #[cfg(test)]
 mod comparing;
 #[cfg(test)]
+mod outputs;
+#[cfg(test)]
 mod tests;
+#[cfg(test)]
+mod threads;

@@ -5,13 +5,13 @@ use Rattle.std.proofs.Math.Seq.{get_or-append_seam}
 use Rattle.std.proofs.lemmas.List.{get_or_append_left}
 use Rattle.std.proofs.lemmas.List.Elements.{All-push}
 use Rattle.std.proofs.lemmas.Option.{slice_get-get_or}
-use Rattle.node_shapes.proofs.WeightLaws.{weigh-cons, weight_of-one}
-use Rattle.node_shapes.specs.declared.names.Name.{Name}
-use Rattle.node_shapes.specs.Tree.{Tree}
-use Rattle.node_shapes.specs.Weights.{number_of_trees, weigh}
+use Rattle.node_words.proofs.OfShapes.WeightLaws.{weigh-cons, weight_of-one}
+use Rattle.node_words.specs.declared.shapes.names.Name.{Name}
+use Rattle.node_words.specs.shapes.Tree.{Tree}
+use Rattle.node_words.specs.shapes.Weights.{number_of_trees, weigh}
 use Rattle.node_words.specs.Gathering.{MayHold}
 use Rattle.node_words.specs.Held.{SameHeld}
-use Rattle.edit_blocks.specs.Blocks.{GoesBack}
+use Rattle.edit_walk.specs.blocks.Blocks.{GoesBack}
 use Rattle.version_log.specs.Roots.{GetsRoot}
 use Rattle.node_table.specs.Begins.{AreNewPasses, terms_of}
 use Rattle.node_table.specs.Seen.{PassSeen}

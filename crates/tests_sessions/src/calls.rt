@@ -7,11 +7,11 @@ ghost use Rattle.session.specs.Seen.{side_seen};
 ghost use Rattle.tests_sessions.specs.Free.{IsFree};
 
 use crate::worlds::{cell_within, within};
+use conformance::{ActAnswer, AskedAt, OnceAnswer};
 use gate_run::Gate;
 use history_model::{Act, Question};
 use node_words::Steps;
 use session::{Session, World};
-use session_runs::{ActAnswer, AskedAt, OnceAnswer};
 use std::marker::Brand;
 use std::sync::Wait;
 use std::sync::ledger::{Blank, Ledger};

@@ -3,13 +3,13 @@ use crate::calls::Call::{Act, Count, FillOnce};
 use crate::calls::{Row, Told};
 use crate::players::both_answered;
 use crate::worlds::{FIRST, PLAIN, SECOND, WHOLE, no_models, world_begun};
+use conformance::{ActAnswer, OnceAnswer};
 use history_model::Act::{Erase, Fill};
-use session_runs::{ActAnswer, OnceAnswer};
 use std::alloc::{AllocError, Global};
 use std::sync::Wait;
 use std::test::Fail;
 use std::thread::Threads;
-use test_gates::Turns;
+use testkit::Turns;
 
 // How many calls of two sessions of a world of side 8 are right, and whether one waited in vain.
 fn meet<R: Threads + Wait + Sync>(

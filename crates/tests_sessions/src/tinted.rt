@@ -11,12 +11,12 @@ use crate::rows::answered_in;
 use crate::worlds::{
     FIRST, PLAIN, SECOND, TINTED, WHOLE, no_models, sessions_ended, within, world_begun,
 };
+use conformance::ActAnswer;
 use gate_run::NoGate;
 use history_model::Act::{Fill, Stamp, Tint, Undo};
 use history_model::TintAct;
 use node_words::Steps;
 use session::{Session, World};
-use session_runs::ActAnswer;
 use std::alloc::Global;
 use std::marker::Brand;
 use std::sync::Wait;

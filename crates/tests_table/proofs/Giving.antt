@@ -1,9 +1,9 @@
 -- What is held after a share of a leaf came and went.
 use Rattle.std.proofs.Common.{◌≡◌, ℕ, zero, suc, ◌+◌, ◌<◌, ◌≤◌, Some, None, List, [], ◌∷◌, ◌++◌, take, All, length, get_or, refl, sym, ap, ◌∙◌, subst, arith}
-use Rattle.node_shapes.specs.declared.names.Name.{Name}
-use Rattle.node_shapes.specs.Tree.{Tree, LeafAt, root_of, child_of}
-use Rattle.node_shapes.specs.Weights.{weigh, weight_below, number_of_trees}
-use Rattle.node_shapes.proofs.WeightLaws.{weight_of-gone, weigh-cons, weigh-nil}
+use Rattle.node_words.specs.declared.shapes.names.Name.{Name}
+use Rattle.node_words.specs.shapes.Tree.{Tree, LeafAt, root_of, child_of}
+use Rattle.node_words.specs.shapes.Weights.{weigh, weight_below, number_of_trees}
+use Rattle.node_words.proofs.OfShapes.WeightLaws.{weight_of-gone, weigh-cons, weigh-nil}
 use Rattle.node_words.specs.Held.{IsHeld, Gains, HoldsName, SameHeld}
 use Rattle.node_words.specs.Plans.{Layout}
 use Rattle.node_words.specs.declared.shares.Full.{Full}

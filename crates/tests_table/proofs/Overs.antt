@@ -1,10 +1,10 @@
 -- A leaf under a node of its own.
 use Rattle.std.proofs.Common.{◌≡◌, ℕ, zero, suc, ◌+◌, ◌<◌, ◌≤◌, Option, Some, None, List, [], ◌∷◌, refl, sym, ◌∙◌, ap, arith}
 use Rattle.std.proofs.lemmas.Option.{same_Some}
-use Rattle.node_shapes.specs.declared.names.Name.{Name}
-use Rattle.node_shapes.specs.Tree.{Tree, Gone, node_at, root_of}
-use Rattle.node_shapes.specs.Weights.{weight_below, number_of_trees}
-use Rattle.node_shapes.proofs.WeightLaws.{weight_of-gone, weight_of-there}
+use Rattle.node_words.specs.declared.shapes.names.Name.{Name}
+use Rattle.node_words.specs.shapes.Tree.{Tree, Gone, node_at, root_of}
+use Rattle.node_words.specs.shapes.Weights.{weight_below, number_of_trees}
+use Rattle.node_words.proofs.OfShapes.WeightLaws.{weight_of-gone, weight_of-there}
 use Rattle.node_words.specs.Gathering.{MayHold}
 use Rattle.node_words.specs.Held.{AreBelow, AreHeld, Gains, HasChild, HoldsName, IsHeld, Joins, name_in}
 

@@ -1,10 +1,10 @@
 -- Two leaves under a node of their own.
 use Rattle.std.proofs.Common.{◌≡◌, ℕ, zero, suc, ◌+◌, Option, Some, None, List, [], ◌∷◌, ◌≤◌, refl, sym, ◌∙◌, ap, subst, arith}
 use Rattle.std.proofs.lemmas.Option.{none-some, same_Some}
-use Rattle.node_shapes.specs.declared.names.Name.{Name}
-use Rattle.node_shapes.specs.Tree.{Tree, Gone, node_at, root_of}
-use Rattle.node_shapes.specs.Weights.{weigh, weight_below, number_of_trees}
-use Rattle.node_shapes.proofs.WeightLaws.{weight_of-gone, weight_of-there, weight_of-one}
+use Rattle.node_words.specs.declared.shapes.names.Name.{Name}
+use Rattle.node_words.specs.shapes.Tree.{Tree, Gone, node_at, root_of}
+use Rattle.node_words.specs.shapes.Weights.{weigh, weight_below, number_of_trees}
+use Rattle.node_words.proofs.OfShapes.WeightLaws.{weight_of-gone, weight_of-there, weight_of-one}
 use Rattle.node_words.specs.Gathering.{Loses, LosesAll, MayHold}
 use Rattle.node_words.specs.Held.{AreBelow, AreHeld, Gains, HasChild, HoldsChildren, HoldsName, IsHeld, Joins, SameHeld, name_in}
 use Rattle.tests_table.specs.Made.{ComesFor}

@@ -1,6 +1,5 @@
 //! What the pure core answers to the calls of a table beside it.
-use node_shapes::Name;
-use node_words::{Full, Plan};
+use node_words::{Full, Name, Plan};
 use std::alloc::Global;
 use vox_read::Models;
 use world_core::{Core, Event, Reply};

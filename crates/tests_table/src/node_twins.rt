@@ -1,8 +1,8 @@
 //! Nodes of two passes on one thread come and go as in the pure core.
 ghost use Rattle.std.specs.Prelude.{◌≡◌, ◌≢◌, ◌<◌, ◌≤◌, ◌+◌, Some, All};
-ghost use Rattle.node_shapes.specs.Tree.{Tree, root_of};
-ghost use Rattle.node_shapes.specs.Weights.{number_of_trees, weight_below};
-ghost use Rattle.node_shapes.specs.declared.names.Name.{Name};
+ghost use Rattle.node_words.specs.shapes.Tree.{Tree, root_of};
+ghost use Rattle.node_words.specs.shapes.Weights.{number_of_trees, weight_below};
+ghost use Rattle.node_words.specs.declared.shapes.names.Name.{Name};
 ghost use Rattle.node_words.specs.Gathering.{Loses, MayHold};
 ghost use Rattle.node_words.specs.Held.{AreBelow, ForChildren, ForHeld, HasChild};
 ghost use Rattle.node_words.specs.Held.{HoldsChildren, HoldsName, SameHeld};
@@ -11,7 +11,7 @@ ghost use Rattle.node_table.specs.Closing.{IsSpare};
 
 use crate::calls::{begun, end, ended, one_bucket, only_two};
 use crate::cores::{Twin, both, gives, joins, joins_not, node_back, refuses, row_back, twin_by};
-use edit_blocks::back_all;
+use edit_walk::back_all;
 use hands::Hand;
 use node_table::{NodeTable, Pass};
 use node_words::{NodeRefused, NodeStore, Plan, Share, Steps, names_of};

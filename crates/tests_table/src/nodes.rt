@@ -1,8 +1,8 @@
 //! Four threads make and give back nodes over the same few leaves.
 ghost use Rattle.std.specs.Prelude.{◌≡◌, ◌≢◌, ◌≤◌, ◌<◌, ◌+◌, ℕ, Some, None, All};
-ghost use Rattle.node_shapes.specs.Tree.{Tree, root_of};
-ghost use Rattle.node_shapes.specs.Weights.{number_of_trees};
-ghost use Rattle.node_shapes.specs.declared.names.Name.{Name};
+ghost use Rattle.node_words.specs.shapes.Tree.{Tree, root_of};
+ghost use Rattle.node_words.specs.shapes.Weights.{number_of_trees};
+ghost use Rattle.node_words.specs.declared.shapes.names.Name.{Name};
 ghost use Rattle.node_words.specs.Gathering.{MayHold};
 ghost use Rattle.node_words.specs.Held.{ForHeld, Gains, HoldsName, SameHeld, name_in};
 ghost use Rattle.node_table.specs.Closing.{IsSpare};

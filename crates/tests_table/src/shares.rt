@@ -1,14 +1,13 @@
 //! Shares of a leaf come and go one by one.
 ghost use Rattle.std.specs.Prelude.{◌≡◌, ◌≤◌, ◌<◌, None, All};
-ghost use Rattle.node_shapes.specs.Weights.{number_of_trees};
+ghost use Rattle.node_words.specs.shapes.Weights.{number_of_trees};
 ghost use Rattle.node_words.specs.Held.{HoldsName, SameHeld};
 ghost use Rattle.node_table.specs.Seen.{BelongsTo};
 ghost use Rattle.node_table.specs.Closing.{IsSpare};
 
 use crate::calls::{begun_small, end, give, only_one};
-use node_shapes::Name;
 use node_table::{NodeTable, Pass};
-use node_words::{Share, Steps};
+use node_words::{Name, Share, Steps};
 use std::alloc::Global;
 use std::marker::Brand;
 use std::sync::Wait;

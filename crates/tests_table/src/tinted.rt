@@ -2,15 +2,15 @@
 ghost use Rattle.std.specs.Prelude.{◌≡◌, ◌≤◌, ◌<◌, ◌/◌, ◌^◌, true, All, IsTrue, IfSome, option_copied};
 ghost use Rattle.vw_cell.specs.Places.{IsInWorld};
 ghost use Rattle.vox_read.specs.Contents.{AreModels};
-ghost use Rattle.block_walk.specs.Roots.{HoldsRoot};
-ghost use Rattle.node_shapes.specs.Weights.{number_of_trees};
+ghost use Rattle.node_words.specs.descent.Roots.{HoldsRoot};
+ghost use Rattle.node_words.specs.shapes.Weights.{number_of_trees};
 ghost use Rattle.node_words.specs.Held.{SameHeld};
 ghost use Rattle.history_model.specs.Logs.{TintFits};
 ghost use Rattle.node_table.specs.Closing.{IsSpare};
 
 use crate::calls::{begun, end, ended, only_one};
 use colour::tint_at;
-use edit_blocks::back_if;
+use edit_walk::back_if;
 use hands::{ActMaker, AnyAct, DrawnModels, Hand, draw_models};
 use history_model::{Act, TintAct};
 use node_table::{NodeTable, Pass};

@@ -1,13 +1,13 @@
 //! A world over a pass: an edit and a question run as over any store.
 ghost use Rattle.std.specs.Prelude.{◌≡◌, ◌≤◌, ◌<◌, ◌^◌, None, All};
 ghost use Rattle.vw_cell.specs.Places.{FitsAt};
-ghost use Rattle.node_shapes.specs.Weights.{number_of_trees};
+ghost use Rattle.node_words.specs.shapes.Weights.{number_of_trees};
 ghost use Rattle.node_words.specs.Held.{SameHeld};
 ghost use Rattle.node_table.specs.Closing.{IsSpare};
 
 use crate::calls::{begun_small, end, only_one};
-use edit_blocks::back_if;
 use edit_ops::rebuild_box;
+use edit_walk::back_if;
 use hands::Hand;
 use measure::count;
 use node_table::{NodeTable, Pass};

@@ -8,16 +8,16 @@ use Rattle.history_model.specs.Logs.{FitsWorld}
 use Rattle.history_model.specs.Making.{MayMake}
 use Rattle.history_model.specs.Stores.{stored_in}
 use Rattle.history_model.specs.Worlds.{World, is_edit}
-use Rattle.node_shapes.specs.declared.names.Name.{Name}
-use Rattle.node_shapes.specs.Shape.{ShowsCells}
-use Rattle.node_shapes.specs.Tree.{Tree, Gone, LeafAt, NodeAt, shape_of, root_of}
-use Rattle.node_shapes.specs.Weights.{weigh, weight_of, number_of_trees}
-use Rattle.node_shapes.proofs.WeightLaws.{weight_of-gone, weight_of-there, weigh-cons, weigh-nil}
+use Rattle.node_words.specs.declared.shapes.names.Name.{Name}
+use Rattle.node_words.specs.shapes.Shape.{ShowsCells}
+use Rattle.node_words.specs.shapes.Tree.{Tree, Gone, LeafAt, NodeAt, shape_of, root_of}
+use Rattle.node_words.specs.shapes.Weights.{weigh, weight_of, number_of_trees}
+use Rattle.node_words.proofs.OfShapes.WeightLaws.{weight_of-gone, weight_of-there, weigh-cons, weigh-nil}
 use Rattle.node_words.specs.Gathering.{Loses, MayHold}
 use Rattle.node_words.specs.Held.{Gains, HoldsName, IsHeld, SameHeld}
 use Rattle.node_words.specs.declared.shares.Full.{Full}
-use Rattle.block_contents.specs.Aligned.{top, world_block}
-use Rattle.edit_blocks.specs.Blocks.{GoesBack}
+use Rattle.core_laws.specs.contents.Aligned.{top, world_block}
+use Rattle.edit_walk.specs.blocks.Blocks.{GoesBack}
 use Rattle.table_rule.specs.LogTelling.{number_seen, seen_has}
 use Rattle.table_rule.specs.LogViews.{LogView}
 use Rattle.table_rule.specs.Views.{SeatView}
@@ -31,7 +31,7 @@ use Rattle.version_log.specs.declared.ahead.Ahead.{Ahead}
 use Rattle.version_log.specs.declared.committed.Committed.{Committed}
 use Rattle.version_log.specs.declared.forgetting.Forgot.{Forgot}
 use Rattle.version_log.specs.Commits.{AppendsNext, IsMadeOver}
-use Rattle.versions.specs.Retained.{falls_out}
+use Rattle.retain.specs.Retained.{falls_out}
 use Rattle.version_log.specs.Falling.{CommitsNext}
 use Rattle.version_log.specs.Forgets.{ForgetsVersion}
 use Rattle.version_log.specs.Keeping.{OnlyKeeps}

@@ -4,18 +4,18 @@ use Rattle.vw_cell.specs.declared.cells.Cell.{Cell}
 use Rattle.vw_cell.specs.Places.{IsInWorld, is_in_box}
 use Rattle.vw_cell.specs.Tests.{is_in_box_holds}
 use Rattle.vox_read.specs.Contents.{Content}
-use Rattle.node_shapes.specs.declared.names.Name.{Name}
-use Rattle.node_shapes.specs.Shape.{Shape, Leaf, ShowsCells, has}
-use Rattle.node_shapes.specs.Tree.{root_of, shape_of}
-use Rattle.node_shapes.proofs.ShapeLaws.{has-clear}
-use Rattle.cell_shapes.specs.CellShapes.{all_cells, shape_with}
-use Rattle.cell_shapes.proofs.CellShapeLaws.{shape_with-has}
-use Rattle.cell_shapes.proofs.FullShapes.{full_leaf, shape_with-full}
-use Rattle.cell_shapes.proofs.SameCells.{same_itself}
+use Rattle.node_words.specs.declared.shapes.names.Name.{Name}
+use Rattle.node_words.specs.shapes.Shape.{Shape, Leaf, ShowsCells, has}
+use Rattle.node_words.specs.shapes.Tree.{root_of, shape_of}
+use Rattle.node_words.proofs.OfShapes.ShapeLaws.{has-clear}
+use Rattle.node_words.specs.contents.CellShapes.{all_cells, shape_with}
+use Rattle.node_words.proofs.OfContents.CellShapeLaws.{shape_with-has}
+use Rattle.node_words.proofs.OfContents.FullShapes.{full_leaf, shape_with-full}
+use Rattle.node_words.proofs.OfContents.SameCells.{same_itself}
 use Rattle.history_model.specs.Logs.{FitsWorld}
 use Rattle.history_model.specs.Making.{MayMake}
 use Rattle.history_model.specs.Worlds.{World, is_edit}
-use Rattle.block_contents.specs.Aligned.{world_block}
+use Rattle.core_laws.specs.contents.Aligned.{world_block}
 use Rattle.tests_versions.specs.Uniform.{every_cell, uniform_act, uniform_tree, uniform_cells}
 
 pub uniform_edit : (root : Option Name) → is_edit (uniform_act root) ≡ true

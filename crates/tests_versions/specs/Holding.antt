@@ -1,6 +1,6 @@
 -- A pass of a world of side 4 between two calls, with what it holds and has pinned.
 use Rattle.std.specs.Prelude.{◌≡◌, Option, Some, None, []}
-use Rattle.node_shapes.specs.declared.names.Name.{Name}
+use Rattle.node_words.specs.declared.shapes.names.Name.{Name}
 use Rattle.node_words.specs.Gathering.{Loses}
 use Rattle.table_rule.specs.Views.{SeatView}
 use Rattle.node_table.specs.LogTurns.{HasNoTurn}

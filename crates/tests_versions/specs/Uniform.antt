@@ -2,8 +2,8 @@
 use Rattle.std.specs.Prelude.{◌-◌, ◌^◌, true, false, Option, Some, None}
 use Rattle.vw_cell.specs.Counts.{cell_at}
 use Rattle.vw_cell.specs.declared.boxes.Boxed.{Boxed}
-use Rattle.node_shapes.specs.Tree.{Tree, Gone, LeafAt}
-use Rattle.node_shapes.specs.declared.names.Name.{Name}
+use Rattle.node_words.specs.shapes.Tree.{Tree, Gone, LeafAt}
+use Rattle.node_words.specs.declared.shapes.names.Name.{Name}
 use Rattle.history_model.specs.declared.acts.Act.{Act}
 use Rattle.history_model.specs.declared.acts.Act.TheVariants.{Fill, Erase}
 use Rattle.history_model.specs.Worlds.{World, box_at}

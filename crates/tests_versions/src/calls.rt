@@ -2,10 +2,10 @@
 //! sets all cells, or none.
 ghost use Rattle.std.specs.Prelude.{◌≡◌, ◌≤◌, false, Some};
 ghost use Rattle.history_model.specs.Worlds.{is_edit};
-ghost use Rattle.node_shapes.specs.Weights.{number_of_trees};
-ghost use Rattle.node_shapes.specs.declared.names.Name.{Name};
+ghost use Rattle.node_words.specs.shapes.Weights.{number_of_trees};
+ghost use Rattle.node_words.specs.declared.shapes.names.Name.{Name};
 ghost use Rattle.node_words.specs.Held.{HoldsName};
-ghost use Rattle.edit_blocks.specs.Blocks.{GoesBack};
+ghost use Rattle.edit_walk.specs.blocks.Blocks.{GoesBack};
 ghost use Rattle.node_table.specs.Closing.{IsSpare};
 ghost use Rattle.node_table.specs.LogTurns.{HasNoTurn};
 ghost use Rattle.node_table.specs.Seen.{BelongsTo};
@@ -13,9 +13,8 @@ ghost use Rattle.tests_versions.specs.Holding.{HoldsUniform};
 
 use crate::uniform::{act_behind, all_back, name_of, root_back, uniform_root};
 use history_model::{Act, Mark};
-use node_shapes::Name;
 use node_table::{NodeTable, Pass};
-use node_words::{Share, Steps};
+use node_words::{Name, Share, Steps};
 use std::sync::Wait;
 use std::sync::ledger::Ledger;
 use version_log::{

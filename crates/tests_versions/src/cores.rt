@@ -2,7 +2,7 @@
 use crate::calls::WasPinned;
 use crate::uniform::act_behind;
 use history_model::Act;
-use node_shapes::Name;
+use node_words::Name;
 use std::alloc::Global;
 use version_log::{ForgetRefused, PinRefused};
 use world_core::{Core, Event, Reply};

@@ -8,9 +8,8 @@ use crate::calls::{
 use crate::edits::{Came, commit_uniform, let_go, pin_beside, try_again, try_uniform};
 use crate::uniform::{all_back, begun, ended, uniform_root};
 use history_model::{Act, Mark};
-use node_shapes::Name;
 use node_table::{NodeTable, Pass};
-use node_words::{Plan, Steps};
+use node_words::{Name, Plan, Steps};
 use std::marker::Brand;
 use std::sync::Wait;
 use std::sync::ledger::{Blank, Ledger};

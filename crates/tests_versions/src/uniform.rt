@@ -1,9 +1,9 @@
 //! Roots of a world of side 4 of which all cells are set, or none.
 ghost use Rattle.std.specs.Prelude.{◌≡◌, ◌≤◌, Some, All, IfOk};
-ghost use Rattle.node_shapes.specs.Weights.{number_of_trees};
-ghost use Rattle.node_shapes.specs.declared.names.Name.{Name};
+ghost use Rattle.node_words.specs.shapes.Weights.{number_of_trees};
+ghost use Rattle.node_words.specs.declared.shapes.names.Name.{Name};
 ghost use Rattle.node_words.specs.Held.{HoldsName};
-ghost use Rattle.edit_blocks.specs.Blocks.{GoesBack};
+ghost use Rattle.edit_walk.specs.blocks.Blocks.{GoesBack};
 ghost use Rattle.node_table.specs.Closing.{IsSpare};
 ghost use Rattle.node_table.specs.LogTurns.{HasNoTurn};
 ghost use Rattle.node_table.specs.Seen.{BelongsTo};
@@ -11,9 +11,8 @@ ghost use Rattle.tests_versions.specs.Holding.{HoldsUniform};
 ghost use Rattle.tests_versions.specs.Uniform.{uniform_act};
 
 use history_model::Act;
-use node_shapes::Name;
 use node_table::{Closed, NodeTable, Pass, TableCloseRefused};
-use node_words::{Plan, Share, Steps};
+use node_words::{Name, Plan, Share, Steps};
 use std::alloc::Global;
 use std::sync::Wait;
 use std::sync::ledger::Ledger;

@@ -9,14 +9,14 @@ use Rattle.history_model.specs.Logs.{FitsWorld}
 use Rattle.history_model.specs.Making.{MayMake}
 use Rattle.history_model.specs.Positions.{position_after}
 use Rattle.history_model.specs.Worlds.{is_edit}
-use Rattle.node_shapes.specs.declared.names.Name.{Name}
-use Rattle.node_shapes.specs.Tree.{Tree, Gone, LeafAt, NodeAt, root_of}
-use Rattle.node_shapes.specs.Weights.{number_of_trees, weigh, weight_of}
-use Rattle.node_shapes.proofs.WeightLaws.{weight_of-there}
+use Rattle.node_words.specs.declared.shapes.names.Name.{Name}
+use Rattle.node_words.specs.shapes.Tree.{Tree, Gone, LeafAt, NodeAt, root_of}
+use Rattle.node_words.specs.shapes.Weights.{number_of_trees, weigh, weight_of}
+use Rattle.node_words.proofs.OfShapes.WeightLaws.{weight_of-there}
 use Rattle.node_words.specs.Gathering.{Loses, MayHold}
 use Rattle.node_words.specs.Held.{IsHeld}
 use Rattle.node_words.specs.Plans.{Layout}
-use Rattle.node_places.specs.Spots.{Spot, Version}
+use Rattle.core_laws.specs.places.Spots.{Spot, Version}
 use Rattle.table_rule.specs.LogTelling.{number_seen, seen_has}
 use Rattle.table_rule.specs.LogWords.{HasNumbers}
 use Rattle.table_rule.specs.Views.{SeatView}

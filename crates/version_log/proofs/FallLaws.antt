@@ -3,17 +3,17 @@ use Rattle.std.proofs.Common.{Result, Ok, Err, IfOk, ◌≡◌, ◌<◌, ◌≤�
 use Rattle.std.specs.List.{Contains}
 use Rattle.history_model.specs.declared.acts.Act.{Act}
 use Rattle.history_model.specs.declared.histories.Mark.{Mark}
-use Rattle.node_shapes.specs.declared.names.Name.{Name}
-use Rattle.node_shapes.specs.Tree.{Tree, Gone}
-use Rattle.node_shapes.specs.Weights.{weigh}
-use Rattle.node_shapes.proofs.WeightLaws.{weight_of-gone}
+use Rattle.node_words.specs.declared.shapes.names.Name.{Name}
+use Rattle.node_words.specs.shapes.Tree.{Tree, Gone}
+use Rattle.node_words.specs.shapes.Weights.{weigh}
+use Rattle.node_words.proofs.OfShapes.WeightLaws.{weight_of-gone}
 use Rattle.table_rule.specs.LogTelling.{number_seen}
 use Rattle.table_rule.specs.Views.{SeatView}
 use Rattle.node_table.specs.LogTurns.{ForgetsUnderTurn, FoundMark, FoundOpen, HasNoTurn, TakesLog, log_left, next_mark}
 use Rattle.version_log.specs.declared.committed.Committed.{Committed}
 use Rattle.version_log.specs.declared.refusals.CommitRefused.{CommitRefused}
 use Rattle.version_log.specs.Commits.{AppendsNext}
-use Rattle.versions.specs.Retained.{falls_out}
+use Rattle.retain.specs.Retained.{falls_out}
 use Rattle.version_log.specs.Falling.{CommitsAlone, CommitsNext, FallsOut, WasMarked}
 use Rattle.version_log.specs.Forgets.{ForgetsVersion}
 use Rattle.version_log.specs.Roots.{GetsRoot}

@@ -2,13 +2,13 @@
 use Rattle.std.proofs.Common.{◌≡◌, ◌+◌, ◌<◌, ◌≤◌, arith, ℕ, None, Option, List, [], ◌∷◌, refl, sym, ◌∙◌, ap, subst}
 use Rattle.std.proofs.lemmas.List.{append-nil}
 use Rattle.history_model.specs.Worlds.{World}
-use Rattle.node_shapes.specs.declared.names.Name.{Name}
-use Rattle.node_shapes.specs.Shape.{ShowsCells}
-use Rattle.node_shapes.specs.Tree.{shape_of}
-use Rattle.node_shapes.specs.Weights.{weigh, weight_of}
-use Rattle.block_contents.specs.Aligned.{world_block}
+use Rattle.node_words.specs.declared.shapes.names.Name.{Name}
+use Rattle.node_words.specs.shapes.Shape.{ShowsCells}
+use Rattle.node_words.specs.shapes.Tree.{shape_of}
+use Rattle.node_words.specs.shapes.Weights.{weigh, weight_of}
+use Rattle.core_laws.specs.contents.Aligned.{world_block}
 use Rattle.table_rule.specs.LogTelling.{number_seen, seen_has}
-use Rattle.versions.specs.Listing.{Found}
+use Rattle.retain.specs.Listing.{Found}
 use Rattle.table_rule.specs.Views.{SeatView}
 use Rattle.node_table.specs.LogTurns.{FoundOpen, ForgetsUnderTurn, HasNoTurn, LearnsLog, TakesLog, next_mark}
 use Rattle.version_log.specs.declared.forgetting.Forgot.{Forgot}

@@ -9,7 +9,7 @@ use Rattle.history_model.specs.Logs.{Log}
 use Rattle.table_rule.proofs.Containing.{contains_more}
 use Rattle.table_rule.specs.LogKnowing.{IsPrefix}
 use Rattle.table_rule.specs.LogViews.{LogView}
-use Rattle.versions.specs.Listing.{Found}
+use Rattle.retain.specs.Listing.{Found}
 use Rattle.table_rule.specs.LogTelling.{number_seen}
 use Rattle.table_rule.specs.Rules.{SameSession}
 use Rattle.table_rule.specs.Views.{SeatView}

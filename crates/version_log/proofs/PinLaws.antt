@@ -5,22 +5,22 @@ use Rattle.vw_cell.specs.Places.{IsInWorld}
 use Rattle.history_model.specs.Stores.{stored_in}
 use Rattle.history_model.specs.StoreLaws.{stored_stays}
 use Rattle.history_model.specs.Worlds.{World}
-use Rattle.node_shapes.specs.declared.names.Name.{Name}
-use Rattle.node_shapes.specs.Shape.{Shape, Clear, ShowsCells, IsCanonical}
-use Rattle.node_shapes.specs.Tree.{Tree, Gone, LeafAt, NodeAt, root_of, shape_of}
-use Rattle.node_shapes.proofs.ShapeLaws.{clear_canonical}
-use Rattle.node_shapes.proofs.ShowLaws.{clear_shows, clear_shown, shown_once}
-use Rattle.node_shapes.proofs.WeightLaws.{weight_of-there}
+use Rattle.node_words.specs.declared.shapes.names.Name.{Name}
+use Rattle.node_words.specs.shapes.Shape.{Shape, Clear, ShowsCells, IsCanonical}
+use Rattle.node_words.specs.shapes.Tree.{Tree, Gone, LeafAt, NodeAt, root_of, shape_of}
+use Rattle.node_words.proofs.OfShapes.ShapeLaws.{clear_canonical}
+use Rattle.node_words.proofs.OfShapes.ShowLaws.{clear_shows, clear_shown, shown_once}
+use Rattle.node_words.proofs.OfShapes.WeightLaws.{weight_of-there}
 use Rattle.node_words.specs.Gathering.{MayHold}
 use Rattle.node_words.specs.Held.{IsHeld}
-use Rattle.block_contents.specs.Aligned.{top, world_block}
-use Rattle.block_contents.proofs.WorldBlocks.{in_world, in_block}
+use Rattle.core_laws.specs.contents.Aligned.{top, world_block}
+use Rattle.core_laws.proofs.OfContents.WorldBlocks.{in_world, in_block}
 use Rattle.table_rule.specs.LogTelling.{number_seen, seen_has}
 use Rattle.table_rule.specs.Telling.{ViewTells}
 use Rattle.table_rule.specs.Views.{SeatView}
 use Rattle.version_log.specs.declared.pinned.Pinned.{Pinned}
-use Rattle.versions.specs.declared.refusals.PinRefused.{PinRefused}
-use Rattle.versions.specs.declared.refusals.PinRefused.TheVariants.{NoVersion, Forgotten}
+use Rattle.retain.specs.declared.refusals.PinRefused.{PinRefused}
+use Rattle.retain.specs.declared.refusals.PinRefused.TheVariants.{NoVersion, Forgotten}
 use Rattle.version_log.specs.Pins.{IsPinned, RefusesPin}
 use Rattle.version_log.specs.PinStatements.{KeepsAllHeld}
 use Rattle.version_log.specs.Seeing.{LooksOn}

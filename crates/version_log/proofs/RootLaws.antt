@@ -3,19 +3,19 @@ use Rattle.std.proofs.Common.{◌≡◌, ◌+◌, ◌^◌, ◌≤◌, ℕ, Optio
 use Rattle.vw_cell.specs.declared.cells.Cell.{Cell}
 use Rattle.vw_cell.specs.Places.{IsInWorld}
 use Rattle.history_model.specs.Worlds.{World}
-use Rattle.node_shapes.specs.declared.names.Name.{Name}
-use Rattle.node_shapes.specs.Shape.{ShowsCells}
-use Rattle.node_shapes.specs.Tree.{Tree, Gone, root_of, shape_of}
-use Rattle.node_shapes.specs.Weights.{weigh}
-use Rattle.node_shapes.proofs.ShapeLaws.{has-clear}
-use Rattle.node_shapes.proofs.WeightLaws.{weigh-cons, weight_of-there, weight_of-gone}
+use Rattle.node_words.specs.declared.shapes.names.Name.{Name}
+use Rattle.node_words.specs.shapes.Shape.{ShowsCells}
+use Rattle.node_words.specs.shapes.Tree.{Tree, Gone, root_of, shape_of}
+use Rattle.node_words.specs.shapes.Weights.{weigh}
+use Rattle.node_words.proofs.OfShapes.ShapeLaws.{has-clear}
+use Rattle.node_words.proofs.OfShapes.WeightLaws.{weigh-cons, weight_of-there, weight_of-gone}
 use Rattle.node_words.specs.Gathering.{MayHold}
 use Rattle.node_words.specs.Held.{IsHeld}
 use Rattle.node_words.specs.Plans.{Layout, IsPlan}
 use Rattle.node_words.proofs.HeldLaws.{held_reached}
-use Rattle.node_places.specs.Names.{IsName, named}
-use Rattle.block_contents.specs.Aligned.{top, world_block}
-use Rattle.block_contents.proofs.WorldBlocks.{in_world}
+use Rattle.core_laws.specs.places.Names.{IsName, named}
+use Rattle.core_laws.specs.contents.Aligned.{top, world_block}
+use Rattle.core_laws.proofs.OfContents.WorldBlocks.{in_world}
 use Rattle.table_rule.specs.LogTelling.{IsShownRoot, seen_has}
 use Rattle.table_rule.specs.Telling.{ViewTells}
 use Rattle.table_rule.specs.Views.{SeatView, BucketAt}

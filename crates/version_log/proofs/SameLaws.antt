@@ -3,19 +3,19 @@ use Rattle.std.proofs.Common.{◌≡◌, ◌≢◌, ◌↔◌, ◌^◌, ◌≤�
 use Rattle.std.proofs.lemmas.List.Elements.{All-cons}
 use Rattle.std.specs.List.{Contains}
 use Rattle.history_model.specs.declared.histories.Mark.{Mark}
-use Rattle.node_shapes.specs.declared.names.Name.{Name}
-use Rattle.node_places.specs.KeyWords.{child_of_word}
-use Rattle.block_contents.specs.Aligned.{top}
-use Rattle.block_contents.specs.Versions.{IsUnmarked, SameWorld}
+use Rattle.node_words.specs.declared.shapes.names.Name.{Name}
+use Rattle.core_laws.specs.places.KeyWords.{child_of_word}
+use Rattle.core_laws.specs.contents.Aligned.{top}
+use Rattle.core_laws.specs.contents.Versions.{IsUnmarked, SameWorld}
 use Rattle.table_rule.specs.LogTelling.{IsShownRoot, number_seen, seen_has}
 use Rattle.table_rule.specs.Telling.{ViewTells}
 use Rattle.table_rule.specs.Views.{SeatView}
 use Rattle.table_rule.proofs.Containing.{contains_more}
-use Rattle.versions.specs.Listing.{Found}
+use Rattle.retain.specs.Listing.{Found}
 use Rattle.table_rule.specs.LogChanges.{has_mark, marks_with, place_mark}
 use Rattle.node_table.specs.LogTurns.{LearnsLog, LooksForMark}
-use Rattle.versions.specs.declared.comparing.SameRefused.{SameRefused}
-use Rattle.versions.specs.declared.comparing.SameRefused.TheVariants.{NoVersion, Forgotten}
+use Rattle.retain.specs.declared.comparing.SameRefused.{SameRefused}
+use Rattle.retain.specs.declared.comparing.SameRefused.TheVariants.{NoVersion, Forgotten}
 use Rattle.version_log.specs.Sames.{IsFoundOpen, RefusesVersion, RefusesSame, TellsSame}
 use Rattle.version_log.specs.Reading.{learns_on}
 

@@ -9,7 +9,7 @@ use Rattle.history_model.specs.Logs.{FitsWorld}
 use Rattle.history_model.specs.Positions.{position_after}
 use Rattle.history_model.specs.Stores.{stored_in}
 use Rattle.history_model.specs.Worlds.{is_edit}
-use Rattle.node_shapes.specs.declared.names.Name.{Name}
+use Rattle.node_words.specs.declared.shapes.names.Name.{Name}
 use Rattle.node_table.specs.Making.{version_gone_to}
 use Rattle.table_rule.specs.LogTelling.{IsShownUnmarked, seen_has}
 use Rattle.table_rule.specs.Views.{SeatView}

@@ -4,9 +4,9 @@ use Rattle.history_model.specs.declared.acts.Act.{Act}
 use Rattle.history_model.specs.declared.histories.Record.{Record}
 use Rattle.history_model.specs.Making.{MayMake}
 use Rattle.history_model.specs.Worlds.{World}
-use Rattle.node_shapes.specs.declared.names.Name.{Name}
-use Rattle.node_shapes.specs.Tree.{Tree}
-use Rattle.edit_blocks.specs.Blocks.{GoesBack}
+use Rattle.node_words.specs.declared.shapes.names.Name.{Name}
+use Rattle.node_words.specs.shapes.Tree.{Tree}
+use Rattle.edit_walk.specs.blocks.Blocks.{GoesBack}
 use Rattle.table_rule.specs.LogTelling.{number_seen, seen_has}
 use Rattle.table_rule.specs.Views.{SeatView}
 use Rattle.version_log.specs.declared.pinned.Pinned.{Pinned}

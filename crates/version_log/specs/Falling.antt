@@ -2,10 +2,10 @@
 use Rattle.std.specs.Prelude.{◌≡◌, ◌⊎◌, ℕ, Option, Some, None}
 use Rattle.history_model.specs.declared.acts.Act.{Act}
 use Rattle.history_model.specs.declared.histories.Mark.{Mark}
-use Rattle.node_shapes.specs.declared.names.Name.{Name}
+use Rattle.node_words.specs.declared.shapes.names.Name.{Name}
 use Rattle.table_rule.specs.LogTelling.{number_seen}
 use Rattle.table_rule.specs.Views.{SeatView}
-use Rattle.versions.specs.Retained.{falls_out}
+use Rattle.retain.specs.Retained.{falls_out}
 use Rattle.version_log.specs.declared.committed.Committed.{Committed}
 use Rattle.version_log.specs.Commits.{AppendsNext}
 use Rattle.version_log.specs.Forgets.{ForgetsVersion}

@@ -2,16 +2,16 @@
 use Rattle.std.specs.Prelude.{◌≡◌, ◌<◌, ℕ, [], ◌∷◌}
 use Rattle.std.specs.List.{Contains}
 use Rattle.history_model.specs.declared.histories.Mark.{Mark}
-use Rattle.node_shapes.specs.Shape.{ShowsCells}
-use Rattle.node_shapes.specs.Tree.{Tree, root_of, shape_of}
+use Rattle.node_words.specs.shapes.Shape.{ShowsCells}
+use Rattle.node_words.specs.shapes.Tree.{Tree, root_of, shape_of}
 use Rattle.node_words.specs.Gathering.{Loses}
-use Rattle.block_contents.specs.Aligned.{world_block}
+use Rattle.core_laws.specs.contents.Aligned.{world_block}
 use Rattle.table_rule.specs.LogTelling.{number_seen, seen_has}
 use Rattle.table_rule.specs.Rules.{SameSession}
 use Rattle.table_rule.specs.Views.{SeatView}
 use Rattle.version_log.specs.declared.forgetting.Forgot.{Forgot}
-use Rattle.versions.specs.declared.refusals.ForgetRefused.{ForgetRefused}
-use Rattle.versions.specs.declared.refusals.ForgetRefused.TheVariants.{NoVersion, IsHead, Forgotten}
+use Rattle.retain.specs.declared.refusals.ForgetRefused.{ForgetRefused}
+use Rattle.retain.specs.declared.refusals.ForgetRefused.TheVariants.{NoVersion, IsHead, Forgotten}
 use Rattle.version_log.specs.Seeing.{MetOthers, KnowsMore, HasSeenMark}
 
 -- the mark of the pass's session, this line and this length

@@ -2,13 +2,13 @@
 use Rattle.std.specs.Prelude.{◌≡◌, ◌↔◌, ℕ, ◌^◌, ◌≤◌, None, false, List}
 use Rattle.vw_cell.specs.declared.cells.Cell.{Cell}
 use Rattle.vw_cell.specs.Places.{IsInWorld}
-use Rattle.node_shapes.specs.Tree.{Tree}
-use Rattle.node_shapes.specs.Weights.{weigh}
+use Rattle.node_words.specs.shapes.Tree.{Tree}
+use Rattle.node_words.specs.shapes.Weights.{weigh}
 use Rattle.table_rule.specs.LogTelling.{seen_has}
 use Rattle.table_rule.specs.Telling.{ViewTells}
 use Rattle.table_rule.specs.Views.{SeatView}
 use Rattle.version_log.specs.declared.pinned.Pinned.{Pinned}
-use Rattle.versions.specs.declared.refusals.PinRefused.{PinRefused}
+use Rattle.retain.specs.declared.refusals.PinRefused.{PinRefused}
 use Rattle.version_log.specs.Pins.{IsPinned, RefusesPin}
 use Rattle.version_log.specs.Seeing.{LooksOn}
 

@@ -1,12 +1,12 @@
 -- What it is to have pinned a version, and what a pin answers.
 use Rattle.std.specs.Prelude.{◌≡◌, ◌<◌, ◌≤◌, ℕ, Option, Some, None}
 use Rattle.std.specs.List.{Contains}
-use Rattle.block_contents.specs.Versions.{IsUnmarked}
+use Rattle.core_laws.specs.contents.Versions.{IsUnmarked}
 use Rattle.table_rule.specs.Views.{SeatView}
 use Rattle.table_rule.specs.LogTelling.{number_seen, seen_has}
 use Rattle.version_log.specs.declared.pinned.Pinned.{Pinned}
-use Rattle.versions.specs.declared.refusals.PinRefused.{PinRefused}
-use Rattle.versions.specs.declared.refusals.PinRefused.TheVariants.{NoVersion, Forgotten}
+use Rattle.retain.specs.declared.refusals.PinRefused.{PinRefused}
+use Rattle.retain.specs.declared.refusals.PinRefused.TheVariants.{NoVersion, Forgotten}
 use Rattle.version_log.specs.Roots.{HoldsRootOf, GetsRoot}
 use Rattle.version_log.specs.Seeing.{HasSeenMark}
 

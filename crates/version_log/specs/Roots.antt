@@ -1,11 +1,11 @@
 -- Roots of versions, and shares of them.
 use Rattle.std.specs.Prelude.{◌≡◌, ℕ, Option, Some, None, List}
 use Rattle.history_model.specs.Worlds.{World}
-use Rattle.node_shapes.specs.declared.names.Name.{Name}
-use Rattle.node_shapes.specs.Shape.{ShowsCells}
-use Rattle.node_shapes.specs.Tree.{Tree, root_of, shape_of}
+use Rattle.node_words.specs.declared.shapes.names.Name.{Name}
+use Rattle.node_words.specs.shapes.Shape.{ShowsCells}
+use Rattle.node_words.specs.shapes.Tree.{Tree, root_of, shape_of}
 use Rattle.node_words.specs.Gathering.{MayHold, Loses}
-use Rattle.block_contents.specs.Aligned.{top, world_block}
+use Rattle.core_laws.specs.contents.Aligned.{top, world_block}
 use Rattle.table_rule.specs.Views.{SeatView}
 
 -- this is the root of these cells: it is held, where there is one, is of the top level, and shows

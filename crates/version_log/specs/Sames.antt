@@ -1,12 +1,12 @@
 -- Whether two versions are the same, and why nothing is told.
 use Rattle.std.specs.Prelude.{◌≡◌, ◌↔◌, ◌⊎◌, ◌^◌, ◌<◌, ◌≤◌, ℕ, IsTrue}
 use Rattle.std.specs.List.{Contains}
-use Rattle.block_contents.specs.Versions.{IsUnmarked, SameWorld}
+use Rattle.core_laws.specs.contents.Versions.{IsUnmarked, SameWorld}
 use Rattle.table_rule.specs.LogTelling.{number_seen, seen_has}
 use Rattle.table_rule.specs.Views.{SeatView}
-use Rattle.versions.specs.declared.comparing.SameAt.{SameAt}
-use Rattle.versions.specs.declared.comparing.SameRefused.{SameRefused}
-use Rattle.versions.specs.declared.comparing.SameRefused.TheVariants.{NoVersion, Forgotten}
+use Rattle.retain.specs.declared.comparing.SameAt.{SameAt}
+use Rattle.retain.specs.declared.comparing.SameRefused.{SameRefused}
+use Rattle.retain.specs.declared.comparing.SameRefused.TheVariants.{NoVersion, Forgotten}
 use Rattle.version_log.specs.Seeing.{HasSeenMark}
 
 -- the version is there, has no mark in the log that is seen, and was found so at this length

@@ -6,7 +6,7 @@ use Rattle.history_model.specs.declared.histories.Record.{Record}
 use Rattle.history_model.specs.Packing.{last_edit}
 use Rattle.history_model.specs.Positions.{position_after}
 use Rattle.history_model.specs.Worlds.{World}
-use Rattle.node_shapes.specs.declared.names.Name.{Name}
+use Rattle.node_words.specs.declared.shapes.names.Name.{Name}
 use Rattle.node_table.specs.Making.{Makes}
 use Rattle.table_rule.specs.Views.{SeatView}
 use Rattle.undo.specs.declared.standing.Standing.{Standing}

@@ -1,6 +1,6 @@
 -- What a commit that doesn't wait answers.
 use Rattle.std.specs.Prelude.{◌≡◌, Option}
-use Rattle.node_shapes.specs.declared.names.Name.{Name}
+use Rattle.node_words.specs.declared.shapes.names.Name.{Name}
 use Rattle.table_rule.specs.Views.{SeatView}
 use Rattle.node_table.specs.LogTurns.{HasLogTurn, IsBusy, TakesLog}
 use Rattle.node_table.specs.Seen.{TableSeen, PassSeen}

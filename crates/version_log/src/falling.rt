@@ -1,13 +1,13 @@
 // Records behind which the last versions alone are kept.
 ghost use Rattle.std.specs.Prelude.{◌≡◌, ◌<◌, ◌≤◌, ◌^◌, ◌∷◌, ℕ, Some, [], IfSome};
 ghost use Rattle.history_model.specs.Logs.{FitsWorld};
-ghost use Rattle.node_shapes.specs.Weights.{number_of_trees};
+ghost use Rattle.node_words.specs.shapes.Weights.{number_of_trees};
 ghost use Rattle.table_rule.specs.LogTelling.{IsShownUnmarked, number_seen};
 ghost use Rattle.table_rule.specs.LogChanges.{HasOpenTarget};
 ghost use Rattle.node_table.specs.LogTurns.{ForgetsUnderTurn, HasLogTurn, HasNoTurn};
 ghost use Rattle.node_table.specs.LogTurns.{log_left, next_mark};
 ghost use Rattle.node_table.specs.Seen.{BelongsTo};
-ghost use Rattle.versions.specs.Retained.{falls_out};
+ghost use Rattle.retain.specs.Retained.{falls_out};
 ghost use Rattle.version_log.specs.Falling.{CommitsNext, FallsOut};
 ghost use Rattle.version_log.specs.Targets.{IsMadeNow, KnowsNext};
 

@@ -1,6 +1,6 @@
 // Versions that are forgotten.
 ghost use Rattle.std.specs.Prelude.{◌≡◌, ◌≤◌, IfOk, IfErr};
-ghost use Rattle.node_shapes.specs.Weights.{number_of_trees};
+ghost use Rattle.node_words.specs.shapes.Weights.{number_of_trees};
 ghost use Rattle.node_table.specs.LogTurns.{HasNoTurn};
 ghost use Rattle.node_table.specs.Seen.{BelongsTo};
 ghost use Rattle.version_log.specs.Forgets.{ForgetsVersion, RefusesForget};
@@ -8,8 +8,8 @@ ghost use Rattle.version_log.specs.Seeing.{LooksOn};
 
 use crate::forgetting::Forgot;
 use node_table::{NodeTable, Pass};
+use retain::ForgetRefused;
 use std::sync::Wait;
-use versions::ForgetRefused;
 
 /// Forgets an earlier version: it is marked, and the log's share of its root comes. It may
 /// wait for the log's turn.

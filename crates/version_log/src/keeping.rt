@@ -1,15 +1,14 @@
 // Shares of the roots of versions, under the log's turn.
 ghost use Rattle.std.specs.Prelude.{◌≡◌, ◌≤◌, ◌+◌};
-ghost use Rattle.node_shapes.specs.Weights.{number_of_trees};
+ghost use Rattle.node_words.specs.shapes.Weights.{number_of_trees};
 ghost use Rattle.table_rule.specs.LogTelling.{IsShownRoot, IsShownUnmarked, seen_has};
 ghost use Rattle.node_table.specs.LogTurns.{HasLogTurn, LearnsLog};
 ghost use Rattle.version_log.specs.Keeping.{OnlyKeeps};
 ghost use Rattle.version_log.specs.Roots.{GetsRoot, HoldsRootOf, turns_for};
 
 use crate::roots::keep_root;
-use node_shapes::Name;
 use node_table::{LogTurn, NodeTable, Pass};
-use node_words::{Share, Steps};
+use node_words::{Name, Share, Steps};
 use std::sync::Wait;
 use std::sync::ledger::Ledger;
 

@@ -1,6 +1,6 @@
 // Versions that are pinned.
 ghost use Rattle.std.specs.Prelude.{◌≡◌, ◌≤◌, ◌+◌, IfOk, IfErr};
-ghost use Rattle.node_shapes.specs.Weights.{number_of_trees};
+ghost use Rattle.node_words.specs.shapes.Weights.{number_of_trees};
 ghost use Rattle.node_table.specs.LogTurns.{HasNoTurn};
 ghost use Rattle.node_table.specs.Seen.{BelongsTo};
 ghost use Rattle.version_log.specs.Pins.{PinsVersion, RefusesPin, version_asked};
@@ -12,9 +12,9 @@ use crate::roots::keep_root;
 use crate::sures::leave;
 use node_table::{NodeTable, Pass};
 use node_words::Steps;
+use retain::PinRefused;
 use std::sync::Wait;
 use std::sync::ledger::Ledger;
-use versions::PinRefused;
 
 // The version that is asked for at this length.
 fn version_asked(version: Option<u32>, at: u32) -> u32

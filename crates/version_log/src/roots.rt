@@ -1,14 +1,13 @@
 // Shares of roots under the log's turn.
 ghost use Rattle.std.specs.Prelude.{◌≡◌, ◌≤◌, ◌+◌, Some, None, true};
-ghost use Rattle.node_shapes.specs.Weights.{number_of_trees};
+ghost use Rattle.node_words.specs.shapes.Weights.{number_of_trees};
 ghost use Rattle.table_rule.specs.LogTelling.{IsShownRoot, seen_has};
 ghost use Rattle.node_table.specs.Acts.{OnlySharesChange};
 ghost use Rattle.node_table.specs.LogTurns.{HasLogTurn};
 ghost use Rattle.version_log.specs.Roots.{GetsRoot, HoldsRootOf, turns_for};
 
-use node_shapes::Name;
 use node_table::{NodeTable, Pass};
-use node_words::{Share, Steps};
+use node_words::{Name, Share, Steps};
 use std::sync::Wait;
 use std::sync::ledger::Ledger;
 

@@ -1,6 +1,6 @@
 // Versions that are compared.
 ghost use Rattle.std.specs.Prelude.{◌≡◌, ◌≢◌, ◌↔◌, ◌^◌, ℕ, IsTrue, IfOk, IfErr};
-ghost use Rattle.block_contents.specs.Versions.{SameWorld};
+ghost use Rattle.core_laws.specs.contents.Versions.{SameWorld};
 ghost use Rattle.table_rule.specs.LogTelling.{IsShownUnmarked, number_seen, seen_has};
 ghost use Rattle.node_table.specs.LogTurns.{HasLogTurn, HasNoTurn, LearnsLog};
 ghost use Rattle.node_table.specs.Seen.{BelongsTo};
@@ -11,10 +11,10 @@ use crate::finishing::length;
 use crate::keeping::root_of;
 use crate::sures::leave;
 use crate::taking::take;
-use node_shapes::Name;
 use node_table::{LogTurn, NodeTable, Pass};
+use node_words::Name;
+use retain::{SameAt, SameRefused};
 use std::sync::Wait;
-use versions::{SameAt, SameRefused};
 
 // Looks whether the version is there without a mark.
 fn look_at(table: &NodeTable, pass: &mut Pass, at: u32, v: u32) -> Result<(), SameRefused>

@@ -1,6 +1,6 @@
 -- Bits that mark the cells of a model, one for each place.
 use Rattle.std.specs.Prelude.{◌≡◌, ℕ, ◌≤◌, ◌*◌, List, length}
-use Rattle.bit_set.specs.Bits.{is_set}
+use Rattle.vw_cell.specs.Bits.{is_set}
 use Rattle.vw_cell.specs.declared.cells.Cell.{Cell}
 use Rattle.vw_cell.specs.Counts.{IsBelow, number_below}
 use Rattle.vox_read.specs.declared.voxels.Voxel.{Voxel}

@@ -6,9 +6,8 @@ ghost use Rattle.vox_read.specs.Places.{index_of, voxel_place, volume_of};
 
 use crate::models::Model;
 use crate::voxels::Voxel;
-use bit_set::BitSet;
 use std::alloc::Global;
-use vw_cell::{Cell, Memory};
+use vw_cell::{BitSet, Cell, Memory};
 
 /// The number of places of the model whose last voxel has a colour other than 0.
 ///

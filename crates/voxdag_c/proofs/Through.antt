@@ -5,9 +5,9 @@ use Rattle.vw_cell.specs.declared.cells.Cell.{Cell}
 use Rattle.history_model.specs.Ways.{Heading, heading_of}
 use Rattle.history_model.specs.declared.questions.Question.TheVariants as questions
 use Rattle.transcript.specs.declared.answers.Answer.{Answer}
-use Rattle.held_world.specs.declared.worlds.World.{World}
-use Rattle.held_world.specs.Calls.{ByHandle, OpensHandle, ClosesHandle, IsBegun, Refuses, WorldAsks}
-use Rattle.held_world.proofs.Fitting.{same_steps}
+use Rattle.voxdag_c.specs.declared.held.worlds.World.{World}
+use Rattle.voxdag_c.specs.held.Calls.{ByHandle, OpensHandle, ClosesHandle, IsBegun, Refuses, WorldAsks}
+use Rattle.voxdag_c.proofs.OfHeld.Fitting.{same_steps}
 
 module _ (Untouched : Type 0) (Does : World → ℕ → World → Type 0) where
   pub through_closed : (old new : Option World) → old ≡ None → new ≡ None → Untouched

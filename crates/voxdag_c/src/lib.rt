@@ -6,17 +6,19 @@
 //! this in the words of C.
 #![tactic(auto)]
 
+mod held;
+
 ghost use Rattle.std.specs.Prelude.{◌≡◌, false, ⊤};
 ghost use Rattle.history_model.specs.Ways.{heading_of};
 ghost use Rattle.history_model.specs.declared.acts.Act.TheVariants.{Fill, Erase, Carve, Copy, Stamp, Undo, Redo};
 ghost use Rattle.history_model.specs.declared.acts.Act.TheVariants as acts;
 ghost use Rattle.history_model.specs.declared.questions.Question.TheVariants as questions;
 ghost use Rattle.transcript.specs.declared.answers.Answer.TheVariants as answers;
-ghost use Rattle.held_world.specs.Places.{cell_of_place, box_of, ball_of, extent_of, hit_of};
-ghost use Rattle.held_world.specs.Calls.{ByHandle, WorldChanges, WorldForgets, WorldAsks, WorldCompares, WorldSaves, WorldJournals, OpensHandle};
-ghost use Rattle.held_world.specs.Calls.{TellsNewest, TellsSize, WritesNothing, ClosesHandle};
+ghost use Rattle.voxdag_c.specs.held.Places.{cell_of_place, box_of, ball_of, extent_of, hit_of};
+ghost use Rattle.voxdag_c.specs.held.Calls.{ByHandle, WorldChanges, WorldForgets, WorldAsks, WorldCompares, WorldSaves, WorldJournals, OpensHandle};
+ghost use Rattle.voxdag_c.specs.held.Calls.{TellsNewest, TellsSize, WritesNothing, ClosesHandle};
 
-use held_world::{Handle, Place, Stretch, World, statuses as status};
+use crate::held::{Handle, Place, Stretch, World, statuses as status};
 use std::alloc::Global;
 
 /// Sets the cells of a box.

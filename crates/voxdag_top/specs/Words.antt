@@ -5,7 +5,7 @@ use Rattle.std.specs.Str.{bytes_eq}
 use Rattle.script.specs.declared.faults.ScriptKind.{ScriptKind}
 use Rattle.script.specs.Numbers.{number_of}
 use Rattle.node_words.specs.Plans.{Layout, is_number_of_buckets, is_cap, usual_buckets}
-use Rattle.command_line.specs.Parts.{LineTexts, is_operand, parts_of, line_texts, are_of_a_run}
+use Rattle.requests.specs.command_line.Parts.{LineTexts, is_operand, parts_of, line_texts, are_of_a_run}
 use Rattle.script_files.specs.Orders.{allowed_buckets}
 use Rattle.history_model.specs.Logs.{store_exponent}
 use Rattle.history_model.specs.declared.questions.Question.{Question}

@@ -3,7 +3,7 @@ ghost use Rattle.vw_io.specs.Outside.{Files, Rose, outside};
 ghost use Rattle.script_files.specs.Requests.{transcript_name};
 ghost use Rattle.script_files.specs.Commands.{scripts_asked};
 ghost use Rattle.script_files.specs.Verdicts.{Verdict};
-ghost use Rattle.command_line.specs.Texts.{texts};
+ghost use Rattle.requests.specs.command_line.Texts.{texts};
 ghost use Rattle.voxdag_top.specs.Words.{request_of, run_line_texts};
 ghost use Rattle.voxdag_top.specs.Endings.{CommandEnds};
 ghost use Rattle.voxdag_top.specs.Finishing.{Runs, OutputsFit, IsEndingNamed};
@@ -13,8 +13,8 @@ ghost use Rattle.voxdag_top.specs.Statuses.{IsOr, is_status, CameToEnd, Finished
 use crate::endings::{Ending, Gated};
 use crate::lines::{fault_room, finish};
 use crate::words::{request, words_of_a_run};
-use command_line::Line;
 use gate_run::{Gate, NoGate};
+use requests::Line;
 use script_files::{CommandRefused, Request, TextRefused, carry_out, names_written};
 use std::alloc::Global;
 use std::sync::Wait;

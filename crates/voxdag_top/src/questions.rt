@@ -1,7 +1,7 @@
 //! The words of a question, as they are spelled.
 ghost use Rattle.std.specs.Prelude.{◌≡◌};
 ghost use Rattle.std.specs.Option.{option_map};
-ghost use Rattle.command_line.specs.Texts.{texts};
+ghost use Rattle.requests.specs.command_line.Texts.{texts};
 ghost use Rattle.history_model.specs.Worlds.{box_at};
 ghost use Rattle.script.specs.Numbers.{loose};
 ghost use Rattle.script_files.specs.Questions.{question_spelled, step_spelled, heading_spelled};

@@ -1,14 +1,14 @@
 ghost use Rattle.std.specs.Prelude.{◌≡◌, ◌≤◌, ◌∷◌, ◌^◌, true, None, Some, IfOk, IfSome, length, MatchOption};
 ghost use Rattle.std.specs.List.{list_all};
 ghost use Rattle.std.specs.Option.{option_map};
-ghost use Rattle.command_line.specs.Texts.{texts};
-ghost use Rattle.command_line.specs.Parts.{is_operand};
+ghost use Rattle.requests.specs.command_line.Texts.{texts};
+ghost use Rattle.requests.specs.command_line.Parts.{is_operand};
 ghost use Rattle.script_files.specs.Commands.{scripts_asked};
 ghost use Rattle.voxdag_top.specs.Words.{request_of, run_texts, run_line_texts, named_request, counted, run_asked, run_planned, demo_of, flood_words, scene_words, dag_words, look_words, audit_words, audit_unjudged, audit_of, audit_by, audit_judged, audit_kept, buckets_of, is_number_of_scripts, demo_words, exponent_of, short_number, keep_of, keep_told, plan_for, side_read, side_told, store_of, store_told, cap_told, plan_with, plan_by, plan_told, plan_in};
 
 use crate::questions::question_in;
-use command_line::{Line, are_of_a_run, is_operand, split};
 use node_words::Plan;
+use requests::{Line, are_of_a_run, is_operand, split};
 use script::number;
 use script_files::{
     AuditOrder, Buckets, DagOrder, FileName, FloodOrder, LookOrder, Order, Request, SceneOrder,

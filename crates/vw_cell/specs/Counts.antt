@@ -1,7 +1,7 @@
 -- Numbers of cells: sums over the places below a size, and the laws that every count rests on.
 use Rattle.std.specs.Prelude.{◌≡◌, ◌≢◌, ℕ, ◌+◌, ◌*◌, ◌<◌, ◌≤◌, Bool, false}
 use Rattle.std.proofs.Common.{arith, ap}
-use Rattle.sums.specs.Sums.{sum_below, one_if, sum_below-same, sum_below-change, sum_below-le, sum_below-at, sum_below-none, one_if-le}
+use Rattle.vw_cell.specs.Sums.{sum_below, one_if, sum_below-same, sum_below-change, sum_below-le, sum_below-at, sum_below-none, one_if-le}
 use Rattle.vw_cell.specs.declared.cells.Cell.{Cell}
 use Rattle.vw_cell.specs.declared.boxes.Boxed.{Boxed}
 

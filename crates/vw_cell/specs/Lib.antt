@@ -4,5 +4,6 @@ pub mod Counts
 pub mod Tests
 pub mod Faces
 pub mod Extents
-pub use Rattle.sums.specs.Sums
-pub use Rattle.sums.specs.Runs
+pub mod Sums
+pub mod Runs
+pub mod Bits

@@ -21,3 +21,7 @@ pub use cells::Cell;
 pub use directions::Direction;
 pub use memory::Memory;
 pub use sides::Side;
+
+mod bits;
+
+pub use bits::BitSet;

@@ -2,7 +2,7 @@
 use Rattle.std.proofs.Common.{◌≡◌, ◌≢◌, ℕ, suc, ◌+◌, ◌<◌, sym, ap, arith, inl, inr, refl, ◌∙◌, Some, None, Option, List, [], ◌∷◌, length, get_or, take, sum_by}
 use Rattle.std.proofs.lemmas.Bool.{cases_lt}
 use Rattle.std.proofs.lemmas.List.Sums.{sum_by-cons, sum_by_more, sum_by-take-le}
-use Rattle.node_shapes.specs.declared.names.Name.{Name}
+use Rattle.node_words.specs.declared.shapes.names.Name.{Name}
 use Rattle.core_laws.specs.Counting.{weight}
 use Rattle.core_laws.proofs.Sums.{is_name, is_name-self, is_name-some}
 use Rattle.world_core.specs.Trading.{HasAll, TradesNames}

@@ -2,14 +2,14 @@
 use Rattle.std.proofs.Common.{◌≡◌, ℕ, ◌<◌, refl, sym, ◌∙◌, ap, subst, arith, Some, None, Option, List, [], ◌∷◌, ◌++◌, length, set, sum_by}
 use Rattle.std.specs.List.{slice_get}
 use Rattle.std.proofs.lemmas.List.Sums.{sum_by-append, sum_by-cons}
-use Rattle.node_shapes.specs.declared.names.Name.{Name}
+use Rattle.node_words.specs.declared.shapes.names.Name.{Name}
 use Rattle.std.proofs.Math.Nat.{mod-lt}
 use Rattle.node_words.specs.declared.keys.Key.{Key}
 use Rattle.node_words.specs.declared.keys.Key.TheVariants.{Leaf, Node}
 use Rattle.node_words.specs.Keys.{bucket_of_key}
 use Rattle.node_words.proofs.PlanLaws.{some_buckets}
-use Rattle.node_places.specs.Names.{IsName, named}
-use Rattle.node_places.specs.Spots.{levels, buckets_at}
+use Rattle.core_laws.specs.places.Names.{IsName, named}
+use Rattle.core_laws.specs.places.Spots.{levels, buckets_at}
 use Rattle.world_core.specs.declared.counted.Entry.{Entry}
 use Rattle.world_core.specs.Buckets.{book_of_slot, HasKey, HasNone, IsFirstFree, IsFirstWith}
 use Rattle.core_laws.specs.Counting.{children_weight}

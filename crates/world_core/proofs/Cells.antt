@@ -4,12 +4,12 @@ use Rattle.std.specs.Prelude.{◌==◌}
 use Rattle.std.specs.Int.{bit_at}
 use Rattle.std.proofs.lemmas.Nat.Bits.{bit_at_above}
 use Rattle.vw_cell.specs.Places.{block_side}
-use Rattle.node_shapes.specs.declared.names.Name.{Name}
-use Rattle.node_shapes.specs.Shape.{Shape, Leaf, has, octant_number, bit_number}
-use Rattle.node_shapes.specs.Tree.{shape_of}
-use Rattle.node_shapes.proofs.ShapeLaws.{has-clear, block_side-suc, octant_shape-past}
+use Rattle.node_words.specs.declared.shapes.names.Name.{Name}
+use Rattle.node_words.specs.shapes.Shape.{Shape, Leaf, has, octant_number, bit_number}
+use Rattle.node_words.specs.shapes.Tree.{shape_of}
+use Rattle.node_words.proofs.OfShapes.ShapeLaws.{has-clear, block_side-suc, octant_shape-past}
 use Rattle.node_words.specs.declared.keys.Key.{Key}
-use Rattle.node_places.specs.Names.{key_bits, key_child}
+use Rattle.core_laws.specs.places.Names.{key_bits, key_child}
 use Rattle.core_laws.specs.States.{tree_at}
 use Rattle.core_laws.proofs.LiveShapes.{clear_at, octant_at}
 

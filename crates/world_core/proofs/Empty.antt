@@ -2,10 +2,10 @@
 use Rattle.std.proofs.Common.{◌≡◌, ℕ, ◌<◌, ◌∙◌, ap, arith, inl, inr, None, Option, List, [], length, get_or, replicate}
 use Rattle.std.proofs.lemmas.Bool.{cases_lt}
 use Rattle.std.proofs.lemmas.List.{get_or_past, get_or-replicate, length-replicate}
-use Rattle.node_shapes.specs.declared.names.Name.{Name}
+use Rattle.node_words.specs.declared.shapes.names.Name.{Name}
 use Rattle.node_words.specs.declared.keys.Key.{Key}
 use Rattle.node_words.specs.Plans.{Layout}
-use Rattle.node_places.specs.Spots.{levels, buckets_at}
+use Rattle.core_laws.specs.places.Spots.{levels, buckets_at}
 use Rattle.world_core.specs.declared.counted.Entry.{Entry}
 use Rattle.world_core.specs.Slots.{SlotRow, BucketRow, IsLaidOut, bucket_at, entry_at}
 

@@ -6,9 +6,9 @@ use Rattle.std.proofs.lemmas.List.{length-set}
 use Rattle.std.proofs.lemmas.List.Elements.{All-set}
 use Rattle.std.proofs.lemmas.List.Sums.{sum_by-cons}
 use Rattle.std.proofs.lemmas.Nat.{mul-le}
-use Rattle.node_shapes.specs.declared.names.Name.{Name}
+use Rattle.node_words.specs.declared.shapes.names.Name.{Name}
 use Rattle.node_words.proofs.PlanLaws.{few_buckets}
-use Rattle.node_places.specs.Spots.{levels, versions}
+use Rattle.core_laws.specs.places.Spots.{levels, versions}
 use Rattle.history_model.specs.Logs.{Log}
 use Rattle.world_core.specs.Buckets.{book_of_slot}
 use Rattle.core_laws.specs.Counting.{weight, holdings}

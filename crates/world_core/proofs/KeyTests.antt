@@ -1,7 +1,7 @@
 -- Lists of children that are alike.
 use Rattle.std.proofs.Common.{◌≡◌, ℕ, ◌<◌, sym, ◌∙◌, arith, None, Option, List, length}
 use Rattle.std.proofs.lemmas.List.{ext_get_or}
-use Rattle.node_words.specs.Name.{Name}
+use Rattle.node_words.specs.declared.shapes.names.Name.{Name}
 use Rattle.node_words.specs.Held.{name_in}
 
 -- lists of eight that agree at each place are equal

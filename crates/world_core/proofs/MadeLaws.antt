@@ -5,11 +5,11 @@ use Rattle.vw_cell.specs.declared.memory.Memory.{Memory}
 use Rattle.std.specs.Prelude.{All, IfOk}
 use Rattle.vw_cell.specs.declared.cells.Cell.{Cell}
 use Rattle.vw_cell.specs.Places.{IsInWorld}
-use Rattle.node_shapes.specs.declared.names.Name.{Name}
-use Rattle.node_shapes.specs.Shape.{Shape, ShowsCells}
-use Rattle.node_shapes.specs.Shape as shapes
-use Rattle.node_shapes.specs.Tree.{shape_of}
-use Rattle.node_shapes.proofs.ShowLaws.{shown_once}
+use Rattle.node_words.specs.declared.shapes.names.Name.{Name}
+use Rattle.node_words.specs.shapes.Shape.{Shape, ShowsCells}
+use Rattle.node_words.specs.shapes.Shape as shapes
+use Rattle.node_words.specs.shapes.Tree.{shape_of}
+use Rattle.node_words.proofs.OfShapes.ShowLaws.{shown_once}
 use Rattle.node_words.specs.declared.keys.Key.{Key}
 use Rattle.history_model.specs.declared.acts.Act.{Act}
 use Rattle.history_model.specs.declared.acts.Act.TheVariants.{Fill, Erase, Ball, Carve, Copy, Stamp, Tint, Undo, Redo}
@@ -17,16 +17,16 @@ use Rattle.history_model.specs.declared.histories.Record.{Record}
 use Rattle.history_model.specs.Logs.{Log, FitsWorld, MayFollow, HasTarget, IsVersionHeld}
 use Rattle.history_model.specs.PositionLaws.{names_below}
 use Rattle.core_laws.specs.Making.{version_gone_to}
-use Rattle.block_contents.specs.Versions.{IsUnmarked}
+use Rattle.core_laws.specs.contents.Versions.{IsUnmarked}
 use Rattle.history_model.specs.LegalLaws.{edit_follows}
 use Rattle.history_model.specs.Making.{MayMake}
 use Rattle.history_model.specs.Stores.{stored_in}
 use Rattle.history_model.proofs.Agreeing.{edited_agree}
 use Rattle.history_model.specs.Positions.{position_after, first_of}
 use Rattle.history_model.specs.Worlds.{World, is_edit}
-use Rattle.block_contents.specs.Aligned.{top, world_block}
-use Rattle.block_contents.specs.Versions.{IsKept}
-use Rattle.block_contents.proofs.WorldBlocks.{in_world, in_block}
+use Rattle.core_laws.specs.contents.Aligned.{top, world_block}
+use Rattle.core_laws.specs.contents.Versions.{IsKept}
+use Rattle.core_laws.proofs.OfContents.WorldBlocks.{in_world, in_block}
 use Rattle.core_laws.specs.States.{IsLive, tree_at}
 use Rattle.core_laws.proofs.Lives.{root_lives}
 use Rattle.core_laws.proofs.LogSteps.{root_in_range}

@@ -2,7 +2,7 @@
 use Rattle.std.proofs.Common.{◌≡◌, ℕ, ◌+◌, ◌<◌, ◌≤◌, refl, sym, ◌∙◌, ap, subst, arith, Some, None, Option, List, [], ◌∷◌, length, set, get_or}
 use Rattle.std.specs.List.{slice_get}
 use Rattle.std.proofs.lemmas.Option.{get_or_from_slice_get}
-use Rattle.node_shapes.specs.declared.names.Name.{Name}
+use Rattle.node_words.specs.declared.shapes.names.Name.{Name}
 use Rattle.node_words.specs.declared.keys.Key.{Key}
 use Rattle.world_core.specs.declared.counted.Entry.{Entry}
 use Rattle.world_core.specs.Buckets.{book_of_slot, with_book}

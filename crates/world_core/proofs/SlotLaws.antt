@@ -2,14 +2,14 @@
 use Rattle.std.proofs.Common.{◌≡◌, ◌≢◌, ℕ, ◌+◌, ◌<◌, refl, sym, ◌∙◌, ap, subst, arith, inl, inr, Some, None, Option, List, [], length, set, get_or}
 use Rattle.std.proofs.lemmas.Bool.{cases_eq}
 use Rattle.std.proofs.lemmas.List.{get_or-set_same, get_or-set_other, length-set}
-use Rattle.node_shapes.specs.declared.names.Name.{Name}
-use Rattle.node_shapes.proofs.TreeEqual.{same_name}
+use Rattle.node_words.specs.declared.shapes.names.Name.{Name}
+use Rattle.node_words.proofs.OfShapes.TreeEqual.{same_name}
 use Rattle.core_laws.specs.Key.{Key}
 use Rattle.core_laws.specs.Keys.{bucket_of_key}
 use Rattle.core_laws.specs.Plans.{Layout}
-use Rattle.core_laws.specs.Spots.{levels, buckets_at}
+use Rattle.core_laws.specs.places.Spots.{levels, buckets_at}
 use Rattle.core_laws.specs.Logs.{Log}
-use Rattle.core_laws.specs.Names.{IsName}
+use Rattle.core_laws.specs.places.Names.{IsName}
 use Rattle.core_laws.specs.States.{IsLive}
 use Rattle.core_laws.specs.Soundness.{FitsLevel}
 use Rattle.core_laws.specs.Events.{Trades, OthersStay, Raises, Adds, Lowers, Frees, no_weight, one_name, children_named}

@@ -3,11 +3,11 @@ use Rattle.std.proofs.Common.{◌≡◌, ℕ, zero, suc, ◌+◌, ◌-◌, ◌<�
 use Rattle.std.specs.List.{slice_get, AllPairs}
 use Rattle.std.proofs.lemmas.List.{get_or-set_same, get_or-set_other, length-set, take-append-drop}
 use Rattle.std.proofs.lemmas.Option.{slice_get_within, get_or_from_slice_get}
-use Rattle.node_shapes.specs.declared.names.Name.{Name}
+use Rattle.node_words.specs.declared.shapes.names.Name.{Name}
 use Rattle.history_model.specs.declared.histories.Record.{Record}
 use Rattle.history_model.specs.declared.histories.Mark.{Mark}
 use Rattle.history_model.specs.Logs.{Log}
-use Rattle.block_contents.specs.Versions.{IsUnmarked, MarkComes}
+use Rattle.core_laws.specs.contents.Versions.{IsUnmarked, MarkComes}
 use Rattle.core_laws.specs.Counting.{weight}
 use Rattle.core_laws.specs.Events.{no_weight, at_most_one, PutsRoot, TakesRoot}
 use Rattle.core_laws.specs.LogEvents.{MayAppend, Appends, Forgets, appends, forgets}

@@ -1,12 +1,12 @@
 -- What a session's share, and a full bucket, are.
 use Rattle.std.specs.Prelude.{◌≡◌, ℕ, ◌<◌}
-use Rattle.node_shapes.specs.declared.names.Name.{Name}
+use Rattle.node_words.specs.declared.shapes.names.Name.{Name}
 use Rattle.node_words.specs.declared.keys.Key.{Key}
 use Rattle.node_words.specs.declared.shares.Full.{Full}
 use Rattle.node_words.specs.Keys.{bucket_of_key}
 use Rattle.node_words.specs.Plans.{Layout}
-use Rattle.node_places.specs.Names.{named}
-use Rattle.node_places.specs.Spots.{buckets_at}
+use Rattle.core_laws.specs.places.Names.{named}
+use Rattle.core_laws.specs.places.Spots.{buckets_at}
 use Rattle.core_laws.specs.States.{State}
 use Rattle.core_laws.specs.Soundness.{IsFull}
 use Rattle.core_laws.specs.Events.{IsMissing, Raises, Adds}

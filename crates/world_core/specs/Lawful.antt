@@ -2,17 +2,17 @@
 use Rattle.std.specs.Prelude.{◌≡◌, ℕ, ◌+◌, ◌^◌, ◌<◌, ◌≤◌, Option, Some, List, [], ◌∷◌, length}
 use Rattle.std.specs.List.{slice_get}
 use Rattle.vox_read.specs.Contents.{Content}
-use Rattle.node_shapes.specs.declared.names.Name.{Name}
-use Rattle.node_shapes.specs.Shape.{ShowsCells}
-use Rattle.node_shapes.specs.Tree.{shape_of}
+use Rattle.node_words.specs.declared.shapes.names.Name.{Name}
+use Rattle.node_words.specs.shapes.Shape.{ShowsCells}
+use Rattle.node_words.specs.shapes.Tree.{shape_of}
 use Rattle.node_words.specs.declared.keys.Key as keys
 use Rattle.node_words.specs.Plans.{Layout}
-use Rattle.node_places.specs.Spots.{levels}
+use Rattle.core_laws.specs.places.Spots.{levels}
 use Rattle.history_model.specs.declared.acts.Act.{Act}
 use Rattle.history_model.specs.Logs.{FitsWorld, MayFollow}
 use Rattle.history_model.specs.Positions.{position_after}
 use Rattle.history_model.specs.Worlds.{World}
-use Rattle.block_contents.specs.Aligned.{top, world_block}
+use Rattle.core_laws.specs.contents.Aligned.{top, world_block}
 use Rattle.core_laws.specs.States.{State, IsUnder, tree_at}
 use Rattle.core_laws.specs.Soundness.{FitsLevel}
 use Rattle.core_laws.specs.Making.{Makes}

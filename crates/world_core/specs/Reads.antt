@@ -1,5 +1,5 @@
 -- The keys of entries in nested lists, as a look-up by name.
-use Rattle.node_shapes.specs.declared.names.Name.{Name}
+use Rattle.node_words.specs.declared.shapes.names.Name.{Name}
 use Rattle.node_words.specs.declared.keys.Key.{Key}
 use Rattle.world_core.specs.Slots.{BucketRow, entry_at, key_or_none}
 use Rattle.std.specs.Prelude.{List}

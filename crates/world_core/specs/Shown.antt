@@ -1,8 +1,8 @@
 -- What a root shows, and where an undo or a redo goes.
 use Rattle.std.specs.Prelude.{ℕ, Option, Some, None, List, [], ◌∷◌}
-use Rattle.node_shapes.specs.declared.names.Name.{Name}
-use Rattle.node_shapes.specs.Shape.{has}
-use Rattle.node_shapes.specs.Tree.{shape_of}
+use Rattle.node_words.specs.declared.shapes.names.Name.{Name}
+use Rattle.node_words.specs.shapes.Shape.{has}
+use Rattle.node_words.specs.shapes.Tree.{shape_of}
 use Rattle.node_words.specs.declared.keys.Key.{Key}
 use Rattle.history_model.specs.declared.acts.Act.{Act}
 use Rattle.history_model.specs.declared.acts.Act.TheVariants.{Undo, Redo}

@@ -1,11 +1,11 @@
 -- What the laws say of slots whose contents change.
 use Rattle.std.specs.Prelude.{◌≡◌, ◌≢◌, ℕ, ◌+◌, ◌<◌, Option, Some, None, List}
-use Rattle.node_shapes.specs.declared.names.Name.{Name}
+use Rattle.node_words.specs.declared.shapes.names.Name.{Name}
 use Rattle.core_laws.specs.Key.{Key}
 use Rattle.core_laws.specs.Keys.{bucket_of_key}
 use Rattle.core_laws.specs.Plans.{Layout}
-use Rattle.core_laws.specs.Names.{IsName}
-use Rattle.core_laws.specs.Spots.{buckets_at}
+use Rattle.core_laws.specs.places.Names.{IsName}
+use Rattle.core_laws.specs.places.Spots.{buckets_at}
 use Rattle.world_core.specs.declared.counted.Entry.{Entry}
 use Rattle.core_laws.specs.Logs.{Log}
 use Rattle.core_laws.specs.Soundness.{FitsLevel}

@@ -1,10 +1,10 @@
 -- The core's state as nested lists show it: for each level its buckets, for each bucket its slots.
 use Rattle.std.specs.Prelude.{◌≡◌, ℕ, ◌<◌, Option, Some, None, List, [], length, slice_index_or, slice_set}
-use Rattle.node_shapes.specs.declared.names.Name.{Name}
+use Rattle.node_words.specs.declared.shapes.names.Name.{Name}
 use Rattle.core_laws.specs.Key.{Key}
 use Rattle.core_laws.specs.TheVariants.{Leaf}
 use Rattle.core_laws.specs.Plans.{Layout}
-use Rattle.core_laws.specs.Spots.{levels, buckets_at}
+use Rattle.core_laws.specs.places.Spots.{levels, buckets_at}
 use Rattle.world_core.specs.declared.counted.Entry.{Entry}
 use Rattle.world_core.specs.Buckets.{book_of_slot}
 use Rattle.core_laws.specs.Logs.{Log}

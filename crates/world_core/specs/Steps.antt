@@ -1,6 +1,6 @@
 -- Steps of the lists that a core keeps: what happens to the state, and that the lists stay sound.
 use Rattle.std.specs.Prelude.{◌≡◌, ℕ, Option, Some, None, length}
-use Rattle.node_shapes.specs.declared.names.Name.{Name}
+use Rattle.node_words.specs.declared.shapes.names.Name.{Name}
 use Rattle.node_words.specs.declared.keys.Key.{Key}
 use Rattle.world_core.specs.Buckets.{HasNone}
 use Rattle.world_core.specs.Slots.{bucket_at}

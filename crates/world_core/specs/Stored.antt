@@ -1,9 +1,9 @@
 -- What the pure core keeps as plain lists, the state that these show, and when they are sound.
 use Rattle.std.specs.Prelude.{◌≡◌, ℕ, ◌≤◌, Option, None, List, length, All, slice_index_or}
 use Rattle.vox_read.specs.Contents.{Content}
-use Rattle.node_shapes.specs.declared.names.Name.{Name}
+use Rattle.node_words.specs.declared.shapes.names.Name.{Name}
 use Rattle.node_words.specs.Plans.{Layout, IsPlan}
-use Rattle.node_places.specs.Spots.{versions}
+use Rattle.core_laws.specs.places.Spots.{versions}
 use Rattle.history_model.specs.Logs.{Log}
 use Rattle.core_laws.specs.States.{State}
 use Rattle.core_laws.specs.Soundness.{Sound}

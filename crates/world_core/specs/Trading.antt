@@ -1,6 +1,6 @@
 -- Names that are taken out of a list of names, or put into it, told by what they weigh.
 use Rattle.std.specs.Prelude.{◌≡◌, ◌≤◌, ◌+◌, ℕ, Option, List, sum_by}
-use Rattle.node_shapes.specs.declared.names.Name.{Name}
+use Rattle.node_words.specs.declared.shapes.names.Name.{Name}
 use Rattle.core_laws.specs.Counting.{weight}
 
 -- what the names weigh that are there

@@ -1,5 +1,5 @@
 ghost use Rattle.std.specs.Prelude.{◌≡◌, ◌<◌, ◌≤◌, ℕ, None, Some, IfOk, OnErr, OnOk};
-ghost use Rattle.node_shapes.specs.declared.names.Name.{Name as name};
+ghost use Rattle.node_words.specs.declared.shapes.names.Name.{Name as name};
 ghost use Rattle.core_laws.specs.States.{IsLive};
 ghost use Rattle.world_core.specs.Answering.{asked_for};
 ghost use Rattle.world_core.specs.Kept.{stored};

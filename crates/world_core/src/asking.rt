@@ -132,4 +132,4 @@ fn is_below(level: u8, child: Option<Name>) -> bool
     }
 }
 
-ghost use Rattle.node_shapes.specs.declared.names.Name.{Name as name};
+ghost use Rattle.node_words.specs.declared.shapes.names.Name.{Name as name};

@@ -1,7 +1,7 @@
 ghost use Rattle.std.specs.Prelude.{◌≡◌, ◌≢◌, ◌<◌, ◌≤◌, ◌+◌, ◌↔◌, ℕ, [], None, Some, IfOk, IsTrue, MatchOption, length};
 ghost use Rattle.std.specs.Prelude.{slice_index_or, sum_by, vec_len, vec_capacity};
 ghost use Rattle.std.specs.List.{remove};
-ghost use Rattle.node_shapes.specs.declared.names.Name.{Name as name};
+ghost use Rattle.node_words.specs.declared.shapes.names.Name.{Name as name};
 ghost use Rattle.core_laws.specs.Counting.{weight};
 ghost use Rattle.world_core.specs.Trading.{HasAll, TradesNames};
 
@@ -18,7 +18,7 @@ pub struct Holding {
 
 impl Model for Holding {
     ghost use Rattle.std.specs.Prelude.{List};
-    ghost use Rattle.node_shapes.specs.declared.names.Name.{Name as name};
+    ghost use Rattle.node_words.specs.declared.shapes.names.Name.{Name as name};
 
     ghost Value = { List name };
 
@@ -102,7 +102,7 @@ pub struct Rest {
 
 impl Model for Rest {
     ghost use Rattle.std.specs.Prelude.{List, ◌<◌, vec_len, vec_capacity};
-    ghost use Rattle.node_shapes.specs.declared.names.Name.{Name as name};
+    ghost use Rattle.node_words.specs.declared.shapes.names.Name.{Name as name};
 
     ghost Value = { List name };
 

@@ -1,13 +1,13 @@
 ghost use Rattle.std.specs.Prelude.{◌≡◌, ◌<◌, ◌≤◌, ◌↔◌, ◌^◌, ℕ, None, Some, IfOk, IsTrue, length, true, false};
-ghost use Rattle.node_shapes.specs.declared.names.Name.{Name as name};
+ghost use Rattle.node_words.specs.declared.shapes.names.Name.{Name as name};
 ghost use Rattle.vw_cell.specs.Places.{block_side};
 ghost use Rattle.history_model.specs.Logs.{FitsWorld};
 ghost use Rattle.history_model.specs.Making.{MayMake};
 ghost use Rattle.world_core.specs.Reads.{keys_in};
 ghost use Rattle.world_core.specs.Shown.{shown_world};
 ghost use Rattle.history_model.specs.Worlds.{is_edit};
-ghost use Rattle.block_contents.specs.Aligned.{top};
-ghost use Rattle.block_contents.specs.Versions.{IsUnmarked};
+ghost use Rattle.core_laws.specs.contents.Aligned.{top};
+ghost use Rattle.core_laws.specs.contents.Versions.{IsUnmarked};
 ghost use Rattle.core_laws.specs.States.{IsLive};
 ghost use Rattle.world_core.specs.Kept.{stored};
 ghost use Rattle.world_core.specs.Lawful.{IsLawful, IsRootMade, MayAskAppend, MayLower, MayRaise};

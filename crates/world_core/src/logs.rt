@@ -4,7 +4,7 @@ ghost use Rattle.std.specs.List.{Contains, insert};
 ghost use Rattle.history_model.specs.declared.histories.Mark.{Mark as mark_of};
 ghost use Rattle.history_model.specs.Positions.{position_after, first_of};
 ghost use Rattle.world_core.specs.Shown.{target_of};
-ghost use Rattle.block_contents.specs.Versions.{IsUnmarked};
+ghost use Rattle.core_laws.specs.contents.Versions.{IsUnmarked};
 
 use history_model::{Act, History, Mark, Record, position};
 use std::alloc::Global;

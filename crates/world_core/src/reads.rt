@@ -1,8 +1,8 @@
 ghost use Rattle.std.specs.Prelude.{◌≡◌, ◌<◌, ◌≤◌, ◌+◌, ◌*◌, ◌/◌, ℕ, Some, None};
 ghost use Rattle.vw_cell.specs.Places.{block_side};
-ghost use Rattle.node_shapes.specs.Shape.{Leaf as leaf_shape, has, octant_number};
-ghost use Rattle.node_shapes.specs.Tree.{shape_of};
-ghost use Rattle.node_places.specs.Names.{key_bits, key_child};
+ghost use Rattle.node_words.specs.shapes.Shape.{Leaf as leaf_shape, has, octant_number};
+ghost use Rattle.node_words.specs.shapes.Tree.{shape_of};
+ghost use Rattle.core_laws.specs.places.Names.{key_bits, key_child};
 ghost use Rattle.core_laws.specs.States.{tree_at};
 ghost use Rattle.world_core.specs.Reads.{keys_in};
 

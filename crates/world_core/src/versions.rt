@@ -1,6 +1,6 @@
 ghost use Rattle.std.specs.Prelude.{◌≡◌, ◌≢◌, ◌<◌, ◌≤◌, ◌+◌, ℕ, [], ◌∷◌, Some, None, IfOk, OnErr, OnOk, MatchOption};
 ghost use Rattle.std.specs.Prelude.{length};
-ghost use Rattle.block_contents.specs.Versions.{IsUnmarked};
+ghost use Rattle.core_laws.specs.contents.Versions.{IsUnmarked};
 ghost use Rattle.core_laws.specs.LogEvents.{MayAppend};
 ghost use Rattle.world_core.specs.Kept.{stored};
 ghost use Rattle.world_core.specs.Lawful.{HoldsShares, HoldsAtMost};

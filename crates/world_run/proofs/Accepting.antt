@@ -14,8 +14,8 @@ use Rattle.transcript.specs.declared.answers.Answer.TheVariants as answers
 use Rattle.transcript.specs.declared.answers.LineAnswer.{LineAnswer}
 use Rattle.conformance.specs.declared.saves.SavedBox.{SavedBox}
 use Rattle.conformance.specs.Saves.{saved_by, saved_in}
-use Rattle.session_runs.proofs.Saving.{SavedByLines, line_saved}
-use Rattle.session_runs.specs.Saves.{saves_asked, saves_asked_in}
+use Rattle.conformance.proofs.OfScripts.Saving.{SavedByLines, line_saved}
+use Rattle.conformance.specs.sessions.Saves.{saves_asked, saves_asked_in}
 
 pub one_asked : (command : Command) (n : ℕ) (answer : Answer)
     → length (saved_by command n answer) ≤ saves_asked command

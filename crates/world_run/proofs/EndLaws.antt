@@ -4,16 +4,16 @@ use Rattle.std.specs.Prelude.{All, Bool, Result, Ok, Err, IfOk}
 use Rattle.std.proofs.lemmas.List.{map_push}
 use Rattle.std.proofs.lemmas.List.Elements.{All-head}
 use Rattle.history_model.specs.Logs.{Log, IsLegal}
-use Rattle.node_shapes.specs.declared.names.Name.{Name}
-use Rattle.node_places.specs.Spots.{levels}
-use Rattle.block_contents.specs.Aligned.{top}
-use Rattle.reporting.proofs.RootLaws.{log_side}
-use Rattle.reporting.specs.Numbers.{AreNumbers}
-use Rattle.reporting.specs.Roots.{RootsTellWorlds, listed_root}
+use Rattle.node_words.specs.declared.shapes.names.Name.{Name}
+use Rattle.core_laws.specs.places.Spots.{levels}
+use Rattle.core_laws.specs.contents.Aligned.{top}
+use Rattle.report.proofs.RootLaws.{log_side}
+use Rattle.report.specs.Numbers.{AreNumbers}
+use Rattle.report.specs.Roots.{RootsTellWorlds, listed_root}
 use Rattle.node_table.specs.Closing.{EndsTable}
 use Rattle.node_table.specs.Seen.{TableSeen, PassSeen}
 use Rattle.node_table.specs.declared.closed.Closed.{Closed}
-use Rattle.session_runs.specs.Seen.{SessionSeen}
+use Rattle.conformance.specs.sessions.Seen.{SessionSeen}
 use Rattle.session.specs.Closes.{sessions_seen}
 use Rattle.session.specs.Seen.{session_seen}
 use Rattle.world_run.specs.declared.open_runs.SavedSession.{SavedSession}

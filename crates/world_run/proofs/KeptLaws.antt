@@ -5,7 +5,7 @@ use Rattle.std.specs.List.{slice_get}
 use Rattle.std.proofs.lemmas.List.{drop_more, length-map, take_more}
 use Rattle.std.proofs.lemmas.Option.{get_or_from_slice_get, none-some, same_Some}
 use Rattle.conformance.specs.declared.saves.SavedBox.{SavedBox}
-use Rattle.session_runs.specs.Kept.{KeptSave, kept_at}
+use Rattle.conformance.specs.sessions.Kept.{KeptSave, kept_at}
 use Rattle.session.specs.Seen.{session_seen}
 use Rattle.world_run.specs.declared.open_runs.SavedSession.{SavedSession}
 use Rattle.world_run.specs.Open.{HasSave, kept_in}

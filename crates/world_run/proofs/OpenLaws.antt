@@ -19,9 +19,9 @@ use Rattle.session.specs.Seeing.{IsDated}
 use Rattle.session.specs.Pinned.{Pinned}
 use Rattle.script.specs.Fitting.{SaveFits}
 use Rattle.conformance.specs.declared.saves.SavedBox.{SavedBox}
-use Rattle.session_runs.specs.Kept.{KeptSave, kept_at}
-use Rattle.session_runs.specs.Saves.{versions_of}
-use Rattle.session_runs.specs.Seen.{SessionSeen}
+use Rattle.conformance.specs.sessions.Kept.{KeptSave, kept_at}
+use Rattle.conformance.specs.sessions.Saves.{versions_of}
+use Rattle.conformance.specs.sessions.Seen.{SessionSeen}
 use Rattle.session.specs.Lendable.{StaysLendable}
 use Rattle.session.specs.Resting.{IsAtRest}
 use Rattle.session.specs.Saves.{SeatHoldsPins, HoldsSaves, pinned_versions}

@@ -9,23 +9,23 @@ use Rattle.atomic_table.specs.Seated.{TableId}
 use Rattle.gate_run.specs.Runs.{RanEach}
 use Rattle.vox_read.specs.Contents.{Content}
 use Rattle.history_model.specs.Logs.{kept_side}
-use Rattle.node_shapes.specs.Shape.{Shape}
+use Rattle.node_words.specs.shapes.Shape.{Shape}
 use Rattle.node_words.specs.Held.{Wanted}
 use Rattle.node_words.specs.Plans.{Layout}
 use Rattle.script.specs.Fitting.{RisesFrom, SaveFits}
 use Rattle.script.specs.declared.commands.ScriptLine.{ScriptLine}
 use Rattle.transcript.specs.declared.answers.LineAnswer.{LineAnswer}
-use Rattle.session_runs.specs.Keeping.{MadeAndMet}
+use Rattle.conformance.specs.scripts.Keeping.{MadeAndMet}
 use Rattle.conformance.specs.declared.saves.SavedBox.{SavedBox}
 use Rattle.conformance.specs.Saves.{saved_in}
 use Rattle.session.specs.Pinned.{Pinned}
 use Rattle.node_table.specs.Begins.{AreNewPasses, IsNewPass, terms_of}
 use Rattle.node_table.specs.Seen.{TableSeen, TermsSeen, PassSeen}
 use Rattle.node_table.specs.LogViews.{LogView}
-use Rattle.session_runs.specs.Kept.{KeptSave, kept_at, kept_of}
-use Rattle.session_runs.specs.Ran.{IsAnswered, SessionRan, SessionsRanKeeping}
-use Rattle.session_runs.specs.Saves.{saves_asked_in, versions_of}
-use Rattle.session_runs.specs.Seen.{SessionSeen, none_noted, session_keeping}
+use Rattle.conformance.specs.sessions.Kept.{KeptSave, kept_at, kept_of}
+use Rattle.conformance.specs.sessions.Ran.{IsAnswered, SessionRan, SessionsRanKeeping}
+use Rattle.conformance.specs.sessions.Saves.{saves_asked_in, versions_of}
+use Rattle.conformance.specs.sessions.Seen.{SessionSeen, none_noted, session_keeping}
 use Rattle.session.specs.Resting.{IsAtRest}
 use Rattle.session.specs.Saves.{SeatHoldsPins, pinned_versions}
 use Rattle.session.specs.Seen.{AreLinesOfWorld, WorldSeen, of_world, session_seen}

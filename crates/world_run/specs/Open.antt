@@ -9,9 +9,9 @@ use Rattle.session.specs.Roots.{file_kept}
 use Rattle.script.specs.Fitting.{SaveFits}
 use Rattle.conformance.specs.declared.saves.SavedBox.{SavedBox}
 use Rattle.node_table.specs.Seen.{TableSeen}
-use Rattle.session_runs.specs.Kept.{KeptSave, kept_at}
-use Rattle.session_runs.specs.Saves.{versions_of}
-use Rattle.session_runs.specs.Seen.{SessionSeen}
+use Rattle.conformance.specs.sessions.Kept.{KeptSave, kept_at}
+use Rattle.conformance.specs.sessions.Saves.{versions_of}
+use Rattle.conformance.specs.sessions.Seen.{SessionSeen}
 use Rattle.session.specs.Resting.{IsAtRest}
 use Rattle.session.specs.Saves.{SeatHoldsPins, pinned_versions}
 use Rattle.session.specs.Seen.{session_seen}

@@ -1,6 +1,6 @@
 -- The roots that a closed table tells.
 use Rattle.std.specs.Prelude.{ℕ, ◌==◌, if◌then◌else◌, Option, None, List, [], ◌∷◌}
-use Rattle.node_shapes.specs.declared.names.Name.{Name}
+use Rattle.node_words.specs.declared.shapes.names.Name.{Name}
 use Rattle.node_table.specs.declared.closed.Root.{Root}
 
 -- the root of a version, by a list of them

@@ -3,10 +3,10 @@ use Rattle.std.specs.Prelude.{◌≡◌, ℕ, ◌+◌, ◌≤◌, List, [], ◌�
 use Rattle.script.specs.Fitting.{RisesFrom}
 use Rattle.script.specs.declared.commands.ScriptLine.{ScriptLine}
 use Rattle.conformance.specs.Saves.{saved_in}
-use Rattle.session_runs.specs.Ran.{SessionRan}
-use Rattle.session_runs.specs.Runs.{RunsScript}
-use Rattle.session_runs.specs.Saves.{saves_asked_in, versions_of}
-use Rattle.session_runs.specs.Seen.{none_noted}
+use Rattle.conformance.specs.sessions.Ran.{SessionRan}
+use Rattle.conformance.specs.sessions.Runs.{RunsScript}
+use Rattle.conformance.specs.sessions.Saves.{saves_asked_in, versions_of}
+use Rattle.conformance.specs.sessions.Seen.{none_noted}
 use Rattle.session.specs.Resting.{IsAtRest}
 use Rattle.session.specs.Saves.{SeatHoldsPins, pinned_versions}
 use Rattle.session.specs.Scripts.{IsFresh}

@@ -3,7 +3,7 @@ ghost use Rattle.std.specs.Prelude.{◌≡◌, ◌+◌, ◌++◌, ◌<◌, ◌�
 ghost use Rattle.std.specs.Option.{option_to_list};
 ghost use Rattle.conformance.specs.Answers.{asked_version};
 ghost use Rattle.conformance.specs.Saves.{saved_by, saved_in};
-ghost use Rattle.session_runs.specs.Saves.{saves_asked, saves_asked_in};
+ghost use Rattle.conformance.specs.sessions.Saves.{saves_asked, saves_asked_in};
 
 use conformance::SavedBox;
 use script::{Command, ScriptLine};

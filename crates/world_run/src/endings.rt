@@ -1,9 +1,9 @@
 //! How a run ends: its world is closed, or given up.
 ghost use Rattle.std.specs.Prelude.{◌≡◌, ◌<◌, ◌≤◌, [], ℕ, All, IfOk, length, take, vec_capacity, vec_len};
 ghost use Rattle.node_table.specs.LogTurns.{HasNoTurn};
-ghost use Rattle.reporting.specs.Numbers.{AreNumbers};
-ghost use Rattle.reporting.specs.Roots.{RootsTellWorlds, listed_root};
-ghost use Rattle.session_runs.specs.Ran.{ClosesWorld};
+ghost use Rattle.report.specs.Numbers.{AreNumbers};
+ghost use Rattle.report.specs.Roots.{RootsTellWorlds, listed_root};
+ghost use Rattle.conformance.specs.sessions.Ran.{ClosesWorld};
 ghost use Rattle.session.specs.Closes.{sessions_seen};
 ghost use Rattle.session.specs.Resting.{IsAtRest};
 ghost use Rattle.session.specs.Seen.{session_seen};
@@ -12,8 +12,8 @@ ghost use Rattle.world_run.specs.Open.{IsSaved, saved_seen};
 ghost use Rattle.world_run.specs.Told.{told_root};
 
 use crate::open_runs::SavedSession;
-use node_shapes::Name;
 use node_table::Root;
+use node_words::Name;
 use session::{CloseRefused, Ended, Session, World};
 use std::alloc::Global;
 use std::sync::Wait;

@@ -1,12 +1,12 @@
 //! A run whose sessions all ran their scripts.
 ghost use Rattle.std.specs.Prelude.{◌≡◌, ◌<◌, ◌≤◌, true, Some, All, IfOk, length};
 ghost use Rattle.std.specs.List.{slice_get};
-ghost use Rattle.reporting.specs.Numbers.{AreNumbers};
-ghost use Rattle.reporting.specs.Roots.{RootsTellWorlds, listed_root};
+ghost use Rattle.report.specs.Numbers.{AreNumbers};
+ghost use Rattle.report.specs.Roots.{RootsTellWorlds, listed_root};
 ghost use Rattle.script.specs.Placing.{is_save_name};
 ghost use Rattle.conformance.specs.declared.saves.SavedBox.{SavedBox};
-ghost use Rattle.session_runs.specs.Kept.{KeptSave, kept_at};
-ghost use Rattle.session_runs.specs.Ran.{ClosesWorld};
+ghost use Rattle.conformance.specs.sessions.Kept.{KeptSave, kept_at};
+ghost use Rattle.conformance.specs.sessions.Ran.{ClosesWorld};
 ghost use Rattle.session.specs.Seen.{session_seen};
 ghost use Rattle.world_run.specs.Ends.{IsEndOf};
 ghost use Rattle.world_run.specs.Open.{HasSave, IsSaved, SavesAt, kept_in, file_of_save};
@@ -36,8 +36,8 @@ pub struct OpenRun<'m> {
 impl<'m> Model for OpenRun<'m> {
     ghost use Rattle.std.specs.Prelude.{◌≡◌, ◌≤◌, All, length};
     ghost use Rattle.std.specs.Coded.{codes};
-    ghost use Rattle.node_shapes.specs.ShapeCode.{coded_shape};
-    ghost use Rattle.store_notes.specs.Told.{coded_wanted};
+    ghost use Rattle.node_words.specs.shapes.ShapeCode.{coded_shape};
+    ghost use Rattle.one_store.specs.notes.Told.{coded_wanted};
     ghost use Rattle.world_run.specs.Open.{IsSaved, RunState, kept_in, saved_seen};
 
     ghost Value = { RunState };

@@ -1,7 +1,7 @@
 //! Room for what the session of a script answers and saves, all of which is taken first.
 ghost use Rattle.std.specs.Prelude.{◌≡◌, ◌≤◌, [], All, IfOk, length};
 ghost use Rattle.std.specs.List.{AllZip};
-ghost use Rattle.session_runs.specs.Saves.{saves_asked_in};
+ghost use Rattle.conformance.specs.sessions.Saves.{saves_asked_in};
 ghost use Rattle.world_run.specs.Works.{IsEmptyRoom, IsRoomFor};
 
 use crate::accepted::number_of_saves;

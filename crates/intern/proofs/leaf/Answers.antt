@@ -1,10 +1,10 @@
 use Rattle.std.proofs.Common.{rules, Ok, Err, ◌≡◌, ◌<◌, ◌≤◌, ℕ, List, refl, sym, ap, ◌∙◌, subst, arith}
 use Rattle.std.specs.Prelude.{MatchResult, slice_index}
 use Rattle.std.specs.declared.result.Result.{Result}
-use Rattle.node_shapes.specs.declared.names.Name.{Name}
-use Rattle.node_shapes.specs.Buckets.{leaf_bucket}
-use Rattle.node_shapes.specs.Tree.{Gone}
-use Rattle.node_shapes.specs.Weights.{number_of_trees}
+use Rattle.node_words.specs.declared.shapes.names.Name.{Name}
+use Rattle.node_words.specs.shapes.Buckets.{leaf_bucket}
+use Rattle.node_words.specs.shapes.Tree.{Gone}
+use Rattle.node_words.specs.shapes.Weights.{number_of_trees}
 use Rattle.node_words.specs.declared.keys.Key.TheVariants.{Leaf}
 use Rattle.node_words.specs.declared.shares.Full.{Full}
 use Rattle.node_words.specs.Plans.{Layout}

@@ -1,5 +1,5 @@
 use Rattle.std.proofs.Common.{rules, ℕ, subst}
-use Rattle.node_places.specs.Names.{named}
+use Rattle.core_laws.specs.places.Names.{named}
 use Rattle.node_table.proofs.ActLaws.{reached_bucket}
 use Rattle.node_table.specs.Acts.{RaisesUnderTurn}
 use Rattle.node_table.specs.Seen.{bucket_named}

@@ -1,5 +1,5 @@
 use Rattle.std.proofs.Common.{Some, sym, ap, subst, ◌∙◌}
-use Rattle.node_shapes.specs.declared.names.Name.{Name}
+use Rattle.node_words.specs.declared.shapes.names.Name.{Name}
 use Rattle.node_words.specs.Held.{ReachesName}
 use Rattle.node_words.proofs.HeldLaws.{held_reached, holds_reaches}
 use Rattle.release.proofs.more.Goals as goal

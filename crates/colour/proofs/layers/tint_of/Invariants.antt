@@ -1,7 +1,7 @@
 use Rattle.std.proofs.Common.{◌≡◌, ◌+◌, ◌/◌, ◌^◌, ◌<◌, ℕ}
 use Rattle.vw_cell.specs.Counts.{cell_at}
-use Rattle.node_shapes.specs.Tree.{Tree}
-use Rattle.cell_shapes.specs.CellShapes.{bits_below}
+use Rattle.node_words.specs.shapes.Tree.{Tree}
+use Rattle.node_words.specs.contents.CellShapes.{bits_below}
 use Rattle.colour.specs.Layers.{HoldsBits, bit_cells}
 use Rattle.colour.proofs.layers.tint_of.Given as goal
 

@@ -1,6 +1,6 @@
 use Rattle.std.proofs.Common.{rules, ℕ, ◌≤◌, Option, refl, subst}
 use Rattle.std.specs.Prelude.{option_copied}
-use Rattle.node_shapes.specs.declared.names.Name.{Name}
+use Rattle.node_words.specs.declared.shapes.names.Name.{Name}
 use Rattle.dag_file.specs.Trees.{opened_seen}
 use Rattle.store_run.specs.TellsRoots.{TellsRoot}
 use Rattle.dag_answers.proofs.LookLaws.{version_told}

@@ -1,9 +1,9 @@
 use Rattle.std.proofs.Common.{sym, subst, arith, ◌-◌, [], Option}
-use Rattle.node_shapes.specs.declared.names.Name.{Name}
+use Rattle.node_words.specs.declared.shapes.names.Name.{Name}
 use Rattle.history_model.specs.Worlds.{edited}
 use Rattle.history_model.specs.declared.acts.Act.TheVariants.{Copy}
-use Rattle.edit_cells.specs.Worlds.{ShowsWorld}
-use Rattle.edit_cells.proofs.WorldLaws.{root_shown}
+use Rattle.edit_walk.specs.cells.Worlds.{ShowsWorld}
+use Rattle.edit_walk.proofs.OfCells.WorldLaws.{root_shown}
 use Rattle.edit_copy.proofs.StartLaws.{copy_world}
 use Rattle.edit_copy.proofs.rebuild.rebuild_copy_with.Goals as goal
 

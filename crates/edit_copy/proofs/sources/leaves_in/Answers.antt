@@ -1,6 +1,6 @@
 use Rattle.std.proofs.Common.{sym, subst}
 use Rattle.node_words.specs.Held.{Seen, name_in}
-use Rattle.block_walk.specs.Roots.{HasBlock}
+use Rattle.node_words.specs.descent.Roots.{HasBlock}
 use Rattle.edit_copy.proofs.sources.leaves_in.Goals as goal
 
 pub leaf_bits-bits-requires : goal.leaf_bits-bits-requires

@@ -1,6 +1,6 @@
 use Rattle.std.proofs.Common.{◌≡◌, ◌<◌, ℕ, slice_index, length}
-use Rattle.node_shapes.specs.Shape.{bits_of}
-use Rattle.node_shapes.specs.Tree.{Tree, shape_of}
+use Rattle.node_words.specs.shapes.Shape.{bits_of}
+use Rattle.node_words.specs.shapes.Tree.{Tree, shape_of}
 use Rattle.edit_copy.specs.Copies.{AreBlocks}
 use Rattle.edit_copy.proofs.sources.leaves_in.Given as goal
 

@@ -1,8 +1,8 @@
 use Rattle.std.proofs.Common.{sym, subst, arith, ◌≤◌, ◌-◌, [], Option}
-use Rattle.node_shapes.specs.declared.names.Name.{Name}
+use Rattle.node_words.specs.declared.shapes.names.Name.{Name}
 use Rattle.history_model.specs.Worlds.{edited}
-use Rattle.edit_cells.specs.Worlds.{ShowsWorld}
-use Rattle.edit_cells.proofs.WorldLaws.{root_shown}
+use Rattle.edit_walk.specs.cells.Worlds.{ShowsWorld}
+use Rattle.edit_walk.proofs.OfCells.WorldLaws.{root_shown}
 use Rattle.edit_ops.specs.Balls.{ball_act}
 use Rattle.edit_ops.proofs.BallLaws.{ball_world}
 use Rattle.edit_ops.proofs.rebuild.rebuild_ball_with.Goals as goal

@@ -1,8 +1,8 @@
 use Rattle.std.proofs.Common.{sym, subst, arith, ◌≤◌, ◌≡◌, ◌-◌, [], Option}
-use Rattle.node_shapes.specs.declared.names.Name.{Name}
+use Rattle.node_words.specs.declared.shapes.names.Name.{Name}
 use Rattle.history_model.specs.Worlds.{edited}
-use Rattle.edit_cells.specs.Worlds.{ShowsWorld}
-use Rattle.edit_cells.proofs.WorldLaws.{root_shown}
+use Rattle.edit_walk.specs.cells.Worlds.{ShowsWorld}
+use Rattle.edit_walk.proofs.OfCells.WorldLaws.{root_shown}
 use Rattle.edit_ops.specs.Boxes.{box_act, parts_met}
 use Rattle.edit_ops.proofs.BoxLaws.{makes_world}
 use Rattle.edit_ops.specs.Partly.{world_partly}

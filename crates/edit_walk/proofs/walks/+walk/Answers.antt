@@ -1,16 +1,16 @@
 use Rattle.std.proofs.Common.{List, Option, length, add-one, refl, sym, ◌∙◌, ap, subst, arith, ℕ, ◌≡◌, ◌≤◌, ◌<◌, ◌+◌, ◌-◌, ◌^◌}
-use Rattle.sums.specs.Sums.{sum_below, sum_below-suc, sum_below-zero}
-use Rattle.node_shapes.specs.Weights.{number_of_trees}
-use Rattle.node_shapes.specs.declared.names.Name.{Name}
+use Rattle.vw_cell.specs.Sums.{sum_below, sum_below-suc, sum_below-zero}
+use Rattle.node_words.specs.shapes.Weights.{number_of_trees}
+use Rattle.node_words.specs.declared.shapes.names.Name.{Name}
 use Rattle.node_words.specs.Plans.{Layout}
 use Rattle.node_words.specs.Held.{Seen}
 use Rattle.node_words.proofs.HeldLaws.{keeps_itself}
 use Rattle.node_words.proofs.GatherLaws.{grows_none, grows_held}
-use Rattle.cell_shapes.specs.CellShapes.{shape_with, octant_cells}
-use Rattle.edit_blocks.specs.Blocks.{Aside}
-use Rattle.cell_shapes.proofs.CellShapeLaws.{shape_with-canonical}
-use Rattle.edit_blocks.proofs.AsideLaws.{aside_numbers, aside_same, aside_keeps, meets_refuses}
-use Rattle.edit_blocks.proofs.JoinLaws.{gathers_empty, gathers_held, gathers_number, grows_on, grows_in, refuses_after, refuses_held, refuses_octant, back_aside}
+use Rattle.node_words.specs.contents.CellShapes.{shape_with, octant_cells}
+use Rattle.edit_walk.specs.blocks.Blocks.{Aside}
+use Rattle.node_words.proofs.OfContents.CellShapeLaws.{shape_with-canonical}
+use Rattle.edit_walk.proofs.OfBlocks.AsideLaws.{aside_numbers, aside_same, aside_keeps, meets_refuses}
+use Rattle.edit_walk.proofs.OfBlocks.JoinLaws.{gathers_empty, gathers_held, gathers_number, grows_on, grows_in, refuses_after, refuses_held, refuses_octant, back_aside}
 use Rattle.edit_walk.proofs.WalkLaws.{starts_held, leaf_target, leaf_done, octant_target, met_gathers, target_grows, target_refuses}
 use Rattle.edit_walk.specs.Walks.{walk_at, Partway}
 use Rattle.edit_walk.proofs.MemoLaws.{came_built, joined_built, hit_built, recalls_came, target_built, part_begins, part_keeps, partway_none, partway_one}

@@ -1,9 +1,9 @@
 use Rattle.std.proofs.Common.{◌≡◌, ◌+◌, ◌*◌, ◌≤◌, max, List, length}
-use Rattle.sums.specs.Sums.{sum_below}
-use Rattle.node_shapes.specs.Tree.{Tree}
+use Rattle.vw_cell.specs.Sums.{sum_below}
+use Rattle.node_words.specs.shapes.Tree.{Tree}
 use Rattle.node_words.specs.Gathering.{Grows}
-use Rattle.cell_shapes.specs.CellShapes.{Cells, shape_with}
-use Rattle.edit_blocks.specs.Blocks.{height}
+use Rattle.node_words.specs.contents.CellShapes.{Cells, shape_with}
+use Rattle.edit_walk.specs.blocks.Blocks.{height}
 use Rattle.edit_walk.specs.Walks.{walk_at, Begins, Partway}
 use Rattle.edit_walk.proofs.walks.+walk.Given as goal
 

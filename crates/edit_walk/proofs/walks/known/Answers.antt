@@ -1,14 +1,14 @@
 use Rattle.std.proofs.Common.{sym, ◌∙◌, refl, subst, Some, ap, inl, inr}
-use Rattle.node_shapes.specs.Shape.{Shape}
+use Rattle.node_words.specs.shapes.Shape.{Shape}
 use Rattle.node_words.proofs.HeldLaws.{keeps_on, reached_more}
 use Rattle.node_words.proofs.GatherLaws.{grows_none, grows_held}
 use Rattle.node_words.specs.Gathering.{Grows}
-use Rattle.edit_cells.specs.declared.tasks.Whole.{Whole}
-use Rattle.edit_blocks.specs.Blocks.{Came, RefusesBlock}
-use Rattle.edit_cells.specs.Tasks.{IsWhole}
-use Rattle.cell_shapes.proofs.CellShapeLaws.{shape_with-none}
-use Rattle.cell_shapes.proofs.FullShapes.{shape_with-full}
-use Rattle.edit_blocks.proofs.AsideLaws.{came_none, came_gains, aside_keeps}
+use Rattle.edit_walk.specs.declared.cells.tasks.Whole.{Whole}
+use Rattle.edit_walk.specs.blocks.Blocks.{Came, RefusesBlock}
+use Rattle.edit_walk.specs.cells.Tasks.{IsWhole}
+use Rattle.node_words.proofs.OfContents.CellShapeLaws.{shape_with-none}
+use Rattle.node_words.proofs.OfContents.FullShapes.{shape_with-full}
+use Rattle.edit_walk.proofs.OfBlocks.AsideLaws.{came_none, came_gains, aside_keeps}
 use Rattle.edit_walk.proofs.walks.known.Goals as goal
 
 pub returns-in-Nothing-clause-ok : goal.returns-in-Nothing-clause-ok

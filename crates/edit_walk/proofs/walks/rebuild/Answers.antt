@@ -1,7 +1,7 @@
 use Rattle.std.proofs.Common.{arith}
 use Rattle.node_words.proofs.GatherLaws.{grows_held}
-use Rattle.edit_blocks.proofs.AsideLaws.{aside_numbers}
-use Rattle.edit_blocks.proofs.FreedLaws.{back_turns}
+use Rattle.edit_walk.proofs.OfBlocks.AsideLaws.{aside_numbers}
+use Rattle.edit_walk.proofs.OfBlocks.FreedLaws.{back_turns}
 use Rattle.edit_walk.proofs.WalkLaws.{came_number, aside_may, rebuilt_comes, rebuilt_fails}
 use Rattle.edit_walk.proofs.MemoLaws.{begins_held, recalls_after}
 use Rattle.edit_walk.proofs.walks.rebuild.Goals as goal

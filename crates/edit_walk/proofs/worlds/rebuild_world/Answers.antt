@@ -1,8 +1,8 @@
 use Rattle.std.proofs.Common.{◌-◌, sym, subst, ℕ}
 use Rattle.node_words.specs.Gathering.{Comes}
 use Rattle.node_words.proofs.HeldLaws.{keeps_itself}
-use Rattle.edit_cells.specs.Worlds.{world_cells, world_shape}
-use Rattle.edit_cells.proofs.WorldLaws.{comes_rebuilt}
+use Rattle.edit_walk.specs.cells.Worlds.{world_cells, world_shape}
+use Rattle.edit_walk.proofs.OfCells.WorldLaws.{comes_rebuilt}
 use Rattle.edit_walk.proofs.worlds.rebuild_world.Goals as goal
 
 pub returns-in-Ok-clause-ok : goal.returns-in-Ok-clause-ok

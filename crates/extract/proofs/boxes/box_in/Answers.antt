@@ -1,7 +1,7 @@
 use Rattle.std.proofs.Common.{arith, refl, ◌∙◌}
-use Rattle.node_shapes.specs.Tree.{shape_of}
-use Rattle.block_walk.specs.Roots.{cells_of}
-use Rattle.block_walk.proofs.LookLaws.{block_still}
+use Rattle.node_words.specs.shapes.Tree.{shape_of}
+use Rattle.node_words.specs.descent.Roots.{cells_of}
+use Rattle.node_words.proofs.OfDescent.LookLaws.{block_still}
 use Rattle.extract.specs.Listing.{box_layer}
 use Rattle.extract.proofs.ListingLaws.{none_joined, appends_run, room_run}
 use Rattle.extract.proofs.boxes.box_in.Goals as goal

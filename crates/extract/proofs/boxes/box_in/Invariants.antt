@@ -1,5 +1,5 @@
 use Rattle.std.proofs.Common.{◌≡◌, ◌-◌, ◌≤◌}
-use Rattle.block_walk.specs.Roots.{ForBlock, cells_of}
+use Rattle.node_words.specs.descent.Roots.{ForBlock, cells_of}
 use Rattle.extract.specs.Listing.{voxels_joined, box_layer}
 use Rattle.extract.specs.Layers.{AppendsVoxels}
 use Rattle.extract.proofs.boxes.box_in.Given as goal

@@ -1,4 +1,4 @@
-use Rattle.block_walk.proofs.PartLaws.{box_in_root}
+use Rattle.node_words.proofs.OfDescent.PartLaws.{box_in_root}
 use Rattle.extract.proofs.LeafLaws.{small_box, root_there, world_room}
 use Rattle.extract.proofs.boxes.cells_in.Goals as goal
 

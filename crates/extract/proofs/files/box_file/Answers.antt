@@ -1,8 +1,8 @@
 use Rattle.std.proofs.Common.{◌-◌, ◌∙◌, ◌++◌, List, ap}
 use Rattle.std.specs.Prelude.{option_copied}
 use Rattle.vox_read.specs.declared.voxels.Voxel.{Voxel}
-use Rattle.node_shapes.specs.Tree.{shape_of}
-use Rattle.block_walk.specs.Roots.{cells_of}
+use Rattle.node_words.specs.shapes.Tree.{shape_of}
+use Rattle.node_words.specs.descent.Roots.{cells_of}
 use Rattle.extract.specs.Listing.{voxels_of_box}
 use Rattle.extract.proofs.SavedLaws.{told_inside, told_few}
 use Rattle.extract.proofs.files.box_file.Goals as goal

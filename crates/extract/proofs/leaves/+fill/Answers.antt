@@ -1,6 +1,6 @@
 use Rattle.std.proofs.Common.{◌∙◌, arith, subst}
 use Rattle.vw_cell.specs.declared.blocks.Block.{Block}
-use Rattle.block_walk.proofs.LookLaws.{is_nothing, block_still}
+use Rattle.node_words.proofs.OfDescent.LookLaws.{is_nothing, block_still}
 use Rattle.measure.proofs.WideningLaws.{child_level, child_there, octant_lies}
 use Rattle.extract.specs.Filling.{Fills}
 use Rattle.extract.proofs.FillLaws.{LiesAmong, nothing_fills, leaf_fills, fills_more, fills_block, misses_fills, octant_fills, octant_corner, not_both}

@@ -1,5 +1,5 @@
 use Rattle.std.proofs.Common.{◌≡◌, ◌+◌, ◌*◌}
-use Rattle.block_walk.specs.Roots.{HasBlock}
+use Rattle.node_words.specs.descent.Roots.{HasBlock}
 use Rattle.measure.specs.Widening.{ForPlace}
 use Rattle.extract.specs.Layers.{leaf_corner}
 use Rattle.extract.specs.Filling.{Fills, IsInFirst}

@@ -1,9 +1,9 @@
 use Rattle.std.proofs.Common.{◌≡◌, [], ap, subst, ◌∙◌, arith, rules, All}
-use Rattle.node_shapes.specs.Weights.{number_of_trees}
+use Rattle.node_words.specs.shapes.Weights.{number_of_trees}
 use Rattle.node_words.specs.Enough.{HasEnough}
 use Rattle.node_words.specs.Held.{Wanted}
 use Rattle.node_words.specs.Plans.{Layout}
-use Rattle.store_notes.specs.Told.{Told}
+use Rattle.one_store.specs.notes.Told.{Told}
 use Rattle.one_store.specs.Known.{known_seen}
 use Rattle.flood.specs.Models.{flood_plan}
 use Rattle.flood.proofs.ModelLaws.{made_held, met_enough, no_trees, region_shown}

@@ -1,6 +1,6 @@
 use Rattle.std.proofs.Common.{Some, ◌∙◌, subst, Option}
-use Rattle.node_shapes.specs.declared.names.Name.{Name}
-use Rattle.node_shapes.specs.Tree.{child_of}
+use Rattle.node_words.specs.declared.shapes.names.Name.{Name}
+use Rattle.node_words.specs.shapes.Tree.{child_of}
 use Rattle.node_words.proofs.GatherLaws.{none_loses}
 use Rattle.node_table.proofs.OnlyShares.{only_held}
 use Rattle.intern.specs.Nodes.{IsKeptBelow}

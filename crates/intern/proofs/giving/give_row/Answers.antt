@@ -1,5 +1,5 @@
 use Rattle.std.proofs.Common.{◌≡◌, ◌<◌, ◌∙◌, Option, sym, subst, arith}
-use Rattle.node_shapes.specs.declared.names.Name.{Name}
+use Rattle.node_words.specs.declared.shapes.names.Name.{Name}
 use Rattle.node_words.specs.Held.{name_in}
 use Rattle.node_words.proofs.GatherLaws.{lose_more, may_next, fewer}
 use Rattle.node_table.proofs.OnlyShares.{only_on}

@@ -1,5 +1,5 @@
 use Rattle.std.proofs.Common.{◌≡◌, ℕ, ◌+◌, ◌≤◌, length}
-use Rattle.node_shapes.specs.Tree.{Tree}
+use Rattle.node_words.specs.shapes.Tree.{Tree}
 use Rattle.node_words.specs.Gathering.{LosesAll}
 use Rattle.node_words.specs.Held.{AreHeld}
 use Rattle.node_table.proofs.Taking.{Emptied}

@@ -1,12 +1,12 @@
 use Rattle.std.proofs.Common.{rules, ◌≡◌, ◌<◌, ◌∙◌, ℕ, List, length, refl, sym, ap, subst, arith}
 use Rattle.std.specs.Prelude.{slice_index}
-use Rattle.node_shapes.specs.declared.names.Name.{Name}
+use Rattle.node_words.specs.declared.shapes.names.Name.{Name}
 use Rattle.node_words.specs.declared.keys.Key.TheVariants.{Node}
 use Rattle.node_words.specs.Held.{AreHeld}
 use Rattle.node_words.specs.Keys.{bucket_of_key}
 use Rattle.node_words.specs.Plans.{buckets_at}
-use Rattle.node_places.specs.Names.{named}
-use Rattle.node_places.specs.Spots.{Spot}
+use Rattle.core_laws.specs.places.Names.{named}
+use Rattle.core_laws.specs.places.Spots.{Spot}
 use Rattle.node_table.specs.Views.{SeatView}
 use Rattle.node_table.specs.Changes.{HasKeyWords, PassesBelow}
 use Rattle.node_table.proofs.Answering.{answers_keep, learns_keep}

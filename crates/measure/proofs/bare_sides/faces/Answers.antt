@@ -1,5 +1,5 @@
-use Rattle.block_walk.proofs.BlockLaws.{root_block}
-use Rattle.block_walk.proofs.PartLaws.{box_in_root}
+use Rattle.node_words.proofs.OfDescent.BlockLaws.{root_block}
+use Rattle.node_words.proofs.OfDescent.PartLaws.{box_in_root}
 use Rattle.measure.proofs.FaceLaws.{faces_in_world}
 use Rattle.measure.proofs.bare_sides.faces.Goals as goal
 

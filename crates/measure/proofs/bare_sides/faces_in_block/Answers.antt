@@ -1,5 +1,5 @@
 use Rattle.std.proofs.Common.{◌∙◌}
-use Rattle.block_walk.proofs.LookLaws.{block_still}
+use Rattle.node_words.proofs.OfDescent.LookLaws.{block_still}
 use Rattle.measure.proofs.FaceLaws.{all_six}
 use Rattle.measure.proofs.bare_sides.faces_in_block.Goals as goal
 

@@ -1,5 +1,5 @@
 use Rattle.std.proofs.Common.{arith}
-use Rattle.block_walk.proofs.PartLaws.{box_in_root}
+use Rattle.node_words.proofs.OfDescent.PartLaws.{box_in_root}
 use Rattle.measure.proofs.SubjectLaws.{root_set, set_in_root}
 use Rattle.measure.proofs.counts.count.Goals as goal
 

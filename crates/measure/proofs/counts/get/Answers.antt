@@ -1,5 +1,5 @@
-use Rattle.block_walk.proofs.LookLaws.{in_root}
-use Rattle.block_walk.proofs.BlockLaws.{root_block}
+use Rattle.node_words.proofs.OfDescent.LookLaws.{in_root}
+use Rattle.node_words.proofs.OfDescent.BlockLaws.{root_block}
 use Rattle.measure.proofs.counts.get.Goals as goal
 
 pub is_set_in-requires-clause-block : goal.is_set_in-requires-clause-block

@@ -1,6 +1,6 @@
 use Rattle.std.proofs.Common.{sym, refl}
-use Rattle.block_walk.proofs.LookLaws.{is_nothing}
-use Rattle.block_walk.proofs.LandLaws.{lands_unset, leaf_cell_is, is_something}
+use Rattle.node_words.proofs.OfDescent.LookLaws.{is_nothing}
+use Rattle.node_words.proofs.OfDescent.LandLaws.{lands_unset, leaf_cell_is, is_something}
 use Rattle.measure.proofs.counts.is_set_in.Goals as goal
 
 pub returns-then-is_none-clause-value : goal.returns-then-is_none-clause-value

@@ -1,5 +1,5 @@
 use Rattle.std.proofs.Common.{arith, ◌∙◌}
-use Rattle.block_walk.proofs.LookLaws.{is_nothing, block_still}
+use Rattle.node_words.proofs.OfDescent.LookLaws.{is_nothing, block_still}
 use Rattle.measure.proofs.WideningLaws.{nothing_widens, leaf_widens, all_octants, octant_widens, octant_lies, child_level, child_there, others_more}
 use Rattle.measure.proofs.PruningLaws.{right_still, right_after}
 use Rattle.measure.proofs.extents.+widen.Goals as goal

@@ -1,6 +1,6 @@
 use Rattle.std.proofs.Common.{◌≡◌, ◌+◌, ◌*◌}
-use Rattle.block_walk.specs.Roots.{HasBlock}
-use Rattle.block_walk.specs.Answers.{AreRight}
+use Rattle.node_words.specs.descent.Roots.{HasBlock}
+use Rattle.node_words.specs.descent.Answers.{AreRight}
 use Rattle.measure.specs.Pruning.{tells_within}
 use Rattle.measure.specs.Widening.{EndsInside, Widens, IsSetIn, IsSetInSome, IsOther, ForPlace}
 use Rattle.measure.proofs.extents.+widen.Given as goal

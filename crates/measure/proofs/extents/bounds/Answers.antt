@@ -1,4 +1,4 @@
-use Rattle.block_walk.proofs.BlockLaws.{root_block}
+use Rattle.node_words.proofs.OfDescent.BlockLaws.{root_block}
 use Rattle.measure.proofs.WideningLaws.{world_extent}
 use Rattle.measure.proofs.extents.bounds.Goals as goal
 

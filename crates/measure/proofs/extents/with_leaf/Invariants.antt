@@ -1,6 +1,6 @@
 use Rattle.std.proofs.Common.{◌<◌, Bool}
 use Rattle.vw_cell.specs.declared.cells.Cell.{Cell}
-use Rattle.node_kernels.specs.Leaves.{LeafShows}
+use Rattle.node_words.specs.kernels.Leaves.{LeafShows}
 use Rattle.measure.specs.Widening.{EndsInside, Widens, IsSetIn, IsSetAt}
 use Rattle.measure.proofs.extents.with_leaf.Given as goal
 

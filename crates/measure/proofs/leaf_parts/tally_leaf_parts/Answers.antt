@@ -1,5 +1,5 @@
 use Rattle.std.proofs.Common.{◌+◌, ◌∙◌, arith, refl, sym}
-use Rattle.block_walk.specs.Sums.{sum_below-zero}
+use Rattle.node_words.specs.Sums.{sum_below-zero}
 use Rattle.measure.proofs.TallyLaws.{octant_more, tallied_all, tallied_fits}
 use Rattle.measure.proofs.leaf_parts.tally_leaf_parts.Goals as goal
 

@@ -1,6 +1,6 @@
 use Rattle.std.proofs.Common.{ap}
 use Rattle.vw_cell.specs.declared.boxes.Boxed.{Boxed}
-use Rattle.block_walk.specs.Parts.{half_at, half_size}
+use Rattle.node_words.specs.descent.Parts.{half_at, half_size}
 use Rattle.measure.proofs.WholeLaws.{boxes_same}
 use Rattle.measure.proofs.octant_parts.either_part.Goals as goal
 

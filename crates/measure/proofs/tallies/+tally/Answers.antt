@@ -1,7 +1,7 @@
 use Rattle.std.proofs.Common.{◌+◌, ◌-◌, arith, refl, rules, subst, sym, ◌∙◌}
 use Rattle.vw_cell.specs.Places.{block_side}
 use Rattle.node_words.specs.Held.{Seen}
-use Rattle.block_walk.specs.Sums.{sum_below-zero}
+use Rattle.node_words.specs.Sums.{sum_below-zero}
 use Rattle.measure.proofs.TallyLaws.{none_tallied, empty_tallied, empty_octant, octant_tallied, octant_counts, octant_ends, octant_part, octant_more, tallied_all, tallied_fits}
 use Rattle.measure.proofs.WholeLaws.{whole_right_before, part_of_whole, tally_before, right_before, leaf_tally}
 use Rattle.measure.proofs.tallies.+tally.Goals as goal

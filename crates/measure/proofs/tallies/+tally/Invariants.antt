@@ -1,6 +1,6 @@
 use Rattle.std.proofs.Common.{◌≡◌, ◌+◌, ◌*◌, Bool}
 use Rattle.vw_cell.specs.declared.cells.Cell.{Cell}
-use Rattle.block_walk.specs.Answers.{AreRight}
+use Rattle.node_words.specs.descent.Answers.{AreRight}
 use Rattle.measure.specs.Tallies.{IsTally, IsWholeTally}
 use Rattle.measure.proofs.TallyLaws.{tallied}
 use Rattle.measure.proofs.tallies.+tally.Given as goal

@@ -1,6 +1,6 @@
 use Rattle.std.proofs.Common.{◌+◌, arith, refl, sym, ◌∙◌}
-use Rattle.block_walk.specs.Sums.{sum_below-zero}
-use Rattle.block_walk.specs.Parts.{whole_of}
+use Rattle.node_words.specs.Sums.{sum_below-zero}
+use Rattle.node_words.specs.descent.Parts.{whole_of}
 use Rattle.measure.proofs.TallyLaws.{none_tallied, tallied_all, tallied_fits}
 use Rattle.measure.proofs.WholeLaws.{whole_ends, whole_step, whole_right_again, whole_leaf_tally}
 use Rattle.measure.proofs.wholes.+tally_whole.Goals as goal

@@ -1,7 +1,7 @@
 use Rattle.std.proofs.Common.{◌≡◌, ◌+◌, ◌*◌, Bool}
 use Rattle.vw_cell.specs.declared.cells.Cell.{Cell}
-use Rattle.block_walk.specs.Answers.{AreRight}
-use Rattle.block_walk.specs.Parts.{whole_of}
+use Rattle.node_words.specs.descent.Answers.{AreRight}
+use Rattle.node_words.specs.descent.Parts.{whole_of}
 use Rattle.measure.specs.Tallies.{IsWholeTally}
 use Rattle.measure.proofs.TallyLaws.{tallied}
 use Rattle.measure.proofs.wholes.+tally_whole.Given as goal

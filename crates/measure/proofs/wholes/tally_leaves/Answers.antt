@@ -1,6 +1,6 @@
 use Rattle.std.proofs.Common.{◌+◌, ◌∙◌, arith, refl, sym}
-use Rattle.block_walk.specs.Sums.{sum_below-zero}
-use Rattle.block_walk.specs.Parts.{whole_of}
+use Rattle.node_words.specs.Sums.{sum_below-zero}
+use Rattle.node_words.specs.descent.Parts.{whole_of}
 use Rattle.measure.proofs.TallyLaws.{tallied_all, tallied_fits}
 use Rattle.measure.proofs.WholeLaws.{leaves_step, whole_ends}
 use Rattle.measure.proofs.wholes.tally_leaves.Goals as goal

@@ -1,6 +1,6 @@
 use Rattle.std.proofs.Common.{◌≡◌, Bool}
 use Rattle.vw_cell.specs.declared.cells.Cell.{Cell}
-use Rattle.block_walk.specs.Parts.{whole_of}
+use Rattle.node_words.specs.descent.Parts.{whole_of}
 use Rattle.measure.proofs.TallyLaws.{tallied}
 use Rattle.measure.proofs.wholes.tally_leaves.Given as goal
 

@@ -1,5 +1,5 @@
 use Rattle.std.proofs.Common.{◌≡◌, ℕ, suc, ◌-◌, Some, subst, arith}
-use Rattle.node_places.specs.Spots.{Version}
+use Rattle.core_laws.specs.places.Spots.{Version}
 use Rattle.table_rule.specs.Views.{known_at}
 use Rattle.node_table.specs.LogTurns.{IsWordOf}
 use Rattle.node_table.specs.Seen.{PassSeen}

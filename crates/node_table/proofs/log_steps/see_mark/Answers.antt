@@ -1,6 +1,6 @@
 use Rattle.std.proofs.Common.{◌≡◌, Some, ℕ, ap, ◌∙◌, arith}
 use Rattle.node_words.specs.Plans.{Layout}
-use Rattle.node_places.specs.Spots.{Version, place}
+use Rattle.core_laws.specs.places.Spots.{Version, place}
 use Rattle.table_rule.specs.Views.{SeatView, known_at}
 use Rattle.std.specs.List.{Contains}
 use Rattle.table_rule.specs.LogWords.{mark_of_words}

@@ -1,6 +1,6 @@
 use Rattle.std.proofs.Common.{ℕ, ap, ◌∙◌, arith}
 use Rattle.node_words.specs.Plans.{Layout}
-use Rattle.node_places.specs.Spots.{Used, place}
+use Rattle.core_laws.specs.places.Spots.{Used, place}
 use Rattle.table_rule.specs.Views.{SeatView}
 use Rattle.table_rule.specs.Changes.{Counted}
 use Rattle.table_rule.proofs.UsedSlots.{counts_used}

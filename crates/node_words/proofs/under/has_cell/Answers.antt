@@ -1,7 +1,7 @@
 use Rattle.std.proofs.Common.{◌≢◌, Some, None, Bool, refl, sym, ◌∙◌, ap, subst, arith}
 use Rattle.std.specs.Prelude.{◌↔◌, IsTrue}
-use Rattle.node_shapes.specs.declared.names.Name.{Name}
-use Rattle.node_shapes.specs.Tree.{root_of, child_of}
+use Rattle.node_words.specs.declared.shapes.names.Name.{Name}
+use Rattle.node_words.specs.shapes.Tree.{root_of, child_of}
 use Rattle.node_words.specs.Held.{Seen, IsReached, AreTrees}
 use Rattle.node_words.proofs.WalkLaws.{IsOnWay, way_begins, way_goes_on, way_ends_clear, way_ends_in_leaf}
 use Rattle.node_words.proofs.under.has_cell.Goals as goal

@@ -1,7 +1,7 @@
 use Rattle.std.proofs.Common.{sym, subst}
 use Rattle.vw_cell.specs.Places.{block_side}
-use Rattle.block_walk.proofs.BlockLaws.{root_block}
-use Rattle.block_walk.proofs.LookLaws.{in_root}
+use Rattle.node_words.proofs.OfDescent.BlockLaws.{root_block}
+use Rattle.node_words.proofs.OfDescent.LookLaws.{in_root}
 use Rattle.ray_walk.specs.declared.courses.Course.{Course}
 use Rattle.ray_walk.specs.Courses.{IsCourseIn, BeginsBelow}
 use Rattle.ray_walk.proofs.RayLaws.{course_starts, course_begins, in_greatest, first_of}

@@ -1,7 +1,7 @@
 use Rattle.std.proofs.Common.{◌≡◌, ◌^◌, ◌-◌, ◌<◌}
 use Rattle.vw_cell.specs.Places.{block_side, IsInWorld}
-use Rattle.node_shapes.specs.Tree.{Tree, shape_of}
-use Rattle.block_walk.specs.Roots.{IsBlockOf, cells_of}
+use Rattle.node_words.specs.shapes.Tree.{Tree, shape_of}
+use Rattle.node_words.specs.descent.Roots.{IsBlockOf, cells_of}
 use Rattle.ray_walk.specs.Courses.{IsCourseIn, CourseClearBefore}
 use Rattle.ray_walk.proofs.walks.walk.Given as goal
 

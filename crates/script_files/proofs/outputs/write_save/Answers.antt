@@ -1,6 +1,6 @@
 use Rattle.std.proofs.Common.{ℕ, List, Ok, Err, subst, ◌∙◌}
 use Rattle.vw_io.specs.Write.{WriteTold}
-use Rattle.session_runs.specs.Kept.{KeptSave}
+use Rattle.conformance.specs.sessions.Kept.{KeptSave}
 use Rattle.world_run.specs.Open.{file_of_save}
 use Rattle.script_files.specs.Requests.{saved_output}
 use Rattle.script_files.proofs.Writing.{output_written, output_stops}

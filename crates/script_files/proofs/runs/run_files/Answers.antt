@@ -1,8 +1,8 @@
 use Rattle.std.proofs.Common.{rules, ◌≡◌, ℕ, Bool, List, ap, subst}
 use Rattle.vw_io.specs.Inputs.{AreTaken}
 use Rattle.node_words.specs.Plans.{Layout}
-use Rattle.session_runs.specs.Kept.{kept_of}
-use Rattle.session_runs.specs.Ran.{SessionsRanKeeping}
+use Rattle.conformance.specs.sessions.Kept.{kept_of}
+use Rattle.conformance.specs.sessions.Ran.{SessionsRanKeeping}
 use Rattle.world_run.specs.declared.runs.ScriptsRun.{ScriptsRun}
 use Rattle.script_files.specs.Orders.{Asked}
 use Rattle.script_files.specs.Requests.{inputs_of}

@@ -1,5 +1,5 @@
 use Rattle.std.proofs.Common.{◌∙◌, [], ◌∷◌, ap, arith, length, length-append, refl, rules, subst, sym}
-use Rattle.session_runs.specs.Seen.{SessionSeen}
+use Rattle.conformance.specs.sessions.Seen.{SessionSeen}
 use Rattle.session.specs.Saves.{HoldsSaves}
 use Rattle.session.specs.Seen.{session_seen}
 use Rattle.session.proofs.SaveLaws.{all_back, few_held, last_gone, last_may_go, passes_on}

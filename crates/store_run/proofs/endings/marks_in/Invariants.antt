@@ -1,5 +1,5 @@
 use Rattle.std.proofs.Common.{◌≡◌}
-use Rattle.block_contents.specs.MarkLists.{marks_below}
+use Rattle.core_laws.specs.contents.MarkLists.{marks_below}
 use Rattle.store_run.specs.Kept.{mark_in}
 use Rattle.store_run.proofs.endings.marks_in.Given as goal
 

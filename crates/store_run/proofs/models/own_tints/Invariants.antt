@@ -2,7 +2,7 @@ use Rattle.std.proofs.Common.{◌≡◌, ◌++◌}
 use Rattle.std.specs.Prelude.{All}
 use Rattle.std.specs.Vec.Iter.{into_iter_items, into_iter_len}
 use Rattle.vox_read.specs.Contents.{IsModel}
-use Rattle.tints.specs.Planes.{TintsPlaces}
+use Rattle.core_laws.specs.tints.Planes.{TintsPlaces}
 use Rattle.store_run.proofs.models.own_tints.Given as goal
 
 abbrev pub invariant-loop-model : goal.invariant-loop-model

@@ -1,7 +1,7 @@
 use Rattle.std.proofs.Common.{◌∙◌, ap, sym, Some, ◌-◌}
 use Rattle.std.specs.Prelude.{option_copied}
 use Rattle.node_words.specs.Gathering.{Grows, Fails}
-use Rattle.edit_cells.specs.Worlds.{Rebuilt, world_shape}
+use Rattle.edit_walk.specs.cells.Worlds.{Rebuilt, world_shape}
 use Rattle.act_rebuilds.proofs.StampActs.{for_act}
 use Rattle.store_run.proofs.models.stamp.Goals as goal
 

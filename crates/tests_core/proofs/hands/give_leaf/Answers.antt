@@ -1,5 +1,5 @@
 use Rattle.std.proofs.Common.{◌∙◌, Some, ap, sym, subst}
-use Rattle.node_shapes.specs.declared.names.Name.{Name}
+use Rattle.node_words.specs.declared.shapes.names.Name.{Name}
 use Rattle.node_words.specs.Held.{HoldsName}
 use Rattle.tests_core.proofs.HandLaws.{first_name, first_held, first_given}
 use Rattle.tests_core.proofs.hands.give_leaf.Goals as goal

@@ -1,5 +1,5 @@
 use Rattle.std.proofs.Common.{Option, List, sym, subst}
-use Rattle.node_shapes.specs.declared.names.Name.{Name}
+use Rattle.node_words.specs.declared.shapes.names.Name.{Name}
 use Rattle.node_words.specs.Held.{HoldsChildren, AreBelow, HasChild}
 use Rattle.tests_core.proofs.HandLaws.{row_held, row_below, row_child, joined_held}
 use Rattle.tests_core.proofs.hands.join_leaves.Goals as goal

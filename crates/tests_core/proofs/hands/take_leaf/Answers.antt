@@ -1,5 +1,5 @@
 use Rattle.std.proofs.Common.{Some, sym, subst}
-use Rattle.node_shapes.specs.declared.names.Name.{Name}
+use Rattle.node_words.specs.declared.shapes.names.Name.{Name}
 use Rattle.tests_core.specs.Hands.{HoldsLeaves}
 use Rattle.tests_core.proofs.HandLaws.{first_taken}
 use Rattle.tests_core.proofs.hands.take_leaf.Goals as goal

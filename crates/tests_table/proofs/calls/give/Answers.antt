@@ -1,5 +1,5 @@
 use Rattle.std.proofs.Common.{rules, ◌≡◌, sym, ap, subst}
-use Rattle.node_shapes.specs.declared.names.Name.{Name}
+use Rattle.node_words.specs.declared.shapes.names.Name.{Name}
 use Rattle.node_words.specs.Held.{IsHeld}
 use Rattle.node_table.specs.Spots.{Turn, IsSpot}
 use Rattle.table_rule.specs.Views.{SeatView}

@@ -1,5 +1,5 @@
 use Rattle.std.proofs.Common.{rules, ◌+◌, ◌-◌, ◌≤◌, sym, subst, arith}
-use Rattle.node_shapes.specs.Weights.{number_of_trees}
+use Rattle.node_words.specs.shapes.Weights.{number_of_trees}
 use Rattle.node_words.specs.Plans.{Layout}
 use Rattle.node_words.proofs.HeldLaws.{same_number}
 use Rattle.tests_table.proofs.Pairs.{came_number, still_came}

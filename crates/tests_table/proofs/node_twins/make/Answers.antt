@@ -1,5 +1,5 @@
 use Rattle.std.proofs.Common.{refl}
-use Rattle.node_shapes.specs.Tree.{LeafAt}
+use Rattle.node_words.specs.shapes.Tree.{LeafAt}
 use Rattle.node_words.proofs.HeldLaws.{gains_held, gains_holds}
 use Rattle.tests_table.proofs.Pairs.{leaf_came, nothing_came}
 use Rattle.tests_table.proofs.node_twins.make.Goals as goal

@@ -1,5 +1,5 @@
 use Rattle.std.proofs.Common.{refl}
-use Rattle.node_shapes.specs.Tree.{LeafAt}
+use Rattle.node_words.specs.shapes.Tree.{LeafAt}
 use Rattle.tests_table.proofs.Pairs.{holds_pair, leaf_went, pair_came}
 use Rattle.tests_table.proofs.node_twins.over_leaf.Goals as goal
 

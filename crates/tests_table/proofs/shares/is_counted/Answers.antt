@@ -1,5 +1,5 @@
 use Rattle.std.proofs.Common.{sym, subst, arith}
-use Rattle.node_shapes.specs.declared.names.Name.{Name}
+use Rattle.node_words.specs.declared.shapes.names.Name.{Name}
 use Rattle.node_words.specs.Held.{HoldsName}
 use Rattle.node_words.proofs.HeldLaws.{same_on}
 use Rattle.tests_table.proofs.Giving.{came_held, came_number, kept_and_given, still_held, still_few}

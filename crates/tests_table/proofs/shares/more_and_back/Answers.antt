@@ -1,5 +1,5 @@
 use Rattle.std.proofs.Common.{◌∙◌, Some, sym, ap, subst, arith}
-use Rattle.node_shapes.specs.declared.names.Name.{Name}
+use Rattle.node_words.specs.declared.shapes.names.Name.{Name}
 use Rattle.node_words.specs.Held.{HoldsName}
 use Rattle.node_words.proofs.HeldLaws.{came_and_went, gains_held, gains_holds}
 use Rattle.tests_table.proofs.shares.more_and_back.Goals as goal

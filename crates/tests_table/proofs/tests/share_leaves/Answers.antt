@@ -1,7 +1,7 @@
 use Rattle.std.proofs.Common.{◌≡◌, ◌≤◌, List, [], ap, arith}
-use Rattle.node_shapes.specs.Tree.{Tree}
-use Rattle.node_shapes.specs.Weights.{number_of_trees}
-use Rattle.node_shapes.proofs.WeightLaws.{weigh-nil}
+use Rattle.node_words.specs.shapes.Tree.{Tree}
+use Rattle.node_words.specs.shapes.Weights.{number_of_trees}
+use Rattle.node_words.proofs.OfShapes.WeightLaws.{weigh-nil}
 use Rattle.tests_table.proofs.tests.share_leaves.Goals as goal
 
 few : (held : List Tree) → held ≡ [] → number_of_trees held ≤ 3000

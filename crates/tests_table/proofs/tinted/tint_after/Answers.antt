@@ -1,7 +1,7 @@
 use Rattle.std.proofs.Common.{◌^◌, ℕ, refl, subst, arith}
 use Rattle.vw_cell.specs.Places.{IsInWorld}
 use Rattle.colour.proofs.Quarters.{quarter_is}
-use Rattle.edit_cells.proofs.WorldLaws.{root_shown}
+use Rattle.edit_walk.proofs.OfCells.WorldLaws.{root_shown}
 use Rattle.tests_table.proofs.Making.{made_root, made_may, made_number, made_and_given, same_kept}
 use Rattle.tests_table.proofs.tinted.tint_after.Goals as goal
 

@@ -1,6 +1,6 @@
 use Rattle.std.proofs.Common.{◌∙◌, None, refl, sym, ap, arith}
 use Rattle.node_words.specs.Plans.{Layout}
-use Rattle.edit_cells.proofs.WorldLaws.{root_shown}
+use Rattle.edit_walk.proofs.OfCells.WorldLaws.{root_shown}
 use Rattle.tests_table.proofs.Making.{made_root, made_number, may_later, given_later, number_later, same_kept}
 use Rattle.tests_table.proofs.tinted.tint_after_both.Goals as goal
 

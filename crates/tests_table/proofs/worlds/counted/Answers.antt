@@ -1,5 +1,5 @@
 use Rattle.std.proofs.Common.{None, arith}
-use Rattle.edit_cells.proofs.WorldLaws.{root_shown}
+use Rattle.edit_walk.proofs.OfCells.WorldLaws.{root_shown}
 use Rattle.tests_table.proofs.Making.{made_root, made_may, made_number, made_and_given, same_kept}
 use Rattle.tests_table.proofs.worlds.counted.Goals as goal
 

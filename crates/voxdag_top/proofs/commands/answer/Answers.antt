@@ -1,4 +1,4 @@
-use Rattle.command_line.specs.Texts.{texts}
+use Rattle.requests.specs.command_line.Texts.{texts}
 use Rattle.voxdag_top.specs.Words.{request_of}
 use Rattle.voxdag_top.proofs.Lacking.{lacks}
 use Rattle.voxdag_top.proofs.commands.answer.Goals as goal

@@ -1,7 +1,7 @@
 use Rattle.std.proofs.Common.{arith, ap, ◌∙◌, ◌+◌, ◌*◌, ◌^◌, ◌/◌, ◌≡◌, ℕ}
 use Rattle.std.specs.Prelude.{◌==◌}
 use Rattle.std.specs.Prelude.{bit_and}
-use Rattle.node_shapes.proofs.ShowLaws.{leaf_has}
+use Rattle.node_words.proofs.OfShapes.ShowLaws.{leaf_has}
 use Rattle.world_core.proofs.Cells.{bit_past}
 use Rattle.world_core.proofs.reads.is_bit_set.Goals as goal
 

@@ -1,7 +1,7 @@
 use Rattle.std.proofs.Common.{◌∙◌, ap, arith}
 use Rattle.std.proofs.lemmas.List.{take_all}
-use Rattle.session_runs.proofs.Looping.{asked_next}
-use Rattle.session_runs.specs.Saves.{saves_asked_in}
+use Rattle.conformance.proofs.OfSessions.Looping.{asked_next}
+use Rattle.conformance.specs.sessions.Saves.{saves_asked_in}
 use Rattle.world_run.proofs.accepted.number_of_saves.Goals as goal
 
 pub loop-line-preserved : goal.loop-line-preserved

@@ -1,5 +1,5 @@
 use Rattle.std.proofs.Common.{◌≡◌, ◌≤◌, take}
-use Rattle.session_runs.specs.Saves.{saves_asked_in}
+use Rattle.conformance.specs.sessions.Saves.{saves_asked_in}
 use Rattle.world_run.proofs.accepted.number_of_saves.Given as goal
 
 abbrev pub invariant-loop-line : goal.invariant-loop-line

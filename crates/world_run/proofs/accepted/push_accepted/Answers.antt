@@ -1,6 +1,6 @@
 use Rattle.std.proofs.Common.{◌∙◌, arith, refl}
-use Rattle.session_runs.proofs.Saving.{all_lines_saved, no_line_saved}
-use Rattle.session_runs.proofs.Looping.{asked_next, asked_within}
+use Rattle.conformance.proofs.OfScripts.Saving.{all_lines_saved, no_line_saved}
+use Rattle.conformance.proofs.OfSessions.Looping.{asked_next, asked_within}
 use Rattle.world_run.proofs.Accepting.{all_answers, next_saved}
 use Rattle.world_run.proofs.accepted.push_accepted.Goals as goal
 

@@ -1,6 +1,6 @@
 use Rattle.std.proofs.Common.{◌≡◌, ◌+◌, ◌≤◌, take, vec_capacity, vec_len}
-use Rattle.session_runs.proofs.Saving.{SavedByLines}
-use Rattle.session_runs.specs.Saves.{saves_asked_in}
+use Rattle.conformance.proofs.OfScripts.Saving.{SavedByLines}
+use Rattle.conformance.specs.sessions.Saves.{saves_asked_in}
 use Rattle.world_run.proofs.accepted.push_accepted.Given as goal
 
 abbrev pub invariant-loop-k : goal.invariant-loop-k

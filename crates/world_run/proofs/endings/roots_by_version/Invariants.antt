@@ -1,5 +1,5 @@
 use Rattle.std.proofs.Common.{◌≡◌, ◌≤◌, ℕ, drop, length}
-use Rattle.reporting.specs.Roots.{listed_root}
+use Rattle.report.specs.Roots.{listed_root}
 use Rattle.world_run.specs.Told.{told_root}
 use Rattle.world_run.proofs.endings.roots_by_version.Given as goal
 

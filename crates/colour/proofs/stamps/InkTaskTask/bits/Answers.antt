@@ -1,4 +1,4 @@
-use Rattle.edit_cells.proofs.PaintLaws.{old_block, old_has}
+use Rattle.edit_walk.proofs.OfCells.PaintLaws.{old_block, old_has}
 use Rattle.colour.proofs.StampBlocks.{ink_bits, new_bits}
 use Rattle.colour.proofs.stamps.InkTaskTask.bits.Goals as goal
 

@@ -1,5 +1,5 @@
 use Rattle.std.proofs.Common.{refl}
-use Rattle.edit_cells.proofs.WorldLaws.{blocks_some}
+use Rattle.edit_walk.proofs.OfCells.WorldLaws.{blocks_some}
 use Rattle.colour.proofs.StampBlocks.{none_inked, all_told}
 use Rattle.colour.proofs.stamps.InkTaskTask.whole.Goals as goal
 

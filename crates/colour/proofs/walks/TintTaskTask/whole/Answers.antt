@@ -1,4 +1,4 @@
-use Rattle.edit_cells.proofs.WorldLaws.{blocks_some}
+use Rattle.edit_walk.proofs.OfCells.WorldLaws.{blocks_some}
 use Rattle.colour.proofs.WalkLaws.{makes_as, kept_whole}
 use Rattle.colour.proofs.walks.TintTaskTask.whole.Goals as goal
 

@@ -1,6 +1,6 @@
 use Rattle.std.proofs.Common.{subst, sym}
 use Rattle.node_words.specs.Held.{Seen}
-use Rattle.edit_cells.proofs.PaintLaws.{old_block, old_has}
+use Rattle.edit_walk.proofs.OfCells.PaintLaws.{old_block, old_has}
 use Rattle.edit_copy.specs.Copies.{AreBlocks}
 use Rattle.edit_copy.proofs.CopyBits.{copy_bits}
 use Rattle.edit_copy.proofs.copies.CopyTaskTask.bits.Goals as goal

@@ -3,9 +3,9 @@ use Rattle.vw_cell.specs.declared.cells.Cell.{Cell}
 use Rattle.vw_cell.specs.declared.boxes.Boxed.{Boxed}
 use Rattle.vw_cell.specs.Places.{block_side}
 use Rattle.node_words.specs.Held.{Seen, name_in}
-use Rattle.block_walk.specs.Parts.{part_in}
-use Rattle.cell_shapes.specs.CellShapes.{octant_cells}
-use Rattle.edit_cells.proofs.PaintLaws.{old_block, old_has}
+use Rattle.node_words.specs.descent.Parts.{part_in}
+use Rattle.node_words.specs.contents.CellShapes.{octant_cells}
+use Rattle.edit_walk.proofs.OfCells.PaintLaws.{old_block, old_has}
 use Rattle.edit_copy.specs.Copies.{MakesCopy, AreBlocks, IsSource, IsOffset, IsBegin, rest_of}
 use Rattle.edit_copy.proofs.CopyLaws.{makes_octant, kept_part}
 use Rattle.edit_copy.proofs.WindowLaws.{step_begins}

@@ -1,8 +1,8 @@
 use Rattle.std.proofs.Common.{refl, sym, subst}
 use Rattle.std.proofs.lemmas.Bool.{false≢true}
-use Rattle.edit_cells.specs.declared.tasks.Whole.{Whole}
-use Rattle.edit_cells.specs.Tasks.{IsWhole}
-use Rattle.edit_cells.proofs.WorldLaws.{blocks_some}
+use Rattle.edit_walk.specs.declared.cells.tasks.Whole.{Whole}
+use Rattle.edit_walk.specs.cells.Tasks.{IsWhole}
+use Rattle.edit_walk.proofs.OfCells.WorldLaws.{blocks_some}
 use Rattle.edit_copy.proofs.CopyLaws.{copy_missed, copy_shared, copy_none}
 use Rattle.edit_copy.proofs.copies.CopyTaskTask.whole.Goals as goal
 

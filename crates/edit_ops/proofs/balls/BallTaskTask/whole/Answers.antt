@@ -1,8 +1,8 @@
 use Rattle.std.proofs.Common.{◌∙◌, refl, sym, subst}
-use Rattle.edit_cells.specs.declared.tasks.Whole.{Whole}
-use Rattle.edit_cells.specs.Tasks.{IsWhole}
-use Rattle.edit_cells.proofs.PaintLaws.{paints_missed, paints_held, paints_nothing, old_not_mixed, filled_not_mixed}
-use Rattle.edit_cells.proofs.WorldLaws.{blocks_some, in_side}
+use Rattle.edit_walk.specs.declared.cells.tasks.Whole.{Whole}
+use Rattle.edit_walk.specs.cells.Tasks.{IsWhole}
+use Rattle.edit_walk.proofs.OfCells.PaintLaws.{paints_missed, paints_held, paints_nothing, old_not_mixed, filled_not_mixed}
+use Rattle.edit_walk.proofs.OfCells.WorldLaws.{blocks_some, in_side}
 use Rattle.edit_ops.proofs.balls.BallTaskTask.whole.Goals as goal
 
 pub side_of-side-requires : goal.side_of-side-requires

@@ -1,5 +1,5 @@
-use Rattle.edit_cells.proofs.PaintLaws.{paints_bits, old_block, old_has}
-use Rattle.edit_cells.proofs.WorldLaws.{leaf_places}
+use Rattle.edit_walk.proofs.OfCells.PaintLaws.{paints_bits, old_block, old_has}
+use Rattle.edit_walk.proofs.OfCells.WorldLaws.{leaf_places}
 use Rattle.edit_ops.proofs.boxes.BoxTaskTask.bits.Goals as goal
 
 pub leaf_bits-old-requires : goal.leaf_bits-old-requires

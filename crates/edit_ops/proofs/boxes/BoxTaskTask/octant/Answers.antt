@@ -1,8 +1,8 @@
 use Rattle.std.proofs.Common.{◌-◌, subst, sym, ap, ◌∙◌}
 use Rattle.vw_cell.specs.declared.boxes.Boxed.{Boxed}
-use Rattle.block_walk.specs.Parts.{part_in}
-use Rattle.cell_shapes.specs.CellShapes.{octant_cells}
-use Rattle.edit_cells.proofs.PaintLaws.{old_block, old_has}
+use Rattle.node_words.specs.descent.Parts.{part_in}
+use Rattle.node_words.specs.contents.CellShapes.{octant_cells}
+use Rattle.edit_walk.proofs.OfCells.PaintLaws.{old_block, old_has}
 use Rattle.edit_ops.specs.Boxes.{MakesBox}
 use Rattle.edit_ops.proofs.BoxLaws.{makes_octant, clip_parts}
 use Rattle.edit_ops.proofs.boxes.BoxTaskTask.octant.Goals as goal

@@ -1,5 +1,5 @@
-use Rattle.edit_cells.proofs.PaintLaws.{paints_bits, old_block, old_has}
-use Rattle.edit_cells.proofs.WorldLaws.{leaf_from}
+use Rattle.edit_walk.proofs.OfCells.PaintLaws.{paints_bits, old_block, old_has}
+use Rattle.edit_walk.proofs.OfCells.WorldLaws.{leaf_from}
 use Rattle.edit_ops.proofs.clips.ClipTaskTask.bits.Goals as goal
 
 pub leaf_bits-old-requires : goal.leaf_bits-old-requires

@@ -1,7 +1,7 @@
 use Rattle.std.proofs.Common.{◌-◌, subst, sym}
 use Rattle.vw_cell.specs.declared.blocks.Block.{Block}
-use Rattle.cell_shapes.specs.CellShapes.{octant_cells}
-use Rattle.edit_cells.proofs.PaintLaws.{old_block, old_has}
+use Rattle.node_words.specs.contents.CellShapes.{octant_cells}
+use Rattle.edit_walk.proofs.OfCells.PaintLaws.{old_block, old_has}
 use Rattle.edit_ops.specs.Clips.{MakesClip}
 use Rattle.edit_ops.proofs.ClipLaws.{clip_octant}
 use Rattle.edit_ops.proofs.clips.ClipTaskTask.octant.Goals as goal

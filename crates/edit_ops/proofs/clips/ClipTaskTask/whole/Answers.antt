@@ -1,9 +1,9 @@
 use Rattle.std.proofs.Common.{◌∙◌, refl, sym, subst}
 use Rattle.std.proofs.lemmas.Bool.{false≢true}
-use Rattle.edit_cells.specs.declared.tasks.Whole.{Whole}
-use Rattle.edit_cells.specs.Tasks.{IsWhole}
-use Rattle.edit_cells.proofs.PaintLaws.{paints_missed, paints_held, paints_nothing, old_not_mixed, filled_not_mixed}
-use Rattle.edit_cells.proofs.WorldLaws.{blocks_some, in_side}
+use Rattle.edit_walk.specs.declared.cells.tasks.Whole.{Whole}
+use Rattle.edit_walk.specs.cells.Tasks.{IsWhole}
+use Rattle.edit_walk.proofs.OfCells.PaintLaws.{paints_missed, paints_held, paints_nothing, old_not_mixed, filled_not_mixed}
+use Rattle.edit_walk.proofs.OfCells.WorldLaws.{blocks_some, in_side}
 use Rattle.edit_ops.proofs.ClipLaws.{clip_missed, clip_outside, clip_held}
 use Rattle.edit_ops.proofs.clips.ClipTaskTask.whole.Goals as goal
 

@@ -2,10 +2,10 @@ use Rattle.std.proofs.Common.{refl, sym, subst, ◌∙◌}
 use Rattle.std.proofs.lemmas.Bool.{false≢true}
 use Rattle.vw_cell.specs.declared.cells.Cell.{Cell}
 use Rattle.vw_cell.specs.Places.{Meets, HoldsBlock}
-use Rattle.edit_cells.specs.declared.tasks.Whole.{Whole}
-use Rattle.edit_cells.specs.Tasks.{IsWhole}
-use Rattle.edit_cells.proofs.PaintLaws.{paints_missed, paints_held, paints_nothing, filled_not_mixed}
-use Rattle.edit_cells.proofs.WorldLaws.{blocks_some}
+use Rattle.edit_walk.specs.declared.cells.tasks.Whole.{Whole}
+use Rattle.edit_walk.specs.cells.Tasks.{IsWhole}
+use Rattle.edit_walk.proofs.OfCells.PaintLaws.{paints_missed, paints_held, paints_nothing, filled_not_mixed}
+use Rattle.edit_walk.proofs.OfCells.WorldLaws.{blocks_some}
 use Rattle.edit_stamp.proofs.StampLaws.{stamp_missed, stamp_empty, stamp_full}
 use Rattle.edit_stamp.proofs.stamps.StampTaskTask.whole.Goals as goal
 

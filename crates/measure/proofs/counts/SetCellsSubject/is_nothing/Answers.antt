@@ -1,6 +1,6 @@
 use Rattle.std.proofs.Common.{◌∙◌, ap}
 use Rattle.std.specs.Prelude.{not}
-use Rattle.block_walk.proofs.LookLaws.{is_nothing}
+use Rattle.node_words.proofs.OfDescent.LookLaws.{is_nothing}
 use Rattle.measure.proofs.SubjectLaws.{nothing_set}
 use Rattle.measure.proofs.counts.SetCellsSubject.is_nothing.Goals as goal
 

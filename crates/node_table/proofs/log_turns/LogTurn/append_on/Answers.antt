@@ -1,5 +1,5 @@
 use Rattle.std.proofs.Common.{Option, subst}
-use Rattle.node_shapes.specs.declared.names.Name.{Name}
+use Rattle.node_words.specs.declared.shapes.names.Name.{Name}
 use Rattle.node_table.specs.LogTurns.{AppendsInTurn, ForAppended}
 use Rattle.node_table.proofs.log_turns.LogTurn.append_on.Goals as goal
 

@@ -1,8 +1,8 @@
 use Rattle.std.proofs.Common.{sym, subst, ap, arith, rules, ◌≤◌, ◌+◌, ◌-◌, ◌≡◌, ◌∙◌, ℕ, Option}
-use Rattle.node_shapes.specs.declared.names.Name.{Name}
+use Rattle.node_words.specs.declared.shapes.names.Name.{Name}
 use Rattle.node_words.specs.Held.{HoldsName, AreBelow, name_in}
 use Rattle.core_laws.specs.States.{tree_at}
-use Rattle.entry_words.specs.Words.{book_in, key_in}
+use Rattle.one_store.specs.entries.Words.{book_in, key_in}
 use Rattle.one_store.specs.Known.{Known, IsStore}
 use Rattle.one_store.specs.Steps.{Releases, HoldsChild}
 use Rattle.one_store.proofs.StoreLaws.{held_name}

@@ -1,6 +1,6 @@
 use Rattle.std.proofs.Common.{◌*◌, ◌-◌}
 use Rattle.node_words.specs.declared.keys.Key.TheVariants.{Node}
-use Rattle.entry_words.specs.Words.{key_in}
+use Rattle.one_store.specs.entries.Words.{key_in}
 use Rattle.one_store.specs.Known.{trees_below}
 use Rattle.one_store.specs.Steps.{ReleasesRow}
 use Rattle.one_store.proofs.store.OneStore.+back.Given as goal

@@ -1,9 +1,9 @@
 use Rattle.std.proofs.Common.{sym, subst, refl, ◌-◌}
-use Rattle.node_places.specs.Names.{named}
+use Rattle.core_laws.specs.places.Names.{named}
 use Rattle.core_laws.specs.Events.{IsMissing}
-use Rattle.entry_words.specs.Words.{key_in}
-use Rattle.store_notes.specs.Changes.{HoldsRow}
-use Rattle.store_notes.proofs.Picks.{entered-notes, full-notes}
+use Rattle.one_store.specs.entries.Words.{key_in}
+use Rattle.one_store.specs.notes.Changes.{HoldsRow}
+use Rattle.one_store.proofs.OfNotes.Picks.{entered-notes, full-notes}
 use Rattle.one_store.specs.Known.{Known, core_of, trees_below}
 use Rattle.one_store.specs.Steps.{IsSoughtKey, sought_key}
 use Rattle.one_store.proofs.AddLaws.{add_store, full_store, row_count}

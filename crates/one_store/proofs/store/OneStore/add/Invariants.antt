@@ -1,6 +1,6 @@
 use Rattle.std.proofs.Common.{◌-◌}
-use Rattle.entry_words.specs.Words.{key_in}
-use Rattle.store_notes.proofs.Picks.{entered, full}
+use Rattle.one_store.specs.entries.Words.{key_in}
+use Rattle.one_store.proofs.OfNotes.Picks.{entered, full}
 use Rattle.one_store.specs.Known.{trees_below}
 use Rattle.one_store.specs.Steps.{tree_over, shape_over, sought_key}
 use Rattle.one_store.proofs.store.OneStore.add.Given as goal

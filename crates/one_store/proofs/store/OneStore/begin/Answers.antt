@@ -1,7 +1,7 @@
 use Rattle.std.proofs.Common.{sym, subst, ap, ◌∙◌, ℕ, None, Option, List, length}
 use Rattle.std.proofs.lemmas.List.{length-replicate}
-use Rattle.node_shapes.specs.declared.names.Name.{Name}
-use Rattle.store_notes.specs.Told.{Told}
+use Rattle.node_words.specs.declared.shapes.names.Name.{Name}
+use Rattle.one_store.specs.notes.Told.{Told}
 use Rattle.one_store.specs.Known.{IsStore, stored_root}
 use Rattle.one_store.proofs.AddLaws.{begun_store, no_roots}
 use Rattle.one_store.proofs.store.OneStore.begin.Goals as goal

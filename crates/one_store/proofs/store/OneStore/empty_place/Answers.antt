@@ -1,8 +1,8 @@
 use Rattle.std.proofs.Common.{sym, subst, set, ◌≡◌, ◌≤◌, arith, None, Some}
-use Rattle.node_shapes.specs.Weights.{number_of_trees}
-use Rattle.block_contents.specs.Aligned.{top}
+use Rattle.node_words.specs.shapes.Weights.{number_of_trees}
+use Rattle.core_laws.specs.contents.Aligned.{top}
 use Rattle.core_laws.specs.Events.{TakesRoot}
-use Rattle.store_notes.proofs.Picks.{gained-notes}
+use Rattle.one_store.proofs.OfNotes.Picks.{gained-notes}
 use Rattle.one_store.specs.Known.{Known, core_of, stored_root}
 use Rattle.one_store.specs.Steps.{GivesRoot}
 use Rattle.one_store.proofs.RootLaws.{take_event, take_store, gives_root, with_roots}

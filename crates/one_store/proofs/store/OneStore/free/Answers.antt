@@ -1,9 +1,9 @@
 use Rattle.std.proofs.Common.{sym, subst, refl, arith, ◌≤◌, ◌≡◌}
-use Rattle.node_shapes.specs.Weights.{number_of_trees}
+use Rattle.node_words.specs.shapes.Weights.{number_of_trees}
 use Rattle.node_words.specs.Held.{HoldsName}
 use Rattle.core_laws.specs.Counting.{children_weight}
-use Rattle.entry_words.specs.Words.{book_in, key_in}
-use Rattle.store_notes.proofs.Picks.{freed-notes}
+use Rattle.one_store.specs.entries.Words.{book_in, key_in}
+use Rattle.one_store.proofs.OfNotes.Picks.{freed-notes}
 use Rattle.one_store.specs.Known.{Known}
 use Rattle.one_store.proofs.StateLaws.{key_few}
 use Rattle.one_store.proofs.StoreLaws.{free_store, held_name, held_tree}

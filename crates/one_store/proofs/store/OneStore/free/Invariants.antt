@@ -1,7 +1,7 @@
 use Rattle.std.proofs.Common.{◌-◌, Some}
 use Rattle.core_laws.specs.States.{tree_at}
-use Rattle.entry_words.specs.Words.{key_in}
-use Rattle.store_notes.proofs.Picks.{freed}
+use Rattle.one_store.specs.entries.Words.{key_in}
+use Rattle.one_store.proofs.OfNotes.Picks.{freed}
 use Rattle.one_store.specs.Known.{trees_below}
 use Rattle.one_store.proofs.store.OneStore.free.Given as goal
 

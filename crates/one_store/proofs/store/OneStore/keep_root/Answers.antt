@@ -1,5 +1,5 @@
 use Rattle.std.proofs.Common.{sym, subst, Option}
-use Rattle.node_shapes.specs.declared.names.Name.{Name}
+use Rattle.node_words.specs.declared.shapes.names.Name.{Name}
 use Rattle.core_laws.specs.Events.{PutsRoot}
 use Rattle.one_store.specs.Known.{core_of}
 use Rattle.one_store.specs.Steps.{KeepsRoot}

@@ -1,5 +1,5 @@
 use Rattle.std.proofs.Common.{◌≡◌, ◌≤◌, ◌*◌}
-use Rattle.sums.specs.Sums.{sum_below}
+use Rattle.vw_cell.specs.Sums.{sum_below}
 use Rattle.core_laws.specs.Blocks.{live_in}
 use Rattle.one_store.specs.Known.{core_of}
 use Rattle.one_store.proofs.store.OneStore.live.Given as goal

@@ -1,9 +1,9 @@
 use Rattle.std.proofs.Common.{ap, subst, ◌∙◌, ◌≡◌, ◌≤◌, arith, ℕ}
-use Rattle.sums.specs.Sums.{sum_below}
-use Rattle.node_places.specs.Names.{named}
+use Rattle.vw_cell.specs.Sums.{sum_below}
+use Rattle.core_laws.specs.places.Names.{named}
 use Rattle.core_laws.specs.Counting.{if_live}
-use Rattle.entry_words.specs.Words.{book_in}
-use Rattle.entry_words.specs.Used.{IsUnusedFrom}
+use Rattle.one_store.specs.entries.Words.{book_in}
+use Rattle.one_store.specs.entries.Used.{IsUnusedFrom}
 use Rattle.one_store.specs.Known.{Known}
 use Rattle.one_store.proofs.CountLaws.{counted_none, counted_next, counted_all}
 use Rattle.one_store.proofs.store.OneStore.live_in.Goals as goal

@@ -1,8 +1,8 @@
 use Rattle.std.proofs.Common.{◌≡◌, ◌≤◌}
-use Rattle.sums.specs.Sums.{sum_below}
-use Rattle.node_places.specs.Names.{named}
+use Rattle.vw_cell.specs.Sums.{sum_below}
+use Rattle.core_laws.specs.places.Names.{named}
 use Rattle.core_laws.specs.Counting.{if_live}
-use Rattle.entry_words.specs.Words.{book_in}
+use Rattle.one_store.specs.entries.Words.{book_in}
 use Rattle.one_store.proofs.store.OneStore.live_in.Given as goal
 
 abbrev pub invariant-loop-slot : goal.invariant-loop-slot

@@ -1,8 +1,8 @@
 use Rattle.std.proofs.Common.{sym, subst, refl, ◌≤◌, ◌-◌, ℕ}
 use Rattle.node_words.specs.Held.{HoldsName}
-use Rattle.entry_words.specs.Words.{book_in}
-use Rattle.entry_words.specs.Changes.{SetsBook}
-use Rattle.store_notes.proofs.Picks.{lost-notes}
+use Rattle.one_store.specs.entries.Words.{book_in}
+use Rattle.one_store.specs.entries.Changes.{SetsBook}
+use Rattle.one_store.proofs.OfNotes.Picks.{lost-notes}
 use Rattle.one_store.specs.Known.{Known}
 use Rattle.one_store.proofs.StoreLaws.{lower_store, held_name, held_tree}
 use Rattle.one_store.proofs.store.OneStore.lower.Goals as goal

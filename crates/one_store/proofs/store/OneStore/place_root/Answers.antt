@@ -1,8 +1,8 @@
 use Rattle.std.proofs.Common.{sym, subst, set, ◌≡◌, None, Some}
 use Rattle.node_words.specs.Held.{HoldsName}
-use Rattle.block_contents.specs.Aligned.{top}
+use Rattle.core_laws.specs.contents.Aligned.{top}
 use Rattle.core_laws.specs.Events.{PutsRoot}
-use Rattle.store_notes.proofs.Picks.{lost-notes}
+use Rattle.one_store.proofs.OfNotes.Picks.{lost-notes}
 use Rattle.one_store.specs.Known.{Known, core_of, stored_root}
 use Rattle.one_store.specs.Steps.{KeepsRoot}
 use Rattle.one_store.proofs.StoreLaws.{held_tree}

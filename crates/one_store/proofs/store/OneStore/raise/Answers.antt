@@ -1,7 +1,7 @@
 use Rattle.std.proofs.Common.{sym, subst, ap, arith, ◌≤◌, ◌+◌, ℕ}
-use Rattle.node_shapes.specs.Weights.{number_of_trees}
+use Rattle.node_words.specs.shapes.Weights.{number_of_trees}
 use Rattle.core_laws.specs.States.{IsLive}
-use Rattle.store_notes.proofs.Picks.{gained-notes}
+use Rattle.one_store.proofs.OfNotes.Picks.{gained-notes}
 use Rattle.one_store.specs.Known.{Known, core_of}
 use Rattle.one_store.proofs.StoreLaws.{raise_store, book_low}
 use Rattle.one_store.proofs.store.OneStore.raise.Goals as goal
@@ -24,7 +24,7 @@ invariant_of-self c =
     raise_store _ _ c.args.n _ c.self.invariant live
     (record {
       words = subst
-          (λ (b : ℕ). Rattle.entry_words.specs.Changes.SetsBook c.self.inside.words c.args.n
+          (λ (b : ℕ). Rattle.one_store.specs.entries.Changes.SetsBook c.self.inside.words c.args.n
           (b + 1) c.set_book.new.self) c.book-book.ensures c.set_book.ensures;
       roots = Rattle.std.proofs.Common.refl;
       told = c.tell_gain.ensures;

@@ -1,5 +1,5 @@
 use Rattle.std.proofs.Common.{◌≡◌, ◌∙◌, sym, subst, ap, arith, Some, None}
-use Rattle.entry_words.proofs.ReadLaws.{default_any}
+use Rattle.one_store.proofs.OfEntries.ReadLaws.{default_any}
 use Rattle.one_store.specs.Known.{Known, stored_root}
 use Rattle.one_store.proofs.RootLaws.{root_live}
 use Rattle.one_store.proofs.SpareLaws.{gains_root, gains_none}

@@ -1,5 +1,5 @@
 use Rattle.std.proofs.Common.{sym, subst}
-use Rattle.node_places.specs.Names.{HasNames}
+use Rattle.core_laws.specs.places.Names.{HasNames}
 use Rattle.one_store.specs.Known.{Known}
 use Rattle.one_store.proofs.AddLaws.{fits_words}
 use Rattle.one_store.proofs.store.OneStore.seek.Goals as goal

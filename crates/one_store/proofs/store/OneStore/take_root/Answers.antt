@@ -1,5 +1,5 @@
 use Rattle.std.proofs.Common.{◌≡◌, ◌∙◌, sym, subst, arith, None}
-use Rattle.entry_words.proofs.ReadLaws.{default_any}
+use Rattle.one_store.proofs.OfEntries.ReadLaws.{default_any}
 use Rattle.one_store.specs.Known.{Known, stored_root}
 use Rattle.one_store.proofs.RootLaws.{gives_none, empty_event}
 use Rattle.one_store.proofs.store.OneStore.take_root.Goals as goal

@@ -1,6 +1,6 @@
 use Rattle.std.proofs.Common.{◌∙◌, subst, sym, ap}
-use Rattle.node_places.specs.Names.{key_child, IsName, HasNames}
-use Rattle.entry_words.specs.Words.{key_in}
+use Rattle.core_laws.specs.places.Names.{key_child, IsName, HasNames}
+use Rattle.one_store.specs.entries.Words.{key_in}
 use Rattle.one_store.specs.Known.{Known}
 use Rattle.one_store.proofs.TraitLaws.{reaches, reached_names, store_child, store_trees}
 use Rattle.one_store.proofs.traits.OneStoreBlocks.child_at.Goals as goal

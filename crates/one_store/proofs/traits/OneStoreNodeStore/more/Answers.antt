@@ -1,5 +1,5 @@
 use Rattle.std.proofs.Common.{◌∙◌, ap, sym, subst, Some}
-use Rattle.node_shapes.specs.declared.names.Name.{Name}
+use Rattle.node_words.specs.declared.shapes.names.Name.{Name}
 use Rattle.node_words.proofs.HeldLaws.{holds_reaches, held_reached}
 use Rattle.core_laws.specs.States.{IsLive}
 use Rattle.one_store.specs.Known.{core_of}

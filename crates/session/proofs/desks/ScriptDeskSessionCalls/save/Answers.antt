@@ -1,9 +1,9 @@
 use Rattle.std.specs.Prelude.{Result}
-use Rattle.session_runs.specs.Told.{SaveTold}
+use Rattle.conformance.specs.sessions.Told.{SaveTold}
 use Rattle.session.specs.Saves.{saved_told}
 use Rattle.session.specs.Seen.{of_world, session_seen}
 use Rattle.session.specs.declared.saves.PinnedSave.{PinnedSave}
-use Rattle.versions.specs.declared.refusals.PinRefused.{PinRefused}
+use Rattle.retain.specs.declared.refusals.PinRefused.{PinRefused}
 use Rattle.std.proofs.Common.{subst}
 use Rattle.session.proofs.DeskLaws.{desk_goes_on, desk_saves, few_shares, save_sees}
 use Rattle.session.proofs.desks.ScriptDeskSessionCalls.save.Goals as goal

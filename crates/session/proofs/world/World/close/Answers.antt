@@ -1,8 +1,8 @@
 use Rattle.std.proofs.Common.{◌∙◌, ap, rules, sym, subst}
 use Rattle.node_table.specs.Closing.{EndsTable, HadEnough}
 use Rattle.node_table.specs.declared.closed.Closed.{Closed}
-use Rattle.session_runs.specs.Ran.{ClosesWorld}
-use Rattle.session_runs.specs.Seen.{MayTint}
+use Rattle.conformance.specs.sessions.Ran.{ClosesWorld}
+use Rattle.conformance.specs.sessions.Seen.{MayTint}
 use Rattle.session.specs.Closes.{coloured_as, sessions_seen}
 use Rattle.session.specs.Seen.{WorldSeen}
 use Rattle.session.proofs.ActLaws.{models_of}

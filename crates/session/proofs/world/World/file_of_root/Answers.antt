@@ -1,8 +1,8 @@
 use Rattle.std.proofs.Common.{◌-◌, ◌∙◌, ◌++◌, List, ap}
 use Rattle.std.specs.Prelude.{option_copied}
 use Rattle.vox_read.specs.declared.voxels.Voxel.{Voxel}
-use Rattle.node_shapes.specs.Tree.{shape_of}
-use Rattle.block_walk.specs.Roots.{cells_of}
+use Rattle.node_words.specs.shapes.Tree.{shape_of}
+use Rattle.node_words.specs.descent.Roots.{cells_of}
 use Rattle.session.specs.Roots.{voxels_kept}
 use Rattle.session.proofs.VoxelLaws.{kept_size, told_few, told_inside}
 use Rattle.session.proofs.world.World.file_of_root.Goals as goal

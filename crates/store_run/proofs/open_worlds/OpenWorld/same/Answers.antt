@@ -1,7 +1,7 @@
 use Rattle.std.proofs.Common.{◌^◌, ◌↔◌, sym, subst}
 use Rattle.std.specs.Prelude.{IsTrue}
 use Rattle.history_model.specs.Moments.{world_has}
-use Rattle.block_contents.specs.Versions.{IsKept, SameWorld}
+use Rattle.core_laws.specs.contents.Versions.{IsKept, SameWorld}
 use Rattle.store_run.specs.Worlds.{WorldState}
 use Rattle.store_run.proofs.Opening.{same_by_roots}
 use Rattle.store_run.proofs.open_worlds.OpenWorld.same.Goals as goal

@@ -1,5 +1,5 @@
 use Rattle.std.proofs.Common.{Option, [], ◌∷◌, ◌++◌, ◌∙◌, ap}
-use Rattle.node_shapes.specs.declared.names.Name.{Name}
+use Rattle.node_words.specs.declared.shapes.names.Name.{Name}
 use Rattle.store_run.proofs.Pinning.{pin_fits, pinned_few, one_pinned}
 use Rattle.store_run.proofs.pins.Pinned.pin.Goals as goal
 

@@ -1,5 +1,5 @@
 use Rattle.std.proofs.Common.{Option, sym, subst}
-use Rattle.node_shapes.specs.declared.names.Name.{Name}
+use Rattle.node_words.specs.declared.shapes.names.Name.{Name}
 use Rattle.store_run.specs.Kept.{HoldsTree}
 use Rattle.store_run.specs.Steps.{PutsDown}
 use Rattle.store_run.proofs.Sparing.{with_store, puts_some}

@@ -1,5 +1,5 @@
 use Rattle.std.proofs.Common.{List, Option, ap, ◌∙◌, ◌++◌}
-use Rattle.node_shapes.specs.declared.names.Name.{Name}
+use Rattle.node_words.specs.declared.shapes.names.Name.{Name}
 use Rattle.store_run.proofs.Ending.{roots_tell}
 use Rattle.store_run.proofs.stored_versions.Versions.roots.Goals as goal
 

@@ -1,8 +1,8 @@
 use Rattle.std.proofs.Common.{arith, ap, sym, ◌∙◌, ◌-◌, ◌/◌, ◌%◌, ℕ, Option}
-use Rattle.node_shapes.specs.declared.names.Name.{Name}
-use Rattle.node_shapes.specs.Shape.{Leaf, has}
+use Rattle.node_words.specs.declared.shapes.names.Name.{Name}
+use Rattle.node_words.specs.shapes.Shape.{Leaf, has}
 use Rattle.node_words.specs.declared.keys.Key.{Key}
-use Rattle.node_places.specs.Names.{key_bits, key_child}
+use Rattle.core_laws.specs.places.Names.{key_bits, key_child}
 use Rattle.world_core.specs.Reads.{keys_in}
 use Rattle.world_core.proofs.Cells.{set_at, none_set, leaf_set, past_set, below_set, half_of}
 use Rattle.world_core.proofs.entries.Entries.+is_set.Goals as goal

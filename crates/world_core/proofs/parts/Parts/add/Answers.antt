@@ -4,7 +4,7 @@ use Rattle.world_core.specs.Kept.{stored}
 use Rattle.world_core.specs.Steps.{AddsEntry}
 use Rattle.world_core.proofs.ShareLaws.{moved, names_at, seat_in}
 use Rattle.world_core.proofs.AddLaws.{added, all_taken}
-use Rattle.node_places.specs.Names.{named}
+use Rattle.core_laws.specs.places.Names.{named}
 use Rattle.world_core.proofs.parts.Parts.add.Goals as goal
 
 pub index_mut-requires : goal.index_mut-requires

@@ -1,10 +1,10 @@
 use Rattle.std.proofs.Common.{◌≡◌, ◌-◌, ◌^◌, ◌∙◌, ap, sym, subst, arith, ℕ, Option}
 use Rattle.std.specs.Prelude.{◌↔◌, IsTrue}
 use Rattle.vw_cell.specs.Places.{block_side}
-use Rattle.node_shapes.specs.declared.names.Name.{Name}
+use Rattle.node_words.specs.declared.shapes.names.Name.{Name}
 use Rattle.history_model.specs.Making.{MayMake}
-use Rattle.block_contents.specs.Aligned.{top}
-use Rattle.block_contents.proofs.WorldBlocks.{world_wide}
+use Rattle.core_laws.specs.contents.Aligned.{top}
+use Rattle.core_laws.proofs.OfContents.WorldBlocks.{world_wide}
 use Rattle.world_core.specs.Reads.{keys_in}
 use Rattle.world_core.specs.Kept.{stored}
 use Rattle.world_core.specs.Shown.{shown_world}

@@ -1,6 +1,6 @@
 use Rattle.std.proofs.Common.{◌≡◌, ◌^◌, subst, refl, arith, Bool, ℕ, Option, [], ◌∷◌, length}
 use Rattle.std.specs.Prelude.{◌↔◌, IsTrue}
-use Rattle.node_shapes.specs.declared.names.Name.{Name}
+use Rattle.node_words.specs.declared.shapes.names.Name.{Name}
 use Rattle.history_model.specs.Logs.{FitsWorld}
 use Rattle.world_core.specs.Kept.{stored}
 use Rattle.world_core.specs.Lawful.{HoldsShares, IsRootMade, MayAskAppend}

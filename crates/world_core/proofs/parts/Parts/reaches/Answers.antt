@@ -1,5 +1,5 @@
 use Rattle.std.proofs.Common.{◌∙◌, ap, sym, refl, arith, List, get_or}
-use Rattle.node_shapes.specs.declared.names.Name.{Name}
+use Rattle.node_words.specs.declared.shapes.names.Name.{Name}
 use Rattle.world_core.specs.Kept.{stored}
 use Rattle.world_core.proofs.LowerLaws.{held_live}
 use Rattle.world_core.proofs.UnderLaws.{one_held, seat_names, not_reached}

@@ -1,5 +1,5 @@
 use Rattle.std.proofs.Common.{ℕ, ◌<◌, get_or}
-use Rattle.node_shapes.specs.declared.names.Name.{Name}
+use Rattle.node_words.specs.declared.shapes.names.Name.{Name}
 use Rattle.core_laws.specs.States.{IsUnder}
 use Rattle.world_core.specs.Kept.{stored}
 use Rattle.world_core.specs.Stored.{stored_state}

@@ -1,0 +1,4 @@
+pub mod SameTells
+pub mod RootTells
+pub mod PlaneTells
+pub mod TintTells

@@ -1,9 +1,0 @@
-use Rattle.block_contents.proofs.MarkLaws.{marks_rise, marks_follow, marks_add_one}
-use Rattle.block_contents.proofs.laws.marks_leave_logs_legal.Goals as goal
-
-pub returns : goal.returns
-returns c = record {
-  rising = marks_rise;
-  follow = marks_follow;
-  unmarked = λ old new mark v comes other. marks_add_one old new mark comes v other;
-}

@@ -1,6 +1,0 @@
-pub mod Roots
-pub mod Parts
-pub mod Looks
-pub mod Answers
-pub mod Landings
-pub use Rattle.vw_cell.specs.Sums

@@ -1,5 +1,0 @@
-use Rattle.std.proofs.Common.{length}
-use Rattle.command_line.proofs.lines.+number_of_flags.Given as goal
-
-abbrev pub decreases-number_of_flags : goal.decreases-number_of_flags
-decreases-number_of_flags l = length l.words.now

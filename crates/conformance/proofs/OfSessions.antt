@@ -1,0 +1,13 @@
+pub mod Items
+pub mod SavedSeen
+pub mod SuitLaws
+pub mod Noting
+pub mod Fallen
+pub mod Going
+pub mod Joined
+pub mod Closing
+pub mod KeptWorlds
+pub mod Arms
+pub mod Looping
+pub mod Answering
+pub mod Gathered

@@ -1,0 +1,5 @@
+pub mod Spots
+pub mod Words
+pub mod Firsts
+pub mod Names
+pub mod KeyWords

@@ -1,5 +1,0 @@
-use Rattle.node_words.proofs.GatherLaws.{grows_none}
-use Rattle.edit_blocks.proofs.fulls.raise_once.Goals as goal
-
-pub returns-then-reaches-clause-grows : goal.returns-then-reaches-clause-grows
-returns-then-reaches-clause-grows g c = grows_none _ _

@@ -1,0 +1,154 @@
+-- Shares of blocks that a rebuild has in hand besides the rest of what is held, and what each
+-- outcome leaves.
+use Rattle.std.specs.Prelude.{◌≡◌, ℕ, ◌+◌, ◌-◌, ◌≤◌, Option, Some, None, List, ◌∷◌}
+use Rattle.node_words.specs.declared.shapes.names.Name.{Name}
+use Rattle.node_words.specs.shapes.Shape.{Shape, IsCanonical, IsPart}
+use Rattle.node_words.specs.shapes.Tree.{Tree, root_of, shape_of, IsTreeAt}
+use Rattle.node_words.specs.shapes.Weights.{weigh, weight_of}
+use Rattle.node_words.specs.Held.{Seen, IsSought, IsReached, ReturnsWithin}
+use Rattle.node_words.specs.Gathering.{IsTreeOf, Comes, Grew, Gathered, MayHold, Loses}
+use Rattle.node_words.specs.contents.CellShapes.{leaf_shape, full_shape}
+
+-- t is the tree of a full block of the name's level, and reached
+pub record IsFullBlock (held : List Tree) (t : Tree) (n : Name) : Type 0 where
+  pub root : root_of t ≡ Some n
+  pub reached : IsReached held t
+  pub levels : IsTreeAt n.level t
+  pub shape : shape_of t ≡ full_shape n.level
+
+-- what is held is the rest and a share of a full block, where one is kept aside
+pub record Aside (held : List Tree) (full : Option Name) (rest : List Tree) : Type 0 where
+  pub tree : Tree
+  pub root : root_of tree ≡ full
+  pub levels : (n : Name) → full ≡ Some n → IsTreeAt n.level tree
+  pub shape : (n : Name) → full ≡ Some n → shape_of tree ≡ full_shape n.level
+  pub weighs : (f : Tree → ℕ) → weigh f held ≡ weight_of f tree + weigh f rest
+
+-- besides the rest and the full block aside a share came, whose tree has this shape and level
+pub record Came (rest : List Tree) (level : ℕ) (target : Shape) (name : Option Name)
+    (held : List Tree) (full : Option Name) : Type 0 where
+  pub now : List Tree
+  pub comes : Comes rest level target name now
+  pub aside : Aside held full now
+
+-- besides the rest and the full block aside shares came for the first n octants of the target
+pub record Gathers (rest : List Tree) (level : ℕ) (target : Shape) (children : List (Option Name))
+    (n : ℕ) (held : List Tree) (full : Option Name) : Type 0 where
+  pub now : List Tree
+  pub gathered : Gathered rest level target children n now
+  pub aside : Aside held full now
+
+-- whatever a reaches b reaches
+pub record ReachesAll (a b : List Tree) : Type 0 where
+  pub each : (t : Tree) → IsReached a t → IsReached b t
+
+-- a share came of the block of what was gathered, and nothing that was reached is lost
+pub record Joined (rest was : List Tree) (level : ℕ) (target : Shape) (name : Option Name)
+    (held : List Tree) (full : Option Name) : Type 0 where
+  pub came : Came rest level target name held full
+  pub reaches : ReachesAll was came.now
+
+-- a part of the target met this full bucket, which is the part's own
+pub record RefusesBlock (target : Shape) (level bucket : ℕ) (old new : Seen) : Type 0 where
+  pub plan : new.plan ≡ old.plan
+  pub made : Grew (λ p. IsPart p target) old.made new.made
+  pub wanted : Shape
+  pub is_part : IsPart wanted target
+  pub sought : IsSought old.plan (record { level = level; bucket = bucket; shape = wanted })
+  pub met : new.met ≡ record { level = level; bucket = bucket; shape = wanted } ∷ old.met
+
+-- how many levels of full blocks there are, up to the one kept aside
+abbrev pub height : Option Name → ℕ
+height None = 0
+height (Some n) = n.level + 1
+
+-- the block aside is a full one, where there is one
+abbrev pub HasAside : Seen → Option Name → Type 0
+HasAside seen full = (rest : List Tree) × Aside seen.held full rest
+
+-- a block of at least this level is aside
+abbrev pub IsAsideFrom : ℕ → Option Name → Type 0
+IsAsideFrom level full = (n : Name) × (full ≡ Some n) × (level ≤ n.level)
+
+-- the rest stays the same, whatever becomes of the full block aside
+abbrev pub KeepsRest : Seen → Option Name → Seen → Option Name → Type 0
+KeepsRest old before new after =
+    (rest : List Tree) → Aside old.held before rest → Aside new.held after rest
+
+-- besides the rest a share of such a block came, and the full block aside may be a greater one
+abbrev pub ComesBeside : ℕ → Shape → Option Name → Seen → Option Name → Seen → Option Name → Type 0
+ComesBeside level target name old before new after =
+    (rest : List Tree) → Aside old.held before rest → Came rest level target name new.held after
+
+-- shares of all octants of a canonical block of this level are in hand
+abbrev pub HasOctants : ℕ → List (Option Name) → Seen → Type 0
+HasOctants level children seen =
+    (rest : List Tree) × (full : Option Name) × (target : Shape) × IsCanonical level target
+    × Gathers rest (level - 1) target children 8 seen.held full
+
+-- P of each canonical block of which all octants are in hand: of the rest, the full block aside,
+-- the block's shape, and what is held besides the block aside
+abbrev pub ForOctants : ℕ → List (Option Name) → Seen
+    → (List Tree → Option Name → Shape → List Tree → Type 0) → Type 0
+ForOctants level children seen P =
+    (rest : List Tree) (full : Option Name) (target : Shape) → IsCanonical level target
+    → (a : Gathers rest (level - 1) target children 8 seen.held full) → P rest full target a.now
+
+-- a share of the leaf with these bits came besides the rest and the full block aside
+abbrev pub LeafBeside : ℕ → Option Name → Seen → Seen → Type 0
+LeafBeside bits name old new =
+    (rest : List Tree) (full : Option Name) → Aside old.held full rest
+    → Came rest 0 (leaf_shape bits) name new.held full
+
+-- the name is of a block that is reached, or of none
+abbrev pub HasTree : List Tree → Option Name → Type 0
+HasTree held name = (level : ℕ) × (t : Tree) × IsTreeOf held level t name
+
+-- one more share of a block that the rest reaches came besides the rest and the full block aside
+abbrev pub AgainBeside : Option Name → Option Name → Seen → Seen → Type 0
+AgainBeside name share old new =
+    (rest : List Tree) (full : Option Name) (level : ℕ) (t : Tree)
+    → Aside old.held full rest → IsTreeOf rest level t name
+    → Came rest level (shape_of t) share new.held full
+
+-- what may be a share is held
+abbrev pub MayGoBack : List Tree → Option Name → Type 0
+MayGoBack held share = (t : Tree) × (root_of t ≡ share) × MayHold held t
+
+-- the tree of what may be a share is held no longer
+abbrev pub GoesBack : Option Name → List Tree → List Tree → Type 0
+GoesBack share old new = (t : Tree) → root_of t ≡ share → MayHold old t → Loses old t new
+
+-- the turns of giving a share back
+abbrev pub BackTurns : Option Name → List Tree → List Tree → ℕ → ℕ → Type 0
+BackTurns share old new before after =
+    (t : Tree) (n : Name) → share ≡ Some n → root_of t ≡ share → MayHold old t
+    → ReturnsWithin new (shape_of t) before after
+
+-- the block aside is of this level
+abbrev pub IsAsideAt : ℕ → Option Name → Type 0
+IsAsideAt level full = (n : Name) × (full ≡ Some n) × (n.level ≡ level)
+
+-- the name of a full block that may be read
+abbrev pub ReachesFull : List Tree → Name → Type 0
+ReachesFull held n = (t : Tree) × IsFullBlock held t n
+
+-- where the first is the name of a full block, so is the second
+abbrev pub LeadsToFull : List Tree → Name → Name → Type 0
+LeadsToFull held n m = (t : Tree) → IsFullBlock held t n → (u : Tree) × IsFullBlock held u m
+
+-- there is a block aside
+abbrev pub HasFull : Option Name → Type 0
+HasFull full = (n : Name) × (full ≡ Some n)
+
+-- one more share of the block aside came
+abbrev pub FullBeside : Option Name → Option Name → Seen → Seen → Type 0
+FullBeside full share old new =
+    (rest : List Tree) (n : Name) → full ≡ Some n → Aside old.held full rest
+    → Came rest n.level (full_shape n.level) share new.held full
+
+-- the block aside became the octants of the next full block
+abbrev pub GathersFull : Option Name → List (Option Name) → Seen → Seen → Type 0
+GathersFull full children old new =
+    (rest : List Tree) (n : Name) → full ≡ Some n → Aside old.held full rest
+    → Gathers rest n.level (full_shape (n.level + 1)) children 8 new.held None

@@ -1,6 +1,0 @@
-use Rattle.std.proofs.Common.{get_or}
-use Rattle.node_places.proofs.Prefixes.{EndsTo}
-use Rattle.entry_words.proofs.ends.ends_of.Given as goal
-
-abbrev pub invariant-loop-level : goal.invariant-loop-level
-invariant-loop-level l = EndsTo l.level 0 (λ level. get_or l.buckets level 0) l.ends

@@ -1,8 +1,0 @@
-use Rattle.entry_words.proofs.SlotLaws.{place_in, place_one}
-use Rattle.entry_words.proofs.slots_are_apart.Goals as goal
-
-pub returns-clause-inside : goal.returns-clause-inside
-returns-clause-inside c = place_in
-
-pub returns-clause-apart : goal.returns-clause-apart
-returns-clause-apart c = place_one

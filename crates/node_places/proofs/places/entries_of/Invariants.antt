@@ -1,8 +1,0 @@
-use Rattle.std.proofs.Common.{get_or, ◌*◌}
-use Rattle.node_places.specs.Spots.{entry_words}
-use Rattle.node_places.proofs.Prefixes.{EndsTo}
-use Rattle.node_places.proofs.places.entries_of.Given as goal
-
-abbrev pub invariant-loop-level : goal.invariant-loop-level
-invariant-loop-level l =
-    EndsTo l.level l.first (λ level. l.cap * entry_words level * get_or l.buckets level 0) l.ends

@@ -1,9 +1,0 @@
-use Rattle.node_shapes.specs.ShapeCode.{coded_shape}
-use Rattle.node_shapes.specs.TreeCode.{coded_tree}
-use Rattle.node_shapes.proofs.shapes_have_codes.Goals as goal
-
-pub returns-clause-shape : goal.returns-clause-shape
-returns-clause-shape c = coded_shape
-
-pub returns-clause-tree : goal.returns-clause-tree
-returns-clause-tree c = coded_tree

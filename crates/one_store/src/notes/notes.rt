@@ -1,0 +1,93 @@
+ghost use Rattle.std.specs.Prelude.{◌≡◌, IfOk};
+ghost use Rattle.one_store.specs.notes.Told.{nothing_told};
+
+use atomic_table::{Play, Seat, Table, TableRule};
+use std::alloc::{AllocError, Global};
+use std::marker::{Brand, Model, PhantomData};
+
+// What the one seat of the table has noted. No value of it is made.
+pub struct Noted {
+    none: (),
+}
+
+impl Model for Noted {
+    ghost use Rattle.one_store.specs.notes.Told.{Told, nothing_told, coded_told};
+
+    ghost Value = { Told };
+
+    ghost coded = { coded_told };
+
+    ghost view = { λ _. nothing_told };
+}
+
+/// What is noted next. A caller picks it in its proof.
+pub trait Note {
+    ghost use Rattle.one_store.specs.notes.Told.{Told};
+
+    ghost next: { Told };
+}
+
+impl Note for Brand {
+    ghost use Rattle.one_store.specs.notes.Told.{nothing_told};
+
+    ghost next = { nothing_told };
+}
+
+// Whatever is noted is allowed.
+pub struct Anything;
+
+impl TableRule<(), Noted, ()> for Anything {
+    ghost use Rattle.one_store.specs.notes.Told.{nothing_told};
+
+    ghost holds = { λ k s. Unit {0} };
+
+    ghost first = { λ k. nothing_told };
+}
+
+// What is picked is noted.
+pub struct Noting<N: Note> {
+    of: PhantomData<N>,
+}
+
+impl<N: Note> Play<(), Noted> for Noting<N> {
+    ghost then = { λ s before n after. after.0 ≡ N.next };
+}
+
+/// The notes of one store: a table of one word, whose one seat sees what was noted. To note
+/// something is to read that word.
+#[derive(Drop)]
+pub struct Notes {
+    table: Table<(), Noted, (), Anything, Global>,
+    seat: Seat<(), Noted>,
+    ghost one_table: { seat.table_id ≡ table.shared.table_id },
+    ghost one_word: { table.shared.table_id.words ≡ 1 },
+}
+
+impl Model for Notes {
+    ghost use Rattle.one_store.specs.notes.Told.{Told, coded_told};
+
+    ghost Value = { Told };
+
+    ghost coded = { coded_told };
+
+    ghost view = { λ n. n.seat.me.0 };
+}
+
+impl Notes {
+    /// Nothing is noted yet.
+    pub fn new(alloc: Global) -> Result<Notes, AllocError>
+        ensures { IfOk result (λ n. n ≡ nothing_told) }
+    {
+        let (table, seat) = Table::of_words(alloc, &[0], &())?;
+        Ok(Notes { table, seat })
+    }
+
+    /// Notes what is picked.
+    pub fn note<N: Note>(&mut self)
+        ensures { self.new ≡ N.next }
+    {
+        let Notes { table, seat } = self;
+        let table = &*table;
+        let _found = table.shared.load::<Noting<N>>(seat, 0);
+    }
+}

@@ -1,0 +1,9 @@
+#![tactic(auto)]
+
+mod laws;
+mod rows;
+mod texts;
+
+pub use laws::stores_tell_reports;
+pub use rows::ReportRow;
+pub use texts::report_text;

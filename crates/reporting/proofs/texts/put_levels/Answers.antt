@@ -1,6 +1,0 @@
-use Rattle.reporting.proofs.LevelLines.{levels_step}
-use Rattle.reporting.proofs.texts.put_levels.Goals as goal
-
-pub loop-level-preserved : goal.loop-level-preserved
-loop-level-preserved c =
-    levels_step _ _ _ _ _ _ c.loop-level-test.true c.loop-level.invariant c.in_ok-put_level.ensures

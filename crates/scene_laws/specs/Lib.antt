@@ -1,2 +1,0 @@
-pub mod Building
-pub use Rattle.load_laws.specs.ReadLaws

@@ -1,8 +1,0 @@
-use Rattle.script_runs.proofs.PlainTargets.{plain_target_wanted, plain_failure_meets_full}
-use Rattle.script_runs.proofs.laws.plain_edits_want_their_parts.Goals as goal
-
-pub returns : goal.returns
-returns c = record {
-  wanted = λ p models records act version target s of part. plain_target_wanted p models records act version target of s part;
-  full = λ p models records act version target level bucket old new of fails. plain_failure_meets_full p models records act version target of level bucket old new fails;
-}

@@ -1,0 +1,11 @@
+//! For tests: gates at which workers wait for each other, so that a test says how they meet. Its
+//! own tests show that workers do meet.
+
+#[cfg(test)]
+mod adders;
+mod meetings;
+mod reached;
+mod turns;
+
+pub use meetings::{Meeting, Moment, Place, Rule};
+pub use turns::Turns;

@@ -1,4 +1,0 @@
-use Rattle.tests_acts.proofs.tests.leaves_after.Given as goal
-
-abbrev pub ghosts-leaves_in : goal.ghosts-leaves_in
-ghosts-leaves_in a = record { name = a.blank.name; parts = a.blank.parts }

@@ -1,0 +1,24 @@
+//! Tests of the store for one thread, over its public calls, and of DAG files byte by byte: what
+//! is refused and where, what a file tells of its versions, and files that are written of a
+//! store's versions. It holds tests and what they call alone.
+
+mod changes;
+mod looks;
+mod worlds;
+
+pub use changes::{changes_of, cuts_of};
+pub use looks::{Counted, fault_in, look_at};
+pub use worlds::full_world_file;
+
+#[cfg(test)]
+mod calls;
+#[cfg(test)]
+mod dag_tests;
+#[cfg(test)]
+mod files;
+#[cfg(test)]
+mod slot_tests;
+#[cfg(test)]
+mod slots;
+#[cfg(test)]
+mod under;

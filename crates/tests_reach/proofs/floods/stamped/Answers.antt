@@ -1,9 +1,0 @@
-use Rattle.std.proofs.Common.{refl}
-use Rattle.one_store.specs.Known.{known_seen}
-use Rattle.tests_reach.proofs.Roots.{made_held}
-use Rattle.tests_reach.proofs.floods.stamped.Goals as goal
-
-pub found_in-found-requires-clause-root : goal.found_in-found-requires-clause-root
-found_in-found-requires-clause-root g c =
-    made_held (known_seen c.args.store.now)
-    (known_seen c.rebuild_stamp.new.store) c.args.side _ _ _ _ refl c.as_ref.ensures.value c.in-Ok.ensures.ok

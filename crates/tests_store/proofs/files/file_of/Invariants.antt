@@ -1,4 +1,0 @@
-use Rattle.tests_store.proofs.files.file_of.Given as goal
-
-abbrev pub ghosts-file_in : goal.ghosts-file_in
-ghosts-file_in a = record { name = a.blank.name; parts = a.blank.parts }

@@ -1,9 +1,0 @@
-use Rattle.std.proofs.Common.{refl}
-use Rattle.one_store.specs.Known.{known_seen}
-use Rattle.tests_store.proofs.Roots.{made_held}
-use Rattle.tests_store.proofs.worlds.filled.Goals as goal
-
-pub two_versions-requires-clause-root : goal.two_versions-requires-clause-root
-two_versions-requires-clause-root g c =
-    made_held (known_seen c.args.store.now)
-    (known_seen c.rebuild_box.new.store) c.args.side _ _ _ _ refl refl c.in-Ok-rebuild_box.ensures.ok

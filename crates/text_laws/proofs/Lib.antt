@@ -1,0 +1,2 @@
+pub mod OfRegions
+pub mod OfScenes

@@ -1,0 +1,3 @@
+pub mod loads
+pub mod regions
+pub mod scenes

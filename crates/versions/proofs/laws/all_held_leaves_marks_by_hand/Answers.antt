@@ -1,5 +1,0 @@
-use Rattle.versions.proofs.OneList.{marks_by_hand}
-use Rattle.versions.proofs.laws.all_held_leaves_marks_by_hand.Goals as goal
-
-pub returns : goal.returns
-returns c = marks_by_hand

@@ -1,5 +1,0 @@
-use Rattle.versions.proofs.Lasting.{keep_last}
-use Rattle.versions.proofs.laws.all_marks_keep_the_last.Goals as goal
-
-pub returns : goal.returns
-returns c = keep_last

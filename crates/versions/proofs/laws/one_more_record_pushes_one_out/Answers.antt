@@ -1,5 +1,0 @@
-use Rattle.versions.proofs.Growing.{one_more_record}
-use Rattle.versions.proofs.laws.one_more_record_pushes_one_out.Goals as goal
-
-pub returns : goal.returns
-returns c = one_more_record

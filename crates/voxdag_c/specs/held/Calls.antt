@@ -1,0 +1,299 @@
+-- What a call from C does: which status it ends with, what is held then, and what was written.
+use Rattle.std.specs.Prelude.{◌≡◌, ◌≢◌, ◌↔◌, ℕ, ◌+◌, ◌^◌, ◌<◌, ◌≤◌, Bool, true, false, IsTrue, List, [], ◌++◌, Option, Some, None, Ok, Err, length, drop, ⊤}
+use Rattle.std.specs.List.{slice_get}
+use Rattle.vw_cell.specs.declared.cells.Cell.{Cell}
+use Rattle.vw_cell.specs.declared.boxes.Boxed.{Boxed}
+use Rattle.vw_cell.specs.Places.{FitsAt, IsInWorld}
+use Rattle.vw_cell.specs.Sides.{is_side}
+use Rattle.vox_chunk.specs.declared.faults.VoxFault.{VoxFault}
+use Rattle.vox_chunk.specs.declared.faults.VoxFault.TheVariants.{Memory}
+use Rattle.vox_read.specs.Contents.{Content}
+use Rattle.vox_read.specs.Files.{ReadsModels}
+use Rattle.history_model.specs.declared.acts.Act.{Act}
+use Rattle.history_model.specs.declared.acts.Act.TheVariants.{Stamp}
+use Rattle.history_model.specs.declared.histories.Record.{Record}
+use Rattle.history_model.specs.declared.questions.Question.{Question}
+use Rattle.history_model.specs.declared.questions.Question.TheVariants.{Get, Colour, Count, Bounds, Faces, Ray}
+use Rattle.history_model.specs.Journal.{journal_of}
+use Rattle.history_model.specs.Logs.{Log, FitsWorld}
+use Rattle.history_model.specs.Moments.{world_has, world_tint}
+use Rattle.core_laws.specs.contents.Versions.{IsKept, SameWorld}
+use Rattle.extract.specs.Saved.{file_of_box}
+use Rattle.node_words.specs.Plans.{usual_buckets, is_cap}
+use Rattle.script.specs.Fitting.{QuestionFits}
+use Rattle.script.specs.declared.commands.Command.{Command}
+use Rattle.script.specs.declared.commands.Command.TheVariants.{Edit, Forget}
+use Rattle.transcript.specs.declared.answers.Answer.{Answer}
+use Rattle.transcript.specs.declared.answers.Answer.TheVariants as answers
+use Rattle.conformance.specs.Answers.{mark_of}
+use Rattle.conformance.specs.Kinds.{answer_at}
+use Rattle.conformance.specs.Telling.{Tells}
+use Rattle.conformance.specs.scripts.Sessions.{GoesOnWith}
+use Rattle.store_run.specs.Changing.{Changes, AnswersForget, MakesVersion}
+use Rattle.store_run.specs.Worlds.{size_of}
+use Rattle.voxdag_c.specs.declared.held.places.Place.{Place}
+use Rattle.voxdag_c.specs.declared.held.worlds.World.{World}
+use Rattle.voxdag_c.specs.held.Places.{cell_of_place}
+
+-- the world's side in cells, which cells a version has, and their tints
+abbrev pub held_side : World → ℕ
+held_side w = 2 ^ w.open.plan.side
+
+abbrev pub cells_told : World → ℕ → Cell → Bool
+cells_told w version = world_has w.open.models w.open.log.records version
+
+abbrev pub tints_at : World → ℕ → Cell → ℕ
+tints_at w version = world_tint w.open.models w.open.log.records version
+
+-- a call through a handle that may hold no world; where it holds none, no output is touched
+pub data ByHandle (Untouched : Type 0) (Does : World → ℕ → World → Type 0)
+    : Option World → ℕ → Option World → Type 0 where
+  closed : Untouched → ByHandle Untouched Does None 1 None
+  does : (w v : World) (status : ℕ) → Does w status v
+      → ByHandle Untouched Does (Some w) status (Some v)
+
+-- ---- changes
+
+-- the number that C gets for an answer to a change
+abbrev pub call_status : Answer → ℕ
+call_status answers.NothingToUndo = 6
+call_status answers.NothingToRedo = 7
+call_status answers.LogFull = 8
+call_status (answers.Full level bucket) = 9
+call_status (answers.Forgotten version) = 5
+call_status (answers.NoVersion version) = 4
+call_status answers.IsHead = 10
+call_status other = 0
+
+-- the record that an act becomes; all that C does is of session 0
+abbrev pub record_of : World → Act → Record
+record_of w act = record { session = 0; line = w.line; act = act }
+
+-- a change, or a forgotten version, was accepted
+abbrev pub is_accepted : Answer → Bool
+is_accepted answers.Done = true
+is_accepted (answers.Forgot version) = true
+is_accepted other = false
+
+-- what is accepted is numbered line by line. The numbers reach further than any history
+pub record CountsLine (answer : Answer) (old new : ℕ) : Type 0 where
+  pub next : is_accepted answer ≡ true → old < 4294967295 → new ≡ old + 1
+  pub same : is_accepted answer ≡ false → new ≡ old
+
+-- plan and models stay, and the command goes on from whatever was done before, as a script's line
+pub record WorldGoesOn (w : World) (command : Command) (answer : Answer) (v : World) : Type 0 where
+  pub plan : v.open.plan ≡ w.open.plan
+  pub models : v.open.models ≡ w.open.models
+  pub line : CountsLine answer w.line v.line
+  pub goes_on : GoesOnWith w.open.plan w.open.models 0
+      (record { line = w.line; command = command }) w.open.log v.open.log w.open.noted v.open.noted
+      (answer_at (record { line = w.line; command = command }) (length v.open.log.records) answer)
+
+-- the act is answered
+pub record IsActAnswered (w : World) (act : Act) (answer : Answer) (v : World) : Type 0 where
+  pub logs : Changes w.open.log (record_of w act) answer v.open.log
+  pub goes_on : (once : Bool) → WorldGoesOn w (Edit act once) answer v
+
+-- the model that is stamped is there
+abbrev pub HasItsModel : List Content → Act → Type 0
+HasItsModel models (Stamp number at) = slice_get models number ≢ None
+HasItsModel models other = ⊤
+
+-- a change of the world: its model isn't there, it leaves the world, or memory lacks, and nothing
+-- changed; or it was made; or the answer says why not, and the history is what it was. Memory may
+-- lack at any change: nothing here says that it doesn't
+pub data WorldChanges (w : World) (act : Act) : ℕ → World → Type 0 where
+  no_model : ¬ HasItsModel w.open.models act → WorldChanges w act 14 w
+  outside : HasItsModel w.open.models act → ¬ FitsWorld (held_side w) w.open.models act
+      → WorldChanges w act 3 w
+  memory : FitsWorld (held_side w) w.open.models act → WorldChanges w act 2 w
+  made : (v : World) → FitsWorld (held_side w) w.open.models act
+      → IsActAnswered w act answers.Done v
+      → MakesVersion w.open.models w.open.log act v.open.log → WorldChanges w act 0 v
+  refused : (v : World) (answer : Answer) → FitsWorld (held_side w) w.open.models act
+      → answer ≢ answers.Done → IsActAnswered w act answer v → v.open.log ≡ w.open.log
+      → WorldChanges w act (call_status answer) v
+
+-- a version is forgotten, or not
+pub data WorldForgets (w : World) (version : ℕ) : ℕ → World → Type 0 where
+  answered : (v : World) (answer : Answer)
+      → AnswersForget w.open.log (mark_of version (length w.open.log.records) 0 w.line) answer
+      v.open.log
+      → WorldGoesOn w (Forget version) answer v → WorldForgets w version (call_status answer) v
+
+-- ---- questions
+
+-- why a version can't be read
+pub data IsGone (log : Log) (version : ℕ) : ℕ → Type 0 where
+  no_version : length log.records < version → IsGone log version 4
+  forgotten : version ≤ length log.records → ¬ IsKept log version → IsGone log version 5
+
+-- the place or the box that is asked about lies in the world
+abbrev pub QuestionLiesIn : ℕ → Question → Type 0
+QuestionLiesIn side (Get c) = IsInWorld side c
+QuestionLiesIn side (Colour c) = IsInWorld side c
+QuestionLiesIn side (Count b) = FitsAt b.at b.size side
+QuestionLiesIn side Bounds = ⊤
+QuestionLiesIn side (Faces b) = FitsAt b.at b.size side
+QuestionLiesIn side (Ray from way) = IsInWorld side from
+
+-- the answer tells what is asked of the version, which can be read
+pub record Answered (w : World) (version : ℕ) (question : Question) (answer : Answer) : Type 0 where
+  pub kept : IsKept w.open.log version
+  pub fits : QuestionFits (held_side w) question
+  pub tells : Tells (held_side w) (cells_told w version) (tints_at w version) question answer
+
+-- nothing is wrong with what is asked, and the version can't be read
+pub record CantBeAsked (w : World) (version : ℕ) (question : Question) (status : ℕ)
+    : Type 0 where
+  pub fits : QuestionFits (held_side w) question
+  pub gone : IsGone w.open.log version status
+
+-- a question of a version: the answer that tells what is asked was written, or nothing was
+pub data WorldAsks (w : World) (version : ℕ) (question : Question) (Written : Answer → Type 0)
+    (Untouched : Type 0) : ℕ → Type 0 where
+  told : (answer : Answer) → Answered w version question answer → Written answer
+      → WorldAsks w version question Written Untouched 0
+  outside : ¬ QuestionLiesIn (held_side w) question → Untouched
+      → WorldAsks w version question Written Untouched 3
+  no_way : QuestionLiesIn (held_side w) question → ¬ QuestionFits (held_side w) question → Untouched
+      → WorldAsks w version question Written Untouched 16
+  gone : (status : ℕ) → CantBeAsked w version question status → Untouched
+      → WorldAsks w version question Written Untouched status
+
+-- what an answer says: of a cell, of a number of cells or faces, of a least box, of a hit
+abbrev pub is_in : Answer → Bool
+is_in (answers.Is set) = set
+is_in other = false
+
+abbrev pub cells_in : Answer → ℕ
+cells_in (answers.Count cells) = cells
+cells_in other = 0
+
+abbrev pub faces_answered : Answer → ℕ
+faces_answered (answers.Faces faces) = faces
+faces_answered other = 0
+
+abbrev pub extent_in : Answer → Option Boxed
+extent_in (answers.Extent least) = least
+extent_in other = None
+
+abbrev pub hit_in : Answer → Option Cell
+hit_in (answers.Hit hit) = hit
+hit_in other = None
+
+-- whether two versions have the same cells
+pub data WorldCompares (w : World) (a b : ℕ) (old new : Bool) : ℕ → Type 0 where
+  told : IsKept w.open.log a → IsKept w.open.log b
+      → (IsTrue new ↔ SameWorld (held_side w) (cells_told w a) (cells_told w b))
+      → WorldCompares w a b old new 0
+  first : (status : ℕ) → IsGone w.open.log a status → new ≡ old
+      → WorldCompares w a b old new status
+  second : (status : ℕ) → IsKept w.open.log a → IsGone w.open.log b status → new ≡ old
+      → WorldCompares w a b old new status
+
+-- the number of the newest version
+pub data TellsNewest (w : World) : ℕ → ℕ → Type 0 where
+  told : TellsNewest w 0 (length w.open.log.records)
+
+-- the size of the model of this number
+pub data TellsSize (w : World) (number : ℕ) (old new : Place) : ℕ → Type 0 where
+  told : size_of (slice_get w.open.models number) ≡ Some (cell_of_place new)
+      → TellsSize w number old new 0
+  no_model : slice_get w.open.models number ≡ None → new ≡ old → TellsSize w number old new 14
+
+-- ---- bytes that are written
+
+-- the bytes stand at the front, where there is room for them, and else nothing was written
+pub data PutsBytes (bytes old new : List ℕ) : ℕ → Type 0 where
+  put : length bytes ≤ length old → new ≡ bytes ++ drop (length bytes) old
+      → PutsBytes bytes old new 0
+  too_small : length old < length bytes → new ≡ old → PutsBytes bytes old new 11
+
+-- the same, and how many bytes there are
+pub record WritesBytes (bytes old new : List ℕ) (needed status : ℕ) : Type 0 where
+  pub puts : PutsBytes bytes old new status
+  pub number : needed ≡ length bytes
+
+-- nothing was written
+pub record WritesNothing (old new : List ℕ) (before needed : ℕ) : Type 0 where
+  pub bytes : new ≡ old
+  pub number : needed ≡ before
+
+-- a file can have the box
+pub record FitsFile (side : ℕ) (part : Boxed) : Type 0 where
+  pub inside : FitsAt part.at part.size side
+  pub small : (part.size.x ≤ 256) × (part.size.y ≤ 256) × (part.size.z ≤ 256)
+
+-- the VOX file of a box of a version
+pub data WorldSaves (w : World) (version : ℕ) (part : Boxed) (old new : List ℕ)
+    (before needed : ℕ) : ℕ → Type 0 where
+  made : (status : ℕ) → IsKept w.open.log version → FitsFile (held_side w) part
+      → WritesBytes (file_of_box part (cells_told w version)) old new needed status
+      → WorldSaves w version part old new before needed status
+  memory : IsKept w.open.log version → FitsFile (held_side w) part
+      → WritesNothing old new before needed → WorldSaves w version part old new before needed 2
+  outside : ¬ FitsFile (held_side w) part → WritesNothing old new before needed
+      → WorldSaves w version part old new before needed 3
+  gone : (status : ℕ) → FitsFile (held_side w) part → IsGone w.open.log version status
+      → WritesNothing old new before needed → WorldSaves w version part old new before needed status
+
+-- the text of the journal
+pub data WorldJournals (w : World) (old new : List ℕ) (before needed : ℕ) : ℕ → Type 0 where
+  made : (status : ℕ) → WritesBytes (journal_of w.open.log) old new needed status
+      → WorldJournals w old new before needed status
+  memory : WritesNothing old new before needed → WorldJournals w old new before needed 2
+
+-- ---- opening
+
+-- the models that are asked for by the bytes of a file, none by no bytes
+abbrev pub AsksForModels : List ℕ → List Content → Type 0
+AsksForModels [] models = models ≡ []
+AsksForModels bytes models = ReadsModels bytes (Ok models)
+
+-- so many slots of a bucket were asked for; 0 asks for the usual number
+pub record AreSlots (asked slots : ℕ) : Type 0 where
+  pub usual : asked ≡ 0 → slots ≡ 128
+  pub given : asked ≢ 0 → slots ≡ asked
+
+-- a world of this side and cap, with the models of these bytes, where nothing was done
+pub record IsBegun (side cap : ℕ) (bytes : List ℕ) (w : World) : Type 0 where
+  pub cells : held_side w ≡ side
+  pub buckets : w.open.plan.buckets ≡ usual_buckets
+  pub slots : AreSlots cap w.open.plan.cap
+  pub models : AsksForModels bytes w.open.models
+  pub nothing : w.open.log
+      ≡ record { side = w.open.plan.side; coloured = false; records = []; marks = [] }
+  pub noted : w.open.noted ≡ record { made = []; met = [] }
+  pub line : w.line ≡ 1
+
+-- a world can have this side, and its buckets so many slots
+pub record AreSideAndCap (side cap : ℕ) : Type 0 where
+  pub is_a_side : IsTrue (is_side side)
+  pub is_a_cap : cap ≢ 0 → IsTrue (is_cap cap)
+
+-- why no world is opened
+pub data Refuses (side cap : ℕ) (bytes : List ℕ) : ℕ → Type 0 where
+  bad_plan : ¬ AreSideAndCap side cap → Refuses side cap bytes 12
+  too_long : AreSideAndCap side cap → 2 ^ 28 < length bytes → Refuses side cap bytes 15
+  bad_file : AreSideAndCap side cap → 0 < length bytes → (fault : VoxFault)
+      → ReadsModels bytes (Err fault) → Refuses side cap bytes 15
+  memory : AreSideAndCap side cap → Refuses side cap bytes 2
+
+-- the number that C gets for a file's fault
+abbrev pub status_of_file : VoxFault → ℕ
+status_of_file Memory = 2
+status_of_file other = 15
+
+-- a world is opened in a handle that has none
+pub data OpensHandle (side cap : ℕ) (bytes : List ℕ) : Option World → ℕ → Option World
+    → Type 0 where
+  is_open : (w : World) → OpensHandle side cap bytes (Some w) 13 (Some w)
+  refused : (status : ℕ) → Refuses side cap bytes status
+      → OpensHandle side cap bytes None status None
+  begun : (w : World) → IsBegun side cap bytes w → OpensHandle side cap bytes None 0 (Some w)
+
+-- a world is closed, where one is held
+pub data ClosesHandle : Option World → ℕ → Option World → Type 0 where
+  closed : ClosesHandle None 1 None
+  given_back : (w : World) → ClosesHandle (Some w) 0 None

@@ -1,0 +1,31 @@
+-- The numbers that C hands in, as cells and boxes.
+use Rattle.std.specs.Prelude.{ℕ, ◌≤◌, Bool, true, false, Option, Some, None}
+use Rattle.vw_cell.specs.declared.cells.Cell.{Cell}
+use Rattle.vw_cell.specs.declared.boxes.Boxed.{Boxed}
+use Rattle.vw_cell.specs.declared.balls.Ball.{Ball}
+use Rattle.voxdag_c.specs.declared.held.places.Place.{Place}
+use Rattle.voxdag_c.specs.declared.held.places.Stretch.{Stretch}
+
+abbrev pub cell_of_place : Place → Cell
+cell_of_place p = record { x = p.x; y = p.y; z = p.z }
+
+abbrev pub box_of : Stretch → Boxed
+box_of s = record { at = cell_of_place s.at; size = cell_of_place s.size }
+
+abbrev pub ball_of : Place → ℕ → Ball
+ball_of centre radius = record { centre = cell_of_place centre; radius = radius }
+
+-- 16 bits are enough for each of the numbers
+pub record FitsSixteenBits (c : Cell) : Type 0 where
+  pub x : c.x ≤ 65535
+  pub y : c.y ≤ 65535
+  pub z : c.z ≤ 65535
+
+-- a box, or a place, where there is one
+abbrev pub extent_of : Bool → Stretch → Option Boxed
+extent_of false s = None
+extent_of true s = Some (box_of s)
+
+abbrev pub hit_of : Bool → Place → Option Cell
+hit_of false p = None
+hit_of true p = Some (cell_of_place p)

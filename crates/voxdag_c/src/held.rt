@@ -1,0 +1,20 @@
+//! A world that C holds between two calls, and what each call does to it.
+//!
+//! A call takes its numbers as they come, tests them, and answers a status of `statuses`. It
+//! stands on the store for one thread, takes memory, and reaches no file. What the world that is
+//! held means is said in `specs/held/Holding.antt`, and what each call does to it in
+//! `specs/held/Calls.antt`.
+
+mod asks;
+mod handle;
+mod kept;
+mod outputs;
+mod parts;
+mod places;
+pub mod statuses;
+mod worlds;
+
+pub use handle::{Handle, handles_cross};
+pub use kept::Kept;
+pub use places::{Place, Stretch};
+pub use worlds::World;

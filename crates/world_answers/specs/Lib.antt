@@ -1,2 +1,0 @@
-pub mod TellsRoots
-pub use Rattle.colour.specs.Reading
