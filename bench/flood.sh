@@ -10,7 +10,7 @@ here=$(cd "$(dirname "$0")" && pwd)
 root=$(dirname "$here")
 work=$here/work/flood
 . "$here/copies.sh"
-above="flood edit_stamp edit_cells one_store block_walk vox_read node_words node_shapes vw_cell"
+above="flood edit_stamp edit_walk one_store node_words vox_read vw_cell"
 crates=$(below $above)
 copy_crates $crates
 program=$work/crates/bench_flood

@@ -6,5 +6,5 @@
 set -eu
 here=$(cd "$(dirname "$0")" && pwd)
 . "$here/timing.sh"
-prove_program kernels "node_kernels vw_cell" sums vw_cell node_shapes node_kernels
+prove_program kernels "node_words vw_cell" vw_cell node_words
 for _ in 1 2 3 4 5; do "$program"; done

@@ -9,7 +9,7 @@ set -eu
 here=$(cd "$(dirname "$0")" && pwd)
 . "$here/timing.sh"
 prove_program load "vw_cell vox_read vox_write history_model plain_text gen_load" \
-    sums vw_cell bit_set vox_chunk vox_read vox_write plain_text history_model gen_load
+    vw_cell vox_chunk vox_read vox_write plain_text history_model gen_load
 [ $# -gt 0 ] || set -- 7 0 1 12345 999999 4294967295
 for n in "$@"; do
     "$program" "$n" > product

@@ -21,7 +21,7 @@ use Rattle.bench_one_store.proofs.main.Given as goal
 abbrev pub ghosts-whole_calls : goal.ghosts-whole_calls
 ghosts-whole_calls a = record { name = a.blank.name; parts = a.blank.parts }
 END
-list_crates "bench_one_store: one_store entry_words node_places node_words node_shapes vw_cell" $crates
+list_crates "bench_one_store: one_store core_laws node_words vw_cell" $crates
 rustc -O -C target-cpu=x86-64-v2 -o "$work/plain" "$here/one_store/plain.rs"
 cd "$work/crates/bench_one_store"
 [ "${1:-}" != prepare ] || exit 0

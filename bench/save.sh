@@ -11,7 +11,7 @@ here=$(cd "$(dirname "$0")" && pwd)
 build make_plain
 make_once "$work/ordered.vox" make_plain ordered
 build_peer save
-prove_program save "vw_cell vox_chunk vox_read vox_write" sums vw_cell bit_set vox_chunk vox_read vox_write
+prove_program save "vw_cell vox_chunk vox_read vox_write" vw_cell vox_chunk vox_read vox_write
 ln -sf ../ordered.vox ordered.vox
 take_turns 5
 cmp product.vox ordered.vox

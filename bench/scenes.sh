@@ -8,7 +8,7 @@ here=$(cd "$(dirname "$0")" && pwd)
 . "$here/timing.sh"
 build scene
 plain=$work/scene
-prove_program scenes "byteorder vox_read vox_scene vw_cell" sums vw_cell bit_set vox_chunk vox_read vox_write plain_text vox_scene
+prove_program scenes "byteorder vox_read vox_scene vw_cell" vw_cell vox_chunk vox_read vox_write plain_text vox_scene
 python3 "$here/scene_files.py" write scenes.in want "${1:-1}"
 "$program" >/dev/null
 "$plain" >/dev/null

@@ -9,7 +9,7 @@ here=$(cd "$(dirname "$0")" && pwd)
 root=$(dirname "$here")
 work=$here/work/table
 . "$here/copies.sh"
-above="hands release intern node_table table_rule one_store edit_blocks history_model vox_read node_words node_shapes vw_cell"
+above="hands release intern node_table table_rule one_store edit_walk history_model vox_read node_words vw_cell"
 crates=$(below $above)
 copy_crates $crates
 program=$work/crates/bench_table

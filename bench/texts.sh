@@ -10,7 +10,7 @@ here=$(cd "$(dirname "$0")" && pwd)
 . "$here/timing.sh"
 build_peer texts
 prove_program texts "plain_text vw_cell vox_read history_model transcript" \
-    sums vw_cell bit_set vox_chunk vox_read plain_text history_model transcript
+    vw_cell vox_chunk vox_read plain_text history_model transcript
 python3 "$here/texts/make.py"
 take_turns 5
 # Lines are SIDE KIND MICROSECONDS SUM.

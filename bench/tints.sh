@@ -8,7 +8,7 @@ here=$(cd "$(dirname "$0")" && pwd)
 root=$(dirname "$here")
 work=$here/work/tints
 . "$here/copies.sh"
-build_unproved tints colour history_model edit_ops edit_stamp extract one_store vox_read vox_write node_words node_shapes \
+build_unproved core_laws colour history_model edit_ops edit_stamp extract one_store vox_read vox_write node_words \
     vw_cell
 echo "load at the start: $(cut -d' ' -f1-3 /proc/loadavg)"
 # Each line in times the plain one's before it: turns of a fill and of one over it, of a stamp, and the time of each.
