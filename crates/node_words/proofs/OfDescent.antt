@@ -2,6 +2,6 @@ pub mod BlockLaws
 pub mod LookLaws
 pub mod LandLaws
 pub mod PartLaws
-mod Halving
+pub mod Halving
 pub mod Octants
-mod AnswerLaws
+pub mod AnswerLaws

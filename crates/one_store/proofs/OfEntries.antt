@@ -1,4 +1,4 @@
-mod RowLaws
+pub mod RowLaws
 pub mod EndLaws
 pub mod SlotLaws
 pub mod WordLaws
