@@ -1,5 +1,5 @@
 use std::test::Fail;
-use world_core::{Bucket, Lowered};
+use bucket_core::{Bucket, Lowered};
 
 // What is done to a bucket of two slots, and what comes of it.
 #[derive(Clone, Copy)]

@@ -10,8 +10,8 @@ use Rattle.node_words.specs.Keys.{bucket_of_key}
 use Rattle.node_words.proofs.PlanLaws.{some_buckets}
 use Rattle.core_laws.specs.places.Names.{IsName, named}
 use Rattle.core_laws.specs.places.Spots.{levels, buckets_at}
-use Rattle.world_core.specs.declared.counted.Entry.{Entry}
-use Rattle.world_core.specs.Buckets.{book_of_slot, HasKey, HasNone, IsFirstFree, IsFirstWith}
+use Rattle.bucket_core.specs.declared.counted.Entry.{Entry}
+use Rattle.bucket_core.specs.Buckets.{book_of_slot, HasKey, HasNone, IsFirstFree, IsFirstWith}
 use Rattle.core_laws.specs.Counting.{children_weight}
 use Rattle.core_laws.specs.Soundness.{FitsLevel, IsFull}
 use Rattle.core_laws.specs.Events.{one_name, children_named, Adds, adds}

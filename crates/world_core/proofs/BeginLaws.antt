@@ -7,7 +7,7 @@ use Rattle.std.proofs.lemmas.List.Folds.{sum_by-replicate}
 use Rattle.vox_read.specs.Contents.{Content}
 use Rattle.node_words.specs.declared.shapes.names.Name.{Name}
 use Rattle.node_words.specs.Plans.{Layout, IsPlan}
-use Rattle.world_core.specs.Buckets.{book_of_slot}
+use Rattle.bucket_core.specs.Buckets.{book_of_slot}
 use Rattle.core_laws.specs.Counting.{holdings}
 use Rattle.core_laws.proofs.RootCells.{empty_sound}
 use Rattle.world_core.specs.Slots.{BucketRow, IsLaidOut, entry_at}

@@ -1,8 +1,8 @@
 -- Entries of a bucket have references.
 use Rattle.std.proofs.Common.{◌≢◌, ℕ, ◌<◌, ◌≤◌, refl, arith, Some, None, Option, List, length}
 use Rattle.node_words.specs.declared.keys.Key.{Key}
-use Rattle.world_core.specs.declared.counted.Entry.{Entry}
-use Rattle.world_core.specs.Buckets.{book_of_slot, entry_in, HasKey, IsCountedBucket, IsCounted, IsFirstFree, IsFirstWith, AreInUse}
+use Rattle.bucket_core.specs.declared.counted.Entry.{Entry}
+use Rattle.bucket_core.specs.Buckets.{book_of_slot, entry_in, HasKey, IsCountedBucket, IsCounted, IsFirstFree, IsFirstWith, AreInUse}
 use Rattle.world_core.specs.Changes.{AreLive}
 
 counted_book : (e : Option (Entry Key)) → IsCounted e → e ≢ None → 0 < book_of_slot e

@@ -10,7 +10,7 @@ use Rattle.node_words.specs.declared.shapes.names.Name.{Name}
 use Rattle.node_words.proofs.PlanLaws.{few_buckets}
 use Rattle.core_laws.specs.places.Spots.{levels, versions}
 use Rattle.history_model.specs.Logs.{Log}
-use Rattle.world_core.specs.Buckets.{book_of_slot}
+use Rattle.bucket_core.specs.Buckets.{book_of_slot}
 use Rattle.core_laws.specs.Counting.{weight, holdings}
 use Rattle.core_laws.specs.Events as events
 use Rattle.core_laws.specs.LogEvents.{Step}

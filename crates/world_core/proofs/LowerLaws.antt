@@ -7,10 +7,10 @@ use Rattle.node_words.specs.declared.shapes.names.Name.{Name}
 use Rattle.node_words.specs.declared.keys.Key.{Key}
 use Rattle.node_words.specs.declared.keys.Key.TheVariants.{Leaf, Node}
 use Rattle.node_words.specs.Held.{name_in}
-use Rattle.world_core.specs.declared.counted.Entry.{Entry}
-use Rattle.world_core.specs.declared.counted.Lowered.{Lowered}
-use Rattle.world_core.specs.declared.counted.Lowered.TheVariants.{Left, Last}
-use Rattle.world_core.specs.Buckets.{book_of_slot, with_book}
+use Rattle.bucket_core.specs.declared.counted.Entry.{Entry}
+use Rattle.bucket_core.specs.declared.counted.Lowered.{Lowered}
+use Rattle.bucket_core.specs.declared.counted.Lowered.TheVariants.{Left, Last}
+use Rattle.bucket_core.specs.Buckets.{book_of_slot, with_book}
 use Rattle.core_laws.specs.Counting.{weight, children_weight}
 use Rattle.core_laws.specs.Soundness.{FitsLevel}
 use Rattle.core_laws.specs.Events as events

@@ -4,8 +4,8 @@ use Rattle.std.specs.List.{slice_get}
 use Rattle.std.proofs.lemmas.Option.{get_or_from_slice_get}
 use Rattle.node_words.specs.declared.shapes.names.Name.{Name}
 use Rattle.node_words.specs.declared.keys.Key.{Key}
-use Rattle.world_core.specs.declared.counted.Entry.{Entry}
-use Rattle.world_core.specs.Buckets.{book_of_slot, with_book}
+use Rattle.bucket_core.specs.declared.counted.Entry.{Entry}
+use Rattle.bucket_core.specs.Buckets.{book_of_slot, with_book}
 use Rattle.core_laws.specs.Events as events
 use Rattle.core_laws.specs.Events.{no_weight, one_name, Raises, raises}
 use Rattle.core_laws.specs.LogEvents.{stores}

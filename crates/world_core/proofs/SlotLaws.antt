@@ -13,8 +13,8 @@ use Rattle.core_laws.specs.places.Names.{IsName}
 use Rattle.core_laws.specs.States.{IsLive}
 use Rattle.core_laws.specs.Soundness.{FitsLevel}
 use Rattle.core_laws.specs.Events.{Trades, OthersStay, Raises, Adds, Lowers, Frees, no_weight, one_name, children_named}
-use Rattle.world_core.specs.declared.counted.Entry.{Entry}
-use Rattle.world_core.specs.Buckets.{book_of_slot}
+use Rattle.bucket_core.specs.declared.counted.Entry.{Entry}
+use Rattle.bucket_core.specs.Buckets.{book_of_slot}
 use Rattle.world_core.specs.Slots.{SlotRow, BucketRow, bucket_at, entry_at, put_at, IsLaidOut, key_or_none, read_lists}
 
 -- the new content is there

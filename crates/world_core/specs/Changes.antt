@@ -2,9 +2,9 @@
 use Rattle.std.specs.Prelude.{◌≡◌, ◌<◌, ℕ, Option, List, [], length, slice_index_or, slice_set}
 use Rattle.node_words.specs.declared.shapes.names.Name.{Name}
 use Rattle.node_words.specs.declared.keys.Key.{Key}
-use Rattle.world_core.specs.declared.counted.Entry.{Entry}
-use Rattle.world_core.specs.declared.counted.Lowered.{Lowered}
-use Rattle.world_core.specs.Buckets.{book_of_slot, entry_in, LowersBook}
+use Rattle.bucket_core.specs.declared.counted.Entry.{Entry}
+use Rattle.bucket_core.specs.declared.counted.Lowered.{Lowered}
+use Rattle.bucket_core.specs.Buckets.{book_of_slot, entry_in, LowersBook}
 use Rattle.world_core.specs.Slots.{BucketRow, bucket_at, entry_at, put_at}
 
 -- one reference less to the entry of a slot of a level's bucket

@@ -1,5 +1,4 @@
 pub mod Beginning
-pub mod Buckets
 pub mod Slots
 pub mod SlotStatements
 pub mod Stored

@@ -6,7 +6,7 @@ use Rattle.core_laws.specs.Keys.{bucket_of_key}
 use Rattle.core_laws.specs.Plans.{Layout}
 use Rattle.core_laws.specs.places.Names.{IsName}
 use Rattle.core_laws.specs.places.Spots.{buckets_at}
-use Rattle.world_core.specs.declared.counted.Entry.{Entry}
+use Rattle.bucket_core.specs.declared.counted.Entry.{Entry}
 use Rattle.core_laws.specs.Logs.{Log}
 use Rattle.core_laws.specs.Soundness.{FitsLevel}
 use Rattle.core_laws.specs.Events.{Trades, IsMissing, Raises, Adds, Lowers, Frees, no_weight, one_name, children_named}

@@ -5,8 +5,8 @@ use Rattle.core_laws.specs.Key.{Key}
 use Rattle.core_laws.specs.TheVariants.{Leaf}
 use Rattle.core_laws.specs.Plans.{Layout}
 use Rattle.core_laws.specs.places.Spots.{levels, buckets_at}
-use Rattle.world_core.specs.declared.counted.Entry.{Entry}
-use Rattle.world_core.specs.Buckets.{book_of_slot}
+use Rattle.bucket_core.specs.declared.counted.Entry.{Entry}
+use Rattle.bucket_core.specs.Buckets.{book_of_slot}
 use Rattle.core_laws.specs.Logs.{Log}
 use Rattle.core_laws.specs.States.{State}
 

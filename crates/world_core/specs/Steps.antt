@@ -2,7 +2,7 @@
 use Rattle.std.specs.Prelude.{◌≡◌, ℕ, Option, Some, None, length}
 use Rattle.node_words.specs.declared.shapes.names.Name.{Name}
 use Rattle.node_words.specs.declared.keys.Key.{Key}
-use Rattle.world_core.specs.Buckets.{HasNone}
+use Rattle.bucket_core.specs.Buckets.{HasNone}
 use Rattle.world_core.specs.Slots.{bucket_at}
 use Rattle.core_laws.specs.Events.{IsMissing, Raises, Adds, Lowers, Frees}
 use Rattle.core_laws.specs.States.{IsLive}

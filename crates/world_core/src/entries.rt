@@ -3,13 +3,13 @@ ghost use Rattle.std.specs.Prelude.{slice_index_or};
 ghost use Rattle.node_words.specs.declared.shapes.names.Name.{Name as name};
 ghost use Rattle.core_laws.specs.places.Names.{named};
 ghost use Rattle.core_laws.specs.places.Spots.{buckets_at, levels};
-ghost use Rattle.world_core.specs.Buckets.{AreInUse, HasNone, IsFirstFree, IsFirstWith};
-ghost use Rattle.world_core.specs.Buckets.{book_of_slot, key_of_slot, with_book};
+ghost use Rattle.bucket_core.specs.Buckets.{AreInUse, HasNone, IsFirstFree, IsFirstWith};
+ghost use Rattle.bucket_core.specs.Buckets.{book_of_slot, key_of_slot, with_book};
 ghost use Rattle.world_core.specs.Slots.{IsLaidOut, bucket_at, entry_at, put_at};
 ghost use Rattle.world_core.specs.Changes.{AreLive, HasSlot, LowersEntryAt};
 
-use crate::counted::Lowered;
 use crate::levels::Level;
+use bucket_core::Lowered;
 use node_words::{Key, Name, Plan};
 use std::alloc::Global;
 use std::marker::Model;
@@ -24,7 +24,7 @@ pub struct Entries {
 impl Model for Entries {
     ghost use Rattle.std.specs.Prelude.{Option, List};
     ghost use Rattle.node_words.specs.declared.keys.Key.{Key as key};
-    ghost use Rattle.world_core.specs.declared.counted.Entry.{Entry as entry};
+    ghost use Rattle.bucket_core.specs.declared.counted.Entry.{Entry as entry};
 
     ghost Value = { List (List (List (Option (entry key)))) };
 

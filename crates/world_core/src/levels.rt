@@ -1,10 +1,9 @@
 ghost use Rattle.std.specs.Prelude.{◌≡◌, ◌<◌, ◌≤◌, ◌+◌, ◌^◌, [], None, Some, IfOk, OnErr, MatchOption, length, replicate};
 ghost use Rattle.std.specs.Prelude.{slice_index_or, slice_set};
-ghost use Rattle.world_core.specs.Buckets.{AreInUse, HasNone, IsFirstFree, IsFirstWith, IsTaken};
-ghost use Rattle.world_core.specs.Buckets.{LowersHere, book_of_slot, entry_in, key_of_slot, with_book, with_entry};
+ghost use Rattle.bucket_core.specs.Buckets.{AreInUse, HasNone, IsFirstFree, IsFirstWith, IsTaken};
+ghost use Rattle.bucket_core.specs.Buckets.{LowersHere, book_of_slot, entry_in, key_of_slot, with_book, with_entry};
 
-use crate::buckets::Bucket;
-use crate::counted::Lowered;
+use bucket_core::{Bucket, Lowered};
 use node_words::Key;
 use std::alloc::Global;
 use std::marker::Model;
@@ -19,7 +18,7 @@ pub struct Level {
 impl Model for Level {
     ghost use Rattle.std.specs.Prelude.{Option, List};
     ghost use Rattle.node_words.specs.declared.keys.Key.{Key as key};
-    ghost use Rattle.world_core.specs.declared.counted.Entry.{Entry as entry};
+    ghost use Rattle.bucket_core.specs.declared.counted.Entry.{Entry as entry};
 
     ghost Value = { List (List (Option (entry key))) };
 

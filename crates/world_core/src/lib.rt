@@ -4,14 +4,12 @@
 //!
 //! A `Core` answers one event after another: what an event asks for stands in `specs/Lawful.antt`,
 //! what a reply means in `specs/Answering.antt`. Entries are lists of levels, buckets and slots: a
-//! bucket is told in `specs/Buckets.antt`, the state that the lists show in `specs/Slots.antt`.
+//! bucket is told in `bucket_core`, the state that the lists show in `specs/Slots.antt`.
 #![tactic(auto)]
 
 mod answering;
 mod asking;
-mod buckets;
 mod cores;
-mod counted;
 mod entries;
 mod events;
 mod holdings;
@@ -25,13 +23,10 @@ mod sharing;
 mod slots;
 mod versions;
 
-pub use buckets::Bucket;
 pub use cores::Core;
-pub use counted::{BucketFull, Entry, Lowered};
 pub use entries::Entries;
 pub use events::{Event, Reply};
 pub use holdings::{Holding, Rest, is_same};
-pub use keys::ExactKey;
 pub use levels::Level;
 pub use reads::{bits_in, child_in};
 pub use slots::{slots_hold, slots_step};

@@ -12,9 +12,9 @@ ghost use Rattle.world_core.specs.Steps.{AddsOrMeets, FindsEntry, FreesEntry, Is
 ghost use Rattle.world_core.specs.Steps.{LowersEntry, RaisesEntry, TakesEntry};
 ghost use Rattle.world_core.specs.Stored.{IsStored, stored_state};
 
-use crate::counted::Lowered;
 use crate::events::Reply;
 use crate::parts::Parts;
+use bucket_core::Lowered;
 use node_words::{Full, Key, Name, bucket_of};
 use std::alloc::Global;
 use vw_cell::Memory;

@@ -17,7 +17,7 @@ ghost use Rattle.std.specs.Prelude.{
   replicate,
 };
 ghost use Rattle.std.specs.Option.{option_copied};
-ghost use Rattle.world_core.specs.Buckets.{
+ghost use Rattle.bucket_core.specs.Buckets.{
   book_of_slot,
   entry_in,
   key_of_slot,
@@ -49,8 +49,8 @@ pub struct Bucket<K: ExactKey> {
 
 impl<K: ExactKey> Model for Bucket<K> {
     ghost use Rattle.std.specs.Prelude.{Option, List};
-    ghost use Rattle.world_core.specs.declared.counted.Entry.{Entry};
-    ghost use Rattle.world_core.specs.Buckets.{IsCountedBucket};
+    ghost use Rattle.bucket_core.specs.declared.counted.Entry.{Entry};
+    ghost use Rattle.bucket_core.specs.Buckets.{IsCountedBucket};
 
     ghost Value = { List (Option (Entry K)) };
 

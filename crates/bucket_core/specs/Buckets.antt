@@ -1,8 +1,8 @@
 -- The slots of a bucket, each empty or with an entry.
 use Rattle.std.specs.Prelude.{◌≡◌, ◌≢◌, ℕ, ◌+◌, ◌<◌, ◌≤◌, Option, Some, None, List, length, All, slice_index_or, slice_set}
-use Rattle.world_core.specs.declared.counted.Entry.{Entry}
-use Rattle.world_core.specs.declared.counted.Lowered.{Lowered}
-use Rattle.world_core.specs.declared.counted.Lowered.TheVariants.{Left, Last}
+use Rattle.bucket_core.specs.declared.counted.Entry.{Entry}
+use Rattle.bucket_core.specs.declared.counted.Lowered.{Lowered}
+use Rattle.bucket_core.specs.declared.counted.Lowered.TheVariants.{Left, Last}
 
 -- what stands in a slot
 abbrev pub entry_in : {K : Type 0} → List (Option (Entry K)) → ℕ → Option (Entry K)

@@ -1,5 +1,5 @@
-use Rattle.world_core.specs.Buckets.{HasNone}
-use Rattle.world_core.proofs.buckets.Bucket.find.Given as goal
+use Rattle.bucket_core.specs.Buckets.{HasNone}
+use Rattle.bucket_core.proofs.buckets.Bucket.find.Given as goal
 
 abbrev pub invariant-loop-slot : goal.invariant-loop-slot
 invariant-loop-slot g l = HasNone l.self l.key l.slot

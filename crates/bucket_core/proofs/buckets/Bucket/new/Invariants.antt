@@ -1,5 +1,5 @@
 use Rattle.std.proofs.Common.{◌≡◌, None, replicate}
-use Rattle.world_core.proofs.buckets.Bucket.new.Given as goal
+use Rattle.bucket_core.proofs.buckets.Bucket.new.Given as goal
 
 abbrev pub invariant-loop : goal.invariant-loop
 invariant-loop g l = l.slots.items ≡ replicate l.counter None

@@ -1,5 +1,0 @@
-use Rattle.world_core.specs.Buckets.{AreInUse}
-use Rattle.world_core.proofs.buckets.Bucket.free.Given as goal
-
-abbrev pub invariant-loop-slot : goal.invariant-loop-slot
-invariant-loop-slot g l = AreInUse l.self l.slot
