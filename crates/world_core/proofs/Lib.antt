@@ -1,4 +1,3 @@
-pub mod KeyTests
 pub mod SlotLaws
 pub mod Keeping
 pub mod ShareLaws

@@ -13,7 +13,6 @@ mod cores;
 mod entries;
 mod events;
 mod holdings;
-mod keys;
 mod lawful;
 mod levels;
 mod logs;
