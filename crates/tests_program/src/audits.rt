@@ -1,5 +1,5 @@
-//! Tests of audits: of texts written by hand, with tints too, of such with a piece changed, and of
-//! runs of the store for one thread. It holds tests alone, and they touch no file.
+//! Tests of audits: of texts written by hand, with tints too, and of such with a piece changed. It
+//! holds tests alone, and they touch no file.
 
 #[cfg(test)]
 mod changes;
@@ -9,7 +9,5 @@ mod colours;
 mod keeping;
 #[cfg(test)]
 mod meetings;
-#[cfg(test)]
-mod runs;
 #[cfg(test)]
 mod texts;

@@ -15,7 +15,7 @@ use transcript::read_transcript;
 use vox_read::Models;
 use vw_cell::Side;
 
-pub(crate) fn no_models(alloc: Global) -> Models
+fn no_models(alloc: Global) -> Models
     ensures { result ≡ [] }
 {
     Models {
@@ -23,9 +23,9 @@ pub(crate) fn no_models(alloc: Global) -> Models
     }
 }
 
-/// The script of a text, in a world of this side, whose cells have tints or have none, and without
-/// models.
-pub(crate) fn script_in(
+// The script of a text, in a world of this side, whose cells have tints or have none, and without
+// models.
+fn script_in(
     alloc: Global,
     text: &str,
     side: Side,
@@ -43,9 +43,9 @@ pub(crate) fn script_in(
     }
 }
 
-/// The script of a text, in the world of a history.
+// The script of a text, in the world of a history.
 #[tactic(auto, using(crate::proofs::OfAudits::Worlds::fits_store))]
-pub(crate) fn script_of(
+fn script_of(
     alloc: Global,
     text: &str,
     history: &History,
@@ -79,15 +79,15 @@ fn world_of(history: &History) -> Option<Side>
     Some(side)
 }
 
-pub(crate) fn answer_of(answer: Result<bool, AuditRefused>) -> Result<bool, Fail> {
+fn answer_of(answer: Result<bool, AuditRefused>) -> Result<bool, Fail> {
     match answer {
         Ok(answer) => Ok(answer),
         Err(_) => Err(Fail::from("an answer")),
     }
 }
 
-/// Whether a history's store has room for its tints.
-pub(crate) fn is_large(history: &History) -> bool
+// Whether a history's store has room for its tints.
+fn is_large(history: &History) -> bool
     ensures { IsTrue result → IsLargeStore history.now.coloured history.now.side }
 {
     if history.coloured {
