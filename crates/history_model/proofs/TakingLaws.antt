@@ -214,8 +214,7 @@ tail_unfit log all tail n told whole number =
       rest = tail ∷ [];
       whole = whole;
       number = number;
-      begun =
-          (last_lines, (log, told, refl));
+      begun = (codes "end", [] ∷ [], (log, told, refl));
       unfit = λ journal. not_short tail log
           (goes_on log (tail ∷ []) told journal);
     }
@@ -231,7 +230,7 @@ line_unfit log all after line n told whole number other only =
       rest = line ∷ after;
       whole = whole;
       number = number;
-      begun = (last_lines, (log, told, refl));
+      begun = (codes "end", [] ∷ [], (log, told, refl));
       unfit = unfit_by (front_lines log) line after
           (λ more journal. other (only more (goes_on log (line ∷ more) told journal)));
     }
@@ -280,7 +279,7 @@ end_unfit log all after n told whole number some =
       rest = lines after;
       whole = whole ∙ sym (append_assoc (front_lines log) (codes "end" ∷ []) (lines after));
       number = omega (arith, number, length-append (front_lines log) (codes "end" ∷ []));
-      begun = ([] ∷ [], (log, told, append_assoc (front_lines log) (codes "end" ∷ []) ([] ∷ [])));
+      begun = ([], [], (log, told, append_assoc (front_lines log) (codes "end" ∷ []) ([] ∷ [])));
       unfit = unfit_end front (lines after) (lines_some after) (not_empty after some)
           (λ more journal. end_goes log more told (goes_on log (codes "end" ∷ more) told (subst Kind (append_assoc (front_lines log) (codes "end" ∷ []) more) journal)));
     }
@@ -294,10 +293,11 @@ starting_told : (coloured : Bool) → IsTold (starting coloured)
 starting_told coloured = begins_told coloured 4 (omega arith, omega arith, λ _. omega arith)
 
 -- some journal begins so
-begun_once : (coloured : Bool) (front : List (List ℕ)) (more : List (List ℕ))
-    → front ++ more ≡ front_lines (starting coloured) ++ last_lines
-    → (rest : List (List ℕ)) × Kind (front ++ rest)
-begun_once coloured front more same = (more, (starting coloured, starting_told coloured, same))
+begun_once : (coloured : Bool) (front : List (List ℕ)) (next : List ℕ) (more : List (List ℕ))
+    → front ++ next ∷ more ≡ front_lines (starting coloured) ++ last_lines
+    → (part : List ℕ) × (rest : List (List ℕ)) × Kind (front ++ part ∷ rest)
+begun_once coloured front next more same =
+    (next, more, (starting coloured, starting_told coloured, same))
 
 kind_long : (ls : List (List ℕ)) → Kind ls → 4 ≤ length ls
 kind_long ls journal =
@@ -308,7 +308,7 @@ kind_long ls journal =
 
 pub head_tail : (all : List (List ℕ)) (tail : List ℕ) → all ≡ tail ∷ [] → FirstUnfit Kind all 1
 head_tail all tail whole =
-    record { front = []; rest = tail ∷ []; whole = whole; number = refl; begun = begun_once false [] _ refl; unfit = λ journal. (let long = kind_long (tail ∷ []) journal in omega (arith, long)) }
+    record { front = []; rest = tail ∷ []; whole = whole; number = refl; begun = begun_once false [] _ _ refl; unfit = λ journal. (let long = kind_long (tail ∷ []) journal in omega (arith, long)) }
 
 other_header : (line : List ℕ) (coloured : Bool) → (line ≡ header false → ⊥)
     → (line ≡ header true → ⊥) → line ≡ header coloured → ⊥
@@ -323,7 +323,7 @@ head_line all after line whole one two =
       rest = line ∷ after;
       whole = whole;
       number = refl;
-      begun = begun_once false [] _ refl;
+      begun = begun_once false [] _ _ refl;
       unfit = unfit_by [] line after
           (λ more journal. other_header line journal.0.coloured one two
           (first_of_lines _ _ _ _ (journal.2)));
@@ -337,7 +337,7 @@ side_tail coloured all tail whole =
       rest = tail ∷ [];
       whole = whole;
       number = refl;
-      begun = begun_once coloured (header coloured ∷ []) _ refl;
+      begun = begun_once coloured (header coloured ∷ []) _ _ refl;
       unfit = λ journal.
           (let long = kind_long (header coloured ∷ tail ∷ []) journal in omega (arith, long));
     }
@@ -367,7 +367,7 @@ side_line coloured all after line whole none =
       rest = line ∷ after;
       whole = whole;
       number = refl;
-      begun = begun_once coloured (header coloured ∷ []) _ refl;
+      begun = begun_once coloured (header coloured ∷ []) _ _ refl;
       unfit = unfit_by (header coloured ∷ []) line after
           (λ more journal. no_second coloured line more none journal);
     }

@@ -3,7 +3,9 @@ ghost use Rattle.history_model.specs.Contents.{Content, AreModels};
 ghost use Rattle.history_model.specs.Journal.{journal_of};
 ghost use Rattle.history_model.specs.Logs.{Log, IsLegal, SuitsTints};
 ghost use Rattle.history_model.specs.Entries.{IsSide, IsTold};
+ghost use Rattle.history_model.specs.Refusals.{RefusesJournal};
 ghost use Rattle.history_model.specs.Signing.{AreSigned};
+ghost use Rattle.history_model.specs.declared.reading.JournalFault.TheVariants.{Line};
 
 /// A law: a legal history can be told by a journal, so that its text is read back as it.
 ///
@@ -20,4 +22,10 @@ pub fn legal_histories_can_be_told()
 /// A law: a text is the journal of one history at most.
 pub fn journals_tell_one_history()
     ensures { (a b : Log) → IsTold a → IsTold b → journal_of a ≡ journal_of b → a ≡ b }
+{}
+
+/// A law: the line that a refused text is told by is one.
+pub fn journals_are_refused_at_one_line()
+    ensures { (text : List ℕ) (m n : ℕ) → RefusesJournal (Line m) text
+        → RefusesJournal (Line n) text → m ≡ n }
 {}

@@ -25,7 +25,9 @@ mod ways;
 pub use acts::{Act, TintAct};
 pub use histories::{History, Mark, Record};
 pub use journal::journal_text;
-pub use laws::{journals_tell_one_history, legal_histories_can_be_told};
+pub use laws::{
+    journals_are_refused_at_one_line, journals_tell_one_history, legal_histories_can_be_told,
+};
 pub use making::may_make;
 pub use packing::{pack, unpack};
 pub use positions::position;

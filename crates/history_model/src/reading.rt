@@ -12,14 +12,17 @@ use crate::entries::{read_mark, read_record, read_side};
 use crate::histories::{History, Mark, Record};
 use plain_text::split_line;
 use std::alloc::{AllocError, AllocFailed, Global};
+use thiserror::Error;
 use vw_cell::Side;
 
 /// Why bytes are no journal.
-#[derive(Clone, Copy, Debug, PartialEq, Eq)]
+#[derive(Clone, Copy, Debug, PartialEq, Eq, Error)]
 pub enum JournalFault {
     /// The first line that doesn't fit, counted from 1.
+    #[error("line {0} doesn't fit")]
     Line(u32),
     /// Memory ran out. It says nothing of the bytes.
+    #[error("out of memory")]
     Memory,
 }
 

@@ -13,7 +13,7 @@ mod texts;
 mod words;
 
 pub use answers::{Answer, LineAnswer};
-pub use laws::transcripts_have_one_reading;
+pub use laws::{transcripts_are_refused_at_one_line, transcripts_have_one_reading};
 pub use moments::moments_never_fall;
 pub use reading::{TranscriptFault, read_transcript};
 pub use texts::transcript_text;

@@ -9,13 +9,16 @@ use crate::answers::LineAnswer;
 use crate::words::read_line;
 use plain_text::split_line;
 use std::alloc::{AllocError, AllocFailed, Global};
+use thiserror::Error;
 
 /// Why bytes are no transcript.
-#[derive(Clone, Copy, Debug, PartialEq, Eq)]
+#[derive(Clone, Copy, Debug, PartialEq, Eq, Error)]
 pub enum TranscriptFault {
     /// The first line that doesn't fit, counted from 1.
+    #[error("line {0} doesn't fit")]
     Line(u64),
     /// Memory ran out. It says nothing of the bytes.
+    #[error("out of memory")]
     Memory,
 }
 

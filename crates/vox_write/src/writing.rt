@@ -5,6 +5,7 @@ ghost use Rattle.vox_read.specs.Files.{ReadsModels};
 ghost use Rattle.vox_write.specs.Written.{number_bytes, chunk_head, size_bytes, voxel_bytes, file_front, model_file, model_chunks, chunks_length, models_file};
 ghost use Rattle.vox_write.specs.WrittenLaws.{FilesAreRead};
 
+use byteorder::{ByteOrder, LittleEndian};
 use vox_read::{Model, Voxel};
 use vw_cell::{Cell, Memory};
 
@@ -195,7 +196,9 @@ fn put_number(n: u32, into: &mut Vec<u8>)
     ensures len { vec_len into.new ≡ vec_len into.old + 4 }
     ensures capacity { vec_capacity into.new ≡ vec_capacity into.old }
 {
-    put_four(n.to_le_bytes(), into);
+    let mut bytes = [0; 4];
+    LittleEndian::write_u32(&mut bytes, n);
+    put_four(bytes, into);
 }
 
 fn put_four(bytes: [u8; 4], into: &mut Vec<u8>)

@@ -7,6 +7,7 @@ use Rattle.vw_io.specs.declared.shelves.WriteRefused.TheVariants as writes
 use Rattle.vw_io.specs.declared.sinks.PutRefused.{PutRefused}
 use Rattle.vw_io.specs.declared.sinks.PutRefused.TheVariants as puts
 use Rattle.vw_io.specs.Outside.{Files, SameElsewhere}
+use Rattle.vw_io.specs.System.{most_faults}
 
 -- the number of the next call, where so many were made
 abbrev pub next_call : ℕ → ℕ
@@ -16,10 +17,12 @@ next_call calls = min (calls + 1) (2 ^ 64 - 1)
 abbrev pub passing : List (ℕ × ℕ) → ℕ → Option ℕ
 passing fails call = option_map (λ fail. fail.1) (find (λ fail. fail.0 == call) fails)
 
--- a read at a call that fails gives no bytes, and any other is answered as the files say
-abbrev pub FailsRead : Option ℕ → Result (Unit {0}) ReadRefused → Type 0
-FailsRead None result = ⊤
-FailsRead (Some passes) result = result ≡ Err reads.Failed
+-- a read at a call that fails gives no bytes, and any other is answered as the files say: it fails
+-- only where the count of faults stood at its last value
+abbrev pub FailsRead : Option ℕ → ℕ → Result (Unit {0}) ReadRefused → Type 0
+FailsRead None faults (Err reads.Failed) = faults ≡ most_faults
+FailsRead None faults _ = ⊤
+FailsRead (Some passes) faults result = result ≡ Err reads.Failed
 
 -- a write at a call that fails leaves just so many first bytes, unless memory is wanted
 abbrev pub LeavesFirst : ℕ → Files → Files → List ℕ → List ℕ → Result (Unit {0}) WriteRefused

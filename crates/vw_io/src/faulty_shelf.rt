@@ -61,21 +61,21 @@ impl Shelf for FaultyShelf {
         ensures cause { ReadCause result self.old.faults self.new.faults }
         ensures never_falls { self.old.faults ≤ self.new.faults }
 
-        ensures fails { FailsRead (passing self.old.fails.items (next_call self.old.calls)) result }
+        ensures fails { FailsRead (passing self.old.fails.items (next_call self.old.calls))
+            self.old.faults result }
         ensures counted { self.new.calls ≡ next_call self.old.calls }
         ensures same_fails { self.new.fails.items ≡ self.old.fails.items }
     {
         self.calls = self.calls.saturating_add(1);
-        let answer = match passing(self.fails.as_slice(), self.calls) {
-            None => self.inner.read(name, limit, into),
+        match passing(self.fails.as_slice(), self.calls) {
+            None => match self.inner.read(name, limit, into) {
+                Ok(()) => Ok(()),
+                Err(refused) => Err(answer_read(&mut self.faults, refused)),
+            },
             Some(_) => {
                 into.clear();
-                Err(ReadRefused::Failed)
+                Err(answer_read(&mut self.faults, ReadRefused::Failed))
             }
-        };
-        match answer {
-            Ok(()) => Ok(()),
-            Err(refused) => Err(answer_read(&mut self.faults, refused)),
         }
     }
 
